@@ -1,0 +1,4 @@
+pub mod Headers
+pub mod Pieces
+pub mod Kind
+pub mod Spellings
