@@ -1,0 +1,49 @@
+//! Expressions of whole numbers.
+ghost use Rattle.std.specs.Prelude.{◌≡◌, IfOk};
+
+use crate::operator::Op;
+use sqlite_items::Boxed;
+use std::alloc::Global;
+use vc_packets::Memory;
+
+/// An expression that is worth a whole number of 64 bits with sign, or is a fault.
+#[derive(Debug, Drop)]
+pub enum Expr {
+    /// The number itself.
+    Num(i64),
+    /// What the variable of this number holds.
+    Var(u8),
+    /// An operator on two expressions, of which the left one is evaluated first.
+    Bin {
+        /// The operator.
+        op: Op,
+        /// The left operand.
+        left: Boxed<Expr>,
+        /// The right operand.
+        right: Boxed<Expr>,
+    },
+    /// How many bytes the variable of this number holds.
+    Size(u8),
+}
+
+impl Expr {
+    /// An equal expression.
+    pub fn copy(&self, alloc: Global) -> Result<Expr, Memory>
+        ensures { IfOk result (λ copy. copy ≡ self.now) }
+    {
+        match self {
+            Expr::Num(number) => Ok(Expr::Num(*number)),
+            Expr::Var(var) => Ok(Expr::Var(*var)),
+            Expr::Bin { op, left, right } => {
+                let left = Boxed::new(alloc, left.get().copy(alloc)?)?;
+                let right = Boxed::new(alloc, right.get().copy(alloc)?)?;
+                Ok(Expr::Bin {
+                    op: *op,
+                    left,
+                    right,
+                })
+            }
+            Expr::Size(var) => Ok(Expr::Size(*var)),
+        }
+    }
+}

@@ -1,0 +1,202 @@
+//! Processes, as they are written.
+ghost use Rattle.std.specs.Prelude.{◌≡◌, IfOk};
+
+use crate::condition::Cond;
+use crate::expression::Expr;
+use crate::value::Value;
+use sqlite_items::{Boxed, Items};
+use std::alloc::Global;
+use vc_packets::Memory;
+
+/// A process of occam 2.1, over channels and variables by their numbers. Its site, and that of each process within it, is its
+/// number in preorder, from 0.
+#[cycle(process)]
+#[derive(Drop)]
+pub enum Process {
+    /// SKIP ends.
+    Skip,
+    /// STOP never goes on.
+    Stop,
+    /// An assignment.
+    Set {
+        /// The variable that is changed.
+        var: u8,
+        /// What it holds from then on.
+        value: Value,
+    },
+    /// An output.
+    Send {
+        /// The channel.
+        chan: u16,
+        /// The message.
+        value: Value,
+    },
+    /// An input.
+    Receive {
+        /// The channel.
+        chan: u16,
+        /// The variable that takes the message.
+        var: u8,
+    },
+    /// No message is taken on the channel from here on (profile).
+    Stopch {
+        /// The channel.
+        chan: u16,
+    },
+    /// SEQ: the parts run in order. With none it is SKIP.
+    Seq(Items<Process>),
+    /// PAR: the parts run side by side, and it ends when all have ended. With none it is SKIP.
+    Par(Items<Process>),
+    /// IF: the first branch whose condition is true. With none it is STOP.
+    If(Items<Branch>),
+    /// WHILE: the body, as long as the condition is true.
+    While {
+        /// What is tested before each turn.
+        cond: Cond,
+        /// What a turn does.
+        body: Boxed<Process>,
+    },
+    /// A replicated SEQ: the body for each index from `base` on, `count` times.
+    Count {
+        /// The index.
+        var: u8,
+        /// The first index.
+        base: Expr,
+        /// How many turns there are.
+        count: Expr,
+        /// What a turn does.
+        body: Boxed<Process>,
+    },
+    /// ALT: one guard whose channel is ready and whose condition is true. With none it is STOP.
+    Alt(Items<Guard>),
+}
+
+/// A branch of an IF.
+#[cycle(process)]
+#[derive(Drop)]
+pub struct Branch {
+    /// What is tested.
+    pub cond: Cond,
+    /// What is done where it is true.
+    pub body: Process,
+}
+
+/// A guard of an ALT, with its body.
+#[cycle(process)]
+#[derive(Drop)]
+pub struct Guard {
+    /// Whether the guard may be taken.
+    pub cond: Cond,
+    /// The channel that is input on.
+    pub chan: u16,
+    /// The variable that takes the message.
+    pub var: u8,
+    /// What is done then.
+    pub body: Process,
+}
+
+#[cycle(copy)]
+fn copy_process(alloc: Global, process: &Process) -> Result<Process, Memory>
+    ensures { IfOk result (λ copy. copy ≡ process.now) }
+{
+    match process {
+        Process::Skip => Ok(Process::Skip),
+        Process::Stop => Ok(Process::Stop),
+        Process::Set { var, value } => Ok(Process::Set {
+            var: *var,
+            value: value.copy(alloc)?,
+        }),
+        Process::Send { chan, value } => Ok(Process::Send {
+            chan: *chan,
+            value: value.copy(alloc)?,
+        }),
+        Process::Receive { chan, var } => Ok(Process::Receive {
+            chan: *chan,
+            var: *var,
+        }),
+        Process::Stopch { chan } => Ok(Process::Stopch { chan: *chan }),
+        Process::Seq(parts) => Ok(Process::Seq(copy_parts(alloc, parts)?)),
+        Process::Par(parts) => Ok(Process::Par(copy_parts(alloc, parts)?)),
+        Process::If(branches) => Ok(Process::If(copy_branches(alloc, branches)?)),
+        Process::While { cond, body } => {
+            let cond = cond.copy(alloc)?;
+            let body = copy_body(alloc, body)?;
+            Ok(Process::While { cond, body })
+        }
+        Process::Count {
+            var,
+            base,
+            count,
+            body,
+        } => {
+            let base = base.copy(alloc)?;
+            let count = count.copy(alloc)?;
+            let body = copy_body(alloc, body)?;
+            Ok(Process::Count {
+                var: *var,
+                base,
+                count,
+                body,
+            })
+        }
+        Process::Alt(guards) => Ok(Process::Alt(copy_guards(alloc, guards)?)),
+    }
+}
+
+#[cycle(copy)]
+fn copy_body(alloc: Global, body: &Boxed<Process>) -> Result<Boxed<Process>, Memory>
+    ensures { IfOk result (λ copy. copy ≡ body.now) }
+{
+    Ok(Boxed::new(alloc, copy_process(alloc, body.get())?)?)
+}
+
+#[cycle(copy)]
+fn copy_parts(alloc: Global, parts: &Items<Process>) -> Result<Items<Process>, Memory>
+    ensures { IfOk result (λ copies. copies ≡ parts.now) }
+{
+    let mut copies = Items::new(alloc);
+    for part in parts.as_slice() {
+        copies.push(copy_process(alloc, part)?)?;
+    }
+    Ok(copies)
+}
+
+#[cycle(copy)]
+fn copy_branches(alloc: Global, branches: &Items<Branch>) -> Result<Items<Branch>, Memory>
+    ensures { IfOk result (λ copies. copies ≡ branches.now) }
+{
+    let mut copies = Items::new(alloc);
+    for branch in branches.as_slice() {
+        let cond = branch.cond.copy(alloc)?;
+        let body = copy_process(alloc, &branch.body)?;
+        copies.push(Branch { cond, body })?;
+    }
+    Ok(copies)
+}
+
+#[cycle(copy)]
+fn copy_guards(alloc: Global, guards: &Items<Guard>) -> Result<Items<Guard>, Memory>
+    ensures { IfOk result (λ copies. copies ≡ guards.now) }
+{
+    let mut copies = Items::new(alloc);
+    for guard in guards.as_slice() {
+        let cond = guard.cond.copy(alloc)?;
+        let body = copy_process(alloc, &guard.body)?;
+        copies.push(Guard {
+            cond,
+            chan: guard.chan,
+            var: guard.var,
+            body,
+        })?;
+    }
+    Ok(copies)
+}
+
+impl Process {
+    /// An equal process.
+    pub fn copy(&self, alloc: Global) -> Result<Process, Memory>
+        ensures { IfOk result (λ copy. copy ≡ self.now) }
+    {
+        copy_process(alloc, self)
+    }
+}
