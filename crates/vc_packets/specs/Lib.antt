@@ -2,3 +2,4 @@ pub mod Headers
 pub mod Pieces
 pub mod Kind
 pub mod Spellings
+pub mod Laws

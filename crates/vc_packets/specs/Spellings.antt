@@ -17,3 +17,8 @@ piece_packet route (c ∷ cs) = record { body = spelled route ++ c; mark = mark_
 
 abbrev pub ack_packet : List ℕ → Packet
 ack_packet route = record { body = spelled route; mark = Eop }
+
+-- the packets of these pieces, in order
+abbrev pub packets : List ℕ → List (List ℕ) → List Packet
+packets route [] = []
+packets route (c ∷ cs) = piece_packet route (c ∷ cs) ∷ packets route cs

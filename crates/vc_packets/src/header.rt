@@ -1,0 +1,30 @@
+//! Headers, as the bytes of a packet's body.
+ghost use Rattle.std.specs.Prelude.{◌≡◌, ◌++◌, IfOk};
+ghost use Rattle.vc_packets.specs.Headers.{spelled, front_header_of};
+
+use crate::memory::Memory;
+use crate::packet::Packet;
+use std::alloc::Global;
+
+/// The header that a packet's body begins with, or nothing where the body has fewer than two bytes.
+pub fn front_header(packet: &Packet) -> Option<u16>
+    ensures { result ≡ front_header_of packet.now.body }
+{
+    match packet.body.as_slice() {
+        [high, low, ..] => Some(u16::from_be_bytes([*high, *low])),
+        _ => None,
+    }
+}
+
+/// A body of a route's headers and then this load.
+pub(crate) fn routed(alloc: Global, route: &[u16], load: &[u8]) -> Result<Vec<u8>, Memory>
+    ensures { IfOk result (λ body. body.items ≡ spelled route.now ++ load.now) }
+{
+    let room = route.len().saturating_mul(2).saturating_add(load.len());
+    let mut body = Vec::with_capacity(alloc, room)?;
+    for header in route {
+        body.extend_from_slice(&header.to_be_bytes())?;
+    }
+    body.extend_from_slice(load)?;
+    Ok(body)
+}
