@@ -1,0 +1,14 @@
+pub mod First
+pub mod Frames
+pub mod Lawful
+pub mod Messages
+pub mod Numbering
+pub mod Opening
+pub mod Remains
+pub mod Runnings
+pub mod States
+pub mod Syntax
+pub mod Terms
+pub mod Traces
+pub mod Usage
+pub mod Values

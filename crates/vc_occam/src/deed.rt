@@ -1,0 +1,32 @@
+//! What one site of a running process does.
+use sqlite_items::Items;
+
+/// What one site does at once.
+#[derive(Debug, Drop)]
+pub(crate) enum Deed {
+    /// A step without a communication.
+    Quiet,
+    /// An output begins.
+    Offer {
+        chan: u16,
+    },
+    /// The output that waits is finished.
+    Finish,
+    /// An input has its message, or waits where there is none.
+    Want {
+        chan: u16,
+        message: Option<Items<u8>>,
+    },
+    /// The guard at a place of an ALT has its message, or waits where there is none.
+    Choose {
+        place: u16,
+        chan: u16,
+        message: Option<Items<u8>>,
+    },
+    /// The message comes that an input or guard waits for.
+    Message(Items<u8>),
+    /// A channel is stopped.
+    StopChannel {
+        chan: u16,
+    },
+}

@@ -1,0 +1,60 @@
+//! How a process begins.
+ghost use Rattle.std.specs.Prelude.{◌≡◌, ◌≤◌, ◌↔◌, IsTrue, IfOk, ℕ, map};
+ghost use Rattle.vc_occam.specs.Frames.{needed, rest_at};
+ghost use Rattle.vc_occam.specs.Numbering.{written};
+ghost use Rattle.vc_occam.specs.Opening.{Runs, empty_of};
+ghost use Rattle.vc_occam.specs.Remains.{begin};
+
+use crate::datum::Datum;
+use crate::kind::Kind;
+use crate::phase::Phase;
+use crate::process::Process;
+use crate::value_kind::ValueKind;
+use sqlite_items::Items;
+use std::alloc::Global;
+use vc_packets::Memory;
+
+/// Variables of these kinds, which are 0 or without bytes.
+pub(crate) fn empty_variables(alloc: Global, kinds: &[ValueKind]) -> Result<Vec<Datum>, Memory>
+    ensures { IfOk result (λ vars. vars.items ≡ map empty_of kinds.now) }
+{
+    let mut vars = Vec::new(alloc);
+    for kind in kinds {
+        vars.push(match kind {
+            ValueKind::Int => Datum::Int(0),
+            ValueKind::Bytes => Datum::Bytes(Items::new(alloc)),
+        })?;
+    }
+    Ok(vars)
+}
+
+/// A process without parts, as a kind.
+#[tactic(auto, unfolding(crate::specs::Opening::Runs, crate::specs::Numbering::written))]
+pub(crate) fn kind_of(process: Process, vars: usize) -> Kind
+    requires { Runs vars process }
+    ensures variables { needed result ≤ vars }
+    ensures begins { rest_at result Phase.Ready 0 ≡ begin (written process) }
+{
+    match process {
+        Process::Skip => Kind::Skip,
+        Process::Stop => Kind::Stop,
+        Process::Send { chan, value } => Kind::Send { chan, value },
+        Process::Receive { chan, var } => Kind::Receive { chan, var },
+        Process::Stopch { chan } => Kind::Stopch { chan },
+        _ => unreachable!(),
+    }
+}
+
+impl Process {
+    /// Whether it can run today on a node with so many variables: it is SKIP, STOP, one output, one input or one stop of a channel.
+    #[tactic(auto, unfolding(crate::specs::Opening::Runs))]
+    pub fn runs(&self, vars: usize) -> bool
+        ensures { IsTrue result ↔ Runs vars self.now }
+    {
+        match self {
+            Process::Skip | Process::Stop | Process::Send { .. } | Process::Stopch { .. } => true,
+            Process::Receive { var, .. } => usize::from(*var) < vars,
+            _ => false,
+        }
+    }
+}

@@ -1,0 +1,14 @@
+//! How far a running process is.
+
+/// How far a process without parts is.
+#[derive(Clone, Copy, Debug, PartialEq, Eq, Drop)]
+pub(crate) enum Phase {
+    /// It hasn't begun.
+    Ready,
+    /// Its output or input has begun and hasn't ended.
+    Waiting,
+    /// Nothing remains.
+    Ended,
+    /// It never goes on.
+    Stuck,
+}
