@@ -27,11 +27,8 @@ pub fn piece(alloc: Global, route: &[u16], msg: &[u8], k: usize) -> Result<Packe
     ensures { IfOk result (λ packet. (cs : List (List ℕ)) → Pieces msg.now cs → packet ≡ piece_packet route.now (drop k cs)) }
 {
     let rest = &msg[FULL * k..];
-    let mark = if rest.len() <= FULL {
-        Mark::Eom
-    } else {
-        Mark::Eop
-    };
+    let is_last = rest.len() <= FULL;
+    let mark = if is_last { Mark::Eom } else { Mark::Eop };
     let now = &rest[..rest.len().min(FULL)];
     let body = Items::from_vec(routed(alloc, route, now)?);
     Ok(Packet { body, mark })
