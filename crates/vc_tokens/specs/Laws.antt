@@ -1,0 +1,24 @@
+-- What holds of spellings, however a stream is cut.
+use Rattle.std.specs.Prelude.{◌≡◌, ℕ, List, [], ◌∷◌, ◌++◌}
+use Rattle.vc_packets.specs.declared.packet.Packet.{Packet}
+use Rattle.vc_tokens.specs.Tokens.{Token, bytes, Whole}
+
+-- a stream is read in one way only
+abbrev pub ReadingsAreOne : Type 0
+ReadingsAreOne =
+    (limit : ℕ) (ts : List Token) (ps qs : List Packet) (rest other : List ℕ) → Whole limit ts ps rest → Whole limit ts qs other → (ps ≡ qs) × (rest ≡ other)
+
+-- these feeds, one after another, gave these packets, each reading behind the bytes that the one before it left
+abbrev pub Feeds : ℕ → List ℕ → List (List Token) → List Packet → List ℕ → Type 0
+Feeds limit rest [] packets left = (packets ≡ []) × (left ≡ rest)
+Feeds limit rest (ts ∷ feeds) packets left =
+    (now : List Packet) × (later : List Packet) × (between : List ℕ) × Whole limit (bytes rest ++ ts) now between
+    × Feeds limit between feeds later left × (packets ≡ now ++ later)
+
+abbrev pub stream : List (List Token) → List Token
+stream [] = []
+stream (ts ∷ feeds) = ts ++ stream feeds
+
+-- feeds of a stream's pieces, whatever the cutting, give the packets of the stream
+abbrev pub CuttingsAgree : Type 0
+CuttingsAgree = (limit : ℕ) (feeds : List (List Token)) (packets : List Packet) (left : List ℕ) → Feeds limit [] feeds packets left → Whole limit (stream feeds) packets left

@@ -1,0 +1,12 @@
+//! Laws of spellings. A law is a function that does nothing, whose contract is the law.
+ghost use Rattle.vc_tokens.specs.Laws.{ReadingsAreOne, CuttingsAgree};
+
+/// A stream of tokens is read in one way only.
+pub fn readings_are_one()
+    ensures { ReadingsAreOne }
+{}
+
+/// However a stream is cut into feeds, they give the packets of the stream.
+pub fn cuttings_agree()
+    ensures { CuttingsAgree }
+{}
