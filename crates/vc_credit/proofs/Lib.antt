@@ -1,0 +1,2 @@
+pub mod Crediting
+pub mod Fronts

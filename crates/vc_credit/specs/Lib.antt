@@ -1,0 +1,3 @@
+pub mod Credit
+pub mod Ends
+pub mod Laws
