@@ -1,3 +1,5 @@
+pub mod Counting
+pub mod Functions
 pub mod Headers
 pub mod Pieces
 pub mod Kind

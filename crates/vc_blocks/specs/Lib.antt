@@ -1,0 +1,4 @@
+pub mod Halves
+pub mod Sending
+pub mod Advancing
+pub mod Arriving
