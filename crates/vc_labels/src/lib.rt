@@ -14,4 +14,4 @@ mod table;
 pub use action::Action;
 pub use fault::{TableFault, fault_of_rows};
 pub use row::Row;
-pub use table::Table;
+pub use table::{Table, find_action};

@@ -26,8 +26,8 @@ impl Model for Table {
     ghost invariant = { λ t. IsLawful t.rows };
 }
 
-/// The action of the first row that holds the header.
-fn find_action(rows: &[Row], header: u16) -> Option<Action>
+/// The action of the first row that holds the header, if there is such a row.
+pub fn find_action(rows: &[Row], header: u16) -> Option<Action>
     ensures { result ≡ action_for rows.now header }
 {
     for row in rows {

@@ -1,9 +1,12 @@
+pub mod ChannelUses
 pub mod First
 pub mod Frames
 pub mod Lawful
+pub mod Limits
 pub mod Messages
 pub mod Numbering
 pub mod Opening
+pub mod ProcessLimits
 pub mod Remains
 pub mod Runnings
 pub mod States

@@ -6,18 +6,21 @@
 
 mod answer;
 mod bytes_expression;
+mod channel_use;
 mod condition;
 mod datum;
 mod deed;
 mod evaluation;
 mod expression;
 mod kind;
+mod limits;
 mod moves;
 mod openings;
 mod operator;
 mod own_moves;
 mod phase;
 mod process;
+mod process_limits;
 mod relation;
 mod running;
 mod use_fault;
@@ -26,6 +29,7 @@ mod value_kind;
 
 pub use answer::Answer;
 pub use bytes_expression::BytesExpr;
+pub use channel_use::ChannelUse;
 pub use condition::Cond;
 pub use expression::Expr;
 pub use moves::Move;

@@ -1,8 +1,9 @@
 //! How a process begins.
-ghost use Rattle.std.specs.Prelude.{◌≡◌, ◌≤◌, ◌↔◌, IsTrue, IfOk, ℕ, map};
+ghost use Rattle.std.specs.Prelude.{◌≡◌, ◌≤◌, IfOk, length, map, true};
 ghost use Rattle.vc_occam.specs.Frames.{needed, rest_at};
 ghost use Rattle.vc_occam.specs.Numbering.{written};
-ghost use Rattle.vc_occam.specs.Opening.{Runs, empty_of};
+ghost use Rattle.vc_occam.specs.Opening.{Fits, empty_of};
+ghost use Rattle.vc_occam.specs.ProcessLimits.{runs_today};
 ghost use Rattle.vc_occam.specs.Remains.{begin};
 
 use crate::datum::Datum;
@@ -29,10 +30,11 @@ pub(crate) fn empty_variables(alloc: Global, kinds: &[ValueKind]) -> Result<Vec<
 }
 
 /// A process without parts, as a kind.
-#[tactic(auto, unfolding(crate::specs::Opening::Runs, crate::specs::Numbering::written))]
-pub(crate) fn kind_of(process: Process, vars: usize) -> Kind
-    requires { Runs vars process }
-    ensures variables { needed result ≤ vars }
+#[tactic(auto, unfolding(crate::specs::Numbering::written))]
+pub(crate) fn kind_of(process: Process, kinds: &[ValueKind]) -> Kind
+    requires word { runs_today (written process) ≡ true }
+    requires fits { Fits kinds.now process }
+    ensures variables { needed result ≤ length kinds.now }
     ensures begins { rest_at result Phase.Ready 0 ≡ begin (written process) }
 {
     match process {
@@ -42,19 +44,5 @@ pub(crate) fn kind_of(process: Process, vars: usize) -> Kind
         Process::Receive { chan, var } => Kind::Receive { chan, var },
         Process::Stopch { chan } => Kind::Stopch { chan },
         _ => unreachable!(),
-    }
-}
-
-impl Process {
-    /// Whether it can run today on a node with so many variables: it is SKIP, STOP, one output, one input or one stop of a channel.
-    #[tactic(auto, unfolding(crate::specs::Opening::Runs))]
-    pub fn runs(&self, vars: usize) -> bool
-        ensures { IsTrue result ↔ Runs vars self.now }
-    {
-        match self {
-            Process::Skip | Process::Stop | Process::Send { .. } | Process::Stopch { .. } => true,
-            Process::Receive { var, .. } => usize::from(*var) < vars,
-            _ => false,
-        }
     }
 }

@@ -27,30 +27,33 @@ pub struct Running {
 }
 
 impl Running {
-    ghost use Rattle.std.specs.Prelude.{◌≡◌, ◌↔◌, IsTrue, IfOk, OnOk, OnErr, MatchOption, Some, None, ℕ};
+    ghost use Rattle.std.specs.Prelude.{◌≡◌, ◌↔◌, IsTrue, IfOk, OnOk, OnErr, MatchOption, Some, None, true, ℕ};
     ghost use Rattle.std.specs.List.{Contains};
     ghost use Rattle.vc_occam.specs.Frames.{listed};
-    ghost use Rattle.vc_occam.specs.Opening.{opening, Runs};
+    ghost use Rattle.vc_occam.specs.Numbering.{written};
+    ghost use Rattle.vc_occam.specs.Opening.{Fits, opening};
+    ghost use Rattle.vc_occam.specs.ProcessLimits.{runs_today};
     ghost use Rattle.vc_occam.specs.Remains.{Done};
     ghost use Rattle.vc_occam.specs.Runnings.{Takes, inner_channels, moves, state};
     ghost use Rattle.vc_occam.specs.Usage.{among};
     ghost use Rattle.vc_occam.specs.States.{Acts, FitsMove, IsAwaited, IsQuiet, Resumes, doing, sent_by, waiting, output, input};
 
     /// A process that is about to begin, its variables being 0 or without bytes. `inside` are the channels inside its node.
-    #[tactic(auto, unfolding(crate::specs::Runnings::state, crate::specs::Runnings::inner_channels, crate::specs::Opening::Runs, crate::specs::Numbering::written))]
+    #[tactic(auto, unfolding(crate::specs::Runnings::state, crate::specs::Runnings::inner_channels, crate::specs::Numbering::written))]
     pub fn new(
         alloc: Global,
         process: Process,
         kinds: &[ValueKind],
         inside: &[u16],
     ) -> Result<Running, Memory>
-        requires { Runs (length kinds.now) process }
+        requires word { runs_today (written process) ≡ true }
+        requires fits { Fits kinds.now process }
         ensures state { IfOk result (λ r. state r ≡ opening kinds.now process) }
         ensures inside { IfOk result (λ r. inner_channels r ≡ among inside.now) }
     {
         let vars = empty_variables(alloc, kinds)?;
         let inside = Items::from_slice(alloc, inside)?;
-        let kind = kind_of(process, kinds.len());
+        let kind = kind_of(process, kinds);
         Ok(Running {
             alloc,
             kind,

@@ -1,0 +1,4 @@
+pub mod Labelling
+pub mod Paths
+pub mod Places
+pub mod Search

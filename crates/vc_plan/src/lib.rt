@@ -8,12 +8,19 @@
 mod accepted;
 mod channel;
 mod check_refused;
+mod fault;
+mod hops;
+mod labelling;
+mod level;
 mod limit_word;
+mod limits;
 mod name;
 mod node_plan;
 mod path_fault;
 mod plan;
 mod port;
+mod search;
+mod stack;
 mod switch_plan;
 mod vlink;
 
