@@ -1,0 +1,9 @@
+pub mod Words
+pub mod Reading
+pub mod Names
+pub mod Network
+pub mod Bytes
+pub mod Expressions
+pub mod Conditions
+pub mod Processes
+pub mod NetworkText

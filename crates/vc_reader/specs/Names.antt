@@ -1,0 +1,65 @@
+-- Names, and the numbers of what has them.
+use Rattle.std.specs.Prelude.{◌≡◌, ℕ, List, [], ◌∷◌, length, Bool, false, not, nat_le, nat_lt, ◌==◌, ◌&&◌, ◌||◌, if◌then◌else◌, Option, Some, None, is_some, option_map, option_and_then, Result, Ok, Vec}
+use Rattle.std.specs.Str.{bytes_eq}
+use Rattle.std.specs.List.{position, list_all, slice_get}
+use Rattle.std.specs.Ordering.{nat_cmp}
+use Rattle.std.specs.Cmp.Lexicographic.{slice_cmp}
+use Rattle.std.specs.BTreeMap.{BTreeMap, get_by}
+use Rattle.serde_json.specs.Data.{Data}
+use Rattle.vc_reader.specs.declared.fault.Why.TheVariants.{Kind, Unknown}
+use Rattle.vc_reader.specs.declared.fault.Fault.{Fault}
+use Rattle.vc_reader.specs.Reading.{◌>>=◌, wrong, text_of}
+
+-- 1 to 16 letters, digits, _ or -, the first a letter
+abbrev pub is_letter : ℕ → Bool
+is_letter c = (nat_le 65 c && nat_le c 90) || (nat_le 97 c && nat_le c 122)
+
+abbrev pub is_name_byte : ℕ → Bool
+is_name_byte c = is_letter c || (nat_le 48 c && nat_le c 57) || (c == 95) || (c == 45)
+
+abbrev pub is_name : List ℕ → Bool
+is_name [] = false
+is_name (c ∷ cs) = is_letter c && list_all is_name_byte cs && nat_lt (length cs) 16
+
+-- the number of the first that has the name
+abbrev pub position_of : {A : Type 0} → (A → List ℕ) → List A → List ℕ → Option ℕ
+position_of name_of known name = position (λ x. bytes_eq name (name_of x)) known
+
+-- the first that has the name, behind its number
+abbrev pub numbered : {A : Type 0} → List A → ℕ → Option (ℕ × A)
+numbered known n = option_map (λ x. (n, x)) (slice_get known n)
+
+abbrev pub found_of : {A : Type 0} → (A → List ℕ) → List A → List ℕ → Option (ℕ × A)
+found_of name_of known name = option_and_then (numbered known) (position_of name_of known name)
+
+-- some one of them has the name
+abbrev pub has_name : {A : Type 0} → (A → List ℕ) → List A → List ℕ → Bool
+has_name name_of known name = is_some (position_of name_of known name)
+
+-- a text that gives a name, which must be a name and not be taken
+abbrev pub own_name : Bool → List ℕ → Result (List ℕ) Fault
+own_name is_taken s = if is_name s && not is_taken then Ok s else wrong Kind
+
+abbrev pub new_name : (List ℕ → Bool) → Data → Result (List ℕ) Fault
+new_name is_taken d = text_of d >>= λ s. own_name (is_taken s) s
+
+-- a text that refers to a name
+abbrev pub known_or_not : {X : Type 0} → Option X → Result X Fault
+known_or_not None = wrong Unknown
+known_or_not (Some x) = Ok x
+
+abbrev pub one_of : {A : Type 0} → (A → List ℕ) → List A → Data → Result (ℕ × A) Fault
+one_of name_of known d = text_of d >>= λ s. known_or_not (found_of name_of known s)
+
+-- the number that an index holds at a name
+abbrev pub number_at : {Y : Type 0} → BTreeMap (Vec ℕ Y) ℕ → List ℕ → Option ℕ
+number_at numbers name = get_by (λ k. slice_cmp nat_cmp name k.items) numbers
+
+-- the first of two answers that is one
+abbrev pub or_else : {X : Type 0} → Option X → Option X → Option X
+or_else None other = other
+or_else (Some x) other = Some x
+
+-- the index after has a number for the name, if it had none before, and else what it had
+abbrev pub AddsNumber : {Y : Type 0} → BTreeMap (Vec ℕ Y) ℕ → BTreeMap (Vec ℕ Y) ℕ → List ℕ → ℕ → Type 0
+AddsNumber before after name n = (other : List ℕ) → number_at after other ≡ or_else (number_at before other) (if bytes_eq other name then Some n else None)

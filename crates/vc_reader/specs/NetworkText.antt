@@ -1,0 +1,69 @@
+-- The network that a text means, or why the text is refused.
+use Rattle.std.specs.Prelude.{◌≡◌, ℕ, List, [], ◌∷◌, length, Option, Some, None, Result, Ok, Err, IsUtf8}
+use Rattle.std.specs.List.{slice_get}
+use Rattle.serde_json.specs.Data.{Data}
+use Rattle.serde_json.specs.Read.{read}
+use Rattle.vc_occam.specs.declared.process.Process.{Process}
+use Rattle.vc_plan.specs.declared.plan.Plan.{Plan}
+use Rattle.vc_plan.specs.declared.node_plan.NodePlan.{NodePlan}
+use Rattle.vc_plan.specs.declared.node_plan.Variable.{Variable}
+use Rattle.vc_plan.specs.declared.channel.Channel.{Channel}
+use Rattle.vc_reader.specs.declared.word.Word.{Word}
+use Rattle.vc_reader.specs.declared.word.Word.TheVariants as word
+use Rattle.vc_reader.specs.declared.path.Step.{Step}
+use Rattle.vc_reader.specs.declared.fault.Why.{Why}
+use Rattle.vc_reader.specs.declared.fault.Why.TheVariants as why
+use Rattle.vc_reader.specs.declared.fault.Fault.{Fault}
+use Rattle.vc_reader.specs.declared.node.Head.{Head}
+use Rattle.vc_reader.specs.declared.refused.ReadRefused.{ReadRefused}
+use Rattle.vc_reader.specs.declared.refused.ReadRefused.TheVariants.{Json, Missing, Kind, Range, Unknown, Memory}
+use Rattle.vc_reader.specs.Reading.{◌>>=◌, field, list_of, list_field, object_of, number_of}
+use Rattle.vc_reader.specs.Network.{head_of, switch_of, wire_of, vlink_of, channel_of}
+use Rattle.vc_reader.specs.Processes.{whole_process}
+
+abbrev pub vars_of : Option Head → List Variable
+vars_of None = []
+vars_of (Some h) = h.vars
+
+-- the process of the node whose number is that of the processes before it
+abbrev pub node_process : List Head → List Channel → List Process → Data → Result Process Fault
+node_process heads channels before = field word.Process (whole_process (vars_of (slice_get heads (length before))) channels)
+
+-- the nodes, each of a head and its process
+abbrev pub node_plans : List Head → List Process → List NodePlan
+node_plans [] ps = []
+node_plans (h ∷ hs) [] = []
+node_plans (h ∷ hs) (p ∷ ps) = record { name = h.name; vars = h.vars; process = p } ∷ node_plans hs ps
+
+abbrev pub network_words : List Word
+network_words = word.Version ∷ word.Nodes ∷ word.Switches ∷ word.Wires ∷ word.Vlinks ∷ word.Channels ∷ []
+
+-- the plan that a value means, or its first fault; a file of version 1 is a network of version 2 without portals and random inputs
+abbrev pub plan_of : Data → Result Plan Fault
+plan_of d = do
+  _ ← object_of network_words d
+  version ← field word.Version (number_of 1 2) d
+  heads ← field word.Nodes (list_of head_of) d
+  switches ← list_field word.Switches (switch_of version heads) d
+  wires ← list_field word.Wires (λ _. wire_of heads switches) d
+  vlinks ← list_field word.Vlinks (vlink_of heads) d
+  channels ← list_field word.Channels (channel_of heads vlinks) d
+  processes ← field word.Nodes (list_of (node_process heads channels)) d
+  Ok (record { version = 2; nodes = node_plans heads processes; switches = switches; wires = wires; vlinks = vlinks; channels = channels })
+
+abbrev pub refusal : Why → List Step → ReadRefused
+refusal why.Missing path = Missing path
+refusal why.Kind path = Kind path
+refusal why.Range path = Range path
+refusal why.Unknown path = Unknown path
+
+-- the text is a value that means this
+abbrev pub TextMeans : List ℕ → Result Plan Fault → Type 0
+TextMeans text answer = (d : Data) × (read text ≡ Some d) × (plan_of d ≡ answer)
+
+-- what reading answers for a text: its plan, or its first fault; that it is no JSON; or that there was no memory
+abbrev pub Reads : List ℕ → Result Plan ReadRefused → Type 0
+Reads text (Ok plan) = TextMeans text (Ok plan)
+Reads text (Err Memory) = Unit {0}
+Reads text (Err Json) = IsUtf8 text → read text ≡ None
+Reads text (Err r) = (f : Fault) × TextMeans text (Err f) × (r ≡ refusal f.why f.path)

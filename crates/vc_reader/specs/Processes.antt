@@ -1,0 +1,158 @@
+-- What a process means.
+use Rattle.std.specs.Prelude.{ℕ, zero, suc, min, List, if◌then◌else◌, codes, Result, Ok}
+use Rattle.std.specs.Str.{bytes_eq}
+use Rattle.serde_json.specs.Data.{Data, string}
+use Rattle.vc_occam.specs.declared.value_kind.ValueKind.{ValueKind}
+use Rattle.vc_occam.specs.declared.value_kind.ValueKind.TheVariants as kind
+use Rattle.vc_occam.specs.declared.value.Value.{Value}
+use Rattle.vc_occam.specs.declared.value.Value.TheVariants.{Int, Bytes}
+use Rattle.vc_occam.specs.declared.process.Process.{Process}
+use Rattle.vc_occam.specs.declared.process.Process.TheVariants.{Skip, Stop, Set, Send, Receive, Stopch, Seq, Par, If, While, Count, Alt}
+use Rattle.vc_occam.specs.declared.process.Branch.{Branch}
+use Rattle.vc_occam.specs.declared.process.Guard.{Guard}
+use Rattle.vc_plan.specs.declared.channel.Channel.{Channel}
+use Rattle.vc_plan.specs.declared.node_plan.Variable.{Variable}
+use Rattle.vc_reader.specs.declared.process.ProcessWord.{ProcessWord}
+use Rattle.vc_reader.specs.declared.process.ProcessWord.TheVariants as head
+use Rattle.vc_reader.specs.declared.path.Step.TheVariants.{Field}
+use Rattle.vc_reader.specs.declared.word.Word.{Word}
+use Rattle.vc_reader.specs.declared.word.Word.TheVariants as word
+use Rattle.vc_reader.specs.declared.fault.Why.TheVariants as why
+use Rattle.vc_reader.specs.declared.fault.Fault.{Fault}
+use Rattle.vc_reader.specs.Reading.{◌>>=◌, wrong, under, cell, list_of, row, text_of, only, by_only}
+use Rattle.vc_reader.specs.Names.{one_of}
+use Rattle.vc_reader.specs.Bytes.{variable_of, bytes_of}
+use Rattle.vc_reader.specs.Expressions.{whole_expr}
+use Rattle.vc_reader.specs.Conditions.{whole_cond}
+
+-- a channel, and a variable, by its number, with its kind; a number past its type's greatest stands as that greatest
+abbrev pub channel_named : List Channel → Data → Result (ℕ × ValueKind) Fault
+channel_named channels d = one_of (λ c. c.name) channels d >>= λ found. Ok (min found.0 65535, (found.1).kind)
+
+abbrev pub variable_named : List Variable → Data → Result (ℕ × ValueKind) Fault
+variable_named vars d = one_of (λ v. v.name) vars d >>= λ found. Ok (min found.0 255, (found.1).kind)
+
+-- what a variable or a channel of that kind takes
+abbrev pub value_of : ValueKind → List Variable → Data → Result Value Fault
+value_of kind.Int vars d = whole_expr vars d >>= λ e. Ok (Int e)
+value_of kind.Bytes vars d = bytes_of vars d >>= λ b. Ok (Bytes b)
+
+-- ---- processes without parts
+
+abbrev pub set_of : List Variable → Data → Result Process Fault
+set_of vars d = do
+  _ ← row 2 d
+  var ← cell 0 (variable_named vars) d
+  value ← cell 1 (value_of var.1 vars) d
+  Ok (Set var.0 value)
+
+abbrev pub send_of : List Variable → List Channel → Data → Result Process Fault
+send_of vars channels d = do
+  _ ← row 2 d
+  chan ← cell 0 (channel_named channels) d
+  value ← cell 1 (value_of chan.1 vars) d
+  Ok (Send chan.0 value)
+
+abbrev pub receive_of : List Variable → List Channel → Data → Result Process Fault
+receive_of vars channels d = do
+  _ ← row 2 d
+  chan ← cell 0 (channel_named channels) d
+  var ← cell 1 (variable_of chan.1 vars) d
+  Ok (Receive chan.0 var)
+
+abbrev pub stopch_of : List Channel → Data → Result Process Fault
+stopch_of channels d = channel_named channels d >>= λ chan. Ok (Stopch chan.0)
+
+abbrev pub plain_of : List ℕ → Result Process Fault
+plain_of s = if bytes_eq s (codes "skip") then Ok Skip else (if bytes_eq s (codes "stop") then Ok Stop else wrong why.Kind)
+
+-- ---- processes with parts, by the reader of a part
+
+abbrev pub branch_of : (Data → Result Process Fault) → List Variable → Data → Result Branch Fault
+branch_of part vars d = do
+  _ ← row 2 d
+  cond ← cell 0 (whole_cond vars) d
+  body ← cell 1 part d
+  Ok (record { cond = cond; body = body })
+
+abbrev pub while_of : (Data → Result Process Fault) → List Variable → Data → Result Process Fault
+while_of part vars d = do
+  _ ← row 2 d
+  cond ← cell 0 (whole_cond vars) d
+  body ← cell 1 part d
+  Ok (While cond body)
+
+abbrev pub count_of : (Data → Result Process Fault) → List Variable → Data → Result Process Fault
+count_of part vars d = do
+  _ ← row 4 d
+  var ← cell 0 (variable_of kind.Int vars) d
+  base ← cell 1 (whole_expr vars) d
+  count ← cell 2 (whole_expr vars) d
+  body ← cell 3 part d
+  Ok (Count var base count body)
+
+abbrev pub guard_of : (Data → Result Process Fault) → List Variable → List Channel → Data → Result Guard Fault
+guard_of part vars channels d = do
+  _ ← row 4 d
+  cond ← cell 0 (whole_cond vars) d
+  chan ← cell 1 (channel_named channels) d
+  var ← cell 2 (variable_of chan.1 vars) d
+  body ← cell 3 part d
+  Ok (record { cond = cond; chan = chan.0; var = var; body = body })
+
+-- ---- words
+
+abbrev pub process_word : List ℕ → Result ProcessWord Fault
+process_word s =
+    if bytes_eq s (codes "set") then Ok head.Set else
+    (if bytes_eq s (codes "out") then Ok head.Send else
+    (if bytes_eq s (codes "in") then Ok head.Receive else
+    (if bytes_eq s (codes "stopch") then Ok head.Stopch else
+    (if bytes_eq s (codes "seq") then Ok head.Seq else
+    (if bytes_eq s (codes "par") then Ok head.Par else
+    (if bytes_eq s (codes "if") then Ok head.If else
+    (if bytes_eq s (codes "while") then Ok head.While else
+    (if bytes_eq s (codes "for") then Ok head.Count else
+    (if bytes_eq s (codes "alt") then Ok head.Alt else wrong why.Unknown)))))))))
+
+abbrev pub field_word : ProcessWord → Word
+field_word head.Set = word.Set
+field_word head.Send = word.Out
+field_word head.Receive = word.In
+field_word head.Stopch = word.Stopch
+field_word head.Seq = word.Seq
+field_word head.Par = word.Par
+field_word head.If = word.If
+field_word head.While = word.While
+field_word head.Count = word.For
+field_word head.Alt = word.Alt
+
+-- a process of that word
+abbrev pub worded_process : (Data → Result Process Fault) → List Variable → List Channel → ProcessWord → Data → Result Process Fault
+worded_process part vars channels head.Set d = set_of vars d
+worded_process part vars channels head.Send d = send_of vars channels d
+worded_process part vars channels head.Receive d = receive_of vars channels d
+worded_process part vars channels head.Stopch d = stopch_of channels d
+worded_process part vars channels head.Seq d = list_of (λ _. part) d >>= λ parts. Ok (Seq parts)
+worded_process part vars channels head.Par d = list_of (λ _. part) d >>= λ parts. Ok (Par parts)
+worded_process part vars channels head.If d = list_of (λ _. branch_of part vars) d >>= λ branches. Ok (If branches)
+worded_process part vars channels head.While d = while_of part vars d
+worded_process part vars channels head.Count d = count_of part vars d
+worded_process part vars channels head.Alt d = list_of (λ _. guard_of part vars channels) d >>= λ guards. Ok (Alt guards)
+
+abbrev pub named_process : (Data → Result Process Fault) → List Variable → List Channel → List ℕ → Data → Result Process Fault
+named_process part vars channels s d = process_word s >>= λ w. under (Field (field_word w)) (worded_process part vars channels w d)
+
+-- a text is a process without parts, and an object of one field a process of that word
+abbrev pub process_step : (Data → Result Process Fault) → List Variable → List Channel → Data → Result Process Fault
+process_step part vars channels (string s) = plain_of s
+process_step part vars channels d = by_only (named_process part vars channels) (only d)
+
+-- a process that nests no deeper than so many parts in one another
+abbrev pub process_of : ℕ → List Variable → List Channel → Data → Result Process Fault
+process_of zero vars channels d = text_of d >>= plain_of
+process_of (suc depth) vars channels d = process_step (process_of depth vars channels) vars channels d
+
+-- JSON nests no deeper than 127
+abbrev pub whole_process : List Variable → List Channel → Data → Result Process Fault
+whole_process vars channels d = process_of 127 vars channels d

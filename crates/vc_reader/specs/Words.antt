@@ -1,0 +1,37 @@
+-- The words of the network file's format, as they stand in the file.
+use Rattle.std.specs.Prelude.{ℕ, List, codes}
+use Rattle.vc_reader.specs.declared.word.Word.{Word}
+use Rattle.vc_reader.specs.declared.word.Word.TheVariants.{Version, Nodes, Switches, Wires, Vlinks, Channels, Name, Vars, Process, Table, Delete, Random, A, B, Kind, Vlink, Way, Node, Set, Out, In, Stopch, Seq, Par, If, While, For, Alt, Hex, Text, Fill}
+
+abbrev pub word_text : Word → List ℕ
+word_text Version = codes "version"
+word_text Nodes = codes "nodes"
+word_text Switches = codes "switches"
+word_text Wires = codes "wires"
+word_text Vlinks = codes "vlinks"
+word_text Channels = codes "channels"
+word_text Name = codes "name"
+word_text Vars = codes "vars"
+word_text Process = codes "process"
+word_text Table = codes "table"
+word_text Delete = codes "delete"
+word_text Random = codes "random"
+word_text A = codes "a"
+word_text B = codes "b"
+word_text Kind = codes "kind"
+word_text Vlink = codes "vlink"
+word_text Way = codes "way"
+word_text Node = codes "node"
+word_text Set = codes "set"
+word_text Out = codes "out"
+word_text In = codes "in"
+word_text Stopch = codes "stopch"
+word_text Seq = codes "seq"
+word_text Par = codes "par"
+word_text If = codes "if"
+word_text While = codes "while"
+word_text For = codes "for"
+word_text Alt = codes "alt"
+word_text Hex = codes "hex"
+word_text Text = codes "text"
+word_text Fill = codes "fill"

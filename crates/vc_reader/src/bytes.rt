@@ -1,0 +1,159 @@
+//! Readers of variables and of expressions of bytes.
+ghost use Rattle.std.specs.Prelude.{◌≡◌, ◌<◌, IfOk};
+ghost use Rattle.serde_json.specs.View.{view};
+ghost use Rattle.vc_reader.specs.Reading.{Gives};
+ghost use Rattle.vc_reader.specs.Bytes.{same_kind as is_same, of_kind as number_of_kind, variable_of, no_longer as no_longer_than, hex_digit as hex_digit_of, hex_bytes as hex_bytes_of, hex_of, literal_of, fill_of, formed_bytes as formed, bytes_of};
+
+use crate::fault::{Stop, Why};
+use crate::name::one_of;
+use crate::path::Step;
+use crate::reader::{Reader, cell, only, row, text, under, wrong};
+use crate::register::Register;
+use crate::scalar::{Byte, MessageLen};
+use crate::word::Word;
+use serde_json::Value;
+use sqlite_items::Items;
+use std::alloc::Global;
+use vc_occam::{BytesExpr, ValueKind};
+use vc_plan::Variable;
+
+fn same_kind(one: ValueKind, two: ValueKind) -> bool
+    ensures { result ≡ is_same one two }
+{
+    match one {
+        ValueKind::Int => matches!(two, ValueKind::Int),
+        ValueKind::Bytes => matches!(two, ValueKind::Bytes),
+    }
+}
+
+fn of_kind(alloc: Global, kind: ValueKind, number: usize, var: &Variable) -> Result<u8, Stop>
+    ensures { Gives (λ x. x) result (number_of_kind kind (number, var.now)) }
+{
+    if same_kind(kind, var.kind) {
+        Ok(number.min(255) as u8)
+    } else {
+        Err(wrong(alloc, Why::Kind))
+    }
+}
+
+/// A variable of a kind, by its name.
+#[derive(Drop)]
+pub(crate) struct VariableOf<'a> {
+    pub kind: ValueKind,
+    pub vars: &'a Register<Variable>,
+}
+
+impl Reader for VariableOf<'_> {
+    type Out = u8;
+
+    ghost meaning = { λ r. variable_of r.kind r.vars.now };
+
+    fn read(&self, alloc: Global, value: &Value) -> Result<u8, Stop> {
+        let (number, var) = one_of(alloc, self.vars, value)?;
+        of_kind(alloc, self.kind, number, var)
+    }
+}
+
+fn no_longer(alloc: Global, bytes: Items<u8>) -> Result<Items<u8>, Stop>
+    ensures { Gives (λ x. x) result (no_longer_than bytes) }
+{
+    if bytes.len() <= 65535 {
+        Ok(bytes)
+    } else {
+        Err(wrong(alloc, Why::Range))
+    }
+}
+
+fn hex_digit(alloc: Global, c: u8) -> Result<u8, Stop>
+    ensures gives { Gives (λ x. x) result (hex_digit_of c) }
+    ensures small { IfOk result (λ n. n < 16) }
+{
+    if 48 <= c && c <= 57 {
+        Ok(c - 48)
+    } else if 97 <= c && c <= 102 {
+        Ok(c - 87)
+    } else {
+        Err(wrong(alloc, Why::Kind))
+    }
+}
+
+#[tactic(auto, using(crate::proofs::Parts::with_front_none, crate::proofs::Parts::with_front_one))]
+fn hex_bytes(alloc: Global, text: &[u8]) -> Result<Items<u8>, Stop>
+    ensures { Gives (λ x. x) result (hex_bytes_of text.now) }
+{
+    let mut bytes = Items::new(alloc);
+    let mut rest = text;
+    while let Some((a, tail)) = rest.split_first() {
+        let Some((b, more)) = tail.split_first() else {
+            return Err(wrong(alloc, Why::Kind));
+        };
+        let high = hex_digit(alloc, *a)?;
+        let low = hex_digit(alloc, *b)?;
+        bytes.push(16 * high + low)?;
+        rest = more;
+    }
+    Ok(bytes)
+}
+
+fn hex(alloc: Global, value: &Value) -> Result<BytesExpr, Stop>
+    ensures { Gives (λ x. x) result (hex_of (view value.now)) }
+{
+    let text = text(alloc, value)?;
+    let bytes = hex_bytes(alloc, text.as_bytes())?;
+    let bytes = no_longer(alloc, bytes)?;
+    Ok(BytesExpr::Lit(bytes))
+}
+
+fn literal(alloc: Global, value: &Value) -> Result<BytesExpr, Stop>
+    ensures { Gives (λ x. x) result (literal_of (view value.now)) }
+{
+    let text = text(alloc, value)?;
+    let bytes = Items::from_slice(alloc, text.as_bytes())?;
+    let bytes = no_longer(alloc, bytes)?;
+    Ok(BytesExpr::Lit(bytes))
+}
+
+fn fill(alloc: Global, value: &Value) -> Result<BytesExpr, Stop>
+    ensures { Gives (λ x. x) result (fill_of (view value.now)) }
+{
+    row(alloc, 2, value)?;
+    let byte = cell(alloc, 0, &Byte, value)?;
+    let count = cell(alloc, 1, &MessageLen, value)?;
+    Ok(BytesExpr::Fill { byte, count })
+}
+
+fn formed_bytes(alloc: Global, form: &str, value: &Value) -> Result<BytesExpr, Stop>
+    ensures { Gives (λ x. x) result (formed form.now (view value.now)) }
+{
+    if form == "hex" {
+        under(Step::Field(Word::Hex), hex(alloc, value))
+    } else if form == "text" {
+        under(Step::Field(Word::Text), literal(alloc, value))
+    } else if form == "fill" {
+        under(Step::Field(Word::Fill), fill(alloc, value))
+    } else {
+        Err(wrong(alloc, Why::Unknown))
+    }
+}
+
+/// An expression of bytes over these variables.
+pub(crate) fn bytes(
+    alloc: Global,
+    vars: &Register<Variable>,
+    value: &Value,
+) -> Result<BytesExpr, Stop>
+    ensures { Gives (λ x. x) result (bytes_of vars.now (view value.now)) }
+{
+    if let Value::String(_) = value {
+        let variable = VariableOf {
+            kind: ValueKind::Bytes,
+            vars,
+        };
+        Ok(BytesExpr::Var(variable.read(alloc, value)?))
+    } else {
+        match only(value) {
+            Some((form, part)) => formed_bytes(alloc, form, part),
+            None => Err(wrong(alloc, Why::Kind)),
+        }
+    }
+}

@@ -1,0 +1,33 @@
+//! Reads the network file: one JSON text that names nodes, switches, wires, virtual links, channels and the process of each node.
+//!
+//! The layer above knows that what `read_network` answers is exactly the network that the text means, a function from the JSON
+//! value to a plan or its first fault (`specs/NetworkText`).
+#![tactic(auto)]
+
+mod bytes;
+mod channel;
+mod condition;
+mod expression;
+mod fault;
+mod name;
+mod network;
+mod node;
+mod path;
+mod process;
+mod reader;
+mod refused;
+mod register;
+mod scalar;
+mod switch;
+mod vlink;
+mod wire;
+mod word;
+
+pub use fault::Why;
+pub use network::read_network;
+pub use path::{Path, Step};
+pub use refused::ReadRefused;
+pub use word::Word;
+
+#[cfg(test)]
+mod tests;

@@ -1,0 +1,169 @@
+//! Readers of single words and numbers.
+ghost use Rattle.std.specs.Prelude.{◌≡◌};
+ghost use Rattle.serde_json.specs.View.{view};
+ghost use Rattle.vc_reader.specs.Reading.{Gives, number_of};
+ghost use Rattle.vc_reader.specs.Network.{kind_of, way_of, link_of, header_of, limit_of, portal_word};
+
+use crate::fault::{Stop, Why};
+use crate::reader::{ItemReader, Reader, number, text, wrong};
+use serde_json::Value;
+use std::alloc::Global;
+use vc_occam::ValueKind;
+
+/// The reader of each item of a list, whatever stood before it.
+#[derive(Drop)]
+pub(crate) struct Each<R>(pub R);
+
+impl<R: Reader> ItemReader for Each<R> {
+    type Out = R::Out;
+
+    ghost meaning = { λ r _. R.meaning r.0 };
+
+    fn read(&self, alloc: Global, _before: &[R::Out], value: &Value) -> Result<R::Out, Stop> {
+        self.0.read(alloc, value)
+    }
+}
+
+/// The kind of a channel or a variable.
+#[derive(Drop)]
+pub(crate) struct Kind;
+
+impl Reader for Kind {
+    type Out = ValueKind;
+
+    ghost meaning = { λ _. kind_of };
+
+    fn read(&self, alloc: Global, value: &Value) -> Result<ValueKind, Stop> {
+        let text = text(alloc, value)?;
+        if text == "int" {
+            Ok(ValueKind::Int)
+        } else if text == "bytes" {
+            Ok(ValueKind::Bytes)
+        } else {
+            Err(wrong(alloc, Why::Kind))
+        }
+    }
+}
+
+/// Whether a way is from end a.
+#[derive(Drop)]
+pub(crate) struct FromA;
+
+impl Reader for FromA {
+    type Out = bool;
+
+    ghost meaning = { λ _. way_of };
+
+    fn read(&self, alloc: Global, value: &Value) -> Result<bool, Stop> {
+        let text = text(alloc, value)?;
+        if text == "ab" {
+            Ok(true)
+        } else if text == "ba" {
+            Ok(false)
+        } else {
+            Err(wrong(alloc, Why::Kind))
+        }
+    }
+}
+
+/// The word of a portal.
+#[derive(Drop)]
+pub(crate) struct PortalWord;
+
+impl Reader for PortalWord {
+    type Out = ();
+
+    ghost meaning = { λ _. portal_word };
+
+    fn read(&self, alloc: Global, value: &Value) -> Result<(), Stop> {
+        if text(alloc, value)? == "portal" {
+            Ok(())
+        } else {
+            Err(wrong(alloc, Why::Kind))
+        }
+    }
+}
+
+/// A link, 0 to 31.
+#[derive(Drop)]
+pub(crate) struct Link;
+
+impl Reader for Link {
+    type Out = u8;
+
+    ghost meaning = { λ _. link_of };
+
+    fn read(&self, alloc: Global, value: &Value) -> Result<u8, Stop> {
+        Ok(number(alloc, 0, 31, value)? as u8)
+    }
+}
+
+/// A header, 0 to 65,535.
+#[derive(Drop)]
+pub(crate) struct Header;
+
+impl Reader for Header {
+    type Out = u16;
+
+    ghost meaning = { λ _. header_of };
+
+    fn read(&self, alloc: Global, value: &Value) -> Result<u16, Stop> {
+        Ok(number(alloc, 0, 65535, value)? as u16)
+    }
+}
+
+/// The least header of an interval, 0 to 65,535.
+#[derive(Drop)]
+pub(crate) struct Lower;
+
+impl Reader for Lower {
+    type Out = u32;
+
+    ghost meaning = { λ _. header_of };
+
+    fn read(&self, alloc: Global, value: &Value) -> Result<u32, Stop> {
+        Ok(number(alloc, 0, 65535, value)? as u32)
+    }
+}
+
+/// The limit of an interval, 0 to 65,536.
+#[derive(Drop)]
+pub(crate) struct Limit;
+
+impl Reader for Limit {
+    type Out = u32;
+
+    ghost meaning = { λ _. limit_of };
+
+    fn read(&self, alloc: Global, value: &Value) -> Result<u32, Stop> {
+        Ok(number(alloc, 0, 65536, value)? as u32)
+    }
+}
+
+/// A byte.
+#[derive(Drop)]
+pub(crate) struct Byte;
+
+impl Reader for Byte {
+    type Out = u8;
+
+    ghost meaning = { λ _. number_of 0 255 };
+
+    fn read(&self, alloc: Global, value: &Value) -> Result<u8, Stop> {
+        Ok(number(alloc, 0, 255, value)? as u8)
+    }
+}
+
+/// The length of a message, 0 to 65,535.
+#[derive(Drop)]
+pub(crate) struct MessageLen;
+
+impl Reader for MessageLen {
+    type Out = u32;
+
+    ghost meaning = { λ _. number_of 0 65535 };
+
+    fn read(&self, alloc: Global, value: &Value) -> Result<u32, Stop> {
+        Ok(number(alloc, 0, 65535, value)? as u32)
+    }
+}
