@@ -11,3 +11,6 @@ mod out_half;
 
 pub use in_half::{Arrival, InHalf, Want};
 pub use out_half::{Advance, OutHalf};
+
+#[cfg(test)]
+mod tests;
