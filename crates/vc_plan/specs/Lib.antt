@@ -1,4 +1,6 @@
+pub mod Check
 pub mod Labelling
+pub mod Limits
 pub mod Paths
 pub mod Places
 pub mod Search

@@ -11,6 +11,7 @@ pub struct Accepted {
 impl Model for Accepted {
     ghost use Rattle.std.specs.Coded.{codes};
     ghost use Rattle.vc_occam.specs.contracts.process.Process as process;
+    ghost use Rattle.vc_plan.specs.Check.{IsAccepted};
     ghost use Rattle.vc_plan.specs.declared.plan.Plan.{Plan};
 
     ghost Value = { Plan };
@@ -18,14 +19,26 @@ impl Model for Accepted {
     ghost coded = { Prim.hlevel (codes, process.the_row.coded) };
 
     ghost view = { λ a. a.plan };
+
+    ghost invariant = { λ a. IsAccepted a.plan };
 }
 
 impl Accepted {
     ghost use Rattle.std.specs.Prelude.{◌≡◌};
+    ghost use Rattle.vc_plan.specs.Check.{IsAccepted};
+
+    /// A plan that is found to be in order.
+    pub(crate) fn of(plan: Plan) -> Accepted
+        requires { IsAccepted plan }
+        ensures { result ≡ plan }
+    {
+        Accepted { plan }
+    }
 
     /// The plan that the checker was given.
     pub fn plan(&self) -> &Plan
-        ensures { result.now ≡ self.now }
+        ensures plan { result.now ≡ self.now }
+        ensures accepted { IsAccepted self.now }
     {
         &self.plan
     }

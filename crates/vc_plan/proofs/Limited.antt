@@ -1,0 +1,100 @@
+-- What a plan that breaks no limit keeps.
+use Rattle.std.proofs.Common.{◌≡◌, ℕ, zero, suc, ◌<◌, ◌≤◌, Bool, true, false, ◌&&◌, List, [], ◌∷◌, length, Option, Some, None, refl, arith, nat_le}
+use Rattle.std.proofs.lemmas.Bool.Decides.{nat_tests}
+use Rattle.std.specs.Prelude.{slice_get}
+use Rattle.std.specs.List.{list_all}
+use Rattle.vc_plan.specs.declared.plan.Plan.{Plan}
+use Rattle.vc_plan.specs.declared.switch_plan.RandomInput.{RandomInput}
+use Rattle.vc_plan.specs.declared.limit_word.LimitWord.{LimitWord}
+use Rattle.vc_plan.specs.declared.limit_word.LimitWord.TheVariants as word
+use Rattle.vc_plan.specs.Limits.{unless_ok, limit_broken, part_broken, process_broken, number_broken, version_ok, vars_ok, rows_ok, routes_ok, links_ok, random_ok, range_ok, depth_ok, message_ok, number_ok, names_ok}
+use Rattle.vc_plan.specs.Paths.{LimitsFit}
+
+pub record Keeps (p : Plan) : Type 0 where
+  pub version : version_ok p ≡ true
+  pub nodes : nat_le (length p.nodes) 32 ≡ true
+  pub switches : nat_le (length p.switches) 32 ≡ true
+  pub wires : nat_le (length p.wires) 256 ≡ true
+  pub vlinks : nat_le (length p.vlinks) 256 ≡ true
+  pub channels : nat_le (length p.channels) 512 ≡ true
+  pub vars : list_all vars_ok p.nodes ≡ true
+  pub rows : list_all rows_ok p.switches ≡ true
+  pub routes : list_all routes_ok p.vlinks ≡ true
+  pub links : links_ok p ≡ true
+  pub random : list_all random_ok p.switches ≡ true
+  pub depth : list_all depth_ok p.nodes ≡ true
+  pub message : list_all message_ok p.nodes ≡ true
+  pub number : number_ok p ≡ true
+  pub names : names_ok p ≡ true
+
+ok : (b : Bool) (w : LimitWord) (next : Option LimitWord) → unless_ok b w next ≡ None → (b ≡ true) × (next ≡ None)
+ok true w next h = (refl, h)
+ok false w next h = absurd cc
+
+pub keeps : (p : Plan) → limit_broken p ≡ None → Keeps p
+keeps p h =
+    let a = ok (version_ok p) word.Version _ h in
+    let b = ok (nat_le (length p.nodes) 32) word.Nodes _ a.1 in
+    let c = ok (nat_le (length p.switches) 32) word.Switches _ b.1 in
+    let d = ok (nat_le (length p.wires) 256) word.Wires _ c.1 in
+    let e = ok (nat_le (length p.vlinks) 256) word.Vlinks _ d.1 in
+    let f = ok (nat_le (length p.channels) 512) word.Channels (part_broken p) e.1 in
+    let g = ok (list_all vars_ok p.nodes) word.Vars _ f.1 in
+    let i = ok (list_all rows_ok p.switches) word.Rows _ g.1 in
+    let j = ok (list_all routes_ok p.vlinks) word.Route _ i.1 in
+    let k = ok (links_ok p) word.Link _ j.1 in
+    let l = ok (list_all random_ok p.switches) word.Random (process_broken p) k.1 in
+    let m = ok (list_all depth_ok p.nodes) word.Depth _ l.1 in
+    let n = ok (list_all message_ok p.nodes) word.Message (number_broken p) m.1 in
+    let o = ok (number_ok p) word.Number _ n.1 in
+    let q = ok (names_ok p) word.Name None o.1 in
+    record {
+      version = a.0;
+      nodes = b.0;
+      switches = c.0;
+      wires = d.0;
+      vlinks = e.0;
+      channels = f.0;
+      vars = g.0;
+      rows = i.0;
+      routes = j.0;
+      links = k.0;
+      random = l.0;
+      depth = m.0;
+      message = n.0;
+      number = o.0;
+      names = q.0;
+    }
+
+both : (a b : Bool) → (a && b) ≡ true → (a ≡ true) × (b ≡ true)
+both true b h = (refl, h)
+both false b h = absurd cc
+
+-- each of a list passes
+pub passes : {X : Type 0} (test : X → Bool) (xs : List X) (k : ℕ) (x : X) → list_all test xs ≡ true → slice_get xs k ≡ Some x → test x ≡ true
+passes test [] k x h e = absurd cc
+passes test (y ∷ ys) zero x h e =
+    let same : y ≡ x = cc in
+    let t : test y ≡ true = (both (test y) (list_all test ys) h).0 in
+    cc
+passes test (y ∷ ys) (suc k) x h e = passes test ys k x (both (test y) (list_all test ys) h).1 e
+
+range-fits : (r : RandomInput) → range_ok r ≡ true → r.limit ≤ 65536
+range-fits r h = grind (arith, nat_tests)
+
+pub limits-fit : (p : Plan) → limit_broken p ≡ None → LimitsFit p
+limits-fit p h = λ n k plan r at is.
+    let t : random_ok plan ≡ true = passes random_ok p.switches n plan (keeps p h).random at in
+    range-fits r (passes range_ok plan.random k r (both (list_all range_ok plan.random) _ t).0 is)
+
+pub few-nodes : (p : Plan) → limit_broken p ≡ None → length p.nodes < 256
+few-nodes p h = let t = (keeps p h).nodes in grind (arith, nat_tests)
+
+pub few-switches : (p : Plan) → limit_broken p ≡ None → length p.switches < 256
+few-switches p h = let t = (keeps p h).switches in grind (arith, nat_tests)
+
+pub few-vlinks : (p : Plan) → limit_broken p ≡ None → length p.vlinks < 65536
+few-vlinks p h = let t = (keeps p h).vlinks in grind (arith, nat_tests)
+
+pub few-channels : (p : Plan) → limit_broken p ≡ None → length p.channels < 65536
+few-channels p h = let t = (keeps p h).channels in grind (arith, nat_tests)

@@ -1,0 +1,239 @@
+-- What `check` asks of a plan, and the first thing that it can find wrong.
+use Rattle.std.specs.Prelude.{◌≡◌, ◌≢◌, ℕ, suc, ◌<◌, Bool, true, false, ◌==◌, ◌&&◌, not, List, [], ◌∷◌, ◌++◌, Option, Some, None, slice_get, is_some, if◌then◌else◌, ◌⊎◌}
+use Rattle.std.specs.List.{list_any}
+use Rattle.vc_labels.specs.declared.row.Row.{Row}
+use Rattle.vc_labels.specs.declared.fault.TableFault.{TableFault}
+use Rattle.vc_labels.specs.declared.fault.TableFault.TheVariants.{BadLink}
+use Rattle.vc_labels.specs.Fault.{table_fault}
+use Rattle.vc_occam.specs.declared.value_kind.ValueKind.{ValueKind}
+use Rattle.vc_occam.specs.declared.channel_use.ChannelUse.{ChannelUse}
+use Rattle.vc_occam.specs.ChannelUses.{channel_uses}
+use Rattle.vc_occam.specs.Limits.{same_kind}
+use Rattle.vc_occam.specs.Numbering.{written}
+use Rattle.vc_plan.specs.declared.plan.Plan.{Plan}
+use Rattle.vc_plan.specs.declared.port.Port.{Port}
+use Rattle.vc_plan.specs.declared.port.Wire.{Wire}
+use Rattle.vc_plan.specs.declared.vlink.End.{End}
+use Rattle.vc_plan.specs.declared.vlink.Vlink.{Vlink}
+use Rattle.vc_plan.specs.declared.channel.Channel.{Channel}
+use Rattle.vc_plan.specs.declared.channel.Home.{Home}
+use Rattle.vc_plan.specs.declared.channel.Home.TheVariants.{Way, Inside}
+use Rattle.vc_plan.specs.declared.node_plan.NodePlan.{NodePlan}
+use Rattle.vc_plan.specs.declared.switch_plan.SwitchPlan.{SwitchPlan}
+use Rattle.vc_plan.specs.declared.path_fault.PathFault.{PathFault}
+use Rattle.vc_plan.specs.declared.fault.Fault.{Fault}
+use Rattle.vc_plan.specs.declared.fault.Fault.TheVariants as fault
+use Rattle.vc_plan.specs.declared.labelling.Astray.{Astray}
+use Rattle.vc_plan.specs.declared.check_refused.CheckRefused.{CheckRefused}
+use Rattle.vc_plan.specs.declared.check_refused.CheckRefused.TheVariants as why
+use Rattle.vc_plan.specs.Labelling.{IsFirstFault}
+use Rattle.vc_plan.specs.Limits.{kinds_of, limit_broken}
+use Rattle.vc_plan.specs.Paths.{same_port, IsWiredAction, IsLabelled, across, sending_port, switch_at}
+
+abbrev pub first_of : {A : Type 0} → Option A → Option A → Option A
+first_of (Some x) other = Some x
+first_of None other = other
+
+-- the first of a list that stood before
+abbrev pub repeated : {A : Type 0} → (A → A → Bool) → List A → List A → Option A
+repeated same seen [] = None
+repeated same seen (x ∷ xs) = if list_any (same x) seen then Some x else repeated same (seen ++ x ∷ []) xs
+
+abbrev pub ports : List Wire → List Port
+ports [] = []
+ports (w ∷ ws) = w.one ∷ w.two ∷ ports ws
+
+-- a port that stands on two wires, or at both ends of one
+abbrev pub port_twice : List Wire → Option Port
+port_twice wires = repeated same_port [] (ports wires)
+
+-- an end's sending port, where it is on no wire
+abbrev pub unwired_port : List Wire → End → Option Port
+unwired_port wires e = if is_some (across wires (sending_port e)) then None else Some (sending_port e)
+
+abbrev pub port_missing : List Wire → List Vlink → Option Port
+port_missing wires [] = None
+port_missing wires (v ∷ vs) = first_of (unwired_port wires v.a) (first_of (unwired_port wires v.b) (port_missing wires vs))
+
+-- a block of a node
+abbrev pub block_of : End → ℕ × ℕ
+block_of e = (e.node, e.block)
+
+abbrev pub same_block : ℕ × ℕ → ℕ × ℕ → Bool
+same_block x y = x.0 == y.0 && x.1 == y.1
+
+abbrev pub blocks : List Vlink → List (ℕ × ℕ)
+blocks [] = []
+blocks (v ∷ vs) = block_of v.a ∷ block_of v.b ∷ blocks vs
+
+-- a block that two ends have
+abbrev pub block_twice : List Vlink → Option (ℕ × ℕ)
+block_twice vlinks = repeated same_block [] (blocks vlinks)
+
+abbrev pub HasWiredRows : Plan → ℕ → SwitchPlan → Type 0
+HasWiredRows p n plan = (k : ℕ) (row : Row) → slice_get plan.rows k ≡ Some row → IsWiredAction p n row.action
+
+-- a switch's table is lawful, and each link of its groups has a wire
+pub record IsLawfulSwitch (p : Plan) (n : ℕ) (plan : SwitchPlan) : Type 0 where
+  pub table : table_fault plan.rows ≡ None
+  pub wired : HasWiredRows p n plan
+
+-- the table's fault, or else a link without a wire
+abbrev pub IsSwitchFault : Plan → ℕ → SwitchPlan → TableFault → Type 0
+IsSwitchFault p n plan fault =
+    (table_fault plan.rows ≡ Some fault) ⊎ ((table_fault plan.rows ≡ None) × (fault ≡ BadLink) × ¬ HasWiredRows p n plan)
+
+abbrev pub HasLawfulTables : Plan → Type 0
+HasLawfulTables p = (n : ℕ) (plan : SwitchPlan) → switch_at p n ≡ Some plan → IsLawfulSwitch p n plan
+
+-- the first switch with a fault
+pub record IsFirstTable (p : Plan) (n : ℕ) (fault : TableFault) : Type 0 where
+  pub plan : SwitchPlan
+  pub there : switch_at p n ≡ Some plan
+  pub is : IsSwitchFault p n plan fault
+  pub earlier : (k : ℕ) (other : SwitchPlan) → k < n → switch_at p k ≡ Some other → IsLawfulSwitch p k other
+
+abbrev pub AreApart : List Vlink → Type 0
+AreApart vs = (k : ℕ) (v : Vlink) → slice_get vs k ≡ Some v → v.a.node ≢ v.b.node
+
+pub record IsFirstSameNode (vs : List Vlink) (n : ℕ) : Type 0 where
+  pub vlink : Vlink
+  pub there : slice_get vs n ≡ Some vlink
+  pub is : vlink.a.node ≡ vlink.b.node
+  pub earlier : (k : ℕ) (v : Vlink) → k < n → slice_get vs k ≡ Some v → v.a.node ≢ v.b.node
+
+abbrev pub same_bool : Bool → Bool → Bool
+same_bool true b = b
+same_bool false b = not b
+
+-- the two channels are on one way of a virtual link
+abbrev pub same_way : Home → Home → Bool
+same_way (Way v f) (Way w g) = v == w && same_bool f g
+same_way (Way v f) (Inside n) = false
+same_way (Inside n) h = false
+
+-- the first channel, of these that are numbered from n on, whose way stood before
+abbrev pub way_twice_from : ℕ → List Home → List Channel → Option ℕ
+way_twice_from n seen [] = None
+way_twice_from n seen (c ∷ cs) = if list_any (same_way c.home) seen then Some n else way_twice_from (suc n) (seen ++ c.home ∷ []) cs
+
+abbrev pub way_twice : List Channel → Option ℕ
+way_twice channels = way_twice_from 0 [] channels
+
+-- the node of end a, or of end b
+abbrev pub end_is_at : Vlink → Bool → ℕ → Bool
+end_is_at v true n = v.a.node == n
+end_is_at v false n = v.b.node == n
+
+abbrev pub end_is_there : Option Vlink → Bool → ℕ → Bool
+end_is_there None is_a n = false
+end_is_there (Some v) is_a n = end_is_at v is_a n
+
+-- the node is at the outputting end of the channel, or at its inputting end
+abbrev pub has_end : Plan → Home → Bool → ℕ → Bool
+has_end p (Way v from_a) is_output n = end_is_there (slice_get p.vlinks v) (same_bool from_a is_output) n
+has_end p (Inside m) is_output n = m == n
+
+-- a stop is of no kind
+abbrev pub kind_fits : Option ValueKind → ValueKind → Bool
+kind_fits None k = true
+kind_fits (Some j) k = same_kind j k
+
+abbrev pub channel_used : Plan → ℕ → ChannelUse → Option Channel → Bool
+channel_used p n u None = false
+channel_used p n u (Some c) = has_end p c.home u.is_output n && kind_fits u.kind c.kind
+
+-- a process of node n may use a channel so
+abbrev pub use_ok : Plan → ℕ → ChannelUse → Bool
+use_ok p n u = channel_used p n u (slice_get p.channels u.chan)
+
+-- the channel of the first use that is wrong
+abbrev pub wrong_use : Plan → ℕ → List ChannelUse → Option ℕ
+wrong_use p n [] = None
+wrong_use p n (u ∷ us) = if use_ok p n u then wrong_use p n us else Some u.chan
+
+abbrev pub uses_of : NodePlan → List ChannelUse
+uses_of node = channel_uses (kinds_of node.vars) (written node.process)
+
+-- the same, node by node, of these that are numbered from n on
+abbrev pub misused_from : Plan → ℕ → List NodePlan → Option ℕ
+misused_from p n [] = None
+misused_from p n (node ∷ nodes) = first_of (wrong_use p n (uses_of node)) (misused_from p (suc n) nodes)
+
+abbrev pub misused : Plan → Option ℕ
+misused p = misused_from p 0 p.nodes
+
+-- a channel on a way that stood before, or else one that a process misuses
+abbrev pub channel_fault : Plan → Option ℕ
+channel_fault p = first_of (way_twice p.channels) (misused p)
+
+-- a plan that passes each test, in their order
+pub record PassesLimits (p : Plan) : Type 0 where
+  pub limits : limit_broken p ≡ None
+
+pub record PassesWires (p : Plan) : Type 0 where
+  pub before : PassesLimits p
+  pub once : port_twice p.wires ≡ None
+
+pub record PassesPorts (p : Plan) : Type 0 where
+  pub before : PassesWires p
+  pub ports : port_missing p.wires p.vlinks ≡ None
+
+pub record PassesBlocks (p : Plan) : Type 0 where
+  pub before : PassesPorts p
+  pub blocks : block_twice p.vlinks ≡ None
+
+pub record PassesTables (p : Plan) : Type 0 where
+  pub before : PassesBlocks p
+  pub tables : HasLawfulTables p
+
+pub record PassesPaths (p : Plan) : Type 0 where
+  pub before : PassesTables p
+  pub labelled : IsLabelled p p.vlinks
+
+pub record PassesNodes (p : Plan) : Type 0 where
+  pub before : PassesPaths p
+  pub apart : AreApart p.vlinks
+
+pub record PassesChannels (p : Plan) : Type 0 where
+  pub before : PassesNodes p
+  pub channels : channel_fault p ≡ None
+
+-- an accepted plan
+unfoldable pub IsAccepted : Plan → Type 0
+IsAccepted p = PassesChannels p
+
+-- a path with its fault
+abbrev pub astray : PathFault → Fault → Astray
+astray f fault =
+    record { vlink = f.vlink; from_a = f.from_a; start = f.start; hops = f.hops; last = f.last; value = f.value; fault = fault }
+
+abbrev pub IsPathCause : Plan → PathFault → Fault → Type 0
+IsPathCause p f fault = PassesTables p × IsFirstFault p p.vlinks (astray f fault)
+
+-- the first test that a plan fails, and where
+abbrev pub IsCause : Plan → CheckRefused → Type 0
+IsCause p (why.Limit word) = limit_broken p ≡ Some word
+IsCause p (why.PortTwice port) = PassesLimits p × (port_twice p.wires ≡ Some port)
+IsCause p (why.PortMissing port) = PassesWires p × (port_missing p.wires p.vlinks ≡ Some port)
+IsCause p (why.BlockTwice node block) = PassesPorts p × (block_twice p.vlinks ≡ Some (node, block))
+IsCause p (why.Table n fault) = PassesBlocks p × IsFirstTable p n fault
+IsCause p (why.NoInterval f) = IsPathCause p f fault.NoInterval
+IsCause p (why.WrongEnd f) = IsPathCause p f fault.WrongEnd
+IsCause p (why.StackEmpty f) = IsPathCause p f fault.StackEmpty
+IsCause p (why.StackFull f) = IsPathCause p f fault.StackFull
+IsCause p (why.Hops f) = IsPathCause p f fault.Hops
+IsCause p (why.SameNode n) = PassesPaths p × IsFirstSameNode p.vlinks n
+IsCause p (why.Channel n) = PassesNodes p × (channel_fault p ≡ Some n)
+-- a process of one word has no parts side by side, and no index
+IsCause p (why.Usage n name) = ⊥
+IsCause p why.Memory = Unit {0}
+
+-- a path with its fault is refused so
+abbrev pub IsRefusedPath : Astray → CheckRefused → Type 0
+IsRefusedPath a (why.NoInterval f) = a ≡ astray f fault.NoInterval
+IsRefusedPath a (why.WrongEnd f) = a ≡ astray f fault.WrongEnd
+IsRefusedPath a (why.StackEmpty f) = a ≡ astray f fault.StackEmpty
+IsRefusedPath a (why.StackFull f) = a ≡ astray f fault.StackFull
+IsRefusedPath a (why.Hops f) = a ≡ astray f fault.Hops
+IsRefusedPath a r = ⊥
