@@ -1,5 +1,6 @@
 //! The half that inputs.
-ghost use Rattle.std.specs.Prelude.{◌≡◌, ◌≢◌, false, true, None, [], ◌++◌, ◌↔◌, IsTrue, IsSome, IsNone, IfOk, OnOk, OnErr};
+ghost use Rattle.std.specs.Prelude.{◌≡◌, ◌≢◌, false, true, None, [], ◌++◌, ◌↔◌, IsTrue, IsSome, IsNone, IfOk, IfSome, OnOk, OnErr};
+ghost use Rattle.std.specs.Option.{option_copied};
 ghost use Rattle.vc_blocks.specs.Halves.{IsPiece, load_of};
 ghost use Rattle.vc_blocks.specs.Arriving.{after_arrival, arrival_of, after_want, want_of};
 
@@ -99,6 +100,27 @@ impl InHalf {
         ensures { self.new ≡ record self.old { stopped = true } }
     {
         self.stopped = true;
+    }
+
+    /// The held piece.
+    pub fn held(&self) -> Option<&Packet>
+        ensures held { option_copied result ≡ self.now.held }
+        ensures piece { IfSome result (λ packet. IsPiece packet.now) }
+    {
+        self.held.as_ref()
+    }
+
+    /// The bytes stored of the message that is arriving, with those of this piece behind them.
+    pub fn with_piece(&self, packet: &Packet) -> Result<Items<u8>, Memory>
+        requires { IsPiece packet.now }
+        ensures { IfOk result (λ message. message ≡ self.now.stored ++ load_of packet.now) }
+    {
+        let load = &packet.body.as_slice()[2..];
+        let room = self.stored.len().saturating_add(load.len());
+        let mut message = Vec::with_capacity(self.alloc, room)?;
+        message.extend_from_slice(&self.stored)?;
+        message.extend_from_slice(load)?;
+        Ok(Items::from_vec(message))
     }
 
     /// A piece arrives: it is stored where a process inputs, and else held.

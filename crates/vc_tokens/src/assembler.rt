@@ -55,6 +55,20 @@ impl Assembler {
         self.passed.is_empty()
     }
 
+    /// The bytes that have passed.
+    pub fn bytes(&self) -> &[u8]
+        ensures { result.now ≡ self.now.passed }
+    {
+        &self.passed
+    }
+
+    /// The next packet begins. It takes no memory.
+    pub fn clear(&mut self)
+        ensures { self.new ≡ record self.old { passed = [] } }
+    {
+        self.passed.clear();
+    }
+
     /// Whether the packet has as many bytes as it may.
     pub fn is_full(&self) -> bool
         ensures full { IsTrue result ↔ (length self.now.passed ≡ self.now.limit) }

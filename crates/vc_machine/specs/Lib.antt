@@ -1,0 +1,13 @@
+pub mod Paths
+pub mod Rendezvous
+pub mod Machine
+pub mod Places
+pub mod Headline
+pub mod Example
+pub mod Links
+pub mod TokenMachine
+pub mod View
+pub mod Seen
+pub mod Laws
+pub mod Atomic
+pub mod TokenHeadline

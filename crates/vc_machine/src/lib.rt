@@ -1,0 +1,80 @@
+//! The packet machine and the token machine of a network, as definitions and laws.
+#![tactic(auto)]
+
+ghost use Rattle.std.specs.Prelude.{◌≡◌, ℕ, List, [], ◌∷◌};
+ghost use Rattle.vc_machine.specs.Paths.{Net, IsAccepted};
+ghost use Rattle.vc_machine.specs.Machine.{State, Event, Step, Run, start};
+ghost use Rattle.vc_machine.specs.Headline.{Headline};
+ghost use Rattle.vc_machine.specs.Example.{example, exchange};
+ghost use Rattle.vc_machine.specs.Links.{Tokens, Wires};
+ghost use Rattle.vc_machine.specs.TokenMachine.{TokenEvent, TokenStep};
+ghost use Rattle.vc_switch.specs.Waiting.{Waiting};
+ghost use Rattle.vc_machine.specs.View.{TokenView, Bindings};
+ghost use Rattle.vc_machine.specs.Seen.{seen};
+ghost use Rattle.vc_machine.specs.Laws.{Ranges, StepsAreSteps, RunsAreRuns, BuffersHold, RunsAreSound};
+ghost use Rattle.vc_machine.specs.TokenHeadline.{TokensKeepHeadline};
+
+/// The headline over packets: on an accepted network, after any list of steps, each channel's taken messages are the first of its
+/// offered ones, each once, whole and in order; finished outputs are no more than taken messages; after a stop nothing more is
+/// taken; and while an output is unfinished exactly one of its packets is in exactly one place. Nothing is dropped.
+#[tactic(auto, using(crate::proofs::Main::headline))]
+pub fn first_in_first_out_over_packets()
+    ensures { (net : Net) (es : List Event) (s : State) → IsAccepted net → Run net start es s → Headline net es s }
+{}
+
+/// On an accepted network an event leads from a state to one state only.
+#[tactic(auto, using(crate::proofs::OneStep::step_same))]
+pub fn a_packet_event_leads_to_one_state()
+    ensures { (net : Net) (s : State) (e : Event) (t u : State) → IsAccepted net → Step net s e t → Step net s e u → t ≡ u }
+{}
+
+/// A network with a switch, a random range and a portal is accepted, and a message goes over it and is acknowledged.
+#[tactic(auto, using(crate::proofs::ExampleHolds::accepted, crate::proofs::ExampleHolds::exchanged))]
+pub fn an_exchange_of_packets()
+    ensures accepted { IsAccepted example }
+    ensures runs { (s : State) × Run example start exchange s × ((s.chans 0).taken ≡ (104 ∷ 105 ∷ []) ∷ []) × ((s.chans 0).finished ≡ 1) }
+{}
+
+/// Tokens stand for one state of the packet machine only.
+pub fn tokens_stand_for_one_state()
+    ensures { (net : Net) (t : Tokens) (s v : State) → TokenView net t s → TokenView net t v → s ≡ v }
+{}
+
+/// The state that tokens stand for, as a function of them.
+pub fn the_state_is_seen()
+    ensures { (net : Net) (t : Tokens) (s : State) → TokenView net t s → s ≡ seen net t }
+{}
+
+/// Each step of the token machine is no step, one step, or Enter and then Route of the packet machine, whichever the waiting rule.
+pub fn each_token_step_is_at_most_two()
+    ensures { (net : Net) (back : ℕ → ℕ) (waiting : Waiting) → Ranges net → StepsAreSteps net back waiting }
+{}
+
+/// Each run of the token machine stands for a run of the packet machine.
+#[tactic(auto, using(crate::proofs::Refinement::runs_are_runs))]
+pub fn each_token_run_is_a_run()
+    ensures { (net : Net) (back : ℕ → ℕ) (waiting : Waiting) → Ranges net → RunsAreRuns net back waiting }
+{}
+
+/// No buffer overflows, and no FCT finds a credit above 8.
+pub fn buffers_hold()
+    ensures { (net : Net) (back : ℕ → ℕ) (waiting : Waiting) → Wires net back → BuffersHold net back waiting }
+{}
+
+/// On an accepted plan no packet grows past the limit, and where there is credit and a token to put, it can be put.
+pub fn each_token_run_is_sound()
+    ensures { (net : Net) (back : ℕ → ℕ) (waiting : Waiting) → RunsAreSound net back waiting }
+{}
+
+/// The headline over tokens, in store and forward and in wormhole alike.
+#[tactic(auto, using(crate::proofs::TokenMain::tokens_keep_headline))]
+pub fn first_in_first_out_over_tokens()
+    ensures { (net : Net) (back : ℕ → ℕ) (waiting : Waiting) → TokensKeepHeadline net back waiting }
+{}
+
+/// On an accepted network an event leads from tokens, with each output bound to one input, to one state only.
+#[tactic(auto, using(crate::proofs::OneToken::token_step_same))]
+pub fn a_token_event_leads_to_one_state()
+    ensures { (net : Net) (back : ℕ → ℕ) (waiting : Waiting) (t : Tokens) (e : TokenEvent) (u v : Tokens) → IsAccepted net → Bindings net t
+        → TokenStep net back waiting t e u → TokenStep net back waiting t e v → u ≡ v }
+{}

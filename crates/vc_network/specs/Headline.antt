@@ -1,0 +1,60 @@
+-- The headline: first in, first out, each once.
+use Rattle.std.specs.Prelude.{◌≡◌, ◌⊎◌, ℕ, suc, ◌≤◌, ◌<◌, Bool, true, List, ◌∷◌, length, Some, Contains}
+use Rattle.vc_actors.specs.Actors.{Network, ActBy}
+use Rattle.vc_packets.specs.declared.packet.Packet.{Packet}
+use Rattle.vc_tokens.specs.Tokens.{Token}
+use Rattle.vc_switch.specs.Waiting.{Waiting}
+use Rattle.vc_vcp.specs.Links.{new_link}
+use Rattle.vc_machine.specs.Rendezvous.{IsPrefixOf, DoesAll, part, nothing_yet}
+use Rattle.vc_machine.specs.Paths.{AtNode, AtSwitch}
+use Rattle.vc_switch.specs.Switch.{new_input}
+use Rattle.vc_machine.specs.Places.{Place, BelongsTo, Number}
+use Rattle.vc_network.specs.Plan.{Plan, Way, home, net_of, IsOutOf, IsInto, IsAccepted}
+use Rattle.vc_network.specs.Processes.{Doing, Trace}
+use Rattle.vc_network.specs.Network.{Act, Node, Actor, IsNode, begins, HappenAll}
+use Rattle.vc_network.specs.Views.{vcps, switches, sink_node, view, everywhere, Said, said_by, all_said}
+
+-- what holds of channel c
+pub record IsFaithful {P : Type 0} (plan : Plan) (s : Network (Actor P) Token) (c : ℕ) : Type 0 where
+  pub in_order : IsPrefixOf (view plan s c).taken (view plan s c).offered
+  pub finished : (view plan s c).finished ≤ length (view plan s c).taken
+  -- at most one output is unfinished
+  pub one_output : length (view plan s c).offered ≤ suc (view plan s c).finished
+
+-- what holds besides of a channel on a virtual link: while an output is unfinished, one packet belongs to it
+pub record HasItsPacket {P : Type 0} (plan : Plan) (s : Network (Actor P) Token) (c : ℕ) : Type 0 where
+  pub one_packet : length (view plan s c).offered ≡ suc (view plan s c).finished → Number (BelongsTo (net_of plan) c) (everywhere plan s) 1
+  pub no_packet : length (view plan s c).offered ≡ (view plan s c).finished → Number (BelongsTo (net_of plan) c) (everywhere plan s) 0
+
+-- the place of channel c's packet
+abbrev pub IsPlaceOf : {P : Type 0} → Plan → Network (Actor P) Token → ℕ → Place → Type 0
+IsPlaceOf plan s c place = (p : Packet) × Contains (everywhere plan s) (place, p) × BelongsTo (net_of plan) c (place, p)
+
+-- one list of all communications: each node's part is a trace of its process, and each channel's part is a run of the channel
+pub record AreTold {P : Type 0} (plan : Plan) (Does : Doing P) (begin : ℕ → P) (s : Network (Actor P) Token) (ks : List Said) : Type 0 where
+  pub by_node : (n : ℕ) → n < plan.nodes → (a : Node P) × (s.state n ≡ IsNode a) × Trace Does (begin n) (said_by n ks) a.process
+  pub on_channel : (c : ℕ) → c < length plan.channels → DoesAll nothing_yet (part c (all_said ks)) (view plan s c)
+
+-- packets and tokens stand nowhere but where `everywhere` counts them
+pub record NowhereElse {P : Type 0} (plan : Plan) (s : Network (Actor P) Token) : Type 0 where
+  pub queued : (n link : ℕ) (p : Packet) (ps : List Packet) → (vcps s n).carrier.queue link ≡ p ∷ ps → (w : ℕ) × IsOutOf plan w (AtNode n link)
+  pub at_node : (n link : ℕ) → ((vcps s n).link link ≡ new_link) ⊎ ((w : ℕ) × IsInto plan w (AtNode n link))
+  pub at_switch : (k link : ℕ) → ((switches plan s k).input link ≡ new_input) ⊎ ((w : ℕ) × IsInto plan w (AtSwitch k link))
+  pub held : (n c : ℕ) (p : Packet) → ((vcps s n).carrier.into c).held ≡ Some p → (c < length plan.channels) × (sink_node plan (home plan c) ≡ n)
+
+pub record Headline {P : Type 0} (plan : Plan) (waiting : Waiting) (Does : Doing P) (begin : ℕ → P) (s : Network (Actor P) Token) : Type 0 where
+  pub faithful : (c : ℕ) → c < length plan.channels → IsFaithful plan s c
+  pub packets : (c v : ℕ) (ab : Bool) → c < length plan.channels → home plan c ≡ Way v ab → HasItsPacket plan s c
+  pub nowhere_else : NowhereElse plan s
+  pub told : (ks : List Said) × AreTold plan Does begin s ks
+  -- after a stop nothing more is taken
+  pub stopped : (c : ℕ) (es : List (ActBy Act)) (t : Network (Actor P) Token) → c < length plan.channels → HappenAll plan waiting Does s es t →
+      (view plan s c).stopped ≡ true → (view plan t c).taken ≡ (view plan s c).taken
+  -- nothing is dropped
+  pub no_strays : (n : ℕ) → (vcps s n).carrier.strays ≡ 0
+  pub none_lost : (k : ℕ) → (switches plan s k).lost ≡ 0
+
+-- after any list of events that happens from the opening state of an accepted network
+abbrev pub HeadlineHolds : {P : Type 0} → Plan → Waiting → Doing P → (ℕ → P) → Type 0
+HeadlineHolds {P} plan waiting Does begin =
+    (es : List (ActBy Act)) (s : Network (Actor P) Token) → IsAccepted plan → HappenAll plan waiting Does (begins plan begin) es s → Headline plan waiting Does begin s

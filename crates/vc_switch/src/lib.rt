@@ -1,0 +1,2 @@
+//! A switch of a network.
+#![tactic(auto)]

@@ -1,0 +1,3 @@
+pub mod KeyedLemmas
+pub mod PutLemmas
+pub mod Undoing

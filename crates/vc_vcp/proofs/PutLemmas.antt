@@ -1,0 +1,77 @@
+-- A put of the next byte of the front packet, or of its mark.
+use Rattle.std.proofs.Common.{◌≡◌, ◌≢◌, ℕ, zero, suc, ◌+◌, ◌-◌, ◌<◌, ◌≤◌, List, [], ◌∷◌, ◌++◌, length, take, drop, refl, sym, ap, ◌∙◌, subst, arith, get_or, slice_get, Option, Some, None, append-nil}
+use Rattle.std.proofs.Math.Seq.{take-suc, drop-cons}
+use Rattle.std.proofs.lemmas.List.{take-append-drop}
+use Rattle.std.proofs.lemmas.Option.{slice_get_within, get_or_from_slice_get}
+use Rattle.vc_packets.specs.declared.mark.Mark.{Mark}
+use Rattle.vc_packets.specs.declared.packet.Packet.{Packet}
+use Rattle.vc_tokens.specs.Tokens.{Token, Byte, EndMark}
+use Rattle.vc_credit.specs.Ends.{Sender, Puts, puts_byte, puts_mark}
+use Rattle.vc_vcp.specs.LinkOut.{Sending, sent_of, queue_after, IsWithinFront, PutsFront}
+
+-- the bytes before the n-th, that byte, and those behind it
+split_at : (body : List ℕ) (n b : ℕ) → slice_get body n ≡ Some b → body ≡ take n body ++ b ∷ drop (suc n) body
+split_at body n b e =
+    let less = slice_get_within body n b e in
+    let is = get_or_from_slice_get body n b 0 e in
+    sym (take-append-drop n body) ∙ ap (λ k. take n body ++ k) (drop-cons body n 0 less ∙ ap (λ k. k ∷ drop (suc n) body) is)
+
+one_more : (body : List ℕ) (n b : ℕ) → slice_get body n ≡ Some b → take (n + 1) body ≡ take n body ++ b ∷ []
+one_more body n b e =
+    let less = slice_get_within body n b e in
+    let is = get_or_from_slice_get body n b 0 e in
+    let k : n + 1 ≡ suc n = omega arith in
+    ap (λ m. take m body) k ∙ take-suc body n 0 less ∙ ap (λ z. take n body ++ z ∷ []) is
+
+abbrev pub sending : List Packet → ℕ → ℕ → Sending
+sending q n c = record { queue = q; sender = record { sent = sent_of q n; credit = c } }
+
+pub byte_put : (q : List Packet) (n c d b : ℕ) (p : Packet) → q ≢ [] → 0 < c → p ≡ get_or q 0 p → slice_get p.body n ≡ Some b → d ≡ c - 1 → PutsFront (sending q n c) (Byte b) (sending q (n + 1) d)
+byte_put [] n c d b p some has is e less = absurd (some refl)
+byte_put (x ∷ q) n c d b p some has is e less =
+    let f : slice_get x.body n ≡ Some b = subst (λ z. slice_get z.body n ≡ Some b) is e in
+    record {
+      packet = x;
+      rest = q;
+      front = refl;
+      puts = puts_byte b (drop (suc n) x.body) has (split_at x.body n b f) refl (λ i. record { sent = one_more x.body n b f i; credit = less i });
+      queue = refl;
+    }
+
+all_taken : (body : List ℕ) (n : ℕ) → slice_get body n ≡ None → n ≤ length body → take n body ≡ body
+all_taken [] zero e h = refl
+all_taken [] (suc n) e h = absurd (omega arith)
+all_taken (b ∷ body) zero e h = absurd (cc)
+all_taken (b ∷ body) (suc n) e h = ap (λ k. b ∷ k) (all_taken body n e (omega arith))
+
+pub mark_put : (q r : List Packet) (n c d : ℕ) (p : Packet) (k : Token) → q ≢ [] → 0 < c → p ≡ get_or q 0 p → slice_get p.body n ≡ None → IsWithinFront q n → d ≡ c - 1 → r ≡ drop 1 q → k ≡ EndMark p.mark →
+    PutsFront (sending q n c) k (record { queue = r; sender = record { sent = []; credit = d } })
+mark_put [] r n c d p k some has is e within less rest mark = absurd (some refl)
+mark_put (x ∷ q) r n c d p k some has is e within less rest mark =
+    let f : slice_get x.body n ≡ None = subst (λ z. slice_get z.body n ≡ None) is e in
+    let m : k ≡ EndMark x.mark = mark ∙ ap (λ z. EndMark z.mark) is in
+    record {
+      packet = x;
+      rest = q;
+      front = refl;
+      puts = puts_mark x.mark has (sym (all_taken x.body n f within)) refl m (λ i. record { sent = []; credit = less i });
+      queue = rest ∙ sym (ap (queue_after q x) m);
+    }
+
+none_sent : (q : List Packet) → sent_of q 0 ≡ []
+none_sent [] = refl
+none_sent (x ∷ q) = refl
+
+-- the same of what shows these
+pub byte_at : (s : Sending) (q : List Packet) (n c d b : ℕ) (p : Packet) → s ≡ sending q n c → s.queue ≢ [] → 0 < s.sender.credit → p ≡ get_or q 0 p → slice_get p.body n ≡ Some b → d ≡ c - 1 →
+    PutsFront s (Byte b) (sending q (n + 1) d)
+byte_at s q n c d b p shows some has is e less =
+    subst (λ z. PutsFront z (Byte b) (sending q (n + 1) d)) (sym shows)
+    (byte_put q n c d b p (λ h. some (ap (λ z. z.queue) shows ∙ h)) (subst (λ z. 0 < z.sender.credit) shows has) is e less)
+
+pub mark_at : (s : Sending) (q r : List Packet) (n c d : ℕ) (p : Packet) (k : Token) → s ≡ sending q n c → s.queue ≢ [] → 0 < s.sender.credit → p ≡ get_or q 0 p → slice_get p.body n ≡ None →
+    IsWithinFront q n → d ≡ c - 1 → r ≡ drop 1 q → k ≡ EndMark p.mark → PutsFront s k (sending r 0 d)
+mark_at s q r n c d p k shows some has is e within less rest mark =
+    subst (λ z. PutsFront z k (sending r 0 d)) (sym shows)
+    (subst (λ z. PutsFront (sending q n c) k (record { queue = r; sender = record { sent = z; credit = d } })) (sym (none_sent r))
+    (mark_put q r n c d p k (λ h. some (ap (λ z. z.queue) shows ∙ h)) (subst (λ z. 0 < z.sender.credit) shows has) is e within less rest mark))

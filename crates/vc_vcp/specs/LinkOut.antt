@@ -1,0 +1,37 @@
+-- The sending end of a node's link: a queue of packets, of the first of which some tokens may have been put.
+use Rattle.std.specs.Prelude.{◌≡◌, ℕ, ◌≤◌, List, [], ◌∷◌, ◌++◌, length, take, Some}
+use Rattle.vc_packets.specs.declared.packet.Packet.{Packet}
+use Rattle.vc_tokens.specs.Tokens.{Token, Byte, Fct, EndMark}
+use Rattle.vc_credit.specs.Ends.{Sender, Puts}
+
+pub record Sending : Type 0 where
+  pub queue : List Packet
+  pub sender : Sender
+
+-- the first n bytes of the packet at the front
+abbrev pub sent_of : List Packet → ℕ → List ℕ
+sent_of [] n = []
+sent_of (p ∷ ps) n = take n p.body
+
+-- no more bytes are put than the packet at the front has
+abbrev pub IsWithinFront : List Packet → ℕ → Type 0
+IsWithinFront [] n = n ≡ 0
+IsWithinFront (p ∷ ps) n = n ≤ length p.body
+
+-- a packet leaves the queue with its mark
+abbrev pub queue_after : List Packet → Packet → Token → List Packet
+queue_after rest p (EndMark m) = rest
+queue_after rest p (Byte b) = p ∷ rest
+queue_after rest p Fct = p ∷ rest
+
+-- the next token of the packet at the front is put
+pub record PutsFront (old : Sending) (k : Token) (new : Sending) : Type 0 where
+  pub packet : Packet
+  pub rest : List Packet
+  pub front : old.queue ≡ packet ∷ rest
+  pub puts : Puts old.sender packet.body (Some packet.mark) k new.sender
+  pub queue : new.queue ≡ queue_after rest packet k
+
+-- what was before a packet was queued, is again
+abbrev pub Unqueues : Sending → Sending → Type 0
+Unqueues old new = (before : Sending) (p : Packet) → old ≡ record before { queue = before.queue ++ p ∷ [] } → (before.queue ≡ [] → before.sender.sent ≡ []) → new ≡ before

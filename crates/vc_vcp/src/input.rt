@@ -1,0 +1,124 @@
+//! Channels that a node inputs on.
+ghost use Rattle.std.specs.Prelude.{◌≡◌, [], ◌++◌, ℕ, List, length, None, false, if◌then◌else◌, IfOk, OnOk, OnErr};
+ghost use Rattle.vc_blocks.specs.Halves.{IsPiece};
+ghost use Rattle.vc_blocks.specs.Arriving.{after_arrival, arrival_of, after_want, want_of};
+ghost use Rattle.std.specs.Option.{option_to_list};
+ghost use Rattle.vc_packets.specs.Spellings.{ack_packet};
+ghost use Rattle.vc_vcp.specs.LinkOut.{Unqueues};
+ghost use Rattle.vc_vcp.specs.Queued.{completed, queued, logged, acknowledged, logged_by, acknowledged_by};
+
+use crate::link_out::LinkOut;
+use sqlite_items::Items;
+use std::alloc::Global;
+use vc_blocks::{Arrival, InHalf, Want};
+use vc_packets::{Mark, Memory, Packet, ack};
+
+/// A channel that the node inputs on: the end of its virtual link, the half, and the messages taken.
+#[derive(Drop)]
+pub(crate) struct Input {
+    pub(crate) chan: u16,
+    pub(crate) link: u8,
+    pub(crate) block: u16,
+    pub(crate) route: Items<u16>,
+    pub(crate) half: InHalf,
+    pub(crate) taken: Items<Items<u8>>,
+}
+
+impl Input {
+    /// A piece arrives: it is held, or stored and its acknowledge queued.
+    pub(crate) fn arrive(
+        &mut self,
+        queue: &mut LinkOut,
+        alloc: Global,
+        packet: &Packet,
+    ) -> Result<Arrival, Memory>
+        requires empty { self.old.half.held ≡ None }
+        requires piece { IsPiece packet.now }
+        ensures arrival { IfOk result (λ a. a ≡ arrival_of self.old.half packet.now self.old.half.wants) }
+        ensures input { IfOk result (λ a. self.new ≡ record self.old { half = after_arrival self.old.half packet.now self.old.half.wants; taken = logged self.old.taken a }) }
+        ensures queue { IfOk result (λ a. queue.new ≡ acknowledged queue.old self.old.route a) }
+        ensures err { OnErr result (self.new ≡ self.old) }
+        ensures err_queue { OnErr result (queue.new ≡ queue.old) }
+    {
+        if !self.half.wants() {
+            return self.half.arrive(packet);
+        }
+        let copy = whole(&self.half, packet)?;
+        let is_whole = copy.is_some();
+        self.prepare(queue, alloc, copy)?;
+        let arrived = self.half.arrive(packet);
+        if arrived.is_err() {
+            self.undo(queue, is_whole);
+        }
+        arrived
+    }
+
+    /// A process inputs: the held piece is stored and its acknowledge queued, or the input waits.
+    pub(crate) fn want(&mut self, queue: &mut LinkOut, alloc: Global) -> Result<Want, Memory>
+        requires idle { self.old.half.wants ≡ false }
+        requires not_stopped { self.old.half.stopped ≡ false }
+        ensures want { IfOk result (λ w. w ≡ want_of self.old.half self.old.half.held) }
+        ensures input { IfOk result (λ w. self.new ≡ record self.old { half = after_want self.old.half self.old.half.held; taken = logged_by self.old.taken w }) }
+        ensures queue { IfOk result (λ w. queue.new ≡ acknowledged_by queue.old self.old.route w) }
+        ensures err { OnErr result (self.new ≡ self.old) }
+        ensures err_queue { OnErr result (queue.new ≡ queue.old) }
+    {
+        let copy = match self.half.held() {
+            None => return self.half.want(),
+            Some(packet) => whole(&self.half, packet)?,
+        };
+        let is_whole = copy.is_some();
+        self.prepare(queue, alloc, copy)?;
+        let wanted = self.half.want();
+        if wanted.is_err() {
+            self.undo(queue, is_whole);
+        }
+        wanted
+    }
+
+    // An acknowledge is queued, and the message logged where it is whole.
+    fn prepare(
+        &mut self,
+        queue: &mut LinkOut,
+        alloc: Global,
+        message: Option<Items<u8>>,
+    ) -> Result<(), Memory>
+        ensures input { OnOk result (self.new ≡ record self.old { taken = self.old.taken ++ option_to_list message }) }
+        ensures queue { OnOk result (queue.new ≡ queued queue.old (ack_packet self.old.route)) }
+        ensures begun { OnOk result (queue.old.queue ≡ [] → queue.old.sender.sent ≡ []) }
+        ensures err { OnErr result (self.new ≡ self.old) }
+        ensures err_queue { OnErr result (queue.new ≡ queue.old) }
+    {
+        let answer = ack(alloc, self.route.as_slice())?;
+        queue.enqueue(answer)?;
+        if let Some(message) = message {
+            if self.taken.push(message).is_err() {
+                queue.unqueue();
+                return Err(Memory);
+            }
+        }
+        Ok(())
+    }
+
+    // What was prepared is taken back.
+    fn undo(&mut self, queue: &mut LinkOut, is_whole: bool)
+        ensures queue { Unqueues queue.old queue.new }
+        ensures input { (taken : List (List ℕ)) (more : List (List ℕ)) → length more ≡ (if is_whole then 1 else 0) → self.old.taken ≡ taken ++ more → self.new ≡ record self.old { taken = taken } }
+    {
+        queue.unqueue();
+        if is_whole {
+            let _message = self.taken.pop();
+        }
+    }
+}
+
+// The message that the piece completes, where it is a message's last.
+fn whole(half: &InHalf, packet: &Packet) -> Result<Option<Items<u8>>, Memory>
+    requires { IsPiece packet.now }
+    ensures { IfOk result (λ message. message ≡ completed half.now.stored packet.now) }
+{
+    match packet.mark {
+        Mark::Eop => Ok(None),
+        Mark::Eom => Ok(Some(half.with_piece(packet)?)),
+    }
+}

@@ -1,0 +1,129 @@
+//! The sending end of a node's link.
+ghost use Rattle.std.specs.Prelude.{◌≡◌, ◌≢◌, ◌<◌, ◌≤◌, ◌+◌, [], ◌∷◌, ◌++◌, ◌↔◌, IsTrue, OnOk, OnErr};
+ghost use Rattle.vc_tokens.specs.Tokens.{EndMark};
+ghost use Rattle.vc_tokens.specs.Spelt.{token};
+ghost use Rattle.vc_credit.specs.Ends.{credited};
+ghost use Rattle.vc_vcp.specs.LinkOut.{PutsFront, Unqueues};
+
+use std::alloc::Global;
+use std::collections::VecDeque;
+use std::marker::Model;
+use vc_credit::Sender;
+use vc_packets::{Mark, Memory, Packet};
+use vc_tokens::Token;
+
+/// The sending end of a node's link: the packets that wait to go out, first in first out, how far the front one has been put, and
+/// the credit.
+#[derive(Drop)]
+pub struct LinkOut {
+    queue: VecDeque<Packet>,
+    sent: usize,
+    credit: Sender,
+}
+
+impl Model for LinkOut {
+    ghost use Rattle.vc_vcp.specs.LinkOut.{Sending, sent_of, IsWithinFront};
+
+    ghost Value = { Sending };
+
+    ghost view = { λ x. record { queue = x.queue.items; sender = record { sent = sent_of x.queue.items x.sent; credit = x.credit } } };
+
+    ghost invariant = { λ x. IsWithinFront x.queue.items x.sent };
+}
+
+impl LinkOut {
+    /// A link with no packet and no credit.
+    pub fn new(alloc: Global) -> LinkOut
+        ensures { result ≡ record { queue = []; sender = record { sent = []; credit = 0 } } }
+    {
+        LinkOut {
+            queue: VecDeque::new(alloc),
+            sent: 0,
+            credit: Sender::new(),
+        }
+    }
+
+    /// A packet more at the end of the queue.
+    pub fn enqueue(&mut self, packet: Packet) -> Result<(), Memory>
+        ensures ok { OnOk result (self.new ≡ record self.old { queue = self.old.queue ++ packet ∷ [] }) }
+        ensures err { OnErr result (self.new ≡ self.old) }
+        ensures begun { self.old.queue ≡ [] → self.old.sender.sent ≡ [] }
+    {
+        self.queue.push_back(packet)?;
+        Ok(())
+    }
+
+    /// The packet that was queued last leaves the queue again.
+    pub fn unqueue(&mut self)
+        ensures { Unqueues self.old self.new }
+    {
+        let _last = self.queue.pop_back();
+        if self.queue.is_empty() {
+            self.sent = 0;
+        }
+    }
+
+    /// Whether no packet waits.
+    pub fn is_empty(&self) -> bool
+        ensures { IsTrue result ↔ (self.now.queue ≡ []) }
+    {
+        self.queue.is_empty()
+    }
+
+    /// Whether a token may be put: there is credit, and a packet.
+    pub fn may_put(&self) -> bool
+        ensures { IsTrue result ↔ ((0 < self.now.sender.credit) × (self.now.queue ≢ [])) }
+    {
+        self.credit.may_send() && !self.queue.is_empty()
+    }
+
+    /// Whether a flow control token is due: the credit is at most 8.
+    pub fn may_credit(&self) -> bool
+        ensures { IsTrue result ↔ (self.now.sender.credit ≤ 8) }
+    {
+        self.credit.may_fct()
+    }
+
+    /// Eight more tokens may be put.
+    pub fn credit(&mut self)
+        requires { self.old.sender.credit ≤ 8 }
+        ensures { self.new ≡ record self.old { sender = credited self.old.sender } }
+    {
+        self.credit.fct();
+    }
+
+    /// Puts the next token of the packet at the front: its next byte, or its mark, with which it leaves the queue.
+    pub fn put(&mut self) -> Token
+        requires credit { 0 < self.old.sender.credit }
+        requires packet { self.old.queue ≢ [] }
+        ensures { PutsFront self.old (token result) self.new }
+    {
+        self.credit.spend();
+        let packet = &self.queue[0];
+        let mark = packet.mark;
+        let length = packet.body.len();
+        let next = packet.body.get(self.sent).copied();
+        match next {
+            Some(byte) => {
+                prove!(self.sent < length);
+                self.sent += 1;
+                Token::Byte(byte)
+            }
+            None => {
+                self.sent = 0;
+                let _sent = self.queue.pop_front();
+                mark_token(mark)
+            }
+        }
+    }
+}
+
+/// The token of an end mark.
+fn mark_token(mark: Mark) -> Token
+    ensures { token result ≡ EndMark mark }
+{
+    match mark {
+        Mark::Eop => Token::Eop,
+        Mark::Eom => Token::Eom,
+    }
+}

@@ -1,0 +1,72 @@
+//! Channels that a node outputs on.
+ghost use Rattle.std.specs.Prelude.{◌≡◌, ◌≢◌, [], IfOk, OnOk, OnErr};
+ghost use Rattle.vc_blocks.specs.Advancing.{later_than, advanced};
+ghost use Rattle.vc_vcp.specs.Queued.{Begins, queued_next};
+
+use crate::link_out::LinkOut;
+use sqlite_items::Items;
+use std::alloc::Global;
+use vc_blocks::{Advance, OutHalf};
+use vc_packets::{Memory, piece};
+
+/// A channel that the node outputs on: the end of its virtual link, the half, and the messages offered.
+#[derive(Drop)]
+pub(crate) struct Output {
+    pub(crate) chan: u16,
+    pub(crate) link: u8,
+    pub(crate) block: u16,
+    pub(crate) half: OutHalf,
+    pub(crate) offered: Items<Items<u8>>,
+}
+
+impl Output {
+    /// An output begins: the message is logged, and its first piece queued.
+    pub(crate) fn offer(
+        &mut self,
+        queue: &mut LinkOut,
+        alloc: Global,
+        message: &[u8],
+    ) -> Result<(), Memory>
+        requires { self.old.half.unacked ≡ [] }
+        ensures ok { OnOk result (Begins self.old queue.old message.now self.new queue.new) }
+        ensures err { OnErr result (self.new ≡ self.old) }
+        ensures err_queue { OnErr result (queue.new ≡ queue.old) }
+    {
+        let copy = Items::from_slice(alloc, message)?;
+        let whole = Items::from_slice(alloc, message)?;
+        let first = piece(alloc, self.half.route(), message, 0)?;
+        queue.enqueue(first)?;
+        if self.offered.push(copy).is_err() {
+            queue.unqueue();
+            return Err(Memory);
+        }
+        self.half.offer(whole);
+        Ok(())
+    }
+
+    /// The piece under way was acknowledged: the next one is queued, or the output is finished.
+    pub(crate) fn acked(&mut self, queue: &mut LinkOut, alloc: Global) -> Result<Advance, Memory>
+        requires { self.old.half.unacked ≢ [] }
+        ensures advance { IfOk result (λ advance. advance ≡ advanced (later_than self.old.half.unacked)) }
+        ensures output { OnOk result (self.new ≡ record self.old { half = record self.old.half { unacked = later_than self.old.half.unacked } }) }
+        ensures queue { OnOk result (queue.new ≡ queued_next queue.old self.old.half.route (later_than self.old.half.unacked)) }
+        ensures err { OnErr result (self.new ≡ self.old) }
+        ensures err_queue { OnErr result (queue.new ≡ queue.old) }
+    {
+        if !self.half.is_last() {
+            let next = self.half.next_packet(alloc)?;
+            queue.enqueue(next)?;
+        }
+        Ok(self.half.acked())
+    }
+
+    /// How many outputs are finished: all that were offered but the one under way.
+    pub(crate) fn finished(&self) -> u64 {
+        let offered = self.offered.len() as u64;
+        if self.half.is_idle() {
+            offered
+        } else {
+            offered.saturating_sub(1)
+        }
+    }
+}

@@ -1,0 +1,378 @@
+//! The virtual channel processor of a node.
+ghost use Rattle.std.specs.Prelude.{◌≡◌, ◌<◌, OnErr};
+ghost use Rattle.std.specs.List.{AllByRecursion};
+ghost use Rattle.vc_blocks.specs.Halves.{IsPiece};
+ghost use Rattle.vc_vcp.specs.State.{HasInput, HasOutput, IsIdle, IsUnwanted, IsOpen, MayPut, MayGrant};
+
+use crate::end::End;
+use crate::input::Input;
+use crate::link_in::LinkIn;
+use crate::link_out::LinkOut;
+use crate::output::Output;
+use crate::places::{input_of, input_on, output_of, output_on};
+use crate::taken::Taken;
+use sqlite_items::Items;
+use std::alloc::Global;
+use std::marker::Model;
+use vc_blocks::{Advance, Arrival, InHalf, OutHalf, Want};
+use vc_packets::{Kind, Mark, Memory, Packet, front_header, kind_of};
+use vc_tokens::Token;
+
+/// The virtual channel processor of a node: the halves of its virtual links, and the two ends of its four links.
+#[derive(Drop)]
+pub struct Vcp {
+    alloc: Global,
+    outputs: Vec<Output>,
+    inputs: Vec<Input>,
+    outs: Vec<LinkOut>,
+    ins: Vec<LinkIn>,
+    strays: u64,
+}
+
+impl Model for Vcp {
+    ghost use Rattle.std.specs.Coded.{codes};
+    ghost use Rattle.std.specs.List.{AllByRecursion};
+    ghost use Rattle.vc_blocks.specs.Halves.{IsPiece};
+    ghost use Rattle.vc_vcp.specs.State.{State, IsWired};
+
+    ghost Value = { State };
+
+    ghost view = { λ x. record { outputs = x.outputs.items; inputs = x.inputs.items; outs = x.outs.items; ins = x.ins.items; strays = x.strays } };
+
+    ghost invariant = { λ x. IsWired (record { outputs = x.outputs.items; inputs = x.inputs.items; outs = x.outs.items; ins = x.ins.items; strays = x.strays }) };
+}
+
+impl Vcp {
+    /// A node's virtual channel processor, with nothing on its links.
+    pub fn new(alloc: Global, ends: &[End], body_limit: usize) -> Result<Vcp, Memory>
+        requires { AllByRecursion (λ e. e.link < 4) ends.now }
+    {
+        let mut vcp = Vcp {
+            alloc,
+            outputs: Vec::new(alloc),
+            inputs: Vec::new(alloc),
+            outs: vec![in alloc;
+                LinkOut::new(alloc),
+                LinkOut::new(alloc),
+                LinkOut::new(alloc),
+                LinkOut::new(alloc),
+            ]?,
+            ins: vec![in alloc;
+                LinkIn::new(alloc, body_limit)?,
+                LinkIn::new(alloc, body_limit)?,
+                LinkIn::new(alloc, body_limit)?,
+                LinkIn::new(alloc, body_limit)?,
+            ]?,
+            strays: 0,
+        };
+        for end in ends {
+            vcp.connect(end)?;
+        }
+        Ok(vcp)
+    }
+
+    // An end of a virtual link joins.
+    fn connect(&mut self, end: &End) -> Result<(), Memory>
+        requires { end.now.link < 4 }
+    {
+        if let Some(chan) = end.output {
+            self.connect_output(end, chan)?;
+        }
+        if let Some(chan) = end.input {
+            self.connect_input(end, chan)?;
+        }
+        Ok(())
+    }
+
+    // A channel goes out by an end.
+    fn connect_output(&mut self, end: &End, chan: u16) -> Result<(), Memory>
+        requires { end.now.link < 4 }
+    {
+        let half = OutHalf::new(self.alloc, end.route.as_slice())?;
+        self.outputs.push(Output {
+            chan,
+            link: end.link,
+            block: end.block,
+            half,
+            offered: Items::new(self.alloc),
+        })?;
+        Ok(())
+    }
+
+    // A channel comes in by an end.
+    fn connect_input(&mut self, end: &End, chan: u16) -> Result<(), Memory>
+        requires { end.now.link < 4 }
+    {
+        let route = Items::from_slice(self.alloc, end.route.as_slice())?;
+        self.inputs.push(Input {
+            chan,
+            link: end.link,
+            block: end.block,
+            route,
+            half: InHalf::new(self.alloc),
+            taken: Items::new(self.alloc),
+        })?;
+        Ok(())
+    }
+
+    /// A message is offered on a channel: its first piece is queued.
+    pub fn offer(&mut self, chan: u16, message: &[u8]) -> Result<(), Memory>
+        requires { IsIdle self.old chan }
+        ensures err { OnErr result (self.new ≡ self.old) }
+    {
+        match output_on(&self.outputs, chan) {
+            Some(at) => {
+                let link = usize::from(self.outputs[at].link);
+                self.outputs[at].offer(&mut self.outs[link], self.alloc, message)
+            }
+            None => unreachable!(),
+        }
+    }
+
+    /// A process inputs on a channel: it takes the held piece, whose acknowledge is queued, or waits.
+    pub fn want(&mut self, chan: u16) -> Result<Want, Memory>
+        requires { IsOpen self.old chan }
+        ensures err { OnErr result (self.new ≡ self.old) }
+    {
+        match input_on(&self.inputs, chan) {
+            Some(at) => {
+                let link = usize::from(self.inputs[at].link);
+                self.inputs[at].want(&mut self.outs[link], self.alloc)
+            }
+            None => unreachable!(),
+        }
+    }
+
+    /// Whether a message may be offered on a channel: the node outputs on it, and nothing is under way.
+    pub fn may_offer(&self, chan: u16) -> bool {
+        match output_on(&self.outputs, chan) {
+            Some(at) => self.outputs[at].half.is_idle(),
+            None => false,
+        }
+    }
+
+    /// Whether an input may begin on a channel: the node inputs on it, no process does yet, and it is not stopped.
+    pub fn may_want(&self, chan: u16) -> bool {
+        match input_on(&self.inputs, chan) {
+            Some(at) => {
+                let half = &self.inputs[at].half;
+                !half.wants() && !half.is_stopped()
+            }
+            None => false,
+        }
+    }
+
+    /// Whether a piece is held on a channel that is not stopped.
+    pub fn ready(&self, chan: u16) -> bool {
+        match input_on(&self.inputs, chan) {
+            Some(at) => self.inputs[at].half.ready(),
+            None => false,
+        }
+    }
+
+    /// A channel is stopped: nothing more is taken on it.
+    pub fn stopch(&mut self, chan: u16)
+        requires { IsUnwanted self.old chan }
+    {
+        match input_on(&self.inputs, chan) {
+            Some(at) => self.inputs[at].half.stop(),
+            None => unreachable!(),
+        }
+    }
+
+    /// Whether a channel may be stopped: the node inputs on it, and no process does now.
+    pub fn may_stop(&self, chan: u16) -> bool {
+        match input_on(&self.inputs, chan) {
+            Some(at) => !self.inputs[at].half.wants(),
+            None => false,
+        }
+    }
+
+    /// The messages offered on a channel, the first one first.
+    pub fn offered(&self, chan: u16) -> &[Items<u8>]
+        requires { HasOutput self.now chan }
+    {
+        match output_on(&self.outputs, chan) {
+            Some(at) => self.outputs[at].offered.as_slice(),
+            None => unreachable!(),
+        }
+    }
+
+    /// How many outputs on a channel are finished: all that were offered but the one under way.
+    pub fn finished(&self, chan: u16) -> u64
+        requires { HasOutput self.now chan }
+    {
+        match output_on(&self.outputs, chan) {
+            Some(at) => self.outputs[at].finished(),
+            None => unreachable!(),
+        }
+    }
+
+    /// The messages taken on a channel, the first one first.
+    pub fn taken(&self, chan: u16) -> &[Items<u8>]
+        requires { HasInput self.now chan }
+    {
+        match input_on(&self.inputs, chan) {
+            Some(at) => self.inputs[at].taken.as_slice(),
+            None => unreachable!(),
+        }
+    }
+
+    /// Whether a channel was stopped.
+    pub fn stopped(&self, chan: u16) -> bool
+        requires { HasInput self.now chan }
+    {
+        match input_on(&self.inputs, chan) {
+            Some(at) => self.inputs[at].half.is_stopped(),
+            None => unreachable!(),
+        }
+    }
+
+    /// Whether a token may pass from a link's buffer: one waits.
+    pub fn may_pass(&self, link: u8) -> bool
+        requires { link < 4 }
+    {
+        !self.ins[usize::from(link)].is_empty()
+    }
+
+    /// Whether a token may be put on a link: there is credit, and a packet waits.
+    pub fn may_put(&self, link: u8) -> bool
+        requires { link < 4 }
+    {
+        self.outs[usize::from(link)].may_put()
+    }
+
+    /// Puts the next token of the packet at the front of a link's queue.
+    pub fn put(&mut self, link: u8) -> Token
+        requires { MayPut self.old link }
+    {
+        self.outs[usize::from(link)].put()
+    }
+
+    /// Whether an FCT may be put on a link: eight places of its buffer are free and not promised.
+    pub fn may_grant(&self, link: u8) -> bool
+        requires { link < 4 }
+    {
+        self.ins[usize::from(link)].may_grant()
+    }
+
+    /// An FCT is put on a link.
+    pub fn grant(&mut self, link: u8)
+        requires { MayGrant self.old link }
+    {
+        self.ins[usize::from(link)].grant();
+    }
+
+    /// A token comes over a link: an FCT is credit, all else goes to the buffer. It is dropped and counted where it is not due.
+    pub fn accept(&mut self, link: u8, came: Token)
+        requires { link < 4 }
+    {
+        let at = usize::from(link);
+        match came {
+            Token::Fct if self.outs[at].may_credit() => self.outs[at].credit(),
+            Token::Byte(_) | Token::Eop | Token::Eom if self.ins[at].is_promised() => {
+                self.ins[at].accept(came);
+            }
+            _ => self.drop_one(),
+        }
+    }
+
+    /// A token passes from a link's buffer: a byte joins the packet that is arriving, or is dropped and counted past the limit, and
+    /// with its mark the packet reaches its half.
+    pub fn pass(&mut self, link: u8) -> Result<Option<Taken>, Memory>
+        requires { link < 4 }
+        ensures err { OnErr result (self.new ≡ self.old) }
+    {
+        let at = usize::from(link);
+        match self.ins[at].front() {
+            Some(Token::Byte(byte)) => {
+                let _byte = self.ins[at].pop();
+                if !self.ins[at].push(byte) {
+                    self.drop_one();
+                }
+                Ok(None)
+            }
+            Some(Token::Eop) => self.pass_mark(at, Mark::Eop),
+            Some(Token::Eom) => self.pass_mark(at, Mark::Eom),
+            Some(Token::Fct) | None => Ok(None),
+        }
+    }
+
+    // The mark of the packet that is arriving passes.
+    fn pass_mark(&mut self, at: usize, mark: Mark) -> Result<Option<Taken>, Memory>
+        requires { at < 4 }
+        ensures err { OnErr result (self.new ≡ self.old) }
+    {
+        let packet = self.ins[at].packet(self.alloc, mark)?;
+        let taken = self.take(&packet)?;
+        let _mark = self.ins[at].pop();
+        self.ins[at].clear();
+        Ok(Some(taken))
+    }
+
+    /// A packet reaches the half that its block and its kind name. What no half may take is dropped and counted.
+    pub fn take(&mut self, packet: &Packet) -> Result<Taken, Memory>
+        ensures err { OnErr result (self.new ≡ self.old) }
+    {
+        let Some(block) = front_header(packet) else {
+            return Ok(self.stray());
+        };
+        match kind_of(&packet.body.as_slice()[2..], packet.mark) {
+            Kind::Ack => self.acked(block),
+            Kind::Piece { .. } => self.arrive(block, packet),
+            Kind::Malformed => Ok(self.stray()),
+        }
+    }
+
+    // An acknowledge comes to a block.
+    fn acked(&mut self, block: u16) -> Result<Taken, Memory>
+        ensures err { OnErr result (self.new ≡ self.old) }
+    {
+        match output_of(&self.outputs, block) {
+            Some(at) if !self.outputs[at].half.is_idle() => {
+                let link = usize::from(self.outputs[at].link);
+                let chan = self.outputs[at].chan;
+                match self.outputs[at].acked(&mut self.outs[link], self.alloc)? {
+                    Advance::More => Ok(Taken::More { chan }),
+                    Advance::Finished => Ok(Taken::Finished { chan }),
+                }
+            }
+            _ => Ok(self.stray()),
+        }
+    }
+
+    // A piece comes to a block.
+    fn arrive(&mut self, block: u16, packet: &Packet) -> Result<Taken, Memory>
+        requires { IsPiece packet.now }
+        ensures err { OnErr result (self.new ≡ self.old) }
+    {
+        match input_of(&self.inputs, block) {
+            Some(at) if self.inputs[at].half.may_arrive() => {
+                let link = usize::from(self.inputs[at].link);
+                let chan = self.inputs[at].chan;
+                match self.inputs[at].arrive(&mut self.outs[link], self.alloc, packet)? {
+                    Arrival::Held => Ok(Taken::Held { chan }),
+                    Arrival::Stored => Ok(Taken::Stored { chan }),
+                    Arrival::Complete(message) => Ok(Taken::Complete { chan, message }),
+                }
+            }
+            _ => Ok(self.stray()),
+        }
+    }
+
+    // No half may take a packet.
+    fn stray(&mut self) -> Taken {
+        self.drop_one();
+        Taken::Stray
+    }
+
+    /// How many packets and tokens were dropped.
+    pub fn strays(&self) -> u64 {
+        self.strays
+    }
+
+    // One more was dropped.
+    fn drop_one(&mut self) {
+        self.strays = self.strays.saturating_add(1);
+    }
+}
