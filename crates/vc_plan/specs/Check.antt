@@ -199,10 +199,6 @@ pub record PassesChannels (p : Plan) : Type 0 where
   pub before : PassesNodes p
   pub channels : channel_fault p ≡ None
 
--- an accepted plan
-unfoldable pub IsAccepted : Plan → Type 0
-IsAccepted p = PassesChannels p
-
 -- a path with its fault
 abbrev pub astray : PathFault → Fault → Astray
 astray f fault =

@@ -1,3 +1,4 @@
+pub mod Accepted
 pub mod Check
 pub mod Labelling
 pub mod Limits

@@ -11,7 +11,7 @@ pub struct Accepted {
 impl Model for Accepted {
     ghost use Rattle.std.specs.Coded.{codes};
     ghost use Rattle.vc_occam.specs.contracts.process.Process as process;
-    ghost use Rattle.vc_plan.specs.Check.{IsAccepted};
+    ghost use Rattle.vc_plan.specs.Accepted.{IsAccepted};
     ghost use Rattle.vc_plan.specs.declared.plan.Plan.{Plan};
 
     ghost Value = { Plan };
@@ -25,12 +25,15 @@ impl Model for Accepted {
 
 impl Accepted {
     ghost use Rattle.std.specs.Prelude.{◌≡◌};
-    ghost use Rattle.vc_plan.specs.Check.{IsAccepted};
+    ghost use Rattle.vc_plan.specs.Accepted.{IsAccepted};
+    ghost use Rattle.vc_plan.specs.Check.{PassesChannels};
 
     /// A plan that is found to be in order.
+    #[tactic(auto, using(crate::proofs::Accepting::accepted))]
     pub(crate) fn of(plan: Plan) -> Accepted
-        requires { IsAccepted plan }
-        ensures { result ≡ plan }
+        requires { PassesChannels plan }
+        ensures plan { result ≡ plan }
+        ensures accepted { IsAccepted plan }
     {
         Accepted { plan }
     }

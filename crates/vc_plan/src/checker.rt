@@ -1,7 +1,8 @@
 //! The checker: a plan is accepted, or refused for the first thing that is wrong.
 ghost use Rattle.std.specs.Prelude.{◌≡◌, ◌==◌, ◌+◌, ◌<◌, ◌≤◌, IfNone, IfOk, IfSome, MatchOption, MatchResult, None, Some, length, true};
 ghost use Rattle.std.specs.List.{list_all, list_any};
-ghost use Rattle.vc_plan.specs.Check.{AreApart, HasLawfulTables, IsAccepted, IsCause, IsFirstSameNode, IsFirstTable, IsLawfulSwitch, IsRefusedPath, IsSwitchFault, PassesPaths, PassesTables, block_twice as twice_block, channel_fault as fault_of_channels, has_end as end_there, kind_fits as fits_kind, misused_from, end_is_at as is_end_at, port_missing, port_twice, same_block, same_bool as is_same_bool, same_way as is_same_way, unwired_port, use_ok as is_use_ok, uses_of, way_twice, wrong_use};
+ghost use Rattle.vc_plan.specs.Accepted.{IsAccepted};
+ghost use Rattle.vc_plan.specs.Check.{AreApart, HasLawfulTables, IsCause, IsFirstSameNode, IsFirstTable, IsLawfulSwitch, IsRefusedPath, IsSwitchFault, PassesChannels, PassesPaths, PassesTables, block_twice as twice_block, channel_fault as fault_of_channels, has_end as end_there, kind_fits as fits_kind, misused_from, end_is_at as is_end_at, port_missing, port_twice, same_block, same_bool as is_same_bool, same_way as is_same_way, unwired_port, use_ok as is_use_ok, uses_of, way_twice, wrong_use};
 ghost use Rattle.vc_plan.specs.Limits.{depth_ok, limit_broken};
 ghost use Rattle.vc_plan.specs.Paths.{across, same_port};
 
@@ -307,10 +308,9 @@ fn find_cause_of_wiring(alloc: Global, plan: &Plan) -> Result<Option<CheckRefuse
 }
 
 /// The first thing that is wrong with the nodes and channels of a plan whose paths all deliver.
-#[tactic(auto, unfolding(crate::specs::Check::IsAccepted))]
 fn find_cause_of_use(alloc: Global, plan: &Plan) -> Result<Option<CheckRefused>, Memory>
     requires { PassesPaths plan.now }
-    ensures accepted { IfOk result (λ found. IfNone found (IsAccepted plan.now)) }
+    ensures passes { IfOk result (λ found. IfNone found (PassesChannels plan.now)) }
     ensures cause { IfOk result (λ found. IfSome found (λ why. IsCause plan.now why)) }
 {
     if let Some(vlink) = find_same_node(plan.vlinks.as_slice()) {
@@ -325,7 +325,7 @@ fn find_cause_of_use(alloc: Global, plan: &Plan) -> Result<Option<CheckRefused>,
 /// The first thing that is wrong with the paths, nodes and channels of a plan whose tables are lawful.
 fn find_cause_of_paths(alloc: Global, plan: &Plan) -> Result<Option<CheckRefused>, Memory>
     requires { PassesTables plan.now }
-    ensures accepted { IfOk result (λ found. IfNone found (IsAccepted plan.now)) }
+    ensures passes { IfOk result (λ found. IfNone found (PassesChannels plan.now)) }
     ensures cause { IfOk result (λ found. IfSome found (λ why. IsCause plan.now why)) }
 {
     match labelling_fault(alloc, plan, plan.vlinks.as_slice())? {
@@ -336,7 +336,7 @@ fn find_cause_of_paths(alloc: Global, plan: &Plan) -> Result<Option<CheckRefused
 
 /// The first thing that is wrong with a plan.
 fn find_refusal(alloc: Global, plan: &Plan) -> Result<Option<CheckRefused>, Memory>
-    ensures accepted { IfOk result (λ found. IfNone found (IsAccepted plan.now)) }
+    ensures passes { IfOk result (λ found. IfNone found (PassesChannels plan.now)) }
     ensures cause { IfOk result (λ found. IfSome found (λ why. IsCause plan.now why)) }
 {
     if let Some(word) = find_broken_limit(alloc, plan)? {
