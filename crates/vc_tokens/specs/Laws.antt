@@ -1,6 +1,8 @@
 -- What holds of spellings, however a stream is cut.
 use Rattle.std.specs.Prelude.{◌≡◌, ℕ, List, [], ◌∷◌, ◌++◌}
 use Rattle.vc_packets.specs.declared.packet.Packet.{Packet}
+use Rattle.vc_tokens.specs.declared.refused.Why.{Why}
+use Rattle.vc_tokens.specs.Decoding.{Breaks}
 use Rattle.vc_tokens.specs.Tokens.{Token, bytes, Whole}
 
 -- a stream is read in one way only
@@ -22,3 +24,8 @@ stream (ts ∷ feeds) = ts ++ stream feeds
 -- feeds of a stream's pieces, whatever the cutting, give the packets of the stream
 abbrev pub CuttingsAgree : Type 0
 CuttingsAgree = (limit : ℕ) (feeds : List (List Token)) (packets : List Packet) (left : List ℕ) → Feeds limit [] feeds packets left → Whole limit (stream feeds) packets left
+
+-- a stream that is read is broken nowhere, and any other at one place only
+pub record BreaksAreOne : Type 0 where
+  pub none : (limit : ℕ) (ts : List Token) (ps before : List Packet) (rest : List ℕ) (why : Why) → Whole limit ts ps rest → Breaks limit ts before why → ⊥
+  pub one : (limit : ℕ) (ts : List Token) (ps qs : List Packet) (why other : Why) → Breaks limit ts ps why → Breaks limit ts qs other → (ps ≡ qs) × (why ≡ other)

@@ -1,5 +1,5 @@
 //! Laws of spellings. A law is a function that does nothing, whose contract is the law.
-ghost use Rattle.vc_tokens.specs.Laws.{ReadingsAreOne, CuttingsAgree};
+ghost use Rattle.vc_tokens.specs.Laws.{ReadingsAreOne, CuttingsAgree, BreaksAreOne};
 
 /// A stream of tokens is read in one way only.
 pub fn readings_are_one()
@@ -9,4 +9,9 @@ pub fn readings_are_one()
 /// However a stream is cut into feeds, they give the packets of the stream.
 pub fn cuttings_agree()
     ensures { CuttingsAgree }
+{}
+
+/// A stream that is read has no token that breaks the spelling, and in any other stream one token is the first to break it.
+pub fn breaks_are_one()
+    ensures { BreaksAreOne }
 {}
