@@ -1,0 +1,5 @@
+pub mod Streams
+pub mod Traffic
+pub mod Views
+pub mod FaultLine
+pub mod Checking

@@ -1,0 +1,26 @@
+//! The texts of the program: the traffic of a network, the line of a fault, and runs from a network's bytes to its traffic's.
+//!
+//! The layer above knows that what is written is exactly the text of what was reached (`specs/Traffic`, `specs/FaultLine`), or a
+//! front of it where the writer failed (`specs/Writing`), over any reader and any writer that tell their bytes.
+#![tactic(auto)]
+
+mod check;
+mod check_line;
+mod close;
+mod fault;
+mod fault_line;
+mod number;
+mod plan_text;
+mod read_line;
+mod streams;
+mod traffic;
+
+pub use check::run_check;
+pub use close::Close;
+pub use fault::RunFault;
+pub use fault_line::write_fault;
+pub use streams::write_text;
+pub use traffic::{ChannelView, write_channels};
+
+#[cfg(test)]
+mod tests;

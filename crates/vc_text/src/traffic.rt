@@ -1,0 +1,189 @@
+//! The text of a network's traffic.
+ghost use Rattle.std.specs.Prelude.{◌≡◌, ◌++◌, ◌+◌, map, OnOk, IfOk, length, slice_index};
+ghost use Rattle.std.specs.Int.{w64, from_le_bytes, cast_signed};
+ghost use Rattle.vc_text.specs.Streams.{Writes};
+ghost use Rattle.vc_text.specs.Views.{shown};
+ghost use Rattle.vc_text.specs.Traffic.{bytes_text, value_text, message_line, message_lines, stop_text, channel_line, channel_lines, close_text, traffic};
+
+use crate::close::Close;
+use crate::fault::RunFault;
+use crate::number::push_number;
+use crate::streams::write_text;
+use itoa::Buffer;
+use sqlite_items::Items;
+use std::alloc::Global;
+use std::io::Write;
+use vc_occam::ValueKind;
+use vc_packets::Memory;
+
+/// What a channel is and has done.
+#[derive(Clone, Copy, Drop)]
+pub struct ChannelView<'a> {
+    /// Its name.
+    pub name: &'a [u8],
+    /// What its messages are.
+    pub kind: ValueKind,
+    /// How many messages were offered.
+    pub offered: usize,
+    /// The messages that were taken, in order.
+    pub taken: &'a [Items<u8>],
+    /// How many outputs were finished.
+    pub finished: u64,
+    /// Whether the channel was stopped.
+    pub is_stopped: bool,
+}
+
+fn push_bytes(alloc: Global, out: &mut Vec<u8>, message: &[u8]) -> Result<(), Memory>
+    ensures { OnOk result (out.new.items ≡ out.old.items ++ bytes_text message.now) }
+{
+    if message.is_empty() {
+        out.extend_from_slice(b"-")?;
+    } else {
+        let text = hex::encode(alloc, message)?;
+        out.extend_from_slice(text.as_bytes())?;
+    }
+    Ok(())
+}
+
+fn byte_at(message: &[u8], n: usize) -> u8
+    ensures { result ≡ slice_index message.now n }
+{
+    match message.get(n) {
+        Some(byte) => *byte,
+        None => 0,
+    }
+}
+
+/// The number of the first eight bytes, the low one first; missing ones are 0.
+fn int_of(message: &[u8]) -> i64
+    ensures { result ≡ cast_signed w64 (from_le_bytes w64 message.now) }
+{
+    i64::from_le_bytes([
+        byte_at(message, 0),
+        byte_at(message, 1),
+        byte_at(message, 2),
+        byte_at(message, 3),
+        byte_at(message, 4),
+        byte_at(message, 5),
+        byte_at(message, 6),
+        byte_at(message, 7),
+    ])
+}
+
+fn push_int(out: &mut Vec<u8>, message: &[u8]) -> Result<(), Memory>
+    ensures { OnOk result (out.new.items ≡ out.old.items ++ value_text ValueKind.Int message.now) }
+{
+    let mut buffer = Buffer::new();
+    out.extend_from_slice(buffer.format(int_of(message)).as_bytes())?;
+    Ok(())
+}
+
+fn push_value(
+    alloc: Global,
+    out: &mut Vec<u8>,
+    kind: ValueKind,
+    message: &[u8],
+) -> Result<(), Memory>
+    ensures { OnOk result (out.new.items ≡ out.old.items ++ value_text kind message.now) }
+{
+    match kind {
+        ValueKind::Int => push_int(out, message),
+        ValueKind::Bytes => push_bytes(alloc, out, message),
+    }
+}
+
+fn push_message(
+    alloc: Global,
+    out: &mut Vec<u8>,
+    kind: ValueKind,
+    n: usize,
+    message: &[u8],
+) -> Result<(), Memory>
+    ensures { OnOk result (out.new.items ≡ out.old.items ++ message_line kind n message.now) }
+{
+    out.extend_from_slice(b"  ")?;
+    push_number(out, n as u64)?;
+    out.extend_from_slice(b" ")?;
+    push_value(alloc, out, kind, message)?;
+    out.push(10)?;
+    Ok(())
+}
+
+fn push_messages(
+    alloc: Global,
+    out: &mut Vec<u8>,
+    kind: ValueKind,
+    messages: &[Items<u8>],
+) -> Result<(), Memory>
+    ensures { OnOk result (out.new.items ≡ out.old.items ++ message_lines kind 0 messages.now) }
+{
+    for (n, message) in messages.iter().enumerate() {
+        push_message(alloc, out, kind, n, message.as_slice())?;
+    }
+    Ok(())
+}
+
+fn push_stopped(out: &mut Vec<u8>, is_stopped: bool) -> Result<(), Memory>
+    ensures { OnOk result (out.new.items ≡ out.old.items ++ stop_text is_stopped) }
+{
+    if is_stopped {
+        out.extend_from_slice(b" stopped")?;
+    }
+    Ok(())
+}
+
+#[tactic(auto, using(std::proofs::Common::append_assoc))]
+fn push_channel(out: &mut Vec<u8>, view: &ChannelView<'_>) -> Result<(), Memory>
+    ensures { OnOk result (out.new.items ≡ out.old.items ++ channel_line (shown view.now)) }
+{
+    out.extend_from_slice(b"channel ")?;
+    out.extend_from_slice(view.name)?;
+    out.extend_from_slice(b" offered ")?;
+    push_number(out, view.offered as u64)?;
+    out.extend_from_slice(b" taken ")?;
+    push_number(out, view.taken.len() as u64)?;
+    out.extend_from_slice(b" finished ")?;
+    push_number(out, view.finished)?;
+    push_stopped(out, view.is_stopped)?;
+    out.push(10)?;
+    Ok(())
+}
+
+fn push_close(out: &mut Vec<u8>, close: Close) -> Result<(), Memory>
+    ensures { OnOk result (out.new.items ≡ out.old.items ++ close_text close) }
+{
+    match close {
+        Close::Done => out.extend_from_slice(b"end done")?,
+        Close::Quiet => out.extend_from_slice(b"end quiet")?,
+        Close::Limit | Close::GateClosed | Close::ClockFull => out.extend_from_slice(b"end limit")?,
+        Close::Failed(_) => out.extend_from_slice(b"end memory")?,
+    }
+    Ok(())
+}
+
+/// The text of a network's traffic.
+fn traffic_text(alloc: Global, views: &[ChannelView<'_>], close: Close) -> Result<Vec<u8>, Memory>
+    ensures { IfOk result (λ text. text.items ≡ traffic (map shown views.now) close) }
+{
+    let mut out = Vec::new(alloc);
+    for view in views {
+        push_channel(&mut out, view)?;
+        push_messages(alloc, &mut out, view.kind, view.taken)?;
+    }
+    push_close(&mut out, close)?;
+    out.push(10)?;
+    Ok(out)
+}
+
+/// Writes the traffic of these channels. The text is made first, so want of memory writes nothing.
+pub fn write_channels<W: Write>(
+    alloc: Global,
+    views: &[ChannelView<'_>],
+    close: Close,
+    writer: &mut W,
+) -> Result<(), RunFault>
+    ensures { Writes (W.contents writer.old) (W.contents writer.new) (traffic (map shown views.now) close) result }
+{
+    let text = traffic_text(alloc, views, close)?;
+    write_text(writer, text.as_slice())
+}
