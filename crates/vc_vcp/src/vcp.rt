@@ -1,8 +1,9 @@
 //! The virtual channel processor of a node.
-ghost use Rattle.std.specs.Prelude.{◌≡◌, ◌<◌, OnErr};
+ghost use Rattle.std.specs.Prelude.{◌≡◌, ◌<◌, ◌↔◌, [], false, IsTrue, OnErr};
+ghost use Rattle.vc_vcp.specs.Keyed.{by_name};
 ghost use Rattle.std.specs.List.{AllByRecursion};
 ghost use Rattle.vc_blocks.specs.Halves.{IsPiece};
-ghost use Rattle.vc_vcp.specs.State.{HasInput, HasOutput, IsIdle, IsUnwanted, IsOpen, MayPut, MayGrant};
+ghost use Rattle.vc_vcp.specs.State.{IsIdle, IsUnwanted, IsOpen, MayPut, MayGrant};
 
 use crate::end::End;
 use crate::input::Input;
@@ -144,7 +145,9 @@ impl Vcp {
     }
 
     /// Whether a message may be offered on a channel: the node outputs on it, and nothing is under way.
-    pub fn may_offer(&self, chan: u16) -> bool {
+    pub fn may_offer(&self, chan: u16) -> bool
+        ensures { IsTrue result ↔ IsIdle self.now chan }
+    {
         match output_on(&self.outputs, chan) {
             Some(at) => self.outputs[at].half.is_idle(),
             None => false,
@@ -152,7 +155,9 @@ impl Vcp {
     }
 
     /// Whether an input may begin on a channel: the node inputs on it, no process does yet, and it is not stopped.
-    pub fn may_want(&self, chan: u16) -> bool {
+    pub fn may_want(&self, chan: u16) -> bool
+        ensures { IsTrue result ↔ IsOpen self.now chan }
+    {
         match input_on(&self.inputs, chan) {
             Some(at) => {
                 let half = &self.inputs[at].half;
@@ -181,50 +186,50 @@ impl Vcp {
     }
 
     /// Whether a channel may be stopped: the node inputs on it, and no process does now.
-    pub fn may_stop(&self, chan: u16) -> bool {
+    pub fn may_stop(&self, chan: u16) -> bool
+        ensures { IsTrue result ↔ IsUnwanted self.now chan }
+    {
         match input_on(&self.inputs, chan) {
             Some(at) => !self.inputs[at].half.wants(),
             None => false,
         }
     }
 
-    /// The messages offered on a channel, the first one first.
+    /// The messages offered on a channel, the first one first; none where the node does not output on it.
     pub fn offered(&self, chan: u16) -> &[Items<u8>]
-        requires { HasOutput self.now chan }
+        ensures { result.now ≡ by_name (λ x. x.chan) (λ x. x.offered) [] self.now.outputs chan }
     {
         match output_on(&self.outputs, chan) {
             Some(at) => self.outputs[at].offered.as_slice(),
-            None => unreachable!(),
+            None => &[],
         }
     }
 
     /// How many outputs on a channel are finished: all that were offered but the one under way.
-    pub fn finished(&self, chan: u16) -> u64
-        requires { HasOutput self.now chan }
-    {
+    pub fn finished(&self, chan: u16) -> u64 {
         match output_on(&self.outputs, chan) {
             Some(at) => self.outputs[at].finished(),
-            None => unreachable!(),
+            None => 0,
         }
     }
 
-    /// The messages taken on a channel, the first one first.
+    /// The messages taken on a channel, the first one first; none where the node does not input on it.
     pub fn taken(&self, chan: u16) -> &[Items<u8>]
-        requires { HasInput self.now chan }
+        ensures { result.now ≡ by_name (λ x. x.chan) (λ x. x.taken) [] self.now.inputs chan }
     {
         match input_on(&self.inputs, chan) {
             Some(at) => self.inputs[at].taken.as_slice(),
-            None => unreachable!(),
+            None => &[],
         }
     }
 
-    /// Whether a channel was stopped.
+    /// Whether a channel was stopped at this node.
     pub fn stopped(&self, chan: u16) -> bool
-        requires { HasInput self.now chan }
+        ensures { result ≡ by_name (λ x. x.chan) (λ x. x.half.stopped) false self.now.inputs chan }
     {
         match input_on(&self.inputs, chan) {
             Some(at) => self.inputs[at].half.is_stopped(),
-            None => unreachable!(),
+            None => false,
         }
     }
 
@@ -238,6 +243,7 @@ impl Vcp {
     /// Whether a token may be put on a link: there is credit, and a packet waits.
     pub fn may_put(&self, link: u8) -> bool
         requires { link < 4 }
+        ensures { IsTrue result ↔ MayPut self.now link }
     {
         self.outs[usize::from(link)].may_put()
     }
@@ -252,6 +258,7 @@ impl Vcp {
     /// Whether an FCT may be put on a link: eight places of its buffer are free and not promised.
     pub fn may_grant(&self, link: u8) -> bool
         requires { link < 4 }
+        ensures { IsTrue result ↔ MayGrant self.now link }
     {
         self.ins[usize::from(link)].may_grant()
     }
