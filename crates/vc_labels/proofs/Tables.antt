@@ -1,12 +1,13 @@
 -- What a table without a fault is, and what the one row is that holds a header.
-use Rattle.std.proofs.Common.{◌≡◌, ℕ, suc, zero, ◌≤◌, ◌<◌, Bool, true, false, IsTrue, List, [], ◌∷◌, if◌then◌else◌, Option, Some, None, MatchOption, refl, sym, ap, ◌∙◌, arith}
-use Rattle.std.specs.Prelude.{slice_get}
+use Rattle.std.proofs.Common.{◌≡◌, ℕ, suc, zero, ◌≤◌, ◌<◌, Bool, true, false, IsTrue, List, [], ◌∷◌, length, if◌then◌else◌, Option, Some, None, MatchOption, refl, sym, ap, ◌∙◌, arith}
+use Rattle.std.specs.Prelude.{slice_get, slice_index_or, nat_le}
+use Rattle.std.specs.List.Sorted.{IsNonDecreasingBy, IsPartitionPoint}
 use Rattle.std.proofs.lemmas.Bool.Decides.{nat_tests}
 use Rattle.vc_labels.specs.declared.row.Row.{Row}
 use Rattle.vc_labels.specs.declared.action.Action.{Action}
 use Rattle.vc_labels.specs.declared.action.Action.TheVariants.{Out, Portal}
 use Rattle.vc_labels.specs.declared.fault.TableFault.{TableFault}
-use Rattle.vc_labels.specs.Interval.{holds, action_for, NoRowHolds, IsOnlyAction}
+use Rattle.vc_labels.specs.Interval.{holds, action_at, action_for, NoRowHolds, IsOnlyAction}
 use Rattle.vc_labels.specs.Lawful.{HasLinks, IsLawfulFrom}
 use Rattle.vc_labels.specs.Fault.{link_fault, row_fault, or_else, fault_from}
 
@@ -93,3 +94,41 @@ pub one-row : (start h : ℕ) (rows : List Row) → IsLawfulFrom start rows →
     MatchOption (action_for rows h) (NoRowHolds rows h) (λ a. IsOnlyAction rows h a)
 one-row start h [] w = λ k row e t. absurd cc
 one-row start h (r ∷ rows) w = found-at start h r rows w (holds r h) refl (one-row r.limit h rows w.4)
+
+-- the limits of lawful rows rise
+above : (start : ℕ) (rows : List Row) → IsLawfulFrom start rows → (j : ℕ) (d : Row) → j < length rows → start < (slice_index_or rows j d).limit
+above start [] w j d l = absurd (omega arith)
+above start (r ∷ rows) w zero d l = omega (arith, w.0, w.1)
+above start (r ∷ rows) w (suc j) d l = let a = above r.limit rows w.4 j d (omega arith) in omega (arith, w.0, w.1, a)
+
+pub limits-rise : (start : ℕ) (rows : List Row) → IsLawfulFrom start rows → IsNonDecreasingBy (λ (row : Row). row.limit) rows
+limits-rise start [] w i j d le l = absurd (omega arith)
+limits-rise start (r ∷ rows) w zero zero d le l = omega arith
+limits-rise start (r ∷ rows) w zero (suc j) d le l = let a = above r.limit rows w.4 j d (omega arith) in omega (arith, a)
+limits-rise start (r ∷ rows) w (suc i) zero d le l = absurd (omega arith)
+limits-rise start (r ∷ rows) w (suc i) (suc j) d le l = limits-rise r.limit rows w.4 i j d (omega arith) (omega arith)
+
+none-found : (h : ℕ) (rows : List Row) → NoRowHolds rows h → action_for rows h ≡ None
+none-found h [] n = refl
+none-found h (r ∷ rows) n = by (holds r h) refl (none-found h rows (λ k row e t. n (suc k) row e t))
+  where
+    by : (b : Bool) → holds r h ≡ b → action_for rows h ≡ None → (if b then Some r.action else action_for rows h) ≡ None
+    by true e rest = absurd (n 0 r refl e)
+    by false e rest = rest
+
+missed : (r : Row) (h : ℕ) → nat_le r.limit h ≡ true → holds r h ≡ false
+missed r h e = grind (arith, nat_tests)
+
+over : (n h : ℕ) → nat_le n h ≡ false → h < n
+over n h e = grind (arith, nat_tests)
+
+pub by-place : (start h : ℕ) (rows : List Row) (at : ℕ) → IsLawfulFrom start rows →
+    IsPartitionPoint (λ (row : Row). nat_le row.limit h ≡ true) (λ (row : Row). nat_le row.limit h ≡ false) rows at → action_for rows h ≡ action_at (slice_get rows at) h
+by-place start h [] at w p = refl
+by-place start h (r ∷ rows) zero w p =
+    let high : h < r.limit = over r.limit h (p.1 0 r (omega arith) (omega arith)) in
+    ap (λ o. if holds r h then Some r.action else o) (none-found h rows (not-below r.limit h rows w.4 high))
+by-place start h (r ∷ rows) (suc at) w p =
+    let m : holds r h ≡ false = missed r h (p.0 0 r (omega arith) (omega arith)) in
+    ap (λ b. if b then Some r.action else action_for rows h) m
+    ∙ by-place r.limit h rows at w.4 (λ k d l m. p.0 (suc k) d (omega arith) (omega arith), λ k d l m. p.1 (suc k) d (omega arith) (omega arith))

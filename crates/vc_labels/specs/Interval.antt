@@ -13,6 +13,11 @@ abbrev pub action_for : List Row → ℕ → Option Action
 action_for [] h = None
 action_for (row ∷ rows) h = if holds row h then Some row.action else action_for rows h
 
+-- the action of a row, if it holds the header
+abbrev pub action_at : Option Row → ℕ → Option Action
+action_at None h = None
+action_at (Some row) h = if holds row h then Some row.action else None
+
 abbrev pub NoRowHolds : List Row → ℕ → Type 0
 NoRowHolds rows h = (k : ℕ) (row : Row) → slice_get rows k ≡ Some row → IsTrue (holds row h) → ⊥
 

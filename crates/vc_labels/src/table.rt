@@ -1,6 +1,8 @@
 //! Tables of rows that rise and adjoin.
-ghost use Rattle.std.specs.Prelude.{◌≡◌};
-ghost use Rattle.vc_labels.specs.Interval.{action_for};
+ghost use Rattle.std.specs.Prelude.{◌≡◌, true, false, nat_le, slice_get};
+ghost use Rattle.std.specs.List.Sorted.{IsPartitionPoint};
+ghost use Rattle.vc_labels.specs.Interval.{action_at as action_of, action_for};
+ghost use Rattle.vc_labels.specs.Lawful.{IsLawful};
 
 use crate::action::Action;
 use crate::fault::{TableFault, fault_of_rows};
@@ -38,6 +40,38 @@ pub fn find_action(rows: &[Row], header: u16) -> Option<Action>
     None
 }
 
+/// The place of the first row whose limit is above the header, by halving.
+fn place_of(rows: &[Row], header: u16) -> usize
+    requires { IsLawful rows.now }
+    ensures { IsPartitionPoint (λ row. nat_le row.limit header ≡ true) (λ row. nat_le row.limit header ≡ false) rows.now result }
+{
+    rows.partition_point(|row| row.limit <= u32::from(header))
+}
+
+/// The action of the row at a place, if there is one and it holds the header.
+fn action_at(rows: &[Row], place: usize, header: u16) -> Option<Action>
+    ensures { result ≡ action_of (slice_get rows.now place) header }
+{
+    match rows.get(place) {
+        None => None,
+        Some(row) => {
+            if row_holds(row, header) {
+                Some(row.action)
+            } else {
+                None
+            }
+        }
+    }
+}
+
+/// The action of the row that holds the header, if there is one.
+fn find_by_halving(rows: &[Row], header: u16) -> Option<Action>
+    requires { IsLawful rows.now }
+    ensures { result ≡ action_for rows.now header }
+{
+    action_at(rows, place_of(rows, header), header)
+}
+
 impl Table {
     ghost use Rattle.std.specs.Prelude.{◌≡◌, MatchOption, MatchResult, Some};
     ghost use Rattle.vc_labels.specs.Fault.{table_fault};
@@ -59,6 +93,6 @@ impl Table {
         ensures action { result ≡ action_for self.now header }
         ensures one { MatchOption result (NoRowHolds self.now header) (λ action. IsOnlyAction self.now header action) }
     {
-        find_action(self.rows.as_slice(), header)
+        find_by_halving(self.rows.as_slice(), header)
     }
 }

@@ -7,5 +7,5 @@ use Rattle.vc_labels.proofs.table.Table.find.Goals as goal
 pub returns-clause-one : goal.returns-clause-one
 returns-clause-one c =
     let rows = c.self.inside.rows in
-    let is : c.find_action.result ≡ action_for rows c.args.header = cc in
+    let is : c.find_by_halving.result ≡ action_for rows c.args.header = cc in
     rw (← c.self.view_is) (rw is (one-row (starts_at rows) c.args.header rows c.self.invariant))

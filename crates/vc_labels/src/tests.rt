@@ -1,0 +1,59 @@
+//! A table of three rows.
+use crate::{Action, Row, Table, TableFault};
+use sqlite_items::Items;
+use std::alloc::Global;
+use std::test::Fail;
+
+fn out(lower: u32, limit: u32, first: u8, last: u8) -> Row {
+    Row {
+        lower,
+        limit,
+        action: Action::Out { first, last },
+    }
+}
+
+fn rows(alloc: Global, second: u32) -> Result<Items<Row>, Fail> {
+    let portal = Row {
+        lower: 20,
+        limit: 21,
+        action: Action::Portal,
+    };
+    Ok(Items::from_slice(alloc, &[out(0, 10, 0, 0), out(second, 20, 4, 7), portal])?)
+}
+
+#[test]
+fn finds_the_action_of_each_interval(rt: HostRuntime) -> Result<(), Fail> {
+    let table = Table::new(rows(rt.alloc(), 10)?)
+        .ok()
+        .ok_or("a lawful table")?;
+    assert_eq!(rt; table.find(0), Some(Action::Out { first: 0, last: 0 }));
+    assert_eq!(rt; table.find(9), Some(Action::Out { first: 0, last: 0 }));
+    assert_eq!(rt; table.find(10), Some(Action::Out { first: 4, last: 7 }));
+    assert_eq!(rt; table.find(20), Some(Action::Portal));
+    assert_eq!(rt; table.find(21), None);
+    Ok(())
+}
+
+#[test]
+fn a_table_without_rows_finds_nothing(rt: HostRuntime) -> Result<(), Fail> {
+    let table = Table::new(Items::new(rt.alloc()))
+        .ok()
+        .ok_or("a lawful table")?;
+    assert_eq!(rt; table.find(0), None);
+    Ok(())
+}
+
+#[test]
+fn refuses_gaps_and_overlaps(rt: HostRuntime) -> Result<(), Fail> {
+    assert_eq!(rt;
+        Table::new(rows(rt.alloc(), 11)?).err(),
+        Some(TableFault::Gap)
+    );
+    assert_eq!(rt;
+        Table::new(rows(rt.alloc(), 9)?).err(),
+        Some(TableFault::NotRising)
+    );
+    let wide = Items::from_slice(rt.alloc(), &[out(0, 10, 30, 32)])?;
+    assert_eq!(rt; Table::new(wide).err(), Some(TableFault::BadLink));
+    Ok(())
+}
