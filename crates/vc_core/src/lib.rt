@@ -1,0 +1,23 @@
+//! The network as events: nodes joined by one-way ways of tokens, each event one act of one actor.
+//!
+//! An [`Actor`] is a node with its process; a [`Network`] is the actors and the ways between them. A simulator makes events one after
+//! another, and the same actors run in threads. What is proved of them so far: every call is safe and returns.
+#![tactic(auto)]
+
+mod act;
+mod actor;
+mod building;
+mod close;
+mod network;
+mod node;
+mod refused;
+mod turn;
+mod wiring;
+
+pub use act::{Act, Event};
+pub use actor::Actor;
+pub use building::actors;
+pub use close::Close;
+pub use network::{Network, replay};
+pub use refused::{ReplayRefused, StepRefused};
+pub use turn::Turn;

@@ -1,0 +1,29 @@
+//! Why an event or a list of events is refused.
+use crate::network::Network;
+use vc_packets::Memory;
+
+/// Why a step was not made. The network is as it was.
+#[derive(Clone, Copy, Debug, PartialEq, Eq, Drop)]
+pub enum StepRefused {
+    /// The event is not enabled.
+    NotEnabled,
+    /// There was no memory for it.
+    Memory,
+}
+
+impl From<Memory> for StepRefused {
+    fn from(_error: Memory) -> StepRefused {
+        StepRefused::Memory
+    }
+}
+
+/// Why a list of events was not replayed to its end.
+#[derive(Drop)]
+pub struct ReplayRefused {
+    /// The number of the event that was refused, from 0.
+    pub index: usize,
+    /// The network before that event; nothing only where the opening state found no memory.
+    pub state: Option<Network>,
+    /// Why it was refused.
+    pub why: StepRefused,
+}
