@@ -18,9 +18,9 @@ use Rattle.vc_occam.specs.Values.{Store, datum_of}
 use Rattle.vc_occam.specs.Terms.{given}
 use Rattle.vc_occam.specs.Messages.{message, received}
 use Rattle.vc_occam.specs.Traces.{Comm, Out, Fin, In, Stp, set}
-use Rattle.vc_occam.specs.Remains.{Rest, Lawful, does_skip, does_offer, faults_out, does_finish, waits_input, does_input, gets, does_stop}
+use Rattle.vc_occam.specs.Remains.{Rest, Lawful, does_skip, does_assign, faults_assign, does_offer, faults_out, does_finish, waits_input, does_input, gets, does_stop}
 use Rattle.vc_occam.specs.First.{own, joined, first_moves}
-use Rattle.vc_occam.specs.Frames.{rest_at, listed, outside, phase_after}
+use Rattle.vc_occam.specs.Frames.{rest_at, listed, outside, phase_assigned, phase_on, store_assigned, store_on}
 use Rattle.vc_occam.specs.States.{State, StepsTo, IsTraced, Acts, Wants, Offers, Finishes, Receives, carried, sent_by, bytes_or_none, came, doing, FitsMove, waiting, output, input}
 use Rattle.vc_occam.proofs.Law.{law}
 
@@ -74,21 +74,25 @@ outside-is inside (Some (move.Quiet i)) m h = h
 own-listed : (k : Kind) (ph : Phase) (e : Store) → (o : Option Move) × (own (rest_at k ph 0) e ≡ listed o)
 own-listed kind.Skip phase.Ready e = (Some (move.Quiet 0), refl)
 own-listed kind.Stop phase.Ready e = (None, refl)
+own-listed (kind.Set w b) phase.Ready e = (Some (move.Quiet 0), refl)
 own-listed (kind.Send c a) phase.Ready e = (Some (if is_some (datum_of (given a) e) then move.Offer 0 c else move.Quiet 0), refl)
 own-listed (kind.Receive c v) phase.Ready e = (Some (move.Want 0 c), refl)
 own-listed (kind.Stopch c) phase.Ready e = (Some (move.Stopch 0 c), refl)
 own-listed kind.Skip phase.Waiting e = (None, refl)
 own-listed kind.Stop phase.Waiting e = (None, refl)
+own-listed (kind.Set w b) phase.Waiting e = (None, refl)
 own-listed (kind.Send c a) phase.Waiting e = (None, refl)
 own-listed (kind.Receive c v) phase.Waiting e = (None, refl)
 own-listed (kind.Stopch c) phase.Waiting e = (None, refl)
 own-listed kind.Skip phase.Ended e = (None, refl)
 own-listed kind.Stop phase.Ended e = (None, refl)
+own-listed (kind.Set w b) phase.Ended e = (None, refl)
 own-listed (kind.Send c a) phase.Ended e = (None, refl)
 own-listed (kind.Receive c v) phase.Ended e = (None, refl)
 own-listed (kind.Stopch c) phase.Ended e = (None, refl)
 own-listed kind.Skip phase.Stuck e = (None, refl)
 own-listed kind.Stop phase.Stuck e = (None, refl)
+own-listed (kind.Set w b) phase.Stuck e = (None, refl)
 own-listed (kind.Send c a) phase.Stuck e = (None, refl)
 own-listed (kind.Receive c v) phase.Stuck e = (None, refl)
 own-listed (kind.Stopch c) phase.Stuck e = (None, refl)
@@ -127,7 +131,7 @@ acts-stop c e m a =
 
 -- a move and its state, by an equation of the move
 abbrev pub ActsSo : Kind → Phase → Store → Answer → Move → Type 0
-ActsSo k ph e a m = Acts (at k ph e) (doing m (sent_by (at k ph e) m) a) (at k (phase_after k m) e)
+ActsSo k ph e a m = Acts (at k ph e) (doing m (sent_by (at k ph e) m) a) (at k (phase_on k e m) (store_on k e))
 
 act-send : (c : ℕ) (a : Value) (e : Store) (b : Answer) (o : Option Datum) → datum_of (given a) e ≡ o →
     ActsSo (kind.Send c a) phase.Ready e b (if is_some o then move.Offer 0 c else move.Quiet 0)
@@ -136,10 +140,28 @@ act-send c a e b (Some x) h =
     subst (λ m. Acts S (Offers 0 c m) (at (kind.Send c a) phase.Waiting e)) (ap (λ o. bytes_or_none (carried o)) (sym h)) (acts-offer c a e x b h)
 act-send c a e b None h = acts-fault c a e None b h
 
+assigns : (v : ℕ) (a : Value) (e : Store) (x : Datum) (m : Option (List ℕ)) (b : Answer) → datum_of (given a) e ≡ Some x →
+    Acts (at (kind.Set v a) phase.Ready e) (doing (move.Quiet 0) m b) (at (kind.Set v a) phase.Ended (set e v x))
+assigns v a e x m b h =
+    ([], (refl, does_assign h), traced (at (kind.Set v a) phase.Ready e) (at (kind.Set v a) phase.Ended (set e v x)) 0 deed.Quiet [] tt (does_assign h))
+
+stops : (v : ℕ) (a : Value) (e : Store) (m : Option (List ℕ)) (b : Answer) → datum_of (given a) e ≡ None →
+    Acts (at (kind.Set v a) phase.Ready e) (doing (move.Quiet 0) m b) (at (kind.Set v a) phase.Stuck e)
+stops v a e m b h =
+    ([], (refl, faults_assign h), traced (at (kind.Set v a) phase.Ready e) (at (kind.Set v a) phase.Stuck e) 0 deed.Quiet [] tt (faults_assign h))
+
+act-set : (v : ℕ) (a : Value) (e : Store) (b : Answer) (o : Option Datum) → datum_of (given a) e ≡ o → ActsSo (kind.Set v a) phase.Ready e b (move.Quiet 0)
+act-set v a e b (Some x) h =
+    subst (λ o. Acts (at (kind.Set v a) phase.Ready e) (doing (move.Quiet 0) None b) (at (kind.Set v a) (phase_assigned o) (store_assigned o v e))) (sym h) (assigns v a e x None b h)
+act-set v a e b None h =
+    subst (λ o. Acts (at (kind.Set v a) phase.Ready e) (doing (move.Quiet 0) None b) (at (kind.Set v a) (phase_assigned o) (store_assigned o v e))) (sym h) (stops v a e None b h)
+
 -- a move that brings no message
 pub act-alone : (k : Kind) (ph : Phase) (e : Store) (m : Move) (a : Answer) → own (rest_at k ph 0) e ≡ m ∷ [] → came a ≡ None → ActsSo k ph e a m
 act-alone kind.Skip phase.Ready e m a h g = subst (ActsSo kind.Skip phase.Ready e a) (head (move.Quiet 0) m h) (acts-skip e None a)
 act-alone kind.Stop phase.Ready e m a h g = absurd cc
+act-alone (kind.Set w b) phase.Ready e m a h g =
+    subst (ActsSo (kind.Set w b) phase.Ready e a) (head (move.Quiet 0) m h) (act-set w b e a (datum_of (given b) e) refl)
 act-alone (kind.Send c b) phase.Ready e m a h g =
     subst (ActsSo (kind.Send c b) phase.Ready e a) (head (if is_some (datum_of (given b) e) then move.Offer 0 c else move.Quiet 0) m h) (act-send c b e a (datum_of (given b) e) refl)
 act-alone (kind.Receive c v) phase.Ready e m a h g =
@@ -148,16 +170,19 @@ act-alone (kind.Receive c v) phase.Ready e m a h g =
 act-alone (kind.Stopch c) phase.Ready e m a h g = subst (ActsSo (kind.Stopch c) phase.Ready e a) (head (move.Stopch 0 c) m h) (acts-stop c e None a)
 act-alone kind.Skip phase.Waiting e m a h g = absurd cc
 act-alone kind.Stop phase.Waiting e m a h g = absurd cc
+act-alone (kind.Set w b) phase.Waiting e m a h g = absurd cc
 act-alone (kind.Send c b) phase.Waiting e m a h g = absurd cc
 act-alone (kind.Receive c v) phase.Waiting e m a h g = absurd cc
 act-alone (kind.Stopch c) phase.Waiting e m a h g = absurd cc
 act-alone kind.Skip phase.Ended e m a h g = absurd cc
 act-alone kind.Stop phase.Ended e m a h g = absurd cc
+act-alone (kind.Set w b) phase.Ended e m a h g = absurd cc
 act-alone (kind.Send c b) phase.Ended e m a h g = absurd cc
 act-alone (kind.Receive c v) phase.Ended e m a h g = absurd cc
 act-alone (kind.Stopch c) phase.Ended e m a h g = absurd cc
 act-alone kind.Skip phase.Stuck e m a h g = absurd cc
 act-alone kind.Stop phase.Stuck e m a h g = absurd cc
+act-alone (kind.Set w b) phase.Stuck e m a h g = absurd cc
 act-alone (kind.Send c b) phase.Stuck e m a h g = absurd cc
 act-alone (kind.Receive c v) phase.Stuck e m a h g = absurd cc
 act-alone (kind.Stopch c) phase.Stuck e m a h g = absurd cc
@@ -190,6 +215,7 @@ pub act-got : (k : Kind) (ph : Phase) (e f : Store) (x : Move) (s : Option (List
     ((c v : ℕ) → k ≡ kind.Receive c v → f ≡ set e v (received (e v) m)) → (t : Option (List ℕ)) → Acts (at k ph e) (doing x t (Got m)) (after k f)
 act-got kind.Skip phase.Ready e f x s m h g w t = absurd (not-got m (not-sent x (move.Quiet 0) s (Got m) (head (move.Quiet 0) x h) g))
 act-got kind.Stop phase.Ready e f x s m h g w t = absurd cc
+act-got (kind.Set u b) phase.Ready e f x s m h g w t = absurd (not-got m (not-sent x (move.Quiet 0) s (Got m) (head (move.Quiet 0) x h) g))
 act-got (kind.Send c b) phase.Ready e f x s m h g w t =
     let y = if is_some (datum_of (given b) e) then move.Offer 0 c else move.Quiet 0 in
     absurd (refused-send c (is_some (datum_of (given b) e)) s m (not-sent x y s (Got m) (head y x h) g))
@@ -198,16 +224,19 @@ act-got (kind.Receive c v) phase.Ready e f x s m h g w t =
 act-got (kind.Stopch c) phase.Ready e f x s m h g w t = absurd (not-got m (not-sent x (move.Stopch 0 c) s (Got m) (head (move.Stopch 0 c) x h) g))
 act-got kind.Skip phase.Waiting e f x s m h g w t = absurd cc
 act-got kind.Stop phase.Waiting e f x s m h g w t = absurd cc
+act-got (kind.Set u b) phase.Waiting e f x s m h g w t = absurd cc
 act-got (kind.Send c b) phase.Waiting e f x s m h g w t = absurd cc
 act-got (kind.Receive c v) phase.Waiting e f x s m h g w t = absurd cc
 act-got (kind.Stopch c) phase.Waiting e f x s m h g w t = absurd cc
 act-got kind.Skip phase.Ended e f x s m h g w t = absurd cc
 act-got kind.Stop phase.Ended e f x s m h g w t = absurd cc
+act-got (kind.Set u b) phase.Ended e f x s m h g w t = absurd cc
 act-got (kind.Send c b) phase.Ended e f x s m h g w t = absurd cc
 act-got (kind.Receive c v) phase.Ended e f x s m h g w t = absurd cc
 act-got (kind.Stopch c) phase.Ended e f x s m h g w t = absurd cc
 act-got kind.Skip phase.Stuck e f x s m h g w t = absurd cc
 act-got kind.Stop phase.Stuck e f x s m h g w t = absurd cc
+act-got (kind.Set u b) phase.Stuck e f x s m h g w t = absurd cc
 act-got (kind.Send c b) phase.Stuck e f x s m h g w t = absurd cc
 act-got (kind.Receive c v) phase.Stuck e f x s m h g w t = absurd cc
 act-got (kind.Stopch c) phase.Stuck e f x s m h g w t = absurd cc
@@ -232,22 +261,26 @@ output-input x i c h = cc
 pub resume-done : (k : Kind) (ph : Phase) (e : Store) (i c : ℕ) → Contains (waiting (rest_at k ph 0)) (output i c) → Acts (at k ph e) (Finishes c) (after k e)
 resume-done kind.Skip phase.Ready e i c h = absurd (none (output i c) h)
 resume-done kind.Stop phase.Ready e i c h = absurd (none (output i c) h)
+resume-done (kind.Set w b) phase.Ready e i c h = absurd (none (output i c) h)
 resume-done (kind.Send d a) phase.Ready e i c h = absurd (none (output i c) h)
 resume-done (kind.Receive d v) phase.Ready e i c h = absurd (none (output i c) h)
 resume-done (kind.Stopch d) phase.Ready e i c h = absurd (none (output i c) h)
 resume-done kind.Skip phase.Waiting e i c h = absurd (none (output i c) h)
 resume-done kind.Stop phase.Waiting e i c h = absurd (none (output i c) h)
+resume-done (kind.Set w b) phase.Waiting e i c h = absurd (none (output i c) h)
 resume-done (kind.Send d a) phase.Waiting e i c h =
     subst (λ x. Acts (at (kind.Send d a) phase.Waiting e) (Finishes x) (after (kind.Send d a) e)) (output-chan d i c (only (output 0 d) (output i c) h)) (finish d a e)
 resume-done (kind.Receive d v) phase.Waiting e i c h = absurd (input-output d i c (only (input 0 d) (output i c) h))
 resume-done (kind.Stopch d) phase.Waiting e i c h = absurd (none (output i c) h)
 resume-done kind.Skip phase.Ended e i c h = absurd (none (output i c) h)
 resume-done kind.Stop phase.Ended e i c h = absurd (none (output i c) h)
+resume-done (kind.Set w b) phase.Ended e i c h = absurd (none (output i c) h)
 resume-done (kind.Send d a) phase.Ended e i c h = absurd (none (output i c) h)
 resume-done (kind.Receive d v) phase.Ended e i c h = absurd (none (output i c) h)
 resume-done (kind.Stopch d) phase.Ended e i c h = absurd (none (output i c) h)
 resume-done kind.Skip phase.Stuck e i c h = absurd (none (output i c) h)
 resume-done kind.Stop phase.Stuck e i c h = absurd (none (output i c) h)
+resume-done (kind.Set w b) phase.Stuck e i c h = absurd (none (output i c) h)
 resume-done (kind.Send d a) phase.Stuck e i c h = absurd (none (output i c) h)
 resume-done (kind.Receive d v) phase.Stuck e i c h = absurd (none (output i c) h)
 resume-done (kind.Stopch d) phase.Stuck e i c h = absurd (none (output i c) h)
@@ -265,22 +298,26 @@ pub resume-got : (k : Kind) (ph : Phase) (e f : Store) (i c : ℕ) (m : List ℕ
     Contains (waiting (rest_at k ph 0)) (input i c) → Acts (at k ph e) (Receives c m) (after k f)
 resume-got kind.Skip phase.Ready e f i c m w h = absurd (none (input i c) h)
 resume-got kind.Stop phase.Ready e f i c m w h = absurd (none (input i c) h)
+resume-got (kind.Set u b) phase.Ready e f i c m w h = absurd (none (input i c) h)
 resume-got (kind.Send d a) phase.Ready e f i c m w h = absurd (none (input i c) h)
 resume-got (kind.Receive d v) phase.Ready e f i c m w h = absurd (none (input i c) h)
 resume-got (kind.Stopch d) phase.Ready e f i c m w h = absurd (none (input i c) h)
 resume-got kind.Skip phase.Waiting e f i c m w h = absurd (none (input i c) h)
 resume-got kind.Stop phase.Waiting e f i c m w h = absurd (none (input i c) h)
+resume-got (kind.Set u b) phase.Waiting e f i c m w h = absurd (none (input i c) h)
 resume-got (kind.Send d a) phase.Waiting e f i c m w h = absurd (output-input d i c (only (output 0 d) (input i c) h))
 resume-got (kind.Receive d v) phase.Waiting e f i c m w h =
     subst (λ x. Acts (at (kind.Receive d v) phase.Waiting e) (Receives x m) (after (kind.Receive d v) f)) (input-chan d i c (only (input 0 d) (input i c) h)) (gets-acts d v e f m (w d v refl))
 resume-got (kind.Stopch d) phase.Waiting e f i c m w h = absurd (none (input i c) h)
 resume-got kind.Skip phase.Ended e f i c m w h = absurd (none (input i c) h)
 resume-got kind.Stop phase.Ended e f i c m w h = absurd (none (input i c) h)
+resume-got (kind.Set u b) phase.Ended e f i c m w h = absurd (none (input i c) h)
 resume-got (kind.Send d a) phase.Ended e f i c m w h = absurd (none (input i c) h)
 resume-got (kind.Receive d v) phase.Ended e f i c m w h = absurd (none (input i c) h)
 resume-got (kind.Stopch d) phase.Ended e f i c m w h = absurd (none (input i c) h)
 resume-got kind.Skip phase.Stuck e f i c m w h = absurd (none (input i c) h)
 resume-got kind.Stop phase.Stuck e f i c m w h = absurd (none (input i c) h)
+resume-got (kind.Set u b) phase.Stuck e f i c m w h = absurd (none (input i c) h)
 resume-got (kind.Send d a) phase.Stuck e f i c m w h = absurd (none (input i c) h)
 resume-got (kind.Receive d v) phase.Stuck e f i c m w h = absurd (none (input i c) h)
 resume-got (kind.Stopch d) phase.Stuck e f i c m w h = absurd (none (input i c) h)

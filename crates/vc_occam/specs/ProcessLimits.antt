@@ -150,10 +150,11 @@ abbrev mutual
   guards_names_fit (guard t c v p gs) kinds n =
       test_fits t kinds && nat_lt c n && nat_lt v (length kinds) && names_fit p kinds n && guards_names_fit gs kinds n
 
--- the words that run today: processes of one word, without parts
+-- the words that run today: processes without parts
 abbrev pub runs_today : Proc → Bool
 runs_today (SKIP i) = true
 runs_today (STOP i) = true
+runs_today (Assign i v a) = true
 runs_today (Output i c a) = true
 runs_today (Input i c v) = true
 runs_today (StopChan i c) = true

@@ -6,7 +6,7 @@ use Rattle.vc_occam.specs.Messages.{received}
 use Rattle.vc_occam.specs.Traces.{set}
 use Rattle.vc_occam.specs.declared.running.Running.{Running}
 use Rattle.vc_occam.specs.declared.moves.Move.{Move}
-use Rattle.vc_occam.specs.Frames.{rest_at}
+use Rattle.vc_occam.specs.Frames.{phase_on, rest_at, store_on}
 use Rattle.vc_occam.specs.First.{first_moves}
 use Rattle.vc_occam.specs.Terms.{store}
 use Rattle.vc_occam.specs.Usage.{Set, among}
@@ -30,3 +30,10 @@ pub record Takes (old : Running) (m : List ℕ) (new : Running) : Type 0 where
   pub kind : new.kind ≡ old.kind
   pub phase : new.phase ≡ Ended
   pub vars : (c v : ℕ) → old.kind ≡ Receive c v → store new.vars.items ≡ set (store old.vars.items) v (received (store old.vars.items v) m)
+
+-- it goes on after a move that brings no message
+pub record GoesOn (old : Running) (m : Move) (new : Running) : Type 0 where
+  pub inside : new.inside ≡ old.inside
+  pub kind : new.kind ≡ old.kind
+  pub phase : new.phase ≡ phase_on old.kind (store old.vars.items) m
+  pub vars : store new.vars.items ≡ store_on old.kind (store old.vars.items)

@@ -8,6 +8,8 @@ pub(crate) enum Kind {
     Skip,
     /// STOP.
     Stop,
+    /// An assignment.
+    Set { var: u8, value: Value },
     /// An output.
     Send { chan: u16, value: Value },
     /// An input.

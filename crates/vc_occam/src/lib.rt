@@ -23,6 +23,8 @@ mod process;
 mod process_limits;
 mod relation;
 mod running;
+#[cfg(test)]
+mod tests;
 mod use_fault;
 mod value;
 mod value_kind;

@@ -40,6 +40,7 @@ pub(crate) fn kind_of(process: Process, kinds: &[ValueKind]) -> Kind
     match process {
         Process::Skip => Kind::Skip,
         Process::Stop => Kind::Stop,
+        Process::Set { var, value } => Kind::Set { var, value },
         Process::Send { chan, value } => Kind::Send { chan, value },
         Process::Receive { chan, var } => Kind::Receive { chan, var },
         Process::Stopch { chan } => Kind::Stopch { chan },

@@ -23,6 +23,7 @@ pub(crate) fn own_move(kind: &Kind, phase: Phase, vars: &[Datum]) -> Option<Move
     match kind {
         Kind::Skip => Some(Move::Quiet { site: 0 }),
         Kind::Stop => None,
+        Kind::Set { .. } => Some(Move::Quiet { site: 0 }),
         Kind::Send { chan, value } if value.has_value(vars) => Some(Move::Offer {
             site: 0,
             chan: *chan,
@@ -71,6 +72,15 @@ pub(crate) fn outside(own: Option<Move>, inside: &[u16]) -> Option<Move>
         Some(made) => kept(made, inside),
         None => None,
     }
+}
+
+/// A variable is changed.
+pub(crate) fn set_variable(vars: &mut Vec<Datum>, var: u8, datum: Datum)
+    requires { var < length vars.old.items }
+    ensures value { store vars.new.items ≡ set (store vars.old.items) var datum }
+    ensures length { length vars.new.items ≡ length vars.old.items }
+{
+    vars[usize::from(var)] = datum;
 }
 
 /// A variable takes a message of its kind.

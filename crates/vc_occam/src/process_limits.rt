@@ -5,12 +5,12 @@ ghost use Rattle.vc_occam.specs.Numbering.{written};
 ghost use Rattle.vc_occam.specs.ProcessLimits.{exps_within, in_length, names_fit, runs_today};
 
 use crate::channel_use::ChannelUse;
-use crate::limits::kind_at;
+use crate::limits::{holds_kind, kind_at};
 use crate::process::Process;
 use crate::value_kind::ValueKind;
 
 impl Process {
-    /// Whether it can run today: it is SKIP, STOP, one output, one input or one stop of a channel.
+    /// Whether it can run today: it has no parts.
     #[tactic(auto, unfolding(crate::specs::Numbering::written))]
     pub fn runs_today(&self) -> bool
         ensures { result ≡ runs_today (written self.now) }
@@ -19,6 +19,7 @@ impl Process {
             self,
             Process::Skip
                 | Process::Stop
+                | Process::Set { .. }
                 | Process::Send { .. }
                 | Process::Receive { .. }
                 | Process::Stopch { .. }
@@ -32,6 +33,7 @@ impl Process {
         ensures { result ≡ exps_within (written self.now) depth }
     {
         match self {
+            Process::Set { value, .. } => value.is_within(depth),
             Process::Send { value, .. } => value.is_within(depth),
             _ => true,
         }
@@ -44,6 +46,7 @@ impl Process {
         ensures { result ≡ in_length (written self.now) }
     {
         match self {
+            Process::Set { value, .. } => value.is_in_length(),
             Process::Send { value, .. } => value.is_in_length(),
             _ => true,
         }
@@ -56,6 +59,8 @@ impl Process {
         ensures { result ≡ names_fit (written self.now) kinds.now channels }
     {
         match self {
+            Process::Set { var, value } => holds_kind(kinds, *var, value.kind())
+                && value.fits(kinds),
             Process::Send { chan, value } => usize::from(*chan) < channels && value.fits(kinds),
             Process::Receive { chan, var } => usize::from(*chan) < channels
                 && usize::from(*var) < kinds.len(),

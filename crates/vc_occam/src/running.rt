@@ -7,7 +7,7 @@ use crate::datum::Datum;
 use crate::kind::Kind;
 use crate::moves::Move;
 use crate::openings::{empty_variables, kind_of};
-use crate::own_moves::{outside, own_move, phase_after, put};
+use crate::own_moves::{outside, own_move, phase_after, put, set_variable};
 use crate::phase::Phase;
 use crate::process::Process;
 use crate::value_kind::ValueKind;
@@ -29,12 +29,12 @@ pub struct Running {
 impl Running {
     ghost use Rattle.std.specs.Prelude.{◌≡◌, ◌↔◌, IsTrue, IfOk, OnOk, OnErr, MatchOption, Some, None, true, ℕ};
     ghost use Rattle.std.specs.List.{Contains};
-    ghost use Rattle.vc_occam.specs.Frames.{listed};
+    ghost use Rattle.vc_occam.specs.Frames.{IsSet, listed};
     ghost use Rattle.vc_occam.specs.Numbering.{written};
     ghost use Rattle.vc_occam.specs.Opening.{Fits, opening};
     ghost use Rattle.vc_occam.specs.ProcessLimits.{runs_today};
     ghost use Rattle.vc_occam.specs.Remains.{Done};
-    ghost use Rattle.vc_occam.specs.Runnings.{Takes, inner_channels, moves, state};
+    ghost use Rattle.vc_occam.specs.Runnings.{GoesOn, Takes, inner_channels, moves, state};
     ghost use Rattle.vc_occam.specs.Usage.{among};
     ghost use Rattle.vc_occam.specs.States.{Acts, FitsMove, IsAwaited, IsQuiet, Resumes, doing, sent_by, waiting, output, input};
 
@@ -118,10 +118,12 @@ impl Running {
         ensures inside { inner_channels self.new ≡ inner_channels self.old }
     {
         match answer {
-            Answer::Got(message) => self.take(message),
-            Answer::Nothing | Answer::Waits => self.phase = phase_after(&self.kind, made),
+            Answer::Got(message) => {
+                self.take(message);
+                Ok(())
+            }
+            Answer::Nothing | Answer::Waits => self.go_on(made),
         }
-        Ok(())
     }
 
     /// The site goes on: its output was finished, or here is the message for its input.
@@ -165,6 +167,24 @@ impl Running {
         ensures { IsTrue result ↔ ((state self.now).rest ≡ Done) }
     {
         self.phase == Phase::Ended
+    }
+
+    /// What is left after a move that brings no message.
+    fn go_on(&mut self, made: &Move) -> Result<(), Memory>
+        ensures done { OnOk result (GoesOn self.old made.now self.new) }
+        ensures unchanged { OnErr result ((self.new ≡ self.old) × IsSet self.old.kind) }
+    {
+        match &self.kind {
+            Kind::Set { var, value } => match value.datum(self.alloc, &self.vars)? {
+                Some(datum) => {
+                    self.phase = Phase::Ended;
+                    set_variable(&mut self.vars, *var, datum);
+                }
+                None => self.phase = Phase::Stuck,
+            },
+            _ => self.phase = phase_after(&self.kind, made),
+        }
+        Ok(())
     }
 
     /// The variable of an input takes its message.

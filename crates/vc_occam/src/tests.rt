@@ -1,0 +1,159 @@
+//! One output and one input, move by move, and the two ways of a whole number.
+use crate::{Answer, BytesExpr, Expr, Move, Op, Process, Running, Value, ValueKind};
+use sqlite_items::{Boxed, Items};
+use std::alloc::Global;
+use std::test::Fail;
+
+/// The process at its beginning, once it is seen that it can run.
+fn begin(
+    alloc: Global,
+    process: Process,
+    kinds: &[ValueKind],
+    inside: &[u16],
+) -> Result<Running, Fail> {
+    if !process.runs_today() {
+        return Err(Fail::from("a word that runs"));
+    }
+    if !process.fits(kinds, 512) {
+        return Err(Fail::from("variables that are there"));
+    }
+    Ok(Running::new(alloc, process, kinds, inside)?)
+}
+
+fn hello(alloc: Global) -> Result<Running, Fail> {
+    let hello = Value::Bytes(BytesExpr::Lit(Items::from_slice(alloc, b"hello")?));
+    begin(
+        alloc,
+        Process::Send {
+            chan: 3,
+            value: hello,
+        },
+        &[],
+        &[],
+    )
+}
+
+#[test]
+fn an_output_offers_its_message(rt: HostRuntime) -> Result<(), Fail> {
+    let running = hello(rt.alloc())?;
+    let offer = Move::Offer { site: 0, chan: 3 };
+    assert_eq!(rt; running.actions()?.as_slice(), [offer].as_slice());
+    assert!(rt; running.lists(&offer));
+    let message = running.value(&offer)?.ok_or("a message")?;
+    assert_eq!(rt; message.as_slice(), b"hello".as_slice());
+    Ok(())
+}
+
+#[test]
+fn an_output_ends_when_it_is_finished(rt: HostRuntime) -> Result<(), Fail> {
+    let mut running = hello(rt.alloc())?;
+    let offer = Move::Offer { site: 0, chan: 3 };
+    assert!(rt; running.lists(&offer));
+    running.act(&offer, Answer::Nothing)?;
+    assert!(rt; !running.lists(&offer));
+    let site = running.output_on(3).ok_or("an output that waits")?;
+    running.resume(site, None);
+    assert!(rt; running.ended());
+    Ok(())
+}
+
+#[test]
+fn a_number_travels_in_eight_bytes_low_byte_first(rt: HostRuntime) -> Result<(), Fail> {
+    let left = Boxed::new(rt.alloc(), Expr::Num(-3))?;
+    let right = Boxed::new(rt.alloc(), Expr::Num(85))?;
+    let product = Expr::Bin {
+        op: Op::Mul,
+        left,
+        right,
+    };
+    let process = Process::Send {
+        chan: 0,
+        value: Value::Int(product),
+    };
+    let running = begin(rt.alloc(), process, &[], &[])?;
+    let offer = Move::Offer { site: 0, chan: 0 };
+    assert!(rt; running.lists(&offer));
+    let message = running.value(&offer)?.ok_or("a message")?;
+    assert_eq!(rt;
+        message.as_slice(),
+        [1, 255, 255, 255, 255, 255, 255, 255].as_slice()
+    );
+    Ok(())
+}
+
+#[test]
+fn an_input_waits_for_its_message(rt: HostRuntime) -> Result<(), Fail> {
+    let process = Process::Receive { chan: 1, var: 0 };
+    let mut running = begin(rt.alloc(), process, &[ValueKind::Bytes], &[])?;
+    let want = Move::Want { site: 0, chan: 1 };
+    assert!(rt; running.lists(&want));
+    running.act(&want, Answer::Waits)?;
+    let site = running.input_on(1).ok_or("an input that waits")?;
+    running.resume(site, Some(Items::from_slice(rt.alloc(), b"x")?));
+    assert!(rt; running.ended());
+    Ok(())
+}
+
+#[test]
+fn a_fault_stops(rt: HostRuntime) -> Result<(), Fail> {
+    let left = Boxed::new(rt.alloc(), Expr::Num(1))?;
+    let right = Boxed::new(rt.alloc(), Expr::Num(0))?;
+    let fault = Value::Int(Expr::Bin {
+        op: Op::Div,
+        left,
+        right,
+    });
+    let mut running = begin(
+        rt.alloc(),
+        Process::Send {
+            chan: 0,
+            value: fault,
+        },
+        &[],
+        &[],
+    )?;
+    let quiet = Move::Quiet { site: 0 };
+    assert!(rt; running.lists(&quiet));
+    running.act(&quiet, Answer::Nothing)?;
+    assert!(rt; running.actions()?.is_empty());
+    assert!(rt; !running.ended());
+    Ok(())
+}
+
+#[test]
+fn an_output_inside_a_node_waits_for_its_input(rt: HostRuntime) -> Result<(), Fail> {
+    let one = Process::Send {
+        chan: 5,
+        value: Value::Int(Expr::Num(1)),
+    };
+    let alone = begin(rt.alloc(), one, &[], &[5])?;
+    assert!(rt; alone.actions()?.is_empty());
+    Ok(())
+}
+
+#[test]
+fn an_assignment_ends_or_stops(rt: HostRuntime) -> Result<(), Fail> {
+    let three = Process::Set {
+        var: 0,
+        value: Value::Int(Expr::Num(3)),
+    };
+    let mut running = begin(rt.alloc(), three, &[ValueKind::Int], &[])?;
+    let quiet = Move::Quiet { site: 0 };
+    assert!(rt; running.lists(&quiet));
+    running.act(&quiet, Answer::Nothing)?;
+    assert!(rt; running.ended());
+    Ok(())
+}
+
+#[test]
+fn skip_ends_and_stop_never_goes_on(rt: HostRuntime) -> Result<(), Fail> {
+    let mut skip = begin(rt.alloc(), Process::Skip, &[], &[])?;
+    let quiet = Move::Quiet { site: 0 };
+    assert!(rt; skip.lists(&quiet));
+    skip.act(&quiet, Answer::Nothing)?;
+    assert!(rt; skip.ended());
+    let stop = begin(rt.alloc(), Process::Stop, &[], &[])?;
+    assert!(rt; stop.actions()?.is_empty());
+    assert!(rt; !stop.ended());
+    Ok(())
+}
