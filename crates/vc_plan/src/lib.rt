@@ -24,6 +24,8 @@ mod port;
 mod search;
 mod stack;
 mod switch_plan;
+#[cfg(test)]
+mod tests;
 mod vlink;
 
 pub use accepted::Accepted;
