@@ -1,7 +1,17 @@
-//! Processes of occam 2.1 on one node: their syntax, their lawful use of channels and variables, and their running.
+//! Processes of occam 2.1 on one node: their syntax, their meaning, and their running.
 //!
-//! The layer above knows that `check_use` accepts exactly the processes whose parallel parts share no output, no input and no
-//! changed variable, and that what a `Running` makes, step by step, is a trace of its process.
+//! A [`Process`] is written over channels and variables by their numbers; its sites are numbered in preorder
+//! (`specs/Numbering`). What expressions are worth, which communications a process may make, what remains of it and what it may
+//! begin with are definitions over plain trees (`specs/Values`, `specs/Traces`, `specs/Remains`, `specs/First`), for every word of
+//! the language; so are lawful use in parallel and the uses of channels (`specs/Lawful`, `specs/ChannelUses`).
+//!
+//! The layer above knows of a [`Running`] that [`Running::actions`] are the first moves of what remains, [`Running::lists`] is true
+//! exactly of them, and [`Running::act`] and [`Running::resume`] each make exactly one step, whose communications, followed by any
+//! trace of what remains, are a trace of what remained before (`specs/States`). A message of another length than 8 on a channel of
+//! whole numbers is worth the number of its first eight bytes, missing ones being 0 (`specs/Messages`).
+//!
+//! Today a process without parts runs (`Process::runs_today`): SKIP, STOP, an assignment, an output, an input or the stop of a
+//! channel. The invariant of a [`Running`] is that the variables that its process changes are there.
 #![tactic(auto)]
 
 mod answer;

@@ -21,7 +21,7 @@ use Rattle.vc_plan.specs.declared.node_plan.NodePlan.{NodePlan}
 use Rattle.vc_plan.specs.Accepted.{IsAccepted, port_of, end_of}
 use Rattle.vc_plan.specs.Check.{PassesChannels, repeated, ports, port_twice, unwired_port, port_missing, first_of, block_of, same_block, blocks, block_twice, same_bool, same_way, way_twice_from, way_twice, misused_from, misused, wrong_use, use_ok, uses_of}
 use Rattle.vc_plan.specs.Limits.{depth_ok}
-use Rattle.vc_plan.specs.Paths.{across, same_port, same_spot, sending_port}
+use Rattle.vc_plan.specs.Wires.{across, same_port, same_spot, sending_port}
 use Rattle.vc_plan.proofs.Limited.{keeps, passes}
 
 none-else : {X : Type 0} (b : Bool) (x : X) (o : Option X) → (if b then Some x else o) ≡ None → (b ≡ false) × (o ≡ None)

@@ -8,7 +8,7 @@ use Rattle.vc_plan.specs.declared.switch_plan.RandomInput.{RandomInput}
 use Rattle.vc_plan.specs.declared.limit_word.LimitWord.{LimitWord}
 use Rattle.vc_plan.specs.declared.limit_word.LimitWord.TheVariants as word
 use Rattle.vc_plan.specs.Limits.{unless_ok, limit_broken, part_broken, process_broken, number_broken, version_ok, vars_ok, rows_ok, routes_ok, links_ok, random_ok, range_ok, depth_ok, message_ok, number_ok, names_ok}
-use Rattle.vc_plan.specs.Paths.{LimitsFit}
+use Rattle.vc_plan.specs.Hops.{LimitsFit}
 
 pub record Keeps (p : Plan) : Type 0 where
   pub version : version_ok p ≡ true

@@ -1,7 +1,7 @@
 -- The order of paths with equally many hops.
 use Rattle.std.proofs.Common.{◌≡◌, ℕ, List, [], ◌∷◌, ◌++◌, ◌⊎◌, Option, Some, None, refl, ap, ◌∙◌, inl, inr, arith}
 use Rattle.vc_plan.specs.declared.path_fault.Hop.{Hop}
-use Rattle.vc_plan.specs.Paths.{ValueBefore, ChosenBefore, Before}
+use Rattle.vc_plan.specs.Faults.{ValueBefore, ChosenBefore, Before}
 
 pub ValueBefore-trans : (a b c : Option ℕ) → ValueBefore a b → ValueBefore b c → ValueBefore a c
 ValueBefore-trans None b c p q = absurd p

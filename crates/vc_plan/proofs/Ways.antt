@@ -3,7 +3,8 @@ use Rattle.std.proofs.Common.{◌≡◌, ℕ, List, [], ◌∷◌, ◌++◌, ref
 use Rattle.vc_plan.specs.declared.path_fault.Hop.{Hop}
 use Rattle.vc_plan.specs.declared.port.Port.{Port}
 use Rattle.vc_plan.specs.declared.plan.Plan.{Plan}
-use Rattle.vc_plan.specs.Paths.{Path, IsHop}
+use Rattle.vc_plan.specs.Faults.{Path}
+use Rattle.vc_plan.specs.Hops.{IsHop}
 
 pub hop-along : (net : Plan) (p q r : Port) (s t u : List ℕ) (h : Hop) → p ≡ q → s ≡ t → IsHop net q t h r u → IsHop net p s h r u
 hop-along net p q r s t u h e f i = rw (e, f) i

@@ -12,7 +12,8 @@ use Rattle.vc_plan.specs.declared.channel.Channel.{Channel}
 use Rattle.vc_plan.specs.declared.channel.Home.TheVariants.{Way}
 use Rattle.vc_plan.specs.declared.node_plan.NodePlan.{NodePlan}
 use Rattle.vc_plan.specs.Check.{AreApart, HasLawfulTables, PassesChannels, use_ok, uses_of}
-use Rattle.vc_plan.specs.Paths.{IsLabelled, across, sending_port}
+use Rattle.vc_plan.specs.Delivery.{IsLabelled}
+use Rattle.vc_plan.specs.Wires.{across, sending_port}
 
 -- port one or port two of a wire
 abbrev pub port_of : Wire → Bool → Port

@@ -28,7 +28,8 @@ use Rattle.vc_plan.specs.declared.check_refused.CheckRefused.{CheckRefused}
 use Rattle.vc_plan.specs.declared.check_refused.CheckRefused.TheVariants as why
 use Rattle.vc_plan.specs.Labelling.{IsFirstFault}
 use Rattle.vc_plan.specs.Limits.{kinds_of, limit_broken}
-use Rattle.vc_plan.specs.Paths.{same_port, IsWiredAction, IsLabelled, across, sending_port, switch_at}
+use Rattle.vc_plan.specs.Delivery.{IsLabelled}
+use Rattle.vc_plan.specs.Wires.{same_port, IsWiredAction, across, sending_port, switch_at}
 
 abbrev pub first_of : {A : Type 0} → Option A → Option A → Option A
 first_of (Some x) other = Some x

@@ -4,7 +4,9 @@ use Rattle.vc_plan.specs.declared.plan.Plan.{Plan}
 use Rattle.vc_plan.specs.declared.vlink.End.{End}
 use Rattle.vc_plan.specs.declared.vlink.Vlink.{Vlink}
 use Rattle.vc_plan.specs.declared.labelling.Astray.{Astray}
-use Rattle.vc_plan.specs.Paths.{DeliversTo, IsLabelledLink, IsLeastFault, sending_port}
+use Rattle.vc_plan.specs.Delivery.{DeliversTo, IsLabelledLink}
+use Rattle.vc_plan.specs.Faults.{IsLeastFault}
+use Rattle.vc_plan.specs.Wires.{sending_port}
 
 -- the fault's path begins at this end's sending port, and none from there to the other end is before it
 pub record IsFaultOfWay (net : Plan) (from to : End) (f : Astray) : Type 0 where

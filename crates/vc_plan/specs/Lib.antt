@@ -1,7 +1,10 @@
 pub mod Accepted
 pub mod Check
+pub mod Delivery
+pub mod Faults
+pub mod Hops
 pub mod Labelling
 pub mod Limits
-pub mod Paths
 pub mod Places
 pub mod Search
+pub mod Wires

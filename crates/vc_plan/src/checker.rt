@@ -4,7 +4,7 @@ ghost use Rattle.std.specs.List.{list_all, list_any};
 ghost use Rattle.vc_plan.specs.Accepted.{IsAccepted};
 ghost use Rattle.vc_plan.specs.Check.{AreApart, HasLawfulTables, IsCause, IsFirstSameNode, IsFirstTable, IsLawfulSwitch, IsRefusedPath, IsSwitchFault, PassesChannels, PassesPaths, PassesTables, block_twice as twice_block, channel_fault as fault_of_channels, has_end as end_there, kind_fits as fits_kind, misused_from, end_is_at as is_end_at, port_missing, port_twice, same_block, same_bool as is_same_bool, same_way as is_same_way, unwired_port, use_ok as is_use_ok, uses_of, way_twice, wrong_use};
 ghost use Rattle.vc_plan.specs.Limits.{depth_ok, limit_broken};
-ghost use Rattle.vc_plan.specs.Paths.{across, same_port};
+ghost use Rattle.vc_plan.specs.Wires.{across, same_port};
 
 use crate::accepted::Accepted;
 use crate::channel::{Channel, Home};

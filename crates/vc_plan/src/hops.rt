@@ -1,7 +1,8 @@
 //! One passage through a switch.
 
 ghost use Rattle.std.specs.Prelude.{◌≡◌, ℕ, ◌+◌, ◌≤◌, List, ◌++◌, [], ◌∷◌, IfOk, IsTrue, ◌↔◌};
-ghost use Rattle.vc_plan.specs.Paths.{across, same_spot, same_port, passage, look_up, deletes, random_at, after_link};
+ghost use Rattle.vc_plan.specs.Hops.{passage, look_up, deletes, random_at, after_link};
+ghost use Rattle.vc_plan.specs.Wires.{across, same_spot, same_port};
 
 use crate::fault::Fault;
 use crate::plan::Plan;

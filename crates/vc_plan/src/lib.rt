@@ -1,8 +1,17 @@
 //! The plan of a network, and its checker.
 //!
-//! A `Plan` is what a network file says: nodes with their processes, switches with their tables, wires, virtual links and
-//! channels. The layer above is given an `Accepted`, which only the checker makes: a plan that keeps the limits and on which
-//! every path of every virtual link delivers.
+//! A [`Plan`] is what a network file says: nodes with their processes, switches with their tables, wires, virtual links and
+//! channels, named by their numbers. [`check`] takes a plan and answers an [`Accepted`], which nothing else makes, or a
+//! [`Refusal`] that gives the plan back as it came, with its first fault in a fixed order (`specs/Check`).
+//!
+//! The layer above knows of an accepted plan what `specs/Accepted` says: each limit is kept, each port is on one wire, each end
+//! sends by a wire and has its own block, each table is lawful, every path of every virtual link delivers (`specs/Hops`,
+//! `specs/Delivery`), each channel is alone on its way, and each process uses its node's channels at the right end and with the
+//! right kind. A path that doesn't deliver is refused with the least such path: of the first virtual link in order, way ab before
+//! ba, with the fewest hops, then the least by its choices (`specs/Faults`).
+//!
+//! The search keeps the places reached after equally many hops, each once, in the order of their least paths; the definitions
+//! speak of all paths. Today a process has no parts, and any other is over the limit of depth.
 #![tactic(auto)]
 
 mod accepted;

@@ -4,7 +4,8 @@ ghost use Rattle.std.specs.Prelude.{◌≡◌, ℕ, ◌≤◌, ◌<◌, List, So
 ghost use Rattle.vc_labels.specs.declared.row.Row.{Row};
 ghost use Rattle.vc_plan.specs.declared.switch_plan.SwitchPlan.{SwitchPlan};
 ghost use Rattle.vc_plan.specs.declared.switch_plan.RandomInput.{RandomInput};
-ghost use Rattle.vc_plan.specs.Paths.{LimitsFit, HasWire, IsWiredAction, IsWired, switch_at};
+ghost use Rattle.vc_plan.specs.Hops.{LimitsFit};
+ghost use Rattle.vc_plan.specs.Wires.{HasWire, IsWiredAction, IsWired, switch_at};
 
 use crate::hops::far_end;
 use crate::plan::Plan;

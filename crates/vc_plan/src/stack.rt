@@ -1,6 +1,6 @@
 //! The headers of a packet, and the hops that it made.
 ghost use Rattle.std.specs.Prelude.{◌≡◌, ◌++◌, [], ◌∷◌, IfOk};
-ghost use Rattle.vc_plan.specs.Paths.{put_in_front, same_headers};
+ghost use Rattle.vc_plan.specs.Hops.{put_in_front, same_headers};
 
 use crate::fault::Fault;
 use crate::path_fault::Hop;

@@ -1,7 +1,7 @@
 use Rattle.std.proofs.Common.{◌≡◌, ℕ, ◌<◌, Some}
 use Rattle.std.specs.Prelude.{slice_get}
 use Rattle.vc_plan.specs.declared.vlink.Vlink.{Vlink}
-use Rattle.vc_plan.specs.Paths.{IsLabelledLink}
+use Rattle.vc_plan.specs.Delivery.{IsLabelledLink}
 use Rattle.vc_plan.proofs.labelling.labelling_fault.Given as goal
 
 abbrev pub invariant-loop-k : goal.invariant-loop-k

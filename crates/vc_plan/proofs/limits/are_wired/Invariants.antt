@@ -1,7 +1,7 @@
 use Rattle.std.proofs.Common.{◌≡◌, ℕ, ◌<◌, Some}
 use Rattle.std.specs.Prelude.{slice_get}
 use Rattle.vc_labels.specs.declared.row.Row.{Row}
-use Rattle.vc_plan.specs.Paths.{IsWiredAction}
+use Rattle.vc_plan.specs.Wires.{IsWiredAction}
 use Rattle.vc_plan.proofs.limits.are_wired.Given as goal
 
 abbrev pub invariant-loop-row : goal.invariant-loop-row

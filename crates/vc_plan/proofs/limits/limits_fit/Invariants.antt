@@ -2,7 +2,7 @@ use Rattle.std.proofs.Common.{◌≡◌, ℕ, ◌<◌, ◌≤◌, Some}
 use Rattle.std.specs.Prelude.{slice_get}
 use Rattle.vc_plan.specs.declared.switch_plan.SwitchPlan.{SwitchPlan}
 use Rattle.vc_plan.specs.declared.switch_plan.RandomInput.{RandomInput}
-use Rattle.vc_plan.specs.Paths.{switch_at}
+use Rattle.vc_plan.specs.Wires.{switch_at}
 use Rattle.vc_plan.proofs.limits.limits_fit.Given as goal
 
 abbrev pub invariant-loop-plan : goal.invariant-loop-plan
