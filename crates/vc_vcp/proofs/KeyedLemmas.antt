@@ -1,5 +1,5 @@
 -- A change of one element of a list of named elements is a change at its name.
-use Rattle.std.proofs.Common.{◌≡◌, ℕ, zero, suc, Bool, true, false, List, [], ◌∷◌, refl, sym, ap, ◌∙◌, subst, arith, slice_get, slice_set, get_or, drop, length, ◌<◌, ◌==◌, if◌then◌else◌, Option, Some, None, inl, inr, eqb-true, eq-eqb}
+use Rattle.std.proofs.Common.{◌≡◌, ℕ, zero, suc, Bool, true, false, List, [], ◌∷◌, refl, sym, ap, ◌∙◌, arith, slice_get, slice_set, get_or, drop, length, ◌<◌, ◌==◌, if◌then◌else◌, Some, inl, inr, eq-eqb}
 use Rattle.std.proofs.lemmas.Bool.{cases_eq, ne_eqb}
 use Rattle.std.proofs.Math.Seq.{drop-cons}
 use Rattle.std.proofs.lemmas.Option.{slice_get-get_or}
@@ -72,3 +72,11 @@ found_at name k xs i x less is e passed =
     ∙ sym (named_by name (get_or xs i x) (drop (suc i) xs) k true (eq-eqb (name (get_or xs i x)) k there))
     ∙ ap (named name k) (sym (drop-cons xs i x less))
     ∙ passed
+
+-- what a name finds has that name
+pub named_has : {X : Type 0} (name : X → ℕ) (k : ℕ) (xs : List X) (x : X) → named name k xs ≡ Some x → name x ≡ k
+named_has name k [] x e = absurd (cc)
+named_has name k (y ∷ ys) x e = elim (cases_eq (name y) k) [
+  | inl q ↦ (let f : Some y ≡ Some x = sym (named_by name y ys k true (eq-eqb (name y) k q)) ∙ e in let g : y ≡ x = cc in sym (ap name g) ∙ q)
+  | inr ne ↦ named_has name k ys x (sym (named_by name y ys k false (ne_eqb (name y) k ne)) ∙ e)
+]

@@ -1,12 +1,11 @@
 -- A put of the next byte of the front packet, or of its mark.
-use Rattle.std.proofs.Common.{◌≡◌, ◌≢◌, ℕ, zero, suc, ◌+◌, ◌-◌, ◌<◌, ◌≤◌, List, [], ◌∷◌, ◌++◌, length, take, drop, refl, sym, ap, ◌∙◌, subst, arith, get_or, slice_get, Option, Some, None, append-nil}
+use Rattle.std.proofs.Common.{◌≡◌, ◌≢◌, ℕ, zero, suc, ◌+◌, ◌-◌, ◌<◌, ◌≤◌, List, [], ◌∷◌, ◌++◌, length, take, drop, refl, sym, ap, ◌∙◌, subst, arith, get_or, slice_get, Some, None}
 use Rattle.std.proofs.Math.Seq.{take-suc, drop-cons}
 use Rattle.std.proofs.lemmas.List.{take-append-drop}
 use Rattle.std.proofs.lemmas.Option.{slice_get_within, get_or_from_slice_get}
-use Rattle.vc_packets.specs.declared.mark.Mark.{Mark}
 use Rattle.vc_packets.specs.declared.packet.Packet.{Packet}
 use Rattle.vc_tokens.specs.Tokens.{Token, Byte, EndMark}
-use Rattle.vc_credit.specs.Ends.{Sender, Puts, puts_byte, puts_mark}
+use Rattle.vc_credit.specs.Ends.{puts_byte, puts_mark}
 use Rattle.vc_vcp.specs.LinkOut.{Sending, sent_of, queue_after, IsWithinFront, PutsFront}
 
 -- the bytes before the n-th, that byte, and those behind it

@@ -1,5 +1,5 @@
 -- What was put at the end of a list is taken back.
-use Rattle.std.proofs.Common.{◌≡◌, ℕ, suc, List, [], ◌∷◌, ◌++◌, length, refl, sym, ap, ◌∙◌, arith, length-append, Option, Some, None, MatchOption}
+use Rattle.std.proofs.Common.{◌≡◌, List, [], ◌∷◌, ◌++◌, length, sym, ap, ◌∙◌, arith, length-append, Option, Some, None, MatchOption}
 use Rattle.std.proofs.lemmas.List.{same_from_push}
 
 pub popped : {X : Type 0} (r : Option X) (old new taken more : List X) → MatchOption r ((old ≡ []) × (new ≡ [])) (λ last. old ≡ new ++ last ∷ []) → length more ≡ 1 → old ≡ taken ++ more → new ≡ taken

@@ -6,3 +6,5 @@ pub mod LinkIn
 pub mod Keyed
 pub mod Queued
 pub mod State
+pub mod Seen
+pub mod Opening

@@ -9,7 +9,22 @@ use Rattle.vc_blocks.specs.declared.in_half.Want.{Want}
 use Rattle.vc_blocks.specs.declared.in_half.Want.TheVariants as want
 use Rattle.vc_blocks.specs.Halves.{load_of, ends_message}
 use Rattle.vc_vcp.specs.declared.output.Output.{Output}
+use Rattle.vc_vcp.specs.declared.input.Input.{Input}
 use Rattle.vc_vcp.specs.LinkOut.{Sending}
+
+-- an output stays where it is
+pub record StaysOutput (old new : Output) : Type 0 where
+  pub chan : new.chan ≡ old.chan
+  pub link : new.link ≡ old.link
+  pub block : new.block ≡ old.block
+  pub route : new.half.route ≡ old.half.route
+
+-- an input stays where it is
+pub record StaysInput (old new : Input) : Type 0 where
+  pub chan : new.chan ≡ old.chan
+  pub link : new.link ≡ old.link
+  pub block : new.block ≡ old.block
+  pub route : new.route ≡ old.route
 
 -- one packet more waits
 abbrev pub queued : Sending → Packet → Sending

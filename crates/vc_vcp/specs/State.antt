@@ -1,6 +1,10 @@
 -- What a node's virtual channel processor keeps: its outputs and inputs, and the two ends of its four links.
-use Rattle.std.specs.Prelude.{◌≡◌, ◌≢◌, ℕ, ◌<◌, List, length, slice_get, Some, [], false}
+use Rattle.std.specs.Prelude.{◌≡◌, ◌≢◌, ℕ, ◌<◌, List, length, slice_get, Option, Some, None, [], ◌∷◌, ◌++◌, false, true}
 use Rattle.std.specs.List.{AllByRecursion}
+use Rattle.vc_packets.specs.declared.packet.Packet.{Packet}
+use Rattle.vc_packets.specs.Headers.{spelled}
+use Rattle.vc_tokens.specs.Tokens.{Fct}
+use Rattle.vc_blocks.specs.Halves.{load_of}
 use Rattle.vc_vcp.specs.declared.output.Output.{Output}
 use Rattle.vc_vcp.specs.declared.input.Input.{Input}
 use Rattle.vc_vcp.specs.LinkOut.{Sending}
@@ -15,12 +19,46 @@ pub record State : Type 0 where
   pub ins : List Receiving  -- by link
   pub strays : ℕ
 
--- each end sends by one of the four links
+-- a packet begins with this block's header
+abbrev pub BeginsWith : ℕ → Option Packet → Type 0
+BeginsWith block None = Unit {0}
+BeginsWith block (Some p) = p.body ≡ spelled (block ∷ []) ++ load_of p
+
+-- An output sends by one of the four links, and what is under way was offered.
+pub record IsOutput (x : Output) : Type 0 where
+  pub link : x.link < 4
+  pub offered : x.offered ≡ [] → x.half.unacked ≡ []
+
+-- An input sends by one of the four links, holds what came to its block, and holds nothing where a process inputs.
+pub record IsInput (x : Input) : Type 0 where
+  pub link : x.link < 4
+  pub held : BeginsWith x.block x.half.held
+  pub empty : x.half.wants ≡ true → x.half.held ≡ None
+
+-- An FCT never waits in a buffer, and each link has the same limit.
+pub record IsLinkIn (most : ℕ) (x : Receiving) : Type 0 where
+  pub no_fct : AllByRecursion (λ k. k ≢ Fct) x.receiver.buffer
+  pub limit : x.limit ≡ most
+
+-- how many bytes a packet that comes may have
+abbrev pub limit_of : List Receiving → ℕ
+limit_of [] = 0
+limit_of (x ∷ xs) = x.limit
+
+-- There are four links.
 pub record IsWired (s : State) : Type 0 where
   pub four_out : length s.outs ≡ 4
   pub four_in : length s.ins ≡ 4
-  pub outputs : AllByRecursion (λ x. x.link < 4) s.outputs
-  pub inputs : AllByRecursion (λ x. x.link < 4) s.inputs
+  pub outputs : AllByRecursion IsOutput s.outputs
+  pub inputs : AllByRecursion IsInput s.inputs
+  pub ins : AllByRecursion (IsLinkIn (limit_of s.ins)) s.ins
+
+-- no channel goes out twice or comes in twice, and each output and each input has a block of its own
+pub record HaveOwnNames (outputs : List Output) (inputs : List Input) : Type 0 where
+  pub out_chans : NamesDiffer (λ x. x.chan) outputs
+  pub in_chans : NamesDiffer (λ x. x.chan) inputs
+  pub out_blocks : NamesDiffer (λ x. x.block) outputs
+  pub in_blocks : NamesDiffer (λ x. x.block) inputs
 
 -- the node outputs on the channel, and nothing is under way
 pub record IsIdle (s : State) (chan : ℕ) : Type 0 where

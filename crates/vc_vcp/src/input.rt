@@ -1,11 +1,12 @@
 //! Channels that a node inputs on.
-ghost use Rattle.std.specs.Prelude.{◌≡◌, [], ◌++◌, ℕ, List, length, None, false, if◌then◌else◌, IfOk, OnOk, OnErr};
+ghost use Rattle.std.specs.Prelude.{◌≡◌, [], ◌++◌, ℕ, List, length, Some, None, false, if◌then◌else◌, IfOk, OnOk, OnErr};
 ghost use Rattle.vc_blocks.specs.Halves.{IsPiece};
 ghost use Rattle.vc_blocks.specs.Arriving.{after_arrival, arrival_of, after_want, want_of};
 ghost use Rattle.std.specs.Option.{option_to_list};
 ghost use Rattle.vc_packets.specs.Spellings.{ack_packet};
+ghost use Rattle.vc_vcp.specs.State.{IsInput, BeginsWith};
 ghost use Rattle.vc_vcp.specs.LinkOut.{Unqueues};
-ghost use Rattle.vc_vcp.specs.Queued.{completed, queued, logged, acknowledged, logged_by, acknowledged_by};
+ghost use Rattle.vc_vcp.specs.Queued.{StaysInput, completed, queued, logged, acknowledged, logged_by, acknowledged_by};
 
 use crate::link_out::LinkOut;
 use sqlite_items::Items;
@@ -34,6 +35,9 @@ impl Input {
     ) -> Result<Arrival, Memory>
         requires empty { self.old.half.held ≡ None }
         requires piece { IsPiece packet.now }
+        ensures sender { queue.new.sender ≡ queue.old.sender }
+        ensures stays { StaysInput self.old self.new }
+        ensures is { IsInput self.old → BeginsWith self.old.block (Some packet.now) → IsInput self.new }
         ensures arrival { IfOk result (λ a. a ≡ arrival_of self.old.half packet.now self.old.half.wants) }
         ensures input { IfOk result (λ a. self.new ≡ record self.old { half = after_arrival self.old.half packet.now self.old.half.wants; taken = logged self.old.taken a }) }
         ensures queue { IfOk result (λ a. queue.new ≡ acknowledged queue.old self.old.route a) }
@@ -57,6 +61,9 @@ impl Input {
     pub(crate) fn want(&mut self, queue: &mut LinkOut, alloc: Global) -> Result<Want, Memory>
         requires idle { self.old.half.wants ≡ false }
         requires not_stopped { self.old.half.stopped ≡ false }
+        ensures sender { queue.new.sender ≡ queue.old.sender }
+        ensures stays { StaysInput self.old self.new }
+        ensures is { IsInput self.old → IsInput self.new }
         ensures want { IfOk result (λ w. w ≡ want_of self.old.half self.old.half.held) }
         ensures input { IfOk result (λ w. self.new ≡ record self.old { half = after_want self.old.half self.old.half.held; taken = logged_by self.old.taken w }) }
         ensures queue { IfOk result (λ w. queue.new ≡ acknowledged_by queue.old self.old.route w) }

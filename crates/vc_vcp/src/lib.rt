@@ -10,6 +10,7 @@ mod end;
 mod input;
 mod link_in;
 mod link_out;
+mod opening;
 mod output;
 mod places;
 mod taken;

@@ -1,7 +1,8 @@
 //! Channels that a node outputs on.
 ghost use Rattle.std.specs.Prelude.{◌≡◌, ◌≢◌, [], IfOk, OnOk, OnErr};
 ghost use Rattle.vc_blocks.specs.Advancing.{later_than, advanced};
-ghost use Rattle.vc_vcp.specs.Queued.{Begins, queued_next};
+ghost use Rattle.vc_vcp.specs.Queued.{Begins, StaysOutput, queued_next};
+ghost use Rattle.vc_vcp.specs.State.{IsOutput};
 
 use crate::link_out::LinkOut;
 use sqlite_items::Items;
@@ -28,6 +29,9 @@ impl Output {
         message: &[u8],
     ) -> Result<(), Memory>
         requires { self.old.half.unacked ≡ [] }
+        ensures sender { queue.new.sender ≡ queue.old.sender }
+        ensures stays { StaysOutput self.old self.new }
+        ensures is { IsOutput self.old → IsOutput self.new }
         ensures ok { OnOk result (Begins self.old queue.old message.now self.new queue.new) }
         ensures err { OnErr result (self.new ≡ self.old) }
         ensures err_queue { OnErr result (queue.new ≡ queue.old) }
@@ -47,6 +51,9 @@ impl Output {
     /// The piece under way was acknowledged: the next one is queued, or the output is finished.
     pub(crate) fn acked(&mut self, queue: &mut LinkOut, alloc: Global) -> Result<Advance, Memory>
         requires { self.old.half.unacked ≢ [] }
+        ensures sender { queue.new.sender ≡ queue.old.sender }
+        ensures stays { StaysOutput self.old self.new }
+        ensures is { IsOutput self.old → IsOutput self.new }
         ensures advance { IfOk result (λ advance. advance ≡ advanced (later_than self.old.half.unacked)) }
         ensures output { OnOk result (self.new ≡ record self.old { half = record self.old.half { unacked = later_than self.old.half.unacked } }) }
         ensures queue { OnOk result (queue.new ≡ queued_next queue.old self.old.half.route (later_than self.old.half.unacked)) }

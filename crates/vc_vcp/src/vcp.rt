@@ -1,21 +1,31 @@
 //! The virtual channel processor of a node.
-ghost use Rattle.std.specs.Prelude.{◌≡◌, ◌<◌, ◌↔◌, [], false, IsTrue, OnErr};
+ghost use Rattle.std.specs.Prelude.{◌≡◌, ◌<◌, ◌↔◌, [], false, Some, IsTrue, IfOk, OnOk, OnErr};
 ghost use Rattle.vc_vcp.specs.Keyed.{by_name};
 ghost use Rattle.std.specs.List.{AllByRecursion};
 ghost use Rattle.vc_blocks.specs.Halves.{IsPiece};
-ghost use Rattle.vc_vcp.specs.State.{IsIdle, IsUnwanted, IsOpen, MayPut, MayGrant};
+ghost use Rattle.vc_vcp.specs.State.{IsIdle, IsUnwanted, IsOpen, MayPut, MayGrant, BeginsWith, HaveOwnNames, limit_of};
+ghost use Rattle.vc_vcp.specs.Seen.{ends_of, seen, IsKept};
+ghost use Rattle.vc_vcp.specs.Links.{new_vcp, Comes, Sends, SendsFct};
+ghost use Rattle.vc_vcp.specs.Keyed.{NamesDiffer};
+ghost use Rattle.vc_vcp.specs.Steps.{Offers};
+ghost use Rattle.vc_vcp.specs.Opening.{ends_given, AreDistinct};
+ghost use Rattle.vc_packets.specs.Counting.{one_more};
+ghost use Rattle.vc_tokens.specs.Spelt.{token};
+ghost use Rattle.vc_tokens.specs.Tokens.{Fct};
+ghost use Rattle.vc_credit.specs.Laws.{NeedsPlace};
 
 use crate::end::End;
 use crate::input::Input;
 use crate::link_in::LinkIn;
 use crate::link_out::LinkOut;
+use crate::opening;
 use crate::output::Output;
 use crate::places::{input_of, input_on, output_of, output_on};
 use crate::taken::Taken;
 use sqlite_items::Items;
 use std::alloc::Global;
 use std::marker::Model;
-use vc_blocks::{Advance, Arrival, InHalf, OutHalf, Want};
+use vc_blocks::{Advance, Arrival, Want};
 use vc_packets::{Kind, Mark, Memory, Packet, front_header, kind_of};
 use vc_tokens::Token;
 
@@ -44,81 +54,31 @@ impl Model for Vcp {
 }
 
 impl Vcp {
-    /// A node's virtual channel processor, with nothing on its links.
+    /// A node's virtual channel processor, with nothing on its links, for packets of at most `body_limit` bytes. Its
+    /// calls are the steps of a node where each end has a block and channels of its own.
     pub fn new(alloc: Global, ends: &[End], body_limit: usize) -> Result<Vcp, Memory>
         requires { AllByRecursion (λ e. e.link < 4) ends.now }
+        ensures seen { IfOk result (λ vcp. seen vcp ≡ new_vcp) }
+        ensures ends { IfOk result (λ vcp. ends_of vcp ≡ ends_given ends.now) }
+        ensures names { AreDistinct ends.now → IfOk result (λ vcp. HaveOwnNames vcp.outputs vcp.inputs) }
+        ensures limit { IfOk result (λ vcp. limit_of vcp.ins ≡ body_limit) }
     {
-        let mut vcp = Vcp {
+        Ok(Vcp {
             alloc,
-            outputs: Vec::new(alloc),
-            inputs: Vec::new(alloc),
-            outs: vec![in alloc;
-                LinkOut::new(alloc),
-                LinkOut::new(alloc),
-                LinkOut::new(alloc),
-                LinkOut::new(alloc),
-            ]?,
-            ins: vec![in alloc;
-                LinkIn::new(alloc, body_limit)?,
-                LinkIn::new(alloc, body_limit)?,
-                LinkIn::new(alloc, body_limit)?,
-                LinkIn::new(alloc, body_limit)?,
-            ]?,
+            outputs: opening::outputs(alloc, ends)?,
+            inputs: opening::inputs(alloc, ends)?,
+            outs: opening::outs(alloc)?,
+            ins: opening::ins(alloc, body_limit)?,
             strays: 0,
-        };
-        for end in ends {
-            vcp.connect(end)?;
-        }
-        Ok(vcp)
-    }
-
-    // An end of a virtual link joins.
-    fn connect(&mut self, end: &End) -> Result<(), Memory>
-        requires { end.now.link < 4 }
-    {
-        if let Some(chan) = end.output {
-            self.connect_output(end, chan)?;
-        }
-        if let Some(chan) = end.input {
-            self.connect_input(end, chan)?;
-        }
-        Ok(())
-    }
-
-    // A channel goes out by an end.
-    fn connect_output(&mut self, end: &End, chan: u16) -> Result<(), Memory>
-        requires { end.now.link < 4 }
-    {
-        let half = OutHalf::new(self.alloc, end.route.as_slice())?;
-        self.outputs.push(Output {
-            chan,
-            link: end.link,
-            block: end.block,
-            half,
-            offered: Items::new(self.alloc),
-        })?;
-        Ok(())
-    }
-
-    // A channel comes in by an end.
-    fn connect_input(&mut self, end: &End, chan: u16) -> Result<(), Memory>
-        requires { end.now.link < 4 }
-    {
-        let route = Items::from_slice(self.alloc, end.route.as_slice())?;
-        self.inputs.push(Input {
-            chan,
-            link: end.link,
-            block: end.block,
-            route,
-            half: InHalf::new(self.alloc),
-            taken: Items::new(self.alloc),
-        })?;
-        Ok(())
+        })
     }
 
     /// A message is offered on a channel: its first piece is queued.
     pub fn offer(&mut self, chan: u16, message: &[u8]) -> Result<(), Memory>
         requires { IsIdle self.old chan }
+        ensures offers { HaveOwnNames self.old.outputs self.old.inputs → OnOk result (Offers (ends_of self.old) (seen self.old).carrier chan message.now (seen self.new).carrier) }
+        ensures links { (seen self.new).link ≡ (seen self.old).link }
+        ensures kept { HaveOwnNames self.old.outputs self.old.inputs → IsKept self.old self.new }
         ensures err { OnErr result (self.new ≡ self.old) }
     {
         match output_on(&self.outputs, chan) {
@@ -251,6 +211,8 @@ impl Vcp {
     /// Puts the next token of the packet at the front of a link's queue.
     pub fn put(&mut self, link: u8) -> Token
         requires { MayPut self.old link }
+        ensures sends { Sends (seen self.old) link (token result) (seen self.new) }
+        ensures kept { IsKept self.old self.new }
     {
         self.outs[usize::from(link)].put()
     }
@@ -266,6 +228,8 @@ impl Vcp {
     /// An FCT is put on a link.
     pub fn grant(&mut self, link: u8)
         requires { MayGrant self.old link }
+        ensures grants { SendsFct (seen self.old) link (seen self.new) }
+        ensures kept { IsKept self.old self.new }
     {
         self.ins[usize::from(link)].grant();
     }
@@ -273,14 +237,41 @@ impl Vcp {
     /// A token comes over a link: an FCT is credit, all else goes to the buffer. It is dropped and counted where it is not due.
     pub fn accept(&mut self, link: u8, came: Token)
         requires { link < 4 }
+        ensures comes { Comes (seen self.old) link (token came) (seen self.new) }
+        ensures kept { IsKept self.old self.new }
     {
-        let at = usize::from(link);
         match came {
-            Token::Fct if self.outs[at].may_credit() => self.outs[at].credit(),
-            Token::Byte(_) | Token::Eop | Token::Eom if self.ins[at].is_promised() => {
-                self.ins[at].accept(came);
-            }
-            _ => self.drop_one(),
+            Token::Fct => self.accept_credit(link),
+            Token::Byte(_) | Token::Eop | Token::Eom => self.accept_data(link, came),
+        }
+    }
+
+    // An FCT comes.
+    fn accept_credit(&mut self, link: u8)
+        requires { link < 4 }
+        ensures comes { Comes (seen self.old) link Fct (seen self.new) }
+        ensures kept { IsKept self.old self.new }
+    {
+        let out = usize::from(link);
+        if self.outs[out].may_credit() {
+            self.outs[out].credit();
+        } else {
+            self.drop_one();
+        }
+    }
+
+    // A token comes that needs a place.
+    fn accept_data(&mut self, link: u8, came: Token)
+        requires link { link < 4 }
+        requires place { NeedsPlace (token came) }
+        ensures comes { Comes (seen self.old) link (token came) (seen self.new) }
+        ensures kept { IsKept self.old self.new }
+    {
+        let into = usize::from(link);
+        if self.ins[into].is_promised() {
+            self.ins[into].accept(came);
+        } else {
+            self.drop_one();
         }
     }
 
@@ -350,7 +341,8 @@ impl Vcp {
 
     // A piece comes to a block.
     fn arrive(&mut self, block: u16, packet: &Packet) -> Result<Taken, Memory>
-        requires { IsPiece packet.now }
+        requires piece { IsPiece packet.now }
+        requires begins { BeginsWith block (Some packet.now) }
         ensures err { OnErr result (self.new ≡ self.old) }
     {
         match input_of(&self.inputs, block) {
@@ -379,7 +371,9 @@ impl Vcp {
     }
 
     // One more was dropped.
-    fn drop_one(&mut self) {
+    fn drop_one(&mut self)
+        ensures { self.new ≡ record self.old { strays = one_more self.old.strays } }
+    {
         self.strays = self.strays.saturating_add(1);
     }
 }

@@ -1,4 +1,4 @@
-use Rattle.std.proofs.Common.{◌≡◌, ◌∙◌, length, ap, if◌then◌else◌}
+use Rattle.std.proofs.Common.{◌∙◌, ap, if◌then◌else◌}
 use Rattle.vc_vcp.proofs.Undoing.{popped}
 use Rattle.vc_vcp.proofs.input.Input.undo.Goals as goal
 

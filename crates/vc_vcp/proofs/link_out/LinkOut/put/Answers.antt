@@ -1,9 +1,7 @@
-use Rattle.std.proofs.Common.{◌≡◌, ◌+◌, ◌-◌, ◌∷◌, sym, ap, subst, ◌∙◌, rules, slice_get, Some, None, drop}
-use Rattle.std.proofs.lemmas.Grind.{common_steps}
-use Rattle.vc_tokens.specs.Tokens.{Byte, EndMark}
+use Rattle.std.proofs.Common.{◌≡◌, sym, subst, rules, slice_get, Some, None, drop}
 use Rattle.vc_tokens.specs.Spelt.{token}
 use Rattle.vc_vcp.specs.LinkOut.{PutsFront}
-use Rattle.vc_vcp.proofs.PutLemmas.{byte_at, mark_at, sending}
+use Rattle.vc_vcp.proofs.PutLemmas.{byte_at, mark_at}
 use Rattle.vc_vcp.proofs.link_out.LinkOut.put.Goals as goal
 use Rattle.vc_vcp.proofs.link_out.LinkOut.put.Goals.{in-Some-1, in-None-1}
 
