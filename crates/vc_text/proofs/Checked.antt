@@ -1,10 +1,12 @@
 -- What was read and written, together.
 use Rattle.std.proofs.Common.{List, ℕ, Option, Some, None, Result, Ok, Err}
+use Rattle.vc_core.specs.declared.close.Close.{Close}
 use Rattle.vc_plan.specs.declared.plan.Plan.{Plan as Network}
 use Rattle.vc_text.specs.declared.fault.RunFault.{RunFault}
 use Rattle.vc_text.specs.declared.fault.RunFault.TheVariants.{Read, Write, Text, Plan, Memory}
 use Rattle.vc_text.specs.Streams.{Writes}
 use Rattle.vc_text.specs.Checking.{ReadsAccepted, Checks, accepted_text}
+use Rattle.vc_text.specs.Running.{WritesTraffic, Steps}
 
 memory_any : (known : Option (List ℕ)) → ReadsAccepted known (Err Memory)
 memory_any None = tt
@@ -17,3 +19,10 @@ checks_of known old new plan (Err Memory) r w = (memory_any known, w)
 checks_of known old new plan (Err Read) r w = absurd w
 checks_of known old new plan (Err (Text refused)) r w = absurd w
 checks_of known old new plan (Err (Plan refusal)) r w = absurd w
+
+pub steps_of_err : (known old new : Option (List ℕ)) (limit : ℕ) (plan : Network) (close : Close) (fault : RunFault) → ReadsAccepted known (Ok plan) → WritesTraffic close old new (Err fault) → Steps known old new limit (Err fault)
+steps_of_err known old new limit plan close Write r w = (plan, r, (w.0, (close, w.1)))
+steps_of_err known old new limit plan close Memory r w = (memory_any known, w.1)
+steps_of_err known old new limit plan close Read r w = absurd w.1
+steps_of_err known old new limit plan close (Text refused) r w = absurd w.1
+steps_of_err known old new limit plan close (Plan refusal) r w = absurd w.1

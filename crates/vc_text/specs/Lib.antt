@@ -3,3 +3,4 @@ pub mod Traffic
 pub mod Views
 pub mod FaultLine
 pub mod Checking
+pub mod Running

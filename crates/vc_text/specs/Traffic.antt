@@ -6,8 +6,8 @@ use Rattle.std.specs.List.{flat_map}
 use Rattle.hex.specs.Hex.{encode_lower}
 use Rattle.vc_occam.specs.declared.value_kind.ValueKind.{ValueKind}
 use Rattle.vc_occam.specs.declared.value_kind.ValueKind.TheVariants.{Int, Bytes}
-use Rattle.vc_text.specs.declared.close.Close.{Close}
-use Rattle.vc_text.specs.declared.close.Close.TheVariants.{Done, Quiet, Limit, GateClosed, ClockFull, Failed}
+use Rattle.vc_core.specs.declared.close.Close.{Close}
+use Rattle.vc_core.specs.declared.close.Close.TheVariants.{Done, Quiet, Limit, GateClosed, ClockFull, Failed}
 
 -- what a channel is and has done
 pub record ChannelTraffic : Type 0 where

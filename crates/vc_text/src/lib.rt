@@ -6,19 +6,19 @@
 
 mod check;
 mod check_line;
-mod close;
 mod fault;
 mod fault_line;
 mod number;
 mod plan_text;
 mod read_line;
+mod run;
 mod streams;
 mod traffic;
 
 pub use check::run_check;
-pub use close::Close;
 pub use fault::RunFault;
 pub use fault_line::write_fault;
+pub use run::{StepReport, run_step, write_traffic};
 pub use streams::write_text;
 pub use traffic::{ChannelView, write_channels};
 

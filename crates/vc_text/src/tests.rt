@@ -4,6 +4,7 @@ use sqlite_items::Items;
 use std::alloc::Global;
 use std::io::{Read, Write};
 use std::test::Fail;
+use vc_core::Close;
 use vc_occam::ValueKind;
 use vc_reader::read_network;
 

@@ -5,7 +5,6 @@ ghost use Rattle.vc_text.specs.Streams.{Writes};
 ghost use Rattle.vc_text.specs.Views.{shown};
 ghost use Rattle.vc_text.specs.Traffic.{bytes_text, value_text, message_line, message_lines, stop_text, channel_line, channel_lines, close_text, traffic};
 
-use crate::close::Close;
 use crate::fault::RunFault;
 use crate::number::push_number;
 use crate::streams::write_text;
@@ -13,6 +12,7 @@ use itoa::Buffer;
 use sqlite_items::Items;
 use std::alloc::Global;
 use std::io::Write;
+use vc_core::Close;
 use vc_occam::ValueKind;
 use vc_packets::Memory;
 

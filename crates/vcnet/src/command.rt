@@ -1,13 +1,27 @@
 //! The command line.
+ghost use Rattle.std.specs.Prelude.{◌≡◌, ◌≤◌, IfOk};
+ghost use Rattle.vcnet.specs.Line.{IsInRange};
+
 use clap::error::ErrorKind;
-use clap::{Command, Error};
+use clap::{Arg, ArgMatches, Command, Error, value_parser};
 use std::alloc::{AllocError, Global};
+
+/// The most events that a run may be allowed.
+pub const MOST_EVENTS: u64 = 1_000_000_000;
+
+/// How many events a run is allowed where the line says nothing.
+pub const USUAL_EVENTS: u64 = 1_000_000;
 
 /// What the words ask for.
 #[derive(Clone, Copy, Debug, PartialEq, Eq, Drop)]
 pub enum Line {
     /// To check the network, and to print how large it is.
     Check,
+    /// To run the network event by event, and to print its traffic.
+    Step {
+        /// The most events that are made.
+        limit: u64,
+    },
 }
 
 /// Why the words ask for nothing that can be done.
@@ -32,11 +46,43 @@ impl From<AllocError> for LineFault {
 
 /// What the program takes.
 fn definition<'a>(alloc: Global) -> Result<Command<'a>, AllocError> {
+    let limit = Arg::new(alloc, "limit")
+        .long("limit")
+        .value_name("N")
+        .help("Makes at most so many events")
+        .value_parser(value_parser!(u64).range(0..=1_000_000_000))
+        .default_value("1000000");
     let check = Command::new(alloc, "check").about("Checks the network on standard input");
+    let step = Command::new(alloc, "step")
+        .about("Runs the network on standard input and prints its traffic")
+        .arg(limit)?;
     Command::new(alloc, "vcnet")
         .about("The virtual channel network of the T9000 and the C104, with occam processes")
         .subcommand_required(true)
-        .subcommand(check)
+        .subcommand(check)?
+        .subcommand(step)
+}
+
+/// The limit that the matches of `step` have.
+fn limit_of(matches: &ArgMatches<'_>) -> u64
+    ensures { result ≤ MOST_EVENTS }
+{
+    match matches.get_one::<u64>("limit") {
+        Some(limit) if limit <= MOST_EVENTS => limit,
+        _ => USUAL_EVENTS,
+    }
+}
+
+/// What the matches ask for.
+fn line_of(matches: &ArgMatches<'_>) -> Line
+    ensures { IsInRange result }
+{
+    match matches.subcommand() {
+        Some(("step", inner)) => Line::Step {
+            limit: limit_of(inner),
+        },
+        _ => Line::Check,
+    }
 }
 
 /// What to print of a fault of the words.
@@ -54,9 +100,11 @@ fn fault_of(alloc: Global, error: &Error) -> LineFault {
 }
 
 /// What the words ask for; the first is the program's name. `Bad` comes only where `clap` finds no matches.
-pub fn command(alloc: Global, words: &[&str]) -> Result<Line, LineFault> {
+pub fn command(alloc: Global, words: &[&str]) -> Result<Line, LineFault>
+    ensures { IfOk result IsInRange }
+{
     match definition(alloc)?.try_get_matches_from(words) {
-        Ok(_) => Ok(Line::Check),
+        Ok(matches) => Ok(line_of(&matches)),
         Err(error) => Err(fault_of(alloc, &error)),
     }
 }

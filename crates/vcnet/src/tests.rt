@@ -20,6 +20,37 @@ fn checks_the_hello_network(rt: HostRuntime) {
 }
 
 #[test]
+fn runs_the_hello_network(rt: HostRuntime) -> Result<(), Fail> {
+    let alloc = rt.alloc();
+    let words = ["vcnet", "step"];
+    let traffic = "channel c offered 1 taken 1 finished 1\n  0 68656c6c6f\nend done\n";
+    assert!(rt; prints(alloc, &words, HELLO, traffic, 0));
+    let empty = HELLO.replace(alloc, "{\"text\":\"hello\"}", "{\"hex\":\"\"}")?;
+    let traffic = "channel c offered 1 taken 1 finished 1\n  0 -\nend done\n";
+    assert!(rt; prints(alloc, &words, empty.as_str(), traffic, 0));
+    let quiet = HELLO.replace(alloc, "{\"in\":[\"c\",\"m\"]}", "\"skip\"")?;
+    let traffic = "channel c offered 1 taken 0 finished 0\nend quiet\n";
+    assert!(rt; prints(alloc, &words, quiet.as_str(), traffic, 1));
+    assert!(rt;
+        prints(
+            alloc,
+            &words,
+            "{\"version\":1,\"nodes\":[]}",
+            "end done\n",
+            0
+        )
+    );
+    Ok(())
+}
+
+#[test]
+fn stops_at_the_limit(rt: HostRuntime) {
+    let words = ["vcnet", "step", "--limit", "0"];
+    let traffic = "channel c offered 0 taken 0 finished 0\nend limit\n";
+    assert!(rt; prints(rt.alloc(), &words, HELLO, traffic, 3));
+}
+
+#[test]
 fn refuses_a_network(rt: HostRuntime) -> Result<(), Fail> {
     let alloc = rt.alloc();
     let words = ["vcnet", "check"];
@@ -59,6 +90,14 @@ fn bad_status(alloc: Global, words: &[&str]) -> Option<u8> {
 fn reads_the_words(rt: HostRuntime) {
     let alloc = rt.alloc();
     assert!(rt; command(alloc, &["vcnet", "check"]).ok() == Some(Line::Check));
+    let usual = Line::Step { limit: 1_000_000 };
+    assert!(rt; command(alloc, &["vcnet", "step"]).ok() == Some(usual));
+    let none = Line::Step { limit: 0 };
+    assert!(rt; command(alloc, &["vcnet", "step", "--limit", "0"]).ok() == Some(none));
+    let most = Line::Step {
+        limit: 1_000_000_000,
+    };
+    assert!(rt; command(alloc, &["vcnet", "step", "--limit", "1000000000"]).ok() == Some(most));
 }
 
 #[test]
@@ -66,5 +105,7 @@ fn refuses_a_bad_line(rt: HostRuntime) {
     let alloc = rt.alloc();
     assert!(rt; bad_status(alloc, &["vcnet"]) == Some(5));
     assert!(rt; bad_status(alloc, &["vcnet", "walk"]) == Some(5));
+    assert!(rt; bad_status(alloc, &["vcnet", "step", "--limit", "x"]) == Some(5));
+    assert!(rt; bad_status(alloc, &["vcnet", "step", "--limit", "1000000001"]) == Some(5));
     assert!(rt; bad_status(alloc, &["vcnet", "--help"]) == Some(0));
 }

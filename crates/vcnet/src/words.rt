@@ -1,11 +1,12 @@
 //! From the words of the command line to the program's status.
 ghost use Rattle.std.specs.Prelude.{◌≡◌, ◌≤◌};
-ghost use Rattle.vcnet.specs.Status.{status_of_fault};
+ghost use Rattle.vcnet.specs.Status.{status_of_fault, status_of_end};
 
 use crate::command::{Line, LineFault, command};
 use std::alloc::Global;
 use std::io::{Read, Write};
-use vc_text::{RunFault, run_check, write_fault, write_text};
+use vc_core::Close;
+use vc_text::{RunFault, run_check, run_step, write_fault, write_text};
 
 /// The status for a network that is accepted, or whose processes have all ended.
 const DONE: u8 = 0;
@@ -18,6 +19,18 @@ fn status_of(fault: &RunFault) -> u8
         RunFault::Text(_) | RunFault::Plan(_) => 2,
         RunFault::Memory => 4,
         RunFault::Read | RunFault::Write => 6,
+    }
+}
+
+/// The status of a run that ended so.
+fn status_of_close(close: Close) -> u8
+    ensures { result ≡ status_of_end close }
+{
+    match close {
+        Close::Done => DONE,
+        Close::Quiet => 1,
+        Close::Limit | Close::GateClosed | Close::ClockFull => 3,
+        Close::Failed(_) => 4,
     }
 }
 
@@ -53,6 +66,10 @@ pub fn run_words<R: Read, W: Write>(
     match command(alloc, words) {
         Ok(Line::Check) => match run_check(alloc, reader, writer) {
             Ok(()) => DONE,
+            Err(fault) => told(alloc, &fault, writer),
+        },
+        Ok(Line::Step { limit }) => match run_step(alloc, reader, writer, limit) {
+            Ok(report) => status_of_close(report.close),
             Err(fault) => told(alloc, &fault, writer),
         },
         Err(fault) => told_of_line(alloc, &fault, writer),

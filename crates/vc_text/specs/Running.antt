@@ -1,0 +1,24 @@
+-- What a run answers and writes.
+use Rattle.std.specs.Prelude.{◌≡◌, ℕ, ◌≤◌, List, length, Option, Result, Ok, Err, ⊤}
+use Rattle.std.specs.Io.KnownBytes.{Appends}
+use Rattle.vc_core.specs.declared.close.Close.{Close}
+use Rattle.vc_plan.specs.declared.plan.Plan.{Plan as Network}
+use Rattle.vc_text.specs.declared.fault.RunFault.{RunFault}
+use Rattle.vc_text.specs.declared.fault.RunFault.TheVariants.{Read, Write, Text, Plan, Memory}
+use Rattle.vc_text.specs.declared.run.StepReport.{StepReport}
+use Rattle.vc_text.specs.Streams.{AppendsFront, Writes}
+use Rattle.vc_text.specs.Checking.{ReadsAccepted}
+use Rattle.vc_text.specs.Traffic.{ChannelTraffic, traffic}
+
+-- what was written is the traffic of some channels with this close
+abbrev pub WritesTraffic : Close → Option (List ℕ) → Option (List ℕ) → Result ⊤ RunFault → Type 0
+WritesTraffic close old new result = (channels : List ChannelTraffic) × Writes old new (traffic channels close) result
+
+-- the reader's network was run for at most so many events and its traffic written, or a front of that before a fault of the writer;
+-- else nothing was written
+abbrev pub Steps : Option (List ℕ) → Option (List ℕ) → Option (List ℕ) → ℕ → Result StepReport RunFault → Type 0
+Steps known old new limit (Ok report) =
+    (plan : Network) × ReadsAccepted known (Ok plan) × (length report.events ≤ limit) × ((channels : List ChannelTraffic) × Appends old new (traffic channels report.close))
+Steps known old new limit (Err Write) =
+    (plan : Network) × ReadsAccepted known (Ok plan) × ((channels : List ChannelTraffic) × ((close : Close) × AppendsFront old new (traffic channels close)))
+Steps known old new limit (Err fault) = ReadsAccepted known (Err fault) × (new ≡ old)
