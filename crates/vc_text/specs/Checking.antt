@@ -6,7 +6,7 @@ use Rattle.vc_plan.specs.Accepted.{IsAccepted}
 use Rattle.vc_plan.specs.Check.{IsCause}
 use Rattle.vc_reader.specs.NetworkText.{Reads}
 use Rattle.vc_text.specs.declared.fault.RunFault.{RunFault}
-use Rattle.vc_text.specs.declared.fault.RunFault.TheVariants.{Read, Write, Text, Plan, Memory}
+use Rattle.vc_text.specs.declared.fault.RunFault.TheVariants.{Write, Text, Plan}
 use Rattle.vc_text.specs.Streams.{AppendsFront}
 use Rattle.vc_text.specs.Traffic.{newline}
 

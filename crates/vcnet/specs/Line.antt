@@ -1,5 +1,5 @@
 -- What a command line may ask for.
-use Rattle.std.specs.Prelude.{ℕ, ◌≤◌, ⊤}
+use Rattle.std.specs.Prelude.{◌≤◌, ⊤}
 use Rattle.vcnet.specs.declared.command.Line.{Line}
 use Rattle.vcnet.specs.declared.command.Line.TheVariants.{Check, Step}
 
