@@ -45,8 +45,9 @@ impl Node {
         match *made {
             Move::Offer { chan, .. } => self.vcp.may_offer(chan),
             Move::Want { chan, .. } => self.vcp.may_want(chan),
+            Move::Stopch { chan, .. } => self.vcp.may_stop(chan),
             Move::Quiet { .. } => true,
-            Move::Choose { .. } | Move::Stopch { .. } | Move::Inner { .. } => false,
+            Move::Choose { .. } | Move::Inner { .. } => false,
         }
     }
 
@@ -62,7 +63,8 @@ impl Node {
                 self.process.act(made, Answer::Nothing)?;
                 Ok(true)
             }
-            Move::Choose { .. } | Move::Stopch { .. } | Move::Inner { .. } => Ok(false),
+            Move::Stopch { chan, .. } => self.stopch(made, chan),
+            Move::Choose { .. } | Move::Inner { .. } => Ok(false),
         }
     }
 
@@ -95,6 +97,19 @@ impl Node {
             Want::Complete(message) => Answer::Got(message),
         };
         self.process.act(made, answer)?;
+        Ok(true)
+    }
+
+    // A channel is stopped.
+    fn stopch(&mut self, made: &Move, chan: u16) -> Result<bool, Memory>
+        requires listed { Contains (moves self.old.process) made.now }
+        requires stops { (site : ℕ) × (made.now ≡ Move.Stopch site chan) }
+    {
+        if !self.vcp.may_stop(chan) {
+            return Ok(false);
+        }
+        self.process.act(made, Answer::Nothing)?;
+        self.vcp.stopch(chan);
         Ok(true)
     }
 }
