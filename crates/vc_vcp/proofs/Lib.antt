@@ -6,3 +6,4 @@ pub mod Showing
 pub mod Opened
 pub mod Wired
 pub mod Stepping
+pub mod Stopping

@@ -80,3 +80,11 @@ own-output os is i x y w here stays = record {
   out_blocks = differ-set (λ x. x.block) os i x y here stays.block w.out_blocks;
   in_blocks = w.in_blocks;
 }
+
+pub own-input : (os : List Output) (is : List Input) (i : ℕ) (x y : Input) → HaveOwnNames os is → slice_get is i ≡ Some x → StaysInput x y → HaveOwnNames os (slice_set is i y)
+own-input os is i x y w here stays = record {
+  out_chans = w.out_chans;
+  in_chans = differ-set (λ x. x.chan) is i x y here stays.chan w.in_chans;
+  out_blocks = w.out_blocks;
+  in_blocks = differ-set (λ x. x.block) is i x y here stays.block w.in_blocks;
+}

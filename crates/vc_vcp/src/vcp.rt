@@ -7,7 +7,7 @@ ghost use Rattle.vc_vcp.specs.State.{IsIdle, IsUnwanted, IsOpen, MayPut, MayGran
 ghost use Rattle.vc_vcp.specs.Seen.{ends_of, seen, IsKept};
 ghost use Rattle.vc_vcp.specs.Links.{new_vcp, Comes, Sends, SendsFct};
 ghost use Rattle.vc_vcp.specs.Keyed.{NamesDiffer};
-ghost use Rattle.vc_vcp.specs.Steps.{Offers};
+ghost use Rattle.vc_vcp.specs.Steps.{Offers, Stops};
 ghost use Rattle.vc_vcp.specs.Opening.{ends_given, AreDistinct};
 ghost use Rattle.vc_packets.specs.Counting.{one_more};
 ghost use Rattle.vc_tokens.specs.Spelt.{token};
@@ -138,6 +138,9 @@ impl Vcp {
     /// A channel is stopped: nothing more is taken on it.
     pub fn stopch(&mut self, chan: u16)
         requires { IsUnwanted self.old chan }
+        ensures stops { HaveOwnNames self.old.outputs self.old.inputs → Stops (ends_of self.old) (seen self.old).carrier chan (seen self.new).carrier }
+        ensures links { (seen self.new).link ≡ (seen self.old).link }
+        ensures kept { HaveOwnNames self.old.outputs self.old.inputs → IsKept self.old self.new }
     {
         match input_on(&self.inputs, chan) {
             Some(at) => self.inputs[at].half.stop(),
