@@ -7,3 +7,4 @@ pub mod Opened
 pub mod Wired
 pub mod Stepping
 pub mod Stopping
+pub mod Inputting

@@ -25,9 +25,10 @@ stops s i c x y w here is idle after =
 
 pub kept-stop : (s : State) (i : ℕ) (x y : Input) → HaveOwnNames s.outputs s.inputs → slice_get s.inputs i ≡ Some x → StaysInput x y → IsKept s (record s { inputs = slice_set s.inputs i y })
 kept-stop s i x y w here stays = record {
-  ends = (λ t. record (ends_of s) { input = by_name-kept (λ x. x.chan) (λ x. Some (in_end x)) None s.inputs i x y w.in_chans here stays.chan
-      (λ j. Some (record { link = stays.link j; block = stays.block j; route = stays.route j })) t });
+  ends = (λ t. record (ends_of s) {
+    input = by_name-kept (λ x. x.chan) (λ x. Some (in_end x)) None s.inputs i x y w.in_chans here stays.chan
+        (λ j. Some (record { link = stays.link j; block = stays.block j; route = stays.route j })) t;
+  });
   names = λ h. own-input s.outputs s.inputs i x y h here stays;
   limit = refl;
 }
-

@@ -1,11 +1,15 @@
 -- What a node's processor is, in the words of its steps: its ends, its carrier and its links.
-use Rattle.std.specs.Prelude.{◌≡◌, ℕ, ◌-◌, false, List, [], ◌∷◌, length, slice_get, Some, None}
+use Rattle.std.specs.Prelude.{Option, ◌≡◌, ℕ, ◌-◌, false, List, [], ◌∷◌, length, slice_get, Some, None}
 use Rattle.vc_credit.specs.Ends.{new_sender, new_receiver}
 use Rattle.vc_vcp.specs.declared.output.Output.{Output}
 use Rattle.vc_vcp.specs.declared.input.Input.{Input}
 use Rattle.vc_vcp.specs.Carrier.{End, Ends, OutHalf, InHalf, Carrier}
 use Rattle.vc_vcp.specs.Keyed.{by_name, shown_or}
 use Rattle.vc_vcp.specs.Links.{Link, Vcp}
+use Rattle.vc_packets.specs.declared.packet.Packet.{Packet}
+use Rattle.vc_blocks.specs.declared.in_half.Want.{Want}
+use Rattle.vc_blocks.specs.declared.in_half.Want.TheVariants as want
+use Rattle.vc_vcp.specs.Steps.{IsOpen, Wants}
 use Rattle.vc_vcp.specs.State.{State, HaveOwnNames, limit_of}
 
 -- the end by which a channel goes out, and that by which it comes in
@@ -61,3 +65,22 @@ pub record IsKept (old new : State) : Type 0 where
   pub ends : ends_of new ≡ ends_of old
   pub names : HaveOwnNames old.outputs old.inputs → HaveOwnNames new.outputs new.inputs
   pub limit : limit_of new.ins ≡ limit_of old.ins
+
+-- the message that an input found whole
+abbrev pub answered : Want → Option (List ℕ)
+answered (want.Complete m) = Some m
+answered want.Stored = None
+answered want.Waits = None
+
+-- what an input finds, by the held piece and the message that it completes
+abbrev pub found_by : Option Packet → Option (List ℕ) → Want
+found_by None m = want.Waits
+found_by (Some p) None = want.Stored
+found_by (Some p) (Some m) = want.Complete m
+
+-- an input takes the held piece, or waits, and is told so
+pub record Inputs (ends : Ends) (old : Carrier) (c : ℕ) (w : Want) (new : Carrier) : Type 0 where
+  pub end : End
+  pub may : IsOpen ends old c end
+  pub wants : Wants old c end (answered w) new
+  pub found : w ≡ found_by (old.into c).held (answered w)

@@ -4,7 +4,7 @@ use Rattle.std.specs.List.{AllByRecursion}
 use Rattle.vc_packets.specs.declared.packet.Packet.{Packet}
 use Rattle.vc_packets.specs.Headers.{spelled}
 use Rattle.vc_tokens.specs.Tokens.{Fct}
-use Rattle.vc_blocks.specs.Halves.{load_of}
+use Rattle.vc_blocks.specs.Halves.{IsPiece, load_of}
 use Rattle.vc_vcp.specs.declared.output.Output.{Output}
 use Rattle.vc_vcp.specs.declared.input.Input.{Input}
 use Rattle.vc_vcp.specs.LinkOut.{Sending}
@@ -19,10 +19,14 @@ pub record State : Type 0 where
   pub ins : List Receiving  -- by link
   pub strays : ℕ
 
--- a packet begins with this block's header
-abbrev pub BeginsWith : ℕ → Option Packet → Type 0
-BeginsWith block None = Unit {0}
-BeginsWith block (Some p) = p.body ≡ spelled (block ∷ []) ++ load_of p
+-- a packet is a piece for this block
+pub record IsPieceOf (block : ℕ) (p : Packet) : Type 0 where
+  pub body : p.body ≡ spelled (block ∷ []) ++ load_of p
+  pub piece : IsPiece p
+
+abbrev pub HoldsFor : ℕ → Option Packet → Type 0
+HoldsFor block None = Unit {0}
+HoldsFor block (Some p) = IsPieceOf block p
 
 -- An output sends by one of the four links, and what is under way was offered.
 pub record IsOutput (x : Output) : Type 0 where
@@ -32,7 +36,7 @@ pub record IsOutput (x : Output) : Type 0 where
 -- An input sends by one of the four links, holds what came to its block, and holds nothing where a process inputs.
 pub record IsInput (x : Input) : Type 0 where
   pub link : x.link < 4
-  pub held : BeginsWith x.block x.half.held
+  pub held : HoldsFor x.block x.half.held
   pub empty : x.half.wants ≡ true → x.half.held ≡ None
 
 -- An FCT never waits in a buffer, and each link has the same limit.

@@ -4,7 +4,7 @@ ghost use Rattle.vc_blocks.specs.Halves.{IsPiece};
 ghost use Rattle.vc_blocks.specs.Arriving.{after_arrival, arrival_of, after_want, want_of};
 ghost use Rattle.std.specs.Option.{option_to_list};
 ghost use Rattle.vc_packets.specs.Spellings.{ack_packet};
-ghost use Rattle.vc_vcp.specs.State.{IsInput, BeginsWith};
+ghost use Rattle.vc_vcp.specs.State.{IsInput, IsPieceOf};
 ghost use Rattle.vc_vcp.specs.LinkOut.{Unqueues};
 ghost use Rattle.vc_vcp.specs.Queued.{StaysInput, completed, queued, logged, acknowledged, logged_by, acknowledged_by};
 
@@ -37,7 +37,7 @@ impl Input {
         requires piece { IsPiece packet.now }
         ensures sender { queue.new.sender ≡ queue.old.sender }
         ensures stays { StaysInput self.old self.new }
-        ensures is { IsInput self.old → BeginsWith self.old.block (Some packet.now) → IsInput self.new }
+        ensures is { IsInput self.old → IsPieceOf self.old.block packet.now → IsInput self.new }
         ensures arrival { IfOk result (λ a. a ≡ arrival_of self.old.half packet.now self.old.half.wants) }
         ensures input { IfOk result (λ a. self.new ≡ record self.old { half = after_arrival self.old.half packet.now self.old.half.wants; taken = logged self.old.taken a }) }
         ensures queue { IfOk result (λ a. queue.new ≡ acknowledged queue.old self.old.route a) }

@@ -3,8 +3,8 @@ ghost use Rattle.std.specs.Prelude.{◌≡◌, ◌<◌, ◌↔◌, [], false, So
 ghost use Rattle.vc_vcp.specs.Keyed.{by_name};
 ghost use Rattle.std.specs.List.{AllByRecursion};
 ghost use Rattle.vc_blocks.specs.Halves.{IsPiece};
-ghost use Rattle.vc_vcp.specs.State.{IsIdle, IsUnwanted, IsOpen, MayPut, MayGrant, BeginsWith, HaveOwnNames, limit_of};
-ghost use Rattle.vc_vcp.specs.Seen.{ends_of, seen, IsKept};
+ghost use Rattle.vc_vcp.specs.State.{IsIdle, IsUnwanted, IsOpen, MayPut, MayGrant, IsPieceOf, HaveOwnNames, limit_of};
+ghost use Rattle.vc_vcp.specs.Seen.{ends_of, seen, Inputs, IsKept};
 ghost use Rattle.vc_vcp.specs.Links.{new_vcp, Comes, Sends, SendsFct};
 ghost use Rattle.vc_vcp.specs.Keyed.{NamesDiffer};
 ghost use Rattle.vc_vcp.specs.Steps.{Offers, Stops};
@@ -93,6 +93,9 @@ impl Vcp {
     /// A process inputs on a channel: it takes the held piece, whose acknowledge is queued, or waits.
     pub fn want(&mut self, chan: u16) -> Result<Want, Memory>
         requires { IsOpen self.old chan }
+        ensures inputs { HaveOwnNames self.old.outputs self.old.inputs → IfOk result (λ w. Inputs (ends_of self.old) (seen self.old).carrier chan w (seen self.new).carrier) }
+        ensures links { (seen self.new).link ≡ (seen self.old).link }
+        ensures kept { HaveOwnNames self.old.outputs self.old.inputs → IsKept self.old self.new }
         ensures err { OnErr result (self.new ≡ self.old) }
     {
         match input_on(&self.inputs, chan) {
@@ -345,7 +348,7 @@ impl Vcp {
     // A piece comes to a block.
     fn arrive(&mut self, block: u16, packet: &Packet) -> Result<Taken, Memory>
         requires piece { IsPiece packet.now }
-        requires begins { BeginsWith block (Some packet.now) }
+        requires begins { IsPieceOf block packet.now }
         ensures err { OnErr result (self.new ≡ self.old) }
     {
         match input_of(&self.inputs, block) {

@@ -1,7 +1,7 @@
 use Rattle.std.proofs.Common.{◌≡◌, ◌<◌, Some, refl, sym, ◌∙◌, subst, length, slice_get, slice_set}
 use Rattle.std.proofs.lemmas.Option.{slice_get_read}
 use Rattle.vc_vcp.specs.Keyed.{named}
-use Rattle.vc_vcp.specs.State.{State, IsInput, BeginsWith}
+use Rattle.vc_vcp.specs.State.{State, IsInput, IsPieceOf}
 use Rattle.vc_vcp.proofs.KeyedLemmas.{named_has}
 use Rattle.vc_vcp.proofs.Wired.{wired-input, wired-outs, all-at}
 use Rattle.vc_vcp.proofs.vcp.Vcp.arrive.Goals as goal
@@ -17,4 +17,4 @@ invariant_of-self-then-may_arrive c =
     let block : a.block ≡ c.args.block = named_has (λ x. x.block) c.args.block x.inputs.items a (sym found ∙ here) in
     wired-outs (record o { inputs = slice_set x.inputs.items i c.arrive.new.self }) c.from-link.result c.arrive.new.queue
     (wired-input o i a c.arrive.new.self c.self.invariant here c.arrive.ensures.stays
-    (c.arrive.ensures.is (all-at IsInput x.inputs.items i a c.self.invariant.inputs here) (subst (λ z. BeginsWith z (Some c.args.packet.now)) (sym block) c.requires.begins)))
+    (c.arrive.ensures.is (all-at IsInput x.inputs.items i a c.self.invariant.inputs here) (subst (λ z. IsPieceOf z c.args.packet.now) (sym block) c.requires.begins)))
