@@ -21,6 +21,3 @@ pub use close::Close;
 pub use network::{Network, replay};
 pub use refused::{ReplayRefused, StepRefused};
 pub use turn::Turn;
-
-#[cfg(test)]
-mod tests;
