@@ -17,6 +17,3 @@ fn main(rt: HostRuntime) -> std::io::Result<ExitCode> {
     let status = run_words(alloc, words.as_slice(), &mut rt.stdin(), &mut rt.stdout());
     Ok(ExitCode::from(status))
 }
-
-#[cfg(test)]
-mod tests;
