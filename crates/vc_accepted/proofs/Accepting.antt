@@ -48,7 +48,7 @@ end_side : (x : Vlink) (a : Bool) → network.end_of (link_of x) a ≡ end_of (p
 end_side x true = refl
 end_side x false = refl
 
-end_is : (p : Plan) (v : ℕ) (x : Vlink) (a : Bool) → slice_get p.vlinks v ≡ Some x → network.end_of (virtual_link (network_of p) v) a ≡ end_of (plan.end_of x a)
+pub end_is : (p : Plan) (v : ℕ) (x : Vlink) (a : Bool) → slice_get p.vlinks v ≡ Some x → network.end_of (virtual_link (network_of p) v) a ≡ end_of (plan.end_of x a)
 end_is p v x a e = ap (λ z. network.end_of z a) (made_at link_of p.vlinks v _ x e) ∙ end_side x a
 
 sends : (p : Plan) → plan.IsAccepted p → (v : ℕ) (a : Bool) → v < length (network_of p).links →
@@ -106,7 +106,7 @@ on_way p c v ab e = by_channel (slice_get p.channels c) refl (sym (made home_in 
 below : (m n : ℕ) → nat_lt m n ≡ true → m < n
 below m n h = grind (arith, nat_tests)
 
-on_link : (p : Plan) → plan.IsAccepted p → (c v : ℕ) (ab : Bool) → network.home (network_of p) c ≡ network.Way v ab → v < length (network_of p).links
+pub on_link : (p : Plan) → plan.IsAccepted p → (c v : ℕ) (ab : Bool) → network.home (network_of p) c ≡ network.Way v ab → v < length (network_of p).links
 on_link p acc c v ab e =
     let w = on_way p c v ab e in
     let h : home_there p (home.Way v ab) ≡ true = subst (λ z. home_there p z ≡ true) w.is (home_fits p acc c w.channel w.there) in

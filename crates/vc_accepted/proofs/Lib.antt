@@ -5,3 +5,6 @@ pub mod Looking
 pub mod Delivering
 pub mod Limited
 pub mod Accepting
+pub mod Channelled
+pub mod Placed
+pub mod Giving

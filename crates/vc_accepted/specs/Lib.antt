@@ -1,1 +1,2 @@
 pub mod NetworkOf
+pub mod Given
