@@ -2,5 +2,10 @@ pub mod Alone
 pub mod Frame
 pub mod Held
 pub mod Law
+pub mod Lists
+pub mod Made
+pub mod Preorder
 pub mod Rests
+pub mod Sites
 pub mod Stores
+pub mod Waits

@@ -2,6 +2,7 @@ pub mod ChannelUses
 pub mod First
 pub mod Frames
 pub mod Lawful
+pub mod Laws
 pub mod Limits
 pub mod Messages
 pub mod Numbering
@@ -9,6 +10,7 @@ pub mod Opening
 pub mod ProcessLimits
 pub mod Remains
 pub mod Runnings
+pub mod Sites
 pub mod States
 pub mod Syntax
 pub mod Terms

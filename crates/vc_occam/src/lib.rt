@@ -10,6 +10,9 @@
 //! trace of what remains, are a trace of what remained before (`specs/States`). A message of another length than 8 on a channel of
 //! whole numbers is worth the number of its first eight bytes, missing ones being 0 (`specs/Messages`).
 //!
+//! Laws of the definitions, for every word of the language, stand in `laws.rt`: what a step makes, followed by any trace of what
+//! remains, is a trace of what remained before; each listed move can be made; what waits after whatever a process does.
+//!
 //! Today a process without parts runs (`Process::runs_today`): SKIP, STOP, an assignment, an output, an input or the stop of a
 //! channel. The invariant of a [`Running`] is that the variables that its process changes are there.
 #![tactic(auto)]
@@ -23,6 +26,7 @@ mod deed;
 mod evaluation;
 mod expression;
 mod kind;
+mod laws;
 mod limits;
 mod moves;
 mod openings;
@@ -44,6 +48,7 @@ pub use bytes_expression::BytesExpr;
 pub use channel_use::ChannelUse;
 pub use condition::Cond;
 pub use expression::Expr;
+pub use laws::{listed_moves_can_be_made, sites_are_own, steps_are_traces, waiting_after};
 pub use moves::Move;
 pub use operator::Op;
 pub use process::{Branch, Guard, Process};

@@ -1,0 +1,26 @@
+//! Laws of running processes. A law is a function that does nothing, whose contract is the law.
+ghost use Rattle.vc_occam.specs.Laws.{SitesAreOwnAtFirst, StepsKeepSites, DoingKeepsSites, ListedMovesCanBeMade, WaitingAfter};
+ghost use Rattle.vc_occam.specs.Remains.{StepsAreTraces};
+
+/// What a step of one site makes, followed by any trace of what remains, is a trace of what remained before.
+pub fn steps_are_traces()
+    ensures { StepsAreTraces }
+{}
+
+/// Parts side by side have no site in common: at first, and after whatever the process does.
+pub fn sites_are_own()
+    ensures at_first { SitesAreOwnAtFirst }
+    ensures steps { StepsKeepSites }
+    ensures doing { DoingKeepsSites }
+{}
+
+/// Each move that is listed can be made, whatever answer it gets that fits it, where parts side by side have no site in
+/// common.
+pub fn listed_moves_can_be_made()
+    ensures { ListedMovesCanBeMade }
+{}
+
+/// What waits after whatever the process does.
+pub fn waiting_after()
+    ensures { WaitingAfter }
+{}
