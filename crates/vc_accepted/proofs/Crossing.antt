@@ -108,21 +108,19 @@ pub record Goes (p : Plan) (w : ℕ) (a b : Port) : Type 0 where
   pub leaves : near (network_of p) w ≡ to.port_of a
   pub comes : far (network_of p) w ≡ to.port_of b
 
-pub joined_way : (p : Plan) (a b : Port) → Joins p.wires a b → (w : ℕ) × Goes p w a b
+pub joined_way : (p : Plan) (a b : Port) (j : Joins p.wires a b) → Goes p (way_of j.at j.from) a b
 joined_way p a b j =
     let h = halved j.at j.from in
     let is = wire_is p j.at j.wire j.is in
     let less = within wire_of p.wires j.at j.wire j.is in
-    let N = network_of p in (
-      way_of j.at j.from,
-      record {
-        real = below j.from less;
-        leaves = ap (λ z. network.port_of (wire N z) (way_of j.at j.from % 2 == 0)) h.0 ∙ ap (λ z. network.port_of (wire N j.at) z) h.1
-            ∙ ap (λ z. network.port_of z j.from) is ∙ side_of j.wire j.from ∙ ap to.port_of j.near;
-        comes = ap (λ z. network.port_of (wire N z) (not (way_of j.at j.from % 2 == 0))) h.0 ∙ ap (λ z. network.port_of (wire N j.at) (not z)) h.1
-            ∙ ap (λ z. network.port_of z (not j.from)) is ∙ side_of j.wire (not j.from) ∙ ap to.port_of j.far;
-      },
-    )
+    let N = network_of p in
+    record {
+      real = below j.from less;
+      leaves = ap (λ z. network.port_of (wire N z) (way_of j.at j.from % 2 == 0)) h.0 ∙ ap (λ z. network.port_of (wire N j.at) z) h.1
+          ∙ ap (λ z. network.port_of z j.from) is ∙ side_of j.wire j.from ∙ ap to.port_of j.near;
+      comes = ap (λ z. network.port_of (wire N z) (not (way_of j.at j.from % 2 == 0))) h.0 ∙ ap (λ z. network.port_of (wire N j.at) (not z)) h.1
+          ∙ ap (λ z. network.port_of z (not j.from)) is ∙ side_of j.wire (not j.from) ∙ ap to.port_of j.far;
+    }
   where
     below : (b : Bool) → j.at < length (map wire_of p.wires) → way_of j.at b < 2 * length (map wire_of p.wires)
     below true h = omega arith
@@ -146,7 +144,7 @@ way_joins p a b w g = settle (there wire_of p.wires (w / 2) (let r = g.real in o
 
 -- a port with a port across has a way to it
 pub way_across : (p : Plan) (a b : Port) → across p.wires a ≡ Some b → (w : ℕ) × Goes p w a b
-way_across p a b e = joined_way p a b (across_joins p.wires a b e)
+way_across p a b e = let j = across_joins p.wires a b e in (way_of j.at j.from, joined_way p a b j)
 
 -- the port across from that by which a way leaves is the one by which it comes in
 pub across_way : (p : Plan) → OnePort p.wires → (w : ℕ) (a b : Port) → Goes p w a b → across p.wires a ≡ Some b

@@ -8,3 +8,4 @@ pub mod Accepting
 pub mod Channelled
 pub mod Placed
 pub mod Giving
+pub mod Wired

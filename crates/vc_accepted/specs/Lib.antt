@@ -1,2 +1,3 @@
 pub mod NetworkOf
 pub mod Given
+pub mod Outgoing

@@ -2,7 +2,7 @@
 //! Definitions and laws.
 #![tactic(auto)]
 
-ghost use Rattle.std.specs.Prelude.{◌≡◌, ℕ, ◌<◌};
+ghost use Rattle.std.specs.Prelude.{◌≡◌, ◌↔◌, ℕ, ◌<◌, ◌≤◌, Some};
 ghost use Rattle.std.specs.List.{AllByRecursion};
 ghost use Rattle.vc_plan.specs.declared.plan.Plan.{Plan};
 ghost use Rattle.vc_plan.specs.Accepted as plan;
@@ -10,6 +10,7 @@ ghost use Rattle.vc_network.specs.Plan as network;
 ghost use Rattle.vc_vcp.specs.Opening.{ends_given, AreDistinct};
 ghost use Rattle.vc_accepted.specs.NetworkOf.{network_of};
 ghost use Rattle.vc_accepted.specs.Given.{ends_of_node};
+ghost use Rattle.vc_accepted.specs.Outgoing.{link_port, outgoing, incoming};
 
 /// The network of an accepted plan is accepted: what the laws say of accepted networks holds of it.
 #[tactic(auto, using(crate::proofs::Accepting::accepted))]
@@ -24,4 +25,12 @@ pub fn nodes_are_given_their_ends()
     ensures ends { (p : Plan) (n : ℕ) → plan.IsAccepted p → ends_given (ends_of_node p n) ≡ network.ends (network_of p) n }
     ensures distinct { (p : Plan) (n : ℕ) → plan.IsAccepted p → AreDistinct (ends_of_node p n) }
     ensures links { (p : Plan) (n : ℕ) → plan.IsAccepted p → AllByRecursion (λ e. e.link < 4) (ends_of_node p n) }
+{}
+
+/// The way that is found by an actor's link is the one way that goes out there, and its wire's other way is the one that comes in.
+#[tactic(auto, using(crate::proofs::Wired::ways_few))]
+pub fn ways_are_found_by_their_links()
+    ensures out { (p : Plan) → plan.IsAccepted p → (actor link w : ℕ) → (outgoing p actor link ≡ Some w) ↔ network.IsOutOf (network_of p) w (link_port p actor link) }
+    ensures into { (p : Plan) → plan.IsAccepted p → (actor link w : ℕ) → (incoming p actor link ≡ Some w) ↔ network.IsInto (network_of p) w (link_port p actor link) }
+    ensures few { (p : Plan) → plan.IsAccepted p → network.ways (network_of p) ≤ 512 }
 {}
