@@ -19,7 +19,7 @@ is_bool : (a : Bool) → same_bool a a ≡ true
 is_bool true = refl
 is_bool false = refl
 
-on_is : (v : ℕ) (f : Bool) (h : Home) → is_on v f h ≡ true → h ≡ Way v f
+pub on_is : (v : ℕ) (f : Bool) (h : Home) → is_on v f h ≡ true → h ≡ Way v f
 on_is v f (Way u g) e =
     let r = both (u == v) (same_bool g f) e in
     let a = eqb-true u v r.0 in

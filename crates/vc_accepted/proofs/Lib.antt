@@ -9,3 +9,4 @@ pub mod Channelled
 pub mod Placed
 pub mod Giving
 pub mod Wired
+pub mod Filling

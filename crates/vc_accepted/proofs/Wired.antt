@@ -36,7 +36,7 @@ spot_is_link p actor link (Switch k) l h a b =
     let c : k ≡ actor - length p.nodes = omega arith in
     (λ i. AtSwitch (c i) (b i)) ∙ sym (ap (λ z. if z then AtNode actor link else AtSwitch (actor - length p.nodes) link) t)
 
-link_is_at : (p : Plan) (actor link : ℕ) (port : Port) → spot_there p port.spot ≡ true → is_link (length p.nodes) actor link port ≡ true → to.port_of port ≡ link_port p actor link
+pub link_is_at : (p : Plan) (actor link : ℕ) (port : Port) → spot_there p port.spot ≡ true → is_link (length p.nodes) actor link port ≡ true → to.port_of port ≡ link_port p actor link
 link_is_at p actor link port h e =
     let r = both (actor_of (length p.nodes) port.spot == actor) (port.link == link) e in
     spot_is_link p actor link port.spot port.link h (eqb-true (actor_of (length p.nodes) port.spot) actor r.0) (eqb-true port.link link r.1)
@@ -64,7 +64,7 @@ at_is_link p actor link s l e = by_test (nat_lt actor (length p.nodes)) refl s e
     by_test false t (Node n) e = absurd (cc)
 
 -- both ends of a wire are there
-wired : (p : Plan) → plan.IsAccepted p → (i : ℕ) (w : Wire) (a : Bool) → slice_get p.wires i ≡ Some w → spot_there p (plan.port_of w a).spot ≡ true
+pub wired : (p : Plan) → plan.IsAccepted p → (i : ℕ) (w : Wire) (a : Bool) → slice_get p.wires i ≡ Some w → spot_there p (plan.port_of w a).spot ≡ true
 wired p acc i w a e = by_side a
   where
     ok : (spot_there p w.one.spot ≡ true) × (spot_there p w.two.spot ≡ true)
