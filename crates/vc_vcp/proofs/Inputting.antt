@@ -1,26 +1,24 @@
 -- What a change of one input is to a node's steps.
-use Rattle.std.proofs.Common.{◌≡◌, ℕ, suc, ◌<◌, Bool, true, false, List, [], ◌∷◌, ◌++◌, refl, sym, ap, ◌∙◌, subst, slice_get, slice_set, length, Option, Some, None, Result, Ok, Err, IfOk}
+use Rattle.std.proofs.Common.{◌≡◌, ℕ, Bool, true, false, List, [], ◌∷◌, ◌++◌, refl, sym, ap, ◌∙◌, subst, slice_get, Option, Some, None, Result, Ok, Err, IfOk}
 use Rattle.vc_packets.specs.Functions.{put}
 use Rattle.vc_packets.specs.declared.packet.Packet.{Packet}
 use Rattle.vc_packets.specs.Spellings.{ack_packet}
-use Rattle.vc_blocks.specs.Halves.{Incoming, IsPiece, load_of, ends_message, with_stored}
-use Rattle.vc_blocks.specs.Arriving.{after_want, want_of, want_by, after_arrival, arrival_of, arrival_by}
-use Rattle.vc_blocks.specs.declared.in_half.Arrival.{Arrival}
+use Rattle.vc_blocks.specs.Halves.{load_of, ends_message, with_stored}
+use Rattle.vc_blocks.specs.Arriving.{after_want, want_of, want_by}
 use Rattle.vc_blocks.specs.declared.in_half.Want.{Want}
 use Rattle.vc_vcp.specs.declared.input.Input.{Input}
-use Rattle.vc_vcp.specs.Carrier.{Carrier, End, InHalf, set_in, enqueue}
-use Rattle.vc_vcp.specs.Keyed.{NamesDiffer}
+use Rattle.vc_vcp.specs.Carrier.{InHalf, set_in, enqueue}
 use Rattle.vc_vcp.specs.LinkOut.{Sending}
-use Rattle.vc_vcp.specs.Queued.{StaysInput, queued, logged, logged_by, acknowledged, acknowledged_by}
-use Rattle.vc_vcp.specs.Seen.{seen, ends_of, IsKept, carrier_of, in_half, no_input, in_end, Inputs, answered, found_by}
+use Rattle.vc_vcp.specs.Queued.{StaysInput, queued, logged_by, acknowledged_by}
+use Rattle.vc_vcp.specs.Seen.{seen, ends_of, IsKept, carrier_of, in_half, in_end, Inputs, answered, found_by}
 use Rattle.vc_vcp.specs.State.{State, HaveOwnNames, IsPieceOf, HoldsFor}
-use Rattle.vc_vcp.specs.Steps.{store, accept, message, IsPieceFor, IsOpen, Wants, Fetches, fetches, waits, Stops, IsTaken, stores, holds, Taken, taken_by}
-use Rattle.vc_vcp.proofs.KeyedLemmas.{by_name-set, by_name-kept}
+use Rattle.vc_vcp.specs.Steps.{store, accept, message, IsPieceFor, IsOpen, fetches, waits}
+use Rattle.vc_vcp.proofs.KeyedLemmas.{by_name-kept}
 use Rattle.vc_vcp.proofs.Wired.{own-input}
 use Rattle.vc_vcp.proofs.Placed.{put_back}
 use Rattle.vc_vcp.proofs.Stepping.{with_input, seen-input, in_at, end_in, queue_at}
 
-abbrev log : List (List ℕ) → List ℕ → Bool → List (List ℕ)
+abbrev pub log : List (List ℕ) → List ℕ → Bool → List (List ℕ)
 log ms m true = ms ++ m ∷ []
 log ms m false = ms
 
@@ -29,7 +27,7 @@ stored_half x load true = refl
 stored_half x load false = refl
 
 -- a piece is stored, and its acknowledge queued
-stored_is : (s : State) (i k : ℕ) (x y : Input) (o q : Sending) (load : List ℕ) (last : Bool) → HaveOwnNames s.outputs s.inputs → slice_get s.inputs i ≡ Some x → k ≡ x.link → slice_get s.outs k ≡ Some o →
+pub stored_is : (s : State) (i k : ℕ) (x y : Input) (o q : Sending) (load : List ℕ) (last : Bool) → HaveOwnNames s.outputs s.inputs → slice_get s.inputs i ≡ Some x → k ≡ x.link → slice_get s.outs k ≡ Some o →
     y ≡ record x { half = with_stored x.half load last; taken = log x.taken (x.half.stored ++ load) last } → q ≡ queued o (ack_packet x.route) →
     (seen (with_input s i y k q)).carrier ≡ accept (carrier_of s) x.chan (in_end x) load last
 stored_is s i k x y o q load last w here along out after queue =
@@ -42,7 +40,7 @@ stored_is s i k x y o q load last w here along out after queue =
     ∙ (λ t. enqueue (set_in (carrier_of s) x.chan (store ((carrier_of s).into x.chan) load last)) (along t) (ack_packet x.route))
 
 -- one half is another, and the queue as it was
-half_is : (s : State) (i k : ℕ) (x y : Input) (o q : Sending) (h : InHalf) → HaveOwnNames s.outputs s.inputs → slice_get s.inputs i ≡ Some x → slice_get s.outs k ≡ Some o → y.chan ≡ x.chan → in_half y ≡ h → q ≡ o →
+pub half_is : (s : State) (i k : ℕ) (x y : Input) (o q : Sending) (h : InHalf) → HaveOwnNames s.outputs s.inputs → slice_get s.inputs i ≡ Some x → slice_get s.outs k ≡ Some o → y.chan ≡ x.chan → in_half y ≡ h → q ≡ o →
     (seen (with_input s i y k q)).carrier ≡ set_in (carrier_of s) x.chan h
 half_is s i k x y o q h w here out stays half queue =
     ap (λ z. z.carrier) (seen-input s i k x y o q w here stays out (ap (λ z. z.sender) queue))
@@ -51,7 +49,7 @@ half_is s i k x y o q h w here out stays half queue =
       into = put (carrier_of s).into x.chan (half t);
     })
 
-message_is : (s : State) (i : ℕ) (x : Input) (load : List ℕ) (last : Bool) → HaveOwnNames s.outputs s.inputs → slice_get s.inputs i ≡ Some x → message (in_half x) load last ≡ message ((carrier_of s).into x.chan) load last
+pub message_is : (s : State) (i : ℕ) (x : Input) (load : List ℕ) (last : Bool) → HaveOwnNames s.outputs s.inputs → slice_get s.inputs i ≡ Some x → message (in_half x) load last ≡ message ((carrier_of s).into x.chan) load last
 message_is s i x load last w here = ap (λ z. message z load last) (sym (in_at s i x w here))
 
 open_is : (s : State) (i : ℕ) (x : Input) → HaveOwnNames s.outputs s.inputs → slice_get s.inputs i ≡ Some x → x.half.wants ≡ false → x.half.stopped ≡ false → IsOpen (ends_of s) (carrier_of s) x.chan (in_end x)
@@ -61,7 +59,7 @@ open_is s i x w here idle going = record {
   not_stopped = ap (λ z. z.stopped) (in_at s i x w here) ∙ going;
 }
 
-for_end : (x : Input) (p : Packet) → IsPieceOf x.block p → IsPieceFor (in_end x) p (load_of p) (ends_message p.mark)
+pub for_end : (x : Input) (p : Packet) → IsPieceOf x.block p → IsPieceFor (in_end x) p (load_of p) (ends_message p.mark)
 for_end x p is = record { body = is.body; kind = is.piece.kind }
 
 -- by what the piece is to its message

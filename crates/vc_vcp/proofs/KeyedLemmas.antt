@@ -14,7 +14,7 @@ tail_differs name x xs h i j y z a b e = let k = h (suc i) (suc j) y z a b e in 
 head_differs : {X : Type 0} (name : X → ℕ) (x : X) (xs : List X) → NamesDiffer name (x ∷ xs) → (i : ℕ) (y : X) → slice_get xs i ≡ Some y → name x ≡ name y → ⊥
 head_differs name x xs h i y a e = let k = h zero (suc i) x y refl a e in absurd (omega arith)
 
-named_by : {X : Type 0} (name : X → ℕ) (x : X) (xs : List X) (k : ℕ) (b : Bool) → (name x == k) ≡ b → named name k (x ∷ xs) ≡ (if b then Some x else named name k xs)
+pub named_by : {X : Type 0} (name : X → ℕ) (x : X) (xs : List X) (k : ℕ) (b : Bool) → (name x == k) ≡ b → named name k (x ∷ xs) ≡ (if b then Some x else named name k xs)
 named_by name x xs k b e = ap (λ t. if t then Some x else named name k xs) e
 
 pub named_at : {X : Type 0} (name : X → ℕ) (xs : List X) (i : ℕ) (x : X) → NamesDiffer name xs → slice_get xs i ≡ Some x → named name (name x) xs ≡ Some x

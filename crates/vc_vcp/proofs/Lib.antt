@@ -8,3 +8,6 @@ pub mod Wired
 pub mod Stepping
 pub mod Stopping
 pub mod Inputting
+pub mod Straying
+pub mod Taking
+pub mod Passing

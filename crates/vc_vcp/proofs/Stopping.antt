@@ -1,7 +1,7 @@
 -- A channel is stopped.
-use Rattle.std.proofs.Common.{◌≡◌, ℕ, Bool, true, false, List, refl, sym, ap, ◌∙◌, subst, slice_get, slice_set, Option, Some, None}
+use Rattle.std.proofs.Common.{◌≡◌, ℕ, true, false, refl, sym, ap, ◌∙◌, subst, slice_get, slice_set, Some, None}
 use Rattle.vc_vcp.specs.declared.input.Input.{Input}
-use Rattle.vc_vcp.specs.Carrier.{Carrier, set_in}
+use Rattle.vc_vcp.specs.Carrier.{set_in}
 use Rattle.vc_vcp.specs.Queued.{StaysInput}
 use Rattle.vc_vcp.specs.Seen.{seen, ends_of, IsKept, carrier_of, in_half, no_input, in_end}
 use Rattle.vc_vcp.specs.State.{State, HaveOwnNames}

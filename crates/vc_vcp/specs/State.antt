@@ -3,6 +3,8 @@ use Rattle.std.specs.Prelude.{◌≡◌, ◌≢◌, ℕ, ◌<◌, List, length, 
 use Rattle.std.specs.List.{AllByRecursion}
 use Rattle.vc_packets.specs.declared.packet.Packet.{Packet}
 use Rattle.vc_packets.specs.Headers.{spelled}
+use Rattle.vc_packets.specs.Kind.{kind}
+use Rattle.vc_packets.specs.declared.kind.Kind.TheVariants.{Ack}
 use Rattle.vc_tokens.specs.Tokens.{Fct}
 use Rattle.vc_blocks.specs.Halves.{IsPiece, load_of}
 use Rattle.vc_vcp.specs.declared.output.Output.{Output}
@@ -23,6 +25,11 @@ pub record State : Type 0 where
 pub record IsPieceOf (block : ℕ) (p : Packet) : Type 0 where
   pub body : p.body ≡ spelled (block ∷ []) ++ load_of p
   pub piece : IsPiece p
+
+-- a packet is an acknowledge for this block
+pub record IsAckOf (block : ℕ) (p : Packet) : Type 0 where
+  pub body : p.body ≡ spelled (block ∷ [])
+  pub kind : kind [] p.mark ≡ Ack
 
 abbrev pub HoldsFor : ℕ → Option Packet → Type 0
 HoldsFor block None = Unit {0}

@@ -23,7 +23,9 @@ impl Model for LinkIn {
 
 impl LinkIn {
     ghost use Rattle.std.specs.Prelude.{◌≡◌, ◌<◌, [], ◌∷◌, ◌++◌, length, ◌↔◌, IsTrue, IfOk, MatchOption};
+    ghost use Rattle.vc_packets.specs.declared.mark.Mark.{Mark};
     ghost use Rattle.vc_tokens.specs.Spelt.{token};
+    ghost use Rattle.vc_tokens.specs.Tokens.{Byte, EndMark};
     ghost use Rattle.vc_credit.specs.Ends.{new_receiver, received, HasRoom, Grants, IsFront, Passes};
     ghost use Rattle.std.specs.Bool.{OnTrue, OnFalse};
 
@@ -110,5 +112,26 @@ impl LinkIn {
         ensures { self.new ≡ record self.old { passed = [] } }
     {
         self.packet.clear();
+    }
+
+    /// The byte at the front passes: it joins the packet, or is dropped where the packet has as many as it may.
+    pub fn pass_byte(&mut self, byte: u8) -> bool
+        requires { IsFront self.old.receiver (Byte byte) }
+        ensures front { Passes self.old.receiver (Byte byte) self.new.receiver }
+        ensures room { IsTrue result ↔ (length self.old.passed < self.old.limit) }
+        ensures added { OnTrue result (self.new ≡ record self.old { receiver = self.new.receiver; passed = self.old.passed ++ byte ∷ [] }) }
+        ensures dropped { OnFalse result (self.new ≡ record self.old { receiver = self.new.receiver }) }
+    {
+        let _byte = self.pop();
+        self.push(byte)
+    }
+
+    /// The mark at the front passes, and the next packet begins.
+    pub fn pass_mark(&mut self)
+        ensures front { (mark : Mark) → IsFront self.old.receiver (EndMark mark) → Passes self.old.receiver (EndMark mark) self.new.receiver }
+        ensures after { self.new ≡ record self.old { receiver = self.new.receiver; passed = [] } }
+    {
+        let _mark = self.pop();
+        self.clear();
     }
 }

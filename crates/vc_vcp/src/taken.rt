@@ -1,5 +1,9 @@
 //! What became of a packet that reached a node.
+ghost use Rattle.std.specs.Prelude.{◌≡◌};
+ghost use Rattle.vc_vcp.specs.Seen.{taken_of, advance_told, arrival_told};
+
 use sqlite_items::Items;
+use vc_blocks::{Advance, Arrival};
 
 /// What became of a packet that reached a node, with its channel.
 #[derive(Debug, Drop)]
@@ -33,4 +37,25 @@ pub enum Taken {
     },
     /// No half may take it: it was dropped and counted.
     Stray,
+}
+
+/// What an acknowledge came to, on a channel.
+pub(crate) fn of_advance(chan: u16, advance: Advance) -> Taken
+    ensures { taken_of result ≡ advance_told chan advance }
+{
+    match advance {
+        Advance::More => Taken::More { chan },
+        Advance::Finished => Taken::Finished { chan },
+    }
+}
+
+/// What became of a piece, on a channel.
+pub(crate) fn of_arrival(chan: u16, arrival: Arrival) -> Taken
+    ensures { taken_of result ≡ arrival_told chan arrival }
+{
+    match arrival {
+        Arrival::Held => Taken::Held { chan },
+        Arrival::Stored => Taken::Stored { chan },
+        Arrival::Complete(message) => Taken::Complete { chan, message },
+    }
 }

@@ -1,17 +1,18 @@
 //! The virtual channel processor of a node.
-ghost use Rattle.std.specs.Prelude.{◌≡◌, ◌<◌, ◌↔◌, [], false, Some, IsTrue, IfOk, OnOk, OnErr};
+ghost use Rattle.std.specs.Prelude.{◌≡◌, ◌≢◌, ◌<◌, None, Ok, ◌↔◌, [], false, Some, IsTrue, IfOk, OnOk, OnErr};
 ghost use Rattle.vc_vcp.specs.Keyed.{by_name};
 ghost use Rattle.std.specs.List.{AllByRecursion};
 ghost use Rattle.vc_blocks.specs.Halves.{IsPiece};
 ghost use Rattle.vc_vcp.specs.State.{IsIdle, IsUnwanted, IsOpen, MayPut, MayGrant, IsPieceOf, HaveOwnNames, limit_of};
-ghost use Rattle.vc_vcp.specs.Seen.{ends_of, seen, Inputs, IsKept};
-ghost use Rattle.vc_vcp.specs.Links.{new_vcp, Comes, Sends, SendsFct};
+ghost use Rattle.vc_vcp.specs.Seen.{ends_of, seen, Inputs, IsKept, taken_of, passed_of, Acks};
+ghost use Rattle.vc_vcp.specs.Links.{new_vcp, Comes, Passes, Sends, SendsFct};
+ghost use Rattle.vc_credit.specs.Ends.{IsFront};
 ghost use Rattle.vc_vcp.specs.Keyed.{NamesDiffer};
-ghost use Rattle.vc_vcp.specs.Steps.{Offers, Stops};
+ghost use Rattle.vc_vcp.specs.Steps.{Offers, Stops, Arrives, Stray};
 ghost use Rattle.vc_vcp.specs.Opening.{ends_given, AreDistinct};
 ghost use Rattle.vc_packets.specs.Counting.{one_more};
 ghost use Rattle.vc_tokens.specs.Spelt.{token};
-ghost use Rattle.vc_tokens.specs.Tokens.{Fct};
+ghost use Rattle.vc_tokens.specs.Tokens.{Byte, Fct, EndMark};
 ghost use Rattle.vc_credit.specs.Laws.{NeedsPlace};
 
 use crate::end::End;
@@ -21,11 +22,11 @@ use crate::link_out::LinkOut;
 use crate::opening;
 use crate::output::Output;
 use crate::places::{input_of, input_on, output_of, output_on};
-use crate::taken::Taken;
+use crate::taken::{self, Taken};
 use sqlite_items::Items;
 use std::alloc::Global;
 use std::marker::Model;
-use vc_blocks::{Advance, Arrival, Want};
+use vc_blocks::Want;
 use vc_packets::{Kind, Mark, Memory, Packet, front_header, kind_of};
 use vc_tokens::Token;
 
@@ -282,40 +283,59 @@ impl Vcp {
     }
 
     /// A token passes from a link's buffer: a byte joins the packet that is arriving, or is dropped and counted past the limit, and
-    /// with its mark the packet reaches its half.
+    /// with its mark the packet reaches its half. Where no token waits, nothing changes.
     pub fn pass(&mut self, link: u8) -> Result<Option<Taken>, Memory>
         requires { link < 4 }
+        ensures passes { HaveOwnNames self.old.outputs self.old.inputs → ((seen self.old).link link).receiver.buffer ≢ [] → IfOk result (λ t. Passes (limit_of self.old.ins) (ends_of self.old) (seen self.old) link (passed_of t) (seen self.new)) }
+        ensures quiet { ((seen self.old).link link).receiver.buffer ≡ [] → (result ≡ Ok None) × (self.new ≡ self.old) }
+        ensures kept { HaveOwnNames self.old.outputs self.old.inputs → IsKept self.old self.new }
         ensures err { OnErr result (self.new ≡ self.old) }
     {
-        let at = usize::from(link);
-        match self.ins[at].front() {
+        match self.ins[usize::from(link)].front() {
             Some(Token::Byte(byte)) => {
-                let _byte = self.ins[at].pop();
-                if !self.ins[at].push(byte) {
-                    self.drop_one();
-                }
+                self.pass_byte(link, byte);
                 Ok(None)
             }
-            Some(Token::Eop) => self.pass_mark(at, Mark::Eop),
-            Some(Token::Eom) => self.pass_mark(at, Mark::Eom),
-            Some(Token::Fct) | None => Ok(None),
+            Some(Token::Eop) => self.pass_mark(link, Mark::Eop),
+            Some(Token::Eom) => self.pass_mark(link, Mark::Eom),
+            Some(Token::Fct) => unreachable!(),
+            None => Ok(None),
         }
     }
 
-    // The mark of the packet that is arriving passes.
-    fn pass_mark(&mut self, at: usize, mark: Mark) -> Result<Option<Taken>, Memory>
-        requires { at < 4 }
+    // The byte at the front of a link's buffer passes.
+    fn pass_byte(&mut self, link: u8, byte: u8)
+        requires link { link < 4 }
+        requires front { IsFront ((seen self.old).link link).receiver (Byte byte) }
+        ensures passes { Passes (limit_of self.old.ins) (ends_of self.old) (seen self.old) link None (seen self.new) }
+        ensures kept { IsKept self.old self.new }
+    {
+        let at = usize::from(link);
+        if !self.ins[at].pass_byte(byte) {
+            self.drop_one();
+        }
+    }
+
+    // The mark at the front of a link's buffer passes.
+    fn pass_mark(&mut self, link: u8, mark: Mark) -> Result<Option<Taken>, Memory>
+        requires link { link < 4 }
+        requires front { IsFront ((seen self.old).link link).receiver (EndMark mark) }
+        ensures passes { HaveOwnNames self.old.outputs self.old.inputs → IfOk result (λ t. Passes (limit_of self.old.ins) (ends_of self.old) (seen self.old) link (passed_of t) (seen self.new)) }
+        ensures kept { HaveOwnNames self.old.outputs self.old.inputs → IsKept self.old self.new }
         ensures err { OnErr result (self.new ≡ self.old) }
     {
+        let at = usize::from(link);
         let packet = self.ins[at].packet(self.alloc, mark)?;
         let taken = self.take(&packet)?;
-        let _mark = self.ins[at].pop();
-        self.ins[at].clear();
+        self.ins[at].pass_mark();
         Ok(Some(taken))
     }
 
     /// A packet reaches the half that its block and its kind name. What no half may take is dropped and counted.
     pub fn take(&mut self, packet: &Packet) -> Result<Taken, Memory>
+        ensures arrives { HaveOwnNames self.old.outputs self.old.inputs → IfOk result (λ t. Arrives (ends_of self.old) (seen self.old).carrier packet.now (taken_of t) (seen self.new).carrier) }
+        ensures links { (seen self.new).link ≡ (seen self.old).link }
+        ensures kept { HaveOwnNames self.old.outputs self.old.inputs → IsKept self.old self.new }
         ensures err { OnErr result (self.new ≡ self.old) }
     {
         let Some(block) = front_header(packet) else {
@@ -330,43 +350,49 @@ impl Vcp {
 
     // An acknowledge comes to a block.
     fn acked(&mut self, block: u16) -> Result<Taken, Memory>
+        ensures arrives { HaveOwnNames self.old.outputs self.old.inputs → IfOk result (λ t. Acks self.old block (taken_of t) self.new) }
+        ensures links { (seen self.new).link ≡ (seen self.old).link }
+        ensures kept { HaveOwnNames self.old.outputs self.old.inputs → IsKept self.old self.new }
         ensures err { OnErr result (self.new ≡ self.old) }
     {
-        match output_of(&self.outputs, block) {
-            Some(at) if !self.outputs[at].half.is_idle() => {
-                let link = usize::from(self.outputs[at].link);
-                let chan = self.outputs[at].chan;
-                match self.outputs[at].acked(&mut self.outs[link], self.alloc)? {
-                    Advance::More => Ok(Taken::More { chan }),
-                    Advance::Finished => Ok(Taken::Finished { chan }),
-                }
-            }
-            _ => Ok(self.stray()),
+        let Some(at) = output_of(&self.outputs, block) else {
+            return Ok(self.stray());
+        };
+        if self.outputs[at].half.is_idle() {
+            return Ok(self.stray());
         }
+        let link = usize::from(self.outputs[at].link);
+        let chan = self.outputs[at].chan;
+        let advance = self.outputs[at].acked(&mut self.outs[link], self.alloc)?;
+        Ok(taken::of_advance(chan, advance))
     }
 
     // A piece comes to a block.
     fn arrive(&mut self, block: u16, packet: &Packet) -> Result<Taken, Memory>
         requires piece { IsPiece packet.now }
         requires begins { IsPieceOf block packet.now }
+        ensures arrives { HaveOwnNames self.old.outputs self.old.inputs → IfOk result (λ t. Arrives (ends_of self.old) (seen self.old).carrier packet.now (taken_of t) (seen self.new).carrier) }
+        ensures links { (seen self.new).link ≡ (seen self.old).link }
+        ensures kept { HaveOwnNames self.old.outputs self.old.inputs → IsKept self.old self.new }
         ensures err { OnErr result (self.new ≡ self.old) }
     {
-        match input_of(&self.inputs, block) {
-            Some(at) if self.inputs[at].half.may_arrive() => {
-                let link = usize::from(self.inputs[at].link);
-                let chan = self.inputs[at].chan;
-                match self.inputs[at].arrive(&mut self.outs[link], self.alloc, packet)? {
-                    Arrival::Held => Ok(Taken::Held { chan }),
-                    Arrival::Stored => Ok(Taken::Stored { chan }),
-                    Arrival::Complete(message) => Ok(Taken::Complete { chan, message }),
-                }
-            }
-            _ => Ok(self.stray()),
+        let Some(at) = input_of(&self.inputs, block) else {
+            return Ok(self.stray());
+        };
+        if !self.inputs[at].half.may_arrive() {
+            return Ok(self.stray());
         }
+        let link = usize::from(self.inputs[at].link);
+        let chan = self.inputs[at].chan;
+        let arrival = self.inputs[at].arrive(&mut self.outs[link], self.alloc, packet)?;
+        Ok(taken::of_arrival(chan, arrival))
     }
 
     // No half may take a packet.
-    fn stray(&mut self) -> Taken {
+    fn stray(&mut self) -> Taken
+        ensures stray { taken_of result ≡ Stray }
+        ensures counted { self.new ≡ record self.old { strays = one_more self.old.strays } }
+    {
         self.drop_one();
         Taken::Stray
     }

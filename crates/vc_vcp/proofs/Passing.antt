@@ -1,0 +1,94 @@
+-- What a token that passes is to a node's steps.
+use Rattle.std.proofs.Common.{◌≡◌, ◌≢◌, ℕ, zero, suc, ◌<◌, ◌≤◌, List, [], ◌∷◌, ◌++◌, length, refl, sym, ap, ◌∙◌, subst, arith, slice_get, slice_set, Some, None}
+use Rattle.std.proofs.lemmas.Option.{slice_get_within}
+use Rattle.std.proofs.lemmas.List.{length-set}
+use Rattle.std.specs.List.{AllByRecursion}
+use Rattle.vc_packets.specs.Counting.{one_more}
+use Rattle.vc_packets.specs.Functions.{put}
+use Rattle.vc_packets.specs.declared.mark.Mark.{Mark}
+use Rattle.vc_packets.specs.declared.packet.Packet.{Packet}
+use Rattle.vc_tokens.specs.Tokens.{Token, Byte, Fct, EndMark}
+use Rattle.vc_credit.specs.Ends.{Receiver, IsFront, new_receiver}
+use Rattle.vc_credit.specs.Ends.{Passes as PassesOn}
+use Rattle.vc_vcp.specs.Keyed.{shown_or}
+use Rattle.vc_vcp.specs.LinkIn.{Receiving}
+use Rattle.vc_vcp.specs.Links.{Link, Vcp, set_link, passing, Passes, passes_byte, drops_byte, passes_mark}
+use Rattle.vc_vcp.specs.Seen.{seen, ends_of, carrier_of, link_of, IsKept}
+use Rattle.vc_vcp.specs.State.{State, IsWired, IsLinkIn, limit_of}
+use Rattle.vc_vcp.specs.Steps.{Taken, Arrives}
+use Rattle.vc_vcp.proofs.Showing.{seen-in}
+use Rattle.vc_vcp.proofs.Wired.{all-at, all-set}
+
+-- the link's receiving end, by its place
+pub receiver_at : (s : State) (l : ℕ) (x : Receiving) → slice_get s.ins l ≡ Some x → (link_of s l).receiver ≡ x.receiver
+receiver_at s l x here = ap (shown_or new_receiver (λ x. x.receiver)) here
+
+pub passed_at : (s : State) (l : ℕ) (x : Receiving) → slice_get s.ins l ≡ Some x → (link_of s l).passed ≡ x.passed
+passed_at s l x here = ap (shown_or [] (λ x. x.passed)) here
+
+-- a receiver of which the front has passed
+popped : (a : Receiver) (r n : Receiver) (k : Token) → a ≡ r → PassesOn r k n → n ≡ record a { buffer = n.buffer }
+popped a r n k same h = λ t. record { buffer = n.buffer; promised = (h.promised ∙ sym (ap (λ z. z.promised) same)) t }
+
+passing_is : (a : Link) (r : Receiver) (y : Receiving) (k : Token) (passed : List ℕ) → a.receiver ≡ r → PassesOn r k y.receiver → y.passed ≡ passed → record a { receiver = y.receiver; passed = y.passed } ≡ passing a y.receiver.buffer passed
+passing_is a r y k passed same h is = λ t. record a { receiver = popped a.receiver r y.receiver k same h t; passed = is t }
+
+-- a byte joins the packet that is arriving
+pub byte_passes : (s : State) (l b most : ℕ) (x y : Receiving) → slice_get s.ins l ≡ Some x → x.limit ≡ most → PassesOn x.receiver (Byte b) y.receiver → length x.passed < x.limit → y ≡ record x { receiver = y.receiver; passed = x.passed ++ b ∷ [] } →
+    Passes most (ends_of s) (seen s) l None (seen (record s { ins = slice_set s.ins l y }))
+byte_passes s l b most x y here limit h room after =
+    let r = receiver_at s l x here in
+    let p = passed_at s l x here in
+    passes_byte b y.receiver.buffer (ap (λ z. z.buffer) r ∙ h.front) refl (subst (λ z. length z < most) (sym p) (subst (λ z. length x.passed < z) limit room))
+    (seen-in s l y (slice_get_within s.ins l x here) ∙ ap (set_link (seen s) l) (passing_is (link_of s l) x.receiver y (Byte b) ((link_of s l).passed ++ b ∷ []) r h (ap (λ z. z.passed) after ∙ ap (λ z. z ++ b ∷ []) (sym p))))
+
+-- a byte past the limit is dropped
+pub byte_drops : (s : State) (l b most : ℕ) (x y : Receiving) → slice_get s.ins l ≡ Some x → x.limit ≡ most → PassesOn x.receiver (Byte b) y.receiver → (length x.passed < x.limit → ⊥) → y ≡ record x { receiver = y.receiver } →
+    Passes most (ends_of s) (seen s) l None (seen (record s { ins = slice_set s.ins l y; strays = one_more s.strays }))
+byte_drops s l b most x y here limit h full after =
+    let r = receiver_at s l x here in
+    let p = passed_at s l x here in
+    let least : x.limit ≤ length x.passed = omega (arith, full) in
+    drops_byte b y.receiver.buffer (ap (λ z. z.buffer) r ∙ h.front) refl (subst (λ z. most ≤ length z) (sym p) (subst (λ z. z ≤ length x.passed) limit least))
+    (ap (λ (z : Vcp). record z { carrier = record (carrier_of s) { strays = one_more s.strays } })
+    (seen-in s l y (slice_get_within s.ins l x here) ∙ ap (set_link (seen s) l) (passing_is (link_of s l) x.receiver y (Byte b) (link_of s l).passed r h (ap (λ z. z.passed) after ∙ sym p))))
+
+-- with its mark the packet arrives
+pub mark_passes : (s n : State) (l most : ℕ) (x z y : Receiving) (m : Mark) (p : Packet) (t : Taken) → slice_get s.ins l ≡ Some x → p ≡ record { body = x.passed; mark = m } → Arrives (ends_of s) (carrier_of s) p t (carrier_of n) →
+    link_of n ≡ link_of s → slice_get n.ins l ≡ Some z → PassesOn z.receiver (EndMark m) y.receiver → y ≡ record z { receiver = y.receiver; passed = [] } →
+    Passes most (ends_of s) (seen s) l (Some t) (seen (record n { ins = slice_set n.ins l y }))
+mark_passes s n l most x z y m p t here packet arrives links there h after =
+    let r : (link_of s l).receiver ≡ z.receiver = sym (ap (λ k. (k l).receiver) links) ∙ receiver_at n l z there in
+    let body : p ≡ record { body = (link_of s l).passed; mark = m } = packet ∙ (λ j. record { body = sym (passed_at s l x here) j; mark = m }) in
+    passes_mark m y.receiver.buffer t (carrier_of n) (ap (λ z. z.buffer) r ∙ h.front) refl (subst (λ q. Arrives (ends_of s) (carrier_of s) q t (carrier_of n)) body arrives)
+    (seen-in n l y (slice_get_within n.ins l z there)
+    ∙ (λ j. record { carrier = carrier_of n; link = put (links j) l (record (links j l) { receiver = y.receiver; passed = y.passed }) })
+    ∙ (λ j. record { carrier = carrier_of n; link = put (link_of s) l (passing_is (link_of s l) z.receiver y (EndMark m) [] r h (ap (λ z. z.passed) after) j) }))
+
+limit_stays : (xs : List Receiving) (l : ℕ) (x y : Receiving) → slice_get xs l ≡ Some x → y.limit ≡ x.limit → limit_of (slice_set xs l y) ≡ limit_of xs
+limit_stays [] l x y here same = refl
+limit_stays (z ∷ xs) zero x y here same = let q : z ≡ x = cc in same ∙ sym (ap (λ z. z.limit) q)
+limit_stays (z ∷ xs) (suc l) x y here same = refl
+
+pub kept_in : (s : State) (l n : ℕ) (x y : Receiving) → slice_get s.ins l ≡ Some x → y.limit ≡ x.limit → IsKept s (record s { ins = slice_set s.ins l y; strays = n })
+kept_in s l n x y here same = record { ends = refl; names = λ h. h; limit = limit_stays s.ins l x y here same }
+
+pub kept_then : (a b c : State) → IsKept a b → IsKept b c → IsKept a c
+kept_then a b c h k = record { ends = k.ends ∙ h.ends; names = λ w. k.names (h.names w); limit = k.limit ∙ h.limit }
+
+-- what is wired stays so where a token passes
+pub wired_passing : (s : State) (l : ℕ) (x y : Receiving) (k : Token) → IsWired s → slice_get s.ins l ≡ Some x → PassesOn x.receiver k y.receiver → y.limit ≡ x.limit → IsWired (record s { ins = slice_set s.ins l y })
+wired_passing s l x y k w here h same =
+    let was = all-at (IsLinkIn (limit_of s.ins)) s.ins l x w.ins here in
+    let is : IsLinkIn (limit_of s.ins) y = record { no_fct = (subst (AllByRecursion (λ k. k ≢ Fct)) h.front was.no_fct).1; limit = same ∙ was.limit } in
+    record {
+      four_out = w.four_out;
+      four_in = length-set s.ins l y ∙ w.four_in;
+      outputs = w.outputs;
+      inputs = w.inputs;
+      ins = subst (λ m. AllByRecursion (IsLinkIn m) (slice_set s.ins l y)) (sym (limit_stays s.ins l x y here same)) (all-set (IsLinkIn (limit_of s.ins)) s.ins l y w.ins is);
+    }
+
+-- what passes is the front
+pub front_at : (s n : State) (l : ℕ) (z : Receiving) (k : Token) → link_of n ≡ link_of s → slice_get n.ins l ≡ Some z → IsFront (link_of s l).receiver k → IsFront z.receiver k
+front_at s n l z k links there front = subst (λ r. IsFront r k) (sym (ap (λ f. (f l).receiver) links) ∙ receiver_at n l z there) front
