@@ -11,3 +11,5 @@ pub mod Inputting
 pub mod Straying
 pub mod Taking
 pub mod Passing
+pub mod Enabling
+pub mod Arriving

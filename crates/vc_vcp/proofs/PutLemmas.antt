@@ -1,12 +1,15 @@
 -- A put of the next byte of the front packet, or of its mark.
-use Rattle.std.proofs.Common.{◌≡◌, ◌≢◌, ℕ, zero, suc, ◌+◌, ◌-◌, ◌<◌, ◌≤◌, List, [], ◌∷◌, ◌++◌, length, take, drop, refl, sym, ap, ◌∙◌, subst, arith, get_or, slice_get, Some, None}
+use Rattle.std.proofs.Common.{◌≡◌, ◌≢◌, ℕ, zero, suc, ◌+◌, ◌-◌, ◌<◌, ◌≤◌, List, [], ◌∷◌, ◌++◌, length, take, drop, refl, sym, ap, ◌∙◌, subst, arith, get_or, slice_get, ◌==◌, Bool, true, false, IsTrue, ◌↔◌, Option, Some, None}
+use Rattle.std.specs.Bool.{OnTrue}
+use Rattle.std.proofs.lemmas.Bool.{ne_eqb}
+use mathlib.Core.Bool.{not}
 use Rattle.std.proofs.Math.Seq.{take-suc, drop-cons}
 use Rattle.std.proofs.lemmas.List.{take-append-drop}
 use Rattle.std.proofs.lemmas.Option.{slice_get_within, get_or_from_slice_get}
 use Rattle.vc_packets.specs.declared.packet.Packet.{Packet}
 use Rattle.vc_tokens.specs.Tokens.{Token, Byte, EndMark}
 use Rattle.vc_credit.specs.Ends.{puts_byte, puts_mark}
-use Rattle.vc_vcp.specs.LinkOut.{Sending, sent_of, queue_after, IsWithinFront, PutsFront}
+use Rattle.vc_vcp.specs.LinkOut.{Sending, sent_of, queue_after, IsWithinFront, PutsFront, CanPutFront}
 
 -- the bytes before the n-th, that byte, and those behind it
 split_at : (body : List ℕ) (n b : ℕ) → slice_get body n ≡ Some b → body ≡ take n body ++ b ∷ drop (suc n) body
@@ -74,3 +77,23 @@ mark_at s q r n c d p k shows some has is e within less rest mark =
     subst (λ z. PutsFront z k (sending r 0 d)) (sym shows)
     (subst (λ z. PutsFront (sending q n c) k (record { queue = r; sender = record { sent = z; credit = d } })) (sym (none_sent r))
     (mark_put q r n c d p k (λ h. some (ap (λ z. z.queue) shows ∙ h)) (subst (λ z. 0 < z.sender.credit) shows has) is e within less rest mark))
+
+-- some token can be put where a packet waits under credit
+put_by : (p : Packet) (q : List Packet) (n c : ℕ) (o : Option ℕ) → 0 < c → n ≤ length p.body → slice_get p.body n ≡ o → CanPutFront (sending (p ∷ q) n c)
+put_by p q n c (Some b) has within e = (Byte b, sending (p ∷ q) (n + 1) (c - 1), byte_put (p ∷ q) n c (c - 1) b p (λ none. absurd (cc)) has refl e refl)
+put_by p q n c None has within e =
+    let new : Sending = record { queue = q; sender = record { sent = []; credit = c - 1 } } in
+    (EndMark p.mark, new, mark_put (p ∷ q) q n c (c - 1) p (EndMark p.mark) (λ none. absurd (cc)) has refl e within refl refl refl)
+
+can_put_front : (q : List Packet) (n c : ℕ) → q ≢ [] → 0 < c → IsWithinFront q n → CanPutFront (sending q n c)
+can_put_front [] n c some has within = absurd (some refl)
+can_put_front (p ∷ q) n c some has within = put_by p q n c (slice_get p.body n) has within refl
+
+pub can_put_where : (s : Sending) (q : List Packet) (n c : ℕ) (b : Bool) → s ≡ sending q n c → 0 < c → IsWithinFront q n → (IsTrue b ↔ (q ≡ [])) → OnTrue (not b) (CanPutFront s)
+can_put_where s q n c true shows has within empty = tt
+can_put_where s q n c false shows has within empty = subst CanPutFront (sym shows) (can_put_front q n c (λ none. (let f : false ≡ true = empty.1 none in absurd (cc))) has within)
+
+pub empty_iff : {X : Type 0} (b : Bool) (xs : List X) → b ≡ (length xs == 0) → IsTrue b ↔ (xs ≡ [])
+empty_iff b [] e = (λ t. refl, λ none. e)
+empty_iff b (x ∷ xs) e =
+    (λ t. (let f = ne_eqb (length (x ∷ xs)) 0 (λ z. absurd (omega arith)) in absurd (cc)), λ none. absurd (cc))

@@ -132,10 +132,10 @@ no_ack_idle s p block own body idle c end now later here is busy =
     let some : f.shown.half.unacked ≡ now ∷ later = sym (ap (λ o. (shown_or no_output out_half o).unacked) f.is) ∙ busy in
     absurd (cc)
 
-pub no_room_full : (s : State) (p : Packet) (block : ℕ) → HaveOwnNames s.outputs s.inputs → IsPieceOf block p → IsFullAt s block → NoRoom s p
-no_room_full s p block own piece full c end load last here is empty =
+pub no_room_full : (s : State) (p : Packet) (block : ℕ) → HaveOwnNames s.outputs s.inputs → p.body ≡ spelled (block ∷ []) ++ load_of p → IsFullAt s block → NoRoom s p
+no_room_full s p block own body full c end load last here is empty =
     let f = shown_some in_end (named (λ x. x.chan) c s.inputs) end here in
-    let same : f.shown.block ≡ block = ap (λ z. z.block) f.shows ∙ same_block p.body load (load_of p) end.block block is.body piece.body in
+    let same : f.shown.block ≡ block = ap (λ z. z.block) f.shows ∙ same_block p.body load (load_of p) end.block block is.body body in
     let found = subst (λ b. named (λ x. x.block) b s.inputs ≡ Some f.shown) same (by_other (λ x. x.chan) (λ x. x.block) c s.inputs f.shown own.in_blocks f.is) in
     full f.shown found (sym (ap (λ o. (shown_or no_input in_half o).held) f.is) ∙ empty)
 
@@ -164,7 +164,7 @@ ack_strays s new block t own idle is after p ack =
 pub piece_strays : (s new : State) (p : Packet) (block : ℕ) (t : Taken) → HaveOwnNames s.outputs s.inputs → AllByRecursion IsInput s.inputs → IsPieceOf block p → IsFullAt s block → t ≡ Stray → new ≡ record s { strays = one_more s.strays } →
     Arrives (ends_of s) (carrier_of s) p t (carrier_of new)
 piece_strays s new p block t own w piece full is after =
-    stray_is s new p t (none_has_room s p w (no_ack_piece s p (ends_message p.mark) piece.piece.kind) (no_room_full s p block own piece full)) is after
+    stray_is s new p t (none_has_room s p w (no_ack_piece s p (ends_message p.mark) piece.piece.kind) (no_room_full s p block own piece.body full)) is after
 
 -- no packet that a virtual link sends
 pub malformed_strays : (s new : State) (p : Packet) (t : Taken) → kind (load_of p) p.mark ≡ Malformed → t ≡ Stray → new ≡ record s { strays = one_more s.strays } → Arrives (ends_of s) (carrier_of s) p t (carrier_of new)

@@ -1,6 +1,7 @@
 pub mod Carrier
 pub mod Steps
 pub mod Links
+pub mod Able
 pub mod LinkOut
 pub mod LinkIn
 pub mod Keyed

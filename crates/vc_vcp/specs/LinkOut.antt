@@ -32,6 +32,10 @@ pub record PutsFront (old : Sending) (k : Token) (new : Sending) : Type 0 where
   pub puts : Puts old.sender packet.body (Some packet.mark) k new.sender
   pub queue : new.queue ≡ queue_after rest packet k
 
+-- some token of the packet at the front can be put
+abbrev pub CanPutFront : Sending → Type 0
+CanPutFront old = (k : Token) × (new : Sending) × PutsFront old k new
+
 -- what was before a packet was queued, is again
 abbrev pub Unqueues : Sending → Sending → Type 0
 Unqueues old new = (before : Sending) (p : Packet) → old ≡ record before { queue = before.queue ++ p ∷ [] } → (before.queue ≡ [] → before.sender.sent ≡ []) → new ≡ before

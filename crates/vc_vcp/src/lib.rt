@@ -8,6 +8,7 @@
 
 mod end;
 mod input;
+mod laws;
 mod link_in;
 mod link_out;
 mod opening;
@@ -17,6 +18,7 @@ mod taken;
 mod vcp;
 
 pub use end::End;
+pub use laws::each_token_comes;
 pub use link_in::LinkIn;
 pub use link_out::LinkOut;
 pub use taken::Taken;

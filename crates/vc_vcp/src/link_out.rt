@@ -1,9 +1,11 @@
 //! The sending end of a node's link.
-ghost use Rattle.std.specs.Prelude.{◌≡◌, ◌≢◌, ◌<◌, ◌≤◌, ◌+◌, [], ◌∷◌, ◌++◌, ◌↔◌, IsTrue, OnOk, OnErr};
+ghost use Rattle.std.specs.Prelude.{◌≡◌, ◌≢◌, ◌<◌, ◌≤◌, ◌+◌, [], ◌∷◌, ◌++◌, ◌↔◌, IsTrue, OnOk, OnErr, slice_get};
 ghost use Rattle.vc_tokens.specs.Tokens.{EndMark};
 ghost use Rattle.vc_tokens.specs.Spelt.{token};
 ghost use Rattle.vc_credit.specs.Ends.{credited};
-ghost use Rattle.vc_vcp.specs.LinkOut.{PutsFront, Unqueues};
+ghost use Rattle.vc_vcp.specs.LinkOut.{PutsFront, CanPutFront, Unqueues};
+ghost use Rattle.std.specs.Bool.{OnTrue};
+ghost use Rattle.std.specs.Option.{option_copied};
 
 use std::alloc::Global;
 use std::collections::VecDeque;
@@ -70,9 +72,17 @@ impl LinkOut {
         self.queue.is_empty()
     }
 
+    /// The packet at the front.
+    pub fn front(&self) -> Option<&Packet>
+        ensures { option_copied result ≡ slice_get self.now.queue 0 }
+    {
+        self.queue.front()
+    }
+
     /// Whether a token may be put: there is credit, and a packet.
     pub fn may_put(&self) -> bool
-        ensures { IsTrue result ↔ ((0 < self.now.sender.credit) × (self.now.queue ≢ [])) }
+        ensures may { IsTrue result ↔ ((0 < self.now.sender.credit) × (self.now.queue ≢ [])) }
+        ensures can { OnTrue result (CanPutFront self.now) }
     {
         self.credit.may_send() && !self.queue.is_empty()
     }

@@ -2,6 +2,7 @@
 ghost use Rattle.std.specs.Prelude.{◌≡◌, ◌≢◌, [], IfOk, OnOk, OnErr};
 ghost use Rattle.vc_blocks.specs.Advancing.{later_than, advanced};
 ghost use Rattle.vc_vcp.specs.Queued.{Begins, StaysOutput, queued_next};
+ghost use Rattle.vc_vcp.specs.Seen.{finished_of};
 ghost use Rattle.vc_vcp.specs.State.{IsOutput};
 
 use crate::link_out::LinkOut;
@@ -68,7 +69,9 @@ impl Output {
     }
 
     /// How many outputs are finished: all that were offered but the one under way.
-    pub(crate) fn finished(&self) -> u64 {
+    pub(crate) fn finished(&self) -> u64
+        ensures { result ≡ finished_of self.now.half.unacked self.now.offered }
+    {
         let offered = self.offered.len() as u64;
         if self.half.is_idle() {
             offered

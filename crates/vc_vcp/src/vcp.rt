@@ -1,5 +1,5 @@
 //! The virtual channel processor of a node.
-ghost use Rattle.std.specs.Prelude.{◌≡◌, ◌≢◌, ◌<◌, None, Ok, ◌↔◌, [], false, Some, IsTrue, IfOk, OnOk, OnErr};
+ghost use Rattle.std.specs.Prelude.{◌≡◌, ◌≢◌, ◌<◌, None, Ok, ℕ, List, slice_get, ◌↔◌, [], false, Some, IsTrue, IfOk, OnOk, OnErr};
 ghost use Rattle.vc_vcp.specs.Keyed.{by_name};
 ghost use Rattle.std.specs.List.{AllByRecursion};
 ghost use Rattle.vc_blocks.specs.Halves.{IsPiece};
@@ -9,6 +9,8 @@ ghost use Rattle.vc_vcp.specs.Links.{new_vcp, Comes, Passes, Sends, SendsFct};
 ghost use Rattle.vc_credit.specs.Ends.{IsFront};
 ghost use Rattle.vc_vcp.specs.Keyed.{NamesDiffer};
 ghost use Rattle.vc_vcp.specs.Steps.{Offers, Stops, Arrives, Stray};
+ghost use Rattle.vc_vcp.specs.Able.{CanOffer, CanWant, CanFetch, CanStop, CanPut, CanGrant, CanPass, IsReady};
+ghost use Rattle.std.specs.Option.{option_copied};
 ghost use Rattle.vc_vcp.specs.Opening.{ends_given, AreDistinct};
 ghost use Rattle.vc_packets.specs.Counting.{one_more};
 ghost use Rattle.vc_tokens.specs.Spelt.{token};
@@ -110,7 +112,8 @@ impl Vcp {
 
     /// Whether a message may be offered on a channel: the node outputs on it, and nothing is under way.
     pub fn may_offer(&self, chan: u16) -> bool
-        ensures { IsTrue result ↔ IsIdle self.now chan }
+        ensures idle { IsTrue result ↔ IsIdle self.now chan }
+        ensures can { (m : List ℕ) → IsTrue result ↔ CanOffer (ends_of self.now) (seen self.now).carrier chan m }
     {
         match output_on(&self.outputs, chan) {
             Some(at) => self.outputs[at].half.is_idle(),
@@ -120,7 +123,8 @@ impl Vcp {
 
     /// Whether an input may begin on a channel: the node inputs on it, no process does yet, and it is not stopped.
     pub fn may_want(&self, chan: u16) -> bool
-        ensures { IsTrue result ↔ IsOpen self.now chan }
+        ensures open { IsTrue result ↔ IsOpen self.now chan }
+        ensures can { IsTrue result ↔ CanWant (ends_of self.now) (seen self.now).carrier chan }
     {
         match input_on(&self.inputs, chan) {
             Some(at) => {
@@ -132,7 +136,10 @@ impl Vcp {
     }
 
     /// Whether a piece is held on a channel that is not stopped.
-    pub fn ready(&self, chan: u16) -> bool {
+    pub fn ready(&self, chan: u16) -> bool
+        ensures ready { IsTrue result ↔ IsReady ((seen self.now).carrier.into chan) }
+        ensures can { IsOpen self.now chan → IsTrue result ↔ CanFetch (ends_of self.now) (seen self.now).carrier chan }
+    {
         match input_on(&self.inputs, chan) {
             Some(at) => self.inputs[at].half.ready(),
             None => false,
@@ -154,7 +161,8 @@ impl Vcp {
 
     /// Whether a channel may be stopped: the node inputs on it, and no process does now.
     pub fn may_stop(&self, chan: u16) -> bool
-        ensures { IsTrue result ↔ IsUnwanted self.now chan }
+        ensures unwanted { IsTrue result ↔ IsUnwanted self.now chan }
+        ensures can { IsTrue result ↔ CanStop (ends_of self.now) (seen self.now).carrier chan }
     {
         match input_on(&self.inputs, chan) {
             Some(at) => !self.inputs[at].half.wants(),
@@ -173,7 +181,9 @@ impl Vcp {
     }
 
     /// How many outputs on a channel are finished: all that were offered but the one under way.
-    pub fn finished(&self, chan: u16) -> u64 {
+    pub fn finished(&self, chan: u16) -> u64
+        ensures { result ≡ ((seen self.now).carrier.out chan).finished }
+    {
         match output_on(&self.outputs, chan) {
             Some(at) => self.outputs[at].finished(),
             None => 0,
@@ -203,14 +213,25 @@ impl Vcp {
     /// Whether a token may pass from a link's buffer: one waits.
     pub fn may_pass(&self, link: u8) -> bool
         requires { link < 4 }
+        ensures waits { IsTrue result ↔ (((seen self.now).link link).receiver.buffer ≢ []) }
+        ensures can { HaveOwnNames self.now.outputs self.now.inputs → IsTrue result ↔ CanPass (limit_of self.now.ins) (ends_of self.now) (seen self.now) link }
     {
         !self.ins[usize::from(link)].is_empty()
+    }
+
+    /// The packet at the front of a link's send queue.
+    pub fn next_out(&self, link: u8) -> Option<&Packet>
+        requires { link < 4 }
+        ensures { option_copied result ≡ slice_get ((seen self.now).carrier.queue link) 0 }
+    {
+        self.outs[usize::from(link)].front()
     }
 
     /// Whether a token may be put on a link: there is credit, and a packet waits.
     pub fn may_put(&self, link: u8) -> bool
         requires { link < 4 }
-        ensures { IsTrue result ↔ MayPut self.now link }
+        ensures may { IsTrue result ↔ MayPut self.now link }
+        ensures can { IsTrue result ↔ CanPut (seen self.now) link }
     {
         self.outs[usize::from(link)].may_put()
     }
@@ -227,7 +248,8 @@ impl Vcp {
     /// Whether an FCT may be put on a link: eight places of its buffer are free and not promised.
     pub fn may_grant(&self, link: u8) -> bool
         requires { link < 4 }
-        ensures { IsTrue result ↔ MayGrant self.now link }
+        ensures may { IsTrue result ↔ MayGrant self.now link }
+        ensures can { IsTrue result ↔ CanGrant (seen self.now) link }
     {
         self.ins[usize::from(link)].may_grant()
     }
@@ -398,7 +420,9 @@ impl Vcp {
     }
 
     /// How many packets and tokens were dropped.
-    pub fn strays(&self) -> u64 {
+    pub fn strays(&self) -> u64
+        ensures { result ≡ self.now.strays }
+    {
         self.strays
     }
 
