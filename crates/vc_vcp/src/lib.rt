@@ -24,3 +24,6 @@ pub use link_out::LinkOut;
 pub use taken::Taken;
 pub use vc_blocks::Want;
 pub use vcp::Vcp;
+
+#[cfg(test)]
+mod tests;
