@@ -1,4 +1,4 @@
-//! Ends of virtual links.
+//! Ends of virtual links, as a node is given them.
 use sqlite_items::Items;
 
 /// A node's end of a virtual link.

@@ -1,4 +1,7 @@
-//! Channels that a node inputs on.
+//! Channels that a node inputs on: the receiving half of a virtual link, with its log of what was taken.
+//!
+//! A stored piece is acknowledged, a held one is not. The acknowledge is queued and a whole message logged before the half
+//! changes, and both are taken back where the half finds no memory, so that the input and the queue are then as they were.
 ghost use Rattle.std.specs.Prelude.{◌≡◌, [], ◌++◌, ℕ, List, length, Some, None, false, if◌then◌else◌, IfOk, OnOk, OnErr};
 ghost use Rattle.vc_blocks.specs.Halves.{IsPiece};
 ghost use Rattle.vc_blocks.specs.Arriving.{after_arrival, arrival_of, after_want, want_of};

@@ -2,8 +2,16 @@
 //! ("Networks, Routers and Transputers", chapter 2; the virtual channel processor of the T9000).
 //!
 //! Tokens come to a link under credit and pass on to packets; a packet reaches the half of a virtual link that its block header
-//! names. Packets wait in a queue for each link and go out token by token. The layer above knows which step of a node each call
-//! is (`specs/Steps`, `specs/Links`); what comes from no accepted network is dropped and counted.
+//! names. Packets wait in a queue for each link and go out token by token. What comes from no accepted network is dropped and
+//! counted.
+//!
+//! To the layer above, each call of [`Vcp`] is exactly one step of a node: of its halves and send queues (`specs/Steps`), or of
+//! its links (`specs/Links`), between what the processor is before and after in the words of those steps (`specs/Seen`). A call
+//! that may be made only at times has a `may_` call beside it, which answers whether such a step exists (`specs/Able`). The steps
+//! of channels and packets are told for nodes on which no two ends have the same block or channel; every call keeps it so.
+//!
+//! What always holds (`specs/State`): there are four links; what is under way was offered; an input holds only what came to its
+//! block, and nothing where a process inputs; no flow control token waits in a buffer; each link has the same limit.
 #![tactic(auto)]
 
 mod end;

@@ -1,4 +1,6 @@
-//! The receiving end of a node's link.
+//! The receiving end of a node's link: tokens wait in its buffer under credit, and pass on to the packet that is arriving.
+//!
+//! An FCT that is sent promises eight places of the buffer, and only a promised place takes a token.
 use sqlite_items::Items;
 use std::alloc::Global;
 use std::marker::Model;

@@ -1,4 +1,6 @@
-//! The sending end of a node's link.
+//! The sending end of a node's link: packets wait in its queue, and the one at the front goes out token by token.
+//!
+//! Each token that is put spends one of the credit, and an FCT that comes adds eight. A packet leaves the queue with its mark.
 ghost use Rattle.std.specs.Prelude.{◌≡◌, ◌≢◌, ◌<◌, ◌≤◌, ◌+◌, [], ◌∷◌, ◌++◌, ◌↔◌, IsTrue, OnOk, OnErr, slice_get};
 ghost use Rattle.vc_tokens.specs.Tokens.{EndMark};
 ghost use Rattle.vc_tokens.specs.Spelt.{token};

@@ -1,4 +1,7 @@
-//! Channels that a node outputs on.
+//! Channels that a node outputs on: the sending half of a virtual link, with its log of what was offered.
+//!
+//! A call queues and logs first and changes the half last, so that where it finds no memory the output and the queue are as
+//! they were.
 ghost use Rattle.std.specs.Prelude.{◌≡◌, ◌≢◌, [], IfOk, OnOk, OnErr};
 ghost use Rattle.vc_blocks.specs.Advancing.{later_than, advanced};
 ghost use Rattle.vc_vcp.specs.Queued.{Begins, StaysOutput, queued_next};

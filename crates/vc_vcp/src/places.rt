@@ -1,4 +1,5 @@
-//! Where the outputs and inputs of a node stand, by their channel or their block.
+//! Where the outputs and inputs of a node stand, by their channel or their block: the first of the name, and nothing where none
+//! has it.
 ghost use Rattle.std.specs.Prelude.{◌≡◌, ◌<◌, length, slice_get, None, MatchOption, IfSome};
 ghost use Rattle.vc_vcp.specs.Keyed.{named};
 

@@ -1,4 +1,4 @@
-//! What became of a packet that reached a node.
+//! What became of a packet that reached a node, as it is told to the node's process.
 ghost use Rattle.std.specs.Prelude.{◌≡◌};
 ghost use Rattle.vc_vcp.specs.Seen.{taken_of, advance_told, arrival_told};
 

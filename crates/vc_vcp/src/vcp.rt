@@ -1,4 +1,7 @@
-//! The virtual channel processor of a node.
+//! The virtual channel processor of a node: the calls by which it is run, each a step of the node.
+//!
+//! A channel is named by its number in the network, a link by its number at the node, 0 to 3. A call that finds no memory
+//! answers `Memory`, and has changed nothing.
 ghost use Rattle.std.specs.Prelude.{◌≡◌, ◌≢◌, ◌<◌, None, Ok, ℕ, List, slice_get, ◌↔◌, [], false, Some, IsTrue, IfOk, OnOk, OnErr};
 ghost use Rattle.vc_vcp.specs.Keyed.{by_name};
 ghost use Rattle.std.specs.List.{AllByRecursion};
@@ -57,8 +60,8 @@ impl Model for Vcp {
 }
 
 impl Vcp {
-    /// A node's virtual channel processor, with nothing on its links, for packets of at most `body_limit` bytes. Its
-    /// calls are the steps of a node where each end has a block and channels of its own.
+    /// A node's virtual channel processor with these ends and nothing on its links, for packets whose headers and data have at
+    /// most `body_limit` bytes. Where each end has a block and channels of its own, so has each output and each input.
     pub fn new(alloc: Global, ends: &[End], body_limit: usize) -> Result<Vcp, Memory>
         requires { AllByRecursion (λ e. e.link < 4) ends.now }
         ensures seen { IfOk result (λ vcp. seen vcp ≡ new_vcp) }
@@ -76,7 +79,7 @@ impl Vcp {
         })
     }
 
-    /// A message is offered on a channel: its first piece is queued.
+    /// A message is offered on a channel that the node outputs on and on which nothing is under way: its first piece is queued.
     pub fn offer(&mut self, chan: u16, message: &[u8]) -> Result<(), Memory>
         requires { IsIdle self.old chan }
         ensures offers { HaveOwnNames self.old.outputs self.old.inputs → OnOk result (Offers (ends_of self.old) (seen self.old).carrier chan message.now (seen self.new).carrier) }
@@ -93,7 +96,8 @@ impl Vcp {
         }
     }
 
-    /// A process inputs on a channel: it takes the held piece, whose acknowledge is queued, or waits.
+    /// A process inputs on a channel that is not stopped and on which none does: it takes the held piece, whose acknowledge is
+    /// queued, or waits.
     pub fn want(&mut self, chan: u16) -> Result<Want, Memory>
         requires { IsOpen self.old chan }
         ensures inputs { HaveOwnNames self.old.outputs self.old.inputs → IfOk result (λ w. Inputs (ends_of self.old) (seen self.old).carrier chan w (seen self.new).carrier) }
@@ -110,7 +114,7 @@ impl Vcp {
         }
     }
 
-    /// Whether a message may be offered on a channel: the node outputs on it, and nothing is under way.
+    /// Whether a message may be offered on a channel: the node outputs on it, and nothing is under way. If so, any message may.
     pub fn may_offer(&self, chan: u16) -> bool
         ensures idle { IsTrue result ↔ IsIdle self.now chan }
         ensures can { (m : List ℕ) → IsTrue result ↔ CanOffer (ends_of self.now) (seen self.now).carrier chan m }
@@ -135,7 +139,7 @@ impl Vcp {
         }
     }
 
-    /// Whether a piece is held on a channel that is not stopped.
+    /// Whether a piece is held on a channel that is not stopped, so that an input that may begin would take it at once.
     pub fn ready(&self, chan: u16) -> bool
         ensures ready { IsTrue result ↔ IsReady ((seen self.now).carrier.into chan) }
         ensures can { IsOpen self.now chan → IsTrue result ↔ CanFetch (ends_of self.now) (seen self.now).carrier chan }
@@ -219,7 +223,7 @@ impl Vcp {
         !self.ins[usize::from(link)].is_empty()
     }
 
-    /// The packet at the front of a link's send queue.
+    /// The packet at the front of a link's send queue, if one waits.
     pub fn next_out(&self, link: u8) -> Option<&Packet>
         requires { link < 4 }
         ensures { option_copied result ≡ slice_get ((seen self.now).carrier.queue link) 0 }
@@ -236,7 +240,7 @@ impl Vcp {
         self.outs[usize::from(link)].may_put()
     }
 
-    /// Puts the next token of the packet at the front of a link's queue.
+    /// Puts the next token of the packet at the front of a link's send queue; with its mark the packet leaves the queue.
     pub fn put(&mut self, link: u8) -> Token
         requires { MayPut self.old link }
         ensures sends { Sends (seen self.old) link (token result) (seen self.new) }
@@ -353,7 +357,9 @@ impl Vcp {
         Ok(Some(taken))
     }
 
-    /// A packet reaches the half that its block and its kind name. What no half may take is dropped and counted.
+    /// A packet reaches the half that its block and its kind name: a piece is held, or stored and its acknowledge queued; an
+    /// acknowledge has the next piece queued, or finishes the output. What no half may take is dropped and counted: a packet of
+    /// no block here, a malformed one, an acknowledge for an idle half, a piece for a full one.
     pub fn take(&mut self, packet: &Packet) -> Result<Taken, Memory>
         ensures arrives { HaveOwnNames self.old.outputs self.old.inputs → IfOk result (λ t. Arrives (ends_of self.old) (seen self.old).carrier packet.now (taken_of t) (seen self.new).carrier) }
         ensures links { (seen self.new).link ≡ (seen self.old).link }
@@ -419,7 +425,7 @@ impl Vcp {
         Taken::Stray
     }
 
-    /// How many packets and tokens were dropped.
+    /// How many packets and tokens were dropped; no more than 2^64 - 1 are counted.
     pub fn strays(&self) -> u64
         ensures { result ≡ self.now.strays }
     {
