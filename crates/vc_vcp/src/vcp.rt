@@ -176,7 +176,7 @@ impl Vcp {
 
     /// The messages offered on a channel, the first one first; none where the node does not output on it.
     pub fn offered(&self, chan: u16) -> &[Items<u8>]
-        ensures { result.now ≡ by_name (λ x. x.chan) (λ x. x.offered) [] self.now.outputs chan }
+        ensures { result.now ≡ ((seen self.now).carrier.out chan).offered }
     {
         match output_on(&self.outputs, chan) {
             Some(at) => self.outputs[at].offered.as_slice(),
@@ -196,7 +196,7 @@ impl Vcp {
 
     /// The messages taken on a channel, the first one first; none where the node does not input on it.
     pub fn taken(&self, chan: u16) -> &[Items<u8>]
-        ensures { result.now ≡ by_name (λ x. x.chan) (λ x. x.taken) [] self.now.inputs chan }
+        ensures { result.now ≡ ((seen self.now).carrier.into chan).taken }
     {
         match input_on(&self.inputs, chan) {
             Some(at) => self.inputs[at].taken.as_slice(),
@@ -206,7 +206,7 @@ impl Vcp {
 
     /// Whether a channel was stopped at this node.
     pub fn stopped(&self, chan: u16) -> bool
-        ensures { result ≡ by_name (λ x. x.chan) (λ x. x.half.stopped) false self.now.inputs chan }
+        ensures { result ≡ ((seen self.now).carrier.into chan).stopped }
     {
         match input_on(&self.inputs, chan) {
             Some(at) => self.inputs[at].half.is_stopped(),
