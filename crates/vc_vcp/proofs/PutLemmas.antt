@@ -60,10 +60,6 @@ mark_put (x ∷ q) r n c d p k some has is e within less rest mark =
       queue = rest ∙ sym (ap (queue_after q x) m);
     }
 
-none_sent : (q : List Packet) → sent_of q 0 ≡ []
-none_sent [] = refl
-none_sent (x ∷ q) = refl
-
 -- the same of what shows these
 pub byte_at : (s : Sending) (q : List Packet) (n c d b : ℕ) (p : Packet) → s ≡ sending q n c → s.queue ≢ [] → 0 < s.sender.credit → p ≡ get_or q 0 p → slice_get p.body n ≡ Some b → d ≡ c - 1 →
     PutsFront s (Byte b) (sending q (n + 1) d)
@@ -71,12 +67,11 @@ byte_at s q n c d b p shows some has is e less =
     subst (λ z. PutsFront z (Byte b) (sending q (n + 1) d)) (sym shows)
     (byte_put q n c d b p (λ h. some (ap (λ z. z.queue) shows ∙ h)) (subst (λ z. 0 < z.sender.credit) shows has) is e less)
 
-pub mark_at : (s : Sending) (q r : List Packet) (n c d : ℕ) (p : Packet) (k : Token) → s ≡ sending q n c → s.queue ≢ [] → 0 < s.sender.credit → p ≡ get_or q 0 p → slice_get p.body n ≡ None →
-    IsWithinFront q n → d ≡ c - 1 → r ≡ drop 1 q → k ≡ EndMark p.mark → PutsFront s k (sending r 0 d)
-mark_at s q r n c d p k shows some has is e within less rest mark =
-    subst (λ z. PutsFront z k (sending r 0 d)) (sym shows)
-    (subst (λ z. PutsFront (sending q n c) k (record { queue = r; sender = record { sent = z; credit = d } })) (sym (none_sent r))
-    (mark_put q r n c d p k (λ h. some (ap (λ z. z.queue) shows ∙ h)) (subst (λ z. 0 < z.sender.credit) shows has) is e within less rest mark))
+pub mark_at : (s : Sending) (q : List Packet) (n c d : ℕ) (p : Packet) (k : Token) → s ≡ sending q n c → s.queue ≢ [] → 0 < s.sender.credit → p ≡ get_or q 0 p → slice_get p.body n ≡ None → IsWithinFront q n → d ≡ c - 1 →
+    k ≡ EndMark p.mark → PutsFront s k (record { queue = drop 1 q; sender = record { sent = []; credit = d } })
+mark_at s q n c d p k shows some has is e within less mark =
+    subst (λ z. PutsFront z k (record { queue = drop 1 q; sender = record { sent = []; credit = d } })) (sym shows)
+    (mark_put q (drop 1 q) n c d p k (λ h. some (ap (λ z. z.queue) shows ∙ h)) (subst (λ z. 0 < z.sender.credit) shows has) is e within less refl mark)
 
 -- some token can be put where a packet waits under credit
 put_by : (p : Packet) (q : List Packet) (n c : ℕ) (o : Option ℕ) → 0 < c → n ≤ length p.body → slice_get p.body n ≡ o → CanPutFront (sending (p ∷ q) n c)

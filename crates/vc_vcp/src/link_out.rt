@@ -1,7 +1,7 @@
 //! The sending end of a node's link: packets wait in its queue, and the one at the front goes out token by token.
 //!
 //! Each token that is put spends one of the credit, and an FCT that comes adds eight. A packet leaves the queue with its mark.
-ghost use Rattle.std.specs.Prelude.{◌≡◌, ◌≢◌, ◌<◌, ◌≤◌, ◌+◌, [], ◌∷◌, ◌++◌, ◌↔◌, IsTrue, OnOk, OnErr, slice_get};
+ghost use Rattle.std.specs.Prelude.{◌≡◌, ◌≢◌, ◌<◌, ◌≤◌, ◌+◌, [], ◌∷◌, ◌++◌, ◌↔◌, IsTrue, OnOk, OnErr, slice_get, drop};
 ghost use Rattle.vc_tokens.specs.Tokens.{EndMark};
 ghost use Rattle.vc_tokens.specs.Spelt.{token};
 ghost use Rattle.vc_credit.specs.Ends.{credited};
@@ -122,11 +122,18 @@ impl LinkOut {
                 Token::Byte(byte)
             }
             None => {
-                self.sent = 0;
-                let _sent = self.queue.pop_front();
+                self.leave();
                 mark_token(mark)
             }
         }
+    }
+
+    // The packet at the front leaves the queue.
+    fn leave(&mut self)
+        ensures { self.new ≡ record self.old { queue = drop 1 self.old.queue; sender = record self.old.sender { sent = [] } } }
+    {
+        self.sent = 0;
+        let _sent = self.queue.pop_front();
     }
 }
 

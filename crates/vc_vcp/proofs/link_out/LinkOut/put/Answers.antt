@@ -1,9 +1,8 @@
-use Rattle.std.proofs.Common.{◌≡◌, sym, subst, rules, slice_get, Some, None, drop}
+use Rattle.std.proofs.Common.{◌≡◌, sym, subst, rules, slice_get, Some, None}
 use Rattle.vc_tokens.specs.Spelt.{token}
 use Rattle.vc_vcp.specs.LinkOut.{PutsFront}
 use Rattle.vc_vcp.proofs.PutLemmas.{byte_at, mark_at}
 use Rattle.vc_vcp.proofs.link_out.LinkOut.put.Goals as goal
-use Rattle.vc_vcp.proofs.link_out.LinkOut.put.Goals.{in-Some-1, in-None-1}
 
 pub returns-in-Some : goal.returns-in-Some
 returns-in-Some c =
@@ -15,10 +14,5 @@ pub returns-in-None : goal.returns-in-None
 returns-in-None c =
     let x = c.self.inside in
     let read : slice_get c.index-packet.result.now.body x.sent ≡ None = search rules in
-    let rest : c.pop_front-sent.new.self.items ≡ drop 1 x.queue.items = search rules in
-    let is = mark_at c.args.self.now x.queue.items c.pop_front-sent.new.self.items x.sent x.credit c.spend.new.self c.index-packet.result.now (token c.mark_token.result) (sym c.self.view_is)
-    c.requires.packet c.requires.credit (search rules) read c.self.invariant c.spend.ensures rest c.mark_token.ensures in
-    elim c.match-sent.branch [
-      | in-Some-1 w ↦ subst (PutsFront c.args.self.now (token c.mark_token.result)) (sym w.self-is) is
-      | in-None-1 w ↦ subst (PutsFront c.args.self.now (token c.mark_token.result)) (sym w.self-is) is
-    ]
+    subst (PutsFront c.args.self.now (token c.mark_token.result)) (sym c.leave.ensures)
+    (mark_at c.args.self.now x.queue.items x.sent x.credit c.spend.new.self c.index-packet.result.now (token c.mark_token.result) (sym c.self.view_is) c.requires.packet c.requires.credit (search rules) read c.self.invariant c.spend.ensures c.mark_token.ensures)
