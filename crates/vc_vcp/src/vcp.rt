@@ -2,7 +2,7 @@
 //!
 //! A channel is named by its number in the network, a link by its number at the node, 0 to 3. A call that finds no memory
 //! answers `Memory`, and has changed nothing.
-ghost use Rattle.std.specs.Prelude.{◌≡◌, ◌≢◌, ◌<◌, None, Ok, ℕ, List, slice_get, ◌↔◌, [], false, Some, IsTrue, IfOk, OnOk, OnErr};
+ghost use Rattle.std.specs.Prelude.{◌≡◌, ◌≢◌, ◌<◌, None, Ok, ℕ, List, slice_get, ◌↔◌, [], false, Some, IsTrue, IsOk, IfOk, OnOk, OnErr};
 ghost use Rattle.vc_vcp.specs.Keyed.{by_name};
 ghost use Rattle.std.specs.List.{AllByRecursion};
 ghost use Rattle.vc_blocks.specs.Halves.{IsPiece};
@@ -309,10 +309,11 @@ impl Vcp {
     }
 
     /// A token passes from a link's buffer: a byte joins the packet that is arriving, or is dropped and counted past the limit, and
-    /// with its mark the packet reaches its half. Where no token waits, nothing changes.
+    /// with its mark the packet reaches its half. Only a mark may find no memory. Where no token waits, nothing changes.
     pub fn pass(&mut self, link: u8) -> Result<Option<Taken>, Memory>
         requires { link < 4 }
         ensures passes { HaveOwnNames self.old.outputs self.old.inputs → ((seen self.old).link link).receiver.buffer ≢ [] → IfOk result (λ t. Passes (limit_of self.old.ins) (ends_of self.old) (seen self.old) link (passed_of t) (seen self.new)) }
+        ensures bytes { (byte : ℕ) → IsFront ((seen self.old).link link).receiver (Byte byte) → IsOk result }
         ensures quiet { ((seen self.old).link link).receiver.buffer ≡ [] → (result ≡ Ok None) × (self.new ≡ self.old) }
         ensures kept { HaveOwnNames self.old.outputs self.old.inputs → IsKept self.old self.new }
         ensures err { OnErr result (self.new ≡ self.old) }
