@@ -12,17 +12,17 @@ use Rattle.vc_occam.specs.Numbering.{Numbered, NumberedBranch, NumberedGuard, nu
 use Rattle.vc_occam.specs.Syntax.{Assign}
 use Rattle.vc_occam.specs.Terms.{given, test}
 
-holds : (kinds : List ValueKind) (v : ℕ) (k : ValueKind) → holds_kind kinds v k ≡ true → v < length kinds
-holds [] v k h = absurd cc
-holds (j ∷ kinds) zero k h = omega arith
-holds (j ∷ kinds) (suc v) k h = let i = holds kinds v k h in omega (arith, i)
+pub held_there : (kinds : List ValueKind) (v : ℕ) (k : ValueKind) → holds_kind kinds v k ≡ true → v < length kinds
+held_there [] v k h = absurd cc
+held_there (j ∷ kinds) zero k h = omega arith
+held_there (j ∷ kinds) (suc v) k h = let i = held_there kinds v k h in omega (arith, i)
 
 first : (a b : Bool) → (a && b) ≡ true → a ≡ true
 first true b h = cc
 first false b h = absurd cc
 
 pub set_there : (kinds : List ValueKind) (v : ℕ) (k : ValueKind) (b : Bool) → (holds_kind kinds v k && b) ≡ true → suc v ≤ length kinds
-set_there kinds v k b h = let i = holds kinds v k (first (holds_kind kinds v k) b h) in omega (arith, i)
+set_there kinds v k b h = let i = held_there kinds v k (first (holds_kind kinds v k) b h) in omega (arith, i)
 
 -- an assignment as it is written
 pub written-set : (p : Process) (v : ℕ) (a : Value) → p ≡ process.Set v a → written p ≡ Assign 0 v (given a)

@@ -15,16 +15,18 @@ use Rattle.vc_occam.specs.Syntax.{Exp, Test, Given, Proc, SKIP, STOP, Assign, Ou
 use Rattle.vc_occam.specs.Values.{Store, value_of, holds, datum_of, within}
 use Rattle.vc_occam.specs.Usage.{Set}
 use Rattle.vc_occam.specs.Messages.{message, received}
-use Rattle.vc_occam.specs.Traces.{Comm, Out, Fin, In, Stp, Decided}
-use Rattle.vc_occam.specs.Remains.{Rest, Done, Stopped, Fresh, Finishing, Getting, Then, Turns, Beside, then_on, turns_on, index_on, beside_on, GuardAt, first, later, Step, does_skip, does_empty_seq, does_empty_par, does_assign, faults_assign, faults_out, does_if, does_turn, does_leave, faults_while, does_count, does_count_none, faults_count, does_offer, does_finish, does_input, waits_input, does_stop, does_choose, waits_choose, in_then, in_turns, in_left, in_right}
+use Rattle.vc_occam.specs.Traces.{set, Comm, Out, Fin, In, Stp, Decided}
+use Rattle.vc_occam.specs.Remains.{Rest, Done, Stopped, Fresh, Finishing, Getting, Then, Turns, Beside, then_on, turns_on, index_on, beside_on, GuardAt, first, later, Step, does_skip, does_empty_seq, does_empty_par, does_assign, faults_assign, faults_out, does_if, does_turn, does_leave, faults_while, does_count, does_count_none, faults_count, does_offer, does_finish, does_input, waits_input, gets, does_stop, does_choose, waits_choose, in_then, in_turns, in_left, in_right}
 use Rattle.vc_occam.specs.First.{all_decided, choices, own, meetings, joined}
+use Rattle.vc_occam.specs.Frames.{Able}
+use Rattle.vc_occam.specs.Moving.{site_of, deed_for, deed_on}
 use Rattle.vc_occam.specs.Laws.{ListedMovesCanBeMade}
 use Rattle.vc_occam.specs.Sites.{sites, sites_all, sites_rest, OwnSites}
-use Rattle.vc_occam.specs.States.{State, Wants, Chooses, Does, meeting, or_else, output_at, carried, sent_by, bytes_or_none, came, doing, output, input, waiting}
+use Rattle.vc_occam.specs.States.{IsAwaited, State, Wants, Chooses, Does, meeting, or_else, output_at, carried, sent_by, bytes_or_none, came, doing, output, input, waiting}
 use Rattle.vc_occam.proofs.Lists.{only, none, at_front, behind, front_or, is_inserted}
 use Rattle.vc_occam.proofs.Sites.{not_true, clash}
 use Rattle.vc_occam.proofs.Stores.{or_left, or_right, or_false}
-use Rattle.vc_occam.proofs.Waits.{step_waits}
+use Rattle.vc_occam.proofs.Waiting.{step_waits}
 
 -- a process that hasn't begun stands in what remains
 pub data Stands (p : Proc) : Rest → Type 0 where
@@ -57,7 +59,7 @@ lift (on_left {mine = mine} {q = q} s) st = let n = lift s st in (beside_on mine
 lift (on_right {mine = mine} {r = r} s) st = let n = lift s st in (beside_on mine r n.0, n.1, in_right n.2)
 
 -- how a process that hasn't begun begins with a move
-abbrev Begins : Move → Proc → Store → Type 0
+abbrev pub Begins : Move → Proc → Store → Type 0
 Begins (Quiet i) p e = (r : Rest) × (f : Store) × Step (Fresh p) e i deed.Quiet [] r f
 Begins (Offer i c) p e = (a : Given) × (x : Datum) × (p ≡ Output i c a) × (datum_of a e ≡ Some x)
 Begins (Want i c) p e = (v : ℕ) × (p ≡ Input i c v)
@@ -165,7 +167,7 @@ chooses i gs e m true d h =
     subst (λ x. Begins x (ALT i gs) e) (sym (n.5 ∙ ap (λ z. Choose i z n.2) s)) (gs, n.1, n.3, n.4, refl, decided gs e d, n.6, n.7)
 chooses i gs e m false d h = absurd (none m h)
 
-begins : (p : Proc) (e : Store) (m : Move) → Contains (own (Fresh p) e) m → Begins m p e
+pub begins : (p : Proc) (e : Store) (m : Move) → Contains (own (Fresh p) e) m → Begins m p e
 begins (SKIP i) e m h = quiet h does_skip
 begins (STOP i) e m h = absurd (none m h)
 begins (Assign i v a) e m h = assigns i v a e m (datum_of a e) refl h
@@ -182,16 +184,16 @@ begins (COUNT i v a k p) e m h = counts i v a k p e m (value_of a e) (value_of k
 begins (ALT i gs) e m h = chooses i gs e m (all_decided gs e) refl h
 
 -- a move in what remains
-own_begins : (r : Rest) (e : Store) (m : Move) → Contains (own r e) m → (p : Proc) × Stands p r × Begins m p e
+pub own_begins : (r : Rest) (e : Store) (m : Move) → Contains (own r e) m → (p : Proc) × Stands p r × Begins m p e
 own_begins r e m h = let n = own_stands r e m h in (n.0, n.1, begins n.0 e m n.2)
 
 -- the input or guard that an output meets
-abbrev partner : ℕ → Option ℕ → ℕ → Move
+abbrev pub partner : ℕ → Option ℕ → ℕ → Move
 partner j None c = Want j c
 partner j (Some k) c = Choose j k c
 
 -- a move that is listed is a site's own, or an output that meets an input or guard
-abbrev Meeting : List Move → List Move → Move → Type 0
+abbrev pub Meeting : List Move → List Move → Move → Type 0
 Meeting all ms (Inner i j k c) = Contains ms (Offer i c) × Contains all (partner j k c)
 Meeting all ms (Offer i c) = ⊥
 Meeting all ms (Want i c) = ⊥
@@ -239,7 +241,7 @@ met i c (Stopch j d ∷ ms) m h = met_more i c ms (Stopch j d) m (met i c ms m h
 met i c (Inner j k l d ∷ ms) m h = met_more i c ms (Inner j k l d) m (met i c ms m h)
 met i c (Quiet j ∷ ms) m h = met_more i c ms (Quiet j) m (met i c ms m h)
 
-abbrev Listed : List Move → List Move → Move → Type 0
+abbrev pub Listed : List Move → List Move → Move → Type 0
 Listed all ms m = Contains ms m ⊎ Meeting all ms m
 
 listed_more : (all ms : List Move) (x m : Move) → Listed all ms m → Listed all (x ∷ ms) m
@@ -264,7 +266,7 @@ meets true inside all ms i c m h f = elim (Contains-append_cases (meetings i c a
 ]
 meets false inside all ms i c m h f = this_or inside all ms (Offer i c) m h f
 
-listed : (inside : Set) (all ms : List Move) (m : Move) → Contains (joined inside all ms) m → Listed all ms m
+pub listed : (inside : Set) (all ms : List Move) (m : Move) → Contains (joined inside all ms) m → Listed all ms m
 listed inside all [] m h = absurd (none m h)
 listed inside all (Offer i c ∷ ms) m h = meets (inside c) inside all ms i c m h (listed inside all ms m)
 listed inside all (Want i c ∷ ms) m h = unless (inside c) inside all ms (Want i c) m h (listed inside all ms m)
@@ -522,3 +524,63 @@ made s (Offer i c) a o (inr k) = absurd k
 
 pub can_be_made : ListedMovesCanBeMade
 can_be_made s inside m a o h f = made s m a o (listed inside (own s.rest s.store) (own s.rest s.store) m h)
+
+able_want : (r : Rest) (e : Store) (i c : ℕ) (o : Option (List ℕ)) → Contains (own r e) (Want i c) → Able r e i (deed.Want c o)
+able_want r e i c (Some m) h = let n = takes r e i None c m h in (In c n.0 ∷ [], n.1, n.2, n.3)
+able_want r e i c None h =
+    let n = own_begins r e (Want i c) h in
+    let l = lift (subst (λ z. Stands z r) n.2.1 n.1) (waits_input {s = i} {c = c} {v = n.2.0} {e = e}) in
+    ([], l.0, l.1, l.2)
+
+able_choose : (r : Rest) (e : Store) (i k c : ℕ) (o : Option (List ℕ)) → Contains (own r e) (Choose i k c) → Able r e i (deed.Choose k c o)
+able_choose r e i k c (Some m) h = let n = takes r e i (Some k) c m h in (In c n.0 ∷ [], n.1, n.2, n.3)
+able_choose r e i k c None h =
+    let n = own_begins r e (Choose i k c) h in
+    let l = lift (subst (λ z. Stands z r) n.2.4 n.1) (waits_choose {s = i} {e = e} n.2.5 n.2.6 n.2.7) in
+    ([], l.0, l.1, l.2)
+
+input_site : (j i d c : ℕ) → input j d ≡ input i c → j ≡ i
+input_site j i d c h = cc
+
+receive : (j d v : ℕ) (e : Store) (i c : ℕ) (m : List ℕ) → input j d ≡ input i c → Able (Getting j d v) e i (deed.Message m)
+receive j d v e i c m h =
+    let site : j ≡ i = input_site j i d c h in
+    subst (λ y. Able (Getting j d v) e y (deed.Message m)) site (In d (received (e v) m) ∷ [], Done, set e v (received (e v) m), gets refl)
+
+-- an input that waits can have any message
+receives : (r : Rest) (e : Store) (i c : ℕ) (m : List ℕ) → Contains (waiting r) (input i c) → Able r e i (deed.Message m)
+receives Done e i c m h = absurd (none (input i c) h)
+receives Stopped e i c m h = absurd (none (input i c) h)
+receives (Fresh p) e i c m h = absurd (none (input i c) h)
+receives (Finishing j d) e i c m h = absurd (let same = only (output j d) (input i c) h in cc)
+receives (Getting j d v) e i c m h = receive j d v e i c m (only (input j d) (input i c) h)
+receives (Then r ps) e i c m h = let n = receives r e i c m h in (n.0, then_on n.1 ps, n.2, in_then n.3)
+receives (Turns r v b k p) e i c m h = let n = receives r e i c m h in (n.0, turns_on n.1 v b k p, index_on n.1 v b k n.2, in_turns n.3)
+receives (Beside mine r q) e i c m h = elim (Contains-append_cases (waiting r) (waiting q) (input i c) h) [
+  | inl k ↦ let n = receives r e i c m k in (n.0, beside_on mine n.1 q, n.2, in_left n.3)
+  | inr k ↦ let n = receives q e i c m k in (n.0, beside_on mine r n.1, n.2, in_right n.3)
+]
+
+-- what is listed and meets nothing can be done by its site
+pub able : (r : Rest) (e : Store) (m : Move) (a : Answer) → Contains (own r e) m → Able r e (site_of m) (deed_for m a)
+able r e (Quiet i) a h = let n = own_begins r e (Quiet i) h in let l = lift n.1 n.2.2 in ([], l.0, l.1, l.2)
+able r e (Stopch i c) a h =
+    let n = own_begins r e (Stopch i c) h in
+    let l = lift (subst (λ z. Stands z r) n.2 n.1) (does_stop {s = i} {c = c} {e = e}) in
+    (Stp c ∷ [], l.0, l.1, l.2)
+able r e (Offer i c) a h =
+    let n = own_begins r e (Offer i c) h in
+    let l = lift (subst (λ z. Stands z r) n.2.2 n.1) (does_offer n.2.3) in
+    (Out c n.2.1 ∷ [], l.0, l.1, l.2)
+able r e (Want i c) a h = able_want r e i c (came a) h
+able r e (Choose i k c) a h = able_choose r e i k c (came a) h
+able r e (Inner i j k c) a h = absurd (own_begins r e (Inner i j k c) h).2
+
+-- a site that waits can go on
+pub able_on : (r : Rest) (e : Store) (i : ℕ) (m : Option (List ℕ)) → IsAwaited r i m → Able r e i (deed_on m)
+able_on r e i None (c, h) = let n = finishes r e i c h in (Fin c ∷ [], n.0, n.1, n.2)
+able_on r e i (Some m) (c, h) = receives r e i c m h
+
+-- no site meets itself
+pub no_meeting : (r : Rest) (e : Store) (i j : ℕ) (k : Option ℕ) (c : ℕ) → Contains (own r e) (Inner i j k c) → ⊥
+no_meeting r e i j k c h = (own_begins r e (Inner i j k c) h).2

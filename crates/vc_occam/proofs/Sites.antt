@@ -5,7 +5,7 @@ use Rattle.vc_occam.specs.Syntax.{Test, Proc, SKIP, STOP, Assign, Output, Input,
 use Rattle.vc_occam.specs.Values.{Store, holds}
 use Rattle.vc_occam.specs.Usage.{Set, nothing, just, ◌∪◌}
 use Rattle.vc_occam.specs.Traces.{Comm}
-use Rattle.vc_occam.specs.Remains.{Rest, Done, Stopped, Fresh, Finishing, Getting, Then, Turns, Beside, begin, begin_seq, begin_par, begin_all, then_on, turns_on, beside_on, branch_on, chosen, GuardAt, first, later, Step, does_skip, does_empty_seq, does_empty_par, does_assign, faults_assign, faults_out, does_if, does_turn, does_leave, faults_while, does_count, does_count_none, faults_count, does_offer, does_finish, does_input, waits_input, gets, does_stop, does_choose, waits_choose, in_then, in_turns, in_left, in_right}
+use Rattle.vc_occam.specs.Remains.{Rest, Done, Stopped, Fresh, Finishing, Getting, Then, Turns, Beside, and_then, begin, begin_seq, begin_par, begin_all, then_on, turns_on, beside_on, branch_on, chosen, GuardAt, first, later, Step, does_skip, does_empty_seq, does_empty_par, does_assign, faults_assign, faults_out, does_if, does_turn, does_leave, faults_while, does_count, does_count_none, faults_count, does_offer, does_finish, does_input, waits_input, gets, does_stop, does_choose, waits_choose, in_then, in_turns, in_left, in_right}
 use Rattle.vc_occam.specs.Sites.{sites, sites_all, sites_branches, sites_guards, Disjoint, HasOwnSites, AllHaveOwnSites, PartsHaveOwnSites, BranchesHaveOwnSites, GuardsHaveOwnSites, sites_rest, OwnSites}
 use Rattle.vc_occam.specs.States.{State, StepsTo, Doing, Offers, Wants, Chooses, Stops, Meets, Rests, Finishes, Receives, Does}
 use Rattle.vc_occam.proofs.Stores.{or_left, or_right}
@@ -46,6 +46,14 @@ clash {b} h k = let e : true ≡ false = sym h ∙ k in cc
 apart_within : {a b c d : Set} → Within a c → Within b d → Disjoint c d → Disjoint a b
 apart_within {b = b} h j x k e = not_true (b k) (λ f. clash (j k f) (x k (h k e)))
 
+and_then_sites : (r : Rest) (a : Set) (ps : Procs) → Within (sites_rest r) a → Within (sites_rest (and_then r ps)) (a ∪ sites_all ps)
+and_then_sites r a no_parts h = through {b = a} h (within_left a nothing)
+and_then_sites r a (part p ps) h = joined {a = sites_rest r} {b = sites_all (part p ps)} {c = a} {d = sites_all (part p ps)} h (λ k e. e)
+
+and_then_own : (r : Rest) (ps : Procs) → OwnSites r → AllHaveOwnSites ps → OwnSites (and_then r ps)
+and_then_own r no_parts h k = h
+and_then_own r (part p ps) h k = (h, k)
+
 -- a process begins with its own sites
 mutual
   pub begin_sites : (p : Proc) → Within (sites_rest (begin p)) (sites p)
@@ -64,7 +72,7 @@ mutual
 
   begin_seq_sites : (i : ℕ) (ps : Procs) → Within (sites_rest (begin_seq i ps)) (just i ∪ sites_all ps)
   begin_seq_sites i no_parts = λ k h. h
-  begin_seq_sites i (part p ps) = through {b = sites_all (part p ps)} (joined {a = sites_rest (begin p)} {b = sites_all ps} {c = sites p} {d = sites_all ps} (begin_sites p) (λ k h. h)) (within_right (just i) (sites_all (part p ps)))
+  begin_seq_sites i (part p ps) = through {b = sites_all (part p ps)} (and_then_sites (begin p) (sites p) ps (begin_sites p)) (within_right (just i) (sites_all (part p ps)))
 
   begin_par_sites : (i : ℕ) (ps : Procs) → Within (sites_rest (begin_par i ps)) (just i ∪ sites_all ps)
   begin_par_sites i no_parts = λ k h. h
@@ -91,7 +99,7 @@ mutual
 
   begin_seq_own : (i : ℕ) (ps : Procs) → AllHaveOwnSites ps → OwnSites (begin_seq i ps)
   begin_seq_own i no_parts h = tt
-  begin_seq_own i (part p ps) h = (begin_own p h.0, h.1)
+  begin_seq_own i (part p ps) h = and_then_own (begin p) ps (begin_own p h.0) h.1
 
   begin_par_own : (i : ℕ) (ps : Procs) → PartsHaveOwnSites ps → OwnSites (begin_par i ps)
   begin_par_own i no_parts h = tt
@@ -119,8 +127,8 @@ stops r = (within_none (sites_rest r), tt)
 then_keeps : (r r' : Rest) (ps : Procs) → Keeps r r' → AllHaveOwnSites ps → Keeps (Then r ps) (then_on r' ps)
 then_keeps r Done no_parts k h = ends (Then r no_parts)
 then_keeps r Done (part p ps) k h = (
-  through {b = sites_all (part p ps)} (joined {a = sites_rest (begin p)} {b = sites_all ps} {c = sites p} {d = sites_all ps} (begin_sites p) (λ k h. h)) (within_right (sites_rest r) (sites_all (part p ps))),
-  (begin_own p h.0, h.1),
+  through {b = sites_all (part p ps)} (and_then_sites (begin p) (sites p) ps (begin_sites p)) (within_right (sites_rest r) (sites_all (part p ps))),
+  and_then_own (begin p) ps (begin_own p h.0) h.1,
 )
 then_keeps r r' ps k h = (joined {a = sites_rest r'} {b = sites_all ps} {c = sites_rest r} {d = sites_all ps} k.0 (λ k h. h), (k.1, h))
 

@@ -1,46 +1,155 @@
--- What the running code stands for: the process that was written, and what remains of it.
-use Rattle.std.specs.Prelude.{ℕ, suc, Bool, List, [], ◌∷◌, Option, Some, None, if◌then◌else◌}
+-- What the running code stands for: a tree of frames, each with the process that was written and what remains of it.
+use Rattle.std.specs.Prelude.{◌≡◌, ℕ, zero, suc, Bool, true, false, List, [], ◌∷◌, ◌<◌, nat_le, map, drop, slice_get, Option, Some, None, if◌then◌else◌}
 use Rattle.vc_occam.specs.declared.kind.Kind.{Kind}
 use Rattle.vc_occam.specs.declared.kind.Kind.TheVariants as kind
 use Rattle.vc_occam.specs.declared.phase.Phase.{Phase}
 use Rattle.vc_occam.specs.declared.phase.Phase.TheVariants as phase
+use Rattle.vc_occam.specs.declared.frame.Frame.{Frame}
+use Rattle.vc_occam.specs.declared.frame.Frame.TheOpen.{Frame-F}
+use Rattle.vc_occam.specs.declared.frame.Frame.TheFolds.{fold-Frame}
 use Rattle.vc_occam.specs.declared.moves.Move.{Move}
 use Rattle.vc_occam.specs.declared.moves.Move.TheVariants as move
 use Rattle.vc_occam.specs.declared.datum.Datum.{Datum}
-use Rattle.vc_occam.specs.Values.{Store, datum_of}
-use Rattle.vc_occam.specs.Traces.{set}
-use Rattle.vc_occam.specs.Syntax.{Proc, SKIP, STOP, Assign, Output, Input, StopChan}
-use Rattle.vc_occam.specs.Terms.{given}
-use Rattle.vc_occam.specs.Remains.{Rest, Done, Stopped, Fresh, Finishing, Getting}
+use Rattle.vc_occam.specs.declared.deed.Deed.{Deed}
+use Rattle.vc_occam.specs.declared.waits.Waits.{Waits}
+use Rattle.vc_occam.specs.declared.waits.Waits.TheVariants as waits
+use Rattle.vc_occam.specs.Values.{Store, datum_of, holds}
+use Rattle.vc_occam.specs.Traces.{Comm}
+use Rattle.vc_occam.specs.Usage.{changes}
+use Rattle.vc_occam.specs.Syntax.{Test, Constant, Proc, SKIP, STOP, Assign, Output, Input, StopChan, SEQ, IF, WHILE, Procs, no_parts, part, Branches, no_branches, branch}
+use Rattle.vc_occam.specs.Terms.{given, test}
+use Rattle.vc_occam.specs.Remains.{Rest, Done, Stopped, Fresh, Finishing, Getting, Then, Turns, and_then, then_on, begin, Step}
+use Rattle.vc_occam.specs.States.{Waiting, output, input, waiting, output_at}
+use Rattle.vc_occam.specs.First.{own}
 
--- a process without parts that is so far
-abbrev pub alone : Phase → Proc → Rest → Rest
-alone phase.Ready p r = Fresh p
-alone phase.Waiting p r = r
-alone phase.Ended p r = Done
-alone phase.Stuck p r = Stopped
+-- a process that was written, and what remains of it
+abbrev pub View : Type 0
+View = Proc × Rest
 
-abbrev pub plan_at : Kind → ℕ → Proc
-plan_at kind.Skip i = SKIP i
-plan_at kind.Stop i = STOP i
-plan_at (kind.Set v a) i = Assign i v (given a)
-plan_at (kind.Send c a) i = Output i c (given a)
-plan_at (kind.Receive c v) i = Input i c v
-plan_at (kind.Stopch c) i = StopChan i c
+abbrev pub plans_of : List View → Procs
+plans_of [] = no_parts
+plans_of (v ∷ vs) = part v.0 (plans_of vs)
 
-abbrev pub rest_at : Kind → Phase → ℕ → Rest
-rest_at (kind.Send c a) ph i = alone ph (Output i c (given a)) (Finishing i c)
-rest_at (kind.Receive c v) ph i = alone ph (Input i c v) (Getting i c v)
-rest_at (kind.Set v a) ph i = alone ph (Assign i v (given a)) Stopped
-rest_at kind.Skip ph i = alone ph (SKIP i) Stopped
-rest_at kind.Stop ph i = alone ph (STOP i) Stopped
-rest_at (kind.Stopch c) ph i = alone ph (StopChan i c) Stopped
+-- a branch without a condition is never taken
+abbrev pub branches_of : List Test → List View → Branches
+branches_of bs [] = no_branches
+branches_of [] (v ∷ vs) = branch (Constant false) v.0 (branches_of [] vs)
+branches_of (b ∷ bs) (v ∷ vs) = branch b v.0 (branches_of bs vs)
 
--- how many variables it needs
-abbrev pub needed : Kind → ℕ
-needed (kind.Receive c v) = suc v
-needed (kind.Set v a) = suc v
-needed k = 0
+abbrev pub while_of : ℕ → Test → List View → Proc
+while_of i b [] = STOP i
+while_of i b (v ∷ vs) = WHILE i b v.0
+
+abbrev pub plan_at : Kind → ℕ → List View → Proc
+plan_at kind.Skip i vs = SKIP i
+plan_at kind.Stop i vs = STOP i
+plan_at (kind.Set v a) i vs = Assign i v (given a)
+plan_at (kind.Send c a) i vs = Output i c (given a)
+plan_at (kind.Receive c v) i vs = Input i c v
+plan_at (kind.Stopch c) i vs = StopChan i c
+plan_at kind.Seq i vs = SEQ i (plans_of vs)
+plan_at (kind.If bs) i vs = IF i (branches_of (map test bs) vs)
+plan_at (kind.While b) i vs = while_of i (test b) vs
+
+-- what comes behind the part that a process is at: the later parts of a SEQ, or a WHILE again
+abbrev pub behind : Kind → ℕ → List View → ℕ → Procs
+behind kind.Seq i vs k = plans_of (drop (suc k) vs)
+behind (kind.While b) i vs k = part (while_of i (test b) vs) no_parts
+behind p i vs k = no_parts
+
+-- the part that goes on, and what comes behind it
+abbrev pub follow : Option View → Procs → Rest
+follow None ps = Stopped
+follow (Some v) ps = and_then v.1 ps
+
+-- it has parts
+abbrev pub has_parts : Kind → Bool
+has_parts kind.Seq = true
+has_parts (kind.If bs) = true
+has_parts (kind.While b) = true
+has_parts p = false
+
+-- the part that a process is at; a WHILE has one only
+abbrev pub place_of : Kind → ℕ → ℕ
+place_of (kind.While b) k = 0
+place_of p k = k
+
+-- a process that goes on, at its k-th part
+abbrev pub going_at : Kind → ℕ → List View → ℕ → Rest
+going_at (kind.Send c a) i vs k = Finishing i c
+going_at (kind.Receive c v) i vs k = Getting i c v
+going_at kind.Seq i vs k = follow (slice_get vs k) (behind kind.Seq i vs k)
+going_at (kind.If bs) i vs k = follow (slice_get vs k) (behind (kind.If bs) i vs k)
+going_at (kind.While b) i vs k = follow (slice_get vs 0) (behind (kind.While b) i vs k)
+going_at p i vs k = Stopped
+
+-- nothing comes behind the k-th of so many parts
+abbrev pub is_last : Kind → ℕ → ℕ → Bool
+is_last kind.Seq k n = nat_le n (suc k)
+is_last (kind.If bs) k n = true
+is_last p k n = false
+
+-- what remains of a process that is so far
+abbrev pub so_far : Phase → Proc → Rest → Rest
+so_far phase.Ready p r = Fresh p
+so_far phase.Waiting p r = r
+so_far phase.Ended p r = Done
+so_far phase.Stuck p r = Stopped
+
+abbrev pub rest_at : Kind → Phase → ℕ → List View → ℕ → Rest
+rest_at k ph i vs at = so_far ph (plan_at k i vs) (going_at k i vs at)
+
+-- one frame, with what its parts stand for in their place
+unfoldable pub view_step : Frame-F View → View
+view_step f = (plan_at f.kind f.site f.parts.items, rest_at f.kind f.phase f.site f.parts.items f.at)
+
+unfoldable pub view : Frame → View
+view = fold-Frame View view_step
+
+abbrev pub views : List Frame → List View
+views = map view
+
+abbrev pub is_done : Rest → Bool
+is_done Done = true
+is_done Stopped = false
+is_done (Fresh p) = false
+is_done (Finishing i c) = false
+is_done (Getting i c v) = false
+is_done (Then r ps) = false
+is_done (Turns r v b n p) = false
+is_done r = false
+
+-- nothing remains of a part
+abbrev pub part_done : Option View → Bool
+part_done None = false
+part_done (Some v) = is_done v.1
+
+-- the value that an assignment is about to assign
+abbrev pub assigned_at : Rest → Store → Option Datum
+assigned_at (Fresh (Assign i v a)) e = datum_of a e
+assigned_at (Then r ps) e = assigned_at r e
+assigned_at r e = None
+
+-- the moves of a part, what it waits for, the value that it outputs or assigns
+abbrev pub part_rest : Option View → Rest
+part_rest None = Stopped
+part_rest (Some v) = v.1
+
+abbrev pub part_own : Option View → Store → List Move
+part_own None e = []
+part_own (Some v) e = own v.1 e
+
+abbrev pub part_waits : Option View → List Waiting
+part_waits None = []
+part_waits (Some v) = waiting v.1
+
+abbrev pub part_output : ℕ → Option View → Store → Option Datum
+part_output i None e = None
+part_output i (Some v) e = output_at i v.1 e
+
+abbrev pub part_assigned : Option View → Store → Option Datum
+part_assigned None e = None
+part_assigned (Some v) e = assigned_at v.1 e
 
 abbrev pub listed : Option Move → List Move
 listed None = []
@@ -54,32 +163,73 @@ outside inside (Some (move.Want i c)) = if inside c then None else Some (move.Wa
 outside inside (Some (move.Choose i k c)) = if inside c then None else Some (move.Choose i k c)
 outside inside (Some m) = Some m
 
--- how far a process without parts is after a move that brings no message
-abbrev pub phase_after : Kind → Move → Phase
-phase_after k (move.Offer i c) = phase.Waiting
-phase_after k (move.Want i c) = phase.Waiting
-phase_after k (move.Stopch i c) = phase.Ended
-phase_after kind.Skip (move.Quiet i) = phase.Ended
-phase_after k m = phase.Stuck
+-- what one site waits for
+abbrev pub waits_list : Option Waits → List Waiting
+waits_list None = []
+waits_list (Some (waits.Output i c)) = output i c ∷ []
+waits_list (Some (waits.Input i c)) = input i c ∷ []
 
-abbrev pub IsSet : Kind → Type 0
-IsSet (kind.Set v a) = Unit {0}
-IsSet k = ⊥
+-- a site can do this
+abbrev pub Able : Rest → Store → ℕ → Deed → Type 0
+Able r e i d = (ks : List Comm) × (q : Rest) × (f : Store) × Step r e i d ks q f
 
--- how far an assignment is, by the value that it assigns
-abbrev pub phase_assigned : Option Datum → Phase
-phase_assigned (Some x) = phase.Ended
-phase_assigned None = phase.Stuck
+-- a site did this
+abbrev pub Did : Rest → Store → ℕ → Deed → Rest → Store → Type 0
+Did r e i d q f = (ks : List Comm) × Step r e i d ks q f
 
-abbrev pub store_assigned : Option Datum → ℕ → Store → Store
-store_assigned (Some x) v e = set e v x
-store_assigned None v e = e
+-- the variables that a process changes are among so many
+abbrev pub HasVariables : Proc → ℕ → Type 0
+HasVariables p n = (v : ℕ) → changes p v ≡ true → v < n
 
--- how far a process without parts is, and what its variables hold, after a move that brings no message
-abbrev pub phase_on : Kind → Store → Move → Phase
-phase_on (kind.Set v a) e m = phase_assigned (datum_of (given a) e)
-phase_on k e m = phase_after k m
+-- the place of the first branch whose condition is true, before a condition that is a fault; the first of them has place k
+abbrev pub place_on : Option Bool → ℕ → Option ℕ → Option ℕ
+place_on (Some true) k o = Some k
+place_on (Some false) k o = o
+place_on None k o = None
 
-abbrev pub store_on : Kind → Store → Store
-store_on (kind.Set v a) e = store_assigned (datum_of (given a) e) v e
-store_on k e = e
+abbrev pub chosen_from : ℕ → List Test → Store → Option ℕ
+chosen_from k [] e = None
+chosen_from k (b ∷ bs) e = place_on (holds b e) k (chosen_from (suc k) bs e)
+
+-- the first part of a SEQ begins, if it has one
+abbrev pub first_begun : List View → List View
+first_begun [] = []
+first_begun (v ∷ vs) = (v.0, begin v.0) ∷ vs
+
+abbrev pub first_phase : List View → Phase
+first_phase [] = phase.Ready
+first_phase (v ∷ vs) = phase.Waiting
+
+-- where a process begins: its parts, and how far it is
+abbrev pub begun_parts : Kind → List View → List View
+begun_parts kind.Seq vs = first_begun vs
+begun_parts k vs = vs
+
+abbrev pub begun_phase : Kind → List View → Phase
+begun_phase kind.Seq vs = first_phase vs
+begun_phase k vs = phase.Ready
+
+-- what remains of a part, and what comes behind it, after the part did something
+abbrev pub on_part : Rest → Procs → Rest
+on_part r no_parts = r
+on_part r (part p ps) = then_on r (part p ps)
+
+-- the same of a part, where there is one
+abbrev pub follow_on : Option View → Procs → Rest
+follow_on None ps = Stopped
+follow_on (Some v) ps = on_part v.1 ps
+
+-- the processes that were written
+abbrev pub plans : List View → List Proc
+plans = map (λ v. v.0)
+
+-- each part's variables are among so many
+abbrev pub PartHasVariables : Option View → ℕ → Type 0
+PartHasVariables None n = Unit {0}
+PartHasVariables (Some v) n = HasVariables v.0 n
+
+-- the k-th part begins
+abbrev pub begun_at : ℕ → List View → List View
+begun_at k [] = []
+begun_at zero (v ∷ vs) = (v.0, begin v.0) ∷ vs
+begun_at (suc k) (v ∷ vs) = v ∷ begun_at k vs

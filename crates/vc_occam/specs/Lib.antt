@@ -1,10 +1,13 @@
 pub mod ChannelUses
 pub mod First
 pub mod Frames
+pub mod InOrder
 pub mod Lawful
 pub mod Laws
 pub mod Limits
 pub mod Messages
+pub mod Moving
+pub mod Nexts
 pub mod Numbering
 pub mod Opening
 pub mod ProcessLimits
@@ -17,3 +20,4 @@ pub mod Terms
 pub mod Traces
 pub mod Usage
 pub mod Values
+pub mod Wholes

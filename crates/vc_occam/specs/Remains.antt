@@ -29,6 +29,11 @@ pub data Rest : Type 0 where
   -- this, which remains of a process that changes these variables, beside what remains of the others
   Beside : Set → Rest → Rest → Rest
 
+-- this, and then these processes, if there are any
+abbrev pub and_then : Rest → Procs → Rest
+and_then r no_parts = r
+and_then r (part p ps) = Then r (part p ps)
+
 -- a process begins: an empty SEQ or PAR is a step of its own, and any other begins with its parts
 abbrev mutual
   pub begin : Proc → Rest
@@ -38,7 +43,7 @@ abbrev mutual
 
   pub begin_seq : ℕ → Procs → Rest
   begin_seq i no_parts = Fresh (SEQ i no_parts)
-  begin_seq i (part p ps) = Then (begin p) ps
+  begin_seq i (part p ps) = and_then (begin p) ps
 
   pub begin_par : ℕ → Procs → Rest
   begin_par i no_parts = Fresh (PAR i no_parts)
@@ -66,7 +71,7 @@ pub data TraceRest : Rest → Store → List Comm → End → Type 0 where
 -- where a part has ended, the next one begins
 abbrev pub then_on : Rest → Procs → Rest
 then_on Done no_parts = Done
-then_on Done (part p ps) = Then (begin p) ps
+then_on Done (part p ps) = and_then (begin p) ps
 then_on r ps = Then r ps
 
 -- where a turn has ended, the index takes its next value and the next turn begins

@@ -1,4 +1,7 @@
 //! What a channel answers to a move.
+ghost use Rattle.std.specs.Prelude.{◌≡◌};
+ghost use Rattle.vc_occam.specs.States.{came};
+
 use sqlite_items::Items;
 
 /// What came of a move on its channel.
@@ -10,4 +13,16 @@ pub enum Answer {
     Waits,
     /// The input has this message.
     Got(Items<u8>),
+}
+
+impl Answer {
+    /// The message that came, if one came.
+    pub(crate) fn message(self) -> Option<Items<u8>>
+        ensures { result ≡ came self }
+    {
+        match self {
+            Answer::Got(message) => Some(message),
+            _ => None,
+        }
+    }
 }

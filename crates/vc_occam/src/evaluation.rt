@@ -84,6 +84,38 @@ impl Expr {
     }
 }
 
+impl Cond {
+    /// Whether the condition holds, or None where it is a fault.
+    #[tactic(auto, unfolding(crate::specs::Terms::test))]
+    pub(crate) fn holds(&self, vars: &[Datum]) -> Option<bool>
+        ensures { result ≡ holds (test self.now) (store vars.now) }
+    {
+        match self {
+            Cond::Always(yes) => Some(*yes),
+            Cond::Cmp { rel, left, right } => {
+                let left = left.value(vars)?;
+                let right = right.value(vars)?;
+                Some(rel.compare(left, right))
+            }
+            Cond::And(left, right) => {
+                if left.get().holds(vars)? {
+                    right.get().holds(vars)
+                } else {
+                    Some(false)
+                }
+            }
+            Cond::Or(left, right) => {
+                if left.get().holds(vars)? {
+                    Some(true)
+                } else {
+                    right.get().holds(vars)
+                }
+            }
+            Cond::Not(cond) => Some(!cond.get().holds(vars)?),
+        }
+    }
+}
+
 impl BytesExpr {
     /// The bytes of the expression.
     fn bytes(&self, alloc: Global, vars: &[Datum]) -> Result<Items<u8>, Memory>

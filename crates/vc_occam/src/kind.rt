@@ -1,8 +1,10 @@
-//! What a running process is.
+//! What a frame of a running process is.
+use crate::condition::Cond;
 use crate::value::Value;
+use sqlite_items::Items;
 
-/// A process without parts, as it is written.
-#[derive(Debug, Drop)]
+/// A process as it is written, without its parts.
+#[derive(Drop)]
 pub(crate) enum Kind {
     /// SKIP.
     Skip,
@@ -16,4 +18,10 @@ pub(crate) enum Kind {
     Receive { chan: u16, var: u8 },
     /// The stop of a channel.
     Stopch { chan: u16 },
+    /// SEQ.
+    Seq,
+    /// IF, with the conditions of its branches.
+    If { conds: Items<Cond> },
+    /// WHILE, with its condition.
+    While { cond: Cond },
 }

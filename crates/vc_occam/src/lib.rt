@@ -13,8 +13,11 @@
 //! Laws of the definitions, for every word of the language, stand in `laws.rt`: what a step makes, followed by any trace of what
 //! remains, is a trace of what remained before; each listed move can be made; what waits after whatever a process does.
 //!
-//! Today a process without parts runs (`Process::runs_today`): SKIP, STOP, an assignment, an output, an input or the stop of a
-//! channel. The invariant of a [`Running`] is that the variables that its process changes are there.
+//! A process runs as a tree of frames (`frame.rt`), one for each process that is written, with how far it is and at which part;
+//! what it stands for is said in `specs/Frames`. A part begins, ends and begins again by a change of its frame, without memory.
+//! Frames go on for SEQ, IF, WHILE and the words without parts; [`Running::in_order`] begins a process of SEQ, WHILE and words
+//! without parts, [`Running::new`] one word without parts (`Process::runs_today`). The invariant of a [`Running`] is that the
+//! variables that its process changes are there.
 #![tactic(auto)]
 
 mod answer;
@@ -25,13 +28,18 @@ mod datum;
 mod deed;
 mod evaluation;
 mod expression;
+mod frame;
+mod framing;
+mod going;
 mod kind;
 mod laws;
 mod limits;
+mod looking;
 mod moves;
 mod openings;
 mod operator;
-mod own_moves;
+mod order;
+mod outside;
 mod phase;
 mod process;
 mod process_limits;
@@ -42,6 +50,8 @@ mod tests;
 mod use_fault;
 mod value;
 mod value_kind;
+mod variables;
+mod waits;
 
 pub use answer::Answer;
 pub use bytes_expression::BytesExpr;

@@ -1,16 +1,20 @@
 //! Running processes.
-ghost use Rattle.std.specs.Prelude.{◌≡◌, ◌≤◌, length};
-ghost use Rattle.vc_occam.specs.Frames.{needed};
+ghost use Rattle.std.specs.Prelude.{◌≡◌, length};
+ghost use Rattle.vc_occam.specs.Frames.{HasVariables, view};
+ghost use Rattle.vc_occam.specs.Moving.{deed_for as deed_of, deed_on as going_on, site_of as its_site};
 
 use crate::answer::Answer;
 use crate::datum::Datum;
-use crate::kind::Kind;
+use crate::deed::Deed;
+use crate::frame::Frame;
+use crate::framing::begin_frame;
 use crate::moves::Move;
-use crate::openings::{empty_variables, kind_of};
-use crate::own_moves::{outside, own_move, phase_after, put, set_variable};
-use crate::phase::Phase;
+use crate::openings::frame_alone;
+use crate::outside::outside;
 use crate::process::Process;
 use crate::value_kind::ValueKind;
+use crate::variables::empty_variables;
+use crate::waits::Waits;
 use sqlite_items::Items;
 use std::alloc::Global;
 use vc_packets::Memory;
@@ -19,22 +23,70 @@ use vc_packets::Memory;
 #[derive(Drop)]
 pub struct Running {
     alloc: Global,
-    kind: Kind,
-    phase: Phase,
+    frame: Frame,
     vars: Vec<Datum>,
     inside: Items<u16>,
-    ghost has_variables: { needed kind ≤ length vars.items },
+    ghost has_variables: { HasVariables (view frame).0 (length vars.items) },
+}
+
+/// What the move's site does, where the channel gave this answer.
+fn deed_for(made: &Move, answer: Answer) -> Deed
+    ensures { result ≡ deed_of made.now answer }
+{
+    match made {
+        Move::Offer { chan, .. } => Deed::Offer { chan: *chan },
+        Move::Want { chan, .. } => Deed::Want {
+            chan: *chan,
+            message: answer.message(),
+        },
+        Move::Choose { guard, chan, .. } => Deed::Choose {
+            place: *guard,
+            chan: *chan,
+            message: answer.message(),
+        },
+        Move::Stopch { chan, .. } => Deed::StopChannel { chan: *chan },
+        Move::Inner { chan, .. } => Deed::Offer { chan: *chan },
+        Move::Quiet { .. } => Deed::Quiet,
+    }
+}
+
+/// An output is finished, or a message comes.
+fn deed_on(message: Option<Items<u8>>) -> Deed
+    ensures { result ≡ going_on message }
+{
+    match message {
+        Some(message) => Deed::Message(message),
+        None => Deed::Finish,
+    }
+}
+
+/// The move's site; of an output that meets an input, the output's.
+fn site_of(made: &Move) -> u16
+    ensures { result ≡ its_site made.now }
+{
+    match made {
+        Move::Offer { site, .. } => *site,
+        Move::Want { site, .. } => *site,
+        Move::Choose { site, .. } => *site,
+        Move::Stopch { site, .. } => *site,
+        Move::Inner { sender, .. } => *sender,
+        Move::Quiet { site } => *site,
+    }
 }
 
 impl Running {
-    ghost use Rattle.std.specs.Prelude.{◌≡◌, ◌↔◌, IsTrue, IfOk, OnOk, OnErr, MatchOption, Some, None, true, ℕ};
+    ghost use Rattle.std.specs.Prelude.{◌≡◌, ◌≤◌, ◌↔◌, IsTrue, IfOk, OnOk, OnErr, MatchOption, Some, None, true, ℕ};
     ghost use Rattle.std.specs.List.{Contains};
-    ghost use Rattle.vc_occam.specs.Frames.{IsSet, listed};
+    ghost use Rattle.vc_occam.specs.Frames.{assigned_at, listed};
+    ghost use Rattle.vc_occam.specs.declared.answer.Answer.{Answer};
+    ghost use Rattle.vc_occam.specs.declared.deed.Deed.TheVariants.{Quiet};
+    ghost use Rattle.vc_occam.specs.Terms.{store};
+    ghost use Rattle.vc_occam.specs.InOrder.{in_order, number};
     ghost use Rattle.vc_occam.specs.Numbering.{written};
     ghost use Rattle.vc_occam.specs.Opening.{Fits, opening};
     ghost use Rattle.vc_occam.specs.ProcessLimits.{runs_today};
     ghost use Rattle.vc_occam.specs.Remains.{Done};
-    ghost use Rattle.vc_occam.specs.Runnings.{GoesOn, Takes, inner_channels, moves, state};
+    ghost use Rattle.vc_occam.specs.Runnings.{inner_channels, moves, state};
     ghost use Rattle.vc_occam.specs.Usage.{among};
     ghost use Rattle.vc_occam.specs.States.{Acts, FitsMove, IsAwaited, IsQuiet, Resumes, doing, sent_by, waiting, output, input};
 
@@ -53,11 +105,35 @@ impl Running {
     {
         let vars = empty_variables(alloc, kinds)?;
         let inside = Items::from_slice(alloc, inside)?;
-        let kind = kind_of(process, kinds);
+        let frame = frame_alone(alloc, process, kinds);
         Ok(Running {
             alloc,
-            kind,
-            phase: Phase::Ready,
+            frame,
+            vars,
+            inside,
+        })
+    }
+
+    /// A process in which SEQ, WHILE and words without parts stand, about to begin, as by [`Running::new`].
+    #[tactic(auto, unfolding(crate::specs::Runnings::state, crate::specs::Runnings::inner_channels))]
+    pub fn in_order(
+        alloc: Global,
+        process: &Process,
+        kinds: &[ValueKind],
+        inside: &[u16],
+    ) -> Result<Running, Memory>
+        requires order { in_order process.now ≡ true }
+        requires sites { (number process.now).sites ≤ 65536 }
+        requires fits { Fits kinds.now process.now }
+        ensures state { IfOk result (λ r. state r ≡ opening kinds.now process.now) }
+        ensures inside { IfOk result (λ r. inner_channels r ≡ among inside.now) }
+    {
+        let vars = empty_variables(alloc, kinds)?;
+        let inside = Items::from_slice(alloc, inside)?;
+        let frame = begin_frame(alloc, process)?;
+        Ok(Running {
+            alloc,
+            frame,
             vars,
             inside,
         })
@@ -68,7 +144,7 @@ impl Running {
     fn first(&self) -> Option<Move>
         ensures { moves self.now ≡ listed result }
     {
-        let own = own_move(&self.kind, self.phase, &self.vars);
+        let own = self.frame.own_move(&self.vars);
         outside(own, self.inside.as_slice())
     }
 
@@ -96,13 +172,9 @@ impl Running {
         requires { Contains (moves self.now) made.now }
         ensures { IfOk result (λ sent. sent ≡ sent_by (state self.now) made.now) }
     {
-        match (made, &self.kind) {
-            (Move::Offer { .. }, Kind::Send { value, .. }) => match value.datum(
-                self.alloc, &self.vars,
-            )? {
-                Some(datum) => Ok(Some(datum.into_message(self.alloc)?)),
-                None => Ok(None),
-            },
+        match made {
+            Move::Offer { site, .. } => self.frame.message(self.alloc, *site, &self.vars),
+            Move::Inner { sender, .. } => self.frame.message(self.alloc, *sender, &self.vars),
             _ => Ok(None),
         }
     }
@@ -117,12 +189,20 @@ impl Running {
         ensures unchanged { OnErr result ((self.new ≡ self.old) × IsQuiet made.now) }
         ensures inside { inner_channels self.new ≡ inner_channels self.old }
     {
-        match answer {
-            Answer::Got(message) => {
-                self.take(message);
-                Ok(())
-            }
-            Answer::Nothing | Answer::Waits => self.go_on(made),
+        let assigned = self.assigned_by(made)?;
+        let deed = deed_for(made, answer);
+        self.frame.go(site_of(made), deed, assigned, &mut self.vars);
+        Ok(())
+    }
+
+    /// The value that the move assigns; None where it assigns none, or its value is a fault.
+    fn assigned_by(&self, made: &Move) -> Result<Option<Datum>, Memory>
+        ensures value { IfOk result (λ value. (answer : Answer) → deed_of made.now answer ≡ Quiet → value ≡ assigned_at (view self.now.frame).1 (store self.now.vars.items)) }
+        ensures quiet { OnErr result (IsQuiet made.now) }
+    {
+        match made {
+            Move::Quiet { .. } => self.frame.assigned(self.alloc, &self.vars),
+            _ => Ok(None),
         }
     }
 
@@ -133,10 +213,7 @@ impl Running {
         ensures resumed { Resumes (state self.old) site message (state self.new) }
         ensures inside { inner_channels self.new ≡ inner_channels self.old }
     {
-        match message {
-            Some(message) => self.take(message),
-            None => self.phase = Phase::Ended,
-        }
+        self.frame.go(site, deed_on(message), None, &mut self.vars);
     }
 
     /// The site whose output on the channel waits to be finished, if there is one.
@@ -144,8 +221,8 @@ impl Running {
     pub fn output_on(&self, chan: u16) -> Option<u16>
         ensures { MatchOption result ((i : ℕ) → Contains (waiting (state self.now).rest) (output i chan) → ⊥) (λ i. Contains (waiting (state self.now).rest) (output i chan)) }
     {
-        match (self.phase, &self.kind) {
-            (Phase::Waiting, Kind::Send { chan: on, .. }) if *on == chan => Some(0),
+        match self.frame.waits() {
+            Some(Waits::Output { site, chan: on }) if on == chan => Some(site),
             _ => None,
         }
     }
@@ -155,8 +232,8 @@ impl Running {
     pub fn input_on(&self, chan: u16) -> Option<u16>
         ensures { MatchOption result ((i : ℕ) → Contains (waiting (state self.now).rest) (input i chan) → ⊥) (λ i. Contains (waiting (state self.now).rest) (input i chan)) }
     {
-        match (self.phase, &self.kind) {
-            (Phase::Waiting, Kind::Receive { chan: on, .. }) if *on == chan => Some(0),
+        match self.frame.waits() {
+            Some(Waits::Input { site, chan: on }) if on == chan => Some(site),
             _ => None,
         }
     }
@@ -166,35 +243,6 @@ impl Running {
     pub fn ended(&self) -> bool
         ensures { IsTrue result ↔ ((state self.now).rest ≡ Done) }
     {
-        self.phase == Phase::Ended
-    }
-
-    /// What is left after a move that brings no message.
-    fn go_on(&mut self, made: &Move) -> Result<(), Memory>
-        ensures done { OnOk result (GoesOn self.old made.now self.new) }
-        ensures unchanged { OnErr result ((self.new ≡ self.old) × IsSet self.old.kind) }
-    {
-        match &self.kind {
-            Kind::Set { var, value } => match value.datum(self.alloc, &self.vars)? {
-                Some(datum) => {
-                    self.phase = Phase::Ended;
-                    set_variable(&mut self.vars, *var, datum);
-                }
-                None => self.phase = Phase::Stuck,
-            },
-            _ => self.phase = phase_after(&self.kind, made),
-        }
-        Ok(())
-    }
-
-    /// The variable of an input takes its message.
-    fn take(&mut self, message: Items<u8>)
-        ensures { Takes self.old message self.new }
-    {
-        self.phase = Phase::Ended;
-        match &self.kind {
-            Kind::Receive { var, .. } => put(&mut self.vars, *var, message),
-            _ => {}
-        }
+        self.frame.ended()
     }
 }

@@ -1,27 +1,30 @@
-use Rattle.std.proofs.Common.{◌≡◌, sym, ap, ◌∙◌, subst}
-use Rattle.vc_occam.specs.Terms.{store}
+use Rattle.std.proofs.Common.{sym, subst}
+use Rattle.vc_occam.specs.declared.deed.Deed.{Deed}
+use Rattle.vc_occam.specs.Frames.{Able, Did, view}
 use Rattle.vc_occam.specs.Runnings.{state}
-use Rattle.vc_occam.specs.States.{Acts, Receives, Resumes}
-use Rattle.vc_occam.proofs.Alone.{at, after, resume-done, resume-got}
+use Rattle.vc_occam.specs.States.{State}
+use Rattle.vc_occam.specs.Terms.{store}
+use Rattle.vc_occam.proofs.Made.{able_on}
+use Rattle.vc_occam.proofs.Single.{resumes, frame_single}
 use Rattle.vc_occam.proofs.running.Running.resume.Goals as goal
 
-pub returns-in-Some-clause-resumed : goal.returns-in-Some-clause-resumed
+pub go-requires-clause-able : goal.go-requires-clause-able
 unfolding state
-returns-in-Some-clause-resumed c =
-    let old = c.args.self.now in
-    let new = c.take.new.self in
-    let e = store old.vars.items in
-    let f = store new.vars.items in
-    let is : at new.kind new.phase f ≡ after old.kind f =
-    ap (λ k. at k new.phase f) c.take.ensures.kind ∙ ap (λ p. at old.kind p f) c.take.ensures.phase in
-    subst (λ m. Resumes (at old.kind old.phase e) c.args.site m (at new.kind new.phase f)) (sym c.in-Some.is)
-    (λ chan h. subst (Acts (at old.kind old.phase e) (Receives chan c.in-Some.message)) (sym is)
-    (resume-got old.kind old.phase e f c.args.site chan c.in-Some.message c.take.ensures.vars h))
+go-requires-clause-able c =
+    let self = c.args.self.now in
+    let r = (view self.frame).1 in
+    let e = store self.vars.items in
+    subst (λ (d : Deed). Able r e c.args.site d) (sym c.deed_on.ensures) (able_on r e c.args.site c.args.message c.requires)
 
-pub returns-in-None-clause-resumed : goal.returns-in-None-clause-resumed
+pub returns-clause-resumed : goal.returns-clause-resumed
 unfolding state
-returns-in-None-clause-resumed c =
-    let old = c.args.self.now in
-    let e = store old.vars.items in
-    subst (λ m. Resumes (at old.kind old.phase e) c.args.site m (after old.kind e)) (sym c.in-None.is)
-    (λ chan h. resume-done old.kind old.phase e c.args.site chan h)
+returns-clause-resumed c =
+    let self = c.args.self.now in
+    let r = (view self.frame).1 in
+    let e = store self.vars.items in
+    let q = (view c.go.new.self).1 in
+    let f = store c.go.new.vars.items in
+    let before : State = record { rest = r; store = e } in
+    let after : State = record { rest = q; store = f } in
+    resumes before after c.args.site c.args.message (frame_single self.frame)
+    (subst (λ (d : Deed). Did r e c.args.site d q f) c.deed_on.ensures c.go.ensures.did)

@@ -8,13 +8,17 @@ use Rattle.vc_occam.specs.Syntax.{Proc, SKIP, STOP, Assign, Output, Input, StopC
 use Rattle.vc_occam.specs.Values.{Store, holds}
 use Rattle.vc_occam.specs.Usage.{Set}
 use Rattle.vc_occam.specs.Traces.{Comm, Fin, In}
-use Rattle.vc_occam.specs.Remains.{Rest, Done, begin, begin_seq, begin_par, begin_all, then_on, turns_on, beside_on, branch_on, chosen, Step, does_skip, does_empty_seq, does_empty_par, does_assign, faults_assign, faults_out, does_if, does_turn, does_leave, faults_while, does_count, does_count_none, faults_count, does_offer, does_finish, does_input, waits_input, gets, does_stop, does_choose, waits_choose, in_then, in_turns, in_left, in_right}
+use Rattle.vc_occam.specs.Remains.{and_then, Rest, Done, begin, begin_seq, begin_par, begin_all, then_on, turns_on, beside_on, branch_on, chosen, Step, does_skip, does_empty_seq, does_empty_par, does_assign, faults_assign, faults_out, does_if, does_turn, does_leave, faults_while, does_count, does_count_none, faults_count, does_offer, does_finish, does_input, waits_input, gets, does_stop, does_choose, waits_choose, in_then, in_turns, in_left, in_right}
 use Rattle.vc_occam.specs.States.{State, Doing, Offers, Wants, Chooses, Stops, Meets, Rests, Finishes, Receives, Does, meeting, Waiting, output, input, waiting}
 use Rattle.vc_occam.specs.Laws.{IsAdded, IsKept, IsRemoved, IsOutputOn, IsInputOn, WaitsAfter}
 use Rattle.vc_occam.proofs.Lists.{Inserted, inserted_here, inserted_left, inserted_right, is_inserted, inserted_keeps, inserted_or, same_without}
 
 both_wait : {xs ys : List Waiting} → xs ≡ [] → ys ≡ [] → xs ++ ys ≡ []
 both_wait {xs} {ys} h k = ap (λ zs. zs ++ ys) h ∙ k
+
+and_then_waits : (r : Rest) (ps : Procs) → waiting (and_then r ps) ≡ waiting r
+and_then_waits r no_parts = refl
+and_then_waits r (part p ps) = refl
 
 mutual
   -- a process that begins waits for nothing
@@ -34,7 +38,7 @@ mutual
 
   begin_seq_waits : (i : ℕ) (ps : Procs) → waiting (begin_seq i ps) ≡ []
   begin_seq_waits i no_parts = refl
-  begin_seq_waits i (part p ps) = begin_waits p
+  begin_seq_waits i (part p ps) = and_then_waits (begin p) ps ∙ begin_waits p
 
   begin_par_waits : (i : ℕ) (ps : Procs) → waiting (begin_par i ps) ≡ []
   begin_par_waits i no_parts = refl
@@ -46,7 +50,7 @@ mutual
 
 then_waits : (r : Rest) (ps : Procs) → waiting (then_on r ps) ≡ waiting r
 then_waits Done no_parts = refl
-then_waits Done (part p ps) = begin_waits p
+then_waits Done (part p ps) = and_then_waits (begin p) ps ∙ begin_waits p
 then_waits r ps = refl
 
 turns_waits : (r : Rest) (v : ℕ) (b : ℤ) (n : ℕ) (p : Proc) → waiting (turns_on r v b n p) ≡ waiting r

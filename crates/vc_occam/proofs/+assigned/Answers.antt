@@ -1,0 +1,38 @@
+use Rattle.std.proofs.Common.{◌∙◌, ℕ, sym, ap}
+use Rattle.std.specs.Prelude.{slice_get}
+use Rattle.vc_occam.specs.declared.frame.Frame.TheViews.{out-Frame}
+use Rattle.vc_occam.specs.Frames.{behind, part_assigned, place_of, views, assigned_at}
+use Rattle.vc_occam.specs.Remains.{Rest}
+use Rattle.vc_occam.specs.Terms.{store}
+use Rattle.vc_occam.proofs.Frames.{rest_ready, rest_going, rest_idle, rest_ended, rest_stuck, follow_assigned, idle_assigned, on_ok}
+use Rattle.vc_occam.proofs.+assigned.Goals as goal
+
+pub frame::Frame::assigned-returns-in-Ready : goal.frame::Frame::assigned-returns-in-Ready
+frame::Frame::assigned-returns-in-Ready t c =
+    let f = c.args.self.now in
+    let F = λ (r : Rest). assigned_at r (store c.args.vars.now) in
+    on_ok c.ready_assigned.result _ _ (sym (ap F (rest_ready f c.in-Ready.is))) c.ready_assigned.ensures
+
+pub frame::Frame::assigned-returns-then-has_parts : goal.frame::Frame::assigned-returns-then-has_parts
+frame::Frame::assigned-returns-then-has_parts t c =
+    let f = c.args.self.now in
+    let F = λ (r : Rest). assigned_at r (store c.args.vars.now) in
+    let o = out-Frame f in on_ok c.part_assigned_in.result _ _ (sym ((ap F (rest_going f c.in-Waiting.is (sym c.has_parts.ensures ∙ c.if-has_parts.true)) ∙ follow_assigned (slice_get (views o.parts.items) (place_of o.kind o.at)) (behind o.kind o.site (views o.parts.items) o.at) (store c.args.vars.now) ∙ ap (λ (k : ℕ). part_assigned (slice_get (views o.parts.items) k) (store c.args.vars.now)) (sym c.place.ensures)))) c.part_assigned_in.ensures
+
+pub frame::Frame::assigned-returns-else-has_parts : goal.frame::Frame::assigned-returns-else-has_parts
+frame::Frame::assigned-returns-else-has_parts t c =
+    let f = c.args.self.now in
+    let F = λ (r : Rest). assigned_at r (store c.args.vars.now) in
+    sym (idle_assigned (store c.args.vars.now) (rest_idle f c.in-Waiting.is (sym c.has_parts.ensures ∙ c.if-has_parts.false)))
+
+pub frame::Frame::assigned-returns-in-Ended : goal.frame::Frame::assigned-returns-in-Ended
+frame::Frame::assigned-returns-in-Ended t c =
+    let f = c.args.self.now in
+    let F = λ (r : Rest). assigned_at r (store c.args.vars.now) in
+    sym (ap F (rest_ended f c.in-Ended.is))
+
+pub frame::Frame::assigned-returns-in-Stuck : goal.frame::Frame::assigned-returns-in-Stuck
+frame::Frame::assigned-returns-in-Stuck t c =
+    let f = c.args.self.now in
+    let F = λ (r : Rest). assigned_at r (store c.args.vars.now) in
+    sym (ap F (rest_stuck f c.in-Stuck.is))

@@ -1,0 +1,39 @@
+use Rattle.std.proofs.Common.{◌∙◌, ℕ, sym, ap}
+use Rattle.std.specs.Prelude.{slice_get}
+use Rattle.vc_occam.specs.declared.frame.Frame.TheViews.{out-Frame}
+use Rattle.vc_occam.specs.Frames.{behind, part_output, place_of, views}
+use Rattle.vc_occam.specs.Remains.{Rest}
+use Rattle.vc_occam.specs.States.{carried, output_at}
+use Rattle.vc_occam.specs.Terms.{store}
+use Rattle.vc_occam.proofs.Frames.{rest_ready, rest_going, rest_idle, rest_ended, rest_stuck, follow_output, idle_output, on_ok}
+use Rattle.vc_occam.proofs.+message.Goals as goal
+
+pub frame::Frame::message-returns-in-Ready : goal.frame::Frame::message-returns-in-Ready
+frame::Frame::message-returns-in-Ready t c =
+    let f = c.args.self.now in
+    let F = λ (r : Rest). carried (output_at c.args.site r (store c.args.vars.now)) in
+    on_ok c.ready_message.result _ _ (sym (ap F (rest_ready f c.in-Ready.is))) c.ready_message.ensures
+
+pub frame::Frame::message-returns-then-has_parts : goal.frame::Frame::message-returns-then-has_parts
+frame::Frame::message-returns-then-has_parts t c =
+    let f = c.args.self.now in
+    let F = λ (r : Rest). carried (output_at c.args.site r (store c.args.vars.now)) in
+    let o = out-Frame f in on_ok c.part_message.result _ _ (sym ((ap F (rest_going f c.in-Waiting.is (sym c.has_parts.ensures ∙ c.if-has_parts.true)) ∙ ap carried (follow_output c.args.site (slice_get (views o.parts.items) (place_of o.kind o.at)) (behind o.kind o.site (views o.parts.items) o.at) (store c.args.vars.now)) ∙ ap (λ (k : ℕ). carried (part_output c.args.site (slice_get (views o.parts.items) k) (store c.args.vars.now))) (sym c.place.ensures)))) c.part_message.ensures
+
+pub frame::Frame::message-returns-else-has_parts : goal.frame::Frame::message-returns-else-has_parts
+frame::Frame::message-returns-else-has_parts t c =
+    let f = c.args.self.now in
+    let F = λ (r : Rest). carried (output_at c.args.site r (store c.args.vars.now)) in
+    sym (ap carried (idle_output c.args.site (store c.args.vars.now) (rest_idle f c.in-Waiting.is (sym c.has_parts.ensures ∙ c.if-has_parts.false))))
+
+pub frame::Frame::message-returns-in-Ended : goal.frame::Frame::message-returns-in-Ended
+frame::Frame::message-returns-in-Ended t c =
+    let f = c.args.self.now in
+    let F = λ (r : Rest). carried (output_at c.args.site r (store c.args.vars.now)) in
+    sym (ap F (rest_ended f c.in-Ended.is))
+
+pub frame::Frame::message-returns-in-Stuck : goal.frame::Frame::message-returns-in-Stuck
+frame::Frame::message-returns-in-Stuck t c =
+    let f = c.args.self.now in
+    let F = λ (r : Rest). carried (output_at c.args.site r (store c.args.vars.now)) in
+    sym (ap F (rest_stuck f c.in-Stuck.is))

@@ -1,0 +1,158 @@
+-- How processes with parts begin.
+use Rattle.std.proofs.Common.{◌≡◌, ℕ, zero, suc, ◌+◌, ◌≤◌, ◌<◌, Bool, true, false, refl, ap, sym, ◌∙◌, subst, List, [], ◌∷◌, map, length, get_or, set, drop, arith, Option, Some, None}
+use Rattle.std.proofs.lemmas.Bool.Decides.{nat_tests}
+use Rattle.std.specs.Prelude.{slice_get, nat_lt}
+use Rattle.vc_occam.specs.declared.condition.Cond.{Cond}
+use Rattle.vc_occam.specs.declared.deed.Deed.{Deed}
+use Rattle.vc_occam.specs.declared.frame.Frame.{Frame}
+use Rattle.vc_occam.specs.declared.going.Next.{Next}
+use Rattle.vc_occam.specs.declared.kind.Kind.{Kind}
+use Rattle.vc_occam.specs.declared.kind.Kind.TheVariants as kind
+use Rattle.vc_occam.specs.declared.phase.Phase.{Phase}
+use Rattle.vc_occam.specs.declared.phase.Phase.TheVariants as phase
+use Rattle.vc_occam.specs.Syntax.{Test, SEQ, IF, no_parts}
+use Rattle.vc_occam.specs.Terms.{test}
+use Rattle.vc_occam.specs.Values.{Store, holds}
+use Rattle.vc_occam.specs.Remains.{Rest, Done, Stopped, Fresh, begin, branch_on, chosen, does_empty_seq, does_if, does_turn, does_leave, faults_while}
+use Rattle.vc_occam.specs.Frames.{Able, Did, View, begun_at, branches_of, chosen_from, follow, has_parts, plan_at, plans, plans_of, place_on, rest_at, view, views}
+use Rattle.vc_occam.specs.Nexts.{branch_next, turn_begun, turn_next}
+
+-- the frame at a place has begun
+pub start_views : (fs : List Frame) (k : ℕ) (f g : Frame) → k < length fs → f ≡ get_or fs k f → view g ≡ ((view f).0, begin (view f).0) → views (set fs k g) ≡ begun_at k (views fs)
+start_views [] k f g l h b = refl
+start_views (x ∷ fs) zero f g l h b = ap (λ (v : View). v ∷ views fs) (b ∙ ap (λ (y : Frame). ((view y).0, begin (view y).0)) h)
+start_views (x ∷ fs) (suc k) f g l h b = ap (λ vs. view x ∷ vs) (start_views fs k f g (omega arith) h b)
+
+pub begun_none : (vs : List View) (k : ℕ) → length vs ≤ k → vs ≡ begun_at k vs
+begun_none [] k h = refl
+begun_none (v ∷ vs) zero h = absurd (omega arith)
+begun_none (v ∷ vs) (suc k) h = ap (λ ws. v ∷ ws) (begun_none vs k (omega arith))
+
+pub begun_plans : (k : ℕ) (vs : List View) → plans (begun_at k vs) ≡ plans vs
+begun_plans k [] = refl
+begun_plans zero (v ∷ vs) = refl
+begun_plans (suc k) (v ∷ vs) = ap (λ ps. v.0 ∷ ps) (begun_plans k vs)
+
+-- one condition more
+pub chosen_more : (cs : List Cond) (i k : ℕ) (c : Cond) (e : Store) → i < length cs → c ≡ get_or cs i c → chosen_from k (map test (drop i cs)) e ≡ place_on (holds (test c) e) k (chosen_from (suc k) (map test (drop (suc i) cs)) e)
+chosen_more [] i k c e l h = absurd (omega arith)
+chosen_more (d ∷ cs) zero k c e l h = ap (λ x. place_on (holds (test x) e) k (chosen_from (suc k) (map test cs) e)) (sym h)
+chosen_more (d ∷ cs) (suc i) k c e l h = chosen_more cs i k c e (omega arith) h
+
+-- a branch that begins
+abbrev pub branch_rest : Option View → Rest
+branch_rest None = Stopped
+branch_rest (Some v) = begin v.0
+
+abbrev Chosen : List Test → List View → Store → ℕ → ℕ → Type 0
+Chosen bs vs e j k = (m : ℕ) × (k ≡ j + m) × (chosen (branches_of bs vs) e ≡ branch_rest (slice_get vs m))
+
+chosen_none : (bs : List Test) (vs : List View) (e : Store) (j : ℕ) → chosen_from j bs e ≡ None → chosen (branches_of bs vs) e ≡ Stopped
+chosen_none bs [] e j h = refl
+chosen_none [] (v ∷ vs) e j h = chosen_none [] vs e j h
+chosen_none (b ∷ bs) (v ∷ vs) e j h = on (holds b e) refl h (chosen_none bs vs e (suc j))
+  where
+    on : (o : Option Bool) → holds b e ≡ o → place_on o j (chosen_from (suc j) bs e) ≡ None → (chosen_from (suc j) bs e ≡ None → chosen (branches_of bs vs) e ≡ Stopped) → branch_on (holds b e) (begin v.0) (chosen (branches_of bs vs) e) ≡ Stopped
+    on (Some true) g k f = absurd cc
+    on (Some false) g k f = rw g (f k)
+    on None g k f = rw g refl
+
+same_place : (j k : ℕ) → Some j ≡ Some k → k ≡ j
+same_place j k h = cc
+
+chosen_some : (bs : List Test) (vs : List View) (e : Store) (j k : ℕ) → chosen_from j bs e ≡ Some k → Chosen bs vs e j k
+chosen_some [] vs e j k h = absurd cc
+chosen_some (b ∷ bs) [] e j k h = on (holds b e) h (chosen_some bs [] e (suc j) k)
+  where
+    on : (o : Option Bool) → place_on o j (chosen_from (suc j) bs e) ≡ Some k → (chosen_from (suc j) bs e ≡ Some k → Chosen bs [] e (suc j) k) → Chosen (b ∷ bs) [] e j k
+    on (Some true) g f = let z = same_place j k g in (0, omega arith, refl)
+    on (Some false) g f = let n = f g in let z = n.1 in (suc n.0, omega arith, refl)
+    on None g f = absurd cc
+chosen_some (b ∷ bs) (v ∷ vs) e j k h = on (holds b e) refl h (chosen_some bs vs e (suc j) k)
+  where
+    on : (o : Option Bool) → holds b e ≡ o → place_on o j (chosen_from (suc j) bs e) ≡ Some k → (chosen_from (suc j) bs e ≡ Some k → Chosen bs vs e (suc j) k) → Chosen (b ∷ bs) (v ∷ vs) e j k
+    on (Some true) q g f = let z = same_place j k g in (0, omega arith, rw q refl)
+    on (Some false) q g f = let n = f g in let z = n.1 in (suc n.0, omega arith, rw q n.2)
+    on None q g f = absurd cc
+
+chosen_at : (bs : List Test) (vs : List View) (e : Store) (k : ℕ) → chosen_from 0 bs e ≡ Some k → chosen (branches_of bs vs) e ≡ branch_rest (slice_get vs k)
+chosen_at bs vs e k h =
+    let n = chosen_some bs vs e 0 k h in
+    let z : n.0 ≡ k = let y = n.1 in omega arith in
+    n.2 ∙ ap (λ m. branch_rest (slice_get vs m)) z
+
+abbrev after_phase : Phase → Rest → Rest
+after_phase phase.Ready r = Stopped
+after_phase phase.Waiting r = r
+after_phase phase.Ended r = Done
+after_phase phase.Stuck r = Stopped
+
+abbrev after : Next → List View → Rest
+after n vs = after_phase n.phase (follow (slice_get vs n.at) no_parts)
+
+branch_is : (vs : List View) (k : ℕ) (b : Bool) → b ≡ nat_lt k (length vs) → branch_rest (slice_get vs k) ≡ after (branch_next k b) (begun_at k vs)
+branch_is [] k true h = absurd (grind (arith, nat_tests))
+branch_is [] k false h = refl
+branch_is (v ∷ vs) zero true h = refl
+branch_is (v ∷ vs) zero false h = absurd (grind (arith, nat_tests))
+branch_is (v ∷ vs) (suc k) true h = branch_is vs k true (grind (arith, nat_tests))
+branch_is (v ∷ vs) (suc k) false h = branch_is vs k false (grind (arith, nat_tests))
+
+if_did : (i : ℕ) (cs : List Cond) (vs : List View) (e : Store) (s : ℕ) (d : Deed) (r : Rest) → chosen (branches_of (map test cs) vs) e ≡ r → Able (Fresh (IF i (branches_of (map test cs) vs))) e s d → Did (Fresh (IF i (branches_of (map test cs) vs))) e s d r e
+if_did i cs vs e s d r h (ks, q, f, does_if) = subst (λ x. Did (Fresh (IF i (branches_of (map test cs) vs))) e s d x e) h ([], does_if)
+
+placed : (i : ℕ) (cs : List Cond) (vs : List View) (e : Store) (s : ℕ) (d : Deed) (k : ℕ) (b : Bool) → b ≡ nat_lt k (length vs) → chosen (branches_of (map test cs) vs) e ≡ branch_rest (slice_get vs k) → Able (Fresh (plan_at (kind.If cs) i vs)) e s d →
+    Did (Fresh (plan_at (kind.If cs) i vs)) e s d (rest_at (kind.If cs) (branch_next k b).phase i (begun_at k vs) (branch_next k b).at) e
+placed i cs vs e s d k true h c a = if_did i cs vs e s d _ (c ∙ branch_is vs k true h) a
+placed i cs vs e s d k false h c a = if_did i cs vs e s d _ (c ∙ branch_is vs k false h) a
+
+pub branch_did : (i : ℕ) (cs : List Cond) (vs ws : List View) (e : Store) (s : ℕ) (d : Deed) (k : ℕ) (n : Next) → Some k ≡ chosen_from 0 (map test cs) e → ws ≡ begun_at k vs → n ≡ branch_next k (nat_lt k (length vs)) → Able (Fresh (plan_at (kind.If cs) i vs)) e s d →
+    Did (Fresh (plan_at (kind.If cs) i vs)) e s d (rest_at (kind.If cs) n.phase i ws n.at) e
+branch_did i cs vs ws e s d k n h w g a =
+    subst (λ m. Did (Fresh (plan_at (kind.If cs) i vs)) e s d (rest_at (kind.If cs) m.phase i ws m.at) e) (sym g)
+    (subst (λ us. Did (Fresh (plan_at (kind.If cs) i vs)) e s d (rest_at (kind.If cs) (branch_next k (nat_lt k (length vs))).phase i us (branch_next k (nat_lt k (length vs))).at) e) (sym w)
+    (placed i cs vs e s d k (nat_lt k (length vs)) refl (chosen_at (map test cs) vs e k (sym h)) a))
+
+pub fault_did : (i : ℕ) (cs : List Cond) (vs : List View) (e : Store) (s : ℕ) (d : Deed) → None ≡ chosen_from 0 (map test cs) e → Able (Fresh (plan_at (kind.If cs) i vs)) e s d → Did (Fresh (plan_at (kind.If cs) i vs)) e s d Stopped e
+fault_did i cs vs e s d h a = if_did i cs vs e s d Stopped (chosen_none (map test cs) vs e 0 (sym h)) a
+
+tested : (i : ℕ) (c : Cond) (vs : List View) (e : Store) (s : ℕ) (d : Deed) (b : Bool) → holds (test c) e ≡ Some b → Able (Fresh (plan_at (kind.While c) i vs)) e s d → Did (Fresh (plan_at (kind.While c) i vs)) e s d (rest_at (kind.While c) (turn_next b).phase i (turn_begun b vs) (turn_next b).at) e
+tested i c [] e s d b h (ks, q, f, st) = elim st [ ]
+tested i c (v ∷ vs) e s d true h (ks, q, f, does_turn g) = ([], does_turn h)
+tested i c (v ∷ vs) e s d true h (ks, q, f, does_leave g) = ([], does_turn h)
+tested i c (v ∷ vs) e s d true h (ks, q, f, faults_while g) = ([], does_turn h)
+tested i c (v ∷ vs) e s d false h (ks, q, f, does_turn g) = ([], does_leave h)
+tested i c (v ∷ vs) e s d false h (ks, q, f, does_leave g) = ([], does_leave h)
+tested i c (v ∷ vs) e s d false h (ks, q, f, faults_while g) = ([], does_leave h)
+
+pub turn_did : (i : ℕ) (c : Cond) (vs ws : List View) (e : Store) (s : ℕ) (d : Deed) (b : Bool) (n : Next) → Some b ≡ holds (test c) e → ws ≡ turn_begun b vs → n ≡ turn_next b → Able (Fresh (plan_at (kind.While c) i vs)) e s d →
+    Did (Fresh (plan_at (kind.While c) i vs)) e s d (rest_at (kind.While c) n.phase i ws n.at) e
+turn_did i c vs ws e s d b n h w g a =
+    subst (λ m. Did (Fresh (plan_at (kind.While c) i vs)) e s d (rest_at (kind.While c) m.phase i ws m.at) e) (sym g)
+    (subst (λ us. Did (Fresh (plan_at (kind.While c) i vs)) e s d (rest_at (kind.While c) (turn_next b).phase i us (turn_next b).at) e) (sym w)
+    (tested i c vs e s d b (sym h) a))
+
+pub no_turn : (i : ℕ) (c : Cond) (vs : List View) (e : Store) (s : ℕ) (d : Deed) → None ≡ holds (test c) e → Able (Fresh (plan_at (kind.While c) i vs)) e s d → Did (Fresh (plan_at (kind.While c) i vs)) e s d Stopped e
+no_turn i c [] e s d h (ks, q, f, st) = elim st [ ]
+no_turn i c (v ∷ vs) e s d h (ks, q, f, does_turn g) = ([], faults_while (sym h))
+no_turn i c (v ∷ vs) e s d h (ks, q, f, does_leave g) = ([], faults_while (sym h))
+no_turn i c (v ∷ vs) e s d h (ks, q, f, faults_while g) = ([], faults_while g)
+
+empty_seq : (i : ℕ) (vs : List View) (e : Store) (s : ℕ) (d : Deed) → Able (Fresh (SEQ i (plans_of vs))) e s d → Did (Fresh (SEQ i (plans_of vs))) e s d Done e
+empty_seq i [] e s d (ks, q, f, does_empty_seq) = ([], does_empty_seq)
+empty_seq i (v ∷ vs) e s d (ks, q, f, st) = elim st [ ]
+
+pub seq_did : (k : Kind) (i : ℕ) (vs : List View) (e : Store) (s : ℕ) (d : Deed) → has_parts k ≡ true → ((cs : List Cond) → k ≡ kind.If cs → ⊥) → ((c : Cond) → k ≡ kind.While c → ⊥) → Able (Fresh (plan_at k i vs)) e s d → Did (Fresh (plan_at k i vs)) e s d Done e
+seq_did kind.Skip i vs e s d h x y a = absurd (let z : false ≡ true = h in cc)
+seq_did kind.Stop i vs e s d h x y a = absurd (let z : false ≡ true = h in cc)
+seq_did (kind.Set v b) i vs e s d h x y a = absurd (let z : false ≡ true = h in cc)
+seq_did (kind.Send c b) i vs e s d h x y a = absurd (let z : false ≡ true = h in cc)
+seq_did (kind.Receive c v) i vs e s d h x y a = absurd (let z : false ≡ true = h in cc)
+seq_did (kind.Stopch c) i vs e s d h x y a = absurd (let z : false ≡ true = h in cc)
+seq_did kind.Seq i vs e s d h x y a = empty_seq i vs e s d a
+seq_did (kind.If cs) i vs e s d h x y a = absurd (x cs refl)
+seq_did (kind.While c) i vs e s d h x y a = absurd (y c refl)
+
+pub turn_plans : (b : Bool) (vs : List View) → plans (turn_begun b vs) ≡ plans vs
+turn_plans true vs = begun_plans 0 vs
+turn_plans false vs = refl

@@ -1,0 +1,46 @@
+-- What a process without parts does.
+use Rattle.std.proofs.Common.{◌≡◌, ℕ, true, refl, sym, subst, List, [], arith, Some, None, ◌<◌}
+use Rattle.std.proofs.lemmas.Bool.Decides.{nat_tests}
+use Rattle.vc_occam.specs.declared.datum.Datum.{Datum}
+use Rattle.vc_occam.specs.declared.deed.Deed.{Deed}
+use Rattle.vc_occam.specs.declared.deed.Deed.TheVariants as deed
+use Rattle.vc_occam.specs.declared.kind.Kind.{Kind}
+use Rattle.vc_occam.specs.declared.kind.Kind.TheVariants as kind
+use Rattle.vc_occam.specs.declared.phase.Phase.{Phase}
+use Rattle.vc_occam.specs.declared.value.Value.{Value}
+use Rattle.vc_occam.specs.Syntax.{Given, Assign}
+use Rattle.vc_occam.specs.Traces.{set}
+use Rattle.vc_occam.specs.Usage.{just}
+use Rattle.vc_occam.specs.Values.{Store, datum_of}
+use Rattle.vc_occam.specs.Remains.{Rest, Done, Stopped, Fresh, does_assign, faults_assign}
+use Rattle.vc_occam.specs.Frames.{Able, Did, HasVariables, View, plan_at, rest_at}
+
+module _ (i : ℕ) (vs : List View) (at : ℕ) (e f : Store) (s : ℕ) (d : Deed) where
+  abbrev Begins : Phase → Kind → Type 0
+  Begins ph k = Able (Fresh (plan_at k i vs)) e s d → Did (Fresh (plan_at k i vs)) e s d (rest_at k ph i vs at) f
+
+  pub at_kind : (ph : Phase) (k j : Kind) → k ≡ j → Begins ph j → Begins ph k
+  at_kind ph k j h b = subst (Begins ph) (sym h) b
+
+pub set_did : (i v : ℕ) (a : Given) (e : Store) (s : ℕ) (d : Deed) (x : Datum) → (d ≡ deed.Quiet → Some x ≡ datum_of a e) → Able (Fresh (Assign i v a)) e s d → Did (Fresh (Assign i v a)) e s d Done (set e v x)
+set_did i v a e s d x h (ks, q, f, does_assign k) = (ks, does_assign (sym (h refl)))
+set_did i v a e s d x h (ks, q, f, faults_assign k) = (ks, does_assign (sym (h refl)))
+
+pub set_faulted : (i v : ℕ) (a : Given) (e : Store) (s : ℕ) (d : Deed) → (d ≡ deed.Quiet → None ≡ datum_of a e) → Able (Fresh (Assign i v a)) e s d → Did (Fresh (Assign i v a)) e s d Stopped e
+set_faulted i v a e s d h (ks, q, f, does_assign k) = (ks, faults_assign (sym (h refl)))
+set_faulted i v a e s d h (ks, q, f, faults_assign k) = (ks, faults_assign k)
+
+itself : (v : ℕ) → just v v ≡ true
+itself v = grind (arith, nat_tests)
+
+pub set_variable_there : (k : Kind) (i v n : ℕ) (a : Value) → k ≡ kind.Set v a → HasVariables (plan_at k i []) n → v < n
+set_variable_there k i v n a h g = subst (λ (j : Kind). HasVariables (plan_at j i []) n) h g v (itself v)
+
+pub input_variable_there : (k : Kind) (i c v n : ℕ) → k ≡ kind.Receive c v → HasVariables (plan_at k i []) n → v < n
+input_variable_there k i c v n h g = subst (λ (j : Kind). HasVariables (plan_at j i []) n) h g v (itself v)
+
+pub did_store : (r : Rest) (e : Store) (s : ℕ) (d : Deed) (q : Rest) (f g : Store) → g ≡ f → Did r e s d q f → Did r e s d q g
+did_store r e s d q f g h = subst (λ z. Did r e s d q z) (sym h)
+
+pub just_is : (v w : ℕ) → just w v ≡ true → v ≡ w
+just_is v w h = grind (arith, nat_tests)

@@ -1,0 +1,263 @@
+-- What frames stand for.
+use Rattle.std.proofs.Common.{◌≡◌, ℕ, zero, suc, Bool, true, false, ◌&&◌, refl, ap, sym, ◌∙◌, subst, List, [], ◌∷◌, length, arith, Option, Some, None, Vec, Global, drop, Result, Ok, Err}
+use Rattle.std.proofs.lemmas.Bool.Decides.{nat_tests}
+use Rattle.std.specs.Prelude.{slice_get, vec_len, nat_le, IfOk, ◌==◌}
+use Rattle.vc_occam.specs.Syntax.{Test, Proc, SEQ, Procs, no_parts, part}
+use Rattle.vc_occam.specs.Remains.{Rest, Done, Stopped, Fresh, Finishing, Getting, and_then, begin}
+use Rattle.vc_occam.specs.declared.kind.Kind.{Kind}
+use Rattle.vc_occam.specs.declared.kind.Kind.TheVariants as kind
+use Rattle.vc_occam.specs.declared.phase.Phase.{Phase}
+use Rattle.vc_occam.specs.declared.phase.Phase.TheVariants as phase
+use Rattle.vc_occam.specs.declared.frame.Frame.{Frame}
+use Rattle.vc_occam.specs.declared.frame.Frame.TheOpen.{Frame-F}
+use Rattle.vc_occam.specs.declared.frame.Frame.TheViews.{out-Frame, roll-Frame}
+use Rattle.vc_occam.specs.declared.frame.Frame.TheFolds.{fold-roll-Frame, fold_out-Frame}
+use Rattle.vc_occam.specs.declared.value.Value.{Value}
+use Rattle.vc_occam.specs.Values.{Store}
+use Rattle.vc_occam.specs.First.{own}
+use Rattle.vc_occam.specs.declared.moves.Move.TheVariants.{Quiet}
+use Rattle.vc_occam.specs.States.{waiting, output_at}
+use Rattle.vc_occam.specs.Frames.{View, plans_of, behind, follow, going_at, has_parts, is_last, place_of, while_of, so_far, plan_at, rest_at, view_step, view, views, is_done, part_done, part_own, part_waits, part_output, part_assigned, assigned_at, begun_parts, begun_phase}
+
+pub view_roll : (f : Frame-F Frame) → view (roll-Frame f) ≡ (plan_at f.kind f.site (views f.parts.items), rest_at f.kind f.phase f.site (views f.parts.items) f.at)
+unfolding view view_step
+view_roll = fold-roll-Frame View view_step
+
+pub view_out : (f : Frame) → view f ≡ (plan_at (out-Frame f).kind (out-Frame f).site (views (out-Frame f).parts.items), rest_at (out-Frame f).kind (out-Frame f).phase (out-Frame f).site (views (out-Frame f).parts.items) (out-Frame f).at)
+unfolding view view_step
+view_out = fold_out-Frame View view_step
+
+abbrev pub done_by : Phase → Bool → Bool → Bool
+done_by phase.Ready l d = false
+done_by phase.Waiting l d = l && d
+done_by phase.Ended l d = true
+done_by phase.Stuck l d = false
+
+-- a rest with nothing behind it has ended when it has, and with something behind it hasn't
+no_plans : Procs → Bool
+no_plans no_parts = true
+no_plans (part p ps) = false
+
+done_then : (r : Rest) (ps : Procs) → is_done (and_then r ps) ≡ (no_plans ps && is_done r)
+unfolding no_plans
+done_then r no_parts = refl
+done_then r (part p ps) = refl
+
+le_suc : (m n : ℕ) → nat_le (suc m) (suc n) ≡ nat_le m n
+le_suc m n = grind (arith, nat_tests)
+
+none_behind : (vs : List View) (k : ℕ) → no_plans (plans_of (drop (suc k) vs)) ≡ nat_le (length vs) (suc k)
+unfolding no_plans
+none_behind [] k = grind (arith, nat_tests)
+none_behind (v ∷ []) zero = refl
+none_behind (v ∷ w ∷ vs) zero = grind (arith, nat_tests)
+none_behind (v ∷ vs) (suc k) = none_behind vs k ∙ sym (le_suc (length vs) (suc k))
+
+follow_done : (o : Option View) (ps : Procs) → is_done (follow o ps) ≡ (no_plans ps && part_done o)
+unfolding no_plans
+follow_done None no_parts = refl
+follow_done None (part p ps) = refl
+follow_done (Some v) ps = done_then v.1 ps
+
+going_done : (k : Kind) (i : ℕ) (vs : List View) (at : ℕ) → is_done (going_at k i vs at) ≡ (is_last k at (length vs) && part_done (slice_get vs (place_of k at)))
+unfolding no_plans
+going_done kind.Skip i vs at = refl
+going_done kind.Stop i vs at = refl
+going_done (kind.Set v a) i vs at = refl
+going_done (kind.Send c a) i vs at = refl
+going_done (kind.Receive c v) i vs at = refl
+going_done (kind.Stopch c) i vs at = refl
+going_done kind.Seq i vs at = follow_done (slice_get vs at) (plans_of (drop (suc at) vs)) ∙ ap (λ b. b && part_done (slice_get vs at)) (none_behind vs at)
+going_done (kind.If bs) i vs at = follow_done (slice_get vs at) no_parts
+going_done (kind.While b) i vs at = follow_done (slice_get vs 0) (behind (kind.While b) i vs at)
+
+done_phase : (ph : Phase) (p : Proc) (r : Rest) (l d : Bool) → is_done r ≡ (l && d) → is_done (so_far ph p r) ≡ done_by ph l d
+done_phase phase.Ready p r l d h = refl
+done_phase phase.Waiting p r l d h = h
+done_phase phase.Ended p r l d h = refl
+done_phase phase.Stuck p r l d h = refl
+
+pub ended_is : (f : Frame) → is_done (view f).1 ≡ done_by (out-Frame f).phase (is_last (out-Frame f).kind (out-Frame f).at (length (views (out-Frame f).parts.items))) (part_done (slice_get (views (out-Frame f).parts.items) (place_of (out-Frame f).kind (out-Frame f).at)))
+ended_is f =
+    let o = out-Frame f in
+    let vs = views o.parts.items in
+    ap (λ (v : View). is_done v.1) (view_out f) ∙ done_phase o.phase (plan_at o.kind o.site vs) (going_at o.kind o.site vs o.at) _ _ (going_done o.kind o.site vs o.at)
+
+pub length-views : (fs : List Frame) → length (views fs) ≡ length fs
+length-views [] = refl
+length-views (f ∷ fs) = ap suc (length-views fs)
+
+pub parts_len : (v : Vec Frame Global) → vec_len v ≡ length (views v.items)
+parts_len v = v.ok.0 ∙ sym (length-views v.items)
+
+pub ended_by : (f : Frame) (p : Phase) (l d : Bool) → (out-Frame f).phase ≡ p → is_last (out-Frame f).kind (out-Frame f).at (vec_len (out-Frame f).parts) ≡ l → part_done (slice_get (views (out-Frame f).parts.items) (place_of (out-Frame f).kind (out-Frame f).at)) ≡ d → is_done (view f).1 ≡ done_by p l d
+ended_by f p l d hp hl hd =
+    let o = out-Frame f in
+    ended_is f ∙ ap (λ n. done_by o.phase (is_last o.kind o.at n) (part_done (slice_get (views o.parts.items) (place_of o.kind o.at)))) (sym (parts_len o.parts)) ∙ rw (hp, hl, hd) refl
+
+pub frame_begun : (k : Kind) (i : ℕ) (vs : List View) → ◌≡◌ {A = View} (plan_at k i (begun_parts k vs), rest_at k (begun_phase k vs) i (begun_parts k vs) 0) (plan_at k i vs, begin (plan_at k i vs))
+frame_begun kind.Skip i vs = refl
+frame_begun kind.Stop i vs = refl
+frame_begun (kind.Set v a) i vs = refl
+frame_begun (kind.Send c a) i vs = refl
+frame_begun (kind.Receive c v) i vs = refl
+frame_begun (kind.Stopch c) i vs = refl
+frame_begun kind.Seq i [] = refl
+frame_begun kind.Seq i (v ∷ vs) = refl
+frame_begun (kind.If bs) i vs = refl
+frame_begun (kind.While b) i [] = refl
+frame_begun (kind.While b) i (v ∷ vs) = refl
+
+-- what remains, by how far it is
+rest_by : (f : Frame) (p : Phase) → (out-Frame f).phase ≡ p → (view f).1 ≡ rest_at (out-Frame f).kind p (out-Frame f).site (views (out-Frame f).parts.items) (out-Frame f).at
+rest_by f p h =
+    let o = out-Frame f in
+    ap (λ (v : View). v.1) (view_out f) ∙ ap (λ q. rest_at o.kind q o.site (views o.parts.items) o.at) h
+
+pub rest_ready : (f : Frame) → (out-Frame f).phase ≡ phase.Ready → (view f).1 ≡ Fresh (plan_at (out-Frame f).kind (out-Frame f).site (views (out-Frame f).parts.items))
+rest_ready f h = rest_by f phase.Ready h
+
+pub rest_waiting : (f : Frame) → (out-Frame f).phase ≡ phase.Waiting → (view f).1 ≡ going_at (out-Frame f).kind (out-Frame f).site (views (out-Frame f).parts.items) (out-Frame f).at
+rest_waiting f h = rest_by f phase.Waiting h
+
+pub rest_ended : (f : Frame) → (out-Frame f).phase ≡ phase.Ended → (view f).1 ≡ Done
+rest_ended f h = rest_by f phase.Ended h
+
+pub rest_stuck : (f : Frame) → (out-Frame f).phase ≡ phase.Stuck → (view f).1 ≡ Stopped
+rest_stuck f h = rest_by f phase.Stuck h
+
+-- a process that is at one of its parts
+pub going_part : (k : Kind) (i : ℕ) (vs : List View) (at : ℕ) → has_parts k ≡ true → going_at k i vs at ≡ follow (slice_get vs (place_of k at)) (behind k i vs at)
+going_part kind.Skip i vs at h = absurd (let e : false ≡ true = h in cc)
+going_part kind.Stop i vs at h = absurd (let e : false ≡ true = h in cc)
+going_part (kind.Set v a) i vs at h = absurd (let e : false ≡ true = h in cc)
+going_part (kind.Send c a) i vs at h = absurd (let e : false ≡ true = h in cc)
+going_part (kind.Receive c v) i vs at h = absurd (let e : false ≡ true = h in cc)
+going_part (kind.Stopch c) i vs at h = absurd (let e : false ≡ true = h in cc)
+going_part kind.Seq i vs at h = refl
+going_part (kind.If bs) i vs at h = refl
+going_part (kind.While b) i vs at h = refl
+
+-- one that has none waits, or never goes on
+pub data IsIdle : Rest → Type 0 where
+  idle_stopped : IsIdle Stopped
+  idle_finishing : {i c : ℕ} → IsIdle (Finishing i c)
+  idle_getting : {i c v : ℕ} → IsIdle (Getting i c v)
+
+going_idle : (k : Kind) (i : ℕ) (vs : List View) (at : ℕ) → has_parts k ≡ false → IsIdle (going_at k i vs at)
+going_idle kind.Skip i vs at h = idle_stopped
+going_idle kind.Stop i vs at h = idle_stopped
+going_idle (kind.Set v a) i vs at h = idle_stopped
+going_idle (kind.Send c a) i vs at h = idle_finishing
+going_idle (kind.Receive c v) i vs at h = idle_getting
+going_idle (kind.Stopch c) i vs at h = idle_stopped
+going_idle kind.Seq i vs at h = absurd (let e : true ≡ false = h in cc)
+going_idle (kind.If bs) i vs at h = absurd (let e : true ≡ false = h in cc)
+going_idle (kind.While b) i vs at h = absurd (let e : true ≡ false = h in cc)
+
+pub rest_idle : (f : Frame) → (out-Frame f).phase ≡ phase.Waiting → has_parts (out-Frame f).kind ≡ false → IsIdle (view f).1
+rest_idle f h k =
+    let o = out-Frame f in
+    subst IsIdle (sym (rest_waiting f h)) (going_idle o.kind o.site (views o.parts.items) o.at k)
+
+pub idle_own : {r : Rest} (e : Store) → IsIdle r → own r e ≡ []
+idle_own e idle_stopped = refl
+idle_own e idle_finishing = refl
+idle_own e idle_getting = refl
+
+pub idle_output : {r : Rest} (i : ℕ) (e : Store) → IsIdle r → output_at i r e ≡ None
+idle_output i e idle_stopped = refl
+idle_output i e idle_finishing = refl
+idle_output i e idle_getting = refl
+
+pub idle_assigned : {r : Rest} (e : Store) → IsIdle r → assigned_at r e ≡ None
+idle_assigned e idle_stopped = refl
+idle_assigned e idle_finishing = refl
+idle_assigned e idle_getting = refl
+
+going_nothing : (k : Kind) (i : ℕ) (vs : List View) (at : ℕ) → has_parts k ≡ false → ((c : ℕ) (a : Value) → k ≡ kind.Send c a → ⊥) → ((c v : ℕ) → k ≡ kind.Receive c v → ⊥) → going_at k i vs at ≡ Stopped
+going_nothing kind.Skip i vs at h s r = refl
+going_nothing kind.Stop i vs at h s r = refl
+going_nothing (kind.Set v a) i vs at h s r = refl
+going_nothing (kind.Send c a) i vs at h s r = absurd (s c a refl)
+going_nothing (kind.Receive c v) i vs at h s r = absurd (r c v refl)
+going_nothing (kind.Stopch c) i vs at h s r = refl
+going_nothing kind.Seq i vs at h s r = absurd (let e : true ≡ false = h in cc)
+going_nothing (kind.If bs) i vs at h s r = absurd (let e : true ≡ false = h in cc)
+going_nothing (kind.While b) i vs at h s r = absurd (let e : true ≡ false = h in cc)
+
+pub rest_nothing : (f : Frame) → (out-Frame f).phase ≡ phase.Waiting → has_parts (out-Frame f).kind ≡ false → ((c : ℕ) (a : Value) → (out-Frame f).kind ≡ kind.Send c a → ⊥) → ((c v : ℕ) → (out-Frame f).kind ≡ kind.Receive c v → ⊥) → (view f).1 ≡ Stopped
+rest_nothing f h k s r =
+    let o = out-Frame f in
+    rest_waiting f h ∙ going_nothing o.kind o.site (views o.parts.items) o.at k s r
+
+then_own : (r : Rest) (ps : Procs) (e : Store) → own (and_then r ps) e ≡ own r e
+then_own r no_parts e = refl
+then_own r (part p ps) e = refl
+
+pub follow_own : (o : Option View) (ps : Procs) (e : Store) → own (follow o ps) e ≡ part_own o e
+follow_own None ps e = refl
+follow_own (Some v) ps e = then_own v.1 ps e
+
+then_waits : (r : Rest) (ps : Procs) → waiting (and_then r ps) ≡ waiting r
+then_waits r no_parts = refl
+then_waits r (part p ps) = refl
+
+pub follow_waits : (o : Option View) (ps : Procs) → waiting (follow o ps) ≡ part_waits o
+follow_waits None ps = refl
+follow_waits (Some v) ps = then_waits v.1 ps
+
+then_output : (i : ℕ) (r : Rest) (ps : Procs) (e : Store) → output_at i (and_then r ps) e ≡ output_at i r e
+then_output i r no_parts e = refl
+then_output i r (part p ps) e = refl
+
+pub follow_output : (i : ℕ) (o : Option View) (ps : Procs) (e : Store) → output_at i (follow o ps) e ≡ part_output i o e
+follow_output i None ps e = refl
+follow_output i (Some v) ps e = then_output i v.1 ps e
+
+then_assigned : (r : Rest) (ps : Procs) (e : Store) → assigned_at (and_then r ps) e ≡ assigned_at r e
+then_assigned r no_parts e = refl
+then_assigned r (part p ps) e = refl
+
+pub follow_assigned : (o : Option View) (ps : Procs) (e : Store) → assigned_at (follow o ps) e ≡ part_assigned o e
+follow_assigned None ps e = refl
+follow_assigned (Some v) ps e = then_assigned v.1 ps e
+
+pub rest_sending : (f : Frame) (c : ℕ) (a : Value) → (out-Frame f).phase ≡ phase.Waiting → (out-Frame f).kind ≡ kind.Send c a → (view f).1 ≡ Finishing (out-Frame f).site c
+rest_sending f c a h k =
+    let o = out-Frame f in
+    rest_waiting f h ∙ ap (λ k. going_at k o.site (views o.parts.items) o.at) k
+
+pub rest_receiving : (f : Frame) (c v : ℕ) → (out-Frame f).phase ≡ phase.Waiting → (out-Frame f).kind ≡ kind.Receive c v → (view f).1 ≡ Getting (out-Frame f).site c v
+rest_receiving f c v h k =
+    let o = out-Frame f in
+    rest_waiting f h ∙ ap (λ k. going_at k o.site (views o.parts.items) o.at) k
+
+pub rest_going : (f : Frame) → (out-Frame f).phase ≡ phase.Waiting → has_parts (out-Frame f).kind ≡ true →
+    (view f).1 ≡ follow (slice_get (views (out-Frame f).parts.items) (place_of (out-Frame f).kind (out-Frame f).at)) (behind (out-Frame f).kind (out-Frame f).site (views (out-Frame f).parts.items) (out-Frame f).at)
+rest_going f h k =
+    let o = out-Frame f in
+    rest_waiting f h ∙ going_part o.kind o.site (views o.parts.items) o.at k
+
+pub on_ok : {T E : Type 0} (r : Result T E) (x y : T) → x ≡ y → IfOk r (λ v. v ≡ x) → IfOk r (λ v. v ≡ y)
+on_ok (Ok v) x y e h = h ∙ e
+on_ok (Err v) x y e h = h
+
+pub seq_waits : (i : ℕ) (vs : List View) (e : Store) → (length vs ≡ 0 → ⊥) → own (Fresh (SEQ i (plans_of vs))) e ≡ []
+seq_waits i [] e h = absurd (h refl)
+seq_waits i (v ∷ vs) e h = refl
+
+pub some_left : (v : Vec Frame Global) (b : Bool) → b ≡ (vec_len v == 0) → b ≡ false → length (views v.items) ≡ 0 → ⊥
+some_left v b h e z =
+    let n : length (views v.items) ≡ length v.items = length-views v.items in
+    let o : vec_len v ≡ length v.items = v.ok.0 in
+    let t : (vec_len v == 0) ≡ false = sym h ∙ e in
+    grind (arith, nat_tests)
+
+pub while_waits : (i : ℕ) (b : Test) (vs : List View) (e : Store) → length vs ≡ 0 → own (Fresh (while_of i b vs)) e ≡ []
+while_waits i b [] e h = refl
+while_waits i b (v ∷ vs) e h = absurd (omega arith)
+
+pub while_tests : (i : ℕ) (b : Test) (vs : List View) (e : Store) → (length vs ≡ 0 → ⊥) → own (Fresh (while_of i b vs)) e ≡ Quiet i ∷ []
+while_tests i b [] e h = absurd (h refl)
+while_tests i b (v ∷ vs) e h = refl

@@ -1,0 +1,254 @@
+-- How a part's step is a step of the process around it.
+use Rattle.std.proofs.Common.{◌≡◌, ℕ, zero, suc, ◌≤◌, ◌<◌, Bool, true, false, ◌&&◌, refl, ap, sym, ◌∙◌, subst, List, [], ◌∷◌, map, length, get_or, set, drop, arith, Option, Some, None}
+use Rattle.std.proofs.lemmas.Bool.Decides.{nat_tests}
+use Rattle.std.specs.Prelude.{slice_get, nat_lt, is_some, if◌then◌else◌}
+use Rattle.vc_occam.specs.declared.deed.Deed.{Deed}
+use Rattle.vc_occam.specs.declared.frame.Frame.{Frame}
+use Rattle.vc_occam.specs.declared.kind.Kind.{Kind}
+use Rattle.vc_occam.specs.declared.kind.Kind.TheVariants as kind
+use Rattle.vc_occam.specs.declared.phase.Phase.{Phase}
+use Rattle.vc_occam.specs.declared.phase.Phase.TheVariants as phase
+use Rattle.vc_occam.specs.Syntax.{Test, Proc, STOP, SEQ, IF, WHILE, Procs, no_parts, part, Branches, no_branches, branch, Constant}
+use Rattle.vc_occam.specs.Terms.{test}
+use Rattle.vc_occam.specs.Usage.{changes, changes_all, changes_branches}
+use Rattle.vc_occam.specs.Values.{Store}
+use Rattle.vc_occam.specs.Remains.{Rest, Done, Stopped, Fresh, Finishing, Getting, Then, Turns, Beside, and_then, then_on, in_then}
+use Rattle.vc_occam.specs.Frames.{Able, Did, HasVariables, PartHasVariables, View, assigned_at, begun_at, behind, branches_of, follow, follow_on, has_parts, is_done, on_part, part_assigned, part_done, part_rest, place_of, plan_at, plans, plans_of, rest_at, view, views, while_of}
+use Rattle.vc_occam.specs.Nexts.{goes_further, seq_begun, seq_next}
+use Rattle.vc_occam.proofs.Beginning.{begun_plans}
+use Rattle.vc_occam.proofs.Frames.{going_part, follow_assigned}
+use Rattle.vc_occam.proofs.Stores.{or_left, or_right}
+
+then_able : (r : Rest) (ps : Procs) (e : Store) (s : ℕ) (d : Deed) → Able (and_then r ps) e s d → Able r e s d
+then_able r no_parts e s d a = a
+then_able r (part p ps) e s d (ks, q, f, in_then {r' = r'} {e' = e'} st) = (ks, r', e', st)
+
+follow_able : (o : Option View) (ps : Procs) (e : Store) (s : ℕ) (d : Deed) → Able (follow o ps) e s d → Able (part_rest o) e s d
+follow_able None ps e s d a = a
+follow_able (Some v) ps e s d a = then_able v.1 ps e s d a
+
+then_did : (r q : Rest) (ps : Procs) (e f : Store) (s : ℕ) (d : Deed) → Did r e s d q f → Did (and_then r ps) e s d (on_part q ps) f
+then_did r q no_parts e f s d h = h
+then_did r q (part p ps) e f s d h = (h.0, in_then h.1)
+
+follow_did : (o w : Option View) (ps : Procs) (e f : Store) (s : ℕ) (d : Deed) → is_some w ≡ is_some o → Did (part_rest o) e s d (part_rest w) f → Did (follow o ps) e s d (follow_on w ps) f
+follow_did None None ps e f s d h k = k
+follow_did None (Some w) ps e f s d h k = absurd (let z : true ≡ false = h in cc)
+follow_did (Some v) None ps e f s d h k = absurd (let z : false ≡ true = h in cc)
+follow_did (Some v) (Some w) ps e f s d h k = then_did v.1 w.1 ps e f s d k
+
+-- what is written, by the list of the parts' processes
+procs_of : List Proc → Procs
+procs_of [] = no_parts
+procs_of (p ∷ ps) = part p (procs_of ps)
+
+branches_by : List Test → List Proc → Branches
+branches_by bs [] = no_branches
+branches_by [] (p ∷ ps) = branch (Constant false) p (branches_by [] ps)
+branches_by (b ∷ bs) (p ∷ ps) = branch b p (branches_by bs ps)
+
+while_by : ℕ → Test → List Proc → Proc
+while_by i b [] = STOP i
+while_by i b (p ∷ ps) = WHILE i b p
+
+procs_is : (vs : List View) → plans_of vs ≡ procs_of (plans vs)
+unfolding procs_of
+procs_is [] = refl
+procs_is (v ∷ vs) = ap (part v.0) (procs_is vs)
+
+branches_is : (bs : List Test) (vs : List View) → branches_of bs vs ≡ branches_by bs (plans vs)
+unfolding branches_by
+branches_is bs [] = refl
+branches_is [] (v ∷ vs) = ap (branch (Constant false) v.0) (branches_is [] vs)
+branches_is (b ∷ bs) (v ∷ vs) = ap (branch b v.0) (branches_is bs vs)
+
+while_is : (i : ℕ) (b : Test) (vs : List View) → while_of i b vs ≡ while_by i b (plans vs)
+unfolding while_by
+while_is i b [] = refl
+while_is i b (v ∷ vs) = refl
+
+pub same_plan : (k : Kind) (i : ℕ) (vs ws : List View) → plans ws ≡ plans vs → plan_at k i ws ≡ plan_at k i vs
+same_plan kind.Skip i vs ws h = refl
+same_plan kind.Stop i vs ws h = refl
+same_plan (kind.Set v a) i vs ws h = refl
+same_plan (kind.Send c a) i vs ws h = refl
+same_plan (kind.Receive c v) i vs ws h = refl
+same_plan (kind.Stopch c) i vs ws h = refl
+same_plan kind.Seq i vs ws h = ap (SEQ i) (procs_is ws ∙ ap procs_of h ∙ sym (procs_is vs))
+same_plan (kind.If bs) i vs ws h = ap (IF i) (branches_is (map test bs) ws ∙ ap (branches_by (map test bs)) h ∙ sym (branches_is (map test bs) vs))
+same_plan (kind.While b) i vs ws h = while_is i (test b) ws ∙ ap (while_by i (test b)) h ∙ sym (while_is i (test b) vs)
+
+drop_plans : (k : ℕ) (vs : List View) → plans (drop k vs) ≡ drop k (plans vs)
+drop_plans zero vs = refl
+drop_plans (suc k) [] = refl
+drop_plans (suc k) (v ∷ vs) = drop_plans k vs
+
+same_behind : (k : Kind) (i : ℕ) (vs ws : List View) (at : ℕ) → plans ws ≡ plans vs → behind k i ws at ≡ behind k i vs at
+same_behind kind.Skip i vs ws at h = refl
+same_behind kind.Stop i vs ws at h = refl
+same_behind (kind.Set v a) i vs ws at h = refl
+same_behind (kind.Send c a) i vs ws at h = refl
+same_behind (kind.Receive c v) i vs ws at h = refl
+same_behind (kind.Stopch c) i vs ws at h = refl
+same_behind kind.Seq i vs ws at h =
+    procs_is (drop (suc at) ws) ∙ ap procs_of (drop_plans (suc at) ws ∙ ap (drop (suc at)) h ∙ sym (drop_plans (suc at) vs)) ∙ sym (procs_is (drop (suc at) vs))
+same_behind (kind.If bs) i vs ws at h = refl
+same_behind (kind.While b) i vs ws at h = ap (λ p. part p no_parts) (same_plan (kind.While b) i vs ws h)
+
+some_plans : (vs : List View) (k : ℕ) → is_some (slice_get vs k) ≡ is_some (slice_get (plans vs) k)
+some_plans [] k = refl
+some_plans (v ∷ vs) zero = refl
+some_plans (v ∷ vs) (suc k) = some_plans vs k
+
+same_some : (vs ws : List View) (k : ℕ) → plans ws ≡ plans vs → is_some (slice_get ws k) ≡ is_some (slice_get vs k)
+same_some vs ws k h = some_plans ws k ∙ ap (λ ps. is_some (slice_get ps k)) h ∙ sym (some_plans vs k)
+
+-- the rest of a frame whose part goes on
+going_rest : (k : Kind) (i : ℕ) (ph : Phase) (vs : List View) (at p : ℕ) → ph ≡ phase.Waiting → has_parts k ≡ true → p ≡ place_of k at → rest_at k ph i vs at ≡ follow (slice_get vs p) (behind k i vs at)
+going_rest k i ph vs at p h t e = ap (λ q. rest_at k q i vs at) h ∙ going_part k i vs at t ∙ ap (λ q. follow (slice_get vs q) (behind k i vs at)) (sym e)
+
+pub within_able : (k : Kind) (i : ℕ) (ph : Phase) (vs : List View) (at p : ℕ) (e : Store) (s : ℕ) (d : Deed) → ph ≡ phase.Waiting → has_parts k ≡ true → p ≡ place_of k at → Able (rest_at k ph i vs at) e s d → Able (part_rest (slice_get vs p)) e s d
+within_able k i ph vs at p e s d h t g a = follow_able (slice_get vs p) (behind k i vs at) e s d (subst (λ r. Able r e s d) (going_rest k i ph vs at p h t g) a)
+
+pub within_assigned : (k : Kind) (i : ℕ) (ph : Phase) (vs : List View) (at p : ℕ) (e : Store) → ph ≡ phase.Waiting → has_parts k ≡ true → p ≡ place_of k at → assigned_at (rest_at k ph i vs at) e ≡ part_assigned (slice_get vs p) e
+within_assigned k i ph vs at p e h t g = ap (λ r. assigned_at r e) (going_rest k i ph vs at p h t g) ∙ follow_assigned (slice_get vs p) (behind k i vs at) e
+
+all_variables : (vs : List View) (at n : ℕ) → ((v : ℕ) → changes_all (plans_of vs) v ≡ true → v < n) → PartHasVariables (slice_get vs at) n
+all_variables [] at n h = tt
+all_variables (v ∷ vs) zero n h = λ w k. h w (or_left (changes v.0 w) (changes_all (plans_of vs) w) k)
+all_variables (v ∷ vs) (suc at) n h = all_variables vs at n (λ w k. h w (or_right (changes v.0 w) (changes_all (plans_of vs) w) k))
+
+branch_variables : (bs : List Test) (vs : List View) (at n : ℕ) → ((v : ℕ) → changes_branches (branches_of bs vs) v ≡ true → v < n) → PartHasVariables (slice_get vs at) n
+branch_variables bs [] at n h = tt
+branch_variables [] (v ∷ vs) zero n h = λ w k. h w (or_left (changes v.0 w) (changes_branches (branches_of [] vs) w) k)
+branch_variables [] (v ∷ vs) (suc at) n h = branch_variables [] vs at n (λ w k. h w (or_right (changes v.0 w) (changes_branches (branches_of [] vs) w) k))
+branch_variables (b ∷ bs) (v ∷ vs) zero n h = λ w k. h w (or_left (changes v.0 w) (changes_branches (branches_of bs vs) w) k)
+branch_variables (b ∷ bs) (v ∷ vs) (suc at) n h = branch_variables bs vs at n (λ w k. h w (or_right (changes v.0 w) (changes_branches (branches_of bs vs) w) k))
+
+while_variables : (i : ℕ) (b : Test) (vs : List View) (n : ℕ) → HasVariables (while_of i b vs) n → PartHasVariables (slice_get vs 0) n
+while_variables i b [] n h = tt
+while_variables i b (v ∷ vs) n h = h
+
+place_variables : (k : Kind) (i : ℕ) (vs : List View) (at n : ℕ) → has_parts k ≡ true → HasVariables (plan_at k i vs) n → PartHasVariables (slice_get vs (place_of k at)) n
+place_variables kind.Skip i vs at n h g = absurd (let z : false ≡ true = h in cc)
+place_variables kind.Stop i vs at n h g = absurd (let z : false ≡ true = h in cc)
+place_variables (kind.Set v b) i vs at n h g = absurd (let z : false ≡ true = h in cc)
+place_variables (kind.Send c b) i vs at n h g = absurd (let z : false ≡ true = h in cc)
+place_variables (kind.Receive c v) i vs at n h g = absurd (let z : false ≡ true = h in cc)
+place_variables (kind.Stopch c) i vs at n h g = absurd (let z : false ≡ true = h in cc)
+place_variables kind.Seq i vs at n h g = all_variables vs at n g
+place_variables (kind.If bs) i vs at n h g = branch_variables (map test bs) vs at n g
+place_variables (kind.While b) i vs at n h g = while_variables i (test b) vs n g
+
+pub within_variables : (k : Kind) (i : ℕ) (vs : List View) (at p n : ℕ) → has_parts k ≡ true → p ≡ place_of k at → HasVariables (plan_at k i vs) n → PartHasVariables (slice_get vs p) n
+within_variables k i vs at p n h e g = subst (λ q. PartHasVariables (slice_get vs q) n) (sym e) (place_variables k i vs at n h g)
+
+pub within_did : (k : Kind) (i : ℕ) (ph : Phase) (vs ws : List View) (at p : ℕ) (e f : Store) (s : ℕ) (d : Deed) (r : Rest) → ph ≡ phase.Waiting → has_parts k ≡ true → p ≡ place_of k at → plans ws ≡ plans vs →
+    r ≡ follow_on (slice_get ws (place_of k at)) (behind k i ws at) → Did (part_rest (slice_get vs p)) e s d (part_rest (slice_get ws p)) f → Did (rest_at k ph i vs at) e s d r f
+within_did k i ph vs ws at p e f s d r h t g q z y =
+    let b = behind k i vs at in
+    let is : r ≡ follow_on (slice_get ws p) b = z ∙ ap (λ x. follow_on (slice_get ws x) (behind k i ws at)) (sym g) ∙ ap (follow_on (slice_get ws p)) (same_behind k i vs ws at q) in
+    subst (λ x. Did x e s d r f) (sym (going_rest k i ph vs at p h t g))
+    (subst (λ x. Did (follow (slice_get vs p) b) e s d x f) (sym is) (follow_did (slice_get vs p) (slice_get ws p) b e f s d (same_some vs ws p q) y))
+
+-- by how far it is
+pub phase_able : (k : Kind) (i : ℕ) (ph q : Phase) (vs : List View) (at : ℕ) (e : Store) (s : ℕ) (d : Deed) → ph ≡ q → Able (rest_at k ph i vs at) e s d → Able (rest_at k q i vs at) e s d
+phase_able k i ph q vs at e s d h a = subst (λ x. Able (rest_at k x i vs at) e s d) h a
+
+pub phase_did : (k : Kind) (i : ℕ) (ph q : Phase) (vs : List View) (at : ℕ) (e f : Store) (s : ℕ) (d : Deed) (r : Rest) → ph ≡ q → Did (rest_at k q i vs at) e s d r f → Did (rest_at k ph i vs at) e s d r f
+phase_did k i ph q vs at e f s d r h a = subst (λ x. Did (rest_at k x i vs at) e s d r f) (sym h) a
+
+pub never : (r q : Rest) (e f : Store) (s : ℕ) (d : Deed) → Able Stopped e s d → Did r e s d q f
+never r q e f s d (ks, p, g, st) = elim st [ ]
+
+pub never_done : (r q : Rest) (e f : Store) (s : ℕ) (d : Deed) → Able Done e s d → Did r e s d q f
+never_done r q e f s d (ks, p, g, st) = elim st [ ]
+
+pub alone_plan : (k : Kind) (i : ℕ) (vs : List View) → has_parts k ≡ false → plan_at k i vs ≡ plan_at k i []
+alone_plan kind.Skip i vs h = refl
+alone_plan kind.Stop i vs h = refl
+alone_plan (kind.Set v a) i vs h = refl
+alone_plan (kind.Send c a) i vs h = refl
+alone_plan (kind.Receive c v) i vs h = refl
+alone_plan (kind.Stopch c) i vs h = refl
+alone_plan kind.Seq i vs h = absurd (let z : true ≡ false = h in cc)
+alone_plan (kind.If bs) i vs h = absurd (let z : true ≡ false = h in cc)
+alone_plan (kind.While b) i vs h = absurd (let z : true ≡ false = h in cc)
+
+-- one frame of a list
+pub get_view : (fs : List Frame) (k : ℕ) (f : Frame) → k < length fs → f ≡ get_or fs k f → slice_get (views fs) k ≡ Some (view f)
+get_view [] k f l h = absurd (omega arith)
+get_view (x ∷ fs) zero f l h = ap (λ y. Some (view y)) (sym h)
+get_view (x ∷ fs) (suc k) f l h = get_view fs k f (omega arith) h
+
+pub set_view : (fs : List Frame) (k : ℕ) (g : Frame) → k < length fs → slice_get (views (set fs k g)) k ≡ Some (view g)
+set_view [] k g l = absurd (omega arith)
+set_view (x ∷ fs) zero g l = refl
+set_view (x ∷ fs) (suc k) g l = set_view fs k g (omega arith)
+
+pub set_plans : (fs : List Frame) (k : ℕ) (f g : Frame) → f ≡ get_or fs k f → (view g).0 ≡ (view f).0 → plans (views (set fs k g)) ≡ plans (views fs)
+set_plans [] k f g h e = refl
+set_plans (x ∷ fs) zero f g h e = ap (λ p. p ∷ plans (views fs)) (e ∙ ap (λ (y : Frame). (view y).0) h)
+set_plans (x ∷ fs) (suc k) f g h e = ap (λ ps. (view x).0 ∷ ps) (set_plans fs k f g h e)
+
+pub none_view : (fs : List Frame) (k : ℕ) → length fs ≤ k → slice_get (views fs) k ≡ None
+none_view [] k l = refl
+none_view (x ∷ fs) zero l = absurd (omega arith)
+none_view (x ∷ fs) (suc k) l = none_view fs k (omega arith)
+
+-- a SEQ whose part did something
+begun_is : (p : Proc) (r : Rest) → is_done r ≡ true → r ≡ Done
+begun_is p Done h = refl
+begun_is p Stopped h = absurd (let z : false ≡ true = h in cc)
+begun_is p (Fresh q) h = absurd (let z : false ≡ true = h in cc)
+begun_is p (Finishing i c) h = absurd (let z : false ≡ true = h in cc)
+begun_is p (Getting i c v) h = absurd (let z : false ≡ true = h in cc)
+begun_is p (Then q ps) h = absurd (let z : false ≡ true = h in cc)
+begun_is p (Turns q v b n x) h = absurd (let z : false ≡ true = h in cc)
+begun_is p (Beside m q s) h = absurd (let z : false ≡ true = h in cc)
+
+not_done : (r : Rest) (p : Proc) (ps : Procs) → is_done r ≡ false → then_on r (part p ps) ≡ Then r (part p ps)
+not_done Done p ps h = absurd (let z : true ≡ false = h in cc)
+not_done Stopped p ps h = refl
+not_done (Fresh q) p ps h = refl
+not_done (Finishing i c) p ps h = refl
+not_done (Getting i c v) p ps h = refl
+not_done (Then q qs) p ps h = refl
+not_done (Turns q v b n x) p ps h = refl
+not_done (Beside m q s) p ps h = refl
+
+and_true : (a b : Bool) → (a && b) ≡ true → (a ≡ true) × (b ≡ true)
+and_true true b h = (refl, h)
+and_true false b h = absurd (let z : false ≡ true = h in cc)
+
+lt_suc : (m n : ℕ) → nat_lt (suc m) (suc n) ≡ nat_lt m n
+lt_suc m n = grind (arith, nat_tests)
+
+-- the next part begins where the one before it has ended
+on_true : (k : ℕ) (vs : List View) → nat_lt (suc k) (length vs) ≡ true → part_done (slice_get vs k) ≡ true → follow (slice_get (begun_at (suc k) vs) (suc k)) (plans_of (drop (suc (suc k)) (begun_at (suc k) vs))) ≡ follow_on (slice_get vs k) (plans_of (drop (suc k) vs))
+on_true k [] h g = absurd (grind (arith, nat_tests))
+on_true zero (v ∷ []) h g = absurd (grind (arith, nat_tests))
+on_true zero (v ∷ w ∷ vs) h g = sym (ap (λ r. on_part r (part w.0 (plans_of vs))) (begun_is v.0 v.1 g))
+on_true (suc k) (v ∷ vs) h g = on_true k vs (sym (lt_suc (suc k) (length vs)) ∙ h) g
+
+on_false : (k : ℕ) (vs : List View) → (nat_lt (suc k) (length vs) && part_done (slice_get vs k)) ≡ false → follow (slice_get vs k) (plans_of (drop (suc k) vs)) ≡ follow_on (slice_get vs k) (plans_of (drop (suc k) vs))
+on_false k [] h = refl
+on_false zero (v ∷ []) h = refl
+on_false zero (v ∷ w ∷ vs) h =
+    let t : nat_lt 1 (suc (suc (length vs))) ≡ true = grind (arith, nat_tests) in
+    sym (not_done v.1 w.0 (plans_of vs) (sym (ap (λ b. b && is_done v.1) t) ∙ h))
+on_false (suc k) (v ∷ vs) h = on_false k vs (ap (λ b. b && part_done (slice_get vs k)) (sym (lt_suc (suc k) (length vs))) ∙ h)
+
+on_next : (k : ℕ) (vs : List View) (g : Bool) → goes_further k vs ≡ g → follow (slice_get (if g then begun_at (suc k) vs else vs) (if g then suc k else k)) (plans_of (drop (suc (if g then suc k else k)) (if g then begun_at (suc k) vs else vs))) ≡ follow_on (slice_get vs k) (plans_of (drop (suc k) vs))
+on_next k vs true h = let n = and_true (nat_lt (suc k) (length vs)) (part_done (slice_get vs k)) h in on_true k vs n.0 n.1
+on_next k vs false h = on_false k vs h
+
+pub seq_rest : (k : ℕ) (vs : List View) (i : ℕ) → rest_at kind.Seq (seq_next k vs).phase i (seq_begun k vs) (seq_next k vs).at ≡ follow_on (slice_get vs (place_of kind.Seq k)) (behind kind.Seq i vs k)
+seq_rest k vs i = on_next k vs (goes_further k vs) refl
+
+pub seq_plans : (k : ℕ) (vs : List View) → plans (seq_begun k vs) ≡ plans vs
+seq_plans k vs = on (goes_further k vs)
+  where
+    on : (b : Bool) → plans (if b then begun_at (suc k) vs else vs) ≡ plans vs
+    on true = begun_plans (suc k) vs
+    on false = refl

@@ -1,0 +1,14 @@
+use Rattle.std.proofs.Common.{sym, subst, ℕ, length}
+use Rattle.vc_occam.specs.Frames.{HasVariables, View}
+use Rattle.vc_occam.specs.Numbering.{written}
+use Rattle.vc_occam.proofs.Fitting.{fits_variables, kinds_length}
+use Rattle.vc_occam.proofs.running.Running.in_order.Goals as goal
+
+pub invariant_of-result : goal.invariant_of-result
+invariant_of-result c =
+    let p = c.args.process.now in
+    let kinds = c.args.kinds.now in
+    let there : HasVariables (written p) (length kinds) = fits_variables (written p) kinds c.requires.fits.0 c.requires.fits.1 in
+    let many = kinds_length kinds _ c.in_ok-vars.ensures in
+    let all : HasVariables (written p) (length c.in_ok-vars.vars.items) = subst (λ (n : ℕ). HasVariables (written p) n) (sym many) there in
+    record { has_variables = subst (λ (v : View). HasVariables v.0 (length c.in_ok-vars.vars.items)) (sym c.in_ok-frame.ensures) all }

@@ -1,0 +1,108 @@
+//! Processes that run: a tree of frames, each with its parts and how far it is.
+ghost use Rattle.std.specs.Prelude.{◌≡◌, slice_get};
+ghost use Rattle.vc_occam.specs.Frames.{begun_parts, begun_phase, has_parts as is_composed, is_done, is_last as nothing_behind, part_done, place_of, view, views};
+ghost use Rattle.vc_occam.specs.Remains.{begin};
+
+use crate::kind::Kind;
+use crate::phase::Phase;
+
+/// A process with its site, how far it is, and its parts, at one of which it is.
+#[derive(Drop)]
+pub(crate) struct Frame {
+    pub(crate) site: u16,
+    pub(crate) kind: Kind,
+    pub(crate) phase: Phase,
+    pub(crate) at: usize,
+    pub(crate) parts: Vec<Frame>,
+}
+
+impl Kind {
+    /// Whether it has parts.
+    pub(crate) fn has_parts(&self) -> bool
+        ensures { result ≡ is_composed self.now }
+    {
+        match self {
+            Kind::Seq => true,
+            Kind::If { .. } => true,
+            Kind::While { .. } => true,
+            _ => false,
+        }
+    }
+
+    /// The part that a process is at; a WHILE has one only.
+    pub(crate) fn place(&self, at: usize) -> usize
+        ensures { result ≡ place_of self.now at }
+    {
+        match self {
+            Kind::While { .. } => 0,
+            _ => at,
+        }
+    }
+
+    /// Whether nothing comes behind the part at a place, of so many parts.
+    pub(crate) fn is_last(&self, at: usize, count: usize) -> bool
+        ensures { result ≡ nothing_behind self.now at count }
+    {
+        match self {
+            Kind::Seq => at >= count || count - at == 1,
+            Kind::If { .. } => true,
+            _ => false,
+        }
+    }
+}
+
+impl Frame {
+    /// Whether nothing remains.
+    #[cycle(ended)]
+    pub(crate) fn ended(&self) -> bool
+        ensures { result ≡ is_done (view self.now).1 }
+    {
+        match self.phase {
+            Phase::Ended => true,
+            Phase::Waiting => {
+                self.kind.is_last(self.at, self.parts.len())
+                    && part_ended(&self.parts, self.kind.place(self.at))
+            }
+            Phase::Ready => false,
+            Phase::Stuck => false,
+        }
+    }
+
+    /// The process begins, whatever went on before.
+    #[cycle(start)]
+    pub(crate) fn start(&mut self)
+        ensures { view self.new ≡ ((view self.old).0, begin (view self.old).0) }
+    {
+        self.phase = start_parts(&self.kind, &mut self.parts);
+        self.at = 0;
+    }
+}
+
+/// Whether nothing remains of the part at a place.
+#[cycle(ended)]
+pub(crate) fn part_ended(parts: &Vec<Frame>, at: usize) -> bool
+    ensures { result ≡ part_done (slice_get (views parts.now.items) at) }
+{
+    if at < parts.len() {
+        return parts[at].ended();
+    }
+    false
+}
+
+/// Begins the first part of a SEQ, if it has one; answers how far the process is then.
+#[cycle(start)]
+fn start_parts(kind: &Kind, parts: &mut Vec<Frame>) -> Phase
+    ensures parts { views parts.new.items ≡ begun_parts kind.now (views parts.old.items) }
+    ensures phase { result ≡ begun_phase kind.now (views parts.old.items) }
+{
+    match kind {
+        Kind::Seq => {
+            if parts.is_empty() {
+                return Phase::Ready;
+            }
+            parts[0].start();
+            Phase::Waiting
+        }
+        _ => Phase::Ready,
+    }
+}

@@ -1,0 +1,46 @@
+//! Variables of a running process, and how they change.
+ghost use Rattle.std.specs.Prelude.{◌≡◌, ◌<◌, IfOk, length, map};
+ghost use Rattle.vc_occam.specs.Messages.{received};
+ghost use Rattle.vc_occam.specs.Opening.{empty_of};
+ghost use Rattle.vc_occam.specs.Terms.{store};
+ghost use Rattle.vc_occam.specs.Traces.{set};
+
+use crate::datum::Datum;
+use crate::value_kind::ValueKind;
+use sqlite_items::Items;
+use std::alloc::Global;
+use vc_packets::Memory;
+
+/// Variables of these kinds, which are 0 or without bytes.
+pub(crate) fn empty_variables(alloc: Global, kinds: &[ValueKind]) -> Result<Vec<Datum>, Memory>
+    ensures { IfOk result (λ vars. vars.items ≡ map empty_of kinds.now) }
+{
+    let mut vars = Vec::new(alloc);
+    for kind in kinds {
+        vars.push(match kind {
+            ValueKind::Int => Datum::Int(0),
+            ValueKind::Bytes => Datum::Bytes(Items::new(alloc)),
+        })?;
+    }
+    Ok(vars)
+}
+
+/// A variable is changed.
+pub(crate) fn set_variable(vars: &mut Vec<Datum>, var: u8, datum: Datum)
+    requires { var < length vars.old.items }
+    ensures value { store vars.new.items ≡ set (store vars.old.items) var datum }
+    ensures length { length vars.new.items ≡ length vars.old.items }
+{
+    vars[usize::from(var)] = datum;
+}
+
+/// A variable takes a message of its kind.
+pub(crate) fn put(vars: &mut Vec<Datum>, var: u8, message: Items<u8>)
+    requires { var < length vars.old.items }
+    ensures value { store vars.new.items ≡ set (store vars.old.items) var (received (store vars.old.items var) message) }
+    ensures length { length vars.new.items ≡ length vars.old.items }
+{
+    let place = usize::from(var);
+    let datum = vars[place].receive(message);
+    vars[place] = datum;
+}
