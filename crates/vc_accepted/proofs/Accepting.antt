@@ -97,9 +97,9 @@ way_is (home.Way u f) v ab e =
 way_is (home.Inside n) v ab e = absurd (cc)
 
 pub on_way : (p : Plan) (c v : ℕ) (ab : Bool) → network.home (network_of p) c ≡ network.Way v ab → OnWay p c v ab
-on_way p c v ab e = by_channel (slice_get p.channels c) refl (sym (made home_in p.channels c (network.Inside 0)) ∙ e)
+on_way p c v ab e = by_channel (slice_get p.channels c) refl (sym (made home_in p.channels c (network.Inside (length p.nodes))) ∙ e)
   where
-    by_channel : (o : Option Channel) → slice_get p.channels c ≡ o → made_or (network.Inside 0) home_in o ≡ network.Way v ab → OnWay p c v ab
+    by_channel : (o : Option Channel) → slice_get p.channels c ≡ o → made_or (network.Inside (length p.nodes)) home_in o ≡ network.Way v ab → OnWay p c v ab
     by_channel None h e = absurd (cc)
     by_channel (Some x) h e = record { channel = x; there = h; is = way_is x.home v ab e }
 

@@ -1,5 +1,5 @@
 -- The ends that a node is given are its ends in the network.
-use Rattle.std.proofs.Common.{◌≡◌, ℕ, zero, suc, ◌+◌, ◌<◌, Bool, true, false, not, ◌&&◌, ◌==◌, List, [], ◌∷◌, slice_get, Option, Some, None, refl, sym, ap, subst, ◌∙◌, arith, if◌then◌else◌, eq-eqb, eqb-true, nat_le}
+use Rattle.std.proofs.Common.{length, ◌≡◌, ℕ, zero, suc, ◌+◌, ◌<◌, Bool, true, false, not, ◌&&◌, ◌==◌, List, [], ◌∷◌, slice_get, Option, Some, None, refl, sym, ap, subst, ◌∙◌, arith, if◌then◌else◌, eq-eqb, eqb-true, nat_le}
 use Rattle.std.proofs.lemmas.Bool.Decides.{nat_tests}
 use Rattle.std.specs.List.{AllByRecursion, list_all}
 use Rattle.vc_plan.specs.declared.plan.Plan.{Plan}
@@ -104,7 +104,7 @@ IsBy chan way = (on : ℕ → Bool → Option ℕ) (v : ℕ) (x : Vlink) (a : Bo
 home_there : (p : Plan) (c v : ℕ) (f : Bool) → chan_on p v f ≡ Some c → network.home (network_of p) c ≡ network.Way v f
 home_there p c v f e =
     let h = chan_has p c v f e in
-    made_at home_in p.channels c (network.Inside 0) h.0 h.1 ∙ ap home_of h.2
+    made_at home_in p.channels c (network.Inside (length p.nodes)) h.0 h.1 ∙ ap home_of h.2
 
 told : (p : Plan) (n c : ℕ) (chan : Given → Option ℕ) (way : Bool → Bool) → IsBy chan way → (j : ℕ) (d : Given) → slice_get (ends_of_node p n) j ≡ Some d → chan d ≡ Some c → Told p n c way d
 told p n c chan way by_way j d e h =

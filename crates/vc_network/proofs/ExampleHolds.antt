@@ -34,8 +34,8 @@ accepted = record {
   sends = elim [ zero ↦ elim [ true ↦ λ h. (0, (omega arith, refl)) | false ↦ λ h. (1, (omega arith, refl)) ] | suc v ↦ λ side h. absurd (omega arith) ];
   groups = λ k header first last link e a b. absurd (cc);
   one_end = λ v u p q a b. ends v u p q (omega arith) (omega arith);
-  on_link = elim [ zero ↦ λ v ab e. (let q = link_of v ab e in omega arith) | suc c ↦ λ v ab e. absurd (no_way 0 v ab e) ];
-  one_channel = elim [ zero ↦ elim [ zero ↦ λ v ab e f. refl | suc d ↦ λ v ab e f. absurd (no_way 0 v ab f) ] | suc c ↦ λ d v ab e f. absurd (no_way 0 v ab e) ];
+  on_link = elim [ zero ↦ λ v ab e. (let q = link_of v ab e in omega arith) | suc c ↦ λ v ab e. absurd (no_way 2 v ab e) ];
+  one_channel = elim [ zero ↦ elim [ zero ↦ λ v ab e f. refl | suc d ↦ λ v ab e f. absurd (no_way 2 v ab f) ] | suc c ↦ λ d v ab e f. absurd (no_way 2 v ab e) ];
   delivers = elim [ zero ↦ λ w. elim [ true ↦ λ h o. there w o.0 o.1 | false ↦ λ h o. back w o.0 o.1 ] | suc v ↦ λ w side h o. absurd (omega arith) ];
   headers = elim [ zero ↦ elim [ true ↦ λ h. omega arith | false ↦ λ h. omega arith ] | suc v ↦ λ side h. absurd (omega arith) ];
   sixth = λ k link i h. omega arith;

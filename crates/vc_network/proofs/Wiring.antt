@@ -39,13 +39,13 @@ inside_way : (n v : ℕ) (ab : Bool) → Inside n ≡ Way v ab → ⊥
 inside_way n v ab e = absurd (cc)
 
 -- a channel past the list is on no way
-within : (hs : List Home) (c v : ℕ) (ab : Bool) → get_or hs c (Inside 0) ≡ Way v ab → c < length hs
-within [] c v ab e = absurd (inside_way 0 v ab e)
-within (h ∷ hs) zero v ab e = omega arith
-within (h ∷ hs) (suc c) v ab e = let r = within hs c v ab e in omega arith
+within : (n : ℕ) (hs : List Home) (c v : ℕ) (ab : Bool) → get_or hs c (Inside n) ≡ Way v ab → c < length hs
+within n [] c v ab e = absurd (inside_way n v ab e)
+within n (h ∷ hs) zero v ab e = omega arith
+within n (h ∷ hs) (suc c) v ab e = let r = within n hs c v ab e in omega arith
 
 pub carried : (plan : Plan) (c v : ℕ) (ab : Bool) → home plan c ≡ Way v ab → Carries (net_of plan) c
-carried plan c v ab e = (within plan.channels c v ab e, way_virtual plan c v ab e)
+carried plan c v ab e = (within plan.nodes plan.channels c v ab e, way_virtual plan c v ab e)
 
 pub drawn_is : (r : Option Interval) (word : ℕ) → ((i : Interval) → r ≡ Some i → i.lower < i.limit) → IsDrawn r (drawn r word)
 drawn_is None word h = tt

@@ -50,7 +50,7 @@ virtual_link plan v = get_or plan.links v (record { a = nowhere; b = nowhere })
     nowhere = record { node = 0; link = 0; block = 0; route = [] }
 
 abbrev pub home : Plan → ℕ → Home
-home plan c = get_or plan.channels c (Inside 0)
+home plan c = get_or plan.channels c (Inside plan.nodes)  -- a channel past the list is in no node
 
 -- the end from which a channel goes over a virtual link, and the other end
 abbrev pub end_of : VirtualLink → Bool → End
