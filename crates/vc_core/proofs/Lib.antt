@@ -1,1 +1,12 @@
 pub mod WithinLimits
+pub mod Carrying
+pub mod Beginning
+pub mod Leaving
+pub mod Sending
+pub mod Halved
+pub mod Moving
+pub mod Passing
+pub mod Insides
+pub mod Linking
+pub mod Happening
+pub mod Replayed

@@ -1,15 +1,15 @@
 -- What an accepted plan's limits say of its nodes.
-use Rattle.std.proofs.Common.{◌≡◌, ℕ, zero, suc, Bool, true, false, ◌&&◌, List, [], ◌∷◌, length, slice_get, Option, Some, None, refl, sym, ap, ◌∙◌, subst}
+use Rattle.std.proofs.Common.{◌≡◌, ℕ, zero, suc, Bool, true, false, ◌&&◌, List, [], ◌∷◌, length, slice_get, Option, Some, None, refl, subst}
 use Rattle.std.specs.List.{list_all}
 use Rattle.vc_occam.specs.Numbering.{written}
 use Rattle.vc_occam.specs.Opening.{Fits}
-use Rattle.vc_occam.specs.ProcessLimits.{runs_today, exps_within, names_fit}
+use Rattle.vc_occam.specs.ProcessLimits.{runs_today, exps_within}
 use Rattle.vc_plan.specs.declared.plan.Plan.{Plan}
 use Rattle.vc_plan.specs.declared.node_plan.NodePlan.{NodePlan}
 use Rattle.vc_plan.specs.declared.limit_word.LimitWord.{LimitWord}
 use Rattle.std.proofs.Common.{nat_le}
 use Rattle.vc_plan.specs.declared.limit_word.LimitWord.TheVariants as word
-use Rattle.vc_plan.specs.Limits.{version_ok, vars_ok, rows_ok, routes_ok, links_ok, random_ok, message_ok, names_ok, wire_there, ends_there, home_there, unless_ok, limit_broken, part_broken, process_broken, number_broken, number_ok, depth_ok, process_names, kinds_of}
+use Rattle.vc_plan.specs.Limits.{version_ok, vars_ok, rows_ok, routes_ok, links_ok, random_ok, message_ok, names_ok, wire_there, ends_there, home_there, unless_ok, part_broken, process_broken, number_broken, number_ok, depth_ok, process_names, kinds_of}
 use Rattle.vc_plan.specs.Accepted.{IsAccepted}
 
 ok : (b : Bool) (w : LimitWord) (next : Option LimitWord) → unless_ok b w next ≡ None → (b ≡ true) × (next ≡ None)

@@ -1,1 +1,14 @@
-pub mod Acts
+pub mod Begin
+pub mod Filled
+pub mod Channels
+pub mod Process
+pub mod Inside
+pub mod Shown
+pub mod OfPlan
+pub mod MayMove
+pub mod Passing
+pub mod Acting
+pub mod Ways
+pub mod Wired
+pub mod State
+pub mod Replaying

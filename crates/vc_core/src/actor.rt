@@ -1,6 +1,9 @@
 //! Actors: what the simulator and a thread run alike.
-ghost use Rattle.std.specs.Prelude.{◌<◌, IsTrue};
-ghost use Rattle.vc_core.specs.Acts.{NamesNodeLink};
+ghost use Rattle.std.specs.Prelude.{◌≡◌, ◌<◌, ◌↔◌, ℕ, IsTrue, IfOk, IfSome, OnOk, OnErr};
+ghost use Rattle.vc_core.specs.Acting.{MayAct, MakesOwn, MakesTake, MakesPut, MakesGrant, IsOwn};
+ghost use Rattle.vc_core.specs.OfPlan.{IsNodeOf};
+ghost use Rattle.vc_network.specs.Plan.{Plan};
+ghost use Rattle.vc_tokens.specs.Spelt.{token};
 
 use crate::act::Act;
 use crate::node::Node;
@@ -17,105 +20,31 @@ pub(crate) const NODE_LINKS: u8 = 4;
 pub struct Actor {
     node: Node,
     next_site: u16,
-    resting: bool,
 }
 
 impl Actor {
-    pub(crate) fn of_node(node: Node) -> Actor {
-        Actor {
-            node,
-            next_site: 0,
-            resting: false,
-        }
+    pub(crate) fn of_node(node: Node) -> Actor
+        ensures { result.node ≡ node }
+    {
+        Actor { node, next_site: 0 }
     }
 
-    pub(crate) fn node(&self) -> &Node {
+    pub(crate) fn node(&self) -> &Node
+        ensures { result.now ≡ self.now.node }
+    {
         &self.node
     }
 
     /// Whether a token may be taken from a link: always.
-    pub fn may_take(&self, _link: u8) -> bool {
-        true
-    }
-
-    /// Takes a token from a link.
-    pub fn take(&mut self, link: u8, item: &Token, word: u32) -> Result<Act, Memory>
-        requires { link < 4 }
+    pub fn may_take(&self, _link: u8) -> bool
+        ensures { IsTrue result }
     {
-        self.node.vcp.accept(link, *item);
-        Ok(Act::Take { link, word })
-    }
-
-    /// Makes the actor's next step: a token passes, by the least link; a token is put, by the least link with room; a flow control
-    /// token is put, by the least link with room; then a move of the process, beginning behind the site that acted last. `room` has
-    /// a bit for each outgoing link that has room.
-    pub fn turn(&mut self, room: u32) -> Result<Turn, Memory> {
-        for link in 0..NODE_LINKS {
-            if self.node.vcp.may_pass(link) {
-                self.pass(link)?;
-                return Ok(Turn::Local(Act::Pass { link }));
-            }
-        }
-        for link in 0..NODE_LINKS {
-            if has_room(room, link) && self.node.vcp.may_put(link) {
-                let item = self.node.vcp.put(link);
-                return Ok(Turn::Put {
-                    link,
-                    act: Act::Put { link },
-                    item,
-                });
-            }
-        }
-        for link in 0..NODE_LINKS {
-            if has_room(room, link) && self.node.vcp.may_grant(link) {
-                self.node.vcp.grant(link);
-                return Ok(Turn::Put {
-                    link,
-                    act: Act::Fct { link },
-                    item: Token::Fct,
-                });
-            }
-        }
-        self.turn_of_process()
-    }
-
-    // A move of the process.
-    fn turn_of_process(&mut self) -> Result<Turn, Memory> {
-        if self.resting {
-            return Ok(Turn::Idle);
-        }
-        match self.next_move()? {
-            Some(made) => {
-                self.make(&made)?;
-                Ok(Turn::Local(Act::Proc(made)))
-            }
-            None => {
-                self.resting = true;
-                Ok(Turn::Idle)
-            }
-        }
-    }
-
-    // The next move that the process can make, going round behind the site that acted last.
-    fn next_move(&self) -> Result<Option<Move>, Memory> {
-        let moves = self.node.process.actions()?;
-        let mut first = None;
-        for made in moves.as_slice() {
-            if self.node.can_move(made) {
-                if site_of(made) >= self.next_site {
-                    return Ok(Some(*made));
-                }
-                if first.is_none() {
-                    first = Some(*made);
-                }
-            }
-        }
-        Ok(first)
+        true
     }
 
     /// Whether an act is one that the actor can make now, whatever stands on its ways.
     pub(crate) fn can(&self, act: &Act) -> bool
-        ensures { IsTrue result → NamesNodeLink act.now }
+        ensures { IsTrue result ↔ MayAct self.now.node act.now }
     {
         match act {
             Act::Proc(made) => self.node.can_move(made),
@@ -127,40 +56,158 @@ impl Actor {
         }
     }
 
-    /// A token passes on from a link's buffer.
-    pub(crate) fn pass(&mut self, link: u8) -> Result<(), Memory>
+    /// Takes a token from a link.
+    pub fn take(&mut self, link: u8, item: &Token, word: u32) -> Result<Act, Memory>
         requires { link < 4 }
+        ensures act { IfOk result (λ act. act ≡ Act.Take link word) }
+        ensures ok { (plan : Plan) (k : ℕ) → IsNodeOf plan k self.old.node → OnOk result (MakesTake plan k self.old.node link (token item.now) self.new.node) }
+        ensures err { OnErr result (self.new ≡ self.old) }
     {
-        self.node.pass(link)?;
-        self.resting = false;
-        Ok(())
+        self.accept(link, *item);
+        Ok(Act::Take { link, word })
     }
 
-    /// Makes a move of the process, or answers that it can't be made.
-    pub(crate) fn make(&mut self, made: &Move) -> Result<bool, Memory> {
-        let done = self.node.make(made)?;
-        self.next_site = site_of(made).saturating_add(1);
-        self.resting = false;
-        Ok(done)
+    /// A token comes over a link.
+    pub(crate) fn accept(&mut self, link: u8, came: Token)
+        requires { link < 4 }
+        ensures { (plan : Plan) (k : ℕ) → IsNodeOf plan k self.old.node → MakesTake plan k self.old.node link (token came) self.new.node }
+    {
+        self.node.vcp.accept(link, came);
     }
 
-    /// Puts the next token on a link, where there is one and credit.
-    pub(crate) fn put(&mut self, link: u8) -> Option<Token> {
-        if link < NODE_LINKS && self.node.vcp.may_put(link) {
-            Some(self.node.vcp.put(link))
-        } else {
-            None
+    /// Makes a step of its own: a move of the process, or a token that passes.
+    pub(crate) fn make(&mut self, act: &Act) -> Result<(), Memory>
+        requires may { MayAct self.old.node act.now }
+        requires own { IsOwn act.now }
+        ensures ok { (plan : Plan) (k : ℕ) → IsNodeOf plan k self.old.node → OnOk result (MakesOwn plan k self.old.node act.now self.new.node) }
+        ensures err { OnErr result (self.new ≡ self.old) }
+    {
+        match *act {
+            Act::Proc(made) => {
+                self.node.make(&made)?;
+                self.next_site = site_of(&made).saturating_add(1);
+                Ok(())
+            }
+            Act::Pass { link } => self.node.pass(link),
+            _ => unreachable!(),
         }
     }
 
-    /// Grants eight places of a link's buffer, where they are free and not promised.
-    pub(crate) fn grant(&mut self, link: u8) -> Option<Token> {
-        if link < NODE_LINKS && self.node.vcp.may_grant(link) {
-            self.node.vcp.grant(link);
-            Some(Token::Fct)
-        } else {
-            None
+    /// Puts the next token on a link.
+    pub(crate) fn put(&mut self, link: u8) -> Token
+        requires { MayAct self.old.node (Act.Put link) }
+        ensures { (plan : Plan) (k : ℕ) → IsNodeOf plan k self.old.node → MakesPut plan k self.old.node link (token result) self.new.node }
+    {
+        self.node.vcp.put(link)
+    }
+
+    /// Grants eight places of a link's buffer.
+    pub(crate) fn grant(&mut self, link: u8)
+        requires { MayAct self.old.node (Act.Fct link) }
+        ensures { (plan : Plan) (k : ℕ) → IsNodeOf plan k self.old.node → MakesGrant plan k self.old.node link self.new.node }
+    {
+        self.node.vcp.grant(link);
+    }
+
+    /// Makes the actor's next step: a token passes, by the least link; a token is put, by the least link with room; a flow control
+    /// token is put, by the least link with room; then a move of the process, beginning behind the site that acted last. `room` has
+    /// a bit for each outgoing link that has room.
+    pub fn turn(&mut self, room: u32) -> Result<Turn, Memory> {
+        match self.next(room)? {
+            None => Ok(Turn::Idle),
+            Some(act) => self.turn_by(act),
         }
+    }
+
+    // Makes this step.
+    fn turn_by(&mut self, act: Act) -> Result<Turn, Memory>
+        requires { MayAct self.old.node act }
+    {
+        match act {
+            Act::Put { link } => {
+                let item = self.put(link);
+                Ok(Turn::Put { link, act, item })
+            }
+            Act::Fct { link } => {
+                self.grant(link);
+                let item = Token::Fct;
+                Ok(Turn::Put { link, act, item })
+            }
+            Act::Proc(_) | Act::Pass { .. } => {
+                self.make(&act)?;
+                Ok(Turn::Local(act))
+            }
+            Act::Take { .. } | Act::Route { .. } => Ok(Turn::Idle),
+        }
+    }
+
+    /// What the actor does next, if it has a step to make where its links have this room.
+    pub(crate) fn next(&self, room: u32) -> Result<Option<Act>, Memory>
+        ensures { IfOk result (λ act. IfSome act (λ a. MayAct self.now.node a)) }
+    {
+        let by_links = self
+            .next_pass()
+            .or(self.next_put(room))
+            .or(self.next_grant(room));
+        match by_links {
+            Some(act) => Ok(Some(act)),
+            None => self.next_move(),
+        }
+    }
+
+    // The least link whose buffer has a token.
+    fn next_pass(&self) -> Option<Act>
+        ensures { IfSome result (λ a. MayAct self.now.node a) }
+    {
+        for link in 0..NODE_LINKS {
+            if self.node.vcp.may_pass(link) {
+                return Some(Act::Pass { link });
+            }
+        }
+        None
+    }
+
+    // The least link with room on which a token may be put.
+    fn next_put(&self, room: u32) -> Option<Act>
+        ensures { IfSome result (λ a. MayAct self.now.node a) }
+    {
+        for link in 0..NODE_LINKS {
+            if has_room(room, link) && self.node.vcp.may_put(link) {
+                return Some(Act::Put { link });
+            }
+        }
+        None
+    }
+
+    // The least link with room on which a flow control token may be put.
+    fn next_grant(&self, room: u32) -> Option<Act>
+        ensures { IfSome result (λ a. MayAct self.now.node a) }
+    {
+        for link in 0..NODE_LINKS {
+            if has_room(room, link) && self.node.vcp.may_grant(link) {
+                return Some(Act::Fct { link });
+            }
+        }
+        None
+    }
+
+    // The next move that the process can make, going round behind the site that acted last.
+    fn next_move(&self) -> Result<Option<Act>, Memory>
+        ensures { IfOk result (λ act. IfSome act (λ a. MayAct self.now.node a)) }
+    {
+        let moves = self.node.process.actions()?;
+        let mut first = None;
+        for made in moves.as_slice() {
+            if self.node.can_move(made) {
+                if site_of(made) >= self.next_site {
+                    return Ok(Some(Act::Proc(*made)));
+                }
+                if first.is_none() {
+                    first = Some(Act::Proc(*made));
+                }
+            }
+        }
+        Ok(first)
     }
 
     /// Whether the process has ended.

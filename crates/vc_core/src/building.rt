@@ -1,12 +1,14 @@
 //! Building the nodes of an accepted plan.
-ghost use Rattle.std.specs.Prelude.{◌≡◌, ◌<◌, true, IfOk, OnOk};
-ghost use Rattle.std.specs.List.{AllByRecursion};
-ghost use Rattle.vc_occam.specs.Numbering.{written};
-ghost use Rattle.vc_occam.specs.Opening.{Fits};
-ghost use Rattle.vc_occam.specs.ProcessLimits.{runs_today};
+ghost use Rattle.std.specs.Prelude.{◌≡◌, ◌≤◌, ◌++◌, true, false, Some, IfOk, OnOk, length, slice_get};
+ghost use Rattle.vc_accepted.specs.Given.{ends_among};
+ghost use Rattle.vc_accepted.specs.NetworkOf.{network_of};
+ghost use Rattle.vc_core.specs.Begin.{AreFirst, AreWaysOf, BeginsAs, carried, carrying, given, given_to, numbers_inside, on_link};
+ghost use Rattle.vc_network.specs.Plan as network;
+ghost use Rattle.vc_plan.specs.Accepted.{IsAccepted};
 ghost use Rattle.vc_plan.specs.Limits.{kinds_of};
 
 use crate::actor::Actor;
+use crate::inside::Inside;
 use crate::node::Node;
 use sqlite_items::Items;
 use std::alloc::Global;
@@ -17,43 +19,78 @@ use vc_vcp::{End, Vcp};
 
 /// The channels on the two ways of a virtual link.
 #[derive(Clone, Copy, Drop)]
-struct Ways {
-    from_a: Option<u16>,
-    from_b: Option<u16>,
+pub(crate) struct Ways {
+    pub(crate) from_a: Option<u16>,
+    pub(crate) from_b: Option<u16>,
 }
 
+/// No channel on either way.
+const EMPTY: Ways = Ways {
+    from_a: None,
+    from_b: None,
+};
+
 /// The channels on each virtual link.
-fn ways_of(alloc: Global, vlinks: usize, channels: &[Channel]) -> Result<Vec<Ways>, Memory> {
-    let none = Ways {
-        from_a: None,
-        from_b: None,
-    };
-    let mut ways = vec![in alloc; none; vlinks]?;
-    let mut number = 0u16;
-    for channel in channels {
-        if let Home::Way { vlink, from_a } = channel.home {
-            let at = usize::from(vlink);
-            if at < ways.len() {
-                if from_a {
-                    ways[at].from_a = Some(number);
-                } else {
-                    ways[at].from_b = Some(number);
-                }
-            }
-        }
-        number = number.saturating_add(1);
+fn ways_of(alloc: Global, plan: &Plan) -> Result<Vec<Ways>, Memory>
+    requires { IsAccepted plan.now }
+    ensures { IfOk result (λ ways. AreWaysOf plan.now ways.items) }
+{
+    let mut ways = vec![in alloc; EMPTY; plan.vlinks.len()]?;
+    for (chan, channel) in plan.channels.as_slice().iter().enumerate() {
+        carry(&mut ways, channel.home, chan as u16);
     }
     Ok(ways)
 }
 
-// A node's end of a virtual link, with the channels that go out and come in by it.
+// The channel is on its way.
+fn carry(ways: &mut Vec<Ways>, home: Home, chan: u16)
+    ensures { ways.new.items ≡ carried ways.old.items home chan }
+{
+    if let Home::Way { vlink, from_a } = home {
+        if let Some(ways) = ways.get_mut(usize::from(vlink)) {
+            *ways = ways.carrying(from_a, chan);
+        }
+    }
+}
+
+impl Ways {
+    // The same, with a channel on the way that leaves end a, or end b.
+    fn carrying(self, from_a: bool, chan: u16) -> Ways
+        ensures { result ≡ carrying self from_a chan }
+    {
+        if from_a {
+            Ways {
+                from_a: Some(chan),
+                from_b: self.from_b,
+            }
+        } else {
+            Ways {
+                from_a: self.from_a,
+                from_b: Some(chan),
+            }
+        }
+    }
+}
+
+// The channels on a virtual link.
+fn ways_at(ways: &[Ways], vlink: usize) -> Ways
+    ensures from_a { result.from_a ≡ on_link ways.now vlink true }
+    ensures from_b { result.from_b ≡ on_link ways.now vlink false }
+{
+    match ways.get(vlink) {
+        Some(found) => *found,
+        None => EMPTY,
+    }
+}
+
+// An end of a virtual link, with the channels that go out and come in by it.
 fn end_of(
     alloc: Global,
     end: &PlanEnd,
     output: Option<u16>,
     input: Option<u16>,
 ) -> Result<End, Memory>
-    ensures { IfOk result (λ e. e.link ≡ end.now.link) }
+    ensures { IfOk result (λ e. e ≡ given end.now output input) }
 {
     let route = Items::from_slice(alloc, end.route.as_slice())?;
     Ok(End {
@@ -65,18 +102,18 @@ fn end_of(
     })
 }
 
-// The node's end joins those that are there.
+// The end joins those that are there, where it is the node's.
 fn push_end(
     ends: &mut Vec<End>,
     alloc: Global,
+    number: u8,
     end: &PlanEnd,
     output: Option<u16>,
     input: Option<u16>,
 ) -> Result<(), Memory>
-    requires { AllByRecursion (λ e. e.link < 4) ends.old.items }
-    ensures { OnOk result (AllByRecursion (λ e. e.link < 4) ends.new.items) }
+    ensures { OnOk result (ends.new.items ≡ ends.old.items ++ given_to number end.now output input) }
 {
-    if end.link < 4 {
+    if end.node == number {
         let end = end_of(alloc, end, output, input)?;
         ends.push(end)?;
     }
@@ -85,27 +122,15 @@ fn push_end(
 
 // A node's ends of virtual links.
 fn ends_of(alloc: Global, plan: &Plan, number: u8, ways: &[Ways]) -> Result<Vec<End>, Memory>
-    ensures { IfOk result (λ ends. AllByRecursion (λ e. e.link < 4) ends.items) }
+    ensures { IfOk result (λ ends. ends.items ≡ ends_among (on_link ways.now) number 0 plan.now.vlinks) }
 {
     let mut ends = Vec::new(alloc);
     for (i, vlink) in plan.vlinks.as_slice().iter().enumerate() {
         let way = ways_at(ways, i);
-        if vlink.a.node == number {
-            push_end(&mut ends, alloc, &vlink.a, way.from_a, way.from_b)?;
-        }
-        if vlink.b.node == number {
-            push_end(&mut ends, alloc, &vlink.b, way.from_b, way.from_a)?;
-        }
+        push_end(&mut ends, alloc, number, &vlink.a, way.from_a, way.from_b)?;
+        push_end(&mut ends, alloc, number, &vlink.b, way.from_b, way.from_a)?;
     }
     Ok(ends)
-}
-
-// The channels on a virtual link.
-fn ways_at(ways: &[Ways], vlink: usize) -> Ways {
-    ways.get(vlink).copied().unwrap_or(Ways {
-        from_a: None,
-        from_b: None,
-    })
 }
 
 // The kinds of a node's variables.
@@ -120,16 +145,24 @@ fn kinds_in(alloc: Global, node: &NodePlan) -> Result<Items<ValueKind>, Memory>
 }
 
 // The channels inside a node.
-fn inside_of(alloc: Global, number: u8, channels: &[Channel]) -> Result<Vec<u16>, Memory> {
+fn inside_of(alloc: Global, number: u8, channels: &[Channel]) -> Result<Vec<u16>, Memory>
+    requires { length channels.now ≤ 65536 }
+    ensures { IfOk result (λ inside. inside.items ≡ numbers_inside number 0 channels.now) }
+{
     let mut inside = Vec::new(alloc);
-    let mut channel_number = 0u16;
-    for channel in channels {
+    for (chan, channel) in channels.iter().enumerate() {
         if channel.home == (Home::Inside { node: number }) {
-            inside.push(channel_number)?;
+            inside.push(chan as u16)?;
         }
-        channel_number = channel_number.saturating_add(1);
     }
     Ok(inside)
+}
+
+// How many bytes a packet of the plan's network may have.
+fn body_limit(plan: &Plan) -> usize
+    ensures { result ≡ network.body_limit (network_of plan.now) }
+{
+    if plan.version == 1 { 40 } else { 44 }
 }
 
 // A node with its process, about to begin.
@@ -139,28 +172,32 @@ fn build_node(
     node: &NodePlan,
     number: u8,
     ways: &[Ways],
-) -> Result<Actor, Memory>
-    requires runs { runs_today (written node.now.process) ≡ true }
-    requires fits { Fits (kinds_of node.now.vars) node.now.process }
+) -> Result<Node, Memory>
+    requires accepted { IsAccepted plan.now }
+    requires node { slice_get plan.now.nodes number ≡ Some node.now }
+    requires ways { AreWaysOf plan.now ways.now }
+    ensures { IfOk result (λ built. BeginsAs plan.now number built) }
 {
-    let limit = if plan.version == 1 { 40 } else { 44 };
     let ends = ends_of(alloc, plan, number, ways)?;
-    let vcp = Vcp::new(alloc, &ends, limit)?;
+    let vcp = Vcp::new(alloc, &ends, body_limit(plan))?;
     let kinds = kinds_in(alloc, node)?;
-    let inside = inside_of(alloc, number, plan.channels.as_slice())?;
+    let chans = inside_of(alloc, number, plan.channels.as_slice())?;
     let process = node.process.copy(alloc)?;
-    let process = Running::new(alloc, process, kinds.as_slice(), &inside)?;
-    Ok(Actor::of_node(Node { vcp, process }))
+    let process = Running::new(alloc, process, kinds.as_slice(), &chans)?;
+    let inside = Inside::new(alloc, plan.channels.as_slice(), number)?;
+    Ok(Node::new(alloc, vcp, process, inside))
 }
 
-/// The actors of an accepted plan: its nodes, in order.
-pub fn actors(alloc: Global, accepted: &Accepted) -> Result<Vec<Actor>, Memory> {
+/// The actors of an accepted plan: its nodes, in order, each of which begins.
+pub fn actors(alloc: Global, accepted: &Accepted) -> Result<Vec<Actor>, Memory>
+    ensures { IfOk result (λ actors. AreFirst accepted.now actors.items) }
+{
     let plan = accepted.plan();
-    let ways = ways_of(alloc, plan.vlinks.len(), plan.channels.as_slice())?;
+    let ways = ways_of(alloc, plan)?;
     let mut actors = Vec::new(alloc);
     for (i, node) in plan.nodes.as_slice().iter().enumerate() {
-        let number = u8::try_from(i).unwrap_or(u8::MAX);
-        actors.push(build_node(alloc, plan, node, number, &ways)?)?;
+        let node = build_node(alloc, plan, node, i as u8, &ways)?;
+        actors.push(Actor::of_node(node))?;
     }
     Ok(actors)
 }

@@ -1,17 +1,22 @@
 //! The network as events: nodes joined by one-way ways of tokens, each event one act of one actor.
 //!
 //! An [`Actor`] is a node with its process; a [`Network`] is the actors and the ways between them. A simulator makes events one after
-//! another, and the same actors run in threads. What is proved of them so far: every call is safe and returns.
+//! another, and the same actors run in threads. Each event that [`Network::step`] makes is exactly one step of the network of the
+//! plan (`specs/State`, MakesEvent), and what [`replay`] answers keeps the headline (`specs/Replaying`).
 #![tactic(auto)]
 
 mod act;
 mod actor;
 mod building;
+mod channels;
 mod close;
+mod filling;
+mod inside;
 mod network;
 mod node;
 mod refused;
 mod turn;
+mod way;
 mod wiring;
 
 pub use act::{Act, Event};

@@ -1,190 +1,260 @@
 //! A network: its actors, and the ways that join them.
-ghost use Rattle.std.specs.Prelude.{◌≡◌, ◌<◌, IsTrue, vec_len};
-ghost use Rattle.vc_core.specs.Acts.{NamesNodeLink};
+ghost use Rattle.std.specs.Prelude.{◌≡◌, ◌<◌, ◌↔◌, ◌*◌, ℕ, List, [], ◌∷◌, ◌++◌, length, slice_get, Some, IsTrue, IfOk, IfErr, OnOk, OnErr, MatchResult};
+ghost use Rattle.std.specs.List.{AllByRecursion};
+ghost use Rattle.vc_core.specs.Replaying.{IsOpening, Replays, RefusedAt};
+ghost use Rattle.vc_plan.specs.declared.plan.Plan.{Plan};
+ghost use Rattle.vc_core.specs.Acting.{IsOwn};
+ghost use Rattle.vc_core.specs.State.{state_of, IsNetworkOf, MayHappen, WaysLet, HasFront, HasWay, MakesEvent, MayActAt, Accepts, PutsBy, GrantsBy, with_line};
+ghost use Rattle.vc_tokens.specs.Tokens.{Token as SpeltToken};
+ghost use Rattle.vc_tokens.specs.Spelt.{token as spelt};
 
 use crate::act::{Act, Event};
 use crate::actor::Actor;
 use crate::building::actors;
+use crate::channels::{ChannelInfo, channels_of};
 use crate::refused::{ReplayRefused, StepRefused};
-use crate::turn::Turn;
+use crate::way::Way;
 use crate::wiring::Wiring;
-use sqlite_items::Items;
+use sqlite_items::{Items, at};
 use std::alloc::Global;
-use std::collections::VecDeque;
 use vc_occam::ValueKind;
 use vc_packets::Memory;
-use vc_plan::{Accepted, Home};
+use vc_plan::Accepted;
 use vc_tokens::Token;
-
-/// What a channel is called and where it is.
-#[derive(Drop)]
-struct ChannelInfo {
-    name: Items<u8>,
-    kind: ValueKind,
-    source: usize,
-    sink: usize,
-}
 
 /// A network: its actors, and the tokens on the ways that join them.
 #[derive(Drop)]
 pub struct Network {
     actors: Vec<Actor>,
-    ways: Vec<VecDeque<Token>>,
+    ways: Vec<Way>,
     wiring: Wiring,
     channels: Vec<ChannelInfo>,
 }
 
 impl Network {
-    /// The network of an accepted plan, about to begin.
-    pub fn new(alloc: Global, accepted: &Accepted) -> Result<Network, Memory> {
+    /// The network of an accepted plan, about to begin: each process whole, and no token anywhere.
+    pub fn new(alloc: Global, accepted: &Accepted) -> Result<Network, Memory>
+        ensures { IfOk result (λ network. IsOpening accepted.now (state_of network)) }
+    {
         let plan = accepted.plan();
-        let nodes = plan.nodes.len();
-        let wires = plan.wires.as_slice();
-        let wiring = Wiring::new(alloc, wires, nodes, nodes)?;
-        let mut ways = Vec::new(alloc);
-        for _ in wires {
-            ways.push(VecDeque::new(alloc))?;
-            ways.push(VecDeque::new(alloc))?;
-        }
         Ok(Network {
             actors: actors(alloc, accepted)?,
-            ways,
-            wiring,
-            channels: channels_of(alloc, accepted)?,
+            ways: ways_of(alloc, plan.wires.len())?,
+            wiring: Wiring::new(alloc, plan)?,
+            channels: channels_of(alloc, plan)?,
         })
     }
 
     /// Whether an event can be made.
-    pub fn enabled(&self, event: &Event) -> bool {
-        self.can(event)
-    }
-
-    // Whether an event can be made: its actor is there.
-    fn can(&self, event: &Event) -> bool
-        ensures actor { IsTrue result → event.now.actor < vec_len self.now.actors }
-        ensures link { IsTrue result → NamesNodeLink event.now.act }
+    pub fn enabled(&self, event: &Event) -> bool
+        ensures { IsTrue result ↔ MayHappen (state_of self.now) event.now }
     {
-        let actor = usize::from(event.actor);
-        match self.actors.get(actor) {
-            Some(acting) => acting.can(&event.act) && self.ways_let(actor, &event.act),
+        match at(self.actors.as_slice(), usize::from(event.actor)) {
+            Some(acting) => acting.can(&event.act) && self.ways_let(event.actor, &event.act),
             None => false,
         }
     }
 
     // Whether the act's way is there, and has a token where it takes one.
-    fn ways_let(&self, actor: usize, act: &Act) -> bool {
+    fn ways_let(&self, actor: u8, act: &Act) -> bool
+        ensures { IsTrue result ↔ WaysLet (state_of self.now) actor act.now }
+    {
         match act {
-            Act::Take { link, .. } => self.has_token(actor, *link),
-            Act::Put { link } | Act::Fct { link } => self.wiring.outgoing(actor, *link).is_some(),
+            Act::Take { link, .. } => self.has_front(actor, *link),
+            Act::Put { link } | Act::Fct { link } => self.has_way(actor, *link),
             Act::Proc(_) | Act::Pass { .. } | Act::Route { .. } => true,
         }
     }
 
     // Whether a token stands on the way that comes in by a link.
-    fn has_token(&self, actor: usize, link: u8) -> bool {
+    fn has_front(&self, actor: u8, link: u8) -> bool
+        ensures { IsTrue result ↔ HasFront (state_of self.now) actor link }
+    {
         match self.wiring.incoming(actor, link) {
-            Some(way) => match self.ways.get(way) {
-                Some(tokens) => !tokens.is_empty(),
-                None => false,
-            },
+            Some(way) if way < self.ways.len() => self.ways[way].front().is_some(),
+            _ => false,
+        }
+    }
+
+    // Whether a way goes out by a link.
+    fn has_way(&self, actor: u8, link: u8) -> bool
+        ensures { IsTrue result ↔ HasWay (state_of self.now) actor link }
+    {
+        match self.wiring.outgoing(actor, link) {
+            Some(way) => self.ways.get(way).is_some(),
             None => false,
         }
     }
 
     /// Makes an event. It is refused where it is not enabled, or there is no memory for it; the network is then as it was.
-    pub fn step(&mut self, event: &Event) -> Result<(), StepRefused> {
-        if !self.can(event) {
-            return Err(StepRefused::NotEnabled);
+    pub fn step(&mut self, event: &Event) -> Result<(), StepRefused>
+        ensures makes { (p : Plan) → IsNetworkOf p (state_of self.old) → OnOk result (MakesEvent p (state_of self.old) event.now (state_of self.new)) }
+        ensures refused { OnErr result (state_of self.new ≡ state_of self.old) }
+        ensures not_enabled { MatchResult result (λ _. MayHappen (state_of self.old) event.now) (λ why. why ≡ StepRefused.NotEnabled ↔ (MayHappen (state_of self.old) event.now → ⊥)) }
+    {
+        if self.enabled(event) {
+            self.make(event)?;
+            Ok(())
+        } else {
+            Err(StepRefused::NotEnabled)
         }
-        let actor = usize::from(event.actor);
-        match event.act {
-            Act::Proc(made) => {
-                self.actors[actor].make(&made)?;
-            }
-            Act::Pass { link } => self.actors[actor].pass(link)?,
-            Act::Take { link, word } => self.take(actor, link, word)?,
-            Act::Put { link } => self.put(actor, link)?,
-            Act::Fct { link } => self.grant(actor, link)?,
-            Act::Route { .. } => return Err(StepRefused::NotEnabled),
-        }
-        Ok(())
     }
 
-    // The front token of the way that comes in by a link is taken.
-    fn take(&mut self, actor: usize, link: u8, word: u32) -> Result<(), Memory>
-        requires actor { actor < vec_len self.old.actors }
-        requires link { link < 4 }
+    // Makes an event that can be made.
+    fn make(&mut self, event: &Event) -> Result<(), Memory>
+        requires { MayHappen (state_of self.old) event.now }
+        ensures makes { (p : Plan) → IsNetworkOf p (state_of self.old) → OnOk result (MakesEvent p (state_of self.old) event.now (state_of self.new)) }
+        ensures refused { OnErr result (state_of self.new ≡ state_of self.old) }
     {
-        if let Some(way) = self.wiring.incoming(actor, link) {
-            if way < self.ways.len() {
-                if let Some(token) = self.ways[way].front().copied() {
-                    let _act = self.actors[actor].take(link, &token, word)?;
-                    let _taken = self.ways[way].pop_front();
-                }
+        match event.act {
+            Act::Proc(_) | Act::Pass { .. } => self.act(event),
+            Act::Take { link, .. } => {
+                self.take(event, link);
+                Ok(())
             }
+            Act::Put { link } => self.put(event, link),
+            Act::Fct { link } => self.grant(event, link),
+            Act::Route { .. } => unreachable!(),
         }
-        Ok(())
+    }
+
+    // A node makes a step of its own.
+    fn act(&mut self, event: &Event) -> Result<(), Memory>
+        requires may { MayHappen (state_of self.old) event.now }
+        requires own { IsOwn event.now.act }
+        ensures makes { (p : Plan) → IsNetworkOf p (state_of self.old) → OnOk result (MakesEvent p (state_of self.old) event.now (state_of self.new)) }
+        ensures refused { OnErr result (state_of self.new ≡ state_of self.old) }
+    {
+        self.actors[usize::from(event.actor)].make(&event.act)
+    }
+
+    // A node takes the front token of the way that comes in by a link.
+    fn take(&mut self, event: &Event, link: u8)
+        requires may { MayHappen (state_of self.old) event.now }
+        requires is { (word : ℕ) × (event.now.act ≡ Act.Take link word) }
+        ensures { (p : Plan) → IsNetworkOf p (state_of self.old) → MakesEvent p (state_of self.old) event.now (state_of self.new) }
+    {
+        let Some(way) = self.wiring.incoming(event.actor, link) else {
+            unreachable!();
+        };
+        let Some(token) = self.ways[way].front() else {
+            unreachable!();
+        };
+        self.accept(event.actor, link, token);
+        self.drop_front(way);
     }
 
     // The next token of a packet goes to the end of the way that goes out by a link.
-    fn put(&mut self, actor: usize, link: u8) -> Result<(), Memory>
-        requires { actor < vec_len self.old.actors }
+    fn put(&mut self, event: &Event, link: u8) -> Result<(), Memory>
+        requires may { MayHappen (state_of self.old) event.now }
+        requires is { event.now.act ≡ Act.Put link }
+        ensures makes { (p : Plan) → IsNetworkOf p (state_of self.old) → OnOk result (MakesEvent p (state_of self.old) event.now (state_of self.new)) }
+        ensures refused { OnErr result (state_of self.new ≡ state_of self.old) }
     {
-        if let Some(way) = self.wiring.outgoing(actor, link) {
-            if way < self.ways.len() {
-                self.ways[way].reserve(1)?;
-                if let Some(token) = self.actors[actor].put(link) {
-                    self.ways[way].push_back(token)?;
-                }
-            }
-        }
+        let Some(way) = self.wiring.outgoing(event.actor, link) else {
+            unreachable!();
+        };
+        self.push(way, Token::Fct)?;
+        let token = self.put_by(event.actor, link);
+        self.replace_last(way, token);
         Ok(())
     }
 
     // A flow control token goes to the end of the way that goes out by a link.
-    fn grant(&mut self, actor: usize, link: u8) -> Result<(), Memory>
-        requires { actor < vec_len self.old.actors }
+    fn grant(&mut self, event: &Event, link: u8) -> Result<(), Memory>
+        requires may { MayHappen (state_of self.old) event.now }
+        requires is { event.now.act ≡ Act.Fct link }
+        ensures makes { (p : Plan) → IsNetworkOf p (state_of self.old) → OnOk result (MakesEvent p (state_of self.old) event.now (state_of self.new)) }
+        ensures refused { OnErr result (state_of self.new ≡ state_of self.old) }
     {
-        if let Some(way) = self.wiring.outgoing(actor, link) {
-            if way < self.ways.len() {
-                self.ways[way].reserve(1)?;
-                if let Some(token) = self.actors[actor].grant(link) {
-                    self.ways[way].push_back(token)?;
-                }
-            }
-        }
+        let Some(way) = self.wiring.outgoing(event.actor, link) else {
+            unreachable!();
+        };
+        self.push(way, Token::Fct)?;
+        self.grant_by(event.actor, link);
         Ok(())
+    }
+
+    // A token comes to a node.
+    fn accept(&mut self, actor: u8, link: u8, token: Token)
+        requires here { actor < length self.old.actors.items }
+        requires link { link < 4 }
+        ensures { Accepts (state_of self.old) actor link (spelt token) (state_of self.new) }
+    {
+        self.actors[usize::from(actor)].accept(link, token);
+    }
+
+    // A node puts its next token.
+    fn put_by(&mut self, actor: u8, link: u8) -> Token
+        requires { MayActAt (state_of self.old) actor (Act.Put link) }
+        ensures { PutsBy (state_of self.old) actor link (spelt result) (state_of self.new) }
+    {
+        self.actors[usize::from(actor)].put(link)
+    }
+
+    // A node grants eight places.
+    fn grant_by(&mut self, actor: u8, link: u8)
+        requires { MayActAt (state_of self.old) actor (Act.Fct link) }
+        ensures { GrantsBy (state_of self.old) actor link (state_of self.new) }
+    {
+        self.actors[usize::from(actor)].grant(link);
+    }
+
+    // A token more comes to the end of a way.
+    fn push(&mut self, way: usize, token: Token) -> Result<(), Memory>
+        requires { way < length self.old.ways.items }
+        ensures ok { (ts : List SpeltToken) → slice_get self.old.ways.items way ≡ Some ts → OnOk result (state_of self.new ≡ with_line (state_of self.old) way (ts ++ spelt token ∷ [])) }
+        ensures err { OnErr result (state_of self.new ≡ state_of self.old) }
+    {
+        self.ways[way].push(token)
+    }
+
+    // Another token stands at the end of a way.
+    fn replace_last(&mut self, way: usize, token: Token)
+        requires { way < length self.old.ways.items }
+        ensures { (ts : List SpeltToken) (last : SpeltToken) → slice_get self.old.ways.items way ≡ Some (ts ++ last ∷ []) → state_of self.new ≡ with_line (state_of self.old) way (ts ++ spelt token ∷ []) }
+    {
+        self.ways[way].replace_last(token);
+    }
+
+    // The front token leaves a way.
+    fn drop_front(&mut self, way: usize)
+        requires { way < length self.old.ways.items }
+        ensures { (t : SpeltToken) (rest : List SpeltToken) → slice_get self.old.ways.items way ≡ Some (t ∷ rest) → state_of self.new ≡ with_line (state_of self.old) way rest }
+    {
+        self.ways[way].take();
     }
 
     /// The least link of an actor by which a token can be taken.
     pub fn link_to_take(&self, actor: u8) -> Option<u8> {
         for link in 0..32u8 {
-            if self.has_token(usize::from(actor), link) {
+            if self.has_front(actor, link) {
                 return Some(link);
             }
         }
         None
     }
 
-    /// Makes what an actor does next where every way has room, and answers the event; nothing where it has no step but to take.
-    pub fn turn(&mut self, actor: u8) -> Result<Option<Event>, Memory> {
-        let at = usize::from(actor);
-        if at >= self.actors.len() {
+    /// What an actor does next where every way has room; nothing where it has no step but to take.
+    pub fn next(&self, actor: u8) -> Result<Option<Event>, Memory> {
+        let Some(acting) = self.actors.get(usize::from(actor)) else {
             return Ok(None);
+        };
+        match acting.next(self.room(actor))? {
+            Some(act) => Ok(Some(Event { actor, act })),
+            None => Ok(None),
         }
-        let room = make_room(&mut self.ways, &self.wiring, at)?;
-        match self.actors[at].turn(room)? {
-            Turn::Idle => Ok(None),
-            Turn::Local(act) => Ok(Some(Event { actor, act })),
-            Turn::Put { link, act, item } => {
-                if let Some(way) = self.wiring.outgoing(at, link) {
-                    if way < self.ways.len() {
-                        self.ways[way].push_back(item)?;
-                    }
-                }
-                Ok(Some(Event { actor, act }))
+    }
+
+    // A bit for each link of an actor by which a way goes out.
+    fn room(&self, actor: u8) -> u32 {
+        let mut room = 0;
+        for link in 0..32u8 {
+            if self.has_way(actor, link) {
+                room |= 1u32 << link;
             }
         }
+        room
     }
 
     /// Whether every process has ended.
@@ -221,6 +291,7 @@ impl Network {
     /// The messages offered on a channel, the first one first.
     pub fn offered(&self, chan: u16) -> &[Items<u8>] {
         match self.source(chan) {
+            Some(actor) if actor.node().inside.has(chan) => actor.node().inside.messages(chan),
             Some(actor) => actor.node().vcp.offered(chan),
             None => &[],
         }
@@ -229,6 +300,7 @@ impl Network {
     /// The messages taken on a channel, the first one first.
     pub fn taken(&self, chan: u16) -> &[Items<u8>] {
         match self.sink(chan) {
+            Some(actor) if actor.node().inside.has(chan) => actor.node().inside.messages(chan),
             Some(actor) => actor.node().vcp.taken(chan),
             None => &[],
         }
@@ -237,6 +309,9 @@ impl Network {
     /// How many outputs on a channel are finished.
     pub fn finished(&self, chan: u16) -> u64 {
         match self.source(chan) {
+            Some(actor) if actor.node().inside.has(chan) => {
+                actor.node().inside.messages(chan).len() as u64
+            }
             Some(actor) => actor.node().vcp.finished(chan),
             None => 0,
         }
@@ -245,6 +320,7 @@ impl Network {
     /// Whether a channel was stopped.
     pub fn stopped(&self, chan: u16) -> bool {
         match self.sink(chan) {
+            Some(actor) if actor.node().inside.has(chan) => actor.node().inside.is_stopped(chan),
             Some(actor) => actor.node().vcp.stopped(chan),
             None => false,
         }
@@ -281,48 +357,17 @@ impl Network {
     }
 }
 
-// Room for a token more on each way out of an actor; a bit for each such link.
-fn make_room(
-    ways: &mut Vec<VecDeque<Token>>,
-    wiring: &Wiring,
-    actor: usize,
-) -> Result<u32, Memory> {
-    let mut room = 0;
-    for link in 0..32u8 {
-        if let Some(way) = wiring.outgoing(actor, link) {
-            if way < ways.len() {
-                ways[way].reserve(1)?;
-                room |= 1u32 << link;
-            }
-        }
+// Two ways for each wire, with no token on them.
+fn ways_of(alloc: Global, wires: usize) -> Result<Vec<Way>, Memory>
+    ensures count { IfOk result (λ ways. length ways.items ≡ 2 * wires) }
+    ensures empty { IfOk result (λ ways. AllByRecursion (λ way. way ≡ []) ways.items) }
+{
+    let mut ways = Vec::new(alloc);
+    for _ in 0..wires {
+        ways.push(Way::new(alloc))?;
+        ways.push(Way::new(alloc))?;
     }
-    Ok(room)
-}
-
-// What the channels of a plan are called and where they are.
-fn channels_of(alloc: Global, accepted: &Accepted) -> Result<Vec<ChannelInfo>, Memory> {
-    let plan = accepted.plan();
-    let mut channels = Vec::new(alloc);
-    for channel in plan.channels.as_slice() {
-        let name = Items::from_slice(alloc, channel.name.as_slice())?;
-        let (source, sink) = match channel.home {
-            Home::Inside { node } => (node, node),
-            Home::Way { vlink, from_a } => {
-                match plan.vlinks.as_slice().get(usize::from(vlink)) {
-                    Some(link) if from_a => (link.a.node, link.b.node),
-                    Some(link) => (link.b.node, link.a.node),
-                    None => (0, 0),
-                }
-            }
-        };
-        channels.push(ChannelInfo {
-            name,
-            kind: channel.kind,
-            source: usize::from(source),
-            sink: usize::from(sink),
-        })?;
-    }
-    Ok(channels)
+    Ok(ways)
 }
 
 /// Makes a list of events from the opening state on. The first event that is refused is answered with the network before it.
@@ -330,7 +375,10 @@ pub fn replay(
     alloc: Global,
     accepted: &Accepted,
     events: &[Event],
-) -> Result<Network, ReplayRefused> {
+) -> Result<Network, ReplayRefused>
+    ensures replayed { IfOk result (λ network. Replays accepted.now events.now (state_of network)) }
+    ensures refused { IfErr result (λ refused. RefusedAt accepted.now events.now refused) }
+{
     let mut network = match Network::new(alloc, accepted) {
         Ok(network) => network,
         Err(Memory) => {

@@ -1,115 +1,208 @@
 //! A node: its process, and the virtual channel processor that carries its channels.
-ghost use Rattle.std.specs.Prelude.{◌<◌, ◌≡◌, ℕ};
-ghost use Rattle.std.specs.List.{Contains};
-ghost use Rattle.vc_occam.specs.Runnings.{moves};
+ghost use Rattle.std.specs.Prelude.{◌≡◌, ◌≢◌, ◌<◌, ◌↔◌, ℕ, [], Option, Some, IsTrue, OnOk, OnErr};
+ghost use Rattle.vc_occam.specs.States.{came};
+ghost use Rattle.vc_vcp.specs.Seen.{seen, answered, passed_of};
+ghost use Rattle.vc_vcp.specs.Steps.{Complete, Finished};
+ghost use Rattle.vc_network.specs.Network.{GoesOn};
+ghost use Rattle.vc_core.specs.Process.{does};
+ghost use Rattle.vc_core.specs.Shown.{process_of};
+ghost use Rattle.vc_core.specs.Passing.{IsAwaited, MakesPass};
+ghost use Rattle.vc_network.specs.Plan.{Plan};
+ghost use Rattle.vc_core.specs.OfPlan.{IsNodeOf};
+ghost use Rattle.vc_core.specs.MayMove.{MayMove, AnswersMove, MakesMove};
 
+use crate::inside::Inside;
+use sqlite_items::Items;
+use std::alloc::Global;
 use vc_occam::{Answer, Move, Running};
 use vc_packets::Memory;
 use vc_vcp::{Taken, Vcp, Want};
 
-/// A node: its process, and the virtual channel processor that carries its channels.
+/// A node: its process, the virtual channel processor that carries its channels, and the channels inside it.
 #[derive(Drop)]
 pub(crate) struct Node {
+    alloc: Global,
     pub(crate) vcp: Vcp,
     pub(crate) process: Running,
+    pub(crate) inside: Inside,
 }
 
 impl Node {
-    /// A token passes from a link's buffer; where a message is whole or an output finished the process goes on.
-    pub(crate) fn pass(&mut self, link: u8) -> Result<(), Memory>
-        requires { link < 4 }
+    /// A node of these parts.
+    pub(crate) fn new(alloc: Global, vcp: Vcp, process: Running, inside: Inside) -> Node
+        ensures { (result.vcp ≡ vcp) × (result.process ≡ process) × (result.inside ≡ inside) }
     {
-        match self.vcp.pass(link)? {
-            Some(Taken::Complete { chan, message }) => {
-                if let Some(site) = self.process.input_on(chan) {
-                    self.process.resume(site, Some(message));
-                }
-            }
-            Some(Taken::Finished { chan }) => {
-                if let Some(site) = self.process.output_on(chan) {
-                    self.process.resume(site, None);
-                }
-            }
-            _ => {}
+        Node {
+            alloc,
+            vcp,
+            process,
+            inside,
         }
-        Ok(())
     }
 
     /// Whether a move is one that the process can make now.
-    pub(crate) fn can_move(&self, made: &Move) -> bool {
-        self.process.lists(made) && self.may_move(made)
+    pub(crate) fn can_move(&self, made: &Move) -> bool
+        ensures { IsTrue result ↔ MayMove self.now made.now }
+    {
+        self.process.lists(made) && self.channel_lets(made)
     }
 
     // Whether the move's channel lets it be made.
-    fn may_move(&self, made: &Move) -> bool {
+    fn channel_lets(&self, made: &Move) -> bool
+        ensures { IsTrue result ↔ AnswersMove self.now made.now }
+    {
         match *made {
             Move::Offer { chan, .. } => self.vcp.may_offer(chan),
             Move::Want { chan, .. } => self.vcp.may_want(chan),
-            Move::Stopch { chan, .. } => self.vcp.may_stop(chan),
+            Move::Choose { chan, .. } => self.vcp.may_want(chan) && self.vcp.ready(chan),
+            Move::Stopch { chan, .. } => self.vcp.may_stop(chan) || self.inside.has(chan),
+            Move::Inner { chan, .. } => self.inside.is_open(chan),
             Move::Quiet { .. } => true,
-            Move::Choose { .. } | Move::Inner { .. } => false,
         }
     }
 
-    /// Makes a move, or answers that it is none that the process can make now.
-    pub(crate) fn make(&mut self, made: &Move) -> Result<bool, Memory> {
-        if !self.process.lists(made) {
-            return Ok(false);
-        }
+    /// Makes a move.
+    pub(crate) fn make(&mut self, made: &Move) -> Result<(), Memory>
+        requires { MayMove self.old made.now }
+        ensures ok { (plan : Plan) (k : ℕ) → IsNodeOf plan k self.old → OnOk result (MakesMove plan k self.old made.now self.new) }
+        ensures err { OnErr result (self.new ≡ self.old) }
+    {
         match *made {
             Move::Offer { chan, .. } => self.offer(made, chan),
             Move::Want { chan, .. } => self.want(made, chan),
-            Move::Quiet { .. } => {
-                self.process.act(made, Answer::Nothing)?;
-                Ok(true)
-            }
+            Move::Choose { chan, .. } => self.choose(made, chan),
             Move::Stopch { chan, .. } => self.stopch(made, chan),
-            Move::Choose { .. } | Move::Inner { .. } => Ok(false),
+            Move::Inner { chan, .. } => self.meet(made, chan),
+            Move::Quiet { .. } => self.rest(made),
         }
     }
 
     // An output begins, with its message.
-    fn offer(&mut self, made: &Move, chan: u16) -> Result<bool, Memory>
-        requires listed { Contains (moves self.old.process) made.now }
-        requires offer { (site : ℕ) × (made.now ≡ Move.Offer site chan) }
+    fn offer(&mut self, made: &Move, chan: u16) -> Result<(), Memory>
+        requires may { MayMove self.old made.now }
+        requires is { (site : ℕ) × (made.now ≡ Move.Offer site chan) }
+        ensures ok { (plan : Plan) (k : ℕ) → IsNodeOf plan k self.old → OnOk result (MakesMove plan k self.old made.now self.new) }
+        ensures err { OnErr result (self.new ≡ self.old) }
     {
-        if !self.vcp.may_offer(chan) {
-            return Ok(false);
-        }
         let Some(message) = self.process.value(made)? else {
-            return Ok(false);
+            unreachable!();
         };
         self.vcp.offer(chan, message.as_slice())?;
-        self.process.act(made, Answer::Nothing)?;
-        Ok(true)
+        self.process.act(made, Answer::Nothing)
     }
 
     // An input begins: it has its message, or waits.
-    fn want(&mut self, made: &Move, chan: u16) -> Result<bool, Memory>
-        requires listed { Contains (moves self.old.process) made.now }
-        requires want { (site : ℕ) × (made.now ≡ Move.Want site chan) }
+    fn want(&mut self, made: &Move, chan: u16) -> Result<(), Memory>
+        requires may { MayMove self.old made.now }
+        requires is { (site : ℕ) × (made.now ≡ Move.Want site chan) }
+        ensures ok { (plan : Plan) (k : ℕ) → IsNodeOf plan k self.old → OnOk result (MakesMove plan k self.old made.now self.new) }
+        ensures err { OnErr result (self.new ≡ self.old) }
     {
-        if !self.vcp.may_want(chan) {
-            return Ok(false);
-        }
-        let answer = match self.vcp.want(chan)? {
-            Want::Waits | Want::Stored => Answer::Waits,
-            Want::Complete(message) => Answer::Got(message),
-        };
-        self.process.act(made, answer)?;
-        Ok(true)
+        let answer = answer_of(self.vcp.want(chan)?);
+        self.process.act(made, answer)
+    }
+
+    // An ALT takes the guard whose piece is there.
+    fn choose(&mut self, made: &Move, chan: u16) -> Result<(), Memory>
+        requires may { MayMove self.old made.now }
+        requires is { (site : ℕ) × (guard : ℕ) × (made.now ≡ Move.Choose site guard chan) }
+        ensures ok { (plan : Plan) (k : ℕ) → IsNodeOf plan k self.old → OnOk result (MakesMove plan k self.old made.now self.new) }
+        ensures err { OnErr result (self.new ≡ self.old) }
+    {
+        let answer = answer_of(self.vcp.want(chan)?);
+        self.process.act(made, answer)
     }
 
     // A channel is stopped.
-    fn stopch(&mut self, made: &Move, chan: u16) -> Result<bool, Memory>
-        requires listed { Contains (moves self.old.process) made.now }
-        requires stops { (site : ℕ) × (made.now ≡ Move.Stopch site chan) }
+    fn stopch(&mut self, made: &Move, chan: u16) -> Result<(), Memory>
+        requires may { MayMove self.old made.now }
+        requires is { (site : ℕ) × (made.now ≡ Move.Stopch site chan) }
+        ensures ok { (plan : Plan) (k : ℕ) → IsNodeOf plan k self.old → OnOk result (MakesMove plan k self.old made.now self.new) }
+        ensures err { OnErr result (self.new ≡ self.old) }
     {
-        if !self.vcp.may_stop(chan) {
-            return Ok(false);
-        }
         self.process.act(made, Answer::Nothing)?;
-        self.vcp.stopch(chan);
-        Ok(true)
+        if self.inside.has(chan) {
+            self.inside.stop(chan);
+        } else {
+            self.vcp.stopch(chan);
+        }
+        Ok(())
+    }
+
+    // An output meets an input, or a guard, on a channel inside the node.
+    fn meet(&mut self, made: &Move, chan: u16) -> Result<(), Memory>
+        requires may { MayMove self.old made.now }
+        requires is { (sender : ℕ) × (receiver : ℕ) × (guard : Option ℕ) × (made.now ≡ Move.Inner sender receiver guard chan) }
+        ensures ok { (plan : Plan) (k : ℕ) → IsNodeOf plan k self.old → OnOk result (MakesMove plan k self.old made.now self.new) }
+        ensures err { OnErr result (self.new ≡ self.old) }
+    {
+        let Some(message) = self.process.value(made)? else {
+            unreachable!();
+        };
+        let copy = Items::from_slice(self.alloc, message.as_slice())?;
+        self.inside.exchange(chan, copy)?;
+        self.process.act(made, Answer::Got(message))
+    }
+
+    // A step without a communication.
+    fn rest(&mut self, made: &Move) -> Result<(), Memory>
+        requires may { MayMove self.old made.now }
+        requires is { (site : ℕ) × (made.now ≡ Move.Quiet site) }
+        ensures ok { (plan : Plan) (k : ℕ) → IsNodeOf plan k self.old → OnOk result (MakesMove plan k self.old made.now self.new) }
+        ensures err { OnErr result (self.new ≡ self.old) }
+    {
+        self.process.act(made, Answer::Nothing)
+    }
+
+    /// A token passes from a link's buffer; where a message is whole or an output finished the process goes on.
+    pub(crate) fn pass(&mut self, link: u8) -> Result<(), Memory>
+        requires link { link < 4 }
+        requires waits { ((seen self.old.vcp).link link).receiver.buffer ≢ [] }
+        ensures ok { (plan : Plan) (k : ℕ) → IsNodeOf plan k self.old → OnOk result (MakesPass plan k self.old link self.new) }
+        ensures err { OnErr result (self.new ≡ self.old) }
+    {
+        let taken = self.vcp.pass(link)?;
+        go_on(&mut self.process, taken);
+        Ok(())
+    }
+}
+
+// The process goes on where its message is whole or its output finished.
+fn go_on(process: &mut Running, taken: Option<Taken>)
+    ensures { IsAwaited (process_of process.old) (passed_of taken) → GoesOn does (process_of process.old) (passed_of taken) (process_of process.new) }
+{
+    match taken {
+        Some(Taken::Complete { chan, message }) => receive(process, chan, message),
+        Some(Taken::Finished { chan }) => finish(process, chan),
+        _ => {}
+    }
+}
+
+// The input on a channel, if there is one, has its message.
+fn receive(process: &mut Running, chan: u16, message: Items<u8>)
+    ensures { IsAwaited (process_of process.old) (Some (Complete chan message)) → GoesOn does (process_of process.old) (Some (Complete chan message)) (process_of process.new) }
+{
+    if let Some(site) = process.input_on(chan) {
+        process.resume(site, Some(message));
+    }
+}
+
+// The output on a channel, if there is one, is finished.
+fn finish(process: &mut Running, chan: u16)
+    ensures { IsAwaited (process_of process.old) (Some (Finished chan)) → GoesOn does (process_of process.old) (Some (Finished chan)) (process_of process.new) }
+{
+    if let Some(site) = process.output_on(chan) {
+        process.resume(site, None);
+    }
+}
+
+/// What an input's process is told.
+fn answer_of(want: Want) -> Answer
+    ensures came { came result ≡ answered want }
+    ensures some { result ≢ Answer.Nothing }
+{
+    match want {
+        Want::Waits | Want::Stored => Answer::Waits,
+        Want::Complete(message) => Answer::Got(message),
     }
 }

@@ -12,6 +12,11 @@ pub enum StepRefused {
 }
 
 impl From<Memory> for StepRefused {
+    ghost use Rattle.std.specs.Prelude.{◌≡◌};
+    ghost use Rattle.vc_core.specs.declared.refused.StepRefused.TheVariants as refused;
+
+    ghost from_gives = { λ _ why. why ≡ refused.Memory };
+
     fn from(_error: Memory) -> StepRefused {
         StepRefused::Memory
     }

@@ -1,8 +1,15 @@
 //! The ways of a network: two for each wire.
-use sqlite_items::Items;
+ghost use Rattle.std.specs.Prelude.{◌≡◌, ◌<◌, ℕ, IfOk, IfSome};
+ghost use Rattle.vc_accepted.specs.Outgoing.{outgoing};
+ghost use Rattle.vc_core.specs.Wired.{out_at, in_at};
+ghost use Rattle.vc_network.specs.Plan.{back as other_way};
+ghost use Rattle.vc_plan.specs.Accepted.{IsAccepted};
+
+use crate::filling::ways_out;
 use std::alloc::Global;
+use std::marker::Model;
 use vc_packets::Memory;
-use vc_plan::{Port, Spot, Wire};
+use vc_plan::Plan;
 
 /// The links of an actor, of which a node has four.
 pub(crate) const LINKS: usize = 32;
@@ -14,57 +21,54 @@ pub(crate) struct Wiring {
     out: Vec<Option<u16>>,
 }
 
+impl Model for Wiring {
+    ghost use Rattle.std.specs.Prelude.{ℕ, List, Option};
+
+    ghost Value = { List (Option ℕ) };
+
+    ghost view = { λ x. x.out.items };
+}
+
 impl Wiring {
-    /// The ways of these wires, where `nodes` nodes come before the switches.
-    pub(crate) fn new(
-        alloc: Global,
-        wires: &[Wire],
-        nodes: usize,
-        actors: usize,
-    ) -> Result<Wiring, Memory> {
-        let mut out = vec![in alloc; None; actors.saturating_mul(LINKS)]?;
-        let mut way = 0;
-        for wire in wires {
-            set(&mut out, place(wire.one, nodes), way);
-            set(&mut out, place(wire.two, nodes), way.saturating_add(1));
-            way = way.saturating_add(2);
-        }
+    /// The ways of an accepted plan, at its nodes and then its switches.
+    pub(crate) fn new(alloc: Global, plan: &Plan) -> Result<Wiring, Memory>
+        requires { IsAccepted plan.now }
+        ensures { IfOk result (λ wiring. (actor link : ℕ) → out_at wiring actor link ≡ outgoing plan.now actor link) }
+    {
+        let out = ways_out(alloc, plan)?;
         Ok(Wiring { out })
     }
 
     /// The way that goes out by a link of an actor, if the link is on a wire.
-    pub(crate) fn outgoing(&self, actor: usize, link: u8) -> Option<usize> {
-        let place = actor
-            .saturating_mul(LINKS)
-            .saturating_add(usize::from(link));
-        match self.out.get(place) {
-            Some(way) => way.map(usize::from),
-            None => None,
+    pub(crate) fn outgoing(&self, actor: u8, link: u8) -> Option<usize>
+        ensures way { result ≡ out_at self.now actor link }
+        ensures small { IfSome result (λ way. way < 65536) }
+    {
+        let link = usize::from(link);
+        if link >= LINKS {
+            return None;
+        }
+        match self.out.get(usize::from(actor) * LINKS + link).copied() {
+            Some(Some(way)) => Some(usize::from(way)),
+            Some(None) | None => None,
         }
     }
 
     /// The way that comes in by a link of an actor, if the link is on a wire.
-    pub(crate) fn incoming(&self, actor: usize, link: u8) -> Option<usize> {
+    pub(crate) fn incoming(&self, actor: u8, link: u8) -> Option<usize>
+        ensures { result ≡ in_at self.now actor link }
+    {
         match self.outgoing(actor, link) {
-            Some(way) => Some(way ^ 1),
+            Some(way) => Some(back(way)),
             None => None,
         }
     }
 }
 
-// The place of a port in the list of outgoing ways.
-fn place(port: Port, nodes: usize) -> usize {
-    let actor = match port.spot {
-        Spot::Node(node) => usize::from(node),
-        Spot::Switch(switch) => nodes.saturating_add(usize::from(switch)),
-    };
-    actor
-        .saturating_mul(LINKS)
-        .saturating_add(usize::from(port.link))
-}
-
-fn set(out: &mut Vec<Option<u16>>, place: usize, way: u16) {
-    if place < out.len() {
-        out[place] = Some(way);
-    }
+// The other way of a way's wire.
+fn back(way: usize) -> usize
+    requires { way < 65536 }
+    ensures { result ≡ other_way way }
+{
+    if way % 2 == 0 { way + 1 } else { way - 1 }
 }

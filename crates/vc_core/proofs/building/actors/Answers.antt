@@ -1,12 +1,19 @@
-use Rattle.std.proofs.Common.{◌≡◌, ap, sym, subst, ◌∙◌, length, refl, slice_get, Some}
-use Rattle.std.proofs.lemmas.Option.{slice_get_read}
-use Rattle.vc_core.proofs.WithinLimits.{node_runs}
+use Rattle.std.proofs.Common.{◌≡◌, sym, subst}
+use Rattle.vc_core.specs.Begin.{BeginsAs}
+use Rattle.vc_core.specs.declared.node.Node.{Node}
+use Rattle.vc_core.proofs.Beginning.{one_longer, one_more}
 use Rattle.vc_core.proofs.building.actors.Goals as goal
 
-pub build_node-requires : goal.build_node-requires
-build_node-requires c =
-    let xs = c.as_slice-node-items.result.now in
-    let there : slice_get xs c.loop-i.i ≡ Some c.node-item.result = slice_get_read xs (length xs) c.loop-i.i c.node-item.result refl c.loop-i-test.true c.node-item.is in
-    let nodes = c.as_slice-node-items.ensures ∙ ap (λ p. p.nodes) c.plan-plan.ensures.plan in
-    let is = node_runs c.args.accepted.now c.plan-plan.ensures.accepted c.loop-i.i c.node-item.result (subst (λ ns. slice_get ns c.loop-i.i ≡ Some c.node-item.result) nodes there) in
-    record { runs = is.0; fits = is.1 }
+pub loop-i-preserved : goal.loop-i-preserved
+loop-i-preserved c =
+    let p = c.args.accepted.now in
+    let k = c.loop-i.i in
+    let xs = c.loop-i.actors.items in
+    let new = c.push.new.self.items in
+    let a = c.of_node.result in
+    let same : c.plan-plan.result.now ≡ p = c.plan-plan.ensures.plan in
+    let is : BeginsAs p k a.node = subst (λ z. BeginsAs z k a.node) same (subst (λ (z : Node). BeginsAs c.plan-plan.result.now k z) (sym c.of_node.ensures) c.in_ok-node.ensures) in
+    record {
+      count = one_longer k xs new a c.loop-i.invariant.count c.in_ok-push.ensures.items;
+      each = one_more p k xs new a c.loop-i.invariant.count c.in_ok-push.ensures.items is c.loop-i.invariant.each;
+    }

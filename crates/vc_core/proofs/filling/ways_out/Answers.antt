@@ -1,0 +1,31 @@
+use Rattle.std.proofs.Common.{◌≡◌, ◌+◌, ◌*◌, length, take, get_or, slice_get, Some, sym, ap, ◌∙◌, add-one}
+use Rattle.std.proofs.lemmas.Option.{slice_get-get_or}
+use Rattle.vc_plan.specs.declared.port.Wire.{Wire}
+use Rattle.vc_plan.specs.declared.port.Spot.TheVariants.{Node}
+use Rattle.vc_accepted.specs.Outgoing.{way_out}
+use Rattle.vc_core.specs.Filled.{left}
+use Rattle.vc_core.proofs.Leaving.{next_long, next_tells}
+use Rattle.vc_core.proofs.filling.ways_out.Goals as goal
+
+-- what is read past the wires
+none : Wire
+none = record { one = record { spot = Node 0; link = 0 }; two = record { spot = Node 0; link = 0 } }
+
+pub loop-i-preserved : goal.loop-i-preserved
+unfolding none
+loop-i-preserved c =
+    let p = c.args.plan.now in
+    let k = c.loop-i.i in
+    let xs = c.as_slice-wire-items.result.now in
+    let w = get_or xs k none in
+    let out = c.loop-i.out.items in
+    let mid = c.leave.new.out.items in
+    let new = c.leave-in-loop-i.new.out.items in
+    let there : slice_get p.wires k ≡ Some w = sym (ap (λ z. slice_get z k) c.as_slice-wire-items.ensures) ∙ slice_get-get_or xs k none c.loop-i-test.true in
+    let one : mid ≡ left out (length p.nodes) w.one (2 * k) = c.leave.ensures ∙ ap (λ n. left out n w.one (2 * k)) c.len-nodes.ensures in
+    let two : new ≡ left mid (length p.nodes) w.two (2 * k + 1) = c.leave-in-loop-i.ensures ∙ ap (λ n. left mid n w.two (2 * k + 1)) c.len-nodes.ensures in
+    record {
+      long = next_long p out mid new k w one two c.loop-i.invariant.long;
+      tells = λ actor link. next_tells p c.requires out mid new k w there one two c.loop-i.invariant.long c.loop-i.invariant.tells actor link
+          ∙ ap (λ n. way_out (length p.nodes) actor link 0 (take n p.wires)) (sym (add-one k));
+    }

@@ -1,0 +1,19 @@
+use Rattle.std.proofs.Common.{◌≡◌, ◌<◌, length, slice_get, slice_set, Some, refl, sym, subst}
+use Rattle.std.proofs.lemmas.Option.{slice_get_read, slice_get_within}
+use Rattle.vc_vcp.proofs.Placed.{on_ok}
+use Rattle.vc_core.specs.State.{state_of, MakesEvent}
+use Rattle.vc_core.proofs.Happening.{own_happens}
+use Rattle.vc_core.proofs.network.Network.act.Goals as goal
+
+pub returns-clause-makes : goal.returns-clause-makes
+returns-clause-makes c = λ p is.
+    let n = c.args.self.now in
+    let m = c.requires.may in
+    let e = c.args.event.now in
+    let less = subst (λ z. z < length n.actors.items) (sym c.from.ensures) (slice_get_within n.actors.items e.actor m.actor m.here) in
+    let read = slice_get_read n.actors.items (length n.actors.items) c.from.result c.index_mut.result.now refl less c.index_mut.ensures.value in
+    let here = subst (λ z. slice_get n.actors.items z ≡ Some c.index_mut.result.now) c.from.ensures read in
+    on_ok c.make.result (λ made.
+    subst (MakesEvent p (state_of n) e)
+    (λ i. record { actors = slice_set n.actors.items (sym c.from.ensures i) c.make.new.self; ways = n.ways.items; wiring = n.wiring; channels = n.channels.items })
+    (own_happens p (state_of n) e c.index_mut.result.now c.make.new.self is here made)) (c.make.ensures.ok _ e.actor (is.nodes e.actor c.index_mut.result.now here))

@@ -1,0 +1,31 @@
+-- What the channels of a plan are called, and where they are.
+use Rattle.std.specs.Prelude.{◌≡◌, ℕ, List, length, Some, slice_get}
+use Rattle.vc_plan.specs.declared.channel.Channel.{Channel}
+use Rattle.vc_plan.specs.declared.plan.Plan.{Plan}
+use Rattle.vc_accepted.specs.NetworkOf.{network_of, home_in}
+use Rattle.vc_network.specs.Plan.{home}
+use Rattle.vc_network.specs.Views.{source_node, sink_node}
+use Rattle.vc_core.specs.declared.channels.ChannelInfo.{ChannelInfo}
+
+-- a channel's name and kind, the node that outputs on it, and the one that inputs
+abbrev pub info_of : Plan → Channel → ChannelInfo
+info_of p x = record {
+  name = x.name;
+  kind = x.kind;
+  source = source_node (network_of p) (home_in x);
+  sink = sink_node (network_of p) (home_in x);
+}
+
+-- this is channel c of the plan
+pub record IsChannelOf (p : Plan) (c : ℕ) (info : ChannelInfo) : Type 0 where
+  pub channel : Channel
+  pub here : slice_get p.channels c ≡ Some channel
+  pub name : info.name ≡ channel.name
+  pub kind : info.kind ≡ channel.kind
+  pub source : info.source ≡ source_node (network_of p) (home (network_of p) c)
+  pub sink : info.sink ≡ sink_node (network_of p) (home (network_of p) c)
+
+-- these are the channels of the plan, in their order
+pub record AreChannelsOf (p : Plan) (infos : List ChannelInfo) : Type 0 where
+  pub count : length infos ≡ length p.channels
+  pub each : (c : ℕ) (info : ChannelInfo) → slice_get infos c ≡ Some info → IsChannelOf p c info

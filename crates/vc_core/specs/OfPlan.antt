@@ -1,0 +1,30 @@
+-- That a node or a network of the code is one of a plan.
+use Rattle.std.specs.Prelude.{◌≡◌, ◌≢◌, ◌↔◌, ℕ, true, List, [], IsSome}
+use Rattle.vc_network.specs.Plan.{Plan, ends, body_limit}
+use Rattle.vc_network.specs.Network.{IsInside}
+use Rattle.vc_vcp.specs.Carrier.{Carrier}
+use Rattle.vc_vcp.specs.Keyed.{named}
+use Rattle.vc_vcp.specs.Seen.{seen, ends_of}
+use Rattle.vc_vcp.specs.State.{HaveOwnNames, limit_of}
+use Rattle.vc_occam.specs.States.{output, input}
+use Rattle.vc_core.specs.Process.{Process, Awaits}
+use Rattle.vc_core.specs.Shown.{process_of}
+use Rattle.vc_core.specs.declared.inside.Internal.{Internal}
+use Rattle.vc_core.specs.declared.node.Node.{Node}
+
+-- a process waits wherever the halves of its channels count on it
+pub record InStep (a : Carrier) (p : Process) : Type 0 where
+  pub inputs : (c : ℕ) → (a.into c).wants ≡ true → (i : ℕ) × Awaits p (input i c)
+  pub outputs : (c : ℕ) → (a.out c).unacked ≢ [] → (i : ℕ) × Awaits p (output i c)
+
+-- these are the channels inside node k
+abbrev pub AreInside : Plan → ℕ → List Internal → Type 0
+AreInside plan k xs = (c : ℕ) → IsSome (named (λ x. x.chan) c xs) ↔ IsInside plan k c
+
+-- the code's node is node k of the plan
+pub record IsNodeOf (plan : Plan) (k : ℕ) (n : Node) : Type 0 where
+  pub ends : ends_of n.vcp ≡ ends plan k
+  pub names : HaveOwnNames n.vcp.outputs n.vcp.inputs
+  pub limit : limit_of n.vcp.ins ≡ body_limit plan
+  pub inside : AreInside plan k n.inside
+  pub in_step : InStep (seen n.vcp).carrier (process_of n.process)

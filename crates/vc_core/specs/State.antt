@@ -1,0 +1,136 @@
+-- What the code's network is: its actors, and the ways between them; and when an event can be made.
+use Rattle.std.specs.Prelude.{◌≡◌, ℕ, List, [], ◌∷◌, Option, Some, None, slice_get, slice_set, length}
+use Rattle.vc_actors.specs.Actors.{ActBy}
+use Rattle.vc_actors.specs.Actors as actors
+use Rattle.vc_network.specs.Network as net
+use Rattle.vc_network.specs.Plan.{ways}
+use Rattle.vc_network.specs.Plan as network
+use Rattle.vc_plan.specs.declared.plan.Plan.{Plan}
+use Rattle.vc_plan.specs.Accepted.{IsAccepted}
+use Rattle.vc_accepted.specs.NetworkOf.{network_of}
+use Rattle.vc_switch.specs.Switch.{new_switch}
+use Rattle.vc_switch.specs.Waiting.{Wormhole}
+use Rattle.vc_tokens.specs.Tokens.{Token}
+use Rattle.vc_vcp.specs.Keyed.{shown_or}
+use Rattle.vc_core.specs.Channels.{AreChannelsOf}
+use Rattle.vc_core.specs.Acting.{MayAct, MakesTake, MakesPut, MakesGrant}
+use Rattle.vc_core.specs.OfPlan.{IsNodeOf}
+use Rattle.vc_core.specs.Process.{Process, does}
+use Rattle.vc_core.specs.Shown.{node_of, act_of}
+use Rattle.vc_core.specs.Wired.{out_at, in_at, AreWaysAt}
+use Rattle.vc_core.specs.declared.act.Act.{Act}
+use Rattle.vc_core.specs.declared.act.Act.TheVariants.{Proc, Take, Put, Route, Fct, Pass}
+use Rattle.vc_core.specs.declared.act.Event.{Event}
+use Rattle.vc_core.specs.declared.actor.Actor.{Actor}
+use Rattle.vc_core.specs.declared.channels.ChannelInfo.{ChannelInfo}
+use Rattle.vc_core.specs.declared.network.Network.{Network}
+
+pub record State : Type 0 where
+  pub actors : List Actor
+  pub ways : List (List Token)
+  pub wiring : List (Option ℕ)
+  pub channels : List ChannelInfo
+
+abbrev pub state_of : Network → State
+state_of n = record { actors = n.actors.items; ways = n.ways.items; wiring = n.wiring; channels = n.channels.items }
+
+abbrev pub actor_of : Actor → net.Actor Process
+actor_of a = net.IsNode (node_of a.node)
+
+-- in the words of the network's steps; a switch does not run yet: it stays as it begins
+abbrev pub shown : State → actors.Network (net.Actor Process) Token
+shown s = record {
+  state = λ a. shown_or (net.IsSwitch new_switch) actor_of (slice_get s.actors a);
+  way = λ w. shown_or [] (λ ts. ts) (slice_get s.ways w);
+}
+
+abbrev pub event_of : Event → ActBy net.Act
+event_of e = record { actor = e.actor; act = act_of e.act }
+
+-- it is a state of the network of plan p
+pub record IsNetworkOf (p : Plan) (s : State) : Type 0 where
+  pub accepted : IsAccepted p
+  pub count : length s.actors ≡ length p.nodes
+  pub nodes : (k : ℕ) (a : Actor) → slice_get s.actors k ≡ Some a → IsNodeOf (network_of p) k a.node
+  pub ways : length s.ways ≡ ways (network_of p)
+  pub wiring : AreWaysAt p s.wiring
+  pub channels : AreChannelsOf p s.channels
+
+-- a token stands on the way that comes in by a link
+pub record HasFront (s : State) (actor link : ℕ) : Type 0 where
+  pub way : ℕ
+  pub token : Token
+  pub rest : List Token
+  pub into : in_at s.wiring actor link ≡ Some way
+  pub stands : slice_get s.ways way ≡ Some (token ∷ rest)
+
+-- a way goes out by a link
+pub record HasWay (s : State) (actor link : ℕ) : Type 0 where
+  pub way : ℕ
+  pub tokens : List Token
+  pub out : out_at s.wiring actor link ≡ Some way
+  pub stand : slice_get s.ways way ≡ Some tokens
+
+-- the act's way is there, and has a token where it takes one
+abbrev pub WaysLet : State → ℕ → Act → Type 0
+WaysLet s actor (Take link word) = HasFront s actor link
+WaysLet s actor (Put link) = HasWay s actor link
+WaysLet s actor (Fct link) = HasWay s actor link
+WaysLet s actor (Proc made) = Unit {0}
+WaysLet s actor (Pass link) = Unit {0}
+WaysLet s actor (Route input output) = Unit {0}
+
+-- the event can be made
+pub record MayHappen (s : State) (e : Event) : Type 0 where
+  pub actor : Actor
+  pub here : slice_get s.actors e.actor ≡ Some actor
+  pub may : MayAct actor.node e.act
+  pub ways : WaysLet s e.actor e.act
+
+-- the event is made, and the network stays the plan's
+pub record MakesEvent (p : Plan) (old : State) (e : Event) (new : State) : Type 0 where
+  pub happens : net.Happens (network_of p) Wormhole does (shown old) (event_of e) (shown new)
+  pub kept : IsNetworkOf p new
+
+-- the network with another state of one node
+abbrev pub with_actor : State → ℕ → Actor → State
+with_actor s k b = record s { actors = slice_set s.actors k b }
+
+-- and with other tokens on one way
+abbrev pub with_line : State → ℕ → List Token → State
+with_line s w ts = record s { ways = slice_set s.ways w ts }
+
+-- the actor is there, and can make the act
+pub record MayActAt (s : State) (k : ℕ) (a : Act) : Type 0 where
+  pub actor : Actor
+  pub here : slice_get s.actors k ≡ Some actor
+  pub may : MayAct actor.node a
+
+-- a token comes to actor k
+pub record Accepts (old : State) (k link : ℕ) (t : Token) (new : State) : Type 0 where
+  pub before : Actor
+  pub after : Actor
+  pub here : slice_get old.actors k ≡ Some before
+  pub new_is : new ≡ with_actor old k after
+  pub takes : (plan : network.Plan) (n : ℕ) → IsNodeOf plan n before.node → MakesTake plan n before.node link t after.node
+
+-- actor k puts a token
+pub record PutsBy (old : State) (k link : ℕ) (t : Token) (new : State) : Type 0 where
+  pub before : Actor
+  pub after : Actor
+  pub here : slice_get old.actors k ≡ Some before
+  pub new_is : new ≡ with_actor old k after
+  pub puts : (plan : network.Plan) (n : ℕ) → IsNodeOf plan n before.node → MakesPut plan n before.node link t after.node
+
+-- actor k grants eight places
+pub record GrantsBy (old : State) (k link : ℕ) (new : State) : Type 0 where
+  pub before : Actor
+  pub after : Actor
+  pub here : slice_get old.actors k ≡ Some before
+  pub new_is : new ≡ with_actor old k after
+  pub grants : (plan : network.Plan) (n : ℕ) → IsNodeOf plan n before.node → MakesGrant plan n before.node link after.node
+
+-- an event is made, or none and all stays
+abbrev pub MakesOne : Plan → State → Option Event → State → Type 0
+MakesOne p old None new = new ≡ old
+MakesOne p old (Some e) new = MakesEvent p old e new
