@@ -2,6 +2,8 @@
 use Rattle.std.specs.Prelude.{◌≡◌, ℕ, ◌≤◌, List, length, Option, Result, Ok, Err, ⊤}
 use Rattle.std.specs.Io.KnownBytes.{Appends}
 use Rattle.vc_core.specs.declared.close.Close.{Close}
+use Rattle.vc_core.specs.Replaying.{Replays}
+use Rattle.vc_core.specs.State.{State}
 use Rattle.vc_plan.specs.declared.plan.Plan.{Plan as Network}
 use Rattle.vc_text.specs.declared.fault.RunFault.{RunFault}
 use Rattle.vc_text.specs.declared.fault.RunFault.TheVariants.{Write}
@@ -14,11 +16,11 @@ use Rattle.vc_text.specs.Traffic.{ChannelTraffic, traffic}
 abbrev pub WritesTraffic : Close → Option (List ℕ) → Option (List ℕ) → Result ⊤ RunFault → Type 0
 WritesTraffic close old new result = (channels : List ChannelTraffic) × Writes old new (traffic channels close) result
 
--- the reader's network was run for at most so many events and its traffic written, or a front of that before a fault of the writer;
+-- the reader's network was run for at most so many events, which replay and keep the headline, and its traffic written, or a front of that before a fault of the writer;
 -- else nothing was written
 abbrev pub Steps : Option (List ℕ) → Option (List ℕ) → Option (List ℕ) → ℕ → Result StepReport RunFault → Type 0
 Steps known old new limit (Ok report) =
-    (plan : Network) × ReadsAccepted known (Ok plan) × (length report.events ≤ limit) × ((channels : List ChannelTraffic) × Appends old new (traffic channels report.close))
+    (plan : Network) × ReadsAccepted known (Ok plan) × (length report.events ≤ limit) × ((s : State) × Replays plan report.events s) × ((channels : List ChannelTraffic) × Appends old new (traffic channels report.close))
 Steps known old new limit (Err Write) =
     (plan : Network) × ReadsAccepted known (Ok plan) × ((channels : List ChannelTraffic) × ((close : Close) × AppendsFront old new (traffic channels close)))
 Steps known old new limit (Err fault) = ReadsAccepted known (Err fault) × (new ≡ old)

@@ -1,5 +1,8 @@
 //! Running a network event by event.
 ghost use Rattle.std.specs.Prelude.{◌≡◌, ◌≤◌, ◌+◌, length, IfOk, OnOk};
+ghost use Rattle.vc_plan.specs.declared.plan.Plan.{Plan};
+ghost use Rattle.vc_core.specs.State.{state_of, IsNetworkOf, MakesOne};
+ghost use Rattle.vc_core.specs.Replaying.{Reached, Replays};
 ghost use Rattle.vc_text.specs.Running.{WritesTraffic, Steps};
 
 use crate::check::read_accepted;
@@ -10,7 +13,7 @@ use rand_pcg::Lcg64Xsh32;
 use sqlite_items::Items;
 use std::alloc::Global;
 use std::io::{Read, Write};
-use vc_core::{Act, Close, Event, Network, StepRefused, replay};
+use vc_core::{Act, Close, Event, Network, StepRefused};
 use vc_packets::Memory;
 use vc_plan::Accepted;
 
@@ -69,20 +72,31 @@ fn next_word(generators: &mut Vec<Lcg64Xsh32>, actor: u8) -> u32 {
     }
 }
 
-/// Makes the event that an actor makes next: a take from the least link that has a token, else what it does where every way has
-/// room. Nothing where it has no event.
-fn act(
-    network: &mut Network,
+/// The event that an actor makes next: a take from the least link that has a token, else what it does where every way has room.
+/// Nothing where it has no event.
+fn next_event(
+    network: &Network,
     generators: &mut Vec<Lcg64Xsh32>,
     actor: u8,
 ) -> Result<Option<Event>, Memory> {
     let Some(link) = network.link_to_take(actor) else {
-        return network.turn(actor);
+        return network.next(actor);
     };
     let word = next_word(generators, actor);
-    let event = Event {
-        actor,
-        act: Act::Take { link, word },
+    let act = Act::Take { link, word };
+    Ok(Some(Event { actor, act }))
+}
+
+/// Makes the event that an actor makes next, if it has one.
+fn act(
+    network: &mut Network,
+    generators: &mut Vec<Lcg64Xsh32>,
+    actor: u8,
+) -> Result<Option<Event>, Memory>
+    ensures { (p : Plan) → IsNetworkOf p (state_of network.old) → IfOk result (λ made. MakesOne p (state_of network.old) made (state_of network.new)) }
+{
+    let Some(event) = next_event(network, generators, actor)? else {
+        return Ok(None);
     };
     match network.step(&event) {
         Ok(()) => Ok(Some(event)),
@@ -91,14 +105,10 @@ fn act(
     }
 }
 
-/// Whether an event is enabled after these ones. It is tried on another network, so that the first one stays as it is.
-fn goes_on(alloc: Global, accepted: &Accepted, events: &[Event]) -> Result<bool, Memory> {
-    let Ok(mut network) = replay(alloc, accepted, events) else {
-        return Err(Memory);
-    };
-    let mut generators = Vec::new(alloc);
+/// Whether some actor has an event.
+fn goes_on(network: &Network) -> Result<bool, Memory> {
     for actor in 0..network.actors().min(255) as u8 {
-        if act(&mut network, &mut generators, actor)?.is_some() {
+        if network.link_to_take(actor).is_some() || network.next(actor)?.is_some() {
             return Ok(true);
         }
     }
@@ -114,6 +124,25 @@ fn resting(network: &Network) -> Close {
     }
 }
 
+/// An actor makes the event that it makes next, if it has one, and the event joins those made. The answer is whether it had one.
+fn act_once(
+    network: &mut Network,
+    generators: &mut Vec<Lcg64Xsh32>,
+    events: &mut Items<Event>,
+    actor: u8,
+) -> Result<bool, Memory>
+    ensures few { OnOk result (length events.new ≤ length events.old + 1) }
+    ensures reached { (p : Plan) → Reached p events.old (state_of network.old) → OnOk result (Reached p events.new (state_of network.new)) }
+{
+    match act(network, generators, actor)? {
+        Some(event) => {
+            events.push(event)?;
+            Ok(true)
+        }
+        None => Ok(false),
+    }
+}
+
 /// One round over the actors: each makes at most one event, up to so many events in all. The answer is whether an event was made.
 fn round(
     network: &mut Network,
@@ -122,38 +151,57 @@ fn round(
     limit: u64,
 ) -> Result<bool, Memory>
     requires { length events.old ≤ limit }
-    ensures { OnOk result (length events.new ≤ limit) }
+    ensures few { OnOk result (length events.new ≤ limit) }
+    ensures reached { (p : Plan) → Reached p events.old (state_of network.old) → OnOk result (Reached p events.new (state_of network.new)) }
 {
     let mut moved = false;
     for actor in 0..network.actors().min(255) as u8 {
         if events.len() as u64 >= limit {
             return Ok(true);
         }
-        if let Some(event) = act(network, generators, actor)? {
-            events.push(event)?;
-            moved = true;
-        }
+        moved |= act_once(network, generators, events, actor)?;
     }
     Ok(moved)
 }
 
+/// Rounds over the actors, until none has an event or there are so many events.
+fn run_rounds(
+    network: &mut Network,
+    generators: &mut Vec<Lcg64Xsh32>,
+    events: &mut Items<Event>,
+    limit: u64,
+) -> Result<(), Memory>
+    requires { length events.old ≤ limit }
+    ensures few { OnOk result (length events.new ≤ limit) }
+    ensures reached { (p : Plan) → Reached p events.old (state_of network.old) → OnOk result (Reached p events.new (state_of network.new)) }
+{
+    for _ in 0..limit {
+        if !round(network, generators, events, limit)? {
+            return Ok(());
+        }
+    }
+    Ok(())
+}
+
+/// How a run ends that has made so many events.
+fn close_of(network: &Network, events: usize, limit: u64) -> Result<Close, Memory> {
+    if events as u64 >= limit && goes_on(network)? {
+        Ok(Close::Limit)
+    } else {
+        Ok(resting(network))
+    }
+}
+
 /// Runs a network in rounds, to its end or up to so many events.
 fn run(alloc: Global, accepted: &Accepted, limit: u64) -> Result<(Network, StepReport), Memory>
-    ensures { IfOk result (λ r. length (r.1).events ≤ limit) }
+    ensures few { IfOk result (λ r. length (r.1).events ≤ limit) }
+    ensures replays { IfOk result (λ r. Replays accepted.now (r.1).events (state_of r.0)) }
 {
     let mut network = Network::new(alloc, accepted)?;
     let mut generators = generators(alloc, network.actors())?;
     let mut events = Items::new(alloc);
-    for _ in 0..limit {
-        if !round(&mut network, &mut generators, &mut events, limit)? {
-            break;
-        }
-    }
-    let close = if events.len() as u64 >= limit && goes_on(alloc, accepted, events.as_slice())? {
-        Close::Limit
-    } else {
-        resting(&network)
-    };
+    run_rounds(&mut network, &mut generators, &mut events, limit)?;
+    let close = close_of(&network, events.len(), limit)?;
     Ok((network, StepReport { events, close }))
 }
 

@@ -1,0 +1,12 @@
+use Rattle.std.proofs.Common.{[], sym, subst}
+use Rattle.vc_core.specs.Replaying.{Reached}
+use Rattle.vc_core.specs.State.{state_of}
+use Rattle.vc_core.proofs.Replayed.{reached_first, replays}
+use Rattle.vc_text.proofs.run.run.Goals as goal
+
+pub returns-clause-replays : goal.returns-clause-replays
+returns-clause-replays c =
+    let p = c.args.accepted.now in
+    let s = state_of c.in_ok-network.network in
+    replays p c.run_rounds.new.events (state_of c.run_rounds.new.network)
+    (c.in_ok-run_rounds.ensures.reached p (subst (λ es. Reached p es s) (sym c.new-events.ensures) (reached_first p [] s c.in_ok-network.ensures)))
