@@ -10,3 +10,4 @@ pub mod Insides
 pub mod Linking
 pub mod Happening
 pub mod Replayed
+pub mod Viewing

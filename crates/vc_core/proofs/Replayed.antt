@@ -30,7 +30,7 @@ use Rattle.vc_core.specs.Wired.{out_at}
 use Rattle.vc_core.specs.declared.act.Event.{Event}
 use Rattle.vc_core.specs.declared.actor.Actor.{Actor}
 
-none_past : {X : Type 0} (xs : List X) (k : ℕ) → slice_get xs k ≡ None → length xs ≤ k
+pub none_past : {X : Type 0} (xs : List X) (k : ℕ) → slice_get xs k ≡ None → length xs ≤ k
 none_past [] k e = omega arith
 none_past (x ∷ xs) zero e = absurd (cc)
 none_past (x ∷ xs) (suc k) e = let r = none_past xs k e in omega arith
@@ -72,7 +72,7 @@ happen_more plan old mid new [] e alike h =
     (new, subst (λ z. Happens plan Wormhole does z e new) (λ i. record { state = λ a. alike.states a i; way = λ w. alike.ways w i }) h, record { states = λ a. refl; ways = λ w. refl })
 happen_more plan old mid new (f ∷ es) e all h = (all.0, all.1, happen_more plan all.0 mid new es e all.2 h)
 
-take_more : {X : Type 0} (xs : List X) (i : ℕ) (x : X) → slice_get xs i ≡ Some x → take (suc i) xs ≡ take i xs ++ x ∷ []
+pub take_more : {X : Type 0} (xs : List X) (i : ℕ) (x : X) → slice_get xs i ≡ Some x → take (suc i) xs ≡ take i xs ++ x ∷ []
 take_more [] i x e = absurd (cc)
 take_more (y ∷ ys) zero x e = let same : y ≡ x = cc in ap (λ z. z ∷ []) same
 take_more (y ∷ ys) (suc i) x e = ap (λ zs. y ∷ zs) (take_more ys i x e)

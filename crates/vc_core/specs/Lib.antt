@@ -12,3 +12,4 @@ pub mod Ways
 pub mod Wired
 pub mod State
 pub mod Replaying
+pub mod Viewed

@@ -35,6 +35,6 @@ does old (Rests i) new = Lists old (move.Quiet i) × Goes old (occam.Rests i) ne
 does old (Finishes c) new = Goes old (occam.Finishes c) new
 does old (Receives c m) new = Goes old (occam.Receives c m) new
 
--- each input that a half has begun, and each output under way, is one that a site waits for
+-- one of its sites waits for this
 abbrev pub Awaits : Process → occam.Waiting → Type 0
 Awaits p w = Contains (occam.waiting p.state.rest) w

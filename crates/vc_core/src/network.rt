@@ -4,7 +4,12 @@ ghost use Rattle.std.specs.List.{AllByRecursion};
 ghost use Rattle.vc_core.specs.Replaying.{IsOpening, Replays, RefusedAt};
 ghost use Rattle.vc_plan.specs.declared.plan.Plan.{Plan};
 ghost use Rattle.vc_core.specs.Acting.{IsOwn};
-ghost use Rattle.vc_core.specs.State.{state_of, IsNetworkOf, MayHappen, WaysLet, HasFront, HasWay, MakesEvent, MayActAt, Accepts, PutsBy, GrantsBy, with_line};
+ghost use Rattle.std.specs.Option.{option_copied};
+ghost use Rattle.vc_plan.specs.declared.channel.Channel.{Channel};
+ghost use Rattle.vc_accepted.specs.NetworkOf.{network_of};
+ghost use Rattle.vc_network.specs.Plan.{home};
+ghost use Rattle.vc_network.specs.Views.{view, source_node, sink_node};
+ghost use Rattle.vc_core.specs.State.{shown, state_of, IsNetworkOf, MayHappen, WaysLet, HasFront, HasWay, MakesEvent, MayActAt, Accepts, PutsBy, GrantsBy, with_line};
 ghost use Rattle.vc_tokens.specs.Tokens.{Token as SpeltToken};
 ghost use Rattle.vc_tokens.specs.Spelt.{token as spelt};
 
@@ -268,60 +273,68 @@ impl Network {
     }
 
     /// How many channels there are.
-    pub fn channels(&self) -> usize {
+    pub fn channels(&self) -> usize
+        ensures { (p : Plan) → IsNetworkOf p (state_of self.now) → result ≡ length p.channels }
+    {
         self.channels.len()
     }
 
     /// The name of a channel.
-    pub fn name(&self, chan: u16) -> &[u8] {
-        match self.channels.get(usize::from(chan)) {
+    pub fn name(&self, chan: u16) -> &[u8]
+        ensures { (p : Plan) (x : Channel) → IsNetworkOf p (state_of self.now) → slice_get p.channels chan ≡ Some x → result.now ≡ x.name }
+    {
+        match at(self.channels.as_slice(), usize::from(chan)) {
             Some(channel) => channel.name.as_slice(),
             None => &[],
         }
     }
 
     /// The kind of a channel.
-    pub fn kind(&self, chan: u16) -> ValueKind {
-        match self.channels.get(usize::from(chan)) {
+    pub fn kind(&self, chan: u16) -> ValueKind
+        ensures { (p : Plan) (x : Channel) → IsNetworkOf p (state_of self.now) → slice_get p.channels chan ≡ Some x → result ≡ x.kind }
+    {
+        match at(self.channels.as_slice(), usize::from(chan)) {
             Some(channel) => channel.kind,
             None => ValueKind::Int,
         }
     }
 
     /// The messages offered on a channel, the first one first.
-    pub fn offered(&self, chan: u16) -> &[Items<u8>] {
+    pub fn offered(&self, chan: u16) -> &[Items<u8>]
+        ensures { (p : Plan) → IsNetworkOf p (state_of self.now) → chan < length p.channels → result.now ≡ (view (network_of p) (shown (state_of self.now)) chan).offered }
+    {
         match self.source(chan) {
-            Some(actor) if actor.node().inside.has(chan) => actor.node().inside.messages(chan),
-            Some(actor) => actor.node().vcp.offered(chan),
+            Some(actor) => actor.node().offered(chan),
             None => &[],
         }
     }
 
     /// The messages taken on a channel, the first one first.
-    pub fn taken(&self, chan: u16) -> &[Items<u8>] {
+    pub fn taken(&self, chan: u16) -> &[Items<u8>]
+        ensures { (p : Plan) → IsNetworkOf p (state_of self.now) → chan < length p.channels → result.now ≡ (view (network_of p) (shown (state_of self.now)) chan).taken }
+    {
         match self.sink(chan) {
-            Some(actor) if actor.node().inside.has(chan) => actor.node().inside.messages(chan),
-            Some(actor) => actor.node().vcp.taken(chan),
+            Some(actor) => actor.node().taken(chan),
             None => &[],
         }
     }
 
     /// How many outputs on a channel are finished.
-    pub fn finished(&self, chan: u16) -> u64 {
+    pub fn finished(&self, chan: u16) -> u64
+        ensures { (p : Plan) → IsNetworkOf p (state_of self.now) → chan < length p.channels → result ≡ (view (network_of p) (shown (state_of self.now)) chan).finished }
+    {
         match self.source(chan) {
-            Some(actor) if actor.node().inside.has(chan) => {
-                actor.node().inside.messages(chan).len() as u64
-            }
-            Some(actor) => actor.node().vcp.finished(chan),
+            Some(actor) => actor.node().finished(chan),
             None => 0,
         }
     }
 
     /// Whether a channel was stopped.
-    pub fn stopped(&self, chan: u16) -> bool {
+    pub fn stopped(&self, chan: u16) -> bool
+        ensures { (p : Plan) → IsNetworkOf p (state_of self.now) → chan < length p.channels → result ≡ (view (network_of p) (shown (state_of self.now)) chan).stopped }
+    {
         match self.sink(chan) {
-            Some(actor) if actor.node().inside.has(chan) => actor.node().inside.is_stopped(chan),
-            Some(actor) => actor.node().vcp.stopped(chan),
+            Some(actor) => actor.node().stopped(chan),
             None => false,
         }
     }
@@ -341,17 +354,21 @@ impl Network {
     }
 
     // The node that outputs on a channel.
-    fn source(&self, chan: u16) -> Option<&Actor> {
-        match self.channels.get(usize::from(chan)) {
-            Some(channel) => self.actors.get(channel.source),
+    fn source(&self, chan: u16) -> Option<&Actor>
+        ensures { (p : Plan) → IsNetworkOf p (state_of self.now) → chan < length p.channels → slice_get self.now.actors.items (source_node (network_of p) (home (network_of p) chan)) ≡ option_copied result }
+    {
+        match at(self.channels.as_slice(), usize::from(chan)) {
+            Some(channel) => at(self.actors.as_slice(), channel.source),
             None => None,
         }
     }
 
     // The node that inputs on a channel.
-    fn sink(&self, chan: u16) -> Option<&Actor> {
-        match self.channels.get(usize::from(chan)) {
-            Some(channel) => self.actors.get(channel.sink),
+    fn sink(&self, chan: u16) -> Option<&Actor>
+        ensures { (p : Plan) → IsNetworkOf p (state_of self.now) → chan < length p.channels → slice_get self.now.actors.items (sink_node (network_of p) (home (network_of p) chan)) ≡ option_copied result }
+    {
+        match at(self.channels.as_slice(), usize::from(chan)) {
+            Some(channel) => at(self.actors.as_slice(), channel.sink),
             None => None,
         }
     }

@@ -7,6 +7,7 @@ ghost use Rattle.vc_network.specs.Network.{GoesOn};
 ghost use Rattle.vc_core.specs.Process.{does};
 ghost use Rattle.vc_core.specs.Shown.{process_of};
 ghost use Rattle.vc_core.specs.Passing.{IsAwaited, MakesPass};
+ghost use Rattle.vc_core.specs.Viewed.{node_view};
 ghost use Rattle.vc_network.specs.Plan.{Plan};
 ghost use Rattle.vc_core.specs.OfPlan.{IsNodeOf};
 ghost use Rattle.vc_core.specs.MayMove.{MayMove, AnswersMove, MakesMove};
@@ -58,6 +59,50 @@ impl Node {
             Move::Stopch { chan, .. } => self.vcp.may_stop(chan) || self.inside.has(chan),
             Move::Inner { chan, .. } => self.inside.is_open(chan),
             Move::Quiet { .. } => true,
+        }
+    }
+
+    /// The messages offered on a channel here, the first one first.
+    pub(crate) fn offered(&self, chan: u16) -> &[Items<u8>]
+        ensures { result.now ≡ (node_view self.now chan).offered }
+    {
+        if self.inside.has(chan) {
+            self.inside.messages(chan)
+        } else {
+            self.vcp.offered(chan)
+        }
+    }
+
+    /// The messages taken on a channel here, the first one first.
+    pub(crate) fn taken(&self, chan: u16) -> &[Items<u8>]
+        ensures { result.now ≡ (node_view self.now chan).taken }
+    {
+        if self.inside.has(chan) {
+            self.inside.messages(chan)
+        } else {
+            self.vcp.taken(chan)
+        }
+    }
+
+    /// How many outputs on a channel are finished here.
+    pub(crate) fn finished(&self, chan: u16) -> u64
+        ensures { result ≡ (node_view self.now chan).finished }
+    {
+        if self.inside.has(chan) {
+            self.inside.messages(chan).len() as u64
+        } else {
+            self.vcp.finished(chan)
+        }
+    }
+
+    /// Whether a channel was stopped here.
+    pub(crate) fn stopped(&self, chan: u16) -> bool
+        ensures { result ≡ (node_view self.now chan).stopped }
+    {
+        if self.inside.has(chan) {
+            self.inside.is_stopped(chan)
+        } else {
+            self.vcp.stopped(chan)
         }
     }
 

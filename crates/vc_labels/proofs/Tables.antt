@@ -33,7 +33,7 @@ lawful-from start (row ∷ rows) e =
 holds-bounds : (row : Row) (h : ℕ) → IsTrue (holds row h) → (row.lower ≤ h) × (h < row.limit)
 holds-bounds row h t = grind (arith, nat_tests)
 
--- a row of a lawful list holds miss header below its start
+-- no row of a lawful list holds a header below its start
 not-below : (start h : ℕ) (rows : List Row) → IsLawfulFrom start rows → h < start → NoRowHolds rows h
 not-below start h [] w lt k row e t = absurd cc
 not-below start h (r ∷ rows) w lt zero row e t =

@@ -1,0 +1,20 @@
+use Rattle.std.proofs.Common.{◌≡◌, refl, sym, ap, ◌∙◌, slice_get, Some, arith}
+use Rattle.std.proofs.lemmas.Option.{slice_get_within}
+use Rattle.vc_core.proofs.Replayed.{none_past}
+use Rattle.vc_core.proofs.Viewing.{channel_is}
+use Rattle.vc_core.proofs.network.Network.name.Goals as goal
+
+pub returns-in-Some : goal.returns-in-Some
+returns-in-Some c = λ p x is there.
+    let n = c.args.self.now in
+    let here : slice_get n.channels.items c.args.chan ≡ Some c.in-Some.channel.now = (λ i. slice_get (sym c.as_slice.ensures.value i) (sym c.from.ensures i)) ∙ sym c.in-Some.ensures in
+    let info = is.channels.each c.args.chan c.in-Some.channel.now here in
+    c.as_slice-in-Some.ensures ∙ info.name ∙ ap (λ z. z.name) (channel_is p c.args.chan c.in-Some.channel.now x info there)
+
+pub returns-in-None : goal.returns-in-None
+returns-in-None c = λ p x is there.
+    let n = c.args.self.now in
+    let past = none_past n.channels.items c.args.chan ((λ i. slice_get (sym c.as_slice.ensures.value i) (sym c.from.ensures i)) ∙ sym c.in-None.ensures) in
+    let few = is.channels.count in
+    let within = slice_get_within p.channels c.args.chan x there in
+    absurd (omega arith)

@@ -1,0 +1,17 @@
+use Rattle.std.proofs.Common.{◌≡◌, ◌≤◌, refl, sym, ap, ◌∙◌, subst, slice_get, Some, arith}
+use Rattle.vc_core.proofs.Replayed.{none_past}
+use Rattle.vc_core.proofs.network.Network.sink.Goals as goal
+
+pub returns-in-Some : goal.returns-in-Some
+returns-in-Some c = λ p is less.
+    let n = c.args.self.now in
+    let here : slice_get n.channels.items c.args.chan ≡ Some c.in-Some.channel.now = (λ i. slice_get (sym c.as_slice.ensures.value i) (sym c.from.ensures i)) ∙ sym c.in-Some.ensures in
+    let info = is.channels.each c.args.chan c.in-Some.channel.now here in
+    ap (slice_get n.actors.items) (sym info.sink) ∙ (λ i. slice_get (sym c.as_slice-in-Some.ensures.value i) c.in-Some.channel.now.sink) ∙ sym c.at-in-Some.ensures
+
+pub returns-in-None : goal.returns-in-None
+returns-in-None c = λ p is less.
+    let n = c.args.self.now in
+    let past = none_past n.channels.items c.args.chan ((λ i. slice_get (sym c.as_slice.ensures.value i) (sym c.from.ensures i)) ∙ sym c.in-None.ensures) in
+    let few = is.channels.count in
+    absurd (omega arith)
