@@ -6,7 +6,12 @@ use Rattle.vc_text.specs.declared.fault.RunFault.{RunFault}
 use Rattle.vc_text.specs.declared.fault.RunFault.TheVariants.{Read, Write, Text, Plan, Memory}
 use Rattle.vc_text.specs.Streams.{Writes}
 use Rattle.vc_text.specs.Checking.{ReadsAccepted, Checks, accepted_text}
-use Rattle.vc_text.specs.Running.{WritesTraffic, Steps}
+use Rattle.vc_text.specs.Running.{Steps}
+use Rattle.vc_text.specs.Shown.{channels_of}
+use Rattle.vc_text.specs.Traffic.{traffic}
+use Rattle.vc_core.specs.Replaying.{Replays}
+use Rattle.vc_core.specs.State.{State}
+use Rattle.vc_core.specs.declared.act.Event.{Event}
 
 memory_any : (known : Option (List ℕ)) → ReadsAccepted known (Err Memory)
 memory_any None = tt
@@ -20,9 +25,10 @@ checks_of known old new plan (Err Read) r w = absurd w
 checks_of known old new plan (Err (Text refused)) r w = absurd w
 checks_of known old new plan (Err (Plan refusal)) r w = absurd w
 
-pub steps_of_err : (known old new : Option (List ℕ)) (limit : ℕ) (plan : Network) (close : Close) (fault : RunFault) → ReadsAccepted known (Ok plan) → WritesTraffic close old new (Err fault) → Steps known old new limit (Err fault)
-steps_of_err known old new limit plan close Write r w = (plan, r, (w.0, (close, w.1)))
-steps_of_err known old new limit plan close Memory r w = (memory_any known, w.1)
-steps_of_err known old new limit plan close Read r w = absurd w.1
-steps_of_err known old new limit plan close (Text refused) r w = absurd w.1
-steps_of_err known old new limit plan close (Plan refusal) r w = absurd w.1
+pub steps_of_err : (known old new : Option (List ℕ)) (limit : ℕ) (plan : Network) (events : List Event) (s : State) (close : Close) (fault : RunFault) → ReadsAccepted known (Ok plan) → Replays plan events s →
+    Writes old new (traffic (channels_of plan s) close) (Err fault) → Steps known old new limit (Err fault)
+steps_of_err known old new limit plan events s close Write r replays w = (plan, r, (events, s, close, replays, w))
+steps_of_err known old new limit plan events s close Memory r replays w = (memory_any known, w)
+steps_of_err known old new limit plan events s close Read r replays w = absurd w
+steps_of_err known old new limit plan events s close (Text refused) r replays w = absurd w
+steps_of_err known old new limit plan events s close (Plan refusal) r replays w = absurd w

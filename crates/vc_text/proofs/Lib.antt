@@ -1,3 +1,4 @@
 pub mod Known
 pub mod Texts
 pub mod Checked
+pub mod Channels

@@ -4,3 +4,4 @@ pub mod Views
 pub mod FaultLine
 pub mod Checking
 pub mod Running
+pub mod Shown

@@ -4,23 +4,21 @@ use Rattle.std.specs.Io.KnownBytes.{Appends}
 use Rattle.vc_core.specs.declared.close.Close.{Close}
 use Rattle.vc_core.specs.Replaying.{Replays}
 use Rattle.vc_core.specs.State.{State}
+use Rattle.vc_core.specs.declared.act.Event.{Event}
+use Rattle.vc_text.specs.Shown.{channels_of}
 use Rattle.vc_plan.specs.declared.plan.Plan.{Plan as Network}
 use Rattle.vc_text.specs.declared.fault.RunFault.{RunFault}
 use Rattle.vc_text.specs.declared.fault.RunFault.TheVariants.{Write}
 use Rattle.vc_text.specs.declared.run.StepReport.{StepReport}
-use Rattle.vc_text.specs.Streams.{AppendsFront, Writes}
+use Rattle.vc_text.specs.Streams.{AppendsFront}
 use Rattle.vc_text.specs.Checking.{ReadsAccepted}
-use Rattle.vc_text.specs.Traffic.{ChannelTraffic, traffic}
+use Rattle.vc_text.specs.Traffic.{traffic}
 
--- what was written is the traffic of some channels with this close
-abbrev pub WritesTraffic : Close → Option (List ℕ) → Option (List ℕ) → Result ⊤ RunFault → Type 0
-WritesTraffic close old new result = (channels : List ChannelTraffic) × Writes old new (traffic channels close) result
-
--- the reader's network was run for at most so many events, which replay and keep the headline, and its traffic written, or a front of that before a fault of the writer;
--- else nothing was written
+-- the reader's network was run for at most so many events, which replay and keep the headline, and the traffic of the state after
+-- them was written, or a front of that before a fault of the writer; else nothing was written
 abbrev pub Steps : Option (List ℕ) → Option (List ℕ) → Option (List ℕ) → ℕ → Result StepReport RunFault → Type 0
 Steps known old new limit (Ok report) =
-    (plan : Network) × ReadsAccepted known (Ok plan) × (length report.events ≤ limit) × ((s : State) × Replays plan report.events s) × ((channels : List ChannelTraffic) × Appends old new (traffic channels report.close))
+    (plan : Network) × ReadsAccepted known (Ok plan) × (length report.events ≤ limit) × ((s : State) × Replays plan report.events s × Appends old new (traffic (channels_of plan s) report.close))
 Steps known old new limit (Err Write) =
-    (plan : Network) × ReadsAccepted known (Ok plan) × ((channels : List ChannelTraffic) × ((close : Close) × AppendsFront old new (traffic channels close)))
+    (plan : Network) × ReadsAccepted known (Ok plan) × ((events : List Event) × (s : State) × (close : Close) × Replays plan events s × AppendsFront old new (traffic (channels_of plan s) close))
 Steps known old new limit (Err fault) = ReadsAccepted known (Err fault) × (new ≡ old)

@@ -1,9 +1,14 @@
 //! Running a network event by event.
-ghost use Rattle.std.specs.Prelude.{◌≡◌, ◌≤◌, ◌+◌, length, IfOk, OnOk};
+ghost use Rattle.std.specs.Prelude.{◌≡◌, ◌≤◌, ◌+◌, length, map, slice_get, Some, IfOk, OnOk};
 ghost use Rattle.vc_plan.specs.declared.plan.Plan.{Plan};
 ghost use Rattle.vc_core.specs.State.{state_of, IsNetworkOf, MakesOne};
 ghost use Rattle.vc_core.specs.Replaying.{Reached, Replays};
-ghost use Rattle.vc_text.specs.Running.{WritesTraffic, Steps};
+ghost use Rattle.vc_plan.specs.declared.channel.Channel.{Channel};
+ghost use Rattle.vc_text.specs.Running.{Steps};
+ghost use Rattle.vc_text.specs.Shown.{channel_of, channels_of};
+ghost use Rattle.vc_text.specs.Streams.{Writes};
+ghost use Rattle.vc_text.specs.Traffic.{traffic};
+ghost use Rattle.vc_text.specs.Views.{shown as traffic_of};
 
 use crate::check::read_accepted;
 use crate::fault::RunFault;
@@ -27,19 +32,28 @@ pub struct StepReport {
 }
 
 /// The channels of a network, in order.
-fn views(alloc: Global, network: &Network) -> Result<Vec<ChannelView<'_>>, Memory> {
+fn views(alloc: Global, network: &Network) -> Result<Vec<ChannelView<'_>>, Memory>
+    ensures { (p : Plan) → IsNetworkOf p (state_of network.now) → IfOk result (λ views. map traffic_of views.items ≡ channels_of p (state_of network.now)) }
+{
     let mut views = Vec::new(alloc);
     for chan in 0..network.channels().min(65535) as u16 {
-        views.push(ChannelView {
-            name: network.name(chan),
-            kind: network.kind(chan),
-            offered: network.offered(chan).len(),
-            taken: network.taken(chan),
-            finished: network.finished(chan),
-            is_stopped: network.stopped(chan),
-        })?;
+        views.push(view_of(network, chan))?;
     }
     Ok(views)
+}
+
+/// What a channel of a network is and has done.
+fn view_of(network: &Network, chan: u16) -> ChannelView<'_>
+    ensures { (p : Plan) (x : Channel) → IsNetworkOf p (state_of network.now) → slice_get p.channels chan ≡ Some x → traffic_of result ≡ channel_of p (state_of network.now) chan x }
+{
+    ChannelView {
+        name: network.name(chan),
+        kind: network.kind(chan),
+        offered: network.offered(chan).len(),
+        taken: network.taken(chan),
+        finished: network.finished(chan),
+        is_stopped: network.stopped(chan),
+    }
 }
 
 /// Writes the traffic of a network. The text is made first, so want of memory writes nothing.
@@ -49,7 +63,7 @@ pub fn write_traffic<W: Write>(
     close: Close,
     writer: &mut W,
 ) -> Result<(), RunFault>
-    ensures { WritesTraffic close (W.contents writer.old) (W.contents writer.new) result }
+    ensures { (p : Plan) → IsNetworkOf p (state_of network.now) → Writes (W.contents writer.old) (W.contents writer.new) (traffic (channels_of p (state_of network.now)) close) result }
 {
     let views = views(alloc, network)?;
     write_channels(alloc, views.as_slice(), close, writer)
