@@ -7,7 +7,10 @@ use mathlib.Core.Path.{fun_ext}
 use Rattle.vc_machine.specs.Rendezvous.{nothing_yet}
 use Rattle.vc_occam.specs.Opening.{opening}
 use Rattle.vc_occam.specs.Runnings.{state, inner_channels}
+use Rattle.vc_occam.specs.Sites.{OwnSites}
+use Rattle.vc_occam.specs.States.{State}
 use Rattle.vc_occam.specs.Usage.{among}
+use Rattle.vc_occam.proofs.Preorder.{at_first}
 use Rattle.vc_plan.specs.declared.channel.Channel.{Channel}
 use Rattle.vc_plan.specs.declared.channel.Home.{Home}
 use Rattle.vc_plan.specs.declared.channel.Home.TheVariants.{Way, Inside}
@@ -164,6 +167,7 @@ begins p acc k node there es n m = record {
     limit = m.limit;
     inside = subst (AreInside (network_of p) k) (sym m.inside) (inside_is p k less);
     in_step = rests (seen n.vcp).carrier (process_of n.process) (ap (λ (z : Vcp). z.carrier) m.shows);
+    own = subst OwnSites (sym (ap (λ (z : State). z.rest) m.starts)) (at_first node.process);
   };
   first = ap IsNode shown ∙ sym (first_is p k less);
 }

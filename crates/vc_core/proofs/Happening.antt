@@ -49,13 +49,13 @@ written_twice (z ∷ zs) zero x y = refl
 written_twice (z ∷ zs) (suc i) x y = ap (λ ws. z ∷ ws) (written_twice zs i x y)
 
 -- the node is one of the plan
-below : (p : Plan) (s : State) (k : ℕ) (a : Actor) → IsNetworkOf p s → slice_get s.actors k ≡ Some a → k < length p.nodes
+pub below : (p : Plan) (s : State) (k : ℕ) (a : Actor) → IsNetworkOf p s → slice_get s.actors k ≡ Some a → k < length p.nodes
 below p s k a is here = subst (λ z. k < z) is.count (slice_get_within s.actors k a here)
 
 less_is : (m n : ℕ) → m < n → nat_lt m n ≡ true
 less_is m n h = grind (arith, nat_tests)
 
-at_node : (p : Plan) (k l : ℕ) → k < length p.nodes → link_port p k l ≡ AtNode k l
+pub at_node : (p : Plan) (k l : ℕ) → k < length p.nodes → link_port p k l ≡ AtNode k l
 at_node p k l h = ap (λ b. if b then AtNode k l else AtSwitch (k - length p.nodes) l) (less_is k (length p.nodes) h)
 
 -- each node is as before, but for one that is another of the plan's
@@ -76,10 +76,10 @@ states s k b less = by_place-set actor_of (net.IsSwitch new_switch) s.actors k b
 lines : (s : State) (w : ℕ) (ts : List Token) → w < length s.ways → (λ (v : ℕ). shown_or [] (λ (xs : List Token). xs) (slice_get (slice_set s.ways w ts) v)) ≡ put (shown s).way w ts
 lines s w ts less = by_place-set (λ xs. xs) [] s.ways w ts less
 
-state_at : (s : State) (k : ℕ) (a : Actor) → slice_get s.actors k ≡ Some a → (shown s).state k ≡ actor_of a
+pub state_at : (s : State) (k : ℕ) (a : Actor) → slice_get s.actors k ≡ Some a → (shown s).state k ≡ actor_of a
 state_at s k a h = ap (shown_or (net.IsSwitch new_switch) actor_of) h
 
-way_at : (s : State) (w : ℕ) (ts : List Token) → slice_get s.ways w ≡ Some ts → (shown s).way w ≡ ts
+pub way_at : (s : State) (w : ℕ) (ts : List Token) → slice_get s.ways w ≡ Some ts → (shown s).way w ≡ ts
 way_at s w ts h = ap (shown_or [] (λ xs. xs)) h
 
 pub own_happens : (p : Plan) (s : State) (e : Event) (a b : Actor) → IsNetworkOf p s → slice_get s.actors e.actor ≡ Some a → MakesOwn (network_of p) e.actor a.node e.act b.node → MakesEvent p s e (with_actor s e.actor b)
@@ -115,7 +115,7 @@ take_happens p s e l x a b f is_take few is here made =
       kept = record { accepted = is.accepted; count = length-set s.actors k b ∙ is.count; nodes = each_node p s k b is less made.kept; ways = length-set s.ways f.way f.rest ∙ is.ways; wiring = is.wiring; channels = is.channels };
     }
 
-out_of : (p : Plan) (s : State) (k l : ℕ) (a : Actor) (f : HasWay s k l) → l < 4 → IsNetworkOf p s → slice_get s.actors k ≡ Some a → IsOutOf (network_of p) f.way (AtNode k l)
+pub out_of : (p : Plan) (s : State) (k l : ℕ) (a : Actor) (f : HasWay s k l) → l < 4 → IsNetworkOf p s → slice_get s.actors k ≡ Some a → IsOutOf (network_of p) f.way (AtNode k l)
 out_of p s k l a f few is here =
     let node = below p s k a is here in
     subst (IsOutOf (network_of p) f.way) (at_node p k l node) ((outgoing_is p is.accepted k l f.way).0 (sym (is.wiring k l node (omega arith)) ∙ f.out))

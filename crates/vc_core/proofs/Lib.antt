@@ -11,3 +11,6 @@ pub mod Linking
 pub mod Happening
 pub mod Replayed
 pub mod Viewing
+pub mod GoingOn
+pub mod AbleMoves
+pub mod Enabled

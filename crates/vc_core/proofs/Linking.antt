@@ -13,6 +13,8 @@ use Rattle.vc_core.specs.Passing.{MakesPass}
 use Rattle.vc_core.specs.declared.act.Act.{Act}
 use Rattle.vc_core.specs.declared.act.Act.TheVariants.{Proc, Pass}
 use Rattle.vc_occam.specs.declared.moves.Move.{Move}
+use Rattle.vc_occam.specs.Runnings.{state}
+use Rattle.vc_occam.specs.Sites.{OwnSites}
 use Rattle.vc_core.specs.OfPlan.{IsNodeOf, AreInside}
 use Rattle.vc_core.specs.Shown.{process_of, views_of}
 use Rattle.vc_core.specs.declared.node.Node.{Node}
@@ -43,6 +45,7 @@ stays plan k n u is kept same process inside = record {
   limit = kept.limit ∙ is.limit;
   inside = subst (AreInside plan k) (sym inside) is.inside;
   in_step = unmoved (seen n.vcp).carrier (seen u.vcp).carrier (process_of n.process) (process_of u.process) same.into same.out (ap process_of process) is.in_step;
+  own = subst (λ z. OwnSites (state z).rest) (sym process) is.own;
 }
 
 pub takes : (plan : Plan) (k : ℕ) (n u : Node) (l : ℕ) (t : Token) → IsNodeOf plan k n → Comes (seen n.vcp) l t (seen u.vcp) → IsKept n.vcp u.vcp → u.process ≡ n.process → u.inside ≡ n.inside → MakesTake plan k n l t u

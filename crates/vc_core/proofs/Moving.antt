@@ -12,6 +12,7 @@ use Rattle.vc_occam.specs.declared.answer.Answer.{Answer}
 use Rattle.vc_occam.specs.declared.answer.Answer.TheVariants.{Nothing}
 use Rattle.vc_blocks.specs.declared.in_half.Want.{Want}
 use Rattle.vc_occam.specs.States as occam
+use Rattle.vc_occam.proofs.Sites.{doing_keeps}
 use Rattle.vc_occam.proofs.Waiting.{waits_after}
 use Rattle.vc_occam.specs.declared.moves.Move.{Move}
 use Rattle.vc_occam.specs.declared.moves.Move.TheVariants as move
@@ -36,8 +37,9 @@ went : (n u : Node) (d : occam.Doing) → Acts (state n.process) d (state u.proc
 went n u d acts same = record { comms = acts.0; does = acts.1; inside = same }
 
 -- the node stays one of the plan
-stays : (plan : Plan) (k : ℕ) (n u : Node) → IsNodeOf plan k n → IsKept n.vcp u.vcp → AreInside plan k u.inside → InStep (seen u.vcp).carrier (process_of u.process) → IsNodeOf plan k u
-stays plan k n u is kept inside step = record { ends = kept.ends ∙ is.ends; names = kept.names is.names; limit = kept.limit ∙ is.limit; inside = inside; in_step = step }
+stays : (plan : Plan) (k : ℕ) (n u : Node) (d : occam.Doing) → IsNodeOf plan k n → Acts (state n.process) d (state u.process) → IsKept n.vcp u.vcp → AreInside plan k u.inside → InStep (seen u.vcp).carrier (process_of u.process) → IsNodeOf plan k u
+stays plan k n u d is acts kept inside step =
+    record { ends = kept.ends ∙ is.ends; names = kept.names is.names; limit = kept.limit ∙ is.limit; inside = inside; in_step = step; own = doing_keeps (state n.process) (state u.process) d acts.0 acts.1 is.own }
 
 pub offered : (plan : Plan) (k : ℕ) (n u : Node) (i c : ℕ) (m : List ℕ) → IsNodeOf plan k n → Contains (moves n.process) (move.Offer i c) →
     Offers (ends_of n.vcp) (seen n.vcp).carrier c m (seen u.vcp).carrier → (seen u.vcp).link ≡ (seen n.vcp).link → IsKept n.vcp u.vcp → u.inside ≡ n.inside →
@@ -48,7 +50,7 @@ offered plan k n u i c m is listed offers links kept inside acts same =
     let new = waiting (state u.process).rest in
     record {
       moves = (m, (listed, went n u (occam.Offers i c m) acts same), subst (λ z. Offers z (seen n.vcp).carrier c m (seen u.vcp).carrier) is.ends offers, record { link = links; inner = ap views_of inside });
-      kept = stays plan k n u is kept (subst (AreInside plan k) (sym inside) is.inside) (halved.by_parts (seen u.vcp).carrier (process_of u.process)
+      kept = stays plan k n u (occam.Offers i c m) is acts kept (subst (AreInside plan k) (sym inside) is.inside) (halved.by_parts (seen u.vcp).carrier (process_of u.process)
           (halved.has_same halved.Wants input (seen n.vcp).carrier.into (seen u.vcp).carrier.into old new (ap (λ z. z.into) offers.after) is.in_step.inputs (λ j d. halved.still (output i c) old new w (input j d)))
           (halved.has_put halved.Sends output (seen n.vcp).carrier.out (seen u.vcp).carrier.out old new c _ (ap (λ z. z.out) offers.after) is.in_step.outputs
           (λ b. (i, halved.added (output i c) old new w)) (λ j d ne. halved.still (output i c) old new w (output j d))));
@@ -67,6 +69,7 @@ rested plan k n u i is listed vcp inside acts same =
         names = subst (λ z. HaveOwnNames z.outputs z.inputs) (sym vcp) is.names;
         limit = ap (λ z. limit_of z.ins) vcp ∙ is.limit;
         inside = subst (AreInside plan k) (sym inside) is.inside;
+        own = doing_keeps (state n.process) (state u.process) (occam.Rests i) acts.0 acts.1 is.own;
         in_step = halved.by_parts (seen u.vcp).carrier (process_of u.process)
             (halved.has_same halved.Wants input (seen n.vcp).carrier.into (seen u.vcp).carrier.into old new (ap (λ z. (seen z).carrier.into) vcp) is.in_step.inputs (λ j d. halved.kept old new w (input j d)))
             (halved.has_same halved.Sends output (seen n.vcp).carrier.out (seen u.vcp).carrier.out old new (ap (λ z. (seen z).carrier.out) vcp) is.in_step.outputs (λ j d. halved.kept old new w (output j d)));
@@ -101,7 +104,7 @@ inputs plan k n u i c w is listed takes links kept inside acts same =
     let halves = halved.wanted (seen n.vcp).carrier (seen u.vcp).carrier c takes.end (answered w) i old new takes.wants after is.in_step.inputs is.in_step.outputs in
     record {
       moves = (answered w, takes.end, (listed, went n u (occam.Wants i c (answered w)) acts same), subst (λ z. IsOpen z (seen n.vcp).carrier c takes.end) is.ends takes.may, takes.wants, record { link = links; inner = ap views_of inside });
-      kept = stays plan k n u is kept (subst (AreInside plan k) (sym inside) is.inside) (halved.by_parts (seen u.vcp).carrier (process_of u.process) halves.0 halves.1);
+      kept = stays plan k n u (occam.Wants i c (answered w)) is acts kept (subst (AreInside plan k) (sym inside) is.inside) (halved.by_parts (seen u.vcp).carrier (process_of u.process) halves.0 halves.1);
     }
 
 pub wants : (plan : Plan) (k : ℕ) (n u : Node) (m : Move) (i c : ℕ) (w : Want) (a : Answer) → m ≡ move.Want i c → came a ≡ answered w → IsNodeOf plan k n → Contains (moves n.process) m →
@@ -127,7 +130,7 @@ guarded plan k n u i g c w is listed held takes links kept inside acts same =
     let halves = halved.fetched (seen n.vcp).carrier (seen u.vcp).carrier c takes.end (answered w) i old new f after is.in_step.inputs is.in_step.outputs in
     record {
       moves = (answered w, takes.end, (listed, went n u (occam.Chooses i g c (answered w)) acts same), subst (λ z. IsOpen z (seen n.vcp).carrier c takes.end) is.ends takes.may, f, record { link = links; inner = ap views_of inside });
-      kept = stays plan k n u is kept (subst (AreInside plan k) (sym inside) is.inside) (halved.by_parts (seen u.vcp).carrier (process_of u.process) halves.0 halves.1);
+      kept = stays plan k n u (occam.Chooses i g c (answered w)) is acts kept (subst (AreInside plan k) (sym inside) is.inside) (halved.by_parts (seen u.vcp).carrier (process_of u.process) halves.0 halves.1);
     }
 
 pub chooses : (plan : Plan) (k : ℕ) (n u : Node) (m : Move) (i g c : ℕ) (w : Want) (a : Answer) → m ≡ move.Choose i g c → came a ≡ answered w → IsNodeOf plan k n → Contains (moves n.process) m → ((seen n.vcp).carrier.into c).held ≢ None →
@@ -152,7 +155,7 @@ stopped plan k n u i c is listed stops inside kept out into acts same =
     let w = waits_after (state n.process) (state u.process) (occam.Stops i c) acts.0 acts.1 in
     record {
       moves = ((listed, went n u (occam.Stops i c) acts same), stops);
-      kept = stays plan k n u is kept inside (in_step_same n u (occam.Stops i c) is.in_step out into (halved.kept (waiting (state n.process).rest) (waiting (state u.process).rest) w));
+      kept = stays plan k n u (occam.Stops i c) is acts kept inside (in_step_same n u (occam.Stops i c) is.in_step out into (halved.kept (waiting (state n.process).rest) (waiting (state u.process).rest) w));
     }
 
 same_kept : (n u : Node) → u.vcp ≡ n.vcp → IsKept n.vcp u.vcp
@@ -198,6 +201,6 @@ meets plan k n u m i j g c message copy a copied e sent is listed going vcp view
     let w = waits_after s (state u.process) (occam.Meets i j g c message) d.0 d.1 in
     record {
       moves = (message, (l, went n u (occam.Meets i j g c message) d same), (is.inside c).0 (ap is_some going.here), ap (λ x. (shown_or nothing_yet view_of x).stopped) going.here ∙ going.going, ap seen vcp, views ∙ ap (exchanged_on (views_of n.inside) c) copied);
-      kept = stays plan k n u is (same_kept n u vcp) (same_inside plan k n.inside u.inside is.inside names)
+      kept = stays plan k n u (occam.Meets i j g c message) is d (same_kept n u vcp) (same_inside plan k n.inside u.inside is.inside names)
           (in_step_same n u (occam.Meets i j g c message) is.in_step (ap (λ z. (seen z).carrier.out) vcp) (λ x. ap (λ z. ((seen z).carrier.into x).wants) vcp) (halved.kept (waiting s.rest) (waiting (state u.process).rest) w));
     })

@@ -1,10 +1,12 @@
 -- A token that passes from a link's buffer: the process waits for what comes whole, and afterwards wherever its halves count on it.
-use Rattle.std.proofs.Common.{◌≡◌, ◌≢◌, ℕ, Bool, true, false, List, [], ◌∷◌, ◌++◌, Option, Some, refl, sym, ap, ◌∙◌, subst}
+use Rattle.std.proofs.Common.{◌≡◌, ◌≢◌, ℕ, Bool, true, false, List, [], ◌∷◌, ◌++◌, Option, Some, None, refl, sym, ap, ◌∙◌, subst}
 use Rattle.std.specs.List.{Contains}
 use Rattle.vc_packets.specs.declared.packet.Packet.{Packet}
 use Rattle.vc_occam.specs.States.{Waiting, output, input, waiting}
 use Rattle.vc_occam.specs.States as occam
 use Rattle.vc_occam.specs.Laws.{IsOutputOn, IsInputOn}
+use Rattle.vc_occam.specs.Sites.{OwnSites}
+use Rattle.vc_occam.proofs.Sites.{doing_keeps}
 use Rattle.vc_occam.proofs.Waiting.{waits_after}
 use Rattle.vc_vcp.specs.Carrier.{Carrier, End, Ends}
 use Rattle.vc_vcp.specs.Links.{Vcp, Passes, passes_byte, drops_byte, passes_mark}
@@ -122,6 +124,16 @@ awaited limit ends old new l taken p (passes_byte b rest front none within after
 awaited limit ends old new l taken p (drops_byte b rest front none past after) h = subst (IsAwaited p) (sym none) tt
 awaited limit ends old new l taken p (passes_mark m rest what carrier front is arrives after) h = subst (IsAwaited p) (sym is) (arrival_awaited ends old.carrier carrier _ what p arrives h)
 
+-- where the process goes on, its sites stay its own
+own_after : (p q : Process) (taken : Option Taken) → GoesOn does p taken q → OwnSites p.state.rest → OwnSites q.state.rest
+own_after p q (Some (Complete c m)) goes own = doing_keeps p.state q.state (occam.Receives c m) goes.comms goes.does own
+own_after p q (Some (Finished c)) goes own = doing_keeps p.state q.state (occam.Finishes c) goes.comms goes.does own
+own_after p q (Some (Held c)) goes own = subst (λ z. OwnSites z.state.rest) (sym goes) own
+own_after p q (Some (Stored c)) goes own = subst (λ z. OwnSites z.state.rest) (sym goes) own
+own_after p q (Some (More c)) goes own = subst (λ z. OwnSites z.state.rest) (sym goes) own
+own_after p q (Some Stray) goes own = subst (λ z. OwnSites z.state.rest) (sym goes) own
+own_after p q None goes own = subst (λ z. OwnSites z.state.rest) (sym goes) own
+
 -- the node's step, and that it stays one of the plan
 pub makes_pass : (plan : Plan) (k : ℕ) (n u : Node) (l : ℕ) (taken : Option Taken) → IsNodeOf plan k n → (HaveOwnNames n.vcp.outputs n.vcp.inputs → Passes (limit_of n.vcp.ins) (ends_of n.vcp) (seen n.vcp) l taken (seen u.vcp)) →
     (HaveOwnNames n.vcp.outputs n.vcp.inputs → IsKept n.vcp u.vcp) → u.inside ≡ n.inside → (IsAwaited (process_of n.process) taken → GoesOn does (process_of n.process) taken (process_of u.process)) → MakesPass plan k n l u
@@ -136,6 +148,7 @@ makes_pass plan k n u l taken is passes kept inside goes =
         names = ks.names is.names;
         limit = ks.limit ∙ is.limit;
         inside = subst (AreInside plan k) (sym inside) is.inside;
+        own = own_after (process_of n.process) (process_of u.process) taken go is.own;
         in_step = passed (limit_of n.vcp.ins) (ends_of n.vcp) (seen n.vcp) (seen u.vcp) l taken (process_of n.process) (process_of u.process) ps go is.in_step;
       };
     }

@@ -1,9 +1,9 @@
 -- What the code's network shows of a channel is its view.
-use Rattle.std.proofs.Common.{◌≡◌, ℕ, Bool, ◌<◌, true, List, [], length, slice_get, Option, Some, None, is_some, IsSome, refl, sym, ap, ◌∙◌, subst}
+use Rattle.std.proofs.Common.{◌≡◌, ℕ, Bool, true, slice_get, Option, Some, None, is_some, IsSome, refl, sym, ap, ◌∙◌}
 use Rattle.vc_machine.specs.Rendezvous.{View, nothing_yet}
 use Rattle.vc_network.specs.Network as net
 use Rattle.vc_network.specs.Plan.{Plan, Home, Way, Inside, home}
-use Rattle.vc_network.specs.Views.{view, view_at, vcp_of, inner_of, halves_view, source_node, sink_node}
+use Rattle.vc_network.specs.Views.{view_at, vcp_of, inner_of, halves_view, source_node, sink_node}
 use Rattle.vc_plan.specs.declared.plan.Plan.{Plan as Checked}
 use Rattle.vc_plan.specs.declared.channel.Channel.{Channel}
 use Rattle.vc_core.specs.Channels.{IsChannelOf}

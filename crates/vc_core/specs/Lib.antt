@@ -13,3 +13,5 @@ pub mod Wired
 pub mod State
 pub mod Replaying
 pub mod Viewed
+pub mod Able
+pub mod Enabled

@@ -6,6 +6,8 @@ use Rattle.vc_vcp.specs.Carrier.{Carrier}
 use Rattle.vc_vcp.specs.Keyed.{named}
 use Rattle.vc_vcp.specs.Seen.{seen, ends_of}
 use Rattle.vc_vcp.specs.State.{HaveOwnNames, limit_of}
+use Rattle.vc_occam.specs.Runnings.{state}
+use Rattle.vc_occam.specs.Sites.{OwnSites}
 use Rattle.vc_occam.specs.States.{output, input}
 use Rattle.vc_core.specs.Process.{Process, Awaits}
 use Rattle.vc_core.specs.Shown.{process_of}
@@ -28,3 +30,4 @@ pub record IsNodeOf (plan : Plan) (k : ℕ) (n : Node) : Type 0 where
   pub limit : limit_of n.vcp.ins ≡ body_limit plan
   pub inside : AreInside plan k n.inside
   pub in_step : InStep (seen n.vcp).carrier (process_of n.process)
+  pub own : OwnSites (state n.process).rest

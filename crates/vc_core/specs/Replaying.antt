@@ -6,8 +6,9 @@ use Rattle.vc_plan.specs.declared.plan.Plan.{Plan}
 use Rattle.vc_accepted.specs.NetworkOf.{network_of}
 use Rattle.vc_switch.specs.Waiting.{Wormhole}
 use Rattle.vc_core.specs.Begin.{begin_of}
+use Rattle.vc_core.specs.Enabled.{CanHappen}
 use Rattle.vc_core.specs.Process.{does}
-use Rattle.vc_core.specs.State.{State, shown, event_of, state_of, IsNetworkOf, MayHappen}
+use Rattle.vc_core.specs.State.{State, shown, event_of, state_of, IsNetworkOf}
 use Rattle.vc_core.specs.declared.act.Event.{Event}
 use Rattle.vc_core.specs.declared.network.Network.{Network}
 use Rattle.vc_core.specs.declared.refused.ReplayRefused.{ReplayRefused}
@@ -30,14 +31,14 @@ pub record Replays (p : Plan) (events : List Event) (s : State) : Type 0 where
   pub happen : HappenAll (network_of p) Wormhole does (begins (network_of p) (begin_of p)) (map event_of events) (shown s)
   pub headline : Headline (network_of p) Wormhole does (begin_of p) (shown s)
 
--- where an event is refused for what it is, and not for want of memory
-abbrev pub IsCause : State → Event → StepRefused → Type 0
-IsCause s e cause = cause ≡ why.NotEnabled ↔ (MayHappen s e → ⊥)
+-- an event is refused for what it is, and not for want of memory, exactly where it is none of the network
+abbrev pub IsCause : Plan → State → Event → StepRefused → Type 0
+IsCause p s e cause = cause ≡ why.NotEnabled ↔ (CanHappen p s e → ⊥)
 
 -- the first event that is refused, why, and the network before it
 abbrev pub RefusedIn : Plan → List Event → ℕ → Option Network → StepRefused → Type 0
 RefusedIn p events index None cause = (index ≡ 0) × (cause ≡ why.Memory)
-RefusedIn p events index (Some network) cause = (e : Event) × (slice_get events index ≡ Some e) × Replays p (take index events) (state_of network) × IsCause (state_of network) e cause
+RefusedIn p events index (Some network) cause = (e : Event) × (slice_get events index ≡ Some e) × Replays p (take index events) (state_of network) × IsCause p (state_of network) e cause
 
 abbrev pub RefusedAt : Plan → List Event → ReplayRefused → Type 0
 RefusedAt p events refused = RefusedIn p events refused.index refused.state refused.why

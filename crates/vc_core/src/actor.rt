@@ -1,6 +1,7 @@
 //! Actors: what the simulator and a thread run alike.
 ghost use Rattle.std.specs.Prelude.{◌≡◌, ◌<◌, ◌↔◌, ℕ, IsTrue, IfOk, IfSome, OnOk, OnErr};
 ghost use Rattle.vc_core.specs.Acting.{MayAct, MakesOwn, MakesTake, MakesPut, MakesGrant, IsOwn};
+ghost use Rattle.vc_core.specs.Able.{CanAct};
 ghost use Rattle.vc_core.specs.OfPlan.{IsNodeOf};
 ghost use Rattle.vc_network.specs.Plan.{Plan};
 ghost use Rattle.vc_tokens.specs.Spelt.{token};
@@ -44,14 +45,15 @@ impl Actor {
 
     /// Whether an act is one that the actor can make now, whatever stands on its ways.
     pub(crate) fn can(&self, act: &Act) -> bool
-        ensures { IsTrue result ↔ MayAct self.now.node act.now }
+        ensures may { IsTrue result ↔ MayAct self.now.node act.now }
+        ensures can { (plan : Plan) (k : ℕ) → IsNodeOf plan k self.now.node → IsTrue result ↔ CanAct plan k self.now.node act.now }
     {
         match act {
             Act::Proc(made) => self.node.can_move(made),
             Act::Take { link, .. } => *link < NODE_LINKS,
             Act::Put { link } => *link < NODE_LINKS && self.node.vcp.may_put(*link),
             Act::Fct { link } => *link < NODE_LINKS && self.node.vcp.may_grant(*link),
-            Act::Pass { link } => *link < NODE_LINKS && self.node.vcp.may_pass(*link),
+            Act::Pass { link } => { *link < self.node.vcp.links() && self.node.vcp.may_pass(*link) }
             Act::Route { .. } => false,
         }
     }

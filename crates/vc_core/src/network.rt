@@ -9,6 +9,7 @@ ghost use Rattle.vc_plan.specs.declared.channel.Channel.{Channel};
 ghost use Rattle.vc_accepted.specs.NetworkOf.{network_of};
 ghost use Rattle.vc_network.specs.Plan.{home};
 ghost use Rattle.vc_network.specs.Views.{view, source_node, sink_node};
+ghost use Rattle.vc_core.specs.Enabled.{CanHappen};
 ghost use Rattle.vc_core.specs.State.{shown, state_of, IsNetworkOf, MayHappen, WaysLet, HasFront, HasWay, MakesEvent, MayActAt, Accepts, PutsBy, GrantsBy, with_line};
 ghost use Rattle.vc_tokens.specs.Tokens.{Token as SpeltToken};
 ghost use Rattle.vc_tokens.specs.Spelt.{token as spelt};
@@ -50,9 +51,10 @@ impl Network {
         })
     }
 
-    /// Whether an event can be made.
+    /// Whether an event can be made: exactly where it is a node's and leads to some state.
     pub fn enabled(&self, event: &Event) -> bool
-        ensures { IsTrue result ↔ MayHappen (state_of self.now) event.now }
+        ensures may { IsTrue result ↔ MayHappen (state_of self.now) event.now }
+        ensures can { (p : Plan) → IsNetworkOf p (state_of self.now) → IsTrue result ↔ CanHappen p (state_of self.now) event.now }
     {
         match at(self.actors.as_slice(), usize::from(event.actor)) {
             Some(acting) => acting.can(&event.act) && self.ways_let(event.actor, &event.act),
@@ -95,7 +97,7 @@ impl Network {
     pub fn step(&mut self, event: &Event) -> Result<(), StepRefused>
         ensures makes { (p : Plan) → IsNetworkOf p (state_of self.old) → OnOk result (MakesEvent p (state_of self.old) event.now (state_of self.new)) }
         ensures refused { OnErr result (state_of self.new ≡ state_of self.old) }
-        ensures not_enabled { MatchResult result (λ _. MayHappen (state_of self.old) event.now) (λ why. why ≡ StepRefused.NotEnabled ↔ (MayHappen (state_of self.old) event.now → ⊥)) }
+        ensures not_enabled { (p : Plan) → IsNetworkOf p (state_of self.old) → MatchResult result (λ _. CanHappen p (state_of self.old) event.now) (λ why. why ≡ StepRefused.NotEnabled ↔ (CanHappen p (state_of self.old) event.now → ⊥)) }
     {
         if self.enabled(event) {
             self.make(event)?;

@@ -11,6 +11,7 @@ ghost use Rattle.vc_core.specs.Viewed.{node_view};
 ghost use Rattle.vc_network.specs.Plan.{Plan};
 ghost use Rattle.vc_core.specs.OfPlan.{IsNodeOf};
 ghost use Rattle.vc_core.specs.MayMove.{MayMove, AnswersMove, MakesMove};
+ghost use Rattle.vc_core.specs.Able.{HalfCan, CanMove};
 
 use crate::inside::Inside;
 use sqlite_items::Items;
@@ -43,14 +44,16 @@ impl Node {
 
     /// Whether a move is one that the process can make now.
     pub(crate) fn can_move(&self, made: &Move) -> bool
-        ensures { IsTrue result ↔ MayMove self.now made.now }
+        ensures may { IsTrue result ↔ MayMove self.now made.now }
+        ensures can { (plan : Plan) (k : ℕ) → IsNodeOf plan k self.now → IsTrue result ↔ CanMove plan k self.now made.now }
     {
         self.process.lists(made) && self.channel_lets(made)
     }
 
     // Whether the move's channel lets it be made.
     fn channel_lets(&self, made: &Move) -> bool
-        ensures { IsTrue result ↔ AnswersMove self.now made.now }
+        ensures lets { IsTrue result ↔ AnswersMove self.now made.now }
+        ensures can { IsTrue result ↔ HalfCan self.now made.now }
     {
         match *made {
             Move::Offer { chan, .. } => self.vcp.may_offer(chan),

@@ -2,6 +2,7 @@ pub mod Beginning
 pub mod Doing
 pub mod Fitting
 pub mod Frames
+pub mod GoingOn
 pub mod Held
 pub mod Law
 pub mod Listing

@@ -2,7 +2,7 @@
 //!
 //! A channel is named by its number in the network, a link by its number at the node, 0 to 3. A call that finds no memory
 //! answers `Memory`, and has changed nothing.
-ghost use Rattle.std.specs.Prelude.{◌≡◌, ◌≢◌, ◌<◌, None, Ok, ℕ, List, slice_get, ◌↔◌, [], false, Some, IsTrue, IsOk, IfOk, OnOk, OnErr};
+ghost use Rattle.std.specs.Prelude.{◌≡◌, ◌≢◌, ◌<◌, None, Ok, ℕ, List, length, slice_get, ◌↔◌, [], false, Some, IsTrue, IsOk, IfOk, OnOk, OnErr};
 ghost use Rattle.vc_vcp.specs.Keyed.{by_name};
 ghost use Rattle.std.specs.List.{AllByRecursion};
 ghost use Rattle.vc_blocks.specs.Halves.{IsPiece};
@@ -424,6 +424,14 @@ impl Vcp {
     {
         self.drop_one();
         Taken::Stray
+    }
+
+    /// How many links a node has: four, each with an end that sends and an end that receives.
+    pub fn links(&self) -> u8
+        ensures four { result ≡ 4 }
+        ensures ends { (length self.now.outs ≡ 4) × (length self.now.ins ≡ 4) }
+    {
+        self.outs.len() as u8
     }
 
     /// How many packets and tokens were dropped; no more than 2^64 - 1 are counted.

@@ -29,7 +29,7 @@ returns-in-Err-step-clause-refused c =
     let before = replays p (take i events) (state_of c.loop-index.network) c.loop-index.invariant in
     let d : Event = record { actor = 0; act = Proc (Offer 0 0) } in
     let e : Event = get_or events i d in
-    (e, slice_get-get_or events i d c.loop-index-test.true, subst (Replays p (take i events)) (sym same) before, subst (λ z. IsCause z e c.in-Err-step.why) (sym same) c.in-Err-step.ensures.not_enabled)
+    (e, slice_get-get_or events i d c.loop-index-test.true, subst (Replays p (take i events)) (sym same) before, subst (λ z. IsCause p z e c.in-Err-step.why) (sym same) (c.in-Err-step.ensures.not_enabled p c.loop-index.invariant.is))
 
 pub returns-clause-replayed : goal.returns-clause-replayed
 returns-clause-replayed c =

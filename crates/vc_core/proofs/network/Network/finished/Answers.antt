@@ -1,4 +1,4 @@
-use Rattle.std.proofs.Common.{◌≡◌, ap, ◌∙◌, Some}
+use Rattle.std.proofs.Common.{ap, ◌∙◌, Some}
 use Rattle.vc_core.specs.State.{state_of}
 use Rattle.vc_core.specs.Viewed.{node_view}
 use Rattle.vc_core.proofs.Viewing.{source_view}

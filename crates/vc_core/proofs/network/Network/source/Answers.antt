@@ -1,4 +1,4 @@
-use Rattle.std.proofs.Common.{◌≡◌, ◌≤◌, refl, sym, ap, ◌∙◌, subst, slice_get, Some, arith}
+use Rattle.std.proofs.Common.{◌≡◌, sym, ap, ◌∙◌, slice_get, Some, arith}
 use Rattle.vc_core.proofs.Replayed.{none_past}
 use Rattle.vc_core.proofs.network.Network.source.Goals as goal
 

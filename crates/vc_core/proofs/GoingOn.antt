@@ -1,0 +1,20 @@
+-- What a token that passed brings, the process goes on with.
+use Rattle.std.proofs.Common.{Option, Some, None, refl}
+use Rattle.vc_occam.proofs.GoingOn.{finishes_on, receives_on}
+use Rattle.vc_vcp.specs.Steps.{Taken, Held, Stored, Complete, More, Finished, Stray}
+use Rattle.vc_network.specs.Network.{GoesOn}
+use Rattle.vc_core.specs.Passing.{IsAwaited}
+use Rattle.vc_core.specs.Process.{Process, does}
+
+pub goes_on : (p : Process) (taken : Option Taken) → IsAwaited p taken → (q : Process) × GoesOn does p taken q
+goes_on p (Some (Complete c m)) (i, h) =
+    let n = receives_on p.state i c m h in
+    (record { inside = p.inside; state = n.1 }, record { comms = n.0; does = n.2; inside = refl })
+goes_on p (Some (Finished c)) (i, h) =
+    let n = finishes_on p.state i c h in
+    (record { inside = p.inside; state = n.1 }, record { comms = n.0; does = n.2; inside = refl })
+goes_on p (Some (Held c)) h = (p, refl)
+goes_on p (Some (Stored c)) h = (p, refl)
+goes_on p (Some (More c)) h = (p, refl)
+goes_on p (Some Stray) h = (p, refl)
+goes_on p None h = (p, refl)

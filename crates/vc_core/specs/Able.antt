@@ -1,0 +1,37 @@
+-- Which moves and acts of a node the definitions have a step for.
+use Rattle.std.specs.Prelude.{◌⊎◌, ℕ, ◌<◌, List, IsSome}
+use Rattle.vc_network.specs.Network as net
+use Rattle.vc_network.specs.Plan.{Plan, ends, body_limit}
+use Rattle.vc_occam.specs.declared.moves.Move.{Move}
+use Rattle.vc_occam.specs.declared.moves.Move.TheVariants.{Offer, Want, Choose, Stopch, Inner, Quiet}
+use Rattle.vc_vcp.specs.Able.{CanOffer, CanWant, CanFetch, CanStop, CanPut, CanGrant, CanPass}
+use Rattle.vc_vcp.specs.Keyed.{named}
+use Rattle.vc_vcp.specs.Seen.{seen, ends_of}
+use Rattle.vc_core.specs.Inside.{IsOpen}
+use Rattle.vc_core.specs.Process.{Process, does}
+use Rattle.vc_core.specs.Shown.{move_of, node_of}
+use Rattle.vc_core.specs.declared.act.Act.{Act}
+use Rattle.vc_core.specs.declared.act.Act.TheVariants.{Proc, Take, Put, Route, Fct, Pass}
+use Rattle.vc_core.specs.declared.node.Node.{Node}
+
+-- the half of the move's channel has such a step; inside the node the channel is there, and not stopped where something goes over it
+abbrev pub HalfCan : Node → Move → Type 0
+HalfCan n (Offer i c) = (m : List ℕ) → CanOffer (ends_of n.vcp) (seen n.vcp).carrier c m
+HalfCan n (Want i c) = CanWant (ends_of n.vcp) (seen n.vcp).carrier c
+HalfCan n (Choose i k c) = CanFetch (ends_of n.vcp) (seen n.vcp).carrier c
+HalfCan n (Stopch i c) = CanStop (ends_of n.vcp) (seen n.vcp).carrier c ⊎ IsSome (named (λ x. x.chan) c n.inside)
+HalfCan n (Inner i j k c) = IsOpen n.inside c
+HalfCan n (Quiet i) = Unit {0}
+
+-- the node has the move, to some state
+abbrev pub CanMove : Plan → ℕ → Node → Move → Type 0
+CanMove plan k n m = (new : net.Node Process) × net.Moves plan does k (node_of n) (move_of m) new
+
+-- whatever stands on its ways, the node has the act: to some state, for a token that it takes always
+abbrev pub CanAct : Plan → ℕ → Node → Act → Type 0
+CanAct plan k n (Proc made) = CanMove plan k n made
+CanAct plan k n (Take link word) = link < 4
+CanAct plan k n (Put link) = (link < 4) × CanPut (seen n.vcp) link
+CanAct plan k n (Fct link) = (link < 4) × CanGrant (seen n.vcp) link
+CanAct plan k n (Pass link) = CanPass (body_limit plan) (ends plan k) (seen n.vcp) link
+CanAct plan k n (Route input output) = ⊥
