@@ -53,7 +53,7 @@ impl Actor {
             Act::Take { link, .. } => *link < NODE_LINKS,
             Act::Put { link } => *link < NODE_LINKS && self.node.vcp.may_put(*link),
             Act::Fct { link } => *link < NODE_LINKS && self.node.vcp.may_grant(*link),
-            Act::Pass { link } => { *link < self.node.vcp.links() && self.node.vcp.may_pass(*link) }
+            Act::Pass { link } => *link < self.node.vcp.links() && self.node.vcp.may_pass(*link),
             Act::Route { .. } => false,
         }
     }
