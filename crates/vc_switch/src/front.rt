@@ -1,0 +1,57 @@
+//! The front header of a body: portals passed, the first header that has a group.
+ghost use Rattle.std.specs.Prelude.{◌≡◌, ◌+◌, ◌^◌, ◌≤◌, ◌<◌, length, IfSome};
+ghost use Rattle.vc_switch.specs.Front.{front_of, behind_portal, start_of};
+
+use vc_labels::{Action, Table};
+
+/// A front header that has a group.
+#[derive(Clone, Copy, Debug, PartialEq, Eq, Drop)]
+pub struct Front {
+    /// At which byte of the body it begins, behind the portals.
+    pub at: usize,
+    /// The group's first link.
+    pub first: u8,
+    /// The group's last link.
+    pub last: u8,
+}
+
+impl Front {
+    /// At which byte a body begins that leaves by a link: at the front header, or behind it where the link deletes it.
+    pub(crate) fn leaves_from(&self, deletes: bool) -> usize
+        requires { self.now.at + 2 < 2 ^ 64 }
+        ensures { result ≡ start_of deletes self.now }
+    {
+        if deletes { self.at + 2 } else { self.at }
+    }
+}
+
+/// Where a body's front header stands and what its group is, where the header is there and has a group.
+pub(crate) fn find_front(table: &Table, body: &[u8]) -> Option<Front>
+    ensures front { result ≡ front_of table.now body.now }
+    ensures within { IfSome result (λ front. front.at + 2 ≤ length body.now) }
+{
+    match body {
+        [high, low, rest @ ..] => match table.find(u16::from_be_bytes([*high, *low])) {
+            None => None,
+            Some(Action::Out { first, last }) => Some(Front { at: 0, first, last }),
+            Some(Action::Portal) => pass_portal(find_front(table, rest), rest),
+        },
+        _ => None,
+    }
+}
+
+// A front header of what is behind a portal, as it stands in the whole.
+fn pass_portal(front: Option<Front>, rest: &[u8]) -> Option<Front>
+    requires { IfSome front (λ front. front.at + 2 ≤ length rest.now) }
+    ensures front { result ≡ behind_portal front }
+    ensures within { IfSome result (λ front. front.at ≤ length rest.now) }
+{
+    match front {
+        None => None,
+        Some(Front { at, first, last }) => Some(Front {
+            at: at + 2,
+            first,
+            last,
+        }),
+    }
+}

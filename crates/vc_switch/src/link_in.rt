@@ -1,0 +1,187 @@
+//! The receiving end of a switch's link: tokens wait in its buffer under credit, and pass on to the packet that is arriving, which
+//! may leave by an output while it arrives.
+ghost use Rattle.std.specs.Prelude.{◌≡◌, ◌≢◌, ◌<◌, ◌≤◌, ◌+◌, [], ◌∷◌, ◌++◌, length, slice_get, ◌↔◌, ℕ, Some, None, IsTrue, IfOk, MatchOption};
+ghost use Rattle.std.specs.Bool.{OnTrue, OnFalse};
+ghost use Rattle.vc_tokens.specs.Spelt.{token};
+ghost use Rattle.vc_tokens.specs.Tokens.{Byte, EndMark};
+ghost use Rattle.vc_credit.specs.Ends.{received, IsFront, Passes};
+ghost use Rattle.vc_switch.specs.Front.{front_of};
+ghost use Rattle.vc_switch.specs.Switch.{headed};
+ghost use Rattle.vc_switch.specs.Opening.{new_link_in};
+ghost use Rattle.vc_switch.specs.Seen.{has_next};
+
+use crate::front::find_front;
+use std::alloc::Global;
+use vc_credit::Receiver;
+use vc_labels::Table;
+use vc_packets::{Mark, Memory};
+use vc_tokens::{Assembler, Token};
+
+/// By which output an input's packet leaves, and how much of it has.
+#[derive(Clone, Copy, Debug, PartialEq, Eq, Drop)]
+pub struct Bound {
+    /// The output link.
+    pub output: u8,
+    /// At which byte of the packet what leaves begins: headers of portals stay behind, and a deleted header.
+    pub from: usize,
+    /// How many bytes have been put.
+    pub sent: usize,
+}
+
+/// The receiving end of a switch's link: the buffer under credit, and the packet that is arriving, which may be leaving already.
+#[derive(Drop)]
+pub struct LinkIn {
+    /// The buffer of the tokens that have come.
+    pub(crate) receiver: Receiver,
+    /// The word of the latest take.
+    pub(crate) word: u32,
+    /// The bytes passed of the packet, behind the random header.
+    pub(crate) got: Assembler,
+    /// The packet's mark, once it has come whole.
+    pub(crate) mark: Option<Mark>,
+    /// By which output it leaves.
+    pub(crate) bound: Option<Bound>,
+}
+
+impl LinkIn {
+    /// An empty end for packets of at most `limit` bytes.
+    pub(crate) fn new(alloc: Global, limit: usize) -> Result<LinkIn, Memory>
+        ensures { IfOk result (λ x. x ≡ new_link_in limit) }
+    {
+        let receiver = Receiver::new(alloc)?;
+        let got = Assembler::new(alloc, limit)?;
+        Ok(LinkIn {
+            receiver,
+            word: 0,
+            got,
+            mark: None,
+            bound: None,
+        })
+    }
+
+    /// The word of a take is kept.
+    pub(crate) fn draw(&mut self, word: u32)
+        ensures { self.new ≡ record self.old { word = word } }
+    {
+        self.word = word;
+    }
+
+    /// A token comes with a word: it goes to the buffer, where a place was promised, and else is dropped.
+    pub(crate) fn accept(&mut self, came: Token, word: u32) -> bool
+        ensures due { IsTrue result ↔ (0 < self.old.receiver.promised) }
+        ensures added { OnTrue result (self.new ≡ record self.old { receiver = received self.old.receiver (token came); word = word }) }
+        ensures dropped { OnFalse result (self.new ≡ record self.old { word = word }) }
+    {
+        self.word = word;
+        let is_due = self.receiver.is_promised();
+        if is_due {
+            self.receiver.accept(came);
+        }
+        is_due
+    }
+
+    /// Whether a token may pass: one waits, and no packet is whole.
+    pub(crate) fn may_pass(&self) -> bool
+        ensures { IsTrue result ↔ ((self.now.mark ≡ None) × (self.now.receiver.buffer ≢ [])) }
+    {
+        self.mark.is_none() && !self.receiver.is_empty()
+    }
+
+    // The random header goes before a packet's first token.
+    fn begin(&mut self, header: Option<u16>)
+        requires { 2 ≤ self.old.got.limit }
+        ensures { self.new ≡ record self.old { got = record self.old.got { passed = headed header self.old.got.passed } } }
+    {
+        if self.got.is_empty() {
+            if let Some(header) = header {
+                let [high, low] = header.to_be_bytes();
+                self.got.push(high);
+                self.got.push(low);
+            }
+        }
+    }
+
+    /// The byte at the front passes, behind the header that was drawn for the packet: it joins the packet, or is dropped where the
+    /// packet has as many as it may.
+    pub(crate) fn pass_byte(&mut self, header: Option<u16>, byte: u8) -> bool
+        requires limit { 2 ≤ self.old.got.limit }
+        requires front { IsFront self.old.receiver (Byte byte) }
+        ensures front { Passes self.old.receiver (Byte byte) self.new.receiver }
+        ensures room { IsTrue result ↔ (length (headed header self.old.got.passed) < self.old.got.limit) }
+        ensures added { OnTrue result (self.new ≡ record self.old { receiver = self.new.receiver; got = record self.old.got { passed = headed header self.old.got.passed ++ byte ∷ [] } }) }
+        ensures dropped { OnFalse result (self.new ≡ record self.old { receiver = self.new.receiver; got = record self.old.got { passed = headed header self.old.got.passed } }) }
+    {
+        let _byte = self.receiver.pop();
+        self.begin(header);
+        self.got.push(byte)
+    }
+
+    /// The mark at the front passes, and the packet is whole. It is dropped where it has no group.
+    pub(crate) fn pass_mark(&mut self, table: &Table, header: Option<u16>, mark: Mark) -> bool
+        requires limit { 2 ≤ self.old.got.limit }
+        requires front { IsFront self.old.receiver (EndMark mark) }
+        ensures front { Passes self.old.receiver (EndMark mark) self.new.receiver }
+        ensures group { IsTrue result ↔ (front_of table.now (headed header self.old.got.passed) ≢ None) }
+        ensures whole { OnTrue result (self.new ≡ record self.old { receiver = self.new.receiver; got = record self.old.got { passed = headed header self.old.got.passed }; mark = Some mark }) }
+        ensures dropped { OnFalse result (self.new ≡ record self.old { receiver = self.new.receiver; got = record self.old.got { passed = [] } }) }
+    {
+        let _mark = self.receiver.pop();
+        self.begin(header);
+        let has_group = find_front(table, self.got.bytes()).is_some();
+        if has_group {
+            self.mark = Some(mark);
+        } else {
+            self.got.clear();
+        }
+        has_group
+    }
+
+    /// The packet is bound to an output, to leave from this byte on.
+    pub(crate) fn bind(&mut self, output: u8, from: usize)
+        ensures { self.new ≡ record self.old { bound = Some (record { output = output; from = from; sent = 0 }) } }
+    {
+        self.bound = Some(Bound {
+            output,
+            from,
+            sent: 0,
+        });
+    }
+
+    /// The next byte to put of the packet, which is bound so.
+    pub(crate) fn next_byte(&self, bound: Bound) -> Option<u8>
+        ensures { result ≡ slice_get self.now.got.passed (bound.from + bound.sent) }
+    {
+        match bound.from.checked_add(bound.sent) {
+            Some(next) => self.got.bytes().get(next).copied(),
+            None => None,
+        }
+    }
+
+    /// Whether there is a token to put of the packet, which is bound so: a byte, or its mark.
+    pub(crate) fn has_next(&self, bound: Bound) -> bool
+        ensures { result ≡ has_next self.now bound }
+    {
+        self.next_byte(bound).is_some() || self.mark.is_some()
+    }
+
+    /// A byte was put.
+    pub(crate) fn advance(&mut self, bound: Bound)
+        requires { bound.from + bound.sent < length self.old.got.passed }
+        ensures { self.new ≡ record self.old { bound = Some (record bound { sent = bound.sent + 1 }) } }
+    {
+        self.bound = Some(Bound {
+            output: bound.output,
+            from: bound.from,
+            sent: bound.sent + 1,
+        });
+    }
+
+    /// The mark was put, and the packet is gone.
+    pub(crate) fn release(&mut self)
+        ensures { self.new ≡ record self.old { got = record self.old.got { passed = [] }; mark = None; bound = None } }
+    {
+        self.got.clear();
+        self.mark = None;
+        self.bound = None;
+    }
+}

@@ -1,0 +1,87 @@
+//! The links of a switch as they begin.
+ghost use Rattle.std.specs.Prelude.{◌≡◌, IfOk};
+ghost use Rattle.vc_switch.specs.Opening.{deletes, link_count, listed, new_link_in, new_link_out, range_given};
+
+use crate::link_in::LinkIn;
+use crate::link_out::LinkOut;
+use crate::random_range::RandomRange;
+use crate::switch_plan::RandomInput;
+use std::alloc::Global;
+use vc_packets::Memory;
+
+/// How many links a switch has.
+const LINKS: u8 = 32;
+
+/// The random range of each input link.
+pub(crate) fn ranges(
+    alloc: Global,
+    random: &[RandomInput],
+) -> Result<Vec<Option<RandomRange>>, Memory>
+    ensures { IfOk result (λ ranges. ranges.items ≡ listed (range_given random.now) link_count) }
+{
+    let mut ranges = Vec::new(alloc);
+    for link in 0..LINKS {
+        ranges.push(range_of(random, link))?;
+    }
+    Ok(ranges)
+}
+
+// The random range of an input link.
+fn range_of(random: &[RandomInput], link: u8) -> Option<RandomRange>
+    ensures { result ≡ range_given random.now link }
+{
+    for input in random {
+        if input.link == link {
+            return Some(RandomRange {
+                lower: input.lower,
+                limit: input.limit,
+            });
+        }
+    }
+    None
+}
+
+/// Whether each output link deletes the front header.
+pub(crate) fn deletions(alloc: Global, delete: &[u8]) -> Result<Vec<bool>, Memory>
+    ensures { IfOk result (λ all. all.items ≡ listed (deletes delete.now) link_count) }
+{
+    let mut all = Vec::new(alloc);
+    for link in 0..LINKS {
+        all.push(does_delete(delete, link))?;
+    }
+    Ok(all)
+}
+
+// Whether an output link deletes the front header.
+fn does_delete(delete: &[u8], link: u8) -> bool
+    ensures { result ≡ deletes delete.now link }
+{
+    for other in delete {
+        if *other == link {
+            return true;
+        }
+    }
+    false
+}
+
+/// The receiving ends of the links, for packets of at most `limit` bytes.
+pub(crate) fn inputs(alloc: Global, limit: usize) -> Result<Vec<LinkIn>, Memory>
+    ensures { IfOk result (λ inputs. inputs.items ≡ listed (λ link. new_link_in limit) link_count) }
+{
+    let mut inputs = Vec::new(alloc);
+    for _link in 0..LINKS {
+        inputs.push(LinkIn::new(alloc, limit)?)?;
+    }
+    Ok(inputs)
+}
+
+/// The sending ends of the links.
+pub(crate) fn outputs(alloc: Global) -> Result<Vec<LinkOut>, Memory>
+    ensures { IfOk result (λ outputs. outputs.items ≡ listed (λ link. new_link_out) link_count) }
+{
+    let mut outputs = Vec::new(alloc);
+    for _link in 0..LINKS {
+        outputs.push(LinkOut::new())?;
+    }
+    Ok(outputs)
+}

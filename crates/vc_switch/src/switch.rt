@@ -1,0 +1,311 @@
+//! A switch: the calls by which it is run, each a step of the switch.
+//!
+//! A link is named by its number at the switch, 0 to 31. Only [`Switch::new`] takes memory.
+ghost use Rattle.std.specs.Prelude.{◌≡◌, ◌<◌, ◌≤◌, ◌↔◌, ℕ, None, Some, IsTrue, IsOk, IfOk, MatchOption};
+ghost use Rattle.std.specs.List.{AllByRecursion};
+ghost use Rattle.vc_packets.specs.Counting.{one_more};
+ghost use Rattle.vc_tokens.specs.Spelt.{token};
+ghost use Rattle.vc_tokens.specs.Tokens.{Byte, Fct, EndMark};
+ghost use Rattle.vc_credit.specs.Ends.{IsFront};
+ghost use Rattle.vc_credit.specs.Laws.{NeedsPlace};
+ghost use Rattle.vc_switch.specs.Waiting.{Wormhole};
+ghost use Rattle.vc_switch.specs.Switch.{new_switch, Comes, Passes, Routes, Sends, SendsFct};
+ghost use Rattle.vc_switch.specs.Able.{CanPass, CanRoute, CanPut, CanGrant, CanLeave, IsFree};
+ghost use Rattle.vc_switch.specs.Opening.{plan_given, IsRandomInput};
+ghost use Rattle.vc_switch.specs.State.{plan_of, limit_of};
+ghost use Rattle.vc_switch.specs.Seen.{seen, IsKept};
+
+use crate::front::find_front;
+use crate::link_in::LinkIn;
+use crate::link_out::LinkOut;
+use crate::opening;
+use crate::random_range::{RandomRange, draw};
+use crate::switch_plan::SwitchPlan;
+use std::alloc::Global;
+use std::marker::Model;
+use vc_labels::Table;
+use vc_packets::{Mark, Memory};
+use vc_tokens::Token;
+
+/// A switch: its table, what its links do with headers, and the two ends of its 32 links.
+#[derive(Drop)]
+pub struct Switch {
+    table: Table,
+    ranges: Vec<Option<RandomRange>>,
+    deletes: Vec<bool>,
+    inputs: Vec<LinkIn>,
+    outputs: Vec<LinkOut>,
+    lost: u64,
+}
+
+impl Model for Switch {
+    ghost use Rattle.vc_switch.specs.State.{State, IsSwitch};
+
+    ghost Value = { State };
+
+    ghost view = { λ x. record { table = x.table; ranges = x.ranges.items; deletes = x.deletes.items; inputs = x.inputs.items; outputs = x.outputs.items; lost = x.lost } };
+
+    ghost invariant = { λ x. IsSwitch (record { table = x.table; ranges = x.ranges.items; deletes = x.deletes.items; inputs = x.inputs.items; outputs = x.outputs.items; lost = x.lost }) };
+}
+
+impl Switch {
+    /// A switch of this plan with nothing on its links, for packets whose headers and data have at most `body_limit` bytes.
+    pub fn new(alloc: Global, plan: SwitchPlan, body_limit: usize) -> Result<Switch, Memory>
+        requires limit { 2 ≤ body_limit }
+        requires delete { AllByRecursion (λ link. link < 32) plan.delete }
+        requires random { AllByRecursion IsRandomInput plan.random }
+        ensures seen { IfOk result (λ switch. seen switch ≡ new_switch) }
+        ensures plan { IfOk result (λ switch. plan_of switch ≡ plan_given plan) }
+        ensures limit { IfOk result (λ switch. limit_of switch.inputs ≡ body_limit) }
+    {
+        Ok(Switch {
+            ranges: opening::ranges(alloc, plan.random.as_slice())?,
+            deletes: opening::deletions(alloc, plan.delete.as_slice())?,
+            inputs: opening::inputs(alloc, body_limit)?,
+            outputs: opening::outputs(alloc)?,
+            table: plan.table,
+            lost: 0,
+        })
+    }
+
+    /// Whether a token may come over a link: it always may.
+    pub fn may_take(&self, link: u8) -> bool
+        ensures { IsTrue result }
+    {
+        true
+    }
+
+    /// A token comes over a link, with a word for a random header: an FCT is credit for the output of the same link, all else goes
+    /// to the input's buffer. It is dropped and counted where it is not due.
+    pub fn take(&mut self, link: u8, came: Token, word: u32) -> Result<(), Memory>
+        requires { link < 32 }
+        ensures comes { Comes (seen self.old) link word (token came) (seen self.new) }
+        ensures kept { IsKept self.old self.new }
+        ensures ok { IsOk result }
+    {
+        match came {
+            Token::Fct => self.take_credit(link, word),
+            Token::Byte(_) | Token::Eop | Token::Eom => self.take_data(link, came, word),
+        }
+        Ok(())
+    }
+
+    // An FCT comes.
+    fn take_credit(&mut self, link: u8, word: u32)
+        requires { link < 32 }
+        ensures comes { Comes (seen self.old) link word Fct (seen self.new) }
+        ensures kept { IsKept self.old self.new }
+    {
+        let at = usize::from(link);
+        self.inputs[at].draw(word);
+        if !self.outputs[at].accept() {
+            self.drop_one();
+        }
+    }
+
+    // A token comes that needs a place.
+    fn take_data(&mut self, link: u8, came: Token, word: u32)
+        requires link { link < 32 }
+        requires place { NeedsPlace (token came) }
+        ensures comes { Comes (seen self.old) link word (token came) (seen self.new) }
+        ensures kept { IsKept self.old self.new }
+    {
+        if !self.inputs[usize::from(link)].accept(came, word) {
+            self.drop_one();
+        }
+    }
+
+    /// Whether a token may pass from a link's buffer: one waits, and no packet is whole in the input.
+    pub fn may_pass(&self, link: u8) -> bool
+        requires { link < 32 }
+        ensures { IsTrue result ↔ CanPass (limit_of self.now.inputs) (plan_of self.now) (seen self.now) link }
+    {
+        self.inputs[usize::from(link)].may_pass()
+    }
+
+    /// A token passes from a link's buffer: a byte joins the packet that is arriving, or is dropped and counted past the limit; with
+    /// its mark the packet is whole, or is dropped and counted where it has no group. Before a packet's first token goes the random
+    /// header, if the input has a range.
+    pub fn pass(&mut self, link: u8) -> Result<(), Memory>
+        requires link { link < 32 }
+        requires may { CanPass (limit_of self.old.inputs) (plan_of self.old) (seen self.old) link }
+        ensures passes { Passes (limit_of self.old.inputs) (plan_of self.old) (seen self.old) link (seen self.new) }
+        ensures kept { IsKept self.old self.new }
+        ensures ok { IsOk result }
+    {
+        match self.inputs[usize::from(link)].receiver.front() {
+            Some(Token::Byte(byte)) => self.pass_byte(link, byte),
+            Some(Token::Eop) => self.pass_mark(link, Mark::Eop),
+            Some(Token::Eom) => self.pass_mark(link, Mark::Eom),
+            Some(Token::Fct) | None => unreachable!(),
+        }
+        Ok(())
+    }
+
+    // The byte at the front of a link's buffer passes.
+    fn pass_byte(&mut self, link: u8, byte: u8)
+        requires link { link < 32 }
+        requires open { ((seen self.old).input link).mark ≡ None }
+        requires front { IsFront ((seen self.old).input link).receiver (Byte byte) }
+        ensures passes { Passes (limit_of self.old.inputs) (plan_of self.old) (seen self.old) link (seen self.new) }
+        ensures kept { IsKept self.old self.new }
+    {
+        let at = usize::from(link);
+        let header = draw(self.ranges[at], self.inputs[at].word);
+        if !self.inputs[at].pass_byte(header, byte) {
+            self.drop_one();
+        }
+    }
+
+    // The mark at the front of a link's buffer passes.
+    fn pass_mark(&mut self, link: u8, mark: Mark)
+        requires link { link < 32 }
+        requires open { ((seen self.old).input link).mark ≡ None }
+        requires front { IsFront ((seen self.old).input link).receiver (EndMark mark) }
+        ensures passes { Passes (limit_of self.old.inputs) (plan_of self.old) (seen self.old) link (seen self.new) }
+        ensures kept { IsKept self.old self.new }
+    {
+        let at = usize::from(link);
+        let header = draw(self.ranges[at], self.inputs[at].word);
+        if !self.inputs[at].pass_mark(&self.table, header, mark) {
+            self.drop_one();
+        }
+    }
+
+    /// Whether an FCT may be put on a link: eight places of its buffer are free and not promised.
+    pub fn may_grant(&self, link: u8) -> bool
+        requires { link < 32 }
+        ensures { IsTrue result ↔ CanGrant (seen self.now) link }
+    {
+        self.inputs[usize::from(link)].receiver.may_grant()
+    }
+
+    /// An FCT is put on a link.
+    pub fn grant(&mut self, link: u8)
+        requires link { link < 32 }
+        requires may { CanGrant (seen self.old) link }
+        ensures grants { SendsFct (seen self.old) link (seen self.new) }
+        ensures kept { IsKept self.old self.new }
+    {
+        self.inputs[usize::from(link)].receiver.grant();
+    }
+
+    /// The group of links by which an input's packet may leave, its first and its last: it is bound to none yet, and its front
+    /// header is there and has this group.
+    pub fn choices(&self, input: u8) -> Option<(u8, u8)>
+        requires { input < 32 }
+        ensures { MatchOption result ((output : ℕ) → CanLeave (plan_of self.now) (seen self.now) input output → ⊥) (λ group. (group.0 ≤ group.1) × (group.1 < 32) × ((output : ℕ) → CanLeave (plan_of self.now) (seen self.now) input output ↔ ((group.0 ≤ output) × (output ≤ group.1)))) }
+    {
+        let waiting = &self.inputs[usize::from(input)];
+        if waiting.bound.is_some() {
+            return None;
+        }
+        match find_front(&self.table, waiting.got.bytes()) {
+            Some(front) => Some((front.first, front.last)),
+            None => None,
+        }
+    }
+
+    /// Whether no input is bound to an output.
+    pub fn free(&self, link: u8) -> bool
+        requires { link < 32 }
+        ensures { IsTrue result ↔ IsFree (seen self.now) link }
+    {
+        self.outputs[usize::from(link)].source.is_none()
+    }
+
+    /// Whether an input's packet may be bound to an output: the output is in the packet's group, and free.
+    pub fn may_route(&self, input: u8, output: u8) -> bool
+        requires input { input < 32 }
+        requires output { output < 32 }
+        ensures { IsTrue result ↔ CanRoute (plan_of self.now) (seen self.now) input output }
+    {
+        match self.choices(input) {
+            Some((first, last)) => first <= output && output <= last && self.free(output),
+            None => false,
+        }
+    }
+
+    /// An input's packet is bound to an output of its group that is free.
+    pub fn route(&mut self, input: u8, output: u8)
+        requires input { input < 32 }
+        requires output { output < 32 }
+        requires may { CanRoute (plan_of self.old) (seen self.old) input output }
+        ensures routes { Routes (plan_of self.old) Wormhole (seen self.old) input output (seen self.new) }
+        ensures kept { IsKept self.old self.new }
+    {
+        let at = usize::from(input);
+        let out = usize::from(output);
+        match find_front(&self.table, self.inputs[at].got.bytes()) {
+            Some(front) => {
+                let from = front.leaves_from(self.deletes[out]);
+                self.inputs[at].bind(output, from);
+                self.outputs[out].bind(input);
+            }
+            None => unreachable!(),
+        }
+    }
+
+    /// Whether a token may be put on an output: there is credit, and a token of the packet that is bound to it.
+    pub fn may_put(&self, output: u8) -> bool
+        requires { output < 32 }
+        ensures { IsTrue result ↔ CanPut (plan_of self.now) (seen self.now) output }
+    {
+        let out = &self.outputs[usize::from(output)];
+        let Some(source) = out.source else {
+            return false;
+        };
+        let input = &self.inputs[usize::from(source)];
+        match input.bound {
+            Some(bound) => out.may_send() && input.has_next(bound),
+            None => false,
+        }
+    }
+
+    /// Puts the next token of the packet that is bound to an output; with its mark the packet leaves its input, and the output is
+    /// free again.
+    pub fn put(&mut self, output: u8) -> Token
+        requires output { output < 32 }
+        requires may { CanPut (plan_of self.old) (seen self.old) output }
+        ensures sends { Sends (plan_of self.old) Wormhole (seen self.old) output (token result) (seen self.new) }
+        ensures kept { IsKept self.old self.new }
+    {
+        let out = usize::from(output);
+        let Some(source) = self.outputs[out].source else {
+            unreachable!();
+        };
+        let at = usize::from(source);
+        let Some(bound) = self.inputs[at].bound else {
+            unreachable!();
+        };
+        match self.inputs[at].next_byte(bound) {
+            Some(byte) => {
+                self.inputs[at].advance(bound);
+                self.outputs[out].spend();
+                Token::Byte(byte)
+            }
+            None => {
+                let Some(mark) = self.inputs[at].mark else {
+                    unreachable!();
+                };
+                self.inputs[at].release();
+                self.outputs[out].release();
+                Token::from(mark)
+            }
+        }
+    }
+
+    /// How many packets and tokens were dropped; no more than 2^64 - 1 are counted.
+    pub fn lost(&self) -> u64
+        ensures { result ≡ (seen self.now).lost }
+    {
+        self.lost
+    }
+
+    // One more was dropped.
+    fn drop_one(&mut self)
+        ensures { self.new ≡ record self.old { lost = one_more self.old.lost } }
+    {
+        self.lost = self.lost.saturating_add(1);
+    }
+}
