@@ -1,1 +1,178 @@
--- Fronts of bodies.
+-- Where a body's front header stands, is where it leaves from.
+use Rattle.std.proofs.Common.{◌≡◌, ℕ, zero, suc, ◌+◌, ◌*◌, ◌/◌, ◌%◌, ◌<◌, ◌≤◌, Bool, true, false, List, [], ◌∷◌, ◌++◌, length, drop, get_or, refl, sym, ap, ◌∙◌, subst, arith, append_assoc, if◌then◌else◌, IfSome, Option, Some, None}
+use Rattle.vc_labels.specs.declared.row.Row.{Row}
+use Rattle.vc_labels.specs.declared.action.Action.{Action}
+use Rattle.vc_labels.specs.declared.action.Action.TheVariants.{Out, Portal}
+use Rattle.vc_labels.specs.Interval.{action_for}
+use Rattle.vc_packets.specs.Headers.{spelled}
+use Rattle.vc_switch.specs.Forward.{SwitchPlan, without_portals, past_portal}
+use Rattle.vc_switch.specs.Switch.{Leaves, BodyLeaves, HasGroup}
+use Rattle.vc_switch.specs.declared.front.Front.{Front}
+use Rattle.vc_switch.specs.Front.{front_of, front_by, behind_portal, start_of, HasFront}
+
+two_bytes : (h : ℕ) → 256 * (h / 256) + h % 256 ≡ h
+two_bytes h = omega arith
+
+high_byte : (hi lo : ℕ) → lo < 256 → (256 * hi + lo) / 256 ≡ hi
+high_byte hi lo h = omega arith
+
+low_byte : (hi lo : ℕ) → lo < 256 → (256 * hi + lo) % 256 ≡ lo
+low_byte hi lo h = omega arith
+
+spelled_pair : (hi lo : ℕ) (hs rest : List ℕ) → lo < 256 → hi ∷ lo ∷ (spelled hs ++ rest) ≡ spelled ((256 * hi + lo) ∷ hs) ++ rest
+spelled_pair hi lo hs rest h = λ i. sym (high_byte hi lo h) i ∷ sym (low_byte hi lo h) i ∷ (spelled hs ++ rest)
+
+drop_two : (n x y : ℕ) (xs : List ℕ) → drop (n + 2) (x ∷ y ∷ xs) ≡ drop n xs
+drop_two n x y xs = let k : n + 2 ≡ suc (suc n) = omega arith in ap (λ m. drop m (x ∷ y ∷ xs)) k
+
+drop_more : (n : ℕ) (xs : List ℕ) → drop (n + 2) xs ≡ drop 2 (drop n xs)
+drop_more zero xs = refl
+drop_more (suc n) [] = let k : suc n + 2 ≡ suc (n + 2) = omega arith in ap (λ m. drop m []) k
+drop_more (suc n) (x ∷ xs) = let k : suc n + 2 ≡ suc (n + 2) = omega arith in ap (λ m. drop m (x ∷ xs)) k ∙ drop_more n xs
+
+-- A body that leaves, by where its front stands.
+
+record Found (table : List Row) (b tail : List ℕ) (first last : ℕ) : Type 0 where
+  at : ℕ
+  is : front_of table b ≡ Some (record { at = at; first = first; last = last })
+  left : drop at b ≡ tail
+
+found_by : (table : List Row) (h : ℕ) (hs rest : List ℕ) (header : ℕ) (more : List ℕ) (first last : ℕ) (o : Option Action) → action_for table h ≡ o →
+    past_portal o (without_portals table hs) (h ∷ hs) ≡ header ∷ more → action_for table header ≡ Some (Out first last) →
+    (without_portals table hs ≡ header ∷ more → Found table (spelled hs ++ rest) (spelled (header ∷ more) ++ rest) first last) →
+    Found table (spelled (h ∷ hs) ++ rest) (spelled (header ∷ more) ++ rest) first last
+found_by table h hs rest header more first last (Some Portal) is front group next =
+    let n = next front in
+    let portal : action_for table (256 * (h / 256) + h % 256) ≡ Some Portal = ap (action_for table) (two_bytes h) ∙ is in
+    record {
+      at = n.at + 2;
+      is = (λ i. front_by (portal i) (n.is i));
+      left = drop_two n.at (h / 256) (h % 256) (spelled hs ++ rest) ∙ n.left;
+    }
+found_by table h hs rest header more first last (Some (Out a b)) is front group next =
+    let same : h ≡ header = cc in
+    let out : action_for table (256 * (h / 256) + h % 256) ≡ Some (Out first last) = ap (action_for table) (two_bytes h ∙ same) ∙ group in
+    record {
+      at = 0;
+      is = ap (λ o. front_by o (front_of table (spelled hs ++ rest))) out;
+      left = ap (λ s. spelled s ++ rest) front;
+    }
+found_by table h hs rest header more first last None is front group next =
+    let same : h ≡ header = cc in
+    let q : None ≡ Some (Out first last) = sym is ∙ ap (action_for table) same ∙ group in
+    absurd (cc)
+
+found : (table : List Row) (stack rest : List ℕ) (header : ℕ) (more : List ℕ) (first last : ℕ) → without_portals table stack ≡ header ∷ more → action_for table header ≡ Some (Out first last) →
+    Found table (spelled stack ++ rest) (spelled (header ∷ more) ++ rest) first last
+found table [] rest header more first last front group = absurd (cc)
+found table (h ∷ hs) rest header more first last front group =
+    found_by table h hs rest header more first last (action_for table h) refl front group (λ f. found table hs rest header more first last f group)
+
+pub record Gone (plan : SwitchPlan) (b : List ℕ) (out : ℕ) (d : List ℕ) : Type 0 where
+  pub front : Front
+  pub is : front_of plan.table b ≡ Some front
+  pub low : front.first ≤ out
+  pub high : out ≤ front.last
+  pub left : d ≡ drop (start_of (plan.deletes out) front) b
+
+left_by : (deletes : Bool) (at first last header : ℕ) (b more rest after : List ℕ) → drop at b ≡ spelled (header ∷ more) ++ rest → after ≡ (if deletes then more else header ∷ more) →
+    spelled after ++ rest ≡ drop (start_of deletes (record { at = at; first = first; last = last })) b
+left_by true at first last header b more rest after left is =
+    ap (λ s. spelled s ++ rest) is ∙ sym (ap (drop 2) left) ∙ sym (drop_more at b)
+left_by false at first last header b more rest after left is = ap (λ s. spelled s ++ rest) is ∙ sym left
+
+-- what leaves a body is told by its front
+pub gone : (plan : SwitchPlan) (b : List ℕ) (out : ℕ) (d : List ℕ) → BodyLeaves plan b out d → Gone plan b out d
+gone plan b out d h =
+    let l = h.leaves in
+    let f = found plan.table h.stack h.rest l.header l.rest l.first l.last l.front l.group in
+    record {
+      front = record { at = f.at; first = l.first; last = l.last };
+      is = ap (front_of plan.table) h.before_is ∙ f.is;
+      low = l.low;
+      high = l.high;
+      left = h.after_is ∙ left_by (plan.deletes out) f.at l.first l.last l.header b l.rest h.rest h.after (ap (drop f.at) h.before_is ∙ f.left) l.left;
+    }
+
+pub grouped : (plan : SwitchPlan) (b : List ℕ) → HasGroup plan b → front_of plan.table b ≡ None → ⊥
+grouped plan b h none =
+    let f = found plan.table h.stack h.rest h.header h.behind_it h.first h.last h.front h.group in
+    let front : Front = record { at = f.at; first = h.first; last = h.last } in
+    let q : None ≡ Some front = sym none ∙ ap (front_of plan.table) h.is ∙ f.is in
+    absurd (cc)
+
+-- A body with a front, by its headers.
+
+headed_out : (table : List Row) (hi lo : ℕ) (rest : List ℕ) (first last : ℕ) → lo < 256 → action_for table (256 * hi + lo) ≡ Some (Out first last) → HasFront table (hi ∷ lo ∷ rest) (record { at = 0; first = first; last = last })
+headed_out table hi lo rest first last byte is = record {
+  stack = (256 * hi + lo) ∷ [];
+  header = 256 * hi + lo;
+  rest = rest;
+  is = spelled_pair hi lo [] rest byte;
+  front = ap (λ o. past_portal o [] ((256 * hi + lo) ∷ [])) is;
+  group = is;
+  left = spelled_pair hi lo [] rest byte;
+}
+
+headed_portal : (table : List Row) (hi lo : ℕ) (rest : List ℕ) (f : Front) → lo < 256 → action_for table (256 * hi + lo) ≡ Some Portal → HasFront table rest f → HasFront table (hi ∷ lo ∷ rest) (record f { at = f.at + 2 })
+headed_portal table hi lo rest f byte is h = record {
+  stack = (256 * hi + lo) ∷ h.stack;
+  header = h.header;
+  rest = h.rest;
+  is = ap (λ b. hi ∷ lo ∷ b) h.is ∙ spelled_pair hi lo h.stack h.rest byte;
+  front = ap (λ o. past_portal o (without_portals table h.stack) ((256 * hi + lo) ∷ h.stack)) is ∙ h.front;
+  group = h.group;
+  left = drop_two f.at hi lo rest ∙ h.left;
+}
+
+behind_by : (table : List Row) (hi lo : ℕ) (rest : List ℕ) (f : Front) (o : Option Front) → lo < 256 → action_for table (256 * hi + lo) ≡ Some Portal → behind_portal o ≡ Some f → ((g : Front) → o ≡ Some g → HasFront table rest g) → HasFront table (hi ∷ lo ∷ rest) f
+behind_by table hi lo rest f None byte is e next = absurd (cc)
+behind_by table hi lo rest f (Some g) byte is e next =
+    let q : record g { at = g.at + 2 } ≡ f = cc in
+    subst (HasFront table (hi ∷ lo ∷ rest)) q (headed_portal table hi lo rest g byte is (next g refl))
+
+headed_by : (table : List Row) (hi lo : ℕ) (rest : List ℕ) (f : Front) (o : Option Action) → lo < 256 → action_for table (256 * hi + lo) ≡ o → front_by o (front_of table rest) ≡ Some f → ((g : Front) → front_of table rest ≡ Some g → HasFront table rest g) → HasFront table (hi ∷ lo ∷ rest) f
+headed_by table hi lo rest f None byte is e next = absurd (cc)
+headed_by table hi lo rest f (Some Portal) byte is e next = behind_by table hi lo rest f (front_of table rest) byte is e next
+headed_by table hi lo rest f (Some (Out first last)) byte is e next =
+    let q : record { at = 0; first = first; last = last } ≡ f = cc in
+    subst (HasFront table (hi ∷ lo ∷ rest)) q (headed_out table hi lo rest first last byte is)
+
+pub headed : (table : List Row) (b : List ℕ) (f : Front) → ((k : ℕ) → get_or b k 0 < 256) → front_of table b ≡ Some f → HasFront table b f
+headed table [] f bytes e = absurd (cc)
+headed table (hi ∷ []) f bytes e = absurd (cc)
+headed table (hi ∷ lo ∷ rest) f bytes e =
+    headed_by table hi lo rest f (action_for table (256 * hi + lo)) (bytes 1) refl e (λ g q. headed table rest g (λ k. bytes (suc (suc k))) q)
+
+pub group_of : (plan : SwitchPlan) (b : List ℕ) (f : Front) → HasFront plan.table b f → HasGroup plan b
+group_of plan b f h = record { stack = h.stack; rest = h.rest; header = h.header; behind_it = []; first = f.first; last = f.last; is = h.is; front = h.front; group = h.group }
+
+left_with : (deletes : Bool) (f : Front) (header : ℕ) (b rest : List ℕ) → drop f.at b ≡ spelled (header ∷ []) ++ rest → drop (start_of deletes f) b ≡ spelled (if deletes then [] else header ∷ []) ++ rest
+left_with true f header b rest left = drop_more f.at b ∙ ap (drop 2) left
+left_with false f header b rest left = left
+
+pub leaves_by : (plan : SwitchPlan) (b : List ℕ) (f : Front) (out : ℕ) → HasFront plan.table b f → f.first ≤ out → out ≤ f.last → BodyLeaves plan b out (drop (start_of (plan.deletes out) f) b)
+leaves_by plan b f out h low high = record {
+  stack = h.stack;
+  after = (if plan.deletes out then [] else h.header ∷ []);
+  rest = h.rest;
+  before_is = h.is;
+  leaves = record { header = h.header; rest = []; first = f.first; last = f.last; front = h.front; group = h.group; low = low; high = high; left = refl };
+  after_is = left_with (plan.deletes out) f h.header b h.rest h.left;
+}
+
+-- more bytes come
+pub leaves_more : (plan : SwitchPlan) (b : List ℕ) (out : ℕ) (d more : List ℕ) → BodyLeaves plan b out d → BodyLeaves plan (b ++ more) out (d ++ more)
+leaves_more plan b out d more h = record {
+  stack = h.stack;
+  after = h.after;
+  rest = h.rest ++ more;
+  before_is = ap (λ z. z ++ more) h.before_is ∙ append_assoc (spelled h.stack) h.rest more;
+  leaves = h.leaves;
+  after_is = ap (λ z. z ++ more) h.after_is ∙ append_assoc (spelled h.after) h.rest more;
+}
+
+-- where a search found a front
+pub headed_where : (table : List Row) (b : List ℕ) (o : Option Front) → ((k : ℕ) → get_or b k 0 < 256) → o ≡ front_of table b → IfSome o (λ f. HasFront table b f)
+headed_where table b None bytes is = tt
+headed_where table b (Some f) bytes is = headed table b f bytes (sym is)

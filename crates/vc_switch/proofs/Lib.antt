@@ -1,1 +1,6 @@
+pub mod Placed
 pub mod Fronts
+pub mod Pairing
+pub mod Showing
+pub mod Keeping
+pub mod Stepping

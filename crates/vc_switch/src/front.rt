@@ -1,6 +1,6 @@
 //! The front header of a body: portals passed, the first header that has a group.
 ghost use Rattle.std.specs.Prelude.{◌≡◌, ◌+◌, ◌^◌, ◌≤◌, ◌<◌, length, IfSome};
-ghost use Rattle.vc_switch.specs.Front.{front_of, behind_portal, start_of};
+ghost use Rattle.vc_switch.specs.Front.{front_of, behind_portal, start_of, HasFront};
 
 use vc_labels::{Action, Table};
 
@@ -28,6 +28,7 @@ impl Front {
 /// Where a body's front header stands and what its group is, where the header is there and has a group.
 pub(crate) fn find_front(table: &Table, body: &[u8]) -> Option<Front>
     ensures front { result ≡ front_of table.now body.now }
+    ensures has { IfSome result (λ front. HasFront table.now body.now front) }
     ensures within { IfSome result (λ front. front.at + 2 ≤ length body.now) }
 {
     match body {

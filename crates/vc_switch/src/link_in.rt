@@ -5,7 +5,8 @@ ghost use Rattle.std.specs.Bool.{OnTrue, OnFalse};
 ghost use Rattle.vc_tokens.specs.Spelt.{token};
 ghost use Rattle.vc_tokens.specs.Tokens.{Byte, EndMark};
 ghost use Rattle.vc_credit.specs.Ends.{received, IsFront, Passes};
-ghost use Rattle.vc_switch.specs.Front.{front_of};
+ghost use Rattle.vc_switch.specs.declared.front.Front.{Front};
+ghost use Rattle.vc_switch.specs.Front.{front_of, HasFront};
 ghost use Rattle.vc_switch.specs.Switch.{headed};
 ghost use Rattle.vc_switch.specs.Opening.{new_link_in};
 ghost use Rattle.vc_switch.specs.Seen.{has_next};
@@ -121,7 +122,8 @@ impl LinkIn {
         requires limit { 2 ≤ self.old.got.limit }
         requires front { IsFront self.old.receiver (EndMark mark) }
         ensures front { Passes self.old.receiver (EndMark mark) self.new.receiver }
-        ensures group { IsTrue result ↔ (front_of table.now (headed header self.old.got.passed) ≢ None) }
+        ensures group { OnTrue result ((front : Front) × HasFront table.now (headed header self.old.got.passed) front) }
+        ensures none { OnFalse result (front_of table.now (headed header self.old.got.passed) ≡ None) }
         ensures whole { OnTrue result (self.new ≡ record self.old { receiver = self.new.receiver; got = record self.old.got { passed = headed header self.old.got.passed }; mark = Some mark }) }
         ensures dropped { OnFalse result (self.new ≡ record self.old { receiver = self.new.receiver; got = record self.old.got { passed = [] } }) }
     {
@@ -149,16 +151,16 @@ impl LinkIn {
 
     /// The next byte to put of the packet, which is bound so.
     pub(crate) fn next_byte(&self, bound: Bound) -> Option<u8>
+        requires { bound.from + bound.sent ≤ length self.now.got.passed }
         ensures { result ≡ slice_get self.now.got.passed (bound.from + bound.sent) }
     {
-        match bound.from.checked_add(bound.sent) {
-            Some(next) => self.got.bytes().get(next).copied(),
-            None => None,
-        }
+        let bytes = self.got.bytes();
+        bytes.get(bound.from + bound.sent).copied()
     }
 
     /// Whether there is a token to put of the packet, which is bound so: a byte, or its mark.
     pub(crate) fn has_next(&self, bound: Bound) -> bool
+        requires { bound.from + bound.sent ≤ length self.now.got.passed }
         ensures { result ≡ has_next self.now bound }
     {
         self.next_byte(bound).is_some() || self.mark.is_some()
@@ -169,6 +171,8 @@ impl LinkIn {
         requires { bound.from + bound.sent < length self.old.got.passed }
         ensures { self.new ≡ record self.old { bound = Some (record bound { sent = bound.sent + 1 }) } }
     {
+        let length = self.got.len();
+        prove!(bound.sent < length);
         self.bound = Some(Bound {
             output: bound.output,
             from: bound.from,
