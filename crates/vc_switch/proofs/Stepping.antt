@@ -21,6 +21,7 @@ use Rattle.vc_switch.specs.declared.link_in.LinkIn.{LinkIn}
 use Rattle.vc_switch.specs.declared.link_in.Bound.{Bound}
 use Rattle.vc_switch.specs.declared.link_out.LinkOut.{LinkOut}
 use Rattle.vc_switch.proofs.Fronts.{gone, group_of, grouped}
+use Rattle.vc_switch.proofs.Placed.{put_back}
 use Rattle.vc_switch.proofs.Showing.{input_at, output_at, seen-in, seen-two}
 use Rattle.vc_switch.proofs.Keeping.{link_in, switch_in, begun, bound_more, sent_stays}
 
@@ -76,10 +77,14 @@ fct_due s l word x y p q here there is low more =
     due (subst (λ z. z.credit ≤ 8) (sym (output_at s l p there)) low)
     (seen-two s l l x y p q here there (ap sent_of is) ∙ (λ t. record { input = put (seen s).input l (i t); output = put (seen s).output l (o t); lost = s.lost }))
 
-pub fct_dropped : (s : State) (l word : ℕ) (x y : LinkIn) (p : LinkOut) → slice_get s.inputs l ≡ Some x → slice_get s.outputs l ≡ Some p → y ≡ record x { word = word } → (p.credit ≤ 8 → ⊥) →
-    Comes (seen s) l word Fct (seen (record s { inputs = slice_set s.inputs l y; lost = one_more s.lost }))
-fct_dropped s l word x y p here there is high =
-    not_due (λ low. high (subst (λ z. z.credit ≤ 8) (output_at s l p there) low)) (word_shown s l word x y here is)
+pub fct_dropped : (s : State) (l word : ℕ) (x y : LinkIn) (p q : LinkOut) → slice_get s.inputs l ≡ Some x → slice_get s.outputs l ≡ Some p → y ≡ record x { word = word } → (p.credit ≤ 8 → ⊥) → q ≡ p →
+    Comes (seen s) l word Fct (seen (record s { inputs = slice_set s.inputs l y; outputs = slice_set s.outputs l q; lost = one_more s.lost }))
+fct_dropped s l word x y p q here there is high same =
+    let i = ap input_of is ∙ ap (λ (z : Input). record z { word = word }) (sym (input_at s l x here)) in
+    let o = ap (sender_of s.inputs) same ∙ sym (output_at s l p there) in
+    not_due (λ low. high (subst (λ z. z.credit ≤ 8) (output_at s l p there) low))
+    (ap (λ (z : Switch). record z { lost = one_more s.lost }) (seen-two s l l x y p q here there (ap sent_of is))
+    ∙ (λ t. record { input = put (seen s).input l (i t); output = put_back (seen s).output l (sender_of s.inputs q) (sym o) t; lost = one_more s.lost }))
 
 -- a token that came is in the buffer, and is no FCT
 all_more : (ks : List Token) (k : Token) → AllByRecursion (λ k. k ≢ Fct) ks → k ≢ Fct → AllByRecursion (λ k. k ≢ Fct) (ks ++ k ∷ [])
