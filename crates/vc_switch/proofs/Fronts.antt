@@ -1,5 +1,6 @@
 -- Where a body's front header stands, is where it leaves from.
-use Rattle.std.proofs.Common.{◌≡◌, ℕ, zero, suc, ◌+◌, ◌*◌, ◌/◌, ◌%◌, ◌<◌, ◌≤◌, Bool, true, false, List, [], ◌∷◌, ◌++◌, length, drop, get_or, refl, sym, ap, ◌∙◌, subst, arith, append_assoc, if◌then◌else◌, IfSome, Option, Some, None}
+use Rattle.std.proofs.Common.{◌≡◌, ℕ, zero, suc, ◌+◌, ◌*◌, ◌/◌, ◌%◌, ◌<◌, ◌≤◌, Bool, true, false, List, [], ◌∷◌, ◌++◌, length, drop, get_or, refl, sym, ap, ◌∙◌, subst, arith, append_assoc, if◌then◌else◌, IfSome, Option, Some, None, ◌⊎◌, inl, inr}
+use Rattle.std.proofs.lemmas.Bool.{cases_lt}
 use Rattle.vc_labels.specs.declared.row.Row.{Row}
 use Rattle.vc_labels.specs.declared.action.Action.{Action}
 use Rattle.vc_labels.specs.declared.action.Action.TheVariants.{Out, Portal}
@@ -176,3 +177,57 @@ leaves_more plan b out d more h = record {
 pub headed_where : (table : List Row) (b : List ℕ) (o : Option Front) → ((k : ℕ) → get_or b k 0 < 256) → o ≡ front_of table b → IfSome o (λ f. HasFront table b f)
 headed_where table b None bytes is = tt
 headed_where table b (Some f) bytes is = headed table b f bytes (sym is)
+
+-- A body has a group, or it has none.
+
+group_behind : (plan : SwitchPlan) (hi lo : ℕ) (rest : List ℕ) → action_for plan.table (256 * hi + lo) ≡ Some Portal → HasGroup plan (hi ∷ lo ∷ rest) → HasGroup plan rest
+group_behind plan hi lo rest portal h = go h.stack h.is h.front
+  where
+    go : (stack : List ℕ) → hi ∷ lo ∷ rest ≡ spelled stack ++ h.rest → without_portals plan.table stack ≡ h.header ∷ h.behind_it → HasGroup plan rest
+    go [] is front = absurd (cc)
+    go (s ∷ ss) is front =
+        let a : hi ≡ s / 256 = cc in
+        let b : lo ≡ s % 256 = cc in
+        let behind : rest ≡ spelled ss ++ h.rest = cc in
+        let same : 256 * hi + lo ≡ s = (λ i. 256 * a i + b i) ∙ two_bytes s in
+        record {
+          stack = ss;
+          rest = h.rest;
+          header = h.header;
+          behind_it = h.behind_it;
+          first = h.first;
+          last = h.last;
+          is = behind;
+          front = sym (ap (λ o. past_portal o (without_portals plan.table ss) (s ∷ ss)) (sym (ap (action_for plan.table) same) ∙ portal)) ∙ front;
+          group = h.group;
+        }
+
+low_is_byte : (plan : SwitchPlan) (hi lo : ℕ) (rest : List ℕ) → HasGroup plan (hi ∷ lo ∷ rest) → lo < 256
+low_is_byte plan hi lo rest h = go h.stack h.is h.front
+  where
+    go : (stack : List ℕ) → hi ∷ lo ∷ rest ≡ spelled stack ++ h.rest → without_portals plan.table stack ≡ h.header ∷ h.behind_it → lo < 256
+    go [] is front = absurd (cc)
+    go (s ∷ ss) is front = let b : lo ≡ s % 256 = cc in omega (arith, b)
+
+abbrev SomeFront : SwitchPlan → List ℕ → Type 0
+SomeFront plan b = (f : Front) × HasFront plan.table b f
+
+decided_by : (plan : SwitchPlan) (hi lo : ℕ) (rest : List ℕ) (o : Option Action) → lo < 256 → action_for plan.table (256 * hi + lo) ≡ o → (SomeFront plan rest ⊎ (HasGroup plan rest → ⊥)) → SomeFront plan (hi ∷ lo ∷ rest) ⊎ (HasGroup plan (hi ∷ lo ∷ rest) → ⊥)
+decided_by plan hi lo rest None byte is later = inr (λ h. grouped plan (hi ∷ lo ∷ rest) h (ap (λ o. front_by o (front_of plan.table rest)) is))
+decided_by plan hi lo rest (Some (Out first last)) byte is later = inl (record { at = 0; first = first; last = last }, headed_out plan.table hi lo rest first last byte is)
+decided_by plan hi lo rest (Some Portal) byte is (inl some) = inl (record some.0 { at = some.0.at + 2 }, headed_portal plan.table hi lo rest some.0 byte is some.1)
+decided_by plan hi lo rest (Some Portal) byte is (inr none) = inr (λ h. none (group_behind plan hi lo rest is h))
+
+decided : (plan : SwitchPlan) (b : List ℕ) → SomeFront plan b ⊎ (HasGroup plan b → ⊥)
+decided plan [] = inr (λ h. grouped plan [] h refl)
+decided plan (hi ∷ []) = inr (λ h. grouped plan (hi ∷ []) h refl)
+decided plan (hi ∷ lo ∷ rest) = elim (cases_lt lo 256) [
+  | inl byte ↦ decided_by plan hi lo rest (action_for plan.table (256 * hi + lo)) byte refl (decided plan rest)
+  | inr big ↦ inr (λ h. (let small = low_is_byte plan hi lo rest h in absurd (omega (arith, small, big))))
+]
+
+pub either_group : (plan : SwitchPlan) (b : List ℕ) → HasGroup plan b ⊎ (HasGroup plan b → ⊥)
+either_group plan b = elim (decided plan b) [
+  | inl some ↦ inl (group_of plan b some.0 some.1)
+  | inr none ↦ inr none
+]

@@ -75,8 +75,15 @@ switch_two s l j n x y p q w here is same there source =
 -- one more was lost
 pub switch_lost : (s : State) (n : ℕ) → IsSwitch s → IsSwitch (record s { lost = n })
 switch_lost s n w = record {
-  range_links = w.range_links; delete_links = w.delete_links; input_links = w.input_links; output_links = w.output_links;
-  table = w.table; ranges = w.ranges; room = w.room; inputs = w.inputs; paired = w.paired;
+  range_links = w.range_links;
+  delete_links = w.delete_links;
+  input_links = w.input_links;
+  output_links = w.output_links;
+  table = w.table;
+  ranges = w.ranges;
+  room = w.room;
+  inputs = w.inputs;
+  paired = w.paired;
 }
 
 -- An input of which a token passes.

@@ -4,3 +4,5 @@ pub mod Pairing
 pub mod Showing
 pub mod Keeping
 pub mod Stepping
+pub mod Enabling
+pub mod Routing

@@ -78,8 +78,8 @@ pub seen-bound : (s : State) (l j : ℕ) (x y : LinkIn) (p q : LinkOut) → AreP
 seen-bound s l j x y p q paired here there source =
     let ys = slice_set s.inputs l y in
     let out = put_is (seen s).output (λ k. shown_or new_sender (sender_of ys) (slice_get (slice_set s.outputs j q) k)) j (sender_of ys q)
-        (ap (shown_or new_sender (sender_of ys)) (place-set_same s.outputs j q (slice_get_within s.outputs j p there)))
-        (λ k ne. ap (shown_or new_sender (sender_of ys)) (place-set_other s.outputs j k q ne)
-        ∙ sender-other s.inputs l y (slice_get s.outputs k)
-        (λ e. (let z : Some k ≡ Some j = sym (paired.outs k l e) ∙ paired.outs j l source in let w : k ≡ j = cc in ne w))) in
+    (ap (shown_or new_sender (sender_of ys)) (place-set_same s.outputs j q (slice_get_within s.outputs j p there)))
+    (λ k ne. ap (shown_or new_sender (sender_of ys)) (place-set_other s.outputs j k q ne)
+    ∙ sender-other s.inputs l y (slice_get s.outputs k)
+    (λ e. (let z : Some k ≡ Some j = sym (paired.outs k l e) ∙ paired.outs j l source in let w : k ≡ j = cc in ne w))) in
     λ i. record { input = by_place-set input_of new_input s.inputs l y (slice_get_within s.inputs l x here) i; output = out i; lost = s.lost }

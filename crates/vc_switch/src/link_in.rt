@@ -138,6 +138,13 @@ impl LinkIn {
         has_group
     }
 
+    /// Whether the packet is bound to no output.
+    pub(crate) fn is_idle(&self) -> bool
+        ensures { IsTrue result ↔ (self.now.bound ≡ None) }
+    {
+        self.bound.is_none()
+    }
+
     /// The packet is bound to an output, to leave from this byte on.
     pub(crate) fn bind(&mut self, output: u8, from: usize)
         ensures { self.new ≡ record self.old { bound = Some (record { output = output; from = from; sent = 0 }) } }

@@ -24,6 +24,13 @@ impl LinkOut {
         }
     }
 
+    /// Whether no input is bound to it.
+    pub(crate) fn is_free(&self) -> bool
+        ensures { IsTrue result ↔ (self.now.source ≡ None) }
+    {
+        self.source.is_none()
+    }
+
     /// A flow control token comes: eight more tokens may be put, where the credit is at most 8. Else nothing changes.
     pub(crate) fn accept(&mut self) -> bool
         ensures due { IsTrue result ↔ (self.old.credit ≤ 8) }

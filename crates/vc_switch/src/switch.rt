@@ -13,10 +13,10 @@ ghost use Rattle.vc_switch.specs.Switch.{new_switch, Comes, Passes, Routes, Send
 ghost use Rattle.vc_switch.specs.Able.{CanPass, CanRoute, CanPut, CanGrant, CanLeave, IsFree};
 ghost use Rattle.vc_switch.specs.Opening.{plan_given, IsRandomInput};
 ghost use Rattle.vc_switch.specs.State.{plan_of, limit_of};
-ghost use Rattle.vc_switch.specs.Seen.{seen, IsKept};
+ghost use Rattle.vc_switch.specs.Seen.{seen, IsKept, IsBoundTo, IsNext};
 
 use crate::front::find_front;
-use crate::link_in::LinkIn;
+use crate::link_in::{Bound, LinkIn};
 use crate::link_out::LinkOut;
 use crate::opening;
 use crate::random_range::{RandomRange, draw};
@@ -197,7 +197,7 @@ impl Switch {
         ensures { MatchOption result ((output : ℕ) → CanLeave (plan_of self.now) (seen self.now) input output → ⊥) (λ group. (group.0 ≤ group.1) × (group.1 < 32) × ((output : ℕ) → CanLeave (plan_of self.now) (seen self.now) input output ↔ ((group.0 ≤ output) × (output ≤ group.1)))) }
     {
         let waiting = &self.inputs[usize::from(input)];
-        if waiting.bound.is_some() {
+        if !waiting.is_idle() {
             return None;
         }
         match find_front(&self.table, waiting.got.bytes()) {
@@ -211,7 +211,7 @@ impl Switch {
         requires { link < 32 }
         ensures { IsTrue result ↔ IsFree (seen self.now) link }
     {
-        self.outputs[usize::from(link)].source.is_none()
+        self.outputs[usize::from(link)].is_free()
     }
 
     /// Whether an input's packet may be bound to an output: the output is in the packet's group, and free.
@@ -220,8 +220,11 @@ impl Switch {
         requires output { output < 32 }
         ensures { IsTrue result ↔ CanRoute (plan_of self.now) (seen self.now) input output }
     {
+        if !self.free(output) {
+            return false;
+        }
         match self.choices(input) {
-            Some((first, last)) => first <= output && output <= last && self.free(output),
+            Some((first, last)) => first <= output && output <= last,
             None => false,
         }
     }
@@ -246,19 +249,31 @@ impl Switch {
         }
     }
 
+    // The input whose packet is bound to an output, and how it leaves by it.
+    fn bound_to(&self, output: u8) -> Option<(u8, Bound)>
+        requires { output < 32 }
+        ensures { MatchOption result (IsFree (seen self.now) output) (λ r. IsBoundTo self.now output r.0 r.1) }
+    {
+        match self.outputs[usize::from(output)].source {
+            None => None,
+            Some(source) => match self.inputs[usize::from(source)].bound {
+                None => None,
+                Some(bound) => Some((source, bound)),
+            },
+        }
+    }
+
     /// Whether a token may be put on an output: there is credit, and a token of the packet that is bound to it.
     pub fn may_put(&self, output: u8) -> bool
         requires { output < 32 }
         ensures { IsTrue result ↔ CanPut (plan_of self.now) (seen self.now) output }
     {
-        let out = &self.outputs[usize::from(output)];
-        let Some(source) = out.source else {
-            return false;
-        };
-        let input = &self.inputs[usize::from(source)];
-        match input.bound {
-            Some(bound) => out.may_send() && input.has_next(bound),
+        match self.bound_to(output) {
             None => false,
+            Some((source, bound)) => {
+                self.outputs[usize::from(output)].may_send()
+                    && self.inputs[usize::from(source)].has_next(bound)
+            }
         }
     }
 
@@ -270,28 +285,46 @@ impl Switch {
         ensures sends { Sends (plan_of self.old) Wormhole (seen self.old) output (token result) (seen self.new) }
         ensures kept { IsKept self.old self.new }
     {
-        let out = usize::from(output);
-        let Some(source) = self.outputs[out].source else {
-            unreachable!();
-        };
+        match self.bound_to(output) {
+            None => unreachable!(),
+            Some((source, bound)) => match self.inputs[usize::from(source)].next_byte(bound) {
+                Some(byte) => self.put_byte(output, source, bound, byte),
+                None => self.put_mark(output, source, bound),
+            },
+        }
+    }
+
+    // The next byte goes out of the packet that is bound to an output.
+    fn put_byte(&mut self, output: u8, source: u8, bound: Bound, byte: u8) -> Token
+        requires output { output < 32 }
+        requires bound { IsBoundTo self.old output source bound }
+        requires next { IsNext self.old source bound (Some byte) }
+        requires may { CanPut (plan_of self.old) (seen self.old) output }
+        ensures sends { Sends (plan_of self.old) Wormhole (seen self.old) output (token result) (seen self.new) }
+        ensures kept { IsKept self.old self.new }
+    {
+        self.inputs[usize::from(source)].advance(bound);
+        self.outputs[usize::from(output)].spend();
+        Token::Byte(byte)
+    }
+
+    // The mark goes out of the packet that is bound to an output, which is free again.
+    fn put_mark(&mut self, output: u8, source: u8, bound: Bound) -> Token
+        requires output { output < 32 }
+        requires bound { IsBoundTo self.old output source bound }
+        requires next { IsNext self.old source bound None }
+        requires may { CanPut (plan_of self.old) (seen self.old) output }
+        ensures sends { Sends (plan_of self.old) Wormhole (seen self.old) output (token result) (seen self.new) }
+        ensures kept { IsKept self.old self.new }
+    {
         let at = usize::from(source);
-        let Some(bound) = self.inputs[at].bound else {
-            unreachable!();
-        };
-        match self.inputs[at].next_byte(bound) {
-            Some(byte) => {
-                self.inputs[at].advance(bound);
-                self.outputs[out].spend();
-                Token::Byte(byte)
-            }
-            None => {
-                let Some(mark) = self.inputs[at].mark else {
-                    unreachable!();
-                };
+        match self.inputs[at].mark {
+            Some(mark) => {
                 self.inputs[at].release();
-                self.outputs[out].release();
+                self.outputs[usize::from(output)].release();
                 Token::from(mark)
             }
+            None => unreachable!(),
         }
     }
 

@@ -9,7 +9,7 @@ use Rattle.vc_switch.proofs.Showing.{told, input_at}
 
 use Rattle.vc_packets.specs.Counting.{one_more}
 use Rattle.vc_switch.specs.Switch.{drawn}
-use Rattle.vc_switch.proofs.Keeping.{link_in, switch_in}
+use Rattle.vc_switch.proofs.Keeping.{link_in, switch_in, kept}
 use Rattle.vc_switch.proofs.Stepping.{header_at, byte_passes, byte_drops, mark_passes, mark_loses, link_byte, link_dropped, link_whole, link_lost}
 use Rattle.vc_switch.proofs.switch.Switch.pass_byte.Goals as goal
 

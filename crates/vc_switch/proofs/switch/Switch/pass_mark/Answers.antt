@@ -9,7 +9,7 @@ use Rattle.vc_switch.proofs.Showing.{told, input_at}
 
 use Rattle.vc_packets.specs.Counting.{one_more}
 use Rattle.vc_switch.specs.Switch.{drawn}
-use Rattle.vc_switch.proofs.Keeping.{link_in, switch_in}
+use Rattle.vc_switch.proofs.Keeping.{link_in, switch_in, kept}
 use Rattle.vc_switch.proofs.Stepping.{header_at, byte_passes, byte_drops, mark_passes, mark_loses, link_byte, link_dropped, link_whole, link_lost}
 use Rattle.vc_switch.proofs.switch.Switch.pass_mark.Goals as goal
 
@@ -42,6 +42,23 @@ invariant_of-self-else-not-pass_mark c =
     let drew = c.draw-header.ensures ∙ header_at o k c.index-2.result.now.word r range ∙ ap (λ z. drawn ((plan_of o).random k) z.word) e in
     let is = c.if-not-pass_mark.ensures.whole in
     switch_in o k x.lost a c.pass_mark.new.self c.self.invariant here (link_whole (plan_of o) (limit_of x.inputs.items) c.args.mark c.draw-header.result a c.pass_mark.new.self (link_in o k a c.self.invariant here) c.pass_mark.ensures.front is) (ap (λ z. output_of z.bound) is)
+
+pub returns-then-not-pass_mark-clause-kept : goal.returns-then-not-pass_mark-clause-kept
+returns-then-not-pass_mark-clause-kept c =
+    let x = c.self.inside in
+    let o : State = record { table = x.table; ranges = x.ranges.items; deletes = x.deletes.items; inputs = x.inputs.items; outputs = x.outputs.items; lost = x.lost } in
+    let k = c.from-at.result in
+    let a = c.index_mut.result.now in
+    let within : k < 32 = omega arith in
+    let here = slice_get_read x.inputs.items 32 k a (sym c.self.invariant.input_links) within c.index_mut.ensures.value in
+    let r = c.index.result.now in
+    let range = slice_get_read x.ranges.items 32 k r (sym c.self.invariant.range_links) within c.index.ensures in
+    let e = same_read x.inputs.items k c.index-2.result.now a (slice_get_read x.inputs.items 32 k c.index-2.result.now (sym c.self.invariant.input_links) within c.index-2.ensures) here in
+    let drew = c.draw-header.ensures ∙ header_at o k c.index-2.result.now.word r range ∙ ap (λ z. drawn ((plan_of o).random k) z.word) e in
+    let new : State = record o { inputs = slice_set x.inputs.items k c.pass_mark.new.self; lost = one_more x.lost } in
+    subst (IsKept c.args.self.now) (sym c.drop_one.ensures) (subst (λ z. IsKept z new) c.self.view_is
+    (kept o k (one_more x.lost) a c.pass_mark.new.self x.outputs.items c.self.invariant here
+    (link_lost (plan_of o) (limit_of x.inputs.items) c.args.mark c.draw-header.result a c.pass_mark.new.self (link_in o k a c.self.invariant here) c.pass_mark.ensures.front c.if-not-pass_mark.ensures.none c.if-not-pass_mark.ensures.dropped)))
 
 pub returns-then-not-pass_mark-clause-passes : goal.returns-then-not-pass_mark-clause-passes
 returns-then-not-pass_mark-clause-passes c =

@@ -1,0 +1,38 @@
+use Rattle.std.proofs.Common.{◌≡◌, ◌<◌, ◌≤◌, sym, refl, ap, ◌∙◌, subst, arith, true, false, slice_get, slice_set, length, Some, None}
+use Rattle.std.proofs.lemmas.Option.{slice_get_read}
+use Rattle.vc_tokens.specs.Spelt.{token}
+use Rattle.vc_switch.specs.Switch.{Comes, Passes, SendsFct}
+use Rattle.vc_switch.specs.State.{State, IsSwitch, plan_of, limit_of, output_of}
+use Rattle.vc_switch.specs.Seen.{seen, IsKept, sender_of}
+use Rattle.vc_switch.proofs.Placed.{same_read, all-at}
+use Rattle.vc_switch.proofs.Showing.{told, input_at}
+
+use Rattle.vc_switch.proofs.Routing.{choices_busy, choices_none, choices_some}
+use Rattle.vc_switch.proofs.switch.Switch.choices.Goals as goal
+
+pub returns-then-not-is_idle : goal.returns-then-not-is_idle
+returns-then-not-is_idle c =
+    let x = c.self.inside in
+    let a = c.index-waiting.result.now in
+    let within : c.from.result < 32 = omega arith in
+    let read = slice_get_read x.inputs.items 32 c.from.result a (sym c.self.invariant.input_links) within c.index-waiting.ensures in
+    let here = subst (λ z. slice_get z.inputs c.args.input ≡ Some a) c.self.view_is (subst (λ j. slice_get x.inputs.items j ≡ Some a) c.from.ensures read) in
+    choices_busy c.args.self.now c.args.input a here (λ idle. (let t : c.is_idle.result ≡ true = c.is_idle.ensures.1 idle in absurd (cc)))
+
+pub returns-in-None : goal.returns-in-None
+returns-in-None c =
+    let x = c.self.inside in
+    let a = c.index-waiting.result.now in
+    let within : c.from.result < 32 = omega arith in
+    let read = slice_get_read x.inputs.items 32 c.from.result a (sym c.self.invariant.input_links) within c.index-waiting.ensures in
+    let here = subst (λ z. slice_get z.inputs c.args.input ≡ Some a) c.self.view_is (subst (λ j. slice_get x.inputs.items j ≡ Some a) c.from.ensures read) in
+    ?
+
+pub returns-in-Some : goal.returns-in-Some
+returns-in-Some c =
+    let x = c.self.inside in
+    let a = c.index-waiting.result.now in
+    let within : c.from.result < 32 = omega arith in
+    let read = slice_get_read x.inputs.items 32 c.from.result a (sym c.self.invariant.input_links) within c.index-waiting.ensures in
+    let here = subst (λ z. slice_get z.inputs c.args.input ≡ Some a) c.self.view_is (subst (λ j. slice_get x.inputs.items j ≡ Some a) c.from.ensures read) in
+    ?

@@ -1,0 +1,20 @@
+use Rattle.std.proofs.Common.{◌≡◌, ◌<◌, ◌≤◌, sym, refl, ap, ◌∙◌, subst, arith, true, false, slice_get, slice_set, length, Some, None}
+use Rattle.std.proofs.lemmas.Option.{slice_get_read}
+use Rattle.vc_tokens.specs.Spelt.{token}
+use Rattle.vc_switch.specs.Switch.{Comes, Passes, SendsFct}
+use Rattle.vc_switch.specs.State.{State, IsSwitch, plan_of, limit_of, output_of}
+use Rattle.vc_switch.specs.Seen.{seen, IsKept, sender_of}
+use Rattle.vc_switch.proofs.Placed.{same_read, all-at}
+use Rattle.vc_switch.proofs.Showing.{told, input_at}
+
+use Rattle.vc_switch.proofs.Enabling.{grant_iff}
+use Rattle.vc_switch.proofs.switch.Switch.may_grant.Goals as goal
+
+pub returns : goal.returns
+returns c =
+    let x = c.self.inside in
+    let a = c.index.result.now in
+    let within : c.from.result < 32 = omega arith in
+    let read = slice_get_read x.inputs.items 32 c.from.result a (sym c.self.invariant.input_links) within c.index.ensures in
+    let here = subst (λ z. slice_get z.inputs c.args.link ≡ Some a) c.self.view_is (subst (λ j. slice_get x.inputs.items j ≡ Some a) c.from.ensures read) in
+    grant_iff c.args.self.now c.args.link a c.may_grant.result here c.may_grant.ensures
