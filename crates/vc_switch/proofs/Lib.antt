@@ -6,3 +6,4 @@ pub mod Keeping
 pub mod Stepping
 pub mod Enabling
 pub mod Routing
+pub mod Putting

@@ -1,7 +1,8 @@
 -- Lists read by place: a write of one element is a change at its place.
-use Rattle.std.proofs.Common.{◌≡◌, ℕ, zero, suc, List, [], ◌∷◌, refl, sym, ap, ◌∙◌, subst, arith, slice_get, slice_set, length, ◌<◌, if◌then◌else◌, Some, inl, inr, eq-eqb}
+use Rattle.std.proofs.Common.{◌≡◌, ℕ, zero, suc, List, [], ◌∷◌, refl, sym, ap, ◌∙◌, subst, arith, slice_get, slice_set, get_or, length, ◌<◌, if◌then◌else◌, Some, inl, inr, eq-eqb}
 use Rattle.std.proofs.lemmas.Bool.{cases_eq, ne_eqb}
 use Rattle.std.specs.List.{AllByRecursion}
+use Rattle.std.proofs.lemmas.Option.{get_or_from_slice_get}
 use mathlib.Core.Path.{fun_ext}
 use Rattle.vc_packets.specs.Functions.{put}
 use Rattle.vc_switch.specs.State.{shown_or}
@@ -44,6 +45,10 @@ by_place-set show d xs i y h =
 -- what is read at one place is one thing
 pub same_read : {X : Type 0} (xs : List X) (i : ℕ) (x y : X) → slice_get xs i ≡ Some x → slice_get xs i ≡ Some y → x ≡ y
 same_read xs i x y a b = let e : Some x ≡ Some y = sym a ∙ b in cc
+
+-- what indexing reads is what stands there
+pub read_there : {X : Type 0} (xs : List X) (i : ℕ) (x a : X) → slice_get xs i ≡ Some x → a ≡ get_or xs i a → x ≡ a
+read_there xs i x a here is = sym (get_or_from_slice_get xs i x a here) ∙ sym is
 
 pub all-set : {X : Type 0} (P : X → Type 0) (xs : List X) (i : ℕ) (y : X) → AllByRecursion P xs → P y → AllByRecursion P (slice_set xs i y)
 all-set P [] i y h p = h

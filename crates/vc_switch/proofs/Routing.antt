@@ -91,6 +91,10 @@ route_leaves plan s l j can = record { body = can.1.body; unbound = can.1.unboun
 pub not_free : (plan : SwitchPlan) (s : Switch) (l j : ℕ) (b : Bool) → (IsTrue b ↔ IsFree s j) → b ≡ false → IsTrue false ↔ CanRoute plan s l j
 not_free plan s l j b is no_way = (λ t. absurd (cc), λ can. (let t : b ≡ true = is.1 can.1.free in absurd (cc)))
 
+pub in_choices : (plan : SwitchPlan) (s : Switch) (l j first last : ℕ) (b c : Bool) → (IsTrue b ↔ IsFree s j) → b ≡ true → ((j : ℕ) → CanLeave plan s l j ↔ ((first ≤ j) × (j ≤ last))) → (IsTrue c ↔ ((first ≤ j) × (j ≤ last))) → IsTrue c ↔ CanRoute plan s l j
+in_choices plan s l j first last b c free is group within =
+    (λ t. can_route plan s l j ((group j).1 (within.0 t)) (free.0 is), λ can. within.1 ((group j).0 (route_leaves plan s l j can)))
+
 pub no_group : (plan : SwitchPlan) (s : Switch) (l j : ℕ) → ((j : ℕ) → CanLeave plan s l j → ⊥) → IsTrue false ↔ CanRoute plan s l j
 no_group plan s l j none = (λ t. absurd (cc), λ can. absurd (none j (route_leaves plan s l j can)))
 

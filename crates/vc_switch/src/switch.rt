@@ -224,7 +224,7 @@ impl Switch {
             return false;
         }
         match self.choices(input) {
-            Some((first, last)) => first <= output && output <= last,
+            Some((first, last)) => is_within(first, last, output),
             None => false,
         }
     }
@@ -341,4 +341,11 @@ impl Switch {
     {
         self.lost = self.lost.saturating_add(1);
     }
+}
+
+// Whether a link is of a group.
+fn is_within(first: u8, last: u8, link: u8) -> bool
+    ensures { IsTrue result ↔ ((first ≤ link) × (link ≤ last)) }
+{
+    first <= link && link <= last
 }

@@ -1,4 +1,4 @@
-use Rattle.std.proofs.Common.{◌≡◌, ◌<◌, ◌≤◌, sym, refl, ap, ◌∙◌, subst, arith, true, false, slice_get, slice_set, length, Some, None}
+use Rattle.std.proofs.Common.{◌≡◌, ◌<◌, ◌≤◌, sym, refl, ap, ◌∙◌, subst, arith, true, false, slice_get, slice_set, length, vec_len, rules, Some, None}
 use Rattle.std.proofs.lemmas.Option.{slice_get_read}
 use Rattle.vc_tokens.specs.Spelt.{token}
 use Rattle.vc_switch.specs.Switch.{Comes, Passes, SendsFct}
@@ -7,6 +7,7 @@ use Rattle.vc_switch.specs.Seen.{seen, IsKept, sender_of}
 use Rattle.vc_switch.proofs.Placed.{same_read, all-at}
 use Rattle.vc_switch.proofs.Showing.{told, input_at}
 
+use Rattle.vc_switch.specs.Front.{front_of, HasFront}
 use Rattle.vc_switch.proofs.Routing.{choices_busy, choices_none, choices_some}
 use Rattle.vc_switch.proofs.switch.Switch.choices.Goals as goal
 
@@ -26,7 +27,8 @@ returns-in-None c =
     let within : c.from.result < 32 = omega arith in
     let read = slice_get_read x.inputs.items 32 c.from.result a (sym c.self.invariant.input_links) within c.index-waiting.ensures in
     let here = subst (λ z. slice_get z.inputs c.args.input ≡ Some a) c.self.view_is (subst (λ j. slice_get x.inputs.items j ≡ Some a) c.from.ensures read) in
-    ?
+    let none : front_of x.table a.got.passed ≡ None = sym (c.find_front.ensures.front ∙ ap (front_of x.table) c.bytes.ensures) ∙ c.in-None.is in
+    choices_none c.args.self.now c.args.input a here (subst (λ z. front_of z.table a.got.passed ≡ None) c.self.view_is none)
 
 pub returns-in-Some : goal.returns-in-Some
 returns-in-Some c =
@@ -35,4 +37,7 @@ returns-in-Some c =
     let within : c.from.result < 32 = omega arith in
     let read = slice_get_read x.inputs.items 32 c.from.result a (sym c.self.invariant.input_links) within c.index-waiting.ensures in
     let here = subst (λ z. slice_get z.inputs c.args.input ≡ Some a) c.self.view_is (subst (λ j. slice_get x.inputs.items j ≡ Some a) c.from.ensures read) in
-    ?
+    let some : front_of x.table a.got.passed ≡ Some c.in-Some.front = sym (c.find_front.ensures.front ∙ ap (front_of x.table) c.bytes.ensures) ∙ c.in-Some.is in
+    let has : HasFront x.table a.got.passed c.in-Some.front = subst (λ z. HasFront x.table z c.in-Some.front) c.bytes.ensures c.in-Some.ensures.has in
+    choices_some c.args.self.now c.args.input a c.in-Some.front (subst IsSwitch c.self.view_is c.self.invariant) here (c.is_idle.ensures.0 c.if-not-is_idle.false)
+    (subst (λ z. front_of z.table a.got.passed ≡ Some c.in-Some.front) c.self.view_is some) (subst (λ z. HasFront z.table a.got.passed c.in-Some.front) c.self.view_is has)

@@ -1,4 +1,4 @@
-use Rattle.std.proofs.Common.{◌≡◌, ◌<◌, ◌≤◌, sym, refl, ap, ◌∙◌, subst, arith, true, false, slice_get, slice_set, length, Some, None}
+use Rattle.std.proofs.Common.{◌≡◌, ◌<◌, ◌≤◌, sym, refl, ap, ◌∙◌, subst, arith, true, false, slice_get, slice_set, length, vec_len, rules, Some, None}
 use Rattle.std.proofs.lemmas.Option.{slice_get_read}
 use Rattle.vc_tokens.specs.Spelt.{token}
 use Rattle.vc_switch.specs.Switch.{Comes, Passes, SendsFct}

@@ -1,0 +1,43 @@
+use Rattle.std.proofs.Common.{◌≡◌, ◌<◌, ◌≤◌, sym, refl, ap, ◌∙◌, subst, arith, true, false, slice_get, slice_set, length, vec_len, rules, Some, None}
+use Rattle.std.proofs.lemmas.Option.{slice_get_read}
+use Rattle.vc_tokens.specs.Spelt.{token}
+use Rattle.vc_switch.specs.Switch.{Comes, Passes, SendsFct}
+use Rattle.vc_switch.specs.State.{State, IsSwitch, plan_of, limit_of, output_of}
+use Rattle.vc_switch.specs.Seen.{seen, IsKept, sender_of}
+use Rattle.vc_switch.proofs.Placed.{same_read, all-at}
+use Rattle.vc_switch.proofs.Showing.{told, input_at}
+
+use Rattle.vc_switch.proofs.Placed.{read_there}
+use Rattle.vc_switch.proofs.Putting.{free_puts, put_iff, no_credit, way_of}
+use Rattle.vc_switch.proofs.switch.Switch.may_put.Goals as goal
+
+pub returns-in-None : goal.returns-in-None
+returns-in-None c =
+    (λ t. absurd (cc), λ can. absurd (free_puts (plan_of c.args.self.now) (seen c.args.self.now) c.args.output c.in-None.ensures can))
+
+pub returns-then-may_send : goal.returns-then-may_send
+returns-then-may_send c =
+    let s = c.args.self.now in
+    let x = c.self.inside in
+    let w = subst IsSwitch c.self.view_is c.self.invariant in
+    let t = c.in-Some.ensures in
+    let within : c.from.result < 32 = omega arith in
+    let p = c.index.result.now in
+    let reads = slice_get_read x.outputs.items 32 c.from.result p (sym c.self.invariant.output_links) within c.index.ensures in
+    let there = subst (λ z. slice_get z.outputs c.args.output ≡ Some p) c.self.view_is (subst (λ j. slice_get x.outputs.items j ≡ Some p) c.from.ensures reads) in
+    let a = c.index-then-may_send.result.now in
+    let at = subst (λ j. slice_get x.inputs.items j ≡ Some t.input) (sym c.from-then-may_send.ensures) (subst (λ z. slice_get z.inputs c.in-Some.source ≡ Some t.input) (sym c.self.view_is) t.here) in
+    let here = read_there x.inputs.items c.from-then-may_send.result t.input a at c.index-then-may_send.ensures in
+    put_iff s c.args.output c.in-Some.source c.in-Some.bound a p c.has_next.result w t (t.here ∙ ap Some here) there (c.may_send.ensures.0 c.if-may_send.true) c.has_next.ensures
+
+pub returns-else-may_send : goal.returns-else-may_send
+returns-else-may_send c =
+    let s = c.args.self.now in
+    let x = c.self.inside in
+    let w = subst IsSwitch c.self.view_is c.self.invariant in
+    let t = c.in-Some.ensures in
+    let within : c.from.result < 32 = omega arith in
+    let p = c.index.result.now in
+    let reads = slice_get_read x.outputs.items 32 c.from.result p (sym c.self.invariant.output_links) within c.index.ensures in
+    let there = subst (λ z. slice_get z.outputs c.args.output ≡ Some p) c.self.view_is (subst (λ j. slice_get x.outputs.items j ≡ Some p) c.from.ensures reads) in
+    no_credit s c.args.output c.in-Some.source c.in-Some.bound p c.may_send.result w t there c.may_send.ensures c.if-may_send.false

@@ -1,0 +1,23 @@
+use Rattle.std.proofs.Common.{◌≡◌, ◌<◌, ◌≤◌, sym, refl, ap, ◌∙◌, subst, arith, true, false, slice_get, slice_set, length, vec_len, rules, Some, None}
+use Rattle.std.proofs.lemmas.Option.{slice_get_read}
+use Rattle.vc_tokens.specs.Spelt.{token}
+use Rattle.vc_switch.specs.Switch.{Comes, Passes, SendsFct}
+use Rattle.vc_switch.specs.State.{State, IsSwitch, plan_of, limit_of, output_of}
+use Rattle.vc_switch.specs.Seen.{seen, IsKept, sender_of}
+use Rattle.vc_switch.proofs.Placed.{same_read, all-at}
+use Rattle.vc_switch.proofs.Showing.{told, input_at}
+
+use Rattle.vc_switch.proofs.Routing.{not_free, in_choices, no_group}
+use Rattle.vc_switch.proofs.switch.Switch.may_route.Goals as goal
+
+pub returns-then-not-free : goal.returns-then-not-free
+returns-then-not-free c =
+    not_free (plan_of c.args.self.now) (seen c.args.self.now) c.args.input c.args.output c.free.result c.free.ensures c.if-not-free.true
+
+pub returns-in-None : goal.returns-in-None
+returns-in-None c =
+    no_group (plan_of c.args.self.now) (seen c.args.self.now) c.args.input c.args.output c.in-None.ensures
+
+pub returns-in-Some : goal.returns-in-Some
+returns-in-Some c =
+    in_choices (plan_of c.args.self.now) (seen c.args.self.now) c.args.input c.args.output c.in-Some.first c.in-Some.last c.free.result c.is_within.result c.free.ensures c.if-not-free.false c.in-Some.ensures.2 c.is_within.ensures
