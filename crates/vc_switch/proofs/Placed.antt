@@ -50,6 +50,11 @@ same_read xs i x y a b = let e : Some x ≡ Some y = sym a ∙ b in cc
 pub read_there : {X : Type 0} (xs : List X) (i : ℕ) (x a : X) → slice_get xs i ≡ Some x → a ≡ get_or xs i a → x ≡ a
 read_there xs i x a here is = sym (get_or_from_slice_get xs i x a here) ∙ sym is
 
+pub some_at : {X : Type 0} (xs : List X) (i : ℕ) → i < length xs → (x : X) × (slice_get xs i ≡ Some x)
+some_at [] i h = absurd (omega arith)
+some_at (x ∷ xs) zero h = (x, refl)
+some_at (x ∷ xs) (suc i) h = some_at xs i (omega arith)
+
 pub all-set : {X : Type 0} (P : X → Type 0) (xs : List X) (i : ℕ) (y : X) → AllByRecursion P xs → P y → AllByRecursion P (slice_set xs i y)
 all-set P [] i y h p = h
 all-set P (x ∷ xs) zero y h p = (p, h.1)

@@ -131,6 +131,9 @@ can_there s j l b p w t there can =
     (subst (λ z. Puts ((seen s).output j) z t.input.mark can.token h.sender) body
     (subst (λ z. Puts ((seen s).output j) h.body z.mark can.token h.sender) at h.puts)))
 
+pub nothing_next : (x : LinkIn) (b : Bound) → slice_get x.got.passed (b.from + b.sent) ≡ None → x.mark ≡ None → has_next x b ≡ false
+nothing_next x b next mark = (λ i. is_some (next i) || is_some (mark i))
+
 -- a free output puts nothing
 pub free_puts : (plan : SwitchPlan) (s : Switch) (j : ℕ) → IsFree s j → CanPut plan s j → ⊥
 free_puts plan s j free can = free can.sends.link can.sends.bound
