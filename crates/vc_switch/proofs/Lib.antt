@@ -7,3 +7,4 @@ pub mod Stepping
 pub mod Enabling
 pub mod Routing
 pub mod Putting
+pub mod Opened

@@ -3,6 +3,7 @@
 //! A link is named by its number at the switch, 0 to 31. Only [`Switch::new`] takes memory.
 ghost use Rattle.std.specs.Prelude.{◌≡◌, ◌<◌, ◌≤◌, ◌↔◌, ℕ, None, Some, IsTrue, IsOk, IfOk, MatchOption};
 ghost use Rattle.std.specs.List.{AllByRecursion};
+ghost use Rattle.vc_labels.specs.Lawful.{IsLawful};
 ghost use Rattle.vc_packets.specs.Counting.{one_more};
 ghost use Rattle.vc_tokens.specs.Spelt.{token};
 ghost use Rattle.vc_tokens.specs.Tokens.{Byte, Fct, EndMark};
@@ -51,6 +52,7 @@ impl Model for Switch {
 impl Switch {
     /// A switch of this plan with nothing on its links, for packets whose headers and data have at most `body_limit` bytes.
     pub fn new(alloc: Global, plan: SwitchPlan, body_limit: usize) -> Result<Switch, Memory>
+        requires table { IsLawful plan.table }
         requires limit { 2 ≤ body_limit }
         requires delete { AllByRecursion (λ link. link < 32) plan.delete }
         requires random { AllByRecursion IsRandomInput plan.random }

@@ -3,4 +3,4 @@ use Rattle.vc_switch.specs.Opening.{listed, new_link_out}
 use Rattle.vc_switch.proofs.opening.outputs.Given as goal
 
 abbrev pub invariant-loop-link : goal.invariant-loop-link
-invariant-loop-link l = l.outputs.items ≡ listed (λ link. new_link_out) l.link
+invariant-loop-link l = l.outputs.items ≡ listed (λ link. new_link_out) l._link

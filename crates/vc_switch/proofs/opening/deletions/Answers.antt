@@ -1,0 +1,9 @@
+use Rattle.std.proofs.Common.{◌≡◌, ◌∙◌, sym, ap, arith}
+use Rattle.vc_switch.specs.Opening.{listed, link_count, deletes}
+use Rattle.vc_switch.proofs.Opened.{count_is}
+use Rattle.vc_switch.proofs.opening.deletions.Goals as goal
+
+pub returns : goal.returns
+returns c =
+    let all : c.loop-link.link ≡ 32 = omega arith in
+    c.loop-link.invariant ∙ ap (listed (deletes c.args.delete.now)) (all ∙ sym count_is)
