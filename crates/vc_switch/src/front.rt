@@ -6,13 +6,13 @@ use vc_labels::{Action, Table};
 
 /// A front header that has a group.
 #[derive(Clone, Copy, Debug, PartialEq, Eq, Drop)]
-pub struct Front {
+pub(crate) struct Front {
     /// At which byte of the body it begins, behind the portals.
-    pub at: usize,
+    pub(crate) at: usize,
     /// The group's first link.
-    pub first: u8,
+    pub(crate) first: u8,
     /// The group's last link.
-    pub last: u8,
+    pub(crate) last: u8,
 }
 
 impl Front {

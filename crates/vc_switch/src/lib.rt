@@ -23,10 +23,9 @@ mod random_range;
 mod switch;
 mod switch_plan;
 
-pub use front::Front;
 pub use laws::each_token_comes;
-pub use link_in::{Bound, LinkIn};
-pub use link_out::LinkOut;
-pub use random_range::RandomRange;
 pub use switch::Switch;
 pub use switch_plan::{RandomInput, SwitchPlan};
+
+#[cfg(test)]
+mod tests;

@@ -20,18 +20,18 @@ use vc_tokens::{Assembler, Token};
 
 /// By which output an input's packet leaves, and how much of it has.
 #[derive(Clone, Copy, Debug, PartialEq, Eq, Drop)]
-pub struct Bound {
+pub(crate) struct Bound {
     /// The output link.
-    pub output: u8,
+    pub(crate) output: u8,
     /// At which byte of the packet what leaves begins: headers of portals stay behind, and a deleted header.
-    pub from: usize,
+    pub(crate) from: usize,
     /// How many bytes have been put.
-    pub sent: usize,
+    pub(crate) sent: usize,
 }
 
 /// The receiving end of a switch's link: the buffer under credit, and the packet that is arriving, which may be leaving already.
 #[derive(Drop)]
-pub struct LinkIn {
+pub(crate) struct LinkIn {
     /// The buffer of the tokens that have come.
     pub(crate) receiver: Receiver,
     /// The word of the latest take.

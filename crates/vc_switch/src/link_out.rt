@@ -6,7 +6,7 @@ use vc_credit::Sender;
 
 /// The sending end of a switch's link: the credit, and the input that is bound to it.
 #[derive(Drop)]
-pub struct LinkOut {
+pub(crate) struct LinkOut {
     /// How many more tokens may be put.
     pub(crate) credit: Sender,
     /// The input link whose packet leaves by it; none where it is free.

@@ -5,11 +5,11 @@ ghost use Rattle.vc_switch.specs.Switch.{drawn};
 
 /// The random headers of an input link.
 #[derive(Clone, Copy, Debug, PartialEq, Eq, Drop)]
-pub struct RandomRange {
+pub(crate) struct RandomRange {
     /// The least header.
-    pub lower: u32,
+    pub(crate) lower: u32,
     /// One more than the greatest, at most 65,536.
-    pub limit: u32,
+    pub(crate) limit: u32,
 }
 
 /// The header that a word draws from a range: `lower + word mod (limit - lower)`, and none where there is no range.

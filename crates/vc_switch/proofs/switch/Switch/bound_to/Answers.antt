@@ -6,7 +6,6 @@ use Rattle.vc_switch.specs.State.{State, IsSwitch, plan_of, limit_of, output_of}
 use Rattle.vc_switch.specs.Seen.{seen, IsKept, sender_of}
 use Rattle.vc_switch.proofs.Placed.{same_read, all-at}
 use Rattle.vc_switch.proofs.Showing.{told, input_at}
-
 use Rattle.vc_switch.proofs.Enabling.{free_none}
 use Rattle.vc_switch.proofs.Putting.{source_of, source_within, source_bound}
 use Rattle.vc_switch.proofs.switch.Switch.bound_to.Goals as goal

@@ -6,7 +6,6 @@ use Rattle.vc_switch.specs.State.{State, IsSwitch, plan_of, limit_of, output_of}
 use Rattle.vc_switch.specs.Seen.{seen, IsKept, sender_of}
 use Rattle.vc_switch.proofs.Placed.{same_read, all-at}
 use Rattle.vc_switch.proofs.Showing.{told, input_at}
-
 use Rattle.vc_switch.specs.Front.{front_of, HasFront}
 use Rattle.vc_switch.proofs.Routing.{choices_busy, choices_none, choices_some}
 use Rattle.vc_switch.proofs.switch.Switch.choices.Goals as goal

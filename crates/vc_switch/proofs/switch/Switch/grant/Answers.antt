@@ -6,7 +6,6 @@ use Rattle.vc_switch.specs.State.{State, IsSwitch, plan_of, limit_of, output_of}
 use Rattle.vc_switch.specs.Seen.{seen, IsKept, sender_of}
 use Rattle.vc_switch.proofs.Placed.{same_read, all-at}
 use Rattle.vc_switch.proofs.Showing.{told, input_at}
-
 use Rattle.vc_switch.specs.declared.link_in.LinkIn.{LinkIn}
 use Rattle.vc_switch.proofs.Keeping.{link_in, switch_in}
 use Rattle.vc_switch.proofs.Stepping.{grants_fct, link_granted}

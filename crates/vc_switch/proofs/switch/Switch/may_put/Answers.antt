@@ -6,7 +6,6 @@ use Rattle.vc_switch.specs.State.{State, IsSwitch, plan_of, limit_of, output_of}
 use Rattle.vc_switch.specs.Seen.{seen, IsKept, sender_of}
 use Rattle.vc_switch.proofs.Placed.{same_read, all-at}
 use Rattle.vc_switch.proofs.Showing.{told, input_at}
-
 use Rattle.vc_switch.proofs.Placed.{read_there}
 use Rattle.vc_switch.proofs.Putting.{free_puts, put_iff, no_credit, way_of}
 use Rattle.vc_switch.proofs.switch.Switch.may_put.Goals as goal

@@ -6,7 +6,6 @@ use Rattle.vc_switch.specs.State.{State, IsSwitch, plan_of, limit_of, output_of}
 use Rattle.vc_switch.specs.Seen.{seen, IsKept, sender_of}
 use Rattle.vc_switch.proofs.Placed.{same_read, all-at}
 use Rattle.vc_switch.proofs.Showing.{told, input_at}
-
 use Rattle.vc_switch.proofs.Routing.{not_free, in_choices, no_group}
 use Rattle.vc_switch.proofs.switch.Switch.may_route.Goals as goal
 
