@@ -1,19 +1,16 @@
 -- Where a switch has a step.
-use Rattle.std.proofs.Common.{◌≡◌, ◌≢◌, ℕ, ◌+◌, ◌<◌, ◌≤◌, Bool, true, false, IsTrue, ◌↔◌, List, [], ◌∷◌, ◌++◌, length, refl, sym, ap, ◌∙◌, subst, arith, slice_get, Option, Some, None, ◌⊎◌, inl, inr}
+use Rattle.std.proofs.Common.{◌≡◌, ◌≢◌, ℕ, ◌+◌, Bool, IsTrue, ◌↔◌, List, [], ◌∷◌, ◌++◌, length, refl, sym, ap, ◌∙◌, subst, slice_get, Option, Some, None, ◌⊎◌, inl, inr}
 use Rattle.std.proofs.lemmas.Bool.{cases_lt}
 use Rattle.std.specs.List.{AllByRecursion}
 use Rattle.vc_packets.specs.Counting.{one_more}
-use Rattle.vc_packets.specs.Functions.{put}
 use Rattle.vc_packets.specs.declared.mark.Mark.{Mark}
 use Rattle.vc_tokens.specs.Tokens.{Token, Byte, Fct, EndMark}
 use Rattle.vc_credit.specs.Ends.{Receiver, HasRoom}
 use Rattle.vc_switch.specs.Forward.{SwitchPlan}
-use Rattle.vc_switch.specs.Switch.{Input, Switch, set_input, with_header, passing, Passes, passes_byte, drops_byte, passes_mark, loses, HasGroup, BodyLeaves, SendsFct}
+use Rattle.vc_switch.specs.Switch.{Switch, set_input, with_header, passing, Passes, passes_byte, drops_byte, passes_mark, loses, HasGroup}
 use Rattle.vc_switch.specs.Able.{CanPass, CanGrant, IsFree}
-use Rattle.vc_switch.specs.Front.{front_of}
-use Rattle.vc_switch.specs.declared.front.Front.{Front}
 use Rattle.vc_switch.specs.State.{State, IsSwitch, shown_or, plan_of, limit_of}
-use Rattle.vc_switch.specs.Seen.{seen, input_of}
+use Rattle.vc_switch.specs.Seen.{seen}
 use Rattle.vc_switch.specs.declared.link_in.LinkIn.{LinkIn}
 use Rattle.vc_switch.specs.declared.link_out.LinkOut.{LinkOut}
 use Rattle.vc_switch.proofs.Fronts.{either_group}

@@ -1,5 +1,5 @@
 -- Where a body's front header stands, is where it leaves from.
-use Rattle.std.proofs.Common.{◌≡◌, ℕ, zero, suc, ◌+◌, ◌*◌, ◌/◌, ◌%◌, ◌<◌, ◌≤◌, Bool, true, false, List, [], ◌∷◌, ◌++◌, length, drop, get_or, refl, sym, ap, ◌∙◌, subst, arith, append_assoc, if◌then◌else◌, IfSome, Option, Some, None, ◌⊎◌, inl, inr}
+use Rattle.std.proofs.Common.{◌≡◌, ℕ, zero, suc, ◌+◌, ◌*◌, ◌/◌, ◌%◌, ◌<◌, ◌≤◌, Bool, true, false, List, [], ◌∷◌, ◌++◌, drop, get_or, refl, sym, ap, ◌∙◌, subst, arith, append_assoc, if◌then◌else◌, IfSome, Option, Some, None, ◌⊎◌, inl, inr}
 use Rattle.std.proofs.lemmas.Bool.{cases_lt}
 use Rattle.vc_labels.specs.declared.row.Row.{Row}
 use Rattle.vc_labels.specs.declared.action.Action.{Action}
@@ -7,7 +7,7 @@ use Rattle.vc_labels.specs.declared.action.Action.TheVariants.{Out, Portal}
 use Rattle.vc_labels.specs.Interval.{action_for}
 use Rattle.vc_packets.specs.Headers.{spelled}
 use Rattle.vc_switch.specs.Forward.{SwitchPlan, without_portals, past_portal}
-use Rattle.vc_switch.specs.Switch.{Leaves, BodyLeaves, HasGroup}
+use Rattle.vc_switch.specs.Switch.{BodyLeaves, HasGroup}
 use Rattle.vc_switch.specs.declared.front.Front.{Front}
 use Rattle.vc_switch.specs.Front.{front_of, front_by, behind_portal, start_of, HasFront}
 

@@ -1,15 +1,13 @@
 -- A change of one input or one output keeps what a switch keeps.
-use Rattle.std.proofs.Common.{◌≡◌, ◌≢◌, ℕ, zero, suc, ◌+◌, ◌<◌, ◌≤◌, List, [], ◌∷◌, ◌++◌, length, take, drop, refl, sym, ap, ◌∙◌, subst, arith, slice_get, slice_set, Option, Some, None, append-nil, length-append}
+use Rattle.std.proofs.Common.{◌≡◌, ℕ, zero, suc, ◌+◌, ◌≤◌, List, [], ◌∷◌, ◌++◌, length, take, drop, refl, sym, ap, ◌∙◌, subst, arith, slice_get, slice_set, Option, Some, None, length-append}
 use Rattle.std.proofs.lemmas.List.{length-set, take-append-le, drop-append-le, length-drop}
 use Rattle.std.proofs.lemmas.Option.{slice_get_within}
 use Rattle.std.specs.List.{AllByRecursion}
 use Rattle.vc_packets.specs.Functions.{put}
-use Rattle.vc_tokens.specs.Tokens.{Token, Fct}
-use Rattle.vc_credit.specs.Ends.{Passes, Receiver}
 use Rattle.vc_switch.specs.Forward.{SwitchPlan}
 use Rattle.vc_switch.specs.Switch.{headed, BodyLeaves}
 use Rattle.vc_switch.specs.State.{State, IsSwitch, IsLinkIn, IsUnderWay, MayBeBound, ArePaired, bound_at, source_at, output_of, limit_of, plan_of, shown_or}
-use Rattle.vc_switch.specs.Seen.{IsKept, sent_by, sent_of}
+use Rattle.vc_switch.specs.Seen.{IsKept, sent_by}
 use Rattle.vc_switch.specs.declared.link_in.LinkIn.{LinkIn}
 use Rattle.vc_switch.specs.declared.link_in.Bound.{Bound}
 use Rattle.vc_switch.specs.declared.link_out.LinkOut.{LinkOut}

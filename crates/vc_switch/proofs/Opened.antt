@@ -1,19 +1,14 @@
 -- A switch as it begins.
 use Rattle.std.proofs.Common.{◌≡◌, ℕ, zero, suc, ◌<◌, ◌≤◌, ◌==◌, ◌||◌, Bool, true, false, List, [], ◌∷◌, ◌++◌, length, length-append, refl, sym, ap, ◌∙◌, subst, arith, slice_get, if◌then◌else◌, Option, Some, None, inl, inr}
-use Rattle.std.proofs.lemmas.Bool.{cases_eq, cases_lt, ne_eqb}
+use Rattle.std.proofs.lemmas.Bool.{cases_lt, ne_eqb}
 use Rattle.std.proofs.lemmas.Option.{slice_get_past}
 use Rattle.std.specs.List.{AllByRecursion}
-use mathlib.Core.Path.{fun_ext}
-use Rattle.vc_labels.specs.declared.row.Row.{Row}
 use Rattle.vc_labels.specs.Lawful.{IsLawful}
 use Rattle.vc_credit.specs.Ends.{new_sender}
-use Rattle.vc_switch.specs.Forward.{SwitchPlan}
 use Rattle.vc_switch.specs.Switch.{new_input, new_switch}
-use Rattle.vc_switch.specs.declared.random_range.RandomRange.{RandomRange}
 use Rattle.vc_switch.specs.declared.switch_plan.RandomInput.{RandomInput}
 use Rattle.vc_switch.specs.declared.switch_plan.SwitchPlan.{SwitchPlan as Given}
 use Rattle.vc_switch.specs.declared.link_in.LinkIn.{LinkIn}
-use Rattle.vc_switch.specs.declared.link_out.LinkOut.{LinkOut}
 use Rattle.vc_switch.specs.State.{State, IsSwitch, IsRange, IsLinkIn, ArePaired, interval_of, output_of, bound_at, source_at, shown_or, plan_of, limit_of}
 use Rattle.vc_switch.specs.Seen.{seen, input_of, sender_of}
 use Rattle.vc_switch.specs.Opening.{listed, link_count, range_given, deletes, plan_given, new_link_in, new_link_out, IsRandomInput}

@@ -1,5 +1,5 @@
 -- Inputs that are bound, and the sources of outputs: binding and freeing keeps them paired.
-use Rattle.std.proofs.Common.{◌≡◌, ℕ, refl, sym, ap, ◌∙◌, Option, Some, None, inl, inr}
+use Rattle.std.proofs.Common.{◌≡◌, ℕ, sym, ap, ◌∙◌, Option, Some, None, inl, inr}
 use Rattle.std.proofs.lemmas.Bool.{cases_eq}
 use Rattle.vc_packets.specs.Functions.{put}
 use Rattle.vc_switch.specs.State.{ArePaired}

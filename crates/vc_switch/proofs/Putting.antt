@@ -1,5 +1,5 @@
 -- How a packet's tokens leave, by what changes in a switch's lists.
-use Rattle.std.proofs.Common.{◌≡◌, ℕ, zero, suc, ◌+◌, ◌-◌, ◌<◌, ◌≤◌, Bool, true, false, IsTrue, ◌↔◌, ◌||◌, List, [], ◌∷◌, ◌++◌, length, take, drop, refl, sym, ap, ◌∙◌, subst, arith, slice_get, slice_set, get_or, is_some, length-append, Option, Some, None}
+use Rattle.std.proofs.Common.{◌≡◌, ℕ, zero, suc, ◌+◌, ◌-◌, ◌<◌, ◌≤◌, Bool, true, false, IsTrue, ◌↔◌, ◌||◌, List, [], ◌∷◌, ◌++◌, length, take, drop, refl, sym, ap, ◌∙◌, subst, arith, slice_get, slice_set, is_some, length-append, Option, Some, None}
 use Rattle.std.proofs.Math.Seq.{take-suc, drop-cons}
 use Rattle.std.proofs.lemmas.List.{length-set, length-drop, length-take-le, take-append-drop}
 use Rattle.std.proofs.lemmas.Option.{slice_get_within, slice_get-get_or, get_or_from_slice_get}
@@ -9,9 +9,8 @@ use Rattle.vc_tokens.specs.Tokens.{Token, Byte, EndMark}
 use Rattle.vc_credit.specs.Ends.{Sender, Puts, puts_byte, puts_mark}
 use Rattle.vc_switch.specs.Forward.{SwitchPlan}
 use Rattle.vc_switch.specs.Waiting.{Wormhole}
-use Rattle.vc_switch.specs.Switch.{Input, Switch, set_output, released, BodyLeaves, Sends}
+use Rattle.vc_switch.specs.Switch.{Input, Switch, BodyLeaves, Sends}
 use Rattle.vc_switch.specs.Able.{CanPut, IsFree}
-use Rattle.vc_switch.specs.declared.front.Front.{Front}
 use Rattle.vc_switch.specs.Front.{start_of}
 use Rattle.vc_switch.specs.State.{State, IsSwitch, IsLinkIn, IsUnderWay, MayBeBound, ArePaired, bound_at, source_at, shown_or, output_of, plan_of, limit_of}
 use Rattle.vc_switch.specs.Seen.{seen, input_of, sent_by, sent_of, sent_from, sender_of, has_next, IsBoundTo}
@@ -22,7 +21,7 @@ use Rattle.vc_switch.proofs.Fronts.{gone}
 use Rattle.vc_switch.proofs.Pairing.{paired_freed}
 use Rattle.vc_switch.proofs.Placed.{put_back, place-set_same}
 use Rattle.vc_switch.proofs.Showing.{input_at, output_at, bound_is, seen-bound}
-use Rattle.vc_switch.proofs.Keeping.{link_in, switch_with, switch_two, bound-set, source-set}
+use Rattle.vc_switch.proofs.Keeping.{link_in, switch_with, bound-set, source-set}
 
 -- Lists.
 

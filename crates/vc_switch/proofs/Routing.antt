@@ -6,7 +6,6 @@ use Rattle.vc_labels.specs.declared.row.Row.{Row}
 use Rattle.vc_labels.specs.declared.action.Action.TheVariants.{Out}
 use Rattle.vc_labels.specs.Interval.{action_for, holds}
 use Rattle.vc_labels.specs.Lawful.{HasLinks, IsLawfulFrom, starts_at}
-use Rattle.vc_credit.specs.Ends.{Sender}
 use Rattle.vc_switch.specs.Forward.{SwitchPlan}
 use Rattle.vc_switch.specs.Waiting.{Wormhole}
 use Rattle.vc_switch.specs.Switch.{Input, Switch, set_input, BodyLeaves, Routes}

@@ -1,16 +1,16 @@
 -- What a change of a switch's lists is to its steps.
-use Rattle.std.proofs.Common.{◌≡◌, ℕ, List, [], refl, sym, ap, ◌∙◌, subst, slice_get, slice_set, length, ◌<◌, Option, Some, None, inl, inr}
+use Rattle.std.proofs.Common.{◌≡◌, ℕ, List, [], refl, sym, ap, ◌∙◌, subst, slice_get, slice_set, Option, Some, None, inl, inr}
 use Rattle.std.proofs.lemmas.Bool.{cases_eq}
 use Rattle.std.proofs.lemmas.Option.{slice_get_within}
 use mathlib.Core.Path.{fun_ext}
 use Rattle.vc_packets.specs.Functions.{put}
-use Rattle.vc_credit.specs.Ends.{Sender, new_sender}
-use Rattle.vc_switch.specs.Switch.{Input, Switch, new_input, set_input, set_output}
+use Rattle.vc_credit.specs.Ends.{new_sender}
+use Rattle.vc_switch.specs.Switch.{Switch, new_input, set_input}
 use Rattle.vc_switch.specs.State.{State, shown_or, output_of, bound_at, source_at, ArePaired}
 use Rattle.vc_switch.specs.Seen.{seen, input_of, sent_of, sent_from, sender_of}
 use Rattle.vc_switch.specs.declared.link_in.LinkIn.{LinkIn}
 use Rattle.vc_switch.specs.declared.link_out.LinkOut.{LinkOut}
-use Rattle.vc_switch.proofs.Placed.{put_is, put_back, place-set_same, place-set_other, by_place-set}
+use Rattle.vc_switch.proofs.Placed.{put_is, place-set_same, place-set_other, by_place-set}
 
 -- the lists behind the value, and the link's number in the code
 pub told : (P : Switch → ℕ → Switch → Type 0) (o s : State) (k l : ℕ) (new : Switch) → o ≡ s → k ≡ l → P (seen o) k new → P (seen s) l new

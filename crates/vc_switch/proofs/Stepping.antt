@@ -6,14 +6,14 @@ use Rattle.vc_packets.specs.Counting.{one_more}
 use Rattle.vc_packets.specs.Functions.{put}
 use Rattle.vc_tokens.specs.Tokens.{Token, Byte, Fct, EndMark}
 use Rattle.vc_packets.specs.declared.mark.Mark.{Mark}
-use Rattle.vc_credit.specs.Ends.{Receiver, Grants, IsFront, credited, received}
+use Rattle.vc_credit.specs.Ends.{Receiver, Grants, credited, received}
 use Rattle.vc_credit.specs.Ends.{Passes as PassesOn}
 use Rattle.vc_credit.specs.Laws.{NeedsPlace}
 use Rattle.vc_switch.specs.Able.{EachTokenComes}
 use Rattle.vc_switch.specs.Forward.{SwitchPlan}
 use Rattle.vc_switch.specs.Switch.{Input, Switch, set_input, with_token, Comes, due, not_due, drawn, headed, with_header, passing, Passes, passes_byte, drops_byte, passes_mark, loses, BodyLeaves, HasGroup, SendsFct}
 use Rattle.vc_switch.specs.Front.{front_of, HasFront}
-use Rattle.vc_switch.specs.State.{State, IsSwitch, IsLinkIn, MayBeBound, interval_of, plan_of, limit_of, output_of, shown_or}
+use Rattle.vc_switch.specs.State.{State, IsSwitch, IsLinkIn, MayBeBound, interval_of, plan_of, limit_of, shown_or}
 use Rattle.vc_switch.specs.Seen.{seen, input_of, sent_of, sent_by, sender_of}
 use Rattle.vc_switch.specs.declared.front.Front.{Front}
 use Rattle.vc_switch.specs.declared.random_range.RandomRange.{RandomRange}
@@ -23,7 +23,7 @@ use Rattle.vc_switch.specs.declared.link_out.LinkOut.{LinkOut}
 use Rattle.vc_switch.proofs.Fronts.{gone, group_of, grouped}
 use Rattle.vc_switch.proofs.Placed.{put_back}
 use Rattle.vc_switch.proofs.Showing.{input_at, output_at, seen-in, seen-two}
-use Rattle.vc_switch.proofs.Keeping.{link_in, switch_in, begun, bound_more, sent_stays}
+use Rattle.vc_switch.proofs.Keeping.{link_in, begun, bound_more, sent_stays}
 
 pub each_comes : EachTokenComes
 each_comes old l word Fct = elim (cases_lt 8 (old.output l).credit) [

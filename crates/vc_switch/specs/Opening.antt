@@ -1,7 +1,7 @@
 -- A switch as it begins, by the plan that it is given.
-use Rattle.std.specs.Prelude.{◌≡◌, ℕ, zero, suc, ◌<◌, ◌≤◌, Bool, false, ◌||◌, ◌==◌, if◌then◌else◌, List, [], ◌∷◌, ◌++◌, Option, Some, None}
+use Rattle.std.specs.Prelude.{ℕ, zero, suc, ◌<◌, ◌≤◌, Bool, false, ◌||◌, ◌==◌, if◌then◌else◌, List, [], ◌∷◌, ◌++◌, Option, Some, None}
 use Rattle.vc_credit.specs.Ends.{new_receiver}
-use Rattle.vc_switch.specs.Forward.{SwitchPlan, Interval}
+use Rattle.vc_switch.specs.Forward.{SwitchPlan}
 use Rattle.vc_switch.specs.State.{interval_of}
 use Rattle.vc_switch.specs.declared.random_range.RandomRange.{RandomRange}
 use Rattle.vc_switch.specs.declared.switch_plan.RandomInput.{RandomInput}

@@ -1,7 +1,6 @@
 -- What a switch is, in the words of its steps.
 use Rattle.std.specs.Prelude.{◌≡◌, ℕ, ◌+◌, Bool, ◌||◌, is_some, List, [], take, drop, slice_get, Option, Some, None}
 use Rattle.vc_credit.specs.Ends.{Sender, new_sender}
-use Rattle.vc_switch.specs.Forward.{SwitchPlan}
 use Rattle.vc_switch.specs.Switch.{Input, Switch, new_input}
 use Rattle.vc_switch.specs.State.{State, shown_or, output_of, source_at, plan_of, limit_of}
 use Rattle.vc_switch.specs.declared.link_in.LinkIn.{LinkIn}

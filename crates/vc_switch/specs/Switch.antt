@@ -1,6 +1,6 @@
 -- A switch: its inputs and outputs, and how tokens come, pass, are bound to an output, and leave.
 use Rattle.vc_packets.specs.Counting.{one_more}
-use Rattle.std.specs.Prelude.{◌≡◌, ℕ, suc, ◌+◌, ◌-◌, ◌%◌, ◌≤◌, ◌<◌, length, List, [], ◌∷◌, ◌++◌, Option, Some, None, if◌then◌else◌}
+use Rattle.std.specs.Prelude.{◌≡◌, ℕ, ◌+◌, ◌-◌, ◌%◌, ◌≤◌, ◌<◌, length, List, [], ◌∷◌, ◌++◌, Option, Some, None, if◌then◌else◌}
 use Rattle.vc_packets.specs.declared.mark.Mark.{Mark}
 use Rattle.vc_packets.specs.Headers.{spelled}
 use Rattle.vc_switch.specs.Forward.{SwitchPlan, Interval, without_portals, behind}

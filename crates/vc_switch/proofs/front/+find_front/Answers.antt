@@ -1,4 +1,4 @@
-use Rattle.std.proofs.Common.{◌≡◌, ◌<◌, ℕ, get_or, arith, rules, Some}
+use Rattle.std.proofs.Common.{◌≡◌, arith, rules, Some}
 use Rattle.std.proofs.lemmas.Grind.{common_steps}
 use Rattle.vc_switch.specs.declared.front.Front.{Front}
 use Rattle.vc_switch.specs.Front.{front_of}

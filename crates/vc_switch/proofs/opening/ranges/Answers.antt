@@ -1,5 +1,5 @@
 use Rattle.std.proofs.Common.{◌≡◌, ◌∙◌, sym, ap, arith}
-use Rattle.vc_switch.specs.Opening.{listed, link_count, range_given}
+use Rattle.vc_switch.specs.Opening.{listed, range_given}
 use Rattle.vc_switch.proofs.Opened.{count_is}
 use Rattle.vc_switch.proofs.opening.ranges.Goals as goal
 

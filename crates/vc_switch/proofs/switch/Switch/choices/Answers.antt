@@ -1,11 +1,6 @@
-use Rattle.std.proofs.Common.{◌≡◌, ◌<◌, ◌≤◌, sym, refl, ap, ◌∙◌, subst, arith, true, false, slice_get, slice_set, length, vec_len, rules, Some, None}
+use Rattle.std.proofs.Common.{◌≡◌, ◌<◌, sym, ap, ◌∙◌, subst, arith, true, slice_get, Some, None}
 use Rattle.std.proofs.lemmas.Option.{slice_get_read}
-use Rattle.vc_tokens.specs.Spelt.{token}
-use Rattle.vc_switch.specs.Switch.{Comes, Passes, SendsFct}
-use Rattle.vc_switch.specs.State.{State, IsSwitch, plan_of, limit_of, output_of}
-use Rattle.vc_switch.specs.Seen.{seen, IsKept, sender_of}
-use Rattle.vc_switch.proofs.Placed.{same_read, all-at}
-use Rattle.vc_switch.proofs.Showing.{told, input_at}
+use Rattle.vc_switch.specs.State.{IsSwitch}
 use Rattle.vc_switch.specs.Front.{front_of, HasFront}
 use Rattle.vc_switch.proofs.Routing.{choices_busy, choices_none, choices_some}
 use Rattle.vc_switch.proofs.switch.Switch.choices.Goals as goal

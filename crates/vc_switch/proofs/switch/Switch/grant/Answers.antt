@@ -1,11 +1,8 @@
-use Rattle.std.proofs.Common.{◌≡◌, ◌<◌, ◌≤◌, sym, refl, ap, ◌∙◌, subst, arith, true, false, slice_get, slice_set, length, vec_len, rules, Some, None}
+use Rattle.std.proofs.Common.{◌<◌, sym, refl, arith}
 use Rattle.std.proofs.lemmas.Option.{slice_get_read}
-use Rattle.vc_tokens.specs.Spelt.{token}
-use Rattle.vc_switch.specs.Switch.{Comes, Passes, SendsFct}
-use Rattle.vc_switch.specs.State.{State, IsSwitch, plan_of, limit_of, output_of}
-use Rattle.vc_switch.specs.Seen.{seen, IsKept, sender_of}
-use Rattle.vc_switch.proofs.Placed.{same_read, all-at}
-use Rattle.vc_switch.proofs.Showing.{told, input_at}
+use Rattle.vc_switch.specs.Switch.{SendsFct}
+use Rattle.vc_switch.specs.State.{State, plan_of, limit_of}
+use Rattle.vc_switch.proofs.Showing.{told}
 use Rattle.vc_switch.specs.declared.link_in.LinkIn.{LinkIn}
 use Rattle.vc_switch.proofs.Keeping.{link_in, switch_in}
 use Rattle.vc_switch.proofs.Stepping.{grants_fct, link_granted}

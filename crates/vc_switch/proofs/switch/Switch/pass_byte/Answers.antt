@@ -1,15 +1,14 @@
-use Rattle.std.proofs.Common.{◌≡◌, ◌<◌, ◌≤◌, sym, refl, ap, ◌∙◌, subst, arith, true, false, slice_get, slice_set, length, vec_len, rules, Some, None}
+use Rattle.std.proofs.Common.{◌≡◌, ◌<◌, sym, ap, ◌∙◌, subst, arith, true, slice_set, None}
 use Rattle.std.proofs.lemmas.Option.{slice_get_read}
-use Rattle.vc_tokens.specs.Spelt.{token}
-use Rattle.vc_switch.specs.Switch.{Comes, Passes, SendsFct}
-use Rattle.vc_switch.specs.State.{State, IsSwitch, plan_of, limit_of, output_of}
-use Rattle.vc_switch.specs.Seen.{seen, IsKept, sender_of}
-use Rattle.vc_switch.proofs.Placed.{same_read, all-at}
-use Rattle.vc_switch.proofs.Showing.{told, input_at}
+use Rattle.vc_switch.specs.Switch.{Passes}
+use Rattle.vc_switch.specs.State.{State, plan_of, limit_of, output_of}
+use Rattle.vc_switch.specs.Seen.{seen}
+use Rattle.vc_switch.proofs.Placed.{same_read}
+use Rattle.vc_switch.proofs.Showing.{input_at}
 use Rattle.vc_packets.specs.Counting.{one_more}
 use Rattle.vc_switch.specs.Switch.{drawn}
-use Rattle.vc_switch.proofs.Keeping.{link_in, switch_in, kept}
-use Rattle.vc_switch.proofs.Stepping.{header_at, byte_passes, byte_drops, mark_passes, mark_loses, link_byte, link_dropped, link_whole, link_lost}
+use Rattle.vc_switch.proofs.Keeping.{link_in, switch_in}
+use Rattle.vc_switch.proofs.Stepping.{header_at, byte_passes, byte_drops, link_byte, link_dropped}
 use Rattle.vc_switch.proofs.switch.Switch.pass_byte.Goals as goal
 
 pub invariant_of-self : goal.invariant_of-self

@@ -1,22 +1,18 @@
-use Rattle.std.proofs.Common.{◌≡◌, ◌<◌, ◌≤◌, sym, refl, ap, ◌∙◌, subst, arith, true, false, slice_get, slice_set, length, vec_len, rules, Some, None}
+use Rattle.std.proofs.Common.{◌≡◌, ◌<◌, sym, ap, ◌∙◌, subst, arith, slice_get, slice_set, length, vec_len, rules, Some}
 use Rattle.std.proofs.lemmas.Option.{slice_get_read}
-use Rattle.vc_tokens.specs.Spelt.{token}
-use Rattle.vc_switch.specs.Switch.{Comes, Passes, SendsFct}
-use Rattle.vc_switch.specs.State.{State, IsSwitch, plan_of, limit_of, output_of}
-use Rattle.vc_switch.specs.Seen.{seen, IsKept, sender_of}
-use Rattle.vc_switch.proofs.Placed.{same_read, all-at}
-use Rattle.vc_switch.proofs.Showing.{told, input_at}
-use Rattle.std.proofs.Common.{ℕ, ◌+◌}
+use Rattle.vc_switch.specs.State.{State, IsSwitch, plan_of, output_of}
+use Rattle.vc_switch.specs.Seen.{seen}
+use Rattle.std.proofs.Common.{◌+◌}
 use Rattle.std.proofs.lemmas.Option.{slice_get_within}
-use Rattle.vc_tokens.specs.Tokens.{Token, Byte}
+use Rattle.vc_tokens.specs.Tokens.{Byte}
 use Rattle.vc_switch.specs.Able.{CanPut}
 use Rattle.vc_switch.specs.Waiting.{Wormhole}
 use Rattle.vc_switch.specs.Switch.{Sends}
 use Rattle.vc_switch.specs.State.{source_at}
 use Rattle.vc_switch.specs.Seen.{IsBoundTo}
 use Rattle.vc_switch.proofs.Placed.{read_there}
-use Rattle.vc_switch.proofs.Keeping.{kept, switch_two}
-use Rattle.vc_switch.proofs.Putting.{sends_byte, sends_mark, link_advanced, link_released, switch_freed, can_there}
+use Rattle.vc_switch.proofs.Keeping.{switch_two}
+use Rattle.vc_switch.proofs.Putting.{sends_byte, link_advanced, can_there}
 use Rattle.vc_switch.proofs.switch.Switch.put_byte.Goals as goal
 
 pub index_mut-requires : goal.index_mut-requires

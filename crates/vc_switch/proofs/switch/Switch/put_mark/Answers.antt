@@ -1,21 +1,15 @@
-use Rattle.std.proofs.Common.{◌≡◌, ◌<◌, ◌≤◌, sym, refl, ap, ◌∙◌, subst, arith, true, false, slice_get, slice_set, length, vec_len, rules, Some, None}
+use Rattle.std.proofs.Common.{◌≡◌, ◌<◌, sym, ap, ◌∙◌, subst, arith, true, false, slice_get, slice_set, length, Some, None}
 use Rattle.std.proofs.lemmas.Option.{slice_get_read}
 use Rattle.vc_tokens.specs.Spelt.{token}
-use Rattle.vc_switch.specs.Switch.{Comes, Passes, SendsFct}
-use Rattle.vc_switch.specs.State.{State, IsSwitch, plan_of, limit_of, output_of}
-use Rattle.vc_switch.specs.Seen.{seen, IsKept, sender_of}
-use Rattle.vc_switch.proofs.Placed.{same_read, all-at}
-use Rattle.vc_switch.proofs.Showing.{told, input_at}
-use Rattle.std.proofs.Common.{ℕ, ◌+◌}
-use Rattle.std.proofs.lemmas.Option.{slice_get_within}
-use Rattle.vc_tokens.specs.Tokens.{Token, Byte}
+use Rattle.vc_switch.specs.State.{State, IsSwitch, plan_of}
+use Rattle.vc_switch.specs.Seen.{seen}
+use Rattle.std.proofs.Common.{◌+◌}
 use Rattle.vc_switch.specs.Able.{CanPut}
 use Rattle.vc_switch.specs.Waiting.{Wormhole}
 use Rattle.vc_switch.specs.Switch.{Sends}
 use Rattle.vc_switch.specs.State.{source_at}
 use Rattle.vc_switch.specs.Seen.{IsBoundTo}
 use Rattle.vc_switch.proofs.Placed.{read_there, some_at}
-use Rattle.vc_switch.proofs.Keeping.{kept, switch_two}
 use Rattle.vc_switch.proofs.Putting.{sends_mark, switch_freed, can_there, nothing_next}
 use Rattle.vc_switch.proofs.switch.Switch.put_mark.Goals as goal
 

@@ -1,19 +1,15 @@
-use Rattle.std.proofs.Common.{◌≡◌, ◌<◌, ◌≤◌, sym, refl, ap, ◌∙◌, subst, arith, true, false, slice_get, slice_set, length, vec_len, rules, Some, None}
+use Rattle.std.proofs.Common.{◌≡◌, ◌<◌, ◌≤◌, sym, ap, ◌∙◌, subst, arith, false, slice_set, length, Some}
 use Rattle.std.proofs.lemmas.Option.{slice_get_read}
-use Rattle.vc_tokens.specs.Spelt.{token}
-use Rattle.vc_switch.specs.Switch.{Comes, Passes, SendsFct}
-use Rattle.vc_switch.specs.State.{State, IsSwitch, plan_of, limit_of, output_of}
-use Rattle.vc_switch.specs.Seen.{seen, IsKept, sender_of}
-use Rattle.vc_switch.proofs.Placed.{same_read, all-at}
-use Rattle.vc_switch.proofs.Showing.{told, input_at}
-use Rattle.std.proofs.Common.{ℕ, ◌+◌}
+use Rattle.vc_switch.specs.State.{State, IsSwitch, plan_of}
+use Rattle.vc_switch.specs.Seen.{seen}
+use Rattle.vc_switch.proofs.Placed.{same_read}
+use Rattle.std.proofs.Common.{◌+◌}
 use Rattle.vc_switch.specs.Able.{CanRoute}
 use Rattle.vc_switch.specs.Waiting.{Wormhole}
 use Rattle.vc_switch.specs.Switch.{Routes}
 use Rattle.vc_switch.specs.State.{shown_or}
 use Rattle.vc_switch.specs.Front.{front_of, start_of}
-use Rattle.vc_switch.proofs.Keeping.{kept}
-use Rattle.vc_switch.proofs.Routing.{under_way, switch_routed, routes, choices_none, route_leaves, link_bound}
+use Rattle.vc_switch.proofs.Routing.{under_way, switch_routed, routes, choices_none, route_leaves}
 use Rattle.vc_switch.proofs.switch.Switch.route.Goals as goal
 
 pub unreachable-requires : goal.unreachable-requires
