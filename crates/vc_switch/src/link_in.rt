@@ -73,7 +73,7 @@ impl LinkIn {
         ensures added { OnTrue result (self.new ≡ record self.old { receiver = received self.old.receiver (token came); word = word }) }
         ensures dropped { OnFalse result (self.new ≡ record self.old { word = word }) }
     {
-        self.word = word;
+        self.draw(word);
         let is_due = self.receiver.is_promised();
         if is_due {
             self.receiver.accept(came);

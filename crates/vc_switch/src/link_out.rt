@@ -71,7 +71,7 @@ impl LinkOut {
         requires { 0 < self.old.credit }
         ensures { self.new ≡ record { credit = self.old.credit - 1; source = None } }
     {
-        self.credit.spend();
+        self.spend();
         self.source = None;
     }
 }
