@@ -4,7 +4,7 @@ ghost use Rattle.std.specs.Prelude.{◌≡◌, ◌≢◌, ◌<◌, ◌≤◌, �
 ghost use Rattle.std.specs.Bool.{OnTrue, OnFalse};
 ghost use Rattle.vc_tokens.specs.Spelt.{token};
 ghost use Rattle.vc_tokens.specs.Tokens.{Byte, EndMark};
-ghost use Rattle.vc_credit.specs.Ends.{received, IsFront, Passes};
+ghost use Rattle.vc_credit.specs.Ends.{received, HasRoom, Grants, IsFront, Passes};
 ghost use Rattle.vc_switch.specs.declared.front.Front.{Front};
 ghost use Rattle.vc_switch.specs.Front.{front_of, HasFront};
 ghost use Rattle.vc_switch.specs.Switch.{headed};
@@ -79,6 +79,22 @@ impl LinkIn {
             self.receiver.accept(came);
         }
         is_due
+    }
+
+    /// Whether an FCT may be sent: eight places are free and not promised.
+    pub(crate) fn may_grant(&self) -> bool
+        ensures { IsTrue result ↔ HasRoom self.now.receiver }
+    {
+        self.receiver.may_grant()
+    }
+
+    /// An FCT is sent: eight places more are promised.
+    pub(crate) fn grant(&mut self)
+        requires { HasRoom self.old.receiver }
+        ensures grants { Grants self.old.receiver self.new.receiver }
+        ensures rest { self.new ≡ record self.old { receiver = self.new.receiver } }
+    {
+        self.receiver.grant();
     }
 
     /// Whether a token may pass: one waits, and no packet is whole.

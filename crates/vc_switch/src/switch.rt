@@ -78,7 +78,7 @@ impl Switch {
     }
 
     /// A token comes over a link, with a word for a random header: an FCT is credit for the output of the same link, all else goes
-    /// to the input's buffer. It is dropped and counted where it is not due.
+    /// to the input's buffer. It is dropped and counted where it is not due. It takes no memory, so the answer is `Ok`.
     pub fn take(&mut self, link: u8, came: Token, word: u32) -> Result<(), Memory>
         requires { link < 32 }
         ensures comes { Comes (seen self.old) link word (token came) (seen self.new) }
@@ -127,7 +127,7 @@ impl Switch {
 
     /// A token passes from a link's buffer: a byte joins the packet that is arriving, or is dropped and counted past the limit; with
     /// its mark the packet is whole, or is dropped and counted where it has no group. Before a packet's first token goes the random
-    /// header, if the input has a range.
+    /// header, if the input has a range. It takes no memory, so the answer is `Ok`.
     pub fn pass(&mut self, link: u8) -> Result<(), Memory>
         requires link { link < 32 }
         requires may { CanPass (limit_of self.old.inputs) (plan_of self.old) (seen self.old) link }
@@ -179,7 +179,7 @@ impl Switch {
         requires { link < 32 }
         ensures { IsTrue result ↔ CanGrant (seen self.now) link }
     {
-        self.inputs[usize::from(link)].receiver.may_grant()
+        self.inputs[usize::from(link)].may_grant()
     }
 
     /// An FCT is put on a link.
@@ -189,7 +189,7 @@ impl Switch {
         ensures grants { SendsFct (seen self.old) link (seen self.new) }
         ensures kept { IsKept self.old self.new }
     {
-        self.inputs[usize::from(link)].receiver.grant();
+        self.inputs[usize::from(link)].grant();
     }
 
     /// The group of links by which an input's packet may leave, its first and its last: it is bound to none yet, and its front
