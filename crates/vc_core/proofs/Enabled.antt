@@ -1,5 +1,5 @@
 -- An event has a step of the definitions where its node has the act and its ways let it, and only there.
-use Rattle.std.proofs.Common.{◌≡◌, ℕ, zero, suc, ◌/◌, ◌%◌, ◌<◌, Bool, true, false, ◌&&◌, List, [], ◌∷◌, ◌++◌, length, slice_get, Option, Some, None, refl, sym, ap, ◌∙◌, subst, arith, append-nil, if◌then◌else◌, ◌==◌, eq-eqb}
+use Rattle.std.proofs.Common.{◌≡◌, ℕ, zero, suc, ◌/◌, ◌%◌, ◌+◌, ◌*◌, ◌<◌, nat_lt, Bool, true, false, ◌&&◌, List, [], ◌∷◌, ◌++◌, length, slice_get, Option, Some, None, refl, sym, ap, ◌∙◌, subst, arith, append-nil, if◌then◌else◌, ◌==◌, eq-eqb}
 use Rattle.std.proofs.lemmas.Bool.Decides.{nat_tests}
 use Rattle.std.specs.List.{list_all}
 use Rattle.std.specs.Option.{option_map}
@@ -35,6 +35,7 @@ use Rattle.vc_core.specs.Able.{CanAct}
 use Rattle.vc_core.specs.Enabled.{CanHappen}
 use Rattle.vc_core.specs.Process.{Process, does}
 use Rattle.vc_core.specs.Shown.{node_of, process_of, views_of, act_of}
+use Rattle.vc_core.specs.Wired.{there as places}
 use Rattle.vc_core.specs.State.{State, shown, IsNetworkOf, HasFront, HasWay, WaysLet}
 use Rattle.vc_core.specs.declared.act.Act.{Act}
 use Rattle.vc_core.specs.declared.act.Act.TheVariants as act
@@ -57,11 +58,22 @@ own_enabled : (p : Plan) (s : State) (k : ℕ) (b : Act) (a : Actor) (u : net.No
 own_enabled p s k b a u is here step =
     (_, (Own (act_of b), refl, own_step (net.Local (network_of p) Wormhole does) (shown s) k (act_of b) (net.IsNode u) (local p s k a (Own (act_of b)) u is here step)))
 
+-- by a link past the places of the table nothing comes
+pub front_few : (s : State) (k l : ℕ) → HasFront s k l → l < 32
+front_few s k l f = by_test (nat_lt l 32) refl f.into
+  where
+    place : Option ℕ
+    place = places (slice_get s.wiring (k * 32 + l))
+
+    by_test : (b : Bool) → nat_lt l 32 ≡ b → option_map back (if b then place else None) ≡ Some f.way → l < 32
+    by_test true t e = grind (arith, nat_tests)
+    by_test false t e = absurd (cc)
+
 -- the way that comes in by a node's link
-into : (p : Plan) (s : State) (k l : ℕ) (a : Actor) (f : HasFront s k l) → l < 4 → IsNetworkOf p s → slice_get s.actors k ≡ Some a → IsInto (network_of p) f.way (AtNode k l)
-into p s k l a f few is here =
+into : (p : Plan) (s : State) (k l : ℕ) (a : Actor) (f : HasFront s k l) → IsNetworkOf p s → slice_get s.actors k ≡ Some a → IsInto (network_of p) f.way (AtNode k l)
+into p s k l a f is here =
     let node = below p s k a is here in
-    subst (IsInto (network_of p) f.way) (at_node p k l node) ((incoming_is p is.accepted k l f.way).0 (sym (ap (option_map back) (is.wiring k l node (omega arith))) ∙ f.into))
+    subst (IsInto (network_of p) f.way) (at_node p k l node) ((incoming_is p is.accepted k l f.way).0 (sym (ap (option_map back) (is.wiring k l node (front_few s k l f))) ∙ f.into))
 
 pub enables : (p : Plan) (s : State) (k : ℕ) (b : Act) (a : Actor) → IsNetworkOf p s → slice_get s.actors k ≡ Some a → CanAct (network_of p) k a.node b → WaysLet s k b → Enabled p s k b
 enables p s k (act.Proc m) a is here can ways = own_enabled p s k (act.Proc m) a can.0 is here can.1
@@ -74,7 +86,7 @@ enables p s k (act.Take l x) a is here few f =
         label,
         refl,
         take_step (net.Local (network_of p) Wormhole does) (shown s) k (net.Take l x) f.way f.token f.rest (net.IsNode u) (way_at s f.way (f.token ∷ f.rest) f.stands)
-            (local p s k a label u is here (into p s k l a f few is here, c.1, record { process = refl; inner = refl })),
+            (local p s k a label u is here (into p s k l a f is here, c.1, record { process = refl; inner = refl })),
       ),
     )
 enables p s k (act.Put l) a is here can f =
@@ -134,12 +146,16 @@ few_out p acc w k l o = settle (there wire_of p.wires (w / 2) (let r = o.0 in om
 few_into : (p : Plan) → IsAccepted p → (w k l : ℕ) → IsInto (network_of p) w (AtNode k l) → l < 4
 few_into p acc w k l o = few_out p acc (back w) k l (back_out (network_of p) w (AtNode k l) o)
 
+-- where a token comes it can be taken
+pub can_take : (p : Plan) (s : State) (k l : ℕ) (a : Actor) → HasFront s k l → IsNetworkOf p s → slice_get s.actors k ≡ Some a → l < 4
+can_take p s k l a f is here = few_into p is.accepted f.way k l (into p s k l a f is here)
+
 -- what stands on a way stands there for the code too
 stands_by : (o : Option (List Token)) (t : Token) (rest : List Token) → shown_or [] (λ ts. ts) o ≡ t ∷ rest → o ≡ Some (t ∷ rest)
 stands_by None t rest e = absurd (cc)
 stands_by (Some ts) t rest e = ap Some e
 
-has : {X : Type 0} (xs : List X) (i : ℕ) → i < length xs → (x : X) × (slice_get xs i ≡ Some x)
+pub has : {X : Type 0} (xs : List X) (i : ℕ) → i < length xs → (x : X) × (slice_get xs i ≡ Some x)
 has [] i h = absurd (omega arith)
 has (x ∷ xs) zero h = (x, refl)
 has (x ∷ xs) (suc i) h = has xs i (omega arith)

@@ -14,3 +14,4 @@ pub mod Viewing
 pub mod GoingOn
 pub mod AbleMoves
 pub mod Enabled
+pub mod Turning

@@ -15,3 +15,4 @@ pub mod Replaying
 pub mod Viewed
 pub mod Able
 pub mod Enabled
+pub mod Turns

@@ -1,8 +1,15 @@
 //! Actors: what the simulator and a thread run alike.
-ghost use Rattle.std.specs.Prelude.{◌≡◌, ◌<◌, ◌↔◌, ℕ, IsTrue, IfOk, IfSome, OnOk, OnErr};
+ghost use Rattle.std.specs.Prelude.{◌≡◌, ◌<◌, ◌↔◌, ℕ, Some, None, IsTrue, IfOk, IfSome, OnOk, OnErr};
 ghost use Rattle.vc_core.specs.Acting.{MayAct, MakesOwn, MakesTake, MakesPut, MakesGrant, IsOwn};
-ghost use Rattle.vc_core.specs.Able.{CanAct};
+ghost use Rattle.std.specs.List.{Contains};
+ghost use Rattle.vc_core.specs.Able.{CanAct, CanMove};
+ghost use Rattle.std.specs.Int.{bit_at};
 ghost use Rattle.vc_core.specs.OfPlan.{IsNodeOf};
+ghost use Rattle.vc_core.specs.Turns.{IsTurn, FindsAt, FindsMove, FindsTurn, IsTold, MakesTurn};
+ghost use Rattle.vc_occam.specs.Remains.{Done};
+ghost use Rattle.vc_occam.specs.Runnings.{state};
+ghost use Rattle.vc_occam.specs.declared.moves.Move.{Move as SpeltMove};
+ghost use Rattle.vc_vcp.specs.Seen.{seen};
 ghost use Rattle.vc_network.specs.Plan.{Plan};
 ghost use Rattle.vc_tokens.specs.Spelt.{token};
 
@@ -114,7 +121,10 @@ impl Actor {
     /// Makes the actor's next step: a token passes, by the least link; a token is put, by the least link with room; a flow control
     /// token is put, by the least link with room; then a move of the process, beginning behind the site that acted last. `room` has
     /// a bit for each outgoing link that has room.
-    pub fn turn(&mut self, room: u32) -> Result<Turn, Memory> {
+    pub fn turn(&mut self, room: u32) -> Result<Turn, Memory>
+        ensures makes { (plan : Plan) (k : ℕ) → IsNodeOf plan k self.old.node → IfOk result (λ turn. MakesTurn plan k self.old.node room turn self.new.node) }
+        ensures refused { OnErr result (self.new ≡ self.old) }
+    {
         match self.next(room)? {
             None => Ok(Turn::Idle),
             Some(act) => self.turn_by(act),
@@ -124,6 +134,8 @@ impl Actor {
     // Makes this step.
     fn turn_by(&mut self, act: Act) -> Result<Turn, Memory>
         requires { MayAct self.old.node act }
+        ensures makes { (plan : Plan) (k : ℕ) → IsNodeOf plan k self.old.node → IfOk result (λ turn. IsTold plan k self.old.node act turn self.new.node) }
+        ensures refused { OnErr result (self.new ≡ self.old) }
     {
         match act {
             Act::Put { link } => {
@@ -145,7 +157,8 @@ impl Actor {
 
     /// What the actor does next, if it has a step to make where its links have this room.
     pub(crate) fn next(&self, room: u32) -> Result<Option<Act>, Memory>
-        ensures { IfOk result (λ act. IfSome act (λ a. MayAct self.now.node a)) }
+        ensures may { IfOk result (λ act. IfSome act (λ a. MayAct self.now.node a)) }
+        ensures finds { (plan : Plan) (k : ℕ) → IsNodeOf plan k self.now.node → IfOk result (FindsTurn plan k self.now.node room) }
     {
         let by_links = self
             .next_pass()
@@ -159,9 +172,10 @@ impl Actor {
 
     // The least link whose buffer has a token.
     fn next_pass(&self) -> Option<Act>
-        ensures { IfSome result (λ a. MayAct self.now.node a) }
+        ensures may { IfSome result (λ a. MayAct self.now.node a) }
+        ensures finds { (plan : Plan) (k : ℕ) → IsNodeOf plan k self.now.node → FindsAt (λ link. Act.Pass link) (CanAct plan k self.now.node) result }
     {
-        for link in 0..NODE_LINKS {
+        for link in 0..self.node.vcp.links() {
             if self.node.vcp.may_pass(link) {
                 return Some(Act::Pass { link });
             }
@@ -171,7 +185,8 @@ impl Actor {
 
     // The least link with room on which a token may be put.
     fn next_put(&self, room: u32) -> Option<Act>
-        ensures { IfSome result (λ a. MayAct self.now.node a) }
+        ensures may { IfSome result (λ a. MayAct self.now.node a) }
+        ensures finds { (plan : Plan) (k : ℕ) → IsNodeOf plan k self.now.node → FindsAt (λ link. Act.Put link) (IsTurn plan k self.now.node room) result }
     {
         for link in 0..NODE_LINKS {
             if has_room(room, link) && self.node.vcp.may_put(link) {
@@ -183,7 +198,8 @@ impl Actor {
 
     // The least link with room on which a flow control token may be put.
     fn next_grant(&self, room: u32) -> Option<Act>
-        ensures { IfSome result (λ a. MayAct self.now.node a) }
+        ensures may { IfSome result (λ a. MayAct self.now.node a) }
+        ensures finds { (plan : Plan) (k : ℕ) → IsNodeOf plan k self.now.node → FindsAt (λ link. Act.Fct link) (IsTurn plan k self.now.node room) result }
     {
         for link in 0..NODE_LINKS {
             if has_room(room, link) && self.node.vcp.may_grant(link) {
@@ -195,30 +211,41 @@ impl Actor {
 
     // The next move that the process can make, going round behind the site that acted last.
     fn next_move(&self) -> Result<Option<Act>, Memory>
-        ensures { IfOk result (λ act. IfSome act (λ a. MayAct self.now.node a)) }
+        ensures may { IfOk result (λ act. IfSome act (λ a. MayAct self.now.node a)) }
+        ensures finds { (plan : Plan) (k : ℕ) → IsNodeOf plan k self.now.node → IfOk result (FindsMove plan k self.now.node) }
     {
         let moves = self.node.process.actions()?;
-        let mut first = None;
-        for made in moves.as_slice() {
-            if self.node.can_move(made) {
-                if site_of(made) >= self.next_site {
-                    return Ok(Some(Act::Proc(*made)));
-                }
-                if first.is_none() {
-                    first = Some(Act::Proc(*made));
-                }
-            }
+        match self.first_move(moves.as_slice(), self.next_site) {
+            Some(act) => Ok(Some(act)),
+            None => Ok(self.first_move(moves.as_slice(), 0)),
         }
-        Ok(first)
     }
 
-    /// Whether the process has ended.
-    pub fn ended(&self) -> bool {
+    // The first of these moves that can be made, by a site from this one on.
+    fn first_move(&self, moves: &[Move], from: u16) -> Option<Act>
+        ensures may { IfSome result (λ a. MayAct self.now.node a) }
+        ensures some { (plan : Plan) (k : ℕ) → IsNodeOf plan k self.now.node → IfSome result (λ a. FindsMove plan k self.now.node (Some a)) }
+        ensures none { (plan : Plan) (k : ℕ) (m : SpeltMove) → IsNodeOf plan k self.now.node → from ≡ 0 → result ≡ None → Contains moves.now m → CanMove plan k self.now.node m → ⊥ }
+    {
+        for made in moves {
+            if site_of(made) >= from && self.node.can_move(made) {
+                return Some(Act::Proc(*made));
+            }
+        }
+        None
+    }
+
+    /// Whether the process has ended: nothing remains of it.
+    pub fn ended(&self) -> bool
+        ensures { IsTrue result ↔ ((state self.now.node.process).rest ≡ Done) }
+    {
         self.node.process.ended()
     }
 
     /// How many packets and tokens were dropped.
-    pub fn faults(&self) -> u64 {
+    pub fn faults(&self) -> u64
+        ensures { result ≡ (seen self.now.node.vcp).carrier.strays }
+    {
         self.node.vcp.strays()
     }
 }
@@ -226,6 +253,7 @@ impl Actor {
 // Whether the outgoing link has room.
 fn has_room(room: u32, link: u8) -> bool
     requires { link < 4 }
+    ensures { IsTrue result ↔ (bit_at room link ≡ 1) }
 {
     room >> link & 1 == 1
 }

@@ -10,6 +10,9 @@ ghost use Rattle.vc_accepted.specs.NetworkOf.{network_of};
 ghost use Rattle.vc_network.specs.Plan.{home};
 ghost use Rattle.vc_network.specs.Views.{view, source_node, sink_node};
 ghost use Rattle.vc_core.specs.Enabled.{CanHappen};
+ghost use Rattle.std.specs.Int.{bit_at};
+ghost use Rattle.vc_core.specs.Turns.{FindsFront, FindsTake, FindsEvent, HaveEnded};
+ghost use Rattle.vc_core.specs.declared.act.Event.{Event as Happening};
 ghost use Rattle.vc_core.specs.State.{shown, state_of, IsNetworkOf, MayHappen, WaysLet, HasFront, HasWay, MakesEvent, MayActAt, Accepts, PutsBy, GrantsBy, with_line};
 ghost use Rattle.vc_tokens.specs.Tokens.{Token as SpeltToken};
 ghost use Rattle.vc_tokens.specs.Spelt.{token as spelt};
@@ -233,7 +236,10 @@ impl Network {
     }
 
     /// The least link of an actor by which a token can be taken.
-    pub fn link_to_take(&self, actor: u8) -> Option<u8> {
+    pub fn link_to_take(&self, actor: u8) -> Option<u8>
+        ensures least { FindsFront (state_of self.now) actor result }
+        ensures takes { (p : Plan) → IsNetworkOf p (state_of self.now) → FindsTake p (state_of self.now) actor result }
+    {
         for link in 0..32u8 {
             if self.has_front(actor, link) {
                 return Some(link);
@@ -243,8 +249,10 @@ impl Network {
     }
 
     /// What an actor does next where every way has room; nothing where it has no step but to take.
-    pub fn next(&self, actor: u8) -> Result<Option<Event>, Memory> {
-        let Some(acting) = self.actors.get(usize::from(actor)) else {
+    pub fn next(&self, actor: u8) -> Result<Option<Event>, Memory>
+        ensures { (p : Plan) → IsNetworkOf p (state_of self.now) → IfOk result (FindsEvent p (state_of self.now) actor) }
+    {
+        let Some(acting) = at(self.actors.as_slice(), usize::from(actor)) else {
             return Ok(None);
         };
         match acting.next(self.room(actor))? {
@@ -254,7 +262,9 @@ impl Network {
     }
 
     // A bit for each link of an actor by which a way goes out.
-    fn room(&self, actor: u8) -> u32 {
+    fn room(&self, actor: u8) -> u32
+        ensures { (link : ℕ) → link < 32 → (bit_at result link ≡ 1) ↔ HasWay (state_of self.now) actor link }
+    {
         let mut room = 0;
         for link in 0..32u8 {
             if self.has_way(actor, link) {
@@ -265,12 +275,21 @@ impl Network {
     }
 
     /// Whether every process has ended.
-    pub fn ended(&self) -> bool {
-        self.actors.iter().all(Actor::ended)
+    pub fn ended(&self) -> bool
+        ensures { (p : Plan) → IsNetworkOf p (state_of self.now) → IsTrue result ↔ HaveEnded p (state_of self.now) }
+    {
+        for actor in &self.actors {
+            if !actor.ended() {
+                return false;
+            }
+        }
+        true
     }
 
     /// How many actors there are.
-    pub fn actors(&self) -> usize {
+    pub fn actors(&self) -> usize
+        ensures { (p : Plan) → IsNetworkOf p (state_of self.now) → result ≡ length p.nodes }
+    {
         self.actors.len()
     }
 
@@ -341,8 +360,10 @@ impl Network {
         }
     }
 
-    /// How many packets and tokens the nodes dropped.
-    pub fn strays(&self) -> u64 {
+    /// How many packets and tokens the nodes dropped: none, after any events from the opening state on.
+    pub fn strays(&self) -> u64
+        ensures { (p : Plan) (events : List Happening) → Replays p events (state_of self.now) → result ≡ 0 }
+    {
         let mut all = 0u64;
         for actor in &self.actors {
             all = all.saturating_add(actor.faults());
@@ -350,8 +371,10 @@ impl Network {
         all
     }
 
-    /// How many packets the switches lost.
-    pub fn lost(&self) -> u64 {
+    /// How many packets the switches lost: none.
+    pub fn lost(&self) -> u64
+        ensures { result ≡ 0 }
+    {
         0
     }
 
