@@ -2,6 +2,8 @@
 #![tactic(auto)]
 
 mod command;
+#[cfg(test)]
+mod tests;
 mod words;
 
 use std::process::ExitCode;
