@@ -1,6 +1,7 @@
 //! The command line.
-ghost use Rattle.std.specs.Prelude.{◌≡◌, ◌≤◌, IfOk};
-ghost use Rattle.vcnet.specs.Line.{IsInRange};
+ghost use Rattle.std.specs.Prelude.{◌≡◌, ◌≤◌, MatchResult};
+ghost use Rattle.vcnet.specs.Line.{IsInRange, IsLineFault};
+ghost use Rattle.vcnet.specs.declared.command.LineFault.TheVariants.{Memory as OutOfMemory};
 
 use clap::error::ErrorKind;
 use clap::{Arg, ArgMatches, Command, Error, value_parser};
@@ -39,6 +40,8 @@ pub enum LineFault {
 }
 
 impl From<AllocError> for LineFault {
+    ghost from_gives = { λ _ fault. fault ≡ OutOfMemory };
+
     fn from(_error: AllocError) -> LineFault {
         LineFault::Memory
     }
@@ -86,7 +89,9 @@ fn line_of(matches: &ArgMatches<'_>) -> Line
 }
 
 /// What to print of a fault of the words.
-fn fault_of(alloc: Global, error: &Error) -> LineFault {
+fn fault_of(alloc: Global, error: &Error) -> LineFault
+    ensures { IsLineFault result }
+{
     if error.kind() == ErrorKind::OutOfMemory {
         return LineFault::Memory;
     }
@@ -101,7 +106,7 @@ fn fault_of(alloc: Global, error: &Error) -> LineFault {
 
 /// What the words ask for; the first is the program's name. `Bad` comes only where `clap` finds no matches.
 pub fn command(alloc: Global, words: &[&str]) -> Result<Line, LineFault>
-    ensures { IfOk result IsInRange }
+    ensures { MatchResult result IsInRange IsLineFault }
 {
     match definition(alloc)?.try_get_matches_from(words) {
         Ok(matches) => Ok(line_of(&matches)),

@@ -6,16 +6,41 @@ mod command;
 mod tests;
 mod words;
 
+use std::alloc::{AllocError, Global};
+use std::io;
 use std::process::ExitCode;
-use words::run_words;
+use words::{run_words, tell_memory, tell_no_text};
 
-fn main(rt: HostRuntime) -> std::io::Result<ExitCode> {
-    let alloc = rt.alloc();
-    let texts: Vec<String> = std::env::args(&rt)?.collect(alloc)?;
+/// The words of the command line.
+fn words_of(rt: &HostRuntime, alloc: Global) -> io::Result<Vec<String>> {
+    Ok(std::env::args(rt)?.collect(alloc)?)
+}
+
+/// Does what these words ask for; the answer is the program's status.
+fn status_of(rt: &HostRuntime, alloc: Global, texts: &[String]) -> Result<u8, AllocError> {
     let mut words = Vec::new(alloc);
-    for text in &texts {
+    for text in texts {
         words.push(text.as_str())?;
     }
-    let status = run_words(alloc, words.as_slice(), &mut rt.stdin(), &mut rt.stdout());
-    Ok(ExitCode::from(status))
+    Ok(run_words(alloc, words.as_slice(), &mut rt.stdin(), &mut rt.stdout()))
+}
+
+/// What the words that could not be read give: want of memory, or they are no text.
+fn status_without_words(rt: &HostRuntime, alloc: Global, error: &io::Error) -> u8 {
+    if error.kind() == io::ErrorKind::OutOfMemory {
+        tell_memory(alloc, &mut rt.stdout())
+    } else {
+        tell_no_text(&mut rt.stdout())
+    }
+}
+
+fn main(rt: HostRuntime) -> ExitCode {
+    let alloc = rt.alloc();
+    ExitCode::from(match words_of(&rt, alloc) {
+        Ok(texts) => match status_of(&rt, alloc, texts.as_slice()) {
+            Ok(status) => status,
+            Err(AllocError) => tell_memory(alloc, &mut rt.stdout()),
+        },
+        Err(error) => status_without_words(&rt, alloc, &error),
+    })
 }

@@ -92,10 +92,10 @@ fn two_nodes(alloc: Global, sender: &str, receiver: &str) -> Result<String, Allo
 }
 
 const TEXT_HELLO: &str = r#"{"out":["c",{"text":"hello"}]}"#;
-const INPUT: &str = r#"{"in":["c","m"]}"#;
-const HELLO_TRAFFIC: &str =
-    "channel c offered 1 taken 1 finished 1\n  0 68656c6c6f\nend done\n";
 
+const INPUT: &str = r#"{"in":["c","m"]}"#;
+
+const HELLO_TRAFFIC: &str = "channel c offered 1 taken 1 finished 1\n  0 68656c6c6f\nend done\n";
 
 #[test]
 fn a_message_is_taken_and_finished(rt: HostRuntime) -> Result<(), Fail> {
@@ -173,7 +173,8 @@ fn refused_networks_name_the_first_offender(rt: HostRuntime) -> Result<(), Fail>
     let alloc = rt.alloc();
     let right = r#"{"name":"v","a":["a",0,1,[1]],"b":["b",0,1,[1]]}"#;
     let wrong = r#"{"name":"v","a":["a",0,1,[2]],"b":["b",0,1,[1]]}"#;
-    let twice = r#"{"name":"v","a":["a",0,1,[1]],"b":["b",0,1,[1]]},{"name":"w","a":["a",0,1,[1]],"b":["b",0,1,[1]]}"#;
+    let twice =
+        r#"{"name":"v","a":["a",0,1,[1]],"b":["b",0,1,[1]]},{"name":"w","a":["a",0,1,[1]],"b":["b",0,1,[1]]}"#;
     let wire = r#"["a",0,"b",0]"#;
     for (wire, vlinks, line) in [
         (r#"["a",0,"a",0]"#, right, "refused 2 PortTwice a.0\n"),
@@ -182,7 +183,10 @@ fn refused_networks_name_the_first_offender(rt: HostRuntime) -> Result<(), Fail>
     ] {
         let network = wired(alloc, wire, vlinks)?;
         assert!(rt; step(alloc, &network).is(line, 2), "{line}");
-        assert!(rt; outcome_of(alloc, &["vcnet", "check"], &network).is(line, 2), "{line}");
+        assert!(rt;
+            outcome_of(alloc, &["vcnet", "check"], &network).is(line, 2),
+            "{line}"
+        );
     }
     Ok(())
 }
@@ -233,7 +237,10 @@ fn a_failed_read_is_a_fault(rt: HostRuntime) -> Result<(), Fail> {
         };
         let mut printed = Vec::new(alloc);
         let status = run_words(alloc, &["vcnet", "step"], &mut reader, &mut printed);
-        assert_eq!(rt; (status, printed.as_slice()), (6, b"fault read\n".as_slice()));
+        assert_eq!(rt;
+            (status, printed.as_slice()),
+            (6, b"fault read\n".as_slice())
+        );
     }
     Ok(())
 }
@@ -250,7 +257,10 @@ fn a_failed_write_leaves_a_front(rt: HostRuntime) -> Result<(), Fail> {
         };
         let status = run_words(alloc, &["vcnet", "step"], &mut reader, &mut writer);
         assert_eq!(rt; status, 6);
-        assert_eq!(rt; writer.taken.as_slice(), &HELLO_TRAFFIC.as_bytes()[..writes_left]);
+        assert_eq!(rt;
+            writer.taken.as_slice(),
+            &HELLO_TRAFFIC.as_bytes()[..writes_left]
+        );
     }
     Ok(())
 }

@@ -1,5 +1,8 @@
 //! From the words of the command line to the program's status.
-ghost use Rattle.std.specs.Prelude.{◌≡◌, ◌≤◌};
+ghost use Rattle.std.specs.Prelude.{◌≡◌, ℕ, List};
+ghost use Rattle.vc_text.specs.declared.fault.RunFault.TheVariants.{Memory as OutOfMemory};
+ghost use Rattle.vcnet.specs.Line.{IsLineFault};
+ghost use Rattle.vcnet.specs.Program.{ChecksNetwork, Runs, StepsNetwork, Tells, TellsFault, TellsLine};
 ghost use Rattle.vcnet.specs.Status.{status_of_fault, status_of_end};
 
 use crate::command::{Line, LineFault, command};
@@ -10,6 +13,9 @@ use vc_text::{RunFault, run_check, run_step, write_fault, write_text};
 
 /// The status for a network that is accepted, or whose processes have all ended.
 const DONE: u8 = 0;
+
+/// The status for a bad command line.
+const BAD_LINE: u8 = 5;
 
 /// The status of a fault: 2 for a network that is refused, 4 for want of memory, 6 for the streams.
 fn status_of(fault: &RunFault) -> u8
@@ -35,23 +41,67 @@ fn status_of_close(close: Close) -> u8
 }
 
 /// Writes the line of a fault. The status is that of the fault, or of a later one in writing it.
-fn told<W: Write>(alloc: Global, fault: &RunFault, writer: &mut W) -> u8
-    ensures { result ≤ 6 }
+fn told<W: Write>(alloc: Global, fault: RunFault, writer: &mut W) -> u8
+    ensures { TellsFault (W.contents writer.old) (W.contents writer.new) fault result }
 {
-    match write_fault(alloc, fault, writer) {
-        Ok(()) => status_of(fault),
+    match write_fault(alloc, &fault, writer) {
+        Ok(()) => status_of(&fault),
         Err(later) => status_of(&later),
     }
 }
 
+/// Writes a text for a status. The status is that, or that of a fault in writing.
+fn told_text<W: Write>(text: &[u8], status: u8, writer: &mut W) -> u8
+    ensures { Tells (W.contents writer.old) (W.contents writer.new) text.now status result }
+{
+    match write_text(writer, text) {
+        Ok(()) => status,
+        Err(later) => status_of(&later),
+    }
+}
+
+/// Writes that there was no memory. The status is that of want of memory, or of a fault in writing it.
+pub fn tell_memory<W: Write>(alloc: Global, writer: &mut W) -> u8
+    ensures { TellsFault (W.contents writer.old) (W.contents writer.new) OutOfMemory result }
+{
+    told(alloc, RunFault::Memory, writer)
+}
+
+/// Writes that the words of the command line are no text, as a bad line.
+pub fn tell_no_text<W: Write>(writer: &mut W) -> u8
+    ensures { (text : List ℕ) × Tells (W.contents writer.old) (W.contents writer.new) text 5 result }
+{
+    told_text(b"error: the command line is no UTF-8\n", BAD_LINE, writer)
+}
+
 /// What a bad line or a request for help prints.
-fn told_of_line<W: Write>(alloc: Global, fault: &LineFault, writer: &mut W) -> u8 {
+fn told_of_line<W: Write>(alloc: Global, fault: &LineFault, writer: &mut W) -> u8
+    requires { IsLineFault fault.now }
+    ensures { TellsLine (W.contents writer.old) (W.contents writer.new) result }
+{
     match fault {
-        LineFault::Bad { text, status } => match write_text(writer, text.as_bytes()) {
-            Ok(()) => *status,
-            Err(later) => status_of(&later),
-        },
-        LineFault::Memory => told(alloc, &RunFault::Memory, writer),
+        LineFault::Bad { text, status } => told_text(text.as_bytes(), *status, writer),
+        LineFault::Memory => tell_memory(alloc, writer),
+    }
+}
+
+/// Checks the network that the reader has.
+fn check_by<R: Read, W: Write>(alloc: Global, reader: &mut R, writer: &mut W) -> u8
+    ensures { ChecksNetwork (R.remaining reader.old) (W.contents writer.old) (W.contents writer.new) result }
+{
+    match run_check(alloc, reader, writer) {
+        Ok(()) => DONE,
+        Err(fault) => told(alloc, fault, writer),
+    }
+}
+
+/// Runs the network that the reader has.
+fn step_by<R: Read, W: Write>(alloc: Global, reader: &mut R, writer: &mut W, limit: u64) -> u8
+    ensures { StepsNetwork (R.remaining reader.old) (W.contents writer.old) (W.contents writer.new) limit result }
+{
+    match run_step(alloc, reader, writer, limit) {
+        Ok(report) => status_of_close(report.close),
+        Err(fault) => told(alloc, fault, writer),
     }
 }
 
@@ -62,16 +112,12 @@ pub fn run_words<R: Read, W: Write>(
     words: &[&str],
     reader: &mut R,
     writer: &mut W,
-) -> u8 {
+) -> u8
+    ensures { Runs (R.remaining reader.old) (R.remaining reader.new) (W.contents writer.old) (W.contents writer.new) result }
+{
     match command(alloc, words) {
-        Ok(Line::Check) => match run_check(alloc, reader, writer) {
-            Ok(()) => DONE,
-            Err(fault) => told(alloc, &fault, writer),
-        },
-        Ok(Line::Step { limit }) => match run_step(alloc, reader, writer, limit) {
-            Ok(report) => status_of_close(report.close),
-            Err(fault) => told(alloc, &fault, writer),
-        },
+        Ok(Line::Check) => check_by(alloc, reader, writer),
+        Ok(Line::Step { limit }) => step_by(alloc, reader, writer, limit),
         Err(fault) => told_of_line(alloc, &fault, writer),
     }
 }

@@ -1,0 +1,9 @@
+use Rattle.std.proofs.Common.{rules, ◌≤◌}
+use Rattle.vcnet.specs.Program.{steps}
+use Rattle.vcnet.proofs.words.run_words.Goals as goal
+
+-- src/words.rt:110:1
+pub returns-in-Ok-Step : goal.returns-in-Ok-Step
+returns-in-Ok-Step g c =
+    let few : c.in-Ok-Step.limit ≤ 1000000000 = search rules in
+    steps c.in-Ok-Step.limit few c.step_by.ensures

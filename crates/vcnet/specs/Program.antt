@@ -1,0 +1,45 @@
+-- What the program does, over streams that tell their bytes.
+use Rattle.std.specs.Prelude.{◌≡◌, ◌⊎◌, ℕ, ◌≤◌, List, Option, Result, Ok, Err, ⊤}
+use Rattle.vc_text.specs.Checking.{Checks}
+use Rattle.vc_text.specs.FaultLine.{fault_text}
+use Rattle.vc_text.specs.Running.{Steps}
+use Rattle.vc_text.specs.Streams.{Writes}
+use Rattle.vc_text.specs.declared.fault.RunFault.{RunFault}
+use Rattle.vc_text.specs.declared.fault.RunFault.TheVariants.{Memory}
+use Rattle.vc_text.specs.declared.run.StepReport.{StepReport}
+use Rattle.vcnet.specs.Status.{status_of_fault, status_of_end}
+
+-- the status that was wanted, or that of a fault in writing
+abbrev pub status_after : ℕ → Result ⊤ RunFault → ℕ
+status_after wanted (Ok u) = wanted
+status_after wanted (Err later) = status_of_fault later
+
+-- a text is written for a status
+abbrev pub Tells : Option (List ℕ) → Option (List ℕ) → List ℕ → ℕ → ℕ → Type 0
+Tells old new text wanted status = (written : Result ⊤ RunFault) × Writes old new text written × (status ≡ status_after wanted written)
+
+-- the line of a fault is written
+abbrev pub TellsFault : Option (List ℕ) → Option (List ℕ) → RunFault → ℕ → Type 0
+TellsFault old new fault status = Tells old new (fault_text fault) (status_of_fault fault) status
+
+-- the network that the reader had is checked, or a fault of it is told
+abbrev pub ChecksNetwork : Option (List ℕ) → Option (List ℕ) → Option (List ℕ) → ℕ → Type 0
+ChecksNetwork known old new status =
+    (Checks known old new (Ok tt) × (status ≡ 0)) ⊎ ((fault : RunFault) × (mid : Option (List ℕ)) × Checks known old mid (Err fault) × TellsFault mid new fault status)
+
+-- it is run for at most so many events, or a fault of it is told
+abbrev pub StepsNetwork : Option (List ℕ) → Option (List ℕ) → Option (List ℕ) → ℕ → ℕ → Type 0
+StepsNetwork known old new limit status =
+    ((report : StepReport) × Steps known old new limit (Ok report) × (status ≡ status_of_end report.close))
+    ⊎ ((fault : RunFault) × (mid : Option (List ℕ)) × Steps known old mid limit (Err fault) × TellsFault mid new fault status)
+
+-- a bad line or a request for help is told, or want of memory
+abbrev pub TellsLine : Option (List ℕ) → Option (List ℕ) → ℕ → Type 0
+TellsLine old new status =
+    ((text : List ℕ) × (wanted : ℕ) × ((wanted ≡ 0) ⊎ (wanted ≡ 5)) × Tells old new text wanted status) ⊎ TellsFault old new Memory status
+
+-- What the words ask for is done: the reader's bytes before and after, the writer's, and the status. A line that is told reads nothing.
+pub data Runs (known rest old new : Option (List ℕ)) (status : ℕ) : Type 0 where
+  checks : ChecksNetwork known old new status → Runs known rest old new status
+  steps : (limit : ℕ) → limit ≤ 1000000000 → StepsNetwork known old new limit status → Runs known rest old new status
+  tells : rest ≡ known → TellsLine old new status → Runs known rest old new status
