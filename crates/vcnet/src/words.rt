@@ -3,28 +3,60 @@ ghost use Rattle.std.specs.Prelude.{◌≡◌, ℕ, List};
 ghost use Rattle.vc_text.specs.declared.fault.RunFault.TheVariants.{Memory as OutOfMemory};
 ghost use Rattle.vcnet.specs.Line.{IsLineFault};
 ghost use Rattle.vcnet.specs.Program.{ChecksNetwork, Runs, StepsNetwork, Tells, TellsFault, TellsLine};
-ghost use Rattle.vcnet.specs.Status.{status_of_fault, status_of_end};
+ghost use Rattle.vcnet.specs.Status.{status_of_check as status_for_check, status_of_text as status_for_text, status_of_fault, status_of_end};
 
 use crate::command::{Line, LineFault, command};
 use std::alloc::Global;
 use std::io::{Read, Write};
 use vc_core::Close;
+use vc_plan::CheckRefused;
+use vc_reader::ReadRefused;
 use vc_text::{RunFault, run_check, run_step, write_fault, write_text};
 
 /// The status for a network that is accepted, or whose processes have all ended.
 const DONE: u8 = 0;
 
+/// The status where the reader or the writer failed.
+const BAD_STREAM: u8 = 6;
+
 /// The status for a bad command line.
 const BAD_LINE: u8 = 5;
+
+/// The status for a network that is refused.
+const REFUSED: u8 = 2;
+
+/// The status for want of memory.
+const NO_MEMORY: u8 = 4;
+
+/// The status of a text that is refused, where memory may have been short.
+fn status_of_text(refused: &ReadRefused) -> u8
+    ensures { result ≡ status_for_text refused.now }
+{
+    match refused {
+        ReadRefused::Memory => NO_MEMORY,
+        _ => REFUSED,
+    }
+}
+
+/// The status of a plan that is refused, where memory may have been short.
+fn status_of_check(why: &CheckRefused) -> u8
+    ensures { result ≡ status_for_check why.now }
+{
+    match why {
+        CheckRefused::Memory => NO_MEMORY,
+        _ => REFUSED,
+    }
+}
 
 /// The status of a fault: 2 for a network that is refused, 4 for want of memory, 6 for the streams.
 fn status_of(fault: &RunFault) -> u8
     ensures { result ≡ status_of_fault fault.now }
 {
     match fault {
-        RunFault::Text(_) | RunFault::Plan(_) => 2,
-        RunFault::Memory => 4,
-        RunFault::Read | RunFault::Write => 6,
+        RunFault::Text(refused) => status_of_text(refused),
+        RunFault::Plan(refusal) => status_of_check(&refusal.why),
+        RunFault::Memory => NO_MEMORY,
+        RunFault::Read | RunFault::Write => BAD_STREAM,
     }
 }
 
@@ -36,7 +68,7 @@ fn status_of_close(close: Close) -> u8
         Close::Done => DONE,
         Close::Quiet => 1,
         Close::Limit | Close::GateClosed | Close::ClockFull => 3,
-        Close::Failed(_) => 4,
+        Close::Failed(_) => NO_MEMORY,
     }
 }
 
