@@ -5,10 +5,11 @@ use Rattle.std.proofs.lemmas.Nat.Bits.{bit_at_or, bit_at-pow_same, bit_at-pow_ot
 use Rattle.std.proofs.lemmas.Option.{slice_get-get_or}
 use Rattle.std.proofs.Math.Pow.{pow-lt}
 use Rattle.std.specs.Int.{bit_at}
-use Rattle.std.specs.Option.{option_or}
+use Rattle.std.specs.Option.{option_map}
 use Rattle.vc_accepted.specs.NetworkOf.{network_of}
 use Rattle.vc_network.specs.Network as net
 use Rattle.vc_network.specs.Plan as network
+use Rattle.vc_network.specs.Plan.{back}
 use Rattle.vc_network.specs.Views.{vcp_of}
 use Rattle.vc_occam.specs.declared.moves.Move.{Move}
 use Rattle.vc_occam.specs.Remains.{Done}
@@ -22,6 +23,7 @@ use Rattle.vc_core.specs.Replaying.{Replays}
 use Rattle.vc_core.specs.Shown.{node_of}
 use Rattle.vc_core.specs.State.{State, IsNetworkOf, HasFront, HasWay, WaysLet}
 use Rattle.vc_core.specs.Turns.{RoomLets, IsTurn, FindsAt, FindsMove, FindsTurn, TakesNone, FindsEvent, FindsFront, FindsTake, Rests, IsAtRest, HaveEnded, IsTold, MakesTurn}
+use Rattle.vc_core.specs.Wired.{out_at}
 use Rattle.vc_core.specs.declared.act.Act.{Act}
 use Rattle.vc_core.specs.declared.act.Act.TheVariants as act
 use Rattle.vc_core.specs.declared.act.Event.{Event}
@@ -40,6 +42,21 @@ none_more Can at i before now j less can = elim (cases_lt j i) [
   | inr later ↦ (let same : j ≡ i = omega arith in now (subst (λ z. Can (at z)) same can))
 ]
 
+-- by a link at or past the span of its actor nothing comes, and no way goes out
+pub front_below : (s : State) (k l n : ℕ) → ((j : ℕ) → n ≤ j → out_at s.wiring k j ≡ None) → HasFront s k l → l < n
+front_below s k l n beyond f = elim (cases_lt l n) [
+  | inl less ↦ less
+  | inr far ↦ (let e : option_map back (out_at s.wiring k l) ≡ None = ap (option_map back) (beyond l far) in
+      let i = f.into in absurd (cc))
+]
+
+pub way_below : (s : State) (k l n : ℕ) → ((j : ℕ) → n ≤ j → out_at s.wiring k j ≡ None) → HasWay s k l → l < n
+way_below s k l n beyond f = elim (cases_lt l n) [
+  | inl less ↦ less
+  | inr far ↦ (let e = beyond l far in
+      let i = f.out in absurd (cc))
+]
+
 pub clash : (b : Bool) → b ≡ false → IsTrue b → ⊥
 clash true h t = absurd (cc)
 clash false h t = absurd (cc)
@@ -49,25 +66,17 @@ if_ok P Q (Ok x) f h = f x h
 if_ok P Q (Err e) f h = tt
 
 module _ (plan : network.Plan) (k : ℕ) (n : Node) (room : ℕ) where
-  passes : (a : Act) → FindsAt (λ l. act.Pass l) (CanAct plan k n) (Some a) → IsTurn plan k n room a
+  pub passes : (a : Act) → FindsAt (λ l. act.Pass l) (CanAct plan k n) (Some a) → IsTurn plan k n room a
   passes a (l, e, can, least) = subst (IsTurn plan k n room) (sym e) (record { can = can; lets = tt })
 
-  at_link : (at : ℕ → Act) (a : Act) → FindsAt at (IsTurn plan k n room) (Some a) → IsTurn plan k n room a
+  pub at_link : (at : ℕ → Act) (a : Act) → FindsAt at (IsTurn plan k n room) (Some a) → IsTurn plan k n room a
   at_link at a (l, e, can, least) = subst (IsTurn plan k n room) (sym e) can
 
-  -- one of the links
-  pub some_link : (x y z : Option Act) (a : Act) → FindsAt (λ l. act.Pass l) (CanAct plan k n) x → FindsAt (λ l. act.Put l) (IsTurn plan k n room) y → FindsAt (λ l. act.Fct l) (IsTurn plan k n room) z →
-      option_or (option_or x y) z ≡ Some a → IsTurn plan k n room a
-  some_link (Some b) y z a h i j e = let same : b ≡ a = cc in subst (IsTurn plan k n room) same (passes b h)
-  some_link None (Some b) z a h i j e = let same : b ≡ a = cc in subst (IsTurn plan k n room) same (at_link (λ l. act.Put l) b i)
-  some_link None None (Some b) a h i j e = let same : b ≡ a = cc in subst (IsTurn plan k n room) same (at_link (λ l. act.Fct l) b j)
-  some_link None None None a h i j e = absurd (cc)
-
-  -- or a move
+  -- or a move, where no link has anything to do
   pub some_move : (o : Option Act) → (x y z : Option Act) → FindsAt (λ l. act.Pass l) (CanAct plan k n) x → FindsAt (λ l. act.Put l) (IsTurn plan k n room) y → FindsAt (λ l. act.Fct l) (IsTurn plan k n room) z →
-      option_or (option_or x y) z ≡ None → FindsMove plan k n o → FindsTurn plan k n room o
-  some_move (Some a) x y z h i j e (m, is, can) = subst (IsTurn plan k n room) (sym is) (record { can = can; lets = tt })
-  some_move None None None None h i j e none = none_by
+      x ≡ None → y ≡ None → z ≡ None → FindsMove plan k n o → FindsTurn plan k n room o
+  some_move (Some a) x y z h i j e f g (m, is, can) = subst (IsTurn plan k n room) (sym is) (record { can = can; lets = tt })
+  some_move None None None None h i j e f g none = none_by
     where
       none_by : (a : Act) → IsTurn plan k n room a → ⊥
       none_by (act.Proc m) t = none m t.can
@@ -76,9 +85,9 @@ module _ (plan : network.Plan) (k : ℕ) (n : Node) (room : ℕ) where
       none_by (act.Fct l) t = j l t
       none_by (act.Take l w) t = t.lets
       none_by (act.Route l o) t = t.can
-  some_move None (Some a) y z h i j e none = absurd (cc)
-  some_move None None (Some a) z h i j e none = absurd (cc)
-  some_move None None None (Some a) h i j e none = absurd (cc)
+  some_move None (Some a) y z h i j e f g none = absurd (cc)
+  some_move None None (Some a) z h i j e f g none = absurd (cc)
+  some_move None None None (Some a) h i j e f g none = absurd (cc)
 
 -- The network's search.
 

@@ -160,14 +160,16 @@ impl Actor {
         ensures may { IfOk result (λ act. IfSome act (λ a. MayAct self.now.node a)) }
         ensures finds { (plan : Plan) (k : ℕ) → IsNodeOf plan k self.now.node → IfOk result (FindsTurn plan k self.now.node room) }
     {
-        let by_links = self
-            .next_pass()
-            .or(self.next_put(room))
-            .or(self.next_grant(room));
-        match by_links {
-            Some(act) => Ok(Some(act)),
-            None => self.next_move(),
+        if let Some(act) = self.next_pass() {
+            return Ok(Some(act));
         }
+        if let Some(act) = self.next_put(room) {
+            return Ok(Some(act));
+        }
+        if let Some(act) = self.next_grant(room) {
+            return Ok(Some(act));
+        }
+        self.next_move()
     }
 
     // The least link whose buffer has a token.

@@ -1,5 +1,5 @@
 //! The ways that go out by the links of actors.
-ghost use Rattle.std.specs.Prelude.{◌≡◌, ◌≤◌, ℕ, IfOk};
+ghost use Rattle.std.specs.Prelude.{◌≡◌, ◌≤◌, ◌+◌, ◌*◌, ℕ, IfOk, length};
 ghost use Rattle.vc_accepted.specs.Outgoing.{actor_of as number_of, outgoing};
 ghost use Rattle.vc_core.specs.Filled.{left};
 ghost use Rattle.vc_core.specs.Wired.{out_at};
@@ -13,7 +13,8 @@ use vc_plan::{Plan, Port, Spot};
 /// The way that goes out by each link of each actor of an accepted plan, 32 places an actor.
 pub(crate) fn ways_out(alloc: Global, plan: &Plan) -> Result<Vec<Option<u16>>, Memory>
     requires { IsAccepted plan.now }
-    ensures { IfOk result (λ out. (actor link : ℕ) → out_at out.items actor link ≡ outgoing plan.now actor link) }
+    ensures tells { IfOk result (λ out. (actor link : ℕ) → out_at out.items actor link ≡ outgoing plan.now actor link) }
+    ensures long { IfOk result (λ out. length out.items ≡ (length plan.now.nodes + length plan.now.switches) * 32) }
 {
     let nodes = plan.nodes.len();
     let actors = nodes + plan.switches.len();

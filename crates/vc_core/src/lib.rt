@@ -15,6 +15,7 @@ mod inside;
 mod network;
 mod node;
 mod refused;
+mod spans;
 mod turn;
 mod way;
 mod wiring;

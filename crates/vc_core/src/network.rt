@@ -240,7 +240,7 @@ impl Network {
         ensures least { FindsFront (state_of self.now) actor result }
         ensures takes { (p : Plan) → IsNetworkOf p (state_of self.now) → FindsTake p (state_of self.now) actor result }
     {
-        for link in 0..32u8 {
+        for link in 0..self.wiring.span(actor) {
             if self.has_front(actor, link) {
                 return Some(link);
             }
@@ -266,7 +266,7 @@ impl Network {
         ensures { (link : ℕ) → link < 32 → (bit_at result link ≡ 1) ↔ HasWay (state_of self.now) actor link }
     {
         let mut room = 0;
-        for link in 0..32u8 {
+        for link in 0..self.wiring.span(actor) {
             if self.has_way(actor, link) {
                 room |= 1u32 << link;
             }

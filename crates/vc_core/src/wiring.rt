@@ -1,11 +1,12 @@
 //! The ways of a network: two for each wire.
-ghost use Rattle.std.specs.Prelude.{◌≡◌, ◌<◌, ℕ, IfOk, IfSome};
+ghost use Rattle.std.specs.Prelude.{◌≡◌, ◌≤◌, ◌<◌, ℕ, IfOk, IfSome, None};
 ghost use Rattle.vc_accepted.specs.Outgoing.{outgoing};
 ghost use Rattle.vc_core.specs.Wired.{out_at, in_at};
 ghost use Rattle.vc_network.specs.Plan.{back as other_way};
 ghost use Rattle.vc_plan.specs.Accepted.{IsAccepted};
 
 use crate::filling::ways_out;
+use crate::spans::spans_of;
 use std::alloc::Global;
 use std::marker::Model;
 use vc_packets::Memory;
@@ -19,14 +20,20 @@ pub(crate) const LINKS: usize = 32;
 #[derive(Drop)]
 pub(crate) struct Wiring {
     out: Vec<Option<u16>>,
+    // for each actor one more than its greatest link on a wire
+    spans: Vec<u8>,
 }
 
 impl Model for Wiring {
     ghost use Rattle.std.specs.Prelude.{ℕ, List, Option};
 
+    ghost use Rattle.vc_core.specs.Wired.{AreSpans};
+
     ghost Value = { List (Option ℕ) };
 
     ghost view = { λ x. x.out.items };
+
+    ghost invariant = { λ x. AreSpans x.out.items x.spans.items };
 }
 
 impl Wiring {
@@ -36,7 +43,19 @@ impl Wiring {
         ensures { IfOk result (λ wiring. (actor link : ℕ) → out_at wiring actor link ≡ outgoing plan.now actor link) }
     {
         let out = ways_out(alloc, plan)?;
-        Ok(Wiring { out })
+        let spans = spans_of(alloc, out.as_slice())?;
+        Ok(Wiring { out, spans })
+    }
+
+    /// How many of an actor's links, from link 0 on, may be on a wire: at most 32, and none beyond is.
+    pub(crate) fn span(&self, actor: u8) -> u8
+        ensures few { result ≤ 32 }
+        ensures beyond { (link : ℕ) → result ≤ link → out_at self.now actor link ≡ None }
+    {
+        match self.spans.get(usize::from(actor)) {
+            Some(span) => *span,
+            None => 0,
+        }
     }
 
     /// The way that goes out by a link of an actor, if the link is on a wire.

@@ -1,7 +1,6 @@
 use Rattle.std.proofs.Common.{◌<◌, None, Some, arith}
 use Rattle.vc_core.specs.State.{state_of}
-use Rattle.vc_core.proofs.Enabled.{front_few}
-use Rattle.vc_core.proofs.Turning.{takes}
+use Rattle.vc_core.proofs.Turning.{takes, front_below}
 use Rattle.vc_core.proofs.network.Network.link_to_take.Goals as goal
 
 pub returns-then-has_front-clause-takes : goal.returns-then-has_front-clause-takes
@@ -9,7 +8,7 @@ returns-then-has_front-clause-takes c = λ p is. takes p (state_of c.args.self.n
 
 pub returns-clause-least : goal.returns-clause-least
 returns-clause-least c = λ link front.
-    let few = front_few (state_of c.args.self.now) c.args.actor link front in
+    let few = front_below (state_of c.args.self.now) c.args.actor link c.span-link-end.result c.span-link-end.ensures.beyond front in
     let past = c.loop-link-test.false in
     let less : link < c.loop-link.link = omega arith in
     c.loop-link.invariant link less front
@@ -17,7 +16,7 @@ returns-clause-least c = λ link front.
 pub returns-clause-takes : goal.returns-clause-takes
 returns-clause-takes c = λ p is.
     takes p (state_of c.args.self.now) c.args.actor None is (λ link front.
-    let few = front_few (state_of c.args.self.now) c.args.actor link front in
+    let few = front_below (state_of c.args.self.now) c.args.actor link c.span-link-end.result c.span-link-end.ensures.beyond front in
     let past = c.loop-link-test.false in
     let less : link < c.loop-link.link = omega arith in
     c.loop-link.invariant link less front)
