@@ -84,6 +84,7 @@ chosen_at bs vs e k h =
 abbrev after_phase : Phase → Rest → Rest
 after_phase phase.Ready r = Stopped
 after_phase phase.Waiting r = r
+after_phase (phase.Turning x y) r = Stopped
 after_phase phase.Ended r = Done
 after_phase phase.Stuck r = Stopped
 
@@ -152,6 +153,7 @@ seq_did (kind.Stopch c) i vs e s d h x y a = absurd (let z : false ≡ true = h 
 seq_did kind.Seq i vs e s d h x y a = empty_seq i vs e s d a
 seq_did (kind.If cs) i vs e s d h x y a = absurd (x cs refl)
 seq_did (kind.While c) i vs e s d h x y a = absurd (y c refl)
+seq_did (kind.Count v b n) i vs e s d h x y a = absurd (let z : false ≡ true = h in cc)
 
 pub turn_plans : (b : Bool) (vs : List View) → plans (turn_begun b vs) ≡ plans vs
 turn_plans true vs = begun_plans 0 vs

@@ -1,8 +1,8 @@
 -- What frames stand for.
-use Rattle.std.proofs.Common.{◌≡◌, ℕ, zero, suc, Bool, true, false, ◌&&◌, refl, ap, sym, ◌∙◌, subst, List, [], ◌∷◌, length, arith, Option, Some, None, Vec, Global, drop, Result, Ok, Err}
+use Rattle.std.proofs.Common.{◌≡◌, ℕ, ℤ, zero, suc, Bool, true, false, ◌&&◌, refl, ap, sym, ◌∙◌, subst, List, [], ◌∷◌, length, arith, Option, Some, None, Vec, Global, drop, Result, Ok, Err}
 use Rattle.std.proofs.lemmas.Bool.Decides.{nat_tests}
 use Rattle.std.specs.Prelude.{slice_get, vec_len, nat_le, IfOk, ◌==◌}
-use Rattle.vc_occam.specs.Syntax.{Test, Proc, SEQ, Procs, no_parts, part}
+use Rattle.vc_occam.specs.Syntax.{Exp, Test, Proc, SEQ, Procs, no_parts, part}
 use Rattle.vc_occam.specs.Remains.{Rest, Done, Stopped, Fresh, Finishing, Getting, and_then, begin}
 use Rattle.vc_occam.specs.declared.kind.Kind.{Kind}
 use Rattle.vc_occam.specs.declared.kind.Kind.TheVariants as kind
@@ -17,7 +17,7 @@ use Rattle.vc_occam.specs.Values.{Store}
 use Rattle.vc_occam.specs.First.{own}
 use Rattle.vc_occam.specs.declared.moves.Move.TheVariants.{Quiet}
 use Rattle.vc_occam.specs.States.{waiting, output_at}
-use Rattle.vc_occam.specs.Frames.{View, plans_of, behind, follow, going_at, has_parts, is_last, place_of, while_of, so_far, plan_at, rest_at, view_step, view, views, is_done, part_done, part_own, part_waits, part_output, part_assigned, assigned_at, begun_parts, begun_phase}
+use Rattle.vc_occam.specs.Frames.{View, count_of, is_counted, turn_of, turning, plans_of, behind, follow, going_at, has_parts, is_last, place_of, while_of, so_far, plan_at, rest_at, view_step, view, views, is_done, part_done, part_own, part_waits, part_output, part_assigned, assigned_at, begun_parts, begun_phase}
 
 pub view_roll : (f : Frame-F Frame) → view (roll-Frame f) ≡ (plan_at f.kind f.site (views f.parts.items), rest_at f.kind f.phase f.site (views f.parts.items) f.at)
 unfolding view view_step
@@ -30,6 +30,7 @@ view_out = fold_out-Frame View view_step
 abbrev pub done_by : Phase → Bool → Bool → Bool
 done_by phase.Ready l d = false
 done_by phase.Waiting l d = l && d
+done_by (phase.Turning x y) l d = false
 done_by phase.Ended l d = true
 done_by phase.Stuck l d = false
 
@@ -69,19 +70,38 @@ going_done (kind.Receive c v) i vs at = refl
 going_done (kind.Stopch c) i vs at = refl
 going_done kind.Seq i vs at = follow_done (slice_get vs at) (plans_of (drop (suc at) vs)) ∙ ap (λ b. b && part_done (slice_get vs at)) (none_behind vs at)
 going_done (kind.If bs) i vs at = follow_done (slice_get vs at) no_parts
+going_done (kind.Count v a n) i vs at = refl
 going_done (kind.While b) i vs at = follow_done (slice_get vs 0) (behind (kind.While b) i vs at)
 
-done_phase : (ph : Phase) (p : Proc) (r : Rest) (l d : Bool) → is_done r ≡ (l && d) → is_done (so_far ph p r) ≡ done_by ph l d
-done_phase phase.Ready p r l d h = refl
-done_phase phase.Waiting p r l d h = h
-done_phase phase.Ended p r l d h = refl
-done_phase phase.Stuck p r l d h = refl
+-- a turn that goes on has not ended
+turns_done : (v : ℕ) (vs : List View) (x y : ℤ) → is_done (turn_of v vs x y) ≡ false
+turns_done v [] x y = refl
+turns_done v (w ∷ vs) x y = refl
+
+turning_done : (k : Kind) (vs : List View) (x y : ℤ) → is_done (turning k vs x y) ≡ false
+turning_done kind.Skip vs x y = refl
+turning_done kind.Stop vs x y = refl
+turning_done (kind.Set v a) vs x y = refl
+turning_done (kind.Send c a) vs x y = refl
+turning_done (kind.Receive c v) vs x y = refl
+turning_done (kind.Stopch c) vs x y = refl
+turning_done kind.Seq vs x y = refl
+turning_done (kind.If bs) vs x y = refl
+turning_done (kind.While b) vs x y = refl
+turning_done (kind.Count v a n) vs x y = turns_done v vs x y
+
+done_phase : (ph : Phase) (p : Proc) (r : Rest) (t : ℤ → ℤ → Rest) (l d : Bool) → is_done r ≡ (l && d) → ((x y : ℤ) → is_done (t x y) ≡ false) → is_done (so_far ph p r t) ≡ done_by ph l d
+done_phase phase.Ready p r t l d h g = refl
+done_phase phase.Waiting p r t l d h g = h
+done_phase (phase.Turning x y) p r t l d h g = g x y
+done_phase phase.Ended p r t l d h g = refl
+done_phase phase.Stuck p r t l d h g = refl
 
 pub ended_is : (f : Frame) → is_done (view f).1 ≡ done_by (out-Frame f).phase (is_last (out-Frame f).kind (out-Frame f).at (length (views (out-Frame f).parts.items))) (part_done (slice_get (views (out-Frame f).parts.items) (place_of (out-Frame f).kind (out-Frame f).at)))
 ended_is f =
     let o = out-Frame f in
     let vs = views o.parts.items in
-    ap (λ (v : View). is_done v.1) (view_out f) ∙ done_phase o.phase (plan_at o.kind o.site vs) (going_at o.kind o.site vs o.at) _ _ (going_done o.kind o.site vs o.at)
+    ap (λ (v : View). is_done v.1) (view_out f) ∙ done_phase o.phase (plan_at o.kind o.site vs) (going_at o.kind o.site vs o.at) (turning o.kind vs) _ _ (going_done o.kind o.site vs o.at) (turning_done o.kind vs)
 
 pub length-views : (fs : List Frame) → length (views fs) ≡ length fs
 length-views [] = refl
@@ -107,6 +127,8 @@ frame_begun kind.Seq i (v ∷ vs) = refl
 frame_begun (kind.If bs) i vs = refl
 frame_begun (kind.While b) i [] = refl
 frame_begun (kind.While b) i (v ∷ vs) = refl
+frame_begun (kind.Count v a n) i [] = refl
+frame_begun (kind.Count v a n) i (w ∷ vs) = refl
 
 -- what remains, by how far it is
 rest_by : (f : Frame) (p : Phase) → (out-Frame f).phase ≡ p → (view f).1 ≡ rest_at (out-Frame f).kind p (out-Frame f).site (views (out-Frame f).parts.items) (out-Frame f).at
@@ -119,6 +141,77 @@ rest_ready f h = rest_by f phase.Ready h
 
 pub rest_waiting : (f : Frame) → (out-Frame f).phase ≡ phase.Waiting → (view f).1 ≡ going_at (out-Frame f).kind (out-Frame f).site (views (out-Frame f).parts.items) (out-Frame f).at
 rest_waiting f h = rest_by f phase.Waiting h
+
+pub rest_turning : (f : Frame) (x y : ℤ) → (out-Frame f).phase ≡ phase.Turning x y → (view f).1 ≡ turning (out-Frame f).kind (views (out-Frame f).parts.items) x y
+rest_turning f x y h = rest_by f (phase.Turning x y) h
+
+-- a counted SEQ in a turn, as its body; no other kind is in a turn
+turn_own : (v : ℕ) (vs : List View) (x y : ℤ) (e : Store) → own (turn_of v vs x y) e ≡ part_own (slice_get vs 0) e
+turn_own v [] x y e = refl
+turn_own v (w ∷ vs) x y e = refl
+
+turn_waits : (v : ℕ) (vs : List View) (x y : ℤ) → waiting (turn_of v vs x y) ≡ part_waits (slice_get vs 0)
+turn_waits v [] x y = refl
+turn_waits v (w ∷ vs) x y = refl
+
+turn_output : (i v : ℕ) (vs : List View) (x y : ℤ) (e : Store) → output_at i (turn_of v vs x y) e ≡ part_output i (slice_get vs 0) e
+turn_output i v [] x y e = refl
+turn_output i v (w ∷ vs) x y e = refl
+
+turn_assigned : (v : ℕ) (vs : List View) (x y : ℤ) (e : Store) → assigned_at (turn_of v vs x y) e ≡ part_assigned (slice_get vs 0) e
+turn_assigned v [] x y e = refl
+turn_assigned v (w ∷ vs) x y e = refl
+
+pub turning_is : (k : Kind) (vs : List View) (x y : ℤ) → is_counted k ≡ true → (v : ℕ) × (turning k vs x y ≡ turn_of v vs x y)
+turning_is kind.Skip vs x y h = absurd (let e : false ≡ true = h in cc)
+turning_is kind.Stop vs x y h = absurd (let e : false ≡ true = h in cc)
+turning_is (kind.Set v a) vs x y h = absurd (let e : false ≡ true = h in cc)
+turning_is (kind.Send c a) vs x y h = absurd (let e : false ≡ true = h in cc)
+turning_is (kind.Receive c v) vs x y h = absurd (let e : false ≡ true = h in cc)
+turning_is (kind.Stopch c) vs x y h = absurd (let e : false ≡ true = h in cc)
+turning_is kind.Seq vs x y h = absurd (let e : false ≡ true = h in cc)
+turning_is (kind.If bs) vs x y h = absurd (let e : false ≡ true = h in cc)
+turning_is (kind.While b) vs x y h = absurd (let e : false ≡ true = h in cc)
+turning_is (kind.Count v a n) vs x y h = (v, refl)
+
+pub turning_not : (k : Kind) (vs : List View) (x y : ℤ) → is_counted k ≡ false → turning k vs x y ≡ Stopped
+turning_not kind.Skip vs x y h = refl
+turning_not kind.Stop vs x y h = refl
+turning_not (kind.Set v a) vs x y h = refl
+turning_not (kind.Send c a) vs x y h = refl
+turning_not (kind.Receive c v) vs x y h = refl
+turning_not (kind.Stopch c) vs x y h = refl
+turning_not kind.Seq vs x y h = refl
+turning_not (kind.If bs) vs x y h = refl
+turning_not (kind.While b) vs x y h = refl
+turning_not (kind.Count v a n) vs x y h = absurd (let e : true ≡ false = h in cc)
+
+pub turning_own : (f : Frame) (x y : ℤ) (e : Store) → (out-Frame f).phase ≡ phase.Turning x y → is_counted (out-Frame f).kind ≡ true → own (view f).1 e ≡ part_own (slice_get (views (out-Frame f).parts.items) 0) e
+turning_own f x y e h k =
+    let vs = views (out-Frame f).parts.items in
+    let t = turning_is (out-Frame f).kind vs x y k in
+    ap (λ (r : Rest). own r e) (rest_turning f x y h ∙ t.1) ∙ turn_own t.0 vs x y e
+
+pub turning_waits : (f : Frame) (x y : ℤ) → (out-Frame f).phase ≡ phase.Turning x y → is_counted (out-Frame f).kind ≡ true → waiting (view f).1 ≡ part_waits (slice_get (views (out-Frame f).parts.items) 0)
+turning_waits f x y h k =
+    let vs = views (out-Frame f).parts.items in
+    let t = turning_is (out-Frame f).kind vs x y k in
+    ap waiting (rest_turning f x y h ∙ t.1) ∙ turn_waits t.0 vs x y
+
+pub turning_output : (i : ℕ) (f : Frame) (x y : ℤ) (e : Store) → (out-Frame f).phase ≡ phase.Turning x y → is_counted (out-Frame f).kind ≡ true → output_at i (view f).1 e ≡ part_output i (slice_get (views (out-Frame f).parts.items) 0) e
+turning_output i f x y e h k =
+    let vs = views (out-Frame f).parts.items in
+    let t = turning_is (out-Frame f).kind vs x y k in
+    ap (λ (r : Rest). output_at i r e) (rest_turning f x y h ∙ t.1) ∙ turn_output i t.0 vs x y e
+
+pub turning_assigned : (f : Frame) (x y : ℤ) (e : Store) → (out-Frame f).phase ≡ phase.Turning x y → is_counted (out-Frame f).kind ≡ true → assigned_at (view f).1 e ≡ part_assigned (slice_get (views (out-Frame f).parts.items) 0) e
+turning_assigned f x y e h k =
+    let vs = views (out-Frame f).parts.items in
+    let t = turning_is (out-Frame f).kind vs x y k in
+    ap (λ (r : Rest). assigned_at r e) (rest_turning f x y h ∙ t.1) ∙ turn_assigned t.0 vs x y e
+
+pub turning_none : (f : Frame) (x y : ℤ) → (out-Frame f).phase ≡ phase.Turning x y → is_counted (out-Frame f).kind ≡ false → (view f).1 ≡ Stopped
+turning_none f x y h k = rest_turning f x y h ∙ turning_not (out-Frame f).kind (views (out-Frame f).parts.items) x y k
 
 pub rest_ended : (f : Frame) → (out-Frame f).phase ≡ phase.Ended → (view f).1 ≡ Done
 rest_ended f h = rest_by f phase.Ended h
@@ -137,6 +230,7 @@ going_part (kind.Stopch c) i vs at h = absurd (let e : false ≡ true = h in cc)
 going_part kind.Seq i vs at h = refl
 going_part (kind.If bs) i vs at h = refl
 going_part (kind.While b) i vs at h = refl
+going_part (kind.Count v a n) i vs at h = absurd (let e : false ≡ true = h in cc)
 
 -- one that has none waits, or never goes on
 pub data IsIdle : Rest → Type 0 where
@@ -154,6 +248,7 @@ going_idle (kind.Stopch c) i vs at h = idle_stopped
 going_idle kind.Seq i vs at h = absurd (let e : true ≡ false = h in cc)
 going_idle (kind.If bs) i vs at h = absurd (let e : true ≡ false = h in cc)
 going_idle (kind.While b) i vs at h = absurd (let e : true ≡ false = h in cc)
+going_idle (kind.Count v a n) i vs at h = idle_stopped
 
 pub rest_idle : (f : Frame) → (out-Frame f).phase ≡ phase.Waiting → has_parts (out-Frame f).kind ≡ false → IsIdle (view f).1
 rest_idle f h k =
@@ -185,6 +280,7 @@ going_nothing (kind.Stopch c) i vs at h s r = refl
 going_nothing kind.Seq i vs at h s r = absurd (let e : true ≡ false = h in cc)
 going_nothing (kind.If bs) i vs at h s r = absurd (let e : true ≡ false = h in cc)
 going_nothing (kind.While b) i vs at h s r = absurd (let e : true ≡ false = h in cc)
+going_nothing (kind.Count v a n) i vs at h s r = refl
 
 pub rest_nothing : (f : Frame) → (out-Frame f).phase ≡ phase.Waiting → has_parts (out-Frame f).kind ≡ false → ((c : ℕ) (a : Value) → (out-Frame f).kind ≡ kind.Send c a → ⊥) → ((c v : ℕ) → (out-Frame f).kind ≡ kind.Receive c v → ⊥) → (view f).1 ≡ Stopped
 rest_nothing f h k s r =
@@ -261,3 +357,11 @@ while_waits i b (v ∷ vs) e h = absurd (omega arith)
 pub while_tests : (i : ℕ) (b : Test) (vs : List View) (e : Store) → (length vs ≡ 0 → ⊥) → own (Fresh (while_of i b vs)) e ≡ Quiet i ∷ []
 while_tests i b [] e h = absurd (h refl)
 while_tests i b (v ∷ vs) e h = refl
+
+pub count_waits : (i v : ℕ) (a n : Exp) (vs : List View) (e : Store) → length vs ≡ 0 → own (Fresh (count_of i v a n vs)) e ≡ []
+count_waits i v a n [] e h = refl
+count_waits i v a n (w ∷ vs) e h = absurd (omega arith)
+
+pub count_tests : (i v : ℕ) (a n : Exp) (vs : List View) (e : Store) → (length vs ≡ 0 → ⊥) → own (Fresh (count_of i v a n vs)) e ≡ Quiet i ∷ []
+count_tests i v a n [] e h = absurd (h refl)
+count_tests i v a n (w ∷ vs) e h = refl

@@ -1,5 +1,9 @@
+pub mod Answered
 pub mod Beginning
+pub mod Changed
+pub mod Deep
 pub mod Doing
+pub mod Everywhere
 pub mod Fitting
 pub mod Frames
 pub mod GoingOn
@@ -9,11 +13,16 @@ pub mod Listing
 pub mod Lists
 pub mod Made
 pub mod Making
+pub mod Offending
 pub mod Preorder
+pub mod Numbers
+pub mod Reaching
 pub mod Rests
 pub mod Single
 pub mod Sites
 pub mod Stepping
 pub mod Stores
+pub mod Turns
 pub mod Unused
+pub mod Using
 pub mod Waiting

@@ -1,47 +1,30 @@
 -- How frames are made of a process.
-use Rattle.std.proofs.Common.{◌≡◌, ℕ, zero, suc, ◌+◌, ◌<◌, refl, ap, sym, ◌∙◌, List, [], ◌∷◌, ◌++◌, map, length, get_or, drop, arith, add-one}
+use Rattle.std.proofs.Common.{◌≡◌, ℕ, Bool, true, false, ◌&&◌, append_assoc, ◌≤◌, subst, suc, ◌+◌, refl, ap, sym, ◌∙◌, List, [], ◌∷◌, ◌++◌, map, arith, add-one}
 use Rattle.vc_occam.specs.declared.condition.Cond.{Cond}
+use Rattle.vc_occam.specs.declared.expression.Expr.{Expr}
 use Rattle.vc_occam.specs.declared.frame.Frame.{Frame}
+use Rattle.vc_occam.specs.declared.process.Branch.{Branch}
 use Rattle.vc_occam.specs.declared.process.Process.{Process}
 use Rattle.vc_occam.specs.declared.process.Process.TheVariants as process
 use Rattle.vc_occam.specs.declared.process.Process.TheOpen as layer
 use Rattle.vc_occam.specs.declared.process.Process.TheFolds.{fold-roll-Process}
-use Rattle.vc_occam.specs.Frames.{View, plans_of, view, views, while_of}
-use Rattle.vc_occam.specs.InOrder.{in_order, number}
-use Rattle.vc_occam.specs.Numbering.{Numbered, NumberedBranch, NumberedGuard, numbered, parts_from}
+use Rattle.vc_occam.specs.Frames.{View, branches_of, count_of, plans_of, view, views, while_of}
+use Rattle.vc_occam.specs.InOrder.{branch_layer, guard_layer, number, number_branch}
+use Rattle.vc_occam.specs.Numbering.{Numbered, NumberedBranch, NumberedGuard, branch_sites, branches_from, numbered, part_sites, parts_from}
+use Rattle.vc_occam.specs.ProcessLimits.{branches_sequential, parts_sequential, sequential}
 use Rattle.vc_occam.specs.Remains.{Fresh}
-use Rattle.vc_occam.specs.Syntax.{Proc, Procs, SEQ, WHILE, part}
-use Rattle.vc_occam.specs.Terms.{test}
-use Rattle.vc_occam.specs.Wholes.{whole_from, wholes_from}
+use Rattle.vc_occam.specs.Syntax.{Branches, Proc, Procs, COUNT, IF, SEQ, WHILE, branch, part}
+use Rattle.vc_occam.specs.Terms.{exp, test}
+use Rattle.vc_occam.specs.Wholes.{branch_wholes_from, tests, whole_from, wholes_from}
+use Rattle.vc_occam.proofs.Numbers.{number_if, number_seq}
 
 pub plans_wholes : (i : ℕ) (ns : List Numbered) → plans_of (wholes_from i ns) ≡ parts_from i ns
 plans_wholes i [] = refl
 plans_wholes i (n ∷ ns) = ap (part (n.tree i)) (plans_wholes (i + n.sites) ns)
 
-pub drop_map : (k : ℕ) (ps : List Process) (p : Process) → k < length ps → get_or ps k p ≡ p → map number (drop k ps) ≡ number p ∷ map number (drop (suc k) ps)
-drop_map k [] p l h = absurd (omega arith)
-drop_map zero (q ∷ ps) p l h = ap (λ x. number x ∷ map number ps) h
-drop_map (suc k) (q ∷ ps) p l h = drop_map k ps p (omega arith) h
-
-pub drop_order : (k : ℕ) (ps : List Process) (p : Process) → k < length ps → get_or ps k p ≡ p → map in_order (drop k ps) ≡ in_order p ∷ map in_order (drop (suc k) ps)
-drop_order k [] p l h = absurd (omega arith)
-drop_order zero (q ∷ ps) p l h = ap (λ x. in_order x ∷ map in_order ps) h
-drop_order (suc k) (q ∷ ps) p l h = drop_order k ps p (omega arith) h
-
 pub views_push : (fs : List Frame) (f : Frame) → views (fs ++ f ∷ []) ≡ views fs ++ view f ∷ []
 views_push [] f = refl
 views_push (g ∷ fs) f = ap (λ vs. view g ∷ vs) (views_push fs f)
-
-abbrev numbered_branch : layer.Branch-F Numbered NumberedBranch NumberedGuard → NumberedBranch
-numbered_branch b = record { when = test b.cond; then_do = b.body }
-
-abbrev numbered_guard : layer.Guard-F Numbered NumberedBranch NumberedGuard → NumberedGuard
-numbered_guard g = record { when = test g.cond; chan = g.chan; var = g.var; then_do = g.body }
-
--- a SEQ as it is numbered
-number_seq : (p : Process) (ps : List Process) → p ≡ process.Seq ps → number p ≡ numbered (layer.Seq (map number ps))
-unfolding number
-number_seq p ps h = ap number (h ∙ sym (process.rolls-Seq ps)) ∙ fold-roll-Process Numbered NumberedBranch NumberedGuard numbered numbered_branch numbered_guard (layer.Seq ps)
 
 pub seq_whole : (site : ℕ) (p : Process) (ps : List Process) (vs : List View) → p ≡ process.Seq ps → vs ≡ wholes_from (site + 1) (map number ps) → ◌≡◌ {A = View} (SEQ site (plans_of vs), Fresh (SEQ site (plans_of vs))) (whole_from site (number p))
 seq_whole site p ps vs h g =
@@ -51,9 +34,72 @@ seq_whole site p ps vs h g =
 -- a WHILE as it is numbered
 number_while : (p : Process) (b : Cond) (q : Process) → p ≡ process.While b q → number p ≡ numbered (layer.While b (number q))
 unfolding number
-number_while p b q h = ap number (h ∙ sym (process.rolls-While b q)) ∙ fold-roll-Process Numbered NumberedBranch NumberedGuard numbered numbered_branch numbered_guard (layer.While b q)
+number_while p b q h = ap number (h ∙ sym (process.rolls-While b q)) ∙ fold-roll-Process Numbered NumberedBranch NumberedGuard numbered branch_layer guard_layer (layer.While b q)
 
 pub while_whole : (site : ℕ) (p : Process) (b c : Cond) (q : Process) (vs : List View) → p ≡ process.While b q → c ≡ b → vs ≡ whole_from (site + 1) (number q) ∷ [] → ◌≡◌ {A = View} (while_of site (test c) vs, Fresh (while_of site (test c) vs)) (whole_from site (number p))
 while_whole site p b c q vs h e g =
     let W : Proc → View = λ x. (x, Fresh x) in
     ap W (ap (while_of site (test c)) g ∙ ap (λ d. WHILE site (test d) ((number q).tree (site + 1))) e ∙ ap (λ k. WHILE site (test b) ((number q).tree k)) (add-one site)) ∙ ap (whole_from site) (sym (number_while p b q h))
+
+-- an IF as it is numbered
+pub branches_wholes : (i : ℕ) (bs : List NumberedBranch) → branches_of (tests bs) (branch_wholes_from i bs) ≡ branches_from i bs
+branches_wholes i [] = refl
+branches_wholes i (b ∷ bs) = ap (branch b.when (b.then_do.tree i)) (branches_wholes (i + b.then_do.sites) bs)
+
+pub if_whole : (site : ℕ) (p : Process) (bs : List Branch) (cs : List Cond) (vs : List View) → p ≡ process.If bs → map test cs ≡ tests (map number_branch bs) → vs ≡ branch_wholes_from (site + 1) (map number_branch bs) →
+    ◌≡◌ {A = View} (IF site (branches_of (map test cs) vs), Fresh (IF site (branches_of (map test cs) vs))) (whole_from site (number p))
+if_whole site p bs cs vs h e g =
+    let W : Branches → View = λ qs. (IF site qs, Fresh (IF site qs)) in
+    let ns = map number_branch bs in
+    ap W (ap (branches_of (map test cs)) g ∙ ap (λ ts. branches_of ts (branch_wholes_from (site + 1) ns)) e ∙ branches_wholes (site + 1) ns ∙ ap (λ k. branches_from k ns) (add-one site)) ∙ ap (whole_from site) (sym (number_if p bs h))
+
+-- a counted SEQ as it is numbered
+number_count : (p : Process) (v : ℕ) (a n : Expr) (q : Process) → p ≡ process.Count v a n q → number p ≡ numbered (layer.Count v a n (number q))
+unfolding number
+number_count p v a n q h = ap number (h ∙ sym (process.rolls-Count v a n q)) ∙ fold-roll-Process Numbered NumberedBranch NumberedGuard numbered branch_layer guard_layer (layer.Count v a n q)
+
+pub count_whole : (site : ℕ) (p : Process) (v : ℕ) (a n b m : Expr) (q : Process) (vs : List View) → p ≡ process.Count v a n q → b ≡ a → m ≡ n → vs ≡ whole_from (site + 1) (number q) ∷ [] →
+    ◌≡◌ {A = View} (count_of site v (exp b) (exp m) vs, Fresh (count_of site v (exp b) (exp m) vs)) (whole_from site (number p))
+count_whole site p v a n b m q vs h e f g =
+    let W : Proc → View = λ x. (x, Fresh x) in
+    ap W (ap (count_of site v (exp b) (exp m)) g ∙ ap (λ d. COUNT site v (exp d) (exp m) ((number q).tree (site + 1))) e ∙ ap (λ d. COUNT site v (exp a) (exp d) ((number q).tree (site + 1))) f ∙ ap (λ k. COUNT site v (exp a) (exp n) ((number q).tree k)) (add-one site))
+    ∙ ap (whole_from site) (sym (number_count p v a n q h))
+
+and_right : (a b : Bool) → (a && b) ≡ true → b ≡ true
+and_right true b h = h
+and_right false b h = absurd (let z : false ≡ true = h in cc)
+
+-- one part more, or one branch
+pub part_made : (next later top : ℕ) (n : Numbered) (ns rest : List Numbered) (vs ws whole : List View) → ns ≡ n ∷ rest → later ≡ next + n.sites → ws ≡ vs ++ whole_from next n ∷ [] →
+    (parts_sequential (parts_from next ns) ≡ true) × (next + part_sites ns ≡ top) × (vs ++ wholes_from next ns ≡ whole) →
+    (parts_sequential (parts_from later rest) ≡ true) × (later + part_sites rest ≡ top) × (ws ++ wholes_from later rest ≡ whole)
+part_made next later top n ns rest vs ws whole h e f (a, b, c) =
+    let s : (sequential (n.tree next) && parts_sequential (parts_from (next + n.sites) rest)) ≡ true = ap (λ xs. parts_sequential (parts_from next xs)) (sym h) ∙ a in
+    let m : next + (n.sites + part_sites rest) ≡ top = ap (λ xs. next + part_sites xs) (sym h) ∙ b in (
+      ap (λ k. parts_sequential (parts_from k rest)) e ∙ and_right (sequential (n.tree next)) (parts_sequential (parts_from (next + n.sites) rest)) s,
+      omega arith,
+      (ap (λ us. us ++ wholes_from later rest) f ∙ append_assoc vs (whole_from next n ∷ []) (wholes_from later rest) ∙ ap (λ k. vs ++ whole_from next n ∷ wholes_from k rest) e
+          ∙ ap (λ xs. vs ++ wholes_from next xs) (sym h) ∙ c),
+    )
+
+pub branch_made : (next later top : ℕ) (n : NumberedBranch) (ns rest : List NumberedBranch) (vs ws whole : List View) → ns ≡ n ∷ rest → later ≡ next + n.then_do.sites → ws ≡ vs ++ whole_from next n.then_do ∷ [] →
+    (branches_sequential (branches_from next ns) ≡ true) × (next + branch_sites ns ≡ top) × (vs ++ branch_wholes_from next ns ≡ whole) →
+    (branches_sequential (branches_from later rest) ≡ true) × (later + branch_sites rest ≡ top) × (ws ++ branch_wholes_from later rest ≡ whole)
+branch_made next later top n ns rest vs ws whole h e f (a, b, c) =
+    let p = n.then_do in
+    let s : (sequential (p.tree next) && branches_sequential (branches_from (next + p.sites) rest)) ≡ true = ap (λ xs. branches_sequential (branches_from next xs)) (sym h) ∙ a in
+    let m : next + (p.sites + branch_sites rest) ≡ top = ap (λ xs. next + branch_sites xs) (sym h) ∙ b in (
+      ap (λ k. branches_sequential (branches_from k rest)) e ∙ and_right (sequential (p.tree next)) (branches_sequential (branches_from (next + p.sites) rest)) s,
+      omega arith,
+      (ap (λ us. us ++ branch_wholes_from later rest) f ∙ append_assoc vs (whole_from next p ∷ []) (branch_wholes_from later rest) ∙ ap (λ k. vs ++ whole_from next p ∷ branch_wholes_from k rest) e
+          ∙ ap (λ xs. vs ++ branch_wholes_from next xs) (sym h) ∙ c),
+    )
+
+-- the body of a counted SEQ
+pub count_within : (p : Process) (v : ℕ) (a n : Expr) (q r : Process) (site : ℕ) → p ≡ process.Count v a n q → r ≡ q → sequential ((number p).tree site) ≡ true → site + (number p).sites ≤ 65536 → (sequential ((number r).tree (site + 1)) ≡ true) × (site + 1 + (number r).sites ≤ 65536)
+count_within p v a n q r site h e k l =
+    let m = number_count p v a n q h in
+    let s : sequential ((number q).tree (suc site)) ≡ true = subst (λ (z : Numbered). sequential (z.tree site) ≡ true) m k in
+    let t : site + suc (number q).sites ≤ 65536 = subst (λ (z : Numbered). site + z.sites ≤ 65536) m l in
+    let u : site + 1 + (number q).sites ≤ 65536 = omega arith in
+    (ap (λ x. sequential ((number x).tree (site + 1))) e ∙ ap (λ j. sequential ((number q).tree j)) (add-one site) ∙ s, subst (λ x. site + 1 + (number x).sites ≤ 65536) (sym e) u)

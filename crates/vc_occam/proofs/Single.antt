@@ -1,5 +1,5 @@
 -- What remains where nothing runs side by side: one site is alive.
-use Rattle.std.proofs.Common.{◌≡◌, ℕ, zero, suc, true, refl, ap, sym, ◌∙◌, subst, List, [], ◌∷◌, map, Option, Some, None, arith}
+use Rattle.std.proofs.Common.{◌≡◌, ℕ, ℤ, zero, suc, true, refl, ap, sym, ◌∙◌, subst, List, [], ◌∷◌, map, Option, Some, None, arith}
 use Rattle.std.proofs.lemmas.Bool.Decides.{nat_tests}
 use Rattle.std.specs.Prelude.{slice_get, ◌==◌}
 use Rattle.std.specs.List.{Contains}
@@ -21,7 +21,7 @@ use Rattle.vc_occam.specs.Messages.{message}
 use Rattle.vc_occam.specs.Traces.{Comm, Out, Fin, In, Stp}
 use Rattle.vc_occam.specs.Values.{Store}
 use Rattle.vc_occam.specs.Remains.{Rest, Done, Stopped, Fresh, Finishing, Getting, Then, Turns, Beside, Lawful, Step, does_skip, does_empty_seq, does_empty_par, does_assign, faults_assign, faults_out, does_if, does_turn, does_leave, faults_while, does_count, does_count_none, faults_count, does_offer, does_finish, does_input, waits_input, gets, does_stop, does_choose, waits_choose, in_then, in_turns, in_left, in_right}
-use Rattle.vc_occam.specs.Frames.{Did, View, behind, follow, going_at, rest_at, view, views}
+use Rattle.vc_occam.specs.Frames.{Did, View, turn_of, turning, behind, follow, going_at, rest_at, view, views}
 use Rattle.vc_occam.specs.Moving.{site_of, deed_for, deed_on}
 use Rattle.vc_occam.specs.States.{State, Acts, Wants, Chooses, IsTraced, Resumes, StepsTo, bytes_or_none, came, carried, doing, output_at, sent_by, Waiting, output, input, waiting}
 use Rattle.vc_occam.proofs.Frames.{view_roll}
@@ -76,11 +76,29 @@ single_going (kind.Receive c v) i vs at h = tt
 single_going (kind.Stopch c) i vs at h = tt
 single_going kind.Seq i vs at h = single_follow (slice_get vs at) (behind kind.Seq i vs at) (single_get vs at h)
 single_going (kind.If bs) i vs at h = single_follow (slice_get vs at) (behind (kind.If bs) i vs at) (single_get vs at h)
+single_going (kind.Count v a n) i vs at h = tt
 single_going (kind.While b) i vs at h = single_follow (slice_get vs 0) (behind (kind.While b) i vs at) (single_get vs 0 h)
+
+single_turn : (v : ℕ) (vs : List View) (x y : ℤ) → AllSingle vs → Single (turn_of v vs x y)
+single_turn v [] x y h = tt
+single_turn v (w ∷ vs) x y h = h.0
+
+single_turning : (k : Kind) (vs : List View) (x y : ℤ) → AllSingle vs → Single (turning k vs x y)
+single_turning kind.Skip vs x y h = tt
+single_turning kind.Stop vs x y h = tt
+single_turning (kind.Set v a) vs x y h = tt
+single_turning (kind.Send c a) vs x y h = tt
+single_turning (kind.Receive c v) vs x y h = tt
+single_turning (kind.Stopch c) vs x y h = tt
+single_turning kind.Seq vs x y h = tt
+single_turning (kind.If bs) vs x y h = tt
+single_turning (kind.While b) vs x y h = tt
+single_turning (kind.Count v a n) vs x y h = single_turn v vs x y h
 
 single_phase : (ph : Phase) (k : Kind) (i : ℕ) (vs : List View) (at : ℕ) → AllSingle vs → Single (rest_at k ph i vs at)
 single_phase phase.Ready k i vs at h = tt
 single_phase phase.Waiting k i vs at h = single_going k i vs at h
+single_phase (phase.Turning x y) k i vs at h = single_turning k vs x y h
 single_phase phase.Ended k i vs at h = tt
 single_phase phase.Stuck k i vs at h = tt
 

@@ -8,12 +8,12 @@ use Rattle.vc_occam.specs.declared.kind.Kind.{Kind}
 use Rattle.vc_occam.specs.declared.kind.Kind.TheVariants as kind
 use Rattle.vc_occam.specs.declared.phase.Phase.{Phase}
 use Rattle.vc_occam.specs.declared.phase.Phase.TheVariants as phase
-use Rattle.vc_occam.specs.Syntax.{Test, Proc, STOP, SEQ, IF, WHILE, Procs, no_parts, part, Branches, no_branches, branch, Constant}
-use Rattle.vc_occam.specs.Terms.{test}
+use Rattle.vc_occam.specs.Syntax.{Exp, Test, Proc, STOP, SEQ, IF, WHILE, COUNT, Procs, no_parts, part, Branches, no_branches, branch, Constant}
+use Rattle.vc_occam.specs.Terms.{exp, test}
 use Rattle.vc_occam.specs.Usage.{changes, changes_all, changes_branches}
 use Rattle.vc_occam.specs.Values.{Store}
 use Rattle.vc_occam.specs.Remains.{Rest, Done, Stopped, Fresh, Finishing, Getting, Then, Turns, Beside, and_then, then_on, in_then}
-use Rattle.vc_occam.specs.Frames.{Able, Did, HasVariables, PartHasVariables, View, assigned_at, begun_at, behind, branches_of, follow, follow_on, has_parts, is_done, on_part, part_assigned, part_done, part_rest, place_of, plan_at, plans, plans_of, rest_at, view, views, while_of}
+use Rattle.vc_occam.specs.Frames.{Able, Did, HasVariables, PartHasVariables, View, assigned_at, begun_at, behind, branches_of, count_of, follow, follow_on, has_parts, is_done, on_part, part_assigned, part_done, part_rest, place_of, plan_at, plans, plans_of, rest_at, view, views, while_of}
 use Rattle.vc_occam.specs.Nexts.{goes_further, seq_begun, seq_next}
 use Rattle.vc_occam.proofs.Beginning.{begun_plans}
 use Rattle.vc_occam.proofs.Frames.{going_part, follow_assigned}
@@ -67,6 +67,15 @@ unfolding while_by
 while_is i b [] = refl
 while_is i b (v ∷ vs) = refl
 
+count_by : ℕ → ℕ → Exp → Exp → List Proc → Proc
+count_by i v a n [] = STOP i
+count_by i v a n (p ∷ ps) = COUNT i v a n p
+
+count_is : (i v : ℕ) (a n : Exp) (vs : List View) → count_of i v a n vs ≡ count_by i v a n (plans vs)
+unfolding count_by
+count_is i v a n [] = refl
+count_is i v a n (w ∷ vs) = refl
+
 pub same_plan : (k : Kind) (i : ℕ) (vs ws : List View) → plans ws ≡ plans vs → plan_at k i ws ≡ plan_at k i vs
 same_plan kind.Skip i vs ws h = refl
 same_plan kind.Stop i vs ws h = refl
@@ -77,6 +86,7 @@ same_plan (kind.Stopch c) i vs ws h = refl
 same_plan kind.Seq i vs ws h = ap (SEQ i) (procs_is ws ∙ ap procs_of h ∙ sym (procs_is vs))
 same_plan (kind.If bs) i vs ws h = ap (IF i) (branches_is (map test bs) ws ∙ ap (branches_by (map test bs)) h ∙ sym (branches_is (map test bs) vs))
 same_plan (kind.While b) i vs ws h = while_is i (test b) ws ∙ ap (while_by i (test b)) h ∙ sym (while_is i (test b) vs)
+same_plan (kind.Count v a n) i vs ws h = count_is i v (exp a) (exp n) ws ∙ ap (count_by i v (exp a) (exp n)) h ∙ sym (count_is i v (exp a) (exp n) vs)
 
 drop_plans : (k : ℕ) (vs : List View) → plans (drop k vs) ≡ drop k (plans vs)
 drop_plans zero vs = refl
@@ -93,6 +103,7 @@ same_behind (kind.Stopch c) i vs ws at h = refl
 same_behind kind.Seq i vs ws at h =
     procs_is (drop (suc at) ws) ∙ ap procs_of (drop_plans (suc at) ws ∙ ap (drop (suc at)) h ∙ sym (drop_plans (suc at) vs)) ∙ sym (procs_is (drop (suc at) vs))
 same_behind (kind.If bs) i vs ws at h = refl
+same_behind (kind.Count v a n) i vs ws at h = refl
 same_behind (kind.While b) i vs ws at h = ap (λ p. part p no_parts) (same_plan (kind.While b) i vs ws h)
 
 some_plans : (vs : List View) (k : ℕ) → is_some (slice_get vs k) ≡ is_some (slice_get (plans vs) k)
@@ -138,6 +149,7 @@ place_variables (kind.Receive c v) i vs at n h g = absurd (let z : false ≡ tru
 place_variables (kind.Stopch c) i vs at n h g = absurd (let z : false ≡ true = h in cc)
 place_variables kind.Seq i vs at n h g = all_variables vs at n g
 place_variables (kind.If bs) i vs at n h g = branch_variables (map test bs) vs at n g
+place_variables (kind.Count v a m) i vs at n h g = absurd (let z : false ≡ true = h in cc)
 place_variables (kind.While b) i vs at n h g = while_variables i (test b) vs n g
 
 pub within_variables : (k : Kind) (i : ℕ) (vs : List View) (at p n : ℕ) → has_parts k ≡ true → p ≡ place_of k at → HasVariables (plan_at k i vs) n → PartHasVariables (slice_get vs p) n
@@ -164,16 +176,18 @@ never r q e f s d (ks, p, g, st) = elim st [ ]
 pub never_done : (r q : Rest) (e f : Store) (s : ℕ) (d : Deed) → Able Done e s d → Did r e s d q f
 never_done r q e f s d (ks, p, g, st) = elim st [ ]
 
-pub alone_plan : (k : Kind) (i : ℕ) (vs : List View) → has_parts k ≡ false → plan_at k i vs ≡ plan_at k i []
-alone_plan kind.Skip i vs h = refl
-alone_plan kind.Stop i vs h = refl
-alone_plan (kind.Set v a) i vs h = refl
-alone_plan (kind.Send c a) i vs h = refl
-alone_plan (kind.Receive c v) i vs h = refl
-alone_plan (kind.Stopch c) i vs h = refl
-alone_plan kind.Seq i vs h = absurd (let z : true ≡ false = h in cc)
-alone_plan (kind.If bs) i vs h = absurd (let z : true ≡ false = h in cc)
-alone_plan (kind.While b) i vs h = absurd (let z : true ≡ false = h in cc)
+-- what one without parts changes
+pub alone_variables : (k : Kind) (i : ℕ) (vs : List View) (n : ℕ) → has_parts k ≡ false → HasVariables (plan_at k i vs) n → HasVariables (plan_at k i []) n
+alone_variables kind.Skip i vs n h g = g
+alone_variables kind.Stop i vs n h g = g
+alone_variables (kind.Set v a) i vs n h g = g
+alone_variables (kind.Send c a) i vs n h g = g
+alone_variables (kind.Receive c v) i vs n h g = g
+alone_variables (kind.Stopch c) i vs n h g = g
+alone_variables kind.Seq i vs n h g = absurd (let z : true ≡ false = h in cc)
+alone_variables (kind.If bs) i vs n h g = absurd (let z : true ≡ false = h in cc)
+alone_variables (kind.While b) i vs n h g = absurd (let z : true ≡ false = h in cc)
+alone_variables (kind.Count v a m) i vs n h g = λ w k. absurd (let z : false ≡ true = k in cc)
 
 -- one frame of a list
 pub get_view : (fs : List Frame) (k : ℕ) (f : Frame) → k < length fs → f ≡ get_or fs k f → slice_get (views fs) k ≡ Some (view f)

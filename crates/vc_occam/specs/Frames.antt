@@ -1,5 +1,6 @@
 -- What the running code stands for: a tree of frames, each with the process that was written and what remains of it.
-use Rattle.std.specs.Prelude.{◌≡◌, ℕ, zero, suc, Bool, true, false, List, [], ◌∷◌, ◌<◌, nat_le, map, drop, slice_get, Option, Some, None, if◌then◌else◌}
+use Rattle.std.specs.Prelude.{◌≡◌, ℕ, zero, suc, ℤ, pos, ◌+ℤ◌, ◌-ℤ◌, int_lt, Bool, true, false, List, [], ◌∷◌, ◌<◌, nat_le, map, drop, slice_get, Option, Some, None, if◌then◌else◌}
+use lib.Signed.{mag}
 use Rattle.vc_occam.specs.declared.kind.Kind.{Kind}
 use Rattle.vc_occam.specs.declared.kind.Kind.TheVariants as kind
 use Rattle.vc_occam.specs.declared.phase.Phase.{Phase}
@@ -16,8 +17,8 @@ use Rattle.vc_occam.specs.declared.waits.Waits.TheVariants as waits
 use Rattle.vc_occam.specs.Values.{Store, datum_of, holds}
 use Rattle.vc_occam.specs.Traces.{Comm}
 use Rattle.vc_occam.specs.Usage.{changes}
-use Rattle.vc_occam.specs.Syntax.{Test, Constant, Proc, SKIP, STOP, Assign, Output, Input, StopChan, SEQ, IF, WHILE, Procs, no_parts, part, Branches, no_branches, branch}
-use Rattle.vc_occam.specs.Terms.{given, test}
+use Rattle.vc_occam.specs.Syntax.{Exp, Test, Constant, Proc, SKIP, STOP, Assign, Output, Input, StopChan, SEQ, IF, WHILE, COUNT, Procs, no_parts, part, Branches, no_branches, branch}
+use Rattle.vc_occam.specs.Terms.{exp, given, test}
 use Rattle.vc_occam.specs.Remains.{Rest, Done, Stopped, Fresh, Finishing, Getting, Then, Turns, and_then, then_on, begin, Step}
 use Rattle.vc_occam.specs.States.{Waiting, output, input, waiting, output_at}
 use Rattle.vc_occam.specs.First.{own}
@@ -40,6 +41,10 @@ abbrev pub while_of : ℕ → Test → List View → Proc
 while_of i b [] = STOP i
 while_of i b (v ∷ vs) = WHILE i b v.0
 
+abbrev pub count_of : ℕ → ℕ → Exp → Exp → List View → Proc
+count_of i v a n [] = STOP i
+count_of i v a n (w ∷ vs) = COUNT i v a n w.0
+
 abbrev pub plan_at : Kind → ℕ → List View → Proc
 plan_at kind.Skip i vs = SKIP i
 plan_at kind.Stop i vs = STOP i
@@ -50,6 +55,7 @@ plan_at (kind.Stopch c) i vs = StopChan i c
 plan_at kind.Seq i vs = SEQ i (plans_of vs)
 plan_at (kind.If bs) i vs = IF i (branches_of (map test bs) vs)
 plan_at (kind.While b) i vs = while_of i (test b) vs
+plan_at (kind.Count v a n) i vs = count_of i v (exp a) (exp n) vs
 
 -- what comes behind the part that a process is at: the later parts of a SEQ, or a WHILE again
 abbrev pub behind : Kind → ℕ → List View → ℕ → Procs
@@ -58,11 +64,16 @@ behind (kind.While b) i vs k = part (while_of i (test b) vs) no_parts
 behind p i vs k = no_parts
 
 -- the part that goes on, and what comes behind it
+-- it is a counted SEQ
+abbrev pub is_counted : Kind → Bool
+is_counted (kind.Count v a n) = true
+is_counted k = false
+
 abbrev pub follow : Option View → Procs → Rest
 follow None ps = Stopped
 follow (Some v) ps = and_then v.1 ps
 
--- it has parts
+-- it goes on at one of its parts; a counted SEQ goes on by turns of its body
 abbrev pub has_parts : Kind → Bool
 has_parts kind.Seq = true
 has_parts (kind.If bs) = true
@@ -83,6 +94,19 @@ going_at (kind.If bs) i vs k = follow (slice_get vs k) (behind (kind.If bs) i vs
 going_at (kind.While b) i vs k = follow (slice_get vs 0) (behind (kind.While b) i vs k)
 going_at p i vs k = Stopped
 
+-- the turns behind the one with index x, where y is the last index
+abbrev pub turns_left : ℤ → ℤ → ℕ
+turns_left x y = if int_lt x y then mag (y -ℤ x) else 0
+
+-- a counted SEQ in the turn with index x, where y is the last index
+abbrev pub turn_of : ℕ → List View → ℤ → ℤ → Rest
+turn_of v [] x y = Stopped
+turn_of v (w ∷ vs) x y = Turns w.1 v (x +ℤ pos 1) (turns_left x y) w.0
+
+abbrev pub turning : Kind → List View → ℤ → ℤ → Rest
+turning (kind.Count v a n) vs x y = turn_of v vs x y
+turning k vs x y = Stopped
+
 -- nothing comes behind the k-th of so many parts
 abbrev pub is_last : Kind → ℕ → ℕ → Bool
 is_last kind.Seq k n = nat_le n (suc k)
@@ -90,14 +114,15 @@ is_last (kind.If bs) k n = true
 is_last p k n = false
 
 -- what remains of a process that is so far
-abbrev pub so_far : Phase → Proc → Rest → Rest
-so_far phase.Ready p r = Fresh p
-so_far phase.Waiting p r = r
-so_far phase.Ended p r = Done
-so_far phase.Stuck p r = Stopped
+abbrev pub so_far : Phase → Proc → Rest → (ℤ → ℤ → Rest) → Rest
+so_far phase.Ready p r t = Fresh p
+so_far phase.Waiting p r t = r
+so_far (phase.Turning x y) p r t = t x y
+so_far phase.Ended p r t = Done
+so_far phase.Stuck p r t = Stopped
 
 abbrev pub rest_at : Kind → Phase → ℕ → List View → ℕ → Rest
-rest_at k ph i vs at = so_far ph (plan_at k i vs) (going_at k i vs at)
+rest_at k ph i vs at = so_far ph (plan_at k i vs) (going_at k i vs at) (turning k vs)
 
 -- one frame, with what its parts stand for in their place
 unfoldable pub view_step : Frame-F View → View
@@ -128,6 +153,7 @@ part_done (Some v) = is_done v.1
 abbrev pub assigned_at : Rest → Store → Option Datum
 assigned_at (Fresh (Assign i v a)) e = datum_of a e
 assigned_at (Then r ps) e = assigned_at r e
+assigned_at (Turns r v b n p) e = assigned_at r e
 assigned_at r e = None
 
 -- the moves of a part, what it waits for, the value that it outputs or assigns

@@ -1,7 +1,9 @@
+pub mod Asking
 pub mod ChannelUses
 pub mod First
 pub mod Frames
 pub mod InOrder
+pub mod Indexes
 pub mod Lawful
 pub mod Laws
 pub mod Limits

@@ -1,8 +1,12 @@
 -- How far a frame is after what its site did.
-use Rattle.std.specs.Prelude.{ℕ, suc, Bool, true, false, ◌&&◌, List, length, nat_lt, slice_get, if◌then◌else◌}
+use Rattle.std.specs.Prelude.{ℕ, zero, suc, ℤ, pos, negsuc, ◌+ℤ◌, int_lt, Bool, true, false, ◌&&◌, List, length, nat_lt, slice_get, Option, Some, None, if◌then◌else◌}
+use Rattle.vc_occam.specs.declared.datum.Datum.TheVariants as datum
+use Rattle.vc_occam.specs.declared.phase.Phase.{Phase}
 use Rattle.vc_occam.specs.declared.phase.Phase.TheVariants as phase
 use Rattle.vc_occam.specs.declared.going.Next.{Next}
 use Rattle.vc_occam.specs.Frames.{View, begun_at, part_done}
+use Rattle.vc_occam.specs.Traces.{set}
+use Rattle.vc_occam.specs.Values.{Store, within}
 
 -- an IF goes on at its branch, if it has one
 abbrev pub branch_next : ℕ → Bool → Next
@@ -27,3 +31,37 @@ seq_begun k vs = if goes_further k vs then begun_at (suc k) vs else vs
 
 abbrev pub seq_next : ℕ → List View → Next
 seq_next k vs = record { phase = phase.Waiting; at = if goes_further k vs then suc k else k }
+
+-- a counted SEQ whose base and count are worth this: it stops, ends, or begins its first turn
+abbrev pub last_phase : ℤ → Option ℤ → Phase
+last_phase x None = phase.Stuck
+last_phase x (Some y) = phase.Turning x y
+
+abbrev pub count_phase : Option ℤ → Option ℤ → Phase
+count_phase None n = phase.Stuck
+count_phase (Some x) None = phase.Stuck
+count_phase (Some x) (Some (negsuc n)) = phase.Stuck
+count_phase (Some x) (Some (pos zero)) = phase.Ended
+count_phase (Some x) (Some (pos (suc n))) = last_phase x (within (x +ℤ pos n))
+
+-- its body begins, and its index takes its value, where a turn begins
+abbrev pub count_begun : Phase → List View → List View
+count_begun (phase.Turning x y) vs = begun_at 0 vs
+count_begun ph vs = vs
+
+abbrev pub count_store : ℕ → Phase → Store → Store
+count_store v (phase.Turning x y) e = set e v (datum.Int x)
+count_store v ph e = e
+
+-- the turn with index x has ended, or goes on; y is the last index
+abbrev pub turn_phase : Bool → ℤ → ℤ → Phase
+turn_phase false x y = phase.Turning x y
+turn_phase true x y = if int_lt x y then phase.Turning (x +ℤ pos 1) y else phase.Ended
+
+abbrev pub turn_views : Bool → ℤ → ℤ → List View → List View
+turn_views false x y vs = vs
+turn_views true x y vs = if int_lt x y then begun_at 0 vs else vs
+
+abbrev pub turn_store : Bool → ℕ → ℤ → ℤ → Store → Store
+turn_store false v x y e = e
+turn_store true v x y e = if int_lt x y then set e v (datum.Int (x +ℤ pos 1)) else e

@@ -1,6 +1,6 @@
 -- What is asked of a whole process: its depth and that of its expressions, how many processes are written in it, its messages, and
 -- the channels and variables that it names.
-use Rattle.std.specs.Prelude.{ℕ, suc, ◌+◌, ◌-◌, Bool, true, false, ◌&&◌, List, length, nat_lt}
+use Rattle.std.specs.Prelude.{ℕ, ◌-◌, Bool, true, false, ◌&&◌, List, length, nat_lt}
 use Rattle.vc_occam.specs.declared.value_kind.ValueKind.{ValueKind}
 use Rattle.vc_occam.specs.declared.value_kind.ValueKind.TheVariants as of
 use Rattle.vc_occam.specs.Syntax.{Test, Constant, Compare, Both, Either, Negate, Proc, SKIP, STOP, Assign, Output, Input, StopChan, SEQ, PAR, IF, WHILE, COUNT, ALT, Procs, no_parts, part, Branches, no_branches, branch, Guards, no_guards, guard}
@@ -73,29 +73,6 @@ abbrev mutual
   guards_exps_within no_guards n = true
   guards_exps_within (guard t c v p gs) n = test_within t n && exps_within p n && guards_exps_within gs n
 
--- how many processes are written, the process itself being one
-abbrev mutual
-  pub written_in : Proc → ℕ
-  written_in (SEQ i ps) = suc (written_in_parts ps)
-  written_in (PAR i ps) = suc (written_in_parts ps)
-  written_in (IF i bs) = suc (written_in_branches bs)
-  written_in (WHILE i t p) = suc (written_in p)
-  written_in (COUNT i v a k p) = suc (written_in p)
-  written_in (ALT i gs) = suc (written_in_guards gs)
-  written_in p = 1
-
-  pub written_in_parts : Procs → ℕ
-  written_in_parts no_parts = 0
-  written_in_parts (part p ps) = written_in p + written_in_parts ps
-
-  pub written_in_branches : Branches → ℕ
-  written_in_branches no_branches = 0
-  written_in_branches (branch t p bs) = written_in p + written_in_branches bs
-
-  pub written_in_guards : Guards → ℕ
-  written_in_guards no_guards = 0
-  written_in_guards (guard t c v p gs) = written_in p + written_in_guards gs
-
 -- no literal or fill is over 65,535 bytes
 abbrev mutual
   pub in_length : Proc → Bool
@@ -149,6 +126,25 @@ abbrev mutual
   guards_names_fit no_guards kinds n = true
   guards_names_fit (guard t c v p gs) kinds n =
       test_fits t kinds && nat_lt c n && nat_lt v (length kinds) && names_fit p kinds n && guards_names_fit gs kinds n
+
+-- no process in it runs beside another, and none waits for one of several: no PAR and no ALT
+abbrev mutual
+  pub sequential : Proc → Bool
+  sequential (SEQ i ps) = parts_sequential ps
+  sequential (PAR i ps) = false
+  sequential (IF i bs) = branches_sequential bs
+  sequential (WHILE i t p) = sequential p
+  sequential (COUNT i v a k p) = sequential p
+  sequential (ALT i gs) = false
+  sequential p = true
+
+  pub parts_sequential : Procs → Bool
+  parts_sequential no_parts = true
+  parts_sequential (part p ps) = sequential p && parts_sequential ps
+
+  pub branches_sequential : Branches → Bool
+  branches_sequential no_branches = true
+  branches_sequential (branch t p bs) = sequential p && branches_sequential bs
 
 -- the words that run today: processes without parts
 abbrev pub runs_today : Proc → Bool

@@ -1,6 +1,7 @@
 -- The frames of a process that hasn't begun.
 use Rattle.std.specs.Prelude.{ℕ, ◌+◌, List, [], ◌∷◌}
-use Rattle.vc_occam.specs.Numbering.{Numbered}
+use Rattle.vc_occam.specs.Numbering.{Numbered, NumberedBranch}
+use Rattle.vc_occam.specs.Syntax.{Test}
 use Rattle.vc_occam.specs.Remains.{Fresh}
 use Rattle.vc_occam.specs.Frames.{View}
 
@@ -12,3 +13,12 @@ whole_from i n = (n.tree i, Fresh (n.tree i))
 abbrev pub wholes_from : ℕ → List Numbered → List View
 wholes_from i [] = []
 wholes_from i (n ∷ ns) = whole_from i n ∷ wholes_from (i + n.sites) ns
+
+-- branches, likewise, and their conditions
+abbrev pub branch_wholes_from : ℕ → List NumberedBranch → List View
+branch_wholes_from i [] = []
+branch_wholes_from i (b ∷ bs) = whole_from i b.then_do ∷ branch_wholes_from (i + b.then_do.sites) bs
+
+abbrev pub tests : List NumberedBranch → List Test
+tests [] = []
+tests (b ∷ bs) = b.when ∷ tests bs

@@ -1,6 +1,6 @@
 //! Processes that run: a tree of frames, each with its parts and how far it is.
 ghost use Rattle.std.specs.Prelude.{◌≡◌, slice_get};
-ghost use Rattle.vc_occam.specs.Frames.{begun_parts, begun_phase, has_parts as is_composed, is_done, is_last as nothing_behind, part_done, place_of, view, views};
+ghost use Rattle.vc_occam.specs.Frames.{begun_parts, begun_phase, is_counted, has_parts as is_composed, is_done, is_last as nothing_behind, part_done, place_of, view, views};
 ghost use Rattle.vc_occam.specs.Remains.{begin};
 
 use crate::kind::Kind;
@@ -17,7 +17,7 @@ pub(crate) struct Frame {
 }
 
 impl Kind {
-    /// Whether it has parts.
+    /// Whether it goes on at one of its parts; a counted SEQ goes on by turns of its body.
     pub(crate) fn has_parts(&self) -> bool
         ensures { result ≡ is_composed self.now }
     {
@@ -27,6 +27,13 @@ impl Kind {
             Kind::While { .. } => true,
             _ => false,
         }
+    }
+
+    /// Whether it is a counted SEQ.
+    pub(crate) fn is_counted(&self) -> bool
+        ensures { result ≡ is_counted self.now }
+    {
+        matches!(self, Kind::Count { .. })
     }
 
     /// The part that a process is at; a WHILE has one only.
@@ -64,6 +71,7 @@ impl Frame {
                     && part_ended(&self.parts, self.kind.place(self.at))
             }
             Phase::Ready => false,
+            Phase::Turning { .. } => false,
             Phase::Stuck => false,
         }
     }

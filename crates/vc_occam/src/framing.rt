@@ -2,14 +2,17 @@
 ghost use Rattle.std.specs.Prelude.{◌≡◌, ◌+◌, ◌≤◌, ◌<◌, IfOk, map, true};
 ghost use Rattle.vc_occam.specs.Frames.{plan_at, view, views};
 ghost use Rattle.vc_occam.specs.Remains.{Fresh, begin};
-ghost use Rattle.vc_occam.specs.Wholes.{whole_from, wholes_from};
-ghost use Rattle.vc_occam.specs.InOrder.{in_order, number, all};
-ghost use Rattle.vc_occam.specs.Numbering.{part_sites, written};
+ghost use Rattle.vc_occam.specs.Wholes.{branch_wholes_from, tests, whole_from, wholes_from};
+ghost use Rattle.vc_occam.specs.InOrder.{number, number_branch};
+ghost use Rattle.vc_occam.specs.Numbering.{branch_sites, branches_from, part_sites, parts_from, written};
+ghost use Rattle.vc_occam.specs.ProcessLimits.{branches_sequential, parts_sequential, sequential};
+ghost use Rattle.vc_occam.specs.Terms.{test};
 
+use crate::condition::Cond;
 use crate::frame::Frame;
 use crate::kind::Kind;
 use crate::phase::Phase;
-use crate::process::Process;
+use crate::process::{Branch, Process};
 use sqlite_items::Items;
 use std::alloc::Global;
 use vc_packets::Memory;
@@ -48,9 +51,9 @@ fn with_parts(site: u32, kind: Kind, parts: Vec<Frame>, next: u32) -> Framed
 
 /// The frame of a process that is about to begin, its sites being numbered from this one on.
 #[cycle(framing)]
-#[tactic(auto, unfolding(crate::specs::InOrder::number, crate::specs::InOrder::in_order))]
+#[tactic(auto, unfolding(crate::specs::InOrder::number, crate::specs::InOrder::number_branch))]
 pub(crate) fn frame_of(alloc: Global, process: &Process, site: u32) -> Result<Framed, Memory>
-    requires order { in_order process.now ≡ true }
+    requires sequential { sequential ((number process.now).tree site) ≡ true }
     requires sites { site + (number process.now).sites ≤ 65536 }
     ensures frame { IfOk result (λ made. view made.frame ≡ whole_from site (number process.now)) }
     ensures next { IfOk result (λ made. made.next ≡ site + (number process.now).sites) }
@@ -99,6 +102,11 @@ pub(crate) fn frame_of(alloc: Global, process: &Process, site: u32) -> Result<Fr
             let made = frames_of(alloc, parts, site + 1)?;
             Ok(with_parts(site, Kind::Seq, made.parts, made.next))
         }
+        Process::If(branches) => {
+            let conds = conds_of(alloc, branches)?;
+            let made = frames_of_branches(alloc, branches, site + 1)?;
+            Ok(with_parts(site, Kind::If { conds }, made.parts, made.next))
+        }
         Process::While { cond, body } => {
             let cond = cond.copy(alloc)?;
             let made = frame_of(alloc, body.get(), site + 1)?;
@@ -106,14 +114,66 @@ pub(crate) fn frame_of(alloc: Global, process: &Process, site: u32) -> Result<Fr
             parts.push(made.frame)?;
             Ok(with_parts(site, Kind::While { cond }, parts, made.next))
         }
+        Process::Count {
+            var,
+            base,
+            count,
+            body,
+        } => {
+            let made = frame_of(alloc, body.get(), site + 1)?;
+            let mut parts = Vec::new(alloc);
+            parts.push(made.frame)?;
+            let var = *var;
+            let base = base.copy(alloc)?;
+            let count = count.copy(alloc)?;
+            Ok(with_parts(site, Kind::Count { var, base, count }, parts, made.next))
+        }
         _ => unreachable!(),
     }
+}
+
+/// The conditions of branches.
+#[tactic(auto, unfolding(crate::specs::InOrder::number, crate::specs::InOrder::number_branch))]
+fn conds_of(alloc: Global, branches: &Items<Branch>) -> Result<Items<Cond>, Memory>
+    ensures { IfOk result (λ conds. map test conds ≡ tests (map number_branch branches.now)) }
+{
+    let mut conds = Items::new(alloc);
+    for branch in branches.as_slice() {
+        conds.push(branch.cond.copy(alloc)?)?;
+    }
+    Ok(conds)
+}
+
+/// The frames of branches that are about to begin.
+#[cycle(framing)]
+#[tactic(auto, unfolding(crate::specs::InOrder::number, crate::specs::InOrder::number_branch))]
+fn frames_of_branches(
+    alloc: Global,
+    branches: &Items<Branch>,
+    site: u32,
+) -> Result<FramedParts, Memory>
+    requires sequential { branches_sequential (branches_from site (map number_branch branches.now)) ≡ true }
+    requires sites { site + branch_sites (map number_branch branches.now) ≤ 65536 }
+    ensures parts { IfOk result (λ made. views made.parts.items ≡ branch_wholes_from site (map number_branch branches.now)) }
+    ensures next { IfOk result (λ made. made.next ≡ site + branch_sites (map number_branch branches.now)) }
+{
+    let mut frames = Vec::new(alloc);
+    let mut next = site;
+    for branch in branches.as_slice() {
+        let made = frame_of(alloc, &branch.body, next)?;
+        frames.push(made.frame)?;
+        next = made.next;
+    }
+    Ok(FramedParts {
+        parts: frames,
+        next,
+    })
 }
 
 /// The frames of parts that are about to begin.
 #[cycle(framing)]
 fn frames_of(alloc: Global, parts: &Items<Process>, site: u32) -> Result<FramedParts, Memory>
-    requires order { all (map in_order parts.now) ≡ true }
+    requires sequential { parts_sequential (parts_from site (map number parts.now)) ≡ true }
     requires sites { site + part_sites (map number parts.now) ≤ 65536 }
     ensures parts { IfOk result (λ made. views made.parts.items ≡ wholes_from site (map number parts.now)) }
     ensures next { IfOk result (λ made. made.next ≡ site + part_sites (map number parts.now)) }
@@ -133,7 +193,7 @@ fn frames_of(alloc: Global, parts: &Items<Process>, site: u32) -> Result<FramedP
 
 /// The frame of a process that has begun.
 pub(crate) fn begin_frame(alloc: Global, process: &Process) -> Result<Frame, Memory>
-    requires order { in_order process.now ≡ true }
+    requires sequential { sequential (written process.now) ≡ true }
     requires sites { (number process.now).sites ≤ 65536 }
     ensures { IfOk result (λ frame. view frame ≡ (written process.now, begin (written process.now))) }
 {

@@ -1,15 +1,18 @@
 //! How frames go on: one site does something.
-ghost use Rattle.std.specs.Prelude.{◌≡◌, ◌<◌, length, map, nat_lt, slice_get, false, true, List, [], ℕ};
+ghost use Rattle.std.specs.Prelude.{◌≡◌, ◌<◌, length, map, nat_lt, slice_get, false, true, List, [], ℕ, ℤ, ◌^◌};
 ghost use Rattle.vc_occam.specs.declared.deed.Deed.TheVariants.{Quiet};
-ghost use Rattle.vc_occam.specs.Frames.{Able, Did, HasVariables, PartHasVariables, View, assigned_at, follow_on, part_assigned, place_of, begun_at, behind, chosen_from, going_at, has_parts, part_rest, plan_at, plans, rest_at, view, views};
-ghost use Rattle.vc_occam.specs.Nexts.{branch_next, seq_begun, seq_next, turn_begun, turn_next};
+ghost use Rattle.vc_occam.specs.Frames.{Able, Did, HasVariables, PartHasVariables, View, assigned_at, is_counted, part_done, turning, follow_on, part_assigned, place_of, begun_at, behind, chosen_from, going_at, has_parts, part_rest, plan_at, plans, rest_at, view, views};
+ghost use Rattle.vc_occam.specs.Nexts.{branch_next, count_begun, count_phase, count_store, seq_begun, seq_next, turn_begun, turn_next, turn_phase, turn_store, turn_views};
 ghost use Rattle.vc_occam.specs.declared.deed.Deed.{Deed};
 ghost use Rattle.vc_occam.specs.Remains.{Fresh};
-ghost use Rattle.vc_occam.specs.Terms.{store, test};
+ghost use Rattle.vc_occam.specs.Terms.{exp, store, test};
+ghost use Rattle.vc_occam.specs.Values.{value_of};
+ghost use lib.Signed.{mag};
 
 use crate::condition::Cond;
 use crate::datum::Datum;
 use crate::deed::Deed;
+use crate::expression::Expr;
 use crate::frame::{Frame, part_ended};
 use crate::kind::Kind;
 use crate::phase::Phase;
@@ -32,6 +35,7 @@ pub(crate) fn begin_alone(
     vars: &mut Vec<Datum>,
 ) -> Phase
     requires alone { has_parts kind.now ≡ false }
+    requires uncounted { is_counted kind.now ≡ false }
     requires assigned { deed ≡ Quiet → assigned ≡ assigned_at (Fresh (plan_at kind.now own [])) (store vars.old.items) }
     requires variables { HasVariables (plan_at kind.now own []) (length vars.old.items) }
     ensures did { (vs : List View) (at : ℕ) → Able (Fresh (plan_at kind.now own vs)) (store vars.old.items) site deed → Did (Fresh (plan_at kind.now own vs)) (store vars.old.items) site deed (rest_at kind.now result own vs at) (store vars.new.items) }
@@ -91,6 +95,70 @@ pub(crate) fn end_alone(
     }
 }
 
+/// How a counted SEQ begins: with which index, and which is the last one.
+fn counted(base: &Expr, count: &Expr, vars: &[Datum]) -> Phase
+    ensures phase { result ≡ count_phase (value_of (exp base.now) (store vars.now)) (value_of (exp count.now) (store vars.now)) }
+    ensures range { (x : ℤ) → value_of (exp base.now) (store vars.now) ≡ Some x → mag x < 2 ^ 63 }
+{
+    let Some(index) = base.value(vars) else {
+        return Phase::Stuck;
+    };
+    let Some(count) = count.value(vars) else {
+        return Phase::Stuck;
+    };
+    if count < 0 {
+        return Phase::Stuck;
+    }
+    if count == 0 {
+        return Phase::Ended;
+    }
+    match index.checked_add(count - 1) {
+        Some(last) => Phase::Turning { index, last },
+        None => Phase::Stuck,
+    }
+}
+
+/// A counted SEQ begins its first turn, where it is no fault and has one.
+fn begin_turns(phase: Phase, var: u8, parts: &mut Vec<Frame>, vars: &mut Vec<Datum>)
+    requires { var < length vars.old.items }
+    ensures parts { views parts.new.items ≡ count_begun phase (views parts.old.items) }
+    ensures value { store vars.new.items ≡ count_store var phase (store vars.old.items) }
+    ensures length { length vars.new.items ≡ length vars.old.items }
+{
+    if let Phase::Turning { index, .. } = phase {
+        start_at(parts, 0);
+        set_variable(vars, var, Datum::Int(index));
+    }
+}
+
+/// Where a turn of a counted SEQ has ended, the next one begins, if there is one.
+fn after_turn(
+    var: u8,
+    index: i64,
+    last: i64,
+    parts: &mut Vec<Frame>,
+    vars: &mut Vec<Datum>,
+) -> Phase
+    requires { var < length vars.old.items }
+    ensures phase { result ≡ turn_phase (part_done (slice_get (views parts.old.items) 0)) index last }
+    ensures parts { views parts.new.items ≡ turn_views (part_done (slice_get (views parts.old.items) 0)) index last (views parts.old.items) }
+    ensures value { store vars.new.items ≡ turn_store (part_done (slice_get (views parts.old.items) 0)) var index last (store vars.old.items) }
+    ensures length { length vars.new.items ≡ length vars.old.items }
+{
+    if !part_ended(parts, 0) {
+        return Phase::Turning { index, last };
+    }
+    if index >= last {
+        return Phase::Ended;
+    }
+    start_at(parts, 0);
+    set_variable(vars, var, Datum::Int(index + 1));
+    Phase::Turning {
+        index: index + 1,
+        last,
+    }
+}
+
 /// Begins the part at a place; whether there is one.
 fn start_at(parts: &mut Vec<Frame>, at: usize) -> bool
     ensures parts { views parts.new.items ≡ begun_at at (views parts.old.items) }
@@ -145,6 +213,24 @@ fn begin_composed(own: u16, kind: &Kind, parts: &mut Vec<Frame>, vars: &[Datum])
             phase: Phase::Ended,
             at: 0,
         },
+    }
+}
+
+/// A counted SEQ evaluates its base and its count, and begins its first turn.
+fn begin_count(own: u16, kind: &Kind, parts: &mut Vec<Frame>, vars: &mut Vec<Datum>) -> Phase
+    requires counted { is_counted kind.now ≡ true }
+    requires variables { HasVariables (plan_at kind.now own (views parts.old.items)) (length vars.old.items) }
+    ensures did { (site : ℕ) (deed : Deed) (at : ℕ) → Able (Fresh (plan_at kind.now own (views parts.old.items))) (store vars.old.items) site deed → Did (Fresh (plan_at kind.now own (views parts.old.items))) (store vars.old.items) site deed (rest_at kind.now result own (views parts.new.items) at) (store vars.new.items) }
+    ensures plans { plans (views parts.new.items) ≡ plans (views parts.old.items) }
+    ensures length { length vars.new.items ≡ length vars.old.items }
+{
+    match kind {
+        Kind::Count { var, base, count } if !parts.is_empty() => {
+            let phase = counted(base, count, vars);
+            begin_turns(phase, *var, parts, vars);
+            phase
+        }
+        _ => Phase::Stuck,
     }
 }
 
@@ -241,6 +327,10 @@ fn go_on(
             if kind.has_parts() {
                 return begin_composed(own, kind, parts, vars);
             }
+            if kind.is_counted() {
+                let phase = begin_count(own, kind, parts, vars);
+                return Next { phase, at };
+            }
             let phase = begin_alone(own, kind, site, deed, assigned, vars);
             Next { phase, at }
         }
@@ -252,8 +342,41 @@ fn go_on(
             let phase = end_alone(own, kind, site, deed, vars);
             Next { phase, at }
         }
+        Phase::Turning { index, last } => {
+            let phase = go_turn(own, kind, index, last, parts, site, deed, assigned, vars);
+            Next { phase, at }
+        }
         Phase::Ended => Next { phase, at },
         Phase::Stuck => Next { phase, at },
+    }
+}
+
+/// What a site of a turn does, and how far the counted SEQ is then.
+#[cycle(go)]
+fn go_turn(
+    own: u16,
+    kind: &Kind,
+    index: i64,
+    last: i64,
+    parts: &mut Vec<Frame>,
+    site: u16,
+    deed: Deed,
+    assigned: Option<Datum>,
+    vars: &mut Vec<Datum>,
+) -> Phase
+    requires able { Able (turning kind.now (views parts.old.items) index last) (store vars.old.items) site deed }
+    requires assigned { deed ≡ Quiet → assigned ≡ assigned_at (turning kind.now (views parts.old.items) index last) (store vars.old.items) }
+    requires variables { HasVariables (plan_at kind.now own (views parts.old.items)) (length vars.old.items) }
+    ensures did { (at : ℕ) → Did (turning kind.now (views parts.old.items) index last) (store vars.old.items) site deed (rest_at kind.now result own (views parts.new.items) at) (store vars.new.items) }
+    ensures plans { plans (views parts.new.items) ≡ plans (views parts.old.items) }
+    ensures length { length vars.new.items ≡ length vars.old.items }
+{
+    match kind {
+        Kind::Count { var, .. } if !parts.is_empty() => {
+            go_within(0, parts, site, deed, assigned, vars);
+            after_turn(*var, index, last, parts, vars)
+        }
+        _ => Phase::Stuck,
     }
 }
 

@@ -1,5 +1,6 @@
 //! What a frame of a running process is.
 use crate::condition::Cond;
+use crate::expression::Expr;
 use crate::value::Value;
 use sqlite_items::Items;
 
@@ -24,4 +25,6 @@ pub(crate) enum Kind {
     If { conds: Items<Cond> },
     /// WHILE, with its condition.
     While { cond: Cond },
+    /// A counted SEQ, with its index, base and count.
+    Count { var: u8, base: Expr, count: Expr },
 }

@@ -15,22 +15,24 @@
 //!
 //! A process runs as a tree of frames (`frame.rt`), one for each process that is written, with how far it is and at which part;
 //! what it stands for is said in `specs/Frames`. A part begins, ends and begins again by a change of its frame, without memory.
-//! Frames go on for SEQ, IF, WHILE and the words without parts; [`Running::in_order`] begins a process of SEQ, WHILE and words
-//! without parts, [`Running::new`] one word without parts (`Process::runs_today`). The invariant of a [`Running`] is that the
-//! variables that its process changes are there.
+//! [`Running::in_order`] begins a process in which no PAR and no ALT stands (`Process::is_sequential`), [`Running::new`] one word
+//! without parts (`Process::runs_today`). The invariant of a [`Running`] is that the variables that its process changes are there.
 #![tactic(auto)]
 
 mod answer;
+mod asked;
 mod bytes_expression;
 mod channel_use;
 mod condition;
 mod datum;
 mod deed;
+mod depth;
 mod evaluation;
 mod expression;
 mod frame;
 mod framing;
 mod going;
+mod indexes;
 mod kind;
 mod laws;
 mod limits;
@@ -38,7 +40,6 @@ mod looking;
 mod moves;
 mod openings;
 mod operator;
-mod order;
 mod outside;
 mod phase;
 mod process;
@@ -47,11 +48,14 @@ mod relation;
 mod running;
 #[cfg(test)]
 mod tests;
+mod use_check;
 mod use_fault;
+mod uses;
 mod value;
 mod value_kind;
 mod variables;
 mod waits;
+mod written;
 
 pub use answer::Answer;
 pub use bytes_expression::BytesExpr;
@@ -64,6 +68,7 @@ pub use operator::Op;
 pub use process::{Branch, Guard, Process};
 pub use relation::Rel;
 pub use running::Running;
+pub use use_check::check_use;
 pub use use_fault::UseFault;
 pub use value::Value;
 pub use value_kind::ValueKind;

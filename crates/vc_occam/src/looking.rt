@@ -30,6 +30,12 @@ impl Frame {
                 }
                 None
             }
+            Phase::Turning { .. } => {
+                if self.kind.is_counted() {
+                    return part_move(&self.parts, 0, vars);
+                }
+                None
+            }
             Phase::Ended => None,
             Phase::Stuck => None,
         }
@@ -58,6 +64,12 @@ impl Frame {
                     _ => None,
                 }
             }
+            Phase::Turning { .. } => {
+                if self.kind.is_counted() {
+                    return part_waits(&self.parts, 0);
+                }
+                None
+            }
             Phase::Ended => None,
             Phase::Stuck => None,
         }
@@ -81,6 +93,12 @@ impl Frame {
                 }
                 Ok(None)
             }
+            Phase::Turning { .. } => {
+                if self.kind.is_counted() {
+                    return part_message(alloc, &self.parts, 0, site, vars);
+                }
+                Ok(None)
+            }
             Phase::Ended => Ok(None),
             Phase::Stuck => Ok(None),
         }
@@ -96,6 +114,12 @@ impl Frame {
             Phase::Waiting => {
                 if self.kind.has_parts() {
                     return part_assigned_in(alloc, &self.parts, self.kind.place(self.at), vars);
+                }
+                Ok(None)
+            }
+            Phase::Turning { .. } => {
+                if self.kind.is_counted() {
+                    return part_assigned_in(alloc, &self.parts, 0, vars);
                 }
                 Ok(None)
             }
@@ -170,6 +194,7 @@ fn ready_move(site: u16, kind: &Kind, parts: &Vec<Frame>, vars: &[Datum]) -> Opt
         Kind::Stopch { chan } => Some(Move::Stopch { site, chan: *chan }),
         Kind::Seq if !parts.is_empty() => None,
         Kind::While { .. } if parts.is_empty() => None,
+        Kind::Count { .. } if parts.is_empty() => None,
         _ => Some(Move::Quiet { site }),
     }
 }

@@ -7,6 +7,8 @@ pub(crate) enum Phase {
     Ready,
     /// Its output or input has begun and hasn't ended, or one of its parts goes on.
     Waiting,
+    /// A turn of a counted SEQ goes on, with this index and the last one.
+    Turning { index: i64, last: i64 },
     /// Nothing remains.
     Ended,
     /// It never goes on.

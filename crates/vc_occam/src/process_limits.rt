@@ -1,13 +1,19 @@
 //! What is asked of a whole process.
-ghost use Rattle.std.specs.Prelude.{◌≡◌, true};
-ghost use Rattle.vc_occam.specs.ChannelUses.{channel_uses, use_list};
+ghost use Rattle.std.specs.Prelude.{◌≡◌, IfOk, true};
+ghost use Rattle.vc_occam.specs.ChannelUses.{channel_uses as uses_of, use_list};
 ghost use Rattle.vc_occam.specs.Numbering.{written};
-ghost use Rattle.vc_occam.specs.ProcessLimits.{exps_within, in_length, names_fit, runs_today};
+ghost use Rattle.vc_occam.specs.ProcessLimits.{depth_within as is_depth_within, exps_within, in_length, names_fit, runs_today, sequential};
 
+use crate::asked::Asked;
 use crate::channel_use::ChannelUse;
-use crate::limits::{holds_kind, kind_at};
+use crate::depth::depth_within;
+use crate::limits::kind_at;
 use crate::process::Process;
+use crate::uses::push_uses;
 use crate::value_kind::ValueKind;
+use sqlite_items::Items;
+use std::alloc::Global;
+use vc_packets::Memory;
 
 impl Process {
     /// Whether it can run today: it has no parts.
@@ -26,54 +32,47 @@ impl Process {
         )
     }
 
-    /// Whether each of its expressions and conditions has at most this depth.
-    #[tactic(auto, unfolding(crate::specs::Numbering::written))]
+    /// Whether no PAR and no ALT stands in it.
+    pub fn is_sequential(&self) -> bool
+        ensures { result ≡ sequential (written self.now) }
+    {
+        Asked::Sequential.everywhere(self, &[])
+    }
+
+    /// Whether it has at most this depth; a process without parts has depth 1.
+    pub fn is_within(&self, depth: u32) -> bool
+        ensures { result ≡ is_depth_within (written self.now) depth }
+    {
+        depth_within(self, depth)
+    }
+
+    /// Whether each of its expressions and conditions has at most this depth; a literal, a variable, a size, TRUE and FALSE have
+    /// depth 1.
     pub fn expressions_are_within(&self, depth: u32) -> bool
-        requires { runs_today (written self.now) ≡ true }
         ensures { result ≡ exps_within (written self.now) depth }
     {
-        match self {
-            Process::Set { value, .. } => value.is_within(depth),
-            Process::Send { value, .. } => value.is_within(depth),
-            _ => true,
-        }
+        Asked::Expressions { depth }.everywhere(self, &[])
     }
 
     /// Whether no literal and no fill in it is over 65,535 bytes.
-    #[tactic(auto, unfolding(crate::specs::Numbering::written))]
     pub fn is_in_length(&self) -> bool
-        requires { runs_today (written self.now) ≡ true }
         ensures { result ≡ in_length (written self.now) }
     {
-        match self {
-            Process::Set { value, .. } => value.is_in_length(),
-            Process::Send { value, .. } => value.is_in_length(),
-            _ => true,
-        }
+        Asked::Length.everywhere(self, &[])
     }
 
     /// Whether its channels are among so many, and its variables are there and of the kinds that it wants.
-    #[tactic(auto, unfolding(crate::specs::Numbering::written))]
     pub fn fits(&self, kinds: &[ValueKind], channels: usize) -> bool
-        requires { runs_today (written self.now) ≡ true }
         ensures { result ≡ names_fit (written self.now) kinds.now channels }
     {
-        match self {
-            Process::Set { var, value } => holds_kind(kinds, *var, value.kind())
-                && value.fits(kinds),
-            Process::Send { chan, value } => usize::from(*chan) < channels && value.fits(kinds),
-            Process::Receive { chan, var } => usize::from(*chan) < channels
-                && usize::from(*var) < kinds.len(),
-            Process::Stopch { chan } => usize::from(*chan) < channels,
-            _ => true,
-        }
+        Asked::Names { channels }.everywhere(self, kinds)
     }
 
     /// Its one use of a channel, if it has one.
     #[tactic(auto, unfolding(crate::specs::Numbering::written))]
     pub fn channel_use(&self, kinds: &[ValueKind]) -> Option<ChannelUse>
         requires { runs_today (written self.now) ≡ true }
-        ensures { channel_uses kinds.now (written self.now) ≡ use_list result }
+        ensures { uses_of kinds.now (written self.now) ≡ use_list result }
     {
         match self {
             Process::Send { chan, value } => Some(ChannelUse {
@@ -93,5 +92,18 @@ impl Process {
             }),
             _ => None,
         }
+    }
+
+    /// Its uses of channels, in order of site, in a node with variables of these kinds.
+    pub fn channel_uses(
+        &self,
+        alloc: Global,
+        kinds: &[ValueKind],
+    ) -> Result<Items<ChannelUse>, Memory>
+        ensures { IfOk result (λ uses. uses ≡ uses_of kinds.now (written self.now)) }
+    {
+        let mut uses = Items::new(alloc);
+        push_uses(&mut uses, self, kinds)?;
+        Ok(uses)
     }
 }

@@ -81,10 +81,10 @@ impl Running {
     ghost use Rattle.vc_occam.specs.declared.answer.Answer.{Answer};
     ghost use Rattle.vc_occam.specs.declared.deed.Deed.TheVariants.{Quiet};
     ghost use Rattle.vc_occam.specs.Terms.{store};
-    ghost use Rattle.vc_occam.specs.InOrder.{in_order, number};
+    ghost use Rattle.vc_occam.specs.InOrder.{number};
     ghost use Rattle.vc_occam.specs.Numbering.{written};
     ghost use Rattle.vc_occam.specs.Opening.{Fits, opening};
-    ghost use Rattle.vc_occam.specs.ProcessLimits.{runs_today};
+    ghost use Rattle.vc_occam.specs.ProcessLimits.{runs_today, sequential};
     ghost use Rattle.vc_occam.specs.Remains.{Done};
     ghost use Rattle.vc_occam.specs.Runnings.{inner_channels, moves, state};
     ghost use Rattle.vc_occam.specs.Usage.{among};
@@ -114,7 +114,8 @@ impl Running {
         })
     }
 
-    /// A process in which SEQ, WHILE and words without parts stand, about to begin, as by [`Running::new`].
+    /// A process in which no PAR and no ALT stands, about to begin, as by [`Running::new`]. At most 65,536 processes are written in
+    /// it, since a site's number has 16 bits.
     #[tactic(auto, unfolding(crate::specs::Runnings::state, crate::specs::Runnings::inner_channels))]
     pub fn in_order(
         alloc: Global,
@@ -122,7 +123,7 @@ impl Running {
         kinds: &[ValueKind],
         inside: &[u16],
     ) -> Result<Running, Memory>
-        requires order { in_order process.now ≡ true }
+        requires sequential { sequential (written process.now) ≡ true }
         requires sites { (number process.now).sites ≤ 65536 }
         requires fits { Fits kinds.now process.now }
         ensures state { IfOk result (λ r. state r ≡ opening kinds.now process.now) }

@@ -1,5 +1,7 @@
-//! One output and one input, move by move, and the two ways of a whole number.
-use crate::{Answer, BytesExpr, Expr, Move, Op, Process, Running, Value, ValueKind};
+//! Each word that runs, and each fault, by one example.
+use crate::{
+    Answer, BytesExpr, Expr, Move, Op, Process, Running, UseFault, Value, ValueKind, check_use,
+};
 use sqlite_items::{Boxed, Items};
 use std::alloc::Global;
 use std::test::Fail;
@@ -155,5 +157,42 @@ fn skip_ends_and_stop_never_goes_on(rt: HostRuntime) -> Result<(), Fail> {
     let stop = begin(rt.alloc(), Process::Stop, &[], &[])?;
     assert!(rt; stop.actions()?.is_empty());
     assert!(rt; !stop.ended());
+    Ok(())
+}
+
+fn count(alloc: Global, base: i64, count: i64) -> Result<Process, Fail> {
+    Ok(Process::Count {
+        var: 0,
+        base: Expr::Num(base),
+        count: Expr::Num(count),
+        body: Boxed::new(alloc, Process::Skip)?,
+    })
+}
+
+#[test]
+fn a_body_may_not_change_its_index(rt: HostRuntime) -> Result<(), Fail> {
+    let process = Process::Count {
+        var: 0,
+        base: Expr::Num(0),
+        count: Expr::Num(3),
+        body: Boxed::new(rt.alloc(), Process::Receive { chan: 0, var: 0 })?,
+    };
+    if !process.is_sequential() {
+        return Err(Fail::from("a sequential process"));
+    }
+    assert_eq!(rt; check_use(&process), Err(UseFault::Var(0)));
+    Ok(())
+}
+
+#[test]
+fn processes_are_counted_and_their_depth_too(rt: HostRuntime) -> Result<(), Fail> {
+    let mut parts = Items::new(rt.alloc());
+    parts.push(Process::Skip)?;
+    parts.push(count(rt.alloc(), 0, 1)?)?;
+    let process = Process::Seq(parts);
+    assert_eq!(rt; process.sites(4), Some(4));
+    assert_eq!(rt; process.sites(3), None);
+    assert!(rt; process.is_within(3));
+    assert!(rt; !process.is_within(2));
     Ok(())
 }

@@ -4,7 +4,7 @@ use Rattle.vc_occam.specs.declared.frame.Frame.TheViews.{out-Frame}
 use Rattle.vc_occam.specs.Frames.{behind, part_assigned, place_of, views, assigned_at}
 use Rattle.vc_occam.specs.Remains.{Rest}
 use Rattle.vc_occam.specs.Terms.{store}
-use Rattle.vc_occam.proofs.Frames.{rest_ready, rest_going, rest_idle, rest_ended, rest_stuck, follow_assigned, idle_assigned, on_ok}
+use Rattle.vc_occam.proofs.Frames.{turning_assigned, turning_none, rest_ready, rest_going, rest_idle, rest_ended, rest_stuck, follow_assigned, idle_assigned, on_ok}
 use Rattle.vc_occam.proofs.+assigned.Goals as goal
 
 pub frame::Frame::assigned-returns-in-Ready : goal.frame::Frame::assigned-returns-in-Ready
@@ -36,3 +36,15 @@ frame::Frame::assigned-returns-in-Stuck t c =
     let f = c.args.self.now in
     let F = λ (r : Rest). assigned_at r (store c.args.vars.now) in
     sym (ap F (rest_stuck f c.in-Stuck.is))
+
+pub frame::Frame::assigned-returns-then-is_counted : goal.frame::Frame::assigned-returns-then-is_counted
+frame::Frame::assigned-returns-then-is_counted t c =
+    let f = c.args.self.now in
+    let k = sym c.is_counted.ensures ∙ c.if-is_counted.true in
+    on_ok c.part_assigned_in-then-is_counted.result _ _ (sym (turning_assigned f c.in-Turning.index c.in-Turning.last (store c.args.vars.now) c.in-Turning.is k)) c.part_assigned_in-then-is_counted.ensures
+
+pub frame::Frame::assigned-returns-else-is_counted : goal.frame::Frame::assigned-returns-else-is_counted
+frame::Frame::assigned-returns-else-is_counted t c =
+    let f = c.args.self.now in
+    let k = sym c.is_counted.ensures ∙ c.if-is_counted.false in
+    sym (ap (λ (r : Rest). assigned_at r (store c.args.vars.now)) (turning_none f c.in-Turning.index c.in-Turning.last c.in-Turning.is k))

@@ -1,13 +1,17 @@
-use Rattle.std.proofs.Common.{◌∙◌, List, sym, ap, subst, rules, arith, ◌<◌, length, set}
+use Rattle.std.proofs.Common.{◌∙◌, ℕ, List, sym, ap, subst, rules, arith, ◌<◌, length, set}
 use Rattle.std.specs.Prelude.{slice_get}
+use Rattle.std.specs.Int.{w64}
+use Rattle.std.proofs.lemmas.Int.{to_z-of_z}
+use mir.Val.{SFits}
 use Rattle.vc_occam.specs.declared.datum.Datum.{Datum}
 use Rattle.vc_occam.specs.declared.frame.Frame.TheViews.{the_lemmas, out-Frame}
-use Rattle.vc_occam.specs.declared.phase.Phase.TheVariants.{Ready, Waiting}
-use Rattle.vc_occam.specs.Frames.{Able, Did, HasVariables, View, assigned_at, part_rest, plan_at, rest_at, view, views}
+use Rattle.vc_occam.specs.declared.phase.Phase.TheVariants.{Ready, Waiting, Turning}
+use Rattle.vc_occam.specs.Frames.{Able, Did, HasVariables, View, assigned_at, part_done, plans, part_rest, plan_at, rest_at, view, views}
 use Rattle.vc_occam.specs.Remains.{Fresh, Rest}
 use Rattle.vc_occam.specs.Terms.{store}
-use Rattle.vc_occam.proofs.Frames.{view_roll, view_out}
+use Rattle.vc_occam.proofs.Frames.{some_left, view_roll, view_out}
 use Rattle.vc_occam.proofs.Stepping.{within_able, within_assigned, within_variables, within_did, phase_able, phase_did, never, same_plan, get_view, set_view, set_plans, none_view}
+use Rattle.vc_occam.proofs.Turns.{count_variable, phase_same, store_same, turned_plans, turning_same, views_same, turning_able, turning_did, turning_value, turning_variables}
 use Rattle.vc_occam.proofs.+go.Goals as goal
 
 pub frame::Frame::go-go_on-next-requires : goal.frame::Frame::go-go_on-next-requires
@@ -65,8 +69,8 @@ going::go_on-returns-then-has_parts-2-clause-did t c =
     let h = sym c.has_parts-in-Waiting.ensures ∙ c.if-has_parts-2.true in
     within_did k c.args.own _ vs ws c.args.at c.place.result _ _ c.args.site c.args.deed _ c.in-Waiting.is h c.place.ensures c.go_within.ensures.plans (c.after_part.ensures.rest c.args.own) c.go_within.ensures.did
 
-pub going::go_on-returns-else-has_parts-clause-did : goal.going::go_on-returns-else-has_parts-clause-did
-going::go_on-returns-else-has_parts-clause-did t c =
+pub going::go_on-returns-else-is_counted-clause-did : goal.going::go_on-returns-else-is_counted-clause-did
+going::go_on-returns-else-is_counted-clause-did t c =
     let k = c.args.kind.now in
     let vs = views c.args.parts.now.items in
     phase_did k c.args.own _ Ready vs c.args.at _ _ c.args.site c.args.deed _ c.in-Ready.is
@@ -96,3 +100,58 @@ going::go_within-returns-else-at-len-clause-did t c =
     let o = c.args.parts.now.ok.0 in
     let n = none_view fs c.args.at (omega (arith, c.len.ensures)) in
     never _ _ _ _ c.args.site c.args.deed (subst (λ (r : Rest). Able r (store c.args.vars.now.items) c.args.site c.args.deed) (ap part_rest n) c.requires.able)
+
+pub going::go_on-returns-then-is_counted-clause-did : goal.going::go_on-returns-then-is_counted-clause-did
+going::go_on-returns-then-is_counted-clause-did t c =
+    let k = c.args.kind.now in
+    let vs = views c.args.parts.now.items in
+    phase_did k c.args.own _ Ready vs c.args.at _ _ c.args.site c.args.deed _ c.in-Ready.is
+    (c.begin_count-phase.ensures.did c.args.site c.args.deed c.args.at (phase_able k c.args.own _ Ready vs c.args.at _ c.args.site c.args.deed c.in-Ready.is c.requires.able))
+
+pub going::go_on-returns-in-Turning-clause-did : goal.going::go_on-returns-in-Turning-clause-did
+going::go_on-returns-in-Turning-clause-did t c =
+    let x = c.in-Turning.index in
+    let y = c.in-Turning.last in
+    let vs = views c.args.parts.now.items in
+    let f : SFits w64 x = search rules in
+    let g : SFits w64 y = search rules in
+    phase_did c.args.kind.now c.args.own _ (Turning x y) vs c.args.at _ _ c.args.site c.args.deed _ c.in-Turning.is
+    (turning_same c.args.kind.now vs x _ y _ _ _ c.args.site c.args.deed _ (to_z-of_z w64 x f) (to_z-of_z w64 y g) (c.go_turn-phase.ensures.did c.args.at))
+
+pub going::go_turn-go_within-requires : goal.going::go_turn-go_within-requires
+going::go_turn-go_within-requires t c =
+    let k = c.args.kind.now in
+    let vs = views c.args.parts.now.items in
+    let e = store c.args.vars.now.items in (
+      search rules,
+      (
+        turning_able k c.in-Count.var _ _ vs c.args.index c.args.last e c.args.site c.args.deed c.in-Count.is c.requires.able,
+        (
+          λ q. c.requires.assigned q ∙ turning_value k c.in-Count.var _ _ vs c.args.index c.args.last e c.in-Count.is,
+          turning_variables k c.args.own c.in-Count.var _ _ vs _ c.in-Count.is c.requires.variables,
+        ),
+      ),
+    )
+
+pub going::go_turn-after_turn-requires : goal.going::go_turn-after_turn-requires
+going::go_turn-after_turn-requires t c =
+    let l = count_variable c.args.kind.now c.args.own c.in-Count.var _ _ (views c.args.parts.now.items) _ c.in-Count.is (some_left c.args.parts.now _ c.is_empty.ensures c.if-not-is_empty.true) c.requires.variables in
+    subst (λ (m : ℕ). c.in-Count.var < m) (sym c.go_within.ensures.length) l
+
+pub going::go_turn-returns-in-Count-clause-did : goal.going::go_turn-returns-in-Count-clause-did
+going::go_turn-returns-in-Count-clause-did t c =
+    let x = c.args.index in
+    let y = c.args.last in
+    let f : SFits w64 x = search rules in
+    let g : SFits w64 y = search rules in
+    let i = to_z-of_z w64 x f in
+    let j = to_z-of_z w64 y g in
+    let ws = views c.go_within.new.parts.items in
+    let d = part_done (slice_get ws 0) in
+    turning_did c.args.kind.now c.args.own c.in-Count.var _ _ (views c.args.parts.now.items) (views c.go_within.new.parts.items) _ c.args.index c.args.last _ _ _ c.args.site c.args.deed _ c.in-Count.is (some_left c.args.parts.now _ c.is_empty.ensures c.if-not-is_empty.true)
+    c.go_within.ensures.plans c.go_within.ensures.did (c.after_turn.ensures.phase ∙ phase_same d x _ y _ i j) (c.after_turn.ensures.parts ∙ views_same d x _ y _ ws i j) (c.after_turn.ensures.value ∙ store_same d c.in-Count.var x _ y _ (store c.go_within.new.vars.items) i j)
+
+pub going::go_turn-returns-in-Count-clause-plans : goal.going::go_turn-returns-in-Count-clause-plans
+going::go_turn-returns-in-Count-clause-plans t c =
+    let vs = views c.go_within.new.parts.items in
+    ap plans c.after_turn.ensures.parts ∙ turned_plans (part_done (slice_get vs 0)) _ _ vs ∙ c.go_within.ensures.plans

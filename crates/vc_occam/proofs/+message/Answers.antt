@@ -5,7 +5,7 @@ use Rattle.vc_occam.specs.Frames.{behind, part_output, place_of, views}
 use Rattle.vc_occam.specs.Remains.{Rest}
 use Rattle.vc_occam.specs.States.{carried, output_at}
 use Rattle.vc_occam.specs.Terms.{store}
-use Rattle.vc_occam.proofs.Frames.{rest_ready, rest_going, rest_idle, rest_ended, rest_stuck, follow_output, idle_output, on_ok}
+use Rattle.vc_occam.proofs.Frames.{turning_output, turning_none, rest_ready, rest_going, rest_idle, rest_ended, rest_stuck, follow_output, idle_output, on_ok}
 use Rattle.vc_occam.proofs.+message.Goals as goal
 
 pub frame::Frame::message-returns-in-Ready : goal.frame::Frame::message-returns-in-Ready
@@ -37,3 +37,15 @@ frame::Frame::message-returns-in-Stuck t c =
     let f = c.args.self.now in
     let F = λ (r : Rest). carried (output_at c.args.site r (store c.args.vars.now)) in
     sym (ap F (rest_stuck f c.in-Stuck.is))
+
+pub frame::Frame::message-returns-then-is_counted : goal.frame::Frame::message-returns-then-is_counted
+frame::Frame::message-returns-then-is_counted t c =
+    let f = c.args.self.now in
+    let k = sym c.is_counted.ensures ∙ c.if-is_counted.true in
+    on_ok c.part_message-then-is_counted.result _ _ (sym (ap carried (turning_output c.args.site f c.in-Turning.index c.in-Turning.last (store c.args.vars.now) c.in-Turning.is k))) c.part_message-then-is_counted.ensures
+
+pub frame::Frame::message-returns-else-is_counted : goal.frame::Frame::message-returns-else-is_counted
+frame::Frame::message-returns-else-is_counted t c =
+    let f = c.args.self.now in
+    let k = sym c.is_counted.ensures ∙ c.if-is_counted.false in
+    sym (ap (λ (r : Rest). carried (output_at c.args.site r (store c.args.vars.now))) (turning_none f c.in-Turning.index c.in-Turning.last c.in-Turning.is k))

@@ -5,7 +5,7 @@ use Rattle.vc_occam.specs.First.{own}
 use Rattle.vc_occam.specs.Frames.{behind, part_own, place_of, views}
 use Rattle.vc_occam.specs.Remains.{Rest}
 use Rattle.vc_occam.specs.Terms.{store}
-use Rattle.vc_occam.proofs.Frames.{rest_ready, rest_going, rest_idle, rest_ended, rest_stuck, follow_own, idle_own}
+use Rattle.vc_occam.proofs.Frames.{turning_own, turning_none, rest_ready, rest_going, rest_idle, rest_ended, rest_stuck, follow_own, idle_own}
 use Rattle.vc_occam.proofs.+moves.Goals as goal
 
 pub frame::Frame::own_move-returns-in-Ready : goal.frame::Frame::own_move-returns-in-Ready
@@ -37,3 +37,15 @@ frame::Frame::own_move-returns-in-Stuck t c =
     let f = c.args.self.now in
     let F = λ (r : Rest). own r (store c.args.vars.now) in
     ap F (rest_stuck f c.in-Stuck.is)
+
+pub frame::Frame::own_move-returns-then-is_counted : goal.frame::Frame::own_move-returns-then-is_counted
+frame::Frame::own_move-returns-then-is_counted t c =
+    let f = c.args.self.now in
+    let k = sym c.is_counted.ensures ∙ c.if-is_counted.true in
+    turning_own f c.in-Turning.index c.in-Turning.last (store c.args.vars.now) c.in-Turning.is k ∙ c.part_move-then-is_counted.ensures
+
+pub frame::Frame::own_move-returns-else-is_counted : goal.frame::Frame::own_move-returns-else-is_counted
+frame::Frame::own_move-returns-else-is_counted t c =
+    let f = c.args.self.now in
+    let k = sym c.is_counted.ensures ∙ c.if-is_counted.false in
+    ap (λ (r : Rest). own r (store c.args.vars.now)) (turning_none f c.in-Turning.index c.in-Turning.last c.in-Turning.is k)

@@ -4,7 +4,7 @@ use Rattle.vc_occam.specs.declared.frame.Frame.TheViews.{out-Frame}
 use Rattle.vc_occam.specs.Frames.{behind, part_waits, place_of, views}
 use Rattle.vc_occam.specs.Remains.{Rest}
 use Rattle.vc_occam.specs.States.{waiting}
-use Rattle.vc_occam.proofs.Frames.{rest_ready, rest_sending, rest_receiving, rest_going, rest_nothing, rest_ended, rest_stuck, follow_waits}
+use Rattle.vc_occam.proofs.Frames.{turning_waits, turning_none, rest_ready, rest_sending, rest_receiving, rest_going, rest_nothing, rest_ended, rest_stuck, follow_waits}
 use Rattle.vc_occam.proofs.+waits.Goals as goal
 
 pub frame::Frame::waits-returns-in-Ready : goal.frame::Frame::waits-returns-in-Ready
@@ -48,3 +48,15 @@ frame::Frame::waits-returns-in-Stuck t c =
     let f = c.args.self.now in
     let F = λ (r : Rest). waiting r in
     ap F (rest_stuck f c.in-Stuck.is)
+
+pub frame::Frame::waits-returns-then-is_counted : goal.frame::Frame::waits-returns-then-is_counted
+frame::Frame::waits-returns-then-is_counted t c =
+    let f = c.args.self.now in
+    let k = sym c.is_counted.ensures ∙ c.if-is_counted.true in
+    turning_waits f c.in-Turning.index c.in-Turning.last c.in-Turning.is k ∙ c.part_waits-then-is_counted.ensures
+
+pub frame::Frame::waits-returns-else-is_counted : goal.frame::Frame::waits-returns-else-is_counted
+frame::Frame::waits-returns-else-is_counted t c =
+    let f = c.args.self.now in
+    let k = sym c.is_counted.ensures ∙ c.if-is_counted.false in
+    ap (λ (r : Rest). waiting r) (turning_none f c.in-Turning.index c.in-Turning.last c.in-Turning.is k)

@@ -1,5 +1,5 @@
 use Rattle.std.proofs.Common.{ℕ, ◌∙◌, sym, ap, refl, true, false}
-use Rattle.vc_occam.specs.declared.phase.Phase.TheVariants.{Ready, Waiting, Ended, Stuck}
+use Rattle.vc_occam.specs.declared.phase.Phase.TheVariants.{Ready, Waiting, Turning, Ended, Stuck}
 use Rattle.std.specs.Prelude.{slice_get}
 use Rattle.vc_occam.specs.declared.frame.Frame.TheViews.{out-Frame}
 use Rattle.vc_occam.specs.Frames.{is_last, part_done, views}
@@ -20,3 +20,6 @@ Frame::ended-returns-then-is_last t c = c.part_ended.ensures ∙ ap (λ (k : ℕ
 
 pub Frame::ended-returns-else-is_last : goal.Frame::ended-returns-else-is_last
 Frame::ended-returns-else-is_last t c = c.if-is_last.false ∙ sym (ended_by c.args.self.now Waiting false _ c.in-Waiting.is (ap (is_last _ _) (sym c.len.ensures) ∙ sym c.is_last.ensures ∙ c.if-is_last.false) refl)
+
+pub Frame::ended-returns-in-Turning : goal.Frame::ended-returns-in-Turning
+Frame::ended-returns-in-Turning t c = sym (ended_by c.args.self.now (Turning c.in-Turning.index c.in-Turning.last) _ _ c.in-Turning.is refl refl)
