@@ -2,3 +2,4 @@ pub mod Known
 pub mod Texts
 pub mod Checked
 pub mod Channels
+pub mod Closing

@@ -1,8 +1,10 @@
 //! Running a network event by event.
-ghost use Rattle.std.specs.Prelude.{◌≡◌, ◌≤◌, ◌+◌, length, map, slice_get, Some, IfOk, OnOk};
+ghost use Rattle.std.specs.Prelude.{◌≡◌, ◌⊎◌, ◌<◌, ◌≤◌, ◌+◌, ℕ, true, false, length, map, slice_get, Some, None, Ok, IfOk, OnOk};
 ghost use Rattle.vc_plan.specs.declared.plan.Plan.{Plan};
 ghost use Rattle.vc_core.specs.State.{state_of, IsNetworkOf, MakesOne};
 ghost use Rattle.vc_core.specs.Replaying.{Reached, Replays};
+ghost use Rattle.vc_core.specs.Turns.{Rests, IsAtRest, GoesOn};
+ghost use Rattle.vc_text.specs.Closing.{HasNext, HasEvent, Closes};
 ghost use Rattle.vc_plan.specs.declared.channel.Channel.{Channel};
 ghost use Rattle.vc_text.specs.Running.{Steps};
 ghost use Rattle.vc_text.specs.Shown.{channel_of, channels_of};
@@ -92,7 +94,9 @@ fn next_event(
     network: &Network,
     generators: &mut Vec<Lcg64Xsh32>,
     actor: u8,
-) -> Result<Option<Event>, Memory> {
+) -> Result<Option<Event>, Memory>
+    ensures { (p : Plan) → IsNetworkOf p (state_of network.now) → actor < length p.nodes → IfOk result (HasNext p (state_of network.now) actor) }
+{
     let Some(link) = network.link_to_take(actor) else {
         return network.next(actor);
     };
@@ -107,7 +111,8 @@ fn act(
     generators: &mut Vec<Lcg64Xsh32>,
     actor: u8,
 ) -> Result<Option<Event>, Memory>
-    ensures { (p : Plan) → IsNetworkOf p (state_of network.old) → IfOk result (λ made. MakesOne p (state_of network.old) made (state_of network.new)) }
+    ensures made { (p : Plan) → IsNetworkOf p (state_of network.old) → IfOk result (λ made. MakesOne p (state_of network.old) made (state_of network.new)) }
+    ensures rests { (p : Plan) → IsNetworkOf p (state_of network.old) → actor < length p.nodes → result ≡ Ok None → Rests p (state_of network.old) actor }
 {
     let Some(event) = next_event(network, generators, actor)? else {
         return Ok(None);
@@ -119,10 +124,22 @@ fn act(
     }
 }
 
+/// Whether an actor has an event.
+fn has_event(network: &Network, actor: u8) -> Result<bool, Memory>
+    ensures { (p : Plan) → IsNetworkOf p (state_of network.now) → actor < length p.nodes → IfOk result (HasEvent p (state_of network.now) actor) }
+{
+    if network.link_to_take(actor).is_some() {
+        return Ok(true);
+    }
+    Ok(network.next(actor)?.is_some())
+}
+
 /// Whether some actor has an event.
-fn goes_on(network: &Network) -> Result<bool, Memory> {
+fn goes_on(network: &Network) -> Result<bool, Memory>
+    ensures { (p : Plan) → IsNetworkOf p (state_of network.now) → IfOk result (GoesOn p (state_of network.now)) }
+{
     for actor in 0..network.actors().min(255) as u8 {
-        if network.link_to_take(actor).is_some() || network.next(actor)?.is_some() {
+        if has_event(network, actor)? {
             return Ok(true);
         }
     }
@@ -130,7 +147,9 @@ fn goes_on(network: &Network) -> Result<bool, Memory> {
 }
 
 /// How a run ends where no event is enabled.
-fn resting(network: &Network) -> Close {
+fn resting(network: &Network) -> Close
+    ensures { (p : Plan) (made limit : ℕ) → IsNetworkOf p (state_of network.now) → IsAtRest p (state_of network.now) → Closes p (state_of network.now) made limit result }
+{
     if network.ended() {
         Close::Done
     } else {
@@ -146,7 +165,10 @@ fn act_once(
     actor: u8,
 ) -> Result<bool, Memory>
     ensures few { OnOk result (length events.new ≤ length events.old + 1) }
+    ensures more { result ≡ Ok true → length events.new ≡ length events.old + 1 }
+    ensures same { result ≡ Ok false → events.new ≡ events.old }
     ensures reached { (p : Plan) → Reached p events.old (state_of network.old) → OnOk result (Reached p events.new (state_of network.new)) }
+    ensures rests { (p : Plan) → Reached p events.old (state_of network.old) → actor < length p.nodes → result ≡ Ok false → Rests p (state_of network.old) actor × (state_of network.new ≡ state_of network.old) }
 {
     match act(network, generators, actor)? {
         Some(event) => {
@@ -167,6 +189,8 @@ fn round(
     requires { length events.old ≤ limit }
     ensures few { OnOk result (length events.new ≤ limit) }
     ensures reached { (p : Plan) → Reached p events.old (state_of network.old) → OnOk result (Reached p events.new (state_of network.new)) }
+    ensures more { result ≡ Ok true → (length events.new ≡ limit) ⊎ (length events.old < length events.new) }
+    ensures rests { (p : Plan) → Reached p events.old (state_of network.old) → result ≡ Ok false → IsAtRest p (state_of network.new) }
 {
     let mut moved = false;
     for actor in 0..network.actors().min(255) as u8 {
@@ -188,6 +212,7 @@ fn run_rounds(
     requires { length events.old ≤ limit }
     ensures few { OnOk result (length events.new ≤ limit) }
     ensures reached { (p : Plan) → Reached p events.old (state_of network.old) → OnOk result (Reached p events.new (state_of network.new)) }
+    ensures ends { (p : Plan) → Reached p events.old (state_of network.old) → OnOk result ((length events.new ≡ limit) ⊎ IsAtRest p (state_of network.new)) }
 {
     for _ in 0..limit {
         if !round(network, generators, events, limit)? {
@@ -198,7 +223,10 @@ fn run_rounds(
 }
 
 /// How a run ends that has made so many events.
-fn close_of(network: &Network, events: usize, limit: u64) -> Result<Close, Memory> {
+fn close_of(network: &Network, events: usize, limit: u64) -> Result<Close, Memory>
+    requires { events ≤ limit }
+    ensures { (p : Plan) → IsNetworkOf p (state_of network.now) → (events ≡ limit) ⊎ IsAtRest p (state_of network.now) → IfOk result (Closes p (state_of network.now) events limit) }
+{
     if events as u64 >= limit && goes_on(network)? {
         Ok(Close::Limit)
     } else {
@@ -210,6 +238,7 @@ fn close_of(network: &Network, events: usize, limit: u64) -> Result<Close, Memor
 fn run(alloc: Global, accepted: &Accepted, limit: u64) -> Result<(Network, StepReport), Memory>
     ensures few { IfOk result (λ r. length (r.1).events ≤ limit) }
     ensures replays { IfOk result (λ r. Replays accepted.now (r.1).events (state_of r.0)) }
+    ensures closes { IfOk result (λ r. Closes accepted.now (state_of r.0) (length (r.1).events) limit (r.1).close) }
 {
     let mut network = Network::new(alloc, accepted)?;
     let mut generators = generators(alloc, network.actors())?;

@@ -9,4 +9,4 @@ returns-in_ok-push-in-Some-clause-reached c = λ p r.
     let s = state_of c.args.network.now in
     let t = state_of c.act.new.network in
     subst (λ es. Reached p es t) (sym c.in_ok-push-in-Some.ensures.ok)
-    (reached_next p c.args.events.now c.in-Some.event s t r (subst (λ m. MakesOne p s m t) c.in-Some.is (c.in_ok-event.ensures p r.is)))
+    (reached_next p c.args.events.now c.in-Some.event s t r (subst (λ m. MakesOne p s m t) c.in-Some.is (c.in_ok-event.ensures.made p r.is)))

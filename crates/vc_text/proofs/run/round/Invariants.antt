@@ -1,11 +1,16 @@
-use Rattle.std.proofs.Common.{◌≤◌, length}
+use Rattle.std.proofs.Common.{◌≡◌, ◌<◌, ◌≤◌, ℕ, true, false, length}
 use Rattle.vc_plan.specs.declared.plan.Plan.{Plan}
 use Rattle.vc_core.specs.Replaying.{Reached}
 use Rattle.vc_core.specs.State.{state_of}
+use Rattle.vc_core.specs.Turns.{Rests}
 use Rattle.vc_text.proofs.run.round.Given as goal
 
 abbrev pub invariant-loop-actor : goal.invariant-loop-actor
 invariant-loop-actor l = record {
   few : length l.events ≤ l.limit;
   reached : (p : Plan) → Reached p l.fn.events (state_of l.fn.network) → Reached p l.events (state_of l.network);
+  some : length l.fn.events ≤ length l.events;
+  more : l.moved ≡ true → length l.fn.events < length l.events;
+  same : (p : Plan) → Reached p l.fn.events (state_of l.fn.network) → l.moved ≡ false → state_of l.network ≡ state_of l.fn.network;
+  rests : (p : Plan) → Reached p l.fn.events (state_of l.fn.network) → l.moved ≡ false → (k : ℕ) → k < l.actor → k < length p.nodes → Rests p (state_of l.fn.network) k;
 }

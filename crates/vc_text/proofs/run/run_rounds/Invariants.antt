@@ -8,4 +8,5 @@ abbrev pub invariant-loop : goal.invariant-loop
 invariant-loop l = record {
   few : length l.events ≤ l.limit;
   reached : (p : Plan) → Reached p l.fn.events (state_of l.fn.network) → Reached p l.events (state_of l.network);
+  more : l.counter ≤ length l.events;
 }

@@ -1,0 +1,44 @@
+-- How a run closes.
+use Rattle.std.proofs.Common.{◌≡◌, ℕ, ◌<◌, ◌≤◌, length, Option, Some, None, is_some, ◌+◌, ◌||◌, Bool, true, false, List, refl, ap, arith}
+use Rattle.vc_plan.specs.declared.plan.Plan.{Plan}
+use Rattle.vc_core.specs.State.{State}
+use Rattle.vc_core.specs.Turns.{Rests, IsAtRest, FindsTake, FindsEvent}
+use Rattle.vc_core.specs.declared.act.Act.TheVariants.{Take}
+use Rattle.vc_core.specs.declared.act.Event.{Event}
+use Rattle.vc_core.proofs.Turning.{at_rest}
+use Rattle.vc_text.specs.Closing.{HasNext, HasEvent}
+
+-- what an actor without a token to take does next
+pub next_of : (p : Plan) (s : State) (k : ℕ) (o : Option Event) → FindsTake p s k None → FindsEvent p s k o → HasNext p s k o
+next_of p s k None takes acts = record { takes = takes; acts = acts }
+next_of p s k (Some e) takes (same, none, can) = can
+
+-- where all actors rest
+pub all_rest : (p : Plan) (s : State) (n : ℕ) → length p.nodes ≤ n → ((k : ℕ) → k < n → Rests p s k) → IsAtRest p s
+all_rest p s n few rests = at_rest p s (λ k less. rests k (omega arith))
+
+-- what an actor's two searches find
+pub event_of : (p : Plan) (s : State) (k : ℕ) (l : ℕ) → k < length p.nodes → FindsTake p s k (Some l) → HasEvent p s k true
+event_of p s k l node takes = (record { actor = k; act = Take l 0 }, takes node 0)
+
+pub has_of : (p : Plan) (s : State) (k : ℕ) (o : Option Event) → FindsTake p s k None → FindsEvent p s k o → HasEvent p s k (is_some o)
+has_of p s k None takes acts = record { takes = takes; acts = acts }
+has_of p s k (Some e) takes (same, none, can) = (e, can)
+
+pub some_take : (p : Plan) (s : State) (k : ℕ) (o : Option ℕ) → is_some o ≡ true → k < length p.nodes → FindsTake p s k o → HasEvent p s k true
+some_take p s k (Some l) some node takes = event_of p s k l node takes
+some_take p s k None some node takes = absurd (cc)
+
+-- a step that made an event or none
+pub longer : {X : Type 0} (had : Bool) (old new : List X) → (had ≡ true → length new ≡ length old + 1) → (had ≡ false → new ≡ old) → length old ≤ length new
+longer true old new more same = let e = more refl in omega arith
+longer false old new more same = let e = ap length (same refl) in omega arith
+
+pub grown : (moved had : Bool) (first old new : ℕ) → first ≤ old → (moved ≡ true → first < old) → old ≤ new → (had ≡ true → new ≡ old + 1) → (moved || had) ≡ true → first < new
+grown true had first old new least some grows more e = let s = some refl in omega arith
+grown false true first old new least some grows more e = let m = more refl in omega arith
+grown false false first old new least some grows more e = absurd (cc)
+
+pub neither : (a b : Bool) → (a || b) ≡ false → (a ≡ false) × (b ≡ false)
+neither true b e = absurd (cc)
+neither false b e = (refl, e)

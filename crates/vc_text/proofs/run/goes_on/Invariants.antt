@@ -1,0 +1,8 @@
+use Rattle.std.proofs.Common.{ℕ, ◌<◌, length}
+use Rattle.vc_plan.specs.declared.plan.Plan.{Plan}
+use Rattle.vc_core.specs.State.{state_of, IsNetworkOf}
+use Rattle.vc_core.specs.Turns.{Rests}
+use Rattle.vc_text.proofs.run.goes_on.Given as goal
+
+abbrev pub invariant-loop-actor : goal.invariant-loop-actor
+invariant-loop-actor l = (p : Plan) → IsNetworkOf p (state_of l.network) → (k : ℕ) → k < l.actor → Rests p (state_of l.network) k

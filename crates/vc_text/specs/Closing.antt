@@ -1,0 +1,27 @@
+-- What the close of a run says of the state after it.
+use Rattle.std.specs.Prelude.{◌≡◌, ℕ, Bool, true, false, Option, Some, None}
+use Rattle.vc_plan.specs.declared.plan.Plan.{Plan}
+use Rattle.vc_core.specs.Enabled.{CanHappen}
+use Rattle.vc_core.specs.State.{State}
+use Rattle.vc_core.specs.Turns.{Rests, IsAtRest, HaveEnded}
+use Rattle.vc_core.specs.declared.act.Event.{Event}
+use Rattle.vc_core.specs.declared.close.Close.{Close}
+use Rattle.vc_core.specs.declared.close.Close.TheVariants.{Done, Quiet, Limit}
+
+-- an event that can happen, or none where the actor has none
+abbrev pub HasNext : Plan → State → ℕ → Option Event → Type 0
+HasNext p s k None = Rests p s k
+HasNext p s k (Some e) = CanHappen p s e
+
+-- whether the actor has an event
+abbrev pub HasEvent : Plan → State → ℕ → Bool → Type 0
+HasEvent p s k true = (e : Event) × CanHappen p s e
+HasEvent p s k false = Rests p s k
+
+-- a run that made so many events of those allowed closes Done or Quiet where no event can happen, and every process has ended or not;
+-- and Limit where it made as many as allowed, and an event can happen
+abbrev pub Closes : Plan → State → ℕ → ℕ → Close → Type 0
+Closes p s made limit Done = IsAtRest p s × HaveEnded p s
+Closes p s made limit Quiet = IsAtRest p s × (HaveEnded p s → ⊥)
+Closes p s made limit Limit = (made ≡ limit) × ((e : Event) × CanHappen p s e)
+Closes p s made limit close = ⊥
