@@ -26,7 +26,6 @@ pub(crate) struct Wiring {
 
 impl Model for Wiring {
     ghost use Rattle.std.specs.Prelude.{ℕ, List, Option};
-
     ghost use Rattle.vc_core.specs.Wired.{AreSpans};
 
     ghost Value = { List (Option ℕ) };
