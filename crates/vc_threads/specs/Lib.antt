@@ -1,0 +1,5 @@
+pub mod Stamps
+pub mod Merged
+pub mod Wires
+pub mod Runs
+pub mod Works

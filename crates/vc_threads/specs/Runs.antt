@@ -1,0 +1,57 @@
+-- What a node does by itself, with its ways named by its links.
+use Rattle.std.specs.Prelude.{◌≡◌, ◌⊎◌, ℕ, List, [], ◌∷◌, ◌++◌, length}
+use Rattle.std.specs.List.{flat_map}
+use Rattle.vc_actors.specs.Actors.{Label, Steps, act_of}
+use Rattle.vc_actors.specs.Actors.Label.{Own, Takes, Puts}
+use Rattle.vc_actors.specs.LocalRun.{Stamped, Turn, LocalRun, clock_after}
+use Rattle.vc_network.specs.Plan.{Plan}
+use Rattle.vc_tokens.specs.Spelt.{token}
+use Rattle.vc_tokens.specs.declared.token.Token.{Token}
+use Rattle.rand_pcg.specs.Lcg.{Lcg}
+use Rattle.rand_pcg.specs.Pcg.{pcg32}
+use Rattle.vc_core.specs.Able.{CanAct}
+use Rattle.vc_core.specs.Acting.{MakesOwn, MakesTake, IsOwn}
+use Rattle.vc_core.specs.Turns.{IsPut}
+use Rattle.vc_core.specs.declared.act.Act.{Act}
+use Rattle.vc_core.specs.declared.act.Act.TheVariants.{Proc, Take, Put, Route, Fct, Pass}
+use Rattle.vc_core.specs.declared.node.Node.{Node}
+
+-- The steps of node k of the plan: of its own, the take of a token from a link, or the put of one on a link.
+abbrev pub StepsByLink : Plan → Steps Node Act Token
+StepsByLink plan k old (Own act) new = MakesOwn plan k old act new
+StepsByLink plan k old (Takes (Take by word) link t) new = (by ≡ link) × MakesTake plan k old link (token t) new
+StepsByLink plan k old (Puts act link t) new = IsPut plan k old link act t new
+StepsByLink plan k old _ new = ⊥
+
+-- the node has no step of its own
+abbrev pub IsQuiet : Plan → ℕ → Node → Type 0
+IsQuiet plan k n = (act : Act) → IsOwn act → CanAct plan k n act → ⊥
+
+-- after some prefix of the run the node has no step of its own
+abbrev pub Rests : Plan → ℕ → ℕ → Node → List (Turn Act Token) → Node → Type 0
+Rests plan k clock old ts new =
+    (before after : List (Turn Act Token)) × (mid : Node)
+    × (ts ≡ before ++ after)
+    × LocalRun (StepsByLink plan) k clock old before mid
+    × LocalRun (StepsByLink plan) k (clock_after clock before) mid after new
+    × IsQuiet plan k mid
+
+-- the run used n turns: it has n acts, or the node once had no step of its own
+abbrev pub Used : Plan → ℕ → ℕ → ℕ → Node → List (Turn Act Token) → Node → Type 0
+Used plan k n clock old ts new = (length ts ≡ n) ⊎ Rests plan k clock old ts new
+
+-- the word of a take
+abbrev pub word_of : Label Act (Stamped Token) → List ℕ
+word_of (Takes (Take by word) link s) = word ∷ []
+word_of (Takes act link s) = []
+word_of (Own act) = []
+word_of (Puts act link s) = []
+
+-- the words of the takes, in order
+abbrev pub words_of : List (Turn Act Token) → List ℕ
+words_of = flat_map (λ t. word_of t.it)
+
+-- these are the next words of the generator, which then is h
+abbrev pub Draws : Lcg → List ℕ → Lcg → Type 0
+Draws g [] h = h ≡ g
+Draws g (w ∷ ws) h = (w ≡ (pcg32 g).0) × Draws (pcg32 g).1 ws h

@@ -1,0 +1,107 @@
+-- What a worker does.
+use Rattle.std.specs.Prelude.{◌≡◌, ℕ, ◌≤◌, ◌++◌, List, [], ◌∷◌, length, map}
+use Rattle.std.specs.List.{AllZip}
+use Rattle.std.specs.declared.alloc.Global.{Global}
+use Rattle.rand_pcg.specs.Lcg.{Lcg, started, increment_of}
+use Rattle.rand_pcg.specs.Pcg.{multiplier_64}
+use Rattle.rtrb.specs.Ring.{received, SameConsumer}
+use Rattle.rtrb.specs.declared.producer.Producer.{Producer}
+use Rattle.rtrb.specs.declared.consumer.Consumer.{Consumer}
+use Rattle.vc_actors.specs.Actors.Label.{Takes}
+use Rattle.vc_actors.specs.LocalRun as local
+use Rattle.vc_actors.specs.LocalRun.{Turn, LocalRun, clock_after}
+use Rattle.vc_actors.specs.Actors.{act_of}
+use Rattle.vc_network.specs.Plan.{Plan}
+use Rattle.vc_tokens.specs.declared.token.Token.{Token}
+use Rattle.vc_core.specs.OfPlan.{IsNodeOf}
+use Rattle.vc_core.specs.declared.act.Act.{Act}
+use Rattle.vc_core.specs.declared.act.Act.TheVariants.{Take}
+use Rattle.vc_core.specs.declared.actor.Actor.{Actor}
+use Rattle.vc_core.specs.declared.node.Node.{Node}
+use Rattle.vc_threads.specs.declared.desk.Desk.{Desk}
+use Rattle.vc_threads.specs.declared.link.Ends.{Ends}
+use Rattle.vc_threads.specs.declared.link.LinkRule.{LinkRule}
+use Rattle.vc_threads.specs.declared.link.Stamped.{Stamped}
+use Rattle.vc_threads.specs.declared.run.ActorRun.{ActorRun}
+use Rattle.vc_threads.specs.declared.run.Stop.TheVariants.{Turns}
+use Rattle.vc_threads.specs.Runs.{StepsByLink, Used, Draws, words_of}
+use Rattle.vc_threads.specs.Stamps.{stamped}
+use Rattle.vc_threads.specs.Wires.{Sends, Receives, OutLooked, InLooked}
+
+-- the node is one of some plan
+abbrev pub IsOfSomePlan : Node → Type 0
+IsOfSomePlan n = (plan : Plan) × (k : ℕ) × IsNodeOf plan k n
+
+abbrev pub Out : Type 0
+Out = ℕ × Producer Stamped Global LinkRule
+
+abbrev pub In : Type 0
+In = ℕ × Consumer Stamped Global LinkRule
+
+-- what is seen of a desk
+pub record Seen : Type 0 where
+  pub node : Node
+  pub clock : ℕ
+  pub log : List (ℕ × Act)
+  pub outs : List Out
+  pub ins : List In
+  pub words : Lcg
+
+abbrev pub desk : Desk → Seen
+desk d = record { node = d.actor.node; clock = d.clock; log = d.acts.items; outs = d.ends.outs.items; ins = d.ends.ins.items; words = d.words }
+
+-- what is logged of a step
+abbrev pub logged : Turn Act Token → ℕ × Act
+logged t = (t.at, act_of t.it)
+
+-- Some steps lead from one desk to the other: they are a run of node k by itself, they are logged, the rings show what they took and
+-- put, and the words of their takes were drawn.
+pub record Goes (plan : Plan) (k : ℕ) (a : Seen) (ts : List (Turn Act Token)) (b : Seen) : Type 0 where
+  pub run : LocalRun (StepsByLink plan) k a.clock a.node ts b.node
+  pub clock : b.clock ≡ clock_after a.clock ts
+  pub log : b.log ≡ a.log ++ map logged ts
+  pub outs : AllZip (Sends ts) a.outs b.outs
+  pub ins : AllZip (Receives ts) a.ins b.ins
+  pub words : Draws a.words (words_of ts) b.words
+
+-- at most n steps lead from one desk to the other, which use n turns
+pub record Uses (plan : Plan) (k n : ℕ) (a b : Seen) : Type 0 where
+  pub steps : List (Turn Act Token)
+  pub few : length steps ≤ n
+  pub goes : Goes plan k a steps b
+  pub used : Used plan k n a.clock a.node steps b.node
+
+-- nothing was done
+pub record Stays (a b : Seen) : Type 0 where
+  pub node : b.node ≡ a.node
+  pub log : b.log ≡ a.log
+  pub outs : AllZip OutLooked a.outs b.outs
+  pub ins : AllZip InLooked a.ins b.ins
+
+-- the take of this item from this link
+abbrev pub take_of : ℕ × Act → ℕ → Stamped → Turn Act Token
+take_of made link x = record { at = made.0; it = Takes made.1 link (stamped x) }
+
+-- the front item of the link's ring is taken
+pub record TakesFront (plan : Plan) (k : ℕ) (old : Node) (clock word : ℕ) (end : In) (made : ℕ × Act) (new : Node) (end' : In) : Type 0 where
+  pub item : Stamped
+  pub act : made.1 ≡ Take end.0 word
+  pub step : StepsByLink plan k old (Takes made.1 end.0 item.item) new
+  pub stamp : made.0 ≡ local.next_stamp clock (take_of made end.0 item).it
+  pub link : end'.0 ≡ end.0
+  pub ring : SameConsumer end.1 end'.1
+  pub got : received end'.1 ≡ received end.1 ++ item ∷ []
+
+-- What a worker gives back: some steps, at most n, are a run of node k by itself from its first state to its last. They are the acts.
+-- What the ring ends sent and received is what the steps put and took, and the words of the takes are those of the generator, in order.
+-- A worker that ended by its turns used them.
+pub record HasRun (plan : Plan) (k n id seed : ℕ) (actor : Actor) (ends : Ends) (r : ActorRun) : Type 0 where
+  pub steps : List (Turn Act Token)
+  pub few : length steps ≤ n
+  pub run : LocalRun (StepsByLink plan) k 0 actor.node steps r.actor.node
+  pub acts : r.acts.items ≡ map logged steps
+  pub outs : AllZip (Sends steps) ends.outs.items r.ends.outs.items
+  pub ins : AllZip (Receives steps) ends.ins.items r.ends.ins.items
+  pub rest : Lcg
+  pub words : Draws (started 64 multiplier_64 seed (increment_of 64 id)) (words_of steps) rest
+  pub used : r.stop ≡ Turns → Used plan k n 0 actor.node steps r.actor.node

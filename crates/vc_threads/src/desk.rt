@@ -1,0 +1,250 @@
+//! An actor at work, with its ends of the rings.
+ghost use Rattle.std.specs.Prelude.{◌≡◌, ◌≢◌, ℕ, ◌+◌, ◌<◌, ◌≤◌, ◌++◌, [], ◌∷◌, length, OnErr, IfOk, IfSome, IfErr, IsTrue};
+ghost use Rattle.std.specs.List.{All, AllZip, HoldsAt};
+ghost use Rattle.std.specs.Int.{bit_at};
+ghost use Rattle.rtrb.specs.Ring.{sent, known_free, SameProducer};
+ghost use Rattle.vc_core.specs.OfPlan.{IsNodeOf};
+ghost use Rattle.vc_network.specs.Plan.{Plan};
+ghost use Rattle.vc_threads.specs.Wires.{OutLooked, InLooked, HasRoom, IsFree, IsReady};
+ghost use Rattle.vc_threads.specs.Works.{TakesFront};
+
+use crate::link::{Ends, In, Out, Stamped};
+use crate::run::{ActorRun, Stop};
+use crate::stamp::next_stamp;
+use rand_core::utils::NextWord;
+use rand_pcg::Lcg64Xsh32;
+use std::alloc::Global;
+use vc_core::{Act, Actor, Turn};
+
+/// An actor at work.
+#[derive(Drop)]
+pub(crate) struct Desk {
+    pub(crate) actor: Actor,
+    clock: u64,
+    acts: Vec<(u64, Act)>,
+    ends: Ends,
+    words: Lcg64Xsh32,
+}
+
+// Whether a link's ring has room.
+fn has_room(out: &mut (u8, Out)) -> bool
+    ensures looked { OutLooked out.old out.new }
+    ensures room { IsTrue result → 0 < known_free out.new.1 }
+{
+    let (_, producer) = out;
+    producer.slots() > 0
+}
+
+// The outgoing links whose rings have room, a bit for each.
+fn room_of(outs: &mut [(u8, Out)]) -> u32
+    requires { All (λ o. o.0 < 32) outs.old }
+    ensures looked { AllZip OutLooked outs.old outs.new }
+    ensures room { (link : ℕ) → bit_at result link ≡ 1 → HasRoom outs.new link }
+{
+    let mut room = 0u32;
+    for k in 0..outs.len() {
+        let out = &mut outs[k];
+        let link = out.0;
+        if has_room(out) {
+            room |= 1u32 << link;
+        }
+    }
+    room
+}
+
+// The place of the link whose ring has room.
+fn find_out(outs: &[(u8, Out)], link: u8) -> usize
+    requires { HasRoom outs.now link }
+    ensures within { result < length outs.now }
+    ensures free { HoldsAt (IsFree link) outs.now result }
+{
+    for k in 0..outs.len() {
+        let (of, producer) = &outs[k];
+        if *of == link && producer.cached_slots() > 0 {
+            return k;
+        }
+    }
+    unreachable!()
+}
+
+// Whether a link's ring has an item.
+fn is_ready(end: &mut (u8, In)) -> bool
+    ensures looked { InLooked end.old end.new }
+    ensures ready { IsTrue result → IsReady end.new }
+{
+    let (_, consumer) = end;
+    consumer.slots() > 0
+}
+
+// The place of the first link whose ring has an item.
+fn find_in(ins: &mut [(u8, In)]) -> Option<usize>
+    ensures looked { AllZip InLooked ins.old ins.new }
+    ensures ready { IfSome result (λ k. (k < length ins.new) × HoldsAt IsReady ins.new k) }
+{
+    for k in 0..ins.len() {
+        if is_ready(&mut ins[k]) {
+            return Some(k);
+        }
+    }
+    None
+}
+
+// Takes the front item. It is popped only once the actor took it.
+fn take_front(
+    actor: &mut Actor,
+    end: &mut (u8, In),
+    clock: u64,
+    word: u32,
+) -> Result<(u64, Act), Stop>
+    requires link { end.old.0 < 4 }
+    requires ready { IsReady end.old }
+    ensures ok { (plan : Plan) (k : ℕ) → IsNodeOf plan k actor.old.node → IfOk result (λ made. TakesFront plan k actor.old.node clock word end.old made actor.new.node end.new) }
+    ensures err { OnErr result ((actor.new ≡ actor.old) × (end.new ≡ end.old)) }
+    ensures why { IfErr result (λ why. why ≢ Stop.Turns) }
+{
+    let (link, consumer) = end;
+    let front = consumer.peek_known();
+    let Some(stamp) = next_stamp(clock, Some(front.at)) else {
+        return Err(Stop::Clock);
+    };
+    let Ok(act) = actor.take(*link, &front.item, word) else {
+        return Err(Stop::Memory);
+    };
+    consumer.pop_known();
+    Ok((stamp, act))
+}
+
+// Puts an item on a ring with room.
+fn put_item(end: &mut (u8, Out), item: Stamped)
+    requires room { 0 < known_free end.old.1 }
+    requires stamp { 1 ≤ item.at }
+    ensures link { end.new.0 ≡ end.old.0 }
+    ensures ring { SameProducer end.old.1 end.new.1 }
+    ensures sent { sent end.new.1 ≡ sent end.old.1 ++ item ∷ [] }
+{
+    let (_, producer) = end;
+    producer.push_reserved(item);
+}
+
+impl Desk {
+    ghost use Rattle.std.specs.Prelude.{◌≡◌, ◌≢◌, ◌<◌, ℕ, [], length, OnOk, OnErr, IfErr};
+    ghost use Rattle.std.specs.List.{All, HoldsAt};
+    ghost use Rattle.rand_pcg.specs.Lcg.{started, increment_of};
+    ghost use Rattle.rand_pcg.specs.Pcg.{multiplier_64};
+    ghost use Rattle.vc_core.specs.OfPlan.{IsNodeOf};
+    ghost use Rattle.vc_network.specs.Plan.{Plan};
+    ghost use Rattle.vc_threads.specs.Wires.{Distinct, IsReady, in_links, out_links};
+    ghost use Rattle.vc_threads.specs.Works.{IsOfSomePlan, Uses, Stays, desk};
+
+    /// An actor that did nothing yet. Its words are those of the generator of this seed and number.
+    pub(crate) fn new(alloc: Global, id: u8, actor: Actor, ends: Ends, seed: u32) -> Desk
+        ensures actor { result.actor ≡ actor }
+        ensures clock { result.clock ≡ 0 }
+        ensures acts { result.acts.items ≡ [] }
+        ensures ends { result.ends ≡ ends }
+        ensures words { result.words ≡ started 64 multiplier_64 seed (increment_of 64 id) }
+    {
+        Desk {
+            actor,
+            clock: 0,
+            acts: Vec::new(alloc),
+            ends,
+            words: Lcg64Xsh32::new(u64::from(seed), u64::from(id)),
+        }
+    }
+
+    /// What the worker gives back.
+    pub(crate) fn into_run(self, id: u8, stop: Stop) -> ActorRun
+        ensures id { result.id ≡ id }
+        ensures actor { result.actor ≡ self.actor }
+        ensures acts { result.acts ≡ self.acts }
+        ensures ends { result.ends ≡ self.ends }
+        ensures stop { result.stop ≡ stop }
+    {
+        let Desk {
+            actor,
+            clock: _,
+            acts,
+            ends,
+            words: _,
+        } = self;
+        ActorRun {
+            id,
+            actor,
+            acts,
+            ends,
+            stop,
+        }
+    }
+
+    // Takes the front item of the k-th incoming link.
+    fn take_from(&mut self, k: usize) -> Result<(), Stop>
+        requires links { Distinct (in_links self.old.ends.ins.items) }
+        requires low { All (λ i. i.0 < 4) self.old.ends.ins.items }
+        requires within { k < length self.old.ends.ins.items }
+        requires ready { HoldsAt IsReady self.old.ends.ins.items k }
+        ensures done { (plan : Plan) (n : ℕ) → IsNodeOf plan n self.old.actor.node → OnOk result (Uses plan n 1 (desk self.old) (desk self.new)) }
+        ensures stopped { OnErr result (Stays (desk self.old) (desk self.new)) }
+        ensures why { IfErr result (λ why. why ≢ Stop.Turns) }
+    {
+        if self.acts.reserve(1).is_err() {
+            return Err(Stop::Memory);
+        }
+        let word = self.words.next_word();
+        let (stamp, act) = take_front(&mut self.actor, &mut self.ends.ins[k], self.clock, word)?;
+        self.acts.push_reserved((stamp, act));
+        self.clock = stamp;
+        Ok(())
+    }
+
+    // What the actor does where it takes nothing.
+    fn make_turn(&mut self) -> Result<(), Stop>
+        requires node { IsOfSomePlan self.old.actor.node }
+        requires links { Distinct (out_links self.old.ends.outs.items) }
+        requires low { All (λ o. o.0 < 32) self.old.ends.outs.items }
+        ensures done { (plan : Plan) (n : ℕ) → IsNodeOf plan n self.old.actor.node → OnOk result (Uses plan n 1 (desk self.old) (desk self.new)) }
+        ensures stopped { OnErr result (Stays (desk self.old) (desk self.new)) }
+        ensures why { IfErr result (λ why. why ≢ Stop.Turns) }
+    {
+        if self.acts.reserve(1).is_err() {
+            return Err(Stop::Memory);
+        }
+        let Some(stamp) = next_stamp(self.clock, None) else {
+            return Err(Stop::Clock);
+        };
+        let room = room_of(self.ends.outs.as_mut_slice());
+        match self.actor.turn(room) {
+            Ok(Turn::Idle) => Ok(()),
+            Ok(Turn::Local(act)) => {
+                self.acts.push_reserved((stamp, act));
+                self.clock = stamp;
+                Ok(())
+            }
+            Ok(Turn::Put { link, act, item }) => {
+                let k = find_out(self.ends.outs.as_slice(), link);
+                put_item(&mut self.ends.outs[k], Stamped { at: stamp, item });
+                self.acts.push_reserved((stamp, act));
+                self.clock = stamp;
+                Ok(())
+            }
+            Err(_) => Err(Stop::Memory),
+        }
+    }
+
+    /// One turn: the take of an item from the first link whose ring has one, or else what the actor does.
+    pub(crate) fn turn(&mut self) -> Result<(), Stop>
+        requires node { IsOfSomePlan self.old.actor.node }
+        requires outs { Distinct (out_links self.old.ends.outs.items) }
+        requires ins { Distinct (in_links self.old.ends.ins.items) }
+        requires low { All (λ o. o.0 < 32) self.old.ends.outs.items }
+        requires few { All (λ i. i.0 < 4) self.old.ends.ins.items }
+        ensures done { (plan : Plan) (n : ℕ) → IsNodeOf plan n self.old.actor.node → OnOk result (Uses plan n 1 (desk self.old) (desk self.new)) }
+        ensures stopped { OnErr result (Stays (desk self.old) (desk self.new)) }
+        ensures why { IfErr result (λ why. why ≢ Stop.Turns) }
+    {
+        match find_in(self.ends.ins.as_mut_slice()) {
+            Some(k) => self.take_from(k),
+            None => self.make_turn(),
+        }
+    }
+}

@@ -1,0 +1,23 @@
+//! The network in threads: each node a worker of its own, joined to the others by rings that keep the order of their tokens.
+//!
+//! What a [`worker`] does is a run of its actor by itself, stamped act by act (`specs/Runs`), and what its ring ends sent and received
+//! is what the run put and took. [`merge`] makes one list of all workers' acts, by stamp, then actor.
+#![tactic(auto)]
+
+mod desk;
+mod gate;
+mod link;
+mod merging;
+mod run;
+mod stamp;
+mod work;
+
+pub use gate::{EndGate, Gate};
+pub use link::{Ends, In, LinkRule, Out, Stamped};
+pub use merging::merge;
+pub use run::{ActorRun, Stop};
+pub use stamp::next_stamp;
+pub use work::worker;
+
+#[cfg(test)]
+mod tests;
