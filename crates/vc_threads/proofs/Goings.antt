@@ -1,0 +1,295 @@
+-- How a turn of a desk is put together.
+use Rattle.std.proofs.Common.{◌≡◌, ◌≢◌, ℕ, zero, suc, ◌+◌, ◌<◌, ◌≤◌, List, [], ◌∷◌, ◌++◌, length, get_or, false, eqb, inl, inr, refl, ap, sym, subst, arith, map, ◌∙◌, append_assoc, length-append, eq-eqb}
+use Rattle.std.specs.List.{AllZip, All}
+use Rattle.std.proofs.Math.ListN.{set}
+use Rattle.std.proofs.lemmas.List.{append-nil, map-append}
+use Rattle.std.proofs.lemmas.Bool.Decides.{eqb_tells}
+use Rattle.std.proofs.lemmas.Bool.{cases_order}
+use Rattle.rand_pcg.specs.Lcg.{Lcg, started, increment_of}
+use Rattle.rand_pcg.specs.Pcg.{multiplier_64}
+use Rattle.rtrb.specs.Ring.{sent, received, SameProducer, SameConsumer}
+use Rattle.vc_actors.specs.Actors.Label.{Own, Takes, Puts}
+use Rattle.vc_actors.specs.LocalRun.{Turn, LocalRun, CarriesStamp, next_stamp, plain, clock_after, all_put, all_taken}
+use Rattle.vc_network.specs.Plan.{Plan}
+use Rattle.vc_tokens.specs.declared.token.Token.{Token}
+use Rattle.vc_core.specs.OfPlan.{IsNodeOf}
+use Rattle.vc_core.specs.declared.act.Act.{Act}
+use Rattle.vc_core.specs.declared.actor.Actor.{Actor}
+use Rattle.vc_threads.specs.declared.desk.Desk.{Desk}
+use Rattle.vc_threads.specs.declared.link.Ends.{Ends}
+use Rattle.vc_threads.specs.declared.link.Stamped.{Stamped}
+use Rattle.vc_threads.specs.declared.run.ActorRun.{ActorRun}
+use Rattle.vc_threads.specs.declared.run.Stop.TheVariants.{Turns}
+use Rattle.vc_threads.specs.Stamps.{stamped, all_stamped}
+use Rattle.vc_threads.specs.Wires.{OutLooked, InLooked, Distinct, Sends, Receives, out_links, in_links}
+use Rattle.vc_threads.specs.Runs.{StepsByLink, IsQuiet, Used, Draws, words_of}
+use Rattle.vc_threads.specs.Works.{Out, In, Seen, desk, logged, Goes, Uses, Stays, HasRun}
+use Rattle.vc_threads.proofs.Zips.{zip_weaker, zip_then, zip_one, zip_map, zip_same, zip_length, zip_at}
+use Rattle.vc_threads.proofs.Looks.{producer_then, consumer_then, looked_same, in_looked_same, in_looked_then}
+use Rattle.vc_threads.proofs.Steps.{clock_then, run_then, put_then, taken_then, words_then, draws_then, used_then, run_kept}
+
+any_default : {X : Type 0} (xs : List X) (k : ℕ) (d e : X) → k < length xs → get_or xs k d ≡ get_or xs k e
+any_default [] k d e l = absurd (omega arith)
+any_default (x ∷ xs) zero d e l = refl
+any_default (x ∷ xs) (suc k) d e l = any_default xs k d e (omega arith)
+
+link_at : {X : Type 0} (xs : List (ℕ × X)) (k : ℕ) (d : ℕ × X) → k < length xs → get_or (map (λ o. o.0) xs) k 0 ≡ (get_or xs k d).0
+link_at [] k d l = absurd (omega arith)
+link_at (x ∷ xs) zero d l = refl
+link_at (x ∷ xs) (suc k) d l = link_at xs k d (omega arith)
+
+length_links : {X : Type 0} (xs : List (ℕ × X)) → length (map (λ o. o.0) xs) ≡ length xs
+length_links [] = refl
+length_links (x ∷ xs) = ap suc (length_links xs)
+
+-- two places have two links
+apart : {X : Type 0} (xs : List (ℕ × X)) (j k : ℕ) (d e : ℕ × X) → Distinct (map (λ o. o.0) xs) → j < length xs → k < length xs → j ≢ k → eqb (get_or xs j d).0 (get_or xs k e).0 ≡ false
+apart xs j k d e dist l m ne =
+    let p = link_at xs j d l in
+    let q = link_at xs k e m in
+    let n = length_links xs in
+    elim (eqb_tells (get_or xs j d).0 (get_or xs k e).0) [
+      | inr f ↦ f.0
+      | inl t ↦ elim (cases_order j k) [
+        | inl same ↦ absurd (ne same)
+        | inr o ↦ elim o [
+          | inl less ↦ absurd (dist j k less (omega (arith, n)) (p ∙ (t.1 ∙ sym q)))
+          | inr more ↦ absurd (dist k j more (omega (arith, n)) (q ∙ (sym t.1 ∙ sym p)))
+        ]
+      ]
+    ]
+
+apart_from : {X : Type 0} (xs : List (ℕ × X)) (j k : ℕ) (d r : ℕ × X) → Distinct (map (λ o. o.0) xs) → j < length xs → k < length xs → j ≢ k → r ≡ get_or xs k r → eqb r.0 (get_or xs j d).0 ≡ false
+apart_from xs j k d r dist l m ne is = ap (λ v. eqb v.0 (get_or xs j d).0) is ∙ apart xs k j r d dist m l (λ same. ne (sym same))
+
+-- steps that put nothing
+pub sends_quiet : (ts : List (Turn Act Token)) → ((l : ℕ) → all_put l ts ≡ []) → (os ps : List Out) → AllZip OutLooked os ps → AllZip (Sends ts) os ps
+sends_quiet ts q = zip_weaker OutLooked (Sends ts) (λ a b l.
+    (l.0, l.1.0, ap all_stamped l.1.1 ∙ (sym (append-nil (all_stamped (sent a.1))) ∙ ap (λ w. all_stamped (sent a.1) ++ w) (sym (q a.0)))))
+
+pub receives_quiet : (ts : List (Turn Act Token)) → ((l : ℕ) → all_taken l ts ≡ []) → (os ps : List In) → AllZip InLooked os ps → AllZip (Receives ts) os ps
+receives_quiet ts q = zip_weaker InLooked (Receives ts) (λ a b l.
+    (l.0, l.1.0, ap all_stamped l.1.1 ∙ (sym (append-nil (all_stamped (received a.1))) ∙ ap (λ w. all_stamped (received a.1) ++ w) (sym (q a.0)))))
+
+-- one place has received the item, and the others nothing
+pub receives_one : (ins : List In) (k : ℕ) (r y : In) (at : ℕ) (act : Act) (x : Stamped)
+    → Distinct (in_links ins) → k < length ins → r ≡ get_or ins k r → y.0 ≡ r.0 → SameConsumer r.1 y.1
+    → received y.1 ≡ received r.1 ++ x ∷ []
+    → AllZip (Receives (record { at = at; it = Takes act r.0 (stamped x) } ∷ [])) ins (set ins k y)
+receives_one ins k r y at act x dist within is link ring got =
+    let t : Turn Act Token = record { at = at; it = Takes act r.0 (stamped x) } in
+    let ts : List (Turn Act Token) = t ∷ [] in
+    zip_one (Receives ts) ins k y within
+    (λ d. subst (λ v. Receives ts v y) (is ∙ any_default ins k r d within)
+    (link, ring, ap all_stamped got ∙ (map-append stamped (received r.1) (x ∷ []) ∙ rw (eq-eqb r.0 r.0 refl) refl)))
+    (λ j d l ne. (refl, ((refl, refl, refl, refl), refl), rw (apart_from ins j k d r dist l within ne is) (sym (append-nil (all_stamped (received (get_or ins j d).1))))))
+
+-- one place has sent the item, and the others nothing
+pub sends_one : (outs : List Out) (k : ℕ) (r y : Out) (at : ℕ) (act : Act) (x : Stamped)
+    → Distinct (out_links outs) → k < length outs → r ≡ get_or outs k r → y.0 ≡ r.0 → SameProducer r.1 y.1
+    → sent y.1 ≡ sent r.1 ++ x ∷ []
+    → AllZip (Sends (record { at = at; it = Puts act r.0 (stamped x) } ∷ [])) outs (set outs k y)
+sends_one outs k r y at act x dist within is link ring got =
+    let t : Turn Act Token = record { at = at; it = Puts act r.0 (stamped x) } in
+    let ts : List (Turn Act Token) = t ∷ [] in
+    zip_one (Sends ts) outs k y within
+    (λ d. subst (λ v. Sends ts v y) (is ∙ any_default outs k r d within)
+    (link, ring, ap all_stamped got ∙ (map-append stamped (sent r.1) (x ∷ []) ∙ rw (eq-eqb r.0 r.0 refl) refl)))
+    (λ j d l ne. (refl, ((refl, refl, refl, refl), refl), rw (apart_from outs j k d r dist l within ne is) (sym (append-nil (all_stamped (sent (get_or outs j d).1))))))
+
+-- a look first changes nothing
+pub looked_sends : (ts : List (Turn Act Token)) (os ps qs : List Out) → AllZip OutLooked os ps → AllZip (Sends ts) ps qs → AllZip (Sends ts) os qs
+looked_sends ts = zip_then OutLooked (Sends ts) (Sends ts) (λ a b c l s.
+    (s.0 ∙ l.0, producer_then a.1 b.1 c.1 l.1.0 s.1, s.2 ∙ (ap (λ w. all_stamped w ++ all_put b.0 ts) l.1.1 ∙ ap (λ n. all_stamped (sent a.1) ++ all_put n ts) l.0)))
+
+pub looked_receives : (ts : List (Turn Act Token)) (os ps qs : List In) → AllZip InLooked os ps → AllZip (Receives ts) ps qs → AllZip (Receives ts) os qs
+looked_receives ts = zip_then InLooked (Receives ts) (Receives ts) (λ a b c l s.
+    (s.0 ∙ l.0, consumer_then a.1 b.1 c.1 l.1.0 s.1, s.2 ∙ (ap (λ w. all_stamped w ++ all_taken b.0 ts) l.1.1 ∙ ap (λ n. all_stamped (received a.1) ++ all_taken n ts) l.0)))
+
+-- nor does one at the end
+pub sends_looked : (ts : List (Turn Act Token)) (os ps qs : List Out) → AllZip (Sends ts) os ps → AllZip OutLooked ps qs → AllZip (Sends ts) os qs
+sends_looked ts = zip_then (Sends ts) OutLooked (Sends ts) (λ a b c s l. (l.0 ∙ s.0, producer_then a.1 b.1 c.1 s.1 l.1.0, ap all_stamped l.1.1 ∙ s.2))
+
+pub receives_looked : (ts : List (Turn Act Token)) (os ps qs : List In) → AllZip (Receives ts) os ps → AllZip InLooked ps qs → AllZip (Receives ts) os qs
+receives_looked ts = zip_then (Receives ts) InLooked (Receives ts) (λ a b c s l. (l.0 ∙ s.0, consumer_then a.1 b.1 c.1 s.1 l.1.0, ap all_stamped l.1.1 ∙ s.2))
+
+pub sends_then : (ts us : List (Turn Act Token)) (os ps qs : List Out) → AllZip (Sends ts) os ps → AllZip (Sends us) ps qs → AllZip (Sends (ts ++ us)) os qs
+sends_then ts us = zip_then (Sends ts) (Sends us) (Sends (ts ++ us)) (λ a b c p q. (
+  q.0 ∙ p.0,
+  producer_then a.1 b.1 c.1 p.1 q.1,
+  q.2 ∙ (ap (λ w. w ++ all_put b.0 us) p.2 ∙ (ap (λ n. (all_stamped (sent a.1) ++ all_put a.0 ts) ++ all_put n us) p.0
+      ∙ (append_assoc (all_stamped (sent a.1)) (all_put a.0 ts) (all_put a.0 us) ∙ ap (λ w. all_stamped (sent a.1) ++ w) (sym (put_then a.0 ts us))))),
+))
+
+pub receives_then : (ts us : List (Turn Act Token)) (os ps qs : List In) → AllZip (Receives ts) os ps → AllZip (Receives us) ps qs → AllZip (Receives (ts ++ us)) os qs
+receives_then ts us = zip_then (Receives ts) (Receives us) (Receives (ts ++ us)) (λ a b c p q. (
+  q.0 ∙ p.0,
+  consumer_then a.1 b.1 c.1 p.1 q.1,
+  q.2 ∙ (ap (λ w. w ++ all_taken b.0 us) p.2 ∙ (ap (λ n. (all_stamped (received a.1) ++ all_taken a.0 ts) ++ all_taken n us) p.0
+      ∙ (append_assoc (all_stamped (received a.1)) (all_taken a.0 ts) (all_taken a.0 us) ∙ ap (λ w. all_stamped (received a.1) ++ w) (sym (taken_then a.0 ts us))))),
+))
+
+pub looked_out_links : (os ps : List Out) → AllZip OutLooked os ps → out_links ps ≡ out_links os
+looked_out_links = zip_map (λ o. o.0) (λ o. o.0) OutLooked (λ a b l. l.0)
+
+pub looked_in_links : (os ps : List In) → AllZip InLooked os ps → in_links ps ≡ in_links os
+looked_in_links = zip_map (λ o. o.0) (λ o. o.0) InLooked (λ a b l. l.0)
+
+module _ (plan : Plan) (k : ℕ) where
+  -- no step was made, and the node has none of its own
+  pub uses_idle : (a b : Seen) → IsQuiet plan k a.node → b.node ≡ a.node → b.clock ≡ a.clock → b.log ≡ a.log → b.words ≡ a.words
+      → AllZip OutLooked a.outs b.outs → AllZip InLooked a.ins b.ins → Uses plan k 1 a b
+  uses_idle a b quiet node clock log words outs ins = record {
+    steps = [];
+    few = omega arith;
+    goes = record {
+      run = node;
+      clock = clock;
+      log = log ∙ sym (append-nil a.log);
+      outs = sends_quiet [] (λ l. refl) a.outs b.outs outs;
+      ins = receives_quiet [] (λ l. refl) a.ins b.ins ins;
+      words = words;
+    };
+    used = inr ([], [], a.node, refl, refl, node, quiet);
+  }
+
+  -- one step was made
+  pub uses_one : (a b : Seen) (t : Turn Act Token) → StepsByLink plan k a.node (plain t.it) b.node → t.at ≡ next_stamp a.clock t.it → CarriesStamp t.at t.it
+      → b.clock ≡ t.at → b.log ≡ a.log ++ logged t ∷ [] → Draws a.words (words_of (t ∷ [])) b.words
+      → AllZip (Sends (t ∷ [])) a.outs b.outs → AllZip (Receives (t ∷ [])) a.ins b.ins → Uses plan k 1 a b
+  uses_one a b t step stamp carries clock log words outs ins = record {
+    steps = t ∷ [];
+    few = omega arith;
+    goes = record {
+      run = (b.node, step, stamp, carries, refl);
+      clock = clock;
+      log = log;
+      outs = outs;
+      ins = ins;
+      words = words;
+    };
+    used = inl refl;
+  }
+
+  -- after a look
+  pub uses_looked : (n : ℕ) (a b : Seen) (ins : List In) → AllZip InLooked ins a.ins → Uses plan k n a b → Uses plan k n (record a { ins = ins }) b
+  uses_looked n a b ins looked p = record {
+    steps = p.steps;
+    few = p.few;
+    goes = record {
+      run = p.goes.run;
+      clock = p.goes.clock;
+      log = p.goes.log;
+      outs = p.goes.outs;
+      ins = looked_receives p.steps ins a.ins b.ins looked p.goes.ins;
+      words = p.goes.words;
+    };
+    used = p.used;
+  }
+
+  -- no turn
+  pub uses_zero : (a : Seen) → Uses plan k 0 a a
+  uses_zero a = record {
+    steps = [];
+    few = omega arith;
+    goes = record {
+      run = refl;
+      clock = refl;
+      log = sym (append-nil a.log);
+      outs = sends_quiet [] (λ l. refl) a.outs a.outs (zip_same OutLooked looked_same a.outs);
+      ins = receives_quiet [] (λ l. refl) a.ins a.ins (zip_same InLooked in_looked_same a.ins);
+      words = refl;
+    };
+    used = inl refl;
+  }
+
+  -- one turn after another
+  pub uses_then : (n m : ℕ) (a b c : Seen) → Uses plan k n a b → Uses plan k m b c → Uses plan k (n + m) a c
+  uses_then n m a b c p q =
+      let few = p.few in
+      let more = q.few in
+      let run = subst (λ w. LocalRun (StepsByLink plan) k w b.node q.steps c.node) p.goes.clock q.goes.run in
+      record {
+        steps = p.steps ++ q.steps;
+        few = omega (arith, length-append p.steps q.steps, few, more);
+        goes = record {
+          run = run_then (StepsByLink plan) k a.clock a.node b.node c.node p.steps q.steps p.goes.run run;
+          clock = q.goes.clock ∙ (ap (λ w. clock_after w q.steps) p.goes.clock ∙ sym (clock_then a.clock p.steps q.steps));
+          log = q.goes.log ∙ (ap (λ w. w ++ map logged q.steps) p.goes.log ∙ (append_assoc a.log (map logged p.steps) (map logged q.steps) ∙ ap (λ w. a.log ++ w) (sym (map-append logged p.steps q.steps))));
+          outs = sends_then p.steps q.steps a.outs b.outs c.outs p.goes.outs q.goes.outs;
+          ins = receives_then p.steps q.steps a.ins b.ins c.ins p.goes.ins q.goes.ins;
+          words = subst (λ w. Draws a.words w c.words) (sym (words_then p.steps q.steps)) (draws_then a.words b.words c.words (words_of p.steps) (words_of q.steps) p.goes.words q.goes.words);
+        };
+        used = used_then plan k n m a.clock a.node b.node c.node p.steps q.steps p.goes.run run p.used (subst (λ w. Used plan k m w b.node q.steps c.node) p.goes.clock q.used);
+      }
+
+  -- the ends stay those of the same links
+  pub outs_apart : (n : ℕ) (a b : Seen) → Uses plan k n a b → Distinct (out_links a.outs) → Distinct (out_links b.outs)
+  outs_apart n a b p = subst Distinct (sym (zip_map (λ o. o.0) (λ o. o.0) (Sends p.steps) (λ x y l. l.0) a.outs b.outs p.goes.outs))
+
+  pub ins_apart : (n : ℕ) (a b : Seen) → Uses plan k n a b → Distinct (in_links a.ins) → Distinct (in_links b.ins)
+  ins_apart n a b p = subst Distinct (sym (zip_map (λ o. o.0) (λ o. o.0) (Receives p.steps) (λ x y l. l.0) a.ins b.ins p.goes.ins))
+
+  pub outs_low : (n : ℕ) (a b : Seen) → Uses plan k n a b → All (λ o. o.0 < 32) a.outs → All (λ o. o.0 < 32) b.outs
+  outs_low n a b p low j d m =
+      let e = zip_length (Sends p.steps) a.outs b.outs p.goes.outs in
+      let l = zip_at (Sends p.steps) a.outs b.outs j d d p.goes.outs (omega arith) in
+      let h = low j d (omega arith) in
+      let same = l.0 in
+      subst (λ (v : ℕ). v < 32) (sym same) h
+
+  pub ins_low : (n : ℕ) (a b : Seen) → Uses plan k n a b → All (λ i. i.0 < 4) a.ins → All (λ i. i.0 < 4) b.ins
+  ins_low n a b p low j d m =
+      let e = zip_length (Receives p.steps) a.ins b.ins p.goes.ins in
+      let l = zip_at (Receives p.steps) a.ins b.ins j d d p.goes.ins (omega arith) in
+      let h = low j d (omega arith) in
+      let same = l.0 in
+      subst (λ (v : ℕ). v < 4) (sym same) h
+
+pub looked_low : (os ps : List In) → AllZip InLooked os ps → All (λ i. i.0 < 4) os → All (λ i. i.0 < 4) ps
+looked_low os ps z low j d m =
+    let e = zip_length InLooked os ps z in
+    let l = zip_at InLooked os ps j d d z (omega arith) in
+    let h = low j d (omega arith) in
+    let same = l.0 in
+    subst (λ (v : ℕ). v < 4) (sym same) h
+
+pub stays_same : (a : Seen) → Stays a a
+stays_same a = record { node = refl; log = refl; outs = zip_same OutLooked looked_same a.outs; ins = zip_same InLooked in_looked_same a.ins }
+
+-- nothing was done after a look
+pub stays_looked : (a b : Seen) (ins : List In) → AllZip InLooked ins a.ins → Stays a b → Stays (record a { ins = ins }) b
+stays_looked a b ins looked p = record { node = p.node; log = p.log; outs = p.outs; ins = zip_then InLooked InLooked InLooked in_looked_then ins a.ins b.ins looked p.ins }
+
+-- a node of the plan stays one
+pub node_kept : (plan : Plan) (k n : ℕ) (a b : Seen) → Uses plan k n a b → IsNodeOf plan k a.node → IsNodeOf plan k b.node
+node_kept plan k n a b p h = run_kept plan k a.clock a.node p.steps b.node p.goes.run h
+
+-- what a worker gives back
+pub has_run : (plan : Plan) (k n m id seed : ℕ) (a b c : Desk) (actor : Actor) (ends : Ends) (r : ActorRun)
+    → Uses plan k n (desk a) (desk b) → Stays (desk b) (desk c) → n ≤ m
+    → a.actor ≡ actor → a.clock ≡ 0 → a.acts.items ≡ [] → a.ends ≡ ends → a.words ≡ started 64 multiplier_64 seed (increment_of 64 id)
+    → r.actor ≡ c.actor → r.acts ≡ c.acts → r.ends ≡ c.ends → (r.stop ≡ Turns → n ≡ m)
+    → HasRun plan k m id seed actor ends r
+has_run plan k n m id seed a b c actor ends r p s le actor_is clock_is acts_is ends_is words_is actor' acts' ends' turns =
+    let few = p.few in
+    let node : r.actor.node ≡ b.actor.node = ap (λ v. v.node) actor' ∙ s.node in
+    let first : a.actor.node ≡ actor.node = ap (λ v. v.node) actor_is in
+    let outs = sends_looked p.steps a.ends.outs.items b.ends.outs.items c.ends.outs.items p.goes.outs s.outs in
+    let ins = receives_looked p.steps a.ends.ins.items b.ends.ins.items c.ends.ins.items p.goes.ins s.ins in
+    record {
+      steps = p.steps;
+      few = omega (arith, few, le);
+      run = subst (λ v. LocalRun (StepsByLink plan) k 0 v p.steps r.actor.node) first
+      (subst (λ w. LocalRun (StepsByLink plan) k w a.actor.node p.steps r.actor.node) clock_is
+      (subst (λ v. LocalRun (StepsByLink plan) k a.clock a.actor.node p.steps v) (sym node) p.goes.run));
+      acts = ap (λ v. v.items) acts' ∙ (s.log ∙ (p.goes.log ∙ ap (λ w. w ++ map logged p.steps) acts_is));
+      outs = subst (λ e. AllZip (Sends p.steps) e.outs.items r.ends.outs.items) ends_is (subst (λ e. AllZip (Sends p.steps) a.ends.outs.items e.outs.items) (sym ends') outs);
+      ins = subst (λ e. AllZip (Receives p.steps) e.ins.items r.ends.ins.items) ends_is (subst (λ e. AllZip (Receives p.steps) a.ends.ins.items e.ins.items) (sym ends') ins);
+      rest = b.words;
+      words = subst (λ g. Draws g (words_of p.steps) b.words) words_is p.goes.words;
+      used = λ h. subst (λ j. Used plan k j 0 actor.node p.steps r.actor.node) (turns h)
+      (subst (λ v. Used plan k n 0 v p.steps r.actor.node) first
+      (subst (λ w. Used plan k n w a.actor.node p.steps r.actor.node) clock_is
+      (subst (λ v. Used plan k n a.clock a.actor.node p.steps v) (sym node) p.used)));
+    }

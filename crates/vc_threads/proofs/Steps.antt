@@ -1,0 +1,112 @@
+-- Runs joined, and what they keep.
+use Rattle.std.proofs.Common.{◌≡◌, ℕ, ◌+◌, List, [], ◌∷◌, ◌++◌, length, refl, ap, sym, subst, ◌∙◌, append_assoc, inl, inr, arith, length-append}
+use Rattle.std.proofs.lemmas.List.Concat.{flat_map-append}
+use Rattle.rand_pcg.specs.Lcg.{Lcg}
+use Rattle.rand_pcg.specs.Pcg.{pcg32}
+use Rattle.vc_actors.specs.Actors.{Label, Steps, taken_off, put_on}
+use Rattle.vc_actors.specs.Actors.Label.{Own, Takes, Puts}
+use Rattle.vc_actors.specs.LocalRun.{Turn, LocalRun, clock_after, all_taken, all_put, plain}
+use Rattle.vc_network.specs.Plan.{Plan}
+use Rattle.vc_tokens.specs.declared.token.Token.{Token}
+use Rattle.vc_core.specs.Acting.{IsOwn}
+use Rattle.vc_core.specs.OfPlan.{IsNodeOf}
+use Rattle.vc_core.specs.Turns.{FindsTurn, IsPut, RoomLets}
+use Rattle.vc_core.specs.declared.act.Act.{Act}
+use Rattle.vc_core.specs.declared.act.Act.TheVariants.{Proc, Take, Put, Route, Fct, Pass}
+use Rattle.vc_core.specs.declared.node.Node.{Node}
+use Rattle.vc_threads.specs.Runs.{StepsByLink, IsQuiet, Used, Draws, words_of, word_of}
+use Rattle.std.specs.Int.{bit_at}
+use Rattle.std.specs.Prelude.{None}
+
+pub clock_then : {A I : Type 0} (clock : ℕ) (ts us : List (Turn A I)) → clock_after clock (ts ++ us) ≡ clock_after (clock_after clock ts) us
+clock_then clock [] us = refl
+clock_then clock (t ∷ ts) us = clock_then t.at ts us
+
+-- the second run goes on where the first one ended
+pub run_then : {S A I : Type 0} (Local : Steps S A I) (k clock : ℕ) (a b c : S) (ts us : List (Turn A I))
+    → LocalRun Local k clock a ts b → LocalRun Local k (clock_after clock ts) b us c → LocalRun Local k clock a (ts ++ us) c
+run_then Local k clock a b c [] us p q = subst (λ v. LocalRun Local k clock v us c) p q
+run_then Local k clock a b c (t ∷ ts) us p q = (p.0, p.1, p.2, p.3, run_then Local k t.at p.0 b c ts us p.4 q)
+
+pub put_then : (link : ℕ) (ts us : List (Turn Act Token)) → all_put link (ts ++ us) ≡ all_put link ts ++ all_put link us
+put_then link ts us = flat_map-append (λ t. put_on link t.it) ts us
+
+pub taken_then : (link : ℕ) (ts us : List (Turn Act Token)) → all_taken link (ts ++ us) ≡ all_taken link ts ++ all_taken link us
+taken_then link ts us = flat_map-append (λ t. taken_off link t.it) ts us
+
+pub words_then : (ts us : List (Turn Act Token)) → words_of (ts ++ us) ≡ words_of ts ++ words_of us
+words_then ts us = flat_map-append (λ t. word_of t.it) ts us
+
+pub draws_then : (g h i : Lcg) (vs ws : List ℕ) → Draws g vs h → Draws h ws i → Draws g (vs ++ ws) i
+draws_then g h i [] ws p q = subst (λ x. Draws x ws i) p q
+draws_then g h i (v ∷ vs) ws p q = (p.0, draws_then (pcg32 g).1 h i vs ws p.1 q)
+
+-- turns used, and then more
+pub used_then : (plan : Plan) (k n m clock : ℕ) (a b c : Node) (ts us : List (Turn Act Token))
+    → LocalRun (StepsByLink plan) k clock a ts b → LocalRun (StepsByLink plan) k (clock_after clock ts) b us c
+    → Used plan k n clock a ts b → Used plan k m (clock_after clock ts) b us c → Used plan k (n + m) clock a (ts ++ us) c
+used_then plan k n m clock a b c ts us p q (inr r) w =
+    inr (
+      r.0,
+      r.1 ++ us,
+      r.2,
+      ap (λ v. v ++ us) r.3 ∙ append_assoc r.0 r.1 us,
+      r.4,
+      run_then (StepsByLink plan) k (clock_after clock r.0) r.2 b c r.1 us r.5
+          (subst (λ x. LocalRun (StepsByLink plan) k x b us c) (ap (clock_after clock) r.3 ∙ clock_then clock r.0 r.1) q),
+      r.6,
+    )
+used_then plan k n m clock a b c ts us p q (inl e) (inr r) =
+    inr (
+      ts ++ r.0,
+      r.1,
+      r.2,
+      ap (λ v. ts ++ v) r.3 ∙ sym (append_assoc ts r.0 r.1),
+      run_then (StepsByLink plan) k clock a b r.2 ts r.0 p r.4,
+      subst (λ x. LocalRun (StepsByLink plan) k x r.2 r.1 c) (sym (clock_then clock ts r.0)) r.5,
+      r.6,
+    )
+used_then plan k n m clock a b c ts us p q (inl e) (inl f) = inl (omega (arith, length-append ts us, e, f))
+
+-- a put leaves a node of the plan
+put_kept : (plan : Plan) (k link : ℕ) (old : Node) (act : Act) (item : Token) (new : Node) → IsPut plan k old link act item new → IsNodeOf plan k new
+put_kept plan k link old (Put l) item new p = p.1.kept
+put_kept plan k link old (Fct l) item new p = p.2.kept
+put_kept plan k link old (Proc m) item new p = absurd p
+put_kept plan k link old (Take l w) item new p = absurd p
+put_kept plan k link old (Pass l) item new p = absurd p
+put_kept plan k link old (Route i o) item new p = absurd p
+
+step_kept : (plan : Plan) (k : ℕ) (old : Node) (label : Label Act Token) (new : Node) → StepsByLink plan k old label new → IsNodeOf plan k new
+step_kept plan k old (Own act) new p = p.kept
+step_kept plan k old (Takes (Take by word) link t) new p = p.1.kept
+step_kept plan k old (Takes (Put l) link t) new p = absurd p
+step_kept plan k old (Takes (Fct l) link t) new p = absurd p
+step_kept plan k old (Takes (Proc m) link t) new p = absurd p
+step_kept plan k old (Takes (Pass l) link t) new p = absurd p
+step_kept plan k old (Takes (Route i o) link t) new p = absurd p
+step_kept plan k old (Puts act link t) new p = put_kept plan k link old act t new p
+
+-- a run leaves a node of the plan
+pub run_kept : (plan : Plan) (k clock : ℕ) (old : Node) (ts : List (Turn Act Token)) (new : Node)
+    → LocalRun (StepsByLink plan) k clock old ts new → IsNodeOf plan k old → IsNodeOf plan k new
+run_kept plan k clock old [] new p h = subst (IsNodeOf plan k) (sym p) h
+run_kept plan k clock old (t ∷ ts) new p h = run_kept plan k t.at p.0 ts new p.4 (step_kept plan k old (plain t.it) p.0 p.1)
+
+-- a node that has no act for its turn has no step of its own
+pub finds_quiet : (plan : Plan) (k : ℕ) (n : Node) (room : ℕ) → FindsTurn plan k n room None → IsQuiet plan k n
+finds_quiet plan k n room f (Proc m) own can = f (Proc m) (record { can = can; lets = tt })
+finds_quiet plan k n room f (Pass l) own can = f (Pass l) (record { can = can; lets = tt })
+finds_quiet plan k n room f (Take l w) own can = absurd own
+finds_quiet plan k n room f (Put l) own can = absurd own
+finds_quiet plan k n room f (Fct l) own can = absurd own
+finds_quiet plan k n room f (Route i o) own can = absurd own
+
+-- a put goes to a link with room
+pub put_room : (plan : Plan) (k link room : ℕ) (old : Node) (act : Act) (item : Token) (new : Node) → IsPut plan k old link act item new → RoomLets room act → bit_at room link ≡ 1
+put_room plan k link room old (Put l) item new p lets = subst (λ x. bit_at room x ≡ 1) (sym p.0) lets
+put_room plan k link room old (Fct l) item new p lets = subst (λ x. bit_at room x ≡ 1) (sym p.0) lets
+put_room plan k link room old (Proc m) item new p lets = absurd p
+put_room plan k link room old (Take l w) item new p lets = absurd p
+put_room plan k link room old (Pass l) item new p lets = absurd p
+put_room plan k link room old (Route i o) item new p lets = absurd p

@@ -1,0 +1,105 @@
+use Rattle.std.proofs.Common.{◌≡◌, ℕ, refl, sym, subst, get_or, ap, ◌∙◌, ◌++◌, ◌∷◌, [], take, drop, length, ◌<◌}
+use Rattle.std.proofs.Math.ListN.{set}
+use Rattle.vc_actors.specs.Actors.Label.{Own, Puts}
+use Rattle.vc_actors.specs.LocalRun.{Turn}
+use Rattle.vc_core.specs.Turns.{MakesTurn, IsPut}
+use Rattle.vc_core.specs.declared.act.Act.{Act}
+use Rattle.vc_tokens.specs.declared.token.Token.{Token}
+use Rattle.vc_threads.specs.declared.link.Stamped.{Stamped}
+use Rattle.vc_threads.specs.Stamps.{stamped}
+use Rattle.vc_threads.specs.Wires.{OutLooked, InLooked, HasRoom, Distinct}
+use Rattle.vc_threads.specs.Works.{Out, desk}
+use Rattle.vc_threads.proofs.Zips.{zip_same}
+use Rattle.vc_threads.proofs.Looks.{looked_same, in_looked_same}
+use Rattle.vc_threads.proofs.Steps.{finds_quiet, put_room}
+use Rattle.vc_threads.proofs.Goings.{uses_idle, uses_one, sends_one, sends_quiet, receives_quiet, looked_sends, looked_out_links}
+use Rattle.vc_threads.proofs.Backs.{same_back, zip_back}
+use Rattle.vc_threads.proofs.desk.Desk.make_turn.Goals as goal
+
+pub returns-then-is_err-clause-stopped : goal.returns-then-is_err-clause-stopped
+returns-then-is_err-clause-stopped c =
+    let a = c.args.self.now in
+    record {
+      node = refl;
+      log = c.reserve.ensures.items;
+      outs = zip_same OutLooked looked_same a.ends.outs.items;
+      ins = zip_same InLooked in_looked_same a.ends.ins.items;
+    }
+
+pub returns-in_default-clause-stopped : goal.returns-in_default-clause-stopped
+returns-in_default-clause-stopped c =
+    let a = c.args.self.now in
+    record {
+      node = refl;
+      log = c.reserve.ensures.items;
+      outs = zip_same OutLooked looked_same a.ends.outs.items;
+      ins = zip_same InLooked in_looked_same a.ends.ins.items;
+    }
+
+pub returns-in-Err-clause-stopped : goal.returns-in-Err-clause-stopped
+returns-in-Err-clause-stopped c =
+    let a = c.args.self.now in
+    record {
+      node = ap (λ x. x.node) c.in-Err.ensures.refused;
+      log = c.reserve.ensures.items;
+      outs = zip_back OutLooked a.ends.outs.len a.ends.outs.items c.as_mut_slice.result.now c.room_of-room.new.outs a.ends.outs.ok.0 c.as_mut_slice.ensures.value c.room_of-room.ensures.looked;
+      ins = zip_same InLooked in_looked_same a.ends.ins.items;
+    }
+
+pub find_out-k-requires : goal.find_out-k-requires
+find_out-k-requires c =
+    let a = c.args.self.now in
+    let plan = c.requires.node.0 in
+    let k = c.requires.node.1 in
+    let e = same_back OutLooked a.ends.outs.len a.ends.outs.items c.as_mut_slice.result.now c.room_of-room.new.outs a.ends.outs.ok.0 c.as_mut_slice.ensures.value c.room_of-room.ensures.looked in
+    let did = subst (λ t. MakesTurn plan k a.actor.node c.room_of-room.result t c.turn.new.self.node) c.in-Ok-Put.field-0-is (c.in-Ok-Put.ensures.makes plan k c.requires.node.2) in
+    subst (λ w. HasRoom w c.in-Ok-Put.link) (sym e ∙ sym c.as_slice.ensures.value)
+    (c.room_of-room.ensures.room c.in-Ok-Put.link (put_room plan k c.in-Ok-Put.link c.room_of-room.result a.actor.node c.in-Ok-Put.act c.in-Ok-Put.item c.turn.new.self.node did.1 did.0.lets))
+
+pub returns-in-Ok-Idle-clause-done : goal.returns-in-Ok-Idle-clause-done
+returns-in-Ok-Idle-clause-done c = λ plan n of.
+    let a = c.args.self.now in
+    let outs' = zip_back OutLooked a.ends.outs.len a.ends.outs.items c.as_mut_slice.result.now c.room_of-room.new.outs a.ends.outs.ok.0 c.as_mut_slice.ensures.value c.room_of-room.ensures.looked in
+    let did = subst (λ t. MakesTurn plan n a.actor.node c.room_of-room.result t c.turn.new.self.node) c.in-Ok-Idle.field-0-is (c.in-Ok-Idle.ensures.makes plan n of) in
+    uses_idle plan n (desk a)
+    (record { node = c.turn.new.self.node; clock = a.clock; log = c.reserve.new.self.items; outs = take a.ends.outs.len (c.room_of-room.new.outs ++ drop (length c.room_of-room.new.outs) a.ends.outs.items); ins = a.ends.ins.items; words = a.words })
+    (finds_quiet plan n a.actor.node c.room_of-room.result did.1) did.0 refl c.reserve.ensures.items refl outs' (zip_same InLooked in_looked_same a.ends.ins.items)
+
+pub returns-in-Ok-Local-clause-done : goal.returns-in-Ok-Local-clause-done
+returns-in-Ok-Local-clause-done c = λ plan n of.
+    let a = c.args.self.now in
+    let mid = take a.ends.outs.len (c.room_of-room.new.outs ++ drop (length c.room_of-room.new.outs) a.ends.outs.items) in
+    let outs' = zip_back OutLooked a.ends.outs.len a.ends.outs.items c.as_mut_slice.result.now c.room_of-room.new.outs a.ends.outs.ok.0 c.as_mut_slice.ensures.value c.room_of-room.ensures.looked in
+    let did = subst (λ t. MakesTurn plan n a.actor.node c.room_of-room.result t c.turn.new.self.node) c.in-Ok-Local.field-0-is (c.in-Ok-Local.ensures.makes plan n of) in
+    let made : ℕ × Act = (c.in-Some.stamp, c.in-Ok-Local.act) in
+    let t : Turn Act Token = record { at = c.in-Some.stamp; it = Own c.in-Ok-Local.act } in
+    uses_one plan n (desk a)
+    (record { node = c.turn.new.self.node; clock = c.in-Some.stamp; log = c.push_reserved.new.self.items; outs = mid; ins = a.ends.ins.items; words = a.words })
+    t did.1 c.in-Some.ensures tt refl (c.push_reserved.ensures.items ∙ ap (λ w. w ++ made ∷ []) c.reserve.ensures.items) refl
+    (sends_quiet (t ∷ []) (λ l. refl) a.ends.outs.items mid outs')
+    (receives_quiet (t ∷ []) (λ l. refl) a.ends.ins.items a.ends.ins.items (zip_same InLooked in_looked_same a.ends.ins.items))
+
+pub returns-in-Ok-Put-clause-done : goal.returns-in-Ok-Put-clause-done
+returns-in-Ok-Put-clause-done c = λ plan n of.
+    let a = c.args.self.now in
+    let mid = take a.ends.outs.len (c.room_of-room.new.outs ++ drop (length c.room_of-room.new.outs) a.ends.outs.items) in
+    let outs' = zip_back OutLooked a.ends.outs.len a.ends.outs.items c.as_mut_slice.result.now c.room_of-room.new.outs a.ends.outs.ok.0 c.as_mut_slice.ensures.value c.room_of-room.ensures.looked in
+    let did = subst (λ t. MakesTurn plan n a.actor.node c.room_of-room.result t c.turn.new.self.node) c.in-Ok-Put.field-0-is (c.in-Ok-Put.ensures.makes plan n of) in
+    let r = c.index_mut.result.now in
+    let k = c.find_out-k.result in
+    let act = c.in-Ok-Put.act in
+    let made : ℕ × Act = (c.in-Some.stamp, act) in
+    let x : Stamped = record { at = c.in-Some.stamp; item = c.in-Ok-Put.item } in
+    let t : Turn Act Token = record { at = c.in-Some.stamp; it = Puts act r.0 (stamped x) } in
+    let link : r.0 ≡ c.in-Ok-Put.link =
+    ap (λ (o : Out). o.0) c.index_mut.ensures.value ∙ (ap (λ w. (get_or w k r).0) (sym c.as_slice.ensures.value) ∙ (c.find_out-k.ensures.free r).0) in
+    let within : k < length mid = subst (λ w. k < length w) c.as_slice.ensures.value c.find_out-k.ensures.within in
+    let links = subst Distinct (sym (looked_out_links a.ends.outs.items mid outs')) c.requires.links in
+    let step : IsPut plan n a.actor.node r.0 act c.in-Ok-Put.item c.turn.new.self.node =
+    subst (λ l. IsPut plan n a.actor.node l act c.in-Ok-Put.item c.turn.new.self.node) (sym link) did.1 in
+    uses_one plan n (desk a)
+    (record { node = c.turn.new.self.node; clock = c.in-Some.stamp; log = c.push_reserved-in-Ok-Put.new.self.items; outs = set mid k c.put_item.new.end; ins = a.ends.ins.items; words = a.words })
+    t step c.in-Some.ensures refl refl (c.push_reserved-in-Ok-Put.ensures.items ∙ ap (λ w. w ++ made ∷ []) c.reserve.ensures.items) refl
+    (looked_sends (t ∷ []) a.ends.outs.items mid (set mid k c.put_item.new.end) outs'
+    (sends_one mid k r c.put_item.new.end c.in-Some.stamp act x links within c.index_mut.ensures.value c.put_item.ensures.link c.put_item.ensures.ring c.put_item.ensures.sent))
+    (receives_quiet (t ∷ []) (λ l. refl) a.ends.ins.items a.ends.ins.items (zip_same InLooked in_looked_same a.ends.ins.items))

@@ -1,0 +1,16 @@
+use Rattle.std.proofs.Common.{arith}
+use Rattle.vc_threads.specs.Wires.{InLooked}
+use Rattle.vc_threads.proofs.Zips.{zip_same, zip_step}
+use Rattle.vc_threads.proofs.Looks.{in_looked_same, in_looked_then}
+use Rattle.vc_threads.proofs.desk.find_in.Goals as goal
+
+pub loop-k-init : goal.loop-k-init
+loop-k-init c = zip_same InLooked in_looked_same c.args.ins.now
+
+pub returns-then-is_ready-clause-looked : goal.returns-then-is_ready-clause-looked
+returns-then-is_ready-clause-looked c =
+    zip_step InLooked in_looked_then c.args.ins.now c.loop-k.ins c.loop-k.k c.index-ins-k.result c.is_ready.new.end c.loop-k.invariant (omega arith) c.is_ready.ensures.looked
+
+pub loop-k-preserved : goal.loop-k-preserved
+loop-k-preserved c =
+    zip_step InLooked in_looked_then c.args.ins.now c.loop-k.ins c.loop-k.k c.index-ins-k.result c.is_ready.new.end c.loop-k.invariant (omega arith) c.is_ready.ensures.looked
