@@ -5,10 +5,10 @@ use Rattle.std.proofs.Math.ListN.{set}
 use Rattle.std.proofs.lemmas.List.{append-nil, map-append}
 use Rattle.std.proofs.lemmas.Bool.Decides.{eqb_tells}
 use Rattle.std.proofs.lemmas.Bool.{cases_order}
-use Rattle.rand_pcg.specs.Lcg.{Lcg, started, increment_of}
+use Rattle.rand_pcg.specs.Lcg.{started, increment_of}
 use Rattle.rand_pcg.specs.Pcg.{multiplier_64}
 use Rattle.rtrb.specs.Ring.{sent, received, SameProducer, SameConsumer}
-use Rattle.vc_actors.specs.Actors.Label.{Own, Takes, Puts}
+use Rattle.vc_actors.specs.Actors.Label.{Takes, Puts}
 use Rattle.vc_actors.specs.LocalRun.{Turn, LocalRun, CarriesStamp, next_stamp, plain, clock_after, all_put, all_taken}
 use Rattle.vc_network.specs.Plan.{Plan}
 use Rattle.vc_tokens.specs.declared.token.Token.{Token}
@@ -23,7 +23,7 @@ use Rattle.vc_threads.specs.declared.run.Stop.TheVariants.{Turns}
 use Rattle.vc_threads.specs.Stamps.{stamped, all_stamped}
 use Rattle.vc_threads.specs.Wires.{OutLooked, InLooked, Distinct, Sends, Receives, out_links, in_links}
 use Rattle.vc_threads.specs.Runs.{StepsByLink, IsQuiet, Used, Draws, words_of}
-use Rattle.vc_threads.specs.Works.{Out, In, Seen, desk, logged, Goes, Uses, Stays, HasRun}
+use Rattle.vc_threads.specs.Works.{Out, In, Seen, desk, logged, Uses, Stays, HasRun}
 use Rattle.vc_threads.proofs.Zips.{zip_weaker, zip_then, zip_one, zip_map, zip_same, zip_length, zip_at}
 use Rattle.vc_threads.proofs.Looks.{producer_then, consumer_then, looked_same, in_looked_same, in_looked_then}
 use Rattle.vc_threads.proofs.Steps.{clock_then, run_then, put_then, taken_then, words_then, draws_then, used_then, run_kept}
@@ -281,15 +281,15 @@ has_run plan k n m id seed a b c actor ends r p s le actor_is clock_is acts_is e
       steps = p.steps;
       few = omega (arith, few, le);
       run = subst (λ v. LocalRun (StepsByLink plan) k 0 v p.steps r.actor.node) first
-      (subst (λ w. LocalRun (StepsByLink plan) k w a.actor.node p.steps r.actor.node) clock_is
-      (subst (λ v. LocalRun (StepsByLink plan) k a.clock a.actor.node p.steps v) (sym node) p.goes.run));
+          (subst (λ w. LocalRun (StepsByLink plan) k w a.actor.node p.steps r.actor.node) clock_is
+          (subst (λ v. LocalRun (StepsByLink plan) k a.clock a.actor.node p.steps v) (sym node) p.goes.run));
       acts = ap (λ v. v.items) acts' ∙ (s.log ∙ (p.goes.log ∙ ap (λ w. w ++ map logged p.steps) acts_is));
       outs = subst (λ e. AllZip (Sends p.steps) e.outs.items r.ends.outs.items) ends_is (subst (λ e. AllZip (Sends p.steps) a.ends.outs.items e.outs.items) (sym ends') outs);
       ins = subst (λ e. AllZip (Receives p.steps) e.ins.items r.ends.ins.items) ends_is (subst (λ e. AllZip (Receives p.steps) a.ends.ins.items e.ins.items) (sym ends') ins);
       rest = b.words;
       words = subst (λ g. Draws g (words_of p.steps) b.words) words_is p.goes.words;
       used = λ h. subst (λ j. Used plan k j 0 actor.node p.steps r.actor.node) (turns h)
-      (subst (λ v. Used plan k n 0 v p.steps r.actor.node) first
-      (subst (λ w. Used plan k n w a.actor.node p.steps r.actor.node) clock_is
-      (subst (λ v. Used plan k n a.clock a.actor.node p.steps v) (sym node) p.used)));
+          (subst (λ v. Used plan k n 0 v p.steps r.actor.node) first
+          (subst (λ w. Used plan k n w a.actor.node p.steps r.actor.node) clock_is
+          (subst (λ v. Used plan k n a.clock a.actor.node p.steps v) (sym node) p.used)));
     }

@@ -1,5 +1,5 @@
 -- Runs joined, and what they keep.
-use Rattle.std.proofs.Common.{◌≡◌, ℕ, ◌+◌, List, [], ◌∷◌, ◌++◌, length, refl, ap, sym, subst, ◌∙◌, append_assoc, inl, inr, arith, length-append}
+use Rattle.std.proofs.Common.{◌≡◌, ℕ, ◌+◌, List, [], ◌∷◌, ◌++◌, refl, ap, sym, subst, ◌∙◌, append_assoc, inl, inr, arith, length-append}
 use Rattle.std.proofs.lemmas.List.Concat.{flat_map-append}
 use Rattle.rand_pcg.specs.Lcg.{Lcg}
 use Rattle.rand_pcg.specs.Pcg.{pcg32}
@@ -8,7 +8,6 @@ use Rattle.vc_actors.specs.Actors.Label.{Own, Takes, Puts}
 use Rattle.vc_actors.specs.LocalRun.{Turn, LocalRun, clock_after, all_taken, all_put, plain}
 use Rattle.vc_network.specs.Plan.{Plan}
 use Rattle.vc_tokens.specs.declared.token.Token.{Token}
-use Rattle.vc_core.specs.Acting.{IsOwn}
 use Rattle.vc_core.specs.OfPlan.{IsNodeOf}
 use Rattle.vc_core.specs.Turns.{FindsTurn, IsPut, RoomLets}
 use Rattle.vc_core.specs.declared.act.Act.{Act}

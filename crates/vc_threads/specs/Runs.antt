@@ -1,7 +1,7 @@
 -- What a node does by itself, with its ways named by its links.
 use Rattle.std.specs.Prelude.{◌≡◌, ◌⊎◌, ℕ, List, [], ◌∷◌, ◌++◌, length}
 use Rattle.std.specs.List.{flat_map}
-use Rattle.vc_actors.specs.Actors.{Label, Steps, act_of}
+use Rattle.vc_actors.specs.Actors.{Label, Steps}
 use Rattle.vc_actors.specs.Actors.Label.{Own, Takes, Puts}
 use Rattle.vc_actors.specs.LocalRun.{Stamped, Turn, LocalRun, clock_after}
 use Rattle.vc_network.specs.Plan.{Plan}
@@ -13,7 +13,7 @@ use Rattle.vc_core.specs.Able.{CanAct}
 use Rattle.vc_core.specs.Acting.{MakesOwn, MakesTake, IsOwn}
 use Rattle.vc_core.specs.Turns.{IsPut}
 use Rattle.vc_core.specs.declared.act.Act.{Act}
-use Rattle.vc_core.specs.declared.act.Act.TheVariants.{Proc, Take, Put, Route, Fct, Pass}
+use Rattle.vc_core.specs.declared.act.Act.TheVariants.{Take}
 use Rattle.vc_core.specs.declared.node.Node.{Node}
 
 -- The steps of node k of the plan: of its own, the take of a token from a link, or the put of one on a link.

@@ -1,9 +1,8 @@
-use Rattle.std.proofs.Common.{ℕ, ◌≡◌, ◌+◌, ◌<◌, sym, ◌∙◌, subst, arith}
+use Rattle.std.proofs.Common.{◌≡◌, ◌<◌, sym, ◌∙◌, subst, arith}
 use Rattle.std.specs.List.{All}
 use Rattle.vc_core.specs.OfPlan.{IsNodeOf}
 use Rattle.vc_threads.specs.Wires.{Distinct, out_links, in_links}
 use Rattle.vc_threads.specs.Works.{desk}
-use Rattle.vc_threads.specs.declared.run.Stop.{Stop}
 use Rattle.vc_threads.specs.declared.run.Stop.TheVariants.{Turns, Gate}
 use Rattle.vc_threads.proofs.Goings.{uses_zero, uses_then, outs_apart, ins_apart, outs_low, ins_low, node_kept, stays_same, has_run}
 use Rattle.vc_threads.proofs.work.worker.Goals as goal
@@ -73,3 +72,13 @@ loop-turn-preserved g c = λ plan n of.
     let p = c.loop-turn.invariant plan n of in
     uses_then plan n c.loop-turn.turn 1 (desk c.new-desk.result) (desk c.loop-turn.desk) (desk c.turn.new.self) p
     (c.in_default.ensures.done plan n (node_kept plan n c.loop-turn.turn (desk c.new-desk.result) (desk c.loop-turn.desk) p of))
+
+pub returns-clause-run : goal.returns-clause-run
+returns-clause-run g c = λ plan n of.
+    let d = c.new-desk.ensures in
+    let e = c.into_run-2.ensures in
+    let all = c.loop-turn-test.false in
+    let end = c.loop-turn.auto.turn-end in
+    has_run plan n c.loop-turn.turn c.args.turns c.args.id c.args.seed c.new-desk.result c.loop-turn.desk c.loop-turn.desk c.args.actor c.args.ends c.into_run-2.result
+    (c.loop-turn.invariant plan n (subst (λ a. IsNodeOf plan n a.node) (sym d.actor) of)) (stays_same (desk c.loop-turn.desk)) (omega (arith, end))
+    d.actor d.clock d.acts d.ends d.words e.actor e.acts e.ends (λ h. omega (arith, all, end))

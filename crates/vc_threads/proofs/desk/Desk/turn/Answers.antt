@@ -1,7 +1,6 @@
-use Rattle.std.proofs.Common.{ℕ, ◌<◌, sym, subst, ◌++◌, take, drop, length}
-use Rattle.std.specs.List.{All}
+use Rattle.std.proofs.Common.{sym, subst, ◌++◌, take, drop, length}
 use Rattle.vc_threads.specs.Wires.{InLooked, Distinct}
-use Rattle.vc_threads.specs.Works.{In, Seen, desk}
+use Rattle.vc_threads.specs.Works.{Seen, desk}
 use Rattle.vc_threads.proofs.Goings.{uses_looked, stays_looked, looked_in_links, looked_low}
 use Rattle.vc_threads.proofs.Outcomes.{on_ok_map, on_err_map}
 use Rattle.vc_threads.proofs.Backs.{zip_back}
