@@ -1,5 +1,17 @@
+ghost use Rattle.std.specs.Prelude.{◌≡◌, ℕ, ◌∷◌, [], IfOk};
+ghost use Rattle.vc_core.specs.declared.act.Act.{Act as SpeltAct};
+ghost use Rattle.vc_threads.specs.Works.{IsOfSomePlan};
+
 use super::*;
+use rtrb::RingBuffer;
+use sqlite_items::Items;
+use std::alloc::Global;
+use std::process::Abort;
 use std::test::Fail;
+use vc_core::{Act, Actor, actors};
+use vc_occam::Process;
+use vc_plan::{NodePlan, Plan, check};
+use vc_tokens::Token;
 
 #[test]
 fn stamps_follow_the_clock_and_the_item(rt: HostRuntime) -> Result<(), Fail> {
@@ -21,5 +33,93 @@ fn the_gate_closes_after_every_node(rt: HostRuntime) -> Result<(), Fail> {
     assert!(rt; gate.pass(0, 1) && gate.pass(1, 1));
     gate.ended(0);
     assert!(rt; !gate.pass(0, 2));
+    Ok(())
+}
+
+/// A node by itself, whose process is a SKIP.
+fn plan(alloc: Global) -> Result<Plan, Fail> {
+    let mut nodes = Items::new(alloc);
+    nodes.push(NodePlan {
+        name: Items::from_slice(alloc, b"a")?,
+        vars: Items::new(alloc),
+        process: Process::Skip,
+    })?;
+    Ok(Plan {
+        version: 1,
+        nodes,
+        switches: Items::new(alloc),
+        wires: Items::new(alloc),
+        vlinks: Items::new(alloc),
+        channels: Items::new(alloc),
+    })
+}
+
+/// The actor of that node.
+fn actor(rt: &impl Abort, alloc: Global) -> Result<Actor, Fail>
+    ensures { IfOk result (λ a. IsOfSomePlan a.node) }
+{
+    let Ok(accepted) = check(alloc, plan(alloc)?) else {
+        panic!(rt; "the plan is refused");
+    };
+    let Ok(mut nodes) = actors(alloc, &accepted) else {
+        panic!(rt; "no memory");
+    };
+    let Some(node) = nodes.pop() else {
+        panic!(rt; "no node");
+    };
+    Ok(node)
+}
+
+/// The run of one act.
+fn run(rt: &impl Abort, alloc: Global, id: u8, at: u64) -> Result<ActorRun, Fail>
+    ensures { IfOk result (λ r. (r.id ≡ id) × ((act : SpeltAct) × (r.acts.items ≡ (at, act) ∷ []))) }
+{
+    let mut acts = Vec::new(alloc);
+    acts.push((at, Act::Pass { link: 0 }))?;
+    Ok(ActorRun {
+        id,
+        actor: actor(rt, alloc)?,
+        acts,
+        ends: Ends {
+            outs: Vec::new(alloc),
+            ins: Vec::new(alloc),
+        },
+        stop: Stop::Turns,
+    })
+}
+
+#[test]
+fn the_merge_goes_by_stamp_then_actor(rt: HostRuntime) -> Result<(), Fail> {
+    let late = run(&rt, rt.alloc(), 0, 3)?;
+    let early = run(&rt, rt.alloc(), 2, 1)?;
+    let tied = run(&rt, rt.alloc(), 1, 3)?;
+    let runs = [late, early, tied];
+    let Ok(events) = merge(rt.alloc(), &runs) else {
+        panic!(rt; "no memory");
+    };
+    assert_eq!(rt; events.len(), 3);
+    assert_eq!(rt; events[0].actor, 2);
+    assert_eq!(rt; events[1].actor, 0);
+    assert_eq!(rt; events[2].actor, 1);
+    Ok(())
+}
+
+#[test]
+fn a_worker_takes_and_then_ends(rt: HostRuntime) -> Result<(), Fail> {
+    let alloc = rt.alloc();
+    let (mut producer, consumer) = RingBuffer::with_protocol::<Global, LinkRule>(alloc, 32)?;
+    let item = Token::Fct;
+    let full = producer.push(Stamped { at: 7, item }).is_err();
+    let mut ins = Vec::new(alloc);
+    ins.push((2u8, consumer))?;
+    let outs = Vec::new(alloc);
+    let ends = Ends { outs, ins };
+    let gate = EndGate::new(1);
+    let made = worker(alloc, 0, actor(&rt, alloc)?, ends, &gate, 100, 7);
+    assert!(rt; !full && made.stop == Stop::Gate);
+    assert_eq!(rt; made.acts.len(), 2);
+    assert_eq!(rt; made.acts[0].0, 8);
+    assert!(rt; matches!(made.acts[0].1, Act::Take { link: 2, .. }));
+    assert_eq!(rt; made.acts[1].0, 9);
     Ok(())
 }
