@@ -4,10 +4,6 @@ use Rattle.std.proofs.lemmas.Bool.Decides.{nat_tests}
 use Rattle.std.specs.Prelude.{slice_get, IsSome, is_some}
 use Rattle.std.specs.List.{list_any}
 use Rattle.vc_occam.specs.declared.channel_use.ChannelUse.{ChannelUse}
-use Rattle.vc_occam.specs.Lawful.{Lawfully}
-use Rattle.vc_occam.specs.Numbering.{written}
-use Rattle.vc_occam.specs.ProcessLimits.{runs_today, exps_within}
-use Rattle.vc_occam.specs.Syntax.{Proc, SKIP, STOP, Assign, Output, Input, StopChan, SEQ, PAR, IF, WHILE, COUNT, ALT}
 use Rattle.vc_plan.specs.declared.plan.Plan.{Plan}
 use Rattle.vc_plan.specs.declared.port.Port.{Port}
 use Rattle.vc_plan.specs.declared.port.Spot.{Spot}
@@ -19,10 +15,8 @@ use Rattle.vc_plan.specs.declared.channel.Home.{Home}
 use Rattle.vc_plan.specs.declared.channel.Home.TheVariants.{Way}
 use Rattle.vc_plan.specs.declared.node_plan.NodePlan.{NodePlan}
 use Rattle.vc_plan.specs.Accepted.{IsAccepted, port_of, end_of}
-use Rattle.vc_plan.specs.Check.{PassesChannels, repeated, ports, port_twice, unwired_port, port_missing, first_of, block_of, same_block, blocks, block_twice, same_bool, same_way, way_twice_from, way_twice, misused_from, misused, wrong_use, use_ok, uses_of}
-use Rattle.vc_plan.specs.Limits.{depth_ok}
+use Rattle.vc_plan.specs.Check.{PassesUse, repeated, ports, port_twice, unwired_port, port_missing, first_of, block_of, same_block, blocks, block_twice, same_bool, same_way, way_twice_from, way_twice, misused_from, misused, wrong_use, use_ok, uses_of}
 use Rattle.vc_plan.specs.Wires.{across, same_port, same_spot, sending_port}
-use Rattle.vc_plan.proofs.Limited.{keeps, passes}
 
 none-else : {X : Type 0} (b : Bool) (x : X) (o : Option X) → (if b then Some x else o) ≡ None → (b ≡ false) × (o ≡ None)
 none-else true x o h = absurd cc
@@ -230,34 +224,15 @@ right-uses p m (x ∷ xs) h (suc n) k node u e g =
     let s = none-first (wrong_use p m (uses_of x)) _ h in
     subst (λ j. use_ok p j u ≡ true) (omega arith) (right-uses p (suc m) xs s.1 n k node u e g)
 
--- a process of one word has no parts that could share anything
-alone-lawful : (p : Proc) → runs_today p ≡ true → Lawfully p
-alone-lawful (SKIP i) h = tt
-alone-lawful (STOP i) h = tt
-alone-lawful (Assign i v a) h = tt
-alone-lawful (Output i c a) h = tt
-alone-lawful (Input i c v) h = tt
-alone-lawful (StopChan i c) h = tt
-alone-lawful (SEQ i ps) h = absurd cc
-alone-lawful (PAR i ps) h = absurd cc
-alone-lawful (IF i bs) h = absurd cc
-alone-lawful (WHILE i t p) h = absurd cc
-alone-lawful (COUNT i v a n p) h = absurd cc
-alone-lawful (ALT i gs) h = absurd cc
-
-first-true : (a b : Bool) → (a && b) ≡ true → a ≡ true
-first-true true b h = refl
-first-true false b h = absurd cc
-
-pub accepted : (p : Plan) → PassesChannels p → IsAccepted p
+pub accepted : (p : Plan) → PassesUse p → IsAccepted p
 accepted p h =
-    let paths = h.before.before in
+    let used = h.before in
+    let paths = used.before.before in
     let tables = paths.before in
     let blocks = tables.before in
     let ports = blocks.before in
     let wires = ports.before in
-    let limits = wires.before.limits in
-    let channels = none-first (way_twice p.channels) (misused p) h.channels in
+    let channels = none-first (way_twice p.channels) (misused p) used.channels in
     record {
       passes = h;
       one_port = λ i j v w a b e f is. ports-differ p.wires wires.once i j v w a b e f is (order i a j b);
@@ -265,9 +240,8 @@ accepted p h =
       one_end = λ i j v w a b e f m n. blocks-differ p.vlinks blocks.blocks i j v w a b e f (λ k. (m k, n k)) (order i a j b);
       tables = tables.tables;
       labelled = paths.labelled;
-      apart = h.before.apart;
+      apart = used.before.apart;
       one_channel = one-way p.channels channels.0;
       uses = λ n k node u e g. subst (λ j. use_ok p j u ≡ true) (zero-add n) (right-uses p 0 p.nodes channels.1 n k node u e g);
-      lawful_use = λ n node e. alone-lawful (written node.process)
-          (first-true (runs_today (written node.process)) (exps_within (written node.process) 8) (passes depth_ok p.nodes n node (keeps p limits).depth e));
+      lawful_use = h.lawful;
     }

@@ -3,11 +3,14 @@ use Rattle.std.proofs.Common.{◌≡◌, ℕ, zero, suc, ◌<◌, ◌≤◌, Boo
 use Rattle.std.proofs.lemmas.Bool.Decides.{nat_tests}
 use Rattle.std.specs.Prelude.{slice_get}
 use Rattle.std.specs.List.{list_all}
+use Rattle.vc_occam.specs.Numbering.{written}
+use Rattle.vc_occam.specs.ProcessLimits.{depth_within, sequential, exps_within}
 use Rattle.vc_plan.specs.declared.plan.Plan.{Plan}
+use Rattle.vc_plan.specs.declared.node_plan.NodePlan.{NodePlan}
 use Rattle.vc_plan.specs.declared.switch_plan.RandomInput.{RandomInput}
 use Rattle.vc_plan.specs.declared.limit_word.LimitWord.{LimitWord}
 use Rattle.vc_plan.specs.declared.limit_word.LimitWord.TheVariants as word
-use Rattle.vc_plan.specs.Limits.{unless_ok, limit_broken, part_broken, process_broken, number_broken, version_ok, vars_ok, rows_ok, routes_ok, links_ok, random_ok, range_ok, depth_ok, message_ok, number_ok, names_ok}
+use Rattle.vc_plan.specs.Limits.{unless_ok, limit_broken, part_broken, process_broken, number_broken, version_ok, vars_ok, rows_ok, routes_ok, links_ok, random_ok, range_ok, depth_ok, parts_ok, message_ok, number_ok, names_ok}
 use Rattle.vc_plan.specs.Hops.{LimitsFit}
 
 pub record Keeps (p : Plan) : Type 0 where
@@ -23,6 +26,7 @@ pub record Keeps (p : Plan) : Type 0 where
   pub links : links_ok p ≡ true
   pub random : list_all random_ok p.switches ≡ true
   pub depth : list_all depth_ok p.nodes ≡ true
+  pub parts : list_all parts_ok p.nodes ≡ true
   pub message : list_all message_ok p.nodes ≡ true
   pub number : number_ok p ≡ true
   pub names : names_ok p ≡ true
@@ -45,9 +49,10 @@ keeps p h =
     let k = ok (links_ok p) word.Link _ j.1 in
     let l = ok (list_all random_ok p.switches) word.Random (process_broken p) k.1 in
     let m = ok (list_all depth_ok p.nodes) word.Depth _ l.1 in
-    let n = ok (list_all message_ok p.nodes) word.Message (number_broken p) m.1 in
-    let o = ok (number_ok p) word.Number _ n.1 in
-    let q = ok (names_ok p) word.Name None o.1 in
+    let n = ok (list_all parts_ok p.nodes) word.Parts _ m.1 in
+    let o = ok (list_all message_ok p.nodes) word.Message (number_broken p) n.1 in
+    let q = ok (number_ok p) word.Number _ o.1 in
+    let r = ok (names_ok p) word.Name None q.1 in
     record {
       version = a.0;
       nodes = b.0;
@@ -61,12 +66,13 @@ keeps p h =
       links = k.0;
       random = l.0;
       depth = m.0;
-      message = n.0;
-      number = o.0;
-      names = q.0;
+      parts = n.0;
+      message = o.0;
+      number = q.0;
+      names = r.0;
     }
 
-both : (a b : Bool) → (a && b) ≡ true → (a ≡ true) × (b ≡ true)
+pub both : (a b : Bool) → (a && b) ≡ true → (a ≡ true) × (b ≡ true)
 both true b h = (refl, h)
 both false b h = absurd cc
 
@@ -98,3 +104,9 @@ few-vlinks p h = let t = (keeps p h).vlinks in grind (arith, nat_tests)
 
 pub few-channels : (p : Plan) → limit_broken p ≡ None → length p.channels < 65536
 few-channels p h = let t = (keeps p h).channels in grind (arith, nat_tests)
+
+-- a process that is no deeper than it may be runs in order
+pub in-order : (n : NodePlan) → depth_ok n ≡ true → sequential (written n.process) ≡ true
+in-order n h =
+    let shallow = both (depth_within (written n.process) 32 && sequential (written n.process)) (exps_within (written n.process) 8) h in
+    (both (depth_within (written n.process) 32) (sequential (written n.process)) shallow.0).1

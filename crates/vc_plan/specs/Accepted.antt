@@ -1,8 +1,6 @@
 -- An accepted plan, in words that the layers above use.
 use Rattle.std.specs.Prelude.{◌≡◌, ℕ, Bool, true, false, Some, slice_get, IsSome}
 use Rattle.vc_occam.specs.declared.channel_use.ChannelUse.{ChannelUse}
-use Rattle.vc_occam.specs.Lawful.{Lawfully}
-use Rattle.vc_occam.specs.Numbering.{written}
 use Rattle.vc_plan.specs.declared.plan.Plan.{Plan}
 use Rattle.vc_plan.specs.declared.port.Port.{Port}
 use Rattle.vc_plan.specs.declared.port.Wire.{Wire}
@@ -11,7 +9,7 @@ use Rattle.vc_plan.specs.declared.vlink.Vlink.{Vlink}
 use Rattle.vc_plan.specs.declared.channel.Channel.{Channel}
 use Rattle.vc_plan.specs.declared.channel.Home.TheVariants.{Way}
 use Rattle.vc_plan.specs.declared.node_plan.NodePlan.{NodePlan}
-use Rattle.vc_plan.specs.Check.{AreApart, HasLawfulTables, PassesChannels, use_ok, uses_of}
+use Rattle.vc_plan.specs.Check.{AreApart, AreLawful, HasLawfulTables, PassesUse, use_ok, uses_of}
 use Rattle.vc_plan.specs.Delivery.{IsLabelled}
 use Rattle.vc_plan.specs.Wires.{across, sending_port}
 
@@ -27,7 +25,7 @@ end_of v false = v.b
 
 pub record IsAccepted (p : Plan) : Type 0 where
   -- it passes each test of the checker
-  pub passes : PassesChannels p
+  pub passes : PassesUse p
   -- no port is on two wires, or at both ends of one
   pub one_port : (i j : ℕ) (v w : Wire) (a b : Bool) → slice_get p.wires i ≡ Some v → slice_get p.wires j ≡ Some w → port_of v a ≡ port_of w b → (i ≡ j) × (a ≡ b)
   -- each end sends by a link that is on a wire
@@ -45,5 +43,5 @@ pub record IsAccepted (p : Plan) : Type 0 where
   pub one_channel : (c d : ℕ) (x y : Channel) (v : ℕ) (f : Bool) → slice_get p.channels c ≡ Some x → slice_get p.channels d ≡ Some y → x.home ≡ Way v f → y.home ≡ Way v f → c ≡ d
   -- each process uses only channels of its node, each at the right end and with the right kind
   pub uses : (n k : ℕ) (node : NodePlan) (u : ChannelUse) → slice_get p.nodes n ≡ Some node → slice_get (uses_of node) k ≡ Some u → use_ok p n u ≡ true
-  -- each process uses its channels and variables lawfully in parallel
-  pub lawful_use : (n : ℕ) (node : NodePlan) → slice_get p.nodes n ≡ Some node → Lawfully (written node.process)
+  -- each process uses its channels and variables lawfully
+  pub lawful_use : AreLawful p

@@ -8,6 +8,7 @@ use Rattle.vc_labels.specs.Fault.{table_fault}
 use Rattle.vc_occam.specs.declared.value_kind.ValueKind.{ValueKind}
 use Rattle.vc_occam.specs.declared.channel_use.ChannelUse.{ChannelUse}
 use Rattle.vc_occam.specs.ChannelUses.{channel_uses}
+use Rattle.vc_occam.specs.Lawful.{Lawfully, Offence, channel, variable, FirstOffence}
 use Rattle.vc_occam.specs.Limits.{same_kind}
 use Rattle.vc_occam.specs.Numbering.{written}
 use Rattle.vc_plan.specs.declared.plan.Plan.{Plan}
@@ -19,6 +20,7 @@ use Rattle.vc_plan.specs.declared.channel.Channel.{Channel}
 use Rattle.vc_plan.specs.declared.channel.Home.{Home}
 use Rattle.vc_plan.specs.declared.channel.Home.TheVariants.{Way, Inside}
 use Rattle.vc_plan.specs.declared.node_plan.NodePlan.{NodePlan}
+use Rattle.vc_plan.specs.declared.node_plan.Variable.{Variable}
 use Rattle.vc_plan.specs.declared.switch_plan.SwitchPlan.{SwitchPlan}
 use Rattle.vc_plan.specs.declared.path_fault.PathFault.{PathFault}
 use Rattle.vc_plan.specs.declared.fault.Fault.{Fault}
@@ -168,6 +170,33 @@ misused p = misused_from p 0 p.nodes
 abbrev pub channel_fault : Plan → Option ℕ
 channel_fault p = first_of (way_twice p.channels) (misused p)
 
+-- the name of what is there, or else no letter
+abbrev pub name_of : {A : Type 0} → (A → List ℕ) → Option A → List ℕ
+name_of name None = []
+name_of name (Some x) = name x
+
+-- the name of the channel or the variable
+abbrev pub offence_name : Plan → NodePlan → Offence → List ℕ
+offence_name p node (channel c) = name_of (λ (x : Channel). x.name) (slice_get p.channels c)
+offence_name p node (variable v) = name_of (λ (x : Variable). x.name) (slice_get node.vars v)
+
+-- the first offence of its process is by the channel or the variable of this name
+pub record IsUsage (p : Plan) (node : NodePlan) (name : List ℕ) : Type 0 where
+  pub offence : Offence
+  pub is : FirstOffence (written node.process) offence
+  pub named : offence_name p node offence ≡ name
+
+-- each process uses its channels and variables lawfully
+abbrev pub AreLawful : Plan → Type 0
+AreLawful p = (n : ℕ) (node : NodePlan) → slice_get p.nodes n ≡ Some node → Lawfully (written node.process)
+
+-- the first node whose process doesn't
+pub record IsFirstUsage (p : Plan) (n : ℕ) (name : List ℕ) : Type 0 where
+  pub node : NodePlan
+  pub there : slice_get p.nodes n ≡ Some node
+  pub is : IsUsage p node name
+  pub earlier : (k : ℕ) (other : NodePlan) → k < n → slice_get p.nodes k ≡ Some other → Lawfully (written other.process)
+
 -- a plan that passes each test, in their order
 pub record PassesLimits (p : Plan) : Type 0 where
   pub limits : limit_broken p ≡ None
@@ -200,13 +229,17 @@ pub record PassesChannels (p : Plan) : Type 0 where
   pub before : PassesNodes p
   pub channels : channel_fault p ≡ None
 
--- a path with its fault
-abbrev pub astray : PathFault → Fault → Astray
-astray f fault =
-    record { vlink = f.vlink; from_a = f.from_a; start = f.start; hops = f.hops; last = f.last; value = f.value; fault = fault }
+pub record PassesUse (p : Plan) : Type 0 where
+  pub before : PassesChannels p
+  pub lawful : AreLawful p
 
-abbrev pub IsPathCause : Plan → PathFault → Fault → Type 0
-IsPathCause p f fault = PassesTables p × IsFirstFault p p.vlinks (astray f fault)
+-- a path with its fault, which shows by this random value
+abbrev pub astray : PathFault → Option ℕ → Fault → Astray
+astray f v fault =
+    record { vlink = f.vlink; from_a = f.from_a; start = f.start; hops = f.hops; last = f.last; value = v; fault = fault }
+
+abbrev pub IsPathCause : Plan → PathFault → Option ℕ → Fault → Type 0
+IsPathCause p f v fault = PassesTables p × IsFirstFault p p.vlinks (astray f v fault)
 
 -- the first test that a plan fails, and where
 abbrev pub IsCause : Plan → CheckRefused → Type 0
@@ -215,22 +248,22 @@ IsCause p (why.PortTwice port) = PassesLimits p × (port_twice p.wires ≡ Some 
 IsCause p (why.PortMissing port) = PassesWires p × (port_missing p.wires p.vlinks ≡ Some port)
 IsCause p (why.BlockTwice node block) = PassesPorts p × (block_twice p.vlinks ≡ Some (node, block))
 IsCause p (why.Table n fault) = PassesBlocks p × IsFirstTable p n fault
-IsCause p (why.NoInterval f) = IsPathCause p f fault.NoInterval
-IsCause p (why.WrongEnd f) = IsPathCause p f fault.WrongEnd
-IsCause p (why.StackEmpty f) = IsPathCause p f fault.StackEmpty
-IsCause p (why.StackFull f) = IsPathCause p f fault.StackFull
-IsCause p (why.Hops f) = IsPathCause p f fault.Hops
+IsCause p (why.NoInterval f) = IsPathCause p f f.value fault.NoInterval
+IsCause p (why.WrongEnd f) = IsPathCause p f f.value fault.WrongEnd
+IsCause p (why.StackEmpty f) = IsPathCause p f f.value fault.StackEmpty
+-- a header for which there is no room is not put, so the path shows none
+IsCause p (why.StackFull f) = (f.value ≡ None) × ((v : Option ℕ) × IsPathCause p f v fault.StackFull)
+IsCause p (why.Hops f) = IsPathCause p f f.value fault.Hops
 IsCause p (why.SameNode n) = PassesPaths p × IsFirstSameNode p.vlinks n
 IsCause p (why.Channel n) = PassesNodes p × (channel_fault p ≡ Some n)
--- a process of one word has no parts side by side, and no index
-IsCause p (why.Usage n name) = ⊥
+IsCause p (why.Usage n name) = PassesChannels p × IsFirstUsage p n name
 IsCause p why.Memory = Unit {0}
 
 -- a path with its fault is refused so
 abbrev pub IsRefusedPath : Astray → CheckRefused → Type 0
-IsRefusedPath a (why.NoInterval f) = a ≡ astray f fault.NoInterval
-IsRefusedPath a (why.WrongEnd f) = a ≡ astray f fault.WrongEnd
-IsRefusedPath a (why.StackEmpty f) = a ≡ astray f fault.StackEmpty
-IsRefusedPath a (why.StackFull f) = a ≡ astray f fault.StackFull
-IsRefusedPath a (why.Hops f) = a ≡ astray f fault.Hops
+IsRefusedPath a (why.NoInterval f) = a ≡ astray f f.value fault.NoInterval
+IsRefusedPath a (why.WrongEnd f) = a ≡ astray f f.value fault.WrongEnd
+IsRefusedPath a (why.StackEmpty f) = a ≡ astray f f.value fault.StackEmpty
+IsRefusedPath a (why.StackFull f) = (f.value ≡ None) × (a ≡ astray f a.value fault.StackFull)
+IsRefusedPath a (why.Hops f) = a ≡ astray f f.value fault.Hops
 IsRefusedPath a r = ⊥

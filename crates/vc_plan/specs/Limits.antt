@@ -5,8 +5,9 @@ use Rattle.vc_labels.specs.declared.row.Row.{Row}
 use Rattle.vc_labels.specs.declared.action.Action.{Action}
 use Rattle.vc_labels.specs.declared.action.Action.TheVariants.{Out, Portal}
 use Rattle.vc_occam.specs.declared.value_kind.ValueKind.{ValueKind}
+use Rattle.vc_occam.specs.InOrder.{number}
 use Rattle.vc_occam.specs.Numbering.{written}
-use Rattle.vc_occam.specs.ProcessLimits.{runs_today, exps_within, in_length, names_fit}
+use Rattle.vc_occam.specs.ProcessLimits.{depth_within, sequential, exps_within, in_length, names_fit}
 use Rattle.vc_plan.specs.declared.plan.Plan.{Plan}
 use Rattle.vc_plan.specs.declared.node_plan.NodePlan.{NodePlan}
 use Rattle.vc_plan.specs.declared.node_plan.Variable.{Variable}
@@ -80,9 +81,13 @@ links_differ (r ∷ rs) = not (list_any (λ (s : RandomInput). s.link == r.link)
 abbrev pub random_ok : SwitchPlan → Bool
 random_ok s = list_all range_ok s.random && links_differ s.random
 
--- today a process has one word, so its depth is 1
+-- a process nests at most 32 deep, and an expression 8; today a PAR or an ALT is too deep
 abbrev pub depth_ok : NodePlan → Bool
-depth_ok n = runs_today (written n.process) && exps_within (written n.process) 8
+depth_ok n = depth_within (written n.process) 32 && sequential (written n.process) && exps_within (written n.process) 8
+
+-- how many processes are written in a node
+abbrev pub parts_ok : NodePlan → Bool
+parts_ok n = nat_le (number n.process).sites 4096
 
 abbrev pub message_ok : NodePlan → Bool
 message_ok n = in_length (written n.process)
@@ -149,7 +154,9 @@ abbrev pub number_broken : Plan → Option LimitWord
 number_broken p = unless_ok (number_ok p) word.Number (unless_ok (names_ok p) word.Name None)
 
 abbrev pub process_broken : Plan → Option LimitWord
-process_broken p = unless_ok (list_all depth_ok p.nodes) word.Depth (unless_ok (list_all message_ok p.nodes) word.Message (number_broken p))
+process_broken p =
+    unless_ok (list_all depth_ok p.nodes) word.Depth (unless_ok (list_all parts_ok p.nodes) word.Parts
+    (unless_ok (list_all message_ok p.nodes) word.Message (number_broken p)))
 
 abbrev pub part_broken : Plan → Option LimitWord
 part_broken p =

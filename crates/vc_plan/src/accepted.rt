@@ -26,12 +26,12 @@ impl Model for Accepted {
 impl Accepted {
     ghost use Rattle.std.specs.Prelude.{◌≡◌};
     ghost use Rattle.vc_plan.specs.Accepted.{IsAccepted};
-    ghost use Rattle.vc_plan.specs.Check.{PassesChannels};
+    ghost use Rattle.vc_plan.specs.Check.{PassesUse};
 
     /// A plan that is found to be in order.
     #[tactic(auto, using(crate::proofs::Accepting::accepted))]
     pub(crate) fn of(plan: Plan) -> Accepted
-        requires { PassesChannels plan }
+        requires { PassesUse plan }
         ensures plan { result ≡ plan }
         ensures accepted { IsAccepted plan }
     {

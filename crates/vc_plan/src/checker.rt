@@ -2,8 +2,8 @@
 ghost use Rattle.std.specs.Prelude.{◌≡◌, ◌==◌, ◌+◌, ◌<◌, ◌≤◌, IfNone, IfOk, IfSome, MatchOption, MatchResult, None, Some, length, true};
 ghost use Rattle.std.specs.List.{list_all, list_any};
 ghost use Rattle.vc_plan.specs.Accepted.{IsAccepted};
-ghost use Rattle.vc_plan.specs.Check.{AreApart, HasLawfulTables, IsCause, IsFirstSameNode, IsFirstTable, IsLawfulSwitch, IsRefusedPath, IsSwitchFault, PassesChannels, PassesPaths, PassesTables, block_twice as twice_block, channel_fault as fault_of_channels, has_end as end_there, kind_fits as fits_kind, misused_from, end_is_at as is_end_at, port_missing, port_twice, same_block, same_bool as is_same_bool, same_way as is_same_way, unwired_port, use_ok as is_use_ok, uses_of, way_twice, wrong_use};
-ghost use Rattle.vc_plan.specs.Limits.{depth_ok, limit_broken};
+ghost use Rattle.vc_plan.specs.Check.{AreApart, HasLawfulTables, IsCause, IsFirstSameNode, IsFirstTable, IsLawfulSwitch, IsRefusedPath, IsSwitchFault, PassesPaths, PassesTables, PassesUse, block_twice as twice_block, channel_fault as fault_of_channels, has_end as end_there, kind_fits as fits_kind, misused_from, end_is_at as is_end_at, port_missing, port_twice, same_block, same_bool as is_same_bool, same_way as is_same_way, unwired_port, use_ok as is_use_ok, uses_of, way_twice, wrong_use};
+ghost use Rattle.vc_plan.specs.Limits.{limit_broken};
 ghost use Rattle.vc_plan.specs.Wires.{across, same_port};
 
 use crate::accepted::Accepted;
@@ -19,6 +19,7 @@ use crate::plan::Plan;
 use crate::plan_limits::{find_broken_limit, kinds_in};
 use crate::port::{Port, Spot, Wire};
 use crate::switch_plan::SwitchPlan;
+use crate::usage::find_usage;
 use crate::vlink::{End, Vlink};
 use sqlite_items::Items;
 use std::alloc::Global;
@@ -223,25 +224,32 @@ fn use_is_ok(plan: &Plan, node: u8, used: ChannelUse) -> bool
     }
 }
 
+fn find_wrong_use(plan: &Plan, node: u8, uses: &[ChannelUse]) -> Option<u16>
+    ensures { result ≡ wrong_use plan.now node uses.now }
+{
+    for used in uses {
+        if !use_is_ok(plan, node, *used) {
+            return Some(used.chan);
+        }
+    }
+    None
+}
+
 fn misused_by(
     alloc: Global,
     plan: &Plan,
     number: u8,
     node: &NodePlan,
 ) -> Result<Option<u16>, Memory>
-    requires { depth_ok node.now ≡ true }
     ensures { IfOk result (λ found. found ≡ wrong_use plan.now number (uses_of node.now)) }
 {
     let kinds = kinds_in(alloc, node.vars.as_slice())?;
-    match node.process.channel_use(kinds.as_slice()) {
-        Some(used) if !use_is_ok(plan, number, used) => Ok(Some(used.chan)),
-        _ => Ok(None),
-    }
+    let uses = node.process.channel_uses(alloc, kinds.as_slice())?;
+    Ok(find_wrong_use(plan, number, uses.as_slice()))
 }
 
 fn find_misused(alloc: Global, plan: &Plan, nodes: &[NodePlan]) -> Result<Option<u16>, Memory>
-    requires few { length nodes.now < 256 }
-    requires words { list_all depth_ok nodes.now ≡ true }
+    requires { length nodes.now < 256 }
     ensures { IfOk result (λ found. found ≡ misused_from plan.now 0 nodes.now) }
 {
     for (n, node) in nodes.iter().enumerate() {
@@ -255,7 +263,6 @@ fn find_misused(alloc: Global, plan: &Plan, nodes: &[NodePlan]) -> Result<Option
 fn find_channel_fault(alloc: Global, plan: &Plan) -> Result<Option<u16>, Memory>
     requires nodes { length plan.now.nodes < 256 }
     requires channels { length plan.now.channels < 65536 }
-    requires words { list_all depth_ok plan.now.nodes ≡ true }
     ensures { IfOk result (λ found. found ≡ fault_of_channels plan.now) }
 {
     match find_way_twice(alloc, plan.channels.as_slice())? {
@@ -264,7 +271,7 @@ fn find_channel_fault(alloc: Global, plan: &Plan) -> Result<Option<u16>, Memory>
     }
 }
 
-/// A path with its fault, as a refusal.
+/// A path with its fault, as a refusal. A random header for which there is no room was not put, and isn't shown.
 fn path_refused(found: Astray) -> CheckRefused
     ensures { IsRefusedPath found result }
 {
@@ -281,7 +288,10 @@ fn path_refused(found: Astray) -> CheckRefused
         Fault::NoInterval => CheckRefused::NoInterval(path),
         Fault::WrongEnd => CheckRefused::WrongEnd(path),
         Fault::StackEmpty => CheckRefused::StackEmpty(path),
-        Fault::StackFull => CheckRefused::StackFull(path),
+        Fault::StackFull => CheckRefused::StackFull(PathFault {
+            value: None,
+            ..path
+        }),
         Fault::Hops => CheckRefused::Hops(path),
     }
 }
@@ -307,25 +317,28 @@ fn find_cause_of_wiring(alloc: Global, plan: &Plan) -> Result<Option<CheckRefuse
     }
 }
 
-/// The first thing that is wrong with the nodes and channels of a plan whose paths all deliver.
+/// The first thing that is wrong with the nodes, the channels and their use of a plan whose paths all deliver.
 fn find_cause_of_use(alloc: Global, plan: &Plan) -> Result<Option<CheckRefused>, Memory>
     requires { PassesPaths plan.now }
-    ensures passes { IfOk result (λ found. IfNone found (PassesChannels plan.now)) }
+    ensures passes { IfOk result (λ found. IfNone found (PassesUse plan.now)) }
     ensures cause { IfOk result (λ found. IfSome found (λ why. IsCause plan.now why)) }
 {
     if let Some(vlink) = find_same_node(plan.vlinks.as_slice()) {
         return Ok(Some(CheckRefused::SameNode(vlink)));
     }
-    match find_channel_fault(alloc, plan)? {
-        Some(chan) => Ok(Some(CheckRefused::Channel(chan))),
+    if let Some(chan) = find_channel_fault(alloc, plan)? {
+        return Ok(Some(CheckRefused::Channel(chan)));
+    }
+    match find_usage(alloc, plan)? {
+        Some((node, name)) => Ok(Some(CheckRefused::Usage { node, name })),
         None => Ok(None),
     }
 }
 
-/// The first thing that is wrong with the paths, nodes and channels of a plan whose tables are lawful.
+/// The first thing that is wrong with the paths, the nodes and what they use of a plan whose tables are lawful.
 fn find_cause_of_paths(alloc: Global, plan: &Plan) -> Result<Option<CheckRefused>, Memory>
     requires { PassesTables plan.now }
-    ensures passes { IfOk result (λ found. IfNone found (PassesChannels plan.now)) }
+    ensures passes { IfOk result (λ found. IfNone found (PassesUse plan.now)) }
     ensures cause { IfOk result (λ found. IfSome found (λ why. IsCause plan.now why)) }
 {
     match labelling_fault(alloc, plan, plan.vlinks.as_slice())? {
@@ -336,7 +349,7 @@ fn find_cause_of_paths(alloc: Global, plan: &Plan) -> Result<Option<CheckRefused
 
 /// The first thing that is wrong with a plan.
 fn find_refusal(alloc: Global, plan: &Plan) -> Result<Option<CheckRefused>, Memory>
-    ensures passes { IfOk result (λ found. IfNone found (PassesChannels plan.now)) }
+    ensures passes { IfOk result (λ found. IfNone found (PassesUse plan.now)) }
     ensures cause { IfOk result (λ found. IfSome found (λ why. IsCause plan.now why)) }
 {
     if let Some(word) = find_broken_limit(alloc, plan)? {

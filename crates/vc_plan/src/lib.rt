@@ -6,12 +6,12 @@
 //!
 //! The layer above knows of an accepted plan what `specs/Accepted` says: each limit is kept, each port is on one wire, each end
 //! sends by a wire and has its own block, each table is lawful, every path of every virtual link delivers (`specs/Hops`,
-//! `specs/Delivery`), each channel is alone on its way, and each process uses its node's channels at the right end and with the
-//! right kind. A path that doesn't deliver is refused with the least such path: of the first virtual link in order, way ab before
-//! ba, with the fewest hops, then the least by its choices (`specs/Faults`).
+//! `specs/Delivery`), each channel is alone on its way, each process uses its node's channels at the right end and with the right
+//! kind, and uses channels and variables lawfully. A path that doesn't deliver is refused with the least such path: of the first
+//! virtual link in order, way ab before ba, with the fewest hops, then the least by its choices (`specs/Faults`).
 //!
 //! The search keeps the places reached after equally many hops, each once, in the order of their least paths; the definitions
-//! speak of all paths. Today a process has no parts, and any other is over the limit of depth.
+//! speak of all paths. Today processes run in order, and one with a PAR or an ALT is over the limit of depth.
 #![tactic(auto)]
 
 mod accepted;
@@ -35,6 +35,7 @@ mod stack;
 mod switch_plan;
 #[cfg(test)]
 mod tests;
+mod usage;
 mod vlink;
 
 pub use accepted::Accepted;

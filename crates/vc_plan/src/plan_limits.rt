@@ -7,7 +7,7 @@ ghost use Rattle.vc_plan.specs.declared.channel.Channel.{Channel};
 ghost use Rattle.vc_plan.specs.declared.vlink.Vlink.{Vlink};
 ghost use Rattle.vc_plan.specs.declared.switch_plan.SwitchPlan.{SwitchPlan};
 ghost use Rattle.vc_labels.specs.declared.row.Row.{Row};
-ghost use Rattle.vc_plan.specs.Limits.{is_portal, depth_ok as has_depth, ends_there, home_there, is_letter, is_name, is_name_byte, kinds_of, limit_broken, link_ok, links_differ as all_differ, links_ok as has_links, message_ok, names_ok as has_names, begins_with_letter, ends_ok, node_names_ok, number_broken, number_ok as has_numbers, part_broken, port_ok as is_port, process_broken, process_names, random_ok, range_ok, route_ok, routes_ok, rows_ok, spot_there, switch_in_version_one, switch_links_ok, vars_ok, version_ok as has_version, wire_ok, wire_there};
+ghost use Rattle.vc_plan.specs.Limits.{is_portal, depth_ok as has_depth, ends_there, home_there, is_letter, is_name, is_name_byte, kinds_of, limit_broken, link_ok, links_differ as all_differ, links_ok as has_links, message_ok, names_ok as has_names, begins_with_letter, ends_ok, node_names_ok, number_broken, number_ok as has_numbers, part_broken, parts_ok, port_ok as is_port, process_broken, process_names, random_ok, range_ok, route_ok, routes_ok, rows_ok, spot_there, switch_in_version_one, switch_links_ok, vars_ok, version_ok as has_version, wire_ok, wire_there};
 
 use crate::channel::{Channel, Home};
 use crate::limit_word::LimitWord;
@@ -173,7 +173,9 @@ fn random_is_ok(switches: &[SwitchPlan]) -> bool
 fn depth_of_node_is_ok(node: &NodePlan) -> bool
     ensures { result ≡ has_depth node.now }
 {
-    node.process.runs_today() && node.process.expressions_are_within(8)
+    node.process.is_within(32)
+        && node.process.is_sequential()
+        && node.process.expressions_are_within(8)
 }
 
 fn depth_is_ok(nodes: &[NodePlan]) -> bool
@@ -182,16 +184,22 @@ fn depth_is_ok(nodes: &[NodePlan]) -> bool
     nodes.iter().all(depth_of_node_is_ok)
 }
 
+fn parts_of_node_are_ok(node: &NodePlan) -> bool
+    ensures { result ≡ parts_ok node.now }
+{
+    node.process.sites(4096).is_some()
+}
+
+fn parts_are_ok(nodes: &[NodePlan]) -> bool
+    ensures { result ≡ list_all parts_ok nodes.now }
+{
+    nodes.iter().all(parts_of_node_are_ok)
+}
+
 fn message_is_ok(nodes: &[NodePlan]) -> bool
-    requires { list_all has_depth nodes.now ≡ true }
     ensures { result ≡ list_all message_ok nodes.now }
 {
-    for node in nodes {
-        if !node.process.is_in_length() {
-            return false;
-        }
-    }
-    true
+    nodes.iter().all(|node| node.process.is_in_length())
 }
 
 fn spot_is_there(plan: &Plan, spot: Spot) -> bool
@@ -247,7 +255,6 @@ pub(crate) fn kinds_in(alloc: Global, vars: &[Variable]) -> Result<Items<ValueKi
 }
 
 fn names_of_process_fit(alloc: Global, plan: &Plan, node: &NodePlan) -> Result<bool, Memory>
-    requires { has_depth node.now ≡ true }
     ensures { IfOk result (λ fits. fits ≡ process_names plan.now node.now) }
 {
     let kinds = kinds_in(alloc, node.vars.as_slice())?;
@@ -255,7 +262,6 @@ fn names_of_process_fit(alloc: Global, plan: &Plan, node: &NodePlan) -> Result<b
 }
 
 fn names_of_processes_fit(alloc: Global, plan: &Plan, nodes: &[NodePlan]) -> Result<bool, Memory>
-    requires { list_all has_depth nodes.now ≡ true }
     ensures { IfOk result (λ fit. fit ≡ list_all (process_names plan.now) nodes.now) }
 {
     for node in nodes {
@@ -267,7 +273,6 @@ fn names_of_processes_fit(alloc: Global, plan: &Plan, nodes: &[NodePlan]) -> Res
 }
 
 fn numbers_are_ok(alloc: Global, plan: &Plan) -> Result<bool, Memory>
-    requires { list_all has_depth plan.now.nodes ≡ true }
     ensures { IfOk result (λ ok. ok ≡ has_numbers plan.now) }
 {
     let parts_are_there = wires_are_there(plan, plan.wires.as_slice())
@@ -358,7 +363,6 @@ fn names_are_ok(plan: &Plan) -> bool
 }
 
 fn find_broken_number(alloc: Global, plan: &Plan) -> Result<Option<LimitWord>, Memory>
-    requires { list_all has_depth plan.now.nodes ≡ true }
     ensures { IfOk result (λ word. word ≡ number_broken plan.now) }
 {
     if !numbers_are_ok(alloc, plan)? {
@@ -375,6 +379,9 @@ fn find_broken_process(alloc: Global, plan: &Plan) -> Result<Option<LimitWord>, 
 {
     if !depth_is_ok(plan.nodes.as_slice()) {
         return Ok(Some(LimitWord::Depth));
+    }
+    if !parts_are_ok(plan.nodes.as_slice()) {
+        return Ok(Some(LimitWord::Parts));
     }
     if !message_is_ok(plan.nodes.as_slice()) {
         return Ok(Some(LimitWord::Message));

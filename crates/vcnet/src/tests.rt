@@ -138,6 +138,32 @@ fn a_message_that_nobody_inputs_is_offered(rt: HostRuntime) -> Result<(), Fail> 
 }
 
 #[test]
+fn processes_run_in_order(rt: HostRuntime) -> Result<(), Fail> {
+    let alloc = rt.alloc();
+    let sender =
+        r#"{"seq":[{"out":["c",{"text":"a"}]},{"out":["c",{"text":"bc"}]},{"out":["c",{"hex":""}]}]}"#;
+    let receiver =
+        r#"{"seq":[{"in":["c","m"]},{"while":[["<>",["size","m"],0],{"in":["c","m"]}]},{"if":[[["=",["size","m"],0],{"stopch":"c"}]]}]}"#;
+    let network = two_nodes(alloc, sender, receiver)?;
+    let traffic =
+        "channel c offered 3 taken 3 finished 3 stopped\n  0 61\n  1 6263\n  2 -\nend done\n";
+    assert!(rt; step(alloc, &network).is(traffic, 0));
+    Ok(())
+}
+
+#[test]
+fn a_body_keeps_its_index(rt: HostRuntime) -> Result<(), Fail> {
+    let alloc = rt.alloc();
+    let kept =
+        r#"{"version":1,"nodes":[{"name":"a","vars":[["i","int"],["x","int"]],"process":{"for":["i",0,2,{"set":["x","i"]}]}}]}"#;
+    assert!(rt; step(alloc, kept).is("end done\n", 0));
+    let changed =
+        r#"{"version":1,"nodes":[{"name":"a","vars":[["i","int"],["x","int"]],"process":{"for":["i",0,2,{"set":["i","x"]}]}}]}"#;
+    assert!(rt; step(alloc, changed).is("refused 13 Usage a i\n", 2));
+    Ok(())
+}
+
+#[test]
 fn a_limit_ends_the_run(rt: HostRuntime) -> Result<(), Fail> {
     let alloc = rt.alloc();
     let network = two_nodes(alloc, TEXT_HELLO, INPUT)?;

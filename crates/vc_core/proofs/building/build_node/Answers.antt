@@ -1,8 +1,6 @@
-use Rattle.std.proofs.Common.{◌≡◌, ◌<◌, length, true, rules, arith, sym, subst, ap, ◌∙◌}
+use Rattle.std.proofs.Common.{◌≡◌, ◌<◌, length, rules, arith, sym, subst, ap, ◌∙◌}
 use Rattle.std.specs.List.{AllByRecursion}
-use Rattle.vc_occam.specs.Numbering.{written}
 use Rattle.vc_occam.specs.Opening.{Fits, opening}
-use Rattle.vc_occam.specs.ProcessLimits.{runs_today}
 use Rattle.vc_occam.specs.Runnings.{state, inner_channels}
 use Rattle.vc_occam.specs.Usage.{among}
 use Rattle.vc_plan.specs.Limits.{kinds_of}
@@ -30,21 +28,20 @@ inside_of-requires c =
     let same = ap length c.as_slice.ensures in
     omega arith
 
-pub new-requires-2-clause-word : goal.new-requires-2-clause-word
-new-requires-2-clause-word c =
-    let runs = node_runs c.args.plan.now c.requires.accepted c.args.number c.args.node.now c.requires.node in
-    let same : c.in_ok-process.process ≡ c.args.node.now.process = c.in_ok-process.ensures in
-    subst (λ p. runs_today (written p) ≡ true) (sym same) runs.0
+pub in_order-requires-clause-sequential : goal.in_order-requires-clause-sequential
+in_order-requires-clause-sequential c = (node_runs c.args.plan.now c.requires.accepted c.args.number c.args.node.now c.requires.node).sequential
 
-pub new-requires-2-clause-fits : goal.new-requires-2-clause-fits
-new-requires-2-clause-fits c =
+pub in_order-requires-clause-sites : goal.in_order-requires-clause-sites
+in_order-requires-clause-sites c = (node_runs c.args.plan.now c.requires.accepted c.args.number c.args.node.now c.requires.node).sites
+
+pub in_order-requires-clause-fits : goal.in_order-requires-clause-fits
+in_order-requires-clause-fits c =
     let runs = node_runs c.args.plan.now c.requires.accepted c.args.number c.args.node.now c.requires.node in
-    let same : c.in_ok-process.process ≡ c.args.node.now.process = c.in_ok-process.ensures in
     let kinds : c.as_slice-2.result.now ≡ kinds_of c.args.node.now.vars = search rules in
-    subst (λ p. Fits c.as_slice-2.result.now p) (sym same) (subst (λ k. Fits k c.args.node.now.process) (sym kinds) runs.1)
+    subst (λ k. Fits k c.args.node.now.process) (sym kinds) runs.fits
 
-pub new-requires-3 : goal.new-requires-3
-new-requires-3 c =
+pub new-requires-2 : goal.new-requires-2
+new-requires-2 c =
     let few = few_channels c.args.plan.now c.requires.accepted in
     let same = ap length c.as_slice-3.ensures in
     omega arith
@@ -54,16 +51,15 @@ returns c =
     let p = c.args.plan.now in
     let k = c.args.number in
     let es = c.deref.result.now in
-    let n = c.new-4.result in
+    let n = c.new-3.result in
     let given : es ≡ ends_of_node p k = c.deref.ensures.value ∙ c.in_ok-ends.ensures ∙ ends_are p c.args.ways.now c.requires.ways k in
     let kinds : c.as_slice-2.result.now ≡ kinds_of c.args.node.now.vars = search rules in
-    let process : c.in_ok-process.process ≡ c.args.node.now.process = c.in_ok-process.ensures in
     let chans : c.deref-2.result.now ≡ numbers_inside k 0 p.channels = c.deref-2.ensures.value ∙ c.in_ok-chans.ensures ∙ ap (numbers_inside k 0) c.as_slice.ensures in
-    let vcp : n.vcp ≡ c.in_ok-vcp.vcp = c.new-4.ensures.0 in
-    let runs : n.process ≡ c.in_ok-process-2.process = c.new-4.ensures.1 in
-    let inside : n.inside ≡ c.in_ok-inside.inside = c.new-4.ensures.2 in
-    let starts : state c.in_ok-process-2.process ≡ opening c.as_slice-2.result.now c.in_ok-process.process = c.in_ok-process-2.ensures.state in
-    let channels : inner_channels c.in_ok-process-2.process ≡ among c.deref-2.result.now = c.in_ok-process-2.ensures.inside in
+    let vcp : n.vcp ≡ c.in_ok-vcp.vcp = c.new-3.ensures.0 in
+    let runs : n.process ≡ c.in_ok-process.process = c.new-3.ensures.1 in
+    let inside : n.inside ≡ c.in_ok-inside.inside = c.new-3.ensures.2 in
+    let starts : state c.in_ok-process.process ≡ opening c.as_slice-2.result.now c.args.node.now.process = c.in_ok-process.ensures.state in
+    let channels : inner_channels c.in_ok-process.process ≡ among c.deref-2.result.now = c.in_ok-process.ensures.inside in
     let opened : c.in_ok-inside.inside ≡ opened_inside k 0 c.as_slice-3.result.now = c.in_ok-inside.ensures in
     let limit : limit_of c.in_ok-vcp.vcp.ins ≡ c.body_limit.result = c.in_ok-vcp.ensures.limit in
     begins p c.requires.accepted k c.args.node.now c.requires.node es n (record {
@@ -72,7 +68,7 @@ returns c =
       ends = ap ends_of vcp ∙ c.in_ok-vcp.ensures.ends;
       names = λ h. subst (λ (z : State). HaveOwnNames z.outputs z.inputs) (sym vcp) (c.in_ok-vcp.ensures.names h);
       limit = ap (λ (z : State). limit_of z.ins) vcp ∙ limit ∙ c.body_limit.ensures;
-      starts = ap state runs ∙ starts ∙ (λ i. opening (kinds i) (process i));
+      starts = ap state runs ∙ starts ∙ ap (λ ks. opening ks c.args.node.now.process) kinds;
       channels = ap inner_channels runs ∙ channels ∙ ap among chans;
       inside = inside ∙ opened ∙ ap (opened_inside k 0) c.as_slice-3.ensures;
     })

@@ -1,0 +1,80 @@
+//! Whether processes use their channels and variables lawfully.
+ghost use Rattle.std.specs.Prelude.{◌≡◌, ◌<◌, IfNone, IfOk, IfSome, length, slice_get, true};
+ghost use Rattle.std.specs.List.{list_all};
+ghost use Rattle.vc_occam.specs.Indexes.{IsUseFault};
+ghost use Rattle.vc_occam.specs.Lawful.{Lawfully};
+ghost use Rattle.vc_occam.specs.Numbering.{written};
+ghost use Rattle.vc_occam.specs.ProcessLimits.{sequential};
+ghost use Rattle.vc_plan.specs.Check.{AreLawful, IsFirstUsage, IsUsage, name_of};
+ghost use Rattle.vc_plan.specs.Limits.{depth_ok};
+
+use crate::channel::Channel;
+use crate::name::Name;
+use crate::node_plan::{NodePlan, Variable};
+use crate::plan::Plan;
+use sqlite_items::Items;
+use std::alloc::Global;
+use vc_occam::{UseFault, check_use};
+use vc_packets::Memory;
+
+fn channel_name(alloc: Global, channels: &[Channel], chan: u16) -> Result<Name, Memory>
+    ensures { IfOk result (λ name. name ≡ name_of (λ channel. channel.name) (slice_get channels.now chan)) }
+{
+    match channels.get(usize::from(chan)) {
+        Some(channel) => Ok(Items::from_slice(alloc, channel.name.as_slice())?),
+        None => Ok(Items::new(alloc)),
+    }
+}
+
+fn variable_name(alloc: Global, vars: &[Variable], var: u8) -> Result<Name, Memory>
+    ensures { IfOk result (λ name. name ≡ name_of (λ var. var.name) (slice_get vars.now var)) }
+{
+    match vars.get(usize::from(var)) {
+        Some(var) => Ok(Items::from_slice(alloc, var.name.as_slice())?),
+        None => Ok(Items::new(alloc)),
+    }
+}
+
+/// The name of what a node's process uses unlawfully.
+fn name_of_fault(
+    alloc: Global,
+    plan: &Plan,
+    node: &NodePlan,
+    fault: UseFault,
+) -> Result<Name, Memory>
+    requires { IsUseFault (written node.now.process) fault }
+    ensures { IfOk result (λ name. IsUsage plan.now node.now name) }
+{
+    match fault {
+        UseFault::Chan(chan) => channel_name(alloc, plan.channels.as_slice(), chan),
+        UseFault::Var(var) => variable_name(alloc, node.vars.as_slice(), var),
+        UseFault::Memory => Err(Memory),
+    }
+}
+
+/// The name of the first channel or variable that a node's process uses unlawfully.
+fn usage_of(alloc: Global, plan: &Plan, node: &NodePlan) -> Result<Option<Name>, Memory>
+    requires { sequential (written node.now.process) ≡ true }
+    ensures lawful { IfOk result (λ found. IfNone found (Lawfully (written node.now.process))) }
+    ensures usage { IfOk result (λ found. IfSome found (λ name. IsUsage plan.now node.now name)) }
+{
+    match check_use(&node.process) {
+        Ok(()) => Ok(None),
+        Err(fault) => Ok(Some(name_of_fault(alloc, plan, node, fault)?)),
+    }
+}
+
+/// The first node whose process uses a channel or a variable unlawfully, and the name of the first of these.
+pub(crate) fn find_usage(alloc: Global, plan: &Plan) -> Result<Option<(u8, Name)>, Memory>
+    requires few { length plan.now.nodes < 256 }
+    requires depth { list_all depth_ok plan.now.nodes ≡ true }
+    ensures lawful { IfOk result (λ found. IfNone found (AreLawful plan.now)) }
+    ensures first { IfOk result (λ found. IfSome found (λ usage. IsFirstUsage plan.now usage.0 usage.1)) }
+{
+    for (n, node) in plan.nodes.as_slice().iter().enumerate() {
+        if let Some(name) = usage_of(alloc, plan, node)? {
+            return Ok(Some((n as u8, name)));
+        }
+    }
+    Ok(None)
+}
