@@ -23,3 +23,5 @@ pub mod Traces
 pub mod Usage
 pub mod Values
 pub mod Wholes
+pub mod InUse
+pub mod NodeTraces

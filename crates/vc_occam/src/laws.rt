@@ -1,10 +1,20 @@
 //! Laws of running processes. A law is a function that does nothing, whose contract is the law.
+ghost use Rattle.vc_occam.specs.InUse.{LawfulAtFirst, StepsKeepUse, DoingKeepsUse, DoingIsTraced};
 ghost use Rattle.vc_occam.specs.Laws.{SitesAreOwnAtFirst, StepsKeepSites, DoingKeepsSites, ListedMovesCanBeMade, WaitingAfter};
 ghost use Rattle.vc_occam.specs.Remains.{StepsAreTraces};
 
 /// What a step of one site makes, followed by any trace of what remains, is a trace of what remained before.
 pub fn steps_are_traces()
     ensures { StepsAreTraces }
+{}
+
+/// A process that uses its channels and variables lawfully does so at first and after whatever it does. So what it does, followed
+/// by any trace of what remains, is a trace of what remained before.
+pub fn lawful_use_is_kept()
+    ensures at_first { LawfulAtFirst }
+    ensures steps { StepsKeepUse }
+    ensures doing { DoingKeepsUse }
+    ensures traced { DoingIsTraced }
 {}
 
 /// Parts side by side have no site in common: at first, and after whatever the process does.

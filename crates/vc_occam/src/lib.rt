@@ -62,7 +62,7 @@ pub use bytes_expression::BytesExpr;
 pub use channel_use::ChannelUse;
 pub use condition::Cond;
 pub use expression::Expr;
-pub use laws::{listed_moves_can_be_made, sites_are_own, steps_are_traces, waiting_after};
+pub use laws::{lawful_use_is_kept, listed_moves_can_be_made, sites_are_own, steps_are_traces, waiting_after};
 pub use moves::Move;
 pub use operator::Op;
 pub use process::{Branch, Guard, Process};

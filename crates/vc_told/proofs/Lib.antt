@@ -1,0 +1,5 @@
+pub mod Stepped
+pub mod Joined
+pub mod Taken
+pub mod Planned
+pub mod Main
