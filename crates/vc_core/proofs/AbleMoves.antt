@@ -28,7 +28,7 @@ use Rattle.vc_vcp.proofs.Enabling.{can_offer, offers_idle}
 use Rattle.vc_core.specs.Able.{HalfCan, CanMove}
 use Rattle.vc_core.specs.Inside.{IsOpen, exchanged_on, stopped_on}
 use Rattle.vc_core.specs.OfPlan.{IsNodeOf}
-use Rattle.vc_core.specs.Process.{Process, Goes}
+use Rattle.vc_told.specs.Process.{Process, Goes}
 use Rattle.vc_core.specs.Shown.{node_of, process_of, view_of, views_of}
 use Rattle.vc_core.specs.declared.inside.Internal.{Internal}
 use Rattle.vc_core.specs.declared.node.Node.{Node}

@@ -32,10 +32,12 @@ use Rattle.vc_accepted.specs.Given.{ends_of_node}
 use Rattle.vc_accepted.specs.NetworkOf.{network_of, home_of, home_in}
 use Rattle.vc_accepted.proofs.Giving.{given_ends, given_distinct}
 use Rattle.vc_accepted.proofs.Listed.{made, made_or}
-use Rattle.vc_core.specs.Begin.{BeginsAs, begin_of, no_node, node_plan, numbers_inside}
-use Rattle.vc_core.specs.Inside.{is_inside, opened_inside, opened_internal}
+use Rattle.vc_core.specs.Begin.{BeginsAs}
+use Rattle.vc_told.specs.Begin.{begin_of, no_node, node_plan, numbers_inside}
+use Rattle.vc_core.specs.Inside.{opened_inside, opened_internal}
+use Rattle.vc_told.specs.Begin.{is_inside}
 use Rattle.vc_core.specs.OfPlan.{AreInside, InStep}
-use Rattle.vc_core.specs.Process.{Process}
+use Rattle.vc_told.specs.Process.{Process}
 use Rattle.vc_core.specs.Shown.{node_of, view_of, views_of, process_of}
 use Rattle.vc_core.specs.declared.actor.Actor.{Actor as Acting}
 use Rattle.vc_core.specs.declared.inside.Internal.{Internal}

@@ -33,7 +33,7 @@ use Rattle.vc_vcp.specs.Seen.{seen}
 use Rattle.vc_vcp.proofs.Arriving.{comes_always}
 use Rattle.vc_core.specs.Able.{CanAct}
 use Rattle.vc_core.specs.Enabled.{CanHappen}
-use Rattle.vc_core.specs.Process.{Process, does}
+use Rattle.vc_told.specs.Process.{Process, does}
 use Rattle.vc_core.specs.Shown.{node_of, process_of, views_of, act_of}
 use Rattle.vc_core.specs.Wired.{there as places}
 use Rattle.vc_core.specs.State.{State, shown, IsNetworkOf, HasFront, HasWay, WaysLet}

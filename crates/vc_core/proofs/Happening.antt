@@ -24,7 +24,7 @@ use Rattle.vc_vcp.specs.Keyed.{shown_or}
 use Rattle.vc_vcp.proofs.Placed.{place-set_same, place-set_other, by_place-set}
 use Rattle.vc_core.specs.Acting.{MayAct, MakesOwn, MakesTake, MakesPut, MakesGrant}
 use Rattle.vc_core.specs.OfPlan.{IsNodeOf}
-use Rattle.vc_core.specs.Process.{does}
+use Rattle.vc_told.specs.Process.{does}
 use Rattle.vc_core.specs.Shown.{act_of}
 use Rattle.vc_core.specs.State.{State, actor_of, shown, IsNetworkOf, HasFront, HasWay, MayHappen, MakesEvent, Accepts, PutsBy, GrantsBy, with_actor, with_line}
 use Rattle.vc_core.specs.Wired.{out_at, in_at}

@@ -25,7 +25,7 @@ use Rattle.vc_network.specs.Plan.{Plan}
 use Rattle.vc_core.proofs.Halved as halved
 use Rattle.vc_core.specs.MayMove.{MakesMove}
 use Rattle.vc_core.specs.OfPlan.{IsNodeOf, InStep, AreInside}
-use Rattle.vc_core.specs.Process.{Goes}
+use Rattle.vc_told.specs.Process.{Goes}
 use Rattle.vc_core.specs.Shown.{node_of, process_of, view_of, views_of}
 use Rattle.vc_core.specs.Inside.{exchanged_on, stopped_on}
 use Rattle.vc_core.specs.Inside.{IsOpen as IsGoing}

@@ -20,7 +20,7 @@ use Rattle.vc_core.proofs.Halved.{Has, Wants, Sends, has_same, has_put, others}
 use Rattle.vc_core.specs.OfPlan.{IsNodeOf, InStep, AreInside}
 use Rattle.vc_core.specs.Shown.{process_of, views_of}
 use Rattle.vc_core.specs.declared.node.Node.{Node}
-use Rattle.vc_core.specs.Process.{Process, does, Goes}
+use Rattle.vc_told.specs.Process.{Process, does, Goes}
 use Rattle.vc_core.specs.Passing.{IsAwaited, MakesPass}
 
 abbrev left : Process → List Waiting

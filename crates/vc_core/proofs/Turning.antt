@@ -18,7 +18,7 @@ use Rattle.vc_plan.specs.declared.plan.Plan.{Plan}
 use Rattle.vc_vcp.specs.Seen.{seen}
 use Rattle.vc_core.specs.Able.{CanAct, CanMove}
 use Rattle.vc_core.specs.Enabled.{CanHappen}
-use Rattle.vc_core.specs.Process.{Process}
+use Rattle.vc_told.specs.Process.{Process}
 use Rattle.vc_core.specs.Replaying.{Replays}
 use Rattle.vc_core.specs.Shown.{node_of}
 use Rattle.vc_core.specs.State.{State, IsNetworkOf, HasFront, HasWay, WaysLet}

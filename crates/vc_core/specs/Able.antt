@@ -8,7 +8,7 @@ use Rattle.vc_vcp.specs.Able.{CanOffer, CanWant, CanFetch, CanStop, CanPut, CanG
 use Rattle.vc_vcp.specs.Keyed.{named}
 use Rattle.vc_vcp.specs.Seen.{seen, ends_of}
 use Rattle.vc_core.specs.Inside.{IsOpen}
-use Rattle.vc_core.specs.Process.{Process, does}
+use Rattle.vc_told.specs.Process.{Process, does}
 use Rattle.vc_core.specs.Shown.{move_of, node_of}
 use Rattle.vc_core.specs.declared.act.Act.{Act}
 use Rattle.vc_core.specs.declared.act.Act.TheVariants.{Proc, Take, Put, Route, Fct, Pass}

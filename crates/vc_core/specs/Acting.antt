@@ -9,7 +9,7 @@ use Rattle.vc_vcp.specs.Seen.{seen}
 use Rattle.vc_vcp.specs.State.{MayPut, MayGrant}
 use Rattle.vc_core.specs.MayMove.{MayMove}
 use Rattle.vc_core.specs.OfPlan.{IsNodeOf}
-use Rattle.vc_core.specs.Process.{does}
+use Rattle.vc_told.specs.Process.{does}
 use Rattle.vc_core.specs.Shown.{node_of, act_of}
 use Rattle.vc_core.specs.declared.act.Act.{Act}
 use Rattle.vc_core.specs.declared.act.Act.TheVariants.{Proc, Take, Put, Route, Fct, Pass}

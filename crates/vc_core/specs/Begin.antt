@@ -1,45 +1,19 @@
 -- How the nodes of an accepted plan begin.
-use Rattle.std.specs.Prelude.{◌≡◌, ℕ, suc, Bool, true, false, ◌==◌, List, [], ◌∷◌, ◌++◌, length, get_or, slice_get, slice_set, Option, Some, None, if◌then◌else◌}
-use Rattle.vc_occam.specs.Opening.{opening}
-use Rattle.vc_occam.specs.Usage.{among}
-use Rattle.vc_occam.specs.declared.process.Process.TheVariants.{Skip}
-use Rattle.vc_plan.specs.declared.channel.Channel.{Channel}
+use Rattle.std.specs.Prelude.{◌≡◌, ℕ, Bool, true, false, ◌==◌, List, [], ◌∷◌, length, get_or, slice_get, slice_set, Option, Some, None, if◌then◌else◌}
 use Rattle.vc_plan.specs.declared.channel.Home.{Home}
 use Rattle.vc_plan.specs.declared.channel.Home.TheVariants.{Way, Inside}
-use Rattle.vc_plan.specs.declared.node_plan.NodePlan.{NodePlan}
 use Rattle.vc_plan.specs.declared.plan.Plan.{Plan}
 use Rattle.vc_plan.specs.declared.vlink.End.{End}
-use Rattle.vc_plan.specs.Limits.{kinds_of}
 use Rattle.vc_vcp.specs.declared.end.End.{End as Given}
 use Rattle.vc_network.specs.Network.{IsNode, first}
 use Rattle.vc_accepted.specs.Given.{chan_on}
 use Rattle.vc_accepted.specs.NetworkOf.{network_of}
-use Rattle.vc_core.specs.Inside.{is_inside}
+use Rattle.vc_told.specs.Begin.{begin_of}
 use Rattle.vc_core.specs.OfPlan.{IsNodeOf}
-use Rattle.vc_core.specs.Process.{Process}
 use Rattle.vc_core.specs.Shown.{node_of}
 use Rattle.vc_core.specs.declared.actor.Actor.{Actor}
 use Rattle.vc_core.specs.declared.building.Ways.{Ways}
 use Rattle.vc_core.specs.declared.node.Node.{Node}
-
--- the numbers of those of these channels that are inside node n, where the first one has number c
-abbrev pub numbers_inside : ℕ → ℕ → List Channel → List ℕ
-numbers_inside n c [] = []
-numbers_inside n c (x ∷ xs) = (if is_inside n x.home then c ∷ [] else []) ++ numbers_inside n (suc c) xs
-
--- a node past the list would end at once
-abbrev pub no_node : NodePlan
-no_node = record { name = []; vars = []; process = Skip }
-
-abbrev pub node_plan : Plan → ℕ → NodePlan
-node_plan p n = get_or p.nodes n no_node
-
--- the process of node n as it begins: whole, with its variables empty
-abbrev pub begin_of : Plan → ℕ → Process
-begin_of p n = record {
-  inside = among (numbers_inside n 0 p.channels);
-  state = opening (kinds_of (node_plan p n).vars) (node_plan p n).process;
-}
 
 -- the code's node is node k of the plan, and begins
 pub record BeginsAs (p : Plan) (k : ℕ) (n : Node) : Type 0 where

@@ -4,7 +4,7 @@ use Rattle.vc_accepted.specs.NetworkOf.{network_of}
 use Rattle.vc_network.specs.Enabled.{IsEnabled}
 use Rattle.vc_plan.specs.declared.plan.Plan.{Plan}
 use Rattle.vc_switch.specs.Waiting.{Wormhole}
-use Rattle.vc_core.specs.Process.{does}
+use Rattle.vc_told.specs.Process.{does}
 use Rattle.vc_core.specs.State.{State, shown, event_of}
 use Rattle.vc_core.specs.declared.act.Event.{Event}
 

@@ -1,12 +1,11 @@
 -- What happens on a channel inside a node.
-use Rattle.std.specs.Prelude.{◌≡◌, ℕ, suc, Bool, false, true, List, [], ◌∷◌, ◌++◌, Some, ◌==◌, if◌then◌else◌}
+use Rattle.std.specs.Prelude.{◌≡◌, ℕ, suc, false, true, List, [], ◌∷◌, ◌++◌, Some, if◌then◌else◌}
 use Rattle.vc_plan.specs.declared.channel.Channel.{Channel}
-use Rattle.vc_plan.specs.declared.channel.Home.{Home}
-use Rattle.vc_plan.specs.declared.channel.Home.TheVariants.{Way, Inside}
 use Rattle.vc_packets.specs.Functions.{put}
 use Rattle.vc_machine.specs.Rendezvous.{View}
 use Rattle.vc_network.specs.Network.{exchanged}
 use Rattle.vc_vcp.specs.Keyed.{named}
+use Rattle.vc_told.specs.Begin.{is_inside}
 use Rattle.vc_core.specs.declared.inside.Internal.{Internal}
 
 -- the node has the channel, and it is not stopped
@@ -25,10 +24,6 @@ stopped_on views c = put views c (record (views c) { stopped = true })
 -- nothing has gone over the channel yet
 abbrev pub opened_internal : ℕ → Internal
 opened_internal c = record { chan = c; messages = []; stopped = false }
-
-abbrev pub is_inside : ℕ → Home → Bool
-is_inside n (Inside m) = m == n
-is_inside n (Way v ab) = false
 
 -- those of these channels that are inside node n, the first one of which has number c
 abbrev pub opened_inside : ℕ → ℕ → List Channel → List Internal

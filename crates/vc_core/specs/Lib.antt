@@ -1,7 +1,6 @@
 pub mod Begin
 pub mod Filled
 pub mod Channels
-pub mod Process
 pub mod Inside
 pub mod Shown
 pub mod OfPlan

@@ -9,7 +9,7 @@ use Rattle.vc_vcp.specs.State.{HaveOwnNames, limit_of}
 use Rattle.vc_occam.specs.Runnings.{state}
 use Rattle.vc_occam.specs.Sites.{OwnSites}
 use Rattle.vc_occam.specs.States.{output, input}
-use Rattle.vc_core.specs.Process.{Process, Awaits}
+use Rattle.vc_told.specs.Process.{Process, Awaits}
 use Rattle.vc_core.specs.Shown.{process_of}
 use Rattle.vc_core.specs.declared.inside.Internal.{Internal}
 use Rattle.vc_core.specs.declared.node.Node.{Node}

@@ -6,7 +6,7 @@ use Rattle.vc_network.specs.Network.{NodeStep, Pass}
 use Rattle.vc_actors.specs.Actors.Label.{Own}
 use Rattle.vc_network.specs.Plan.{Plan}
 use Rattle.vc_core.specs.OfPlan.{IsNodeOf}
-use Rattle.vc_core.specs.Process.{Process, Awaits, does}
+use Rattle.vc_told.specs.Process.{Process, Awaits, does}
 use Rattle.vc_core.specs.Shown.{node_of}
 use Rattle.vc_core.specs.declared.node.Node.{Node}
 

@@ -15,7 +15,7 @@ use Rattle.vc_vcp.specs.Keyed.{shown_or}
 use Rattle.vc_core.specs.Channels.{AreChannelsOf}
 use Rattle.vc_core.specs.Acting.{MayAct, MakesTake, MakesPut, MakesGrant}
 use Rattle.vc_core.specs.OfPlan.{IsNodeOf}
-use Rattle.vc_core.specs.Process.{Process, does}
+use Rattle.vc_told.specs.Process.{Process, does}
 use Rattle.vc_core.specs.Shown.{node_of, act_of}
 use Rattle.vc_core.specs.Wired.{out_at, in_at, AreWaysAt}
 use Rattle.vc_core.specs.declared.act.Act.{Act}

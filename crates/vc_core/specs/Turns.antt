@@ -12,7 +12,7 @@ use Rattle.vc_tokens.specs.declared.token.Token.{Token}
 use Rattle.vc_core.specs.Able.{CanMove, CanAct}
 use Rattle.vc_core.specs.Acting.{MakesOwn, MakesPut, MakesGrant}
 use Rattle.vc_core.specs.Enabled.{CanHappen}
-use Rattle.vc_core.specs.Process.{Process}
+use Rattle.vc_told.specs.Process.{Process}
 use Rattle.vc_core.specs.State.{State, shown, HasFront}
 use Rattle.vc_core.specs.declared.act.Act.{Act}
 use Rattle.vc_core.specs.declared.act.Act.TheVariants.{Proc, Take, Put, Route, Fct, Pass}

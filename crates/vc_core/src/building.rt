@@ -2,7 +2,8 @@
 ghost use Rattle.std.specs.Prelude.{◌≡◌, ◌≤◌, ◌++◌, true, false, Some, IfOk, OnOk, length, slice_get};
 ghost use Rattle.vc_accepted.specs.Given.{ends_among};
 ghost use Rattle.vc_accepted.specs.NetworkOf.{network_of};
-ghost use Rattle.vc_core.specs.Begin.{AreFirst, AreWaysOf, BeginsAs, carried, carrying, given, given_to, numbers_inside, on_link};
+ghost use Rattle.vc_core.specs.Begin.{AreFirst, AreWaysOf, BeginsAs, carried, carrying, given, given_to, on_link};
+ghost use Rattle.vc_told.specs.Begin.{numbers_inside};
 ghost use Rattle.vc_network.specs.Plan as network;
 ghost use Rattle.vc_plan.specs.Accepted.{IsAccepted};
 ghost use Rattle.vc_plan.specs.Limits.{kinds_of};

@@ -2,7 +2,8 @@
 //!
 //! An [`Actor`] is a node with its process; a [`Network`] is the actors and the ways between them. A simulator makes events one after
 //! another, and the same actors run in threads. Each event that [`Network::step`] makes is exactly one step of the network of the
-//! plan (`specs/State`, MakesEvent), and what [`replay`] answers keeps the headline (`specs/Replaying`).
+//! plan (`specs/State`, MakesEvent), and what [`replay`] answers keeps the headline, and has one list of all that the nodes
+//! communicated, of which each node's part is a trace of its process (`specs/Replaying`).
 #![tactic(auto)]
 
 mod act;

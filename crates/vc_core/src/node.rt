@@ -4,7 +4,7 @@ ghost use Rattle.vc_occam.specs.States.{came};
 ghost use Rattle.vc_vcp.specs.Seen.{seen, answered, passed_of};
 ghost use Rattle.vc_vcp.specs.Steps.{Complete, Finished};
 ghost use Rattle.vc_network.specs.Network.{GoesOn};
-ghost use Rattle.vc_core.specs.Process.{does};
+ghost use Rattle.vc_told.specs.Process.{does};
 ghost use Rattle.vc_core.specs.Shown.{process_of};
 ghost use Rattle.vc_core.specs.Passing.{IsAwaited, MakesPass};
 ghost use Rattle.vc_core.specs.Viewed.{node_view};

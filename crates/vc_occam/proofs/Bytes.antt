@@ -1,6 +1,6 @@
 -- The message of a value has all that the value has: read again as its kind, it is the same message.
-use Rattle.std.proofs.Common.{◌≡◌, ℕ, zero, suc, ◌<◌, ◌^◌, ℤ, List, get_or, refl, sym, ap, ◌∙◌, arith}
-use Rattle.std.specs.Int.{w64, to_le_bytes, from_le_bytes, cast_signed, cast_unsigned}
+use Rattle.std.proofs.Common.{◌≡◌, ℕ, zero, suc, ◌<◌, ◌^◌, ℤ, get_or, refl, ap, ◌∙◌, arith}
+use Rattle.std.specs.Int.{w64, to_le_bytes, from_le_bytes, cast_unsigned}
 use Rattle.std.proofs.lemmas.Int.{of_z-to_z}
 use Rattle.std.proofs.lemmas.Nat.{le_bytes_8}
 use Rattle.vc_occam.specs.Messages.{number_bytes, number_of}

@@ -1,5 +1,5 @@
 -- An output that is a move alone is on a channel that isn't inside the node.
-use Rattle.std.proofs.Common.{◌≡◌, ℕ, Bool, true, false, ◌==◌, refl, sym, subst, List, [], ◌∷◌, ◌++◌, Option, Some, None, ◌⊎◌, inl, inr, if◌then◌else◌}
+use Rattle.std.proofs.Common.{◌≡◌, ℕ, Bool, true, false, ◌==◌, refl, subst, List, [], ◌∷◌, ◌++◌, Option, Some, None, inl, inr, if◌then◌else◌}
 use Rattle.std.specs.List.{Contains}
 use Rattle.std.proofs.lemmas.List.Elements.{Contains-append_cases}
 use Rattle.vc_occam.specs.declared.moves.Move.{Move}

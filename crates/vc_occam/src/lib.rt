@@ -11,7 +11,8 @@
 //! whole numbers is worth the number of its first eight bytes, missing ones being 0 (`specs/Messages`).
 //!
 //! Laws of the definitions, for every word of the language, stand in `laws.rt`: what a step makes, followed by any trace of what
-//! remains, is a trace of what remained before; each listed move can be made; what waits after whatever a process does.
+//! remains, is a trace of what remained before; no step loses lawful use; each listed move can be made; what waits after whatever a
+//! process does.
 //!
 //! A process runs as a tree of frames (`frame.rt`), one for each process that is written, with how far it is and at which part;
 //! what it stands for is said in `specs/Frames`. A part begins, ends and begins again by a change of its frame, without memory.
@@ -62,7 +63,9 @@ pub use bytes_expression::BytesExpr;
 pub use channel_use::ChannelUse;
 pub use condition::Cond;
 pub use expression::Expr;
-pub use laws::{lawful_use_is_kept, listed_moves_can_be_made, sites_are_own, steps_are_traces, waiting_after};
+pub use laws::{
+    lawful_use_is_kept, listed_moves_can_be_made, sites_are_own, steps_are_traces, waiting_after,
+};
 pub use moves::Move;
 pub use operator::Op;
 pub use process::{Branch, Guard, Process};

@@ -15,8 +15,8 @@ use Rattle.vc_text.specs.Checking.{ReadsAccepted}
 use Rattle.vc_text.specs.Closing.{Closes}
 use Rattle.vc_text.specs.Traffic.{traffic}
 
--- the reader's network was run for at most so many events, which replay and keep the headline; it closes as their state says; and
--- the traffic of that state was written, or a front of that before a fault of the writer; else nothing was written
+-- the reader's network was run for at most so many events, which replay, with the headline and the one list there; it closes as
+-- their state says; and the traffic of that state was written, or a front of that before a fault of the writer; else nothing was written
 abbrev pub Steps : Option (List ℕ) → Option (List ℕ) → Option (List ℕ) → ℕ → Result StepReport RunFault → Type 0
 Steps known old new limit (Ok report) =
     (plan : Network) × ReadsAccepted known (Ok plan) × (length report.events ≤ limit) × ((s : State) × Replays plan report.events s × Closes plan s (length report.events) limit report.close × Appends old new (traffic (channels_of plan s) report.close))

@@ -1,5 +1,5 @@
 -- Each node's list, put together to one.
-use Rattle.std.proofs.Common.{◌≡◌, ℕ, ◌==◌, Bool, true, false, refl, sym, ap, subst, ◌∙◌, List, [], ◌∷◌, eq-eqb, ne_eqb, inl, inr, if◌then◌else◌}
+use Rattle.std.proofs.Common.{◌≡◌, ℕ, ◌==◌, refl, sym, ap, subst, ◌∙◌, List, [], ◌∷◌, eq-eqb, ne_eqb, inl, inr, if◌then◌else◌}
 use Rattle.std.proofs.lemmas.Bool.{cases_eq}
 use Rattle.vc_machine.specs.Rendezvous as rendezvous
 use Rattle.vc_network.specs.Views.{Said, said_by}

@@ -3,3 +3,4 @@ pub mod Joined
 pub mod Taken
 pub mod Planned
 pub mod Main
+pub mod Swapped

@@ -1,5 +1,5 @@
 -- After any events one list tells all that the nodes communicate.
-use Rattle.std.proofs.Common.{◌≡◌, ℕ, ◌≤◌, ◌<◌, ◌⊎◌, inl, inr, Bool, true, false, refl, sym, ap, ap₂, subst, ◌∙◌, List, [], ◌∷◌, ◌++◌, append-nil, length, arith, if◌then◌else◌, nat_lt}
+use Rattle.std.proofs.Common.{◌≡◌, ℕ, ◌≤◌, ◌<◌, inl, inr, true, false, refl, sym, ap, ap₂, subst, ◌∙◌, List, [], length, arith, if◌then◌else◌, nat_lt}
 use Rattle.std.proofs.lemmas.Bool.{cases_lt}
 use Rattle.std.proofs.lemmas.Bool.Decides.{nat_tests}
 use Rattle.vc_actors.specs.Actors.{Network, Event, Run}
@@ -9,11 +9,11 @@ use Rattle.vc_network.specs.Network.{Act, Node, Actor, IsNode, IsSwitch, Local, 
 use Rattle.vc_network.specs.Plan.{Home, Way, Inside, home}
 use Rattle.vc_network.specs.Plan as network
 use Rattle.vc_network.specs.Processes.{Trace}
-use Rattle.vc_network.specs.Views.{vcp_of, inner_of, halves_view, source_node, sink_node, view_at, view, Said, said_by, all_said}
+use Rattle.vc_network.specs.Views.{vcp_of, inner_of, halves_view, source_node, sink_node, view_at, view, said_by, all_said}
 use Rattle.vc_network.proofs.Main.{Ran, ran, good_start, first_node}
 use Rattle.vc_network.proofs.Nexts.{process_of}
 use Rattle.vc_network.proofs.Replays.{replayed}
-use Rattle.vc_occam.specs.NodeTraces.{Meets, so_far}
+use Rattle.vc_occam.specs.NodeTraces.{so_far}
 use Rattle.vc_occam.specs.Numbering.{written}
 use Rattle.vc_occam.specs.Remains.{Done}
 use Rattle.vc_occam.specs.Traces.{Comm}
@@ -29,10 +29,10 @@ use Rattle.vc_switch.specs.Waiting.{Waiting}
 use Rattle.vc_tokens.specs.Tokens.{Token}
 use Rattle.vc_vcp.specs.Links.{new_vcp}
 use Rattle.vc_told.specs.Begin.{node_plan, begin_of}
-use Rattle.vc_told.specs.OneList.{by, on, IsMadeBy, IsTold, AllIsTold}
+use Rattle.vc_told.specs.OneList.{IsMadeBy, IsTold, AllIsTold}
 use Rattle.vc_told.specs.Process.{Process, does}
-use Rattle.vc_told.proofs.Stepped.{AreSaid, Told, trace_told, still}
-use Rattle.vc_told.proofs.Joined.{OneOfAll, one_of_all}
+use Rattle.vc_told.proofs.Stepped.{AreSaid, trace_told, still}
+use Rattle.vc_told.proofs.Joined.{one_of_all}
 use Rattle.vc_told.proofs.Taken.{runs_too}
 use Rattle.vc_told.proofs.Planned.{kind_on, begins_good}
 
@@ -71,8 +71,8 @@ module _ (p : Plan) (waiting : Waiting) (s : Network (Actor Process) Token) (acc
   by_node n less =
       let k = whole.good.kinds n less in
       let steps : Trace does (begin_of p n) (said_by n whole.ks) k.0.process =
-          subst (λ z. Trace does (begin_of p n) (said_by n whole.ks) (process_of (begin_of p n) z)) k.1
-          (subst (λ z. Trace does (process_of (begin_of p n) z) (said_by n whole.ks) (process_of (begin_of p n) (s.state n))) (first_node (network_of p) (begin_of p) n less) (whole.traces n (begin_of p n))) in
+      subst (λ z. Trace does (begin_of p n) (said_by n whole.ks) (process_of (begin_of p n) z)) k.1
+      (subst (λ z. Trace does (process_of (begin_of p n) z) (said_by n whole.ks) (process_of (begin_of p n) (s.state n))) (first_node (network_of p) (begin_of p) n less) (whole.traces n (begin_of p n))) in
       let t = trace_told (kind_on p) (kinds_of (node_plan p n).vars) (begin_of p n) k.0.process steps (begins_good p acc n less) in
       let now = k.0.process.state in
       record {
@@ -86,7 +86,7 @@ module _ (p : Plan) (waiting : Waiting) (s : Network (Actor Process) Token) (acc
   by_none n past =
       let ended : Process = record { inside = λ c. false; state = record { rest = Done; store = (begin_of p n).state.store } } in
       let silent : said_by n whole.ks ≡ [] = still ended (process_of ended (s.state n))
-          (subst (λ z. Trace does z (said_by n whole.ks) (process_of ended (s.state n))) (no_process (network_of p) (begin_of p) ended n past) (whole.traces n ended)) refl in
+      (subst (λ z. Trace does z (said_by n whole.ks) (process_of ended (s.state n))) (no_process (network_of p) (begin_of p) ended n past) (whole.traces n ended)) refl in
       record {
         made = [];
         said = subst (λ ks. AreSaid (kind_on p) ks []) (sym silent) tt;

@@ -1,10 +1,9 @@
 -- The processes of an accepted plan begin well: they use their channels and variables lawfully, and keep to kinds.
-use Rattle.std.proofs.Common.{◌≡◌, ℕ, zero, suc, ◌<◌, Bool, true, false, ◌&&◌, refl, sym, ap, subst, ◌∙◌, List, [], ◌∷◌, length, get_or, slice_get, Option, Some, None, arith}
+use Rattle.std.proofs.Common.{◌≡◌, ℕ, zero, suc, ◌<◌, true, false, ◌&&◌, refl, sym, ◌∙◌, List, [], ◌∷◌, length, get_or, slice_get, Option, Some, None, arith}
 use Rattle.std.specs.List.{list_all}
 use Rattle.vc_occam.specs.declared.channel_use.ChannelUse.{ChannelUse}
 use Rattle.vc_occam.specs.declared.value_kind.ValueKind.{ValueKind}
 use Rattle.vc_occam.specs.declared.value_kind.ValueKind.TheVariants as kind
-use Rattle.vc_occam.specs.Limits.{same_kind}
 use Rattle.vc_occam.specs.Numbering.{written}
 use Rattle.vc_occam.specs.ProcessLimits.{names_fit}
 use Rattle.vc_occam.proofs.Checked.{kinds_same, IsKinded, AreKinded, kinded, empty_kinded}
@@ -63,7 +62,7 @@ begins_good p acc n less =
     let here = there p n p.nodes less in
     let kinds = kinds_of node.vars in
     record {
-      use_ = begins (written node.process) (acc.lawful_use n node here);
+      lawful = begins (written node.process) (acc.lawful_use n node here);
       sound = begins_sound (kind_on p) kinds (written node.process)
           (kinded (kind_on p) kinds (length p.channels) (written node.process) (named p acc n node here) (uses_kinded p n (uses_of node) (λ k u e. acc.uses n k node u here e)));
       store = empty_kinded (kind_on p) kinds;

@@ -1,5 +1,5 @@
 -- What a process does, step by step, is a trace of it, and tells the communications that its node makes.
-use Rattle.std.proofs.Common.{◌≡◌, ℕ, Bool, true, false, refl, sym, ap, subst, ◌∙◌, List, [], ◌∷◌, ◌++◌, append_assoc, Option, Some, None}
+use Rattle.std.proofs.Common.{◌≡◌, ℕ, false, refl, sym, ap, subst, ◌∙◌, List, [], ◌∷◌, ◌++◌, Some, None}
 use Rattle.vc_machine.specs.Rendezvous as rendezvous
 use Rattle.vc_network.specs.Processes.{Deed, Offers, Wants, Chooses, Stops, Meets, Rests, Finishes, Receives, comms, Trace, none, more}
 use Rattle.std.specs.List.{Contains}
@@ -51,14 +51,14 @@ Leads inside ks = (t : List Comm) → node.Meets inside t → node.Meets inside 
 module _ (channel : ℕ → ValueKind) (kinds : List ValueKind) where
   -- a process that keeps to lawful use and to kinds
   pub record IsGood (p : Process) : Type 0 where
-    pub use_ : UsesLawfully p.state.rest
+    pub lawful : UsesLawfully p.state.rest
     pub sound : Sound channel kinds p.state.rest
     pub store : StoreHasKinds channel kinds p.state.store
 
   goes_good : (old new : Process) (d : occam.Doing) → Goes old d new → IsGood old → IsGood new
   goes_good old new d g o =
       let k = doing_stays channel kinds old.state new.state d g.comms g.does (o.sound, o.store) in
-      record { use_ = doing_keeps_use old.state new.state d g.comms g.does o.use_; sound = k.0; store = k.1 }
+      record { lawful = doing_keeps_use old.state new.state d g.comms g.does o.lawful; sound = k.0; store = k.1 }
 
   -- one step: what it makes, and what the node says of it
   record Made (old : Process) (d : Deed) (new : Process) : Type 0 where
@@ -74,7 +74,7 @@ module _ (channel : ℕ → ValueKind) (kinds : List ValueKind) where
     made = g.comms;
     said = said;
     leads = leads;
-    traced = doing_is_traced old.state new.state e g.comms g.does o.use_;
+    traced = doing_is_traced old.state new.state e g.comms g.does o.lawful;
     good = goes_good old new e g o;
     inside = g.inside;
   }

@@ -1,5 +1,5 @@
 -- What a channel's input gets is what its output sent, so that its message is the message that was taken.
-use Rattle.std.proofs.Common.{◌≡◌, ℕ, zero, suc, Bool, true, false, refl, sym, ap, subst, ◌∙◌, List, [], ◌∷◌, ◌++◌, length, map, slice_get, Option, Some, None, nat_eq, eq-eqb, ne_eqb, inl, inr, if◌then◌else◌}
+use Rattle.std.proofs.Common.{◌≡◌, ℕ, zero, suc, sym, ap, subst, ◌∙◌, List, [], ◌∷◌, ◌++◌, length, slice_get, Some, eq-eqb, ne_eqb, inl, inr, if◌then◌else◌}
 use Rattle.std.proofs.lemmas.Bool.{cases_eq}
 use Rattle.vc_machine.specs.Rendezvous as rendezvous
 use Rattle.vc_machine.specs.Rendezvous.{View, Does, DoesAll, part}
@@ -64,7 +64,7 @@ module _ (kinds : ℕ → ValueKind) (c : ℕ) where
   runs_too ((m, (d, k)) ∷ ks) ((n, x) ∷ xs) u s v h run = elim (cases_eq d c) [
     | inl q ↦
         (let r = here d k x (part c (all_said ks)) (on c xs) v u q s.1 (runs_too ks xs u s.2) h
-            (subst (λ b. DoesAll v (if b then k ∷ part c (all_said ks) else part c (all_said ks)) u) (eq-eqb d c q) run) in
+        (subst (λ b. DoesAll v (if b then k ∷ part c (all_said ks) else part c (all_said ks)) u) (eq-eqb d c q) run) in
         subst (λ b. DoesAll v (if b then (to_channel x).1 ∷ on c xs else on c xs) u) (sym (eq-eqb (to_channel x).0 c r.0)) r.1)
     | inr ne ↦ subst (λ b. DoesAll v (if b then (to_channel x).1 ∷ on c xs else on c xs) u) (sym (ne_eqb (to_channel x).0 c (λ e. ne (sym (same_channel d k x s.1) ∙ e))))
         (runs_too ks xs u s.2 v h (subst (λ b. DoesAll v (if b then k ∷ part c (all_said ks) else part c (all_said ks)) u) (ne_eqb d c ne) run))

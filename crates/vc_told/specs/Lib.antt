@@ -1,3 +1,4 @@
 pub mod Begin
 pub mod OneList
+pub mod Swapping
 pub mod Process

@@ -9,7 +9,7 @@ use Rattle.vc_occam.specs.Messages.{message}
 use Rattle.vc_occam.specs.NodeTraces.{NodeTrace, so_far}
 use Rattle.vc_occam.specs.Numbering.{written}
 use Rattle.vc_occam.specs.States.{State}
-use Rattle.vc_occam.specs.Traces.{Comm, Out, In, Fin, Stp, End}
+use Rattle.vc_occam.specs.Traces.{Comm, Out, In, Fin, Stp}
 use Rattle.vc_plan.specs.declared.plan.Plan.{Plan}
 use Rattle.vc_plan.specs.Accepted.{IsAccepted}
 use Rattle.vc_accepted.specs.NetworkOf.{network_of}

@@ -1,10 +1,19 @@
-//! The one list of all nodes' communications, in occam's words. Definitions and laws.
+//! One list of all that the nodes of a network communicate, in occam's words: each node's part is a trace of its process, and each
+//! channel's part is a run of the channel. So no log is invented, and nothing is taken before it could be sent. Definitions and laws.
 #![tactic(auto)]
 
 ghost use Rattle.vc_told.specs.OneList.{AllIsTold};
+ghost use Rattle.vc_told.specs.Swapping.{NothingIsSwapped};
 
-/// law
-#[tactic(auto, using(crate::proofs::Main::all_told))]
-pub fn all_is_told_in_one_list()
+/// After any events of an accepted plan's network there is one list of communications, each with the node that makes it. Each
+/// node's part is a trace of its process, from the process as the plan has it on: one that has ended where nothing remains of it,
+/// and else one that is cut off. Each channel's part is a run of the channel to what it shows. Under both waiting rules.
+pub fn one_list_tells_all()
     ensures { AllIsTold }
+{}
+
+/// Where two nodes each input before they output, no such list has anything that either got: nobody can show them to have
+/// swapped what neither sent.
+pub fn nothing_unsent_is_swapped()
+    ensures { NothingIsSwapped }
 {}

@@ -9,7 +9,7 @@ use Rattle.vc_vcp.specs.Seen.{seen, ends_of}
 use Rattle.vc_vcp.specs.State.{State, HaveOwnNames, limit_of}
 use Rattle.vc_accepted.specs.Given.{ends_of_node}
 use Rattle.vc_accepted.proofs.Giving.{given_small}
-use Rattle.vc_core.specs.Begin.{numbers_inside}
+use Rattle.vc_told.specs.Begin.{numbers_inside}
 use Rattle.vc_core.specs.Inside.{opened_inside}
 use Rattle.vc_core.proofs.Beginning.{begins}
 use Rattle.vc_core.proofs.Carrying.{ends_are, few_channels}
