@@ -1,13 +1,43 @@
 -- Lawful use of what remains of a process: no step loses it.
-use Rattle.std.specs.Prelude.{ℕ, List}
+use Rattle.std.specs.Prelude.{◌≡◌, ℕ, false, List}
 use Rattle.vc_occam.specs.declared.deed.Deed.{Deed}
-use Rattle.vc_occam.specs.Lawful.{Lawfully, LawfullyAll}
-use Rattle.vc_occam.specs.Remains.{Rest, Done, Stopped, Fresh, Finishing, Getting, Then, Turns, Beside, begin, Apart}
+use Rattle.vc_occam.specs.Lawful.{outputs, outputs_all, inputs, inputs_all, Lawfully, LawfullyAll}
+use Rattle.vc_occam.specs.Remains.{Rest, Done, Stopped, Fresh, Finishing, Getting, Then, Turns, Beside, begin, changes_rest, Apart}
+use Rattle.vc_occam.specs.Sites.{Disjoint}
 use Rattle.vc_occam.specs.States.{State, StepsTo, Doing, Does, IsTraced}
 use Rattle.vc_occam.specs.Syntax.{Proc}
 use Rattle.vc_occam.specs.Traces.{Comm}
+use Rattle.vc_occam.specs.Usage.{Set, nothing, just, ◌∪◌, changes}
 
--- side by side, none changes what another uses, and what is yet to begin is used lawfully
+-- the channels on which what remains outputs, and those on which it inputs, has a guard or stops
+abbrev pub outputs_rest : Rest → Set
+outputs_rest Done = nothing
+outputs_rest Stopped = nothing
+outputs_rest (Fresh p) = outputs p
+outputs_rest (Finishing s c) = just c
+outputs_rest (Getting s c v) = nothing
+outputs_rest (Then r ps) = outputs_rest r ∪ outputs_all ps
+outputs_rest (Turns r v b n p) = outputs_rest r ∪ outputs p
+outputs_rest (Beside mine r q) = outputs_rest r ∪ outputs_rest q
+
+abbrev pub inputs_rest : Rest → Set
+inputs_rest Done = nothing
+inputs_rest Stopped = nothing
+inputs_rest (Fresh p) = inputs p
+inputs_rest (Finishing s c) = nothing
+inputs_rest (Getting s c v) = just c
+inputs_rest (Then r ps) = inputs_rest r ∪ inputs_all ps
+inputs_rest (Turns r v b n p) = inputs_rest r ∪ inputs p
+inputs_rest (Beside mine r q) = inputs_rest r ∪ inputs_rest q
+
+-- side by side, no channel is output on twice, none is input on twice, and neither changes what the other uses
+pub record UseApart (mine : Set) (r q : Rest) : Type 0 where
+  pub outputs : Disjoint (outputs_rest r) (outputs_rest q)
+  pub inputs : Disjoint (inputs_rest r) (inputs_rest q)
+  pub variables : Apart mine r q
+
+-- what remains uses its channels and variables lawfully: parts side by side keep apart, a counted SEQ keeps its index, and what is
+-- yet to begin is lawful
 abbrev pub UsesLawfully : Rest → Type 0
 UsesLawfully Done = Unit {0}
 UsesLawfully Stopped = Unit {0}
@@ -15,8 +45,8 @@ UsesLawfully (Fresh p) = Lawfully p
 UsesLawfully (Finishing s c) = Unit {0}
 UsesLawfully (Getting s c v) = Unit {0}
 UsesLawfully (Then r ps) = UsesLawfully r × LawfullyAll ps
-UsesLawfully (Turns r v b n p) = UsesLawfully r × Lawfully p
-UsesLawfully (Beside mine r q) = Apart mine r q × UsesLawfully r × UsesLawfully q
+UsesLawfully (Turns r v b n p) = UsesLawfully r × (changes_rest r v ≡ false) × (changes p v ≡ false) × Lawfully p
+UsesLawfully (Beside mine r q) = UseApart mine r q × UsesLawfully r × UsesLawfully q
 
 -- a process that is written lawfully begins so
 abbrev pub LawfulAtFirst : Type 0
