@@ -3,4 +3,5 @@ pub mod Joined
 pub mod Taken
 pub mod Planned
 pub mod Main
+pub mod Sending
 pub mod Swapped

@@ -3,6 +3,7 @@
 #![tactic(auto)]
 
 ghost use Rattle.vc_told.specs.OneList.{AllIsTold};
+ghost use Rattle.vc_told.specs.Sent.{NothingIsGotUnsent};
 ghost use Rattle.vc_told.specs.Swapping.{NothingIsSwapped};
 
 /// After any events of an accepted plan's network there is one list of communications, each with the node that makes it. Each
@@ -10,6 +11,11 @@ ghost use Rattle.vc_told.specs.Swapping.{NothingIsSwapped};
 /// and else one that is cut off. Each channel's part is a run of the channel to what it shows. Under both waiting rules.
 pub fn one_list_tells_all()
     ensures { AllIsTold }
+{}
+
+/// In such a list, the message of whatever an input gets was output on its channel before.
+pub fn nothing_is_got_before_it_is_sent()
+    ensures { NothingIsGotUnsent }
 {}
 
 /// Where two nodes each input before they output, no such list has anything that either got: nobody can show them to have
