@@ -1,17 +1,15 @@
 -- What an accepted plan's limits say of its nodes.
-use Rattle.std.proofs.Common.{◌≡◌, ℕ, ◌≤◌, length, slice_get, ◌&&◌, true, Some, arith}
+use Rattle.std.proofs.Common.{◌≡◌, ℕ, ◌≤◌, length, slice_get, true, Some, arith}
 use Rattle.std.proofs.lemmas.Bool.Decides.{nat_tests}
-use Rattle.std.specs.List.{list_all}
 use Rattle.vc_occam.specs.InOrder.{number}
 use Rattle.vc_occam.specs.Numbering.{written}
 use Rattle.vc_occam.specs.Opening.{Fits}
 use Rattle.vc_occam.specs.ProcessLimits.{sequential}
-use Rattle.vc_plan.specs.declared.channel.Channel.{Channel}
 use Rattle.vc_plan.specs.declared.node_plan.NodePlan.{NodePlan}
 use Rattle.vc_plan.specs.declared.plan.Plan.{Plan}
 use Rattle.vc_plan.specs.Accepted.{IsAccepted}
-use Rattle.vc_plan.specs.Limits.{depth_ok, ends_there, home_there, kinds_of, parts_ok, process_names, wire_there}
-use Rattle.vc_plan.proofs.Limited.{both, in-order, passes}
+use Rattle.vc_plan.specs.Limits.{depth_ok, kinds_of, parts_ok, process_names}
+use Rattle.vc_plan.proofs.Limited.{in-order, names-fit, passes}
 use Rattle.vc_accepted.proofs.Limited.{kept}
 
 few_parts : (node : NodePlan) → parts_ok node ≡ true → (number node.process).sites ≤ 65536
@@ -26,11 +24,8 @@ pub record CanRun (node : NodePlan) : Type 0 where
 pub node_runs : (p : Plan) → IsAccepted p → (n : ℕ) (node : NodePlan) → slice_get p.nodes n ≡ Some node → CanRun node
 node_runs p acc n node e =
     let k = kept p acc in
-    let ends = (both (list_all (wire_there p) p.wires) (list_all (ends_there p) p.vlinks && (list_all (λ (c : Channel). home_there p c.home) p.channels && list_all (process_names p) p.nodes)) k.number).1 in
-    let homes = (both (list_all (ends_there p) p.vlinks) (list_all (λ (c : Channel). home_there p c.home) p.channels && list_all (process_names p) p.nodes) ends).1 in
-    let names = (both (list_all (λ (c : Channel). home_there p c.home) p.channels) (list_all (process_names p) p.nodes) homes).1 in
     record {
       sequential = in-order node (passes depth_ok p.nodes n node k.depth e);
       sites = few_parts node (passes parts_ok p.nodes n node k.parts e);
-      fits = (length p.channels, passes (process_names p) p.nodes n node names e);
+      fits = (length p.channels, passes (process_names p) p.nodes n node (names-fit p k) e);
     }

@@ -6,11 +6,12 @@ use Rattle.std.specs.List.{list_all}
 use Rattle.vc_occam.specs.Numbering.{written}
 use Rattle.vc_occam.specs.ProcessLimits.{depth_within, sequential, exps_within}
 use Rattle.vc_plan.specs.declared.plan.Plan.{Plan}
+use Rattle.vc_plan.specs.declared.channel.Channel.{Channel}
 use Rattle.vc_plan.specs.declared.node_plan.NodePlan.{NodePlan}
 use Rattle.vc_plan.specs.declared.switch_plan.RandomInput.{RandomInput}
 use Rattle.vc_plan.specs.declared.limit_word.LimitWord.{LimitWord}
 use Rattle.vc_plan.specs.declared.limit_word.LimitWord.TheVariants as word
-use Rattle.vc_plan.specs.Limits.{unless_ok, limit_broken, part_broken, process_broken, number_broken, version_ok, vars_ok, rows_ok, routes_ok, links_ok, random_ok, range_ok, depth_ok, parts_ok, message_ok, number_ok, names_ok}
+use Rattle.vc_plan.specs.Limits.{unless_ok, limit_broken, part_broken, process_broken, number_broken, version_ok, vars_ok, rows_ok, routes_ok, links_ok, random_ok, range_ok, depth_ok, parts_ok, message_ok, number_ok, names_ok, wire_there, ends_there, home_there, process_names}
 use Rattle.vc_plan.specs.Hops.{LimitsFit}
 
 pub record Keeps (p : Plan) : Type 0 where
@@ -110,3 +111,10 @@ pub in-order : (n : NodePlan) → depth_ok n ≡ true → sequential (written n.
 in-order n h =
     let shallow = both (depth_within (written n.process) 32 && sequential (written n.process)) (exps_within (written n.process) 8) h in
     (both (depth_within (written n.process) 32) (sequential (written n.process)) shallow.0).1
+
+-- the names of each process fit
+pub names-fit : (p : Plan) → Keeps p → list_all (process_names p) p.nodes ≡ true
+names-fit p k =
+    let ends = (both (list_all (wire_there p) p.wires) (list_all (ends_there p) p.vlinks && (list_all (λ (c : Channel). home_there p c.home) p.channels && list_all (process_names p) p.nodes)) k.number).1 in
+    let homes = (both (list_all (ends_there p) p.vlinks) (list_all (λ (c : Channel). home_there p c.home) p.channels && list_all (process_names p) p.nodes) ends).1 in
+    (both (list_all (λ (c : Channel). home_there p c.home) p.channels) (list_all (process_names p) p.nodes) homes).1

@@ -170,21 +170,24 @@ misused p = misused_from p 0 p.nodes
 abbrev pub channel_fault : Plan → Option ℕ
 channel_fault p = first_of (way_twice p.channels) (misused p)
 
--- the name of what is there, or else no letter
-abbrev pub name_of : {A : Type 0} → (A → List ℕ) → Option A → List ℕ
-name_of name None = []
-name_of name (Some x) = name x
+-- the name of the channel or the variable, if there is such a one
+abbrev pub channel_name : Option Channel → Option (List ℕ)
+channel_name None = None
+channel_name (Some c) = Some c.name
 
--- the name of the channel or the variable
-abbrev pub offence_name : Plan → NodePlan → Offence → List ℕ
-offence_name p node (channel c) = name_of (λ (x : Channel). x.name) (slice_get p.channels c)
-offence_name p node (variable v) = name_of (λ (x : Variable). x.name) (slice_get node.vars v)
+abbrev pub variable_name : Option Variable → Option (List ℕ)
+variable_name None = None
+variable_name (Some v) = Some v.name
+
+abbrev pub offence_name : Plan → NodePlan → Offence → Option (List ℕ)
+offence_name p node (channel c) = channel_name (slice_get p.channels c)
+offence_name p node (variable v) = variable_name (slice_get node.vars v)
 
 -- the first offence of its process is by the channel or the variable of this name
 pub record IsUsage (p : Plan) (node : NodePlan) (name : List ℕ) : Type 0 where
   pub offence : Offence
   pub is : FirstOffence (written node.process) offence
-  pub named : offence_name p node offence ≡ name
+  pub named : offence_name p node offence ≡ Some name
 
 -- each process uses its channels and variables lawfully
 abbrev pub AreLawful : Plan → Type 0

@@ -1,12 +1,12 @@
 //! Whether processes use their channels and variables lawfully.
-ghost use Rattle.std.specs.Prelude.{◌≡◌, ◌<◌, IfNone, IfOk, IfSome, length, slice_get, true};
+ghost use Rattle.std.specs.Prelude.{◌≡◌, ◌<◌, IfNone, IfOk, IfSome, Some, length, slice_get, true};
 ghost use Rattle.std.specs.List.{list_all};
 ghost use Rattle.vc_occam.specs.Indexes.{IsUseFault};
 ghost use Rattle.vc_occam.specs.Lawful.{Lawfully};
 ghost use Rattle.vc_occam.specs.Numbering.{written};
 ghost use Rattle.vc_occam.specs.ProcessLimits.{sequential};
-ghost use Rattle.vc_plan.specs.Check.{AreLawful, IsFirstUsage, IsUsage, name_of};
-ghost use Rattle.vc_plan.specs.Limits.{depth_ok};
+ghost use Rattle.vc_plan.specs.Check.{AreLawful, IsFirstUsage, IsUsage, channel_name, variable_name};
+ghost use Rattle.vc_plan.specs.Limits.{depth_ok, process_names};
 
 use crate::channel::Channel;
 use crate::name::Name;
@@ -17,22 +17,20 @@ use std::alloc::Global;
 use vc_occam::{UseFault, check_use};
 use vc_packets::Memory;
 
-fn channel_name(alloc: Global, channels: &[Channel], chan: u16) -> Result<Name, Memory>
-    ensures { IfOk result (λ name. name ≡ name_of (λ channel. channel.name) (slice_get channels.now chan)) }
+fn name_of_channel(alloc: Global, channels: &[Channel], chan: u16) -> Result<Name, Memory>
+    requires { chan < length channels.now }
+    ensures { IfOk result (λ name. channel_name (slice_get channels.now chan) ≡ Some name) }
 {
-    match channels.get(usize::from(chan)) {
-        Some(channel) => Ok(Items::from_slice(alloc, channel.name.as_slice())?),
-        None => Ok(Items::new(alloc)),
-    }
+    let channel = &channels[usize::from(chan)];
+    Ok(Items::from_slice(alloc, channel.name.as_slice())?)
 }
 
-fn variable_name(alloc: Global, vars: &[Variable], var: u8) -> Result<Name, Memory>
-    ensures { IfOk result (λ name. name ≡ name_of (λ var. var.name) (slice_get vars.now var)) }
+fn name_of_variable(alloc: Global, vars: &[Variable], var: u8) -> Result<Name, Memory>
+    requires { var < length vars.now }
+    ensures { IfOk result (λ name. variable_name (slice_get vars.now var) ≡ Some name) }
 {
-    match vars.get(usize::from(var)) {
-        Some(var) => Ok(Items::from_slice(alloc, var.name.as_slice())?),
-        None => Ok(Items::new(alloc)),
-    }
+    let var = &vars[usize::from(var)];
+    Ok(Items::from_slice(alloc, var.name.as_slice())?)
 }
 
 /// The name of what a node's process uses unlawfully.
@@ -42,19 +40,21 @@ fn name_of_fault(
     node: &NodePlan,
     fault: UseFault,
 ) -> Result<Name, Memory>
-    requires { IsUseFault (written node.now.process) fault }
+    requires names { process_names plan.now node.now ≡ true }
+    requires fault { IsUseFault (written node.now.process) fault }
     ensures { IfOk result (λ name. IsUsage plan.now node.now name) }
 {
     match fault {
-        UseFault::Chan(chan) => channel_name(alloc, plan.channels.as_slice(), chan),
-        UseFault::Var(var) => variable_name(alloc, node.vars.as_slice(), var),
+        UseFault::Chan(chan) => name_of_channel(alloc, plan.channels.as_slice(), chan),
+        UseFault::Var(var) => name_of_variable(alloc, node.vars.as_slice(), var),
         UseFault::Memory => Err(Memory),
     }
 }
 
 /// The name of the first channel or variable that a node's process uses unlawfully.
 fn usage_of(alloc: Global, plan: &Plan, node: &NodePlan) -> Result<Option<Name>, Memory>
-    requires { sequential (written node.now.process) ≡ true }
+    requires in_order { sequential (written node.now.process) ≡ true }
+    requires names { process_names plan.now node.now ≡ true }
     ensures lawful { IfOk result (λ found. IfNone found (Lawfully (written node.now.process))) }
     ensures usage { IfOk result (λ found. IfSome found (λ name. IsUsage plan.now node.now name)) }
 {
@@ -68,6 +68,7 @@ fn usage_of(alloc: Global, plan: &Plan, node: &NodePlan) -> Result<Option<Name>,
 pub(crate) fn find_usage(alloc: Global, plan: &Plan) -> Result<Option<(u8, Name)>, Memory>
     requires few { length plan.now.nodes < 256 }
     requires depth { list_all depth_ok plan.now.nodes ≡ true }
+    requires names { list_all (process_names plan.now) plan.now.nodes ≡ true }
     ensures lawful { IfOk result (λ found. IfNone found (AreLawful plan.now)) }
     ensures first { IfOk result (λ found. IfSome found (λ usage. IsFirstUsage plan.now usage.0 usage.1)) }
 {
