@@ -11,6 +11,11 @@ pub mod Linking
 pub mod Happening
 pub mod Replayed
 pub mod Viewing
+pub mod Finding
+pub mod Placing
+pub mod Belonging
+pub mod Everywhere
+pub mod Standing
 pub mod GoingOn
 pub mod AbleMoves
 pub mod Enabled

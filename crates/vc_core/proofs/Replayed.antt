@@ -55,14 +55,15 @@ no_token (x ∷ xs) all zero = all.0
 no_token (x ∷ xs) all (suc w) = no_token xs all.1 w
 
 pub opened : (p : Plan) (s : State) → IsAccepted p → AreFirst p s.actors → length s.ways ≡ 2 * length p.wires → AllByRecursion (λ way. way ≡ []) s.ways →
-    ((actor link : ℕ) → out_at s.wiring actor link ≡ outgoing p actor link) → AreChannelsOf p s.channels → IsOpening p s
-opened p s acc first count empty wiring channels = record {
+    ((actor link : ℕ) → out_at s.wiring actor link ≡ outgoing p actor link) → s.wires ≡ p.wires → AreChannelsOf p s.channels → IsOpening p s
+opened p s acc first count empty wiring wires channels = record {
   is = record {
     accepted = acc;
     count = first.count;
     nodes = λ k a e. (first.each k a e).is;
     ways = count ∙ ap (λ n. 2 * n) (sym (length-map p.wires wire_of));
     wiring = λ actor link less few. wiring actor link;
+    wires = wires;
     channels = channels;
   };
   begins = (λ i. record { state = fun_ext (first_at p s.actors first) i; way = fun_ext (no_token s.ways empty) i });

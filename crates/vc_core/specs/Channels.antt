@@ -1,19 +1,32 @@
 -- What the channels of a plan are called, and where they are.
-use Rattle.std.specs.Prelude.{◌≡◌, ℕ, List, length, Some, slice_get}
+use Rattle.std.specs.Prelude.{◌≡◌, ℕ, not, List, length, Option, Some, None, slice_get}
 use Rattle.vc_plan.specs.declared.channel.Channel.{Channel}
 use Rattle.vc_plan.specs.declared.plan.Plan.{Plan}
 use Rattle.vc_accepted.specs.NetworkOf.{network_of, home_in}
-use Rattle.vc_network.specs.Plan.{home}
+use Rattle.vc_network.specs.Plan as network
+use Rattle.vc_network.specs.Plan.{home, Way, Inside, end_of, virtual_link}
 use Rattle.vc_network.specs.Views.{source_node, sink_node}
+use Rattle.vc_core.specs.declared.channels.BlockAt.{BlockAt}
 use Rattle.vc_core.specs.declared.channels.ChannelInfo.{ChannelInfo}
+use Rattle.vc_core.specs.declared.channels.Ends.{Ends}
 
--- a channel's name and kind, the node that outputs on it, and the one that inputs
+-- the block of an end
+abbrev pub block_of : network.End → BlockAt
+block_of e = record { node = e.node; block = e.block }
+
+-- the ends of the virtual link that a channel of this home is on: there is none inside a node
+abbrev pub ends_at : network.Plan → network.Home → Option Ends
+ends_at plan (Way v ab) = Some (record { from = block_of (end_of (virtual_link plan v) ab); to = block_of (end_of (virtual_link plan v) (not ab)) })
+ends_at plan (Inside n) = None
+
+-- a channel's name and kind, the node that outputs on it, the one that inputs, and the ends of its virtual link
 abbrev pub info_of : Plan → Channel → ChannelInfo
 info_of p x = record {
   name = x.name;
   kind = x.kind;
   source = source_node (network_of p) (home_in x);
   sink = sink_node (network_of p) (home_in x);
+  ends = ends_at (network_of p) (home_in x);
 }
 
 -- this is channel c of the plan
@@ -24,6 +37,7 @@ pub record IsChannelOf (p : Plan) (c : ℕ) (info : ChannelInfo) : Type 0 where
   pub kind : info.kind ≡ channel.kind
   pub source : info.source ≡ source_node (network_of p) (home (network_of p) c)
   pub sink : info.sink ≡ sink_node (network_of p) (home (network_of p) c)
+  pub ends : info.ends ≡ ends_at (network_of p) (home (network_of p) c)
 
 -- these are the channels of the plan, in their order
 pub record AreChannelsOf (p : Plan) (infos : List ChannelInfo) : Type 0 where

@@ -15,3 +15,5 @@ pub mod Viewed
 pub mod Able
 pub mod Enabled
 pub mod Turns
+pub mod Sought
+pub mod Placed

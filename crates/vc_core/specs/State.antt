@@ -6,6 +6,7 @@ use Rattle.vc_network.specs.Network as net
 use Rattle.vc_network.specs.Plan.{ways}
 use Rattle.vc_network.specs.Plan as network
 use Rattle.vc_plan.specs.declared.plan.Plan.{Plan}
+use Rattle.vc_plan.specs.declared.port.Wire.{Wire}
 use Rattle.vc_plan.specs.Accepted.{IsAccepted}
 use Rattle.vc_accepted.specs.NetworkOf.{network_of}
 use Rattle.vc_switch.specs.Switch.{new_switch}
@@ -29,10 +30,11 @@ pub record State : Type 0 where
   pub actors : List Actor
   pub ways : List (List Token)
   pub wiring : List (Option ℕ)
+  pub wires : List Wire
   pub channels : List ChannelInfo
 
 abbrev pub state_of : Network → State
-state_of n = record { actors = n.actors.items; ways = n.ways.items; wiring = n.wiring; channels = n.channels.items }
+state_of n = record { actors = n.actors.items; ways = n.ways.items; wiring = n.wiring; wires = n.wires; channels = n.channels.items }
 
 abbrev pub actor_of : Actor → net.Actor Process
 actor_of a = net.IsNode (node_of a.node)
@@ -54,6 +56,7 @@ pub record IsNetworkOf (p : Plan) (s : State) : Type 0 where
   pub nodes : (k : ℕ) (a : Actor) → slice_get s.actors k ≡ Some a → IsNodeOf (network_of p) k a.node
   pub ways : length s.ways ≡ ways (network_of p)
   pub wiring : AreWaysAt p s.wiring
+  pub wires : s.wires ≡ p.wires
   pub channels : AreChannelsOf p s.channels
 
 -- a token stands on the way that comes in by a link

@@ -1,15 +1,17 @@
 //! What the channels of a plan are called, and where they are.
 ghost use Rattle.std.specs.Prelude.{◌≡◌, IfOk};
 ghost use Rattle.vc_accepted.specs.NetworkOf.{network_of, home_of};
-ghost use Rattle.vc_core.specs.Channels.{AreChannelsOf, info_of as information};
+ghost use Rattle.vc_core.specs.Channels.{AreChannelsOf, info_of as information, block_of, ends_at};
+ghost use Rattle.vc_core.specs.Sought.{sought_at};
 ghost use Rattle.vc_network.specs.Plan as network;
 ghost use Rattle.vc_network.specs.Views.{source_node, sink_node};
 
+use crate::sought::Sought;
 use sqlite_items::Items;
 use std::alloc::Global;
 use vc_occam::ValueKind;
 use vc_packets::Memory;
-use vc_plan::{Channel, Home, Plan};
+use vc_plan::{Channel, End, Home, Plan};
 
 /// What a channel is called, and where it is.
 #[derive(Drop)]
@@ -22,6 +24,38 @@ pub(crate) struct ChannelInfo {
     pub(crate) source: usize,
     /// The node that inputs on it.
     pub(crate) sink: usize,
+    /// The ends of the virtual link that it is on, unless it is inside a node.
+    pub(crate) ends: Option<Ends>,
+}
+
+/// A block of a node, to which packets of a virtual link come.
+#[derive(Clone, Copy, Drop)]
+pub(crate) struct BlockAt {
+    /// The node.
+    pub(crate) node: u8,
+    /// The block.
+    pub(crate) block: u16,
+}
+
+/// The ends of the virtual link that a channel is on.
+#[derive(Clone, Copy, Drop)]
+pub(crate) struct Ends {
+    /// That of the node that outputs on the channel, to which its acknowledges come.
+    pub(crate) from: BlockAt,
+    /// That of the node that inputs on the channel, to which its pieces come.
+    pub(crate) to: BlockAt,
+}
+
+impl Ends {
+    /// The channel's packets among those that reach a node.
+    pub(crate) fn sought_at(&self, node: u8) -> Sought
+        ensures { result ≡ sought_at self.now node }
+    {
+        Sought {
+            pieces: (self.to.node == node).then_some(self.to.block),
+            acks: (self.from.node == node).then_some(self.from.block),
+        }
+    }
 }
 
 /// The channels of a plan, in their order.
@@ -45,6 +79,7 @@ fn info_of(alloc: Global, plan: &Plan, channel: &Channel) -> Result<ChannelInfo,
         kind: channel.kind,
         source: source_of(plan, channel.home),
         sink: sink_of(plan, channel.home),
+        ends: ends_of(plan, channel.home),
     })
 }
 
@@ -65,6 +100,40 @@ fn sink_of(plan: &Plan, home: Home) -> usize
     match home {
         Home::Inside { node } => usize::from(node),
         Home::Way { vlink, from_a } => node_at(plan, vlink, !from_a),
+    }
+}
+
+// The ends of the virtual link that a channel of this home is on.
+fn ends_of(plan: &Plan, home: Home) -> Option<Ends>
+    ensures { result ≡ ends_at (network_of plan.now) (home_of home) }
+{
+    match home {
+        Home::Inside { .. } => None,
+        Home::Way { vlink, from_a } => Some(Ends {
+            from: block_at(plan, vlink, from_a),
+            to: block_at(plan, vlink, !from_a),
+        }),
+    }
+}
+
+// The block of end a or end b of a virtual link.
+fn block_at(plan: &Plan, vlink: u16, is_a: bool) -> BlockAt
+    ensures { result ≡ block_of (network.end_of (network.virtual_link (network_of plan.now) vlink) is_a) }
+{
+    match plan.vlinks.as_slice().get(usize::from(vlink)) {
+        Some(link) if is_a => block_of(&link.a),
+        Some(link) => block_of(&link.b),
+        None => BlockAt { node: 0, block: 0 },
+    }
+}
+
+// The block of an end.
+fn block_of(end: &End) -> BlockAt
+    ensures { result ≡ record { node = end.now.node; block = end.now.block } }
+{
+    BlockAt {
+        node: end.node,
+        block: end.block,
     }
 }
 

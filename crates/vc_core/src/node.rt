@@ -12,8 +12,11 @@ ghost use Rattle.vc_network.specs.Plan.{Plan};
 ghost use Rattle.vc_core.specs.OfPlan.{IsNodeOf};
 ghost use Rattle.vc_core.specs.MayMove.{MayMove, AnswersMove, MakesMove};
 ghost use Rattle.vc_core.specs.Able.{HalfCan, CanMove};
+ghost use Rattle.vc_core.specs.Sought.{Has, IsSought, HasReadAt};
 
 use crate::inside::Inside;
+use crate::reader::Reader;
+use crate::sought::Sought;
 use sqlite_items::Items;
 use std::alloc::Global;
 use vc_occam::{Answer, Move, Running};
@@ -107,6 +110,31 @@ impl Node {
         } else {
             self.vcp.stopped(chan)
         }
+    }
+
+    /// Whether a packet that is sought waits in the send queue of a link.
+    pub(crate) fn queues(&self, link: u8, sought: Sought) -> bool
+        ensures { IsTrue result ↔ Has (IsSought sought) ((seen self.now.vcp).carrier.queue link) }
+    {
+        if link >= self.vcp.links() {
+            return false;
+        }
+        let (first, second) = self.vcp.sending(link).packets();
+        sought.is_among(first) || sought.is_among(second)
+    }
+
+    /// Reads what has passed at a link, and the tokens that wait there.
+    pub(crate) fn read_at(&self, link: u8, sought: Sought) -> Reader
+        ensures { HasReadAt sought ((seen self.now.vcp).link link) result }
+    {
+        if link >= self.vcp.links() {
+            return Reader::new(sought, &[]);
+        }
+        let into = self.vcp.receiving(link);
+        let (first, second) = into.tokens();
+        Reader::new(sought, into.passed())
+            .through(first)
+            .through(second)
     }
 
     /// Makes a move.

@@ -24,7 +24,7 @@ impl Model for Way {
 impl Way {
     ghost use Rattle.std.specs.Prelude.{◌≡◌, [], ◌∷◌, ◌++◌, List, OnOk, OnErr, MatchOption};
     ghost use Rattle.vc_tokens.specs.Tokens.{Token};
-    ghost use Rattle.vc_tokens.specs.Spelt.{token};
+    ghost use Rattle.vc_tokens.specs.Spelt.{token, tokens};
     ghost use Rattle.vc_core.specs.Ways.{IsFront, LosesFront, LastIs};
 
     /// A way with no token on it.
@@ -41,6 +41,13 @@ impl Way {
         ensures { MatchOption result (self.now ≡ []) (λ k. IsFront self.now (token k)) }
     {
         self.queue.front().copied()
+    }
+
+    /// The tokens on the way, in two parts: those of the first stand before those of the second.
+    pub(crate) fn tokens(&self) -> (&[Token], &[Token])
+        ensures { tokens (result.0.now ++ result.1.now) ≡ self.now }
+    {
+        self.queue.as_slices()
     }
 
     /// The front token is taken off, if there is one.

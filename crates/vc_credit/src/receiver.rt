@@ -31,9 +31,9 @@ impl Model for Receiver {
 }
 
 impl Receiver {
-    ghost use Rattle.std.specs.Prelude.{◌≡◌, ◌<◌, ◌↔◌, [], IsTrue, IfOk, MatchOption};
+    ghost use Rattle.std.specs.Prelude.{◌≡◌, ◌<◌, ◌++◌, ◌↔◌, [], IsTrue, IfOk, MatchOption};
     ghost use Rattle.vc_credit.specs.Ends.{new_receiver, received, Passes, IsFront, HasRoom, Grants};
-    ghost use Rattle.vc_tokens.specs.Spelt.{token};
+    ghost use Rattle.vc_tokens.specs.Spelt.{token, tokens};
 
     /// An empty buffer with no place promised.
     pub fn new(alloc: Global) -> Result<Receiver, Memory>
@@ -74,6 +74,13 @@ impl Receiver {
         ensures { MatchOption result (self.now.buffer ≡ []) (λ front. IsFront self.now (token front)) }
     {
         self.buffer.front().copied()
+    }
+
+    /// The tokens that wait, in two parts: those of the first came before those of the second.
+    pub fn tokens(&self) -> (&[Token], &[Token])
+        ensures { tokens (result.0.now ++ result.1.now) ≡ self.now.buffer }
+    {
+        self.buffer.as_slices()
     }
 
     /// The token that came first of those that wait, which passes on.

@@ -26,7 +26,7 @@ impl Model for LinkIn {
 impl LinkIn {
     ghost use Rattle.std.specs.Prelude.{◌≡◌, ◌<◌, [], ◌∷◌, ◌++◌, length, ◌↔◌, IsTrue, IfOk, MatchOption};
     ghost use Rattle.vc_packets.specs.declared.mark.Mark.{Mark};
-    ghost use Rattle.vc_tokens.specs.Spelt.{token};
+    ghost use Rattle.vc_tokens.specs.Spelt.{token, tokens};
     ghost use Rattle.vc_tokens.specs.Tokens.{Byte, EndMark};
     ghost use Rattle.vc_credit.specs.Ends.{new_receiver, received, HasRoom, Grants, IsFront, Passes};
     ghost use Rattle.std.specs.Bool.{OnTrue, OnFalse};
@@ -67,6 +67,20 @@ impl LinkIn {
         ensures { MatchOption result (self.now.receiver.buffer ≡ []) (λ front. IsFront self.now.receiver (token front)) }
     {
         self.receiver.front()
+    }
+
+    /// The tokens that wait, in two parts: those of the first came before those of the second.
+    pub fn tokens(&self) -> (&[Token], &[Token])
+        ensures { tokens (result.0.now ++ result.1.now) ≡ self.now.receiver.buffer }
+    {
+        self.receiver.tokens()
+    }
+
+    /// The bytes that have passed of the packet whose mark has not.
+    pub fn passed(&self) -> &[u8]
+        ensures { result.now ≡ self.now.passed }
+    {
+        self.packet.bytes()
     }
 
     /// Whether an FCT may be sent: eight places are free and not promised.

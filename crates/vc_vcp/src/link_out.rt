@@ -81,6 +81,13 @@ impl LinkOut {
         self.queue.front()
     }
 
+    /// The packets that wait, in two parts: those of the first go out before those of the second.
+    pub fn packets(&self) -> (&[Packet], &[Packet])
+        ensures { result.0.now ++ result.1.now ≡ self.now.queue }
+    {
+        self.queue.as_slices()
+    }
+
     /// Whether a token may be put: there is credit, and a packet.
     pub fn may_put(&self) -> bool
         ensures may { IsTrue result ↔ ((0 < self.now.sender.credit) × (self.now.queue ≢ [])) }

@@ -214,6 +214,32 @@ impl Vcp {
         }
     }
 
+    /// Whether a piece is held on a channel.
+    pub fn holds(&self, chan: u16) -> bool
+        ensures { IsTrue result ↔ (((seen self.now).carrier.into chan).held ≢ None) }
+    {
+        match input_on(&self.inputs, chan) {
+            Some(at) => self.inputs[at].half.held().is_some(),
+            None => false,
+        }
+    }
+
+    /// The sending end of a link.
+    pub fn sending(&self, link: u8) -> &LinkOut
+        requires { link < 4 }
+        ensures { slice_get self.now.outs link ≡ Some result.now }
+    {
+        &self.outs[usize::from(link)]
+    }
+
+    /// The receiving end of a link.
+    pub fn receiving(&self, link: u8) -> &LinkIn
+        requires { link < 4 }
+        ensures { slice_get self.now.ins link ≡ Some result.now }
+    {
+        &self.ins[usize::from(link)]
+    }
+
     /// Whether a token may pass from a link's buffer: one waits.
     pub fn may_pass(&self, link: u8) -> bool
         requires { link < 4 }

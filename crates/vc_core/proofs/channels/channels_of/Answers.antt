@@ -6,7 +6,7 @@ use Rattle.vc_network.specs.Plan as network
 use Rattle.vc_network.specs.Views.{source_node, sink_node}
 use Rattle.vc_accepted.specs.NetworkOf.{network_of, home_in}
 use Rattle.vc_accepted.proofs.Listed.{made_at}
-use Rattle.vc_core.specs.Channels.{AreChannelsOf, IsChannelOf, info_of}
+use Rattle.vc_core.specs.Channels.{AreChannelsOf, IsChannelOf, info_of, ends_at}
 use Rattle.vc_core.specs.declared.channels.ChannelInfo.{ChannelInfo}
 use Rattle.vc_core.proofs.channels.channels_of.Goals as goal
 
@@ -26,6 +26,7 @@ is_channel p c info x there is =
       kind = ap (λ (z : ChannelInfo). z.kind) is;
       source = ap (λ (z : ChannelInfo). z.source) is ∙ ap (source_node (network_of p)) (sym home);
       sink = ap (λ (z : ChannelInfo). z.sink) is ∙ ap (sink_node (network_of p)) (sym home);
+      ends = ap (λ (z : ChannelInfo). z.ends) is ∙ ap (ends_at (network_of p)) (sym home);
     }
 
 are_channels : (p : Plan) (infos : List ChannelInfo) → infos ≡ map (info_of p) p.channels → AreChannelsOf p infos
