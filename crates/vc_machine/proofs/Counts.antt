@@ -71,13 +71,13 @@ is_of_own net ph chans w v l p on (returning e) =
     )
 
 -- what stands behind the same kind of front
-front_same : (i : Option ℕ) (v u : Option ℕ) (s t r q : List ℕ) → spelled (behind v s) ++ r ≡ spelled (behind u t) ++ q → (v ≡ None → u ≡ None) × (u ≡ None → v ≡ None) → spelled s ++ r ≡ spelled t ++ q
+pub front_same : (i : Option ℕ) (v u : Option ℕ) (s t r q : List ℕ) → spelled (behind v s) ++ r ≡ spelled (behind u t) ++ q → (v ≡ None → u ≡ None) × (u ≡ None → v ≡ None) → spelled s ++ r ≡ spelled t ++ q
 front_same i None None s t r q e both = e
 front_same i (Some a) (Some b) s t r q e both = header_rest_same a b (spelled s ++ r) (spelled t ++ q) e
 front_same i None (Some b) s t r q e both = let h : Some b ≡ None = both.0 refl in absurd (cc)
 front_same i (Some a) None s t r q e both = let h : Some a ≡ None = both.1 refl in absurd (cc)
 
-piece_ack : (load : List ℕ) (m : Mark) (last : Bool) → kind load m ≡ Piece last → kind load m ≡ Ack → ⊥
+pub piece_ack : (load : List ℕ) (m : Mark) (last : Bool) → kind load m ≡ Piece last → kind load m ≡ Ack → ⊥
 piece_ack load m last a b = cc
 
 pub is_of_one : (net : Net) (ph : ℕ → Phase) (chans : ℕ → ChanState) (w : ℕ) (v u : Option ℕ) (l : Label) (p : Packet) (c : ℕ) → IsAccepted net → Carries net c →

@@ -54,7 +54,7 @@ wire_number net ph chans w c (l ∷ ls) (p ∷ ps) acc real g z =
       )
     ]
 
-drawn_both : (r : Option Interval) (v u : Option ℕ) → IsDrawn r v → IsDrawn r u → (v ≡ None → u ≡ None) × (u ≡ None → v ≡ None)
+pub drawn_both : (r : Option Interval) (v u : Option ℕ) → IsDrawn r v → IsDrawn r u → (v ≡ None → u ≡ None) × (u ≡ None → v ≡ None)
 drawn_both None None None a b = ((λ k. k), (λ k. k))
 drawn_both None None (Some y) a b = absurd b
 drawn_both None (Some x) u a b = absurd a
@@ -62,7 +62,7 @@ drawn_both (Some r) None u a b = absurd a
 drawn_both (Some r) (Some x) None a b = absurd b
 drawn_both (Some r) (Some x) (Some y) a b = ((λ k. absurd (cc)), (λ k. absurd (cc)))
 
-same_port : (net : Net) (n i m j : ℕ) (v : Option ℕ) → AtSwitch n i ≡ AtSwitch m j → IsDrawn ((net.switch m).random j) v → IsDrawn ((net.switch n).random i) v
+pub same_port : (net : Net) (n i m j : ℕ) (v : Option ℕ) → AtSwitch n i ≡ AtSwitch m j → IsDrawn ((net.switch m).random j) v → IsDrawn ((net.switch n).random i) v
 same_port net n i m j v e d =
     let a : m ≡ n = cc in
     let b : j ≡ i = cc in

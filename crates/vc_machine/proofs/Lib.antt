@@ -47,3 +47,4 @@ pub mod Update
 pub mod Views
 pub mod Ways
 pub mod Whole
+pub mod Owned

@@ -11,3 +11,4 @@ pub mod Seen
 pub mod Laws
 pub mod Atomic
 pub mod TokenHeadline
+pub mod Owners

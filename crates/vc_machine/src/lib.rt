@@ -2,6 +2,7 @@
 #![tactic(auto)]
 
 ghost use Rattle.std.specs.Prelude.{◌≡◌, ℕ, List, [], ◌∷◌};
+ghost use Rattle.vc_machine.specs.Owners.{EachHasOwner, OwnersAreOne, PathsReachEnds};
 ghost use Rattle.vc_machine.specs.Paths.{Net, IsAccepted};
 ghost use Rattle.vc_machine.specs.Machine.{State, Event, Step, Run, start};
 ghost use Rattle.vc_machine.specs.Headline.{Headline};
@@ -77,4 +78,13 @@ pub fn first_in_first_out_over_tokens()
 pub fn a_token_event_leads_to_one_state()
     ensures { (net : Net) (back : ℕ → ℕ) (waiting : Waiting) (t : Tokens) (e : TokenEvent) (u v : Tokens) → IsAccepted net → Bindings net t
         → TokenStep net back waiting t e u → TokenStep net back waiting t e v → u ≡ v }
+{}
+
+/// After any list of steps each packet in a queue, on a way or in a switch belongs to a channel, and no packet to two. Whatever path
+/// its headers let it take, whatever is drawn and whichever link of a group is free, it comes to that channel's end.
+#[tactic(auto, using(crate::proofs::Owned::each_owned, crate::proofs::Owned::owners_one, crate::proofs::Owned::paths_reach))]
+pub fn each_packet_has_its_channel()
+    ensures owner { (net : Net) → EachHasOwner net }
+    ensures one { (net : Net) → OwnersAreOne net }
+    ensures paths { (net : Net) → PathsReachEnds net }
 {}

@@ -13,6 +13,7 @@ pub mod NodeLift
 pub mod NodeLinks
 pub mod OneStep
 pub mod OneTokenEnds
+pub mod Owned
 pub mod Replays
 pub mod Saying
 pub mod Seen

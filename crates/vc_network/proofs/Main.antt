@@ -174,7 +174,7 @@ same_marked got None bound = refl
 same_marked got (Some m) bound = refl
 
 module _ {P : Type 0} (plan : Plan) (s : Network (Actor P) Token) (t : Tokens) (g : Good plan s t) where
-  same_ways : (w : ℕ) → w ≤ ways plan → places.in_ways (seen (net_of plan) t) w ≡ in_ways plan s w
+  pub same_ways : (w : ℕ) → w ≤ ways plan → places.in_ways (seen (net_of plan) t) w ≡ in_ways plan s w
   same_ways zero h = refl
   same_ways (suc w) h =
       let r = t.receiver w in

@@ -1,0 +1,5 @@
+use Rattle.vc_machine.proofs.Owned.{paths_reach}
+use Rattle.vc_machine.proofs.each_packet_has_its_channel.Goals as goal
+
+pub returns-clause-paths : goal.returns-clause-paths
+returns-clause-paths c = paths_reach
