@@ -1,4 +1,4 @@
--- A node that is built of its parts is the plan's, and begins.
+-- An actor that is built of its parts is the plan's, and begins.
 use Rattle.std.proofs.Common.{◌≡◌, ◌⊎◌, ℕ, zero, suc, ◌+◌, ◌<◌, Bool, true, false, ◌==◌, List, [], ◌∷◌, ◌++◌, length, nat_lt, slice_get, Option, Some, None, IsSome, refl, sym, ap, subst, ◌∙◌, arith, inl, inr, if◌then◌else◌, eq-eqb, eqb-true}
 use Rattle.std.proofs.lemmas.Bool.{cases_eq, ne_eqb}
 use Rattle.std.proofs.lemmas.Bool.Decides.{nat_tests}
@@ -29,17 +29,17 @@ use Rattle.vc_network.specs.Network.{IsNode, IsSwitch, first}
 use Rattle.vc_switch.specs.Switch.{new_switch}
 use Rattle.vc_network.specs.Plan as network
 use Rattle.vc_accepted.specs.Given.{ends_of_node}
-use Rattle.vc_accepted.specs.NetworkOf.{network_of, home_of, home_in}
+use Rattle.vc_accepted.specs.NetworkOf.{network_of, switch_of, home_of, home_in}
+use Rattle.vc_plan.specs.declared.switch_plan.SwitchPlan.{SwitchPlan}
+use Rattle.vc_switch.specs.State.{State as SwitchState}
 use Rattle.vc_accepted.proofs.Giving.{given_ends, given_distinct}
-use Rattle.vc_accepted.proofs.Listed.{made, made_or}
-use Rattle.vc_core.specs.Begin.{BeginsAs}
-use Rattle.vc_told.specs.Begin.{begin_of, no_node, node_plan, numbers_inside}
+use Rattle.vc_accepted.proofs.Listed.{made, made_or, made_at}
+use Rattle.vc_core.specs.Begin.{BeginsAs, AreFirst, IsBuilt}
+use Rattle.vc_told.specs.Begin.{begin_of, is_inside, no_node, node_plan, numbers_inside}
 use Rattle.vc_core.specs.Inside.{opened_inside, opened_internal}
-use Rattle.vc_told.specs.Begin.{is_inside}
 use Rattle.vc_core.specs.OfPlan.{AreInside, InStep}
 use Rattle.vc_told.specs.Process.{Process}
-use Rattle.vc_core.specs.Shown.{node_of, view_of, views_of, process_of}
-use Rattle.vc_core.specs.declared.actor.Actor.{Actor as Acting}
+use Rattle.vc_core.specs.Shown.{Acting, OfNode, OfSwitch, node_of, view_of, views_of, process_of}
 use Rattle.vc_core.specs.declared.inside.Internal.{Internal}
 use Rattle.vc_core.specs.declared.node.Node.{Node}
 use Rattle.vc_core.proofs.Insides.{name}
@@ -161,16 +161,19 @@ pub record IsMade (p : Plan) (k : ℕ) (node : NodePlan) (es : List Given) (n : 
   pub channels : inner_channels n.process ≡ among (numbers_inside k 0 p.channels)
   pub inside : n.inside ≡ opened_inside k 0 p.channels
 
-pub begins : (p : Plan) → IsAccepted p → (k : ℕ) (node : NodePlan) → slice_get p.nodes k ≡ Some node → (es : List Given) (n : Node) → IsMade p k node es n → BeginsAs p k n
+pub begins : (p : Plan) → IsAccepted p → (k : ℕ) (node : NodePlan) → slice_get p.nodes k ≡ Some node → (es : List Given) (n : Node) → IsMade p k node es n → BeginsAs p k (OfNode n)
 begins p acc k node there es n m = record {
-  is = record {
-    ends = m.ends ∙ ap ends_given m.given ∙ given_ends p acc k;
-    names = m.names (subst AreDistinct (sym m.given) (given_distinct p acc k));
-    limit = m.limit;
-    inside = subst (AreInside (network_of p) k) (sym m.inside) (inside_is p k less);
-    in_step = rests (seen n.vcp).carrier (process_of n.process) (ap (λ (z : Vcp). z.carrier) m.shows);
-    own = subst OwnSites (sym (ap (λ (z : State). z.rest) m.starts)) (at_first node.process);
-  };
+  is = (
+    less,
+    record {
+      ends = m.ends ∙ ap ends_given m.given ∙ given_ends p acc k;
+      names = m.names (subst AreDistinct (sym m.given) (given_distinct p acc k));
+      limit = m.limit;
+      inside = subst (AreInside (network_of p) k) (sym m.inside) (inside_is p k less);
+      in_step = rests (seen n.vcp).carrier (process_of n.process) (ap (λ (z : Vcp). z.carrier) m.shows);
+      own = subst OwnSites (sym (ap (λ (z : State). z.rest) m.starts)) (at_first node.process);
+    },
+  );
   first = ap IsNode shown ∙ sym (first_is p k less);
 }
   where
@@ -206,9 +209,28 @@ longer (y ∷ ys) x = let e = longer ys x in omega arith
 pub one_longer : (k : ℕ) (xs new : List Acting) (a : Acting) → length xs ≡ k → new ≡ xs ++ a ∷ [] → length new ≡ k + 1
 one_longer k xs new a long is = ap length is ∙ longer xs a ∙ ap (λ n. n + 1) long
 
-pub one_more : (p : Plan) (k : ℕ) (xs new : List Acting) (a : Acting) → length xs ≡ k → new ≡ xs ++ a ∷ [] → BeginsAs p k a.node →
-    ((i : ℕ) (b : Acting) → slice_get xs i ≡ Some b → BeginsAs p i b.node) → (i : ℕ) (b : Acting) → slice_get new i ≡ Some b → BeginsAs p i b.node
+pub one_more : (p : Plan) (k : ℕ) (xs new : List Acting) (a : Acting) → length xs ≡ k → new ≡ xs ++ a ∷ [] → BeginsAs p k a →
+    ((i : ℕ) (b : Acting) → slice_get xs i ≡ Some b → BeginsAs p i b) → (i : ℕ) (b : Acting) → slice_get new i ≡ Some b → BeginsAs p i b
 one_more p k xs new a long is begins before i b e = elim (at_last xs a i b (sym (ap (λ z. slice_get z i) is) ∙ e)) [
   | inl h ↦ before i b h
-  | inr h ↦ (let same : k ≡ i = sym long ∙ sym h.0 in subst (λ z. BeginsAs p z b.node) same (subst (λ (z : Acting). BeginsAs p k z.node) h.1 begins))
+  | inr h ↦ (let same : k ≡ i = sym long ∙ sym h.0 in subst (λ z. BeginsAs p z b) same (subst (BeginsAs p k) h.1 begins))
 ]
+
+-- the first so many actors, and one more
+pub first_more : (p : Plan) (k : ℕ) (xs new : List Acting) (a : Acting) → new ≡ xs ++ a ∷ [] → BeginsAs p k a → AreFirst p k xs → AreFirst p (k + 1) new
+first_more p k xs new a is begins first = record { count = one_longer k xs new a first.count is; each = one_more p k xs new a first.count is begins first.each }
+
+-- no actor yet
+pub none_yet : (p : Plan) (xs : List Acting) → xs ≡ [] → AreFirst p 0 xs
+none_yet p [] e = record { count = refl; each = λ k a h. absurd (cc) }
+none_yet p (x ∷ xs) e = absurd (cc)
+
+-- a switch that is built is the plan's, and begins
+not_less : (n i : ℕ) → nat_lt (n + i) n ≡ false
+not_less n i = grind (arith, nat_tests)
+
+pub switch_begins : (p : Plan) (i : ℕ) (given : SwitchPlan) (s : SwitchState) → slice_get p.switches i ≡ Some given → IsBuilt given (network.body_limit (network_of p)) s → BeginsAs p (length p.nodes + i) (OfSwitch s)
+switch_begins p i given s there built = record {
+  is = (i, refl, record { given = built.plan ∙ sym (made_at switch_of p.switches i _ given there); limit = built.limit });
+  first = ap IsSwitch built.empty ∙ sym (ap (λ (b : Bool). if b then IsNode (record { vcp = new_vcp; process = begin_of p (length p.nodes + i); inner = λ c. nothing_yet }) else IsSwitch new_switch) (not_less (length p.nodes) i));
+}

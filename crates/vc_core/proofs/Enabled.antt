@@ -1,5 +1,5 @@
--- An event has a step of the definitions where its node has the act and its ways let it, and only there.
-use Rattle.std.proofs.Common.{◌≡◌, ℕ, zero, suc, ◌/◌, ◌%◌, ◌+◌, ◌*◌, ◌<◌, nat_lt, Bool, true, false, ◌&&◌, List, [], ◌∷◌, ◌++◌, length, slice_get, Option, Some, None, refl, sym, ap, ◌∙◌, subst, arith, append-nil, if◌then◌else◌, ◌==◌, eq-eqb}
+-- An event has a step of the definitions where its actor has the act and its ways let it, and only there.
+use Rattle.std.proofs.Common.{◌≡◌, ℕ, zero, suc, ◌+◌, ◌-◌, ◌/◌, ◌%◌, ◌<◌, ◌≤◌, Bool, true, false, ◌&&◌, List, [], ◌∷◌, ◌++◌, length, slice_get, Option, Some, None, refl, sym, ap, ◌∙◌, subst, arith, append-nil, if◌then◌else◌, ◌==◌, eq-eqb}
 use Rattle.std.proofs.lemmas.Bool.Decides.{nat_tests}
 use Rattle.std.specs.List.{list_all}
 use Rattle.std.specs.Option.{option_map}
@@ -10,119 +10,136 @@ use Rattle.vc_accepted.proofs.Crossing.{wire_is}
 use Rattle.vc_accepted.proofs.Limited.{kept}
 use Rattle.vc_accepted.proofs.Listed.{both, there}
 use Rattle.vc_accepted.proofs.Ported.{side_of}
-use Rattle.vc_accepted.proofs.Wired.{outgoing_is, incoming_is}
-use Rattle.vc_machine.specs.Paths.{AtNode}
+use Rattle.vc_accepted.proofs.Wired.{wired, outgoing_is, incoming_is}
+use Rattle.vc_machine.specs.Paths.{AtNode, AtSwitch}
 use Rattle.vc_network.specs.Enabled.{IsEnabled}
 use Rattle.vc_network.specs.Network as net
-use Rattle.vc_network.specs.Plan.{IsOutOf, IsInto, back}
+use Rattle.vc_network.specs.Plan.{IsOutOf, IsInto, back, switch_plan}
 use Rattle.vc_network.specs.Plan as network
 use Rattle.vc_network.proofs.Backs.{back_out}
 use Rattle.vc_network.proofs.Writes.{own_step, take_step, put_step}
 use Rattle.vc_plan.proofs.Limited.{passes}
 use Rattle.vc_plan.specs.Accepted.{IsAccepted, port_of}
-use Rattle.vc_plan.specs.Limits.{link_ok, port_ok, wire_ok, ends_ok, switch_links_ok}
+use Rattle.vc_plan.specs.Limits.{link_ok, port_ok, wire_ok, ends_ok, switch_links_ok, spot_there}
 use Rattle.vc_plan.specs.declared.plan.Plan.{Plan}
 use Rattle.vc_plan.specs.declared.port.Spot.{Spot}
 use Rattle.vc_plan.specs.declared.port.Spot.TheVariants.{Node as AtSpot, Switch}
 use Rattle.vc_plan.specs.declared.port.Wire.{Wire}
+use Rattle.vc_switch.specs.State.{State as SwitchState, plan_of, limit_of}
+use Rattle.vc_switch.specs.Seen.{seen as seen_switch}
+use Rattle.vc_switch.specs.Switch.{Switch as Switching, new_switch, Passes, Routes, Sends}
 use Rattle.vc_switch.specs.Waiting.{Wormhole}
+use Rattle.vc_switch.proofs.Stepping.{each_comes}
 use Rattle.vc_tokens.specs.Tokens.{Token}
 use Rattle.vc_tokens.specs.Tokens as tokens
 use Rattle.vc_vcp.specs.Keyed.{shown_or}
 use Rattle.vc_vcp.specs.Seen.{seen}
 use Rattle.vc_vcp.proofs.Arriving.{comes_always}
-use Rattle.vc_core.specs.Able.{CanAct}
+use Rattle.vc_core.specs.Able.{NodeCan, SwitchCan, CanAct}
+use Rattle.vc_core.specs.Acting.{port}
 use Rattle.vc_core.specs.Enabled.{CanHappen}
+use Rattle.vc_core.specs.OfPlan.{IsSwitchOf, IsActorOf}
 use Rattle.vc_told.specs.Process.{Process, does}
-use Rattle.vc_core.specs.Shown.{node_of, process_of, views_of, act_of}
-use Rattle.vc_core.specs.Wired.{there as places}
+use Rattle.vc_core.specs.Shown.{Acting, OfNode, OfSwitch, actor_of, node_of, process_of, views_of, act_of}
 use Rattle.vc_core.specs.State.{State, shown, IsNetworkOf, HasFront, HasWay, WaysLet}
+use Rattle.vc_core.specs.Turns.{actors}
 use Rattle.vc_core.specs.declared.act.Act.{Act}
 use Rattle.vc_core.specs.declared.act.Act.TheVariants as act
 use Rattle.vc_core.specs.declared.act.Event.{Event}
-use Rattle.vc_core.specs.declared.actor.Actor.{Actor}
 use Rattle.vc_core.specs.declared.node.Node.{Node}
 use Rattle.vc_core.proofs.GoingOn.{goes_on}
-use Rattle.vc_core.proofs.Happening.{below, at_node, state_at, way_at, out_of}
+use Rattle.vc_core.proofs.Happening.{none_past, state_at, way_at, into, out_of}
+use Rattle.vc_core.proofs.Linking as node
 use Rattle.vc_core.proofs.Passing.{awaited}
+use Rattle.vc_core.proofs.Switching.{none_passes, none_leaves}
+use Rattle.vc_core.proofs.Switching as switching
 
 abbrev Enabled : Plan → State → ℕ → Act → Type 0
 Enabled p s k a = IsEnabled (network_of p) Wormhole does (shown s) (record { actor = k; act = act_of a })
 
--- a step of the node is one of its actor
-local : (p : Plan) (s : State) (k : ℕ) (a : Actor) (label : Label net.Act Token) (u : net.Node Process) → IsNetworkOf p s → slice_get s.actors k ≡ Some a → net.NodeStep (network_of p) does k (node_of a.node) label u →
-    net.Local (network_of p) Wormhole does k ((shown s).state k) label (net.IsNode u)
-local p s k a label u is here step = subst (λ z. net.Local (network_of p) Wormhole does k z label (net.IsNode u)) (sym (state_at s k a here)) (below p s k a is here, step)
+-- a step of the actor, to some state
+abbrev Steps : Plan → ℕ → Acting → Label net.Act Token → net.Actor Process → Type 0
+Steps p k a label u = net.Local (network_of p) Wormhole does k (actor_of a) label u
 
-own_enabled : (p : Plan) (s : State) (k : ℕ) (b : Act) (a : Actor) (u : net.Node Process) → IsNetworkOf p s → slice_get s.actors k ≡ Some a → net.NodeStep (network_of p) does k (node_of a.node) (Own (act_of b)) u → Enabled p s k b
-own_enabled p s k b a u is here step =
-    (_, (Own (act_of b), refl, own_step (net.Local (network_of p) Wormhole does) (shown s) k (act_of b) (net.IsNode u) (local p s k a (Own (act_of b)) u is here step)))
+module _ (p : Plan) (s : State) (k : ℕ) (a : Acting) (is : IsNetworkOf p s) (here : slice_get s.actors k ≡ Some a) where
+  local : (label : Label net.Act Token) (u : net.Actor Process) → Steps p k a label u → net.Local (network_of p) Wormhole does k ((shown s).state k) label u
+  local label u step = subst (λ z. net.Local (network_of p) Wormhole does k z label u) (sym (state_at s k a here)) step
 
--- by a link past the places of the table nothing comes
-pub front_few : (s : State) (k l : ℕ) → HasFront s k l → l < 32
-front_few s k l f = by_test (nat_lt l 32) refl f.into
-  where
-    place : Option ℕ
-    place = places (slice_get s.wiring (k * 32 + l))
+  own_enabled : (b : Act) (u : net.Actor Process) → Steps p k a (Own (act_of b)) u → Enabled p s k b
+  own_enabled b u step = (_, (Own (act_of b), refl, own_step (net.Local (network_of p) Wormhole does) (shown s) k (act_of b) u (local (Own (act_of b)) u step)))
 
-    by_test : (b : Bool) → nat_lt l 32 ≡ b → option_map back (if b then place else None) ≡ Some f.way → l < 32
-    by_test true t e = grind (arith, nat_tests)
-    by_test false t e = absurd (cc)
+  take_enabled : (l x : ℕ) (f : HasFront s k l) (u : net.Actor Process) → Steps p k a (Takes (net.Take l x) f.way f.token) u → Enabled p s k (act.Take l x)
+  take_enabled l x f u step =
+      let label = Takes (net.Take l x) f.way f.token in
+      (_, (label, refl, take_step (net.Local (network_of p) Wormhole does) (shown s) k (net.Take l x) f.way f.token f.rest u (way_at s f.way (f.token ∷ f.rest) f.stands) (local label u step)))
 
--- the way that comes in by a node's link
-into : (p : Plan) (s : State) (k l : ℕ) (a : Actor) (f : HasFront s k l) → IsNetworkOf p s → slice_get s.actors k ≡ Some a → IsInto (network_of p) f.way (AtNode k l)
-into p s k l a f is here =
-    let node = below p s k a is here in
-    subst (IsInto (network_of p) f.way) (at_node p k l node) ((incoming_is p is.accepted k l f.way).0 (sym (ap (option_map back) (is.wiring k l node (front_few s k l f))) ∙ f.into))
+  put_enabled : (b : Act) (w : ℕ) (t : Token) (u : net.Actor Process) → Steps p k a (Puts (act_of b) w t) u → Enabled p s k b
+  put_enabled b w t u step =
+      let label = Puts (act_of b) w t in
+      (_, (label, refl, put_step (net.Local (network_of p) Wormhole does) (shown s) k (act_of b) w t u (local label u step)))
 
-pub enables : (p : Plan) (s : State) (k : ℕ) (b : Act) (a : Actor) → IsNetworkOf p s → slice_get s.actors k ≡ Some a → CanAct (network_of p) k a.node b → WaysLet s k b → Enabled p s k b
-enables p s k (act.Proc m) a is here can ways = own_enabled p s k (act.Proc m) a can.0 is here can.1
-enables p s k (act.Take l x) a is here few f =
-    let c = comes_always (seen a.node.vcp) l f.token in
-    let u : net.Node Process = record (node_of a.node) { vcp = c.0 } in
-    let label = Takes (net.Take l x) f.way f.token in (
-      _,
-      (
-        label,
-        refl,
-        take_step (net.Local (network_of p) Wormhole does) (shown s) k (net.Take l x) f.way f.token f.rest (net.IsNode u) (way_at s f.way (f.token ∷ f.rest) f.stands)
-            (local p s k a label u is here (into p s k l a f is here, c.1, record { process = refl; inner = refl })),
-      ),
-    )
-enables p s k (act.Put l) a is here can f =
-    let u : net.Node Process = record (node_of a.node) { vcp = can.1.new } in
-    let label = Puts (net.Put l) f.way can.1.token in (
-      _,
-      (
-        label,
-        refl,
-        put_step (net.Local (network_of p) Wormhole does) (shown s) k (net.Put l) f.way can.1.token (net.IsNode u)
-            (local p s k a label u is here (out_of p s k l a f can.0 is here, can.1.sends, record { process = refl; inner = refl })),
-      ),
-    )
-enables p s k (act.Fct l) a is here can f =
-    let u : net.Node Process = record (node_of a.node) { vcp = can.1.0 } in
-    let label = Puts (net.Fct l) f.way tokens.Fct in (
-      _,
-      (
-        label,
-        refl,
-        put_step (net.Local (network_of p) Wormhole does) (shown s) k (net.Fct l) f.way tokens.Fct (net.IsNode u)
-            (local p s k a label u is here (out_of p s k l a f can.0 is here, refl, can.1.1, record { process = refl; inner = refl })),
-      ),
-    )
-enables p s k (act.Pass l) a is here can ways =
-    let n = is.nodes k a here in
-    let g = goes_on (process_of a.node.process) can.taken (awaited (network.body_limit (network_of p)) (network.ends (network_of p) k) (seen a.node.vcp) can.new l can.taken (process_of a.node.process) can.passes n.in_step) in
-    own_enabled p s k (act.Pass l) a (record { vcp = can.new; process = g.0; inner = views_of a.node.inside }) is here (can.taken, can.passes, g.1, refl)
-enables p s k (act.Route i o) a is here can ways = absurd can
+-- a node's acts
+node_enables : (p : Plan) (s : State) (k : ℕ) (b : Act) (n : Node) → IsNetworkOf p s → slice_get s.actors k ≡ Some (OfNode n) → NodeCan (network_of p) k n b → WaysLet s k b → Enabled p s k b
+node_enables p s k (act.Proc m) n is here can ways = own_enabled p s k (OfNode n) is here (act.Proc m) (net.IsNode can.0) ((is.actors k (OfNode n) here).0, can.1)
+node_enables p s k (act.Take l x) n is here few f =
+    let less = (is.actors k (OfNode n) here).0 in
+    let c = comes_always (seen n.vcp) l f.token in
+    take_enabled p s k (OfNode n) is here l x f (net.IsNode (record (node_of n) { vcp = c.0 }))
+    (less, (subst (IsInto (network_of p) f.way) (node.port_is (network_of p) k l less) (into p s k l f is), c.1, record { process = refl; inner = refl }))
+node_enables p s k (act.Put l) n is here can f =
+    let less = (is.actors k (OfNode n) here).0 in
+    put_enabled p s k (OfNode n) is here (act.Put l) f.way can.1.token (net.IsNode (record (node_of n) { vcp = can.1.new }))
+    (less, (subst (IsOutOf (network_of p) f.way) (node.port_is (network_of p) k l less) (out_of p s k l f is), can.1.sends, record { process = refl; inner = refl }))
+node_enables p s k (act.Fct l) n is here can f =
+    let less = (is.actors k (OfNode n) here).0 in
+    put_enabled p s k (OfNode n) is here (act.Fct l) f.way tokens.Fct (net.IsNode (record (node_of n) { vcp = can.1.0 }))
+    (less, (subst (IsOutOf (network_of p) f.way) (node.port_is (network_of p) k l less) (out_of p s k l f is), refl, can.1.1, record { process = refl; inner = refl }))
+node_enables p s k (act.Pass l) n is here can ways =
+    let of = is.actors k (OfNode n) here in
+    let g = goes_on (process_of n.process) can.taken (awaited (network.body_limit (network_of p)) (network.ends (network_of p) k) (seen n.vcp) can.new l can.taken (process_of n.process) can.passes of.1.in_step) in
+    own_enabled p s k (OfNode n) is here (act.Pass l) (net.IsNode (record { vcp = can.new; process = g.0; inner = views_of n.inside })) (of.0, (can.taken, can.passes, g.1, refl))
+node_enables p s k (act.Route i o) n is here can ways = absurd can
+
+-- a switch's acts
+switch_enables : (p : Plan) (s : State) (k : ℕ) (b : Act) (x : SwitchState) → IsNetworkOf p s → slice_get s.actors k ≡ Some (OfSwitch x) → SwitchCan x b → WaysLet s k b → Enabled p s k b
+switch_enables p s k (act.Proc m) x is here can ways = absurd can
+switch_enables p s k (act.Take l w) x is here few f =
+    let (i, at, of) = is.actors k (OfSwitch x) here in
+    let c = each_comes (seen_switch x) l w f.token in
+    take_enabled p s k (OfSwitch x) is here l w f (net.IsSwitch c.0) (i, at, (subst (IsInto (network_of p) f.way) (switching.port_is (network_of p) k i l at) (into p s k l f is), c.1))
+switch_enables p s k (act.Put l) x is here can f =
+    let (i, at, of) = is.actors k (OfSwitch x) here in
+    put_enabled p s k (OfSwitch x) is here (act.Put l) f.way can.token (net.IsSwitch can.new)
+    (i, at, (subst (IsOutOf (network_of p) f.way) (switching.port_is (network_of p) k i l at) (out_of p s k l f is), subst (λ q. Sends q Wormhole (seen_switch x) l can.token can.new) of.given can.sends))
+switch_enables p s k (act.Fct l) x is here can f =
+    let (i, at, of) = is.actors k (OfSwitch x) here in
+    put_enabled p s k (OfSwitch x) is here (act.Fct l) f.way tokens.Fct (net.IsSwitch can.1.0)
+    (i, at, (subst (IsOutOf (network_of p) f.way) (switching.port_is (network_of p) k i l at) (out_of p s k l f is), refl, can.1.1))
+switch_enables p s k (act.Pass l) x is here can ways =
+    let (i, at, of) = is.actors k (OfSwitch x) here in
+    own_enabled p s k (OfSwitch x) is here (act.Pass l) (net.IsSwitch can.0)
+    (i, at, subst (λ m. Passes m (switch_plan (network_of p) i) (seen_switch x) l can.0) of.limit (subst (λ q. Passes (limit_of x.inputs) q (seen_switch x) l can.0) of.given can.1))
+switch_enables p s k (act.Route l o) x is here can ways =
+    let (i, at, of) = is.actors k (OfSwitch x) here in
+    own_enabled p s k (OfSwitch x) is here (act.Route l o) (net.IsSwitch can.0) (i, at, subst (λ q. Routes q Wormhole (seen_switch x) l o can.0) of.given can.1)
+
+pub enables : (p : Plan) (s : State) (k : ℕ) (b : Act) (a : Acting) → IsNetworkOf p s → slice_get s.actors k ≡ Some a → CanAct (network_of p) k a b → WaysLet s k b → Enabled p s k b
+enables p s k b (OfNode n) is here can ways = node_enables p s k b n is here can ways
+enables p s k b (OfSwitch x) is here can ways = switch_enables p s k b x is here can ways
 
 -- The other way round.
 
--- a node has four links
+-- a node has four links, and a switch of the plan 32
 few_at : (s : Spot) (link k l : ℕ) → port_at s link ≡ AtNode k l → link_ok s link ≡ true → l < 4
 few_at (AtSpot n) link k l at ok = let same : link ≡ l = cc in grind (arith, nat_tests)
 few_at (Switch n) link k l at ok = absurd (cc)
+
+there_at : (p : Plan) (s : Spot) (link i l : ℕ) → port_at s link ≡ AtSwitch i l → link_ok s link ≡ true → spot_there p s ≡ true → (i < length p.switches) × (l < 32)
+there_at p (AtSpot n) link i l at ok real = absurd (cc)
+there_at p (Switch n) link i l at ok real =
+    let same : link ≡ l = cc in
+    let it : n ≡ i = cc in
+    (subst (λ z. z < length p.switches) it (grind (arith, nat_tests)), subst (λ z. z < 32) same (grind (arith, nat_tests)))
 
 port_fits : (p : Plan) → IsAccepted p → (i : ℕ) (w : Wire) (side : Bool) → slice_get p.wires i ≡ Some w → port_ok (port_of w side) ≡ true
 port_fits p acc i w side e = by_side side (both (port_ok w.one) (port_ok w.two) ok)
@@ -146,9 +163,24 @@ few_out p acc w k l o = settle (there wire_of p.wires (w / 2) (let r = o.0 in om
 few_into : (p : Plan) → IsAccepted p → (w k l : ℕ) → IsInto (network_of p) w (AtNode k l) → l < 4
 few_into p acc w k l o = few_out p acc (back w) k l (back_out (network_of p) w (AtNode k l) o)
 
+real_out : (p : Plan) → IsAccepted p → (w i l : ℕ) → IsOutOf (network_of p) w (AtSwitch i l) → (i < length p.switches) × (l < 32)
+real_out p acc w i l o = settle (there wire_of p.wires (w / 2) (let r = o.0 in omega arith))
+  where
+    settle : (x : Wire) × (slice_get p.wires (w / 2) ≡ Some x) → (i < length p.switches) × (l < 32)
+    settle (x, e) =
+        let side = w % 2 == 0 in
+        let port = port_of x side in
+        there_at p port.spot port.link i l (sym (side_of x side) ∙ ap (λ z. network.port_of z side) (sym (wire_is p (w / 2) x e)) ∙ o.1) (port_fits p acc (w / 2) x side e) (wired p acc (w / 2) x side e)
+
+real_into : (p : Plan) → IsAccepted p → (w i l : ℕ) → IsInto (network_of p) w (AtSwitch i l) → (i < length p.switches) × (l < 32)
+real_into p acc w i l o = real_out p acc (back w) i l (back_out (network_of p) w (AtSwitch i l) o)
+
 -- where a token comes it can be taken
-pub can_take : (p : Plan) (s : State) (k l : ℕ) (a : Actor) → HasFront s k l → IsNetworkOf p s → slice_get s.actors k ≡ Some a → l < 4
-can_take p s k l a f is here = few_into p is.accepted f.way k l (into p s k l a f is here)
+pub can_take : (p : Plan) (s : State) (k l x : ℕ) (a : Acting) → HasFront s k l → IsNetworkOf p s → slice_get s.actors k ≡ Some a → CanAct (network_of p) k a (act.Take l x)
+can_take p s k l x (OfNode n) f is here = few_into p is.accepted f.way k l (subst (IsInto (network_of p) f.way) (node.port_is (network_of p) k l (is.actors k (OfNode n) here).0) (into p s k l f is))
+can_take p s k l x (OfSwitch y) f is here =
+    let (i, at, of) = is.actors k (OfSwitch y) here in
+    (real_into p is.accepted f.way i l (subst (IsInto (network_of p) f.way) (switching.port_is (network_of p) k i l at) (into p s k l f is))).1
 
 -- what stands on a way stands there for the code too
 stands_by : (o : Option (List Token)) (t : Token) (rest : List Token) → shown_or [] (λ ts. ts) o ≡ t ∷ rest → o ≡ Some (t ∷ rest)
@@ -160,97 +192,164 @@ has [] i h = absurd (omega arith)
 has (x ∷ xs) zero h = (x, refl)
 has (x ∷ xs) (suc i) h = has xs i (omega arith)
 
-has_way : (p : Plan) (s : State) (k l w : ℕ) (a : Actor) → IsNetworkOf p s → slice_get s.actors k ≡ Some a → IsOutOf (network_of p) w (AtNode k l) → HasWay s k l
-has_way p s k l w a is here o =
-    let node = below p s k a is here in
-    let few = few_out p is.accepted w k l o in
+has_way : (p : Plan) (s : State) (k l w : ℕ) → IsNetworkOf p s → IsOutOf (network_of p) w (port (network_of p) k l) → HasWay s k l
+has_way p s k l w is o =
     let t = has s.ways w (subst (λ z. w < z) (sym is.ways) o.0) in
-    record {
-      way = w;
-      tokens = t.0;
-      out = is.wiring k l node (omega arith) ∙ (outgoing_is p is.accepted k l w).1 (subst (IsOutOf (network_of p) w) (sym (at_node p k l node)) o);
-      stand = t.1;
-    }
+    record { way = w; tokens = t.0; out = is.wiring k l ∙ (outgoing_is p is.accepted k l w).1 o; stand = t.1 }
 
-has_front : (p : Plan) (s : State) (k l w : ℕ) (t : Token) (rest : List Token) (a : Actor) → IsNetworkOf p s → slice_get s.actors k ≡ Some a → IsInto (network_of p) w (AtNode k l) → (shown s).way w ≡ t ∷ rest → HasFront s k l
-has_front p s k l w t rest a is here o front =
-    let node = below p s k a is here in
-    let few = few_into p is.accepted w k l o in
-    record {
-      way = w;
-      token = t;
-      rest = rest;
-      into = ap (option_map back) (is.wiring k l node (omega arith)) ∙ (incoming_is p is.accepted k l w).1 (subst (IsInto (network_of p) w) (sym (at_node p k l node)) o);
-      stands = stands_by (slice_get s.ways w) t rest front;
-    }
+has_front : (p : Plan) (s : State) (k l w : ℕ) (t : Token) (rest : List Token) → IsNetworkOf p s → IsInto (network_of p) w (port (network_of p) k l) → (shown s).way w ≡ t ∷ rest → HasFront s k l
+has_front p s k l w t rest is o front =
+    record { way = w; token = t; rest = rest; into = ap (option_map back) (is.wiring k l) ∙ (incoming_is p is.accepted k l w).1 o; stands = stands_by (slice_get s.ways w) t rest front }
 
--- the node has the act, and its ways let it
-record Lets (p : Plan) (s : State) (k : ℕ) (b : Act) (a : Actor) : Type 0 where
-  can : CanAct (network_of p) k a.node b
+-- the actor has the act, and its ways let it
+record Lets (p : Plan) (s : State) (k : ℕ) (b : Act) (a : Acting) : Type 0 where
+  can : CanAct (network_of p) k a b
   ways : WaysLet s k b
 
-own_lets : (p : Plan) (s : State) (k : ℕ) (b : Act) (a : Actor) (u : net.Node Process) → net.NodeStep (network_of p) does k (node_of a.node) (Own (act_of b)) u → Lets p s k b a
-own_lets p s k (act.Proc m) a u h = record { can = (u, h); ways = tt }
-own_lets p s k (act.Pass l) a u h = record { can = record { taken = h.0; new = u.vcp; passes = h.1 }; ways = tt }
-own_lets p s k (act.Take l x) a u h = absurd h
-own_lets p s k (act.Put l) a u h = absurd h
-own_lets p s k (act.Fct l) a u h = absurd h
-own_lets p s k (act.Route i o) a u h = absurd h
+node_own : (p : Plan) (s : State) (k : ℕ) (b : Act) (n : Node) (u : net.Node Process) → net.NodeStep (network_of p) does k (node_of n) (Own (act_of b)) u → Lets p s k b (OfNode n)
+node_own p s k (act.Proc m) n u h = record { can = (u, h); ways = tt }
+node_own p s k (act.Pass l) n u h = record { can = record { taken = h.0; new = u.vcp; passes = h.1 }; ways = tt }
+node_own p s k (act.Take l x) n u h = absurd h
+node_own p s k (act.Put l) n u h = absurd h
+node_own p s k (act.Fct l) n u h = absurd h
+node_own p s k (act.Route i o) n u h = absurd h
 
-take_lets : (p : Plan) (s : State) (k : ℕ) (b : Act) (a : Actor) (w : ℕ) (t : Token) (rest : List Token) (u : net.Node Process) → IsNetworkOf p s → slice_get s.actors k ≡ Some a → (shown s).way w ≡ t ∷ rest →
-    net.NodeStep (network_of p) does k (node_of a.node) (Takes (act_of b) w t) u → Lets p s k b a
-take_lets p s k (act.Take l x) a w t rest u is here front h = record { can = few_into p is.accepted w k l h.0; ways = has_front p s k l w t rest a is here h.0 front }
-take_lets p s k (act.Proc m) a w t rest u is here front h = absurd h
-take_lets p s k (act.Pass l) a w t rest u is here front h = absurd h
-take_lets p s k (act.Put l) a w t rest u is here front h = absurd h
-take_lets p s k (act.Fct l) a w t rest u is here front h = absurd h
-take_lets p s k (act.Route i o) a w t rest u is here front h = absurd h
+node_take : (p : Plan) (s : State) (k : ℕ) (b : Act) (n : Node) (w : ℕ) (t : Token) (rest : List Token) (u : net.Node Process) → IsNetworkOf p s → k < length p.nodes → (shown s).way w ≡ t ∷ rest →
+    net.NodeStep (network_of p) does k (node_of n) (Takes (act_of b) w t) u → Lets p s k b (OfNode n)
+node_take p s k (act.Take l x) n w t rest u is less front h =
+    record { can = few_into p is.accepted w k l h.0; ways = has_front p s k l w t rest is (subst (IsInto (network_of p) w) (sym (node.port_is (network_of p) k l less)) h.0) front }
+node_take p s k (act.Proc m) n w t rest u is less front h = absurd h
+node_take p s k (act.Pass l) n w t rest u is less front h = absurd h
+node_take p s k (act.Put l) n w t rest u is less front h = absurd h
+node_take p s k (act.Fct l) n w t rest u is less front h = absurd h
+node_take p s k (act.Route i o) n w t rest u is less front h = absurd h
 
-put_lets : (p : Plan) (s : State) (k : ℕ) (b : Act) (a : Actor) (w : ℕ) (t : Token) (u : net.Node Process) → IsNetworkOf p s → slice_get s.actors k ≡ Some a →
-    net.NodeStep (network_of p) does k (node_of a.node) (Puts (act_of b) w t) u → Lets p s k b a
-put_lets p s k (act.Put l) a w t u is here h = record { can = (few_out p is.accepted w k l h.0, record { token = t; new = u.vcp; sends = h.1 }); ways = has_way p s k l w a is here h.0 }
-put_lets p s k (act.Fct l) a w t u is here h = record { can = (few_out p is.accepted w k l h.0, (u.vcp, h.2)); ways = has_way p s k l w a is here h.0 }
-put_lets p s k (act.Proc m) a w t u is here h = absurd h
-put_lets p s k (act.Pass l) a w t u is here h = absurd h
-put_lets p s k (act.Take l x) a w t u is here h = absurd h
-put_lets p s k (act.Route i o) a w t u is here h = absurd h
+node_put : (p : Plan) (s : State) (k : ℕ) (b : Act) (n : Node) (w : ℕ) (t : Token) (u : net.Node Process) → IsNetworkOf p s → k < length p.nodes →
+    net.NodeStep (network_of p) does k (node_of n) (Puts (act_of b) w t) u → Lets p s k b (OfNode n)
+node_put p s k (act.Put l) n w t u is less h =
+    record { can = (few_out p is.accepted w k l h.0, record { token = t; new = u.vcp; sends = h.1 }); ways = has_way p s k l w is (subst (IsOutOf (network_of p) w) (sym (node.port_is (network_of p) k l less)) h.0) }
+node_put p s k (act.Fct l) n w t u is less h =
+    record { can = (few_out p is.accepted w k l h.0, (u.vcp, h.2)); ways = has_way p s k l w is (subst (IsOutOf (network_of p) w) (sym (node.port_is (network_of p) k l less)) h.0) }
+node_put p s k (act.Proc m) n w t u is less h = absurd h
+node_put p s k (act.Pass l) n w t u is less h = absurd h
+node_put p s k (act.Take l x) n w t u is less h = absurd h
+node_put p s k (act.Route i o) n w t u is less h = absurd h
 
--- an actor that is a node makes a node's step
-node_step : (p : Plan) (k : ℕ) (n : Node) (label : Label net.Act Token) (x : net.Actor Process) → net.Local (network_of p) Wormhole does k (net.IsNode (node_of n)) label x → (u : net.Node Process) × net.NodeStep (network_of p) does k (node_of n) label u
-node_step p k n label (net.IsNode u) h = (u, h.1)
-node_step p k n label (net.IsSwitch u) h = absurd h
+-- the number of a switch is one
+one_number : (p : Plan) (k i j : ℕ) → k ≡ length p.nodes + i → k ≡ length p.nodes + j → j ≡ i
+one_number p k i j a b = omega arith
 
-lets : (p : Plan) (s : State) (k : ℕ) (b : Act) (a : Actor) → IsNetworkOf p s → slice_get s.actors k ≡ Some a → Enabled p s k b → Lets p s k b a
+module _ (p : Plan) (s : State) (k i : ℕ) (x : SwitchState) (at : k ≡ length p.nodes + i) (of : IsSwitchOf (network_of p) i x) (is : IsNetworkOf p s) where
+  switch_own : (b : Act) (u : Switching) → net.SwitchStep (network_of p) Wormhole i (seen_switch x) (Own (act_of b)) u → Lets p s k b (OfSwitch x)
+  switch_own (act.Pass l) u h = record { can = (u, subst (λ m. Passes m (plan_of x) (seen_switch x) l u) (sym of.limit) (subst (λ q. Passes (network.body_limit (network_of p)) q (seen_switch x) l u) (sym of.given) h)); ways = tt }
+  switch_own (act.Route l o) u h = record { can = (u, subst (λ q. Routes q Wormhole (seen_switch x) l o u) (sym of.given) h); ways = tt }
+  switch_own (act.Proc m) u h = absurd h
+  switch_own (act.Take l w) u h = absurd h
+  switch_own (act.Put l) u h = absurd h
+  switch_own (act.Fct l) u h = absurd h
+
+  switch_take : (b : Act) (w : ℕ) (t : Token) (rest : List Token) (u : Switching) → (shown s).way w ≡ t ∷ rest → net.SwitchStep (network_of p) Wormhole i (seen_switch x) (Takes (act_of b) w t) u → Lets p s k b (OfSwitch x)
+  switch_take (act.Take l v) w t rest u front h =
+      record { can = (real_into p is.accepted w i l h.0).1; ways = has_front p s k l w t rest is (subst (IsInto (network_of p) w) (sym (switching.port_is (network_of p) k i l at)) h.0) front }
+  switch_take (act.Proc m) w t rest u front h = absurd h
+  switch_take (act.Pass l) w t rest u front h = absurd h
+  switch_take (act.Put l) w t rest u front h = absurd h
+  switch_take (act.Fct l) w t rest u front h = absurd h
+  switch_take (act.Route l o) w t rest u front h = absurd h
+
+  switch_put : (b : Act) (w : ℕ) (t : Token) (u : Switching) → net.SwitchStep (network_of p) Wormhole i (seen_switch x) (Puts (act_of b) w t) u → Lets p s k b (OfSwitch x)
+  switch_put (act.Put l) w t u h =
+      record { can = record { token = t; new = u; sends = subst (λ q. Sends q Wormhole (seen_switch x) l t u) (sym of.given) h.1 }; ways = has_way p s k l w is (subst (IsOutOf (network_of p) w) (sym (switching.port_is (network_of p) k i l at)) h.0) }
+  switch_put (act.Fct l) w t u h =
+      record { can = ((real_out p is.accepted w i l h.0).1, (u, h.2)); ways = has_way p s k l w is (subst (IsOutOf (network_of p) w) (sym (switching.port_is (network_of p) k i l at)) h.0) }
+  switch_put (act.Proc m) w t u h = absurd h
+  switch_put (act.Pass l) w t u h = absurd h
+  switch_put (act.Take l v) w t u h = absurd h
+  switch_put (act.Route l o) w t u h = absurd h
+
+-- an actor's step, by what it is
+own_lets : (p : Plan) (s : State) (k : ℕ) (b : Act) (a : Acting) (u : net.Actor Process) → IsNetworkOf p s → IsActorOf (network_of p) k a → Steps p k a (Own (act_of b)) u → Lets p s k b a
+own_lets p s k b (OfNode n) (net.IsNode u) is of h = node_own p s k b n u h.1
+own_lets p s k b (OfNode n) (net.IsSwitch u) is of h = absurd h
+own_lets p s k b (OfSwitch x) (net.IsNode u) is of h = absurd h
+own_lets p s k b (OfSwitch x) (net.IsSwitch u) is (i, at, of) (j, there, h) = switch_own p s k i x at of is b u (subst (λ z. net.SwitchStep (network_of p) Wormhole z (seen_switch x) (Own (act_of b)) u) (one_number p k i j at there) h)
+
+take_lets : (p : Plan) (s : State) (k : ℕ) (b : Act) (a : Acting) (w : ℕ) (t : Token) (rest : List Token) (u : net.Actor Process) → IsNetworkOf p s → IsActorOf (network_of p) k a → (shown s).way w ≡ t ∷ rest →
+    Steps p k a (Takes (act_of b) w t) u → Lets p s k b a
+take_lets p s k b (OfNode n) w t rest (net.IsNode u) is of front h = node_take p s k b n w t rest u is h.0 front h.1
+take_lets p s k b (OfNode n) w t rest (net.IsSwitch u) is of front h = absurd h
+take_lets p s k b (OfSwitch x) w t rest (net.IsNode u) is of front h = absurd h
+take_lets p s k b (OfSwitch x) w t rest (net.IsSwitch u) is (i, at, of) front (j, there, h) =
+    switch_take p s k i x at of is b w t rest u front (subst (λ z. net.SwitchStep (network_of p) Wormhole z (seen_switch x) (Takes (act_of b) w t) u) (one_number p k i j at there) h)
+
+put_lets : (p : Plan) (s : State) (k : ℕ) (b : Act) (a : Acting) (w : ℕ) (t : Token) (u : net.Actor Process) → IsNetworkOf p s → IsActorOf (network_of p) k a → Steps p k a (Puts (act_of b) w t) u → Lets p s k b a
+put_lets p s k b (OfNode n) w t (net.IsNode u) is of h = node_put p s k b n w t u is h.0 h.1
+put_lets p s k b (OfNode n) w t (net.IsSwitch u) is of h = absurd h
+put_lets p s k b (OfSwitch x) w t (net.IsNode u) is of h = absurd h
+put_lets p s k b (OfSwitch x) w t (net.IsSwitch u) is (i, at, of) (j, there, h) =
+    switch_put p s k i x at of is b w t u (subst (λ z. net.SwitchStep (network_of p) Wormhole z (seen_switch x) (Puts (act_of b) w t) u) (one_number p k i j at there) h)
+
+-- what stood at the front of a way
+front_of : (s : State) (w : ℕ) (t : Token) (after : List Token) → (if w == w then t ∷ [] else []) ++ after ≡ (shown s).way w ++ [] → (shown s).way w ≡ t ∷ after
+front_of s w t after e = sym (append-nil ((shown s).way w)) ∙ sym e ∙ ap (λ z. (if z then t ∷ [] else []) ++ after) (eq-eqb w w refl)
+
+lets : (p : Plan) (s : State) (k : ℕ) (b : Act) (a : Acting) → IsNetworkOf p s → slice_get s.actors k ≡ Some a → Enabled p s k b → Lets p s k b a
 lets p s k b a is here (new, (label, e, step)) = by_label label e step
   where
-    found : (label : Label net.Act Token) → Step (net.Local (network_of p) Wormhole does) (shown s) k label new → (u : net.Node Process) × net.NodeStep (network_of p) does k (node_of a.node) label u
-    found label step = node_step p k a.node label (new.state k) (subst (λ z. net.Local (network_of p) Wormhole does k z label (new.state k)) (state_at s k a here) step.local)
+    found : (label : Label net.Act Token) → Step (net.Local (network_of p) Wormhole does) (shown s) k label new → Steps p k a label (new.state k)
+    found label step = subst (λ z. net.Local (network_of p) Wormhole does k z label (new.state k)) (state_at s k a here) step.local
 
     by_label : (label : Label net.Act Token) → label_act label ≡ act_of b → Step (net.Local (network_of p) Wormhole does) (shown s) k label new → Lets p s k b a
-    by_label (Own c) e step =
-        let f = found (Own c) step in
-        own_lets p s k b a f.0 (subst (λ z. net.NodeStep (network_of p) does k (node_of a.node) (Own z) f.0) e f.1)
+    by_label (Own c) e step = own_lets p s k b a (new.state k) is (is.actors k a here) (subst (λ z. Steps p k a (Own z) (new.state k)) e (found (Own c) step))
     by_label (Takes c w t) e step =
-        let f = found (Takes c w t) step in
-        let front : (shown s).way w ≡ t ∷ new.way w = sym (append-nil ((shown s).way w)) ∙ sym (step.ways w) ∙ ap (λ z. (if z then t ∷ [] else []) ++ new.way w) (eq-eqb w w refl) in
-        take_lets p s k b a w t (new.way w) f.0 is here front (subst (λ z. net.NodeStep (network_of p) does k (node_of a.node) (Takes z w t) f.0) e f.1)
-    by_label (Puts c w t) e step =
-        let f = found (Puts c w t) step in
-        put_lets p s k b a w t f.0 is here (subst (λ z. net.NodeStep (network_of p) does k (node_of a.node) (Puts z w t) f.0) e f.1)
+        take_lets p s k b a w t (new.way w) (new.state k) is (is.actors k a here) (front_of s w t (new.way w) (step.ways w)) (subst (λ z. Steps p k a (Takes z w t) (new.state k)) e (found (Takes c w t) step))
+    by_label (Puts c w t) e step = put_lets p s k b a w t (new.state k) is (is.actors k a here) (subst (λ z. Steps p k a (Puts z w t) (new.state k)) e (found (Puts c w t) step))
+
+-- a number past the actors stands for a switch on no wire, to which nothing happens
+module _ (p : Plan) (acc : IsAccepted p) (i : ℕ) (far : length p.switches ≤ i) where
+  no_way_out : (w l : ℕ) → IsOutOf (network_of p) w (AtSwitch i l) → ⊥
+  no_way_out w l o = let less = (real_out p acc w i l o).0 in omega arith
+
+  no_way_in : (w l : ℕ) → IsInto (network_of p) w (AtSwitch i l) → ⊥
+  no_way_in w l o = let less = (real_into p acc w i l o).0 in omega arith
+
+  nothing_happens : (label : Label net.Act Token) (u : Switching) → net.SwitchStep (network_of p) Wormhole i new_switch label u → ⊥
+  nothing_happens (Own (net.Route l o)) u h = none_leaves (switch_plan (network_of p) i) [] o h.body refl h.group
+  nothing_happens (Own (net.Pass l)) u h = none_passes (network.body_limit (network_of p)) (switch_plan (network_of p) i) new_switch u l refl h
+  nothing_happens (Own (net.Proc m)) u h = h
+  nothing_happens (Own (net.Take l x)) u h = h
+  nothing_happens (Own (net.Put l)) u h = h
+  nothing_happens (Own (net.Fct l)) u h = h
+  nothing_happens (Takes (net.Take l x) w t) u h = no_way_in w l h.0
+  nothing_happens (Takes (net.Proc m) w t) u h = h
+  nothing_happens (Takes (net.Put l) w t) u h = h
+  nothing_happens (Takes (net.Fct l) w t) u h = h
+  nothing_happens (Takes (net.Pass l) w t) u h = h
+  nothing_happens (Takes (net.Route l o) w t) u h = h
+  nothing_happens (Puts (net.Put l) w t) u h = no_way_out w l h.0
+  nothing_happens (Puts (net.Fct l) w t) u h = no_way_out w l h.0
+  nothing_happens (Puts (net.Proc m) w t) u h = h
+  nothing_happens (Puts (net.Take l x) w t) u h = h
+  nothing_happens (Puts (net.Pass l) w t) u h = h
+  nothing_happens (Puts (net.Route l o) w t) u h = h
 
 -- by what the code finds
 
-pub happens : (p : Plan) (s : State) (e : Event) (a : Actor) → IsNetworkOf p s → slice_get s.actors e.actor ≡ Some a → CanAct (network_of p) e.actor a.node e.act → WaysLet s e.actor e.act → CanHappen p s e
-happens p s e a is here can ways = record { node = below p s e.actor a is here; step = enables p s e.actor e.act a is here can ways }
+pub happens : (p : Plan) (s : State) (e : Event) (a : Acting) → IsNetworkOf p s → slice_get s.actors e.actor ≡ Some a → CanAct (network_of p) e.actor a e.act → WaysLet s e.actor e.act → CanHappen p s e
+happens p s e a is here can ways = enables p s e.actor e.act a is here can ways
 
-pub has_act : (p : Plan) (s : State) (e : Event) (a : Actor) → IsNetworkOf p s → slice_get s.actors e.actor ≡ Some a → CanHappen p s e → CanAct (network_of p) e.actor a.node e.act
-has_act p s e a is here can = (lets p s e.actor e.act a is here can.step).can
+pub has_act : (p : Plan) (s : State) (e : Event) (a : Acting) → IsNetworkOf p s → slice_get s.actors e.actor ≡ Some a → CanHappen p s e → CanAct (network_of p) e.actor a e.act
+has_act p s e a is here can = (lets p s e.actor e.act a is here can).can
 
-pub has_ways : (p : Plan) (s : State) (e : Event) (a : Actor) → IsNetworkOf p s → slice_get s.actors e.actor ≡ Some a → CanHappen p s e → WaysLet s e.actor e.act
-has_ways p s e a is here can = (lets p s e.actor e.act a is here can.step).ways
+pub has_ways : (p : Plan) (s : State) (e : Event) (a : Acting) → IsNetworkOf p s → slice_get s.actors e.actor ≡ Some a → CanHappen p s e → WaysLet s e.actor e.act
+has_ways p s e a is here can = (lets p s e.actor e.act a is here can).ways
 
 pub has_actor : (p : Plan) (s : State) (e : Event) → IsNetworkOf p s → CanHappen p s e → slice_get s.actors e.actor ≡ None → ⊥
-has_actor p s e is can none =
-    let f = has s.actors e.actor (subst (λ z. e.actor < z) (sym is.count) can.node) in
-    let q : Some f.0 ≡ None = sym f.1 ∙ none in
-    absurd (cc)
+has_actor p s e is (new, (label, same, step)) none = by_state (new.state e.actor) (subst (λ z. net.Local (network_of p) Wormhole does e.actor z label (new.state e.actor)) (ap (shown_or (net.IsSwitch new_switch) actor_of) none) step.local)
+  where
+    past : actors p ≤ e.actor
+    past = subst (λ z. z ≤ e.actor) is.count (none_past s.actors e.actor none)
+
+    by_state : (x : net.Actor Process) → net.Local (network_of p) Wormhole does e.actor (net.IsSwitch new_switch) label x → ⊥
+    by_state (net.IsNode u) h = h
+    by_state (net.IsSwitch u) (i, at, h) = nothing_happens p is.accepted i (let more = past in omega arith) label u h

@@ -8,6 +8,9 @@ pub mod Moving
 pub mod Passing
 pub mod Insides
 pub mod Linking
+pub mod Switching
+pub mod SwitchGiven
+pub mod Parting
 pub mod Happening
 pub mod Replayed
 pub mod Viewing

@@ -27,42 +27,39 @@ use Rattle.vc_told.specs.Begin.{begin_of}
 use Rattle.vc_core.specs.Channels.{AreChannelsOf}
 use Rattle.vc_told.specs.Process.{Process, does}
 use Rattle.vc_core.specs.Replaying.{IsOpening, Replays, Reached}
-use Rattle.vc_core.specs.State.{State, actor_of, shown, event_of, MakesEvent}
+use Rattle.vc_core.specs.Shown.{Acting, actor_of}
+use Rattle.vc_core.specs.State.{State, shown, event_of, MakesEvent}
+use Rattle.vc_core.specs.Turns.{actors}
 use Rattle.vc_core.specs.Wired.{out_at}
 use Rattle.vc_core.specs.declared.act.Event.{Event}
-use Rattle.vc_core.specs.declared.actor.Actor.{Actor}
-
-pub none_past : {X : Type 0} (xs : List X) (k : ℕ) → slice_get xs k ≡ None → length xs ≤ k
-none_past [] k e = omega arith
-none_past (x ∷ xs) zero e = absurd (cc)
-none_past (x ∷ xs) (suc k) e = let r = none_past xs k e in omega arith
+use Rattle.vc_core.proofs.Happening.{none_past}
 
 not_less : (m n : ℕ) → n ≤ m → nat_lt m n ≡ false
 not_less m n h = grind (arith, nat_tests)
 
-first_at : (p : Plan) (actors : List Actor) → AreFirst p actors → (k : ℕ) → shown_or (net.IsSwitch new_switch) actor_of (slice_get actors k) ≡ first (network_of p) (begin_of p) k
-first_at p actors are k = by_place (slice_get actors k) refl
+first_at : (p : Plan) (xs : List Acting) → AreFirst p (actors p) xs → (k : ℕ) → shown_or (net.IsSwitch new_switch) actor_of (slice_get xs k) ≡ first (network_of p) (begin_of p) k
+first_at p xs are k = by_place (slice_get xs k) refl
   where
-    by_place : (o : Option Actor) → slice_get actors k ≡ o → shown_or (net.IsSwitch new_switch) actor_of o ≡ first (network_of p) (begin_of p) k
+    by_place : (o : Option Acting) → slice_get xs k ≡ o → shown_or (net.IsSwitch new_switch) actor_of o ≡ first (network_of p) (begin_of p) k
     by_place (Some a) e = (are.each k a e).first
     by_place None e =
-        let past = none_past actors k e in
-        sym (ap (λ b. if b then net.IsNode (record { vcp = new_vcp; process = begin_of p k; inner = λ c. nothing_yet }) else net.IsSwitch new_switch) (not_less k (length p.nodes) (subst (λ z. z ≤ k) are.count past)))
+        let past : actors p ≤ k = subst (λ z. z ≤ k) are.count (none_past xs k e) in
+        sym (ap (λ b. if b then net.IsNode (record { vcp = new_vcp; process = begin_of p k; inner = λ c. nothing_yet }) else net.IsSwitch new_switch) (not_less k (length p.nodes) (omega arith)))
 
 no_token : (ws : List (List Token)) → AllByRecursion (λ way. way ≡ []) ws → (w : ℕ) → shown_or [] (λ ts. ts) (slice_get ws w) ≡ []
 no_token [] all w = refl
 no_token (x ∷ xs) all zero = all.0
 no_token (x ∷ xs) all (suc w) = no_token xs all.1 w
 
-pub opened : (p : Plan) (s : State) → IsAccepted p → AreFirst p s.actors → length s.ways ≡ 2 * length p.wires → AllByRecursion (λ way. way ≡ []) s.ways →
+pub opened : (p : Plan) (s : State) → IsAccepted p → AreFirst p (actors p) s.actors → length s.ways ≡ 2 * length p.wires → AllByRecursion (λ way. way ≡ []) s.ways →
     ((actor link : ℕ) → out_at s.wiring actor link ≡ outgoing p actor link) → s.wires ≡ p.wires → AreChannelsOf p s.channels → IsOpening p s
 opened p s acc first count empty wiring wires channels = record {
   is = record {
     accepted = acc;
     count = first.count;
-    nodes = λ k a e. (first.each k a e).is;
+    actors = λ k a e. (first.each k a e).is;
     ways = count ∙ ap (λ n. 2 * n) (sym (length-map p.wires wire_of));
-    wiring = λ actor link less few. wiring actor link;
+    wiring = wiring;
     wires = wires;
     channels = channels;
   };

@@ -32,11 +32,10 @@ use Rattle.vc_vcp.specs.Keyed.{named, shown_or}
 use Rattle.vc_core.specs.Channels.{ends_at, block_of}
 use Rattle.vc_core.specs.Placed.{FindsPlace, FindsOn, IsUnfinished, before_way, coming_by}
 use Rattle.vc_core.specs.Replaying.{Replays}
-use Rattle.vc_core.specs.Shown.{view_of}
+use Rattle.vc_core.specs.Shown.{Acting, OfNode, OfSwitch, actor_of, view_of}
 use Rattle.vc_core.specs.Sought.{IsSought, sought_at}
-use Rattle.vc_core.specs.State.{State, actor_of, shown, IsNetworkOf}
+use Rattle.vc_core.specs.State.{State, shown, IsNetworkOf}
 use Rattle.vc_core.specs.declared.act.Event.{Event}
-use Rattle.vc_core.specs.declared.actor.Actor.{Actor}
 use Rattle.vc_core.specs.declared.channels.Ends.{Ends}
 use Rattle.vc_core.specs.declared.inside.Internal.{Internal}
 use Rattle.vc_core.specs.declared.place.Place.{Place}
@@ -44,20 +43,19 @@ use Rattle.vc_core.specs.declared.place.Place.TheVariants as name
 use Rattle.vc_core.proofs.Belonging.{AreEnds, are_ends, is_sought, is_its}
 use Rattle.vc_core.proofs.Everywhere.{IsThere, waits, goes, stays, rests, on_it, in_it, where_it_is, waits_there, goes_there, rests_there, number_has, number_none, has_in, in_has}
 
--- no switch runs, so none has a packet inside
-no_switch : (s : State) (plan : network.Plan) (k : ℕ) → switches plan (shown s) k ≡ new_switch
-no_switch s plan k = by_actor (slice_get s.actors (plan.nodes + k))
-  where
-    by_actor : (o : Option Actor) → switch_of (shown_or (net.IsSwitch new_switch) actor_of o) ≡ new_switch
-    by_actor None = refl
-    by_actor (Some a) = refl
+-- where there is no switch, no packet is inside one
+no_switch : (p : Plan) (s : State) → IsNetworkOf p s → p.switches ≡ [] → (k : ℕ) → switches (network_of p) (shown s) k ≡ new_switch
+no_switch p s is none k =
+    let long = is.count in
+    let few = ap length none in
+    ap (λ (z : Option Acting). switch_of (shown_or (net.IsSwitch new_switch) actor_of z)) (slice_get_past s.actors (length p.nodes + k) (omega arith))
 
-none_inside : (s : State) (plan : network.Plan) (w : ℕ) → in_it plan (shown s) w ≡ []
-none_inside s plan w = by_port (far plan w)
+none_inside : (p : Plan) (s : State) → IsNetworkOf p s → p.switches ≡ [] → (w : ℕ) → in_it (network_of p) (shown s) w ≡ []
+none_inside p s is none w = by_port (far (network_of p) w)
   where
-    by_port : (q : Port) → inside (arrived (vcps (shown s)) (switches plan (shown s)) q) ≡ []
+    by_port : (q : Port) → inside (arrived (vcps (shown s)) (switches (network_of p) (shown s)) q) ≡ []
     by_port (AtNode n l) = refl
-    by_port (AtSwitch k l) = ap (λ z. inside (arrived (vcps (shown s)) (λ j. z) (AtSwitch k l))) (no_switch s plan k)
+    by_port (AtSwitch k l) = ap (λ z. inside (arrived (vcps (shown s)) (λ j. z) (AtSwitch k l))) (no_switch p s is none k)
 
 -- what comes to a node
 coming_is : (s : State) (plan : network.Plan) (w n l : ℕ) → far plan w ≡ AtNode n l → on_it plan (shown s) w ≡ coming_by (shown s) w n l
@@ -135,28 +133,28 @@ at_port p s c e w q (AtNode n l) ends node nothing at (inl h) b = (nothing n l a
 at_port p s c e w q (AtNode n l) ends node nothing at (inr h) b =
     (nothing n l at).1 (in_has (IsSought (sought_at e n)) (coming_by (shown s) w n l) q (subst (λ ps. Contains ps q) (coming_is s (network_of p) w n l at) h) (is_sought (network_of p) c w n l e q ends at b))
 
-no_place : (p : Plan) (s : State) (c : ℕ) (e : Ends) → ends_at (network_of p) (home (network_of p) c) ≡ Some e → IsAccepted p → p.switches ≡ [] →
+no_place : (p : Plan) (s : State) (c : ℕ) (e : Ends) → ends_at (network_of p) (home (network_of p) c) ≡ Some e → IsNetworkOf p s → p.switches ≡ [] →
     (((vcps (shown s) e.to.node).carrier.into c).held ≢ None → ⊥) → ((w : ℕ) → w < ways (network_of p) → FindsOn (network_of p) (shown s) e w None) →
     (place : places.Place) (q : Packet) → BelongsTo (net_of (network_of p)) c (place, q) → IsThere (network_of p) (shown s) place q → ⊥
-no_place p s c e ends acc none not_held nothing place q b (waits w less at h) =
+no_place p s c e ends is none not_held nothing place q b (waits w less at h) =
     let plan = network_of p in
-    at_port p s c e w q (far plan w) (are_ends plan c e ends) (λ k l is. to_nodes p w k l acc none less is) (nothing w less) refl (inl h) (subst (λ z. BelongsTo (net_of plan) c (z, q)) at b)
-no_place p s c e ends acc none not_held nothing place q b (goes w less at h) =
+    at_port p s c e w q (far plan w) (are_ends plan c e ends) (λ k l at'. to_nodes p w k l is.accepted none less at') (nothing w less) refl (inl h) (subst (λ z. BelongsTo (net_of plan) c (z, q)) at b)
+no_place p s c e ends is none not_held nothing place q b (goes w less at h) =
     let plan = network_of p in
-    at_port p s c e w q (far plan w) (are_ends plan c e ends) (λ k l is. to_nodes p w k l acc none less is) (nothing w less) refl (inr h) (subst (λ z. BelongsTo (net_of plan) c (z, q)) at b)
-no_place p s c e ends acc none not_held nothing place q b (stays w less at h) =
-    absurd (let l = (subst (λ ps. Contains ps q) (none_inside s (network_of p) w) h).1 in omega arith)
-no_place p s c e ends acc none not_held nothing place q b (rests d less at h) =
+    at_port p s c e w q (far plan w) (are_ends plan c e ends) (λ k l at'. to_nodes p w k l is.accepted none less at') (nothing w less) refl (inr h) (subst (λ z. BelongsTo (net_of plan) c (z, q)) at b)
+no_place p s c e ends is none not_held nothing place q b (stays w less at h) =
+    absurd (let l = (subst (λ ps. Contains ps q) (none_inside p s is none w) h).1 in omega arith)
+no_place p s c e ends is none not_held nothing place q b (rests d less at h) =
     let plan = network_of p in
     let same : c ≡ d = subst (λ z. BelongsTo (net_of plan) c (z, q)) at b in
     let held = none_held ((vcps (shown s) (sink_node plan (home plan d))).carrier.into d).held q h in
     let held_c = subst (λ z. ((vcps (shown s) (sink_node plan (home plan z))).carrier.into z).held ≢ None) (sym same) held in
     not_held (subst (λ n. ((vcps (shown s) n).carrier.into c).held ≢ None) (sink_is plan (home plan c) e ends) held_c)
 
-pub found_nowhere : (p : Plan) (s : State) (c : ℕ) (e : Ends) → ends_at (network_of p) (home (network_of p) c) ≡ Some e → IsAccepted p → (((vcps (shown s) e.to.node).carrier.into c).held ≢ None → ⊥) →
+pub found_nowhere : (p : Plan) (s : State) (c : ℕ) (e : Ends) → ends_at (network_of p) (home (network_of p) c) ≡ Some e → IsNetworkOf p s → (((vcps (shown s) e.to.node).carrier.into c).held ≢ None → ⊥) →
     ((w : ℕ) → w < ways (network_of p) → FindsOn (network_of p) (shown s) e w None) → FindsPlace p s c None
-found_nowhere p s c e ends acc not_held nothing = λ none place stands.
-    no_place p s c e ends acc none not_held nothing place stands.here.0 stands.here.2 (where_it_is (network_of p) (shown s) place stands.here.0 stands.here.1)
+found_nowhere p s c e ends is not_held nothing = λ none place stands.
+    no_place p s c e ends is none not_held nothing place stands.here.0 stands.here.2 (where_it_is (network_of p) (shown s) place stands.here.0 stands.here.1)
 
 -- a channel with ends is one of the plan's
 pub is_channel : (p : Plan) (c : ℕ) (e : Ends) → ends_at (network_of p) (home (network_of p) c) ≡ Some e → c < length (network_of p).channels
@@ -174,9 +172,10 @@ settled (Some x) e = omega (arith, e)
 none_unfinished : (s : State) (plan : network.Plan) (c n : ℕ) → length (view_at plan (shown s) c (network.Inside n)).offered ≡ suc (view_at plan (shown s) c (network.Inside n)).finished → ⊥
 none_unfinished s plan c n e = by_actor (slice_get s.actors n) e
   where
-    by_actor : (o : Option Actor) → length (inner_of (shown_or (net.IsSwitch new_switch) actor_of o) c).offered ≡ suc (inner_of (shown_or (net.IsSwitch new_switch) actor_of o) c).finished → ⊥
+    by_actor : (o : Option Acting) → length (inner_of (shown_or (net.IsSwitch new_switch) actor_of o) c).offered ≡ suc (inner_of (shown_or (net.IsSwitch new_switch) actor_of o) c).finished → ⊥
     by_actor None e = absurd (omega (arith, e))
-    by_actor (Some a) e = settled (named (λ x. x.chan) c a.node.inside) e
+    by_actor (Some (OfNode n)) e = settled (named (λ x. x.chan) c n.inside) e
+    by_actor (Some (OfSwitch x)) e = absurd (omega (arith, e))
 
 -- a faithful channel's outputs are all finished but for one at most
 finished_or : (plan : network.Plan) (s : State) (c : ℕ) → IsFaithful plan (shown s) c →

@@ -1,8 +1,9 @@
 -- What an actor does next is an event that can happen, and where it does nothing none can.
-use Rattle.std.proofs.Common.{◌≡◌, ◌↔◌, ℕ, ◌+◌, ◌*◌, ◌%◌, ◌^◌, ◌≤◌, ◌<◌, max, bit_or, get_or, Bool, true, false, IsTrue, IfSome, Result, Ok, Err, IfOk, inl, inr, List, length, slice_get, Option, Some, None, refl, sym, ap, ◌∙◌, subst, arith}
+use Rattle.std.proofs.Common.{◌≡◌, ◌↔◌, ℕ, ◌+◌, ◌*◌, ◌%◌, ◌^◌, ◌≤◌, ◌<◌, max, bit_or, get_or, nat_lt, Bool, true, false, IsTrue, IfSome, Result, Ok, Err, IfOk, inl, inr, List, length, slice_get, Option, Some, None, refl, sym, ap, ◌∙◌, subst, arith, if◌then◌else◌}
 use Rattle.std.proofs.lemmas.Bool.{cases_lt}
+use Rattle.std.proofs.lemmas.Bool.Decides.{nat_tests}
 use Rattle.std.proofs.lemmas.Nat.Bits.{bit_at_or, bit_at-pow_same, bit_at-pow_other}
-use Rattle.std.proofs.lemmas.Option.{slice_get-get_or}
+use Rattle.std.proofs.lemmas.Option.{slice_get-get_or, slice_get_past}
 use Rattle.std.proofs.Math.Pow.{pow-lt}
 use Rattle.std.specs.Int.{bit_at}
 use Rattle.std.specs.Option.{option_map}
@@ -10,24 +11,26 @@ use Rattle.vc_accepted.specs.NetworkOf.{network_of}
 use Rattle.vc_network.specs.Network as net
 use Rattle.vc_network.specs.Plan as network
 use Rattle.vc_network.specs.Plan.{back}
-use Rattle.vc_network.specs.Views.{vcp_of}
+use Rattle.vc_network.specs.Views.{vcp_of, switch_of}
 use Rattle.vc_occam.specs.declared.moves.Move.{Move}
 use Rattle.vc_occam.specs.Remains.{Done}
 use Rattle.vc_occam.specs.Runnings.{state}
 use Rattle.vc_plan.specs.declared.plan.Plan.{Plan}
-use Rattle.vc_vcp.specs.Seen.{seen}
-use Rattle.vc_core.specs.Able.{CanAct, CanMove}
+use Rattle.vc_switch.specs.State.{State as SwitchState}
+use Rattle.vc_core.specs.Able.{NodeCan, SwitchCan, CanAct, CanMove}
+use Rattle.vc_core.specs.Acting.{MayAct}
 use Rattle.vc_core.specs.Enabled.{CanHappen}
+use Rattle.vc_core.specs.OfPlan.{IsActorOf}
+use Rattle.vc_core.specs.Parts.{IsDone, strays_of, lost_of}
 use Rattle.vc_told.specs.Process.{Process}
 use Rattle.vc_core.specs.Replaying.{Replays}
-use Rattle.vc_core.specs.Shown.{node_of}
-use Rattle.vc_core.specs.State.{State, IsNetworkOf, HasFront, HasWay, WaysLet}
-use Rattle.vc_core.specs.Turns.{RoomLets, IsTurn, FindsAt, FindsMove, FindsTurn, TakesNone, FindsEvent, FindsFront, FindsTake, Rests, IsAtRest, HaveEnded, IsTold, MakesTurn}
-use Rattle.vc_core.specs.Wired.{out_at}
+use Rattle.vc_core.specs.Shown.{Acting, OfNode, OfSwitch, node_of}
+use Rattle.vc_core.specs.State.{State, shown, IsNetworkOf, HasFront, HasWay, WaysLet}
+use Rattle.vc_core.specs.Turns.{RoomLets, IsTurn, FindsAt, FindsRoute, FindsMove, FindsTurn, TakesNone, FindsEvent, FindsFront, FindsTake, Rests, IsAtRest, HaveEnded, IsTold, MakesTurn, actors}
+use Rattle.vc_core.specs.Wired.{out_at, there}
 use Rattle.vc_core.specs.declared.act.Act.{Act}
 use Rattle.vc_core.specs.declared.act.Act.TheVariants as act
 use Rattle.vc_core.specs.declared.act.Event.{Event}
-use Rattle.vc_core.specs.declared.actor.Actor.{Actor}
 use Rattle.vc_core.specs.declared.node.Node.{Node}
 use Rattle.vc_core.specs.declared.turn.Turn.{Turn}
 use Rattle.vc_core.specs.declared.turn.Turn.TheVariants as turn
@@ -57,6 +60,17 @@ way_below s k l n beyond f = elim (cases_lt l n) [
       let i = f.out in absurd (cc))
 ]
 
+-- the table of ways has 32 places an actor
+few_at : (out : List (Option ℕ)) (k l w : ℕ) → out_at out k l ≡ Some w → l < 32
+few_at out k l w e = by_test (nat_lt l 32) refl e
+  where
+    by_test : (b : Bool) → nat_lt l 32 ≡ b → (if b then there (slice_get out (k * 32 + l)) else None) ≡ Some w → l < 32
+    by_test true t e = grind (arith, nat_tests)
+    by_test false t e = absurd (cc)
+
+way_few : (s : State) (k l : ℕ) → HasWay s k l → l < 32
+way_few s k l f = few_at s.wiring k l f.way f.out
+
 pub clash : (b : Bool) → b ≡ false → IsTrue b → ⊥
 clash true h t = absurd (cc)
 clash false h t = absurd (cc)
@@ -66,19 +80,19 @@ if_ok P Q (Ok x) f h = f x h
 if_ok P Q (Err e) f h = tt
 
 module _ (plan : network.Plan) (k : ℕ) (n : Node) (room : ℕ) where
-  pub passes : (a : Act) → FindsAt (λ l. act.Pass l) (CanAct plan k n) (Some a) → IsTurn plan k n room a
-  passes a (l, e, can, least) = subst (IsTurn plan k n room) (sym e) (record { can = can; lets = tt })
+  pub passes : (a : Act) → FindsAt (λ l. act.Pass l) (NodeCan plan k n) (Some a) → IsTurn plan k (OfNode n) room a
+  passes a (l, e, can, least) = subst (IsTurn plan k (OfNode n) room) (sym e) (record { can = can; lets = tt })
 
-  pub at_link : (at : ℕ → Act) (a : Act) → FindsAt at (IsTurn plan k n room) (Some a) → IsTurn plan k n room a
-  at_link at a (l, e, can, least) = subst (IsTurn plan k n room) (sym e) can
+  pub at_link : (at : ℕ → Act) (a : Act) → FindsAt at (IsTurn plan k (OfNode n) room) (Some a) → IsTurn plan k (OfNode n) room a
+  at_link at a (l, e, can, least) = subst (IsTurn plan k (OfNode n) room) (sym e) can
 
   -- or a move, where no link has anything to do
-  pub some_move : (o : Option Act) → (x y z : Option Act) → FindsAt (λ l. act.Pass l) (CanAct plan k n) x → FindsAt (λ l. act.Put l) (IsTurn plan k n room) y → FindsAt (λ l. act.Fct l) (IsTurn plan k n room) z →
-      x ≡ None → y ≡ None → z ≡ None → FindsMove plan k n o → FindsTurn plan k n room o
-  some_move (Some a) x y z h i j e f g (m, is, can) = subst (IsTurn plan k n room) (sym is) (record { can = can; lets = tt })
+  pub some_move : (o : Option Act) → (x y z : Option Act) → FindsAt (λ l. act.Pass l) (NodeCan plan k n) x → FindsAt (λ l. act.Put l) (IsTurn plan k (OfNode n) room) y →
+      FindsAt (λ l. act.Fct l) (IsTurn plan k (OfNode n) room) z → x ≡ None → y ≡ None → z ≡ None → FindsMove plan k n o → FindsTurn plan k (OfNode n) room o
+  some_move (Some a) x y z h i j e f g (m, is, can) = subst (IsTurn plan k (OfNode n) room) (sym is) (record { can = can; lets = tt })
   some_move None None None None h i j e f g none = none_by
     where
-      none_by : (a : Act) → IsTurn plan k n room a → ⊥
+      none_by : (a : Act) → IsTurn plan k (OfNode n) room a → ⊥
       none_by (act.Proc m) t = none m t.can
       none_by (act.Pass l) t = h l t.can
       none_by (act.Put l) t = i l t
@@ -89,24 +103,79 @@ module _ (plan : network.Plan) (k : ℕ) (n : Node) (room : ℕ) where
   some_move None None (Some a) z h i j e f g none = absurd (cc)
   some_move None None None (Some a) h i j e f g none = absurd (cc)
 
+-- The same for a switch.
+
+module _ (plan : network.Plan) (k : ℕ) (s : SwitchState) (room : ℕ) where
+  pub passes_here : (a : Act) → FindsAt (λ l. act.Pass l) (SwitchCan s) (Some a) → IsTurn plan k (OfSwitch s) room a
+  passes_here a (l, e, can, least) = subst (IsTurn plan k (OfSwitch s) room) (sym e) (record { can = can; lets = tt })
+
+  pub routes_here : (a : Act) → FindsRoute s (Some a) → IsTurn plan k (OfSwitch s) room a
+  routes_here a (l, o, e, can, first, least) = subst (IsTurn plan k (OfSwitch s) room) (sym e) (record { can = can; lets = tt })
+
+  pub at_link_here : (at : ℕ → Act) (a : Act) → FindsAt at (IsTurn plan k (OfSwitch s) room) (Some a) → IsTurn plan k (OfSwitch s) room a
+  at_link_here at a (l, e, can, least) = subst (IsTurn plan k (OfSwitch s) room) (sym e) can
+
+  -- or a grant, where nothing else can be done
+  pub some_grant : (x y z o : Option Act) → FindsAt (λ l. act.Pass l) (SwitchCan s) x → FindsRoute s y → FindsAt (λ l. act.Put l) (IsTurn plan k (OfSwitch s) room) z → FindsAt (λ l. act.Fct l) (IsTurn plan k (OfSwitch s) room) o →
+      x ≡ None → y ≡ None → z ≡ None → FindsTurn plan k (OfSwitch s) room o
+  some_grant x y z (Some a) h i j g e f d = at_link_here (λ l. act.Fct l) a g
+  some_grant None None None None h i j g e f d = none_by
+    where
+      none_by : (a : Act) → IsTurn plan k (OfSwitch s) room a → ⊥
+      none_by (act.Proc m) t = t.can
+      none_by (act.Pass l) t = h l t.can
+      none_by (act.Put l) t = j l t
+      none_by (act.Fct l) t = g l t
+      none_by (act.Take l w) t = t.lets
+      none_by (act.Route l o) t = i l o t.can
+  some_grant (Some a) y z None h i j g e f d = absurd (cc)
+  some_grant None (Some a) z None h i j g e f d = absurd (cc)
+  some_grant None None (Some a) None h i j g e f d = absurd (cc)
+
 -- The network's search.
 
-module _ (p : Plan) (s : State) (k room : ℕ) (bits : (link : ℕ) → link < 32 → (bit_at room link ≡ 1) ↔ HasWay s k link) where
-  lets_by : (a : Actor) (b : Act) → TakesNone b → CanAct (network_of p) k a.node b → WaysLet s k b → RoomLets room b
-  lets_by a (act.Put l) none can ways = let few = can.0 in (bits l (omega arith)).1 ways
-  lets_by a (act.Fct l) none can ways = let few = can.0 in (bits l (omega arith)).1 ways
-  lets_by a (act.Proc m) none can ways = tt
-  lets_by a (act.Pass l) none can ways = tt
-  lets_by a (act.Take l w) none can ways = none
-  lets_by a (act.Route l o) none can ways = tt
+-- what is put is put by one of 32 links
+abbrev pub FewLinks : Act → Type 0
+FewLinks (act.Put l) = l < 32
+FewLinks (act.Fct l) = l < 32
+FewLinks (act.Proc m) = Unit {0}
+FewLinks (act.Pass l) = Unit {0}
+FewLinks (act.Take l w) = Unit {0}
+FewLinks (act.Route l o) = Unit {0}
 
-  ways_by : (a : Actor) (b : Act) → CanAct (network_of p) k a.node b → RoomLets room b → WaysLet s k b
-  ways_by a (act.Put l) can lets = let few = can.0 in (bits l (omega arith)).0 lets
-  ways_by a (act.Fct l) can lets = let few = can.0 in (bits l (omega arith)).0 lets
-  ways_by a (act.Proc m) can lets = tt
-  ways_by a (act.Pass l) can lets = tt
-  ways_by a (act.Take l w) can lets = absurd lets
-  ways_by a (act.Route l o) can lets = tt
+pub few_links : (x : Acting) (b : Act) → MayAct x b → FewLinks b
+few_links (OfNode n) (act.Put l) may = let few = may.0 in omega arith
+few_links (OfNode n) (act.Fct l) may = let few = may.0 in omega arith
+few_links (OfNode n) (act.Proc m) may = tt
+few_links (OfNode n) (act.Pass l) may = tt
+few_links (OfNode n) (act.Take l w) may = tt
+few_links (OfNode n) (act.Route l o) may = tt
+few_links (OfSwitch s) (act.Put l) may = may.links
+few_links (OfSwitch s) (act.Fct l) may = may.links
+few_links (OfSwitch s) (act.Proc m) may = tt
+few_links (OfSwitch s) (act.Pass l) may = tt
+few_links (OfSwitch s) (act.Take l w) may = tt
+few_links (OfSwitch s) (act.Route l o) may = tt
+
+module _ (p : Plan) (s : State) (k room : ℕ) (bits : (link : ℕ) → link < 32 → (bit_at room link ≡ 1) ↔ HasWay s k link) (is : IsNetworkOf p s) where
+  abbrev event : Act → Event
+  event b = record { actor = k; act = b }
+
+  lets_by : (b : Act) → TakesNone b → WaysLet s k b → RoomLets room b
+  lets_by (act.Put l) none ways = (bits l (way_few s k l ways)).1 ways
+  lets_by (act.Fct l) none ways = (bits l (way_few s k l ways)).1 ways
+  lets_by (act.Proc m) none ways = tt
+  lets_by (act.Pass l) none ways = tt
+  lets_by (act.Take l w) none ways = none
+  lets_by (act.Route l o) none ways = tt
+
+  ways_by : (b : Act) → FewLinks b → RoomLets room b → WaysLet s k b
+  ways_by (act.Put l) few lets = (bits l few).0 lets
+  ways_by (act.Fct l) few lets = (bits l few).0 lets
+  ways_by (act.Proc m) few lets = tt
+  ways_by (act.Pass l) few lets = tt
+  ways_by (act.Take l w) few lets = absurd lets
+  ways_by (act.Route l o) few lets = tt
 
   takes_none : (b : Act) → RoomLets room b → TakesNone b
   takes_none (act.Put l) lets = tt
@@ -116,16 +185,13 @@ module _ (p : Plan) (s : State) (k room : ℕ) (bits : (link : ℕ) → link < 3
   takes_none (act.Take l w) lets = lets
   takes_none (act.Route l o) lets = tt
 
-  event : Act → Event
-  event b = record { actor = k; act = b }
+  pub some_event : (a : Acting) → slice_get s.actors k ≡ Some a → (b : Act) → FewLinks b → IsTurn (network_of p) k a room b → FindsEvent p s k (Some (record { actor = k; act = b }))
+  some_event a here b few t = (refl, takes_none b t.lets, happens p s (event b) a is here t.can (ways_by b few t.lets))
 
-  pub some_event : IsNetworkOf p s → (a : Actor) → slice_get s.actors k ≡ Some a → (b : Act) → IsTurn (network_of p) k a.node room b → FindsEvent p s k (Some (record { actor = k; act = b }))
-  some_event is a here b t = (refl, takes_none b t.lets, happens p s (record { actor = k; act = b }) a is here t.can (ways_by a b t.can t.lets))
-
-  pub no_event : IsNetworkOf p s → (a : Actor) → slice_get s.actors k ≡ Some a → FindsTurn (network_of p) k a.node room None → FindsEvent p s k None
-  no_event is a here none b takes can =
-      let act = has_act p s (record { actor = k; act = b }) a is here can in
-      none b (record { can = act; lets = lets_by a b takes act (has_ways p s (record { actor = k; act = b }) a is here can) })
+  pub no_event : (a : Acting) → slice_get s.actors k ≡ Some a → FindsTurn (network_of p) k a room None → FindsEvent p s k None
+  no_event a here none b takes can =
+      let act = has_act p s (event b) a is here can in
+      none b (record { can = act; lets = lets_by b takes (has_ways p s (event b) a is here can) })
 
 pub no_actor : (p : Plan) (s : State) (k : ℕ) → IsNetworkOf p s → slice_get s.actors k ≡ None → FindsEvent p s k None
 no_actor p s k is none b takes can = has_actor p s (record { actor = k; act = b }) is can none
@@ -133,22 +199,30 @@ no_actor p s k is none b takes can = has_actor p s (record { actor = k; act = b 
 -- A token that comes.
 
 front_of : (p : Plan) (s : State) (k l w : ℕ) → IsNetworkOf p s → CanHappen p s (record { actor = k; act = act.Take l w }) → HasFront s k l
-front_of p s k l w is can =
-    let a = has s.actors k (subst (λ z. k < z) (sym is.count) can.node) in
-    has_ways p s (record { actor = k; act = act.Take l w }) a.0 is a.1 can
+front_of p s k l w is can = by_place (slice_get s.actors k) refl
+  where
+    by_place : (o : Option Acting) → slice_get s.actors k ≡ o → HasFront s k l
+    by_place (Some a) here = has_ways p s (record { actor = k; act = act.Take l w }) a is here can
+    by_place None none = absurd (has_actor p s (record { actor = k; act = act.Take l w }) is can none)
 
 pub takes : (p : Plan) (s : State) (k : ℕ) (o : Option ℕ) → IsNetworkOf p s → FindsFront s k o → FindsTake p s k o
 takes p s k None is none = λ l w can. none l (front_of p s k l w is can)
-takes p s k (Some l) is (f, least) = λ node w.
-    let a = has s.actors k (subst (λ z. k < z) (sym is.count) node) in
-    happens p s (record { actor = k; act = act.Take l w }) a.0 is a.1 (can_take p s k l a.0 f is a.1) f
+takes p s k (Some l) is (f, least) = λ less w.
+    let a = has s.actors k (subst (λ z. k < z) (sym is.count) less) in
+    happens p s (record { actor = k; act = act.Take l w }) a.0 is a.1 (can_take p s k l w a.0 f is a.1) f
 
 -- where each actor rests, all does
-pub at_rest : (p : Plan) (s : State) → ((k : ℕ) → k < length p.nodes → Rests p s k) → IsAtRest p s
-at_rest p s rests e can = by_act e.act (record { node = can.node; step = can.step })
+pub at_rest : (p : Plan) (s : State) → IsNetworkOf p s → ((k : ℕ) → k < actors p → Rests p s k) → IsAtRest p s
+at_rest p s is rests e can = by_act e.act can
   where
+    less : e.actor < actors p
+    less = elim (cases_lt e.actor (actors p)) [
+      | inl h ↦ h
+      | inr far ↦ absurd (has_actor p s e is can (slice_get_past s.actors e.actor (subst (λ z. z ≤ e.actor) (sym is.count) far)))
+    ]
+
     quiet : Rests p s e.actor
-    quiet = rests e.actor can.node
+    quiet = rests e.actor less
 
     by_act : (b : Act) → CanHappen p s (record { actor = e.actor; act = b }) → ⊥
     by_act (act.Take l w) can = quiet.takes l w can
@@ -159,33 +233,52 @@ at_rest p s rests e can = by_act e.act (record { node = can.node; step = can.ste
     by_act (act.Route i o) can = quiet.acts (act.Route i o) tt can
 
 -- nothing remains of any process, as the code keeps them
-pub ended : (p : Plan) (s : State) → IsNetworkOf p s → ((k : ℕ) (a : Actor) → slice_get s.actors k ≡ Some a → (state a.node.process).rest ≡ Done) ↔ HaveEnded p s
-ended p s is = (
-  (λ all k node. (let a = has s.actors k (subst (λ z. k < z) (sym is.count) node) in (node_of a.0.node, state_at s k a.0 a.1, all k a.0 a.1))),
-  (λ have k a here. (let n = have k (below p s k a is here) in rest_of (node_of a.node) n.0 (sym (state_at s k a here) ∙ n.1) n.2)),
-)
+pub ended : (p : Plan) (s : State) → IsNetworkOf p s → ((k : ℕ) (a : Acting) → slice_get s.actors k ≡ Some a → IsDone a) ↔ HaveEnded p s
+ended p s is = ((λ all k less. to k less all), (λ have k a here. from k a here (is.actors k a here) have))
   where
+    node_there : (k : ℕ) (a : Acting) → k < length p.nodes → IsActorOf (network_of p) k a → (n : Node) × (a ≡ OfNode n)
+    node_there k (OfNode n) less of = (n, refl)
+    node_there k (OfSwitch x) less (i, at, of) = absurd (omega arith)
+
+    to : (k : ℕ) → k < length p.nodes → ((j : ℕ) (a : Acting) → slice_get s.actors j ≡ Some a → IsDone a) → (n : net.Node Process) × ((shown s).state k ≡ net.IsNode n) × (n.process.state.rest ≡ Done)
+    to k less all =
+        let a = has s.actors k (subst (λ z. k < z) (sym is.count) (let more = less in omega arith)) in
+        let n = node_there k a.0 less (is.actors k a.0 a.1) in
+        let here : slice_get s.actors k ≡ Some (OfNode n.0) = a.1 ∙ ap Some n.1 in
+        (node_of n.0, state_at s k (OfNode n.0) here, all k (OfNode n.0) here)
+
     rest_of : (m n : net.Node Process) → net.IsNode m ≡ net.IsNode n → n.process.state.rest ≡ Done → m.process.state.rest ≡ Done
     rest_of m n e done = let same : m ≡ n = cc in ap (λ (z : net.Node Process). z.process.state.rest) same ∙ done
 
--- a node of a network that runs has dropped nothing
-pub none_dropped : (p : Plan) (events : List Event) (s : State) (k : ℕ) (a : Actor) → Replays p events s → slice_get s.actors k ≡ Some a → (seen a.node.vcp).carrier.strays ≡ 0
-none_dropped p events s k a r here = ap (λ (z : net.Actor Process). (vcp_of z).carrier.strays) (sym (state_at s k a here)) ∙ r.headline.no_strays k
+    from : (k : ℕ) (a : Acting) → slice_get s.actors k ≡ Some a → IsActorOf (network_of p) k a → HaveEnded p s → IsDone a
+    from k (OfNode n) here (less, of) have = let m = have k less in rest_of (node_of n) m.0 (sym (state_at s k (OfNode n) here) ∙ m.1) m.2
+    from k (OfSwitch x) here of have = tt
+
+-- an actor of a network that runs has dropped nothing
+pub none_stray : (p : Plan) (events : List Event) (s : State) (k : ℕ) (a : Acting) → Replays p events s → slice_get s.actors k ≡ Some a → strays_of a ≡ 0
+none_stray p events s k (OfNode n) r here = ap (λ (z : net.Actor Process). (vcp_of z).carrier.strays) (sym (state_at s k (OfNode n) here)) ∙ r.headline.no_strays k
+none_stray p events s k (OfSwitch x) r here = refl
+
+pub none_lost : (p : Plan) (events : List Event) (s : State) (k : ℕ) (a : Acting) → Replays p events s → slice_get s.actors k ≡ Some a → lost_of a ≡ 0
+none_lost p events s k (OfNode n) r here = refl
+none_lost p events s k (OfSwitch x) r here =
+    let (i, at, of) = r.is.actors k (OfSwitch x) here in
+    ap (λ (z : net.Actor Process). (switch_of z).lost) (sym (state_at s k (OfSwitch x) here)) ∙ ap (λ z. (switch_of ((shown s).state z)).lost) at ∙ r.headline.none_lost i
 
 -- A turn.
 
-turn_takes_none : (plan : network.Plan) (k : ℕ) (n : Node) (room : ℕ) (b : Act) → IsTurn plan k n room b → TakesNone b
-turn_takes_none plan k n room (act.Put l) t = tt
-turn_takes_none plan k n room (act.Fct l) t = tt
-turn_takes_none plan k n room (act.Proc m) t = tt
-turn_takes_none plan k n room (act.Pass l) t = tt
-turn_takes_none plan k n room (act.Take l w) t = t.lets
-turn_takes_none plan k n room (act.Route l o) t = tt
+turn_takes_none : (plan : network.Plan) (k : ℕ) (x : Acting) (room : ℕ) (b : Act) → IsTurn plan k x room b → TakesNone b
+turn_takes_none plan k x room (act.Put l) t = tt
+turn_takes_none plan k x room (act.Fct l) t = tt
+turn_takes_none plan k x room (act.Proc m) t = tt
+turn_takes_none plan k x room (act.Pass l) t = tt
+turn_takes_none plan k x room (act.Take l w) t = t.lets
+turn_takes_none plan k x room (act.Route l o) t = tt
 
-pub turned : (plan : network.Plan) (k : ℕ) (n u : Node) (room : ℕ) (b : Act) (t : Turn) → IsTurn plan k n room b → IsTold plan k n b t u → MakesTurn plan k n room t u
-turned plan k n u room b turn.Idle is told = absurd (told (turn_takes_none plan k n room b is))
-turned plan k n u room b (turn.Local a) is (same, made) = (subst (IsTurn plan k n room) (sym same) is, made)
-turned plan k n u room b (turn.Put l a item) is (same, put) = (subst (IsTurn plan k n room) (sym same) is, put)
+pub turned : (plan : network.Plan) (k : ℕ) (x y : Acting) (room : ℕ) (b : Act) (t : Turn) → IsTurn plan k x room b → IsTold plan k x b t y → MakesTurn plan k x room t y
+turned plan k x y room b turn.Idle is told = absurd (told (turn_takes_none plan k x room b is))
+turned plan k x y room b (turn.Local a) is (same, made) = (subst (IsTurn plan k x room) (sym same) is, made)
+turned plan k x y room b (turn.Put l a item) is (same, put) = (subst (IsTurn plan k x room) (sym same) is, put)
 
 -- Bits of room.
 

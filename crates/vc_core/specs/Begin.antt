@@ -1,29 +1,46 @@
--- How the nodes of an accepted plan begin.
-use Rattle.std.specs.Prelude.{◌≡◌, ℕ, Bool, true, false, ◌==◌, List, [], ◌∷◌, length, get_or, slice_get, slice_set, Option, Some, None, if◌then◌else◌}
+-- How the actors of an accepted plan begin.
+use Rattle.std.specs.Prelude.{◌≡◌, ℕ, Bool, true, false, ◌==◌, List, [], ◌∷◌, ◌++◌, length, map, get_or, slice_get, slice_set, Option, Some, None, if◌then◌else◌}
 use Rattle.vc_plan.specs.declared.channel.Home.{Home}
 use Rattle.vc_plan.specs.declared.channel.Home.TheVariants.{Way, Inside}
 use Rattle.vc_plan.specs.declared.plan.Plan.{Plan}
 use Rattle.vc_plan.specs.declared.vlink.End.{End}
 use Rattle.vc_vcp.specs.declared.end.End.{End as Given}
-use Rattle.vc_network.specs.Network.{IsNode, first}
+use Rattle.vc_network.specs.Network.{first}
 use Rattle.vc_accepted.specs.Given.{chan_on}
-use Rattle.vc_accepted.specs.NetworkOf.{network_of}
+use Rattle.vc_accepted.specs.NetworkOf.{network_of, switch_of}
+use Rattle.vc_plan.specs.declared.switch_plan.SwitchPlan.{SwitchPlan}
+use Rattle.vc_plan.specs.declared.switch_plan.RandomInput.{RandomInput}
+use Rattle.vc_switch.specs.declared.switch_plan.RandomInput.{RandomInput as RandomGiven}
+use Rattle.vc_switch.specs.Seen.{seen}
+use Rattle.vc_switch.specs.State.{State as SwitchState, plan_of, limit_of}
+use Rattle.vc_switch.specs.Switch.{new_switch}
+use Rattle.vc_core.specs.OfPlan.{IsActorOf}
+use Rattle.vc_core.specs.Shown.{Acting, actor_of}
 use Rattle.vc_told.specs.Begin.{begin_of}
-use Rattle.vc_core.specs.OfPlan.{IsNodeOf}
-use Rattle.vc_core.specs.Shown.{node_of}
-use Rattle.vc_core.specs.declared.actor.Actor.{Actor}
 use Rattle.vc_core.specs.declared.building.Ways.{Ways}
-use Rattle.vc_core.specs.declared.node.Node.{Node}
 
--- the code's node is node k of the plan, and begins
-pub record BeginsAs (p : Plan) (k : ℕ) (n : Node) : Type 0 where
-  pub is : IsNodeOf (network_of p) k n
-  pub first : IsNode (node_of n) ≡ first (network_of p) (begin_of p) k
+-- the code's actor is actor k of the plan, and begins
+pub record BeginsAs (p : Plan) (k : ℕ) (a : Acting) : Type 0 where
+  pub is : IsActorOf (network_of p) k a
+  pub first : actor_of a ≡ first (network_of p) (begin_of p) k
 
--- the actors are the plan's nodes, in their order, and begin
-pub record AreFirst (p : Plan) (actors : List Actor) : Type 0 where
-  pub count : length actors ≡ length p.nodes
-  pub each : (k : ℕ) (a : Actor) → slice_get actors k ≡ Some a → BeginsAs p k a.node
+-- the actors are the first so many of the plan: its nodes, in their order, and then its switches; and they begin
+pub record AreFirst (p : Plan) (n : ℕ) (actors : List Acting) : Type 0 where
+  pub count : length actors ≡ n
+  pub each : (k : ℕ) (a : Acting) → slice_get actors k ≡ Some a → BeginsAs p k a
+
+-- the random ranges, as a switch is given them
+abbrev pub range_of : RandomInput → RandomGiven
+range_of r = record { link = r.link; lower = r.lower; limit = r.limit }
+
+abbrev pub ranges_given : List RandomInput → List RandomGiven
+ranges_given rs = map range_of rs
+
+-- the code's switch is given what the plan says of it, and begins
+pub record IsBuilt (given : SwitchPlan) (most : ℕ) (s : SwitchState) : Type 0 where
+  pub empty : seen s ≡ new_switch
+  pub plan : plan_of s ≡ switch_of given
+  pub limit : limit_of s.inputs ≡ most
 
 -- the channels on the two ways of a virtual link: that on the way that leaves end a, or end b
 abbrev pub on_way : Option Ways → Bool → Option ℕ

@@ -1,5 +1,4 @@
--- Which events of a plan's nodes the definitions have a step for.
-use Rattle.std.specs.Prelude.{◌<◌, length}
+-- Which events of a plan's actors the definitions have a step for.
 use Rattle.vc_accepted.specs.NetworkOf.{network_of}
 use Rattle.vc_network.specs.Enabled.{IsEnabled}
 use Rattle.vc_plan.specs.declared.plan.Plan.{Plan}
@@ -8,7 +7,6 @@ use Rattle.vc_told.specs.Process.{does}
 use Rattle.vc_core.specs.State.{State, shown, event_of}
 use Rattle.vc_core.specs.declared.act.Event.{Event}
 
--- the event is a node's, and leads from this state to some state
-pub record CanHappen (p : Plan) (s : State) (e : Event) : Type 0 where
-  pub node : e.actor < length p.nodes
-  pub step : IsEnabled (network_of p) Wormhole does (shown s) (event_of e)
+-- the event leads from this state to some state
+abbrev pub CanHappen : Plan → State → Event → Type 0
+CanHappen p s e = IsEnabled (network_of p) Wormhole does (shown s) (event_of e)

@@ -3,6 +3,7 @@ pub mod Filled
 pub mod Channels
 pub mod Inside
 pub mod Shown
+pub mod Parts
 pub mod OfPlan
 pub mod MayMove
 pub mod Passing

@@ -31,7 +31,7 @@ pub record Stands (p : Given) (s : State) (c : ℕ) (place : Place) : Type 0 whe
   pub on_link : is_virtual (home (network_of p) c) ≡ true
   pub here : IsPlaceOf (network_of p) (shown s) c place
 
--- where a packet of channel c stands, or nowhere where none does; with switches, which do not run yet, nothing is told of nowhere
+-- where a packet of channel c stands, or nowhere where none does; with switches, at which the code does not look yet, nothing is told of nowhere
 abbrev pub FindsPlace : Given → State → ℕ → Option Name → Type 0
 FindsPlace p s c None = p.switches ≡ [] → (place : Place) → Stands p s c place → ⊥
 FindsPlace p s c (Some x) = (place : Place) × Stands p s c place × IsNamed (network_of p) place x

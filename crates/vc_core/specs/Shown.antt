@@ -1,10 +1,12 @@
--- What the code's nodes and networks are in the words of the network's steps.
+-- What the code's actors are in the words of the network's steps.
 use Rattle.std.specs.Prelude.{ℕ, List, length}
 use Rattle.vc_network.specs.Processes as made
 use Rattle.vc_network.specs.Network as net
 use Rattle.vc_machine.specs.Rendezvous.{View, nothing_yet}
 use Rattle.vc_vcp.specs.Keyed.{by_name}
 use Rattle.vc_vcp.specs.Seen.{seen}
+use Rattle.vc_switch.specs.State.{State as SwitchState}
+use Rattle.vc_switch.specs.Seen.{seen as seen_switch}
 use Rattle.vc_occam.specs.Runnings.{state, inner_channels}
 use Rattle.vc_occam.specs.declared.moves.Move.{Move}
 use Rattle.vc_occam.specs.declared.moves.Move.TheVariants as move
@@ -43,3 +45,12 @@ views_of xs = by_name (λ x. x.chan) view_of nothing_yet xs
 
 abbrev pub node_of : Node → net.Node Process
 node_of n = record { vcp = seen n.vcp; process = process_of n.process; inner = views_of n.inside }
+
+-- an actor of the code: a node, or a switch
+pub data Acting : Type 0 where
+  OfNode : Node → Acting
+  OfSwitch : SwitchState → Acting
+
+abbrev pub actor_of : Acting → net.Actor Process
+actor_of (OfNode n) = net.IsNode (node_of n)
+actor_of (OfSwitch s) = net.IsSwitch (seen_switch s)

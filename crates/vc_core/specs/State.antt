@@ -1,5 +1,5 @@
 -- What the code's network is: its actors, and the ways between them; and when an event can be made.
-use Rattle.std.specs.Prelude.{◌≡◌, ℕ, List, [], ◌∷◌, Option, Some, None, slice_get, slice_set, length}
+use Rattle.std.specs.Prelude.{◌≡◌, ℕ, ◌+◌, List, [], ◌∷◌, Option, Some, None, slice_get, slice_set, length}
 use Rattle.vc_actors.specs.Actors.{ActBy}
 use Rattle.vc_actors.specs.Actors as actors
 use Rattle.vc_network.specs.Network as net
@@ -15,19 +15,18 @@ use Rattle.vc_tokens.specs.Tokens.{Token}
 use Rattle.vc_vcp.specs.Keyed.{shown_or}
 use Rattle.vc_core.specs.Channels.{AreChannelsOf}
 use Rattle.vc_core.specs.Acting.{MayAct, MakesTake, MakesPut, MakesGrant}
-use Rattle.vc_core.specs.OfPlan.{IsNodeOf}
+use Rattle.vc_core.specs.OfPlan.{IsActorOf}
 use Rattle.vc_told.specs.Process.{Process, does}
-use Rattle.vc_core.specs.Shown.{node_of, act_of}
+use Rattle.vc_core.specs.Shown.{Acting, actor_of, act_of}
 use Rattle.vc_core.specs.Wired.{out_at, in_at, AreWaysAt}
 use Rattle.vc_core.specs.declared.act.Act.{Act}
 use Rattle.vc_core.specs.declared.act.Act.TheVariants.{Proc, Take, Put, Route, Fct, Pass}
 use Rattle.vc_core.specs.declared.act.Event.{Event}
-use Rattle.vc_core.specs.declared.actor.Actor.{Actor}
 use Rattle.vc_core.specs.declared.channels.ChannelInfo.{ChannelInfo}
 use Rattle.vc_core.specs.declared.network.Network.{Network}
 
 pub record State : Type 0 where
-  pub actors : List Actor
+  pub actors : List Acting
   pub ways : List (List Token)
   pub wiring : List (Option ℕ)
   pub wires : List Wire
@@ -36,10 +35,7 @@ pub record State : Type 0 where
 abbrev pub state_of : Network → State
 state_of n = record { actors = n.actors.items; ways = n.ways.items; wiring = n.wiring; wires = n.wires; channels = n.channels.items }
 
-abbrev pub actor_of : Actor → net.Actor Process
-actor_of a = net.IsNode (node_of a.node)
-
--- in the words of the network's steps; a switch does not run yet: it stays as it begins
+-- in the words of the network's steps
 abbrev pub shown : State → actors.Network (net.Actor Process) Token
 shown s = record {
   state = λ a. shown_or (net.IsSwitch new_switch) actor_of (slice_get s.actors a);
@@ -52,8 +48,8 @@ event_of e = record { actor = e.actor; act = act_of e.act }
 -- it is a state of the network of plan p
 pub record IsNetworkOf (p : Plan) (s : State) : Type 0 where
   pub accepted : IsAccepted p
-  pub count : length s.actors ≡ length p.nodes
-  pub nodes : (k : ℕ) (a : Actor) → slice_get s.actors k ≡ Some a → IsNodeOf (network_of p) k a.node
+  pub count : length s.actors ≡ length p.nodes + length p.switches
+  pub actors : (k : ℕ) (a : Acting) → slice_get s.actors k ≡ Some a → IsActorOf (network_of p) k a
   pub ways : length s.ways ≡ ways (network_of p)
   pub wiring : AreWaysAt p s.wiring
   pub wires : s.wires ≡ p.wires
@@ -85,9 +81,9 @@ WaysLet s actor (Route input output) = Unit {0}
 
 -- the event can be made
 pub record MayHappen (s : State) (e : Event) : Type 0 where
-  pub actor : Actor
+  pub actor : Acting
   pub here : slice_get s.actors e.actor ≡ Some actor
-  pub may : MayAct actor.node e.act
+  pub may : MayAct actor e.act
   pub ways : WaysLet s e.actor e.act
 
 -- the event is made, and the network stays the plan's
@@ -95,8 +91,8 @@ pub record MakesEvent (p : Plan) (old : State) (e : Event) (new : State) : Type 
   pub happens : net.Happens (network_of p) Wormhole does (shown old) (event_of e) (shown new)
   pub kept : IsNetworkOf p new
 
--- the network with another state of one node
-abbrev pub with_actor : State → ℕ → Actor → State
+-- the network with another state of one actor
+abbrev pub with_actor : State → ℕ → Acting → State
 with_actor s k b = record s { actors = slice_set s.actors k b }
 
 -- and with other tokens on one way
@@ -105,33 +101,33 @@ with_line s w ts = record s { ways = slice_set s.ways w ts }
 
 -- the actor is there, and can make the act
 pub record MayActAt (s : State) (k : ℕ) (a : Act) : Type 0 where
-  pub actor : Actor
+  pub actor : Acting
   pub here : slice_get s.actors k ≡ Some actor
-  pub may : MayAct actor.node a
+  pub may : MayAct actor a
 
 -- a token comes to actor k
-pub record Accepts (old : State) (k link : ℕ) (t : Token) (new : State) : Type 0 where
-  pub before : Actor
-  pub after : Actor
+pub record Accepts (old : State) (k link word : ℕ) (t : Token) (new : State) : Type 0 where
+  pub before : Acting
+  pub after : Acting
   pub here : slice_get old.actors k ≡ Some before
   pub new_is : new ≡ with_actor old k after
-  pub takes : (plan : network.Plan) (n : ℕ) → IsNodeOf plan n before.node → MakesTake plan n before.node link t after.node
+  pub takes : (plan : network.Plan) (n : ℕ) → IsActorOf plan n before → MakesTake plan n before link word t after
 
 -- actor k puts a token
 pub record PutsBy (old : State) (k link : ℕ) (t : Token) (new : State) : Type 0 where
-  pub before : Actor
-  pub after : Actor
+  pub before : Acting
+  pub after : Acting
   pub here : slice_get old.actors k ≡ Some before
   pub new_is : new ≡ with_actor old k after
-  pub puts : (plan : network.Plan) (n : ℕ) → IsNodeOf plan n before.node → MakesPut plan n before.node link t after.node
+  pub puts : (plan : network.Plan) (n : ℕ) → IsActorOf plan n before → MakesPut plan n before link t after
 
 -- actor k grants eight places
 pub record GrantsBy (old : State) (k link : ℕ) (new : State) : Type 0 where
-  pub before : Actor
-  pub after : Actor
+  pub before : Acting
+  pub after : Acting
   pub here : slice_get old.actors k ≡ Some before
   pub new_is : new ≡ with_actor old k after
-  pub grants : (plan : network.Plan) (n : ℕ) → IsNodeOf plan n before.node → MakesGrant plan n before.node link after.node
+  pub grants : (plan : network.Plan) (n : ℕ) → IsActorOf plan n before → MakesGrant plan n before link after
 
 -- an event is made, or none and all stays
 abbrev pub MakesOne : Plan → State → Option Event → State → Type 0

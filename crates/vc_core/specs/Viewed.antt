@@ -5,7 +5,6 @@ use Rattle.vc_network.specs.Views.{halves_view}
 use Rattle.vc_vcp.specs.Keyed.{named}
 use Rattle.vc_vcp.specs.Seen.{seen}
 use Rattle.vc_core.specs.Shown.{view_of}
-use Rattle.vc_core.specs.declared.actor.Actor.{Actor}
 use Rattle.vc_core.specs.declared.inside.Internal.{Internal}
 use Rattle.vc_core.specs.declared.node.Node.{Node}
 
@@ -18,6 +17,6 @@ abbrev pub node_view : Node → ℕ → View
 node_view n c = by_inside (named (λ x. x.chan) c n.inside) (halves_view ((seen n.vcp).carrier.out c) ((seen n.vcp).carrier.into c))
 
 -- where there is no node nothing has happened
-abbrev pub actor_view : Option Actor → ℕ → View
-actor_view None c = nothing_yet
-actor_view (Some a) c = node_view a.node c
+abbrev pub view_at_node : Option Node → ℕ → View
+view_at_node None c = nothing_yet
+view_at_node (Some n) c = node_view n c

@@ -1,5 +1,5 @@
 -- Which ways go out and come in by the links of actors, as the code keeps them: 32 places an actor.
-use Rattle.std.specs.Prelude.{◌≡◌, ℕ, ◌+◌, ◌*◌, ◌≤◌, ◌<◌, nat_lt, List, length, get_or, Option, Some, None, slice_get, if◌then◌else◌}
+use Rattle.std.specs.Prelude.{◌≡◌, ℕ, ◌+◌, ◌*◌, ◌≤◌, nat_lt, List, get_or, Option, Some, None, slice_get, if◌then◌else◌}
 use Rattle.std.specs.Option.{option_map}
 use Rattle.vc_network.specs.Plan.{back}
 use Rattle.vc_plan.specs.declared.plan.Plan.{Plan}
@@ -15,9 +15,9 @@ out_at out actor link = if nat_lt link 32 then there (slice_get out (actor * 32 
 abbrev pub in_at : List (Option ℕ) → ℕ → ℕ → Option ℕ
 in_at out actor link = option_map back (out_at out actor link)
 
--- these are the ways at the nodes of plan p
+-- these are the ways at the actors of plan p
 abbrev pub AreWaysAt : Plan → List (Option ℕ) → Type 0
-AreWaysAt p out = (actor link : ℕ) → actor < length p.nodes → link < 32 → out_at out actor link ≡ outgoing p actor link
+AreWaysAt p out = (actor link : ℕ) → out_at out actor link ≡ outgoing p actor link
 
 -- no way goes out by a link that is not below the actor's span
 pub record AreSpans (out : List (Option ℕ)) (spans : List ℕ) : Type 0 where

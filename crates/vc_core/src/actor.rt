@@ -1,128 +1,163 @@
 //! Actors: what the simulator and a thread run alike.
-ghost use Rattle.std.specs.Prelude.{◌≡◌, ◌<◌, ◌↔◌, ℕ, Some, None, IsTrue, IfOk, IfSome, OnOk, OnErr};
-ghost use Rattle.vc_core.specs.Acting.{MayAct, MakesOwn, MakesTake, MakesPut, MakesGrant, IsOwn};
-ghost use Rattle.std.specs.List.{Contains};
-ghost use Rattle.vc_core.specs.Able.{CanAct, CanMove};
-ghost use Rattle.std.specs.Int.{bit_at};
-ghost use Rattle.vc_core.specs.OfPlan.{IsNodeOf};
-ghost use Rattle.vc_core.specs.Turns.{IsTurn, FindsAt, FindsMove, FindsTurn, IsTold, MakesTurn};
-ghost use Rattle.vc_occam.specs.Remains.{Done};
-ghost use Rattle.vc_occam.specs.Runnings.{state};
-ghost use Rattle.vc_occam.specs.declared.moves.Move.{Move as SpeltMove};
-ghost use Rattle.vc_vcp.specs.Seen.{seen};
+ghost use Rattle.std.specs.Prelude.{◌≡◌, ◌↔◌, ℕ, IsTrue, IfOk, IfSome, OnOk, OnErr};
+ghost use Rattle.std.specs.Option.{option_copied};
+ghost use Rattle.vc_core.specs.Able.{CanAct};
+ghost use Rattle.vc_core.specs.Acting.{HasLink, MayAct, MakesOwn, MakesTake, MakesPut, MakesGrant, IsOwn};
+ghost use Rattle.vc_core.specs.OfPlan.{IsActorOf};
+ghost use Rattle.vc_core.specs.Parts.{HasEnded, node_in, strays_of, lost_of, faults_of};
+ghost use Rattle.vc_core.specs.Shown.{OfNode, OfSwitch};
+ghost use Rattle.vc_core.specs.Turns.{FindsTurn, IsTold, MakesTurn};
 ghost use Rattle.vc_network.specs.Plan.{Plan};
 ghost use Rattle.vc_tokens.specs.Spelt.{token};
 
 use crate::act::Act;
 use crate::node::Node;
+use crate::node_actor::NodeActor;
+use crate::switch_actor::SwitchActor;
 use crate::turn::Turn;
-use vc_occam::Move;
+use std::marker::Model;
 use vc_packets::Memory;
+use vc_switch::Switch;
 use vc_tokens::Token;
 
-/// The links of a node.
-pub(crate) const NODE_LINKS: u8 = 4;
-
-/// A node of the network, which makes its steps by itself.
+/// A node or a switch of the network, which makes its steps by itself.
 #[derive(Drop)]
 pub struct Actor {
-    node: Node,
-    next_site: u16,
+    part: Part,
+}
+
+/// What an actor is.
+#[derive(Drop)]
+pub(crate) enum Part {
+    /// A node with its process.
+    Node(NodeActor),
+    /// A switch.
+    Switch(SwitchActor),
+}
+
+impl Model for Actor {
+    ghost use Rattle.vc_core.specs.Parts.{acting};
+    ghost use Rattle.vc_core.specs.Shown.{Acting};
+    ghost use Rattle.std.specs.Coded.{codes};
+    ghost use Rattle.vc_core.specs.contracts.node.Node as node;
+
+    ghost Value = { Acting };
+
+    ghost coded = { Prim.hlevel (codes, node.the_row.coded) };
+
+    ghost view = { λ x. acting x.part };
 }
 
 impl Actor {
     pub(crate) fn of_node(node: Node) -> Actor
-        ensures { result.node ≡ node }
+        ensures { result ≡ OfNode node }
     {
-        Actor { node, next_site: 0 }
+        Actor {
+            part: Part::Node(NodeActor::new(node)),
+        }
     }
 
-    pub(crate) fn node(&self) -> &Node
-        ensures { result.now ≡ self.now.node }
+    pub(crate) fn of_switch(switch: Switch) -> Actor
+        ensures { result ≡ OfSwitch switch }
     {
-        &self.node
+        Actor {
+            part: Part::Switch(SwitchActor::new(switch)),
+        }
     }
 
-    /// Whether a token may be taken from a link: always.
-    pub fn may_take(&self, _link: u8) -> bool
-        ensures { IsTrue result }
+    /// The node, if the actor is one.
+    pub(crate) fn node(&self) -> Option<&Node>
+        ensures { option_copied result ≡ node_in self.now }
     {
-        true
+        match &self.part {
+            Part::Node(node) => Some(node.node()),
+            Part::Switch(_) => None,
+        }
+    }
+
+    /// Whether a token may be taken from a link: always, where the actor has the link; a node has four, and a switch 32.
+    pub fn may_take(&self, link: u8) -> bool
+        ensures { IsTrue result ↔ HasLink self.now link }
+    {
+        match &self.part {
+            Part::Node(_) => link < 4,
+            Part::Switch(_) => link < 32,
+        }
     }
 
     /// Whether an act is one that the actor can make now, whatever stands on its ways.
     pub(crate) fn can(&self, act: &Act) -> bool
-        ensures may { IsTrue result ↔ MayAct self.now.node act.now }
-        ensures can { (plan : Plan) (k : ℕ) → IsNodeOf plan k self.now.node → IsTrue result ↔ CanAct plan k self.now.node act.now }
+        ensures may { IsTrue result ↔ MayAct self.now act.now }
+        ensures can { (plan : Plan) (k : ℕ) → IsActorOf plan k self.now → IsTrue result ↔ CanAct plan k self.now act.now }
     {
-        match act {
-            Act::Proc(made) => self.node.can_move(made),
-            Act::Take { link, .. } => *link < NODE_LINKS,
-            Act::Put { link } => *link < NODE_LINKS && self.node.vcp.may_put(*link),
-            Act::Fct { link } => *link < NODE_LINKS && self.node.vcp.may_grant(*link),
-            Act::Pass { link } => *link < self.node.vcp.links() && self.node.vcp.may_pass(*link),
-            Act::Route { .. } => false,
+        match &self.part {
+            Part::Node(node) => node.can(act),
+            Part::Switch(switch) => switch.can(act),
         }
     }
 
-    /// Takes a token from a link.
+    /// Takes a token from a link, with a word of which a switch makes a random header.
     pub fn take(&mut self, link: u8, item: &Token, word: u32) -> Result<Act, Memory>
-        requires { link < 4 }
+        requires { HasLink self.old link }
         ensures act { IfOk result (λ act. act ≡ Act.Take link word) }
-        ensures ok { (plan : Plan) (k : ℕ) → IsNodeOf plan k self.old.node → OnOk result (MakesTake plan k self.old.node link (token item.now) self.new.node) }
+        ensures ok { (plan : Plan) (k : ℕ) → IsActorOf plan k self.old → OnOk result (MakesTake plan k self.old link word (token item.now) self.new) }
         ensures err { OnErr result (self.new ≡ self.old) }
     {
-        self.accept(link, *item);
+        self.accept(link, *item, word);
         Ok(Act::Take { link, word })
     }
 
-    /// A token comes over a link.
-    pub(crate) fn accept(&mut self, link: u8, came: Token)
-        requires { link < 4 }
-        ensures { (plan : Plan) (k : ℕ) → IsNodeOf plan k self.old.node → MakesTake plan k self.old.node link (token came) self.new.node }
+    /// A token comes over a link, with a word.
+    pub(crate) fn accept(&mut self, link: u8, came: Token, word: u32)
+        requires { HasLink self.old link }
+        ensures { (plan : Plan) (k : ℕ) → IsActorOf plan k self.old → MakesTake plan k self.old link word (token came) self.new }
     {
-        self.node.vcp.accept(link, came);
+        match &mut self.part {
+            Part::Node(node) => node.accept(link, came),
+            Part::Switch(switch) => switch.accept(link, came, word),
+        }
     }
 
-    /// Makes a step of its own: a move of the process, or a token that passes.
+    /// Makes a step of its own: a move of a process, a token that passes, or a packet that is bound to an output.
     pub(crate) fn make(&mut self, act: &Act) -> Result<(), Memory>
-        requires may { MayAct self.old.node act.now }
+        requires may { MayAct self.old act.now }
         requires own { IsOwn act.now }
-        ensures ok { (plan : Plan) (k : ℕ) → IsNodeOf plan k self.old.node → OnOk result (MakesOwn plan k self.old.node act.now self.new.node) }
+        ensures ok { (plan : Plan) (k : ℕ) → IsActorOf plan k self.old → OnOk result (MakesOwn plan k self.old act.now self.new) }
         ensures err { OnErr result (self.new ≡ self.old) }
     {
-        match *act {
-            Act::Proc(made) => {
-                self.node.make(&made)?;
-                self.next_site = site_of(&made).saturating_add(1);
-                Ok(())
-            }
-            Act::Pass { link } => self.node.pass(link),
-            _ => unreachable!(),
+        match &mut self.part {
+            Part::Node(node) => node.make(act),
+            Part::Switch(switch) => switch.make(act),
         }
     }
 
     /// Puts the next token on a link.
     pub(crate) fn put(&mut self, link: u8) -> Token
-        requires { MayAct self.old.node (Act.Put link) }
-        ensures { (plan : Plan) (k : ℕ) → IsNodeOf plan k self.old.node → MakesPut plan k self.old.node link (token result) self.new.node }
+        requires { MayAct self.old (Act.Put link) }
+        ensures { (plan : Plan) (k : ℕ) → IsActorOf plan k self.old → MakesPut plan k self.old link (token result) self.new }
     {
-        self.node.vcp.put(link)
+        match &mut self.part {
+            Part::Node(node) => node.put(link),
+            Part::Switch(switch) => switch.put(link),
+        }
     }
 
     /// Grants eight places of a link's buffer.
     pub(crate) fn grant(&mut self, link: u8)
-        requires { MayAct self.old.node (Act.Fct link) }
-        ensures { (plan : Plan) (k : ℕ) → IsNodeOf plan k self.old.node → MakesGrant plan k self.old.node link self.new.node }
+        requires { MayAct self.old (Act.Fct link) }
+        ensures { (plan : Plan) (k : ℕ) → IsActorOf plan k self.old → MakesGrant plan k self.old link self.new }
     {
-        self.node.vcp.grant(link);
+        match &mut self.part {
+            Part::Node(node) => node.grant(link),
+            Part::Switch(switch) => switch.grant(link),
+        }
     }
 
-    /// Makes the actor's next step: a token passes, by the least link; a token is put, by the least link with room; a flow control
-    /// token is put, by the least link with room; then a move of the process, beginning behind the site that acted last. `room` has
-    /// a bit for each outgoing link that has room.
+    /// Makes the actor's next step: a token passes, by the least link; a switch binds a packet, the least input's to the least
+    /// output; a token is put, by the least link with room; a flow control token is put, by the least link with room; then a move
+    /// of the process, beginning behind the site that acted last. `room` has a bit for each outgoing link that has room.
     pub fn turn(&mut self, room: u32) -> Result<Turn, Memory>
-        ensures makes { (plan : Plan) (k : ℕ) → IsNodeOf plan k self.old.node → IfOk result (λ turn. MakesTurn plan k self.old.node room turn self.new.node) }
+        ensures makes { (plan : Plan) (k : ℕ) → IsActorOf plan k self.old → IfOk result (λ turn. MakesTurn plan k self.old room turn self.new) }
         ensures refused { OnErr result (self.new ≡ self.old) }
     {
         match self.next(room)? {
@@ -133,8 +168,8 @@ impl Actor {
 
     // Makes this step.
     fn turn_by(&mut self, act: Act) -> Result<Turn, Memory>
-        requires { MayAct self.old.node act }
-        ensures makes { (plan : Plan) (k : ℕ) → IsNodeOf plan k self.old.node → IfOk result (λ turn. IsTold plan k self.old.node act turn self.new.node) }
+        requires { MayAct self.old act }
+        ensures makes { (plan : Plan) (k : ℕ) → IsActorOf plan k self.old → IfOk result (λ turn. IsTold plan k self.old act turn self.new) }
         ensures refused { OnErr result (self.new ≡ self.old) }
     {
         match act {
@@ -147,127 +182,62 @@ impl Actor {
                 let item = Token::Fct;
                 Ok(Turn::Put { link, act, item })
             }
-            Act::Proc(_) | Act::Pass { .. } => {
+            Act::Proc(_) | Act::Pass { .. } | Act::Route { .. } => {
                 self.make(&act)?;
                 Ok(Turn::Local(act))
             }
-            Act::Take { .. } | Act::Route { .. } => Ok(Turn::Idle),
+            Act::Take { .. } => Ok(Turn::Idle),
         }
     }
 
     /// What the actor does next, if it has a step to make where its links have this room.
     pub(crate) fn next(&self, room: u32) -> Result<Option<Act>, Memory>
-        ensures may { IfOk result (λ act. IfSome act (λ a. MayAct self.now.node a)) }
-        ensures finds { (plan : Plan) (k : ℕ) → IsNodeOf plan k self.now.node → IfOk result (FindsTurn plan k self.now.node room) }
+        ensures may { IfOk result (λ act. IfSome act (λ a. MayAct self.now a)) }
+        ensures finds { (plan : Plan) (k : ℕ) → IsActorOf plan k self.now → IfOk result (FindsTurn plan k self.now room) }
     {
-        if let Some(act) = self.next_pass() {
-            return Ok(Some(act));
-        }
-        if let Some(act) = self.next_put(room) {
-            return Ok(Some(act));
-        }
-        if let Some(act) = self.next_grant(room) {
-            return Ok(Some(act));
-        }
-        self.next_move()
-    }
-
-    // The least link whose buffer has a token.
-    fn next_pass(&self) -> Option<Act>
-        ensures may { IfSome result (λ a. MayAct self.now.node a) }
-        ensures finds { (plan : Plan) (k : ℕ) → IsNodeOf plan k self.now.node → FindsAt (λ link. Act.Pass link) (CanAct plan k self.now.node) result }
-    {
-        for link in 0..self.node.vcp.links() {
-            if self.node.vcp.may_pass(link) {
-                return Some(Act::Pass { link });
-            }
-        }
-        None
-    }
-
-    // The least link with room on which a token may be put.
-    fn next_put(&self, room: u32) -> Option<Act>
-        ensures may { IfSome result (λ a. MayAct self.now.node a) }
-        ensures finds { (plan : Plan) (k : ℕ) → IsNodeOf plan k self.now.node → FindsAt (λ link. Act.Put link) (IsTurn plan k self.now.node room) result }
-    {
-        for link in 0..NODE_LINKS {
-            if has_room(room, link) && self.node.vcp.may_put(link) {
-                return Some(Act::Put { link });
-            }
-        }
-        None
-    }
-
-    // The least link with room on which a flow control token may be put.
-    fn next_grant(&self, room: u32) -> Option<Act>
-        ensures may { IfSome result (λ a. MayAct self.now.node a) }
-        ensures finds { (plan : Plan) (k : ℕ) → IsNodeOf plan k self.now.node → FindsAt (λ link. Act.Fct link) (IsTurn plan k self.now.node room) result }
-    {
-        for link in 0..NODE_LINKS {
-            if has_room(room, link) && self.node.vcp.may_grant(link) {
-                return Some(Act::Fct { link });
-            }
-        }
-        None
-    }
-
-    // The next move that the process can make, going round behind the site that acted last.
-    fn next_move(&self) -> Result<Option<Act>, Memory>
-        ensures may { IfOk result (λ act. IfSome act (λ a. MayAct self.now.node a)) }
-        ensures finds { (plan : Plan) (k : ℕ) → IsNodeOf plan k self.now.node → IfOk result (FindsMove plan k self.now.node) }
-    {
-        let moves = self.node.process.actions()?;
-        match self.first_move(moves.as_slice(), self.next_site) {
-            Some(act) => Ok(Some(act)),
-            None => Ok(self.first_move(moves.as_slice(), 0)),
+        match &self.part {
+            Part::Node(node) => node.next(room),
+            Part::Switch(switch) => Ok(switch.next(room)),
         }
     }
 
-    // The first of these moves that can be made, by a site from this one on.
-    fn first_move(&self, moves: &[Move], from: u16) -> Option<Act>
-        ensures may { IfSome result (λ a. MayAct self.now.node a) }
-        ensures some { (plan : Plan) (k : ℕ) → IsNodeOf plan k self.now.node → IfSome result (λ a. FindsMove plan k self.now.node (Some a)) }
-        ensures none { (plan : Plan) (k : ℕ) (m : SpeltMove) → IsNodeOf plan k self.now.node → from ≡ 0 → result ≡ None → Contains moves.now m → CanMove plan k self.now.node m → ⊥ }
-    {
-        for made in moves {
-            if site_of(made) >= from && self.node.can_move(made) {
-                return Some(Act::Proc(*made));
-            }
-        }
-        None
-    }
-
-    /// Whether the process has ended: nothing remains of it.
+    /// Whether the process of a node has ended: nothing remains of it. A switch never ends.
     pub fn ended(&self) -> bool
-        ensures { IsTrue result ↔ ((state self.now.node.process).rest ≡ Done) }
+        ensures { IsTrue result ↔ HasEnded self.now }
     {
-        self.node.process.ended()
+        match &self.part {
+            Part::Node(node) => node.ended(),
+            Part::Switch(_) => false,
+        }
+    }
+
+    /// How many packets and tokens a node dropped; 0 of a switch.
+    pub(crate) fn strays(&self) -> u64
+        ensures { result ≡ strays_of self.now }
+    {
+        match &self.part {
+            Part::Node(node) => node.strays(),
+            Part::Switch(_) => 0,
+        }
+    }
+
+    /// How many packets and tokens a switch dropped; 0 of a node.
+    pub(crate) fn lost(&self) -> u64
+        ensures { result ≡ lost_of self.now }
+    {
+        match &self.part {
+            Part::Node(_) => 0,
+            Part::Switch(switch) => switch.lost(),
+        }
     }
 
     /// How many packets and tokens were dropped.
     pub fn faults(&self) -> u64
-        ensures { result ≡ (seen self.now.node.vcp).carrier.strays }
+        ensures { result ≡ faults_of self.now }
     {
-        self.node.vcp.strays()
-    }
-}
-
-// Whether the outgoing link has room.
-fn has_room(room: u32, link: u8) -> bool
-    requires { link < 4 }
-    ensures { IsTrue result ↔ (bit_at room link ≡ 1) }
-{
-    room >> link & 1 == 1
-}
-
-// The site that makes a move; that of the output where two sites meet.
-fn site_of(made: &Move) -> u16 {
-    match *made {
-        Move::Offer { site, .. }
-        | Move::Want { site, .. }
-        | Move::Choose { site, .. }
-        | Move::Stopch { site, .. }
-        | Move::Quiet { site } => site,
-        Move::Inner { sender, .. } => sender,
+        match &self.part {
+            Part::Node(node) => node.strays(),
+            Part::Switch(switch) => switch.lost(),
+        }
     }
 }

@@ -1,16 +1,19 @@
-//! Building the nodes of an accepted plan.
-ghost use Rattle.std.specs.Prelude.{◌≡◌, ◌≤◌, ◌++◌, true, false, Some, IfOk, OnOk, length, slice_get};
+//! Building the actors of an accepted plan.
+ghost use Rattle.std.specs.Prelude.{◌≡◌, ◌≤◌, ◌++◌, [], true, false, Some, IfOk, OnOk, length, slice_get};
 ghost use Rattle.vc_accepted.specs.Given.{ends_among};
 ghost use Rattle.vc_accepted.specs.NetworkOf.{network_of};
 ghost use Rattle.vc_core.specs.Begin.{AreFirst, AreWaysOf, BeginsAs, carried, carrying, given, given_to, on_link};
-ghost use Rattle.vc_told.specs.Begin.{numbers_inside};
+ghost use Rattle.vc_core.specs.Shown.{OfNode};
+ghost use Rattle.vc_core.specs.Turns.{actors as actors_in};
 ghost use Rattle.vc_network.specs.Plan as network;
 ghost use Rattle.vc_plan.specs.Accepted.{IsAccepted};
 ghost use Rattle.vc_plan.specs.Limits.{kinds_of};
+ghost use Rattle.vc_told.specs.Begin.{numbers_inside};
 
 use crate::actor::Actor;
 use crate::inside::Inside;
 use crate::node::Node;
+use crate::switch_building::build_switch;
 use sqlite_items::Items;
 use std::alloc::Global;
 use vc_occam::{Running, ValueKind};
@@ -177,7 +180,7 @@ fn build_node(
     requires accepted { IsAccepted plan.now }
     requires node { slice_get plan.now.nodes number ≡ Some node.now }
     requires ways { AreWaysOf plan.now ways.now }
-    ensures { IfOk result (λ built. BeginsAs plan.now number built) }
+    ensures { IfOk result (λ built. BeginsAs plan.now number (OfNode built)) }
 {
     let ends = ends_of(alloc, plan, number, ways)?;
     let vcp = Vcp::new(alloc, &ends, body_limit(plan))?;
@@ -188,16 +191,41 @@ fn build_node(
     Ok(Node::new(alloc, vcp, process, inside))
 }
 
-/// The actors of an accepted plan: its nodes, in order, each of which begins.
-pub fn actors(alloc: Global, accepted: &Accepted) -> Result<Vec<Actor>, Memory>
-    ensures { IfOk result (λ actors. AreFirst accepted.now actors.items) }
+// The nodes of a plan join the actors, which are none yet.
+fn add_nodes(alloc: Global, plan: &Plan, actors: &mut Vec<Actor>) -> Result<(), Memory>
+    requires accepted { IsAccepted plan.now }
+    requires none { actors.old.items ≡ [] }
+    ensures { OnOk result (AreFirst plan.now (length plan.now.nodes) actors.new.items) }
 {
-    let plan = accepted.plan();
     let ways = ways_of(alloc, plan)?;
-    let mut actors = Vec::new(alloc);
     for (i, node) in plan.nodes.as_slice().iter().enumerate() {
         let node = build_node(alloc, plan, node, i as u8, &ways)?;
         actors.push(Actor::of_node(node))?;
     }
+    Ok(())
+}
+
+// The switches of a plan join its nodes.
+fn add_switches(alloc: Global, plan: &Plan, actors: &mut Vec<Actor>) -> Result<(), Memory>
+    requires accepted { IsAccepted plan.now }
+    requires nodes { AreFirst plan.now (length plan.now.nodes) actors.old.items }
+    ensures { OnOk result (AreFirst plan.now (actors_in plan.now) actors.new.items) }
+{
+    let body_limit = body_limit(plan);
+    for switch in plan.switches.as_slice() {
+        let switch = build_switch(alloc, switch, body_limit)?;
+        actors.push(Actor::of_switch(switch))?;
+    }
+    Ok(())
+}
+
+/// The actors of an accepted plan: its nodes, in order, and then its switches, each of which begins.
+pub fn actors(alloc: Global, accepted: &Accepted) -> Result<Vec<Actor>, Memory>
+    ensures { IfOk result (λ actors. AreFirst accepted.now (actors_in accepted.now) actors.items) }
+{
+    let plan = accepted.plan();
+    let mut actors = Vec::new(alloc);
+    add_nodes(alloc, plan, &mut actors)?;
+    add_switches(alloc, plan, &mut actors)?;
     Ok(actors)
 }

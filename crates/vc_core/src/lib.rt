@@ -1,6 +1,6 @@
-//! The network as events: nodes joined by one-way ways of tokens, each event one act of one actor.
+//! The network as events: nodes and switches joined by one-way ways of tokens, each event one act of one actor.
 //!
-//! An [`Actor`] is a node with its process; a [`Network`] is the actors and the ways between them. A simulator makes events one after
+//! An [`Actor`] is a node with its process, or a switch; a [`Network`] is the actors and the ways between them. A simulator makes events one after
 //! another, and the same actors run in threads. Each event that [`Network::step`] makes is exactly one step of the network of the
 //! plan (`specs/State`, MakesEvent), and what [`replay`] answers keeps the headline, and has one list of all that the nodes
 //! communicated, of which each node's part is a trace of its process (`specs/Replaying`).
@@ -16,11 +16,15 @@ mod filling;
 mod inside;
 mod network;
 mod node;
+mod node_actor;
 mod place;
 mod reader;
 mod refused;
+mod room;
 mod sought;
 mod spans;
+mod switch_actor;
+mod switch_building;
 mod turn;
 mod way;
 mod wiring;

@@ -17,7 +17,8 @@ ghost use Rattle.vc_core.specs.Sought.{Has, IsSought, HasReadAt};
 ghost use Rattle.vc_core.specs.Channels.{ends_at};
 ghost use Rattle.vc_core.specs.Enabled.{CanHappen};
 ghost use Rattle.std.specs.Int.{bit_at};
-ghost use Rattle.vc_core.specs.Turns.{FindsFront, FindsTake, FindsEvent, HaveEnded};
+ghost use Rattle.vc_core.specs.Parts.{IsDone, node_at, vcp_in};
+ghost use Rattle.vc_core.specs.Turns.{FindsFront, FindsTake, FindsEvent, HaveEnded, actors};
 ghost use Rattle.vc_core.specs.declared.act.Event.{Event as Happening};
 ghost use Rattle.vc_core.specs.State.{shown, state_of, IsNetworkOf, MayHappen, WaysLet, HasFront, HasWay, MakesEvent, MayActAt, Accepts, PutsBy, GrantsBy, with_line};
 ghost use Rattle.vc_tokens.specs.Tokens.{Token as SpeltToken};
@@ -27,6 +28,7 @@ use crate::act::{Act, Event};
 use crate::actor::Actor;
 use crate::building::actors;
 use crate::channels::{ChannelInfo, Ends, channels_of};
+use crate::node::Node;
 use crate::place::Place;
 use crate::reader::Reader;
 use crate::refused::{ReplayRefused, StepRefused};
@@ -65,7 +67,7 @@ impl Network {
         })
     }
 
-    /// Whether an event can be made: exactly where it is a node's and leads to some state.
+    /// Whether an event can be made: exactly where it leads to some state.
     pub fn enabled(&self, event: &Event) -> bool
         ensures may { IsTrue result ↔ MayHappen (state_of self.now) event.now }
         ensures can { (p : Plan) → IsNetworkOf p (state_of self.now) → IsTrue result ↔ CanHappen p (state_of self.now) event.now }
@@ -128,18 +130,17 @@ impl Network {
         ensures refused { OnErr result (state_of self.new ≡ state_of self.old) }
     {
         match event.act {
-            Act::Proc(_) | Act::Pass { .. } => self.act(event),
-            Act::Take { link, .. } => {
-                self.take(event, link);
+            Act::Proc(_) | Act::Pass { .. } | Act::Route { .. } => self.act(event),
+            Act::Take { link, word } => {
+                self.take(event, link, word);
                 Ok(())
             }
             Act::Put { link } => self.put(event, link),
             Act::Fct { link } => self.grant(event, link),
-            Act::Route { .. } => unreachable!(),
         }
     }
 
-    // A node makes a step of its own.
+    // An actor makes a step of its own.
     fn act(&mut self, event: &Event) -> Result<(), Memory>
         requires may { MayHappen (state_of self.old) event.now }
         requires own { IsOwn event.now.act }
@@ -149,10 +150,10 @@ impl Network {
         self.actors[usize::from(event.actor)].make(&event.act)
     }
 
-    // A node takes the front token of the way that comes in by a link.
-    fn take(&mut self, event: &Event, link: u8)
+    // An actor takes the front token of the way that comes in by a link.
+    fn take(&mut self, event: &Event, link: u8, word: u32)
         requires may { MayHappen (state_of self.old) event.now }
-        requires is { (word : ℕ) × (event.now.act ≡ Act.Take link word) }
+        requires is { event.now.act ≡ Act.Take link word }
         ensures { (p : Plan) → IsNetworkOf p (state_of self.old) → MakesEvent p (state_of self.old) event.now (state_of self.new) }
     {
         let Some(way) = self.wiring.incoming(event.actor, link) else {
@@ -161,7 +162,7 @@ impl Network {
         let Some(token) = self.ways[way].front() else {
             unreachable!();
         };
-        self.accept(event.actor, link, token);
+        self.accept(event.actor, link, token, word);
         self.drop_front(way);
     }
 
@@ -196,16 +197,15 @@ impl Network {
         Ok(())
     }
 
-    // A token comes to a node.
-    fn accept(&mut self, actor: u8, link: u8, token: Token)
-        requires here { actor < length self.old.actors.items }
-        requires link { link < 4 }
-        ensures { Accepts (state_of self.old) actor link (spelt token) (state_of self.new) }
+    // A token comes to an actor.
+    fn accept(&mut self, actor: u8, link: u8, token: Token, word: u32)
+        requires { MayActAt (state_of self.old) actor (Act.Take link word) }
+        ensures { Accepts (state_of self.old) actor link word (spelt token) (state_of self.new) }
     {
-        self.actors[usize::from(actor)].accept(link, token);
+        self.actors[usize::from(actor)].accept(link, token, word);
     }
 
-    // A node puts its next token.
+    // An actor puts its next token.
     fn put_by(&mut self, actor: u8, link: u8) -> Token
         requires { MayActAt (state_of self.old) actor (Act.Put link) }
         ensures { PutsBy (state_of self.old) actor link (spelt result) (state_of self.new) }
@@ -213,7 +213,7 @@ impl Network {
         self.actors[usize::from(actor)].put(link)
     }
 
-    // A node grants eight places.
+    // An actor grants eight places.
     fn grant_by(&mut self, actor: u8, link: u8)
         requires { MayActAt (state_of self.old) actor (Act.Fct link) }
         ensures { GrantsBy (state_of self.old) actor link (state_of self.new) }
@@ -290,16 +290,16 @@ impl Network {
         ensures { (p : Plan) → IsNetworkOf p (state_of self.now) → IsTrue result ↔ HaveEnded p (state_of self.now) }
     {
         for actor in &self.actors {
-            if !actor.ended() {
+            if !is_done(actor) {
                 return false;
             }
         }
         true
     }
 
-    /// How many actors there are.
+    /// How many actors there are: the nodes, and then the switches.
     pub fn actors(&self) -> usize
-        ensures { (p : Plan) → IsNetworkOf p (state_of self.now) → result ≡ length p.nodes }
+        ensures { (p : Plan) → IsNetworkOf p (state_of self.now) → result ≡ actors p }
     {
         self.actors.len()
     }
@@ -336,7 +336,7 @@ impl Network {
         ensures { (p : Plan) → IsNetworkOf p (state_of self.now) → chan < length p.channels → result.now ≡ (view (network_of p) (shown (state_of self.now)) chan).offered }
     {
         match self.source(chan) {
-            Some(actor) => actor.node().offered(chan),
+            Some(node) => node.offered(chan),
             None => &[],
         }
     }
@@ -346,7 +346,7 @@ impl Network {
         ensures { (p : Plan) → IsNetworkOf p (state_of self.now) → chan < length p.channels → result.now ≡ (view (network_of p) (shown (state_of self.now)) chan).taken }
     {
         match self.sink(chan) {
-            Some(actor) => actor.node().taken(chan),
+            Some(node) => node.taken(chan),
             None => &[],
         }
     }
@@ -356,7 +356,7 @@ impl Network {
         ensures { (p : Plan) → IsNetworkOf p (state_of self.now) → chan < length p.channels → result ≡ (view (network_of p) (shown (state_of self.now)) chan).finished }
     {
         match self.source(chan) {
-            Some(actor) => actor.node().finished(chan),
+            Some(node) => node.finished(chan),
             None => 0,
         }
     }
@@ -366,15 +366,15 @@ impl Network {
         ensures { (p : Plan) → IsNetworkOf p (state_of self.now) → chan < length p.channels → result ≡ (view (network_of p) (shown (state_of self.now)) chan).stopped }
     {
         match self.sink(chan) {
-            Some(actor) => actor.node().stopped(chan),
+            Some(node) => node.stopped(chan),
             None => false,
         }
     }
 
     /// Where a packet of a channel stands: there its end mark is. After any events from the opening state on a channel has a packet
     /// exactly where an output on it is not finished, and has only that one; a channel inside a node never has one. It takes no
-    /// memory. Packets on a way to a switch are not looked at, since no switch runs yet, so that a channel has none is told of
-    /// networks without switches.
+    /// memory. Packets on a way to a switch or inside one are not looked at yet, so that a channel has none is told of networks
+    /// without switches.
     pub fn place(&self, chan: u16) -> Option<Place>
         ensures finds { (p : Plan) → IsNetworkOf p (state_of self.now) → FindsPlace p (state_of self.now) chan result }
         ensures unfinished { (p : Plan) (events : List Happening) → Replays p events (state_of self.now) → p.switches ≡ [] → chan < length p.channels → IsSome result ↔ IsUnfinished p (state_of self.now) chan }
@@ -413,8 +413,8 @@ impl Network {
     fn holds(&self, node: u8, chan: u16) -> bool
         ensures { IsTrue result ↔ ((vcps (shown (state_of self.now)) node).carrier.into chan).held ≢ None }
     {
-        match at(self.actors.as_slice(), usize::from(node)) {
-            Some(actor) => actor.node().vcp.holds(chan),
+        match self.node(node) {
+            Some(node) => node.vcp.holds(chan),
             None => false,
         }
     }
@@ -453,8 +453,8 @@ impl Network {
     fn queues(&self, node: u8, link: u8, sought: Sought) -> bool
         ensures { IsTrue result ↔ Has (IsSought sought) ((vcps (shown (state_of self.now)) node).carrier.queue link) }
     {
-        match at(self.actors.as_slice(), usize::from(node)) {
-            Some(actor) => actor.node().queues(link, sought),
+        match self.node(node) {
+            Some(node) => node.queues(link, sought),
             None => false,
         }
     }
@@ -477,9 +477,19 @@ impl Network {
     fn read_at(&self, node: u8, link: u8, sought: Sought) -> Reader
         ensures { HasReadAt sought ((vcps (shown (state_of self.now)) node).link link) result }
     {
-        match at(self.actors.as_slice(), usize::from(node)) {
-            Some(actor) => actor.node().read_at(link, sought),
+        match self.node(node) {
+            Some(node) => node.read_at(link, sought),
             None => Reader::new(sought, &[]),
+        }
+    }
+
+    // The node of this number, if there is one.
+    fn node(&self, number: u8) -> Option<&Node>
+        ensures { vcps (shown (state_of self.now)) number ≡ vcp_in (option_copied result) }
+    {
+        match at(self.actors.as_slice(), usize::from(number)) {
+            Some(actor) => actor.node(),
+            None => None,
         }
     }
 
@@ -489,36 +499,56 @@ impl Network {
     {
         let mut all = 0u64;
         for actor in &self.actors {
-            all = all.saturating_add(actor.faults());
+            all = all.saturating_add(actor.strays());
         }
         all
     }
 
-    /// How many packets the switches lost: none.
+    /// How many packets and tokens the switches dropped: none, after any events from the opening state on.
     pub fn lost(&self) -> u64
-        ensures { result ≡ 0 }
+        ensures { (p : Plan) (events : List Happening) → Replays p events (state_of self.now) → result ≡ 0 }
     {
-        0
+        let mut all = 0u64;
+        for actor in &self.actors {
+            all = all.saturating_add(actor.lost());
+        }
+        all
     }
 
     // The node that outputs on a channel.
-    fn source(&self, chan: u16) -> Option<&Actor>
-        ensures { (p : Plan) → IsNetworkOf p (state_of self.now) → chan < length p.channels → slice_get self.now.actors.items (source_node (network_of p) (home (network_of p) chan)) ≡ option_copied result }
+    fn source(&self, chan: u16) -> Option<&Node>
+        ensures { (p : Plan) → IsNetworkOf p (state_of self.now) → chan < length p.channels → node_at (slice_get self.now.actors.items (source_node (network_of p) (home (network_of p) chan))) ≡ option_copied result }
     {
         match at(self.channels.as_slice(), usize::from(chan)) {
-            Some(channel) => at(self.actors.as_slice(), channel.source),
+            Some(channel) => match at(self.actors.as_slice(), channel.source) {
+                Some(actor) => actor.node(),
+                None => None,
+            },
             None => None,
         }
     }
 
     // The node that inputs on a channel.
-    fn sink(&self, chan: u16) -> Option<&Actor>
-        ensures { (p : Plan) → IsNetworkOf p (state_of self.now) → chan < length p.channels → slice_get self.now.actors.items (sink_node (network_of p) (home (network_of p) chan)) ≡ option_copied result }
+    fn sink(&self, chan: u16) -> Option<&Node>
+        ensures { (p : Plan) → IsNetworkOf p (state_of self.now) → chan < length p.channels → node_at (slice_get self.now.actors.items (sink_node (network_of p) (home (network_of p) chan))) ≡ option_copied result }
     {
         match at(self.channels.as_slice(), usize::from(chan)) {
-            Some(channel) => at(self.actors.as_slice(), channel.sink),
+            Some(channel) => match at(self.actors.as_slice(), channel.sink) {
+                Some(actor) => actor.node(),
+                None => None,
+            },
             None => None,
         }
+    }
+}
+
+// Whether nothing remains of an actor's process, if it is a node.
+fn is_done(actor: &Actor) -> bool
+    ensures { IsTrue result ↔ IsDone actor.now }
+{
+    match actor.node() {
+        Some(node) => node.process.ended(),
+        None => true,
     }
 }
 

@@ -51,7 +51,7 @@ links_by : (start : ℕ) (row : Row) (rows : List Row) (h first last : ℕ) (b :
 links_by start row rows h first last true lawful is next = let a : row.action ≡ Out first last = cc in subst HasLinks a lawful.3
 links_by start row rows h first last false lawful is next = next lawful.4 is
 
-links : (start : ℕ) (rows : List Row) (h first last : ℕ) → IsLawfulFrom start rows → action_for rows h ≡ Some (Out first last) → HasLinks (Out first last)
+pub links : (start : ℕ) (rows : List Row) (h first last : ℕ) → IsLawfulFrom start rows → action_for rows h ≡ Some (Out first last) → HasLinks (Out first last)
 links start [] h first last lawful is = absurd (cc)
 links start (row ∷ rows) h first last lawful is = links_by start row rows h first last (holds row h) lawful is (λ w e. links row.limit rows h first last w e)
 

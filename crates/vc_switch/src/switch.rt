@@ -13,7 +13,7 @@ ghost use Rattle.vc_switch.specs.Waiting.{Wormhole};
 ghost use Rattle.vc_switch.specs.Switch.{new_switch, Comes, Passes, Routes, Sends, SendsFct};
 ghost use Rattle.vc_switch.specs.Able.{CanPass, CanRoute, CanPut, CanGrant, CanLeave, IsFree};
 ghost use Rattle.vc_switch.specs.Opening.{plan_given, IsRandomInput};
-ghost use Rattle.vc_switch.specs.State.{plan_of, limit_of};
+ghost use Rattle.vc_switch.specs.State.{plan_of, limit_of, IsSwitch};
 ghost use Rattle.vc_switch.specs.Seen.{seen, IsKept, IsBoundTo, IsNext};
 
 use crate::front::find_front;
@@ -328,6 +328,14 @@ impl Switch {
             }
             None => unreachable!(),
         }
+    }
+
+    /// How many links it has: 32, with the two ends of each.
+    pub fn links(&self) -> u8
+        ensures count { result ≡ 32 }
+        ensures holds { IsSwitch self.now }
+    {
+        self.inputs.len() as u8
     }
 
     /// How many packets and tokens were dropped; no more than 2^64 - 1 are counted.

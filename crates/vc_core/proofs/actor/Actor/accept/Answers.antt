@@ -1,6 +1,16 @@
-use Rattle.std.proofs.Common.{refl}
-use Rattle.vc_core.proofs.Linking.{takes}
+use Rattle.std.proofs.Common.{sym, ap, ◌∙◌}
+use Rattle.vc_core.specs.Acting.{MakesTake}
+use Rattle.vc_core.specs.OfPlan.{IsActorOf}
+use Rattle.vc_core.specs.Parts.{acting}
+use Rattle.vc_tokens.specs.Spelt.{token}
+use Rattle.vc_core.proofs.Parting.{alike}
+use Rattle.vc_core.proofs.actor.Actor.accept.Goals.{in-Node, in-Switch}
 use Rattle.vc_core.proofs.actor.Actor.accept.Goals as goal
 
 pub returns : goal.returns
-returns c = λ plan k is. takes plan k c.args.self.now.node _ c.args.link _ is c.accept.ensures.comes c.accept.ensures.kept refl refl
+returns c = elim c.match-self.branch [
+  | in-Node w ↦ alike (λ x y. (plan : _) (k : _) → IsActorOf plan k x → MakesTake plan k x c.args.link c.args.word (token c.args.came) y) _ c.args.self.now _ _ (sym (ap acting w.in-Node.is) ∙ c.self.view_is) (sym (ap (λ z. acting z.part) w.self-inside-is))
+      (λ plan k is. w.accept.ensures plan k c.args.word is)
+  | in-Switch w ↦ alike (λ x y. (plan : _) (k : _) → IsActorOf plan k x → MakesTake plan k x c.args.link c.args.word (token c.args.came) y) _ c.args.self.now _ _ (sym (ap acting w.in-Switch.is) ∙ c.self.view_is) (sym (ap (λ z. acting z.part) w.self-inside-is))
+      w.accept-in-Switch.ensures
+]

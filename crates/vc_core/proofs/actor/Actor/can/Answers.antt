@@ -1,15 +1,9 @@
-use Rattle.std.proofs.Common.{◌↔◌, IsTrue, sym, subst}
+use Rattle.std.proofs.Common.{◌↔◌, IsTrue, sym, ap, ◌∙◌, subst}
 use Rattle.vc_core.specs.Able.{CanAct}
-use Rattle.vc_core.proofs.AbleMoves.{no_pass, not_less}
+use Rattle.vc_core.specs.OfPlan.{IsActorOf}
+use Rattle.vc_core.specs.Parts.{acting}
 use Rattle.vc_core.proofs.actor.Actor.can.Goals as goal
 
-pub returns-in-Proc-clause-can : goal.returns-in-Proc-clause-can
-returns-in-Proc-clause-can c = λ plan k is. subst (λ a. IsTrue c.can_move.result ↔ CanAct plan k c.args.self.now.node a) (sym c.in-Proc.is) (c.can_move.ensures.can plan k is)
-
-pub returns-else-link-links-clause-can : goal.returns-else-link-links-clause-can
-returns-else-link-links-clause-can c = λ plan k is.
-    let n = c.args.self.now.node in
-    let few = c.links.ensures.ends.1 in (
-      (λ t. absurd (not_less c.in-Pass.link c.links.result c.if-link-links.false t)),
-      (λ can. absurd (no_pass n.vcp c.in-Pass.link _ _ few c.links.result c.links.ensures.four c.if-link-links.false (subst (CanAct plan k n) c.in-Pass.is can))),
-    )
+pub returns-in-Node-clause-can : goal.returns-in-Node-clause-can
+returns-in-Node-clause-can c =
+    subst (λ x. (plan : _) (k : _) → IsActorOf plan k x → IsTrue c.can.result ↔ CanAct plan k x c.args.act.now) (sym (ap acting c.in-Node.is) ∙ c.self.view_is) (λ plan k is. c.can.ensures.can plan k is.1)

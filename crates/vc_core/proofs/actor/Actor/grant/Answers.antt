@@ -1,6 +1,13 @@
-use Rattle.std.proofs.Common.{refl}
-use Rattle.vc_core.proofs.Linking.{grants}
+use Rattle.std.proofs.Common.{sym, ap, ◌∙◌}
+use Rattle.vc_core.specs.Acting.{MakesGrant}
+use Rattle.vc_core.specs.OfPlan.{IsActorOf}
+use Rattle.vc_core.specs.Parts.{acting}
+use Rattle.vc_core.proofs.Parting.{alike}
+use Rattle.vc_core.proofs.actor.Actor.grant.Goals.{in-Node, in-Switch}
 use Rattle.vc_core.proofs.actor.Actor.grant.Goals as goal
 
 pub returns : goal.returns
-returns c = λ plan k is. grants plan k c.args.self.now.node _ c.args.link is c.grant.ensures.grants c.grant.ensures.kept refl refl
+returns c = elim c.match-self.branch [
+  | in-Node w ↦ alike (λ x y. (plan : _) (k : _) → IsActorOf plan k x → MakesGrant plan k x c.args.link y) _ c.args.self.now _ _ (sym (ap acting w.in-Node.is) ∙ c.self.view_is) (sym (ap (λ z. acting z.part) w.self-inside-is)) w.grant.ensures
+  | in-Switch w ↦ alike (λ x y. (plan : _) (k : _) → IsActorOf plan k x → MakesGrant plan k x c.args.link y) _ c.args.self.now _ _ (sym (ap acting w.in-Switch.is) ∙ c.self.view_is) (sym (ap (λ z. acting z.part) w.self-inside-is)) w.grant-in-Switch.ensures
+]

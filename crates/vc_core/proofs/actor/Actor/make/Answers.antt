@@ -1,11 +1,16 @@
-use Rattle.vc_vcp.proofs.Placed.{on_ok}
-use Rattle.vc_core.proofs.Linking.{moved, passed}
+use Rattle.std.proofs.Common.{OnOk, sym, ap, ◌∙◌, subst}
+use Rattle.vc_core.specs.Acting.{MakesOwn}
+use Rattle.vc_core.specs.OfPlan.{IsActorOf}
+use Rattle.vc_core.specs.Parts.{acting}
+use Rattle.vc_core.specs.Shown.{OfNode}
+use Rattle.vc_core.proofs.Parting.{alike, on_ok_of}
+use Rattle.vc_core.proofs.actor.Actor.make.Goals.{in-Node, in-Switch}
 use Rattle.vc_core.proofs.actor.Actor.make.Goals as goal
 
-pub returns-in_ok-make-in-Proc-clause-ok : goal.returns-in_ok-make-in-Proc-clause-ok
-returns-in_ok-make-in-Proc-clause-ok c = λ plan k is.
-    moved plan k c.args.self.now.node _ c.in-Proc.made c.args.act.now c.in-Proc.is (c.in_ok-make-in-Proc.ensures.ok plan k is)
-
-pub returns-in-Pass-clause-ok : goal.returns-in-Pass-clause-ok
-returns-in-Pass-clause-ok c = λ plan k is.
-    on_ok c.pass.result (passed plan k c.args.self.now.node _ c.in-Pass.link c.args.act.now c.in-Pass.is) (c.pass.ensures.ok plan k is)
+pub returns-clause-ok : goal.returns-clause-ok
+returns-clause-ok c = elim c.match-self.branch [
+  | in-Node w ↦ alike (λ x y. (plan : _) (k : _) → IsActorOf plan k x → OnOk c.match-self.result (MakesOwn plan k x c.args.act.now y)) _ c.args.self.now _ _ (sym (ap acting w.in-Node.is) ∙ c.self.view_is) (sym (ap (λ z. acting z.part) w.self-inside-is))
+      (λ plan k is. subst (λ r. OnOk r (MakesOwn plan k (OfNode w.in-Node.node.node) c.args.act.now (OfNode w.make.new.self.node))) (sym w.result-is) (w.make.ensures.ok plan k is))
+  | in-Switch w ↦ alike (λ x y. (plan : _) (k : _) → IsActorOf plan k x → OnOk c.match-self.result (MakesOwn plan k x c.args.act.now y)) _ c.args.self.now _ _ (sym (ap acting w.in-Switch.is) ∙ c.self.view_is) (sym (ap (λ z. acting z.part) w.self-inside-is))
+      (λ plan k is. on_ok_of c.match-self.result (w.make-in-Switch.ensures.makes plan k is))
+]

@@ -4,9 +4,9 @@ use Rattle.vc_core.proofs.Turning.{turned, if_ok}
 use Rattle.vc_core.proofs.actor.Actor.turn.Goals as goal
 
 pub returns-in-None-clause-makes : goal.returns-in-None-clause-makes
-returns-in-None-clause-makes c = λ plan k is. (refl, subst (FindsTurn plan k c.args.self.now.node c.args.room) c.in-None.is (c.in_ok-next.ensures.finds plan k is))
+returns-in-None-clause-makes c = λ plan k is. (refl, subst (FindsTurn plan k c.args.self.now c.args.room) c.in-None.is (c.in_ok-next.ensures.finds plan k is))
 
 pub returns-in-Some-clause-makes : goal.returns-in-Some-clause-makes
 returns-in-Some-clause-makes c = λ plan k is.
-    let may = subst (FindsTurn plan k c.args.self.now.node c.args.room) c.in-Some.is (c.in_ok-next.ensures.finds plan k is) in
-    if_ok _ _ c.turn_by.result (λ t told. turned plan k c.args.self.now.node _ c.args.room c.in-Some.act t may told) (c.turn_by.ensures.makes plan k is)
+    let may = subst (FindsTurn plan k c.args.self.now c.args.room) c.in-Some.is (c.in_ok-next.ensures.finds plan k is) in
+    if_ok _ _ c.turn_by.result (λ t told. turned plan k c.args.self.now _ c.args.room c.in-Some.act t may told) (c.turn_by.ensures.makes plan k is)

@@ -1,6 +1,6 @@
-use Rattle.std.proofs.Common.{◌≡◌, refl, sym, ◌∙◌, slice_get, Some, true, false}
+use Rattle.std.proofs.Common.{◌≡◌, refl, sym, ◌∙◌, slice_get, Some, None, true, false}
 use Rattle.vc_core.specs.State.{state_of}
-use Rattle.vc_core.proofs.Enabled.{happens, has_act, has_ways}
+use Rattle.vc_core.proofs.Enabled.{happens, has_act, has_ways, has_actor}
 use Rattle.vc_core.proofs.network.Network.enabled.Goals as goal
 
 pub returns-then-can-clause-may : goal.returns-then-can-clause-may
@@ -16,7 +16,7 @@ returns-then-can-clause-can c = λ p is.
     let e = c.args.event.now in
     let a = c.in-Some.acting.now in
     let here : slice_get n.actors.items e.actor ≡ Some a = (λ i. slice_get (sym c.as_slice.ensures.value i) (sym c.from.ensures i)) ∙ sym c.in-Some.ensures in
-    ((λ t. happens p s e a is here ((c.if-can.ensures.can _ e.actor (is.nodes e.actor a here)).0 refl) (c.ways_let.ensures.0 t)), (λ can. c.ways_let.ensures.1 (has_ways p s e a is here can)))
+    ((λ t. happens p s e a is here ((c.if-can.ensures.can _ e.actor (is.actors e.actor a here)).0 refl) (c.ways_let.ensures.0 t)), (λ can. c.ways_let.ensures.1 (has_ways p s e a is here can)))
 
 pub returns-else-can-clause-can : goal.returns-else-can-clause-can
 returns-else-can-clause-can c = λ p is.
@@ -25,4 +25,12 @@ returns-else-can-clause-can c = λ p is.
     let e = c.args.event.now in
     let a = c.in-Some.acting.now in
     let here : slice_get n.actors.items e.actor ≡ Some a = (λ i. slice_get (sym c.as_slice.ensures.value i) (sym c.from.ensures i)) ∙ sym c.in-Some.ensures in
-    ((λ t. absurd (let q : false ≡ true = sym c.if-can.false ∙ t in cc)), (λ can. (c.can.ensures.can _ e.actor (is.nodes e.actor a here)).1 (has_act p s e a is here can)))
+    ((λ t. absurd (let q : false ≡ true = sym c.if-can.false ∙ t in cc)), (λ can. (c.can.ensures.can _ e.actor (is.actors e.actor a here)).1 (has_act p s e a is here can)))
+
+pub returns-in-None-clause-can : goal.returns-in-None-clause-can
+returns-in-None-clause-can c = λ p is.
+    let n = c.args.self.now in
+    let s = state_of n in
+    let e = c.args.event.now in
+    let none : slice_get n.actors.items e.actor ≡ None = (λ i. slice_get (sym c.as_slice.ensures.value i) (sym c.from.ensures i)) ∙ sym c.in-None.ensures in
+    ((λ t. absurd (cc)), (λ can. absurd (has_actor p s e is can none)))

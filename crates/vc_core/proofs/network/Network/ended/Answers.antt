@@ -1,21 +1,19 @@
 use Rattle.std.proofs.Common.{◌≡◌, ◌<◌, length, slice_get, Some, refl, sym, ap, ◌∙◌, subst, inl, inr, arith}
 use Rattle.std.proofs.lemmas.Bool.{cases_lt}
 use Rattle.std.proofs.lemmas.Option.{slice_get_read, slice_get_within}
-use Rattle.vc_occam.specs.Remains.{Done}
-use Rattle.vc_occam.specs.Runnings.{state}
 use Rattle.vc_core.specs.State.{state_of}
-use Rattle.vc_core.specs.declared.actor.Actor.{Actor}
+use Rattle.vc_core.specs.Parts.{IsDone}
 use Rattle.vc_core.proofs.Turning.{ended, clash, same_some}
 use Rattle.vc_core.proofs.network.Network.ended.Goals as goal
 
-pub returns-then-not-ended : goal.returns-then-not-ended
-returns-then-not-ended c = λ p is.
+pub returns-then-not-is_done : goal.returns-then-not-is_done
+returns-then-not-is_done c = λ p is.
     let xs = c.deref-actor-items.result.now in
     let k = c.loop-actor.actor-index in
     let a = c.actor-item.result in
     let there : slice_get xs k ≡ Some a = slice_get_read xs (length xs) k a refl c.loop-actor-test.true c.actor-item.is in
     let here : slice_get c.args.self.now.actors.items k ≡ Some a = ap (λ z. slice_get z k) (sym c.deref-actor-items.ensures.value) ∙ there in
-    ((λ t. absurd (cc)), (λ have. absurd (clash c.ended.result c.if-not-ended.true (c.ended.ensures.1 ((ended p (state_of c.args.self.now) is).1 have k a here)))))
+    ((λ t. absurd (cc)), (λ have. absurd (clash c.is_done.result c.if-not-is_done.true (c.is_done.ensures.1 ((ended p (state_of c.args.self.now) is).1 have k a here)))))
 
 pub loop-actor-preserved : goal.loop-actor-preserved
 loop-actor-preserved c = λ j b less at.
@@ -28,7 +26,7 @@ loop-actor-preserved c = λ j b less at.
       | inl sooner ↦ c.loop-actor.invariant j b sooner at
       | inr later ↦ (let same : k ≡ j = omega arith in
           let it : a ≡ b = same_some _ a b here (ap (slice_get c.args.self.now.actors.items) same ∙ at) in
-          subst (λ (z : Actor). (state z.node.process).rest ≡ Done) it (c.ended.ensures.0 c.if-not-ended.false))
+          subst IsDone it (c.is_done.ensures.0 c.if-not-is_done.false))
     ]
 
 pub returns : goal.returns

@@ -11,7 +11,7 @@ grant_by-requires c =
     let m = c.requires.may in
     let f = subst (WaysLet s e.actor) c.requires.is m.ways in
     let pushed = c.in_ok-push.ensures.ok f.tokens (way_found s e.actor c.args.link c.in-Some.way f c.in-Some.ensures.way) in
-    record { actor = m.actor; here = ap (λ z. slice_get z.actors e.actor) pushed ∙ m.here; may = subst (MayAct m.actor.node) c.requires.is m.may }
+    record { actor = m.actor; here = ap (λ z. slice_get z.actors e.actor) pushed ∙ m.here; may = subst (MayAct m.actor) c.requires.is m.may }
 
 pub returns-clause-makes : goal.returns-clause-makes
 returns-clause-makes c = λ p is.
@@ -20,4 +20,4 @@ returns-clause-makes c = λ p is.
     let m = c.requires.may in
     let f = subst (WaysLet s e.actor) c.requires.is m.ways in
     let pushed = c.in_ok-push.ensures.ok f.tokens (way_found s e.actor c.args.link c.in-Some.way f c.in-Some.ensures.way) in
-    granted p s (state_of c.push.new.self) (state_of c.grant_by.new.self) e c.args.link m (way_is s e.actor c.args.link c.in-Some.way f c.in-Some.ensures.way) c.requires.is pushed c.grant_by.ensures is
+    granted p s (state_of c.push.new.self) (state_of c.grant_by.new.self) e c.args.link (way_is s e.actor c.args.link c.in-Some.way f c.in-Some.ensures.way) c.requires.is pushed c.grant_by.ensures is

@@ -1,6 +1,6 @@
 use Rattle.std.proofs.Common.{◌≡◌, sym, ap, ◌∙◌, slice_get, Some, arith}
 use Rattle.std.proofs.lemmas.Option.{slice_get_within}
-use Rattle.vc_core.proofs.Replayed.{none_past}
+use Rattle.vc_core.proofs.Happening.{none_past}
 use Rattle.vc_core.proofs.Viewing.{channel_is}
 use Rattle.vc_core.proofs.network.Network.name.Goals as goal
 

@@ -3,6 +3,7 @@ use Rattle.vc_plan.specs.Accepted.{IsAccepted}
 use Rattle.vc_core.specs.Begin.{AreFirst}
 use Rattle.vc_core.specs.Replaying.{IsOpening}
 use Rattle.vc_core.specs.State.{State}
+use Rattle.vc_core.specs.Turns.{actors}
 use Rattle.vc_core.proofs.Replayed.{opened}
 use Rattle.vc_core.proofs.network.Network.new.Goals as goal
 
@@ -12,5 +13,5 @@ returns c =
     let same = c.plan-plan.ensures.plan in
     let s : State = record { actors = c.in_ok-actors.field-0.items; ways = c.in_ok-ways_of.field-0.items; wiring = c.in_ok-new.field-0; wires = c.in_ok-from_slice.field-0; channels = c.in_ok-channels_of.field-0.items } in
     subst (λ z. IsOpening z s) same
-    (opened p s (subst IsAccepted (sym same) c.plan-plan.ensures.accepted) (subst (λ z. AreFirst z c.in_ok-actors.field-0.items) (sym same) c.in_ok-actors.ensures)
+    (opened p s (subst IsAccepted (sym same) c.plan-plan.ensures.accepted) (subst (λ z. AreFirst z (actors z) c.in_ok-actors.field-0.items) (sym same) c.in_ok-actors.ensures)
     (c.in_ok-ways_of.ensures.count ∙ ap (λ n. 2 * n) c.len.ensures) c.in_ok-ways_of.ensures.empty c.in_ok-new.ensures (c.in_ok-from_slice.ensures ∙ c.as_slice.ensures) c.in_ok-channels_of.ensures)

@@ -1,10 +1,9 @@
-use Rattle.std.proofs.Common.{ap, ◌∙◌, Some}
+use Rattle.std.proofs.Common.{◌∙◌, Some}
 use Rattle.vc_core.specs.State.{state_of}
-use Rattle.vc_core.specs.Viewed.{node_view}
-use Rattle.vc_core.proofs.Viewing.{source_view}
+use Rattle.vc_core.proofs.Viewing.{source_found}
 use Rattle.vc_core.proofs.network.Network.offered.Goals as goal
 
 pub returns-in-Some : goal.returns-in-Some
 returns-in-Some c = λ p is less.
-    let shows = source_view p (state_of c.args.self.now) c.args.chan (Some c.in-Some.actor.now) is (c.in-Some.ensures p is less) in
-    c.offered.ensures ∙ ap (λ z. (node_view z c.args.chan).offered) c.node.ensures ∙ shows.offered
+    let shows = source_found p (state_of c.args.self.now) c.args.chan (Some c.in-Some.node.now) is (c.in-Some.ensures p is less) in
+    c.offered.ensures ∙ shows.offered

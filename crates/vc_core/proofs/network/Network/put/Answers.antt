@@ -13,7 +13,7 @@ put_by-token-requires c =
     let m = c.requires.may in
     let f = subst (WaysLet s e.actor) c.requires.is m.ways in
     let pushed = c.in_ok-push.ensures.ok f.tokens (way_found s e.actor c.args.link c.in-Some.way f c.in-Some.ensures.way) in
-    record { actor = m.actor; here = ap (λ z. slice_get z.actors e.actor) pushed ∙ m.here; may = subst (MayAct m.actor.node) c.requires.is m.may }
+    record { actor = m.actor; here = ap (λ z. slice_get z.actors e.actor) pushed ∙ m.here; may = subst (MayAct m.actor) c.requires.is m.may }
 
 pub replace_last-requires : goal.replace_last-requires
 replace_last-requires c =
@@ -31,4 +31,4 @@ returns-clause-makes c = λ p is.
     let m = c.requires.may in
     let f = subst (WaysLet s e.actor) c.requires.is m.ways in
     let pushed = c.in_ok-push.ensures.ok f.tokens (way_found s e.actor c.args.link c.in-Some.way f c.in-Some.ensures.way) in
-    placed p s (state_of c.push.new.self) (state_of c.put_by-token.new.self) (state_of c.replace_last.new.self) e c.args.link m (way_is s e.actor c.args.link c.in-Some.way f c.in-Some.ensures.way) _ c.requires.is pushed c.put_by-token.ensures c.replace_last.ensures is
+    placed p s (state_of c.push.new.self) (state_of c.put_by-token.new.self) (state_of c.replace_last.new.self) e c.args.link (way_is s e.actor c.args.link c.in-Some.way f c.in-Some.ensures.way) _ c.requires.is pushed c.put_by-token.ensures c.replace_last.ensures is

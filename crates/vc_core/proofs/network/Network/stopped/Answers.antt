@@ -1,10 +1,9 @@
-use Rattle.std.proofs.Common.{ap, ◌∙◌, Some}
+use Rattle.std.proofs.Common.{◌∙◌, Some}
 use Rattle.vc_core.specs.State.{state_of}
-use Rattle.vc_core.specs.Viewed.{node_view}
-use Rattle.vc_core.proofs.Viewing.{sink_view}
+use Rattle.vc_core.proofs.Viewing.{sink_found}
 use Rattle.vc_core.proofs.network.Network.stopped.Goals as goal
 
 pub returns-in-Some : goal.returns-in-Some
 returns-in-Some c = λ p is less.
-    let shows = sink_view p (state_of c.args.self.now) c.args.chan (Some c.in-Some.actor.now) is (c.in-Some.ensures p is less) in
-    c.stopped.ensures ∙ ap (λ z. (node_view z c.args.chan).stopped) c.node.ensures ∙ shows.stopped
+    let shows = sink_found p (state_of c.args.self.now) c.args.chan (Some c.in-Some.node.now) is (c.in-Some.ensures p is less) in
+    c.stopped.ensures ∙ shows.stopped

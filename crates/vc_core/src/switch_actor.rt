@@ -1,0 +1,207 @@
+//! A switch as an actor.
+ghost use Rattle.std.specs.Prelude.{◌≡◌, ◌<◌, ◌≤◌, ◌↔◌, ℕ, IsTrue, IsOk, IfSome};
+ghost use Rattle.vc_core.specs.Acting.{SwitchMay, MakesOwn, MakesTake, MakesPut, MakesGrant, IsOwn};
+ghost use Rattle.vc_core.specs.Able.{SwitchCan};
+ghost use Rattle.vc_core.specs.OfPlan.{IsActorOf};
+ghost use Rattle.vc_core.specs.Shown.{OfSwitch};
+ghost use Rattle.vc_core.specs.Turns.{IsTurn, FindsAt, FindsRoute, FindsTurn};
+ghost use Rattle.vc_network.specs.Plan.{Plan};
+ghost use Rattle.vc_switch.specs.Able.{CanLeave};
+ghost use Rattle.vc_switch.specs.Seen.{seen};
+ghost use Rattle.vc_switch.specs.State.{plan_of};
+ghost use Rattle.vc_tokens.specs.Spelt.{token};
+
+use crate::act::Act;
+use crate::room::has_room;
+use vc_packets::Memory;
+use vc_switch::Switch;
+use vc_tokens::Token;
+
+/// A switch, which makes its steps by itself.
+#[derive(Drop)]
+pub(crate) struct SwitchActor {
+    switch: Switch,
+}
+
+impl SwitchActor {
+    pub(crate) fn new(switch: Switch) -> SwitchActor
+        ensures { result.switch ≡ switch }
+    {
+        SwitchActor { switch }
+    }
+
+    /// Whether an act is one that the switch can make now, whatever stands on its ways.
+    pub(crate) fn can(&self, act: &Act) -> bool
+        ensures may { IsTrue result ↔ SwitchMay self.now.switch act.now }
+        ensures can { IsTrue result ↔ SwitchCan self.now.switch act.now }
+    {
+        let links = self.switch.links();
+        match *act {
+            Act::Proc(_) => false,
+            Act::Take { link, .. } => link < links,
+            Act::Put { link } => link < links && self.switch.may_put(link),
+            Act::Fct { link } => link < links && self.switch.may_grant(link),
+            Act::Pass { link } => link < links && self.switch.may_pass(link),
+            Act::Route { input, output } => self.can_route(input, output),
+        }
+    }
+
+    // Whether the packet at an input can be bound to an output.
+    fn can_route(&self, input: u8, output: u8) -> bool
+        ensures may { IsTrue result ↔ SwitchMay self.now.switch (Act.Route input output) }
+        ensures can { IsTrue result ↔ SwitchCan self.now.switch (Act.Route input output) }
+    {
+        let links = self.switch.links();
+        if input >= links || output >= links {
+            return false;
+        }
+        self.switch.may_route(input, output)
+    }
+
+    /// A token comes over a link, with a word for a random header.
+    pub(crate) fn accept(&mut self, link: u8, came: Token, word: u32)
+        requires { link < 32 }
+        ensures { (plan : Plan) (k : ℕ) → IsActorOf plan k (OfSwitch self.old.switch) → MakesTake plan k (OfSwitch self.old.switch) link word (token came) (OfSwitch self.new.switch) }
+    {
+        let _taken = self.switch.take(link, came, word);
+    }
+
+    /// Makes a step of its own: a token passes, or a packet is bound to an output. It takes no memory, so the answer is `Ok`.
+    pub(crate) fn make(&mut self, act: &Act) -> Result<(), Memory>
+        requires may { SwitchMay self.old.switch act.now }
+        requires own { IsOwn act.now }
+        ensures makes { (plan : Plan) (k : ℕ) → IsActorOf plan k (OfSwitch self.old.switch) → MakesOwn plan k (OfSwitch self.old.switch) act.now (OfSwitch self.new.switch) }
+        ensures ok { IsOk result }
+    {
+        match *act {
+            Act::Pass { link } => self.switch.pass(link),
+            Act::Route { input, output } => {
+                self.switch.route(input, output);
+                Ok(())
+            }
+            _ => unreachable!(),
+        }
+    }
+
+    /// Puts the next token of the packet that is bound to an output.
+    pub(crate) fn put(&mut self, link: u8) -> Token
+        requires { SwitchMay self.old.switch (Act.Put link) }
+        ensures { (plan : Plan) (k : ℕ) → IsActorOf plan k (OfSwitch self.old.switch) → MakesPut plan k (OfSwitch self.old.switch) link (token result) (OfSwitch self.new.switch) }
+    {
+        self.switch.put(link)
+    }
+
+    /// Grants eight places of a link's buffer.
+    pub(crate) fn grant(&mut self, link: u8)
+        requires { SwitchMay self.old.switch (Act.Fct link) }
+        ensures { (plan : Plan) (k : ℕ) → IsActorOf plan k (OfSwitch self.old.switch) → MakesGrant plan k (OfSwitch self.old.switch) link (OfSwitch self.new.switch) }
+    {
+        self.switch.grant(link);
+    }
+
+    /// What the switch does next, if it has a step to make where its links have this room: a token passes, by the least link; a
+    /// packet is bound, the least input's to the least output; a token is put, by the least link with room; a flow control token
+    /// is put, by the least link with room.
+    pub(crate) fn next(&self, room: u32) -> Option<Act>
+        ensures may { IfSome result (λ a. SwitchMay self.now.switch a) }
+        ensures finds { (plan : Plan) (k : ℕ) → FindsTurn plan k (OfSwitch self.now.switch) room result }
+    {
+        if let Some(act) = self.next_pass() {
+            return Some(act);
+        }
+        if let Some(act) = self.next_route() {
+            return Some(act);
+        }
+        if let Some(act) = self.next_put(room) {
+            return Some(act);
+        }
+        self.next_grant(room)
+    }
+
+    // The least link whose buffer has a token that may pass.
+    fn next_pass(&self) -> Option<Act>
+        ensures may { IfSome result (λ a. SwitchMay self.now.switch a) }
+        ensures finds { FindsAt (λ link. Act.Pass link) (SwitchCan self.now.switch) result }
+    {
+        for link in 0..self.switch.links() {
+            if self.switch.may_pass(link) {
+                return Some(Act::Pass { link });
+            }
+        }
+        None
+    }
+
+    // The least input whose packet may be bound, and the least output to which it may.
+    fn next_route(&self) -> Option<Act>
+        ensures may { IfSome result (λ a. SwitchMay self.now.switch a) }
+        ensures finds { FindsRoute self.now.switch result }
+    {
+        for input in 0..self.switch.links() {
+            if let Some(act) = self.route_of(input) {
+                return Some(act);
+            }
+        }
+        None
+    }
+
+    // The least output to which the packet at an input may be bound.
+    fn route_of(&self, input: u8) -> Option<Act>
+        requires { input < 32 }
+        ensures may { IfSome result (λ a. SwitchMay self.now.switch a) }
+        ensures finds { FindsAt (λ output. Act.Route input output) (SwitchCan self.now.switch) result }
+    {
+        match self.switch.choices(input) {
+            None => None,
+            Some((first, last)) => self.route_within(input, first, last),
+        }
+    }
+
+    // The least free output of the group by which the packet at an input may leave.
+    fn route_within(&self, input: u8, first: u8, last: u8) -> Option<Act>
+        requires input { input < 32 }
+        requires few { last < 32 }
+        requires group { (output : ℕ) → CanLeave (plan_of self.now.switch) (seen self.now.switch) input output ↔ ((first ≤ output) × (output ≤ last)) }
+        ensures may { IfSome result (λ a. SwitchMay self.now.switch a) }
+        ensures finds { FindsAt (λ output. Act.Route input output) (SwitchCan self.now.switch) result }
+    {
+        for output in first..last + 1 {
+            if self.switch.free(output) {
+                return Some(Act::Route { input, output });
+            }
+        }
+        None
+    }
+
+    // The least link with room on which a token may be put.
+    fn next_put(&self, room: u32) -> Option<Act>
+        ensures may { IfSome result (λ a. SwitchMay self.now.switch a) }
+        ensures finds { (plan : Plan) (k : ℕ) → FindsAt (λ link. Act.Put link) (IsTurn plan k (OfSwitch self.now.switch) room) result }
+    {
+        for link in 0..self.switch.links() {
+            if has_room(room, link) && self.switch.may_put(link) {
+                return Some(Act::Put { link });
+            }
+        }
+        None
+    }
+
+    // The least link with room on which a flow control token may be put.
+    fn next_grant(&self, room: u32) -> Option<Act>
+        ensures may { IfSome result (λ a. SwitchMay self.now.switch a) }
+        ensures finds { (plan : Plan) (k : ℕ) → FindsAt (λ link. Act.Fct link) (IsTurn plan k (OfSwitch self.now.switch) room) result }
+    {
+        for link in 0..self.switch.links() {
+            if has_room(room, link) && self.switch.may_grant(link) {
+                return Some(Act::Fct { link });
+            }
+        }
+        None
+    }
+
+    /// How many packets and tokens were dropped.
+    pub(crate) fn lost(&self) -> u64
+        ensures { result ≡ (seen self.now.switch).lost }
+    {
+        self.switch.lost()
+    }
+}
