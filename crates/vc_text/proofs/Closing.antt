@@ -1,8 +1,8 @@
 -- How a run closes.
 use Rattle.std.proofs.Common.{◌≡◌, ℕ, ◌<◌, ◌≤◌, length, Option, Some, None, is_some, ◌+◌, ◌||◌, Bool, true, false, List, refl, ap, arith}
 use Rattle.vc_plan.specs.declared.plan.Plan.{Plan}
-use Rattle.vc_core.specs.State.{State}
-use Rattle.vc_core.specs.Turns.{Rests, IsAtRest, FindsTake, FindsEvent}
+use Rattle.vc_core.specs.State.{State, IsNetworkOf}
+use Rattle.vc_core.specs.Turns.{Rests, IsAtRest, FindsTake, FindsEvent, actors}
 use Rattle.vc_core.specs.declared.act.Act.TheVariants.{Take}
 use Rattle.vc_core.specs.declared.act.Event.{Event}
 use Rattle.vc_core.proofs.Turning.{at_rest}
@@ -14,18 +14,18 @@ next_of p s k None takes acts = record { takes = takes; acts = acts }
 next_of p s k (Some e) takes (same, none, can) = can
 
 -- where all actors rest
-pub all_rest : (p : Plan) (s : State) (n : ℕ) → length p.nodes ≤ n → ((k : ℕ) → k < n → Rests p s k) → IsAtRest p s
-all_rest p s n few rests = at_rest p s (λ k less. rests k (omega arith))
+pub all_rest : (p : Plan) (s : State) → IsNetworkOf p s → (n : ℕ) → actors p ≤ n → ((k : ℕ) → k < n → Rests p s k) → IsAtRest p s
+all_rest p s is n few rests = at_rest p s is (λ k less. rests k (omega arith))
 
 -- what an actor's two searches find
-pub event_of : (p : Plan) (s : State) (k : ℕ) (l : ℕ) → k < length p.nodes → FindsTake p s k (Some l) → HasEvent p s k true
+pub event_of : (p : Plan) (s : State) (k : ℕ) (l : ℕ) → k < actors p → FindsTake p s k (Some l) → HasEvent p s k true
 event_of p s k l node takes = (record { actor = k; act = Take l 0 }, takes node 0)
 
 pub has_of : (p : Plan) (s : State) (k : ℕ) (o : Option Event) → FindsTake p s k None → FindsEvent p s k o → HasEvent p s k (is_some o)
 has_of p s k None takes acts = record { takes = takes; acts = acts }
 has_of p s k (Some e) takes (same, none, can) = (e, can)
 
-pub some_take : (p : Plan) (s : State) (k : ℕ) (o : Option ℕ) → is_some o ≡ true → k < length p.nodes → FindsTake p s k o → HasEvent p s k true
+pub some_take : (p : Plan) (s : State) (k : ℕ) (o : Option ℕ) → is_some o ≡ true → k < actors p → FindsTake p s k o → HasEvent p s k true
 some_take p s k (Some l) some node takes = event_of p s k l node takes
 some_take p s k None some node takes = absurd (cc)
 

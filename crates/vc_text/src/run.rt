@@ -3,7 +3,7 @@ ghost use Rattle.std.specs.Prelude.{◌≡◌, ◌⊎◌, ◌<◌, ◌≤◌, �
 ghost use Rattle.vc_plan.specs.declared.plan.Plan.{Plan};
 ghost use Rattle.vc_core.specs.State.{state_of, IsNetworkOf, MakesOne};
 ghost use Rattle.vc_core.specs.Replaying.{Reached, Replays};
-ghost use Rattle.vc_core.specs.Turns.{Rests, IsAtRest, GoesOn};
+ghost use Rattle.vc_core.specs.Turns.{Rests, IsAtRest, GoesOn, actors};
 ghost use Rattle.vc_text.specs.Closing.{HasNext, HasEvent, Closes};
 ghost use Rattle.vc_plan.specs.declared.channel.Channel.{Channel};
 ghost use Rattle.vc_text.specs.Running.{Steps};
@@ -95,7 +95,7 @@ fn next_event(
     generators: &mut Vec<Lcg64Xsh32>,
     actor: u8,
 ) -> Result<Option<Event>, Memory>
-    ensures { (p : Plan) → IsNetworkOf p (state_of network.now) → actor < length p.nodes → IfOk result (HasNext p (state_of network.now) actor) }
+    ensures { (p : Plan) → IsNetworkOf p (state_of network.now) → actor < actors p → IfOk result (HasNext p (state_of network.now) actor) }
 {
     let Some(link) = network.link_to_take(actor) else {
         return network.next(actor);
@@ -112,7 +112,7 @@ fn act(
     actor: u8,
 ) -> Result<Option<Event>, Memory>
     ensures made { (p : Plan) → IsNetworkOf p (state_of network.old) → IfOk result (λ made. MakesOne p (state_of network.old) made (state_of network.new)) }
-    ensures rests { (p : Plan) → IsNetworkOf p (state_of network.old) → actor < length p.nodes → result ≡ Ok None → Rests p (state_of network.old) actor }
+    ensures rests { (p : Plan) → IsNetworkOf p (state_of network.old) → actor < actors p → result ≡ Ok None → Rests p (state_of network.old) actor }
 {
     let Some(event) = next_event(network, generators, actor)? else {
         return Ok(None);
@@ -126,7 +126,7 @@ fn act(
 
 /// Whether an actor has an event.
 fn has_event(network: &Network, actor: u8) -> Result<bool, Memory>
-    ensures { (p : Plan) → IsNetworkOf p (state_of network.now) → actor < length p.nodes → IfOk result (HasEvent p (state_of network.now) actor) }
+    ensures { (p : Plan) → IsNetworkOf p (state_of network.now) → actor < actors p → IfOk result (HasEvent p (state_of network.now) actor) }
 {
     if network.link_to_take(actor).is_some() {
         return Ok(true);
@@ -168,7 +168,7 @@ fn act_once(
     ensures more { result ≡ Ok true → length events.new ≡ length events.old + 1 }
     ensures same { result ≡ Ok false → events.new ≡ events.old }
     ensures reached { (p : Plan) → Reached p events.old (state_of network.old) → OnOk result (Reached p events.new (state_of network.new)) }
-    ensures rests { (p : Plan) → Reached p events.old (state_of network.old) → actor < length p.nodes → result ≡ Ok false → Rests p (state_of network.old) actor × (state_of network.new ≡ state_of network.old) }
+    ensures rests { (p : Plan) → Reached p events.old (state_of network.old) → actor < actors p → result ≡ Ok false → Rests p (state_of network.old) actor × (state_of network.new ≡ state_of network.old) }
 {
     match act(network, generators, actor)? {
         Some(event) => {

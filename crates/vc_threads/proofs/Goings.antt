@@ -12,9 +12,9 @@ use Rattle.vc_actors.specs.Actors.Label.{Takes, Puts}
 use Rattle.vc_actors.specs.LocalRun.{Turn, LocalRun, CarriesStamp, next_stamp, plain, clock_after, all_put, all_taken}
 use Rattle.vc_network.specs.Plan.{Plan}
 use Rattle.vc_tokens.specs.declared.token.Token.{Token}
-use Rattle.vc_core.specs.OfPlan.{IsNodeOf}
+use Rattle.vc_core.specs.OfPlan.{IsActorOf}
 use Rattle.vc_core.specs.declared.act.Act.{Act}
-use Rattle.vc_core.specs.declared.actor.Actor.{Actor}
+use Rattle.vc_core.specs.Shown.{Acting}
 use Rattle.vc_threads.specs.declared.desk.Desk.{Desk}
 use Rattle.vc_threads.specs.declared.link.Ends.{Ends}
 use Rattle.vc_threads.specs.declared.link.Stamped.{Stamped}
@@ -136,8 +136,8 @@ pub looked_in_links : (os ps : List In) → AllZip InLooked os ps → in_links p
 looked_in_links = zip_map (λ o. o.0) (λ o. o.0) InLooked (λ a b l. l.0)
 
 module _ (plan : Plan) (k : ℕ) where
-  -- no step was made, and the node has none of its own
-  pub uses_idle : (a b : Seen) → IsQuiet plan k a.node → b.node ≡ a.node → b.clock ≡ a.clock → b.log ≡ a.log → b.words ≡ a.words
+  -- no step was made, and the actor has none of its own
+  pub uses_idle : (a b : Seen) → IsQuiet plan k a.actor → b.actor ≡ a.actor → b.clock ≡ a.clock → b.log ≡ a.log → b.words ≡ a.words
       → AllZip OutLooked a.outs b.outs → AllZip InLooked a.ins b.ins → Uses plan k 1 a b
   uses_idle a b quiet node clock log words outs ins = record {
     steps = [];
@@ -150,18 +150,18 @@ module _ (plan : Plan) (k : ℕ) where
       ins = receives_quiet [] (λ l. refl) a.ins b.ins ins;
       words = words;
     };
-    used = inr ([], [], a.node, refl, refl, node, quiet);
+    used = inr ([], [], a.actor, refl, refl, node, quiet);
   }
 
   -- one step was made
-  pub uses_one : (a b : Seen) (t : Turn Act Token) → StepsByLink plan k a.node (plain t.it) b.node → t.at ≡ next_stamp a.clock t.it → CarriesStamp t.at t.it
+  pub uses_one : (a b : Seen) (t : Turn Act Token) → StepsByLink plan k a.actor (plain t.it) b.actor → t.at ≡ next_stamp a.clock t.it → CarriesStamp t.at t.it
       → b.clock ≡ t.at → b.log ≡ a.log ++ logged t ∷ [] → Draws a.words (words_of (t ∷ [])) b.words
       → AllZip (Sends (t ∷ [])) a.outs b.outs → AllZip (Receives (t ∷ [])) a.ins b.ins → Uses plan k 1 a b
   uses_one a b t step stamp carries clock log words outs ins = record {
     steps = t ∷ [];
     few = omega arith;
     goes = record {
-      run = (b.node, step, stamp, carries, refl);
+      run = (b.actor, step, stamp, carries, refl);
       clock = clock;
       log = log;
       outs = outs;
@@ -208,19 +208,19 @@ module _ (plan : Plan) (k : ℕ) where
   uses_then n m a b c p q =
       let few = p.few in
       let more = q.few in
-      let run = subst (λ w. LocalRun (StepsByLink plan) k w b.node q.steps c.node) p.goes.clock q.goes.run in
+      let run = subst (λ w. LocalRun (StepsByLink plan) k w b.actor q.steps c.actor) p.goes.clock q.goes.run in
       record {
         steps = p.steps ++ q.steps;
         few = omega (arith, length-append p.steps q.steps, few, more);
         goes = record {
-          run = run_then (StepsByLink plan) k a.clock a.node b.node c.node p.steps q.steps p.goes.run run;
+          run = run_then (StepsByLink plan) k a.clock a.actor b.actor c.actor p.steps q.steps p.goes.run run;
           clock = q.goes.clock ∙ (ap (λ w. clock_after w q.steps) p.goes.clock ∙ sym (clock_then a.clock p.steps q.steps));
           log = q.goes.log ∙ (ap (λ w. w ++ map logged q.steps) p.goes.log ∙ (append_assoc a.log (map logged p.steps) (map logged q.steps) ∙ ap (λ w. a.log ++ w) (sym (map-append logged p.steps q.steps))));
           outs = sends_then p.steps q.steps a.outs b.outs c.outs p.goes.outs q.goes.outs;
           ins = receives_then p.steps q.steps a.ins b.ins c.ins p.goes.ins q.goes.ins;
           words = subst (λ w. Draws a.words w c.words) (sym (words_then p.steps q.steps)) (draws_then a.words b.words c.words (words_of p.steps) (words_of q.steps) p.goes.words q.goes.words);
         };
-        used = used_then plan k n m a.clock a.node b.node c.node p.steps q.steps p.goes.run run p.used (subst (λ w. Used plan k m w b.node q.steps c.node) p.goes.clock q.used);
+        used = used_then plan k n m a.clock a.actor b.actor c.actor p.steps q.steps p.goes.run run p.used (subst (λ w. Used plan k m w b.actor q.steps c.actor) p.goes.clock q.used);
       }
 
   -- the ends stay those of the same links
@@ -238,58 +238,41 @@ module _ (plan : Plan) (k : ℕ) where
       let same = l.0 in
       subst (λ (v : ℕ). v < 32) (sym same) h
 
-  pub ins_low : (n : ℕ) (a b : Seen) → Uses plan k n a b → All (λ i. i.0 < 4) a.ins → All (λ i. i.0 < 4) b.ins
-  ins_low n a b p low j d m =
-      let e = zip_length (Receives p.steps) a.ins b.ins p.goes.ins in
-      let l = zip_at (Receives p.steps) a.ins b.ins j d d p.goes.ins (omega arith) in
-      let h = low j d (omega arith) in
-      let same = l.0 in
-      subst (λ (v : ℕ). v < 4) (sym same) h
-
-pub looked_low : (os ps : List In) → AllZip InLooked os ps → All (λ i. i.0 < 4) os → All (λ i. i.0 < 4) ps
-looked_low os ps z low j d m =
-    let e = zip_length InLooked os ps z in
-    let l = zip_at InLooked os ps j d d z (omega arith) in
-    let h = low j d (omega arith) in
-    let same = l.0 in
-    subst (λ (v : ℕ). v < 4) (sym same) h
-
 pub stays_same : (a : Seen) → Stays a a
-stays_same a = record { node = refl; log = refl; outs = zip_same OutLooked looked_same a.outs; ins = zip_same InLooked in_looked_same a.ins }
+stays_same a = record { actor = refl; log = refl; outs = zip_same OutLooked looked_same a.outs; ins = zip_same InLooked in_looked_same a.ins }
 
 -- nothing was done after a look
 pub stays_looked : (a b : Seen) (ins : List In) → AllZip InLooked ins a.ins → Stays a b → Stays (record a { ins = ins }) b
-stays_looked a b ins looked p = record { node = p.node; log = p.log; outs = p.outs; ins = zip_then InLooked InLooked InLooked in_looked_then ins a.ins b.ins looked p.ins }
+stays_looked a b ins looked p = record { actor = p.actor; log = p.log; outs = p.outs; ins = zip_then InLooked InLooked InLooked in_looked_then ins a.ins b.ins looked p.ins }
 
--- a node of the plan stays one
-pub node_kept : (plan : Plan) (k n : ℕ) (a b : Seen) → Uses plan k n a b → IsNodeOf plan k a.node → IsNodeOf plan k b.node
-node_kept plan k n a b p h = run_kept plan k a.clock a.node p.steps b.node p.goes.run h
+-- an actor of the plan stays one
+pub actor_kept : (plan : Plan) (k n : ℕ) (a b : Seen) → Uses plan k n a b → IsActorOf plan k a.actor → IsActorOf plan k b.actor
+actor_kept plan k n a b p h = run_kept plan k a.clock a.actor p.steps b.actor p.goes.run h
 
 -- what a worker gives back
-pub has_run : (plan : Plan) (k n m id seed : ℕ) (a b c : Desk) (actor : Actor) (ends : Ends) (r : ActorRun)
+pub has_run : (plan : Plan) (k n m id seed : ℕ) (a b c : Desk) (actor : Acting) (ends : Ends) (r : ActorRun)
     → Uses plan k n (desk a) (desk b) → Stays (desk b) (desk c) → n ≤ m
     → a.actor ≡ actor → a.clock ≡ 0 → a.acts.items ≡ [] → a.ends ≡ ends → a.words ≡ started 64 multiplier_64 seed (increment_of 64 id)
     → r.actor ≡ c.actor → r.acts ≡ c.acts → r.ends ≡ c.ends → (r.stop ≡ Turns → n ≡ m)
     → HasRun plan k m id seed actor ends r
 has_run plan k n m id seed a b c actor ends r p s le actor_is clock_is acts_is ends_is words_is actor' acts' ends' turns =
     let few = p.few in
-    let node : r.actor.node ≡ b.actor.node = ap (λ v. v.node) actor' ∙ s.node in
-    let first : a.actor.node ≡ actor.node = ap (λ v. v.node) actor_is in
+    let last : r.actor ≡ b.actor = actor' ∙ s.actor in
     let outs = sends_looked p.steps a.ends.outs.items b.ends.outs.items c.ends.outs.items p.goes.outs s.outs in
     let ins = receives_looked p.steps a.ends.ins.items b.ends.ins.items c.ends.ins.items p.goes.ins s.ins in
     record {
       steps = p.steps;
       few = omega (arith, few, le);
-      run = subst (λ v. LocalRun (StepsByLink plan) k 0 v p.steps r.actor.node) first
-          (subst (λ w. LocalRun (StepsByLink plan) k w a.actor.node p.steps r.actor.node) clock_is
-          (subst (λ v. LocalRun (StepsByLink plan) k a.clock a.actor.node p.steps v) (sym node) p.goes.run));
+      run = subst (λ v. LocalRun (StepsByLink plan) k 0 v p.steps r.actor) actor_is
+          (subst (λ w. LocalRun (StepsByLink plan) k w a.actor p.steps r.actor) clock_is
+          (subst (λ v. LocalRun (StepsByLink plan) k a.clock a.actor p.steps v) (sym last) p.goes.run));
       acts = ap (λ v. v.items) acts' ∙ (s.log ∙ (p.goes.log ∙ ap (λ w. w ++ map logged p.steps) acts_is));
       outs = subst (λ e. AllZip (Sends p.steps) e.outs.items r.ends.outs.items) ends_is (subst (λ e. AllZip (Sends p.steps) a.ends.outs.items e.outs.items) (sym ends') outs);
       ins = subst (λ e. AllZip (Receives p.steps) e.ins.items r.ends.ins.items) ends_is (subst (λ e. AllZip (Receives p.steps) a.ends.ins.items e.ins.items) (sym ends') ins);
       rest = b.words;
       words = subst (λ g. Draws g (words_of p.steps) b.words) words_is p.goes.words;
-      used = λ h. subst (λ j. Used plan k j 0 actor.node p.steps r.actor.node) (turns h)
-          (subst (λ v. Used plan k n 0 v p.steps r.actor.node) first
-          (subst (λ w. Used plan k n w a.actor.node p.steps r.actor.node) clock_is
-          (subst (λ v. Used plan k n a.clock a.actor.node p.steps v) (sym node) p.used)));
+      used = λ h. subst (λ j. Used plan k j 0 actor p.steps r.actor) (turns h)
+          (subst (λ v. Used plan k n 0 v p.steps r.actor) actor_is
+          (subst (λ w. Used plan k n w a.actor p.steps r.actor) clock_is
+          (subst (λ v. Used plan k n a.clock a.actor p.steps v) (sym last) p.used)));
     }

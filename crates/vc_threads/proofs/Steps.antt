@@ -8,11 +8,11 @@ use Rattle.vc_actors.specs.Actors.Label.{Own, Takes, Puts}
 use Rattle.vc_actors.specs.LocalRun.{Turn, LocalRun, clock_after, all_taken, all_put, plain}
 use Rattle.vc_network.specs.Plan.{Plan}
 use Rattle.vc_tokens.specs.declared.token.Token.{Token}
-use Rattle.vc_core.specs.OfPlan.{IsNodeOf}
+use Rattle.vc_core.specs.OfPlan.{IsActorOf}
 use Rattle.vc_core.specs.Turns.{FindsTurn, IsPut, RoomLets}
 use Rattle.vc_core.specs.declared.act.Act.{Act}
 use Rattle.vc_core.specs.declared.act.Act.TheVariants.{Proc, Take, Put, Route, Fct, Pass}
-use Rattle.vc_core.specs.declared.node.Node.{Node}
+use Rattle.vc_core.specs.Shown.{Acting}
 use Rattle.vc_threads.specs.Runs.{StepsByLink, IsQuiet, Used, Draws, words_of, word_of}
 use Rattle.std.specs.Int.{bit_at}
 use Rattle.std.specs.Prelude.{None}
@@ -41,7 +41,7 @@ draws_then g h i [] ws p q = subst (λ x. Draws x ws i) p q
 draws_then g h i (v ∷ vs) ws p q = (p.0, draws_then (pcg32 g).1 h i vs ws p.1 q)
 
 -- turns used, and then more
-pub used_then : (plan : Plan) (k n m clock : ℕ) (a b c : Node) (ts us : List (Turn Act Token))
+pub used_then : (plan : Plan) (k n m clock : ℕ) (a b c : Acting) (ts us : List (Turn Act Token))
     → LocalRun (StepsByLink plan) k clock a ts b → LocalRun (StepsByLink plan) k (clock_after clock ts) b us c
     → Used plan k n clock a ts b → Used plan k m (clock_after clock ts) b us c → Used plan k (n + m) clock a (ts ++ us) c
 used_then plan k n m clock a b c ts us p q (inr r) w =
@@ -68,7 +68,7 @@ used_then plan k n m clock a b c ts us p q (inl e) (inr r) =
 used_then plan k n m clock a b c ts us p q (inl e) (inl f) = inl (omega (arith, length-append ts us, e, f))
 
 -- a put leaves a node of the plan
-put_kept : (plan : Plan) (k link : ℕ) (old : Node) (act : Act) (item : Token) (new : Node) → IsPut plan k old link act item new → IsNodeOf plan k new
+put_kept : (plan : Plan) (k link : ℕ) (old : Acting) (act : Act) (item : Token) (new : Acting) → IsPut plan k old link act item new → IsActorOf plan k new
 put_kept plan k link old (Put l) item new p = p.1.kept
 put_kept plan k link old (Fct l) item new p = p.2.kept
 put_kept plan k link old (Proc m) item new p = absurd p
@@ -76,7 +76,7 @@ put_kept plan k link old (Take l w) item new p = absurd p
 put_kept plan k link old (Pass l) item new p = absurd p
 put_kept plan k link old (Route i o) item new p = absurd p
 
-step_kept : (plan : Plan) (k : ℕ) (old : Node) (label : Label Act Token) (new : Node) → StepsByLink plan k old label new → IsNodeOf plan k new
+step_kept : (plan : Plan) (k : ℕ) (old : Acting) (label : Label Act Token) (new : Acting) → StepsByLink plan k old label new → IsActorOf plan k new
 step_kept plan k old (Own act) new p = p.kept
 step_kept plan k old (Takes (Take by word) link t) new p = p.1.kept
 step_kept plan k old (Takes (Put l) link t) new p = absurd p
@@ -87,22 +87,22 @@ step_kept plan k old (Takes (Route i o) link t) new p = absurd p
 step_kept plan k old (Puts act link t) new p = put_kept plan k link old act t new p
 
 -- a run leaves a node of the plan
-pub run_kept : (plan : Plan) (k clock : ℕ) (old : Node) (ts : List (Turn Act Token)) (new : Node)
-    → LocalRun (StepsByLink plan) k clock old ts new → IsNodeOf plan k old → IsNodeOf plan k new
-run_kept plan k clock old [] new p h = subst (IsNodeOf plan k) (sym p) h
+pub run_kept : (plan : Plan) (k clock : ℕ) (old : Acting) (ts : List (Turn Act Token)) (new : Acting)
+    → LocalRun (StepsByLink plan) k clock old ts new → IsActorOf plan k old → IsActorOf plan k new
+run_kept plan k clock old [] new p h = subst (IsActorOf plan k) (sym p) h
 run_kept plan k clock old (t ∷ ts) new p h = run_kept plan k t.at p.0 ts new p.4 (step_kept plan k old (plain t.it) p.0 p.1)
 
 -- a node that has no act for its turn has no step of its own
-pub finds_quiet : (plan : Plan) (k : ℕ) (n : Node) (room : ℕ) → FindsTurn plan k n room None → IsQuiet plan k n
+pub finds_quiet : (plan : Plan) (k : ℕ) (n : Acting) (room : ℕ) → FindsTurn plan k n room None → IsQuiet plan k n
 finds_quiet plan k n room f (Proc m) own can = f (Proc m) (record { can = can; lets = tt })
 finds_quiet plan k n room f (Pass l) own can = f (Pass l) (record { can = can; lets = tt })
 finds_quiet plan k n room f (Take l w) own can = absurd own
 finds_quiet plan k n room f (Put l) own can = absurd own
 finds_quiet plan k n room f (Fct l) own can = absurd own
-finds_quiet plan k n room f (Route i o) own can = absurd own
+finds_quiet plan k n room f (Route i o) own can = f (Route i o) (record { can = can; lets = tt })
 
 -- a put goes to a link with room
-pub put_room : (plan : Plan) (k link room : ℕ) (old : Node) (act : Act) (item : Token) (new : Node) → IsPut plan k old link act item new → RoomLets room act → bit_at room link ≡ 1
+pub put_room : (plan : Plan) (k link room : ℕ) (old : Acting) (act : Act) (item : Token) (new : Acting) → IsPut plan k old link act item new → RoomLets room act → bit_at room link ≡ 1
 put_room plan k link room old (Put l) item new p lets = subst (λ x. bit_at room x ≡ 1) (sym p.0) lets
 put_room plan k link room old (Fct l) item new p lets = subst (λ x. bit_at room x ≡ 1) (sym p.0) lets
 put_room plan k link room old (Proc m) item new p lets = absurd p

@@ -1,4 +1,4 @@
--- What a node does by itself, with its ways named by its links.
+-- What an actor does by itself, with its ways named by its links.
 use Rattle.std.specs.Prelude.{◌≡◌, ◌⊎◌, ℕ, List, [], ◌∷◌, ◌++◌, length}
 use Rattle.std.specs.List.{flat_map}
 use Rattle.vc_actors.specs.Actors.{Label, Steps}
@@ -14,30 +14,30 @@ use Rattle.vc_core.specs.Acting.{MakesOwn, MakesTake, IsOwn}
 use Rattle.vc_core.specs.Turns.{IsPut}
 use Rattle.vc_core.specs.declared.act.Act.{Act}
 use Rattle.vc_core.specs.declared.act.Act.TheVariants.{Take}
-use Rattle.vc_core.specs.declared.node.Node.{Node}
+use Rattle.vc_core.specs.Shown.{Acting}
 
--- The steps of node k of the plan: of its own, the take of a token from a link, or the put of one on a link.
-abbrev pub StepsByLink : Plan → Steps Node Act Token
+-- The steps of actor k of the plan: of its own, the take of a token from a link, or the put of one on a link.
+abbrev pub StepsByLink : Plan → Steps Acting Act Token
 StepsByLink plan k old (Own act) new = MakesOwn plan k old act new
-StepsByLink plan k old (Takes (Take by word) link t) new = (by ≡ link) × MakesTake plan k old link (token t) new
+StepsByLink plan k old (Takes (Take by word) link t) new = (by ≡ link) × MakesTake plan k old link word (token t) new
 StepsByLink plan k old (Puts act link t) new = IsPut plan k old link act t new
 StepsByLink plan k old _ new = ⊥
 
--- the node has no step of its own
-abbrev pub IsQuiet : Plan → ℕ → Node → Type 0
+-- the actor has no step of its own
+abbrev pub IsQuiet : Plan → ℕ → Acting → Type 0
 IsQuiet plan k n = (act : Act) → IsOwn act → CanAct plan k n act → ⊥
 
--- after some prefix of the run the node has no step of its own
-abbrev pub Rests : Plan → ℕ → ℕ → Node → List (Turn Act Token) → Node → Type 0
+-- after some prefix of the run the actor has no step of its own
+abbrev pub Rests : Plan → ℕ → ℕ → Acting → List (Turn Act Token) → Acting → Type 0
 Rests plan k clock old ts new =
-    (before after : List (Turn Act Token)) × (mid : Node)
+    (before after : List (Turn Act Token)) × (mid : Acting)
     × (ts ≡ before ++ after)
     × LocalRun (StepsByLink plan) k clock old before mid
     × LocalRun (StepsByLink plan) k (clock_after clock before) mid after new
     × IsQuiet plan k mid
 
--- the run used n turns: it has n acts, or the node once had no step of its own
-abbrev pub Used : Plan → ℕ → ℕ → ℕ → Node → List (Turn Act Token) → Node → Type 0
+-- the run used n turns: it has n acts, or the actor once had no step of its own
+abbrev pub Used : Plan → ℕ → ℕ → ℕ → Acting → List (Turn Act Token) → Acting → Type 0
 Used plan k n clock old ts new = (length ts ≡ n) ⊎ Rests plan k clock old ts new
 
 -- the word of a take

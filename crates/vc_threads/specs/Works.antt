@@ -13,11 +13,12 @@ use Rattle.vc_actors.specs.LocalRun.{Turn, LocalRun, clock_after}
 use Rattle.vc_actors.specs.Actors.{act_of}
 use Rattle.vc_network.specs.Plan.{Plan}
 use Rattle.vc_tokens.specs.declared.token.Token.{Token}
-use Rattle.vc_core.specs.OfPlan.{IsNodeOf}
+use Rattle.vc_core.specs.Acting.{HasLink}
+use Rattle.vc_core.specs.OfPlan.{IsActorOf}
 use Rattle.vc_core.specs.declared.act.Act.{Act}
 use Rattle.vc_core.specs.declared.act.Act.TheVariants.{Take}
-use Rattle.vc_core.specs.declared.actor.Actor.{Actor}
-use Rattle.vc_core.specs.declared.node.Node.{Node}
+use Rattle.vc_core.specs.Shown.{Acting}
+use Rattle.vc_core.specs.Shown.{Acting}
 use Rattle.vc_threads.specs.declared.desk.Desk.{Desk}
 use Rattle.vc_threads.specs.declared.link.Ends.{Ends}
 use Rattle.vc_threads.specs.declared.link.LinkRule.{LinkRule}
@@ -26,11 +27,11 @@ use Rattle.vc_threads.specs.declared.run.ActorRun.{ActorRun}
 use Rattle.vc_threads.specs.declared.run.Stop.TheVariants.{Turns}
 use Rattle.vc_threads.specs.Runs.{StepsByLink, Used, Draws, words_of}
 use Rattle.vc_threads.specs.Stamps.{stamped}
-use Rattle.vc_threads.specs.Wires.{Sends, Receives, OutLooked, InLooked}
+use Rattle.vc_threads.specs.Wires.{Sends, Receives, OutLooked, InLooked, IsReady}
 
--- the node is one of some plan
-abbrev pub IsOfSomePlan : Node → Type 0
-IsOfSomePlan n = (plan : Plan) × (k : ℕ) × IsNodeOf plan k n
+-- the actor is one of some plan
+abbrev pub IsOfSomePlan : Acting → Type 0
+IsOfSomePlan n = (plan : Plan) × (k : ℕ) × IsActorOf plan k n
 
 abbrev pub Out : Type 0
 Out = ℕ × Producer Stamped Global LinkRule
@@ -38,9 +39,13 @@ Out = ℕ × Producer Stamped Global LinkRule
 abbrev pub In : Type 0
 In = ℕ × Consumer Stamped Global LinkRule
 
+-- the actor has the link, and an item is known in its ring
+abbrev pub CanTake : Acting → In → Type 0
+CanTake x i = HasLink x i.0 × IsReady i
+
 -- what is seen of a desk
 pub record Seen : Type 0 where
-  pub node : Node
+  pub actor : Acting
   pub clock : ℕ
   pub log : List (ℕ × Act)
   pub outs : List Out
@@ -48,16 +53,16 @@ pub record Seen : Type 0 where
   pub words : Lcg
 
 abbrev pub desk : Desk → Seen
-desk d = record { node = d.actor.node; clock = d.clock; log = d.acts.items; outs = d.ends.outs.items; ins = d.ends.ins.items; words = d.words }
+desk d = record { actor = d.actor; clock = d.clock; log = d.acts.items; outs = d.ends.outs.items; ins = d.ends.ins.items; words = d.words }
 
 -- what is logged of a step
 abbrev pub logged : Turn Act Token → ℕ × Act
 logged t = (t.at, act_of t.it)
 
--- Some steps lead from one desk to the other: they are a run of node k by itself, they are logged, the rings show what they took and
+-- Some steps lead from one desk to the other: they are a run of actor k by itself, they are logged, the rings show what they took and
 -- put, and the words of their takes were drawn.
 pub record Goes (plan : Plan) (k : ℕ) (a : Seen) (ts : List (Turn Act Token)) (b : Seen) : Type 0 where
-  pub run : LocalRun (StepsByLink plan) k a.clock a.node ts b.node
+  pub run : LocalRun (StepsByLink plan) k a.clock a.actor ts b.actor
   pub clock : b.clock ≡ clock_after a.clock ts
   pub log : b.log ≡ a.log ++ map logged ts
   pub outs : AllZip (Sends ts) a.outs b.outs
@@ -69,11 +74,11 @@ pub record Uses (plan : Plan) (k n : ℕ) (a b : Seen) : Type 0 where
   pub steps : List (Turn Act Token)
   pub few : length steps ≤ n
   pub goes : Goes plan k a steps b
-  pub used : Used plan k n a.clock a.node steps b.node
+  pub used : Used plan k n a.clock a.actor steps b.actor
 
 -- nothing was done
 pub record Stays (a b : Seen) : Type 0 where
-  pub node : b.node ≡ a.node
+  pub actor : b.actor ≡ a.actor
   pub log : b.log ≡ a.log
   pub outs : AllZip OutLooked a.outs b.outs
   pub ins : AllZip InLooked a.ins b.ins
@@ -83,7 +88,7 @@ abbrev pub take_of : ℕ × Act → ℕ → Stamped → Turn Act Token
 take_of made link x = record { at = made.0; it = Takes made.1 link (stamped x) }
 
 -- the front item of the link's ring is taken
-pub record TakesFront (plan : Plan) (k : ℕ) (old : Node) (clock word : ℕ) (end : In) (made : ℕ × Act) (new : Node) (end' : In) : Type 0 where
+pub record TakesFront (plan : Plan) (k : ℕ) (old : Acting) (clock word : ℕ) (end : In) (made : ℕ × Act) (new : Acting) (end' : In) : Type 0 where
   pub item : Stamped
   pub act : made.1 ≡ Take end.0 word
   pub step : StepsByLink plan k old (Takes made.1 end.0 item.item) new
@@ -92,16 +97,16 @@ pub record TakesFront (plan : Plan) (k : ℕ) (old : Node) (clock word : ℕ) (e
   pub ring : SameConsumer end.1 end'.1
   pub got : received end'.1 ≡ received end.1 ++ item ∷ []
 
--- What a worker gives back: some steps, at most n, are a run of node k by itself from its first state to its last. They are the acts.
+-- What a worker gives back: some steps, at most n, are a run of actor k by itself from its first state to its last. They are the acts.
 -- What the ring ends sent and received is what the steps put and took, and the words of the takes are those of the generator, in order.
 -- A worker that ended by its turns used them.
-pub record HasRun (plan : Plan) (k n id seed : ℕ) (actor : Actor) (ends : Ends) (r : ActorRun) : Type 0 where
+pub record HasRun (plan : Plan) (k n id seed : ℕ) (actor : Acting) (ends : Ends) (r : ActorRun) : Type 0 where
   pub steps : List (Turn Act Token)
   pub few : length steps ≤ n
-  pub run : LocalRun (StepsByLink plan) k 0 actor.node steps r.actor.node
+  pub run : LocalRun (StepsByLink plan) k 0 actor steps r.actor
   pub acts : r.acts.items ≡ map logged steps
   pub outs : AllZip (Sends steps) ends.outs.items r.ends.outs.items
   pub ins : AllZip (Receives steps) ends.ins.items r.ends.ins.items
   pub rest : Lcg
   pub words : Draws (started 64 multiplier_64 seed (increment_of 64 id)) (words_of steps) rest
-  pub used : r.stop ≡ Turns → Used plan k n 0 actor.node steps r.actor.node
+  pub used : r.stop ≡ Turns → Used plan k n 0 actor steps r.actor

@@ -3,10 +3,10 @@ ghost use Rattle.std.specs.Prelude.{◌≡◌, ◌≢◌, ℕ, ◌+◌, ◌<◌,
 ghost use Rattle.std.specs.List.{All, AllZip, HoldsAt};
 ghost use Rattle.std.specs.Int.{bit_at};
 ghost use Rattle.rtrb.specs.Ring.{sent, known_free, SameProducer};
-ghost use Rattle.vc_core.specs.OfPlan.{IsNodeOf};
+ghost use Rattle.vc_core.specs.OfPlan.{IsActorOf};
 ghost use Rattle.vc_network.specs.Plan.{Plan};
 ghost use Rattle.vc_threads.specs.Wires.{OutLooked, InLooked, HasRoom, IsFree, IsReady};
-ghost use Rattle.vc_threads.specs.Works.{TakesFront};
+ghost use Rattle.vc_threads.specs.Works.{CanTake, TakesFront};
 
 use crate::link::{Ends, In, Out, Stamped};
 use crate::run::{ActorRun, Stop};
@@ -76,13 +76,24 @@ fn is_ready(end: &mut (u8, In)) -> bool
     consumer.slots() > 0
 }
 
-// The place of the first link whose ring has an item.
-fn find_in(ins: &mut [(u8, In)]) -> Option<usize>
+// Whether the actor may take from a link, and its ring has an item.
+fn can_take(actor: &Actor, end: &mut (u8, In)) -> bool
+    ensures looked { InLooked end.old end.new }
+    ensures can { IsTrue result → CanTake actor.now end.new }
+{
+    if !actor.may_take(end.0) {
+        return false;
+    }
+    is_ready(end)
+}
+
+// The place of the first link from which the actor may take and whose ring has an item.
+fn find_in(actor: &Actor, ins: &mut [(u8, In)]) -> Option<usize>
     ensures looked { AllZip InLooked ins.old ins.new }
-    ensures ready { IfSome result (λ k. (k < length ins.new) × HoldsAt IsReady ins.new k) }
+    ensures can { IfSome result (λ k. (k < length ins.new) × HoldsAt (CanTake actor.now) ins.new k) }
 {
     for k in 0..ins.len() {
-        if is_ready(&mut ins[k]) {
+        if can_take(actor, &mut ins[k]) {
             return Some(k);
         }
     }
@@ -96,9 +107,8 @@ fn take_front(
     clock: u64,
     word: u32,
 ) -> Result<(u64, Act), Stop>
-    requires link { end.old.0 < 4 }
-    requires ready { IsReady end.old }
-    ensures ok { (plan : Plan) (k : ℕ) → IsNodeOf plan k actor.old.node → IfOk result (λ made. TakesFront plan k actor.old.node clock word end.old made actor.new.node end.new) }
+    requires { CanTake actor.old end.old }
+    ensures ok { (plan : Plan) (k : ℕ) → IsActorOf plan k actor.old → IfOk result (λ made. TakesFront plan k actor.old clock word end.old made actor.new end.new) }
     ensures err { OnErr result ((actor.new ≡ actor.old) × (end.new ≡ end.old)) }
     ensures why { IfErr result (λ why. why ≢ Stop.Turns) }
 {
@@ -131,10 +141,10 @@ impl Desk {
     ghost use Rattle.std.specs.List.{All, HoldsAt};
     ghost use Rattle.rand_pcg.specs.Lcg.{started, increment_of};
     ghost use Rattle.rand_pcg.specs.Pcg.{multiplier_64};
-    ghost use Rattle.vc_core.specs.OfPlan.{IsNodeOf};
+    ghost use Rattle.vc_core.specs.OfPlan.{IsActorOf};
     ghost use Rattle.vc_network.specs.Plan.{Plan};
-    ghost use Rattle.vc_threads.specs.Wires.{Distinct, IsReady, in_links, out_links};
-    ghost use Rattle.vc_threads.specs.Works.{IsOfSomePlan, Uses, Stays, desk};
+    ghost use Rattle.vc_threads.specs.Wires.{Distinct, in_links, out_links};
+    ghost use Rattle.vc_threads.specs.Works.{CanTake, IsOfSomePlan, Uses, Stays, desk};
 
     /// An actor that did nothing yet. Its words are those of the generator of this seed and number.
     pub(crate) fn new(alloc: Global, id: u8, actor: Actor, ends: Ends, seed: u32) -> Desk
@@ -180,10 +190,9 @@ impl Desk {
     // Takes the front item of the k-th incoming link.
     fn take_from(&mut self, k: usize) -> Result<(), Stop>
         requires links { Distinct (in_links self.old.ends.ins.items) }
-        requires low { All (λ i. i.0 < 4) self.old.ends.ins.items }
         requires within { k < length self.old.ends.ins.items }
-        requires ready { HoldsAt IsReady self.old.ends.ins.items k }
-        ensures done { (plan : Plan) (n : ℕ) → IsNodeOf plan n self.old.actor.node → OnOk result (Uses plan n 1 (desk self.old) (desk self.new)) }
+        requires can { HoldsAt (CanTake self.old.actor) self.old.ends.ins.items k }
+        ensures done { (plan : Plan) (n : ℕ) → IsActorOf plan n self.old.actor → OnOk result (Uses plan n 1 (desk self.old) (desk self.new)) }
         ensures stopped { OnErr result (Stays (desk self.old) (desk self.new)) }
         ensures why { IfErr result (λ why. why ≢ Stop.Turns) }
     {
@@ -199,10 +208,10 @@ impl Desk {
 
     // What the actor does where it takes nothing.
     fn make_turn(&mut self) -> Result<(), Stop>
-        requires node { IsOfSomePlan self.old.actor.node }
+        requires actor { IsOfSomePlan self.old.actor }
         requires links { Distinct (out_links self.old.ends.outs.items) }
         requires low { All (λ o. o.0 < 32) self.old.ends.outs.items }
-        ensures done { (plan : Plan) (n : ℕ) → IsNodeOf plan n self.old.actor.node → OnOk result (Uses plan n 1 (desk self.old) (desk self.new)) }
+        ensures done { (plan : Plan) (n : ℕ) → IsActorOf plan n self.old.actor → OnOk result (Uses plan n 1 (desk self.old) (desk self.new)) }
         ensures stopped { OnErr result (Stays (desk self.old) (desk self.new)) }
         ensures why { IfErr result (λ why. why ≢ Stop.Turns) }
     {
@@ -231,18 +240,17 @@ impl Desk {
         }
     }
 
-    /// One turn: the take of an item from the first link whose ring has one, or else what the actor does.
+    /// One turn: the take of an item from the first link that may take one and whose ring has one, or else what the actor does.
     pub(crate) fn turn(&mut self) -> Result<(), Stop>
-        requires node { IsOfSomePlan self.old.actor.node }
+        requires actor { IsOfSomePlan self.old.actor }
         requires outs { Distinct (out_links self.old.ends.outs.items) }
         requires ins { Distinct (in_links self.old.ends.ins.items) }
         requires low { All (λ o. o.0 < 32) self.old.ends.outs.items }
-        requires few { All (λ i. i.0 < 4) self.old.ends.ins.items }
-        ensures done { (plan : Plan) (n : ℕ) → IsNodeOf plan n self.old.actor.node → OnOk result (Uses plan n 1 (desk self.old) (desk self.new)) }
+        ensures done { (plan : Plan) (n : ℕ) → IsActorOf plan n self.old.actor → OnOk result (Uses plan n 1 (desk self.old) (desk self.new)) }
         ensures stopped { OnErr result (Stays (desk self.old) (desk self.new)) }
         ensures why { IfErr result (λ why. why ≢ Stop.Turns) }
     {
-        match find_in(self.ends.ins.as_mut_slice()) {
+        match find_in(&self.actor, self.ends.ins.as_mut_slice()) {
             Some(k) => self.take_from(k),
             None => self.make_turn(),
         }

@@ -56,7 +56,7 @@ fn plan(alloc: Global) -> Result<Plan, Fail> {
 
 /// The actor of that node.
 fn actor(rt: &impl Abort, alloc: Global) -> Result<Actor, Fail>
-    ensures { IfOk result (λ a. IsOfSomePlan a.node) }
+    ensures { IfOk result (λ a. IsOfSomePlan a) }
 {
     let Ok(accepted) = check(alloc, plan(alloc)?) else {
         panic!(rt; "the plan is refused");

@@ -1,7 +1,7 @@
 //! A worker: one actor with its ends of the rings, turn by turn.
 ghost use Rattle.std.specs.Prelude.{◌≡◌, ℕ, ◌<◌};
 ghost use Rattle.std.specs.List.{All};
-ghost use Rattle.vc_core.specs.OfPlan.{IsNodeOf};
+ghost use Rattle.vc_core.specs.OfPlan.{IsActorOf};
 ghost use Rattle.vc_network.specs.Plan.{Plan};
 ghost use Rattle.vc_threads.specs.Wires.{Distinct, out_links, in_links};
 ghost use Rattle.vc_threads.specs.Works.{IsOfSomePlan, HasRun};
@@ -13,11 +13,11 @@ use crate::run::{ActorRun, Stop};
 use std::alloc::Global;
 use vc_core::Actor;
 
-/// Runs an actor for at most so many turns, as long as the gate lets it. In a turn it takes the item of the first link whose ring has one,
-/// or else does what [`Actor::turn`] does. The actor's number is the stream of the generator of its takes' words.
+/// Runs an actor for at most so many turns, as long as the gate lets it. In a turn it takes the item of the first link from which it may and whose
+/// ring has one, or else does what [`Actor::turn`] does. The actor's number is the stream of the generator of its takes' words.
 ///
-/// The actor is a node of a plan, no link stands twice among the ends that go out or among those that come in, and each is a link of the
-/// node. The clock at `u64::MAX` ends the worker before the act, and so does want of memory.
+/// The actor is one of a plan, no link stands twice among the ends that go out or among those that come in, and each that goes out is below
+/// 32. The clock at `u64::MAX` ends the worker before the act, and so does want of memory.
 pub fn worker<G: Gate>(
     alloc: Global,
     id: u8,
@@ -27,13 +27,12 @@ pub fn worker<G: Gate>(
     turns: u64,
     seed: u32,
 ) -> ActorRun
-    requires node { IsOfSomePlan actor.node }
+    requires actor { IsOfSomePlan actor }
     requires outs { Distinct (out_links ends.outs.items) }
     requires ins { Distinct (in_links ends.ins.items) }
     requires low { All (λ o. o.0 < 32) ends.outs.items }
-    requires few { All (λ i. i.0 < 4) ends.ins.items }
     ensures id { result.id ≡ id }
-    ensures run { (plan : Plan) (n : ℕ) → IsNodeOf plan n actor.node → HasRun plan n turns id seed actor ends result }
+    ensures run { (plan : Plan) (n : ℕ) → IsActorOf plan n actor → HasRun plan n turns id seed actor ends result }
 {
     let mut desk = Desk::new(alloc, id, actor, ends, seed);
     let mut told = false;

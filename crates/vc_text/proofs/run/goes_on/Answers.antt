@@ -1,7 +1,7 @@
 use Rattle.std.proofs.Common.{◌≡◌, ◌<◌, ◌≤◌, length, sym, subst, inl, inr, arith}
 use Rattle.std.proofs.lemmas.Bool.{cases_lt}
 use Rattle.vc_core.specs.State.{state_of}
-use Rattle.vc_core.specs.Turns.{Rests}
+use Rattle.vc_core.specs.Turns.{Rests, actors}
 use Rattle.vc_core.proofs.Leaving.{few}
 use Rattle.vc_text.specs.Closing.{HasEvent}
 use Rattle.vc_text.proofs.Closing.{all_rest}
@@ -14,7 +14,7 @@ loop-actor-preserved c = λ p is k less.
     let many = c.actors.ensures p is in
     let most = c.min-actor-end.ensures in
     let test = c.loop-actor-test.true in
-    let node : a < length p.nodes = omega arith in
+    let node : a < actors p = omega arith in
     elim (cases_lt k a) [
       | inl sooner ↦ c.loop-actor.invariant p is k sooner
       | inr later ↦ (let same : a ≡ k = omega arith in subst (Rests p s) same (subst (HasEvent p s a) c.if-branch.false (c.in_ok-has_event.ensures p is node)))
@@ -25,6 +25,7 @@ returns c = λ p is.
     let many = c.actors.ensures p is in
     let most = c.min-actor-end.ensures in
     let test = c.loop-actor-test.false in
-    let small = (few p is.accepted).0 in
-    let past : length p.nodes ≤ c.loop-actor.actor = omega arith in
-    all_rest p (state_of c.args.network.now) c.loop-actor.actor past (c.loop-actor.invariant p is)
+    let nodes = (few p is.accepted).0 in
+    let switches = (few p is.accepted).1 in
+    let past : actors p ≤ c.loop-actor.actor = omega arith in
+    all_rest p (state_of c.args.network.now) is c.loop-actor.actor past (c.loop-actor.invariant p is)

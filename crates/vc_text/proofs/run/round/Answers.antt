@@ -1,7 +1,7 @@
 use Rattle.std.proofs.Common.{◌≡◌, ◌<◌, ◌≤◌, ◌||◌, Bool, true, false, Ok, length, refl, sym, ap, ◌∙◌, subst, inl, inr, arith}
 use Rattle.std.proofs.lemmas.Bool.{cases_lt}
 use Rattle.vc_core.specs.State.{state_of}
-use Rattle.vc_core.specs.Turns.{Rests, IsAtRest}
+use Rattle.vc_core.specs.Turns.{Rests, IsAtRest, actors}
 use Rattle.vc_core.proofs.Leaving.{few}
 use Rattle.vc_text.proofs.Closing.{all_rest, longer, grown, neither}
 use Rattle.vc_text.proofs.run.round.Goals as goal
@@ -25,7 +25,7 @@ loop-actor-preserved c =
           elim (cases_lt k c.loop-actor.actor) [
             | inl sooner ↦ inv.rests p r b.0 k sooner node
             | inr later ↦ (let here : c.loop-actor.actor ≡ k = omega arith in
-                let rest = (n.rests p (inv.reached p r) (subst (λ z. z < length p.nodes) (sym here) node) (ap Ok b.1)).0 in
+                let rest = (n.rests p (inv.reached p r) (subst (λ z. z < actors p) (sym here) node) (ap Ok b.1)).0 in
                 subst (λ z. Rests p (state_of c.args.network.now) z) here (subst (λ z. Rests p z c.loop-actor.actor) (inv.same p r b.0) rest))
           ]);
     }
@@ -35,8 +35,9 @@ returns-clause-rests c = λ p r e.
     let inv = c.loop-actor.invariant in
     let none : c.loop-actor.moved ≡ false = cc in
     let many = c.actors.ensures p r.is in
-    let small = (few p r.is.accepted).0 in
+    let nodes = (few p r.is.accepted).0 in
+    let switches = (few p r.is.accepted).1 in
     let most = c.min-actor-end.ensures in
     let test = c.loop-actor-test.false in
-    let past : length p.nodes ≤ c.loop-actor.actor = omega arith in
-    subst (IsAtRest p) (sym (inv.same p r none)) (all_rest p (state_of c.args.network.now) (length p.nodes) (omega arith) (λ k less. inv.rests p r none k (omega arith) less))
+    let past : actors p ≤ c.loop-actor.actor = omega arith in
+    subst (IsAtRest p) (sym (inv.same p r none)) (all_rest p (state_of c.args.network.now) r.is (actors p) (omega arith) (λ k less. inv.rests p r none k (omega arith) less))

@@ -2,7 +2,7 @@ use Rattle.std.proofs.Common.{◌≡◌, ◌<◌, ◌≤◌, ℕ, true, false, l
 use Rattle.vc_plan.specs.declared.plan.Plan.{Plan}
 use Rattle.vc_core.specs.Replaying.{Reached}
 use Rattle.vc_core.specs.State.{state_of}
-use Rattle.vc_core.specs.Turns.{Rests}
+use Rattle.vc_core.specs.Turns.{Rests, actors}
 use Rattle.vc_text.proofs.run.round.Given as goal
 
 abbrev pub invariant-loop-actor : goal.invariant-loop-actor
@@ -12,5 +12,5 @@ invariant-loop-actor l = record {
   some : length l.fn.events ≤ length l.events;
   more : l.moved ≡ true → length l.fn.events < length l.events;
   same : (p : Plan) → Reached p l.fn.events (state_of l.fn.network) → l.moved ≡ false → state_of l.network ≡ state_of l.fn.network;
-  rests : (p : Plan) → Reached p l.fn.events (state_of l.fn.network) → l.moved ≡ false → (k : ℕ) → k < l.actor → k < length p.nodes → Rests p (state_of l.fn.network) k;
+  rests : (p : Plan) → Reached p l.fn.events (state_of l.fn.network) → l.moved ≡ false → (k : ℕ) → k < l.actor → k < actors p → Rests p (state_of l.fn.network) k;
 }

@@ -14,14 +14,14 @@ front_is x y rest known after p q = let e : x ∷ rest ≡ y ∷ after = p ∙ q
 
 pub returns-clause-ok : goal.returns-clause-ok
 returns-clause-ok c = λ plan k of.
-    let old = c.args.actor.now.node in
-    let new = c.take.new.self.node in
+    let old = c.args.actor.now in
+    let new = c.take.new.self in
     let link = c.args.end.now.0 in
     let x = c.pop_known.result in
     let f = c.peek_known-front.ensures in
     let r = c.pop_known.ensures.received in
     let same = front_is c.peek_known-front.result.now x f.0 (known_items c.args.end.now.1) (known_items c.pop_known.new.self) f.1 r.1 in
-    let made : MakesTake plan k old link (token x.item) new = subst (λ (v : Stamped). MakesTake plan k old link (token v.item) new) same (c.in-Ok.ensures.ok plan k of) in
+    let made : MakesTake plan k old link c.args.word (token x.item) new = subst (λ (v : Stamped). MakesTake plan k old link c.args.word (token v.item) new) same (c.in-Ok.ensures.ok plan k of) in
     record {
       item = x;
       act = c.in-Ok.ensures.act;

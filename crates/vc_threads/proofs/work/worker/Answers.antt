@@ -1,53 +1,45 @@
 use Rattle.std.proofs.Common.{◌≡◌, ◌<◌, sym, ◌∙◌, subst, arith}
 use Rattle.std.specs.List.{All}
-use Rattle.vc_core.specs.OfPlan.{IsNodeOf}
+use Rattle.vc_core.specs.OfPlan.{IsActorOf}
 use Rattle.vc_threads.specs.Wires.{Distinct, out_links, in_links}
 use Rattle.vc_threads.specs.Works.{desk}
 use Rattle.vc_threads.specs.declared.run.Stop.TheVariants.{Turns, Gate}
-use Rattle.vc_threads.proofs.Goings.{uses_zero, uses_then, outs_apart, ins_apart, outs_low, ins_low, node_kept, stays_same, has_run}
+use Rattle.vc_threads.proofs.Goings.{uses_zero, uses_then, outs_apart, ins_apart, outs_low, actor_kept, stays_same, has_run}
 use Rattle.vc_threads.proofs.work.worker.Goals as goal
 
 pub loop-turn-init : goal.loop-turn-init
 loop-turn-init g c = λ plan n of. uses_zero plan n (desk c.new-desk.result)
 
-pub turn-requires-clause-node : goal.turn-requires-clause-node
-turn-requires-clause-node g c =
-    let plan = c.requires.node.0 in
-    let k = c.requires.node.1 in
-    let of = subst (λ a. IsNodeOf plan k a.node) (sym c.new-desk.ensures.actor) c.requires.node.2 in
-    (plan, k, node_kept plan k c.loop-turn.turn (desk c.new-desk.result) (desk c.loop-turn.desk) (c.loop-turn.invariant plan k of) of)
+pub turn-requires-clause-actor : goal.turn-requires-clause-actor
+turn-requires-clause-actor g c =
+    let plan = c.requires.actor.0 in
+    let k = c.requires.actor.1 in
+    let of = subst (λ a. IsActorOf plan k a) (sym c.new-desk.ensures.actor) c.requires.actor.2 in
+    (plan, k, actor_kept plan k c.loop-turn.turn (desk c.new-desk.result) (desk c.loop-turn.desk) (c.loop-turn.invariant plan k of) of)
 
 pub turn-requires-clause-outs : goal.turn-requires-clause-outs
 turn-requires-clause-outs g c =
-    let plan = c.requires.node.0 in
-    let k = c.requires.node.1 in
-    let of = subst (λ a. IsNodeOf plan k a.node) (sym c.new-desk.ensures.actor) c.requires.node.2 in
+    let plan = c.requires.actor.0 in
+    let k = c.requires.actor.1 in
+    let of = subst (λ a. IsActorOf plan k a) (sym c.new-desk.ensures.actor) c.requires.actor.2 in
     outs_apart plan k c.loop-turn.turn (desk c.new-desk.result) (desk c.loop-turn.desk) (c.loop-turn.invariant plan k of)
     (subst (λ e. Distinct (out_links e.outs.items)) (sym c.new-desk.ensures.ends) c.requires.outs)
 
 pub turn-requires-clause-ins : goal.turn-requires-clause-ins
 turn-requires-clause-ins g c =
-    let plan = c.requires.node.0 in
-    let k = c.requires.node.1 in
-    let of = subst (λ a. IsNodeOf plan k a.node) (sym c.new-desk.ensures.actor) c.requires.node.2 in
+    let plan = c.requires.actor.0 in
+    let k = c.requires.actor.1 in
+    let of = subst (λ a. IsActorOf plan k a) (sym c.new-desk.ensures.actor) c.requires.actor.2 in
     ins_apart plan k c.loop-turn.turn (desk c.new-desk.result) (desk c.loop-turn.desk) (c.loop-turn.invariant plan k of)
     (subst (λ e. Distinct (in_links e.ins.items)) (sym c.new-desk.ensures.ends) c.requires.ins)
 
 pub turn-requires-clause-low : goal.turn-requires-clause-low
 turn-requires-clause-low g c =
-    let plan = c.requires.node.0 in
-    let k = c.requires.node.1 in
-    let of = subst (λ a. IsNodeOf plan k a.node) (sym c.new-desk.ensures.actor) c.requires.node.2 in
+    let plan = c.requires.actor.0 in
+    let k = c.requires.actor.1 in
+    let of = subst (λ a. IsActorOf plan k a) (sym c.new-desk.ensures.actor) c.requires.actor.2 in
     outs_low plan k c.loop-turn.turn (desk c.new-desk.result) (desk c.loop-turn.desk) (c.loop-turn.invariant plan k of)
     (subst (λ e. All (λ o. o.0 < 32) e.outs.items) (sym c.new-desk.ensures.ends) c.requires.low)
-
-pub turn-requires-clause-few : goal.turn-requires-clause-few
-turn-requires-clause-few g c =
-    let plan = c.requires.node.0 in
-    let k = c.requires.node.1 in
-    let of = subst (λ a. IsNodeOf plan k a.node) (sym c.new-desk.ensures.actor) c.requires.node.2 in
-    ins_low plan k c.loop-turn.turn (desk c.new-desk.result) (desk c.loop-turn.desk) (c.loop-turn.invariant plan k of)
-    (subst (λ e. All (λ i. i.0 < 4) e.ins.items) (sym c.new-desk.ensures.ends) c.requires.few)
 
 pub returns-then-not-pass-clause-run : goal.returns-then-not-pass-clause-run
 returns-then-not-pass-clause-run g c = λ plan n of.
@@ -55,7 +47,7 @@ returns-then-not-pass-clause-run g c = λ plan n of.
     let e = c.into_run.ensures in
     let less = c.loop-turn-test.true in
     has_run plan n c.loop-turn.turn c.args.turns c.args.id c.args.seed c.new-desk.result c.loop-turn.desk c.loop-turn.desk c.args.actor c.args.ends c.into_run.result
-    (c.loop-turn.invariant plan n (subst (λ a. IsNodeOf plan n a.node) (sym d.actor) of)) (stays_same (desk c.loop-turn.desk)) (omega (arith, less))
+    (c.loop-turn.invariant plan n (subst (λ a. IsActorOf plan n a) (sym d.actor) of)) (stays_same (desk c.loop-turn.desk)) (omega (arith, less))
     d.actor d.clock d.acts d.ends d.words e.actor e.acts e.ends (λ h. let f : Gate ≡ Turns = sym e.stop ∙ h in cc)
 
 pub returns-in-Err-clause-run : goal.returns-in-Err-clause-run
@@ -64,14 +56,14 @@ returns-in-Err-clause-run g c = λ plan n of.
     let e = c.into_run-in-Err.ensures in
     let less = c.loop-turn-test.true in
     has_run plan n c.loop-turn.turn c.args.turns c.args.id c.args.seed c.new-desk.result c.loop-turn.desk c.turn.new.self c.args.actor c.args.ends c.into_run-in-Err.result
-    (c.loop-turn.invariant plan n (subst (λ a. IsNodeOf plan n a.node) (sym d.actor) of)) c.in-Err.ensures.stopped (omega (arith, less))
+    (c.loop-turn.invariant plan n (subst (λ a. IsActorOf plan n a) (sym d.actor) of)) c.in-Err.ensures.stopped (omega (arith, less))
     d.actor d.clock d.acts d.ends d.words e.actor e.acts e.ends (λ h. absurd (c.in-Err.ensures.why (sym e.stop ∙ h)))
 
 pub loop-turn-preserved : goal.loop-turn-preserved
 loop-turn-preserved g c = λ plan n of.
     let p = c.loop-turn.invariant plan n of in
     uses_then plan n c.loop-turn.turn 1 (desk c.new-desk.result) (desk c.loop-turn.desk) (desk c.turn.new.self) p
-    (c.in_default.ensures.done plan n (node_kept plan n c.loop-turn.turn (desk c.new-desk.result) (desk c.loop-turn.desk) p of))
+    (c.in_default.ensures.done plan n (actor_kept plan n c.loop-turn.turn (desk c.new-desk.result) (desk c.loop-turn.desk) p of))
 
 pub returns-clause-run : goal.returns-clause-run
 returns-clause-run g c = λ plan n of.
@@ -80,5 +72,5 @@ returns-clause-run g c = λ plan n of.
     let all = c.loop-turn-test.false in
     let end = c.loop-turn.auto.turn-end in
     has_run plan n c.loop-turn.turn c.args.turns c.args.id c.args.seed c.new-desk.result c.loop-turn.desk c.loop-turn.desk c.args.actor c.args.ends c.into_run-2.result
-    (c.loop-turn.invariant plan n (subst (λ a. IsNodeOf plan n a.node) (sym d.actor) of)) (stays_same (desk c.loop-turn.desk)) (omega (arith, end))
+    (c.loop-turn.invariant plan n (subst (λ a. IsActorOf plan n a) (sym d.actor) of)) (stays_same (desk c.loop-turn.desk)) (omega (arith, end))
     d.actor d.clock d.acts d.ends d.words e.actor e.acts e.ends (λ h. omega (arith, all, end))

@@ -20,7 +20,7 @@ pub returns-then-is_err-clause-stopped : goal.returns-then-is_err-clause-stopped
 returns-then-is_err-clause-stopped c =
     let a = c.args.self.now in
     record {
-      node = refl;
+      actor = refl;
       log = c.reserve.ensures.items;
       outs = zip_same OutLooked looked_same a.ends.outs.items;
       ins = zip_same InLooked in_looked_same a.ends.ins.items;
@@ -30,7 +30,7 @@ pub returns-in_default-clause-stopped : goal.returns-in_default-clause-stopped
 returns-in_default-clause-stopped c =
     let a = c.args.self.now in
     record {
-      node = refl;
+      actor = refl;
       log = c.reserve.ensures.items;
       outs = zip_same OutLooked looked_same a.ends.outs.items;
       ins = zip_same InLooked in_looked_same a.ends.ins.items;
@@ -40,7 +40,7 @@ pub returns-in-Err-clause-stopped : goal.returns-in-Err-clause-stopped
 returns-in-Err-clause-stopped c =
     let a = c.args.self.now in
     record {
-      node = ap (λ x. x.node) c.in-Err.ensures.refused;
+      actor = c.in-Err.ensures.refused;
       log = c.reserve.ensures.items;
       outs = zip_back OutLooked a.ends.outs.len a.ends.outs.items c.as_mut_slice.result.now c.room_of-room.new.outs a.ends.outs.ok.0 c.as_mut_slice.ensures.value c.room_of-room.ensures.looked;
       ins = zip_same InLooked in_looked_same a.ends.ins.items;
@@ -49,32 +49,32 @@ returns-in-Err-clause-stopped c =
 pub find_out-k-requires : goal.find_out-k-requires
 find_out-k-requires c =
     let a = c.args.self.now in
-    let plan = c.requires.node.0 in
-    let k = c.requires.node.1 in
+    let plan = c.requires.actor.0 in
+    let k = c.requires.actor.1 in
     let e = same_back OutLooked a.ends.outs.len a.ends.outs.items c.as_mut_slice.result.now c.room_of-room.new.outs a.ends.outs.ok.0 c.as_mut_slice.ensures.value c.room_of-room.ensures.looked in
-    let did = subst (λ t. MakesTurn plan k a.actor.node c.room_of-room.result t c.turn.new.self.node) c.in-Ok-Put.field-0-is (c.in-Ok-Put.ensures.makes plan k c.requires.node.2) in
+    let did = subst (λ t. MakesTurn plan k a.actor c.room_of-room.result t c.turn.new.self) c.in-Ok-Put.field-0-is (c.in-Ok-Put.ensures.makes plan k c.requires.actor.2) in
     subst (λ w. HasRoom w c.in-Ok-Put.link) (sym e ∙ sym c.as_slice.ensures.value)
-    (c.room_of-room.ensures.room c.in-Ok-Put.link (put_room plan k c.in-Ok-Put.link c.room_of-room.result a.actor.node c.in-Ok-Put.act c.in-Ok-Put.item c.turn.new.self.node did.1 did.0.lets))
+    (c.room_of-room.ensures.room c.in-Ok-Put.link (put_room plan k c.in-Ok-Put.link c.room_of-room.result a.actor c.in-Ok-Put.act c.in-Ok-Put.item c.turn.new.self did.1 did.0.lets))
 
 pub returns-in-Ok-Idle-clause-done : goal.returns-in-Ok-Idle-clause-done
 returns-in-Ok-Idle-clause-done c = λ plan n of.
     let a = c.args.self.now in
     let outs' = zip_back OutLooked a.ends.outs.len a.ends.outs.items c.as_mut_slice.result.now c.room_of-room.new.outs a.ends.outs.ok.0 c.as_mut_slice.ensures.value c.room_of-room.ensures.looked in
-    let did = subst (λ t. MakesTurn plan n a.actor.node c.room_of-room.result t c.turn.new.self.node) c.in-Ok-Idle.field-0-is (c.in-Ok-Idle.ensures.makes plan n of) in
+    let did = subst (λ t. MakesTurn plan n a.actor c.room_of-room.result t c.turn.new.self) c.in-Ok-Idle.field-0-is (c.in-Ok-Idle.ensures.makes plan n of) in
     uses_idle plan n (desk a)
-    (record { node = c.turn.new.self.node; clock = a.clock; log = c.reserve.new.self.items; outs = take a.ends.outs.len (c.room_of-room.new.outs ++ drop (length c.room_of-room.new.outs) a.ends.outs.items); ins = a.ends.ins.items; words = a.words })
-    (finds_quiet plan n a.actor.node c.room_of-room.result did.1) did.0 refl c.reserve.ensures.items refl outs' (zip_same InLooked in_looked_same a.ends.ins.items)
+    (record { actor = c.turn.new.self; clock = a.clock; log = c.reserve.new.self.items; outs = take a.ends.outs.len (c.room_of-room.new.outs ++ drop (length c.room_of-room.new.outs) a.ends.outs.items); ins = a.ends.ins.items; words = a.words })
+    (finds_quiet plan n a.actor c.room_of-room.result did.1) did.0 refl c.reserve.ensures.items refl outs' (zip_same InLooked in_looked_same a.ends.ins.items)
 
 pub returns-in-Ok-Local-clause-done : goal.returns-in-Ok-Local-clause-done
 returns-in-Ok-Local-clause-done c = λ plan n of.
     let a = c.args.self.now in
     let mid = take a.ends.outs.len (c.room_of-room.new.outs ++ drop (length c.room_of-room.new.outs) a.ends.outs.items) in
     let outs' = zip_back OutLooked a.ends.outs.len a.ends.outs.items c.as_mut_slice.result.now c.room_of-room.new.outs a.ends.outs.ok.0 c.as_mut_slice.ensures.value c.room_of-room.ensures.looked in
-    let did = subst (λ t. MakesTurn plan n a.actor.node c.room_of-room.result t c.turn.new.self.node) c.in-Ok-Local.field-0-is (c.in-Ok-Local.ensures.makes plan n of) in
+    let did = subst (λ t. MakesTurn plan n a.actor c.room_of-room.result t c.turn.new.self) c.in-Ok-Local.field-0-is (c.in-Ok-Local.ensures.makes plan n of) in
     let made : ℕ × Act = (c.in-Some.stamp, c.in-Ok-Local.act) in
     let t : Turn Act Token = record { at = c.in-Some.stamp; it = Own c.in-Ok-Local.act } in
     uses_one plan n (desk a)
-    (record { node = c.turn.new.self.node; clock = c.in-Some.stamp; log = c.push_reserved.new.self.items; outs = mid; ins = a.ends.ins.items; words = a.words })
+    (record { actor = c.turn.new.self; clock = c.in-Some.stamp; log = c.push_reserved.new.self.items; outs = mid; ins = a.ends.ins.items; words = a.words })
     t did.1 c.in-Some.ensures tt refl (c.push_reserved.ensures.items ∙ ap (λ w. w ++ made ∷ []) c.reserve.ensures.items) refl
     (sends_quiet (t ∷ []) (λ l. refl) a.ends.outs.items mid outs')
     (receives_quiet (t ∷ []) (λ l. refl) a.ends.ins.items a.ends.ins.items (zip_same InLooked in_looked_same a.ends.ins.items))
@@ -84,7 +84,7 @@ returns-in-Ok-Put-clause-done c = λ plan n of.
     let a = c.args.self.now in
     let mid = take a.ends.outs.len (c.room_of-room.new.outs ++ drop (length c.room_of-room.new.outs) a.ends.outs.items) in
     let outs' = zip_back OutLooked a.ends.outs.len a.ends.outs.items c.as_mut_slice.result.now c.room_of-room.new.outs a.ends.outs.ok.0 c.as_mut_slice.ensures.value c.room_of-room.ensures.looked in
-    let did = subst (λ t. MakesTurn plan n a.actor.node c.room_of-room.result t c.turn.new.self.node) c.in-Ok-Put.field-0-is (c.in-Ok-Put.ensures.makes plan n of) in
+    let did = subst (λ t. MakesTurn plan n a.actor c.room_of-room.result t c.turn.new.self) c.in-Ok-Put.field-0-is (c.in-Ok-Put.ensures.makes plan n of) in
     let r = c.index_mut.result.now in
     let k = c.find_out-k.result in
     let act = c.in-Ok-Put.act in
@@ -95,10 +95,10 @@ returns-in-Ok-Put-clause-done c = λ plan n of.
     ap (λ (o : Out). o.0) c.index_mut.ensures.value ∙ (ap (λ w. (get_or w k r).0) (sym c.as_slice.ensures.value) ∙ (c.find_out-k.ensures.free r).0) in
     let within : k < length mid = subst (λ w. k < length w) c.as_slice.ensures.value c.find_out-k.ensures.within in
     let links = subst Distinct (sym (looked_out_links a.ends.outs.items mid outs')) c.requires.links in
-    let step : IsPut plan n a.actor.node r.0 act c.in-Ok-Put.item c.turn.new.self.node =
-    subst (λ l. IsPut plan n a.actor.node l act c.in-Ok-Put.item c.turn.new.self.node) (sym link) did.1 in
+    let step : IsPut plan n a.actor r.0 act c.in-Ok-Put.item c.turn.new.self =
+    subst (λ l. IsPut plan n a.actor l act c.in-Ok-Put.item c.turn.new.self) (sym link) did.1 in
     uses_one plan n (desk a)
-    (record { node = c.turn.new.self.node; clock = c.in-Some.stamp; log = c.push_reserved-in-Ok-Put.new.self.items; outs = set mid k c.put_item.new.end; ins = a.ends.ins.items; words = a.words })
+    (record { actor = c.turn.new.self; clock = c.in-Some.stamp; log = c.push_reserved-in-Ok-Put.new.self.items; outs = set mid k c.put_item.new.end; ins = a.ends.ins.items; words = a.words })
     t step c.in-Some.ensures refl refl (c.push_reserved-in-Ok-Put.ensures.items ∙ ap (λ w. w ++ made ∷ []) c.reserve.ensures.items) refl
     (looked_sends (t ∷ []) a.ends.outs.items mid (set mid k c.put_item.new.end) outs'
     (sends_one mid k r c.put_item.new.end c.in-Some.stamp act x links within c.index_mut.ensures.value c.put_item.ensures.link c.put_item.ensures.ring c.put_item.ensures.sent))

@@ -17,7 +17,7 @@ pub returns-then-is_err-clause-stopped : goal.returns-then-is_err-clause-stopped
 returns-then-is_err-clause-stopped c =
     let a = c.args.self.now in
     record {
-      node = refl;
+      actor = refl;
       log = c.reserve.ensures.items;
       outs = zip_same OutLooked looked_same a.ends.outs.items;
       ins = zip_same InLooked in_looked_same a.ends.ins.items;
@@ -30,7 +30,7 @@ returns-in_err-stamp-clause-stopped c =
     let looked : InLooked (get_or a.ends.ins.items c.args.k c.index_mut.result.now) c.take_front.new.end =
     subst (λ v. InLooked v c.take_front.new.end) (same.1 ∙ c.index_mut.ensures.value) (in_looked_same c.take_front.new.end) in
     on_err _ c.from_residual.result (record {
-      node = ap (λ x. x.node) same.0;
+      actor = same.0;
       log = c.reserve.ensures.items;
       outs = zip_same OutLooked looked_same a.ends.outs.items;
       ins = zip_step InLooked in_looked_then a.ends.ins.items a.ends.ins.items c.args.k c.index_mut.result.now c.take_front.new.end (zip_same InLooked in_looked_same a.ends.ins.items) c.requires.within looked;
@@ -43,7 +43,7 @@ returns-clause-done c = λ plan n of.
     let made : ℕ × Act = (c.in_ok-stamp.stamp, c.in_ok-stamp.act) in
     let t = take_of made c.index_mut.result.now.0 h.item in
     uses_one plan n (desk a)
-    (record { node = c.take_front.new.actor.node; clock = c.in_ok-stamp.stamp; log = c.push_reserved.new.self.items; outs = a.ends.outs.items; ins = set a.ends.ins.items c.args.k c.take_front.new.end; words = c.next_word-word.new.self })
+    (record { actor = c.take_front.new.actor; clock = c.in_ok-stamp.stamp; log = c.push_reserved.new.self.items; outs = a.ends.outs.items; ins = set a.ends.ins.items c.args.k c.take_front.new.end; words = c.next_word-word.new.self })
     t h.step h.stamp tt refl
     (c.push_reserved.ensures.items ∙ ap (λ w. w ++ made ∷ []) c.reserve.ensures.items)
     (subst (λ x. Draws a.words (word_of (Takes x c.index_mut.result.now.0 (stamped h.item)) ++ []) c.next_word-word.new.self) (sym h.act)

@@ -1,9 +1,10 @@
 use Rattle.std.proofs.Common.{sym, subst, ◌++◌, take, drop, length}
+use Rattle.std.specs.List.{HoldsAt}
 use Rattle.vc_threads.specs.Wires.{InLooked, Distinct}
-use Rattle.vc_threads.specs.Works.{Seen, desk}
-use Rattle.vc_threads.proofs.Goings.{uses_looked, stays_looked, looked_in_links, looked_low}
+use Rattle.vc_threads.specs.Works.{Seen, CanTake, desk}
+use Rattle.vc_threads.proofs.Goings.{uses_looked, stays_looked, looked_in_links}
 use Rattle.vc_threads.proofs.Outcomes.{on_ok_map, on_err_map}
-use Rattle.vc_threads.proofs.Backs.{zip_back}
+use Rattle.vc_threads.proofs.Backs.{same_back, zip_back}
 use Rattle.vc_threads.proofs.desk.Desk.turn.Goals as goal
 
 pub take_from-requires-clause-links : goal.take_from-requires-clause-links
@@ -11,12 +12,6 @@ take_from-requires-clause-links c =
     let ins = c.args.self.now.ends.ins in
     let z = zip_back InLooked ins.len ins.items c.as_mut_slice.result.now c.find_in.new.ins ins.ok.0 c.as_mut_slice.ensures.value c.find_in.ensures.looked in
     subst Distinct (sym (looked_in_links ins.items (take ins.len (c.find_in.new.ins ++ drop (length c.find_in.new.ins) ins.items)) z)) c.requires.ins
-
-pub take_from-requires-clause-low : goal.take_from-requires-clause-low
-take_from-requires-clause-low c =
-    let ins = c.args.self.now.ends.ins in
-    let z = zip_back InLooked ins.len ins.items c.as_mut_slice.result.now c.find_in.new.ins ins.ok.0 c.as_mut_slice.ensures.value c.find_in.ensures.looked in
-    looked_low ins.items (take ins.len (c.find_in.new.ins ++ drop (length c.find_in.new.ins) ins.items)) z c.requires.few
 
 pub returns-in-Some-clause-done : goal.returns-in-Some-clause-done
 returns-in-Some-clause-done c = λ plan n of.
@@ -49,3 +44,10 @@ returns-in-None-clause-stopped c =
     let z = zip_back InLooked ins.len ins.items c.as_mut_slice.result.now c.find_in.new.ins ins.ok.0 c.as_mut_slice.ensures.value c.find_in.ensures.looked in
     let mid : Seen = record (desk a) { ins = take ins.len (c.find_in.new.ins ++ drop (length c.find_in.new.ins) ins.items) } in
     on_err_map _ _ c.make_turn.result (stays_looked mid (desk c.make_turn.new.self) ins.items z) c.make_turn.ensures.stopped
+
+pub take_from-requires-clause-can : goal.take_from-requires-clause-can
+take_from-requires-clause-can c =
+    let a = c.args.self.now in
+    let ins = a.ends.ins in
+    let same = same_back InLooked ins.len ins.items c.as_mut_slice.result.now c.find_in.new.ins ins.ok.0 c.as_mut_slice.ensures.value c.find_in.ensures.looked in
+    subst (λ w. HoldsAt (CanTake a.actor) w c.in-Some.k) (sym same) c.in-Some.ensures.can.1
