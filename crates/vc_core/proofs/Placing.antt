@@ -27,7 +27,7 @@ use Rattle.vc_core.specs.declared.place.Place.{Place}
 use Rattle.vc_core.specs.declared.place.Place.TheVariants as name
 use Rattle.vc_core.specs.declared.reader.Reader.{Reader}
 use Rattle.vc_core.specs.declared.sought.Sought.{Sought}
-use Rattle.vc_core.proofs.Replayed.{none_past}
+use Rattle.vc_core.proofs.Happening.{none_past}
 
 -- what was read at the receiving end of a link was read at the link
 pub read_there : (v : Processor) (link : ℕ) (x : Receiving) (q : Sought) (r : Reader) → slice_get v.ins link ≡ Some x →

@@ -21,5 +21,5 @@ abbrev pub Steps : Option (List ℕ) → Option (List ℕ) → Option (List ℕ)
 Steps known old new limit (Ok report) =
     (plan : Network) × ReadsAccepted known (Ok plan) × (length report.events ≤ limit) × ((s : State) × Replays plan report.events s × Closes plan s (length report.events) limit report.close × Appends old new (traffic (channels_of plan s) report.close))
 Steps known old new limit (Err Write) =
-    (plan : Network) × ReadsAccepted known (Ok plan) × ((events : List Event) × (s : State) × (close : Close) × Replays plan events s × AppendsFront old new (traffic (channels_of plan s) close))
+    (plan : Network) × ReadsAccepted known (Ok plan) × ((events : List Event) × (s : State) × (close : Close) × (length events ≤ limit) × Replays plan events s × Closes plan s (length events) limit close × AppendsFront old new (traffic (channels_of plan s) close))
 Steps known old new limit (Err fault) = ReadsAccepted known (Err fault) × (new ≡ old)

@@ -1,6 +1,6 @@
 use Rattle.std.proofs.Common.{◌≡◌, sym, ◌∙◌, slice_get, Some}
 use Rattle.vc_core.specs.State.{state_of}
-use Rattle.vc_core.proofs.Replayed.{none_past}
+use Rattle.vc_core.proofs.Happening.{none_past}
 use Rattle.vc_core.proofs.Standing.{past_ends}
 use Rattle.vc_core.proofs.network.Network.ends.Goals as goal
 

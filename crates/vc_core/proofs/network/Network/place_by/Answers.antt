@@ -42,4 +42,4 @@ returns c = λ p is ends.
     let past = c.loop-way-test.false in
     let long = c.len-way-end.ensures in
     let all = is.ways in
-    found_nowhere p s c.args.chan c.args.ends.now ends is.accepted (λ held. clash c.holds.result c.if-holds.false (c.holds.ensures.1 held)) (λ w less. c.loop-way.invariant p w is (omega arith))
+    found_nowhere p s c.args.chan c.args.ends.now ends is (λ held. clash c.holds.result c.if-holds.false (c.holds.ensures.1 held)) (λ w less. c.loop-way.invariant p w is (omega arith))
