@@ -1,17 +1,10 @@
 -- What was read and written, together.
 use Rattle.std.proofs.Common.{List, ℕ, Option, Some, None, Result, Ok, Err}
-use Rattle.vc_core.specs.declared.close.Close.{Close}
 use Rattle.vc_plan.specs.declared.plan.Plan.{Plan as Network}
 use Rattle.vc_text.specs.declared.fault.RunFault.{RunFault}
 use Rattle.vc_text.specs.declared.fault.RunFault.TheVariants.{Read, Write, Text, Plan, Memory}
 use Rattle.vc_text.specs.Streams.{Writes}
 use Rattle.vc_text.specs.Checking.{ReadsAccepted, Checks, accepted_text}
-use Rattle.vc_text.specs.Running.{Steps}
-use Rattle.vc_text.specs.Shown.{channels_of}
-use Rattle.vc_text.specs.Traffic.{traffic}
-use Rattle.vc_core.specs.Replaying.{Replays}
-use Rattle.vc_core.specs.State.{State}
-use Rattle.vc_core.specs.declared.act.Event.{Event}
 
 memory_any : (known : Option (List ℕ)) → ReadsAccepted known (Err Memory)
 memory_any None = tt
@@ -24,11 +17,3 @@ checks_of known old new plan (Err Memory) r w = (memory_any known, w)
 checks_of known old new plan (Err Read) r w = absurd w
 checks_of known old new plan (Err (Text refused)) r w = absurd w
 checks_of known old new plan (Err (Plan refusal)) r w = absurd w
-
-pub steps_of_err : (known old new : Option (List ℕ)) (limit : ℕ) (plan : Network) (events : List Event) (s : State) (close : Close) (fault : RunFault) → ReadsAccepted known (Ok plan) → Replays plan events s →
-    Writes old new (traffic (channels_of plan s) close) (Err fault) → Steps known old new limit (Err fault)
-steps_of_err known old new limit plan events s close Write r replays w = (plan, r, (events, s, close, replays, w))
-steps_of_err known old new limit plan events s close Memory r replays w = (memory_any known, w)
-steps_of_err known old new limit plan events s close Read r replays w = absurd w
-steps_of_err known old new limit plan events s close (Text refused) r replays w = absurd w
-steps_of_err known old new limit plan events s close (Plan refusal) r replays w = absurd w
