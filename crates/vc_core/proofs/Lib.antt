@@ -15,6 +15,7 @@ pub mod Happening
 pub mod Replayed
 pub mod Viewing
 pub mod Finding
+pub mod Summing
 pub mod Placing
 pub mod Belonging
 pub mod Everywhere

@@ -1,5 +1,5 @@
 -- What an actor of the code is in itself.
-use Rattle.std.specs.Prelude.{◌≡◌, ℕ, Option, Some, None}
+use Rattle.std.specs.Prelude.{◌≡◌, ℕ, min, Option, Some, None}
 use Rattle.vc_occam.specs.Remains.{Done}
 use Rattle.vc_occam.specs.Runnings.{state}
 use Rattle.vc_switch.specs.Seen.{seen as seen_switch}
@@ -50,3 +50,7 @@ lost_of (OfSwitch s) = (seen_switch s).lost
 abbrev pub faults_of : Acting → ℕ
 faults_of (OfNode n) = (seen n.vcp).carrier.strays
 faults_of (OfSwitch s) = (seen_switch s).lost
+
+-- a count of 64 bits stays at its greatest
+abbrev pub saturated : ℕ → ℕ
+saturated n = min n 18446744073709551615

@@ -1,5 +1,5 @@
 //! Actors: what the simulator and a thread run alike.
-ghost use Rattle.std.specs.Prelude.{◌≡◌, ◌↔◌, ℕ, IsTrue, IfOk, IfSome, OnOk, OnErr};
+ghost use Rattle.std.specs.Prelude.{◌≡◌, ◌↔◌, ℕ, IsTrue, IfOk, IsOk, IfSome, OnOk, OnErr};
 ghost use Rattle.std.specs.Option.{option_copied};
 ghost use Rattle.vc_core.specs.Able.{CanAct};
 ghost use Rattle.vc_core.specs.Acting.{HasLink, MayAct, MakesOwn, MakesTake, MakesPut, MakesGrant, IsOwn};
@@ -96,9 +96,11 @@ impl Actor {
         }
     }
 
-    /// Takes a token from a link, with a word of which a switch makes a random header.
+    /// Takes a token from a link, with a word of which a switch makes a random header. There is room for it already, so it is never
+    /// refused.
     pub fn take(&mut self, link: u8, item: &Token, word: u32) -> Result<Act, Memory>
         requires { HasLink self.old link }
+        ensures taken { IsOk result }
         ensures act { IfOk result (λ act. act ≡ Act.Take link word) }
         ensures ok { (plan : Plan) (k : ℕ) → IsActorOf plan k self.old → OnOk result (MakesTake plan k self.old link word (token item.now) self.new) }
         ensures err { OnErr result (self.new ≡ self.old) }

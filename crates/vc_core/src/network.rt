@@ -17,7 +17,8 @@ ghost use Rattle.vc_core.specs.Sought.{Has, IsSought, HasReadAt};
 ghost use Rattle.vc_core.specs.Channels.{ends_at};
 ghost use Rattle.vc_core.specs.Enabled.{CanHappen};
 ghost use Rattle.std.specs.Int.{bit_at};
-ghost use Rattle.vc_core.specs.Parts.{IsDone, node_at, vcp_in};
+ghost use Rattle.vc_core.specs.Parts.{IsDone, node_at, vcp_in, strays_of, lost_of, saturated};
+ghost use Rattle.std.specs.List.{sum_by};
 ghost use Rattle.vc_core.specs.Turns.{FindsFront, FindsTake, FindsEvent, HaveEnded, actors};
 ghost use Rattle.vc_core.specs.declared.act.Event.{Event as Happening};
 ghost use Rattle.vc_core.specs.State.{shown, state_of, IsNetworkOf, MayHappen, WaysLet, HasFront, HasWay, MakesEvent, MayActAt, Accepts, PutsBy, GrantsBy, with_line};
@@ -495,7 +496,8 @@ impl Network {
 
     /// How many packets and tokens the nodes dropped: none, after any events from the opening state on.
     pub fn strays(&self) -> u64
-        ensures { (p : Plan) (events : List Happening) → Replays p events (state_of self.now) → result ≡ 0 }
+        ensures counts { result ≡ saturated (sum_by strays_of (state_of self.now).actors) }
+        ensures none { (p : Plan) (events : List Happening) → Replays p events (state_of self.now) → result ≡ 0 }
     {
         let mut all = 0u64;
         for actor in &self.actors {
@@ -506,7 +508,8 @@ impl Network {
 
     /// How many packets and tokens the switches dropped: none, after any events from the opening state on.
     pub fn lost(&self) -> u64
-        ensures { (p : Plan) (events : List Happening) → Replays p events (state_of self.now) → result ≡ 0 }
+        ensures counts { result ≡ saturated (sum_by lost_of (state_of self.now).actors) }
+        ensures none { (p : Plan) (events : List Happening) → Replays p events (state_of self.now) → result ≡ 0 }
     {
         let mut all = 0u64;
         for actor in &self.actors {

@@ -1,4 +1,6 @@
-use Rattle.std.specs.Prelude.{◌≡◌, List}
+use Rattle.std.proofs.Common.{◌≡◌, List, take}
+use Rattle.std.specs.List.{sum_by}
+use Rattle.vc_core.specs.Parts.{lost_of, saturated}
 use Rattle.vc_plan.specs.declared.plan.Plan.{Plan}
 use Rattle.vc_core.specs.Replaying.{Replays}
 use Rattle.vc_core.specs.State.{state_of}
@@ -6,4 +8,7 @@ use Rattle.vc_core.specs.declared.act.Event.{Event}
 use Rattle.vc_core.proofs.network.Network.lost.Given as goal
 
 abbrev pub invariant-loop-actor : goal.invariant-loop-actor
-invariant-loop-actor l = (p : Plan) (events : List Event) → Replays p events (state_of l.fn.self) → l.all ≡ 0
+invariant-loop-actor l = record {
+  counts : l.all ≡ saturated (sum_by lost_of (take l.actor-index l.fn.self.actors.items));
+  none : (p : Plan) (events : List Event) → Replays p events (state_of l.fn.self) → l.all ≡ 0;
+}
