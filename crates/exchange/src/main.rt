@@ -11,7 +11,8 @@ use vc_occam::Move;
 use vc_plan::check;
 use vc_reader::read_network;
 
-const NETWORK: &str = r#"{"version":1,"nodes":[{"name":"a","process":{"out":["c",{"text":"hello"}]}},{"name":"b","vars":[["m","bytes"]],"process":{"in":["c","m"]}}],"wires":[["a",0,"b",0]],"vlinks":[{"name":"v","a":["a",0,1,[1]],"b":["b",0,1,[1]]}],"channels":[{"name":"c","kind":"bytes","vlink":"v","way":"ab"}]}"#;
+const NETWORK: &str =
+    r#"{"version":1,"nodes":[{"name":"a","process":{"out":["c",{"text":"hello"}]}},{"name":"b","vars":[["m","bytes"]],"process":{"in":["c","m"]}}],"wires":[["a",0,"b",0]],"vlinks":[{"name":"v","a":["a",0,1,[1]],"b":["b",0,1,[1]]}],"channels":[{"name":"c","kind":"bytes","vlink":"v","way":"ab"}]}"#;
 
 /// The channel on which the message goes.
 const CHANNEL: u16 = 0;
