@@ -1,4 +1,4 @@
--- The last actor is a node of the plan.
+-- The last actor is one of the plan.
 use Rattle.std.proofs.Common.{◌≡◌, ◌++◌, ◌∷◌, [], List, length, Some, slice_get, ap, sym, ◌∙◌, arith, length-append}
 use Rattle.std.proofs.Math.Seq.{get_or-append_seam}
 use Rattle.std.proofs.lemmas.Option.{slice_get-get_or}
@@ -12,7 +12,7 @@ last_there xs x = slice_get-get_or (xs ++ x ∷ []) (length xs) x (omega (arith,
 pub returns : goal.returns
 returns g c =
     let rest = c.pop.new.self.items in
-    let node = c.in-Some.actor in (
+    let node = c.in-Some.node in (
       network_of c.in-Ok.accepted,
       length rest,
       (c.in-Ok-actors.ensures.each (length rest) node (ap (λ xs. slice_get xs (length rest)) c.in-Some.ensures.items ∙ last_there rest node)).is,
