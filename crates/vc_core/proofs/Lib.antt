@@ -24,3 +24,4 @@ pub mod GoingOn
 pub mod AbleMoves
 pub mod Enabled
 pub mod Turning
+pub mod Quiet

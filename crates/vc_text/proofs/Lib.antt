@@ -3,3 +3,4 @@ pub mod Texts
 pub mod Checked
 pub mod Channels
 pub mod Closing
+pub mod Quieting

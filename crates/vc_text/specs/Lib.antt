@@ -4,5 +4,6 @@ pub mod Views
 pub mod FaultLine
 pub mod Checking
 pub mod Closing
+pub mod Quiet
 pub mod Running
 pub mod Shown

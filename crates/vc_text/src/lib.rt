@@ -12,6 +12,7 @@ mod number;
 mod plan_text;
 mod read_line;
 mod run;
+mod seats;
 mod streams;
 mod traffic;
 

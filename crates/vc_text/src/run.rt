@@ -1,10 +1,12 @@
 //! Running a network event by event.
-ghost use Rattle.std.specs.Prelude.{◌≡◌, ◌⊎◌, ◌<◌, ◌≤◌, ◌+◌, ℕ, true, false, length, map, slice_get, Some, None, Ok, IfOk, OnOk};
+ghost use Rattle.std.specs.Prelude.{◌≡◌, ◌⊎◌, ◌<◌, ◌≤◌, ◌+◌, ℕ, true, false, length, map, slice_get, Some, None, Ok, IfOk, IfSome, OnOk};
 ghost use Rattle.vc_plan.specs.declared.plan.Plan.{Plan};
 ghost use Rattle.vc_core.specs.State.{state_of, IsNetworkOf, MakesOne};
 ghost use Rattle.vc_core.specs.Replaying.{Reached, Replays};
 ghost use Rattle.vc_core.specs.Turns.{Rests, IsAtRest, GoesOn, actors};
+ghost use Rattle.vc_core.specs.Turns.{FindsEvent};
 ghost use Rattle.vc_text.specs.Closing.{HasNext, HasEvent, Closes};
+ghost use Rattle.vc_text.specs.Quiet.{AreQuiet};
 ghost use Rattle.vc_plan.specs.declared.channel.Channel.{Channel};
 ghost use Rattle.vc_text.specs.Running.{Steps};
 ghost use Rattle.vc_text.specs.Shown.{channel_of, channels_of};
@@ -14,9 +16,8 @@ ghost use Rattle.vc_text.specs.Views.{shown as traffic_of};
 
 use crate::check::read_accepted;
 use crate::fault::RunFault;
+use crate::seats::Seats;
 use crate::traffic::{ChannelView, write_channels};
-use rand_core::utils::NextWord;
-use rand_pcg::Lcg64Xsh32;
 use sqlite_items::Items;
 use std::alloc::Global;
 use std::io::{Read, Write};
@@ -71,54 +72,50 @@ pub fn write_traffic<W: Write>(
     write_channels(alloc, views.as_slice(), close, writer)
 }
 
-/// One generator for each actor, of the words that its takes draw.
-fn generators(alloc: Global, actors: usize) -> Result<Vec<Lcg64Xsh32>, Memory> {
-    let mut generators = Vec::new(alloc);
-    for actor in 0..actors {
-        generators.push(Lcg64Xsh32::new(0, actor as u64))?;
+/// The event, but a take, that an actor makes next where every way has room; an actor that is known to have none is not asked again.
+fn other_event(network: &Network, seats: &mut Seats, actor: u8) -> Result<Option<Event>, Memory>
+    ensures finds { (p : Plan) → IsNetworkOf p (state_of network.now) → AreQuiet p (state_of network.now) seats.old → IfOk result (FindsEvent p (state_of network.now) actor) }
+    ensures quiet { (p : Plan) → IsNetworkOf p (state_of network.now) → AreQuiet p (state_of network.now) seats.old → IfOk result (λ found. AreQuiet p (state_of network.now) seats.new) }
+{
+    if seats.is_quiet(actor) {
+        return Ok(None);
     }
-    Ok(generators)
-}
-
-/// The next word of an actor.
-fn next_word(generators: &mut Vec<Lcg64Xsh32>, actor: u8) -> u32 {
-    match generators.get_mut(usize::from(actor)) {
-        Some(generator) => generator.next_word(),
-        None => 0,
-    }
+    let Some(event) = network.next(actor)? else {
+        seats.mark(actor, true);
+        return Ok(None);
+    };
+    Ok(Some(event))
 }
 
 /// The event that an actor makes next: a take from the least link that has a token, else what it does where every way has room.
 /// Nothing where it has no event.
-fn next_event(
-    network: &Network,
-    generators: &mut Vec<Lcg64Xsh32>,
-    actor: u8,
-) -> Result<Option<Event>, Memory>
-    ensures { (p : Plan) → IsNetworkOf p (state_of network.now) → actor < actors p → IfOk result (HasNext p (state_of network.now) actor) }
+fn next_event(network: &Network, seats: &mut Seats, actor: u8) -> Result<Option<Event>, Memory>
+    ensures next { (p : Plan) → IsNetworkOf p (state_of network.now) → AreQuiet p (state_of network.now) seats.old → actor < actors p → IfOk result (HasNext p (state_of network.now) actor) }
+    ensures quiet { (p : Plan) → IsNetworkOf p (state_of network.now) → AreQuiet p (state_of network.now) seats.old → IfOk result (λ event. AreQuiet p (state_of network.now) seats.new) }
+    ensures actor { (p : Plan) → IsNetworkOf p (state_of network.now) → AreQuiet p (state_of network.now) seats.old → IfOk result (λ event. IfSome event (λ e. e.actor ≡ actor)) }
 {
     let Some(link) = network.link_to_take(actor) else {
-        return network.next(actor);
+        return other_event(network, seats, actor);
     };
-    let word = next_word(generators, actor);
+    let word = seats.next_word(actor);
     let act = Act::Take { link, word };
     Ok(Some(Event { actor, act }))
 }
 
 /// Makes the event that an actor makes next, if it has one.
-fn act(
-    network: &mut Network,
-    generators: &mut Vec<Lcg64Xsh32>,
-    actor: u8,
-) -> Result<Option<Event>, Memory>
+fn act(network: &mut Network, seats: &mut Seats, actor: u8) -> Result<Option<Event>, Memory>
     ensures made { (p : Plan) → IsNetworkOf p (state_of network.old) → IfOk result (λ made. MakesOne p (state_of network.old) made (state_of network.new)) }
-    ensures rests { (p : Plan) → IsNetworkOf p (state_of network.old) → actor < actors p → result ≡ Ok None → Rests p (state_of network.old) actor }
+    ensures rests { (p : Plan) → IsNetworkOf p (state_of network.old) → AreQuiet p (state_of network.old) seats.old → actor < actors p → result ≡ Ok None → Rests p (state_of network.old) actor }
+    ensures quiet { (p : Plan) → IsNetworkOf p (state_of network.old) → AreQuiet p (state_of network.old) seats.old → IfOk result (λ made. AreQuiet p (state_of network.new) seats.new) }
 {
-    let Some(event) = next_event(network, generators, actor)? else {
+    let Some(event) = next_event(network, seats, actor)? else {
         return Ok(None);
     };
     match network.step(&event) {
-        Ok(()) => Ok(Some(event)),
+        Ok(()) => {
+            seats.mark(actor, false);
+            Ok(Some(event))
+        }
         Err(StepRefused::NotEnabled) => Ok(None),
         Err(StepRefused::Memory) => Err(Memory),
     }
@@ -160,7 +157,7 @@ fn resting(network: &Network) -> Close
 /// An actor makes the event that it makes next, if it has one, and the event joins those made. The answer is whether it had one.
 fn act_once(
     network: &mut Network,
-    generators: &mut Vec<Lcg64Xsh32>,
+    seats: &mut Seats,
     events: &mut Items<Event>,
     actor: u8,
 ) -> Result<bool, Memory>
@@ -168,9 +165,10 @@ fn act_once(
     ensures more { result ≡ Ok true → length events.new ≡ length events.old + 1 }
     ensures same { result ≡ Ok false → events.new ≡ events.old }
     ensures reached { (p : Plan) → Reached p events.old (state_of network.old) → OnOk result (Reached p events.new (state_of network.new)) }
-    ensures rests { (p : Plan) → Reached p events.old (state_of network.old) → actor < actors p → result ≡ Ok false → Rests p (state_of network.old) actor × (state_of network.new ≡ state_of network.old) }
+    ensures rests { (p : Plan) → Reached p events.old (state_of network.old) → AreQuiet p (state_of network.old) seats.old → actor < actors p → result ≡ Ok false → Rests p (state_of network.old) actor × (state_of network.new ≡ state_of network.old) }
+    ensures quiet { (p : Plan) → Reached p events.old (state_of network.old) → AreQuiet p (state_of network.old) seats.old → IfOk result (λ had. AreQuiet p (state_of network.new) seats.new) }
 {
-    match act(network, generators, actor)? {
+    match act(network, seats, actor)? {
         Some(event) => {
             events.push(event)?;
             Ok(true)
@@ -182,7 +180,7 @@ fn act_once(
 /// One round over the actors: each makes at most one event, up to so many events in all. The answer is whether an event was made.
 fn round(
     network: &mut Network,
-    generators: &mut Vec<Lcg64Xsh32>,
+    seats: &mut Seats,
     events: &mut Items<Event>,
     limit: u64,
 ) -> Result<bool, Memory>
@@ -190,14 +188,15 @@ fn round(
     ensures few { OnOk result (length events.new ≤ limit) }
     ensures reached { (p : Plan) → Reached p events.old (state_of network.old) → OnOk result (Reached p events.new (state_of network.new)) }
     ensures more { result ≡ Ok true → (length events.new ≡ limit) ⊎ (length events.old < length events.new) }
-    ensures rests { (p : Plan) → Reached p events.old (state_of network.old) → result ≡ Ok false → IsAtRest p (state_of network.new) }
+    ensures rests { (p : Plan) → Reached p events.old (state_of network.old) → AreQuiet p (state_of network.old) seats.old → result ≡ Ok false → IsAtRest p (state_of network.new) }
+    ensures quiet { (p : Plan) → Reached p events.old (state_of network.old) → AreQuiet p (state_of network.old) seats.old → IfOk result (λ had. AreQuiet p (state_of network.new) seats.new) }
 {
     let mut moved = false;
     for actor in 0..network.actors().min(255) as u8 {
         if events.len() as u64 >= limit {
             return Ok(true);
         }
-        moved |= act_once(network, generators, events, actor)?;
+        moved |= act_once(network, seats, events, actor)?;
     }
     Ok(moved)
 }
@@ -205,17 +204,17 @@ fn round(
 /// Rounds over the actors, until none has an event or there are so many events.
 fn run_rounds(
     network: &mut Network,
-    generators: &mut Vec<Lcg64Xsh32>,
+    seats: &mut Seats,
     events: &mut Items<Event>,
     limit: u64,
 ) -> Result<(), Memory>
     requires { length events.old ≤ limit }
     ensures few { OnOk result (length events.new ≤ limit) }
     ensures reached { (p : Plan) → Reached p events.old (state_of network.old) → OnOk result (Reached p events.new (state_of network.new)) }
-    ensures ends { (p : Plan) → Reached p events.old (state_of network.old) → OnOk result ((length events.new ≡ limit) ⊎ IsAtRest p (state_of network.new)) }
+    ensures ends { (p : Plan) → Reached p events.old (state_of network.old) → AreQuiet p (state_of network.old) seats.old → OnOk result ((length events.new ≡ limit) ⊎ IsAtRest p (state_of network.new)) }
 {
     for _ in 0..limit {
-        if !round(network, generators, events, limit)? {
+        if !round(network, seats, events, limit)? {
             return Ok(());
         }
     }
@@ -241,9 +240,9 @@ fn run(alloc: Global, accepted: &Accepted, limit: u64) -> Result<(Network, StepR
     ensures closes { IfOk result (λ r. Closes accepted.now (state_of r.0) (length (r.1).events) limit (r.1).close) }
 {
     let mut network = Network::new(alloc, accepted)?;
-    let mut generators = generators(alloc, network.actors())?;
+    let mut seats = Seats::new(alloc, network.actors())?;
     let mut events = Items::new(alloc);
-    run_rounds(&mut network, &mut generators, &mut events, limit)?;
+    run_rounds(&mut network, &mut seats, &mut events, limit)?;
     let close = close_of(&network, events.len(), limit)?;
     Ok((network, StepReport { events, close }))
 }

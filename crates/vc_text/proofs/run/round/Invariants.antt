@@ -3,6 +3,7 @@ use Rattle.vc_plan.specs.declared.plan.Plan.{Plan}
 use Rattle.vc_core.specs.Replaying.{Reached}
 use Rattle.vc_core.specs.State.{state_of}
 use Rattle.vc_core.specs.Turns.{Rests, actors}
+use Rattle.vc_text.specs.Quiet.{AreQuiet}
 use Rattle.vc_text.proofs.run.round.Given as goal
 
 abbrev pub invariant-loop-actor : goal.invariant-loop-actor
@@ -11,6 +12,7 @@ invariant-loop-actor l = record {
   reached : (p : Plan) → Reached p l.fn.events (state_of l.fn.network) → Reached p l.events (state_of l.network);
   some : length l.fn.events ≤ length l.events;
   more : l.moved ≡ true → length l.fn.events < length l.events;
-  same : (p : Plan) → Reached p l.fn.events (state_of l.fn.network) → l.moved ≡ false → state_of l.network ≡ state_of l.fn.network;
-  rests : (p : Plan) → Reached p l.fn.events (state_of l.fn.network) → l.moved ≡ false → (k : ℕ) → k < l.actor → k < actors p → Rests p (state_of l.fn.network) k;
+  same : (p : Plan) → Reached p l.fn.events (state_of l.fn.network) → AreQuiet p (state_of l.fn.network) l.fn.seats → l.moved ≡ false → state_of l.network ≡ state_of l.fn.network;
+  quiet : (p : Plan) → Reached p l.fn.events (state_of l.fn.network) → AreQuiet p (state_of l.fn.network) l.fn.seats → AreQuiet p (state_of l.network) l.seats;
+  rests : (p : Plan) → Reached p l.fn.events (state_of l.fn.network) → AreQuiet p (state_of l.fn.network) l.fn.seats → l.moved ≡ false → (k : ℕ) → k < l.actor → k < actors p → Rests p (state_of l.fn.network) k;
 }

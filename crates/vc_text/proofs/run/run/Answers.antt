@@ -4,6 +4,7 @@ use Rattle.vc_core.specs.State.{state_of}
 use Rattle.vc_core.specs.Turns.{IsAtRest}
 use Rattle.vc_text.specs.Closing.{Closes}
 use Rattle.vc_core.proofs.Replayed.{reached_first, replays}
+use Rattle.vc_text.proofs.Quieting.{none_quiet}
 use Rattle.vc_text.proofs.run.run.Goals as goal
 
 pub returns-clause-replays : goal.returns-clause-replays
@@ -19,4 +20,4 @@ returns-clause-closes c =
     let s = state_of c.in_ok-network.network in
     let begun = subst (λ es. Reached p es s) (sym c.new-events.ensures) (reached_first p [] s c.in_ok-network.ensures) in
     subst (λ n. Closes p (state_of c.run_rounds.new.network) n c.args.limit c.in_ok-close.close) c.len.ensures
-    (c.in_ok-close.ensures p (c.in_ok-run_rounds.ensures.reached p begun).is (subst (λ n. (n ≡ c.args.limit) ⊎ IsAtRest p (state_of c.run_rounds.new.network)) (sym c.len.ensures) (c.in_ok-run_rounds.ensures.ends p begun)))
+    (c.in_ok-close.ensures p (c.in_ok-run_rounds.ensures.reached p begun).is (subst (λ n. (n ≡ c.args.limit) ⊎ IsAtRest p (state_of c.run_rounds.new.network)) (sym c.len.ensures) (c.in_ok-run_rounds.ensures.ends p begun (none_quiet p s c.in_ok-seats.seats c.in_ok-seats.ensures))))

@@ -1,0 +1,76 @@
+-- An actor that can do nothing but take can do no more until it takes: what others do leaves it as it is.
+use Rattle.std.proofs.Common.{◌≡◌, ◌≢◌, ℕ, Some, None, refl, sym, ap, ◌∙◌, subst}
+use Rattle.vc_actors.specs.Actors.{Network, Label, Step, act_of as label_act}
+use Rattle.vc_actors.specs.Actors.Label.{Own, Takes, Puts}
+use Rattle.vc_accepted.specs.NetworkOf.{network_of}
+use Rattle.vc_network.specs.Enabled.{IsEnabled}
+use Rattle.vc_network.specs.Network as net
+use Rattle.vc_network.specs.Plan as network
+use Rattle.vc_network.proofs.Writes.{own_step, put_step}
+use Rattle.vc_plan.specs.declared.plan.Plan.{Plan}
+use Rattle.vc_switch.specs.Switch.{Switch}
+use Rattle.vc_switch.specs.Waiting.{Wormhole}
+use Rattle.vc_told.specs.Process.{Process, does}
+use Rattle.vc_tokens.specs.Tokens.{Token}
+use Rattle.vc_core.specs.Enabled.{CanHappen}
+use Rattle.vc_core.specs.Shown.{act_of}
+use Rattle.vc_core.specs.State.{State, shown, MakesEvent}
+use Rattle.vc_core.specs.Turns.{TakesNone, FindsEvent}
+use Rattle.vc_core.specs.declared.act.Act.{Act}
+use Rattle.vc_core.specs.declared.act.Act.TheVariants as act
+use Rattle.vc_core.specs.declared.act.Event.{Event}
+
+-- what takes a token is a take
+abbrev IsTake : net.Act → Type 0
+IsTake (net.Take l x) = Unit {0}
+IsTake (net.Proc m) = ⊥
+IsTake (net.Put l) = ⊥
+IsTake (net.Route i o) = ⊥
+IsTake (net.Fct l) = ⊥
+IsTake (net.Pass l) = ⊥
+
+node_takes : (plan : network.Plan) (k : ℕ) (a b : net.Node Process) (c : net.Act) (w : ℕ) (t : Token) → net.NodeStep plan does k a (Takes c w t) b → IsTake c
+node_takes plan k a b (net.Take l x) w t h = tt
+node_takes plan k a b (net.Proc m) w t h = h
+node_takes plan k a b (net.Put l) w t h = h
+node_takes plan k a b (net.Route i o) w t h = h
+node_takes plan k a b (net.Fct l) w t h = h
+node_takes plan k a b (net.Pass l) w t h = h
+
+switch_takes : (plan : network.Plan) (i : ℕ) (a b : Switch) (c : net.Act) (w : ℕ) (t : Token) → net.SwitchStep plan Wormhole i a (Takes c w t) b → IsTake c
+switch_takes plan i a b (net.Take l x) w t h = tt
+switch_takes plan i a b (net.Proc m) w t h = h
+switch_takes plan i a b (net.Put l) w t h = h
+switch_takes plan i a b (net.Route j o) w t h = h
+switch_takes plan i a b (net.Fct l) w t h = h
+switch_takes plan i a b (net.Pass l) w t h = h
+
+actor_takes : (plan : network.Plan) (k : ℕ) (a b : net.Actor Process) (c : net.Act) (w : ℕ) (t : Token) → net.Local plan Wormhole does k a (Takes c w t) b → IsTake c
+actor_takes plan k (net.IsNode a) (net.IsNode b) c w t h = node_takes plan k a b c w t h.1
+actor_takes plan k (net.IsSwitch a) (net.IsSwitch b) c w t (i, at, h) = switch_takes plan i a b c w t h
+actor_takes plan k (net.IsNode a) (net.IsSwitch b) c w t h = absurd h
+actor_takes plan k (net.IsSwitch a) (net.IsNode b) c w t h = absurd h
+
+no_take : (b : Act) → TakesNone b → IsTake (act_of b) → ⊥
+no_take (act.Take l x) none is = none
+no_take (act.Proc m) none is = is
+no_take (act.Put l) none is = is
+no_take (act.Route i o) none is = is
+no_take (act.Fct l) none is = is
+no_take (act.Pass l) none is = is
+
+-- an act that takes no token depends on its own actor alone
+module _ (plan : network.Plan) (s t : Network (net.Actor Process) Token) (k : ℕ) (same : t.state k ≡ s.state k) (b : Act) (none : TakesNone b) where
+  abbrev Steps : Label net.Act Token → net.Actor Process → Type 0
+  Steps label x = net.Local plan Wormhole does k (s.state k) label x
+
+  by_label : (label : Label net.Act Token) (x : net.Actor Process) → label_act label ≡ act_of b → Steps label x → IsEnabled plan Wormhole does s (record { actor = k; act = act_of b })
+  by_label (Own c) x e step = (_, (Own c, e, own_step (net.Local plan Wormhole does) s k c x step))
+  by_label (Puts c w i) x e step = (_, (Puts c w i, e, put_step (net.Local plan Wormhole does) s k c w i x step))
+  by_label (Takes c w i) x e step = absurd (no_take b none (subst IsTake e (actor_takes plan k (s.state k) x c w i step)))
+
+  still : IsEnabled plan Wormhole does t (record { actor = k; act = act_of b }) → IsEnabled plan Wormhole does s (record { actor = k; act = act_of b })
+  still (new, (label, e, step)) = by_label label (new.state k) e (subst (λ z. net.Local plan Wormhole does k z label (new.state k)) same step.local)
+
+pub quiet_after : (p : Plan) (s t : State) (e : Event) (k : ℕ) → k ≢ e.actor → MakesEvent p s e t → FindsEvent p s k None → FindsEvent p t k None
+quiet_after p s t e k other made quiet = λ b none can. quiet b none (still (network_of p) (shown s) (shown t) k (made.happens.2.others k other) b none can)
