@@ -3,3 +3,4 @@ pub mod Merged
 pub mod Wires
 pub mod Runs
 pub mod Works
+pub mod Crews

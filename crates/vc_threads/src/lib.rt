@@ -4,6 +4,7 @@
 //! is what the run put and took. [`merge`] makes one list of all workers' acts, by stamp, then actor.
 #![tactic(auto)]
 
+mod crew;
 mod desk;
 mod gate;
 mod link;
@@ -12,6 +13,7 @@ mod run;
 mod stamp;
 mod work;
 
+pub use crew::ThreadFault;
 pub use gate::{EndGate, Gate};
 pub use link::{Ends, In, LinkRule, Out, Stamped};
 pub use merging::merge;
