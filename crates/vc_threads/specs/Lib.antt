@@ -4,3 +4,4 @@ pub mod Wires
 pub mod Runs
 pub mod Works
 pub mod Crews
+pub mod Threads

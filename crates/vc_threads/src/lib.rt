@@ -7,18 +7,23 @@
 mod crew;
 mod desk;
 mod gate;
+mod jobs;
 mod link;
 mod merging;
+mod report;
 mod run;
 mod stamp;
+mod threads;
 mod work;
 
 pub use crew::ThreadFault;
 pub use gate::{EndGate, Gate};
 pub use link::{Ends, In, LinkRule, Out, Stamped};
 pub use merging::merge;
+pub use report::Report;
 pub use run::{ActorRun, Stop};
 pub use stamp::next_stamp;
+pub use threads::run_threads;
 pub use work::worker;
 
 #[cfg(test)]

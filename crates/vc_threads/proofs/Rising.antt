@@ -1,0 +1,61 @@
+-- The runs that workers give back can be merged: their stamps rise, and no two are of one actor.
+use Rattle.std.proofs.Common.{◌≡◌, ℕ, ◌+◌, ◌<◌, ◌≤◌, List, [], ◌∷◌, ◌++◌, map, length, sym, subst, ap, ◌∙◌, arith}
+use Rattle.std.specs.List.{All, AllZip, AllByRecursion}
+use Rattle.vc_actors.specs.Actors.{Label}
+use Rattle.vc_actors.specs.Actors.Label.{Own, Takes, Puts}
+use Rattle.vc_actors.specs.LocalRun.{Stamped, Turn, LocalRun, next_stamp}
+use Rattle.vc_actors.specs.Merge.{Rises, RunRises, StampsRise, AreDistinct, Numbered}
+use Rattle.vc_core.specs.Shown.{Acting}
+use Rattle.vc_core.specs.declared.act.Act.{Act}
+use Rattle.vc_network.specs.Plan.{Plan}
+use Rattle.vc_tokens.specs.declared.token.Token.{Token}
+use Rattle.vc_threads.specs.Crews.{IsFit, Ran}
+use Rattle.vc_threads.specs.Merged.{of_pair, numbered}
+use Rattle.vc_threads.specs.Runs.{StepsByLink}
+use Rattle.vc_threads.specs.Threads.{AreNumbered, who}
+use Rattle.vc_threads.specs.Works.{HasRun, logged}
+use Rattle.vc_threads.specs.declared.crew.Job.{Job}
+use Rattle.vc_threads.specs.declared.run.ActorRun.{ActorRun}
+
+after : {A I : Type 0} (clock : ℕ) (l : Label A (Stamped I)) → clock < next_stamp clock l
+after clock (Own act) = omega arith
+after clock (Takes act way s) = omega arith
+after clock (Puts act way s) = omega arith
+
+log_rises : (plan : Plan) (k clock : ℕ) (old new : Acting) (ts : List (Turn Act Token)) → LocalRun (StepsByLink plan) k clock old ts new → Rises clock (map of_pair (map logged ts))
+log_rises plan k clock old new [] h = tt
+log_rises plan k clock old new (t ∷ ts) h = (subst (λ x. clock < x) (sym h.2) (after clock t.it), log_rises plan k t.at h.0 new ts h.4)
+
+from_rises : {A : Type 0} (clock : ℕ) (ss : List (Stamped A)) → Rises clock ss → StampsRise ss
+from_rises clock [] h = tt
+from_rises clock (s ∷ ss) h = h.1
+
+one_rises : (turns seed : ℕ) (j : Job) (r : ActorRun) → IsFit j → Ran turns seed j r → RunRises (numbered r)
+one_rises turns seed j r fit ran =
+    let plan = fit.actor.0 in
+    let k = fit.actor.1 in
+    let run = ran.1 plan k fit.actor.2 in
+    subst (λ xs. StampsRise (map of_pair xs)) (sym run.acts) (from_rises 0 (map of_pair (map logged run.steps)) (log_rises plan k 0 j.actor r.actor run.steps run.run))
+
+pub all_rise : (turns seed : ℕ) (js : List Job) (rs : List ActorRun) → AllByRecursion IsFit js → AllZip (Ran turns seed) js rs → AllByRecursion RunRises (map numbered rs)
+all_rise turns seed [] [] fit ran = tt
+all_rise turns seed [] (r ∷ rs) fit ran = absurd ran
+all_rise turns seed (j ∷ js) [] fit ran = absurd ran
+all_rise turns seed (j ∷ js) (r ∷ rs) fit ran = (one_rises turns seed j r fit.0 ran.0, all_rise turns seed js rs fit.1 ran.1)
+
+-- an actor that comes before those numbered from n on is none of them
+apart : (turns seed i n : ℕ) (js : List Job) (rs : List ActorRun) → i < n → AreNumbered n (map who js) → AllZip (Ran turns seed) js rs → AllByRecursion (λ (s : Numbered Act). i ≡ s.actor → ⊥) (map numbered rs)
+apart turns seed i n [] [] less is ran = tt
+apart turns seed i n [] (r ∷ rs) less is ran = absurd ran
+apart turns seed i n (j ∷ js) [] less is ran = absurd ran
+apart turns seed i n (j ∷ js) (r ∷ rs) less is ran =
+    let e : r.id ≡ n = ran.0.0 ∙ is.0 in
+    ((λ same. omega (arith, e, same, less)), apart turns seed i (n + 1) js rs (omega (arith, less)) is.1 ran.1)
+
+pub all_apart : (turns seed n : ℕ) (js : List Job) (rs : List ActorRun) → AreNumbered n (map who js) → AllZip (Ran turns seed) js rs → AreDistinct (map numbered rs)
+all_apart turns seed n [] [] is ran = tt
+all_apart turns seed n [] (r ∷ rs) is ran = absurd ran
+all_apart turns seed n (j ∷ js) [] is ran = absurd ran
+all_apart turns seed n (j ∷ js) (r ∷ rs) is ran =
+    let e : r.id ≡ n = ran.0.0 ∙ is.0 in
+    (subst (λ i. AllByRecursion (λ (s : Numbered Act). i ≡ s.actor → ⊥) (map numbered rs)) (sym e) (apart turns seed n (n + 1) js rs (omega arith) is.1 ran.1), all_apart turns seed (n + 1) js rs is.1 ran.1)

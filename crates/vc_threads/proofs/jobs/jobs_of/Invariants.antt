@@ -1,0 +1,14 @@
+use Rattle.std.proofs.Common.{◌+◌, ◌≤◌, length, map}
+use Rattle.std.specs.List.{All, AllByRecursion}
+use Rattle.vc_threads.specs.Crews.{IsFit}
+use Rattle.vc_threads.specs.Threads.{AreNumbered, who}
+use Rattle.vc_threads.specs.Works.{IsOfSomePlan}
+use Rattle.vc_threads.proofs.jobs.jobs_of.Given as goal
+
+abbrev pub invariant-loop-actor : goal.invariant-loop-actor
+invariant-loop-actor l = record {
+  rest : AllByRecursion IsOfSomePlan l.actor-iterator.rest.items;
+  few : length l.jobs.items + length l.actor-iterator.rest.items ≤ 64;
+  fit : All IsFit l.jobs.items;
+  numbered : AreNumbered 0 (map who l.jobs.items);
+}

@@ -1,0 +1,21 @@
+use Rattle.std.proofs.Common.{◌≡◌, ◌≤◌, length, arith, get_or}
+use Rattle.std.proofs.lemmas.Option.{slice_get-get_or}
+use Rattle.vc_accepted.specs.NetworkOf.{network_of}
+use Rattle.vc_core.proofs.Leaving.{few}
+use Rattle.vc_threads.specs.Works.{IsOfSomePlan}
+use Rattle.vc_threads.proofs.Fitting.{by_recursion}
+use Rattle.vc_threads.proofs.jobs.make_jobs.Goals as goal
+
+pub jobs_of-requires-clause-few : goal.jobs_of-requires-clause-few
+jobs_of-requires-clause-few c =
+    let small = few c.args.accepted.now c.plan-plan.ensures.accepted in
+    let n = small.0 in
+    let m = small.1 in
+    let same = c.plan-plan.ensures.plan in
+    let count = c.in_ok-actors.ensures.count in
+    grind (arith)
+
+pub jobs_of-requires-clause-actors : goal.jobs_of-requires-clause-actors
+jobs_of-requires-clause-actors c =
+    let xs = c.in_ok-actors.field-0.items in
+    by_recursion IsOfSomePlan xs (λ k d l. (network_of c.args.accepted.now, k, (c.in_ok-actors.ensures.each k (get_or xs k d) (slice_get-get_or xs k d l)).is))

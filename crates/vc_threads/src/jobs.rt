@@ -1,0 +1,162 @@
+//! The actors of a plan, with a ring for each way between them.
+ghost use Rattle.std.specs.Prelude.{◌≡◌, ◌≢◌, ◌≤◌, ◌<◌, IfOk, OnOk, IsFalse, length, map};
+ghost use Rattle.std.specs.List.{All, AllByRecursion};
+ghost use Rattle.vc_plan.specs.Accepted.{IsAccepted};
+ghost use Rattle.vc_threads.specs.Crews.{IsFit};
+ghost use Rattle.vc_threads.specs.Threads.{AreNumbered, who};
+ghost use Rattle.vc_threads.specs.Works.{IsOfSomePlan};
+
+use crate::crew::{Job, ThreadFault};
+use crate::link::{Ends, In, LinkRule, Out, PLACES};
+use rtrb::RingBuffer;
+use std::alloc::Global;
+use vc_core::{Actor, actors};
+use vc_packets::Memory;
+use vc_plan::{Accepted, Plan, Port, Spot};
+
+// The job of an actor that has no links yet.
+fn job_of(alloc: Global, id: u8, actor: Actor) -> Job
+    requires { IsOfSomePlan actor }
+    ensures who { who result ≡ (id, actor) }
+    ensures fit { IsFit result }
+{
+    let outs = Vec::new(alloc);
+    let ins = Vec::new(alloc);
+    Job {
+        id,
+        actor,
+        ends: Ends { outs, ins },
+    }
+}
+
+// A job for each actor, without links, numbered from 0 on.
+fn jobs_of(alloc: Global, actors: Vec<Actor>) -> Result<Vec<Job>, Memory>
+    requires few { length actors.items ≤ 64 }
+    requires actors { AllByRecursion IsOfSomePlan actors.items }
+    ensures fit { IfOk result (λ jobs. All IsFit jobs.items) }
+    ensures numbered { IfOk result (λ jobs. AreNumbered 0 (map who jobs.items)) }
+{
+    let mut jobs = Vec::new(alloc);
+    for actor in actors {
+        let id = jobs.len() as u8;
+        jobs.push(job_of(alloc, id, actor))?;
+    }
+    Ok(jobs)
+}
+
+// Whether an end goes out by the link.
+fn has_out(outs: &[(u8, Out)], link: u8) -> bool
+    ensures { IsFalse result → All (λ o. o.0 ≢ link) outs.now }
+{
+    for k in 0..outs.len() {
+        if outs[k].0 == link {
+            return true;
+        }
+    }
+    false
+}
+
+// Whether an end comes in by the link.
+fn has_in(ins: &[(u8, In)], link: u8) -> bool
+    ensures { IsFalse result → All (λ i. i.0 ≢ link) ins.now }
+{
+    for k in 0..ins.len() {
+        if ins[k].0 == link {
+            return true;
+        }
+    }
+    false
+}
+
+// Gives an actor the end of a ring that goes out by a link of its own.
+fn add_out(job: &mut Job, link: u8, producer: Out) -> Result<(), ThreadFault>
+    requires { IsFit job.old }
+    ensures fit { IsFit job.new }
+    ensures same { who job.new ≡ who job.old }
+{
+    if link > 31 || has_out(job.ends.outs.as_slice(), link) {
+        return Err(ThreadFault::Start);
+    }
+    match job.ends.outs.push((link, producer)) {
+        Ok(()) => Ok(()),
+        Err(_) => Err(ThreadFault::Memory),
+    }
+}
+
+// Gives an actor the end of a ring that comes in by a link of its own.
+fn add_in(job: &mut Job, link: u8, consumer: In) -> Result<(), ThreadFault>
+    requires { IsFit job.old }
+    ensures fit { IsFit job.new }
+    ensures same { who job.new ≡ who job.old }
+{
+    if link > 31 || has_in(job.ends.ins.as_slice(), link) {
+        return Err(ThreadFault::Start);
+    }
+    match job.ends.ins.push((link, consumer)) {
+        Ok(()) => Ok(()),
+        Err(_) => Err(ThreadFault::Memory),
+    }
+}
+
+// The number of a node or a switch among the actors.
+fn number_of(spot: Spot, nodes: usize) -> usize
+    requires { nodes ≤ 32 }
+{
+    match spot {
+        Spot::Node(node) => usize::from(node),
+        Spot::Switch(switch) => nodes + usize::from(switch),
+    }
+}
+
+// Makes the ring of the way from one port to another.
+fn add_ring(
+    alloc: Global,
+    jobs: &mut Vec<Job>,
+    nodes: usize,
+    from: Port,
+    to: Port,
+) -> Result<(), ThreadFault>
+    requires nodes { nodes ≤ 32 }
+    requires fit { All IsFit jobs.old.items }
+    ensures fit { OnOk result (All IsFit jobs.new.items) }
+    ensures same { OnOk result (map who jobs.new.items ≡ map who jobs.old.items) }
+{
+    let source = number_of(from.spot, nodes);
+    let sink = number_of(to.spot, nodes);
+    if source >= jobs.len() || sink >= jobs.len() {
+        return Err(ThreadFault::Start);
+    }
+    let Ok((producer, consumer)) = RingBuffer::with_protocol::<Global, LinkRule>(alloc, PLACES)
+    else {
+        return Err(ThreadFault::Memory);
+    };
+    add_out(&mut jobs[source], from.link, producer)?;
+    add_in(&mut jobs[sink], to.link, consumer)?;
+    Ok(())
+}
+
+// Makes a ring for each way of each wire.
+fn add_rings(alloc: Global, jobs: &mut Vec<Job>, plan: &Plan) -> Result<(), ThreadFault>
+    requires plan { IsAccepted plan.now }
+    requires fit { All IsFit jobs.old.items }
+    ensures fit { OnOk result (All IsFit jobs.new.items) }
+    ensures same { OnOk result (map who jobs.new.items ≡ map who jobs.old.items) }
+{
+    let nodes = plan.nodes.len();
+    for wire in plan.wires.as_slice() {
+        add_ring(alloc, jobs, nodes, wire.one, wire.two)?;
+        add_ring(alloc, jobs, nodes, wire.two, wire.one)?;
+    }
+    Ok(())
+}
+
+/// A job for each actor of an accepted plan, with the ends of its rings.
+pub(crate) fn make_jobs(alloc: Global, accepted: &Accepted) -> Result<Vec<Job>, ThreadFault>
+    ensures fit { IfOk result (λ jobs. All IsFit jobs.items) }
+    ensures numbered { IfOk result (λ jobs. AreNumbered 0 (map who jobs.items)) }
+{
+    let plan = accepted.plan();
+    let mut jobs = jobs_of(alloc, actors(alloc, accepted)?)?;
+    add_rings(alloc, &mut jobs, plan)?;
+    Ok(jobs)
+}

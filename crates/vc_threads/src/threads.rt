@@ -1,0 +1,60 @@
+//! A network in threads, one for each actor.
+ghost use Rattle.std.specs.Prelude.{IfOk};
+ghost use Rattle.vc_core.specs.Replaying.{Replays};
+ghost use Rattle.vc_core.specs.State.{state_of};
+ghost use Rattle.vc_threads.specs.Threads.{Reports};
+
+use crate::crew::{ThreadFault, run_jobs};
+use crate::gate::Gate;
+use crate::jobs::make_jobs;
+use crate::merging::merge;
+use crate::report::{Report, close_of};
+use std::alloc::Global;
+use std::sync::Wait;
+use std::thread::Threads;
+use vc_core::{Event, Network, StepRefused, replay};
+use vc_plan::Accepted;
+
+// What stops a replay of the threads' acts.
+fn fault_of(why: StepRefused) -> ThreadFault {
+    match why {
+        StepRefused::NotEnabled => ThreadFault::NotARun,
+        StepRefused::Memory => ThreadFault::Memory,
+    }
+}
+
+// The network after these events.
+fn replayed(alloc: Global, accepted: &Accepted, steps: &[Event]) -> Result<Network, ThreadFault>
+    ensures { IfOk result (λ network. Replays accepted.now steps.now (state_of network)) }
+{
+    match replay(alloc, accepted, steps) {
+        Ok(network) => Ok(network),
+        Err(refused) => Err(fault_of(refused.why)),
+    }
+}
+
+/// Runs each node and each switch of an accepted plan in a thread of its own, for at most so many turns each, as long as the gate lets it.
+/// The threads are joined, and their acts are made one list, which is replayed.
+///
+/// The words of an actor's takes are those of the generator of this seed and the actor's number.
+pub fn run_threads<G: Gate, R: Threads + Wait>(
+    rt: &R,
+    alloc: Global,
+    accepted: &Accepted,
+    gate: &G,
+    turns: u64,
+    seed: u32,
+) -> Result<Report, ThreadFault>
+    ensures { IfOk result (Reports accepted.now) }
+{
+    let jobs = make_jobs(alloc, accepted)?;
+    let runs = run_jobs(rt, alloc, jobs, gate, turns, seed)?;
+    let steps = merge(alloc, runs.as_slice())?;
+    let state = replayed(alloc, accepted, steps.as_slice())?;
+    let close = close_of(runs.as_slice(), &state);
+    Ok(Report {
+        steps,
+        state,
+        close,
+    })
+}
