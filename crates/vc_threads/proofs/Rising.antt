@@ -1,6 +1,6 @@
 -- The runs that workers give back can be merged: their stamps rise, and no two are of one actor.
-use Rattle.std.proofs.Common.{◌≡◌, ℕ, ◌+◌, ◌<◌, ◌≤◌, List, [], ◌∷◌, ◌++◌, map, length, sym, subst, ap, ◌∙◌, arith}
-use Rattle.std.specs.List.{All, AllZip, AllByRecursion}
+use Rattle.std.proofs.Common.{◌≡◌, ℕ, ◌+◌, ◌<◌, List, [], ◌∷◌, map, sym, subst, ◌∙◌, arith}
+use Rattle.std.specs.List.{AllZip, AllByRecursion}
 use Rattle.vc_actors.specs.Actors.{Label}
 use Rattle.vc_actors.specs.Actors.Label.{Own, Takes, Puts}
 use Rattle.vc_actors.specs.LocalRun.{Stamped, Turn, LocalRun, next_stamp}
@@ -13,7 +13,7 @@ use Rattle.vc_threads.specs.Crews.{IsFit, Ran}
 use Rattle.vc_threads.specs.Merged.{of_pair, numbered}
 use Rattle.vc_threads.specs.Runs.{StepsByLink}
 use Rattle.vc_threads.specs.Threads.{AreNumbered, who}
-use Rattle.vc_threads.specs.Works.{HasRun, logged}
+use Rattle.vc_threads.specs.Works.{logged}
 use Rattle.vc_threads.specs.declared.crew.Job.{Job}
 use Rattle.vc_threads.specs.declared.run.ActorRun.{ActorRun}
 

@@ -1,4 +1,3 @@
-use denote.RattleType.{RattleType}
 use denote.Builtin.{u16}
 use denote.Param.Send.{IsSend, sendable}
 use Rattle.vc_core.specs.contracts.actor.Actor as Actor

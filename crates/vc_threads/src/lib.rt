@@ -1,7 +1,9 @@
-//! The network in threads: each node a worker of its own, joined to the others by rings that keep the order of their tokens.
+//! The network in threads: each node and each switch a worker of its own, joined to the others by rings that keep the order of their
+//! tokens.
 //!
 //! What a [`worker`] does is a run of its actor by itself, stamped act by act (`specs/Runs`), and what its ring ends sent and received
-//! is what the run put and took. [`merge`] makes one list of all workers' acts, by stamp, then actor.
+//! is what the run put and took. [`merge`] makes one list of all workers' acts, by stamp, then actor. [`run_threads`] starts the
+//! workers, joins them, and replays that list: the steps that it reports lead to the state that it reports (`specs/Threads`).
 #![tactic(auto)]
 
 mod crew;

@@ -1,4 +1,4 @@
-use Rattle.std.proofs.Common.{◌≡◌, sym, subst, map}
+use Rattle.std.proofs.Common.{sym, subst, map}
 use Rattle.std.specs.List.{AllByRecursion}
 use Rattle.vc_actors.specs.Merge.{AreDistinct, RunRises}
 use Rattle.vc_core.specs.Replaying.{Replays}
