@@ -4,7 +4,7 @@ use Rattle.std.proofs.lemmas.Bool.Decides.{nat_tests}
 use Rattle.vc_occam.specs.InOrder.{number}
 use Rattle.vc_occam.specs.Numbering.{written}
 use Rattle.vc_occam.specs.Opening.{Fits}
-use Rattle.vc_occam.specs.ProcessLimits.{sequential}
+use Rattle.vc_occam.specs.ProcessLimits.{in_order}
 use Rattle.vc_plan.specs.declared.node_plan.NodePlan.{NodePlan}
 use Rattle.vc_plan.specs.declared.plan.Plan.{Plan}
 use Rattle.vc_plan.specs.Accepted.{IsAccepted}
@@ -17,7 +17,7 @@ few_parts node h = grind (arith, nat_tests)
 
 -- a node's process can be run: it is in order and not too long, and its names fit the node's variables
 pub record CanRun (node : NodePlan) : Type 0 where
-  pub sequential : sequential (written node.process) ≡ true
+  pub in_order : in_order (written node.process) ≡ true
   pub sites : (number node.process).sites ≤ 65536
   pub fits : Fits (kinds_of node.vars) node.process
 
@@ -25,7 +25,7 @@ pub node_runs : (p : Plan) → IsAccepted p → (n : ℕ) (node : NodePlan) → 
 node_runs p acc n node e =
     let k = kept p acc in
     record {
-      sequential = in-order node (passes depth_ok p.nodes n node k.depth e);
+      in_order = in-order node (passes depth_ok p.nodes n node k.depth e);
       sites = few_parts node (passes parts_ok p.nodes n node k.parts e);
       fits = (length p.channels, passes (process_names p) p.nodes n node (names-fit p k) e);
     }

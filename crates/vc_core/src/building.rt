@@ -186,7 +186,7 @@ fn build_node(
     let vcp = Vcp::new(alloc, &ends, body_limit(plan))?;
     let kinds = kinds_in(alloc, node)?;
     let chans = inside_of(alloc, number, plan.channels.as_slice())?;
-    let process = Running::in_order(alloc, &node.process, kinds.as_slice(), &chans)?;
+    let process = Running::new(alloc, &node.process, kinds.as_slice(), &chans)?;
     let inside = Inside::new(alloc, plan.channels.as_slice(), number)?;
     Ok(Node::new(alloc, vcp, process, inside))
 }

@@ -6,7 +6,7 @@ use Rattle.vc_occam.specs.declared.value_kind.ValueKind.{ValueKind}
 use Rattle.vc_occam.specs.declared.value_kind.ValueKind.TheVariants as of
 use Rattle.vc_occam.specs.Asking.{asking, everywhere, in_parts, in_branches, in_guards}
 use Rattle.vc_occam.specs.Limits.{exp_fits, exp_within, holds_kind}
-use Rattle.vc_occam.specs.ProcessLimits.{exps_within, parts_exps_within, branches_exps_within, guards_exps_within, in_length, parts_in_length, branches_in_length, guards_in_length, names_fit, parts_names_fit, branches_names_fit, guards_names_fit, sequential, parts_sequential, branches_sequential, test_fits, test_within}
+use Rattle.vc_occam.specs.ProcessLimits.{exps_within, parts_exps_within, branches_exps_within, guards_exps_within, in_length, parts_in_length, branches_in_length, guards_in_length, names_fit, parts_names_fit, branches_names_fit, guards_names_fit, in_order, parts_in_order, branches_in_order, guards_in_order, test_fits, test_within}
 use Rattle.vc_occam.specs.Syntax.{Proc, SKIP, STOP, Assign, Output, Input, StopChan, SEQ, PAR, IF, WHILE, COUNT, ALT, Procs, no_parts, part, Branches, no_branches, branch, Guards, no_guards, guard}
 use Rattle.vc_occam.specs.Usage.{changes, changes_all, changes_branches, changes_guards}
 
@@ -23,27 +23,31 @@ neither false b x y h k = ap (λ z. z && y) h ∙ k
 
 module _ (kinds : List ValueKind) where
   mutual
-    pub sequential_is : (p : Proc) → everywhere (asking asked.Sequential kinds) p ≡ sequential p
-    sequential_is (SKIP i) = refl
-    sequential_is (STOP i) = refl
-    sequential_is (Assign i v a) = refl
-    sequential_is (Output i c a) = refl
-    sequential_is (Input i c v) = refl
-    sequential_is (StopChan i c) = refl
-    sequential_is (SEQ i ps) = parts_sequential_is ps
-    sequential_is (PAR i ps) = refl
-    sequential_is (IF i bs) = branches_sequential_is bs
-    sequential_is (WHILE i t p) = sequential_is p
-    sequential_is (COUNT i v a k p) = sequential_is p
-    sequential_is (ALT i gs) = refl
+    pub in_order_is : (p : Proc) → everywhere (asking asked.InOrder kinds) p ≡ in_order p
+    in_order_is (SKIP i) = refl
+    in_order_is (STOP i) = refl
+    in_order_is (Assign i v a) = refl
+    in_order_is (Output i c a) = refl
+    in_order_is (Input i c v) = refl
+    in_order_is (StopChan i c) = refl
+    in_order_is (SEQ i ps) = parts_in_order_is ps
+    in_order_is (PAR i ps) = refl
+    in_order_is (IF i bs) = branches_in_order_is bs
+    in_order_is (WHILE i t p) = in_order_is p
+    in_order_is (COUNT i v a k p) = in_order_is p
+    in_order_is (ALT i gs) = guards_in_order_is gs
 
-    parts_sequential_is : (ps : Procs) → in_parts (asking asked.Sequential kinds) ps ≡ parts_sequential ps
-    parts_sequential_is no_parts = refl
-    parts_sequential_is (part p ps) = both _ _ _ _ (sequential_is p) (parts_sequential_is ps)
+    parts_in_order_is : (ps : Procs) → in_parts (asking asked.InOrder kinds) ps ≡ parts_in_order ps
+    parts_in_order_is no_parts = refl
+    parts_in_order_is (part p ps) = both _ _ _ _ (in_order_is p) (parts_in_order_is ps)
 
-    branches_sequential_is : (bs : Branches) → in_branches (asking asked.Sequential kinds) bs ≡ branches_sequential bs
-    branches_sequential_is no_branches = refl
-    branches_sequential_is (branch t p bs) = both _ _ _ _ (sequential_is p) (branches_sequential_is bs)
+    branches_in_order_is : (bs : Branches) → in_branches (asking asked.InOrder kinds) bs ≡ branches_in_order bs
+    branches_in_order_is no_branches = refl
+    branches_in_order_is (branch t p bs) = both _ _ _ _ (in_order_is p) (branches_in_order_is bs)
+
+    guards_in_order_is : (gs : Guards) → in_guards (asking asked.InOrder kinds) gs ≡ guards_in_order gs
+    guards_in_order_is no_guards = refl
+    guards_in_order_is (guard t c v p gs) = both _ _ _ _ (in_order_is p) (guards_in_order_is gs)
 
   module _ (n : ℕ) where
     mutual

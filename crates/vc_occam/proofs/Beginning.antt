@@ -14,7 +14,7 @@ use Rattle.vc_occam.specs.Syntax.{Test, SEQ, IF, no_parts}
 use Rattle.vc_occam.specs.Terms.{test}
 use Rattle.vc_occam.specs.Values.{Store, holds}
 use Rattle.vc_occam.specs.Remains.{Rest, Done, Stopped, Fresh, begin, branch_on, chosen, does_empty_seq, does_if, does_turn, does_leave, faults_while}
-use Rattle.vc_occam.specs.Frames.{Able, Did, View, begun_at, branches_of, chosen_from, follow, has_parts, plan_at, plans, plans_of, place_on, rest_at, view, views}
+use Rattle.vc_occam.specs.Frames.{Able, Did, View, begun_at, branches_of, chosen_from, follow, has_parts, is_choice, plan_at, plans, plans_of, place_on, rest_at, view, views}
 use Rattle.vc_occam.specs.Nexts.{branch_next, turn_begun, turn_next}
 
 -- the frame at a place has begun
@@ -85,6 +85,7 @@ abbrev after_phase : Phase → Rest → Rest
 after_phase phase.Ready r = Stopped
 after_phase phase.Waiting r = r
 after_phase (phase.Turning x y) r = Stopped
+after_phase phase.Chosen r = Stopped
 after_phase phase.Ended r = Done
 after_phase phase.Stuck r = Stopped
 
@@ -143,17 +144,18 @@ empty_seq : (i : ℕ) (vs : List View) (e : Store) (s : ℕ) (d : Deed) → Able
 empty_seq i [] e s d (ks, q, f, does_empty_seq) = ([], does_empty_seq)
 empty_seq i (v ∷ vs) e s d (ks, q, f, st) = elim st [ ]
 
-pub seq_did : (k : Kind) (i : ℕ) (vs : List View) (e : Store) (s : ℕ) (d : Deed) → has_parts k ≡ true → ((cs : List Cond) → k ≡ kind.If cs → ⊥) → ((c : Cond) → k ≡ kind.While c → ⊥) → Able (Fresh (plan_at k i vs)) e s d → Did (Fresh (plan_at k i vs)) e s d Done e
-seq_did kind.Skip i vs e s d h x y a = absurd (let z : false ≡ true = h in cc)
-seq_did kind.Stop i vs e s d h x y a = absurd (let z : false ≡ true = h in cc)
-seq_did (kind.Set v b) i vs e s d h x y a = absurd (let z : false ≡ true = h in cc)
-seq_did (kind.Send c b) i vs e s d h x y a = absurd (let z : false ≡ true = h in cc)
-seq_did (kind.Receive c v) i vs e s d h x y a = absurd (let z : false ≡ true = h in cc)
-seq_did (kind.Stopch c) i vs e s d h x y a = absurd (let z : false ≡ true = h in cc)
-seq_did kind.Seq i vs e s d h x y a = empty_seq i vs e s d a
-seq_did (kind.If cs) i vs e s d h x y a = absurd (x cs refl)
-seq_did (kind.While c) i vs e s d h x y a = absurd (y c refl)
-seq_did (kind.Count v b n) i vs e s d h x y a = absurd (let z : false ≡ true = h in cc)
+pub seq_did : (k : Kind) (i : ℕ) (vs : List View) (e : Store) (s : ℕ) (d : Deed) → has_parts k ≡ true → ((cs : List Cond) → k ≡ kind.If cs → ⊥) → ((c : Cond) → k ≡ kind.While c → ⊥) → is_choice k ≡ false → Able (Fresh (plan_at k i vs)) e s d → Did (Fresh (plan_at k i vs)) e s d Done e
+seq_did kind.Skip i vs e s d h x y z a = absurd (let q : false ≡ true = h in cc)
+seq_did kind.Stop i vs e s d h x y z a = absurd (let q : false ≡ true = h in cc)
+seq_did (kind.Set v b) i vs e s d h x y z a = absurd (let q : false ≡ true = h in cc)
+seq_did (kind.Send c b) i vs e s d h x y z a = absurd (let q : false ≡ true = h in cc)
+seq_did (kind.Receive c v) i vs e s d h x y z a = absurd (let q : false ≡ true = h in cc)
+seq_did (kind.Stopch c) i vs e s d h x y z a = absurd (let q : false ≡ true = h in cc)
+seq_did kind.Seq i vs e s d h x y z a = empty_seq i vs e s d a
+seq_did (kind.If cs) i vs e s d h x y z a = absurd (x cs refl)
+seq_did (kind.While c) i vs e s d h x y z a = absurd (y c refl)
+seq_did (kind.Count v b n) i vs e s d h x y z a = absurd (let q : false ≡ true = h in cc)
+seq_did (kind.Alt gs) i vs e s d h x y z a = absurd (let q : true ≡ false = z in cc)
 
 pub turn_plans : (b : Bool) (vs : List View) → plans (turn_begun b vs) ≡ plans vs
 turn_plans true vs = begun_plans 0 vs

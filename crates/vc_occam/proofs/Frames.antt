@@ -1,9 +1,9 @@
 -- What frames stand for.
-use Rattle.std.proofs.Common.{◌≡◌, ℕ, ℤ, zero, suc, Bool, true, false, ◌&&◌, refl, ap, sym, ◌∙◌, subst, List, [], ◌∷◌, length, arith, Option, Some, None, Vec, Global, drop, Result, Ok, Err}
+use Rattle.std.proofs.Common.{◌≡◌, ℕ, ℤ, zero, suc, Bool, true, false, ◌&&◌, refl, ap, sym, ◌∙◌, subst, List, [], ◌∷◌, length, map, arith, Option, Some, None, Vec, Global, drop, Result, Ok, Err}
 use Rattle.std.proofs.lemmas.Bool.Decides.{nat_tests}
 use Rattle.std.specs.Prelude.{slice_get, vec_len, nat_le, IfOk, ◌==◌}
 use Rattle.vc_occam.specs.Syntax.{Exp, Test, Proc, SEQ, Procs, no_parts, part}
-use Rattle.vc_occam.specs.Remains.{Rest, Done, Stopped, Fresh, Finishing, Getting, and_then, begin}
+use Rattle.vc_occam.specs.Remains.{Rest, Done, Stopped, Fresh, Finishing, Getting, Then, and_then, begin}
 use Rattle.vc_occam.specs.declared.kind.Kind.{Kind}
 use Rattle.vc_occam.specs.declared.kind.Kind.TheVariants as kind
 use Rattle.vc_occam.specs.declared.phase.Phase.{Phase}
@@ -17,7 +17,8 @@ use Rattle.vc_occam.specs.Values.{Store}
 use Rattle.vc_occam.specs.First.{own}
 use Rattle.vc_occam.specs.declared.moves.Move.TheVariants.{Quiet}
 use Rattle.vc_occam.specs.States.{waiting, output_at}
-use Rattle.vc_occam.specs.Frames.{View, count_of, is_counted, turn_of, turning, plans_of, behind, follow, going_at, has_parts, is_last, place_of, while_of, so_far, plan_at, rest_at, view_step, view, views, is_done, part_done, part_own, part_waits, part_output, part_assigned, assigned_at, begun_parts, begun_phase}
+use Rattle.vc_occam.specs.Gates.{Gate, gate}
+use Rattle.vc_occam.specs.Frames.{View, awaiting, chosen_at, count_of, is_counted, turn_of, turning, plans_of, behind, follow, going_at, has_parts, is_last, place_of, while_of, so_far, plan_at, rest_at, view_step, view, views, is_done, part_done, part_own, part_waits, part_output, part_assigned, assigned_at, begun_parts, begun_phase}
 
 pub view_roll : (f : Frame-F Frame) → view (roll-Frame f) ≡ (plan_at f.kind f.site (views f.parts.items), rest_at f.kind f.phase f.site (views f.parts.items) f.at)
 unfolding view view_step
@@ -31,6 +32,7 @@ abbrev pub done_by : Phase → Bool → Bool → Bool
 done_by phase.Ready l d = false
 done_by phase.Waiting l d = l && d
 done_by (phase.Turning x y) l d = false
+done_by phase.Chosen l d = false
 done_by phase.Ended l d = true
 done_by phase.Stuck l d = false
 
@@ -72,6 +74,45 @@ going_done kind.Seq i vs at = follow_done (slice_get vs at) (plans_of (drop (suc
 going_done (kind.If bs) i vs at = follow_done (slice_get vs at) no_parts
 going_done (kind.Count v a n) i vs at = refl
 going_done (kind.While b) i vs at = follow_done (slice_get vs 0) (behind (kind.While b) i vs at)
+going_done (kind.Alt gs) i vs at = follow_done (slice_get vs at) no_parts
+
+-- an ALT that waits for the message of its guard, or none
+pub data IsAwaiting : Rest → Type 0 where
+  awaits_nothing : IsAwaiting Stopped
+  awaits_input : {i c v : ℕ} {ps : Procs} → IsAwaiting (Then (Getting i c v) ps)
+
+chosen_awaits : (i : ℕ) (g : Option Gate) (v : Option View) → IsAwaiting (chosen_at i g v)
+chosen_awaits i None v = awaits_nothing
+chosen_awaits i (Some g) v = awaits_input
+
+awaiting_is : (k : Kind) (i : ℕ) (vs : List View) (at : ℕ) → IsAwaiting (awaiting k i vs at)
+awaiting_is kind.Skip i vs at = awaits_nothing
+awaiting_is kind.Stop i vs at = awaits_nothing
+awaiting_is (kind.Set v a) i vs at = awaits_nothing
+awaiting_is (kind.Send c a) i vs at = awaits_nothing
+awaiting_is (kind.Receive c v) i vs at = awaits_nothing
+awaiting_is (kind.Stopch c) i vs at = awaits_nothing
+awaiting_is kind.Seq i vs at = awaits_nothing
+awaiting_is (kind.If bs) i vs at = awaits_nothing
+awaiting_is (kind.While b) i vs at = awaits_nothing
+awaiting_is (kind.Count v a n) i vs at = awaits_nothing
+awaiting_is (kind.Alt gs) i vs at = chosen_awaits i (slice_get (map gate gs.inputs) at) (slice_get vs at)
+
+awaiting_done : {r : Rest} → IsAwaiting r → is_done r ≡ false
+awaiting_done awaits_nothing = refl
+awaiting_done awaits_input = refl
+
+pub awaiting_own : {r : Rest} (e : Store) → IsAwaiting r → own r e ≡ []
+awaiting_own e awaits_nothing = refl
+awaiting_own e awaits_input = refl
+
+pub awaiting_output : {r : Rest} (i : ℕ) (e : Store) → IsAwaiting r → output_at i r e ≡ None
+awaiting_output i e awaits_nothing = refl
+awaiting_output i e awaits_input = refl
+
+pub awaiting_assigned : {r : Rest} (e : Store) → IsAwaiting r → assigned_at r e ≡ None
+awaiting_assigned e awaits_nothing = refl
+awaiting_assigned e awaits_input = refl
 
 -- a turn that goes on has not ended
 turns_done : (v : ℕ) (vs : List View) (x y : ℤ) → is_done (turn_of v vs x y) ≡ false
@@ -89,19 +130,21 @@ turning_done kind.Seq vs x y = refl
 turning_done (kind.If bs) vs x y = refl
 turning_done (kind.While b) vs x y = refl
 turning_done (kind.Count v a n) vs x y = turns_done v vs x y
+turning_done (kind.Alt gs) vs x y = refl
 
-done_phase : (ph : Phase) (p : Proc) (r : Rest) (t : ℤ → ℤ → Rest) (l d : Bool) → is_done r ≡ (l && d) → ((x y : ℤ) → is_done (t x y) ≡ false) → is_done (so_far ph p r t) ≡ done_by ph l d
-done_phase phase.Ready p r t l d h g = refl
-done_phase phase.Waiting p r t l d h g = h
-done_phase (phase.Turning x y) p r t l d h g = g x y
-done_phase phase.Ended p r t l d h g = refl
-done_phase phase.Stuck p r t l d h g = refl
+done_phase : (ph : Phase) (p : Proc) (r w : Rest) (t : ℤ → ℤ → Rest) (l d : Bool) → is_done r ≡ (l && d) → is_done w ≡ false → ((x y : ℤ) → is_done (t x y) ≡ false) → is_done (so_far ph p r w t) ≡ done_by ph l d
+done_phase phase.Ready p r w t l d h k g = refl
+done_phase phase.Waiting p r w t l d h k g = h
+done_phase (phase.Turning x y) p r w t l d h k g = g x y
+done_phase phase.Chosen p r w t l d h k g = k
+done_phase phase.Ended p r w t l d h k g = refl
+done_phase phase.Stuck p r w t l d h k g = refl
 
 pub ended_is : (f : Frame) → is_done (view f).1 ≡ done_by (out-Frame f).phase (is_last (out-Frame f).kind (out-Frame f).at (length (views (out-Frame f).parts.items))) (part_done (slice_get (views (out-Frame f).parts.items) (place_of (out-Frame f).kind (out-Frame f).at)))
 ended_is f =
     let o = out-Frame f in
     let vs = views o.parts.items in
-    ap (λ (v : View). is_done v.1) (view_out f) ∙ done_phase o.phase (plan_at o.kind o.site vs) (going_at o.kind o.site vs o.at) (turning o.kind vs) _ _ (going_done o.kind o.site vs o.at) (turning_done o.kind vs)
+    ap (λ (v : View). is_done v.1) (view_out f) ∙ done_phase o.phase (plan_at o.kind o.site vs) (going_at o.kind o.site vs o.at) (awaiting o.kind o.site vs o.at) (turning o.kind vs) _ _ (going_done o.kind o.site vs o.at) (awaiting_done (awaiting_is o.kind o.site vs o.at)) (turning_done o.kind vs)
 
 pub length-views : (fs : List Frame) → length (views fs) ≡ length fs
 length-views [] = refl
@@ -129,6 +172,7 @@ frame_begun (kind.While b) i [] = refl
 frame_begun (kind.While b) i (v ∷ vs) = refl
 frame_begun (kind.Count v a n) i [] = refl
 frame_begun (kind.Count v a n) i (w ∷ vs) = refl
+frame_begun (kind.Alt gs) i vs = refl
 
 -- what remains, by how far it is
 rest_by : (f : Frame) (p : Phase) → (out-Frame f).phase ≡ p → (view f).1 ≡ rest_at (out-Frame f).kind p (out-Frame f).site (views (out-Frame f).parts.items) (out-Frame f).at
@@ -173,6 +217,7 @@ turning_is kind.Seq vs x y h = absurd (let e : false ≡ true = h in cc)
 turning_is (kind.If bs) vs x y h = absurd (let e : false ≡ true = h in cc)
 turning_is (kind.While b) vs x y h = absurd (let e : false ≡ true = h in cc)
 turning_is (kind.Count v a n) vs x y h = (v, refl)
+turning_is (kind.Alt gs) vs x y h = absurd (let e : false ≡ true = h in cc)
 
 pub turning_not : (k : Kind) (vs : List View) (x y : ℤ) → is_counted k ≡ false → turning k vs x y ≡ Stopped
 turning_not kind.Skip vs x y h = refl
@@ -185,6 +230,7 @@ turning_not kind.Seq vs x y h = refl
 turning_not (kind.If bs) vs x y h = refl
 turning_not (kind.While b) vs x y h = refl
 turning_not (kind.Count v a n) vs x y h = absurd (let e : true ≡ false = h in cc)
+turning_not (kind.Alt gs) vs x y h = refl
 
 pub turning_own : (f : Frame) (x y : ℤ) (e : Store) → (out-Frame f).phase ≡ phase.Turning x y → is_counted (out-Frame f).kind ≡ true → own (view f).1 e ≡ part_own (slice_get (views (out-Frame f).parts.items) 0) e
 turning_own f x y e h k =
@@ -219,6 +265,14 @@ rest_ended f h = rest_by f phase.Ended h
 pub rest_stuck : (f : Frame) → (out-Frame f).phase ≡ phase.Stuck → (view f).1 ≡ Stopped
 rest_stuck f h = rest_by f phase.Stuck h
 
+pub rest_chosen : (f : Frame) → (out-Frame f).phase ≡ phase.Chosen → (view f).1 ≡ awaiting (out-Frame f).kind (out-Frame f).site (views (out-Frame f).parts.items) (out-Frame f).at
+rest_chosen f h = rest_by f phase.Chosen h
+
+pub is_awaiting : (f : Frame) → (out-Frame f).phase ≡ phase.Chosen → IsAwaiting (view f).1
+is_awaiting f h =
+    let o = out-Frame f in
+    subst IsAwaiting (sym (rest_chosen f h)) (awaiting_is o.kind o.site (views o.parts.items) o.at)
+
 -- a process that is at one of its parts
 pub going_part : (k : Kind) (i : ℕ) (vs : List View) (at : ℕ) → has_parts k ≡ true → going_at k i vs at ≡ follow (slice_get vs (place_of k at)) (behind k i vs at)
 going_part kind.Skip i vs at h = absurd (let e : false ≡ true = h in cc)
@@ -231,6 +285,7 @@ going_part kind.Seq i vs at h = refl
 going_part (kind.If bs) i vs at h = refl
 going_part (kind.While b) i vs at h = refl
 going_part (kind.Count v a n) i vs at h = absurd (let e : false ≡ true = h in cc)
+going_part (kind.Alt gs) i vs at h = refl
 
 -- one that has none waits, or never goes on
 pub data IsIdle : Rest → Type 0 where
@@ -249,6 +304,7 @@ going_idle kind.Seq i vs at h = absurd (let e : true ≡ false = h in cc)
 going_idle (kind.If bs) i vs at h = absurd (let e : true ≡ false = h in cc)
 going_idle (kind.While b) i vs at h = absurd (let e : true ≡ false = h in cc)
 going_idle (kind.Count v a n) i vs at h = idle_stopped
+going_idle (kind.Alt gs) i vs at h = absurd (let e : true ≡ false = h in cc)
 
 pub rest_idle : (f : Frame) → (out-Frame f).phase ≡ phase.Waiting → has_parts (out-Frame f).kind ≡ false → IsIdle (view f).1
 rest_idle f h k =
@@ -281,6 +337,7 @@ going_nothing kind.Seq i vs at h s r = absurd (let e : true ≡ false = h in cc)
 going_nothing (kind.If bs) i vs at h s r = absurd (let e : true ≡ false = h in cc)
 going_nothing (kind.While b) i vs at h s r = absurd (let e : true ≡ false = h in cc)
 going_nothing (kind.Count v a n) i vs at h s r = refl
+going_nothing (kind.Alt gs) i vs at h s r = absurd (let e : true ≡ false = h in cc)
 
 pub rest_nothing : (f : Frame) → (out-Frame f).phase ≡ phase.Waiting → has_parts (out-Frame f).kind ≡ false → ((c : ℕ) (a : Value) → (out-Frame f).kind ≡ kind.Send c a → ⊥) → ((c v : ℕ) → (out-Frame f).kind ≡ kind.Receive c v → ⊥) → (view f).1 ≡ Stopped
 rest_nothing f h k s r =

@@ -8,6 +8,7 @@ pub mod Doing
 pub mod Everywhere
 pub mod Fitting
 pub mod Frames
+pub mod Gates
 pub mod GoingOn
 pub mod Held
 pub mod Keeping

@@ -1,22 +1,27 @@
 -- How frames are made of a process.
-use Rattle.std.proofs.Common.{◌≡◌, ℕ, Bool, true, false, ◌&&◌, append_assoc, ◌≤◌, subst, suc, ◌+◌, refl, ap, sym, ◌∙◌, List, [], ◌∷◌, ◌++◌, map, arith, add-one}
+use Rattle.std.proofs.Common.{◌≡◌, ℕ, Bool, true, false, ◌&&◌, append_assoc, ◌≤◌, ◌<◌, subst, suc, ◌+◌, refl, ap, sym, ◌∙◌, List, [], ◌∷◌, ◌++◌, map, length, arith, add-one}
 use Rattle.vc_occam.specs.declared.condition.Cond.{Cond}
 use Rattle.vc_occam.specs.declared.expression.Expr.{Expr}
 use Rattle.vc_occam.specs.declared.frame.Frame.{Frame}
+use Rattle.vc_occam.specs.declared.guarded.GuardedInput.{GuardedInput}
+use Rattle.vc_occam.specs.declared.guarded.GuardedInputs.{GuardedInputs}
 use Rattle.vc_occam.specs.declared.process.Branch.{Branch}
+use Rattle.vc_occam.specs.declared.process.Guard.{Guard}
 use Rattle.vc_occam.specs.declared.process.Process.{Process}
 use Rattle.vc_occam.specs.declared.process.Process.TheVariants as process
 use Rattle.vc_occam.specs.declared.process.Process.TheOpen as layer
-use Rattle.vc_occam.specs.declared.process.Process.TheFolds.{fold-roll-Process}
-use Rattle.vc_occam.specs.Frames.{View, branches_of, count_of, plans_of, view, views, while_of}
-use Rattle.vc_occam.specs.InOrder.{branch_layer, guard_layer, number, number_branch}
-use Rattle.vc_occam.specs.Numbering.{Numbered, NumberedBranch, NumberedGuard, branch_sites, branches_from, numbered, part_sites, parts_from}
-use Rattle.vc_occam.specs.ProcessLimits.{branches_sequential, parts_sequential, sequential}
+use Rattle.vc_occam.specs.declared.process.Process.TheFolds.{fold_out-Process, fold-roll-Process}
+use Rattle.vc_occam.specs.declared.process.Process.TheViews.{out-Guard}
+use Rattle.vc_occam.specs.Frames.{View, branches_of, count_of, guards_of, plans_of, view, views, while_of}
+use Rattle.vc_occam.specs.Gates.{gate}
+use Rattle.vc_occam.specs.InOrder.{branch_layer, guard_layer, number, number_branch, number_guard}
+use Rattle.vc_occam.specs.Numbering.{Numbered, NumberedBranch, NumberedGuard, branch_sites, branches_from, guard_sites, guards_from, numbered, part_sites, parts_from}
+use Rattle.vc_occam.specs.ProcessLimits.{branches_in_order, guards_in_order, parts_in_order, in_order}
 use Rattle.vc_occam.specs.Remains.{Fresh}
-use Rattle.vc_occam.specs.Syntax.{Branches, Proc, Procs, COUNT, IF, SEQ, WHILE, branch, part}
+use Rattle.vc_occam.specs.Syntax.{Branches, Guards, Proc, Procs, ALT, COUNT, IF, SEQ, WHILE, branch, guard, part}
 use Rattle.vc_occam.specs.Terms.{exp, test}
-use Rattle.vc_occam.specs.Wholes.{branch_wholes_from, tests, whole_from, wholes_from}
-use Rattle.vc_occam.proofs.Numbers.{number_if, number_seq}
+use Rattle.vc_occam.specs.Wholes.{branch_wholes_from, gates, guard_wholes_from, tests, whole_from, wholes_from}
+use Rattle.vc_occam.proofs.Numbers.{number_alt, number_guard_out, number_if, number_seq}
 
 pub plans_wholes : (i : ℕ) (ns : List Numbered) → plans_of (wholes_from i ns) ≡ parts_from i ns
 plans_wholes i [] = refl
@@ -53,6 +58,59 @@ if_whole site p bs cs vs h e g =
     let ns = map number_branch bs in
     ap W (ap (branches_of (map test cs)) g ∙ ap (λ ts. branches_of ts (branch_wholes_from (site + 1) ns)) e ∙ branches_wholes (site + 1) ns ∙ ap (λ k. branches_from k ns) (add-one site)) ∙ ap (whole_from site) (sym (number_if p bs h))
 
+-- an ALT as it is numbered
+pub guards_wholes : (i : ℕ) (gs : List NumberedGuard) → guards_of (gates gs) (guard_wholes_from i gs) ≡ guards_from i gs
+guards_wholes i [] = refl
+guards_wholes i (g ∷ gs) = ap (guard g.when g.chan g.var (g.then_do.tree i)) (guards_wholes (i + g.then_do.sites) gs)
+
+pub alt_whole : (site : ℕ) (p : Process) (gs : List Guard) (hs : GuardedInputs) (xs : List GuardedInput) (vs : List View) → p ≡ process.Alt gs → hs.inputs ≡ xs → map gate xs ≡ gates (map number_guard gs) → vs ≡ guard_wholes_from (site + 1) (map number_guard gs) →
+    ◌≡◌ {A = View} (ALT site (guards_of (map gate hs.inputs) vs), Fresh (ALT site (guards_of (map gate hs.inputs) vs))) (whole_from site (number p))
+alt_whole site p gs hs xs vs h q e g =
+    let W : Guards → View = λ qs. (ALT site qs, Fresh (ALT site qs)) in
+    let ns = map number_guard gs in
+    ap W (ap (guards_of (map gate hs.inputs)) g ∙ ap (λ ts. guards_of ts (guard_wholes_from (site + 1) ns)) (ap (map gate) q ∙ e) ∙ guards_wholes (site + 1) ns ∙ ap (λ k. guards_from k ns) (add-one site)) ∙ ap (whole_from site) (sym (number_alt p gs h))
+
+-- each process has a site
+some_site : (l : layer.Process-F Numbered NumberedBranch NumberedGuard) → 1 ≤ (numbered l).sites
+some_site layer.Skip = omega arith
+some_site layer.Stop = omega arith
+some_site (layer.Set v a) = omega arith
+some_site (layer.Send c a) = omega arith
+some_site (layer.Receive c v) = omega arith
+some_site (layer.Stopch c) = omega arith
+some_site (layer.Seq ps) = omega arith
+some_site (layer.Par ps) = omega arith
+some_site (layer.If bs) = omega arith
+some_site (layer.While b p) = omega arith
+some_site (layer.Count v a n p) = omega arith
+some_site (layer.Alt gs) = omega arith
+
+has_site : (p : Process) → 1 ≤ (number p).sites
+unfolding number
+has_site p = subst (λ (n : Numbered). 1 ≤ n.sites) (sym (fold_out-Process Numbered NumberedBranch NumberedGuard numbered branch_layer guard_layer p)) (some_site _)
+
+guards_have_sites : (gs : List Guard) → length gs ≤ guard_sites (map number_guard gs)
+guards_have_sites [] = omega arith
+guards_have_sites (g ∷ gs) =
+    let s : 1 ≤ (number_guard g).then_do.sites = subst (λ (n : NumberedGuard). 1 ≤ n.then_do.sites) (sym (number_guard_out g)) (has_site (out-Guard g).body) in
+    let r = guards_have_sites gs in omega arith
+
+map_length : {X Y : Type 0} (f : X → Y) (xs : List X) → length (map f xs) ≡ length xs
+map_length f [] = refl
+map_length f (x ∷ xs) = ap suc (map_length f xs)
+
+gates_length : (ns : List NumberedGuard) → length (gates ns) ≡ length ns
+gates_length [] = refl
+gates_length (n ∷ ns) = ap suc (gates_length ns)
+
+-- an ALT whose sites have 16 bits has fewer guards than 65,536
+pub few_inputs : (site : ℕ) (p : Process) (gs : List Guard) (xs : List GuardedInput) → p ≡ process.Alt gs → map gate xs ≡ gates (map number_guard gs) → site + (number p).sites ≤ 65536 → length xs < 65536
+few_inputs site p gs xs h e l =
+    let s : site + suc (guard_sites (map number_guard gs)) ≤ 65536 = subst (λ (n : Numbered). site + n.sites ≤ 65536) (number_alt p gs h) l in
+    let m : length xs ≡ length gs = sym (map_length gate xs) ∙ ap length e ∙ gates_length (map number_guard gs) ∙ map_length number_guard gs in
+    let n = guards_have_sites gs in
+    omega arith
+
 -- a counted SEQ as it is numbered
 number_count : (p : Process) (v : ℕ) (a n : Expr) (q : Process) → p ≡ process.Count v a n q → number p ≡ numbered (layer.Count v a n (number q))
 unfolding number
@@ -71,35 +129,48 @@ and_right false b h = absurd (let z : false ≡ true = h in cc)
 
 -- one part more, or one branch
 pub part_made : (next later top : ℕ) (n : Numbered) (ns rest : List Numbered) (vs ws whole : List View) → ns ≡ n ∷ rest → later ≡ next + n.sites → ws ≡ vs ++ whole_from next n ∷ [] →
-    (parts_sequential (parts_from next ns) ≡ true) × (next + part_sites ns ≡ top) × (vs ++ wholes_from next ns ≡ whole) →
-    (parts_sequential (parts_from later rest) ≡ true) × (later + part_sites rest ≡ top) × (ws ++ wholes_from later rest ≡ whole)
+    (parts_in_order (parts_from next ns) ≡ true) × (next + part_sites ns ≡ top) × (vs ++ wholes_from next ns ≡ whole) →
+    (parts_in_order (parts_from later rest) ≡ true) × (later + part_sites rest ≡ top) × (ws ++ wholes_from later rest ≡ whole)
 part_made next later top n ns rest vs ws whole h e f (a, b, c) =
-    let s : (sequential (n.tree next) && parts_sequential (parts_from (next + n.sites) rest)) ≡ true = ap (λ xs. parts_sequential (parts_from next xs)) (sym h) ∙ a in
+    let s : (in_order (n.tree next) && parts_in_order (parts_from (next + n.sites) rest)) ≡ true = ap (λ xs. parts_in_order (parts_from next xs)) (sym h) ∙ a in
     let m : next + (n.sites + part_sites rest) ≡ top = ap (λ xs. next + part_sites xs) (sym h) ∙ b in (
-      ap (λ k. parts_sequential (parts_from k rest)) e ∙ and_right (sequential (n.tree next)) (parts_sequential (parts_from (next + n.sites) rest)) s,
+      ap (λ k. parts_in_order (parts_from k rest)) e ∙ and_right (in_order (n.tree next)) (parts_in_order (parts_from (next + n.sites) rest)) s,
       omega arith,
       (ap (λ us. us ++ wholes_from later rest) f ∙ append_assoc vs (whole_from next n ∷ []) (wholes_from later rest) ∙ ap (λ k. vs ++ whole_from next n ∷ wholes_from k rest) e
           ∙ ap (λ xs. vs ++ wholes_from next xs) (sym h) ∙ c),
     )
 
 pub branch_made : (next later top : ℕ) (n : NumberedBranch) (ns rest : List NumberedBranch) (vs ws whole : List View) → ns ≡ n ∷ rest → later ≡ next + n.then_do.sites → ws ≡ vs ++ whole_from next n.then_do ∷ [] →
-    (branches_sequential (branches_from next ns) ≡ true) × (next + branch_sites ns ≡ top) × (vs ++ branch_wholes_from next ns ≡ whole) →
-    (branches_sequential (branches_from later rest) ≡ true) × (later + branch_sites rest ≡ top) × (ws ++ branch_wholes_from later rest ≡ whole)
+    (branches_in_order (branches_from next ns) ≡ true) × (next + branch_sites ns ≡ top) × (vs ++ branch_wholes_from next ns ≡ whole) →
+    (branches_in_order (branches_from later rest) ≡ true) × (later + branch_sites rest ≡ top) × (ws ++ branch_wholes_from later rest ≡ whole)
 branch_made next later top n ns rest vs ws whole h e f (a, b, c) =
     let p = n.then_do in
-    let s : (sequential (p.tree next) && branches_sequential (branches_from (next + p.sites) rest)) ≡ true = ap (λ xs. branches_sequential (branches_from next xs)) (sym h) ∙ a in
+    let s : (in_order (p.tree next) && branches_in_order (branches_from (next + p.sites) rest)) ≡ true = ap (λ xs. branches_in_order (branches_from next xs)) (sym h) ∙ a in
     let m : next + (p.sites + branch_sites rest) ≡ top = ap (λ xs. next + branch_sites xs) (sym h) ∙ b in (
-      ap (λ k. branches_sequential (branches_from k rest)) e ∙ and_right (sequential (p.tree next)) (branches_sequential (branches_from (next + p.sites) rest)) s,
+      ap (λ k. branches_in_order (branches_from k rest)) e ∙ and_right (in_order (p.tree next)) (branches_in_order (branches_from (next + p.sites) rest)) s,
       omega arith,
       (ap (λ us. us ++ branch_wholes_from later rest) f ∙ append_assoc vs (whole_from next p ∷ []) (branch_wholes_from later rest) ∙ ap (λ k. vs ++ whole_from next p ∷ branch_wholes_from k rest) e
           ∙ ap (λ xs. vs ++ branch_wholes_from next xs) (sym h) ∙ c),
     )
 
+pub guard_made : (next later top : ℕ) (n : NumberedGuard) (ns rest : List NumberedGuard) (vs ws whole : List View) → ns ≡ n ∷ rest → later ≡ next + n.then_do.sites → ws ≡ vs ++ whole_from next n.then_do ∷ [] →
+    (guards_in_order (guards_from next ns) ≡ true) × (next + guard_sites ns ≡ top) × (vs ++ guard_wholes_from next ns ≡ whole) →
+    (guards_in_order (guards_from later rest) ≡ true) × (later + guard_sites rest ≡ top) × (ws ++ guard_wholes_from later rest ≡ whole)
+guard_made next later top n ns rest vs ws whole h e f (a, b, c) =
+    let p = n.then_do in
+    let s : (in_order (p.tree next) && guards_in_order (guards_from (next + p.sites) rest)) ≡ true = ap (λ xs. guards_in_order (guards_from next xs)) (sym h) ∙ a in
+    let m : next + (p.sites + guard_sites rest) ≡ top = ap (λ xs. next + guard_sites xs) (sym h) ∙ b in (
+      ap (λ k. guards_in_order (guards_from k rest)) e ∙ and_right (in_order (p.tree next)) (guards_in_order (guards_from (next + p.sites) rest)) s,
+      omega arith,
+      (ap (λ us. us ++ guard_wholes_from later rest) f ∙ append_assoc vs (whole_from next p ∷ []) (guard_wholes_from later rest) ∙ ap (λ k. vs ++ whole_from next p ∷ guard_wholes_from k rest) e
+          ∙ ap (λ xs. vs ++ guard_wholes_from next xs) (sym h) ∙ c),
+    )
+
 -- the body of a counted SEQ
-pub count_within : (p : Process) (v : ℕ) (a n : Expr) (q r : Process) (site : ℕ) → p ≡ process.Count v a n q → r ≡ q → sequential ((number p).tree site) ≡ true → site + (number p).sites ≤ 65536 → (sequential ((number r).tree (site + 1)) ≡ true) × (site + 1 + (number r).sites ≤ 65536)
+pub count_within : (p : Process) (v : ℕ) (a n : Expr) (q r : Process) (site : ℕ) → p ≡ process.Count v a n q → r ≡ q → in_order ((number p).tree site) ≡ true → site + (number p).sites ≤ 65536 → (in_order ((number r).tree (site + 1)) ≡ true) × (site + 1 + (number r).sites ≤ 65536)
 count_within p v a n q r site h e k l =
     let m = number_count p v a n q h in
-    let s : sequential ((number q).tree (suc site)) ≡ true = subst (λ (z : Numbered). sequential (z.tree site) ≡ true) m k in
+    let s : in_order ((number q).tree (suc site)) ≡ true = subst (λ (z : Numbered). in_order (z.tree site) ≡ true) m k in
     let t : site + suc (number q).sites ≤ 65536 = subst (λ (z : Numbered). site + z.sites ≤ 65536) m l in
     let u : site + 1 + (number q).sites ≤ 65536 = omega arith in
-    (ap (λ x. sequential ((number x).tree (site + 1))) e ∙ ap (λ j. sequential ((number q).tree j)) (add-one site) ∙ s, subst (λ x. site + 1 + (number x).sites ≤ 65536) (sym e) u)
+    (ap (λ x. in_order ((number x).tree (site + 1))) e ∙ ap (λ j. in_order ((number q).tree j)) (add-one site) ∙ s, subst (λ x. site + 1 + (number x).sites ≤ 65536) (sym e) u)

@@ -21,7 +21,8 @@ use Rattle.vc_occam.specs.Messages.{message}
 use Rattle.vc_occam.specs.Traces.{Comm, Out, Fin, In, Stp}
 use Rattle.vc_occam.specs.Values.{Store}
 use Rattle.vc_occam.specs.Remains.{Rest, Done, Stopped, Fresh, Finishing, Getting, Then, Turns, Beside, Lawful, Step, does_skip, does_empty_seq, does_empty_par, does_assign, faults_assign, faults_out, does_if, does_turn, does_leave, faults_while, does_count, does_count_none, faults_count, does_offer, does_finish, does_input, waits_input, gets, does_stop, does_choose, waits_choose, in_then, in_turns, in_left, in_right}
-use Rattle.vc_occam.specs.Frames.{Did, View, turn_of, turning, behind, follow, going_at, rest_at, view, views}
+use Rattle.vc_occam.specs.Gates.{Gate, gate}
+use Rattle.vc_occam.specs.Frames.{Did, View, awaiting, chosen_at, turn_of, turning, behind, follow, going_at, rest_at, view, views}
 use Rattle.vc_occam.specs.Moving.{site_of, deed_for, deed_on}
 use Rattle.vc_occam.specs.States.{State, Acts, Wants, Chooses, IsTraced, Resumes, StepsTo, bytes_or_none, came, carried, doing, output_at, sent_by, Waiting, output, input, waiting}
 use Rattle.vc_occam.proofs.Frames.{view_roll}
@@ -78,6 +79,24 @@ single_going kind.Seq i vs at h = single_follow (slice_get vs at) (behind kind.S
 single_going (kind.If bs) i vs at h = single_follow (slice_get vs at) (behind (kind.If bs) i vs at) (single_get vs at h)
 single_going (kind.Count v a n) i vs at h = tt
 single_going (kind.While b) i vs at h = single_follow (slice_get vs 0) (behind (kind.While b) i vs at) (single_get vs 0 h)
+single_going (kind.Alt gs) i vs at h = single_follow (slice_get vs at) (behind (kind.Alt gs) i vs at) (single_get vs at h)
+
+single_chosen : (i : ℕ) (g : Option Gate) (v : Option View) → Single (chosen_at i g v)
+single_chosen i None v = tt
+single_chosen i (Some g) v = tt
+
+single_awaiting : (k : Kind) (i : ℕ) (vs : List View) (at : ℕ) → Single (awaiting k i vs at)
+single_awaiting kind.Skip i vs at = tt
+single_awaiting kind.Stop i vs at = tt
+single_awaiting (kind.Set v a) i vs at = tt
+single_awaiting (kind.Send c a) i vs at = tt
+single_awaiting (kind.Receive c v) i vs at = tt
+single_awaiting (kind.Stopch c) i vs at = tt
+single_awaiting kind.Seq i vs at = tt
+single_awaiting (kind.If bs) i vs at = tt
+single_awaiting (kind.While b) i vs at = tt
+single_awaiting (kind.Count v a n) i vs at = tt
+single_awaiting (kind.Alt gs) i vs at = single_chosen i (slice_get (map gate gs.inputs) at) (slice_get vs at)
 
 single_turn : (v : ℕ) (vs : List View) (x y : ℤ) → AllSingle vs → Single (turn_of v vs x y)
 single_turn v [] x y h = tt
@@ -94,11 +113,13 @@ single_turning kind.Seq vs x y h = tt
 single_turning (kind.If bs) vs x y h = tt
 single_turning (kind.While b) vs x y h = tt
 single_turning (kind.Count v a n) vs x y h = single_turn v vs x y h
+single_turning (kind.Alt gs) vs x y h = tt
 
 single_phase : (ph : Phase) (k : Kind) (i : ℕ) (vs : List View) (at : ℕ) → AllSingle vs → Single (rest_at k ph i vs at)
 single_phase phase.Ready k i vs at h = tt
 single_phase phase.Waiting k i vs at h = single_going k i vs at h
 single_phase (phase.Turning x y) k i vs at h = single_turning k vs x y h
+single_phase phase.Chosen k i vs at h = single_awaiting k i vs at
 single_phase phase.Ended k i vs at h = tt
 single_phase phase.Stuck k i vs at h = tt
 

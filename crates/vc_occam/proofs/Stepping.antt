@@ -1,5 +1,5 @@
 -- How a part's step is a step of the process around it.
-use Rattle.std.proofs.Common.{◌≡◌, ℕ, zero, suc, ◌≤◌, ◌<◌, Bool, true, false, ◌&&◌, refl, ap, sym, ◌∙◌, subst, List, [], ◌∷◌, map, length, get_or, set, drop, arith, Option, Some, None}
+use Rattle.std.proofs.Common.{◌≡◌, ℕ, zero, suc, ◌≤◌, ◌<◌, Bool, true, false, ◌&&◌, ◌||◌, refl, ap, sym, ◌∙◌, subst, List, [], ◌∷◌, map, length, get_or, set, drop, arith, Option, Some, None}
 use Rattle.std.proofs.lemmas.Bool.Decides.{nat_tests}
 use Rattle.std.specs.Prelude.{slice_get, nat_lt, is_some, if◌then◌else◌}
 use Rattle.vc_occam.specs.declared.deed.Deed.{Deed}
@@ -8,12 +8,13 @@ use Rattle.vc_occam.specs.declared.kind.Kind.{Kind}
 use Rattle.vc_occam.specs.declared.kind.Kind.TheVariants as kind
 use Rattle.vc_occam.specs.declared.phase.Phase.{Phase}
 use Rattle.vc_occam.specs.declared.phase.Phase.TheVariants as phase
-use Rattle.vc_occam.specs.Syntax.{Exp, Test, Proc, STOP, SEQ, IF, WHILE, COUNT, Procs, no_parts, part, Branches, no_branches, branch, Constant}
+use Rattle.vc_occam.specs.Syntax.{Exp, Test, Proc, STOP, SEQ, IF, WHILE, COUNT, ALT, Procs, no_parts, part, Branches, no_branches, branch, Guards, no_guards, guard, Constant}
 use Rattle.vc_occam.specs.Terms.{exp, test}
-use Rattle.vc_occam.specs.Usage.{changes, changes_all, changes_branches}
+use Rattle.vc_occam.specs.Usage.{changes, changes_all, changes_branches, changes_guards, just}
 use Rattle.vc_occam.specs.Values.{Store}
 use Rattle.vc_occam.specs.Remains.{Rest, Done, Stopped, Fresh, Finishing, Getting, Then, Turns, Beside, and_then, then_on, in_then}
-use Rattle.vc_occam.specs.Frames.{Able, Did, HasVariables, PartHasVariables, View, assigned_at, begun_at, behind, branches_of, count_of, follow, follow_on, has_parts, is_done, on_part, part_assigned, part_done, part_rest, place_of, plan_at, plans, plans_of, rest_at, view, views, while_of}
+use Rattle.vc_occam.specs.Gates.{Gate, gate}
+use Rattle.vc_occam.specs.Frames.{Able, Did, HasVariables, PartHasVariables, View, assigned_at, begun_at, behind, branches_of, count_of, follow, follow_on, guards_of, has_parts, is_done, on_part, part_assigned, part_done, part_rest, place_of, plan_at, plans, plans_of, rest_at, view, views, while_of}
 use Rattle.vc_occam.specs.Nexts.{goes_further, seq_begun, seq_next}
 use Rattle.vc_occam.proofs.Beginning.{begun_plans}
 use Rattle.vc_occam.proofs.Frames.{going_part, follow_assigned}
@@ -76,6 +77,19 @@ unfolding count_by
 count_is i v a n [] = refl
 count_is i v a n (w ∷ vs) = refl
 
+guards_by : List Gate → List Proc → Guards
+guards_by [] [] = no_guards
+guards_by [] (p ∷ ps) = guard (Constant false) 0 0 p (guards_by [] ps)
+guards_by (g ∷ gs) [] = guard g.when g.chan g.var (STOP 0) (guards_by gs [])
+guards_by (g ∷ gs) (p ∷ ps) = guard g.when g.chan g.var p (guards_by gs ps)
+
+guards_is : (gs : List Gate) (vs : List View) → guards_of gs vs ≡ guards_by gs (plans vs)
+unfolding guards_by
+guards_is [] [] = refl
+guards_is [] (v ∷ vs) = ap (guard (Constant false) 0 0 v.0) (guards_is [] vs)
+guards_is (g ∷ gs) [] = ap (guard g.when g.chan g.var (STOP 0)) (guards_is gs [])
+guards_is (g ∷ gs) (v ∷ vs) = ap (guard g.when g.chan g.var v.0) (guards_is gs vs)
+
 pub same_plan : (k : Kind) (i : ℕ) (vs ws : List View) → plans ws ≡ plans vs → plan_at k i ws ≡ plan_at k i vs
 same_plan kind.Skip i vs ws h = refl
 same_plan kind.Stop i vs ws h = refl
@@ -87,6 +101,7 @@ same_plan kind.Seq i vs ws h = ap (SEQ i) (procs_is ws ∙ ap procs_of h ∙ sym
 same_plan (kind.If bs) i vs ws h = ap (IF i) (branches_is (map test bs) ws ∙ ap (branches_by (map test bs)) h ∙ sym (branches_is (map test bs) vs))
 same_plan (kind.While b) i vs ws h = while_is i (test b) ws ∙ ap (while_by i (test b)) h ∙ sym (while_is i (test b) vs)
 same_plan (kind.Count v a n) i vs ws h = count_is i v (exp a) (exp n) ws ∙ ap (count_by i v (exp a) (exp n)) h ∙ sym (count_is i v (exp a) (exp n) vs)
+same_plan (kind.Alt gs) i vs ws h = ap (ALT i) (guards_is (map gate gs.inputs) ws ∙ ap (guards_by (map gate gs.inputs)) h ∙ sym (guards_is (map gate gs.inputs) vs))
 
 drop_plans : (k : ℕ) (vs : List View) → plans (drop k vs) ≡ drop k (plans vs)
 drop_plans zero vs = refl
@@ -104,6 +119,7 @@ same_behind kind.Seq i vs ws at h =
     procs_is (drop (suc at) ws) ∙ ap procs_of (drop_plans (suc at) ws ∙ ap (drop (suc at)) h ∙ sym (drop_plans (suc at) vs)) ∙ sym (procs_is (drop (suc at) vs))
 same_behind (kind.If bs) i vs ws at h = refl
 same_behind (kind.Count v a n) i vs ws at h = refl
+same_behind (kind.Alt gs) i vs ws at h = refl
 same_behind (kind.While b) i vs ws at h = ap (λ p. part p no_parts) (same_plan (kind.While b) i vs ws h)
 
 some_plans : (vs : List View) (k : ℕ) → is_some (slice_get vs k) ≡ is_some (slice_get (plans vs) k)
@@ -140,6 +156,20 @@ while_variables : (i : ℕ) (b : Test) (vs : List View) (n : ℕ) → HasVariabl
 while_variables i b [] n h = tt
 while_variables i b (v ∷ vs) n h = h
 
+in_body : (v : ℕ) (p : Proc) (gs : Guards) (w : ℕ) → changes p w ≡ true → changes_guards (guard (Constant false) 0 v p gs) w ≡ true
+in_body v p gs w k = or_left (just v w || changes p w) (changes_guards gs w) (or_right (just v w) (changes p w) k)
+
+in_later : (v : ℕ) (p : Proc) (gs : Guards) (w : ℕ) → changes_guards gs w ≡ true → changes_guards (guard (Constant false) 0 v p gs) w ≡ true
+in_later v p gs w k = or_right (just v w || changes p w) (changes_guards gs w) k
+
+guard_variables : (gs : List Gate) (vs : List View) (at n : ℕ) → ((v : ℕ) → changes_guards (guards_of gs vs) v ≡ true → v < n) → PartHasVariables (slice_get vs at) n
+guard_variables [] [] at n h = tt
+guard_variables (g ∷ gs) [] at n h = tt
+guard_variables [] (v ∷ vs) zero n h = λ w k. h w (in_body 0 v.0 (guards_of [] vs) w k)
+guard_variables [] (v ∷ vs) (suc at) n h = guard_variables [] vs at n (λ w k. h w (in_later 0 v.0 (guards_of [] vs) w k))
+guard_variables (g ∷ gs) (v ∷ vs) zero n h = λ w k. h w (in_body g.var v.0 (guards_of gs vs) w k)
+guard_variables (g ∷ gs) (v ∷ vs) (suc at) n h = guard_variables gs vs at n (λ w k. h w (in_later g.var v.0 (guards_of gs vs) w k))
+
 place_variables : (k : Kind) (i : ℕ) (vs : List View) (at n : ℕ) → has_parts k ≡ true → HasVariables (plan_at k i vs) n → PartHasVariables (slice_get vs (place_of k at)) n
 place_variables kind.Skip i vs at n h g = absurd (let z : false ≡ true = h in cc)
 place_variables kind.Stop i vs at n h g = absurd (let z : false ≡ true = h in cc)
@@ -151,6 +181,7 @@ place_variables kind.Seq i vs at n h g = all_variables vs at n g
 place_variables (kind.If bs) i vs at n h g = branch_variables (map test bs) vs at n g
 place_variables (kind.Count v a m) i vs at n h g = absurd (let z : false ≡ true = h in cc)
 place_variables (kind.While b) i vs at n h g = while_variables i (test b) vs n g
+place_variables (kind.Alt gs) i vs at n h g = guard_variables (map gate gs.inputs) vs at n g
 
 pub within_variables : (k : Kind) (i : ℕ) (vs : List View) (at p n : ℕ) → has_parts k ≡ true → p ≡ place_of k at → HasVariables (plan_at k i vs) n → PartHasVariables (slice_get vs p) n
 within_variables k i vs at p n h e g = subst (λ q. PartHasVariables (slice_get vs q) n) (sym e) (place_variables k i vs at n h g)
@@ -173,6 +204,9 @@ phase_did k i ph q vs at e f s d r h a = subst (λ x. Did (rest_at k x i vs at) 
 pub never : (r q : Rest) (e f : Store) (s : ℕ) (d : Deed) → Able Stopped e s d → Did r e s d q f
 never r q e f s d (ks, p, g, st) = elim st [ ]
 
+pub never_there : (r q : Rest) (e f : Store) (s : ℕ) (d : Deed) → Able (Fresh (STOP 0)) e s d → Did r e s d q f
+never_there r q e f s d (ks, p, g, st) = elim st [ ]
+
 pub never_done : (r q : Rest) (e f : Store) (s : ℕ) (d : Deed) → Able Done e s d → Did r e s d q f
 never_done r q e f s d (ks, p, g, st) = elim st [ ]
 
@@ -187,6 +221,7 @@ alone_variables (kind.Stopch c) i vs n h g = g
 alone_variables kind.Seq i vs n h g = absurd (let z : true ≡ false = h in cc)
 alone_variables (kind.If bs) i vs n h g = absurd (let z : true ≡ false = h in cc)
 alone_variables (kind.While b) i vs n h g = absurd (let z : true ≡ false = h in cc)
+alone_variables (kind.Alt gs) i vs n h g = absurd (let z : true ≡ false = h in cc)
 alone_variables (kind.Count v a m) i vs n h g = λ w k. absurd (let z : false ≡ true = k in cc)
 
 -- one frame of a list

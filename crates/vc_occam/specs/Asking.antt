@@ -37,11 +37,10 @@ abbrev mutual
   in_guards a no_guards = true
   in_guards a (guard t c v p gs) = a.condition t && a.channel c && a.variable v && everywhere a p && in_guards a gs
 
--- it is no PAR and no ALT
-abbrev pub sequential_itself : Proc → Bool
-sequential_itself (PAR i ps) = false
-sequential_itself (ALT i gs) = false
-sequential_itself p = true
+-- it is no PAR
+abbrev pub in_order_itself : Proc → Bool
+in_order_itself (PAR i ps) = false
+in_order_itself p = true
 
 -- its expressions have at most this depth
 abbrev pub within_itself : ℕ → Proc → Bool
@@ -76,7 +75,7 @@ keeps_itself v p = true
 
 -- each question, of a node with variables of these kinds
 abbrev pub asking : Asked → List ValueKind → Asking
-asking asked.Sequential kinds = record { condition = λ t. true; channel = λ c. true; variable = λ v. true; itself = sequential_itself }
+asking asked.InOrder kinds = record { condition = λ t. true; channel = λ c. true; variable = λ v. true; itself = in_order_itself }
 asking (asked.Expressions n) kinds = record { condition = λ t. test_within t n; channel = λ c. true; variable = λ v. true; itself = within_itself n }
 asking asked.Length kinds = record { condition = λ t. true; channel = λ c. true; variable = λ v. true; itself = in_length_itself }
 asking (asked.Names n) kinds =

@@ -39,7 +39,3 @@ abbrev mutual
   pub uses_of_bodies : List ValueKind → Guards → List ChannelUse
   uses_of_bodies kinds no_guards = []
   uses_of_bodies kinds (guard t c v p gs) = channel_uses kinds p ++ uses_of_bodies kinds gs
-
-abbrev pub use_list : Option ChannelUse → List ChannelUse
-use_list None = []
-use_list (Some u) = u ∷ []

@@ -1,5 +1,5 @@
 -- What the running code stands for: a tree of frames, each with the process that was written and what remains of it.
-use Rattle.std.specs.Prelude.{◌≡◌, ℕ, zero, suc, ℤ, pos, ◌+ℤ◌, ◌-ℤ◌, int_lt, Bool, true, false, List, [], ◌∷◌, ◌<◌, nat_le, map, drop, slice_get, Option, Some, None, if◌then◌else◌}
+use Rattle.std.specs.Prelude.{◌≡◌, ℕ, zero, suc, ℤ, pos, ◌+ℤ◌, ◌-ℤ◌, int_lt, Bool, true, false, not, List, [], ◌∷◌, ◌++◌, ◌<◌, nat_le, map, drop, slice_get, Option, Some, None, if◌then◌else◌}
 use lib.Signed.{mag}
 use Rattle.vc_occam.specs.declared.kind.Kind.{Kind}
 use Rattle.vc_occam.specs.declared.kind.Kind.TheVariants as kind
@@ -17,11 +17,12 @@ use Rattle.vc_occam.specs.declared.waits.Waits.TheVariants as waits
 use Rattle.vc_occam.specs.Values.{Store, datum_of, holds}
 use Rattle.vc_occam.specs.Traces.{Comm}
 use Rattle.vc_occam.specs.Usage.{changes}
-use Rattle.vc_occam.specs.Syntax.{Exp, Test, Constant, Proc, SKIP, STOP, Assign, Output, Input, StopChan, SEQ, IF, WHILE, COUNT, Procs, no_parts, part, Branches, no_branches, branch}
+use Rattle.vc_occam.specs.Syntax.{Exp, Test, Constant, Proc, SKIP, STOP, Assign, Output, Input, StopChan, SEQ, IF, WHILE, COUNT, ALT, Procs, no_parts, part, Branches, no_branches, branch, Guards, no_guards, guard}
 use Rattle.vc_occam.specs.Terms.{exp, given, test}
 use Rattle.vc_occam.specs.Remains.{Rest, Done, Stopped, Fresh, Finishing, Getting, Then, Turns, and_then, then_on, begin, Step}
 use Rattle.vc_occam.specs.States.{Waiting, output, input, waiting, output_at}
 use Rattle.vc_occam.specs.First.{own}
+use Rattle.vc_occam.specs.Gates.{Gate, gate}
 
 -- a process that was written, and what remains of it
 abbrev pub View : Type 0
@@ -45,6 +46,18 @@ abbrev pub count_of : ℕ → ℕ → Exp → Exp → List View → Proc
 count_of i v a n [] = STOP i
 count_of i v a n (w ∷ vs) = COUNT i v a n w.0
 
+-- a part that isn't there is STOP
+abbrev pub part_plan : Option View → Proc
+part_plan None = STOP 0
+part_plan (Some v) = v.0
+
+-- a body without a guard is never taken
+abbrev pub guards_of : List Gate → List View → Guards
+guards_of [] [] = no_guards
+guards_of [] (v ∷ vs) = guard (Constant false) 0 0 v.0 (guards_of [] vs)
+guards_of (g ∷ gs) [] = guard g.when g.chan g.var (STOP 0) (guards_of gs [])
+guards_of (g ∷ gs) (v ∷ vs) = guard g.when g.chan g.var v.0 (guards_of gs vs)
+
 abbrev pub plan_at : Kind → ℕ → List View → Proc
 plan_at kind.Skip i vs = SKIP i
 plan_at kind.Stop i vs = STOP i
@@ -56,6 +69,7 @@ plan_at kind.Seq i vs = SEQ i (plans_of vs)
 plan_at (kind.If bs) i vs = IF i (branches_of (map test bs) vs)
 plan_at (kind.While b) i vs = while_of i (test b) vs
 plan_at (kind.Count v a n) i vs = count_of i v (exp a) (exp n) vs
+plan_at (kind.Alt gs) i vs = ALT i (guards_of (map gate gs.inputs) vs)
 
 -- what comes behind the part that a process is at: the later parts of a SEQ, or a WHILE again
 abbrev pub behind : Kind → ℕ → List View → ℕ → Procs
@@ -63,14 +77,19 @@ behind kind.Seq i vs k = plans_of (drop (suc k) vs)
 behind (kind.While b) i vs k = part (while_of i (test b) vs) no_parts
 behind p i vs k = no_parts
 
--- the part that goes on, and what comes behind it
 -- it is a counted SEQ
 abbrev pub is_counted : Kind → Bool
 is_counted (kind.Count v a n) = true
 is_counted k = false
 
+-- it is an ALT
+abbrev pub is_choice : Kind → Bool
+is_choice (kind.Alt gs) = true
+is_choice k = false
+
+-- the part that goes on, and what comes behind it
 abbrev pub follow : Option View → Procs → Rest
-follow None ps = Stopped
+follow None ps = Fresh (STOP 0)
 follow (Some v) ps = and_then v.1 ps
 
 -- it goes on at one of its parts; a counted SEQ goes on by turns of its body
@@ -78,6 +97,7 @@ abbrev pub has_parts : Kind → Bool
 has_parts kind.Seq = true
 has_parts (kind.If bs) = true
 has_parts (kind.While b) = true
+has_parts (kind.Alt gs) = true
 has_parts p = false
 
 -- the part that a process is at; a WHILE has one only
@@ -92,6 +112,7 @@ going_at (kind.Receive c v) i vs k = Getting i c v
 going_at kind.Seq i vs k = follow (slice_get vs k) (behind kind.Seq i vs k)
 going_at (kind.If bs) i vs k = follow (slice_get vs k) (behind (kind.If bs) i vs k)
 going_at (kind.While b) i vs k = follow (slice_get vs 0) (behind (kind.While b) i vs k)
+going_at (kind.Alt gs) i vs k = follow (slice_get vs k) (behind (kind.Alt gs) i vs k)
 going_at p i vs k = Stopped
 
 -- the turns behind the one with index x, where y is the last index
@@ -111,18 +132,29 @@ turning k vs x y = Stopped
 abbrev pub is_last : Kind → ℕ → ℕ → Bool
 is_last kind.Seq k n = nat_le n (suc k)
 is_last (kind.If bs) k n = true
+is_last (kind.Alt gs) k n = true
 is_last p k n = false
 
+-- an ALT that took its k-th guard and waits for the message; then the guard's body begins
+abbrev pub chosen_at : ℕ → Option Gate → Option View → Rest
+chosen_at i None v = Stopped
+chosen_at i (Some g) v = Then (Getting i g.chan g.var) (part (part_plan v) no_parts)
+
+abbrev pub awaiting : Kind → ℕ → List View → ℕ → Rest
+awaiting (kind.Alt gs) i vs k = chosen_at i (slice_get (map gate gs.inputs) k) (slice_get vs k)
+awaiting p i vs k = Stopped
+
 -- what remains of a process that is so far
-abbrev pub so_far : Phase → Proc → Rest → (ℤ → ℤ → Rest) → Rest
-so_far phase.Ready p r t = Fresh p
-so_far phase.Waiting p r t = r
-so_far (phase.Turning x y) p r t = t x y
-so_far phase.Ended p r t = Done
-so_far phase.Stuck p r t = Stopped
+abbrev pub so_far : Phase → Proc → Rest → Rest → (ℤ → ℤ → Rest) → Rest
+so_far phase.Ready p r w t = Fresh p
+so_far phase.Waiting p r w t = r
+so_far (phase.Turning x y) p r w t = t x y
+so_far phase.Chosen p r w t = w
+so_far phase.Ended p r w t = Done
+so_far phase.Stuck p r w t = Stopped
 
 abbrev pub rest_at : Kind → Phase → ℕ → List View → ℕ → Rest
-rest_at k ph i vs at = so_far ph (plan_at k i vs) (going_at k i vs at) (turning k vs)
+rest_at k ph i vs at = so_far ph (plan_at k i vs) (going_at k i vs at) (awaiting k i vs at) (turning k vs)
 
 -- one frame, with what its parts stand for in their place
 unfoldable pub view_step : Frame-F View → View
@@ -158,7 +190,7 @@ assigned_at r e = None
 
 -- the moves of a part, what it waits for, the value that it outputs or assigns
 abbrev pub part_rest : Option View → Rest
-part_rest None = Stopped
+part_rest None = Fresh (STOP 0)
 part_rest (Some v) = v.1
 
 abbrev pub part_own : Option View → Store → List Move
@@ -181,13 +213,19 @@ abbrev pub listed : Option Move → List Move
 listed None = []
 listed (Some m) = m ∷ []
 
--- a move that needs no channel inside the node
-abbrev pub outside : (ℕ → Bool) → Option Move → Option Move
-outside inside None = None
-outside inside (Some (move.Offer i c)) = if inside c then None else Some (move.Offer i c)
-outside inside (Some (move.Want i c)) = if inside c then None else Some (move.Want i c)
-outside inside (Some (move.Choose i k c)) = if inside c then None else Some (move.Choose i k c)
-outside inside (Some m) = Some m
+-- it needs no channel inside the node
+abbrev pub is_outside : (ℕ → Bool) → Move → Bool
+is_outside inside (move.Offer i c) = not (inside c)
+is_outside inside (move.Want i c) = not (inside c)
+is_outside inside (move.Choose i k c) = not (inside c)
+is_outside inside (move.Stopch i c) = true
+is_outside inside (move.Inner i j k c) = true
+is_outside inside (move.Quiet i) = true
+
+-- the moves that need none
+abbrev pub outside : (ℕ → Bool) → List Move → List Move
+outside inside [] = []
+outside inside (m ∷ ms) = (if is_outside inside m then (m ∷ []) else []) ++ outside inside ms
 
 -- what one site waits for
 abbrev pub waits_list : Option Waits → List Waiting
@@ -242,7 +280,7 @@ on_part r (part p ps) = then_on r (part p ps)
 
 -- the same of a part, where there is one
 abbrev pub follow_on : Option View → Procs → Rest
-follow_on None ps = Stopped
+follow_on None ps = Fresh (STOP 0)
 follow_on (Some v) ps = on_part v.1 ps
 
 -- the processes that were written

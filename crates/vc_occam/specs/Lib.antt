@@ -2,6 +2,7 @@ pub mod Asking
 pub mod ChannelUses
 pub mod First
 pub mod Frames
+pub mod Gates
 pub mod InOrder
 pub mod Indexes
 pub mod Lawful

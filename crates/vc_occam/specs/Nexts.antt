@@ -1,10 +1,12 @@
 -- How far a frame is after what its site did.
-use Rattle.std.specs.Prelude.{ℕ, zero, suc, ℤ, pos, negsuc, ◌+ℤ◌, int_lt, Bool, true, false, ◌&&◌, List, length, nat_lt, slice_get, Option, Some, None, if◌then◌else◌}
+use Rattle.std.specs.Prelude.{ℕ, zero, suc, ℤ, pos, negsuc, ◌+ℤ◌, int_lt, ◌<◌, Bool, true, false, ◌&&◌, List, length, nat_lt, slice_get, Option, Some, None, if◌then◌else◌}
 use Rattle.vc_occam.specs.declared.datum.Datum.TheVariants as datum
 use Rattle.vc_occam.specs.declared.phase.Phase.{Phase}
 use Rattle.vc_occam.specs.declared.phase.Phase.TheVariants as phase
 use Rattle.vc_occam.specs.declared.going.Next.{Next}
 use Rattle.vc_occam.specs.Frames.{View, begun_at, part_done}
+use Rattle.vc_occam.specs.Gates.{Gate}
+use Rattle.vc_occam.specs.Messages.{received}
 use Rattle.vc_occam.specs.Traces.{set}
 use Rattle.vc_occam.specs.Values.{Store, within}
 
@@ -65,3 +67,38 @@ turn_views true x y vs = if int_lt x y then begun_at 0 vs else vs
 abbrev pub turn_store : Bool → ℕ → ℤ → ℤ → Store → Store
 turn_store false v x y e = e
 turn_store true v x y e = if int_lt x y then set e v (datum.Int (x +ℤ pos 1)) else e
+
+-- an ALT takes its k-th guard: with the message its variable takes it and its body begins, else it waits
+abbrev pub choice_next : Option (List ℕ) → ℕ → Next
+choice_next (Some m) k = record { phase = phase.Waiting; at = k }
+choice_next None k = record { phase = phase.Chosen; at = k }
+
+abbrev pub choice_begun : Option (List ℕ) → ℕ → List View → List View
+choice_begun (Some m) k vs = begun_at k vs
+choice_begun None k vs = vs
+
+abbrev pub choice_store : Option (List ℕ) → ℕ → Store → Store
+choice_store (Some m) v e = set e v (received (e v) m)
+choice_store None v e = e
+
+-- it never goes on
+abbrev pub stuck_next : Next
+stuck_next = record { phase = phase.Stuck; at = 0 }
+
+-- the same of a guard, where there is one
+abbrev pub gate_next : Option Gate → Option (List ℕ) → ℕ → Next
+gate_next None o k = stuck_next
+gate_next (Some g) o k = choice_next o k
+
+abbrev pub gate_begun : Option Gate → Option (List ℕ) → ℕ → List View → List View
+gate_begun None o k vs = vs
+gate_begun (Some g) o k vs = choice_begun o k vs
+
+abbrev pub gate_store : Option Gate → Option (List ℕ) → Store → Store
+gate_store None o e = e
+gate_store (Some g) o e = choice_store o g.var e
+
+-- its variable is among so many
+abbrev pub GateHasVariable : Option Gate → ℕ → Type 0
+GateHasVariable None n = Unit {0}
+GateHasVariable (Some g) n = g.var < n

@@ -127,31 +127,25 @@ abbrev mutual
   guards_names_fit (guard t c v p gs) kinds n =
       test_fits t kinds && nat_lt c n && nat_lt v (length kinds) && names_fit p kinds n && guards_names_fit gs kinds n
 
--- no process in it runs beside another, and none waits for one of several: no PAR and no ALT
+-- no process in it runs beside another: no PAR
 abbrev mutual
-  pub sequential : Proc → Bool
-  sequential (SEQ i ps) = parts_sequential ps
-  sequential (PAR i ps) = false
-  sequential (IF i bs) = branches_sequential bs
-  sequential (WHILE i t p) = sequential p
-  sequential (COUNT i v a k p) = sequential p
-  sequential (ALT i gs) = false
-  sequential p = true
+  pub in_order : Proc → Bool
+  in_order (SEQ i ps) = parts_in_order ps
+  in_order (PAR i ps) = false
+  in_order (IF i bs) = branches_in_order bs
+  in_order (WHILE i t p) = in_order p
+  in_order (COUNT i v a k p) = in_order p
+  in_order (ALT i gs) = guards_in_order gs
+  in_order p = true
 
-  pub parts_sequential : Procs → Bool
-  parts_sequential no_parts = true
-  parts_sequential (part p ps) = sequential p && parts_sequential ps
+  pub parts_in_order : Procs → Bool
+  parts_in_order no_parts = true
+  parts_in_order (part p ps) = in_order p && parts_in_order ps
 
-  pub branches_sequential : Branches → Bool
-  branches_sequential no_branches = true
-  branches_sequential (branch t p bs) = sequential p && branches_sequential bs
+  pub branches_in_order : Branches → Bool
+  branches_in_order no_branches = true
+  branches_in_order (branch t p bs) = in_order p && branches_in_order bs
 
--- the words that run today: processes without parts
-abbrev pub runs_today : Proc → Bool
-runs_today (SKIP i) = true
-runs_today (STOP i) = true
-runs_today (Assign i v a) = true
-runs_today (Output i c a) = true
-runs_today (Input i c v) = true
-runs_today (StopChan i c) = true
-runs_today p = false
+  pub guards_in_order : Guards → Bool
+  guards_in_order no_guards = true
+  guards_in_order (guard t c v p gs) = in_order p && guards_in_order gs

@@ -1,6 +1,7 @@
 -- The frames of a process that hasn't begun.
 use Rattle.std.specs.Prelude.{ℕ, ◌+◌, List, [], ◌∷◌}
-use Rattle.vc_occam.specs.Numbering.{Numbered, NumberedBranch}
+use Rattle.vc_occam.specs.Gates.{Gate}
+use Rattle.vc_occam.specs.Numbering.{Numbered, NumberedBranch, NumberedGuard}
 use Rattle.vc_occam.specs.Syntax.{Test}
 use Rattle.vc_occam.specs.Remains.{Fresh}
 use Rattle.vc_occam.specs.Frames.{View}
@@ -22,3 +23,12 @@ branch_wholes_from i (b ∷ bs) = whole_from i b.then_do ∷ branch_wholes_from 
 abbrev pub tests : List NumberedBranch → List Test
 tests [] = []
 tests (b ∷ bs) = b.when ∷ tests bs
+
+-- guards, likewise, and what they test and input
+abbrev pub guard_wholes_from : ℕ → List NumberedGuard → List View
+guard_wholes_from i [] = []
+guard_wholes_from i (g ∷ gs) = whole_from i g.then_do ∷ guard_wholes_from (i + g.then_do.sites) gs
+
+abbrev pub gates : List NumberedGuard → List Gate
+gates [] = []
+gates (g ∷ gs) = record { when = g.when; chan = g.chan; var = g.var } ∷ gates gs

@@ -1,6 +1,6 @@
 //! What is asked of each process within a process.
 ghost use Rattle.std.specs.Prelude.{◌≡◌, ◌&&◌, ℕ, map};
-ghost use Rattle.vc_occam.specs.Asking.{asking, everywhere as is_everywhere, in_branches as is_in_branches, in_guards as is_in_guards, in_length_itself, in_parts as is_in_parts, keeps_itself as does_keep, names_itself, sequential_itself, within_itself};
+ghost use Rattle.vc_occam.specs.Asking.{asking, everywhere as is_everywhere, in_branches as is_in_branches, in_guards as is_in_guards, in_length_itself, in_parts as is_in_parts, keeps_itself as does_keep, names_itself, in_order_itself, within_itself};
 ghost use Rattle.vc_occam.specs.InOrder.{number, number_branch, number_guard};
 ghost use Rattle.vc_occam.specs.Numbering.{branches_from, guards_from, parts_from};
 ghost use Rattle.vc_occam.specs.ProcessLimits.{test_within, test_fits};
@@ -15,8 +15,8 @@ use sqlite_items::Items;
 /// A question.
 #[derive(Clone, Copy, Debug, PartialEq, Eq, Drop)]
 pub(crate) enum Asked {
-    /// Is it no PAR and no ALT?
-    Sequential,
+    /// Is it no PAR?
+    InOrder,
     /// Have its expressions at most this depth?
     Expressions { depth: u32 },
     /// Has its message at most 65,535 bytes?
@@ -63,12 +63,12 @@ impl Cond {
     }
 }
 
-/// Whether it is no PAR and no ALT.
+/// Whether it is no PAR.
 #[tactic(auto, unfolding(crate::specs::InOrder::number))]
-fn is_sequential_itself(process: &Process) -> bool
-    ensures { (site : ℕ) → result ≡ sequential_itself ((number process.now).tree site) }
+fn is_in_order_itself(process: &Process) -> bool
+    ensures { (site : ℕ) → result ≡ in_order_itself ((number process.now).tree site) }
 {
-    !matches!(process, Process::Par(_) | Process::Alt(_))
+    !matches!(process, Process::Par(_))
 }
 
 /// Whether its own expressions have at most this depth.
@@ -138,7 +138,7 @@ impl Asked {
         ensures { (site : ℕ) → result ≡ (asking self kinds.now).itself ((number process.now).tree site) }
     {
         match self {
-            Asked::Sequential => is_sequential_itself(process),
+            Asked::InOrder => is_in_order_itself(process),
             Asked::Expressions { depth } => is_within_itself(process, depth),
             Asked::Length => is_in_length_itself(process),
             Asked::Names { channels } => fits_itself(process, kinds, channels),

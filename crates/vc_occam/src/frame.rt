@@ -1,6 +1,6 @@
 //! Processes that run: a tree of frames, each with its parts and how far it is.
 ghost use Rattle.std.specs.Prelude.{◌≡◌, slice_get};
-ghost use Rattle.vc_occam.specs.Frames.{begun_parts, begun_phase, is_counted, has_parts as is_composed, is_done, is_last as nothing_behind, part_done, place_of, view, views};
+ghost use Rattle.vc_occam.specs.Frames.{begun_parts, begun_phase, is_choice, is_counted, has_parts as is_composed, is_done, is_last as nothing_behind, part_done, place_of, view, views};
 ghost use Rattle.vc_occam.specs.Remains.{begin};
 
 use crate::kind::Kind;
@@ -25,6 +25,7 @@ impl Kind {
             Kind::Seq => true,
             Kind::If { .. } => true,
             Kind::While { .. } => true,
+            Kind::Alt { .. } => true,
             _ => false,
         }
     }
@@ -34,6 +35,13 @@ impl Kind {
         ensures { result ≡ is_counted self.now }
     {
         matches!(self, Kind::Count { .. })
+    }
+
+    /// Whether it is an ALT.
+    pub(crate) fn is_choice(&self) -> bool
+        ensures { result ≡ is_choice self.now }
+    {
+        matches!(self, Kind::Alt { .. })
     }
 
     /// The part that a process is at; a WHILE has one only.
@@ -53,6 +61,7 @@ impl Kind {
         match self {
             Kind::Seq => at >= count || count - at == 1,
             Kind::If { .. } => true,
+            Kind::Alt { .. } => true,
             _ => false,
         }
     }
@@ -72,6 +81,7 @@ impl Frame {
             }
             Phase::Ready => false,
             Phase::Turning { .. } => false,
+            Phase::Chosen => false,
             Phase::Stuck => false,
         }
     }

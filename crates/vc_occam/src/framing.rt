@@ -2,17 +2,19 @@
 ghost use Rattle.std.specs.Prelude.{◌≡◌, ◌+◌, ◌≤◌, ◌<◌, IfOk, map, true};
 ghost use Rattle.vc_occam.specs.Frames.{plan_at, view, views};
 ghost use Rattle.vc_occam.specs.Remains.{Fresh, begin};
-ghost use Rattle.vc_occam.specs.Wholes.{branch_wholes_from, tests, whole_from, wholes_from};
-ghost use Rattle.vc_occam.specs.InOrder.{number, number_branch};
-ghost use Rattle.vc_occam.specs.Numbering.{branch_sites, branches_from, part_sites, parts_from, written};
-ghost use Rattle.vc_occam.specs.ProcessLimits.{branches_sequential, parts_sequential, sequential};
+ghost use Rattle.vc_occam.specs.Wholes.{branch_wholes_from, gates, guard_wholes_from, tests, whole_from, wholes_from};
+ghost use Rattle.vc_occam.specs.Gates.{gate};
+ghost use Rattle.vc_occam.specs.InOrder.{number, number_branch, number_guard};
+ghost use Rattle.vc_occam.specs.Numbering.{branch_sites, branches_from, guard_sites, guards_from, part_sites, parts_from, written};
+ghost use Rattle.vc_occam.specs.ProcessLimits.{branches_in_order, guards_in_order, in_order, parts_in_order};
 ghost use Rattle.vc_occam.specs.Terms.{test};
 
 use crate::condition::Cond;
 use crate::frame::Frame;
+use crate::guarded::{GuardedInput, GuardedInputs};
 use crate::kind::Kind;
 use crate::phase::Phase;
-use crate::process::{Branch, Process};
+use crate::process::{Branch, Guard, Process};
 use sqlite_items::Items;
 use std::alloc::Global;
 use vc_packets::Memory;
@@ -51,9 +53,9 @@ fn with_parts(site: u32, kind: Kind, parts: Vec<Frame>, next: u32) -> Framed
 
 /// The frame of a process that is about to begin, its sites being numbered from this one on.
 #[cycle(framing)]
-#[tactic(auto, unfolding(crate::specs::InOrder::number, crate::specs::InOrder::number_branch))]
+#[tactic(auto, unfolding(crate::specs::InOrder::number, crate::specs::InOrder::number_branch, crate::specs::InOrder::number_guard))]
 pub(crate) fn frame_of(alloc: Global, process: &Process, site: u32) -> Result<Framed, Memory>
-    requires sequential { sequential ((number process.now).tree site) ≡ true }
+    requires in_order { in_order ((number process.now).tree site) ≡ true }
     requires sites { site + (number process.now).sites ≤ 65536 }
     ensures frame { IfOk result (λ made. view made.frame ≡ whole_from site (number process.now)) }
     ensures next { IfOk result (λ made. made.next ≡ site + (number process.now).sites) }
@@ -128,7 +130,13 @@ pub(crate) fn frame_of(alloc: Global, process: &Process, site: u32) -> Result<Fr
             let count = count.copy(alloc)?;
             Ok(with_parts(site, Kind::Count { var, base, count }, parts, made.next))
         }
-        _ => unreachable!(),
+        Process::Alt(guards) => {
+            let inputs = inputs_of(alloc, guards)?;
+            let made = frames_of_guards(alloc, guards, site + 1)?;
+            let guards = GuardedInputs::new(inputs);
+            Ok(with_parts(site, Kind::Alt { guards }, made.parts, made.next))
+        }
+        Process::Par(_) => unreachable!(),
     }
 }
 
@@ -144,6 +152,49 @@ fn conds_of(alloc: Global, branches: &Items<Branch>) -> Result<Items<Cond>, Memo
     Ok(conds)
 }
 
+/// What guards test and input.
+#[tactic(auto, unfolding(crate::specs::InOrder::number, crate::specs::InOrder::number_guard))]
+fn inputs_of(alloc: Global, guards: &Items<Guard>) -> Result<Items<GuardedInput>, Memory>
+    ensures { IfOk result (λ inputs. map gate inputs ≡ gates (map number_guard guards.now)) }
+{
+    let mut inputs = Items::new(alloc);
+    for guard in guards.as_slice() {
+        let cond = guard.cond.copy(alloc)?;
+        inputs.push(GuardedInput {
+            cond,
+            chan: guard.chan,
+            var: guard.var,
+        })?;
+    }
+    Ok(inputs)
+}
+
+/// The frames of guards' bodies that are about to begin.
+#[cycle(framing)]
+#[tactic(auto, unfolding(crate::specs::InOrder::number, crate::specs::InOrder::number_guard))]
+fn frames_of_guards(
+    alloc: Global,
+    guards: &Items<Guard>,
+    site: u32,
+) -> Result<FramedParts, Memory>
+    requires in_order { guards_in_order (guards_from site (map number_guard guards.now)) ≡ true }
+    requires sites { site + guard_sites (map number_guard guards.now) ≤ 65536 }
+    ensures parts { IfOk result (λ made. views made.parts.items ≡ guard_wholes_from site (map number_guard guards.now)) }
+    ensures next { IfOk result (λ made. made.next ≡ site + guard_sites (map number_guard guards.now)) }
+{
+    let mut frames = Vec::new(alloc);
+    let mut next = site;
+    for guard in guards.as_slice() {
+        let made = frame_of(alloc, &guard.body, next)?;
+        frames.push(made.frame)?;
+        next = made.next;
+    }
+    Ok(FramedParts {
+        parts: frames,
+        next,
+    })
+}
+
 /// The frames of branches that are about to begin.
 #[cycle(framing)]
 #[tactic(auto, unfolding(crate::specs::InOrder::number, crate::specs::InOrder::number_branch))]
@@ -152,7 +203,7 @@ fn frames_of_branches(
     branches: &Items<Branch>,
     site: u32,
 ) -> Result<FramedParts, Memory>
-    requires sequential { branches_sequential (branches_from site (map number_branch branches.now)) ≡ true }
+    requires in_order { branches_in_order (branches_from site (map number_branch branches.now)) ≡ true }
     requires sites { site + branch_sites (map number_branch branches.now) ≤ 65536 }
     ensures parts { IfOk result (λ made. views made.parts.items ≡ branch_wholes_from site (map number_branch branches.now)) }
     ensures next { IfOk result (λ made. made.next ≡ site + branch_sites (map number_branch branches.now)) }
@@ -173,7 +224,7 @@ fn frames_of_branches(
 /// The frames of parts that are about to begin.
 #[cycle(framing)]
 fn frames_of(alloc: Global, parts: &Items<Process>, site: u32) -> Result<FramedParts, Memory>
-    requires sequential { parts_sequential (parts_from site (map number parts.now)) ≡ true }
+    requires in_order { parts_in_order (parts_from site (map number parts.now)) ≡ true }
     requires sites { site + part_sites (map number parts.now) ≤ 65536 }
     ensures parts { IfOk result (λ made. views made.parts.items ≡ wholes_from site (map number parts.now)) }
     ensures next { IfOk result (λ made. made.next ≡ site + part_sites (map number parts.now)) }
@@ -193,7 +244,7 @@ fn frames_of(alloc: Global, parts: &Items<Process>, site: u32) -> Result<FramedP
 
 /// The frame of a process that has begun.
 pub(crate) fn begin_frame(alloc: Global, process: &Process) -> Result<Frame, Memory>
-    requires sequential { sequential (written process.now) ≡ true }
+    requires in_order { in_order (written process.now) ≡ true }
     requires sites { (number process.now).sites ≤ 65536 }
     ensures { IfOk result (λ frame. view frame ≡ (written process.now, begin (written process.now))) }
 {

@@ -1,8 +1,9 @@
 //! How frames go on: one site does something.
 ghost use Rattle.std.specs.Prelude.{◌≡◌, ◌<◌, length, map, nat_lt, slice_get, false, true, List, [], ℕ, ℤ, ◌^◌};
 ghost use Rattle.vc_occam.specs.declared.deed.Deed.TheVariants.{Quiet};
-ghost use Rattle.vc_occam.specs.Frames.{Able, Did, HasVariables, PartHasVariables, View, assigned_at, is_counted, part_done, turning, follow_on, part_assigned, place_of, begun_at, behind, chosen_from, going_at, has_parts, part_rest, plan_at, plans, rest_at, view, views};
-ghost use Rattle.vc_occam.specs.Nexts.{branch_next, count_begun, count_phase, count_store, seq_begun, seq_next, turn_begun, turn_next, turn_phase, turn_store, turn_views};
+ghost use Rattle.vc_occam.specs.Frames.{Able, Did, HasVariables, PartHasVariables, View, assigned_at, awaiting, is_choice, is_counted, part_done, turning, follow_on, part_assigned, place_of, begun_at, behind, chosen_from, going_at, has_parts, part_rest, plan_at, plans, rest_at, view, views};
+ghost use Rattle.vc_occam.specs.Gates.{gate};
+ghost use Rattle.vc_occam.specs.Nexts.{GateHasVariable, branch_next, choice_begun, choice_next, choice_store, count_begun, count_phase, count_store, gate_begun, gate_next, gate_store, seq_begun, seq_next, stuck_next, turn_begun, turn_next, turn_phase, turn_store, turn_views};
 ghost use Rattle.vc_occam.specs.declared.deed.Deed.{Deed};
 ghost use Rattle.vc_occam.specs.Remains.{Fresh};
 ghost use Rattle.vc_occam.specs.Terms.{exp, store, test};
@@ -14,9 +15,11 @@ use crate::datum::Datum;
 use crate::deed::Deed;
 use crate::expression::Expr;
 use crate::frame::{Frame, part_ended};
+use crate::guarded::GuardedInput;
 use crate::kind::Kind;
 use crate::phase::Phase;
 use crate::variables::{put, set_variable};
+use sqlite_items::Items;
 
 /// How far a frame is, and at which part.
 #[derive(Clone, Copy, Debug, PartialEq, Eq, Drop)]
@@ -191,6 +194,7 @@ fn chosen(conds: &[Cond], vars: &[Datum]) -> Option<usize>
 /// An IF takes its branch, or a WHILE its turn, or an empty SEQ ends.
 fn begin_composed(own: u16, kind: &Kind, parts: &mut Vec<Frame>, vars: &[Datum]) -> Next
     requires composed { has_parts kind.now ≡ true }
+    requires unchosen { is_choice kind.now ≡ false }
     ensures did { (site : ℕ) (deed : Deed) → Able (Fresh (plan_at kind.now own (views parts.old.items))) (store vars.now) site deed → Did (Fresh (plan_at kind.now own (views parts.old.items))) (store vars.now) site deed (rest_at kind.now result.phase own (views parts.new.items) result.at) (store vars.now) }
     ensures plans { plans (views parts.new.items) ≡ plans (views parts.old.items) }
 {
@@ -269,6 +273,117 @@ fn begin_turn(parts: &mut Vec<Frame>, held: bool) -> Next
     }
 }
 
+/// An ALT takes a guard.
+fn begin_choice(
+    own: u16,
+    kind: &Kind,
+    parts: &mut Vec<Frame>,
+    deed: Deed,
+    vars: &mut Vec<Datum>,
+) -> Next
+    requires choice { is_choice kind.now ≡ true }
+    requires variables { HasVariables (plan_at kind.now own (views parts.old.items)) (length vars.old.items) }
+    ensures did { (site : ℕ) → Able (Fresh (plan_at kind.now own (views parts.old.items))) (store vars.old.items) site deed → Did (Fresh (plan_at kind.now own (views parts.old.items))) (store vars.old.items) site deed (rest_at kind.now result.phase own (views parts.new.items) result.at) (store vars.new.items) }
+    ensures plans { plans (views parts.new.items) ≡ plans (views parts.old.items) }
+    ensures length { length vars.new.items ≡ length vars.old.items }
+{
+    match kind {
+        Kind::Alt { guards } => match deed {
+            Deed::Choose { place, message, .. } => {
+                let place = usize::from(place);
+                take_guard(guards.inputs.as_slice(), place, message, parts, vars)
+            }
+            _ => stuck(),
+        },
+        _ => stuck(),
+    }
+}
+
+/// An ALT that took the guard at a place goes on with its message.
+fn end_choice(
+    own: u16,
+    kind: &Kind,
+    at: usize,
+    parts: &mut Vec<Frame>,
+    deed: Deed,
+    vars: &mut Vec<Datum>,
+) -> Phase
+    requires variables { HasVariables (plan_at kind.now own (views parts.old.items)) (length vars.old.items) }
+    ensures did { (site : ℕ) → Able (awaiting kind.now own (views parts.old.items) at) (store vars.old.items) site deed → Did (awaiting kind.now own (views parts.old.items) at) (store vars.old.items) site deed (rest_at kind.now result own (views parts.new.items) at) (store vars.new.items) }
+    ensures plans { plans (views parts.new.items) ≡ plans (views parts.old.items) }
+    ensures length { length vars.new.items ≡ length vars.old.items }
+{
+    match kind {
+        Kind::Alt { guards } => match deed {
+            Deed::Message(message) => {
+                take_guard(guards.inputs.as_slice(), at, Some(message), parts, vars).phase
+            }
+            _ => Phase::Stuck,
+        },
+        _ => Phase::Stuck,
+    }
+}
+
+/// A process that never goes on.
+fn stuck() -> Next
+    ensures { result ≡ stuck_next }
+{
+    Next {
+        phase: Phase::Stuck,
+        at: 0,
+    }
+}
+
+/// The guard at a place takes its message, and its body begins, or it waits where there is no message.
+fn take_guard(
+    inputs: &[GuardedInput],
+    place: usize,
+    message: Option<Items<u8>>,
+    parts: &mut Vec<Frame>,
+    vars: &mut Vec<Datum>,
+) -> Next
+    requires { GateHasVariable (slice_get (map gate inputs.now) place) (length vars.old.items) }
+    ensures next { result ≡ gate_next (slice_get (map gate inputs.now) place) message place }
+    ensures parts { views parts.new.items ≡ gate_begun (slice_get (map gate inputs.now) place) message place (views parts.old.items) }
+    ensures value { store vars.new.items ≡ gate_store (slice_get (map gate inputs.now) place) message (store vars.old.items) }
+    ensures length { length vars.new.items ≡ length vars.old.items }
+{
+    if place >= inputs.len() {
+        return stuck();
+    }
+    take_input(inputs[place].var, place, message, parts, vars)
+}
+
+/// The variable of the guard at a place takes the message, and the guard's body begins, or it waits where there is no message.
+fn take_input(
+    var: u8,
+    place: usize,
+    message: Option<Items<u8>>,
+    parts: &mut Vec<Frame>,
+    vars: &mut Vec<Datum>,
+) -> Next
+    requires { var < length vars.old.items }
+    ensures next { result ≡ choice_next message place }
+    ensures parts { views parts.new.items ≡ choice_begun message place (views parts.old.items) }
+    ensures value { store vars.new.items ≡ choice_store message var (store vars.old.items) }
+    ensures length { length vars.new.items ≡ length vars.old.items }
+{
+    match message {
+        Some(message) => {
+            put(vars, var, message);
+            start_at(parts, place);
+            Next {
+                phase: Phase::Waiting,
+                at: place,
+            }
+        }
+        None => Next {
+            phase: Phase::Chosen,
+            at: place,
+        },
+    }
+}
+
 impl Frame {
     /// A site does something. Where an assignment is made, its value comes along, or None where it is a fault.
     #[cycle(go)]
@@ -324,6 +439,9 @@ fn go_on(
 {
     match phase {
         Phase::Ready => {
+            if kind.is_choice() {
+                return begin_choice(own, kind, parts, deed, vars);
+            }
             if kind.has_parts() {
                 return begin_composed(own, kind, parts, vars);
             }
@@ -344,6 +462,10 @@ fn go_on(
         }
         Phase::Turning { index, last } => {
             let phase = go_turn(own, kind, index, last, parts, site, deed, assigned, vars);
+            Next { phase, at }
+        }
+        Phase::Chosen => {
+            let phase = end_choice(own, kind, at, parts, deed, vars);
             Next { phase, at }
         }
         Phase::Ended => Next { phase, at },

@@ -1,6 +1,7 @@
 //! What a frame of a running process is.
 use crate::condition::Cond;
 use crate::expression::Expr;
+use crate::guarded::GuardedInputs;
 use crate::value::Value;
 use sqlite_items::Items;
 
@@ -27,4 +28,6 @@ pub(crate) enum Kind {
     While { cond: Cond },
     /// A counted SEQ, with its index, base and count.
     Count { var: u8, base: Expr, count: Expr },
+    /// ALT, with what its guards test and input.
+    Alt { guards: GuardedInputs },
 }

@@ -16,8 +16,8 @@
 //!
 //! A process runs as a tree of frames (`frame.rt`), one for each process that is written, with how far it is and at which part;
 //! what it stands for is said in `specs/Frames`. A part begins, ends and begins again by a change of its frame, without memory.
-//! [`Running::in_order`] begins a process in which no PAR and no ALT stands (`Process::is_sequential`), [`Running::new`] one word
-//! without parts (`Process::runs_today`). The invariant of a [`Running`] is that the variables that its process changes are there.
+//! [`Running::new`] begins a process in which no PAR stands (`Process::runs_in_order`). The invariant of a [`Running`] is that the
+//! variables that its process changes are there.
 #![tactic(auto)]
 
 mod answer;
@@ -33,13 +33,13 @@ mod expression;
 mod frame;
 mod framing;
 mod going;
+mod guarded;
 mod indexes;
 mod kind;
 mod laws;
 mod limits;
 mod looking;
 mod moves;
-mod openings;
 mod operator;
 mod outside;
 mod phase;

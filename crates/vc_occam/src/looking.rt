@@ -1,13 +1,16 @@
 //! What frames may begin with, wait for, output and assign.
-ghost use Rattle.std.specs.Prelude.{◌≡◌, IfOk, slice_get};
+ghost use Rattle.std.specs.Prelude.{◌≡◌, ◌↔◌, ◌++◌, IfOk, IsTrue, List, OnOk, Option, false, map, slice_get};
+ghost use Rattle.std.specs.List.{Contains};
 ghost use Rattle.vc_occam.specs.First.{own};
-ghost use Rattle.vc_occam.specs.Frames.{assigned_at, listed, part_assigned, part_output, part_own, part_waits as waits_of_part, plan_at, view, views, waits_list};
+ghost use Rattle.vc_occam.specs.Gates.{gate};
+ghost use Rattle.vc_occam.specs.Frames.{View, assigned_at, awaiting, chosen_at, is_choice, listed, part_assigned, part_output, part_own, part_waits as waits_of_part, plan_at, view, views, waits_list};
 ghost use Rattle.vc_occam.specs.Remains.{Fresh};
 ghost use Rattle.vc_occam.specs.States.{carried, output_at, waiting};
 ghost use Rattle.vc_occam.specs.Terms.{store};
 
 use crate::datum::Datum;
 use crate::frame::Frame;
+use crate::guarded::GuardedInput;
 use crate::kind::Kind;
 use crate::moves::Move;
 use crate::phase::Phase;
@@ -17,27 +20,53 @@ use std::alloc::Global;
 use vc_packets::Memory;
 
 impl Frame {
-    /// The one move that it can begin with, if there is one.
+    /// Adds the moves that it can begin with, in order of guard.
     #[cycle(moves)]
-    pub(crate) fn own_move(&self, vars: &[Datum]) -> Option<Move>
-        ensures { own (view self.now).1 (store vars.now) ≡ listed result }
+    pub(crate) fn push_moves(&self, found: &mut Items<Move>, vars: &[Datum]) -> Result<(), Memory>
+        ensures { OnOk result (found.new ≡ found.old ++ own (view self.now).1 (store vars.now)) }
     {
         match self.phase {
-            Phase::Ready => ready_move(self.site, &self.kind, &self.parts, vars),
+            Phase::Ready => push_ready(found, self.site, &self.kind, &self.parts, vars),
             Phase::Waiting => {
                 if self.kind.has_parts() {
-                    return part_move(&self.parts, self.kind.place(self.at), vars);
+                    return push_part(found, &self.parts, self.kind.place(self.at), vars);
                 }
-                None
+                Ok(())
             }
             Phase::Turning { .. } => {
                 if self.kind.is_counted() {
-                    return part_move(&self.parts, 0, vars);
+                    return push_part(found, &self.parts, 0, vars);
                 }
-                None
+                Ok(())
             }
-            Phase::Ended => None,
-            Phase::Stuck => None,
+            Phase::Chosen => Ok(()),
+            Phase::Ended => Ok(()),
+            Phase::Stuck => Ok(()),
+        }
+    }
+
+    /// Whether the move is one that it can begin with.
+    #[cycle(begins)]
+    pub(crate) fn begins_with(&self, made: &Move, vars: &[Datum]) -> bool
+        ensures { IsTrue result ↔ Contains (own (view self.now).1 (store vars.now)) made.now }
+    {
+        match self.phase {
+            Phase::Ready => ready_begins(made, self.site, &self.kind, &self.parts, vars),
+            Phase::Waiting => {
+                if self.kind.has_parts() {
+                    return part_begins(made, &self.parts, self.kind.place(self.at), vars);
+                }
+                false
+            }
+            Phase::Turning { .. } => {
+                if self.kind.is_counted() {
+                    return part_begins(made, &self.parts, 0, vars);
+                }
+                false
+            }
+            Phase::Chosen => false,
+            Phase::Ended => false,
+            Phase::Stuck => false,
         }
     }
 
@@ -70,6 +99,7 @@ impl Frame {
                 }
                 None
             }
+            Phase::Chosen => chosen_waits(self.site, &self.kind, self.at),
             Phase::Ended => None,
             Phase::Stuck => None,
         }
@@ -99,6 +129,7 @@ impl Frame {
                 }
                 Ok(None)
             }
+            Phase::Chosen => Ok(None),
             Phase::Ended => Ok(None),
             Phase::Stuck => Ok(None),
         }
@@ -123,20 +154,59 @@ impl Frame {
                 }
                 Ok(None)
             }
+            Phase::Chosen => Ok(None),
             Phase::Ended => Ok(None),
             Phase::Stuck => Ok(None),
         }
     }
 }
 
-#[cycle(moves)]
-fn part_move(parts: &Vec<Frame>, at: usize, vars: &[Datum]) -> Option<Move>
-    ensures { part_own (slice_get (views parts.now.items) at) (store vars.now) ≡ listed result }
+/// The input of an ALT that took the guard at a place, and waits for its message.
+fn chosen_waits(site: u16, kind: &Kind, at: usize) -> Option<Waits>
+    ensures { (vs : List View) → waiting (awaiting kind.now site vs at) ≡ waits_list result }
 {
-    if at < parts.len() {
-        return parts[at].own_move(vars);
+    match kind {
+        Kind::Alt { guards } => input_at(site, guards.inputs.as_slice(), at),
+        _ => None,
+    }
+}
+
+/// The guarded input at a place, which waits for its message, if there is one.
+fn input_at(site: u16, inputs: &[GuardedInput], at: usize) -> Option<Waits>
+    ensures { (v : Option View) → waiting (chosen_at site (slice_get (map gate inputs.now) at) v) ≡ waits_list result }
+{
+    if at < inputs.len() {
+        return Some(Waits::Input {
+            site,
+            chan: inputs[at].chan,
+        });
     }
     None
+}
+
+#[cycle(moves)]
+fn push_part(
+    found: &mut Items<Move>,
+    parts: &Vec<Frame>,
+    at: usize,
+    vars: &[Datum],
+) -> Result<(), Memory>
+    ensures { OnOk result (found.new ≡ found.old ++ part_own (slice_get (views parts.now.items) at) (store vars.now)) }
+{
+    if at < parts.len() {
+        return parts[at].push_moves(found, vars);
+    }
+    Ok(())
+}
+
+#[cycle(begins)]
+fn part_begins(made: &Move, parts: &Vec<Frame>, at: usize, vars: &[Datum]) -> bool
+    ensures { IsTrue result ↔ Contains (part_own (slice_get (views parts.now.items) at) (store vars.now)) made.now }
+{
+    if at < parts.len() {
+        return parts[at].begins_with(made, vars);
+    }
+    false
 }
 
 #[cycle(waits)]
@@ -180,8 +250,58 @@ fn part_assigned_in(
     Ok(None)
 }
 
-/// The move of a process that hasn't begun.
+/// Adds the moves of a process that hasn't begun.
+fn push_ready(
+    found: &mut Items<Move>,
+    site: u16,
+    kind: &Kind,
+    parts: &Vec<Frame>,
+    vars: &[Datum],
+) -> Result<(), Memory>
+    ensures { OnOk result (found.new ≡ found.old ++ own (Fresh (plan_at kind.now site (views parts.now.items))) (store vars.now)) }
+{
+    match kind {
+        Kind::Alt { guards } => guards.push_choices(found, site, vars),
+        _ => push_move(found, ready_move(site, kind, parts, vars)),
+    }
+}
+
+/// Adds a move, if there is one.
+fn push_move(found: &mut Items<Move>, made: Option<Move>) -> Result<(), Memory>
+    ensures { OnOk result (found.new ≡ found.old ++ listed made) }
+{
+    if let Some(made) = made {
+        found.push(made)?;
+    }
+    Ok(())
+}
+
+/// Whether the move is one of a process that hasn't begun.
+fn ready_begins(
+    made: &Move,
+    site: u16,
+    kind: &Kind,
+    parts: &Vec<Frame>,
+    vars: &[Datum],
+) -> bool
+    ensures { IsTrue result ↔ Contains (own (Fresh (plan_at kind.now site (views parts.now.items))) (store vars.now)) made.now }
+{
+    match kind {
+        Kind::Alt { guards } => guards.has_choice(made, site, vars),
+        _ => is_listed(made, ready_move(site, kind, parts, vars)),
+    }
+}
+
+/// Whether it is this move.
+fn is_listed(made: &Move, one: Option<Move>) -> bool
+    ensures { IsTrue result ↔ Contains (listed one) made.now }
+{
+    one == Some(*made)
+}
+
+/// The move of a process that hasn't begun and is no ALT.
 fn ready_move(site: u16, kind: &Kind, parts: &Vec<Frame>, vars: &[Datum]) -> Option<Move>
+    requires { is_choice kind.now ≡ false }
     ensures { own (Fresh (plan_at kind.now site (views parts.now.items))) (store vars.now) ≡ listed result }
 {
     match kind {

@@ -9,6 +9,8 @@ pub(crate) enum Phase {
     Waiting,
     /// A turn of a counted SEQ goes on, with this index and the last one.
     Turning { index: i64, last: i64 },
+    /// An ALT took the guard at its place, whose message hasn't come.
+    Chosen,
     /// Nothing remains.
     Ended,
     /// It never goes on.

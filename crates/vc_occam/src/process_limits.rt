@@ -1,13 +1,12 @@
 //! What is asked of a whole process.
-ghost use Rattle.std.specs.Prelude.{◌≡◌, IfOk, true};
-ghost use Rattle.vc_occam.specs.ChannelUses.{channel_uses as uses_of, use_list};
+ghost use Rattle.std.specs.Prelude.{◌≡◌, IfOk};
+ghost use Rattle.vc_occam.specs.ChannelUses.{channel_uses as uses_of};
 ghost use Rattle.vc_occam.specs.Numbering.{written};
-ghost use Rattle.vc_occam.specs.ProcessLimits.{depth_within as is_depth_within, exps_within, in_length, names_fit, runs_today, sequential};
+ghost use Rattle.vc_occam.specs.ProcessLimits.{depth_within as is_depth_within, exps_within, in_length, names_fit, in_order};
 
 use crate::asked::Asked;
 use crate::channel_use::ChannelUse;
 use crate::depth::depth_within;
-use crate::limits::kind_at;
 use crate::process::Process;
 use crate::uses::push_uses;
 use crate::value_kind::ValueKind;
@@ -16,27 +15,11 @@ use std::alloc::Global;
 use vc_packets::Memory;
 
 impl Process {
-    /// Whether it can run today: it has no parts.
-    #[tactic(auto, unfolding(crate::specs::Numbering::written))]
-    pub fn runs_today(&self) -> bool
-        ensures { result ≡ runs_today (written self.now) }
+    /// Whether no PAR stands in it, so that one thing happens after the other.
+    pub fn runs_in_order(&self) -> bool
+        ensures { result ≡ in_order (written self.now) }
     {
-        matches!(
-            self,
-            Process::Skip
-                | Process::Stop
-                | Process::Set { .. }
-                | Process::Send { .. }
-                | Process::Receive { .. }
-                | Process::Stopch { .. }
-        )
-    }
-
-    /// Whether no PAR and no ALT stands in it.
-    pub fn is_sequential(&self) -> bool
-        ensures { result ≡ sequential (written self.now) }
-    {
-        Asked::Sequential.everywhere(self, &[])
+        Asked::InOrder.everywhere(self, &[])
     }
 
     /// Whether it has at most this depth; a process without parts has depth 1.
@@ -66,32 +49,6 @@ impl Process {
         ensures { result ≡ names_fit (written self.now) kinds.now channels }
     {
         Asked::Names { channels }.everywhere(self, kinds)
-    }
-
-    /// Its one use of a channel, if it has one.
-    #[tactic(auto, unfolding(crate::specs::Numbering::written))]
-    pub fn channel_use(&self, kinds: &[ValueKind]) -> Option<ChannelUse>
-        requires { runs_today (written self.now) ≡ true }
-        ensures { uses_of kinds.now (written self.now) ≡ use_list result }
-    {
-        match self {
-            Process::Send { chan, value } => Some(ChannelUse {
-                chan: *chan,
-                is_output: true,
-                kind: Some(value.kind()),
-            }),
-            Process::Receive { chan, var } => Some(ChannelUse {
-                chan: *chan,
-                is_output: false,
-                kind: kind_at(kinds, *var),
-            }),
-            Process::Stopch { chan } => Some(ChannelUse {
-                chan: *chan,
-                is_output: false,
-                kind: None,
-            }),
-            _ => None,
-        }
     }
 
     /// Its uses of channels, in order of site, in a node with variables of these kinds.

@@ -9,8 +9,7 @@ use crate::deed::Deed;
 use crate::frame::Frame;
 use crate::framing::begin_frame;
 use crate::moves::Move;
-use crate::openings::frame_alone;
-use crate::outside::outside;
+use crate::outside::{is_outside, outside};
 use crate::process::Process;
 use crate::value_kind::ValueKind;
 use crate::variables::empty_variables;
@@ -77,53 +76,29 @@ fn site_of(made: &Move) -> u16
 impl Running {
     ghost use Rattle.std.specs.Prelude.{◌≡◌, ◌≤◌, ◌↔◌, IsTrue, IfOk, OnOk, OnErr, MatchOption, Some, None, true, ℕ};
     ghost use Rattle.std.specs.List.{Contains};
-    ghost use Rattle.vc_occam.specs.Frames.{assigned_at, listed};
+    ghost use Rattle.vc_occam.specs.Frames.{assigned_at};
     ghost use Rattle.vc_occam.specs.declared.answer.Answer.{Answer};
     ghost use Rattle.vc_occam.specs.declared.deed.Deed.TheVariants.{Quiet};
     ghost use Rattle.vc_occam.specs.Terms.{store};
     ghost use Rattle.vc_occam.specs.InOrder.{number};
     ghost use Rattle.vc_occam.specs.Numbering.{written};
     ghost use Rattle.vc_occam.specs.Opening.{Fits, opening};
-    ghost use Rattle.vc_occam.specs.ProcessLimits.{runs_today, sequential};
+    ghost use Rattle.vc_occam.specs.ProcessLimits.{in_order};
     ghost use Rattle.vc_occam.specs.Remains.{Done};
     ghost use Rattle.vc_occam.specs.Runnings.{inner_channels, moves, state};
     ghost use Rattle.vc_occam.specs.Usage.{among};
     ghost use Rattle.vc_occam.specs.States.{Acts, FitsMove, IsAwaited, IsQuiet, Resumes, doing, sent_by, waiting, output, input};
 
-    /// A process that is about to begin, its variables being 0 or without bytes. `inside` are the channels inside its node.
-    #[tactic(auto, unfolding(crate::specs::Runnings::state, crate::specs::Runnings::inner_channels, crate::specs::Numbering::written))]
-    pub fn new(
-        alloc: Global,
-        process: Process,
-        kinds: &[ValueKind],
-        inside: &[u16],
-    ) -> Result<Running, Memory>
-        requires word { runs_today (written process) ≡ true }
-        requires fits { Fits kinds.now process }
-        ensures state { IfOk result (λ r. state r ≡ opening kinds.now process) }
-        ensures inside { IfOk result (λ r. inner_channels r ≡ among inside.now) }
-    {
-        let vars = empty_variables(alloc, kinds)?;
-        let inside = Items::from_slice(alloc, inside)?;
-        let frame = frame_alone(alloc, process, kinds);
-        Ok(Running {
-            alloc,
-            frame,
-            vars,
-            inside,
-        })
-    }
-
-    /// A process in which no PAR and no ALT stands, about to begin, as by [`Running::new`]. At most 65,536 processes are written in
-    /// it, since a site's number has 16 bits.
+    /// A process in which no PAR stands, about to begin, its variables being 0 or without bytes. `inside` are the channels inside
+    /// its node. At most 65,536 processes are written in it, since a site's number has 16 bits.
     #[tactic(auto, unfolding(crate::specs::Runnings::state, crate::specs::Runnings::inner_channels))]
-    pub fn in_order(
+    pub fn new(
         alloc: Global,
         process: &Process,
         kinds: &[ValueKind],
         inside: &[u16],
     ) -> Result<Running, Memory>
-        requires sequential { sequential (written process.now) ≡ true }
+        requires in_order { in_order (written process.now) ≡ true }
         requires sites { (number process.now).sites ≤ 65536 }
         requires fits { Fits kinds.now process.now }
         ensures state { IfOk result (λ r. state r ≡ opening kinds.now process.now) }
@@ -140,31 +115,22 @@ impl Running {
         })
     }
 
-    /// The one move that it can begin with, if there is one.
-    #[tactic(auto, unfolding(crate::specs::Runnings::state, crate::specs::Runnings::inner_channels))]
-    fn first(&self) -> Option<Move>
-        ensures { moves self.now ≡ listed result }
-    {
-        let own = self.frame.own_move(&self.vars);
-        outside(own, self.inside.as_slice())
-    }
-
     /// The moves that it can begin with, in order of site (for an output that meets an input, of the output's), then of guard.
+    #[tactic(auto, unfolding(crate::specs::Runnings::state, crate::specs::Runnings::inner_channels))]
     pub fn actions(&self) -> Result<Items<Move>, Memory>
         ensures { IfOk result (λ found. found ≡ moves self.now) }
     {
-        let mut found = Items::new(self.alloc);
-        if let Some(made) = self.first() {
-            found.push(made)?;
-        }
-        Ok(found)
+        let mut own = Items::new(self.alloc);
+        self.frame.push_moves(&mut own, &self.vars)?;
+        outside(self.alloc, own.as_slice(), self.inside.as_slice())
     }
 
     /// Whether the move is one that it can begin with.
+    #[tactic(auto, unfolding(crate::specs::Runnings::state, crate::specs::Runnings::inner_channels))]
     pub fn lists(&self, made: &Move) -> bool
         ensures { IsTrue result ↔ Contains (moves self.now) made.now }
     {
-        self.first() == Some(*made)
+        is_outside(made, self.inside.as_slice()) && self.frame.begins_with(made, &self.vars)
     }
 
     /// The message that the move's output sends; None where the move has no output.

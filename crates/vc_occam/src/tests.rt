@@ -13,13 +13,13 @@ fn begin(
     kinds: &[ValueKind],
     inside: &[u16],
 ) -> Result<Running, Fail> {
-    if !process.runs_today() {
-        return Err(Fail::from("a word that runs"));
+    if !process.runs_in_order() || process.sites(4096).is_none() {
+        return Err(Fail::from("a process without PAR"));
     }
     if !process.fits(kinds, 512) {
         return Err(Fail::from("variables that are there"));
     }
-    Ok(Running::new(alloc, process, kinds, inside)?)
+    Ok(Running::new(alloc, &process, kinds, inside)?)
 }
 
 fn hello(alloc: Global) -> Result<Running, Fail> {
@@ -177,8 +177,8 @@ fn a_body_may_not_change_its_index(rt: HostRuntime) -> Result<(), Fail> {
         count: Expr::Num(3),
         body: Boxed::new(rt.alloc(), Process::Receive { chan: 0, var: 0 })?,
     };
-    if !process.is_sequential() {
-        return Err(Fail::from("a sequential process"));
+    if !process.runs_in_order() {
+        return Err(Fail::from("a process without PAR"));
     }
     assert_eq!(rt; check_use(&process), Err(UseFault::Var(0)));
     Ok(())

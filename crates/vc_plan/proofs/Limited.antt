@@ -4,7 +4,7 @@ use Rattle.std.proofs.lemmas.Bool.Decides.{nat_tests}
 use Rattle.std.specs.Prelude.{slice_get}
 use Rattle.std.specs.List.{list_all}
 use Rattle.vc_occam.specs.Numbering.{written}
-use Rattle.vc_occam.specs.ProcessLimits.{depth_within, sequential, exps_within}
+use Rattle.vc_occam.specs.ProcessLimits.{depth_within, in_order, exps_within}
 use Rattle.vc_plan.specs.declared.plan.Plan.{Plan}
 use Rattle.vc_plan.specs.declared.channel.Channel.{Channel}
 use Rattle.vc_plan.specs.declared.node_plan.NodePlan.{NodePlan}
@@ -107,10 +107,10 @@ pub few-channels : (p : Plan) → limit_broken p ≡ None → length p.channels 
 few-channels p h = let t = (keeps p h).channels in grind (arith, nat_tests)
 
 -- a process that is no deeper than it may be runs in order
-pub in-order : (n : NodePlan) → depth_ok n ≡ true → sequential (written n.process) ≡ true
+pub in-order : (n : NodePlan) → depth_ok n ≡ true → in_order (written n.process) ≡ true
 in-order n h =
-    let shallow = both (depth_within (written n.process) 32 && sequential (written n.process)) (exps_within (written n.process) 8) h in
-    (both (depth_within (written n.process) 32) (sequential (written n.process)) shallow.0).1
+    let shallow = both (depth_within (written n.process) 32 && in_order (written n.process)) (exps_within (written n.process) 8) h in
+    (both (depth_within (written n.process) 32) (in_order (written n.process)) shallow.0).1
 
 -- the names of each process fit
 pub names-fit : (p : Plan) → Keeps p → list_all (process_names p) p.nodes ≡ true

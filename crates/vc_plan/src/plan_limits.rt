@@ -174,7 +174,7 @@ fn depth_of_node_is_ok(node: &NodePlan) -> bool
     ensures { result ≡ has_depth node.now }
 {
     node.process.is_within(32)
-        && node.process.is_sequential()
+        && node.process.runs_in_order()
         && node.process.expressions_are_within(8)
 }
 

@@ -4,7 +4,7 @@ ghost use Rattle.std.specs.List.{list_all};
 ghost use Rattle.vc_occam.specs.Indexes.{IsUseFault};
 ghost use Rattle.vc_occam.specs.Lawful.{Lawfully};
 ghost use Rattle.vc_occam.specs.Numbering.{written};
-ghost use Rattle.vc_occam.specs.ProcessLimits.{sequential};
+ghost use Rattle.vc_occam.specs.ProcessLimits.{in_order};
 ghost use Rattle.vc_plan.specs.Check.{AreLawful, IsFirstUsage, IsUsage, channel_name, variable_name};
 ghost use Rattle.vc_plan.specs.Limits.{depth_ok, process_names};
 
@@ -53,7 +53,7 @@ fn name_of_fault(
 
 /// The name of the first channel or variable that a node's process uses unlawfully.
 fn usage_of(alloc: Global, plan: &Plan, node: &NodePlan) -> Result<Option<Name>, Memory>
-    requires in_order { sequential (written node.now.process) ≡ true }
+    requires in_order { in_order (written node.now.process) ≡ true }
     requires names { process_names plan.now node.now ≡ true }
     ensures lawful { IfOk result (λ found. IfNone found (Lawfully (written node.now.process))) }
     ensures usage { IfOk result (λ found. IfSome found (λ name. IsUsage plan.now node.now name)) }

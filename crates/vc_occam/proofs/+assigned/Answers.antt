@@ -4,7 +4,7 @@ use Rattle.vc_occam.specs.declared.frame.Frame.TheViews.{out-Frame}
 use Rattle.vc_occam.specs.Frames.{behind, part_assigned, place_of, views, assigned_at}
 use Rattle.vc_occam.specs.Remains.{Rest}
 use Rattle.vc_occam.specs.Terms.{store}
-use Rattle.vc_occam.proofs.Frames.{turning_assigned, turning_none, rest_ready, rest_going, rest_idle, rest_ended, rest_stuck, follow_assigned, idle_assigned, on_ok}
+use Rattle.vc_occam.proofs.Frames.{awaiting_assigned, is_awaiting, turning_assigned, turning_none, rest_ready, rest_going, rest_idle, rest_ended, rest_stuck, follow_assigned, idle_assigned, on_ok}
 use Rattle.vc_occam.proofs.+assigned.Goals as goal
 
 pub frame::Frame::assigned-returns-in-Ready : goal.frame::Frame::assigned-returns-in-Ready
@@ -48,3 +48,6 @@ frame::Frame::assigned-returns-else-is_counted t c =
     let f = c.args.self.now in
     let k = sym c.is_counted.ensures ∙ c.if-is_counted.false in
     sym (ap (λ (r : Rest). assigned_at r (store c.args.vars.now)) (turning_none f c.in-Turning.index c.in-Turning.last c.in-Turning.is k))
+
+pub frame::Frame::assigned-returns-in-Chosen : goal.frame::Frame::assigned-returns-in-Chosen
+frame::Frame::assigned-returns-in-Chosen t c = sym (awaiting_assigned (store c.args.vars.now) (is_awaiting c.args.self.now c.in-Chosen.is))

@@ -5,12 +5,12 @@ use Rattle.std.proofs.lemmas.Int.{to_z-of_z}
 use mir.Val.{SFits}
 use Rattle.vc_occam.specs.declared.datum.Datum.{Datum}
 use Rattle.vc_occam.specs.declared.frame.Frame.TheViews.{the_lemmas, out-Frame}
-use Rattle.vc_occam.specs.declared.phase.Phase.TheVariants.{Ready, Waiting, Turning}
+use Rattle.vc_occam.specs.declared.phase.Phase.TheVariants.{Ready, Waiting, Turning, Chosen}
 use Rattle.vc_occam.specs.Frames.{Able, Did, HasVariables, View, assigned_at, part_done, plans, part_rest, plan_at, rest_at, view, views}
 use Rattle.vc_occam.specs.Remains.{Fresh, Rest}
 use Rattle.vc_occam.specs.Terms.{store}
 use Rattle.vc_occam.proofs.Frames.{some_left, view_roll, view_out}
-use Rattle.vc_occam.proofs.Stepping.{within_able, within_assigned, within_variables, within_did, phase_able, phase_did, never, same_plan, get_view, set_view, set_plans, none_view}
+use Rattle.vc_occam.proofs.Stepping.{within_able, within_assigned, within_variables, within_did, phase_able, phase_did, never_there, same_plan, get_view, set_view, set_plans, none_view}
 use Rattle.vc_occam.proofs.Turns.{count_variable, phase_same, store_same, turned_plans, turning_same, views_same, turning_able, turning_did, turning_value, turning_variables}
 use Rattle.vc_occam.proofs.+go.Goals as goal
 
@@ -99,7 +99,7 @@ going::go_within-returns-else-at-len-clause-did t c =
     let fs = c.args.parts.now.items in
     let o = c.args.parts.now.ok.0 in
     let n = none_view fs c.args.at (omega (arith, c.len.ensures)) in
-    never _ _ _ _ c.args.site c.args.deed (subst (λ (r : Rest). Able r (store c.args.vars.now.items) c.args.site c.args.deed) (ap part_rest n) c.requires.able)
+    never_there _ _ _ _ c.args.site c.args.deed (subst (λ (r : Rest). Able r (store c.args.vars.now.items) c.args.site c.args.deed) (ap part_rest n) c.requires.able)
 
 pub going::go_on-returns-then-is_counted-clause-did : goal.going::go_on-returns-then-is_counted-clause-did
 going::go_on-returns-then-is_counted-clause-did t c =
@@ -155,3 +155,17 @@ pub going::go_turn-returns-in-Count-clause-plans : goal.going::go_turn-returns-i
 going::go_turn-returns-in-Count-clause-plans t c =
     let vs = views c.go_within.new.parts.items in
     ap plans c.after_turn.ensures.parts ∙ turned_plans (part_done (slice_get vs 0)) _ _ vs ∙ c.go_within.ensures.plans
+
+pub going::go_on-returns-then-is_choice-clause-did : goal.going::go_on-returns-then-is_choice-clause-did
+going::go_on-returns-then-is_choice-clause-did t c =
+    let k = c.args.kind.now in
+    let vs = views c.args.parts.now.items in
+    phase_did k c.args.own _ Ready vs c.args.at _ _ c.args.site c.args.deed _ c.in-Ready.is
+    (c.begin_choice.ensures.did c.args.site (phase_able k c.args.own _ Ready vs c.args.at _ c.args.site c.args.deed c.in-Ready.is c.requires.able))
+
+pub going::go_on-returns-in-Chosen-clause-did : goal.going::go_on-returns-in-Chosen-clause-did
+going::go_on-returns-in-Chosen-clause-did t c =
+    let k = c.args.kind.now in
+    let vs = views c.args.parts.now.items in
+    phase_did k c.args.own _ Chosen vs c.args.at _ _ c.args.site c.args.deed _ c.in-Chosen.is
+    (c.end_choice-phase.ensures.did c.args.site (phase_able k c.args.own _ Chosen vs c.args.at _ c.args.site c.args.deed c.in-Chosen.is c.requires.able))

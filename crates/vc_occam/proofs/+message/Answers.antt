@@ -5,7 +5,7 @@ use Rattle.vc_occam.specs.Frames.{behind, part_output, place_of, views}
 use Rattle.vc_occam.specs.Remains.{Rest}
 use Rattle.vc_occam.specs.States.{carried, output_at}
 use Rattle.vc_occam.specs.Terms.{store}
-use Rattle.vc_occam.proofs.Frames.{turning_output, turning_none, rest_ready, rest_going, rest_idle, rest_ended, rest_stuck, follow_output, idle_output, on_ok}
+use Rattle.vc_occam.proofs.Frames.{awaiting_output, is_awaiting, turning_output, turning_none, rest_ready, rest_going, rest_idle, rest_ended, rest_stuck, follow_output, idle_output, on_ok}
 use Rattle.vc_occam.proofs.+message.Goals as goal
 
 pub frame::Frame::message-returns-in-Ready : goal.frame::Frame::message-returns-in-Ready
@@ -49,3 +49,6 @@ frame::Frame::message-returns-else-is_counted t c =
     let f = c.args.self.now in
     let k = sym c.is_counted.ensures ∙ c.if-is_counted.false in
     sym (ap (λ (r : Rest). carried (output_at c.args.site r (store c.args.vars.now))) (turning_none f c.in-Turning.index c.in-Turning.last c.in-Turning.is k))
+
+pub frame::Frame::message-returns-in-Chosen : goal.frame::Frame::message-returns-in-Chosen
+frame::Frame::message-returns-in-Chosen t c = sym (ap carried (awaiting_output c.args.site (store c.args.vars.now) (is_awaiting c.args.self.now c.in-Chosen.is)))

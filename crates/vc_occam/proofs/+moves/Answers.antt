@@ -1,51 +1,57 @@
-use Rattle.std.proofs.Common.{◌∙◌, ℕ, sym, ap}
+use Rattle.std.proofs.Common.{◌∙◌, ℕ, sym, ap, arith, Option}
 use Rattle.std.specs.Prelude.{slice_get}
 use Rattle.vc_occam.specs.declared.frame.Frame.TheViews.{out-Frame}
 use Rattle.vc_occam.specs.First.{own}
-use Rattle.vc_occam.specs.Frames.{behind, part_own, place_of, views}
+use Rattle.vc_occam.specs.Frames.{View, behind, part_own, place_of, views}
 use Rattle.vc_occam.specs.Remains.{Rest}
 use Rattle.vc_occam.specs.Terms.{store}
-use Rattle.vc_occam.proofs.Frames.{turning_own, turning_none, rest_ready, rest_going, rest_idle, rest_ended, rest_stuck, follow_own, idle_own}
+use Rattle.vc_occam.proofs.Frames.{awaiting_own, is_awaiting, turning_own, turning_none, rest_ready, rest_going, rest_idle, rest_ended, rest_stuck, follow_own, idle_own}
+use Rattle.vc_occam.proofs.Gates.{pushed_none, pushed_same}
+use Rattle.vc_occam.proofs.Stepping.{none_view}
 use Rattle.vc_occam.proofs.+moves.Goals as goal
 
-pub frame::Frame::own_move-returns-in-Ready : goal.frame::Frame::own_move-returns-in-Ready
-frame::Frame::own_move-returns-in-Ready t c =
+pub frame::Frame::push_moves-returns-in-Ready : goal.frame::Frame::push_moves-returns-in-Ready
+frame::Frame::push_moves-returns-in-Ready t c =
+    let F = λ (r : Rest). own r (store c.args.vars.now) in
+    pushed_same c.push_ready.result _ _ _ _ (ap F (rest_ready c.args.self.now c.in-Ready.is)) c.push_ready.ensures
+
+pub frame::Frame::push_moves-returns-then-has_parts : goal.frame::Frame::push_moves-returns-then-has_parts
+frame::Frame::push_moves-returns-then-has_parts t c =
     let f = c.args.self.now in
     let F = λ (r : Rest). own r (store c.args.vars.now) in
-    ap F (rest_ready f c.in-Ready.is) ∙ c.ready_move.ensures
+    let o = out-Frame f in
+    pushed_same c.push_part.result _ _ _ _ (ap F (rest_going f c.in-Waiting.is (sym c.has_parts.ensures ∙ c.if-has_parts.true)) ∙ follow_own (slice_get (views o.parts.items) (place_of o.kind o.at)) (behind o.kind o.site (views o.parts.items) o.at) (store c.args.vars.now) ∙ ap (λ (k : ℕ). part_own (slice_get (views o.parts.items) k) (store c.args.vars.now)) (sym c.place.ensures)) c.push_part.ensures
 
-pub frame::Frame::own_move-returns-then-has_parts : goal.frame::Frame::own_move-returns-then-has_parts
-frame::Frame::own_move-returns-then-has_parts t c =
-    let f = c.args.self.now in
+pub frame::Frame::push_moves-returns-else-has_parts : goal.frame::Frame::push_moves-returns-else-has_parts
+frame::Frame::push_moves-returns-else-has_parts t c =
+    pushed_none _ _ (idle_own (store c.args.vars.now) (rest_idle c.args.self.now c.in-Waiting.is (sym c.has_parts.ensures ∙ c.if-has_parts.false)))
+
+pub frame::Frame::push_moves-returns-in-Chosen : goal.frame::Frame::push_moves-returns-in-Chosen
+frame::Frame::push_moves-returns-in-Chosen t c = pushed_none _ _ (awaiting_own (store c.args.vars.now) (is_awaiting c.args.self.now c.in-Chosen.is))
+
+pub frame::Frame::push_moves-returns-in-Ended : goal.frame::Frame::push_moves-returns-in-Ended
+frame::Frame::push_moves-returns-in-Ended t c =
     let F = λ (r : Rest). own r (store c.args.vars.now) in
-    let o = out-Frame f in (ap F (rest_going f c.in-Waiting.is (sym c.has_parts.ensures ∙ c.if-has_parts.true)) ∙ follow_own (slice_get (views o.parts.items) (place_of o.kind o.at)) (behind o.kind o.site (views o.parts.items) o.at) (store c.args.vars.now) ∙ ap (λ (k : ℕ). part_own (slice_get (views o.parts.items) k) (store c.args.vars.now)) (sym c.place.ensures)) ∙ c.part_move.ensures
+    pushed_none _ _ (ap F (rest_ended c.args.self.now c.in-Ended.is))
 
-pub frame::Frame::own_move-returns-else-has_parts : goal.frame::Frame::own_move-returns-else-has_parts
-frame::Frame::own_move-returns-else-has_parts t c =
-    let f = c.args.self.now in
+pub frame::Frame::push_moves-returns-in-Stuck : goal.frame::Frame::push_moves-returns-in-Stuck
+frame::Frame::push_moves-returns-in-Stuck t c =
     let F = λ (r : Rest). own r (store c.args.vars.now) in
-    idle_own (store c.args.vars.now) (rest_idle f c.in-Waiting.is (sym c.has_parts.ensures ∙ c.if-has_parts.false))
+    pushed_none _ _ (ap F (rest_stuck c.args.self.now c.in-Stuck.is))
 
-pub frame::Frame::own_move-returns-in-Ended : goal.frame::Frame::own_move-returns-in-Ended
-frame::Frame::own_move-returns-in-Ended t c =
-    let f = c.args.self.now in
-    let F = λ (r : Rest). own r (store c.args.vars.now) in
-    ap F (rest_ended f c.in-Ended.is)
-
-pub frame::Frame::own_move-returns-in-Stuck : goal.frame::Frame::own_move-returns-in-Stuck
-frame::Frame::own_move-returns-in-Stuck t c =
-    let f = c.args.self.now in
-    let F = λ (r : Rest). own r (store c.args.vars.now) in
-    ap F (rest_stuck f c.in-Stuck.is)
-
-pub frame::Frame::own_move-returns-then-is_counted : goal.frame::Frame::own_move-returns-then-is_counted
-frame::Frame::own_move-returns-then-is_counted t c =
+pub frame::Frame::push_moves-returns-then-is_counted : goal.frame::Frame::push_moves-returns-then-is_counted
+frame::Frame::push_moves-returns-then-is_counted t c =
     let f = c.args.self.now in
     let k = sym c.is_counted.ensures ∙ c.if-is_counted.true in
-    turning_own f c.in-Turning.index c.in-Turning.last (store c.args.vars.now) c.in-Turning.is k ∙ c.part_move-then-is_counted.ensures
+    pushed_same c.push_part-then-is_counted.result _ _ _ _ (turning_own f c.in-Turning.index c.in-Turning.last (store c.args.vars.now) c.in-Turning.is k) c.push_part-then-is_counted.ensures
 
-pub frame::Frame::own_move-returns-else-is_counted : goal.frame::Frame::own_move-returns-else-is_counted
-frame::Frame::own_move-returns-else-is_counted t c =
+pub frame::Frame::push_moves-returns-else-is_counted : goal.frame::Frame::push_moves-returns-else-is_counted
+frame::Frame::push_moves-returns-else-is_counted t c =
     let f = c.args.self.now in
     let k = sym c.is_counted.ensures ∙ c.if-is_counted.false in
-    ap (λ (r : Rest). own r (store c.args.vars.now)) (turning_none f c.in-Turning.index c.in-Turning.last c.in-Turning.is k)
+    pushed_none _ _ (ap (λ (r : Rest). own r (store c.args.vars.now)) (turning_none f c.in-Turning.index c.in-Turning.last c.in-Turning.is k))
+
+pub looking::push_part-returns : goal.looking::push_part-returns
+looking::push_part-returns t c =
+    let o = c.args.parts.now.ok.0 in
+    pushed_none _ _ (ap (λ (v : Option View). part_own v (store c.args.vars.now)) (none_view c.args.parts.now.items c.args.at (omega (arith, c.len.ensures))))

@@ -4,7 +4,7 @@ use Rattle.vc_occam.specs.declared.frame.Frame.TheViews.{out-Frame}
 use Rattle.vc_occam.specs.Frames.{behind, part_waits, place_of, views}
 use Rattle.vc_occam.specs.Remains.{Rest}
 use Rattle.vc_occam.specs.States.{waiting}
-use Rattle.vc_occam.proofs.Frames.{turning_waits, turning_none, rest_ready, rest_sending, rest_receiving, rest_going, rest_nothing, rest_ended, rest_stuck, follow_waits}
+use Rattle.vc_occam.proofs.Frames.{rest_chosen, turning_waits, turning_none, rest_ready, rest_sending, rest_receiving, rest_going, rest_nothing, rest_ended, rest_stuck, follow_waits}
 use Rattle.vc_occam.proofs.+waits.Goals as goal
 
 pub frame::Frame::waits-returns-in-Ready : goal.frame::Frame::waits-returns-in-Ready
@@ -60,3 +60,8 @@ frame::Frame::waits-returns-else-is_counted t c =
     let f = c.args.self.now in
     let k = sym c.is_counted.ensures ∙ c.if-is_counted.false in
     ap (λ (r : Rest). waiting r) (turning_none f c.in-Turning.index c.in-Turning.last c.in-Turning.is k)
+
+pub frame::Frame::waits-returns-in-Chosen : goal.frame::Frame::waits-returns-in-Chosen
+frame::Frame::waits-returns-in-Chosen t c =
+    let f = c.args.self.now in
+    ap waiting (rest_chosen f c.in-Chosen.is) ∙ c.chosen_waits.ensures (views (out-Frame f).parts.items)

@@ -28,14 +28,14 @@ inside_of-requires c =
     let same = ap length c.as_slice.ensures in
     omega arith
 
-pub in_order-requires-clause-sequential : goal.in_order-requires-clause-sequential
-in_order-requires-clause-sequential c = (node_runs c.args.plan.now c.requires.accepted c.args.number c.args.node.now c.requires.node).sequential
+pub new-requires-clause-in_order : goal.new-requires-clause-in_order
+new-requires-clause-in_order c = (node_runs c.args.plan.now c.requires.accepted c.args.number c.args.node.now c.requires.node).in_order
 
-pub in_order-requires-clause-sites : goal.in_order-requires-clause-sites
-in_order-requires-clause-sites c = (node_runs c.args.plan.now c.requires.accepted c.args.number c.args.node.now c.requires.node).sites
+pub new-requires-clause-sites : goal.new-requires-clause-sites
+new-requires-clause-sites c = (node_runs c.args.plan.now c.requires.accepted c.args.number c.args.node.now c.requires.node).sites
 
-pub in_order-requires-clause-fits : goal.in_order-requires-clause-fits
-in_order-requires-clause-fits c =
+pub new-requires-clause-fits : goal.new-requires-clause-fits
+new-requires-clause-fits c =
     let runs = node_runs c.args.plan.now c.requires.accepted c.args.number c.args.node.now c.requires.node in
     let kinds : c.as_slice-2.result.now ≡ kinds_of c.args.node.now.vars = search rules in
     subst (λ k. Fits k c.args.node.now.process) (sym kinds) runs.fits

@@ -1,5 +1,5 @@
 use Rattle.std.proofs.Common.{ℕ, ◌∙◌, sym, ap, refl, true, false}
-use Rattle.vc_occam.specs.declared.phase.Phase.TheVariants.{Ready, Waiting, Turning, Ended, Stuck}
+use Rattle.vc_occam.specs.declared.phase.Phase.TheVariants.{Ready, Waiting, Turning, Chosen, Ended, Stuck}
 use Rattle.std.specs.Prelude.{slice_get}
 use Rattle.vc_occam.specs.declared.frame.Frame.TheViews.{out-Frame}
 use Rattle.vc_occam.specs.Frames.{is_last, part_done, views}
@@ -23,3 +23,6 @@ Frame::ended-returns-else-is_last t c = c.if-is_last.false ∙ sym (ended_by c.a
 
 pub Frame::ended-returns-in-Turning : goal.Frame::ended-returns-in-Turning
 Frame::ended-returns-in-Turning t c = sym (ended_by c.args.self.now (Turning c.in-Turning.index c.in-Turning.last) _ _ c.in-Turning.is refl refl)
+
+pub Frame::ended-returns-in-Chosen : goal.Frame::ended-returns-in-Chosen
+Frame::ended-returns-in-Chosen t c = sym (ended_by c.args.self.now Chosen _ _ c.in-Chosen.is refl refl)

@@ -1,10 +1,10 @@
 use Rattle.std.proofs.Common.{◌∙◌, ◌+◌, ◌++◌, [], ◌∷◌, map, drop, sym, ap}
-use Rattle.vc_occam.specs.InOrder.{number, number_branch}
+use Rattle.vc_occam.specs.InOrder.{number, number_branch, number_guard}
 use Rattle.vc_occam.specs.Frames.{View, views}
-use Rattle.vc_occam.specs.Numbering.{NumberedBranch}
+use Rattle.vc_occam.specs.Numbering.{NumberedBranch, NumberedGuard}
 use Rattle.vc_occam.specs.Wholes.{whole_from}
-use Rattle.vc_occam.proofs.Making.{branch_made, if_whole, part_made, seq_whole, views_push}
-use Rattle.vc_occam.proofs.Numbers.{number_branch_out}
+use Rattle.vc_occam.proofs.Making.{alt_whole, branch_made, few_inputs, guard_made, if_whole, part_made, seq_whole, views_push}
+use Rattle.vc_occam.proofs.Numbers.{number_branch_out, number_guard_out}
 use Rattle.vc_occam.proofs.Reaching.{drop_at}
 use Rattle.vc_occam.proofs.framing.+framing.Goals as goal
 
@@ -36,3 +36,23 @@ frames_of_branches-loop-branch-preserved t c =
     ap views c.in_ok-push.ensures.items ∙ views_push c.loop-branch.frames.items c.in_ok-made.made.frame ∙ ap (λ (v : View). views c.loop-branch.frames.items ++ v ∷ []) c.in_ok-made.ensures.frame
     ∙ ap (λ (n : NumberedBranch). views c.loop-branch.frames.items ++ whole_from c.loop-branch.next n.then_do ∷ []) (sym is)
     ) c.loop-branch.invariant
+
+pub frames_of_guards-loop-guard-preserved : goal.frames_of_guards-loop-guard-preserved
+frames_of_guards-loop-guard-preserved t c =
+    let xs = c.as_slice-guard-items.result.now in
+    let k = c.loop-guard.guard-index in
+    let b = number_guard c.guard-item.result in
+    let is = number_guard_out c.guard-item.result in
+    guard_made c.loop-guard.next c.in_ok-made.made.next _ b (map number_guard (drop k xs)) (map number_guard (drop (k + 1) xs)) (views c.loop-guard.frames.items) _ _ (drop_at number_guard k xs c.guard-item.result c.loop-guard-test.true c.guard-item.is)
+    (c.in_ok-made.ensures.next ∙ ap (λ (n : NumberedGuard). c.loop-guard.next + n.then_do.sites) (sym is))
+    (
+    ap views c.in_ok-push.ensures.items ∙ views_push c.loop-guard.frames.items c.in_ok-made.made.frame ∙ ap (λ (v : View). views c.loop-guard.frames.items ++ v ∷ []) c.in_ok-made.ensures.frame
+    ∙ ap (λ (n : NumberedGuard). views c.loop-guard.frames.items ++ whole_from c.loop-guard.next n.then_do ∷ []) (sym is)
+    ) c.loop-guard.invariant
+
+pub frame_of-returns-in_ok-made-in-Alt-clause-frame : goal.frame_of-returns-in_ok-made-in-Alt-clause-frame
+frame_of-returns-in_ok-made-in-Alt-clause-frame t c =
+    c.with_parts-in-Alt.ensures.frame ∙ alt_whole c.args.site c.args.process.now c.in-Alt.guards c.new-guards.result _ (views c.in_ok-made-in-Alt.made.parts.items) c.in-Alt.is c.new-guards.ensures c.in_ok-inputs-in-Alt.ensures c.in_ok-made-in-Alt.ensures.parts
+
+pub frame_of-new-guards-requires : goal.frame_of-new-guards-requires
+frame_of-new-guards-requires t c = few_inputs c.args.site c.args.process.now c.in-Alt.guards c.in_ok-inputs-in-Alt.inputs c.in-Alt.is c.in_ok-inputs-in-Alt.ensures c.requires.sites

@@ -2,7 +2,7 @@ use Rattle.std.proofs.Common.{sym, subst, ℕ, length}
 use Rattle.vc_occam.specs.Frames.{HasVariables, View}
 use Rattle.vc_occam.specs.Numbering.{written}
 use Rattle.vc_occam.proofs.Fitting.{fits_variables, kinds_length}
-use Rattle.vc_occam.proofs.running.Running.in_order.Goals as goal
+use Rattle.vc_occam.proofs.running.Running.new.Goals as goal
 
 pub invariant_of-result : goal.invariant_of-result
 invariant_of-result c =

@@ -1,0 +1,16 @@
+use Rattle.std.proofs.Common.{◌∙◌, ap}
+use Rattle.vc_occam.specs.Frames.{plans, views}
+use Rattle.vc_occam.specs.Terms.{store}
+use Rattle.vc_occam.proofs.Gates.{choice_did, gate_plans, gate_variable}
+use Rattle.vc_occam.proofs.going.begin_choice.Goals as goal
+
+pub take_guard-requires : goal.take_guard-requires
+take_guard-requires c = gate_variable c.args.kind.now c.args.own c.in-Alt.guards (views c.args.parts.now.items) _ _ _ c.in-Alt.is c.as_slice.ensures c.requires.variables
+
+pub returns-in-Choose-clause-did : goal.returns-in-Choose-clause-did
+returns-in-Choose-clause-did c = λ s.
+    choice_did c.args.kind.now c.args.own c.in-Alt.guards (views c.args.parts.now.items) _ _ _ s c.args.deed _ c.in-Choose.place _ c.in-Choose.message _ _ c.in-Alt.is c.in-Choose.is c.from-place.ensures c.as_slice.ensures
+    c.take_guard.ensures.next c.take_guard.ensures.parts c.take_guard.ensures.value
+
+pub returns-in-Choose-clause-plans : goal.returns-in-Choose-clause-plans
+returns-in-Choose-clause-plans c = ap plans c.take_guard.ensures.parts ∙ gate_plans _ _ _ (views c.args.parts.now.items)

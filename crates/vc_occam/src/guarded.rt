@@ -1,0 +1,148 @@
+//! The guards of an ALT that runs, without their bodies.
+ghost use Rattle.std.specs.Prelude.{◌≡◌, ◌<◌, ◌++◌, ◌↔◌, IsTrue, OnOk, length, map};
+ghost use Rattle.std.specs.List.{Contains};
+ghost use Rattle.vc_occam.specs.Gates.{are_decided as all_decided, choices_at, gate, open_from, open_one};
+ghost use Rattle.vc_occam.specs.First.{is_true};
+ghost use Rattle.vc_occam.specs.Terms.{store, test};
+ghost use Rattle.vc_occam.specs.Values.{holds};
+
+use crate::condition::Cond;
+use crate::datum::Datum;
+use crate::moves::Move;
+use sqlite_items::Items;
+use vc_packets::Memory;
+
+/// What a guard of an ALT tests and inputs.
+#[derive(Drop)]
+pub(crate) struct GuardedInput {
+    pub(crate) cond: Cond,
+    pub(crate) chan: u16,
+    pub(crate) var: u8,
+}
+
+/// The guarded inputs of an ALT, in order: fewer than 65,536, so that the place of each has 16 bits.
+#[derive(Drop)]
+pub(crate) struct GuardedInputs {
+    pub(crate) inputs: Items<GuardedInput>,
+    ghost few: { length inputs < 65536 },
+}
+
+impl GuardedInput {
+    /// Whether its condition is true.
+    fn is_open(&self, vars: &[Datum]) -> bool
+        ensures { result ≡ is_true (holds (test self.now.cond) (store vars.now)) }
+    {
+        match self.cond.holds(vars) {
+            Some(held) => held,
+            None => false,
+        }
+    }
+
+    /// Adds the move that takes it, if its condition is true. `place` is its place in its ALT.
+    fn push_open(
+        &self,
+        found: &mut Items<Move>,
+        site: u16,
+        place: u16,
+        vars: &[Datum],
+    ) -> Result<(), Memory>
+        ensures { OnOk result (found.new ≡ found.old ++ open_one site place (gate self.now) (store vars.now)) }
+    {
+        if self.is_open(vars) {
+            found.push(Move::Choose {
+                site,
+                guard: place,
+                chan: self.chan,
+            })?;
+        }
+        Ok(())
+    }
+
+    /// Whether the move takes it, its condition being true.
+    fn is_taken(&self, made: &Move, site: u16, place: u16, vars: &[Datum]) -> bool
+        ensures { IsTrue result ↔ Contains (open_one site place (gate self.now) (store vars.now)) made.now }
+    {
+        let choice = Move::Choose {
+            site,
+            guard: place,
+            chan: self.chan,
+        };
+        self.is_open(vars) && choice == *made
+    }
+}
+
+impl GuardedInputs {
+    /// These guarded inputs.
+    pub(crate) fn new(inputs: Items<GuardedInput>) -> GuardedInputs
+        requires { length inputs < 65536 }
+        ensures { result.inputs ≡ inputs }
+    {
+        GuardedInputs { inputs }
+    }
+
+    /// Whether no condition is a fault.
+    fn are_decided(&self, vars: &[Datum]) -> bool
+        ensures { result ≡ all_decided (map gate self.now.inputs) (store vars.now) }
+    {
+        for input in self.inputs.as_slice() {
+            if input.cond.holds(vars).is_none() {
+                return false;
+            }
+        }
+        true
+    }
+
+    /// Adds the moves that take one whose condition is true, where no condition is a fault.
+    pub(crate) fn push_choices(
+        &self,
+        found: &mut Items<Move>,
+        site: u16,
+        vars: &[Datum],
+    ) -> Result<(), Memory>
+        ensures { OnOk result (found.new ≡ found.old ++ choices_at site (map gate self.now.inputs) (store vars.now)) }
+    {
+        if !self.are_decided(vars) {
+            return Ok(());
+        }
+        self.push_open(found, site, vars)
+    }
+
+    /// Adds the moves that take one whose condition is true.
+    fn push_open(
+        &self,
+        found: &mut Items<Move>,
+        site: u16,
+        vars: &[Datum],
+    ) -> Result<(), Memory>
+        ensures { OnOk result (found.new ≡ found.old ++ open_from site 0 (map gate self.now.inputs) (store vars.now)) }
+    {
+        let inputs = self.inputs.as_slice();
+        for place in 0..inputs.len() {
+            inputs[place].push_open(found, site, place as u16, vars)?;
+        }
+        Ok(())
+    }
+
+    /// Whether the move takes one whose condition is true, where no condition is a fault.
+    pub(crate) fn has_choice(&self, made: &Move, site: u16, vars: &[Datum]) -> bool
+        ensures { IsTrue result ↔ Contains (choices_at site (map gate self.now.inputs) (store vars.now)) made.now }
+    {
+        if !self.are_decided(vars) {
+            return false;
+        }
+        self.has_open(made, site, vars)
+    }
+
+    /// Whether the move takes one whose condition is true.
+    fn has_open(&self, made: &Move, site: u16, vars: &[Datum]) -> bool
+        ensures { IsTrue result ↔ Contains (open_from site 0 (map gate self.now.inputs) (store vars.now)) made.now }
+    {
+        let inputs = self.inputs.as_slice();
+        for place in 0..inputs.len() {
+            if inputs[place].is_taken(made, site, place as u16, vars) {
+                return true;
+            }
+        }
+        false
+    }
+}
