@@ -172,11 +172,7 @@ fn inputs_of(alloc: Global, guards: &Items<Guard>) -> Result<Items<GuardedInput>
 /// The frames of guards' bodies that are about to begin.
 #[cycle(framing)]
 #[tactic(auto, unfolding(crate::specs::InOrder::number, crate::specs::InOrder::number_guard))]
-fn frames_of_guards(
-    alloc: Global,
-    guards: &Items<Guard>,
-    site: u32,
-) -> Result<FramedParts, Memory>
+fn frames_of_guards(alloc: Global, guards: &Items<Guard>, site: u32) -> Result<FramedParts, Memory>
     requires in_order { guards_in_order (guards_from site (map number_guard guards.now)) ≡ true }
     requires sites { site + guard_sites (map number_guard guards.now) ≤ 65536 }
     ensures parts { IfOk result (λ made. views made.parts.items ≡ guard_wholes_from site (map number_guard guards.now)) }

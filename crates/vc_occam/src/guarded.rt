@@ -108,12 +108,7 @@ impl GuardedInputs {
     }
 
     /// Adds the moves that take one whose condition is true.
-    fn push_open(
-        &self,
-        found: &mut Items<Move>,
-        site: u16,
-        vars: &[Datum],
-    ) -> Result<(), Memory>
+    fn push_open(&self, found: &mut Items<Move>, site: u16, vars: &[Datum]) -> Result<(), Memory>
         ensures { OnOk result (found.new ≡ found.old ++ open_from site 0 (map gate self.now.inputs) (store vars.now)) }
     {
         let inputs = self.inputs.as_slice();

@@ -277,13 +277,7 @@ fn push_move(found: &mut Items<Move>, made: Option<Move>) -> Result<(), Memory>
 }
 
 /// Whether the move is one of a process that hasn't begun.
-fn ready_begins(
-    made: &Move,
-    site: u16,
-    kind: &Kind,
-    parts: &Vec<Frame>,
-    vars: &[Datum],
-) -> bool
+fn ready_begins(made: &Move, site: u16, kind: &Kind, parts: &Vec<Frame>, vars: &[Datum]) -> bool
     ensures { IsTrue result ↔ Contains (own (Fresh (plan_at kind.now site (views parts.now.items))) (store vars.now)) made.now }
 {
     match kind {

@@ -21,11 +21,7 @@ pub(crate) fn is_outside(made: &Move, inside: &[u16]) -> bool
 }
 
 /// The moves that need no channel inside the node.
-pub(crate) fn outside(
-    alloc: Global,
-    moves: &[Move],
-    inside: &[u16],
-) -> Result<Items<Move>, Memory>
+pub(crate) fn outside(alloc: Global, moves: &[Move], inside: &[u16]) -> Result<Items<Move>, Memory>
     ensures { IfOk result (λ found. found ≡ kept_outside (among inside.now) moves.now) }
 {
     let mut found = Items::new(alloc);

@@ -1,6 +1,7 @@
 //! Each word that runs, and each fault, by one example.
 use crate::{
-    Answer, BytesExpr, Expr, Move, Op, Process, Running, UseFault, Value, ValueKind, check_use,
+    Answer, BytesExpr, Cond, Expr, Guard, Move, Op, Process, Running, UseFault, Value, ValueKind,
+    check_use,
 };
 use sqlite_items::{Boxed, Items};
 use std::alloc::Global;
@@ -167,6 +168,56 @@ fn count(alloc: Global, base: i64, count: i64) -> Result<Process, Fail> {
         count: Expr::Num(count),
         body: Boxed::new(alloc, Process::Skip)?,
     })
+}
+
+fn guard(chan: u16, open: bool) -> Guard {
+    Guard {
+        cond: Cond::Always(open),
+        chan,
+        var: 0,
+        body: Process::Skip,
+    }
+}
+
+#[test]
+fn an_alt_may_take_each_guard_whose_condition_is_true(rt: HostRuntime) -> Result<(), Fail> {
+    let mut guards = Items::new(rt.alloc());
+    guards.push(guard(1, true))?;
+    guards.push(guard(2, false))?;
+    guards.push(guard(3, true))?;
+    let alt = begin(rt.alloc(), Process::Alt(guards), &[ValueKind::Int], &[])?;
+    let choices = [
+        Move::Choose {
+            site: 0,
+            guard: 0,
+            chan: 1,
+        },
+        Move::Choose {
+            site: 0,
+            guard: 2,
+            chan: 3,
+        },
+    ];
+    assert_eq!(rt; alt.actions()?.as_slice(), choices.as_slice());
+    Ok(())
+}
+
+#[test]
+fn an_alt_waits_for_the_message_of_its_guard(rt: HostRuntime) -> Result<(), Fail> {
+    let mut guards = Items::new(rt.alloc());
+    guards.push(guard(1, true))?;
+    let mut alt = begin(rt.alloc(), Process::Alt(guards), &[ValueKind::Bytes], &[])?;
+    let choice = Move::Choose {
+        site: 0,
+        guard: 0,
+        chan: 1,
+    };
+    assert!(rt; alt.lists(&choice));
+    alt.act(&choice, Answer::Waits)?;
+    let site = alt.input_on(1).ok_or("an input that waits")?;
+    alt.resume(site, Some(Items::from_slice(rt.alloc(), b"x")?));
+    assert!(rt; alt.lists(&Move::Quiet { site: 1 }));
+    Ok(())
 }
 
 #[test]

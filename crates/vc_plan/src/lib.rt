@@ -11,7 +11,7 @@
 //! virtual link in order, way ab before ba, with the fewest hops, then the least by its choices (`specs/Faults`).
 //!
 //! The search keeps the places reached after equally many hops, each once, in the order of their least paths; the definitions
-//! speak of all paths. Today processes run in order, and one with a PAR or an ALT is over the limit of depth.
+//! speak of all paths. Today processes run in order, and one with a PAR is over the limit of depth.
 #![tactic(auto)]
 
 mod accepted;

@@ -1,6 +1,5 @@
 use Rattle.std.proofs.Common.{◌∙◌, ap}
 use Rattle.vc_occam.specs.Frames.{plans, views}
-use Rattle.vc_occam.specs.Terms.{store}
 use Rattle.vc_occam.proofs.Gates.{choice_did, gate_plans, gate_variable}
 use Rattle.vc_occam.proofs.going.begin_choice.Goals as goal
 

@@ -1,6 +1,5 @@
 use Rattle.std.proofs.Common.{◌∙◌, ap, refl}
 use Rattle.vc_occam.specs.Frames.{plans, views}
-use Rattle.vc_occam.specs.Terms.{store}
 use Rattle.vc_occam.proofs.Gates.{gate_plans, gate_variable, message_did, no_message_did}
 use Rattle.vc_occam.proofs.going.end_choice.Goals as goal
 

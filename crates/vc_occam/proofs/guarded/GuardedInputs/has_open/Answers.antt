@@ -1,4 +1,4 @@
-use Rattle.std.proofs.Common.{◌≡◌, ◌<◌, refl, sym, ◌∙◌, subst, map, length, true, false}
+use Rattle.std.proofs.Common.{◌≡◌, refl, sym, ◌∙◌, subst, map, true, false}
 use Rattle.std.specs.List.{Contains}
 use Rattle.vc_occam.specs.Gates.{gate, open_from}
 use Rattle.vc_occam.specs.Terms.{store}

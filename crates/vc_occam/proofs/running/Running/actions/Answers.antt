@@ -3,7 +3,7 @@ use Rattle.vc_occam.specs.declared.datum.Datum.{Datum}
 use Rattle.vc_occam.specs.declared.moves.Move.{Move}
 use Rattle.vc_occam.specs.First.{own}
 use Rattle.vc_occam.specs.Frames.{outside, view}
-use Rattle.vc_occam.specs.Runnings.{state, inner_channels, moves}
+use Rattle.vc_occam.specs.Runnings.{state, inner_channels}
 use Rattle.vc_occam.specs.Terms.{store}
 use Rattle.vc_occam.specs.Usage.{among}
 use Rattle.vc_occam.proofs.Frames.{on_ok}
