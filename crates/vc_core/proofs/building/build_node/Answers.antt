@@ -28,20 +28,20 @@ inside_of-requires c =
     let same = ap length c.as_slice.ensures in
     omega arith
 
-pub new-requires-clause-in_order : goal.new-requires-clause-in_order
-new-requires-clause-in_order c = (node_runs c.args.plan.now c.requires.accepted c.args.number c.args.node.now c.requires.node).in_order
+pub new-requires-2-clause-in_order : goal.new-requires-2-clause-in_order
+new-requires-2-clause-in_order c = (node_runs c.args.plan.now c.requires.accepted c.args.number c.args.node.now c.requires.node).in_order
 
-pub new-requires-clause-sites : goal.new-requires-clause-sites
-new-requires-clause-sites c = (node_runs c.args.plan.now c.requires.accepted c.args.number c.args.node.now c.requires.node).sites
+pub new-requires-2-clause-sites : goal.new-requires-2-clause-sites
+new-requires-2-clause-sites c = (node_runs c.args.plan.now c.requires.accepted c.args.number c.args.node.now c.requires.node).sites
 
-pub new-requires-clause-fits : goal.new-requires-clause-fits
-new-requires-clause-fits c =
+pub new-requires-2-clause-fits : goal.new-requires-2-clause-fits
+new-requires-2-clause-fits c =
     let runs = node_runs c.args.plan.now c.requires.accepted c.args.number c.args.node.now c.requires.node in
     let kinds : c.as_slice-2.result.now ≡ kinds_of c.args.node.now.vars = search rules in
     subst (λ k. Fits k c.args.node.now.process) (sym kinds) runs.fits
 
-pub new-requires-2 : goal.new-requires-2
-new-requires-2 c =
+pub new-requires-3 : goal.new-requires-3
+new-requires-3 c =
     let few = few_channels c.args.plan.now c.requires.accepted in
     let same = ap length c.as_slice-3.ensures in
     omega arith
@@ -51,13 +51,13 @@ returns c =
     let p = c.args.plan.now in
     let k = c.args.number in
     let es = c.deref.result.now in
-    let n = c.new-3.result in
+    let n = c.new-4.result in
     let given : es ≡ ends_of_node p k = c.deref.ensures.value ∙ c.in_ok-ends.ensures ∙ ends_are p c.args.ways.now c.requires.ways k in
     let kinds : c.as_slice-2.result.now ≡ kinds_of c.args.node.now.vars = search rules in
     let chans : c.deref-2.result.now ≡ numbers_inside k 0 p.channels = c.deref-2.ensures.value ∙ c.in_ok-chans.ensures ∙ ap (numbers_inside k 0) c.as_slice.ensures in
-    let vcp : n.vcp ≡ c.in_ok-vcp.vcp = c.new-3.ensures.0 in
-    let runs : n.process ≡ c.in_ok-process.process = c.new-3.ensures.1 in
-    let inside : n.inside ≡ c.in_ok-inside.inside = c.new-3.ensures.2 in
+    let vcp : n.vcp ≡ c.in_ok-vcp.vcp = c.new-4.ensures.0 in
+    let runs : n.process ≡ c.in_ok-process.process = c.new-4.ensures.1 in
+    let inside : n.inside ≡ c.in_ok-inside.inside = c.new-4.ensures.2 in
     let starts : state c.in_ok-process.process ≡ opening c.as_slice-2.result.now c.args.node.now.process = c.in_ok-process.ensures.state in
     let channels : inner_channels c.in_ok-process.process ≡ among c.deref-2.result.now = c.in_ok-process.ensures.inside in
     let opened : c.in_ok-inside.inside ≡ opened_inside k 0 c.as_slice-3.result.now = c.in_ok-inside.ensures in
