@@ -15,6 +15,8 @@ use Rattle.vc_occam.proofs.frame.Frame.TheLaws.TheKnot as frame
 use Rattle.vc_occam.specs.contracts.expression.Expr as Expr
 use Rattle.vc_occam.specs.contracts.condition.Cond as Cond
 use Rattle.vc_occam.specs.contracts.value.Value as Value
+use Rattle.vc_occam.specs.contracts.guarded.GuardedInput as GuardedInput
+use Rattle.vc_occam.specs.contracts.guarded.GuardedInputs as GuardedInputs
 use Rattle.vc_occam.specs.contracts.kind.Kind as Kind
 use Rattle.vc_occam.proofs.expression.Expr.TheLaws.TheKnot as expr
 use Rattle.vc_occam.proofs.condition.Cond.TheLaws.TheKnot as cond
@@ -51,11 +53,26 @@ value_field = search (sendable, expr_send, expr_field, bytes.the_send, bytes.the
 conds_send : IsSend (Items.the_row Cond.the_row)
 conds_send = search (sendable, crosses, cond_send) depth 20
 
+input_send : IsSend GuardedInput.the_row
+input_send = search (sendable, cond_send, cond_field) depth 20
+
+input_field : IsSend GuardedInput.the_field.row
+input_field = search (sendable, cond_send, cond_field) depth 20
+
+inputs_send : IsSend (Items.the_row GuardedInput.the_row)
+inputs_send = search (sendable, crosses, input_send) depth 20
+
+guards_send : IsSend GuardedInputs.the_row
+guards_send = search (sendable, inputs_send) depth 20
+
+guards_field : IsSend GuardedInputs.the_field.row
+guards_field = search (sendable, inputs_send) depth 20
+
 kind_send : IsSend Kind.the_row
-kind_send = search (sendable, value_send, value_field, cond_send, cond_field, conds_send, expr_send, expr_field) depth 20
+kind_send = search (sendable, value_send, value_field, cond_send, cond_field, conds_send, expr_send, expr_field, guards_send, guards_field) depth 20
 
 kind_field : IsSend Kind.the_field.row
-kind_field = search (sendable, value_send, value_field, cond_send, cond_field, conds_send, expr_send, expr_field) depth 20
+kind_field = search (sendable, value_send, value_field, cond_send, cond_field, conds_send, expr_send, expr_field, guards_send, guards_field) depth 20
 
 frame_send : IsSend Frame.the_row
 frame_send = search (sendable, crosses, frame.send-Frame, kind_send, kind_field, phase.the_send, phase.the_field_send) depth 20 fits 20000
