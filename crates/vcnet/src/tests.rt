@@ -129,6 +129,23 @@ fn messages_of_one_packet_and_of_the_most_packets(rt: HostRuntime) -> Result<(),
     Ok(())
 }
 
+/// Two nodes at two switches, which have four wires between them.
+const SQUARES: &str =
+    r#"{"version":1,"nodes":[{"name":"a","vars":[["i","int"]],"process":{"for":["i",0,3,{"out":["c",["*","i","i"]]}]}},{"name":"b","vars":[["k","int"],["x","int"]],"process":{"for":["k",0,3,{"in":["c","x"]}]}}],"switches":[{"name":"s","table":[[0,10,0,0],[10,20,4,7]],"delete":[0]},{"name":"t","table":[[0,10,4,7],[10,20,0,0]],"delete":[0]}],"wires":[["a",0,"s",0],["b",0,"t",0],["s",4,"t",4],["s",5,"t",5],["s",6,"t",6],["s",7,"t",7]],"vlinks":[{"name":"v","a":["a",0,1,[10,1]],"b":["b",0,1,[0,1]]}],"channels":[{"name":"c","kind":"int","vlink":"v","way":"ab"}]}"#;
+
+/// Two nodes at a switch that puts a random header before each packet of the first, and takes it away again as a portal.
+const PORTAL: &str =
+    r#"{"version":2,"nodes":[{"name":"a","process":{"out":["c",{"text":"hello"}]}},{"name":"b","vars":[["m","bytes"]],"process":{"in":["c","m"]}}],"wires":[["a",0,"s",0],["b",0,"s",1]],"vlinks":[{"name":"v","a":["a",0,7,[50]],"b":["b",0,50,[7]]}],"channels":[{"name":"c","kind":"bytes","vlink":"v","way":"ab"}],"switches":[{"name":"s","table":[[0,50,0,0],[50,100,1,1],[100,104,"portal"]],"random":[[0,100,104]]}]}"#;
+
+#[test]
+fn switches_forward(rt: HostRuntime) -> Result<(), Fail> {
+    let alloc = rt.alloc();
+    let traffic = "channel c offered 3 taken 3 finished 3\n  0 0\n  1 1\n  2 4\nend done\n";
+    assert!(rt; step(alloc, SQUARES).is(traffic, 0));
+    assert!(rt; step(alloc, PORTAL).is(HELLO_TRAFFIC, 0));
+    Ok(())
+}
+
 #[test]
 fn a_message_that_nobody_inputs_is_offered(rt: HostRuntime) -> Result<(), Fail> {
     let network = two_nodes(rt.alloc(), TEXT_HELLO, "\"skip\"")?;
