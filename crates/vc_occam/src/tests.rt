@@ -149,12 +149,17 @@ fn an_assignment_ends_or_stops(rt: HostRuntime) -> Result<(), Fail> {
 }
 
 #[test]
-fn skip_ends_and_stop_never_goes_on(rt: HostRuntime) -> Result<(), Fail> {
+fn skip_ends(rt: HostRuntime) -> Result<(), Fail> {
     let mut skip = begin(rt.alloc(), Process::Skip, &[], &[])?;
     let quiet = Move::Quiet { site: 0 };
     assert!(rt; skip.lists(&quiet));
     skip.act(&quiet, Answer::Nothing)?;
     assert!(rt; skip.ended());
+    Ok(())
+}
+
+#[test]
+fn stop_never_goes_on(rt: HostRuntime) -> Result<(), Fail> {
     let stop = begin(rt.alloc(), Process::Stop, &[], &[])?;
     assert!(rt; stop.actions()?.is_empty());
     assert!(rt; !stop.ended());
