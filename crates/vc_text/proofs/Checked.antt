@@ -2,7 +2,7 @@
 use Rattle.std.proofs.Common.{List, ℕ, Option, Some, None, Result, Ok, Err}
 use Rattle.vc_plan.specs.declared.plan.Plan.{Plan as Network}
 use Rattle.vc_text.specs.declared.fault.RunFault.{RunFault}
-use Rattle.vc_text.specs.declared.fault.RunFault.TheVariants.{Read, Write, Text, Plan, Memory}
+use Rattle.vc_text.specs.declared.fault.RunFault.TheVariants.{Read, Write, Text, Plan, Threads, Memory}
 use Rattle.vc_text.specs.Streams.{Writes}
 use Rattle.vc_text.specs.Checking.{ReadsAccepted, Checks, accepted_text}
 
@@ -17,3 +17,4 @@ checks_of known old new plan (Err Memory) r w = (memory_any known, w)
 checks_of known old new plan (Err Read) r w = absurd w
 checks_of known old new plan (Err (Text refused)) r w = absurd w
 checks_of known old new plan (Err (Plan refusal)) r w = absurd w
+checks_of known old new plan (Err (Threads why)) r w = absurd w

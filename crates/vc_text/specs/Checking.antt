@@ -6,7 +6,7 @@ use Rattle.vc_plan.specs.Accepted.{IsAccepted}
 use Rattle.vc_plan.specs.Check.{IsCause}
 use Rattle.vc_reader.specs.NetworkText.{Reads}
 use Rattle.vc_text.specs.declared.fault.RunFault.{RunFault}
-use Rattle.vc_text.specs.declared.fault.RunFault.TheVariants.{Write, Text, Plan}
+use Rattle.vc_text.specs.declared.fault.RunFault.TheVariants.{Write, Text, Plan, Threads}
 use Rattle.vc_text.specs.Streams.{AppendsFront}
 use Rattle.vc_text.specs.Traffic.{newline}
 
@@ -17,6 +17,7 @@ ReadsAccepted (Some text) (Err (Text refused)) = Reads text (Err refused)
 ReadsAccepted (Some text) (Err (Plan refusal)) = Reads text (Ok refusal.plan) × IsCause refusal.plan refusal.why
 ReadsAccepted None (Ok plan) = IsAccepted plan
 ReadsAccepted None (Err (Plan refusal)) = IsCause refusal.plan refusal.why
+ReadsAccepted known (Err (Threads why)) = ⊥
 ReadsAccepted known (Err Write) = ⊥
 ReadsAccepted known answer = ⊤
 

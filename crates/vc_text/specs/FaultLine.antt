@@ -19,6 +19,8 @@ use Rattle.vc_reader.specs.declared.path.Step.TheVariants.{Field, Index}
 use Rattle.vc_reader.specs.declared.refused.ReadRefused.{ReadRefused}
 use Rattle.vc_reader.specs.declared.refused.ReadRefused.TheVariants as read
 use Rattle.vc_reader.specs.Words.{word_text}
+use Rattle.vc_threads.specs.declared.crew.ThreadFault.{ThreadFault}
+use Rattle.vc_threads.specs.declared.crew.ThreadFault.TheVariants as thread
 use Rattle.vc_text.specs.declared.fault.RunFault.{RunFault}
 use Rattle.vc_text.specs.declared.fault.RunFault.TheVariants as fault
 use Rattle.vc_text.specs.Traffic.{newline}
@@ -159,6 +161,13 @@ offender_text plan check.Memory = []
 abbrev pub check_line : Plan → CheckRefused → List ℕ
 check_line plan why = check_head why ++ offender_text plan why
 
+-- ---- the threads
+
+abbrev pub thread_line : ThreadFault → List ℕ
+thread_line thread.Memory = codes "fault memory"
+thread_line thread.Start = codes "fault thread"
+thread_line thread.NotARun = codes "fault notarun"
+
 -- ---- the whole
 
 -- after a fault of the writer nothing more is written
@@ -167,4 +176,5 @@ fault_text fault.Read = codes "fault read" ++ newline
 fault_text fault.Write = []
 fault_text (fault.Text refused) = read_line refused ++ newline
 fault_text (fault.Plan refusal) = check_line refusal.plan refusal.why ++ newline
+fault_text (fault.Threads why) = thread_line why ++ newline
 fault_text fault.Memory = codes "fault memory" ++ newline

@@ -7,3 +7,4 @@ pub mod Closing
 pub mod Quiet
 pub mod Running
 pub mod Shown
+pub mod Threading

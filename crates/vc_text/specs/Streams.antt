@@ -4,7 +4,7 @@ use Rattle.std.specs.Io.KnownBytes.{Appends}
 use Rattle.vc_plan.specs.declared.plan.Plan.{Plan as Network}
 use Rattle.vc_reader.specs.NetworkText.{Reads}
 use Rattle.vc_text.specs.declared.fault.RunFault.{RunFault}
-use Rattle.vc_text.specs.declared.fault.RunFault.TheVariants.{Read, Write, Text, Plan, Memory}
+use Rattle.vc_text.specs.declared.fault.RunFault.TheVariants.{Read, Write, Text, Plan, Threads, Memory}
 
 -- the bytes are all that the reader had
 abbrev pub IsAllOf : Option (List ℕ) → List ℕ → Type 0
@@ -33,5 +33,6 @@ abbrev pub ReadsPlan : Option (List ℕ) → Result Network RunFault → Type 0
 ReadsPlan (Some text) (Ok plan) = Reads text (Ok plan)
 ReadsPlan (Some text) (Err (Text refused)) = Reads text (Err refused)
 ReadsPlan known (Err (Plan refusal)) = ⊥
+ReadsPlan known (Err (Threads why)) = ⊥
 ReadsPlan known (Err Write) = ⊥
 ReadsPlan known answer = ⊤

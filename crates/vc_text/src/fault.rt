@@ -1,11 +1,12 @@
 //! Why a run gives no result.
 ghost use Rattle.std.specs.Prelude.{◌≡◌};
-ghost use Rattle.vc_text.specs.declared.fault.RunFault.TheVariants.{Memory as OutOfMemory, Text as InText};
+ghost use Rattle.vc_text.specs.declared.fault.RunFault.TheVariants.{Memory as OutOfMemory, Text as InText, Threads as InThreads};
 
 use std::alloc::{AllocError, AllocFailed};
 use vc_packets::Memory;
 use vc_plan::Refusal;
 use vc_reader::ReadRefused;
+use vc_threads::ThreadFault;
 
 /// Why a run gives no result.
 #[derive(Drop)]
@@ -18,6 +19,8 @@ pub enum RunFault {
     Text(ReadRefused),
     /// The plan is refused.
     Plan(Refusal),
+    /// The threads gave no report.
+    Threads(ThreadFault),
     /// There was no memory.
     Memory,
 }
@@ -51,5 +54,13 @@ impl From<ReadRefused> for RunFault {
 
     fn from(refused: ReadRefused) -> RunFault {
         RunFault::Text(refused)
+    }
+}
+
+impl From<ThreadFault> for RunFault {
+    ghost from_gives = { λ why fault. fault ≡ InThreads why };
+
+    fn from(why: ThreadFault) -> RunFault {
+        RunFault::Threads(why)
     }
 }

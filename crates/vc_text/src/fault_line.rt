@@ -1,6 +1,6 @@
 //! The line of a fault.
-ghost use Rattle.std.specs.Prelude.{◌≡◌, IfOk};
-ghost use Rattle.vc_text.specs.FaultLine.{fault_text as text_of_fault};
+ghost use Rattle.std.specs.Prelude.{◌≡◌, ◌++◌, IfOk, OnOk};
+ghost use Rattle.vc_text.specs.FaultLine.{fault_text as text_of_fault, thread_line};
 ghost use Rattle.vc_text.specs.Streams.{Writes};
 
 use crate::check_line::push_check_line;
@@ -11,6 +11,19 @@ use std::alloc::Global;
 use std::io::Write;
 use vc_packets::Memory;
 use vc_plan::Refusal;
+use vc_threads::ThreadFault;
+
+// The line of a run in threads that gave no report.
+fn push_thread_line(out: &mut Vec<u8>, why: ThreadFault) -> Result<(), Memory>
+    ensures { OnOk result (out.new.items ≡ out.old.items ++ thread_line why) }
+{
+    match why {
+        ThreadFault::Memory => out.extend_from_slice(b"fault memory")?,
+        ThreadFault::Start => out.extend_from_slice(b"fault thread")?,
+        ThreadFault::NotARun => out.extend_from_slice(b"fault notarun")?,
+    }
+    Ok(())
+}
 
 fn fault_text(alloc: Global, fault: &RunFault) -> Result<Vec<u8>, Memory>
     ensures { IfOk result (λ text. text.items ≡ text_of_fault fault.now) }
@@ -25,6 +38,10 @@ fn fault_text(alloc: Global, fault: &RunFault) -> Result<Vec<u8>, Memory>
         }
         RunFault::Plan(Refusal { plan, why }) => {
             push_check_line(&mut out, plan, why)?;
+            out.push(10)?;
+        }
+        RunFault::Threads(why) => {
+            push_thread_line(&mut out, *why)?;
             out.push(10)?;
         }
         RunFault::Memory => out.extend_from_slice(b"fault memory\n")?,

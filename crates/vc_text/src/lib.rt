@@ -14,6 +14,7 @@ mod read_line;
 mod run;
 mod seats;
 mod streams;
+mod threading;
 mod traffic;
 
 pub use check::run_check;
@@ -21,6 +22,7 @@ pub use fault::RunFault;
 pub use fault_line::write_fault;
 pub use run::{StepReport, run_step, write_traffic};
 pub use streams::write_text;
+pub use threading::run_net;
 pub use traffic::{ChannelView, write_channels};
 
 #[cfg(test)]

@@ -5,3 +5,4 @@ pub mod Planned
 pub mod Main
 pub mod Sending
 pub mod Swapped
+pub mod Determinate

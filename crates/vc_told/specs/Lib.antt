@@ -3,3 +3,4 @@ pub mod OneList
 pub mod Sent
 pub mod Swapping
 pub mod Process
+pub mod Determinate

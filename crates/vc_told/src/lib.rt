@@ -2,6 +2,7 @@
 //! channel's part is a run of the channel. So no log is invented, and nothing is taken before it could be sent. Definitions and laws.
 #![tactic(auto)]
 
+ghost use Rattle.vc_told.specs.Determinate.{DeedsLeadToOneState, LawfulProcessesStaySo};
 ghost use Rattle.vc_told.specs.OneList.{AllIsTold};
 ghost use Rattle.vc_told.specs.Sent.{NothingIsGotUnsent};
 ghost use Rattle.vc_told.specs.Swapping.{NothingIsSwapped};
@@ -22,4 +23,11 @@ pub fn nothing_is_got_before_it_is_sent()
 /// swapped what neither sent.
 pub fn nothing_unsent_is_swapped()
     ensures { NothingIsSwapped }
+{}
+
+/// A process that uses its channels and variables lawfully, with sites of its own side by side, stays so whatever it does; and what it
+/// does leads to one state.
+pub fn lawful_processes_are_determinate()
+    ensures next { DeedsLeadToOneState }
+    ensures kept { LawfulProcessesStaySo }
 {}

@@ -1,7 +1,7 @@
 -- What a command line may ask for.
 use Rattle.std.specs.Prelude.{◌≡◌, ◌⊎◌, ◌≤◌, ⊤}
 use Rattle.vcnet.specs.declared.command.Line.{Line}
-use Rattle.vcnet.specs.declared.command.Line.TheVariants.{Check, Step}
+use Rattle.vcnet.specs.declared.command.Line.TheVariants.{Check, Step, Run}
 use Rattle.vcnet.specs.declared.command.LineFault.{LineFault}
 use Rattle.vcnet.specs.declared.command.LineFault.TheVariants.{Bad, Memory}
 
@@ -9,6 +9,7 @@ use Rattle.vcnet.specs.declared.command.LineFault.TheVariants.{Bad, Memory}
 abbrev pub IsInRange : Line → Type 0
 IsInRange Check = ⊤
 IsInRange (Step limit) = limit ≤ 1000000000
+IsInRange (Run turns seed) = turns ≤ 1000000000
 
 -- a bad line has status 5, and a request for help 0
 abbrev pub IsLineFault : LineFault → Type 0

@@ -4,6 +4,8 @@ use Rattle.vc_text.specs.Checking.{Checks}
 use Rattle.vc_text.specs.FaultLine.{fault_text}
 use Rattle.vc_text.specs.Running.{Steps}
 use Rattle.vc_text.specs.Streams.{Writes}
+use Rattle.vc_text.specs.Threading.{RunsInThreads}
+use Rattle.vc_threads.specs.declared.report.Report.{Report}
 use Rattle.vc_text.specs.declared.fault.RunFault.{RunFault}
 use Rattle.vc_text.specs.declared.fault.RunFault.TheVariants.{Memory}
 use Rattle.vc_text.specs.declared.run.StepReport.{StepReport}
@@ -33,6 +35,12 @@ StepsNetwork known old new limit status =
     ((report : StepReport) × Steps known old new limit (Ok report) × (status ≡ status_of_end report.close))
     ⊎ ((fault : RunFault) × (mid : Option (List ℕ)) × Steps known old mid limit (Err fault) × TellsFault mid new fault status)
 
+-- it is run in threads, or a fault of it is told
+abbrev pub RunsNetwork : Option (List ℕ) → Option (List ℕ) → Option (List ℕ) → ℕ → Type 0
+RunsNetwork known old new status =
+    ((report : Report) × RunsInThreads known old new (Ok report) × (status ≡ status_of_end report.close))
+    ⊎ ((fault : RunFault) × (mid : Option (List ℕ)) × RunsInThreads known old mid (Err fault) × TellsFault mid new fault status)
+
 -- a bad line or a request for help is told, or want of memory
 abbrev pub TellsLine : Option (List ℕ) → Option (List ℕ) → ℕ → Type 0
 TellsLine old new status =
@@ -42,4 +50,5 @@ TellsLine old new status =
 pub data Runs (known rest old new : Option (List ℕ)) (status : ℕ) : Type 0 where
   checks : ChecksNetwork known old new status → Runs known rest old new status
   steps : (limit : ℕ) → limit ≤ 1000000000 → StepsNetwork known old new limit status → Runs known rest old new status
+  runs : RunsNetwork known old new status → Runs known rest old new status
   tells : rest ≡ known → TellsLine old new status → Runs known rest old new status

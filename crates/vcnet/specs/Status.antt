@@ -7,7 +7,7 @@ use Rattle.vc_plan.specs.declared.check_refused.CheckRefused.TheVariants as chec
 use Rattle.vc_reader.specs.declared.refused.ReadRefused.{ReadRefused}
 use Rattle.vc_reader.specs.declared.refused.ReadRefused.TheVariants as read
 use Rattle.vc_text.specs.declared.fault.RunFault.{RunFault}
-use Rattle.vc_text.specs.declared.fault.RunFault.TheVariants.{Read, Write, Text, Plan, Memory}
+use Rattle.vc_text.specs.declared.fault.RunFault.TheVariants.{Read, Write, Text, Plan, Threads, Memory}
 
 -- 2 for a text or a plan that is refused, but 4 for want of memory
 abbrev pub status_of_text : ReadRefused → ℕ
@@ -18,12 +18,13 @@ abbrev pub status_of_check : CheckRefused → ℕ
 status_of_check check.Memory = 4
 status_of_check why = 2
 
--- and 6 for the streams
+-- 4 for threads that gave no report, and 6 for the streams
 abbrev pub status_of_fault : RunFault → ℕ
 status_of_fault Read = 6
 status_of_fault Write = 6
 status_of_fault (Text refused) = status_of_text refused
 status_of_fault (Plan refusal) = status_of_check refusal.why
+status_of_fault (Threads why) = 4
 status_of_fault Memory = 4
 
 -- 0 where every process has ended, 1 where the network is quiet, 3 for a limit, 4 for want of memory

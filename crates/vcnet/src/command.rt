@@ -13,6 +13,12 @@ pub const MOST_EVENTS: u64 = 1_000_000_000;
 /// How many events a run is allowed where the line says nothing.
 pub const USUAL_EVENTS: u64 = 1_000_000;
 
+/// The most turns that each thread may be allowed.
+pub const MOST_TURNS: u64 = 1_000_000_000;
+
+/// How many turns each thread is allowed where the line says nothing.
+pub const USUAL_TURNS: u64 = 10_000_000;
+
 /// What the words ask for.
 #[derive(Clone, Copy, Debug, PartialEq, Eq, Drop)]
 pub enum Line {
@@ -22,6 +28,13 @@ pub enum Line {
     Step {
         /// The most events that are made.
         limit: u64,
+    },
+    /// To run the network with a thread for each node and each switch, and to print its traffic.
+    Run {
+        /// The most turns that each thread makes.
+        turns: u64,
+        /// The seed of the words that random headers are made of.
+        seed: u32,
     },
 }
 
@@ -47,6 +60,26 @@ impl From<AllocError> for LineFault {
     }
 }
 
+/// The subcommand that runs the network in threads.
+fn run_definition<'a>(alloc: Global) -> Result<Command<'a>, AllocError> {
+    let turns = Arg::new(alloc, "turns")
+        .long("turns")
+        .value_name("N")
+        .help("Lets each thread make at most so many turns")
+        .value_parser(value_parser!(u64).range(0..=1_000_000_000))
+        .default_value("10000000");
+    let seed = Arg::new(alloc, "seed")
+        .long("seed")
+        .value_name("N")
+        .help("Begins the words that random headers are made of")
+        .value_parser(value_parser!(u32))
+        .default_value("0");
+    Command::new(alloc, "run")
+        .about("Runs the network on standard input in threads and prints its traffic")
+        .arg(turns)?
+        .arg(seed)
+}
+
 /// What the program takes.
 fn definition<'a>(alloc: Global) -> Result<Command<'a>, AllocError> {
     let limit = Arg::new(alloc, "limit")
@@ -63,7 +96,8 @@ fn definition<'a>(alloc: Global) -> Result<Command<'a>, AllocError> {
         .about("The virtual channel network of the T9000 and the C104, with occam processes")
         .subcommand_required(true)
         .subcommand(check)?
-        .subcommand(step)
+        .subcommand(step)?
+        .subcommand(run_definition(alloc)?)
 }
 
 /// The limit that the matches of `step` have.
@@ -76,6 +110,21 @@ fn limit_of(matches: &ArgMatches<'_>) -> u64
     }
 }
 
+/// The turns that the matches of `run` have.
+fn turns_of(matches: &ArgMatches<'_>) -> u64
+    ensures { result ≤ MOST_TURNS }
+{
+    match matches.get_one::<u64>("turns") {
+        Some(turns) if turns <= MOST_TURNS => turns,
+        _ => USUAL_TURNS,
+    }
+}
+
+/// The seed that the matches of `run` have.
+fn seed_of(matches: &ArgMatches<'_>) -> u32 {
+    matches.get_one::<u32>("seed").unwrap_or(0)
+}
+
 /// What the matches ask for.
 fn line_of(matches: &ArgMatches<'_>) -> Line
     ensures { IsInRange result }
@@ -83,6 +132,10 @@ fn line_of(matches: &ArgMatches<'_>) -> Line
     match matches.subcommand() {
         Some(("step", inner)) => Line::Step {
             limit: limit_of(inner),
+        },
+        Some(("run", inner)) => Line::Run {
+            turns: turns_of(inner),
+            seed: seed_of(inner),
         },
         _ => Line::Check,
     }

@@ -8,7 +8,10 @@ mod words;
 
 use std::alloc::{AllocError, Global};
 use std::io;
+use std::io::{Read, Write};
 use std::process::ExitCode;
+use std::sync::Wait;
+use std::thread::Threads;
 use words::{run_words, tell_memory, tell_no_text};
 
 /// The words of the command line.
@@ -17,12 +20,18 @@ fn words_of(rt: &HostRuntime, alloc: Global) -> io::Result<Vec<String>> {
 }
 
 /// Does what these words ask for; the answer is the program's status.
-fn status_of(rt: &HostRuntime, alloc: Global, texts: &[String]) -> Result<u8, AllocError> {
+fn status_of<T: Threads + Wait, R: Read, W: Write>(
+    rt: &T,
+    alloc: Global,
+    texts: &[String],
+    reader: &mut R,
+    writer: &mut W,
+) -> Result<u8, AllocError> {
     let mut words = Vec::new(alloc);
     for text in texts {
         words.push(text.as_str())?;
     }
-    Ok(run_words(alloc, words.as_slice(), &mut rt.stdin(), &mut rt.stdout()))
+    Ok(run_words(rt, alloc, words.as_slice(), reader, writer))
 }
 
 /// What the words that could not be read give: want of memory, or they are no text.
@@ -37,7 +46,13 @@ fn status_without_words(rt: &HostRuntime, alloc: Global, error: &io::Error) -> u
 fn main(rt: HostRuntime) -> ExitCode {
     let alloc = rt.alloc();
     ExitCode::from(match words_of(&rt, alloc) {
-        Ok(texts) => match status_of(&rt, alloc, texts.as_slice()) {
+        Ok(texts) => match status_of(
+            &rt,
+            alloc,
+            texts.as_slice(),
+            &mut rt.stdin(),
+            &mut rt.stdout(),
+        ) {
             Ok(status) => status,
             Err(AllocError) => tell_memory(alloc, &mut rt.stdout()),
         },

@@ -1,7 +1,9 @@
 use super::words::run_words;
 use std::alloc::{AllocError, Global};
 use std::io::{Read, Write};
+use std::sync::Wait;
 use std::test::Fail;
+use std::thread::Threads;
 
 /// Fails at the read of that number.
 #[derive(Drop)]
@@ -66,16 +68,21 @@ impl Outcome {
 }
 
 /// The program on these words and this input.
-fn outcome_of(alloc: Global, words: &[&str], input: &str) -> Outcome {
+fn outcome_of<T: Threads + Wait>(rt: &T, alloc: Global, words: &[&str], input: &str) -> Outcome {
     let mut printed = Vec::new(alloc);
     let mut reader = input.as_bytes();
-    let status = run_words(alloc, words, &mut reader, &mut printed);
+    let status = run_words(rt, alloc, words, &mut reader, &mut printed);
     Outcome { printed, status }
 }
 
 /// `vcnet step` on this input.
-fn step(alloc: Global, input: &str) -> Outcome {
-    outcome_of(alloc, &["vcnet", "step"], input)
+fn step<T: Threads + Wait>(rt: &T, alloc: Global, input: &str) -> Outcome {
+    outcome_of(rt, alloc, &["vcnet", "step"], input)
+}
+
+/// `vcnet run` on this input.
+fn run<T: Threads + Wait>(rt: &T, alloc: Global, input: &str) -> Outcome {
+    outcome_of(rt, alloc, &["vcnet", "run"], input)
 }
 
 /// Two nodes on one wire, with these processes; the second has a variable `m`.
@@ -101,10 +108,10 @@ const HELLO_TRAFFIC: &str = "channel c offered 1 taken 1 finished 1\n  0 68656c6
 fn a_message_is_taken_and_finished(rt: HostRuntime) -> Result<(), Fail> {
     let alloc = rt.alloc();
     let hello = two_nodes(alloc, TEXT_HELLO, INPUT)?;
-    assert!(rt; step(alloc, &hello).is(HELLO_TRAFFIC, 0));
+    assert!(rt; step(&rt, alloc, &hello).is(HELLO_TRAFFIC, 0));
     let empty = two_nodes(alloc, r#"{"out":["c",{"hex":""}]}"#, INPUT)?;
     let traffic = "channel c offered 1 taken 1 finished 1\n  0 -\nend done\n";
-    assert!(rt; step(alloc, &empty).is(traffic, 0));
+    assert!(rt; step(&rt, alloc, &empty).is(traffic, 0));
     Ok(())
 }
 
@@ -123,9 +130,9 @@ fn traffic_of_sevens(alloc: Global, len: usize) -> Result<String, AllocError> {
 fn messages_of_one_packet_and_of_the_most_packets(rt: HostRuntime) -> Result<(), Fail> {
     let alloc = rt.alloc();
     let short = two_nodes(alloc, r#"{"out":["c",{"fill":[7,32]}]}"#, INPUT)?;
-    assert!(rt; step(alloc, &short).is(&traffic_of_sevens(alloc, 32)?, 0));
+    assert!(rt; step(&rt, alloc, &short).is(&traffic_of_sevens(alloc, 32)?, 0));
     let long = two_nodes(alloc, r#"{"out":["c",{"fill":[7,65535]}]}"#, INPUT)?;
-    assert!(rt; step(alloc, &long).is(&traffic_of_sevens(alloc, 65535)?, 0));
+    assert!(rt; step(&rt, alloc, &long).is(&traffic_of_sevens(alloc, 65535)?, 0));
     Ok(())
 }
 
@@ -141,8 +148,29 @@ const PORTAL: &str =
 fn switches_forward(rt: HostRuntime) -> Result<(), Fail> {
     let alloc = rt.alloc();
     let traffic = "channel c offered 3 taken 3 finished 3\n  0 0\n  1 1\n  2 4\nend done\n";
-    assert!(rt; step(alloc, SQUARES).is(traffic, 0));
-    assert!(rt; step(alloc, PORTAL).is(HELLO_TRAFFIC, 0));
+    assert!(rt; step(&rt, alloc, SQUARES).is(traffic, 0));
+    assert!(rt; step(&rt, alloc, PORTAL).is(HELLO_TRAFFIC, 0));
+    Ok(())
+}
+
+#[test]
+fn threads_run_a_network(rt: HostRuntime) -> Result<(), Fail> {
+    let alloc = rt.alloc();
+    let traffic = "channel c offered 3 taken 3 finished 3\n  0 0\n  1 1\n  2 4\nend done\n";
+    assert!(rt; run(&rt, alloc, SQUARES).is(traffic, 0));
+    assert!(rt; run(&rt, alloc, PORTAL).is(HELLO_TRAFFIC, 0));
+    let hello = two_nodes(alloc, TEXT_HELLO, INPUT)?;
+    assert!(rt; run(&rt, alloc, &hello).is(HELLO_TRAFFIC, 0));
+    Ok(())
+}
+
+#[test]
+fn threads_end_by_their_turns(rt: HostRuntime) -> Result<(), Fail> {
+    let alloc = rt.alloc();
+    let network = two_nodes(alloc, "\"skip\"", INPUT)?;
+    let words = ["vcnet", "run", "--turns", "1000", "--seed", "7"];
+    let traffic = "channel c offered 0 taken 0 finished 0\nend limit\n";
+    assert!(rt; outcome_of(&rt, alloc, &words, &network).is(traffic, 3));
     Ok(())
 }
 
@@ -150,7 +178,7 @@ fn switches_forward(rt: HostRuntime) -> Result<(), Fail> {
 fn a_message_that_nobody_inputs_is_offered(rt: HostRuntime) -> Result<(), Fail> {
     let network = two_nodes(rt.alloc(), TEXT_HELLO, "\"skip\"")?;
     let traffic = "channel c offered 1 taken 0 finished 0\nend quiet\n";
-    assert!(rt; step(rt.alloc(), &network).is(traffic, 1));
+    assert!(rt; step(&rt, rt.alloc(), &network).is(traffic, 1));
     Ok(())
 }
 
@@ -164,7 +192,7 @@ fn processes_run_in_order(rt: HostRuntime) -> Result<(), Fail> {
     let network = two_nodes(alloc, sender, receiver)?;
     let traffic =
         "channel c offered 3 taken 3 finished 3 stopped\n  0 61\n  1 6263\n  2 -\nend done\n";
-    assert!(rt; step(alloc, &network).is(traffic, 0));
+    assert!(rt; step(&rt, alloc, &network).is(traffic, 0));
     Ok(())
 }
 
@@ -173,10 +201,10 @@ fn a_body_keeps_its_index(rt: HostRuntime) -> Result<(), Fail> {
     let alloc = rt.alloc();
     let kept =
         r#"{"version":1,"nodes":[{"name":"a","vars":[["i","int"],["x","int"]],"process":{"for":["i",0,2,{"set":["x","i"]}]}}]}"#;
-    assert!(rt; step(alloc, kept).is("end done\n", 0));
+    assert!(rt; step(&rt, alloc, kept).is("end done\n", 0));
     let changed =
         r#"{"version":1,"nodes":[{"name":"a","vars":[["i","int"],["x","int"]],"process":{"for":["i",0,2,{"set":["i","x"]}]}}]}"#;
-    assert!(rt; step(alloc, changed).is("refused 13 Usage a i\n", 2));
+    assert!(rt; step(&rt, alloc, changed).is("refused 13 Usage a i\n", 2));
     Ok(())
 }
 
@@ -186,15 +214,15 @@ fn a_limit_ends_the_run(rt: HostRuntime) -> Result<(), Fail> {
     let network = two_nodes(alloc, TEXT_HELLO, INPUT)?;
     let words = ["vcnet", "step", "--limit", "0"];
     let traffic = "channel c offered 0 taken 0 finished 0\nend limit\n";
-    assert!(rt; outcome_of(alloc, &words, &network).is(traffic, 3));
+    assert!(rt; outcome_of(&rt, alloc, &words, &network).is(traffic, 3));
     Ok(())
 }
 
 #[test]
 fn a_network_of_nobody_is_done(rt: HostRuntime) -> Result<(), Fail> {
     let alloc = rt.alloc();
-    assert!(rt; step(alloc, r#"{"version":1,"nodes":[]}"#).is("end done\n", 0));
-    assert!(rt; step(alloc, r#"{"version":1"#).is("refused 20 Json\n", 2));
+    assert!(rt; step(&rt, alloc, r#"{"version":1,"nodes":[]}"#).is("end done\n", 0));
+    assert!(rt; step(&rt, alloc, r#"{"version":1"#).is("refused 20 Json\n", 2));
     Ok(())
 }
 
@@ -225,9 +253,9 @@ fn refused_networks_name_the_first_offender(rt: HostRuntime) -> Result<(), Fail>
         (wire, wrong, "refused 7 WrongEnd v ab a.0 b\n"),
     ] {
         let network = wired(alloc, wire, vlinks)?;
-        assert!(rt; step(alloc, &network).is(line, 2), "{line}");
+        assert!(rt; step(&rt, alloc, &network).is(line, 2), "{line}");
         assert!(rt;
-            outcome_of(alloc, &["vcnet", "check"], &network).is(line, 2),
+            outcome_of(&rt, alloc, &["vcnet", "check"], &network).is(line, 2),
             "{line}"
         );
     }
@@ -238,7 +266,7 @@ fn refused_networks_name_the_first_offender(rt: HostRuntime) -> Result<(), Fail>
 fn a_message_too_long_has_no_range(rt: HostRuntime) -> Result<(), Fail> {
     let network = two_nodes(rt.alloc(), r#"{"out":["c",{"fill":[7,65536]}]}"#, INPUT)?;
     let line = "refused 23 Range /nodes/0/process/out/1/fill/1\n";
-    assert!(rt; step(rt.alloc(), &network).is(line, 2));
+    assert!(rt; step(&rt, rt.alloc(), &network).is(line, 2));
     Ok(())
 }
 
@@ -246,7 +274,7 @@ fn a_message_too_long_has_no_range(rt: HostRuntime) -> Result<(), Fail> {
 fn an_accepted_network_is_counted(rt: HostRuntime) -> Result<(), Fail> {
     let network = two_nodes(rt.alloc(), TEXT_HELLO, INPUT)?;
     let line = "accepted nodes 2 switches 0 vlinks 1 channels 1\n";
-    assert!(rt; outcome_of(rt.alloc(), &["vcnet", "check"], &network).is(line, 0));
+    assert!(rt; outcome_of(&rt, rt.alloc(), &["vcnet", "check"], &network).is(line, 0));
     Ok(())
 }
 
@@ -264,7 +292,7 @@ fn a_bad_line_reads_nothing(rt: HostRuntime) -> Result<(), Fail> {
             reads_left: 0,
         };
         let mut printed = Vec::new(alloc);
-        assert_eq!(rt; run_words(alloc, words, &mut reader, &mut printed), 5);
+        assert_eq!(rt; run_words(&rt, alloc, words, &mut reader, &mut printed), 5);
     }
     Ok(())
 }
@@ -279,7 +307,7 @@ fn a_failed_read_is_a_fault(rt: HostRuntime) -> Result<(), Fail> {
             reads_left,
         };
         let mut printed = Vec::new(alloc);
-        let status = run_words(alloc, &["vcnet", "step"], &mut reader, &mut printed);
+        let status = run_words(&rt, alloc, &["vcnet", "step"], &mut reader, &mut printed);
         assert_eq!(rt;
             (status, printed.as_slice()),
             (6, b"fault read\n".as_slice())
@@ -298,7 +326,7 @@ fn a_failed_write_leaves_a_front(rt: HostRuntime) -> Result<(), Fail> {
             taken: Vec::new(alloc),
             writes_left,
         };
-        let status = run_words(alloc, &["vcnet", "step"], &mut reader, &mut writer);
+        let status = run_words(&rt, alloc, &["vcnet", "step"], &mut reader, &mut writer);
         assert_eq!(rt; status, 6);
         assert_eq!(rt;
             writer.taken.as_slice(),

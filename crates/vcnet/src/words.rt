@@ -2,16 +2,18 @@
 ghost use Rattle.std.specs.Prelude.{◌≡◌, ℕ, List};
 ghost use Rattle.vc_text.specs.declared.fault.RunFault.TheVariants.{Memory as OutOfMemory};
 ghost use Rattle.vcnet.specs.Line.{IsLineFault};
-ghost use Rattle.vcnet.specs.Program.{ChecksNetwork, Runs, StepsNetwork, Tells, TellsFault, TellsLine};
+ghost use Rattle.vcnet.specs.Program.{ChecksNetwork, Runs, RunsNetwork, StepsNetwork, Tells, TellsFault, TellsLine};
 ghost use Rattle.vcnet.specs.Status.{status_of_check as status_for_check, status_of_text as status_for_text, status_of_fault, status_of_end};
 
 use crate::command::{Line, LineFault, command};
 use std::alloc::Global;
 use std::io::{Read, Write};
+use std::sync::Wait;
+use std::thread::Threads;
 use vc_core::Close;
 use vc_plan::CheckRefused;
 use vc_reader::ReadRefused;
-use vc_text::{RunFault, run_check, run_step, write_fault, write_text};
+use vc_text::{RunFault, run_check, run_net, run_step, write_fault, write_text};
 
 /// The status for a network that is accepted, or whose processes have all ended.
 const DONE: u8 = 0;
@@ -48,14 +50,14 @@ fn status_of_check(why: &CheckRefused) -> u8
     }
 }
 
-/// The status of a fault: 2 for a network that is refused, 4 for want of memory, 6 for the streams.
+/// The status of a fault: 2 for a network that is refused, 4 for want of memory or of threads, 6 for the streams.
 fn status_of(fault: &RunFault) -> u8
     ensures { result ≡ status_of_fault fault.now }
 {
     match fault {
         RunFault::Text(refused) => status_of_text(refused),
         RunFault::Plan(refusal) => status_of_check(&refusal.why),
-        RunFault::Memory => NO_MEMORY,
+        RunFault::Threads(_) | RunFault::Memory => NO_MEMORY,
         RunFault::Read | RunFault::Write => BAD_STREAM,
     }
 }
@@ -137,9 +139,27 @@ fn step_by<R: Read, W: Write>(alloc: Global, reader: &mut R, writer: &mut W, lim
     }
 }
 
+/// Runs the network that the reader has, in threads.
+fn run_by<T: Threads + Wait, R: Read, W: Write>(
+    rt: &T,
+    alloc: Global,
+    reader: &mut R,
+    writer: &mut W,
+    turns: u64,
+    seed: u32,
+) -> u8
+    ensures { RunsNetwork (R.remaining reader.old) (W.contents writer.old) (W.contents writer.new) result }
+{
+    match run_net(rt, alloc, reader, writer, turns, seed) {
+        Ok(report) => status_of_close(report.close),
+        Err(fault) => told(alloc, fault, writer),
+    }
+}
+
 /// Does what the words ask for, over any reader and any writer; the first word is the program's name. The words are read before
 /// the reader, and a bad line reads nothing. The answer is the program's status.
-pub fn run_words<R: Read, W: Write>(
+pub fn run_words<T: Threads + Wait, R: Read, W: Write>(
+    rt: &T,
     alloc: Global,
     words: &[&str],
     reader: &mut R,
@@ -150,6 +170,7 @@ pub fn run_words<R: Read, W: Write>(
     match command(alloc, words) {
         Ok(Line::Check) => check_by(alloc, reader, writer),
         Ok(Line::Step { limit }) => step_by(alloc, reader, writer, limit),
+        Ok(Line::Run { turns, seed }) => run_by(rt, alloc, reader, writer, turns, seed),
         Err(fault) => told_of_line(alloc, &fault, writer),
     }
 }

@@ -1,0 +1,25 @@
+-- What a run in threads answers and writes.
+use Rattle.std.specs.Prelude.{◌≡◌, ℕ, List, Option, Result, Ok, Err}
+use Rattle.std.specs.Io.KnownBytes.{Appends}
+use Rattle.vc_core.specs.State.{state_of}
+use Rattle.vc_plan.specs.declared.plan.Plan.{Plan}
+use Rattle.vc_threads.specs.Threads.{Reports}
+use Rattle.vc_threads.specs.declared.report.Report.{Report}
+use Rattle.vc_text.specs.declared.fault.RunFault.{RunFault}
+use Rattle.vc_text.specs.declared.fault.RunFault.TheVariants.{Write, Threads}
+use Rattle.vc_text.specs.Streams.{AppendsFront}
+use Rattle.vc_text.specs.Checking.{ReadsAccepted}
+use Rattle.vc_text.specs.Shown.{channels_of}
+use Rattle.vc_text.specs.Traffic.{traffic}
+
+-- the text of what was reported
+abbrev pub report_text : Plan → Report → List ℕ
+report_text plan r = traffic (channels_of plan (state_of r.state)) r.close
+
+-- the reader's network was run in threads: what is reported are events that replay, with the headline and the one list there, and the
+-- traffic of the state after them was written, or a front of that before a fault of the writer; else nothing was written
+abbrev pub RunsInThreads : Option (List ℕ) → Option (List ℕ) → Option (List ℕ) → Result Report RunFault → Type 0
+RunsInThreads known old new (Ok r) = (plan : Plan) × ReadsAccepted known (Ok plan) × Reports plan r × Appends old new (report_text plan r)
+RunsInThreads known old new (Err Write) = (plan : Plan) × ReadsAccepted known (Ok plan) × ((r : Report) × Reports plan r × AppendsFront old new (report_text plan r))
+RunsInThreads known old new (Err (Threads why)) = (plan : Plan) × ReadsAccepted known (Ok plan) × (new ≡ old)
+RunsInThreads known old new (Err fault) = ReadsAccepted known (Err fault) × (new ≡ old)

@@ -1,0 +1,39 @@
+//! Running a network in threads.
+ghost use Rattle.vc_text.specs.Threading.{RunsInThreads};
+
+use crate::check::read_accepted;
+use crate::fault::RunFault;
+use crate::run::write_traffic;
+use std::alloc::Global;
+use std::io::{Read, Write};
+use std::sync::Wait;
+use std::thread::Threads;
+use vc_plan::Accepted;
+use vc_threads::{EndGate, Report, run_threads};
+
+/// The gate that closes once the process of each node has ended; a plan has at most 32 nodes.
+fn gate_of(accepted: &Accepted) -> EndGate {
+    EndGate::new(accepted.plan().nodes.len().min(64) as u8)
+}
+
+/// Reads a network file, runs the network with a thread for each node and each switch, and writes its traffic. Each thread makes at
+/// most so many turns, and ends earlier once the process of every node has ended. The words of an actor's takes are those of the
+/// generator of this seed and the actor's number.
+pub fn run_net<T: Threads + Wait, R: Read, W: Write>(
+    rt: &T,
+    alloc: Global,
+    reader: &mut R,
+    writer: &mut W,
+    turns: u64,
+    seed: u32,
+) -> Result<Report, RunFault>
+    ensures { RunsInThreads (R.remaining reader.old) (W.contents writer.old) (W.contents writer.new) result }
+{
+    let accepted = read_accepted(alloc, reader)?;
+    let gate = gate_of(&accepted);
+    let report = run_threads(rt, alloc, &accepted, &gate, turns, seed)?;
+    match write_traffic(alloc, &report.state, report.close, writer) {
+        Ok(()) => Ok(report),
+        Err(fault) => Err(fault),
+    }
+}
