@@ -34,3 +34,4 @@ pub mod Turns
 pub mod Unused
 pub mod Using
 pub mod Waiting
+pub mod Determinate

@@ -6,7 +6,7 @@ use Rattle.vc_occam.specs.Sites.{OwnSites}
 use Rattle.vc_told.specs.Process.{Process, does}
 
 pub record IsLawful (p : Process) : Type 0 where
-  pub use : UsesLawfully p.state.rest
+  pub uses : UsesLawfully p.state.rest
   pub sites : OwnSites p.state.rest
 
 -- what a lawful process does
