@@ -6,3 +6,4 @@ pub mod Main
 pub mod Sending
 pub mod Swapped
 pub mod Determinate
+pub mod Threaded

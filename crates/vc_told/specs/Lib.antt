@@ -4,3 +4,4 @@ pub mod Sent
 pub mod Swapping
 pub mod Process
 pub mod Determinate
+pub mod Threads

@@ -6,6 +6,7 @@ ghost use Rattle.vc_told.specs.Determinate.{DeedsLeadToOneState, LawfulProcesses
 ghost use Rattle.vc_told.specs.OneList.{AllIsTold};
 ghost use Rattle.vc_told.specs.Sent.{NothingIsGotUnsent};
 ghost use Rattle.vc_told.specs.Swapping.{NothingIsSwapped};
+ghost use Rattle.vc_told.specs.Threads.{ActsCanBeReplayed};
 
 /// After any events of an accepted plan's network there is one list of communications, each with the node that makes it. Each
 /// node's part is a trace of its process, from the process as the plan has it on: one that has ended where nothing remains of it,
@@ -30,4 +31,10 @@ pub fn nothing_unsent_is_swapped()
 pub fn lawful_processes_are_determinate()
     ensures next { DeedsLeadToOneState }
     ensures kept { LawfulProcessesStaySo }
+{}
+
+/// Whatever the actors of an accepted plan did by themselves: where their runs fit on the ways, their acts, by stamp, then actor, are
+/// events of the network one after another, and lead to where the actors ended.
+pub fn acts_can_be_replayed()
+    ensures { ActsCanBeReplayed }
 {}
