@@ -1,5 +1,6 @@
 pub mod Answered
 pub mod Beginning
+pub mod Besides
 pub mod Bytes
 pub mod Changed
 pub mod Checked
@@ -11,6 +12,7 @@ pub mod Frames
 pub mod Gates
 pub mod GoingOn
 pub mod Held
+pub mod Inside
 pub mod Keeping
 pub mod Kinded
 pub mod Law
@@ -20,6 +22,7 @@ pub mod Made
 pub mod Making
 pub mod Offending
 pub mod Openly
+pub mod Places
 pub mod Preorder
 pub mod Numbers
 pub mod Reaching

@@ -18,7 +18,7 @@ pub either : (a b : Bool) → (a || b) ≡ true → (a ≡ true) ⊎ (b ≡ true
 either true b h = inl refl
 either false b h = inr h
 
-within_none : (a : Set) → Within nothing a
+pub within_none : (a : Set) → Within nothing a
 within_none a k h = absurd (let e : false ≡ true = h in cc)
 
 pub within_left : (a b : Set) → Within a (a ∪ b)
@@ -27,10 +27,10 @@ within_left a b k h = or_left (a k) (b k) h
 pub within_right : (a b : Set) → Within b (a ∪ b)
 within_right a b k h = or_right (a k) (b k) h
 
-within_both : {a b c : Set} → Within a c → Within b c → Within (a ∪ b) c
+pub within_both : {a b c : Set} → Within a c → Within b c → Within (a ∪ b) c
 within_both {a} {b} {c} h j k e = elim (either (a k) (b k) e) [ inl l ↦ h k l | inr r ↦ j k r ]
 
-through : {a b c : Set} → Within a b → Within b c → Within a c
+pub through : {a b c : Set} → Within a b → Within b c → Within a c
 through h j k e = j k (h k e)
 
 joined : {a b c d : Set} → Within a c → Within b d → Within (a ∪ b) (c ∪ d)
@@ -46,7 +46,7 @@ clash {b} h k = let e : true ≡ false = sym h ∙ k in cc
 apart_within : {a b c d : Set} → Within a c → Within b d → Disjoint c d → Disjoint a b
 apart_within {b = b} h j x k e = not_true (b k) (λ f. clash (j k f) (x k (h k e)))
 
-and_then_sites : (r : Rest) (a : Set) (ps : Procs) → Within (sites_rest r) a → Within (sites_rest (and_then r ps)) (a ∪ sites_all ps)
+pub and_then_sites : (r : Rest) (a : Set) (ps : Procs) → Within (sites_rest r) a → Within (sites_rest (and_then r ps)) (a ∪ sites_all ps)
 and_then_sites r a no_parts h = through {b = a} h (within_left a nothing)
 and_then_sites r a (part p ps) h = joined {a = sites_rest r} {b = sites_all (part p ps)} {c = a} {d = sites_all (part p ps)} h (λ k e. e)
 

@@ -1,7 +1,9 @@
 //! Running processes.
 ghost use Rattle.std.specs.Prelude.{◌≡◌, length};
 ghost use Rattle.vc_occam.specs.Frames.{HasVariables, view};
+ghost use Rattle.vc_occam.specs.InUse.{UsesLawfully};
 ghost use Rattle.vc_occam.specs.Moving.{deed_for as deed_of, deed_on as going_on, site_of as its_site};
+ghost use Rattle.vc_occam.specs.Sites.{InPreorder, OwnSites};
 
 use crate::answer::Answer;
 use crate::datum::Datum;
@@ -26,6 +28,9 @@ pub struct Running {
     vars: Vec<Datum>,
     inside: Items<u16>,
     ghost has_variables: { HasVariables (view frame).0 (length vars.items) },
+    ghost in_preorder: { InPreorder (view frame).0 },
+    ghost own_sites: { OwnSites (view frame).1 },
+    ghost uses_lawfully: { UsesLawfully (view frame).1 },
 }
 
 /// What the move's site does, where the channel gave this answer.
@@ -83,14 +88,14 @@ impl Running {
     ghost use Rattle.vc_occam.specs.InOrder.{number};
     ghost use Rattle.vc_occam.specs.Numbering.{written};
     ghost use Rattle.vc_occam.specs.Opening.{Fits, opening};
-    ghost use Rattle.vc_occam.specs.ProcessLimits.{in_order};
+    ghost use Rattle.vc_occam.specs.Lawful.{Lawfully};
     ghost use Rattle.vc_occam.specs.Remains.{Done};
     ghost use Rattle.vc_occam.specs.Runnings.{inner_channels, moves, state};
     ghost use Rattle.vc_occam.specs.Usage.{among};
     ghost use Rattle.vc_occam.specs.States.{Acts, FitsMove, IsAwaited, IsQuiet, Resumes, doing, sent_by, waiting, output, input};
 
-    /// A process in which no PAR stands, about to begin, its variables being 0 or without bytes. `inside` are the channels inside
-    /// its node. At most 65,536 processes are written in it, since a site's number has 16 bits.
+    /// A process about to begin, its variables being 0 or without bytes. `inside` are the channels inside its node. At most 65,536
+    /// processes are written in it, since a site's number has 16 bits.
     #[tactic(auto, unfolding(crate::specs::Runnings::state, crate::specs::Runnings::inner_channels))]
     pub fn new(
         alloc: Global,
@@ -98,7 +103,7 @@ impl Running {
         kinds: &[ValueKind],
         inside: &[u16],
     ) -> Result<Running, Memory>
-        requires in_order { in_order (written process.now) ≡ true }
+        requires lawful { Lawfully (written process.now) }
         requires sites { (number process.now).sites ≤ 65536 }
         requires fits { Fits kinds.now process.now }
         ensures state { IfOk result (λ r. state r ≡ opening kinds.now process.now) }
@@ -164,11 +169,11 @@ impl Running {
 
     /// The value that the move assigns; None where it assigns none, or its value is a fault.
     fn assigned_by(&self, made: &Move) -> Result<Option<Datum>, Memory>
-        ensures value { IfOk result (λ value. (answer : Answer) → deed_of made.now answer ≡ Quiet → value ≡ assigned_at (view self.now.frame).1 (store self.now.vars.items)) }
+        ensures value { IfOk result (λ value. (answer : Answer) → deed_of made.now answer ≡ Quiet → value ≡ assigned_at (its_site made.now) (view self.now.frame).1 (store self.now.vars.items)) }
         ensures quiet { OnErr result (IsQuiet made.now) }
     {
         match made {
-            Move::Quiet { .. } => self.frame.assigned(self.alloc, &self.vars),
+            Move::Quiet { site } => self.frame.assigned(self.alloc, *site, &self.vars),
             _ => Ok(None),
         }
     }
@@ -188,10 +193,7 @@ impl Running {
     pub fn output_on(&self, chan: u16) -> Option<u16>
         ensures { MatchOption result ((i : ℕ) → Contains (waiting (state self.now).rest) (output i chan) → ⊥) (λ i. Contains (waiting (state self.now).rest) (output i chan)) }
     {
-        match self.frame.waits() {
-            Some(Waits::Output { site, chan: on }) if on == chan => Some(site),
-            _ => None,
-        }
+        self.frame.waits_on(Waits::Output { chan })
     }
 
     /// The site whose input on the channel waits for a message, if there is one.
@@ -199,10 +201,7 @@ impl Running {
     pub fn input_on(&self, chan: u16) -> Option<u16>
         ensures { MatchOption result ((i : ℕ) → Contains (waiting (state self.now).rest) (input i chan) → ⊥) (λ i. Contains (waiting (state self.now).rest) (input i chan)) }
     {
-        match self.frame.waits() {
-            Some(Waits::Input { site, chan: on }) if on == chan => Some(site),
-            _ => None,
-        }
+        self.frame.waits_on(Waits::Input { chan })
     }
 
     /// Whether nothing remains.
