@@ -1,5 +1,5 @@
 -- Parts that go on side by side.
-use Rattle.std.proofs.Common.{◌≡◌, ℕ, zero, suc, Bool, true, false, ◌&&◌, refl, ap, sym, ◌∙◌, subst, List, [], ◌∷◌, ◌++◌, Option, Some, None, map, set, ◌⊎◌, inl, inr, append_assoc}
+use Rattle.std.proofs.Common.{◌≡◌, ℕ, zero, suc, Bool, true, false, ◌&&◌, refl, ap, sym, ◌∙◌, subst, List, [], ◌∷◌, ◌++◌, Option, Some, None, map, length, set, ◌≤◌, arith, ◌⊎◌, inl, inr}
 use Rattle.std.specs.Prelude.{slice_get}
 use Rattle.vc_occam.specs.declared.datum.Datum.{Datum}
 use Rattle.vc_occam.specs.declared.deed.Deed.{Deed}
@@ -86,6 +86,12 @@ begun_more zero [] = refl
 begun_more zero (v ∷ vs) = refl
 begun_more (suc k) [] = refl
 begun_more (suc k) (v ∷ vs) = ap (λ ws. (v.0, begin v.0) ∷ ws) (begun_more k vs)
+
+pub begun_whole : (k : ℕ) (vs : List View) → length vs ≤ k → begun_to k vs ≡ all_begun vs
+begun_whole zero [] l = refl
+begun_whole (suc k) [] l = refl
+begun_whole zero (v ∷ vs) l = absurd (omega arith)
+begun_whole (suc k) (v ∷ vs) l = ap (λ ws. (v.0, begin v.0) ∷ ws) (begun_whole k vs (omega arith))
 
 -- the first that waits
 pub first_append : (w : Waits) (xs ys : List Waiting) → first_waits w (xs ++ ys) ≡ or_else (first_waits w xs) (first_waits w ys)
