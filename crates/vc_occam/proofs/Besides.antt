@@ -1,8 +1,12 @@
 -- Parts that go on side by side.
-use Rattle.std.proofs.Common.{◌≡◌, ℕ, zero, suc, Bool, true, false, ◌&&◌, refl, ap, sym, ◌∙◌, subst, List, [], ◌∷◌, ◌++◌, Option, Some, None, map, length, set, ◌≤◌, arith, ◌⊎◌, inl, inr}
-use Rattle.std.specs.Prelude.{slice_get}
+use Rattle.std.proofs.Common.{◌≡◌, ℕ, zero, suc, Bool, true, false, ◌&&◌, refl, ap, sym, ◌∙◌, subst, List, [], ◌∷◌, ◌++◌, Option, Some, None, map, length, set, drop, get_or, ◌+◌, ◌≤◌, ◌<◌, ◌↔◌, arith, append_assoc, append-nil, ◌⊎◌, inl, inr}
+use Rattle.std.proofs.lemmas.List.Elements.{Contains-append_left, Contains-append_right, Contains-append_cases}
+use Rattle.std.specs.List.{Contains}
+use Rattle.std.specs.Prelude.{slice_get, IsTrue}
 use Rattle.vc_occam.specs.declared.datum.Datum.{Datum}
 use Rattle.vc_occam.specs.declared.deed.Deed.{Deed}
+use Rattle.vc_occam.specs.declared.frame.Frame.{Frame}
+use Rattle.vc_occam.specs.declared.moves.Move.{Move}
 use Rattle.vc_occam.specs.declared.waits.Waits.{Waits}
 use Rattle.vc_occam.specs.Syntax.{Proc, SKIP, STOP, Assign, Output, Input, StopChan, SEQ, PAR, IF, WHILE, COUNT, ALT, Procs, no_parts, part}
 use Rattle.vc_occam.specs.Values.{Store}
@@ -10,7 +14,9 @@ use Rattle.vc_occam.specs.Usage.{Set, changes}
 use Rattle.vc_occam.specs.Remains.{Rest, Done, Beside, and_then, begin, begin_seq, begin_par, begin_all, beside_on, in_left, in_right}
 use Rattle.vc_occam.specs.First.{own}
 use Rattle.vc_occam.specs.States.{Waiting, or_else, output_at, waiting}
-use Rattle.vc_occam.specs.Frames.{Able, Did, View, all_begun, assigned_at, begun_at, begun_to, besides, first_waits, is_done, part_rest, plans, plans_of, waits_there}
+use Rattle.vc_occam.specs.Frames.{Able, Did, View, all_begun, assigned_at, begun_at, begun_to, besides, first_waits, is_done, part_rest, plans, plans_of, view, views, waits_there}
+use Rattle.vc_occam.proofs.Lists.{none}
+use Rattle.vc_occam.proofs.Reaching.{drop_at, drop_all}
 
 -- it goes on unless both have ended
 pub beside_is : (mine : Set) (r q : Rest) → (beside_on mine r q ≡ Beside mine r q) ⊎ ((r ≡ Done) × (q ≡ Done))
@@ -144,3 +150,61 @@ besides_did (v ∷ vs) zero w e f i d h a =
     let same : changes w.0 ≡ changes v.0 = ap changes (heads w.0 v.0 (plans vs) (plans vs) h) in
     subst (λ m. Did (besides (v ∷ vs)) e i d (beside_on m w.1 (besides vs)) f) (sym same) (left_did (changes v.0) v.1 w.1 (besides vs) e f i d a)
 besides_did (v ∷ vs) (suc k) w e f i d h a = right_did (changes v.0) v.1 (besides vs) (besides (set vs k w)) e f i d (besides_did vs k w e f i d (tails v.0 v.0 (plans (set vs k w)) (plans vs) h) a)
+
+-- parts gone through from the first on
+drop_view : (k : ℕ) (fs : List Frame) (f : Frame) → k < length fs → f ≡ get_or fs k f → besides (views (drop k fs)) ≡ beside_on (changes (view f).0) (view f).1 (besides (views (drop (k + 1) fs)))
+drop_view k fs f l h = ap besides (drop_at view k fs f l h)
+
+drop_none : (k : ℕ) (fs : List Frame) → length fs ≤ k → besides (views (drop k fs)) ≡ Done
+drop_none k fs l = ap besides (drop_all view k fs l)
+
+pub pushed_more : (fs : List Frame) (k : ℕ) (f : Frame) (e : Store) (now later top : List Move) → k < length fs → f ≡ get_or fs k f → later ≡ now ++ own (view f).1 e → now ++ own (besides (views (drop k fs))) e ≡ top → later ++ own (besides (views (drop (k + 1) fs))) e ≡ top
+pushed_more fs k f e now later top l h g q =
+    let rest = besides (views (drop (k + 1) fs)) in
+    ap (λ ms. ms ++ own rest e) g ∙ append_assoc now (own (view f).1 e) (own rest e) ∙ ap (λ ms. now ++ ms) (sym (beside_own (changes (view f).0) (view f).1 rest e)) ∙ ap (λ r. now ++ own r e) (sym (drop_view k fs f l h)) ∙ q
+
+pub pushed_all : (fs : List Frame) (k : ℕ) (e : Store) (now top : List Move) → length fs ≤ k → now ++ own (besides (views (drop k fs))) e ≡ top → now ≡ top
+pushed_all fs k e now top l q = sym (append-nil now) ∙ ap (λ r. now ++ own r e) (sym (drop_none k fs l)) ∙ q
+
+pub waits_more : (fs : List Frame) (k : ℕ) (f : Frame) (w : Waits) (o : Option ℕ) → k < length fs → f ≡ get_or fs k f → None ≡ first_waits w (waiting (view f).1) → first_waits w (waiting (besides (views (drop k fs)))) ≡ o → first_waits w (waiting (besides (views (drop (k + 1) fs)))) ≡ o
+waits_more fs k f w o l h g q =
+    let rest = besides (views (drop (k + 1) fs)) in
+    ap (λ x. or_else x (first_waits w (waiting rest))) g ∙ sym (first_append w (waiting (view f).1) (waiting rest)) ∙ ap (first_waits w) (sym (beside_waits (changes (view f).0) (view f).1 rest)) ∙ ap (λ r. first_waits w (waiting r)) (sym (drop_view k fs f l h)) ∙ q
+
+pub waits_found : (fs : List Frame) (k : ℕ) (f : Frame) (w : Waits) (o : Option ℕ) (i : ℕ) → k < length fs → f ≡ get_or fs k f → Some i ≡ first_waits w (waiting (view f).1) → first_waits w (waiting (besides (views (drop k fs)))) ≡ o → Some i ≡ o
+waits_found fs k f w o i l h g q =
+    let rest = besides (views (drop (k + 1) fs)) in
+    ap (λ x. or_else x (first_waits w (waiting rest))) g ∙ sym (first_append w (waiting (view f).1) (waiting rest)) ∙ ap (first_waits w) (sym (beside_waits (changes (view f).0) (view f).1 rest)) ∙ ap (λ r. first_waits w (waiting r)) (sym (drop_view k fs f l h)) ∙ q
+
+pub waits_none : (fs : List Frame) (k : ℕ) (w : Waits) (o : Option ℕ) → length fs ≤ k → first_waits w (waiting (besides (views (drop k fs)))) ≡ o → None ≡ o
+waits_none fs k w o l q = ap (λ r. first_waits w (waiting r)) (sym (drop_none k fs l)) ∙ q
+
+one_less : (all one rest : List Move) (m : Move) → (Contains one m → ⊥) → (Contains all m ↔ Contains (one ++ rest) m) → Contains all m ↔ Contains rest m
+one_less all one rest m h (f, g) = (
+  λ k. elim (Contains-append_cases one rest m (f k)) [ inl q ↦ absurd (h q) | inr q ↦ q ],
+  λ k. g (Contains-append_right one rest m k),
+)
+
+abbrev pub BeginsFrom : List Frame → ℕ → Store → Move → Type 0
+BeginsFrom fs k e m = Contains (own (besides (views fs)) e) m ↔ Contains (own (besides (views (drop k fs))) e) m
+
+split : (fs : List Frame) (k : ℕ) (f : Frame) (e : Store) (m : Move) → k < length fs → f ≡ get_or fs k f → BeginsFrom fs k e m → Contains (own (besides (views fs)) e) m ↔ Contains (own (view f).1 e ++ own (besides (views (drop (k + 1) fs))) e) m
+split fs k f e m l h q =
+    let rest = besides (views (drop (k + 1) fs)) in
+    subst (λ ms. Contains (own (besides (views fs)) e) m ↔ Contains ms m) (ap (λ r. own r e) (drop_view k fs f l h) ∙ beside_own (changes (view f).0) (view f).1 rest e) q
+
+pub begins_more : (fs : List Frame) (k : ℕ) (f : Frame) (e : Store) (m : Move) (b : Bool) → k < length fs → f ≡ get_or fs k f → (IsTrue b ↔ Contains (own (view f).1 e) m) → b ≡ false → BeginsFrom fs k e m → BeginsFrom fs (k + 1) e m
+begins_more fs k f e m b l h t z q =
+    one_less (own (besides (views fs)) e) (own (view f).1 e) (own (besides (views (drop (k + 1) fs))) e) m (λ g. let y : true ≡ false = sym (t.1 g) ∙ z in absurd cc) (split fs k f e m l h q)
+
+pub begins_found : (fs : List Frame) (k : ℕ) (f : Frame) (e : Store) (m : Move) (b : Bool) → k < length fs → f ≡ get_or fs k f → (IsTrue b ↔ Contains (own (view f).1 e) m) → b ≡ true → BeginsFrom fs k e m → IsTrue true ↔ Contains (own (besides (views fs)) e) m
+begins_found fs k f e m b l h t z q = (
+  λ y. (split fs k f e m l h q).1 (Contains-append_left (own (view f).1 e) (own (besides (views (drop (k + 1) fs))) e) m (t.0 z)),
+  λ y. refl,
+)
+
+pub begins_none : (fs : List Frame) (k : ℕ) (e : Store) (m : Move) → length fs ≤ k → BeginsFrom fs k e m → IsTrue false ↔ Contains (own (besides (views fs)) e) m
+begins_none fs k e m l q = (
+  λ y. absurd (let z : false ≡ true = y in cc),
+  λ y. absurd (none m (subst (λ r. Contains (own r e) m) (drop_none k fs l) (q.0 y))),
+)

@@ -19,12 +19,11 @@ use Rattle.vc_occam.specs.Traces.{Comm}
 use Rattle.vc_occam.specs.Values.{Store}
 use Rattle.vc_occam.specs.Usage.{Set, changes, just, nothing, ◌∪◌}
 use Rattle.vc_occam.specs.Remains.{Rest, Done, Stopped, Fresh, Finishing, Getting, Then, Turns, Beside, and_then, begin, beside_on, Step, does_skip, does_empty_seq, does_empty_par, does_assign, faults_assign, faults_out, does_if, does_turn, does_leave, faults_while, does_count, does_count_none, faults_count, does_offer, does_finish, does_input, waits_input, gets, does_stop, does_choose, waits_choose, in_then, in_turns, in_left, in_right}
-use Rattle.vc_occam.specs.Sites.{sites, sites_all, sites_branches, sites_guards, sites_rest, site, Precedes, InPreorder, PartsInPreorder}
+use Rattle.vc_occam.specs.Sites.{sites, sites_all, sites_branches, sites_guards, site, Precedes, InPreorder, PartsInPreorder}
 use Rattle.vc_occam.specs.States.{or_else, output_at}
 use Rattle.vc_occam.specs.Frames.{Able, View, assigned_at, awaiting, behind, besides, branches_of, chosen_at, count_of, follow, going_at, guards_of, part_assigned, part_output, part_plan, part_rest, place_with, plan_at, plans_of, rest_at, together, turn_of, turning, view, views, while_of}
 use Rattle.vc_occam.proofs.Besides.{beside_able, beside_assigned, beside_output}
 use Rattle.vc_occam.proofs.Frames.{view_out, view_roll}
-use Rattle.vc_occam.proofs.Made.{not_there}
 use Rattle.vc_occam.proofs.Sites.{Within, either, not_true, clash, within_left, within_right}
 use Rattle.vc_occam.proofs.Stores.{or_false, or_left, or_right}
 
@@ -92,8 +91,20 @@ plan_site (kind.Alt gs) i vs = refl
 pub frame_site : (f : Frame) → site (view f).0 ≡ (out-Frame f).site
 frame_site f = let o = out-Frame f in ap (λ (v : View). site v.0) (view_out f) ∙ plan_site o.kind o.site (views o.parts.items)
 
--- the site that makes a step is there
-pub step_site : {r r' : Rest} {e e' : Store} {i : ℕ} {d : Deed} {m : List Comm} → Step r e i d m r' e' → sites_rest r i ≡ true
+-- the sites of what remains that may do something now
+abbrev pub doers : Rest → Set
+doers Done = nothing
+doers Stopped = nothing
+doers (Fresh (STOP i)) = nothing
+doers (Fresh p) = sites p
+doers (Finishing s c) = just s
+doers (Getting s c v) = just s
+doers (Then r ps) = doers r
+doers (Turns r v b n p) = doers r
+doers (Beside mine r q) = doers r ∪ doers q
+
+-- the site that makes a step is one of them
+pub step_site : {r r' : Rest} {e e' : Store} {i : ℕ} {d : Deed} {m : List Comm} → Step r e i d m r' e' → doers r i ≡ true
 step_site (does_skip {s = s}) = itself s
 step_site (does_empty_seq {s = s}) = own_site (SEQ s no_parts)
 step_site (does_empty_par {s = s}) = own_site (PAR s no_parts)
@@ -115,19 +126,19 @@ step_site (gets {s = s} h) = itself s
 step_site (does_stop {s = s}) = itself s
 step_site (does_choose {s = s} {gs = gs} dec g h k) = own_site (ALT s gs)
 step_site (waits_choose {s = s} {gs = gs} dec g h) = own_site (ALT s gs)
-step_site (in_then {i = i} {r = r} {ps = ps} st) = or_left (sites_rest r i) (sites_all ps i) (step_site st)
-step_site (in_turns {i = i} {r = r} {p = p} st) = or_left (sites_rest r i) (sites p i) (step_site st)
-step_site (in_left {i = i} {r = r} {q = q} st) = or_left (sites_rest r i) (sites_rest q i) (step_site st)
-step_site (in_right {i = i} {r = r} {q = q} st) = or_right (sites_rest r i) (sites_rest q i) (step_site st)
+step_site (in_then st) = step_site st
+step_site (in_turns st) = step_site st
+step_site (in_left {i = i} {r = r} {q = q} st) = or_left (doers r i) (doers q i) (step_site st)
+step_site (in_right {i = i} {r = r} {q = q} st) = or_right (doers r i) (doers q i) (step_site st)
 
-pub able_site : (r : Rest) (e : Store) (i : ℕ) (d : Deed) → Able r e i d → sites_rest r i ≡ true
+pub able_site : (r : Rest) (e : Store) (i : ℕ) (d : Deed) → Able r e i d → doers r i ≡ true
 able_site r e i d (ks, q, f, st) = step_site st
 
 none_of : {A : Type 0} (x y : Option A) → x ≡ None → y ≡ None → or_else x y ≡ None
 none_of x y h k = rw (h, k) refl
 
--- no assignment begins at a site that isn't there
-pub none_assigned : (i : ℕ) (e : Store) (r : Rest) → sites_rest r i ≡ false → assigned_at i r e ≡ None
+-- no assignment begins at another site
+pub none_assigned : (i : ℕ) (e : Store) (r : Rest) → doers r i ≡ false → assigned_at i r e ≡ None
 none_assigned i e Done h = refl
 none_assigned i e Stopped h = refl
 none_assigned i e (Fresh (SKIP s)) h = refl
@@ -144,24 +155,48 @@ none_assigned i e (Fresh (COUNT s v a k p)) h = refl
 none_assigned i e (Fresh (ALT s gs)) h = refl
 none_assigned i e (Finishing s c) h = refl
 none_assigned i e (Getting s c v) h = refl
-none_assigned i e (Then r ps) h = none_assigned i e r (or_false (sites_rest r i) (sites_all ps i) h).0
-none_assigned i e (Turns r v b n p) h = none_assigned i e r (or_false (sites_rest r i) (sites p i) h).0
+none_assigned i e (Then r ps) h = none_assigned i e r h
+none_assigned i e (Turns r v b n p) h = none_assigned i e r h
 none_assigned i e (Beside mine r q) h =
-    let n = or_false (sites_rest r i) (sites_rest q i) h in
+    let n = or_false (doers r i) (doers q i) h in
     none_of (assigned_at i r e) (assigned_at i q e) (none_assigned i e r n.0) (none_assigned i e q n.1)
 
--- what remains of a part has the part's sites
+-- no output begins at another site
+pub none_output : (i : ℕ) (e : Store) (r : Rest) → doers r i ≡ false → output_at i r e ≡ None
+none_output i e Done h = refl
+none_output i e Stopped h = refl
+none_output i e (Fresh (SKIP s)) h = refl
+none_output i e (Fresh (STOP s)) h = refl
+none_output i e (Fresh (Assign s v a)) h = refl
+none_output i e (Fresh (Output s c a)) h = let off : (i == s) ≡ false = grind (arith, nat_tests) in rw off refl
+none_output i e (Fresh (Input s c v)) h = refl
+none_output i e (Fresh (StopChan s c)) h = refl
+none_output i e (Fresh (SEQ s ps)) h = refl
+none_output i e (Fresh (PAR s ps)) h = refl
+none_output i e (Fresh (IF s bs)) h = refl
+none_output i e (Fresh (WHILE s b p)) h = refl
+none_output i e (Fresh (COUNT s v a k p)) h = refl
+none_output i e (Fresh (ALT s gs)) h = refl
+none_output i e (Finishing s c) h = refl
+none_output i e (Getting s c v) h = refl
+none_output i e (Then r ps) h = none_output i e r h
+none_output i e (Turns r v b n p) h = none_output i e r h
+none_output i e (Beside mine r q) h =
+    let n = or_false (doers r i) (doers q i) h in
+    none_of (output_at i r e) (output_at i q e) (none_output i e r n.0) (none_output i e q n.1)
+
+-- what may do something in a part is one of the part's sites
 abbrev pub AllWithin : List View → Type 0
 AllWithin [] = Unit {0}
-AllWithin (v ∷ vs) = Within (sites_rest v.1) (sites v.0) × AllWithin vs
+AllWithin (v ∷ vs) = Within (doers v.1) (sites v.0) × AllWithin vs
 
-beside_sites : (mine : Set) (r q : Rest) → Within (sites_rest (beside_on mine r q)) (sites_rest r ∪ sites_rest q)
+beside_sites : (mine : Set) (r q : Rest) → Within (doers (beside_on mine r q)) (doers r ∪ doers q)
 beside_sites mine Done Done k h = absurd (let z : false ≡ true = h in cc)
 beside_sites mine r q k h = h
 
-pub besides_sites : (vs : List View) → AllWithin vs → Within (sites_rest (besides vs)) (sites_all (plans_of vs))
+pub besides_sites : (vs : List View) → AllWithin vs → Within (doers (besides vs)) (sites_all (plans_of vs))
 besides_sites [] w k h = absurd (let z : false ≡ true = h in cc)
-besides_sites (v ∷ vs) w k h = elim (either (sites_rest v.1 k) (sites_rest (besides vs) k) (beside_sites (changes v.0) v.1 (besides vs) k h)) [
+besides_sites (v ∷ vs) w k h = elim (either (doers v.1 k) (doers (besides vs) k) (beside_sites (changes v.0) v.1 (besides vs) k h)) [
   | inl e ↦ or_left (sites v.0 k) (sites_all (plans_of vs) k) (w.0 k e)
   | inr e ↦ or_right (sites v.0 k) (sites_all (plans_of vs) k) (besides_sites vs w.1 k e)
 ]
@@ -181,7 +216,7 @@ away : {a b : Set} (i : ℕ) → Within a b → b i ≡ false → a i ≡ false
 away {a} {b} i w h = not_true (a i) (λ e. clash (w i e) h)
 
 -- what is looked for at a site is found in the part at its place
-module _ {A : Type 0} (i : ℕ) (F : Rest → Option A) (both : (mine : Set) (r q : Rest) → F (beside_on mine r q) ≡ or_else (F r) (F q)) (none : (r : Rest) → sites_rest r i ≡ false → F r ≡ None) where
+module _ {A : Type 0} (i : ℕ) (F : Rest → Option A) (both : (mine : Set) (r q : Rest) → F (beside_on mine r q) ≡ or_else (F r) (F q)) (none : (r : Rest) → doers r i ≡ false → F r ≡ None) where
   or_none : (x y : Option A) → y ≡ None → or_else x y ≡ x
   or_none None y h = h
   or_none (Some x) y h = refl
@@ -190,7 +225,7 @@ module _ {A : Type 0} (i : ℕ) (F : Rest → Option A) (both : (mine : Set) (r 
   none_or x y h = ap (λ z. or_else z y) h
 
   pub found : (vs : List View) → PartsInPreorder (plans_of vs) → AllWithin vs → F (besides vs) ≡ F (part_rest (slice_get vs (place_with i vs)))
-  found [] h w = none Done refl ∙ sym (none Stopped refl)
+  found [] h w = none Done refl ∙ sym (none (Fresh (STOP 0)) refl)
   found (v ∷ []) h w = both (changes v.0) v.1 Done ∙ or_none (F v.1) (F Done) (none Done refl)
   found (v ∷ u ∷ vs) h w = on (nat_le (site u.0) i) refl (found (u ∷ vs) h.2 w.1)
     where
@@ -198,10 +233,10 @@ module _ {A : Type 0} (i : ℕ) (F : Rest → Option A) (both : (mine : Set) (r 
           F (besides (v ∷ u ∷ vs)) ≡ F (part_rest (slice_get (v ∷ u ∷ vs) (if b then suc (place_with i (u ∷ vs)) else 0)))
       on true q r =
           let l : site u.0 ≤ i = grind (arith, nat_tests) in
-          both (changes v.0) v.1 (besides (u ∷ vs)) ∙ none_or (F v.1) (F (besides (u ∷ vs))) (none v.1 (away {a = sites_rest v.1} {b = sites v.0} i w.0 (not_before v u vs i h l))) ∙ r
+          both (changes v.0) v.1 (besides (u ∷ vs)) ∙ none_or (F v.1) (F (besides (u ∷ vs))) (none v.1 (away {a = doers v.1} {b = sites v.0} i w.0 (not_before v u vs i h l))) ∙ r
       on false q r =
           let l : i < site u.0 = grind (arith, nat_tests) in
-          both (changes v.0) v.1 (besides (u ∷ vs)) ∙ or_none (F v.1) (F (besides (u ∷ vs))) (none (besides (u ∷ vs)) (away {a = sites_rest (besides (u ∷ vs))} {b = sites_all (plans_of (u ∷ vs))} i (besides_sites (u ∷ vs) w.1) (not_behind v u vs i h l)))
+          both (changes v.0) v.1 (besides (u ∷ vs)) ∙ or_none (F v.1) (F (besides (u ∷ vs))) (none (besides (u ∷ vs)) (away {a = doers (besides (u ∷ vs))} {b = sites_all (plans_of (u ∷ vs))} i (besides_sites (u ∷ vs) w.1) (not_behind v u vs i h l)))
 
 output_part : (i : ℕ) (o : Option View) (e : Store) → output_at i (part_rest o) e ≡ part_output i o e
 output_part i None e = refl
@@ -212,7 +247,7 @@ assigned_part i None e = refl
 assigned_part i (Some v) e = refl
 
 pub found_output : (i : ℕ) (vs : List View) (e : Store) → PartsInPreorder (plans_of vs) → AllWithin vs → output_at i (besides vs) e ≡ part_output i (slice_get vs (place_with i vs)) e
-found_output i vs e h w = found i (λ r. output_at i r e) (λ m r q. beside_output i m r q e) (λ r k. not_there i r e k) vs h w ∙ output_part i (slice_get vs (place_with i vs)) e
+found_output i vs e h w = found i (λ r. output_at i r e) (λ m r q. beside_output i m r q e) (λ r k. none_output i e r k) vs h w ∙ output_part i (slice_get vs (place_with i vs)) e
 
 pub found_assigned : (i : ℕ) (vs : List View) (e : Store) → PartsInPreorder (plans_of vs) → AllWithin vs → assigned_at i (besides vs) e ≡ part_assigned i (slice_get vs (place_with i vs)) e
 found_assigned i vs e h w = found i (λ r. assigned_at i r e) (λ m r q. beside_assigned i m r q e) (λ r k. none_assigned i e r k) vs h w ∙ assigned_part i (slice_get vs (place_with i vs)) e

@@ -27,10 +27,10 @@ within_left a b k h = or_left (a k) (b k) h
 pub within_right : (a b : Set) → Within b (a ∪ b)
 within_right a b k h = or_right (a k) (b k) h
 
-pub within_both : {a b c : Set} → Within a c → Within b c → Within (a ∪ b) c
+within_both : {a b c : Set} → Within a c → Within b c → Within (a ∪ b) c
 within_both {a} {b} {c} h j k e = elim (either (a k) (b k) e) [ inl l ↦ h k l | inr r ↦ j k r ]
 
-pub through : {a b c : Set} → Within a b → Within b c → Within a c
+through : {a b c : Set} → Within a b → Within b c → Within a c
 through h j k e = j k (h k e)
 
 joined : {a b c d : Set} → Within a c → Within b d → Within (a ∪ b) (c ∪ d)
@@ -46,7 +46,7 @@ clash {b} h k = let e : true ≡ false = sym h ∙ k in cc
 apart_within : {a b c d : Set} → Within a c → Within b d → Disjoint c d → Disjoint a b
 apart_within {b = b} h j x k e = not_true (b k) (λ f. clash (j k f) (x k (h k e)))
 
-pub and_then_sites : (r : Rest) (a : Set) (ps : Procs) → Within (sites_rest r) a → Within (sites_rest (and_then r ps)) (a ∪ sites_all ps)
+and_then_sites : (r : Rest) (a : Set) (ps : Procs) → Within (sites_rest r) a → Within (sites_rest (and_then r ps)) (a ∪ sites_all ps)
 and_then_sites r a no_parts h = through {b = a} h (within_left a nothing)
 and_then_sites r a (part p ps) h = joined {a = sites_rest r} {b = sites_all (part p ps)} {c = a} {d = sites_all (part p ps)} h (λ k e. e)
 

@@ -282,6 +282,9 @@ phase_did k i ph q vs at e f s d r h a = subst (λ x. Did (rest_at k x i vs at) 
 pub never : (r q : Rest) (e f : Store) (s : ℕ) (d : Deed) → Able Stopped e s d → Did r e s d q f
 never r q e f s d (ks, p, g, st) = elim st [ ]
 
+pub never_there : (r q : Rest) (e f : Store) (s : ℕ) (d : Deed) → Able (Fresh (STOP 0)) e s d → Did r e s d q f
+never_there r q e f s d (ks, p, g, st) = elim st [ ]
+
 pub never_done : (r q : Rest) (e f : Store) (s : ℕ) (d : Deed) → Able Done e s d → Did r e s d q f
 never_done r q e f s d (ks, p, g, st) = elim st [ ]
 

@@ -94,9 +94,9 @@ abbrev pub is_choice : Kind → Bool
 is_choice (kind.Alt gs) = true
 is_choice k = false
 
--- the part that goes on, and what comes behind it; a part that isn't there never goes on
+-- the part that goes on, and what comes behind it
 abbrev pub follow : Option View → Procs → Rest
-follow None ps = Stopped
+follow None ps = Fresh (STOP 0)
 follow (Some v) ps = and_then v.1 ps
 
 -- it goes on at one of its parts; a counted SEQ goes on by turns of its body, and a PAR at all its parts
@@ -209,7 +209,7 @@ assigned_at i r e = None
 
 -- the moves of a part, what it waits for, the value that it outputs or assigns
 abbrev pub part_rest : Option View → Rest
-part_rest None = Stopped
+part_rest None = Fresh (STOP 0)
 part_rest (Some v) = v.1
 
 abbrev pub part_own : Option View → Store → List Move
@@ -319,7 +319,7 @@ on_part r (part p ps) = then_on r (part p ps)
 
 -- the same of a part, where there is one
 abbrev pub follow_on : Option View → Procs → Rest
-follow_on None ps = Stopped
+follow_on None ps = Fresh (STOP 0)
 follow_on (Some v) ps = on_part v.1 ps
 
 -- the processes that were written

@@ -4,7 +4,7 @@ use Rattle.vc_occam.specs.First.{own}
 use Rattle.vc_occam.specs.Frames.{plan_at, views}
 use Rattle.vc_occam.specs.Remains.{Fresh}
 use Rattle.vc_occam.specs.Terms.{store}
-use Rattle.vc_occam.proofs.Frames.{seq_waits, some_left}
+use Rattle.vc_occam.proofs.Frames.{par_waits, seq_waits, some_left}
 use Rattle.vc_occam.proofs.looking.ready_move.Goals as goal
 
 pub returns-in-Seq : goal.returns-in-Seq
@@ -12,3 +12,9 @@ returns-in-Seq c =
     let vs = views c.args.parts.now.items in
     let e = store c.args.vars.now in
     ap (λ (k : Kind). own (Fresh (plan_at k c.args.site vs)) e) c.in-Seq.is ∙ seq_waits c.args.site vs e (some_left c.args.parts.now _ c.is_empty.ensures c.if-not-is_empty.true)
+
+pub returns-in-Par : goal.returns-in-Par
+returns-in-Par c =
+    let vs = views c.args.parts.now.items in
+    let e = store c.args.vars.now in
+    ap (λ (k : Kind). own (Fresh (plan_at k c.args.site vs)) e) c.in-Par.is ∙ par_waits c.args.site vs e (some_left c.args.parts.now _ c.is_empty-in-Par-1.ensures c.if-not-is_empty-2.true)
