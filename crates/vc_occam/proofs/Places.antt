@@ -1,6 +1,7 @@
 -- Where the part that has a site stands.
-use Rattle.std.proofs.Common.{◌≡◌, ℕ, zero, suc, ℤ, Bool, true, false, ◌||◌, ◌≤◌, ◌<◌, refl, ap, sym, ◌∙◌, subst, List, [], ◌∷◌, map, Option, Some, None, ◌⊎◌, inl, inr, arith}
-use Rattle.std.specs.Prelude.{slice_get, nat_le, if◌then◌else◌, ◌==◌}
+use Rattle.std.proofs.Common.{◌≡◌, ℕ, zero, suc, ℤ, length, Bool, true, false, ◌||◌, ◌≤◌, ◌<◌, refl, ap, sym, ◌∙◌, subst, List, [], ◌∷◌, map, Option, Some, None, ◌⊎◌, inl, inr, arith}
+use Rattle.std.specs.List.Sorted.{IsNonDecreasingBy, IsPartitionPoint}
+use Rattle.std.specs.Prelude.{slice_get, slice_index_or, nat_le, if◌then◌else◌, ◌==◌, ◌-◌}
 use Rattle.std.proofs.lemmas.Bool.Decides.{nat_tests}
 use Rattle.vc_occam.specs.declared.datum.Datum.{Datum}
 use Rattle.vc_occam.specs.declared.deed.Deed.{Deed}
@@ -21,10 +22,11 @@ use Rattle.vc_occam.specs.Usage.{Set, changes, just, nothing, ◌∪◌}
 use Rattle.vc_occam.specs.Remains.{Rest, Done, Stopped, Fresh, Finishing, Getting, Then, Turns, Beside, and_then, begin, beside_on, Step, does_skip, does_empty_seq, does_empty_par, does_assign, faults_assign, faults_out, does_if, does_turn, does_leave, faults_while, does_count, does_count_none, faults_count, does_offer, does_finish, does_input, waits_input, gets, does_stop, does_choose, waits_choose, in_then, in_turns, in_left, in_right}
 use Rattle.vc_occam.specs.Sites.{sites, sites_all, sites_branches, sites_guards, site, Precedes, InPreorder, PartsInPreorder}
 use Rattle.vc_occam.specs.States.{or_else, output_at}
-use Rattle.vc_occam.specs.Frames.{Able, View, assigned_at, awaiting, behind, besides, branches_of, chosen_at, count_of, follow, going_at, guards_of, part_assigned, part_output, part_plan, part_rest, place_with, plan_at, plans_of, rest_at, together, turn_of, turning, view, views, while_of}
-use Rattle.vc_occam.proofs.Besides.{beside_able, beside_assigned, beside_output}
+use Rattle.vc_occam.specs.Frames.{Able, ChangedAt, Did, HasVariables, PartHasVariables, PartInPreorder, View, assigned_at, awaiting, behind, besides, branches_of, chosen_at, count_of, follow, going_at, guards_of, part_assigned, part_output, part_plan, part_rest, place_with, plan_at, plans, plans_of, rest_at, together, turn_of, turning, view, views, while_of}
+use Rattle.vc_occam.proofs.Besides.{besides_did, beside_able, beside_assigned, beside_output}
 use Rattle.vc_occam.proofs.Frames.{view_out, view_roll}
 use Rattle.vc_occam.proofs.Sites.{Within, either, not_true, clash, within_left, within_right}
+use Rattle.vc_occam.proofs.Stepping.{all_variables, parts_preorder}
 use Rattle.vc_occam.proofs.Stores.{or_false, or_left, or_right}
 
 itself : (i : ℕ) → just i i ≡ true
@@ -273,3 +275,56 @@ found_able i (v ∷ u ∷ vs) e d h w a = on (nat_le (site u.0) i) refl (found_a
           | inl b ↦ b
           | inr b ↦ absurd (clash (besides_sites (u ∷ vs) w.1 i (able_site (besides (u ∷ vs)) e i d b)) (not_behind v u vs i h l))
         ]
+
+-- sites of parts rise
+has_site : (fs : List Frame) (k : ℕ) (d : Frame) → k < length fs → sites_all (plans_of (views fs)) (site (view (slice_index_or fs k d)).0) ≡ true
+has_site [] k d l = absurd (omega arith)
+has_site (x ∷ fs) zero d l = let j = site (view x).0 in or_left (sites (view x).0 j) (sites_all (plans_of (views fs)) j) (own_site (view x).0)
+has_site (x ∷ fs) (suc k) d l =
+    let j = site (view (slice_index_or fs k d)).0 in
+    or_right (sites (view x).0 j) (sites_all (plans_of (views fs)) j) (has_site fs k d (omega arith))
+
+pub sites_rise : (fs : List Frame) → PartsInPreorder (plans_of (views fs)) → IsNonDecreasingBy (λ (f : Frame). site (view f).0) fs
+sites_rise [] h i j d le l = absurd (omega arith)
+sites_rise (x ∷ fs) h zero zero d le l = omega arith
+sites_rise (x ∷ fs) h zero (suc j) d le l = let z = h.0 (site (view x).0) (site (view (slice_index_or fs j d)).0) (own_site (view x).0) (has_site fs j d (omega arith)) in omega arith
+sites_rise (x ∷ fs) h (suc i) zero d le l = absurd (omega arith)
+sites_rise (x ∷ fs) h (suc i) (suc j) d le l = sites_rise fs h.2 i j d (omega arith) (omega arith)
+
+-- the last part that begins at a site or before it stands just before the first that begins later
+pub halved : (fs : List Frame) (n i : ℕ) → n ≤ length fs → IsPartitionPoint (λ (f : Frame). nat_le (site (view f).0) i ≡ true) (λ (f : Frame). nat_le (site (view f).0) i ≡ false) fs n → n - 1 ≡ place_with i (views fs)
+halved [] n i l p = omega arith
+halved (x ∷ []) n i l p = omega arith
+halved (x ∷ y ∷ fs) zero i l p = let e = p.1 1 x (omega arith) (omega arith) in rw e refl
+halved (x ∷ y ∷ fs) (suc zero) i l p = let e = p.1 1 x (omega arith) (omega arith) in rw e refl
+halved (x ∷ y ∷ fs) (suc (suc m)) i l p =
+    let e = p.0 1 x (omega arith) (omega arith) in
+    let r = halved (y ∷ fs) (suc m) i (omega arith) (λ k d a b. p.0 (suc k) d (omega arith) (omega arith), λ k d a b. p.1 (suc k) d (omega arith) (omega arith)) in
+    let t : suc (suc m) - 1 ≡ suc (suc m - 1) = omega arith in
+    rw e (t ∙ ap suc r)
+
+-- what a site of a PAR does is done by the part at its place
+pub together_able : (k : Kind) (i : ℕ) (fs : List Frame) (p : ℕ) (e : Store) (s : ℕ) (d : Deed) → k ≡ kind.Par → InPreorder (plan_at k i (views fs)) → AllWithin (views fs) → p ≡ place_with s (views fs) → Able (together k (views fs)) e s d → Able (part_rest (slice_get (views fs) p)) e s d
+together_able k i fs p e s d h g w q a =
+    let vs = views fs in
+    let pre : PartsInPreorder (plans_of vs) = (subst (λ (j : Kind). InPreorder (plan_at j i vs)) h g).1 in
+    subst (λ x. Able (part_rest (slice_get vs x)) e s d) (sym q) (found_able s vs e d pre w (subst (λ (j : Kind). Able (together j vs) e s d) h a))
+
+pub together_value : (k : Kind) (i : ℕ) (fs : List Frame) (p : ℕ) (e : Store) (s : ℕ) → k ≡ kind.Par → InPreorder (plan_at k i (views fs)) → AllWithin (views fs) → p ≡ place_with s (views fs) → assigned_at s (together k (views fs)) e ≡ part_assigned s (slice_get (views fs) p) e
+together_value k i fs p e s h g w q =
+    let vs = views fs in
+    let pre : PartsInPreorder (plans_of vs) = (subst (λ (j : Kind). InPreorder (plan_at j i vs)) h g).1 in
+    ap (λ (j : Kind). assigned_at s (together j vs) e) h ∙ found_assigned s vs e pre w ∙ ap (λ x. part_assigned s (slice_get vs x) e) (sym q)
+
+pub together_variables : (k : Kind) (i : ℕ) (vs : List View) (p n : ℕ) → k ≡ kind.Par → HasVariables (plan_at k i vs) n → PartHasVariables (slice_get vs p) n
+together_variables k i vs p n h g = all_variables vs p n (subst (λ (j : Kind). HasVariables (plan_at j i vs) n) h g)
+
+pub together_preorder : (k : Kind) (i : ℕ) (vs : List View) (p : ℕ) → k ≡ kind.Par → InPreorder (plan_at k i vs) → PartInPreorder (slice_get vs p)
+together_preorder k i vs p h g = parts_preorder vs p (subst (λ (j : Kind). InPreorder (plan_at j i vs)) h g).1
+
+pub together_did : (k : Kind) (i : ℕ) (vs ws : List View) (p at : ℕ) (e f : Store) (s : ℕ) (d : Deed) → k ≡ kind.Par → plans ws ≡ plans vs → ChangedAt p vs ws → Did (part_rest (slice_get vs p)) e s d (part_rest (slice_get ws p)) f →
+    Did (together k vs) e s d (rest_at k phase.Together i ws at) f
+together_did k i vs ws p at e f s d h q c a =
+    subst (λ (j : Kind). Did (together j vs) e s d (together j ws) f) (sym h)
+    (subst (λ us. Did (besides vs) e s d (besides us) f) (sym c.1)
+    (besides_did vs p c.0 e f s d (ap plans (sym c.1) ∙ q) (subst (λ us. Did (part_rest (slice_get vs p)) e s d (part_rest (slice_get us p)) f) c.1 a)))

@@ -3,9 +3,9 @@ ghost use Rattle.std.specs.Prelude.{◌≡◌, ◌↔◌, ◌++◌, ◌∷◌, [
 ghost use Rattle.std.specs.List.{Contains};
 ghost use Rattle.vc_occam.specs.First.{own};
 ghost use Rattle.vc_occam.specs.Gates.{gate};
-ghost use Rattle.vc_occam.specs.Frames.{PartInPreorder, View, assigned_at, awaiting, besides, chosen_at, first_waits, is_choice, listed, part_assigned, part_output, part_own, part_waits, place_with, plan_at, view, views, waits_at};
+ghost use Rattle.vc_occam.specs.Frames.{PartInPreorder, View, assigned_at, awaiting, besides, chosen_at, first_waits, is_choice, listed, part_assigned, part_output, part_own, part_waits, place_with, plan_at, plans_of, view, views, waits_at};
 ghost use Rattle.vc_occam.specs.Remains.{Fresh};
-ghost use Rattle.vc_occam.specs.Sites.{InPreorder};
+ghost use Rattle.vc_occam.specs.Sites.{InPreorder, PartsInPreorder};
 ghost use Rattle.vc_occam.specs.States.{carried, output_at, waiting};
 ghost use Rattle.vc_occam.specs.Terms.{store};
 
@@ -295,15 +295,13 @@ fn parts_wait_on(parts: &Vec<Frame>, wanted: Waits) -> Option<u16>
     None
 }
 
-/// The place of the part that has a site: the last that begins at this site or before it.
+/// The place of the part that has a site: the last that begins at this site or before it, by halving.
 pub(crate) fn part_with(parts: &Vec<Frame>, site: u16) -> usize
+    requires { PartsInPreorder (plans_of (views parts.now.items)) }
     ensures { result ≡ place_with site (views parts.now.items) }
 {
-    let mut place = 0;
-    while place + 1 < parts.len() && parts[place + 1].site <= site {
-        place += 1;
-    }
-    place
+    let later = parts.partition_point(|part| part.site <= site);
+    later.saturating_sub(1)
 }
 
 #[cycle(message)]

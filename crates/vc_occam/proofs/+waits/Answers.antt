@@ -4,7 +4,7 @@ use Rattle.vc_occam.specs.declared.frame.Frame.TheViews.{out-Frame}
 use Rattle.vc_occam.specs.Frames.{behind, first_waits, part_waits, place_of, views}
 use Rattle.vc_occam.specs.Remains.{Rest}
 use Rattle.vc_occam.specs.States.{waiting}
-use Rattle.vc_occam.proofs.Besides.{waits_found, waits_more, waits_none}
+use Rattle.vc_occam.proofs.Besides.{waits_found, waits_more}
 use Rattle.vc_occam.proofs.Frames.{rest_apart, rest_chosen, rest_together, turning_waits, turning_none, rest_ready, rest_sending, rest_receiving, rest_going, rest_nothing, rest_ended, rest_stuck, follow_waits}
 use Rattle.vc_occam.proofs.+waits.Goals as goal
 
@@ -72,3 +72,15 @@ pub frame::Frame::waits_on-returns-in-Chosen : goal.frame::Frame::waits_on-retur
 frame::Frame::waits_on-returns-in-Chosen t c =
     let f = c.args.self.now in
     c.chosen_waits.ensures (views (out-Frame f).parts.items) ∙ sym (ap (λ (r : Rest). first_waits c.args.wanted (waiting r)) (rest_chosen f c.in-Chosen.is))
+
+pub looking::parts_wait_on-returns-in-Some : goal.looking::parts_wait_on-returns-in-Some
+looking::parts_wait_on-returns-in-Some t c =
+    let fs = c.args.parts.now.items in
+    let l : c.loop-place.place < length fs = search rules in
+    waits_found fs c.loop-place.place c.index.result.now c.args.wanted _ c.in-Some.site l c.index.ensures (sym c.in-Some.is ∙ c.waits_on.ensures) c.loop-place.invariant
+
+pub looking::parts_wait_on-loop-place-preserved : goal.looking::parts_wait_on-loop-place-preserved
+looking::parts_wait_on-loop-place-preserved t c =
+    let fs = c.args.parts.now.items in
+    let l : c.loop-place.place < length fs = search rules in
+    waits_more fs c.loop-place.place c.index.result.now c.args.wanted _ l c.index.ensures (sym c.in_default.is ∙ c.waits_on.ensures) c.loop-place.invariant
