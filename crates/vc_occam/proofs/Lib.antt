@@ -1,3 +1,4 @@
+pub mod Acting
 pub mod Answered
 pub mod Beginning
 pub mod Besides
@@ -16,7 +17,6 @@ pub mod Inside
 pub mod Keeping
 pub mod Kinded
 pub mod Law
-pub mod Listing
 pub mod Lists
 pub mod Made
 pub mod Making
@@ -27,7 +27,6 @@ pub mod Preorder
 pub mod Numbers
 pub mod Reaching
 pub mod Rests
-pub mod Single
 pub mod Shrinking
 pub mod Sites
 pub mod Standing

@@ -287,7 +287,7 @@ either_none : {A : Type 0} (x y : Option A) → x ≡ None → y ≡ None → or
 either_none x y h k = rw (h, k) refl
 
 -- no output begins at a site that isn't there
-not_there : (i : ℕ) (r : Rest) (e : Store) → sites_rest r i ≡ false → output_at i r e ≡ None
+pub not_there : (i : ℕ) (r : Rest) (e : Store) → sites_rest r i ≡ false → output_at i r e ≡ None
 not_there i Done e h = refl
 not_there i Stopped e h = refl
 not_there i (Fresh (SKIP s)) e h = refl

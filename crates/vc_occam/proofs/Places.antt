@@ -29,7 +29,7 @@ use Rattle.vc_occam.proofs.Sites.{Within, either, not_true, clash, within_left, 
 use Rattle.vc_occam.proofs.Stepping.{all_variables, parts_preorder}
 use Rattle.vc_occam.proofs.Stores.{or_false, or_left, or_right}
 
-itself : (i : ℕ) → just i i ≡ true
+pub itself : (i : ℕ) → just i i ≡ true
 itself i = grind (arith, nat_tests)
 
 -- a process's own site is one of its sites, and the first

@@ -12,6 +12,7 @@ pub mod Messages
 pub mod Moving
 pub mod Nexts
 pub mod Numbering
+pub mod OneProof
 pub mod Opening
 pub mod ProcessLimits
 pub mod Remains

@@ -29,3 +29,12 @@ deed_for (Quiet i) a = deed.Quiet
 abbrev pub deed_on : Option (List ℕ) → Deed
 deed_on None = deed.Finish
 deed_on (Some m) = deed.Message m
+
+-- it is no meeting inside the node
+abbrev pub IsAlone : Move → Type 0
+IsAlone (Offer i c) = Unit {0}
+IsAlone (Want i c) = Unit {0}
+IsAlone (Choose i k c) = Unit {0}
+IsAlone (Stopch i c) = Unit {0}
+IsAlone (Inner i j k c) = ⊥
+IsAlone (Quiet i) = Unit {0}

@@ -3,6 +3,7 @@ ghost use Rattle.std.specs.Prelude.{◌≡◌, length};
 ghost use Rattle.vc_occam.specs.Frames.{HasVariables, view};
 ghost use Rattle.vc_occam.specs.InUse.{UsesLawfully};
 ghost use Rattle.vc_occam.specs.Moving.{deed_for as deed_of, deed_on as going_on, site_of as its_site};
+ghost use Rattle.vc_occam.specs.OneProof.{InPreorder-prop, OwnSites-prop, UsesLawfully-prop};
 ghost use Rattle.vc_occam.specs.Sites.{InPreorder, OwnSites};
 
 use crate::answer::Answer;
@@ -28,9 +29,9 @@ pub struct Running {
     vars: Vec<Datum>,
     inside: Items<u16>,
     ghost has_variables: { HasVariables (view frame).0 (length vars.items) },
-    ghost in_preorder: { InPreorder (view frame).0 },
-    ghost own_sites: { OwnSites (view frame).1 },
-    ghost uses_lawfully: { UsesLawfully (view frame).1 },
+    ghost in_preorder: { InPreorder (view frame).0 } by { InPreorder-prop (view frame).0 },
+    ghost own_sites: { OwnSites (view frame).1 } by { OwnSites-prop (view frame).1 },
+    ghost uses_lawfully: { UsesLawfully (view frame).1 } by { UsesLawfully-prop (view frame).1 },
 }
 
 /// What the move's site does, where the channel gave this answer.
@@ -81,7 +82,9 @@ fn site_of(made: &Move) -> u16
 impl Running {
     ghost use Rattle.std.specs.Prelude.{◌≡◌, ◌≤◌, ◌↔◌, IsTrue, IfOk, OnOk, OnErr, MatchOption, Some, None, true, ℕ};
     ghost use Rattle.std.specs.List.{Contains};
-    ghost use Rattle.vc_occam.specs.Frames.{assigned_at};
+    ghost use Rattle.vc_occam.specs.First.{own};
+    ghost use Rattle.vc_occam.specs.Frames.{assigned_at, is_outside as stays_outside, outside as kept_outside};
+    ghost use Rattle.vc_occam.specs.Moving.{IsAlone};
     ghost use Rattle.vc_occam.specs.declared.answer.Answer.{Answer};
     ghost use Rattle.vc_occam.specs.declared.deed.Deed.TheVariants.{Quiet};
     ghost use Rattle.vc_occam.specs.Terms.{store};
@@ -123,7 +126,7 @@ impl Running {
     /// The moves that it can begin with, in order of site (for an output that meets an input, of the output's), then of guard.
     #[tactic(auto, unfolding(crate::specs::Runnings::state, crate::specs::Runnings::inner_channels))]
     pub fn actions(&self) -> Result<Items<Move>, Memory>
-        ensures { IfOk result (λ found. found ≡ moves self.now) }
+        ensures { IfOk result (λ found. found ≡ kept_outside (inner_channels self.now) (own (state self.now).rest (state self.now).store)) }
     {
         let mut own = Items::new(self.alloc);
         self.frame.push_moves(&mut own, &self.vars)?;
@@ -133,7 +136,7 @@ impl Running {
     /// Whether the move is one that it can begin with.
     #[tactic(auto, unfolding(crate::specs::Runnings::state, crate::specs::Runnings::inner_channels))]
     pub fn lists(&self, made: &Move) -> bool
-        ensures { IsTrue result ↔ Contains (moves self.now) made.now }
+        ensures { IsTrue result ↔ ((stays_outside (inner_channels self.now) made.now ≡ true) × Contains (own (state self.now).rest (state self.now).store) made.now) }
     {
         is_outside(made, self.inside.as_slice()) && self.frame.begins_with(made, &self.vars)
     }
@@ -156,6 +159,7 @@ impl Running {
     #[tactic(auto, unfolding(crate::specs::Runnings::state, crate::specs::Runnings::inner_channels))]
     pub fn act(&mut self, made: &Move, answer: Answer) -> Result<(), Memory>
         requires listed { Contains (moves self.old) made.now }
+        requires alone { IsAlone made.now }
         requires fits { FitsMove made.now (sent_by (state self.old) made.now) answer }
         ensures made { OnOk result (Acts (state self.old) (doing made.now (sent_by (state self.old) made.now) answer) (state self.new)) }
         ensures unchanged { OnErr result ((self.new ≡ self.old) × IsQuiet made.now) }
