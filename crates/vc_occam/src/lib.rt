@@ -15,9 +15,10 @@
 //! process does.
 //!
 //! A process runs as a tree of frames (`frame.rt`), one for each process that is written, with how far it is and at which part;
-//! what it stands for is said in `specs/Frames`. A part begins, ends and begins again by a change of its frame, without memory.
-//! [`Running::new`] begins a process in which no PAR stands (`Process::runs_in_order`). The invariant of a [`Running`] is that the
-//! variables that its process changes are there.
+//! what it stands for is said in `specs/Frames`. A part begins, ends and begins again by a change of its frame, without memory. The
+//! parts of a PAR all go on, and since sites are in preorder the one that has a site is found by halving. The invariant of a
+//! [`Running`] is that the variables that its process changes are there, that its sites are in preorder, and that parts side by
+//! side have no site in common and use channels and variables lawfully.
 #![tactic(auto)]
 
 mod answer;

@@ -126,6 +126,7 @@ impl Running {
     /// The moves that it can begin with, in order of site (for an output that meets an input, of the output's), then of guard.
     #[tactic(auto, unfolding(crate::specs::Runnings::state, crate::specs::Runnings::inner_channels))]
     pub fn actions(&self) -> Result<Items<Move>, Memory>
+        // Until what meets inside the node is listed: the moves that need no channel inside it.
         ensures { IfOk result (λ found. found ≡ kept_outside (inner_channels self.now) (own (state self.now).rest (state self.now).store)) }
     {
         let mut own = Items::new(self.alloc);
@@ -136,6 +137,7 @@ impl Running {
     /// Whether the move is one that it can begin with.
     #[tactic(auto, unfolding(crate::specs::Runnings::state, crate::specs::Runnings::inner_channels))]
     pub fn lists(&self, made: &Move) -> bool
+        // Until what meets inside the node is listed: a move that needs no channel inside it.
         ensures { IsTrue result ↔ ((stays_outside (inner_channels self.now) made.now ≡ true) × Contains (own (state self.now).rest (state self.now).store) made.now) }
     {
         is_outside(made, self.inside.as_slice()) && self.frame.begins_with(made, &self.vars)
@@ -159,6 +161,7 @@ impl Running {
     #[tactic(auto, unfolding(crate::specs::Runnings::state, crate::specs::Runnings::inner_channels))]
     pub fn act(&mut self, made: &Move, answer: Answer) -> Result<(), Memory>
         requires listed { Contains (moves self.old) made.now }
+        // Until what meets inside the node is made: no meeting.
         requires alone { IsAlone made.now }
         requires fits { FitsMove made.now (sent_by (state self.old) made.now) answer }
         ensures made { OnOk result (Acts (state self.old) (doing made.now (sent_by (state self.old) made.now) answer) (state self.new)) }

@@ -1,4 +1,5 @@
-use Rattle.std.proofs.Common.{◌∙◌, ap}
+use Rattle.std.proofs.Common.{◌≡◌, ◌∙◌, ap, false, refl, rules}
+use Rattle.std.specs.Prelude.{vec_len, ◌==◌}
 use Rattle.vc_occam.specs.declared.kind.Kind.{Kind}
 use Rattle.vc_occam.specs.First.{own}
 use Rattle.vc_occam.specs.Frames.{plan_at, views}
@@ -17,4 +18,5 @@ pub returns-in-Par : goal.returns-in-Par
 returns-in-Par c =
     let vs = views c.args.parts.now.items in
     let e = store c.args.vars.now in
-    ap (λ (k : Kind). own (Fresh (plan_at k c.args.site vs)) e) c.in-Par.is ∙ par_waits c.args.site vs e (some_left c.args.parts.now _ c.is_empty-in-Par-1.ensures c.if-not-is_empty-2.true)
+    let some : (vec_len c.args.parts.now == 0) ≡ false = search rules in
+    ap (λ (k : Kind). own (Fresh (plan_at k c.args.site vs)) e) c.in-Par.is ∙ par_waits c.args.site vs e (some_left c.args.parts.now _ refl some)
