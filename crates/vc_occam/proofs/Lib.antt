@@ -1,7 +1,6 @@
 pub mod Answered
 pub mod Beginning
 pub mod Bytes
-pub mod Changed
 pub mod Checked
 pub mod Deep
 pub mod Doing
@@ -18,7 +17,7 @@ pub mod Listing
 pub mod Lists
 pub mod Made
 pub mod Making
-pub mod Offending
+pub mod Listed
 pub mod Openly
 pub mod Preorder
 pub mod Numbers
@@ -34,3 +33,9 @@ pub mod Turns
 pub mod Unused
 pub mod Using
 pub mod Waiting
+pub mod Clashing
+pub mod Ranks
+pub mod Shares
+pub mod Judging
+pub mod Parted
+pub mod Placed
