@@ -3,7 +3,6 @@ pub mod Answered
 pub mod Beginning
 pub mod Besides
 pub mod Bytes
-pub mod Changed
 pub mod Checked
 pub mod Deep
 pub mod Doing
@@ -20,7 +19,7 @@ pub mod Law
 pub mod Lists
 pub mod Made
 pub mod Making
-pub mod Offending
+pub mod Listed
 pub mod Openly
 pub mod Places
 pub mod Preorder
@@ -36,3 +35,9 @@ pub mod Turns
 pub mod Unused
 pub mod Using
 pub mod Waiting
+pub mod Clashing
+pub mod Ranks
+pub mod Shares
+pub mod Judging
+pub mod Parted
+pub mod Placed

@@ -4,7 +4,8 @@ pub mod First
 pub mod Frames
 pub mod Gates
 pub mod InOrder
-pub mod Indexes
+pub mod UseFaults
+pub mod Usages
 pub mod Lawful
 pub mod Laws
 pub mod Limits
@@ -17,6 +18,7 @@ pub mod Opening
 pub mod ProcessLimits
 pub mod Remains
 pub mod Runnings
+pub mod Sharing
 pub mod Sites
 pub mod States
 pub mod Syntax
