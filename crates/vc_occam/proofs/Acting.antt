@@ -1,5 +1,5 @@
 -- A move that was made, and a site that went on.
-use Rattle.std.proofs.Common.{◌≡◌, ℕ, Bool, true, false, refl, ap, sym, ◌∙◌, subst, List, [], ◌∷◌, ◌++◌, Option, Some, None, inl, inr, arith}
+use Rattle.std.proofs.Common.{◌≡◌, ℕ, Bool, true, false, refl, ap, sym, ◌∙◌, subst, List, [], ◌∷◌, Option, Some, None, inl, inr, arith}
 use Rattle.std.proofs.lemmas.Bool.Decides.{nat_tests}
 use Rattle.std.proofs.lemmas.List.Elements.{Contains-append_cases}
 use Rattle.std.specs.Prelude.{◌==◌, if◌then◌else◌, MatchOption}
@@ -52,7 +52,7 @@ doers_rest (Beside mine r q) = λ k e. elim (either (doers r k) (doers q k) e) [
 ]
 
 -- a deed's communications
-abbrev Says : Deed → List Comm → Type 0
+abbrev pub Says : Deed → List Comm → Type 0
 Says deed.Quiet ks = ks ≡ []
 Says (deed.Offer c) ks = (x : Datum) × (ks ≡ Out c x ∷ [])
 Says deed.Finish ks = (c : ℕ) × (ks ≡ Fin c ∷ [])
@@ -63,7 +63,7 @@ Says (deed.Choose k c (Some m)) ks = (x : Datum) × (ks ≡ In c x ∷ [])
 Says (deed.Message m) ks = (c : ℕ) × (x : Datum) × (ks ≡ In c x ∷ [])
 Says (deed.StopChannel c) ks = ks ≡ Stp c ∷ []
 
-says : {r r' : Rest} {e e' : Store} {i : ℕ} {d : Deed} {m : List Comm} → Step r e i d m r' e' → Says d m
+pub says : {r r' : Rest} {e e' : Store} {i : ℕ} {d : Deed} {m : List Comm} → Step r e i d m r' e' → Says d m
 says does_skip = refl
 says does_empty_seq = refl
 says does_empty_par = refl
@@ -94,7 +94,7 @@ out_same : (c d : ℕ) (x y : Datum) → Out c x ∷ [] ≡ Out d y ∷ [] → x
 out_same c d x y h = cc
 
 -- the value that an output sends is the one that stands at its site
-sends : {r r' : Rest} {e e' : Store} {i c : ℕ} {m : List Comm} (x : Datum) → Step r e i (deed.Offer c) m r' e' → OwnSites r → m ≡ Out c x ∷ [] → output_at i r e ≡ Some x
+pub sends : {r r' : Rest} {e e' : Store} {i c : ℕ} {m : List Comm} (x : Datum) → Step r e i (deed.Offer c) m r' e' → OwnSites r → m ≡ Out c x ∷ [] → output_at i r e ≡ Some x
 sends x (does_offer {s = s} {c = c} {x = y} k) o q =
     let on : (s == s) ≡ true = grind (arith, nat_tests) in
     rw on (k ∙ ap Some (out_same c c y x q))
@@ -146,7 +146,7 @@ alone_move r e inside m al h = own_when m al (listed inside (own r e) (own r e) 
     own_when (Quiet i) al (inr k) = absurd k
 
 -- the site that waits
-waits_site : Waiting → ℕ
+unfoldable pub waits_site : Waiting → ℕ
 waits_site (output i c) = i
 waits_site (input i c) = i
 
@@ -165,7 +165,7 @@ its_site (Beside mine r q) w h = elim (Contains-append_cases (waiting r) (waitin
 ]
 
 -- one thing waits at a site
-one_waits : (r : Rest) (w x : Waiting) → OwnSites r → waits_site w ≡ waits_site x → Contains (waiting r) w → Contains (waiting r) x → w ≡ x
+pub one_waits : (r : Rest) (w x : Waiting) → OwnSites r → waits_site w ≡ waits_site x → Contains (waiting r) w → Contains (waiting r) x → w ≡ x
 one_waits Done w x o e a b = absurd (none w a)
 one_waits Stopped w x o e a b = absurd (none w a)
 one_waits (Fresh p) w x o e a b = absurd (none w a)

@@ -18,6 +18,7 @@ pub mod Kinded
 pub mod Law
 pub mod Lists
 pub mod Made
+pub mod Meets
 pub mod Making
 pub mod Listed
 pub mod Openly

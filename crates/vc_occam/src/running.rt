@@ -2,17 +2,20 @@
 ghost use Rattle.std.specs.Prelude.{◌≡◌, length};
 ghost use Rattle.vc_occam.specs.Frames.{HasVariables, view};
 ghost use Rattle.vc_occam.specs.InUse.{UsesLawfully};
-ghost use Rattle.vc_occam.specs.Moving.{deed_for as deed_of, deed_on as going_on, site_of as its_site};
+ghost use Rattle.vc_occam.specs.First.{own};
+ghost use Rattle.vc_occam.specs.Moving.{CanBegin, HasMet, at, deed_for as deed_of, deed_on as going_on, site_of as its_site};
 ghost use Rattle.vc_occam.specs.OneProof.{InPreorder-prop, OwnSites-prop, UsesLawfully-prop};
 ghost use Rattle.vc_occam.specs.Sites.{InPreorder, OwnSites};
+ghost use Rattle.vc_occam.specs.States.{came, carried, output_at};
+ghost use Rattle.vc_occam.specs.Terms.{store};
 
 use crate::answer::Answer;
 use crate::datum::Datum;
 use crate::deed::Deed;
 use crate::frame::Frame;
 use crate::framing::begin_frame;
+use crate::meeting::{is_outside, joined, partner};
 use crate::moves::Move;
-use crate::outside::{is_outside, outside};
 use crate::process::Process;
 use crate::value_kind::ValueKind;
 use crate::variables::empty_variables;
@@ -79,12 +82,35 @@ fn site_of(made: &Move) -> u16
     }
 }
 
+/// An output meets an input or guard inside the node: it begins, its message is taken, and it is finished.
+fn meet(
+    frame: &mut Frame,
+    vars: &mut Vec<Datum>,
+    sender: u16,
+    chan: u16,
+    taken: &Move,
+    answer: Answer,
+)
+    requires meets { CanBegin (own (view frame.old).1 (store vars.old.items)) sender chan taken.now }
+    requires fits { came answer ≡ carried (output_at sender (view frame.old).1 (store vars.old.items)) }
+    requires variables { HasVariables (view frame.old).0 (length vars.old.items) }
+    requires in_preorder { InPreorder (view frame.old).0 }
+    requires own_sites { OwnSites (view frame.old).1 }
+    ensures met { HasMet (at (view frame.old).1 (store vars.old.items)) sender chan taken.now answer (at (view frame.new).1 (store vars.new.items)) }
+    ensures plan { (view frame.new).0 ≡ (view frame.old).0 }
+    ensures length { length vars.new.items ≡ length vars.old.items }
+{
+    frame.go(sender, Deed::Offer { chan }, None, vars);
+    frame.go(site_of(taken), deed_for(taken, answer), None, vars);
+    frame.go(sender, Deed::Finish, None, vars);
+}
+
 impl Running {
     ghost use Rattle.std.specs.Prelude.{◌≡◌, ◌≤◌, ◌↔◌, IsTrue, IfOk, OnOk, OnErr, MatchOption, Some, None, true, ℕ};
     ghost use Rattle.std.specs.List.{Contains};
     ghost use Rattle.vc_occam.specs.First.{own};
-    ghost use Rattle.vc_occam.specs.Frames.{assigned_at, is_outside as stays_outside, outside as kept_outside};
-    ghost use Rattle.vc_occam.specs.Moving.{IsAlone};
+    ghost use Rattle.vc_occam.specs.Frames.{assigned_at};
+    ghost use Rattle.vc_occam.specs.Moving.{CanMeet, IsAlone};
     ghost use Rattle.vc_occam.specs.declared.answer.Answer.{Answer};
     ghost use Rattle.vc_occam.specs.declared.deed.Deed.TheVariants.{Quiet};
     ghost use Rattle.vc_occam.specs.Terms.{store};
@@ -126,21 +152,40 @@ impl Running {
     /// The moves that it can begin with, in order of site (for an output that meets an input, of the output's), then of guard.
     #[tactic(auto, unfolding(crate::specs::Runnings::state, crate::specs::Runnings::inner_channels))]
     pub fn actions(&self) -> Result<Items<Move>, Memory>
-        // Until what meets inside the node is listed: the moves that need no channel inside it.
-        ensures { IfOk result (λ found. found ≡ kept_outside (inner_channels self.now) (own (state self.now).rest (state self.now).store)) }
+        ensures { IfOk result (λ found. found ≡ moves self.now) }
     {
         let mut own = Items::new(self.alloc);
         self.frame.push_moves(&mut own, &self.vars)?;
-        outside(self.alloc, own.as_slice(), self.inside.as_slice())
+        joined(self.alloc, own.as_slice(), self.inside.as_slice())
     }
 
     /// Whether the move is one that it can begin with.
     #[tactic(auto, unfolding(crate::specs::Runnings::state, crate::specs::Runnings::inner_channels))]
     pub fn lists(&self, made: &Move) -> bool
-        // Until what meets inside the node is listed: a move that needs no channel inside it.
-        ensures { IsTrue result ↔ ((stays_outside (inner_channels self.now) made.now ≡ true) × Contains (own (state self.now).rest (state self.now).store) made.now) }
+        ensures { IsTrue result ↔ Contains (moves self.now) made.now }
     {
-        is_outside(made, self.inside.as_slice()) && self.frame.begins_with(made, &self.vars)
+        match made {
+            Move::Inner {
+                sender,
+                receiver,
+                guard,
+                chan,
+            } => self.meet_now(*sender, *receiver, *guard, *chan),
+            _ => is_outside(made, self.inside.as_slice())
+                && self.frame.begins_with(made, &self.vars),
+        }
+    }
+
+    /// Whether an output and an input or guard can begin that meet on this channel inside the node.
+    #[tactic(auto, unfolding(crate::specs::Runnings::state, crate::specs::Runnings::inner_channels))]
+    fn meet_now(&self, sender: u16, receiver: u16, guard: Option<u16>, chan: u16) -> bool
+        ensures { IsTrue result ↔ CanMeet (inner_channels self.now) (own (state self.now).rest (state self.now).store) sender receiver guard chan }
+    {
+        let offer = Move::Offer { site: sender, chan };
+        let taken = partner(receiver, guard, chan);
+        self.inside.as_slice().contains(&chan)
+            && self.frame.begins_with(&offer, &self.vars)
+            && self.frame.begins_with(&taken, &self.vars)
     }
 
     /// The message that the move's output sends; None where the move has no output.
@@ -156,12 +201,42 @@ impl Running {
         }
     }
 
-    /// Makes the move, to which its channel gave this answer. Only a move without a communication can be without memory, and
-    /// then nothing has changed.
+    /// Makes the move, to which its channel gave this answer; where an output meets an input, that is the output's message, and the
+    /// output begins, the input has it, and the output is finished. Only a move without a communication can be without memory,
+    /// and then nothing has changed.
     #[tactic(auto, unfolding(crate::specs::Runnings::state, crate::specs::Runnings::inner_channels))]
     pub fn act(&mut self, made: &Move, answer: Answer) -> Result<(), Memory>
         requires listed { Contains (moves self.old) made.now }
-        // Until what meets inside the node is made: no meeting.
+        requires fits { FitsMove made.now (sent_by (state self.old) made.now) answer }
+        ensures made { OnOk result (Acts (state self.old) (doing made.now (sent_by (state self.old) made.now) answer) (state self.new)) }
+        ensures unchanged { OnErr result ((self.new ≡ self.old) × IsQuiet made.now) }
+        ensures inside { inner_channels self.new ≡ inner_channels self.old }
+    {
+        if let Move::Inner {
+            sender,
+            receiver,
+            guard,
+            chan,
+        } = made
+        {
+            let taken = partner(*receiver, *guard, *chan);
+            meet(
+                &mut self.frame,
+                &mut self.vars,
+                *sender,
+                *chan,
+                &taken,
+                answer,
+            );
+            return Ok(());
+        }
+        self.act_alone(made, answer)
+    }
+
+    /// Makes a move that is no meeting.
+    #[tactic(auto, unfolding(crate::specs::Runnings::state, crate::specs::Runnings::inner_channels))]
+    fn act_alone(&mut self, made: &Move, answer: Answer) -> Result<(), Memory>
+        requires listed { Contains (moves self.old) made.now }
         requires alone { IsAlone made.now }
         requires fits { FitsMove made.now (sent_by (state self.old) made.now) answer }
         ensures made { OnOk result (Acts (state self.old) (doing made.now (sent_by (state self.old) made.now) answer) (state self.new)) }
