@@ -4,20 +4,20 @@ use Rattle.std.proofs.lemmas.Bool.Decides.{nat_tests}
 use Rattle.vc_occam.specs.InOrder.{number}
 use Rattle.vc_occam.specs.Numbering.{written}
 use Rattle.vc_occam.specs.Opening.{Fits}
-use Rattle.vc_occam.specs.ProcessLimits.{in_order}
+use Rattle.vc_occam.specs.Lawful.{Lawfully}
 use Rattle.vc_plan.specs.declared.node_plan.NodePlan.{NodePlan}
 use Rattle.vc_plan.specs.declared.plan.Plan.{Plan}
 use Rattle.vc_plan.specs.Accepted.{IsAccepted}
-use Rattle.vc_plan.specs.Limits.{depth_ok, kinds_of, parts_ok, process_names}
-use Rattle.vc_plan.proofs.Limited.{in-order, names-fit, passes}
+use Rattle.vc_plan.specs.Limits.{kinds_of, parts_ok, process_names}
+use Rattle.vc_plan.proofs.Limited.{names-fit, passes}
 use Rattle.vc_accepted.proofs.Limited.{kept}
 
 few_parts : (node : NodePlan) → parts_ok node ≡ true → (number node.process).sites ≤ 65536
 few_parts node h = grind (arith, nat_tests)
 
--- a node's process can be run: it is in order and not too long, and its names fit the node's variables
+-- a node's process can be run: it uses its channels and variables lawfully and is not too long, and its names fit the node's variables
 pub record CanRun (node : NodePlan) : Type 0 where
-  pub in_order : in_order (written node.process) ≡ true
+  pub lawful : Lawfully (written node.process)
   pub sites : (number node.process).sites ≤ 65536
   pub fits : Fits (kinds_of node.vars) node.process
 
@@ -25,7 +25,7 @@ pub node_runs : (p : Plan) → IsAccepted p → (n : ℕ) (node : NodePlan) → 
 node_runs p acc n node e =
     let k = kept p acc in
     record {
-      in_order = in-order node (passes depth_ok p.nodes n node k.depth e);
+      lawful = acc.lawful_use n node e;
       sites = few_parts node (passes parts_ok p.nodes n node k.parts e);
       fits = (length p.channels, passes (process_names p) p.nodes n node (names-fit p k) e);
     }

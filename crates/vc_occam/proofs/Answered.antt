@@ -6,7 +6,7 @@ use Rattle.vc_occam.specs.declared.value_kind.ValueKind.{ValueKind}
 use Rattle.vc_occam.specs.declared.value_kind.ValueKind.TheVariants as of
 use Rattle.vc_occam.specs.Asking.{asking, everywhere, in_parts, in_branches, in_guards}
 use Rattle.vc_occam.specs.Limits.{exp_fits, exp_within, holds_kind}
-use Rattle.vc_occam.specs.ProcessLimits.{exps_within, parts_exps_within, branches_exps_within, guards_exps_within, in_length, parts_in_length, branches_in_length, guards_in_length, names_fit, parts_names_fit, branches_names_fit, guards_names_fit, in_order, parts_in_order, branches_in_order, guards_in_order, test_fits, test_within}
+use Rattle.vc_occam.specs.ProcessLimits.{exps_within, parts_exps_within, branches_exps_within, guards_exps_within, in_length, parts_in_length, branches_in_length, guards_in_length, names_fit, parts_names_fit, branches_names_fit, guards_names_fit, test_fits, test_within}
 use Rattle.vc_occam.specs.Syntax.{Proc, SKIP, STOP, Assign, Output, Input, StopChan, SEQ, PAR, IF, WHILE, COUNT, ALT, Procs, no_parts, part, Branches, no_branches, branch, Guards, no_guards, guard}
 use Rattle.vc_occam.specs.Usage.{changes, changes_all, changes_branches, changes_guards}
 
@@ -22,33 +22,6 @@ neither true b x y h k = ap (λ z. z && y) h
 neither false b x y h k = ap (λ z. z && y) h ∙ k
 
 module _ (kinds : List ValueKind) where
-  mutual
-    pub in_order_is : (p : Proc) → everywhere (asking asked.InOrder kinds) p ≡ in_order p
-    in_order_is (SKIP i) = refl
-    in_order_is (STOP i) = refl
-    in_order_is (Assign i v a) = refl
-    in_order_is (Output i c a) = refl
-    in_order_is (Input i c v) = refl
-    in_order_is (StopChan i c) = refl
-    in_order_is (SEQ i ps) = parts_in_order_is ps
-    in_order_is (PAR i ps) = refl
-    in_order_is (IF i bs) = branches_in_order_is bs
-    in_order_is (WHILE i t p) = in_order_is p
-    in_order_is (COUNT i v a k p) = in_order_is p
-    in_order_is (ALT i gs) = guards_in_order_is gs
-
-    parts_in_order_is : (ps : Procs) → in_parts (asking asked.InOrder kinds) ps ≡ parts_in_order ps
-    parts_in_order_is no_parts = refl
-    parts_in_order_is (part p ps) = both _ _ _ _ (in_order_is p) (parts_in_order_is ps)
-
-    branches_in_order_is : (bs : Branches) → in_branches (asking asked.InOrder kinds) bs ≡ branches_in_order bs
-    branches_in_order_is no_branches = refl
-    branches_in_order_is (branch t p bs) = both _ _ _ _ (in_order_is p) (branches_in_order_is bs)
-
-    guards_in_order_is : (gs : Guards) → in_guards (asking asked.InOrder kinds) gs ≡ guards_in_order gs
-    guards_in_order_is no_guards = refl
-    guards_in_order_is (guard t c v p gs) = both _ _ _ _ (in_order_is p) (guards_in_order_is gs)
-
   module _ (n : ℕ) where
     mutual
       pub within_is : (p : Proc) → everywhere (asking (asked.Expressions n) kinds) p ≡ exps_within p n

@@ -10,10 +10,10 @@ use Rattle.vc_occam.specs.declared.kind.Kind.{Kind}
 use Rattle.vc_occam.specs.declared.kind.Kind.TheVariants as kind
 use Rattle.vc_occam.specs.declared.phase.Phase.{Phase}
 use Rattle.vc_occam.specs.declared.phase.Phase.TheVariants as phase
-use Rattle.vc_occam.specs.Syntax.{Test, SEQ, IF, no_parts}
+use Rattle.vc_occam.specs.Syntax.{Test, SEQ, PAR, IF, no_parts}
 use Rattle.vc_occam.specs.Terms.{test}
 use Rattle.vc_occam.specs.Values.{Store, holds}
-use Rattle.vc_occam.specs.Remains.{Rest, Done, Stopped, Fresh, begin, branch_on, chosen, does_empty_seq, does_if, does_turn, does_leave, faults_while}
+use Rattle.vc_occam.specs.Remains.{Rest, Done, Stopped, Fresh, begin, branch_on, chosen, does_empty_seq, does_empty_par, does_if, does_turn, does_leave, faults_while}
 use Rattle.vc_occam.specs.Frames.{Able, Did, View, begun_at, branches_of, chosen_from, follow, has_parts, is_choice, plan_at, plans, plans_of, place_on, rest_at, view, views}
 use Rattle.vc_occam.specs.Nexts.{branch_next, turn_begun, turn_next}
 
@@ -85,6 +85,7 @@ abbrev after_phase : Phase → Rest → Rest
 after_phase phase.Ready r = Stopped
 after_phase phase.Waiting r = r
 after_phase (phase.Turning x y) r = Stopped
+after_phase phase.Together r = Stopped
 after_phase phase.Chosen r = Stopped
 after_phase phase.Ended r = Done
 after_phase phase.Stuck r = Stopped
@@ -152,10 +153,15 @@ seq_did (kind.Send c b) i vs e s d h x y z a = absurd (let q : false ≡ true = 
 seq_did (kind.Receive c v) i vs e s d h x y z a = absurd (let q : false ≡ true = h in cc)
 seq_did (kind.Stopch c) i vs e s d h x y z a = absurd (let q : false ≡ true = h in cc)
 seq_did kind.Seq i vs e s d h x y z a = empty_seq i vs e s d a
+seq_did kind.Par i vs e s d h x y z a = absurd (let q : false ≡ true = h in cc)
 seq_did (kind.If cs) i vs e s d h x y z a = absurd (x cs refl)
 seq_did (kind.While c) i vs e s d h x y z a = absurd (y c refl)
 seq_did (kind.Count v b n) i vs e s d h x y z a = absurd (let q : false ≡ true = h in cc)
 seq_did (kind.Alt gs) i vs e s d h x y z a = absurd (let q : true ≡ false = z in cc)
+
+pub empty_par : (i : ℕ) (vs : List View) (e : Store) (s : ℕ) (d : Deed) → Able (Fresh (PAR i (plans_of vs))) e s d → Did (Fresh (PAR i (plans_of vs))) e s d Done e
+empty_par i [] e s d (ks, q, f, does_empty_par) = ([], does_empty_par)
+empty_par i (v ∷ vs) e s d (ks, q, f, st) = elim st [ ]
 
 pub turn_plans : (b : Bool) (vs : List View) → plans (turn_begun b vs) ≡ plans vs
 turn_plans true vs = begun_plans 0 vs

@@ -2,7 +2,7 @@
 use Rattle.std.proofs.Common.{◌≡◌, ℕ, ℤ, zero, suc, Bool, true, false, ◌&&◌, refl, ap, sym, ◌∙◌, subst, List, [], ◌∷◌, length, map, arith, Option, Some, None, Vec, Global, drop, Result, Ok, Err}
 use Rattle.std.proofs.lemmas.Bool.Decides.{nat_tests}
 use Rattle.std.specs.Prelude.{slice_get, vec_len, nat_le, IfOk, ◌==◌}
-use Rattle.vc_occam.specs.Syntax.{Exp, Test, Proc, SEQ, Procs, no_parts, part}
+use Rattle.vc_occam.specs.Syntax.{Exp, Test, Proc, SEQ, PAR, Procs, no_parts, part}
 use Rattle.vc_occam.specs.Remains.{Rest, Done, Stopped, Fresh, Finishing, Getting, Then, and_then, begin}
 use Rattle.vc_occam.specs.declared.kind.Kind.{Kind}
 use Rattle.vc_occam.specs.declared.kind.Kind.TheVariants as kind
@@ -18,7 +18,8 @@ use Rattle.vc_occam.specs.First.{own}
 use Rattle.vc_occam.specs.declared.moves.Move.TheVariants.{Quiet}
 use Rattle.vc_occam.specs.States.{waiting, output_at}
 use Rattle.vc_occam.specs.Gates.{Gate, gate}
-use Rattle.vc_occam.specs.Frames.{View, awaiting, chosen_at, count_of, is_counted, turn_of, turning, plans_of, behind, follow, going_at, has_parts, is_last, place_of, while_of, so_far, plan_at, rest_at, view_step, view, views, is_done, part_done, part_own, part_waits, part_output, part_assigned, assigned_at, begun_parts, begun_phase}
+use Rattle.vc_occam.specs.Frames.{View, awaiting, chosen_at, count_of, is_counted, is_par, all_begun, turn_of, turning, together, besides, plans_of, behind, follow, going_at, has_parts, is_last, place_of, while_of, so_far, plan_at, rest_at, view_step, view, views, is_done, part_done, part_own, part_waits, part_output, part_assigned, assigned_at, begun_parts, begun_phase}
+use Rattle.vc_occam.proofs.Besides.{begun_plans_of, besides_begun}
 
 pub view_roll : (f : Frame-F Frame) → view (roll-Frame f) ≡ (plan_at f.kind f.site (views f.parts.items), rest_at f.kind f.phase f.site (views f.parts.items) f.at)
 unfolding view view_step
@@ -28,13 +29,14 @@ pub view_out : (f : Frame) → view f ≡ (plan_at (out-Frame f).kind (out-Frame
 unfolding view view_step
 view_out = fold_out-Frame View view_step
 
-abbrev pub done_by : Phase → Bool → Bool → Bool
-done_by phase.Ready l d = false
-done_by phase.Waiting l d = l && d
-done_by (phase.Turning x y) l d = false
-done_by phase.Chosen l d = false
-done_by phase.Ended l d = true
-done_by phase.Stuck l d = false
+abbrev pub done_by : Phase → Bool → Bool → Bool → Bool
+done_by phase.Ready l d b = false
+done_by phase.Waiting l d b = l && d
+done_by (phase.Turning x y) l d b = false
+done_by phase.Together l d b = b
+done_by phase.Chosen l d b = false
+done_by phase.Ended l d b = true
+done_by phase.Stuck l d b = false
 
 -- a rest with nothing behind it has ended when it has, and with something behind it hasn't
 no_plans : Procs → Bool
@@ -71,6 +73,7 @@ going_done (kind.Send c a) i vs at = refl
 going_done (kind.Receive c v) i vs at = refl
 going_done (kind.Stopch c) i vs at = refl
 going_done kind.Seq i vs at = follow_done (slice_get vs at) (plans_of (drop (suc at) vs)) ∙ ap (λ b. b && part_done (slice_get vs at)) (none_behind vs at)
+going_done kind.Par i vs at = refl
 going_done (kind.If bs) i vs at = follow_done (slice_get vs at) no_parts
 going_done (kind.Count v a n) i vs at = refl
 going_done (kind.While b) i vs at = follow_done (slice_get vs 0) (behind (kind.While b) i vs at)
@@ -93,6 +96,7 @@ awaiting_is (kind.Send c a) i vs at = awaits_nothing
 awaiting_is (kind.Receive c v) i vs at = awaits_nothing
 awaiting_is (kind.Stopch c) i vs at = awaits_nothing
 awaiting_is kind.Seq i vs at = awaits_nothing
+awaiting_is kind.Par i vs at = awaits_nothing
 awaiting_is (kind.If bs) i vs at = awaits_nothing
 awaiting_is (kind.While b) i vs at = awaits_nothing
 awaiting_is (kind.Count v a n) i vs at = awaits_nothing
@@ -110,9 +114,9 @@ pub awaiting_output : {r : Rest} (i : ℕ) (e : Store) → IsAwaiting r → outp
 awaiting_output i e awaits_nothing = refl
 awaiting_output i e awaits_input = refl
 
-pub awaiting_assigned : {r : Rest} (e : Store) → IsAwaiting r → assigned_at r e ≡ None
-awaiting_assigned e awaits_nothing = refl
-awaiting_assigned e awaits_input = refl
+pub awaiting_assigned : {r : Rest} (i : ℕ) (e : Store) → IsAwaiting r → assigned_at i r e ≡ None
+awaiting_assigned i e awaits_nothing = refl
+awaiting_assigned i e awaits_input = refl
 
 -- a turn that goes on has not ended
 turns_done : (v : ℕ) (vs : List View) (x y : ℤ) → is_done (turn_of v vs x y) ≡ false
@@ -127,24 +131,28 @@ turning_done (kind.Send c a) vs x y = refl
 turning_done (kind.Receive c v) vs x y = refl
 turning_done (kind.Stopch c) vs x y = refl
 turning_done kind.Seq vs x y = refl
+turning_done kind.Par vs x y = refl
 turning_done (kind.If bs) vs x y = refl
 turning_done (kind.While b) vs x y = refl
 turning_done (kind.Count v a n) vs x y = turns_done v vs x y
 turning_done (kind.Alt gs) vs x y = refl
 
-done_phase : (ph : Phase) (p : Proc) (r w : Rest) (t : ℤ → ℤ → Rest) (l d : Bool) → is_done r ≡ (l && d) → is_done w ≡ false → ((x y : ℤ) → is_done (t x y) ≡ false) → is_done (so_far ph p r w t) ≡ done_by ph l d
-done_phase phase.Ready p r w t l d h k g = refl
-done_phase phase.Waiting p r w t l d h k g = h
-done_phase (phase.Turning x y) p r w t l d h k g = g x y
-done_phase phase.Chosen p r w t l d h k g = k
-done_phase phase.Ended p r w t l d h k g = refl
-done_phase phase.Stuck p r w t l d h k g = refl
+done_phase : (ph : Phase) (p : Proc) (r w b : Rest) (t : ℤ → ℤ → Rest) (l d : Bool) → is_done r ≡ (l && d) → is_done w ≡ false → ((x y : ℤ) → is_done (t x y) ≡ false) → is_done (so_far ph p r w b t) ≡ done_by ph l d (is_done b)
+done_phase phase.Ready p r w b t l d h k g = refl
+done_phase phase.Waiting p r w b t l d h k g = h
+done_phase (phase.Turning x y) p r w b t l d h k g = g x y
+done_phase phase.Together p r w b t l d h k g = refl
+done_phase phase.Chosen p r w b t l d h k g = k
+done_phase phase.Ended p r w b t l d h k g = refl
+done_phase phase.Stuck p r w b t l d h k g = refl
 
-pub ended_is : (f : Frame) → is_done (view f).1 ≡ done_by (out-Frame f).phase (is_last (out-Frame f).kind (out-Frame f).at (length (views (out-Frame f).parts.items))) (part_done (slice_get (views (out-Frame f).parts.items) (place_of (out-Frame f).kind (out-Frame f).at)))
+pub ended_is : (f : Frame) →
+    is_done (view f).1 ≡ done_by (out-Frame f).phase (is_last (out-Frame f).kind (out-Frame f).at (length (views (out-Frame f).parts.items))) (part_done (slice_get (views (out-Frame f).parts.items) (place_of (out-Frame f).kind (out-Frame f).at))) (is_done (together (out-Frame f).kind (views (out-Frame f).parts.items)))
 ended_is f =
     let o = out-Frame f in
     let vs = views o.parts.items in
-    ap (λ (v : View). is_done v.1) (view_out f) ∙ done_phase o.phase (plan_at o.kind o.site vs) (going_at o.kind o.site vs o.at) (awaiting o.kind o.site vs o.at) (turning o.kind vs) _ _ (going_done o.kind o.site vs o.at) (awaiting_done (awaiting_is o.kind o.site vs o.at)) (turning_done o.kind vs)
+    ap (λ (v : View). is_done v.1) (view_out f)
+    ∙ done_phase o.phase (plan_at o.kind o.site vs) (going_at o.kind o.site vs o.at) (awaiting o.kind o.site vs o.at) (together o.kind vs) (turning o.kind vs) _ _ (going_done o.kind o.site vs o.at) (awaiting_done (awaiting_is o.kind o.site vs o.at)) (turning_done o.kind vs)
 
 pub length-views : (fs : List Frame) → length (views fs) ≡ length fs
 length-views [] = refl
@@ -153,10 +161,11 @@ length-views (f ∷ fs) = ap suc (length-views fs)
 pub parts_len : (v : Vec Frame Global) → vec_len v ≡ length (views v.items)
 parts_len v = v.ok.0 ∙ sym (length-views v.items)
 
-pub ended_by : (f : Frame) (p : Phase) (l d : Bool) → (out-Frame f).phase ≡ p → is_last (out-Frame f).kind (out-Frame f).at (vec_len (out-Frame f).parts) ≡ l → part_done (slice_get (views (out-Frame f).parts.items) (place_of (out-Frame f).kind (out-Frame f).at)) ≡ d → is_done (view f).1 ≡ done_by p l d
-ended_by f p l d hp hl hd =
+pub ended_by : (f : Frame) (p : Phase) (l d b : Bool) → (out-Frame f).phase ≡ p → is_last (out-Frame f).kind (out-Frame f).at (vec_len (out-Frame f).parts) ≡ l → part_done (slice_get (views (out-Frame f).parts.items) (place_of (out-Frame f).kind (out-Frame f).at)) ≡ d → is_done (together (out-Frame f).kind (views (out-Frame f).parts.items)) ≡ b → is_done (view f).1 ≡ done_by p l d b
+ended_by f p l d b hp hl hd hb =
     let o = out-Frame f in
-    ended_is f ∙ ap (λ n. done_by o.phase (is_last o.kind o.at n) (part_done (slice_get (views o.parts.items) (place_of o.kind o.at)))) (sym (parts_len o.parts)) ∙ rw (hp, hl, hd) refl
+    let all = is_done (together o.kind (views o.parts.items)) in
+    ended_is f ∙ ap (λ n. done_by o.phase (is_last o.kind o.at n) (part_done (slice_get (views o.parts.items) (place_of o.kind o.at))) all) (sym (parts_len o.parts)) ∙ rw (hp, hl, hd, hb) refl
 
 pub frame_begun : (k : Kind) (i : ℕ) (vs : List View) → ◌≡◌ {A = View} (plan_at k i (begun_parts k vs), rest_at k (begun_phase k vs) i (begun_parts k vs) 0) (plan_at k i vs, begin (plan_at k i vs))
 frame_begun kind.Skip i vs = refl
@@ -167,6 +176,8 @@ frame_begun (kind.Receive c v) i vs = refl
 frame_begun (kind.Stopch c) i vs = refl
 frame_begun kind.Seq i [] = refl
 frame_begun kind.Seq i (v ∷ vs) = refl
+frame_begun kind.Par i [] = refl
+frame_begun kind.Par i (v ∷ vs) = ap (λ (ps : Procs). (PAR i ps, besides (all_begun (v ∷ vs)))) (begun_plans_of (v ∷ vs)) ∙ ap (λ (r : Rest). (PAR i (plans_of (v ∷ vs)), r)) (besides_begun (v ∷ vs))
 frame_begun (kind.If bs) i vs = refl
 frame_begun (kind.While b) i [] = refl
 frame_begun (kind.While b) i (v ∷ vs) = refl
@@ -202,9 +213,9 @@ turn_output : (i v : ℕ) (vs : List View) (x y : ℤ) (e : Store) → output_at
 turn_output i v [] x y e = refl
 turn_output i v (w ∷ vs) x y e = refl
 
-turn_assigned : (v : ℕ) (vs : List View) (x y : ℤ) (e : Store) → assigned_at (turn_of v vs x y) e ≡ part_assigned (slice_get vs 0) e
-turn_assigned v [] x y e = refl
-turn_assigned v (w ∷ vs) x y e = refl
+turn_assigned : (i v : ℕ) (vs : List View) (x y : ℤ) (e : Store) → assigned_at i (turn_of v vs x y) e ≡ part_assigned i (slice_get vs 0) e
+turn_assigned i v [] x y e = refl
+turn_assigned i v (w ∷ vs) x y e = refl
 
 pub turning_is : (k : Kind) (vs : List View) (x y : ℤ) → is_counted k ≡ true → (v : ℕ) × (turning k vs x y ≡ turn_of v vs x y)
 turning_is kind.Skip vs x y h = absurd (let e : false ≡ true = h in cc)
@@ -214,6 +225,7 @@ turning_is (kind.Send c a) vs x y h = absurd (let e : false ≡ true = h in cc)
 turning_is (kind.Receive c v) vs x y h = absurd (let e : false ≡ true = h in cc)
 turning_is (kind.Stopch c) vs x y h = absurd (let e : false ≡ true = h in cc)
 turning_is kind.Seq vs x y h = absurd (let e : false ≡ true = h in cc)
+turning_is kind.Par vs x y h = absurd (let e : false ≡ true = h in cc)
 turning_is (kind.If bs) vs x y h = absurd (let e : false ≡ true = h in cc)
 turning_is (kind.While b) vs x y h = absurd (let e : false ≡ true = h in cc)
 turning_is (kind.Count v a n) vs x y h = (v, refl)
@@ -227,6 +239,7 @@ turning_not (kind.Send c a) vs x y h = refl
 turning_not (kind.Receive c v) vs x y h = refl
 turning_not (kind.Stopch c) vs x y h = refl
 turning_not kind.Seq vs x y h = refl
+turning_not kind.Par vs x y h = refl
 turning_not (kind.If bs) vs x y h = refl
 turning_not (kind.While b) vs x y h = refl
 turning_not (kind.Count v a n) vs x y h = absurd (let e : true ≡ false = h in cc)
@@ -250,14 +263,49 @@ turning_output i f x y e h k =
     let t = turning_is (out-Frame f).kind vs x y k in
     ap (λ (r : Rest). output_at i r e) (rest_turning f x y h ∙ t.1) ∙ turn_output i t.0 vs x y e
 
-pub turning_assigned : (f : Frame) (x y : ℤ) (e : Store) → (out-Frame f).phase ≡ phase.Turning x y → is_counted (out-Frame f).kind ≡ true → assigned_at (view f).1 e ≡ part_assigned (slice_get (views (out-Frame f).parts.items) 0) e
-turning_assigned f x y e h k =
+pub turning_assigned : (i : ℕ) (f : Frame) (x y : ℤ) (e : Store) → (out-Frame f).phase ≡ phase.Turning x y → is_counted (out-Frame f).kind ≡ true → assigned_at i (view f).1 e ≡ part_assigned i (slice_get (views (out-Frame f).parts.items) 0) e
+turning_assigned i f x y e h k =
     let vs = views (out-Frame f).parts.items in
     let t = turning_is (out-Frame f).kind vs x y k in
-    ap (λ (r : Rest). assigned_at r e) (rest_turning f x y h ∙ t.1) ∙ turn_assigned t.0 vs x y e
+    ap (λ (r : Rest). assigned_at i r e) (rest_turning f x y h ∙ t.1) ∙ turn_assigned i t.0 vs x y e
 
 pub turning_none : (f : Frame) (x y : ℤ) → (out-Frame f).phase ≡ phase.Turning x y → is_counted (out-Frame f).kind ≡ false → (view f).1 ≡ Stopped
 turning_none f x y h k = rest_turning f x y h ∙ turning_not (out-Frame f).kind (views (out-Frame f).parts.items) x y k
+
+-- a PAR whose parts go on; no other kind is in this phase
+together_is : (k : Kind) (vs : List View) → is_par k ≡ true → together k vs ≡ besides vs
+together_is kind.Skip vs h = absurd (let e : false ≡ true = h in cc)
+together_is kind.Stop vs h = absurd (let e : false ≡ true = h in cc)
+together_is (kind.Set v a) vs h = absurd (let e : false ≡ true = h in cc)
+together_is (kind.Send c a) vs h = absurd (let e : false ≡ true = h in cc)
+together_is (kind.Receive c v) vs h = absurd (let e : false ≡ true = h in cc)
+together_is (kind.Stopch c) vs h = absurd (let e : false ≡ true = h in cc)
+together_is kind.Seq vs h = absurd (let e : false ≡ true = h in cc)
+together_is kind.Par vs h = refl
+together_is (kind.If bs) vs h = absurd (let e : false ≡ true = h in cc)
+together_is (kind.While b) vs h = absurd (let e : false ≡ true = h in cc)
+together_is (kind.Count v a n) vs h = absurd (let e : false ≡ true = h in cc)
+together_is (kind.Alt gs) vs h = absurd (let e : false ≡ true = h in cc)
+
+together_not : (k : Kind) (vs : List View) → is_par k ≡ false → together k vs ≡ Stopped
+together_not kind.Skip vs h = refl
+together_not kind.Stop vs h = refl
+together_not (kind.Set v a) vs h = refl
+together_not (kind.Send c a) vs h = refl
+together_not (kind.Receive c v) vs h = refl
+together_not (kind.Stopch c) vs h = refl
+together_not kind.Seq vs h = refl
+together_not kind.Par vs h = absurd (let e : true ≡ false = h in cc)
+together_not (kind.If bs) vs h = refl
+together_not (kind.While b) vs h = refl
+together_not (kind.Count v a n) vs h = refl
+together_not (kind.Alt gs) vs h = refl
+
+pub rest_together : (f : Frame) → (out-Frame f).phase ≡ phase.Together → is_par (out-Frame f).kind ≡ true → (view f).1 ≡ besides (views (out-Frame f).parts.items)
+rest_together f h k = rest_by f phase.Together h ∙ together_is (out-Frame f).kind (views (out-Frame f).parts.items) k
+
+pub rest_apart : (f : Frame) → (out-Frame f).phase ≡ phase.Together → is_par (out-Frame f).kind ≡ false → (view f).1 ≡ Stopped
+rest_apart f h k = rest_by f phase.Together h ∙ together_not (out-Frame f).kind (views (out-Frame f).parts.items) k
 
 pub rest_ended : (f : Frame) → (out-Frame f).phase ≡ phase.Ended → (view f).1 ≡ Done
 rest_ended f h = rest_by f phase.Ended h
@@ -282,6 +330,7 @@ going_part (kind.Send c a) i vs at h = absurd (let e : false ≡ true = h in cc)
 going_part (kind.Receive c v) i vs at h = absurd (let e : false ≡ true = h in cc)
 going_part (kind.Stopch c) i vs at h = absurd (let e : false ≡ true = h in cc)
 going_part kind.Seq i vs at h = refl
+going_part kind.Par i vs at h = absurd (let e : false ≡ true = h in cc)
 going_part (kind.If bs) i vs at h = refl
 going_part (kind.While b) i vs at h = refl
 going_part (kind.Count v a n) i vs at h = absurd (let e : false ≡ true = h in cc)
@@ -301,6 +350,7 @@ going_idle (kind.Send c a) i vs at h = idle_finishing
 going_idle (kind.Receive c v) i vs at h = idle_getting
 going_idle (kind.Stopch c) i vs at h = idle_stopped
 going_idle kind.Seq i vs at h = absurd (let e : true ≡ false = h in cc)
+going_idle kind.Par i vs at h = idle_stopped
 going_idle (kind.If bs) i vs at h = absurd (let e : true ≡ false = h in cc)
 going_idle (kind.While b) i vs at h = absurd (let e : true ≡ false = h in cc)
 going_idle (kind.Count v a n) i vs at h = idle_stopped
@@ -321,10 +371,10 @@ idle_output i e idle_stopped = refl
 idle_output i e idle_finishing = refl
 idle_output i e idle_getting = refl
 
-pub idle_assigned : {r : Rest} (e : Store) → IsIdle r → assigned_at r e ≡ None
-idle_assigned e idle_stopped = refl
-idle_assigned e idle_finishing = refl
-idle_assigned e idle_getting = refl
+pub idle_assigned : {r : Rest} (i : ℕ) (e : Store) → IsIdle r → assigned_at i r e ≡ None
+idle_assigned i e idle_stopped = refl
+idle_assigned i e idle_finishing = refl
+idle_assigned i e idle_getting = refl
 
 going_nothing : (k : Kind) (i : ℕ) (vs : List View) (at : ℕ) → has_parts k ≡ false → ((c : ℕ) (a : Value) → k ≡ kind.Send c a → ⊥) → ((c v : ℕ) → k ≡ kind.Receive c v → ⊥) → going_at k i vs at ≡ Stopped
 going_nothing kind.Skip i vs at h s r = refl
@@ -334,6 +384,7 @@ going_nothing (kind.Send c a) i vs at h s r = absurd (s c a refl)
 going_nothing (kind.Receive c v) i vs at h s r = absurd (r c v refl)
 going_nothing (kind.Stopch c) i vs at h s r = refl
 going_nothing kind.Seq i vs at h s r = absurd (let e : true ≡ false = h in cc)
+going_nothing kind.Par i vs at h s r = refl
 going_nothing (kind.If bs) i vs at h s r = absurd (let e : true ≡ false = h in cc)
 going_nothing (kind.While b) i vs at h s r = absurd (let e : true ≡ false = h in cc)
 going_nothing (kind.Count v a n) i vs at h s r = refl
@@ -368,13 +419,13 @@ pub follow_output : (i : ℕ) (o : Option View) (ps : Procs) (e : Store) → out
 follow_output i None ps e = refl
 follow_output i (Some v) ps e = then_output i v.1 ps e
 
-then_assigned : (r : Rest) (ps : Procs) (e : Store) → assigned_at (and_then r ps) e ≡ assigned_at r e
-then_assigned r no_parts e = refl
-then_assigned r (part p ps) e = refl
+then_assigned : (i : ℕ) (r : Rest) (ps : Procs) (e : Store) → assigned_at i (and_then r ps) e ≡ assigned_at i r e
+then_assigned i r no_parts e = refl
+then_assigned i r (part p ps) e = refl
 
-pub follow_assigned : (o : Option View) (ps : Procs) (e : Store) → assigned_at (follow o ps) e ≡ part_assigned o e
-follow_assigned None ps e = refl
-follow_assigned (Some v) ps e = then_assigned v.1 ps e
+pub follow_assigned : (i : ℕ) (o : Option View) (ps : Procs) (e : Store) → assigned_at i (follow o ps) e ≡ part_assigned i o e
+follow_assigned i None ps e = refl
+follow_assigned i (Some v) ps e = then_assigned i v.1 ps e
 
 pub rest_sending : (f : Frame) (c : ℕ) (a : Value) → (out-Frame f).phase ≡ phase.Waiting → (out-Frame f).kind ≡ kind.Send c a → (view f).1 ≡ Finishing (out-Frame f).site c
 rest_sending f c a h k =
@@ -406,6 +457,10 @@ some_left v b h e z =
     let o : vec_len v ≡ length v.items = v.ok.0 in
     let t : (vec_len v == 0) ≡ false = sym h ∙ e in
     grind (arith, nat_tests)
+
+pub par_waits : (i : ℕ) (vs : List View) (e : Store) → (length vs ≡ 0 → ⊥) → own (Fresh (PAR i (plans_of vs))) e ≡ []
+par_waits i [] e h = absurd (h refl)
+par_waits i (v ∷ vs) e h = refl
 
 pub while_waits : (i : ℕ) (b : Test) (vs : List View) (e : Store) → length vs ≡ 0 → own (Fresh (while_of i b vs)) e ≡ []
 while_waits i b [] e h = refl

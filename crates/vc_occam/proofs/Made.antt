@@ -19,7 +19,7 @@ use Rattle.vc_occam.specs.Traces.{set, Comm, Out, Fin, In, Stp, Decided}
 use Rattle.vc_occam.specs.Remains.{Rest, Done, Stopped, Fresh, Finishing, Getting, Then, Turns, Beside, then_on, turns_on, index_on, beside_on, GuardAt, first, later, Step, does_skip, does_empty_seq, does_empty_par, does_assign, faults_assign, faults_out, does_if, does_turn, does_leave, faults_while, does_count, does_count_none, faults_count, does_offer, does_finish, does_input, waits_input, gets, does_stop, does_choose, waits_choose, in_then, in_turns, in_left, in_right}
 use Rattle.vc_occam.specs.First.{all_decided, choices, own, meetings, joined}
 use Rattle.vc_occam.specs.Frames.{Able}
-use Rattle.vc_occam.specs.Moving.{site_of, deed_for, deed_on}
+use Rattle.vc_occam.specs.Moving.{site_of, deed_for, deed_on, partner}
 use Rattle.vc_occam.specs.Laws.{ListedMovesCanBeMade}
 use Rattle.vc_occam.specs.Sites.{sites, sites_all, sites_rest, OwnSites}
 use Rattle.vc_occam.specs.States.{IsAwaited, State, Wants, Chooses, Does, meeting, or_else, output_at, carried, sent_by, bytes_or_none, came, doing, output, input, waiting}
@@ -187,11 +187,6 @@ begins (ALT i gs) e m h = chooses i gs e m (all_decided gs e) refl h
 pub own_begins : (r : Rest) (e : Store) (m : Move) → Contains (own r e) m → (p : Proc) × Stands p r × Begins m p e
 own_begins r e m h = let n = own_stands r e m h in (n.0, n.1, begins n.0 e m n.2)
 
--- the input or guard that an output meets
-abbrev pub partner : ℕ → Option ℕ → ℕ → Move
-partner j None c = Want j c
-partner j (Some k) c = Choose j k c
-
 -- a move that is listed is a site's own, or an output that meets an input or guard
 abbrev pub Meeting : List Move → List Move → Move → Type 0
 Meeting all ms (Inner i j k c) = Contains ms (Offer i c) × Contains all (partner j k c)
@@ -209,7 +204,7 @@ meeting_more all ms x (Choose i k c) h = h
 meeting_more all ms x (Stopch i c) h = h
 meeting_more all ms x (Quiet i) h = h
 
-abbrev Met : ℕ → ℕ → List Move → Move → Type 0
+abbrev pub Met : ℕ → ℕ → List Move → Move → Type 0
 Met i c all m = (j : ℕ) × (k : Option ℕ) × (m ≡ Inner i j k c) × Contains all (partner j k c)
 
 met_more : (i c : ℕ) (all : List Move) (x m : Move) → Met i c all m → Met i c (x ∷ all) m
@@ -232,7 +227,7 @@ met_choose i c j k d ms m true e n f = elim (front_or (Inner i j (Some k) c) (me
 ]
 met_choose i c j k d ms m false e n f = met_more i c ms (Choose j k d) m (f n)
 
-met : (i c : ℕ) (all : List Move) (m : Move) → Contains (meetings i c all) m → Met i c all m
+pub met : (i c : ℕ) (all : List Move) (m : Move) → Contains (meetings i c all) m → Met i c all m
 met i c [] m h = absurd (none m h)
 met i c (Want j d ∷ ms) m h = met_want i c j d ms m (c == d) refl h (met i c ms m)
 met i c (Choose j k d ∷ ms) m h = met_choose i c j k d ms m (c == d) refl h (met i c ms m)
@@ -287,7 +282,7 @@ either_none : {A : Type 0} (x y : Option A) → x ≡ None → y ≡ None → or
 either_none x y h k = rw (h, k) refl
 
 -- no output begins at a site that isn't there
-not_there : (i : ℕ) (r : Rest) (e : Store) → sites_rest r i ≡ false → output_at i r e ≡ None
+pub not_there : (i : ℕ) (r : Rest) (e : Store) → sites_rest r i ≡ false → output_at i r e ≡ None
 not_there i Done e h = refl
 not_there i Stopped e h = refl
 not_there i (Fresh (SKIP s)) e h = refl
@@ -321,7 +316,7 @@ output_is {i} e x (on_right {r = r} {q = q} s) o h =
     ap (λ y. or_else y (output_at i q e)) (not_there i r e away) ∙ output_is e x s o.2 h
 
 -- what hasn't ended stays so in what it stands in
-abbrev Goes : Rest → Type 0
+abbrev pub Goes : Rest → Type 0
 Goes r = r ≡ Done → ⊥
 
 then_goes : (r : Rest) (ps : Procs) → Goes r → Goes (then_on r ps)
@@ -342,7 +337,7 @@ beside_right mine Done q g h = cc
 beside_right mine r q g h = cc
 
 -- an input or guard that could begin still can, after an output of another site began
-abbrev IsTaking : Move → Type 0
+abbrev pub IsTaking : Move → Type 0
 IsTaking (Want i c) = Unit {0}
 IsTaking (Choose i k c) = Unit {0}
 IsTaking (Offer i c) = ⊥
@@ -367,12 +362,12 @@ not_taking true i c w t h = subst IsTaking (sym (only (Offer i c) w h)) t
 not_taking false i c w t h = subst IsTaking (sym (only (Quiet i) w h)) t
 
 -- after an output began
-record Began (r r' : Rest) (e e' : Store) : Type 0 where
-  store : e' ≡ e
-  goes : Goes r'
-  taking : (w : Move) → IsTaking w → Contains (own r e) w → Contains (own r' e) w
+pub record Began (r r' : Rest) (e e' : Store) : Type 0 where
+  pub store : e' ≡ e
+  pub goes : Goes r'
+  pub taking : (w : Move) → IsTaking w → Contains (own r e) w → Contains (own r' e) w
 
-began : {r r' : Rest} {e e' : Store} {i c : ℕ} {m : List Comm} → Step r e i (deed.Offer c) m r' e' → Began r r' e e'
+pub began : {r r' : Rest} {e e' : Store} {i c : ℕ} {m : List Comm} → Step r e i (deed.Offer c) m r' e' → Began r r' e e'
 began (does_offer {s = s} {c = c} {a = a} {e = e} h) = record { store = refl; goes = λ k. cc; taking = λ w t k. absurd (not_taking (is_some (datum_of a e)) s c w t k) }
 began (in_then {r' = r'} {e = e} {ps = ps} st) =
     let n = began st in
@@ -440,7 +435,7 @@ takes r e j (Some k) c m h =
     let l = lift (subst (λ z. Stands z r) n.2.4 n.1) (does_choose {s = j} {e = e} {m = m} n.2.5 n.2.6 n.2.7 refl) in
     (received (e n.2.2) m, l.0, l.1, l.2, step_waits l.2)
 
-taking_partner : (j : ℕ) (k : Option ℕ) (c : ℕ) → IsTaking (partner j k c)
+pub taking_partner : (j : ℕ) (k : Option ℕ) (c : ℕ) → IsTaking (partner j k c)
 taking_partner j None c = tt
 taking_partner j (Some k) c = tt
 

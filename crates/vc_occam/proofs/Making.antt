@@ -1,5 +1,5 @@
 -- How frames are made of a process.
-use Rattle.std.proofs.Common.{◌≡◌, ℕ, Bool, true, false, ◌&&◌, append_assoc, ◌≤◌, ◌<◌, subst, suc, ◌+◌, refl, ap, sym, ◌∙◌, List, [], ◌∷◌, ◌++◌, map, length, arith, add-one}
+use Rattle.std.proofs.Common.{◌≡◌, ℕ, append_assoc, ◌≤◌, ◌<◌, subst, suc, ◌+◌, refl, ap, sym, ◌∙◌, List, [], ◌∷◌, ◌++◌, map, length, arith, add-one}
 use Rattle.vc_occam.specs.declared.condition.Cond.{Cond}
 use Rattle.vc_occam.specs.declared.expression.Expr.{Expr}
 use Rattle.vc_occam.specs.declared.frame.Frame.{Frame}
@@ -16,12 +16,11 @@ use Rattle.vc_occam.specs.Frames.{View, branches_of, count_of, guards_of, plans_
 use Rattle.vc_occam.specs.Gates.{gate}
 use Rattle.vc_occam.specs.InOrder.{branch_layer, guard_layer, number, number_branch, number_guard}
 use Rattle.vc_occam.specs.Numbering.{Numbered, NumberedBranch, NumberedGuard, branch_sites, branches_from, guard_sites, guards_from, numbered, part_sites, parts_from}
-use Rattle.vc_occam.specs.ProcessLimits.{branches_in_order, guards_in_order, parts_in_order, in_order}
 use Rattle.vc_occam.specs.Remains.{Fresh}
-use Rattle.vc_occam.specs.Syntax.{Branches, Guards, Proc, Procs, ALT, COUNT, IF, SEQ, WHILE, branch, guard, part}
+use Rattle.vc_occam.specs.Syntax.{Branches, Guards, Proc, Procs, ALT, COUNT, IF, PAR, SEQ, WHILE, branch, guard, part}
 use Rattle.vc_occam.specs.Terms.{exp, test}
 use Rattle.vc_occam.specs.Wholes.{branch_wholes_from, gates, guard_wholes_from, tests, whole_from, wholes_from}
-use Rattle.vc_occam.proofs.Numbers.{number_alt, number_guard_out, number_if, number_seq}
+use Rattle.vc_occam.proofs.Numbers.{number_alt, number_guard_out, number_if, number_par, number_seq}
 
 pub plans_wholes : (i : ℕ) (ns : List Numbered) → plans_of (wholes_from i ns) ≡ parts_from i ns
 plans_wholes i [] = refl
@@ -35,6 +34,11 @@ pub seq_whole : (site : ℕ) (p : Process) (ps : List Process) (vs : List View) 
 seq_whole site p ps vs h g =
     let W : Procs → View = λ qs. (SEQ site qs, Fresh (SEQ site qs)) in
     ap W (ap plans_of g ∙ plans_wholes (site + 1) (map number ps) ∙ ap (λ k. parts_from k (map number ps)) (add-one site)) ∙ ap (whole_from site) (sym (number_seq p ps h))
+
+pub par_whole : (site : ℕ) (p : Process) (ps : List Process) (vs : List View) → p ≡ process.Par ps → vs ≡ wholes_from (site + 1) (map number ps) → ◌≡◌ {A = View} (PAR site (plans_of vs), Fresh (PAR site (plans_of vs))) (whole_from site (number p))
+par_whole site p ps vs h g =
+    let W : Procs → View = λ qs. (PAR site qs, Fresh (PAR site qs)) in
+    ap W (ap plans_of g ∙ plans_wholes (site + 1) (map number ps) ∙ ap (λ k. parts_from k (map number ps)) (add-one site)) ∙ ap (whole_from site) (sym (number_par p ps h))
 
 -- a WHILE as it is numbered
 number_while : (p : Process) (b : Cond) (q : Process) → p ≡ process.While b q → number p ≡ numbered (layer.While b (number q))
@@ -123,54 +127,32 @@ count_whole site p v a n b m q vs h e f g =
     ap W (ap (count_of site v (exp b) (exp m)) g ∙ ap (λ d. COUNT site v (exp d) (exp m) ((number q).tree (site + 1))) e ∙ ap (λ d. COUNT site v (exp a) (exp d) ((number q).tree (site + 1))) f ∙ ap (λ k. COUNT site v (exp a) (exp n) ((number q).tree k)) (add-one site))
     ∙ ap (whole_from site) (sym (number_count p v a n q h))
 
-and_right : (a b : Bool) → (a && b) ≡ true → b ≡ true
-and_right true b h = h
-and_right false b h = absurd (let z : false ≡ true = h in cc)
-
 -- one part more, or one branch
 pub part_made : (next later top : ℕ) (n : Numbered) (ns rest : List Numbered) (vs ws whole : List View) → ns ≡ n ∷ rest → later ≡ next + n.sites → ws ≡ vs ++ whole_from next n ∷ [] →
-    (parts_in_order (parts_from next ns) ≡ true) × (next + part_sites ns ≡ top) × (vs ++ wholes_from next ns ≡ whole) →
-    (parts_in_order (parts_from later rest) ≡ true) × (later + part_sites rest ≡ top) × (ws ++ wholes_from later rest ≡ whole)
-part_made next later top n ns rest vs ws whole h e f (a, b, c) =
-    let s : (in_order (n.tree next) && parts_in_order (parts_from (next + n.sites) rest)) ≡ true = ap (λ xs. parts_in_order (parts_from next xs)) (sym h) ∙ a in
+    (next + part_sites ns ≡ top) × (vs ++ wholes_from next ns ≡ whole) → (later + part_sites rest ≡ top) × (ws ++ wholes_from later rest ≡ whole)
+part_made next later top n ns rest vs ws whole h e f (b, c) =
     let m : next + (n.sites + part_sites rest) ≡ top = ap (λ xs. next + part_sites xs) (sym h) ∙ b in (
-      ap (λ k. parts_in_order (parts_from k rest)) e ∙ and_right (in_order (n.tree next)) (parts_in_order (parts_from (next + n.sites) rest)) s,
       omega arith,
       (ap (λ us. us ++ wholes_from later rest) f ∙ append_assoc vs (whole_from next n ∷ []) (wholes_from later rest) ∙ ap (λ k. vs ++ whole_from next n ∷ wholes_from k rest) e
           ∙ ap (λ xs. vs ++ wholes_from next xs) (sym h) ∙ c),
     )
 
 pub branch_made : (next later top : ℕ) (n : NumberedBranch) (ns rest : List NumberedBranch) (vs ws whole : List View) → ns ≡ n ∷ rest → later ≡ next + n.then_do.sites → ws ≡ vs ++ whole_from next n.then_do ∷ [] →
-    (branches_in_order (branches_from next ns) ≡ true) × (next + branch_sites ns ≡ top) × (vs ++ branch_wholes_from next ns ≡ whole) →
-    (branches_in_order (branches_from later rest) ≡ true) × (later + branch_sites rest ≡ top) × (ws ++ branch_wholes_from later rest ≡ whole)
-branch_made next later top n ns rest vs ws whole h e f (a, b, c) =
+    (next + branch_sites ns ≡ top) × (vs ++ branch_wholes_from next ns ≡ whole) → (later + branch_sites rest ≡ top) × (ws ++ branch_wholes_from later rest ≡ whole)
+branch_made next later top n ns rest vs ws whole h e f (b, c) =
     let p = n.then_do in
-    let s : (in_order (p.tree next) && branches_in_order (branches_from (next + p.sites) rest)) ≡ true = ap (λ xs. branches_in_order (branches_from next xs)) (sym h) ∙ a in
     let m : next + (p.sites + branch_sites rest) ≡ top = ap (λ xs. next + branch_sites xs) (sym h) ∙ b in (
-      ap (λ k. branches_in_order (branches_from k rest)) e ∙ and_right (in_order (p.tree next)) (branches_in_order (branches_from (next + p.sites) rest)) s,
       omega arith,
       (ap (λ us. us ++ branch_wholes_from later rest) f ∙ append_assoc vs (whole_from next p ∷ []) (branch_wholes_from later rest) ∙ ap (λ k. vs ++ whole_from next p ∷ branch_wholes_from k rest) e
           ∙ ap (λ xs. vs ++ branch_wholes_from next xs) (sym h) ∙ c),
     )
 
 pub guard_made : (next later top : ℕ) (n : NumberedGuard) (ns rest : List NumberedGuard) (vs ws whole : List View) → ns ≡ n ∷ rest → later ≡ next + n.then_do.sites → ws ≡ vs ++ whole_from next n.then_do ∷ [] →
-    (guards_in_order (guards_from next ns) ≡ true) × (next + guard_sites ns ≡ top) × (vs ++ guard_wholes_from next ns ≡ whole) →
-    (guards_in_order (guards_from later rest) ≡ true) × (later + guard_sites rest ≡ top) × (ws ++ guard_wholes_from later rest ≡ whole)
-guard_made next later top n ns rest vs ws whole h e f (a, b, c) =
+    (next + guard_sites ns ≡ top) × (vs ++ guard_wholes_from next ns ≡ whole) → (later + guard_sites rest ≡ top) × (ws ++ guard_wholes_from later rest ≡ whole)
+guard_made next later top n ns rest vs ws whole h e f (b, c) =
     let p = n.then_do in
-    let s : (in_order (p.tree next) && guards_in_order (guards_from (next + p.sites) rest)) ≡ true = ap (λ xs. guards_in_order (guards_from next xs)) (sym h) ∙ a in
     let m : next + (p.sites + guard_sites rest) ≡ top = ap (λ xs. next + guard_sites xs) (sym h) ∙ b in (
-      ap (λ k. guards_in_order (guards_from k rest)) e ∙ and_right (in_order (p.tree next)) (guards_in_order (guards_from (next + p.sites) rest)) s,
       omega arith,
       (ap (λ us. us ++ guard_wholes_from later rest) f ∙ append_assoc vs (whole_from next p ∷ []) (guard_wholes_from later rest) ∙ ap (λ k. vs ++ whole_from next p ∷ guard_wholes_from k rest) e
           ∙ ap (λ xs. vs ++ guard_wholes_from next xs) (sym h) ∙ c),
     )
-
--- the body of a counted SEQ
-pub count_within : (p : Process) (v : ℕ) (a n : Expr) (q r : Process) (site : ℕ) → p ≡ process.Count v a n q → r ≡ q → in_order ((number p).tree site) ≡ true → site + (number p).sites ≤ 65536 → (in_order ((number r).tree (site + 1)) ≡ true) × (site + 1 + (number r).sites ≤ 65536)
-count_within p v a n q r site h e k l =
-    let m = number_count p v a n q h in
-    let s : in_order ((number q).tree (suc site)) ≡ true = subst (λ (z : Numbered). in_order (z.tree site) ≡ true) m k in
-    let t : site + suc (number q).sites ≤ 65536 = subst (λ (z : Numbered). site + z.sites ≤ 65536) m l in
-    let u : site + 1 + (number q).sites ≤ 65536 = omega arith in
-    (ap (λ x. in_order ((number x).tree (site + 1))) e ∙ ap (λ j. in_order ((number q).tree j)) (add-one site) ∙ s, subst (λ x. site + 1 + (number x).sites ≤ 65536) (sym e) u)

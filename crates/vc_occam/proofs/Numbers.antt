@@ -1,5 +1,7 @@
 -- Processes, branches and guards, as they are numbered.
-use Rattle.std.proofs.Common.{◌≡◌, ap, sym, ◌∙◌, List, map}
+use Rattle.std.proofs.Common.{◌≡◌, ℕ, ap, sym, ◌∙◌, List, map}
+use Rattle.vc_occam.specs.declared.condition.Cond.{Cond}
+use Rattle.vc_occam.specs.declared.expression.Expr.{Expr}
 use Rattle.vc_occam.specs.declared.process.Process.{Process}
 use Rattle.vc_occam.specs.declared.process.Branch.{Branch}
 use Rattle.vc_occam.specs.declared.process.Guard.{Guard}
@@ -22,6 +24,14 @@ number_par p ps h = ap number (h ∙ sym (process.rolls-Par ps)) ∙ fold-roll-P
 pub number_if : (p : Process) (bs : List Branch) → p ≡ process.If bs → number p ≡ numbered (layer.If (map number_branch bs))
 unfolding number number_branch
 number_if p bs h = ap number (h ∙ sym (process.rolls-If bs)) ∙ fold-roll-Process Numbered NumberedBranch NumberedGuard numbered branch_layer guard_layer (layer.If bs)
+
+pub number_while : (p : Process) (b : Cond) (q : Process) → p ≡ process.While b q → number p ≡ numbered (layer.While b (number q))
+unfolding number
+number_while p b q h = ap number (h ∙ sym (process.rolls-While b q)) ∙ fold-roll-Process Numbered NumberedBranch NumberedGuard numbered branch_layer guard_layer (layer.While b q)
+
+pub number_count : (p : Process) (v : ℕ) (a n : Expr) (q : Process) → p ≡ process.Count v a n q → number p ≡ numbered (layer.Count v a n (number q))
+unfolding number
+number_count p v a n q h = ap number (h ∙ sym (process.rolls-Count v a n q)) ∙ fold-roll-Process Numbered NumberedBranch NumberedGuard numbered branch_layer guard_layer (layer.Count v a n q)
 
 pub number_alt : (p : Process) (gs : List Guard) → p ≡ process.Alt gs → number p ≡ numbered (layer.Alt (map number_guard gs))
 unfolding number number_guard

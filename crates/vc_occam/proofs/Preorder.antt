@@ -10,16 +10,16 @@ use Rattle.vc_occam.specs.Terms.{test}
 use Rattle.vc_occam.specs.Numbering.{Numbered, NumberedBranch, NumberedGuard, parts_from, branches_from, guards_from, part_sites, branch_sites, guard_sites, numbered, written}
 use Rattle.vc_occam.specs.Usage.{Set, just, ◌∪◌}
 use Rattle.vc_occam.specs.Remains.{begin}
-use Rattle.vc_occam.specs.Sites.{sites, sites_all, sites_branches, sites_guards, HasOwnSites, AllHaveOwnSites, PartsHaveOwnSites, BranchesHaveOwnSites, GuardsHaveOwnSites, OwnSites}
+use Rattle.vc_occam.specs.Sites.{sites, sites_all, sites_branches, sites_guards, HasOwnSites, AllHaveOwnSites, PartsHaveOwnSites, BranchesHaveOwnSites, GuardsHaveOwnSites, OwnSites, Precedes, InPreorder, PartsInPreorder, BranchesInPreorder, GuardsInPreorder}
 use Rattle.vc_occam.proofs.Sites.{either, not_true, begin_own}
 
 -- the numbers of a set are among those from low on, below high
 abbrev InRange : Set → ℕ → ℕ → Type 0
 InRange a low high = (k : ℕ) → a k ≡ true → (low ≤ k) × (k < high)
 
--- numbered from any number on, it has sites of its own from there on
+-- numbered from any number on, it has sites of its own from there on, in preorder
 abbrev IsGood : Numbered → Type 0
-IsGood n = (i : ℕ) → HasOwnSites (n.tree i) × InRange (sites (n.tree i)) i (i + n.sites)
+IsGood n = (i : ℕ) → HasOwnSites (n.tree i) × InRange (sites (n.tree i)) i (i + n.sites) × InPreorder (n.tree i)
 
 abbrev AreGood : List Numbered → Type 0
 AreGood [] = Unit {0}
@@ -51,6 +51,12 @@ same_range a low high top e f = subst (InRange a low) e f
 ranges_apart : (a b : Set) (low mid high : ℕ) → InRange a low mid → InRange b mid high → (k : ℕ) → a k ≡ true → b k ≡ false
 ranges_apart a b low mid high f g k h = not_true (b k) (λ e. let n = f k h in let m = g k e in let x = n.1 in let y = m.0 in omega arith)
 
+ranges_precede : (a b : Set) (low mid high : ℕ) → InRange a low mid → InRange b mid high → Precedes a b
+ranges_precede a b low mid high f g j k h e = let x = (f j h).1 in let y = (g k e).0 in omega arith
+
+own_first : (i high : ℕ) (a : Set) → InRange a (suc i) high → Precedes (just i) a
+own_first i high a f j k h e = let x : j ≡ i = grind (arith, nat_tests) in let y = (f k e).0 in omega arith
+
 one : (i : ℕ) → InRange (just i) i (i + 1)
 one i = just_range i (i + 1) (omega arith)
 
@@ -58,8 +64,8 @@ one i = just_range i (i + 1) (omega arith)
 above : (i n : ℕ) (a : Set) → InRange a (suc i) (suc i + n) → InRange (just i ∪ a) i (i + suc n)
 above i n a f = both_range (just i) a i (suc i) (i + suc n) (omega arith) (omega arith) (just_range i (suc i) (omega arith)) (same_range a (suc i) (suc i + n) (i + suc n) (omega arith) f)
 
-parts : (ns : List Numbered) → AreGood ns → (i : ℕ) → AllHaveOwnSites (parts_from i ns) × PartsHaveOwnSites (parts_from i ns) × InRange (sites_all (parts_from i ns)) i (i + part_sites ns)
-parts [] g i = (tt, tt, none_range i (i + 0))
+parts : (ns : List Numbered) → AreGood ns → (i : ℕ) → AllHaveOwnSites (parts_from i ns) × PartsHaveOwnSites (parts_from i ns) × InRange (sites_all (parts_from i ns)) i (i + part_sites ns) × PartsInPreorder (parts_from i ns)
+parts [] g i = (tt, tt, none_range i (i + 0), tt)
 parts (n ∷ ns) g i =
     let h = g.0 i in
     let k = parts ns g.1 (i + n.sites) in
@@ -69,10 +75,11 @@ parts (n ∷ ns) g i =
       (h.0, k.0),
       (ranges_apart a b i (i + n.sites) (i + n.sites + part_sites ns) h.1 k.2, h.0, k.1),
       both_range a b i (i + n.sites) (i + (n.sites + part_sites ns)) (omega arith) (omega arith) h.1 r,
+      (ranges_precede a b i (i + n.sites) (i + n.sites + part_sites ns) h.1 k.2, h.2, k.3),
     )
 
-branches : (bs : List NumberedBranch) → AreGoodBranches bs → (i : ℕ) → BranchesHaveOwnSites (branches_from i bs) × InRange (sites_branches (branches_from i bs)) i (i + branch_sites bs)
-branches [] g i = (tt, none_range i (i + 0))
+branches : (bs : List NumberedBranch) → AreGoodBranches bs → (i : ℕ) → BranchesHaveOwnSites (branches_from i bs) × InRange (sites_branches (branches_from i bs)) i (i + branch_sites bs) × BranchesInPreorder (branches_from i bs)
+branches [] g i = (tt, none_range i (i + 0), tt)
 branches (c ∷ bs) g i =
     let n = c.then_do in
     let h = g.0 i in
@@ -80,10 +87,10 @@ branches (c ∷ bs) g i =
     let a = sites (n.tree i) in
     let b = sites_branches (branches_from (i + n.sites) bs) in
     let r : InRange b (i + n.sites) (i + (n.sites + branch_sites bs)) = same_range b (i + n.sites) (i + n.sites + branch_sites bs) (i + (n.sites + branch_sites bs)) (omega arith) k.1 in
-    ((h.0, k.0), both_range a b i (i + n.sites) (i + (n.sites + branch_sites bs)) (omega arith) (omega arith) h.1 r)
+    ((h.0, k.0), both_range a b i (i + n.sites) (i + (n.sites + branch_sites bs)) (omega arith) (omega arith) h.1 r, (ranges_precede a b i (i + n.sites) (i + n.sites + branch_sites bs) h.1 k.1, h.2, k.2))
 
-guards : (gs : List NumberedGuard) → AreGoodGuards gs → (i : ℕ) → GuardsHaveOwnSites (guards_from i gs) × InRange (sites_guards (guards_from i gs)) i (i + guard_sites gs)
-guards [] g i = (tt, none_range i (i + 0))
+guards : (gs : List NumberedGuard) → AreGoodGuards gs → (i : ℕ) → GuardsHaveOwnSites (guards_from i gs) × InRange (sites_guards (guards_from i gs)) i (i + guard_sites gs) × GuardsInPreorder (guards_from i gs)
+guards [] g i = (tt, none_range i (i + 0), tt)
 guards (c ∷ gs) g i =
     let n = c.then_do in
     let h = g.0 i in
@@ -91,7 +98,7 @@ guards (c ∷ gs) g i =
     let a = sites (n.tree i) in
     let b = sites_guards (guards_from (i + n.sites) gs) in
     let r : InRange b (i + n.sites) (i + (n.sites + guard_sites gs)) = same_range b (i + n.sites) (i + n.sites + guard_sites gs) (i + (n.sites + guard_sites gs)) (omega arith) k.1 in
-    ((h.0, k.0), both_range a b i (i + n.sites) (i + (n.sites + guard_sites gs)) (omega arith) (omega arith) h.1 r)
+    ((h.0, k.0), both_range a b i (i + n.sites) (i + (n.sites + guard_sites gs)) (omega arith) (omega arith) h.1 r, (ranges_precede a b i (i + n.sites) (i + n.sites + guard_sites gs) h.1 k.1, h.2, k.2))
 
 -- one layer, of processes that are good
 abbrev Layer : layer.Process-F Numbered NumberedBranch NumberedGuard → Type 0
@@ -109,18 +116,18 @@ Layer (layer.Count v a n p) = IsGood p
 Layer (layer.Alt gs) = AreGoodGuards gs
 
 layer_good : (x : layer.Process-F Numbered NumberedBranch NumberedGuard) → Layer x → IsGood (numbered x)
-layer_good layer.Skip h i = (tt, one i)
-layer_good layer.Stop h i = (tt, one i)
-layer_good (layer.Set v a) h i = (tt, one i)
-layer_good (layer.Send c a) h i = (tt, one i)
-layer_good (layer.Receive c v) h i = (tt, one i)
-layer_good (layer.Stopch c) h i = (tt, one i)
-layer_good (layer.Seq ps) h i = let n = parts ps h (suc i) in (n.0, above i (part_sites ps) (sites_all (parts_from (suc i) ps)) n.2)
-layer_good (layer.Par ps) h i = let n = parts ps h (suc i) in (n.1, above i (part_sites ps) (sites_all (parts_from (suc i) ps)) n.2)
-layer_good (layer.If bs) h i = let n = branches bs h (suc i) in (n.0, above i (branch_sites bs) (sites_branches (branches_from (suc i) bs)) n.1)
-layer_good (layer.While b p) h i = let n = h (suc i) in (n.0, above i p.sites (sites (p.tree (suc i))) n.1)
-layer_good (layer.Count v a k p) h i = let n = h (suc i) in (n.0, above i p.sites (sites (p.tree (suc i))) n.1)
-layer_good (layer.Alt gs) h i = let n = guards gs h (suc i) in (n.0, above i (guard_sites gs) (sites_guards (guards_from (suc i) gs)) n.1)
+layer_good layer.Skip h i = (tt, one i, tt)
+layer_good layer.Stop h i = (tt, one i, tt)
+layer_good (layer.Set v a) h i = (tt, one i, tt)
+layer_good (layer.Send c a) h i = (tt, one i, tt)
+layer_good (layer.Receive c v) h i = (tt, one i, tt)
+layer_good (layer.Stopch c) h i = (tt, one i, tt)
+layer_good (layer.Seq ps) h i = let n = parts ps h (suc i) in (n.0, above i (part_sites ps) (sites_all (parts_from (suc i) ps)) n.2, (own_first i (suc i + part_sites ps) (sites_all (parts_from (suc i) ps)) n.2, n.3))
+layer_good (layer.Par ps) h i = let n = parts ps h (suc i) in (n.1, above i (part_sites ps) (sites_all (parts_from (suc i) ps)) n.2, (own_first i (suc i + part_sites ps) (sites_all (parts_from (suc i) ps)) n.2, n.3))
+layer_good (layer.If bs) h i = let n = branches bs h (suc i) in (n.0, above i (branch_sites bs) (sites_branches (branches_from (suc i) bs)) n.1, (own_first i (suc i + branch_sites bs) (sites_branches (branches_from (suc i) bs)) n.1, n.2))
+layer_good (layer.While b p) h i = let n = h (suc i) in (n.0, above i p.sites (sites (p.tree (suc i))) n.1, (own_first i (suc i + p.sites) (sites (p.tree (suc i))) n.1, n.2))
+layer_good (layer.Count v a k p) h i = let n = h (suc i) in (n.0, above i p.sites (sites (p.tree (suc i))) n.1, (own_first i (suc i + p.sites) (sites (p.tree (suc i))) n.1, n.2))
+layer_good (layer.Alt gs) h i = let n = guards gs h (suc i) in (n.0, above i (guard_sites gs) (sites_guards (guards_from (suc i) gs)) n.1, (own_first i (suc i + guard_sites gs) (sites_guards (guards_from (suc i) gs)) n.1, n.2))
 
 abbrev branch_of : layer.Branch-F Numbered NumberedBranch NumberedGuard → NumberedBranch
 branch_of b = record { when = test b.cond; then_do = b.body }
@@ -191,3 +198,7 @@ is_good = ind-Process (λ p. IsGood (number p)) (λ b. IsGood (number_branch b).
 pub at_first : (p : Process) → OwnSites (begin (written p))
 unfolding written
 at_first p = begin_own (written p) (is_good p 0).0
+
+pub in_preorder : (p : Process) → InPreorder (written p)
+unfolding written
+in_preorder p = (is_good p 0).2

@@ -18,7 +18,7 @@ pub either : (a b : Bool) → (a || b) ≡ true → (a ≡ true) ⊎ (b ≡ true
 either true b h = inl refl
 either false b h = inr h
 
-within_none : (a : Set) → Within nothing a
+pub within_none : (a : Set) → Within nothing a
 within_none a k h = absurd (let e : false ≡ true = h in cc)
 
 pub within_left : (a b : Set) → Within a (a ∪ b)

@@ -8,13 +8,14 @@ use Rattle.vc_occam.specs.declared.kind.Kind.{Kind}
 use Rattle.vc_occam.specs.declared.kind.Kind.TheVariants as kind
 use Rattle.vc_occam.specs.declared.phase.Phase.{Phase}
 use Rattle.vc_occam.specs.declared.phase.Phase.TheVariants as phase
-use Rattle.vc_occam.specs.Syntax.{Exp, Test, Proc, STOP, SEQ, IF, WHILE, COUNT, ALT, Procs, no_parts, part, Branches, no_branches, branch, Guards, no_guards, guard, Constant}
+use Rattle.vc_occam.specs.Syntax.{Exp, Test, Proc, STOP, SEQ, PAR, IF, WHILE, COUNT, ALT, Procs, no_parts, part, Branches, no_branches, branch, Guards, no_guards, guard, Constant}
 use Rattle.vc_occam.specs.Terms.{exp, test}
 use Rattle.vc_occam.specs.Usage.{changes, changes_all, changes_branches, changes_guards, just}
 use Rattle.vc_occam.specs.Values.{Store}
 use Rattle.vc_occam.specs.Remains.{Rest, Done, Stopped, Fresh, Finishing, Getting, Then, Turns, Beside, and_then, then_on, in_then}
 use Rattle.vc_occam.specs.Gates.{Gate, gate}
-use Rattle.vc_occam.specs.Frames.{Able, Did, HasVariables, PartHasVariables, View, assigned_at, begun_at, behind, branches_of, count_of, follow, follow_on, guards_of, has_parts, is_done, on_part, part_assigned, part_done, part_rest, place_of, plan_at, plans, plans_of, rest_at, view, views, while_of}
+use Rattle.vc_occam.specs.Sites.{InPreorder, PartsInPreorder, BranchesInPreorder, GuardsInPreorder}
+use Rattle.vc_occam.specs.Frames.{Able, Did, HasVariables, PartHasVariables, PartInPreorder, View, assigned_at, begun_at, behind, branches_of, count_of, follow, follow_on, guards_of, has_parts, is_counted, is_done, is_par, on_part, part_assigned, part_done, part_rest, place_of, plan_at, plans, plans_of, rest_at, view, views, while_of}
 use Rattle.vc_occam.specs.Nexts.{goes_further, seq_begun, seq_next}
 use Rattle.vc_occam.proofs.Beginning.{begun_plans}
 use Rattle.vc_occam.proofs.Frames.{going_part, follow_assigned}
@@ -98,6 +99,7 @@ same_plan (kind.Send c a) i vs ws h = refl
 same_plan (kind.Receive c v) i vs ws h = refl
 same_plan (kind.Stopch c) i vs ws h = refl
 same_plan kind.Seq i vs ws h = ap (SEQ i) (procs_is ws ∙ ap procs_of h ∙ sym (procs_is vs))
+same_plan kind.Par i vs ws h = ap (PAR i) (procs_is ws ∙ ap procs_of h ∙ sym (procs_is vs))
 same_plan (kind.If bs) i vs ws h = ap (IF i) (branches_is (map test bs) ws ∙ ap (branches_by (map test bs)) h ∙ sym (branches_is (map test bs) vs))
 same_plan (kind.While b) i vs ws h = while_is i (test b) ws ∙ ap (while_by i (test b)) h ∙ sym (while_is i (test b) vs)
 same_plan (kind.Count v a n) i vs ws h = count_is i v (exp a) (exp n) ws ∙ ap (count_by i v (exp a) (exp n)) h ∙ sym (count_is i v (exp a) (exp n) vs)
@@ -117,6 +119,7 @@ same_behind (kind.Receive c v) i vs ws at h = refl
 same_behind (kind.Stopch c) i vs ws at h = refl
 same_behind kind.Seq i vs ws at h =
     procs_is (drop (suc at) ws) ∙ ap procs_of (drop_plans (suc at) ws ∙ ap (drop (suc at)) h ∙ sym (drop_plans (suc at) vs)) ∙ sym (procs_is (drop (suc at) vs))
+same_behind kind.Par i vs ws at h = refl
 same_behind (kind.If bs) i vs ws at h = refl
 same_behind (kind.Count v a n) i vs ws at h = refl
 same_behind (kind.Alt gs) i vs ws at h = refl
@@ -137,10 +140,10 @@ going_rest k i ph vs at p h t e = ap (λ q. rest_at k q i vs at) h ∙ going_par
 pub within_able : (k : Kind) (i : ℕ) (ph : Phase) (vs : List View) (at p : ℕ) (e : Store) (s : ℕ) (d : Deed) → ph ≡ phase.Waiting → has_parts k ≡ true → p ≡ place_of k at → Able (rest_at k ph i vs at) e s d → Able (part_rest (slice_get vs p)) e s d
 within_able k i ph vs at p e s d h t g a = follow_able (slice_get vs p) (behind k i vs at) e s d (subst (λ r. Able r e s d) (going_rest k i ph vs at p h t g) a)
 
-pub within_assigned : (k : Kind) (i : ℕ) (ph : Phase) (vs : List View) (at p : ℕ) (e : Store) → ph ≡ phase.Waiting → has_parts k ≡ true → p ≡ place_of k at → assigned_at (rest_at k ph i vs at) e ≡ part_assigned (slice_get vs p) e
-within_assigned k i ph vs at p e h t g = ap (λ r. assigned_at r e) (going_rest k i ph vs at p h t g) ∙ follow_assigned (slice_get vs p) (behind k i vs at) e
+pub within_assigned : (k : Kind) (i j : ℕ) (ph : Phase) (vs : List View) (at p : ℕ) (e : Store) → ph ≡ phase.Waiting → has_parts k ≡ true → p ≡ place_of k at → assigned_at j (rest_at k ph i vs at) e ≡ part_assigned j (slice_get vs p) e
+within_assigned k i j ph vs at p e h t g = ap (λ r. assigned_at j r e) (going_rest k i ph vs at p h t g) ∙ follow_assigned j (slice_get vs p) (behind k i vs at) e
 
-all_variables : (vs : List View) (at n : ℕ) → ((v : ℕ) → changes_all (plans_of vs) v ≡ true → v < n) → PartHasVariables (slice_get vs at) n
+pub all_variables : (vs : List View) (at n : ℕ) → ((v : ℕ) → changes_all (plans_of vs) v ≡ true → v < n) → PartHasVariables (slice_get vs at) n
 all_variables [] at n h = tt
 all_variables (v ∷ vs) zero n h = λ w k. h w (or_left (changes v.0 w) (changes_all (plans_of vs) w) k)
 all_variables (v ∷ vs) (suc at) n h = all_variables vs at n (λ w k. h w (or_right (changes v.0 w) (changes_all (plans_of vs) w) k))
@@ -178,6 +181,7 @@ place_variables (kind.Send c b) i vs at n h g = absurd (let z : false ≡ true =
 place_variables (kind.Receive c v) i vs at n h g = absurd (let z : false ≡ true = h in cc)
 place_variables (kind.Stopch c) i vs at n h g = absurd (let z : false ≡ true = h in cc)
 place_variables kind.Seq i vs at n h g = all_variables vs at n g
+place_variables kind.Par i vs at n h g = absurd (let z : false ≡ true = h in cc)
 place_variables (kind.If bs) i vs at n h g = branch_variables (map test bs) vs at n g
 place_variables (kind.Count v a m) i vs at n h g = absurd (let z : false ≡ true = h in cc)
 place_variables (kind.While b) i vs at n h g = while_variables i (test b) vs n g
@@ -193,6 +197,80 @@ within_did k i ph vs ws at p e f s d r h t g q z y =
     let is : r ≡ follow_on (slice_get ws p) b = z ∙ ap (λ x. follow_on (slice_get ws x) (behind k i ws at)) (sym g) ∙ ap (follow_on (slice_get ws p)) (same_behind k i vs ws at q) in
     subst (λ x. Did x e s d r f) (sym (going_rest k i ph vs at p h t g))
     (subst (λ x. Did (follow (slice_get vs p) b) e s d x f) (sym is) (follow_did (slice_get vs p) (slice_get ws p) b e f s d (same_some vs ws p q) y))
+
+-- sites in preorder
+pub parts_preorder : (vs : List View) (at : ℕ) → PartsInPreorder (plans_of vs) → PartInPreorder (slice_get vs at)
+parts_preorder [] at h = tt
+parts_preorder (v ∷ vs) zero h = h.1
+parts_preorder (v ∷ vs) (suc at) h = parts_preorder vs at h.2
+
+branches_preorder : (bs : List Test) (vs : List View) (at : ℕ) → BranchesInPreorder (branches_of bs vs) → PartInPreorder (slice_get vs at)
+branches_preorder bs [] at h = tt
+branches_preorder [] (v ∷ vs) zero h = h.1
+branches_preorder [] (v ∷ vs) (suc at) h = branches_preorder [] vs at h.2
+branches_preorder (b ∷ bs) (v ∷ vs) zero h = h.1
+branches_preorder (b ∷ bs) (v ∷ vs) (suc at) h = branches_preorder bs vs at h.2
+
+guards_preorder : (gs : List Gate) (vs : List View) (at : ℕ) → GuardsInPreorder (guards_of gs vs) → PartInPreorder (slice_get vs at)
+guards_preorder [] [] at h = tt
+guards_preorder (g ∷ gs) [] at h = tt
+guards_preorder [] (v ∷ vs) zero h = h.1
+guards_preorder [] (v ∷ vs) (suc at) h = guards_preorder [] vs at h.2
+guards_preorder (g ∷ gs) (v ∷ vs) zero h = h.1
+guards_preorder (g ∷ gs) (v ∷ vs) (suc at) h = guards_preorder gs vs at h.2
+
+while_preorder : (i : ℕ) (b : Test) (vs : List View) → InPreorder (while_of i b vs) → PartInPreorder (slice_get vs 0)
+while_preorder i b [] h = tt
+while_preorder i b (v ∷ vs) h = h.1
+
+count_preorder : (i v : ℕ) (a n : Exp) (vs : List View) → InPreorder (count_of i v a n vs) → PartInPreorder (slice_get vs 0)
+count_preorder i v a n [] h = tt
+count_preorder i v a n (w ∷ vs) h = h.1
+
+pub place_preorder : (k : Kind) (i : ℕ) (vs : List View) (at : ℕ) → has_parts k ≡ true → InPreorder (plan_at k i vs) → PartInPreorder (slice_get vs (place_of k at))
+place_preorder kind.Skip i vs at h g = absurd (let z : false ≡ true = h in cc)
+place_preorder kind.Stop i vs at h g = absurd (let z : false ≡ true = h in cc)
+place_preorder (kind.Set v b) i vs at h g = absurd (let z : false ≡ true = h in cc)
+place_preorder (kind.Send c b) i vs at h g = absurd (let z : false ≡ true = h in cc)
+place_preorder (kind.Receive c v) i vs at h g = absurd (let z : false ≡ true = h in cc)
+place_preorder (kind.Stopch c) i vs at h g = absurd (let z : false ≡ true = h in cc)
+place_preorder kind.Seq i vs at h g = parts_preorder vs at g.1
+place_preorder kind.Par i vs at h g = absurd (let z : false ≡ true = h in cc)
+place_preorder (kind.If bs) i vs at h g = branches_preorder (map test bs) vs at g.1
+place_preorder (kind.While b) i vs at h g = while_preorder i (test b) vs g
+place_preorder (kind.Count v a m) i vs at h g = absurd (let z : false ≡ true = h in cc)
+place_preorder (kind.Alt gs) i vs at h g = guards_preorder (map gate gs.inputs) vs at g.1
+
+pub within_preorder : (k : Kind) (i : ℕ) (vs : List View) (at p : ℕ) → has_parts k ≡ true → p ≡ place_of k at → InPreorder (plan_at k i vs) → PartInPreorder (slice_get vs p)
+within_preorder k i vs at p h e g = subst (λ q. PartInPreorder (slice_get vs q)) (sym e) (place_preorder k i vs at h g)
+
+pub body_preorder : (k : Kind) (i : ℕ) (vs : List View) → is_counted k ≡ true → InPreorder (plan_at k i vs) → PartInPreorder (slice_get vs 0)
+body_preorder kind.Skip i vs h g = absurd (let z : false ≡ true = h in cc)
+body_preorder kind.Stop i vs h g = absurd (let z : false ≡ true = h in cc)
+body_preorder (kind.Set v b) i vs h g = absurd (let z : false ≡ true = h in cc)
+body_preorder (kind.Send c b) i vs h g = absurd (let z : false ≡ true = h in cc)
+body_preorder (kind.Receive c v) i vs h g = absurd (let z : false ≡ true = h in cc)
+body_preorder (kind.Stopch c) i vs h g = absurd (let z : false ≡ true = h in cc)
+body_preorder kind.Seq i vs h g = absurd (let z : false ≡ true = h in cc)
+body_preorder kind.Par i vs h g = absurd (let z : false ≡ true = h in cc)
+body_preorder (kind.If bs) i vs h g = absurd (let z : false ≡ true = h in cc)
+body_preorder (kind.While b) i vs h g = absurd (let z : false ≡ true = h in cc)
+body_preorder (kind.Count v a m) i vs h g = count_preorder i v (exp a) (exp m) vs g
+body_preorder (kind.Alt gs) i vs h g = absurd (let z : false ≡ true = h in cc)
+
+pub par_preorder : (k : Kind) (i : ℕ) (vs : List View) → is_par k ≡ true → InPreorder (plan_at k i vs) → PartsInPreorder (plans_of vs)
+par_preorder kind.Skip i vs h g = absurd (let z : false ≡ true = h in cc)
+par_preorder kind.Stop i vs h g = absurd (let z : false ≡ true = h in cc)
+par_preorder (kind.Set v b) i vs h g = absurd (let z : false ≡ true = h in cc)
+par_preorder (kind.Send c b) i vs h g = absurd (let z : false ≡ true = h in cc)
+par_preorder (kind.Receive c v) i vs h g = absurd (let z : false ≡ true = h in cc)
+par_preorder (kind.Stopch c) i vs h g = absurd (let z : false ≡ true = h in cc)
+par_preorder kind.Seq i vs h g = absurd (let z : false ≡ true = h in cc)
+par_preorder kind.Par i vs h g = g.1
+par_preorder (kind.If bs) i vs h g = absurd (let z : false ≡ true = h in cc)
+par_preorder (kind.While b) i vs h g = absurd (let z : false ≡ true = h in cc)
+par_preorder (kind.Count v a m) i vs h g = absurd (let z : false ≡ true = h in cc)
+par_preorder (kind.Alt gs) i vs h g = absurd (let z : false ≡ true = h in cc)
 
 -- by how far it is
 pub phase_able : (k : Kind) (i : ℕ) (ph q : Phase) (vs : List View) (at : ℕ) (e : Store) (s : ℕ) (d : Deed) → ph ≡ q → Able (rest_at k ph i vs at) e s d → Able (rest_at k q i vs at) e s d
@@ -219,6 +297,7 @@ alone_variables (kind.Send c a) i vs n h g = g
 alone_variables (kind.Receive c v) i vs n h g = g
 alone_variables (kind.Stopch c) i vs n h g = g
 alone_variables kind.Seq i vs n h g = absurd (let z : true ≡ false = h in cc)
+alone_variables kind.Par i vs n h g = λ w k. absurd (let z : false ≡ true = k in cc)
 alone_variables (kind.If bs) i vs n h g = absurd (let z : true ≡ false = h in cc)
 alone_variables (kind.While b) i vs n h g = absurd (let z : true ≡ false = h in cc)
 alone_variables (kind.Alt gs) i vs n h g = absurd (let z : true ≡ false = h in cc)
@@ -239,6 +318,16 @@ pub set_plans : (fs : List Frame) (k : ℕ) (f g : Frame) → f ≡ get_or fs k 
 set_plans [] k f g h e = refl
 set_plans (x ∷ fs) zero f g h e = ap (λ p. p ∷ plans (views fs)) (e ∙ ap (λ (y : Frame). (view y).0) h)
 set_plans (x ∷ fs) (suc k) f g h e = ap (λ ps. (view x).0 ∷ ps) (set_plans fs k f g h e)
+
+pub set_changed : (fs : List Frame) (k : ℕ) (g : Frame) → views (set fs k g) ≡ set (views fs) k (view g)
+set_changed [] k g = refl
+set_changed (x ∷ fs) zero g = refl
+set_changed (x ∷ fs) (suc k) g = ap (λ vs. view x ∷ vs) (set_changed fs k g)
+
+pub none_changed : (vs : List View) (k : ℕ) (w : View) → length vs ≤ k → vs ≡ set vs k w
+none_changed [] k w l = refl
+none_changed (v ∷ vs) zero w l = absurd (omega arith)
+none_changed (v ∷ vs) (suc k) w l = ap (λ ws. v ∷ ws) (none_changed vs k w (omega arith))
 
 pub none_view : (fs : List Frame) (k : ℕ) → length fs ≤ k → slice_get (views fs) k ≡ None
 none_view [] k l = refl

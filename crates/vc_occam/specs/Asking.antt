@@ -37,11 +37,6 @@ abbrev mutual
   in_guards a no_guards = true
   in_guards a (guard t c v p gs) = a.condition t && a.channel c && a.variable v && everywhere a p && in_guards a gs
 
--- it is no PAR
-abbrev pub in_order_itself : Proc → Bool
-in_order_itself (PAR i ps) = false
-in_order_itself p = true
-
 -- its expressions have at most this depth
 abbrev pub within_itself : ℕ → Proc → Bool
 within_itself n (Assign i v a) = given_within a n
@@ -75,7 +70,6 @@ keeps_itself v p = true
 
 -- each question, of a node with variables of these kinds
 abbrev pub asking : Asked → List ValueKind → Asking
-asking asked.InOrder kinds = record { condition = λ t. true; channel = λ c. true; variable = λ v. true; itself = in_order_itself }
 asking (asked.Expressions n) kinds = record { condition = λ t. test_within t n; channel = λ c. true; variable = λ v. true; itself = within_itself n }
 asking asked.Length kinds = record { condition = λ t. true; channel = λ c. true; variable = λ v. true; itself = in_length_itself }
 asking (asked.Names n) kinds =

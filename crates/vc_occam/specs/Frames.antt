@@ -1,5 +1,5 @@
 -- What the running code stands for: a tree of frames, each with the process that was written and what remains of it.
-use Rattle.std.specs.Prelude.{◌≡◌, ℕ, zero, suc, ℤ, pos, ◌+ℤ◌, ◌-ℤ◌, int_lt, Bool, true, false, not, List, [], ◌∷◌, ◌++◌, ◌<◌, nat_le, map, drop, slice_get, Option, Some, None, if◌then◌else◌}
+use Rattle.std.specs.Prelude.{◌≡◌, ℕ, zero, suc, ℤ, pos, ◌+ℤ◌, ◌-ℤ◌, int_lt, Bool, true, false, not, ◌==◌, List, [], ◌∷◌, ◌++◌, ◌<◌, nat_le, map, drop, set, slice_get, Option, Some, None, if◌then◌else◌}
 use lib.Signed.{mag}
 use Rattle.vc_occam.specs.declared.kind.Kind.{Kind}
 use Rattle.vc_occam.specs.declared.kind.Kind.TheVariants as kind
@@ -17,10 +17,11 @@ use Rattle.vc_occam.specs.declared.waits.Waits.TheVariants as waits
 use Rattle.vc_occam.specs.Values.{Store, datum_of, holds}
 use Rattle.vc_occam.specs.Traces.{Comm}
 use Rattle.vc_occam.specs.Usage.{changes}
-use Rattle.vc_occam.specs.Syntax.{Exp, Test, Constant, Proc, SKIP, STOP, Assign, Output, Input, StopChan, SEQ, IF, WHILE, COUNT, ALT, Procs, no_parts, part, Branches, no_branches, branch, Guards, no_guards, guard}
+use Rattle.vc_occam.specs.Syntax.{Exp, Test, Constant, Proc, SKIP, STOP, Assign, Output, Input, StopChan, SEQ, PAR, IF, WHILE, COUNT, ALT, Procs, no_parts, part, Branches, no_branches, branch, Guards, no_guards, guard}
 use Rattle.vc_occam.specs.Terms.{exp, given, test}
-use Rattle.vc_occam.specs.Remains.{Rest, Done, Stopped, Fresh, Finishing, Getting, Then, Turns, and_then, then_on, begin, Step}
-use Rattle.vc_occam.specs.States.{Waiting, output, input, waiting, output_at}
+use Rattle.vc_occam.specs.Remains.{Rest, Done, Stopped, Fresh, Finishing, Getting, Then, Turns, Beside, and_then, then_on, beside_on, begin, Step}
+use Rattle.vc_occam.specs.Sites.{InPreorder, site}
+use Rattle.vc_occam.specs.States.{Waiting, output, input, waiting, output_at, or_else}
 use Rattle.vc_occam.specs.First.{own}
 use Rattle.vc_occam.specs.Gates.{Gate, gate}
 
@@ -66,6 +67,7 @@ plan_at (kind.Send c a) i vs = Output i c (given a)
 plan_at (kind.Receive c v) i vs = Input i c v
 plan_at (kind.Stopch c) i vs = StopChan i c
 plan_at kind.Seq i vs = SEQ i (plans_of vs)
+plan_at kind.Par i vs = PAR i (plans_of vs)
 plan_at (kind.If bs) i vs = IF i (branches_of (map test bs) vs)
 plan_at (kind.While b) i vs = while_of i (test b) vs
 plan_at (kind.Count v a n) i vs = count_of i v (exp a) (exp n) vs
@@ -82,6 +84,11 @@ abbrev pub is_counted : Kind → Bool
 is_counted (kind.Count v a n) = true
 is_counted k = false
 
+-- it is a PAR
+abbrev pub is_par : Kind → Bool
+is_par kind.Par = true
+is_par k = false
+
 -- it is an ALT
 abbrev pub is_choice : Kind → Bool
 is_choice (kind.Alt gs) = true
@@ -92,7 +99,7 @@ abbrev pub follow : Option View → Procs → Rest
 follow None ps = Fresh (STOP 0)
 follow (Some v) ps = and_then v.1 ps
 
--- it goes on at one of its parts; a counted SEQ goes on by turns of its body
+-- it goes on at one of its parts; a counted SEQ goes on by turns of its body, and a PAR at all its parts
 abbrev pub has_parts : Kind → Bool
 has_parts kind.Seq = true
 has_parts (kind.If bs) = true
@@ -128,6 +135,16 @@ abbrev pub turning : Kind → List View → ℤ → ℤ → Rest
 turning (kind.Count v a n) vs x y = turn_of v vs x y
 turning k vs x y = Stopped
 
+-- parts that go on side by side
+abbrev pub besides : List View → Rest
+besides [] = Done
+besides (v ∷ vs) = beside_on (changes v.0) v.1 (besides vs)
+
+-- a PAR whose parts go on
+abbrev pub together : Kind → List View → Rest
+together kind.Par vs = besides vs
+together k vs = Stopped
+
 -- nothing comes behind the k-th of so many parts
 abbrev pub is_last : Kind → ℕ → ℕ → Bool
 is_last kind.Seq k n = nat_le n (suc k)
@@ -145,16 +162,17 @@ awaiting (kind.Alt gs) i vs k = chosen_at i (slice_get (map gate gs.inputs) k) (
 awaiting p i vs k = Stopped
 
 -- what remains of a process that is so far
-abbrev pub so_far : Phase → Proc → Rest → Rest → (ℤ → ℤ → Rest) → Rest
-so_far phase.Ready p r w t = Fresh p
-so_far phase.Waiting p r w t = r
-so_far (phase.Turning x y) p r w t = t x y
-so_far phase.Chosen p r w t = w
-so_far phase.Ended p r w t = Done
-so_far phase.Stuck p r w t = Stopped
+abbrev pub so_far : Phase → Proc → Rest → Rest → Rest → (ℤ → ℤ → Rest) → Rest
+so_far phase.Ready p r w b t = Fresh p
+so_far phase.Waiting p r w b t = r
+so_far (phase.Turning x y) p r w b t = t x y
+so_far phase.Together p r w b t = b
+so_far phase.Chosen p r w b t = w
+so_far phase.Ended p r w b t = Done
+so_far phase.Stuck p r w b t = Stopped
 
 abbrev pub rest_at : Kind → Phase → ℕ → List View → ℕ → Rest
-rest_at k ph i vs at = so_far ph (plan_at k i vs) (going_at k i vs at) (awaiting k i vs at) (turning k vs)
+rest_at k ph i vs at = so_far ph (plan_at k i vs) (going_at k i vs at) (awaiting k i vs at) (together k vs) (turning k vs)
 
 -- one frame, with what its parts stand for in their place
 unfoldable pub view_step : Frame-F View → View
@@ -181,12 +199,13 @@ abbrev pub part_done : Option View → Bool
 part_done None = false
 part_done (Some v) = is_done v.1
 
--- the value that an assignment is about to assign
-abbrev pub assigned_at : Rest → Store → Option Datum
-assigned_at (Fresh (Assign i v a)) e = datum_of a e
-assigned_at (Then r ps) e = assigned_at r e
-assigned_at (Turns r v b n p) e = assigned_at r e
-assigned_at r e = None
+-- the value that the assignment at a site is about to assign
+abbrev pub assigned_at : ℕ → Rest → Store → Option Datum
+assigned_at i (Fresh (Assign j v a)) e = if i == j then datum_of a e else None
+assigned_at i (Then r ps) e = assigned_at i r e
+assigned_at i (Turns r v b n p) e = assigned_at i r e
+assigned_at i (Beside mine r q) e = or_else (assigned_at i r e) (assigned_at i q e)
+assigned_at i r e = None
 
 -- the moves of a part, what it waits for, the value that it outputs or assigns
 abbrev pub part_rest : Option View → Rest
@@ -205,9 +224,9 @@ abbrev pub part_output : ℕ → Option View → Store → Option Datum
 part_output i None e = None
 part_output i (Some v) e = output_at i v.1 e
 
-abbrev pub part_assigned : Option View → Store → Option Datum
-part_assigned None e = None
-part_assigned (Some v) e = assigned_at v.1 e
+abbrev pub part_assigned : ℕ → Option View → Store → Option Datum
+part_assigned i None e = None
+part_assigned i (Some v) e = assigned_at i v.1 e
 
 abbrev pub listed : Option Move → List Move
 listed None = []
@@ -227,11 +246,21 @@ abbrev pub outside : (ℕ → Bool) → List Move → List Move
 outside inside [] = []
 outside inside (m ∷ ms) = (if is_outside inside m then (m ∷ []) else []) ++ outside inside ms
 
--- what one site waits for
-abbrev pub waits_list : Option Waits → List Waiting
-waits_list None = []
-waits_list (Some (waits.Output i c)) = output i c ∷ []
-waits_list (Some (waits.Input i c)) = input i c ∷ []
+-- the site, if it waits for this
+abbrev pub waits_there : Waits → Waiting → Option ℕ
+waits_there (waits.Output c) (output i d) = if c == d then Some i else None
+waits_there (waits.Input c) (input i d) = if c == d then Some i else None
+waits_there w x = None
+
+-- the first site of these that waits for this
+abbrev pub first_waits : Waits → List Waiting → Option ℕ
+first_waits w [] = None
+first_waits w (x ∷ xs) = or_else (waits_there w x) (first_waits w xs)
+
+-- a site that waits for this
+abbrev pub waits_at : Waits → ℕ → Waiting
+waits_at (waits.Output c) i = output i c
+waits_at (waits.Input c) i = input i c
 
 -- a site can do this
 abbrev pub Able : Rest → Store → ℕ → Deed → Type 0
@@ -264,13 +293,23 @@ abbrev pub first_phase : List View → Phase
 first_phase [] = phase.Ready
 first_phase (v ∷ vs) = phase.Waiting
 
+-- the parts of a PAR begin
+abbrev pub all_begun : List View → List View
+all_begun = map (λ v. (v.0, begin v.0))
+
+abbrev pub par_phase : List View → Phase
+par_phase [] = phase.Ready
+par_phase (v ∷ vs) = phase.Together
+
 -- where a process begins: its parts, and how far it is
 abbrev pub begun_parts : Kind → List View → List View
 begun_parts kind.Seq vs = first_begun vs
+begun_parts kind.Par vs = all_begun vs
 begun_parts k vs = vs
 
 abbrev pub begun_phase : Kind → List View → Phase
 begun_phase kind.Seq vs = first_phase vs
+begun_phase kind.Par vs = par_phase vs
 begun_phase k vs = phase.Ready
 
 -- what remains of a part, and what comes behind it, after the part did something
@@ -297,3 +336,24 @@ abbrev pub begun_at : ℕ → List View → List View
 begun_at k [] = []
 begun_at zero (v ∷ vs) = (v.0, begin v.0) ∷ vs
 begun_at (suc k) (v ∷ vs) = v ∷ begun_at k vs
+
+-- the first k parts begin
+abbrev pub begun_to : ℕ → List View → List View
+begun_to zero vs = vs
+begun_to (suc k) [] = []
+begun_to (suc k) (v ∷ vs) = (v.0, begin v.0) ∷ begun_to k vs
+
+-- the place of the part that has a site: the last that begins at this site or before it
+abbrev pub place_with : ℕ → List View → ℕ
+place_with i [] = 0
+place_with i (v ∷ []) = 0
+place_with i (v ∷ w ∷ vs) = if nat_le (site w.0) i then suc (place_with i (w ∷ vs)) else 0
+
+-- the sites of a part are in preorder
+abbrev pub PartInPreorder : Option View → Type 0
+PartInPreorder None = Unit {0}
+PartInPreorder (Some v) = InPreorder v.0
+
+-- only the k-th part has changed
+abbrev pub ChangedAt : ℕ → List View → List View → Type 0
+ChangedAt k vs ws = (w : View) × (ws ≡ set vs k w)

@@ -4,7 +4,8 @@ pub mod First
 pub mod Frames
 pub mod Gates
 pub mod InOrder
-pub mod Indexes
+pub mod UseFaults
+pub mod Usages
 pub mod Lawful
 pub mod Laws
 pub mod Limits
@@ -12,10 +13,12 @@ pub mod Messages
 pub mod Moving
 pub mod Nexts
 pub mod Numbering
+pub mod OneProof
 pub mod Opening
 pub mod ProcessLimits
 pub mod Remains
 pub mod Runnings
+pub mod Sharing
 pub mod Sites
 pub mod States
 pub mod Syntax

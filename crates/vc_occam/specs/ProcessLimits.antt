@@ -126,26 +126,3 @@ abbrev mutual
   guards_names_fit no_guards kinds n = true
   guards_names_fit (guard t c v p gs) kinds n =
       test_fits t kinds && nat_lt c n && nat_lt v (length kinds) && names_fit p kinds n && guards_names_fit gs kinds n
-
--- no process in it runs beside another: no PAR
-abbrev mutual
-  pub in_order : Proc → Bool
-  in_order (SEQ i ps) = parts_in_order ps
-  in_order (PAR i ps) = false
-  in_order (IF i bs) = branches_in_order bs
-  in_order (WHILE i t p) = in_order p
-  in_order (COUNT i v a k p) = in_order p
-  in_order (ALT i gs) = guards_in_order gs
-  in_order p = true
-
-  pub parts_in_order : Procs → Bool
-  parts_in_order no_parts = true
-  parts_in_order (part p ps) = in_order p && parts_in_order ps
-
-  pub branches_in_order : Branches → Bool
-  branches_in_order no_branches = true
-  branches_in_order (branch t p bs) = in_order p && branches_in_order bs
-
-  pub guards_in_order : Guards → Bool
-  guards_in_order no_guards = true
-  guards_in_order (guard t c v p gs) = in_order p && guards_in_order gs

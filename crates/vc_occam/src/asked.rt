@@ -1,6 +1,6 @@
 //! What is asked of each process within a process.
 ghost use Rattle.std.specs.Prelude.{◌≡◌, ◌&&◌, ℕ, map};
-ghost use Rattle.vc_occam.specs.Asking.{asking, everywhere as is_everywhere, in_branches as is_in_branches, in_guards as is_in_guards, in_length_itself, in_parts as is_in_parts, keeps_itself as does_keep, names_itself, in_order_itself, within_itself};
+ghost use Rattle.vc_occam.specs.Asking.{asking, everywhere as is_everywhere, in_branches as is_in_branches, in_guards as is_in_guards, in_length_itself, in_parts as is_in_parts, keeps_itself as does_keep, names_itself, within_itself};
 ghost use Rattle.vc_occam.specs.InOrder.{number, number_branch, number_guard};
 ghost use Rattle.vc_occam.specs.Numbering.{branches_from, guards_from, parts_from};
 ghost use Rattle.vc_occam.specs.ProcessLimits.{test_within, test_fits};
@@ -15,8 +15,6 @@ use sqlite_items::Items;
 /// A question.
 #[derive(Clone, Copy, Debug, PartialEq, Eq, Drop)]
 pub(crate) enum Asked {
-    /// Is it no PAR?
-    InOrder,
     /// Have its expressions at most this depth?
     Expressions { depth: u32 },
     /// Has its message at most 65,535 bytes?
@@ -61,14 +59,6 @@ impl Cond {
             Cond::Not(cond) => cond.get().fits(kinds),
         }
     }
-}
-
-/// Whether it is no PAR.
-#[tactic(auto, unfolding(crate::specs::InOrder::number))]
-fn is_in_order_itself(process: &Process) -> bool
-    ensures { (site : ℕ) → result ≡ in_order_itself ((number process.now).tree site) }
-{
-    !matches!(process, Process::Par(_))
 }
 
 /// Whether its own expressions have at most this depth.
@@ -138,7 +128,6 @@ impl Asked {
         ensures { (site : ℕ) → result ≡ (asking self kinds.now).itself ((number process.now).tree site) }
     {
         match self {
-            Asked::InOrder => is_in_order_itself(process),
             Asked::Expressions { depth } => is_within_itself(process, depth),
             Asked::Length => is_in_length_itself(process),
             Asked::Names { channels } => fits_itself(process, kinds, channels),

@@ -1,6 +1,6 @@
 //! Processes that run: a tree of frames, each with its parts and how far it is.
 ghost use Rattle.std.specs.Prelude.{◌≡◌, slice_get};
-ghost use Rattle.vc_occam.specs.Frames.{begun_parts, begun_phase, is_choice, is_counted, has_parts as is_composed, is_done, is_last as nothing_behind, part_done, place_of, view, views};
+ghost use Rattle.vc_occam.specs.Frames.{all_begun, begun_parts, begun_phase, besides, is_choice, is_counted, is_par, has_parts as is_composed, is_done, is_last as nothing_behind, part_done, place_of, view, views};
 ghost use Rattle.vc_occam.specs.Remains.{begin};
 
 use crate::kind::Kind;
@@ -17,7 +17,7 @@ pub(crate) struct Frame {
 }
 
 impl Kind {
-    /// Whether it goes on at one of its parts; a counted SEQ goes on by turns of its body.
+    /// Whether it goes on at one of its parts; a counted SEQ goes on by turns of its body, and a PAR at all its parts.
     pub(crate) fn has_parts(&self) -> bool
         ensures { result ≡ is_composed self.now }
     {
@@ -35,6 +35,13 @@ impl Kind {
         ensures { result ≡ is_counted self.now }
     {
         matches!(self, Kind::Count { .. })
+    }
+
+    /// Whether it is a PAR.
+    pub(crate) fn is_par(&self) -> bool
+        ensures { result ≡ is_par self.now }
+    {
+        matches!(self, Kind::Par)
     }
 
     /// Whether it is an ALT.
@@ -81,6 +88,7 @@ impl Frame {
             }
             Phase::Ready => false,
             Phase::Turning { .. } => false,
+            Phase::Together => self.kind.is_par() && all_ended(&self.parts),
             Phase::Chosen => false,
             Phase::Stuck => false,
         }
@@ -107,7 +115,20 @@ pub(crate) fn part_ended(parts: &Vec<Frame>, at: usize) -> bool
     false
 }
 
-/// Begins the first part of a SEQ, if it has one; answers how far the process is then.
+/// Whether nothing remains of any part.
+#[cycle(ended)]
+fn all_ended(parts: &Vec<Frame>) -> bool
+    ensures { result ≡ is_done (besides (views parts.now.items)) }
+{
+    for place in 0..parts.len() {
+        if !parts[place].ended() {
+            return false;
+        }
+    }
+    true
+}
+
+/// Begins the first part of a SEQ, if it has one, or all parts of a PAR; answers how far the process is then.
 #[cycle(start)]
 fn start_parts(kind: &Kind, parts: &mut Vec<Frame>) -> Phase
     ensures parts { views parts.new.items ≡ begun_parts kind.now (views parts.old.items) }
@@ -121,6 +142,23 @@ fn start_parts(kind: &Kind, parts: &mut Vec<Frame>) -> Phase
             parts[0].start();
             Phase::Waiting
         }
+        Kind::Par => {
+            if parts.is_empty() {
+                return Phase::Ready;
+            }
+            start_all(parts);
+            Phase::Together
+        }
         _ => Phase::Ready,
+    }
+}
+
+/// Begins each part.
+#[cycle(start)]
+fn start_all(parts: &mut Vec<Frame>)
+    ensures { views parts.new.items ≡ all_begun (views parts.old.items) }
+{
+    for place in 0..parts.len() {
+        parts[place].start();
     }
 }

@@ -1,12 +1,11 @@
 //! How a tree of frames is made of a process.
-ghost use Rattle.std.specs.Prelude.{◌≡◌, ◌+◌, ◌≤◌, ◌<◌, IfOk, map, true};
+ghost use Rattle.std.specs.Prelude.{◌≡◌, ◌+◌, ◌≤◌, ◌<◌, IfOk, map};
 ghost use Rattle.vc_occam.specs.Frames.{plan_at, view, views};
 ghost use Rattle.vc_occam.specs.Remains.{Fresh, begin};
 ghost use Rattle.vc_occam.specs.Wholes.{branch_wholes_from, gates, guard_wholes_from, tests, whole_from, wholes_from};
 ghost use Rattle.vc_occam.specs.Gates.{gate};
 ghost use Rattle.vc_occam.specs.InOrder.{number, number_branch, number_guard};
-ghost use Rattle.vc_occam.specs.Numbering.{branch_sites, branches_from, guard_sites, guards_from, part_sites, parts_from, written};
-ghost use Rattle.vc_occam.specs.ProcessLimits.{branches_in_order, guards_in_order, in_order, parts_in_order};
+ghost use Rattle.vc_occam.specs.Numbering.{branch_sites, guard_sites, part_sites, written};
 ghost use Rattle.vc_occam.specs.Terms.{test};
 
 use crate::condition::Cond;
@@ -55,7 +54,6 @@ fn with_parts(site: u32, kind: Kind, parts: Vec<Frame>, next: u32) -> Framed
 #[cycle(framing)]
 #[tactic(auto, unfolding(crate::specs::InOrder::number, crate::specs::InOrder::number_branch, crate::specs::InOrder::number_guard))]
 pub(crate) fn frame_of(alloc: Global, process: &Process, site: u32) -> Result<Framed, Memory>
-    requires in_order { in_order ((number process.now).tree site) ≡ true }
     requires sites { site + (number process.now).sites ≤ 65536 }
     ensures frame { IfOk result (λ made. view made.frame ≡ whole_from site (number process.now)) }
     ensures next { IfOk result (λ made. made.next ≡ site + (number process.now).sites) }
@@ -104,6 +102,10 @@ pub(crate) fn frame_of(alloc: Global, process: &Process, site: u32) -> Result<Fr
             let made = frames_of(alloc, parts, site + 1)?;
             Ok(with_parts(site, Kind::Seq, made.parts, made.next))
         }
+        Process::Par(parts) => {
+            let made = frames_of(alloc, parts, site + 1)?;
+            Ok(with_parts(site, Kind::Par, made.parts, made.next))
+        }
         Process::If(branches) => {
             let conds = conds_of(alloc, branches)?;
             let made = frames_of_branches(alloc, branches, site + 1)?;
@@ -136,7 +138,6 @@ pub(crate) fn frame_of(alloc: Global, process: &Process, site: u32) -> Result<Fr
             let guards = GuardedInputs::new(inputs);
             Ok(with_parts(site, Kind::Alt { guards }, made.parts, made.next))
         }
-        Process::Par(_) => unreachable!(),
     }
 }
 
@@ -173,7 +174,6 @@ fn inputs_of(alloc: Global, guards: &Items<Guard>) -> Result<Items<GuardedInput>
 #[cycle(framing)]
 #[tactic(auto, unfolding(crate::specs::InOrder::number, crate::specs::InOrder::number_guard))]
 fn frames_of_guards(alloc: Global, guards: &Items<Guard>, site: u32) -> Result<FramedParts, Memory>
-    requires in_order { guards_in_order (guards_from site (map number_guard guards.now)) ≡ true }
     requires sites { site + guard_sites (map number_guard guards.now) ≤ 65536 }
     ensures parts { IfOk result (λ made. views made.parts.items ≡ guard_wholes_from site (map number_guard guards.now)) }
     ensures next { IfOk result (λ made. made.next ≡ site + guard_sites (map number_guard guards.now)) }
@@ -199,7 +199,6 @@ fn frames_of_branches(
     branches: &Items<Branch>,
     site: u32,
 ) -> Result<FramedParts, Memory>
-    requires in_order { branches_in_order (branches_from site (map number_branch branches.now)) ≡ true }
     requires sites { site + branch_sites (map number_branch branches.now) ≤ 65536 }
     ensures parts { IfOk result (λ made. views made.parts.items ≡ branch_wholes_from site (map number_branch branches.now)) }
     ensures next { IfOk result (λ made. made.next ≡ site + branch_sites (map number_branch branches.now)) }
@@ -220,7 +219,6 @@ fn frames_of_branches(
 /// The frames of parts that are about to begin.
 #[cycle(framing)]
 fn frames_of(alloc: Global, parts: &Items<Process>, site: u32) -> Result<FramedParts, Memory>
-    requires in_order { parts_in_order (parts_from site (map number parts.now)) ≡ true }
     requires sites { site + part_sites (map number parts.now) ≤ 65536 }
     ensures parts { IfOk result (λ made. views made.parts.items ≡ wholes_from site (map number parts.now)) }
     ensures next { IfOk result (λ made. made.next ≡ site + part_sites (map number parts.now)) }
@@ -240,7 +238,6 @@ fn frames_of(alloc: Global, parts: &Items<Process>, site: u32) -> Result<FramedP
 
 /// The frame of a process that has begun.
 pub(crate) fn begin_frame(alloc: Global, process: &Process) -> Result<Frame, Memory>
-    requires in_order { in_order (written process.now) ≡ true }
     requires sites { (number process.now).sites ≤ 65536 }
     ensures { IfOk result (λ frame. view frame ≡ (written process.now, begin (written process.now))) }
 {

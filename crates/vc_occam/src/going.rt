@@ -1,11 +1,12 @@
 //! How frames go on: one site does something.
 ghost use Rattle.std.specs.Prelude.{◌≡◌, ◌<◌, length, map, nat_lt, slice_get, false, true, List, [], ℕ, ℤ, ◌^◌};
 ghost use Rattle.vc_occam.specs.declared.deed.Deed.TheVariants.{Quiet};
-ghost use Rattle.vc_occam.specs.Frames.{Able, Did, HasVariables, PartHasVariables, View, assigned_at, awaiting, is_choice, is_counted, part_done, turning, follow_on, part_assigned, place_of, begun_at, behind, chosen_from, going_at, has_parts, part_rest, plan_at, plans, rest_at, view, views};
+ghost use Rattle.vc_occam.specs.Frames.{Able, ChangedAt, Did, HasVariables, PartHasVariables, PartInPreorder, View, assigned_at, awaiting, is_choice, is_counted, part_done, turning, follow_on, part_assigned, place_of, begun_at, behind, chosen_from, going_at, has_parts, part_rest, plan_at, plans, rest_at, together, view, views};
 ghost use Rattle.vc_occam.specs.Gates.{gate};
 ghost use Rattle.vc_occam.specs.Nexts.{GateHasVariable, branch_next, choice_begun, choice_next, choice_store, count_begun, count_phase, count_store, gate_begun, gate_next, gate_store, seq_begun, seq_next, stuck_next, turn_begun, turn_next, turn_phase, turn_store, turn_views};
 ghost use Rattle.vc_occam.specs.declared.deed.Deed.{Deed};
 ghost use Rattle.vc_occam.specs.Remains.{Fresh};
+ghost use Rattle.vc_occam.specs.Sites.{InPreorder};
 ghost use Rattle.vc_occam.specs.Terms.{exp, store, test};
 ghost use Rattle.vc_occam.specs.Values.{value_of};
 ghost use lib.Signed.{mag};
@@ -17,6 +18,7 @@ use crate::expression::Expr;
 use crate::frame::{Frame, part_ended};
 use crate::guarded::GuardedInput;
 use crate::kind::Kind;
+use crate::looking::part_with;
 use crate::phase::Phase;
 use crate::variables::{put, set_variable};
 use sqlite_items::Items;
@@ -39,13 +41,14 @@ pub(crate) fn begin_alone(
 ) -> Phase
     requires alone { has_parts kind.now ≡ false }
     requires uncounted { is_counted kind.now ≡ false }
-    requires assigned { deed ≡ Quiet → assigned ≡ assigned_at (Fresh (plan_at kind.now own [])) (store vars.old.items) }
+    requires assigned { deed ≡ Quiet → assigned ≡ assigned_at site (Fresh (plan_at kind.now own [])) (store vars.old.items) }
     requires variables { HasVariables (plan_at kind.now own []) (length vars.old.items) }
     ensures did { (vs : List View) (at : ℕ) → Able (Fresh (plan_at kind.now own vs)) (store vars.old.items) site deed → Did (Fresh (plan_at kind.now own vs)) (store vars.old.items) site deed (rest_at kind.now result own vs at) (store vars.new.items) }
     ensures length { length vars.new.items ≡ length vars.old.items }
 {
     match kind {
         Kind::Skip => Phase::Ended,
+        Kind::Par => Phase::Ended,
         Kind::Stopch { .. } => Phase::Ended,
         Kind::Set { var, .. } => match assigned {
             Some(datum) => {
@@ -395,8 +398,9 @@ impl Frame {
         vars: &mut Vec<Datum>,
     )
         requires able { Able (view self.old).1 (store vars.old.items) site deed }
-        requires assigned { deed ≡ Quiet → assigned ≡ assigned_at (view self.old).1 (store vars.old.items) }
+        requires assigned { deed ≡ Quiet → assigned ≡ assigned_at site (view self.old).1 (store vars.old.items) }
         requires variables { HasVariables (view self.old).0 (length vars.old.items) }
+        requires in_preorder { InPreorder (view self.old).0 }
         ensures did { Did (view self.old).1 (store vars.old.items) site deed (view self.new).1 (store vars.new.items) }
         ensures plan { (view self.new).0 ≡ (view self.old).0 }
         ensures length { length vars.new.items ≡ length vars.old.items }
@@ -431,8 +435,9 @@ fn go_on(
     vars: &mut Vec<Datum>,
 ) -> Next
     requires able { Able (rest_at kind.now phase own (views parts.old.items) at) (store vars.old.items) site deed }
-    requires assigned { deed ≡ Quiet → assigned ≡ assigned_at (rest_at kind.now phase own (views parts.old.items) at) (store vars.old.items) }
+    requires assigned { deed ≡ Quiet → assigned ≡ assigned_at site (rest_at kind.now phase own (views parts.old.items) at) (store vars.old.items) }
     requires variables { HasVariables (plan_at kind.now own (views parts.old.items)) (length vars.old.items) }
+    requires in_preorder { InPreorder (plan_at kind.now own (views parts.old.items)) }
     ensures did { Did (rest_at kind.now phase own (views parts.old.items) at) (store vars.old.items) site deed (rest_at kind.now result.phase own (views parts.new.items) result.at) (store vars.new.items) }
     ensures plans { plans (views parts.new.items) ≡ plans (views parts.old.items) }
     ensures length { length vars.new.items ≡ length vars.old.items }
@@ -464,6 +469,10 @@ fn go_on(
             let phase = go_turn(own, kind, index, last, parts, site, deed, assigned, vars);
             Next { phase, at }
         }
+        Phase::Together => {
+            let phase = go_together(own, kind, parts, site, deed, assigned, vars);
+            Next { phase, at }
+        }
         Phase::Chosen => {
             let phase = end_choice(own, kind, at, parts, deed, vars);
             Next { phase, at }
@@ -487,8 +496,9 @@ fn go_turn(
     vars: &mut Vec<Datum>,
 ) -> Phase
     requires able { Able (turning kind.now (views parts.old.items) index last) (store vars.old.items) site deed }
-    requires assigned { deed ≡ Quiet → assigned ≡ assigned_at (turning kind.now (views parts.old.items) index last) (store vars.old.items) }
+    requires assigned { deed ≡ Quiet → assigned ≡ assigned_at site (turning kind.now (views parts.old.items) index last) (store vars.old.items) }
     requires variables { HasVariables (plan_at kind.now own (views parts.old.items)) (length vars.old.items) }
+    requires in_preorder { InPreorder (plan_at kind.now own (views parts.old.items)) }
     ensures did { (at : ℕ) → Did (turning kind.now (views parts.old.items) index last) (store vars.old.items) site deed (rest_at kind.now result own (views parts.new.items) at) (store vars.new.items) }
     ensures plans { plans (views parts.new.items) ≡ plans (views parts.old.items) }
     ensures length { length vars.new.items ≡ length vars.old.items }
@@ -497,6 +507,34 @@ fn go_turn(
         Kind::Count { var, .. } if !parts.is_empty() => {
             go_within(0, parts, site, deed, assigned, vars);
             after_turn(*var, index, last, parts, vars)
+        }
+        _ => Phase::Stuck,
+    }
+}
+
+/// What a site of a PAR does: the part that has it does it.
+#[cycle(go)]
+fn go_together(
+    own: u16,
+    kind: &Kind,
+    parts: &mut Vec<Frame>,
+    site: u16,
+    deed: Deed,
+    assigned: Option<Datum>,
+    vars: &mut Vec<Datum>,
+) -> Phase
+    requires able { Able (together kind.now (views parts.old.items)) (store vars.old.items) site deed }
+    requires assigned { deed ≡ Quiet → assigned ≡ assigned_at site (together kind.now (views parts.old.items)) (store vars.old.items) }
+    requires variables { HasVariables (plan_at kind.now own (views parts.old.items)) (length vars.old.items) }
+    requires in_preorder { InPreorder (plan_at kind.now own (views parts.old.items)) }
+    ensures did { (at : ℕ) → Did (together kind.now (views parts.old.items)) (store vars.old.items) site deed (rest_at kind.now result own (views parts.new.items) at) (store vars.new.items) }
+    ensures plans { plans (views parts.new.items) ≡ plans (views parts.old.items) }
+    ensures length { length vars.new.items ≡ length vars.old.items }
+{
+    match kind {
+        Kind::Par => {
+            go_within(part_with(parts, site), parts, site, deed, assigned, vars);
+            Phase::Together
         }
         _ => Phase::Stuck,
     }
@@ -513,10 +551,12 @@ fn go_within(
     vars: &mut Vec<Datum>,
 )
     requires able { Able (part_rest (slice_get (views parts.old.items) at)) (store vars.old.items) site deed }
-    requires assigned { deed ≡ Quiet → assigned ≡ part_assigned (slice_get (views parts.old.items) at) (store vars.old.items) }
+    requires assigned { deed ≡ Quiet → assigned ≡ part_assigned site (slice_get (views parts.old.items) at) (store vars.old.items) }
     requires variables { PartHasVariables (slice_get (views parts.old.items) at) (length vars.old.items) }
+    requires in_preorder { PartInPreorder (slice_get (views parts.old.items) at) }
     ensures did { Did (part_rest (slice_get (views parts.old.items) at)) (store vars.old.items) site deed (part_rest (slice_get (views parts.new.items) at)) (store vars.new.items) }
     ensures plans { plans (views parts.new.items) ≡ plans (views parts.old.items) }
+    ensures others { ChangedAt at (views parts.old.items) (views parts.new.items) }
     ensures length { length vars.new.items ≡ length vars.old.items }
 {
     if at < parts.len() {

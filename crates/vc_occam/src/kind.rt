@@ -22,6 +22,8 @@ pub(crate) enum Kind {
     Stopch { chan: u16 },
     /// SEQ.
     Seq,
+    /// PAR.
+    Par,
     /// IF, with the conditions of its branches.
     If { conds: Items<Cond> },
     /// WHILE, with its condition.

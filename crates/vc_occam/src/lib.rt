@@ -14,10 +14,14 @@
 //! remains, is a trace of what remained before; no step loses lawful use; each listed move can be made; what waits after whatever a
 //! process does.
 //!
+//! [`check_use`] accepts exactly the processes that use channels and variables lawfully, and else tells the first offender. Of each
+//! PAR it lists what its parts use, puts that in order, and compares all uses of one thing with the first of them (`sharing.rt`).
+//!
 //! A process runs as a tree of frames (`frame.rt`), one for each process that is written, with how far it is and at which part;
-//! what it stands for is said in `specs/Frames`. A part begins, ends and begins again by a change of its frame, without memory.
-//! [`Running::new`] begins a process in which no PAR stands (`Process::runs_in_order`). The invariant of a [`Running`] is that the
-//! variables that its process changes are there.
+//! what it stands for is said in `specs/Frames`. A part begins, ends and begins again by a change of its frame, without memory. The
+//! parts of a PAR all go on, and since sites are in preorder the one that has a site is found by halving. The invariant of a
+//! [`Running`] is that the variables that its process changes are there, that its sites are in preorder, and that parts side by
+//! side have no site in common and use channels and variables lawfully.
 #![tactic(auto)]
 
 mod answer;
@@ -34,23 +38,27 @@ mod frame;
 mod framing;
 mod going;
 mod guarded;
-mod indexes;
 mod kind;
 mod laws;
 mod limits;
 mod looking;
+mod meeting;
 mod moves;
 mod operator;
-mod outside;
 mod phase;
 mod process;
 mod process_limits;
 mod relation;
 mod running;
+mod sharing;
 #[cfg(test)]
 mod tests;
+mod usages;
 mod use_check;
 mod use_fault;
+#[cfg(test)]
+mod use_tests;
+mod used;
 mod uses;
 mod value;
 mod value_kind;

@@ -1,10 +1,11 @@
 //! What frames may begin with, wait for, output and assign.
-ghost use Rattle.std.specs.Prelude.{◌≡◌, ◌↔◌, ◌++◌, IfOk, IsTrue, List, OnOk, Option, false, map, slice_get};
+ghost use Rattle.std.specs.Prelude.{◌≡◌, ◌↔◌, ◌++◌, ◌∷◌, [], IfOk, IsTrue, List, OnOk, Option, false, map, slice_get};
 ghost use Rattle.std.specs.List.{Contains};
 ghost use Rattle.vc_occam.specs.First.{own};
 ghost use Rattle.vc_occam.specs.Gates.{gate};
-ghost use Rattle.vc_occam.specs.Frames.{View, assigned_at, awaiting, chosen_at, is_choice, listed, part_assigned, part_output, part_own, part_waits as waits_of_part, plan_at, view, views, waits_list};
+ghost use Rattle.vc_occam.specs.Frames.{PartInPreorder, View, assigned_at, awaiting, besides, chosen_at, first_waits, is_choice, listed, part_assigned, part_output, part_own, part_waits, place_with, plan_at, plans_of, view, views, waits_at};
 ghost use Rattle.vc_occam.specs.Remains.{Fresh};
+ghost use Rattle.vc_occam.specs.Sites.{InPreorder, PartsInPreorder};
 ghost use Rattle.vc_occam.specs.States.{carried, output_at, waiting};
 ghost use Rattle.vc_occam.specs.Terms.{store};
 
@@ -39,6 +40,12 @@ impl Frame {
                 }
                 Ok(())
             }
+            Phase::Together => {
+                if self.kind.is_par() {
+                    return push_parts(found, &self.parts, vars);
+                }
+                Ok(())
+            }
             Phase::Chosen => Ok(()),
             Phase::Ended => Ok(()),
             Phase::Stuck => Ok(()),
@@ -64,42 +71,48 @@ impl Frame {
                 }
                 false
             }
+            Phase::Together => {
+                if self.kind.is_par() {
+                    return parts_begin(made, &self.parts, vars);
+                }
+                false
+            }
             Phase::Chosen => false,
             Phase::Ended => false,
             Phase::Stuck => false,
         }
     }
 
-    /// What one of its sites waits for, if one waits.
+    /// The first of its sites that waits for this, if one does.
     #[cycle(waits)]
-    pub(crate) fn waits(&self) -> Option<Waits>
-        ensures { waiting (view self.now).1 ≡ waits_list result }
+    pub(crate) fn waits_on(&self, wanted: Waits) -> Option<u16>
+        ensures { result ≡ first_waits wanted (waiting (view self.now).1) }
     {
         match self.phase {
             Phase::Ready => None,
             Phase::Waiting => {
                 if self.kind.has_parts() {
-                    return part_waits(&self.parts, self.kind.place(self.at));
+                    return part_waits_on(&self.parts, self.kind.place(self.at), wanted);
                 }
                 match self.kind {
-                    Kind::Send { chan, .. } => Some(Waits::Output {
-                        site: self.site,
-                        chan,
-                    }),
-                    Kind::Receive { chan, .. } => Some(Waits::Input {
-                        site: self.site,
-                        chan,
-                    }),
+                    Kind::Send { chan, .. } => if_waits(self.site, Waits::Output { chan }, wanted),
+                    Kind::Receive { chan, .. } => if_waits(self.site, Waits::Input { chan }, wanted),
                     _ => None,
                 }
             }
             Phase::Turning { .. } => {
                 if self.kind.is_counted() {
-                    return part_waits(&self.parts, 0);
+                    return part_waits_on(&self.parts, 0, wanted);
                 }
                 None
             }
-            Phase::Chosen => chosen_waits(self.site, &self.kind, self.at),
+            Phase::Together => {
+                if self.kind.is_par() {
+                    return parts_wait_on(&self.parts, wanted);
+                }
+                None
+            }
+            Phase::Chosen => chosen_waits(self.site, &self.kind, self.at, wanted),
             Phase::Ended => None,
             Phase::Stuck => None,
         }
@@ -113,6 +126,7 @@ impl Frame {
         site: u16,
         vars: &[Datum],
     ) -> Result<Option<Items<u8>>, Memory>
+        requires { InPreorder (view self.now).0 }
         ensures { IfOk result (λ sent. sent ≡ carried (output_at site (view self.now).1 (store vars.now))) }
     {
         match self.phase {
@@ -129,28 +143,46 @@ impl Frame {
                 }
                 Ok(None)
             }
+            Phase::Together => {
+                if self.kind.is_par() {
+                    return part_message(alloc, &self.parts, part_with(&self.parts, site), site, vars);
+                }
+                Ok(None)
+            }
             Phase::Chosen => Ok(None),
             Phase::Ended => Ok(None),
             Phase::Stuck => Ok(None),
         }
     }
 
-    /// The value that an assignment is about to assign; None where it is a fault, or none begins.
+    /// The value that the assignment at a site is about to assign; None where it is a fault, or none begins there.
     #[cycle(assigned)]
-    pub(crate) fn assigned(&self, alloc: Global, vars: &[Datum]) -> Result<Option<Datum>, Memory>
-        ensures { IfOk result (λ value. value ≡ assigned_at (view self.now).1 (store vars.now)) }
+    pub(crate) fn assigned(
+        &self,
+        alloc: Global,
+        site: u16,
+        vars: &[Datum],
+    ) -> Result<Option<Datum>, Memory>
+        requires { InPreorder (view self.now).0 }
+        ensures { IfOk result (λ value. value ≡ assigned_at site (view self.now).1 (store vars.now)) }
     {
         match self.phase {
-            Phase::Ready => ready_assigned(alloc, self.site, &self.kind, &self.parts, vars),
+            Phase::Ready => ready_assigned(alloc, self.site, &self.kind, &self.parts, site, vars),
             Phase::Waiting => {
                 if self.kind.has_parts() {
-                    return part_assigned_in(alloc, &self.parts, self.kind.place(self.at), vars);
+                    return part_assigned_in(alloc, &self.parts, self.kind.place(self.at), site, vars);
                 }
                 Ok(None)
             }
             Phase::Turning { .. } => {
                 if self.kind.is_counted() {
-                    return part_assigned_in(alloc, &self.parts, 0, vars);
+                    return part_assigned_in(alloc, &self.parts, 0, site, vars);
+                }
+                Ok(None)
+            }
+            Phase::Together => {
+                if self.kind.is_par() {
+                    return part_assigned_in(alloc, &self.parts, part_with(&self.parts, site), site, vars);
                 }
                 Ok(None)
             }
@@ -161,25 +193,32 @@ impl Frame {
     }
 }
 
-/// The input of an ALT that took the guard at a place, and waits for its message.
-fn chosen_waits(site: u16, kind: &Kind, at: usize) -> Option<Waits>
-    ensures { (vs : List View) → waiting (awaiting kind.now site vs at) ≡ waits_list result }
+/// The site, if what it waits for is what is wanted.
+fn if_waits(site: u16, waits: Waits, wanted: Waits) -> Option<u16>
+    ensures { result ≡ first_waits wanted (waits_at waits site ∷ []) }
+{
+    if waits == wanted {
+        return Some(site);
+    }
+    None
+}
+
+/// The site of an ALT that took the guard at a place, if the message that it waits for is wanted.
+fn chosen_waits(site: u16, kind: &Kind, at: usize, wanted: Waits) -> Option<u16>
+    ensures { (vs : List View) → result ≡ first_waits wanted (waiting (awaiting kind.now site vs at)) }
 {
     match kind {
-        Kind::Alt { guards } => input_at(site, guards.inputs.as_slice(), at),
+        Kind::Alt { guards } => input_waits(site, guards.inputs.as_slice(), at, wanted),
         _ => None,
     }
 }
 
-/// The guarded input at a place, which waits for its message, if there is one.
-fn input_at(site: u16, inputs: &[GuardedInput], at: usize) -> Option<Waits>
-    ensures { (v : Option View) → waiting (chosen_at site (slice_get (map gate inputs.now) at) v) ≡ waits_list result }
+/// The site of the guarded input at a place, if its message is wanted.
+fn input_waits(site: u16, inputs: &[GuardedInput], at: usize, wanted: Waits) -> Option<u16>
+    ensures { (v : Option View) → result ≡ first_waits wanted (waiting (chosen_at site (slice_get (map gate inputs.now) at) v)) }
 {
     if at < inputs.len() {
-        return Some(Waits::Input {
-            site,
-            chan: inputs[at].chan,
-        });
+        return if_waits(site, Waits::Input { chan: inputs[at].chan }, wanted);
     }
     None
 }
@@ -199,6 +238,17 @@ fn push_part(
     Ok(())
 }
 
+/// Adds the moves that parts side by side can begin with.
+#[cycle(moves)]
+fn push_parts(found: &mut Items<Move>, parts: &Vec<Frame>, vars: &[Datum]) -> Result<(), Memory>
+    ensures { OnOk result (found.new ≡ found.old ++ own (besides (views parts.now.items)) (store vars.now)) }
+{
+    for place in 0..parts.len() {
+        parts[place].push_moves(found, vars)?;
+    }
+    Ok(())
+}
+
 #[cycle(begins)]
 fn part_begins(made: &Move, parts: &Vec<Frame>, at: usize, vars: &[Datum]) -> bool
     ensures { IsTrue result ↔ Contains (part_own (slice_get (views parts.now.items) at) (store vars.now)) made.now }
@@ -209,14 +259,49 @@ fn part_begins(made: &Move, parts: &Vec<Frame>, at: usize, vars: &[Datum]) -> bo
     false
 }
 
+/// Whether the move is one that parts side by side can begin with.
+#[cycle(begins)]
+fn parts_begin(made: &Move, parts: &Vec<Frame>, vars: &[Datum]) -> bool
+    ensures { IsTrue result ↔ Contains (own (besides (views parts.now.items)) (store vars.now)) made.now }
+{
+    for place in 0..parts.len() {
+        if parts[place].begins_with(made, vars) {
+            return true;
+        }
+    }
+    false
+}
+
 #[cycle(waits)]
-fn part_waits(parts: &Vec<Frame>, at: usize) -> Option<Waits>
-    ensures { waits_of_part (slice_get (views parts.now.items) at) ≡ waits_list result }
+fn part_waits_on(parts: &Vec<Frame>, at: usize, wanted: Waits) -> Option<u16>
+    ensures { result ≡ first_waits wanted (part_waits (slice_get (views parts.now.items) at)) }
 {
     if at < parts.len() {
-        return parts[at].waits();
+        return parts[at].waits_on(wanted);
     }
     None
+}
+
+/// The first site of parts side by side that waits for this, if one does.
+#[cycle(waits)]
+fn parts_wait_on(parts: &Vec<Frame>, wanted: Waits) -> Option<u16>
+    ensures { result ≡ first_waits wanted (waiting (besides (views parts.now.items))) }
+{
+    for place in 0..parts.len() {
+        if let Some(site) = parts[place].waits_on(wanted) {
+            return Some(site);
+        }
+    }
+    None
+}
+
+/// The place of the part that has a site: the last that begins at this site or before it, by halving.
+pub(crate) fn part_with(parts: &Vec<Frame>, site: u16) -> usize
+    requires { PartsInPreorder (plans_of (views parts.now.items)) }
+    ensures { result ≡ place_with site (views parts.now.items) }
+{
+    let later = parts.partition_point(|part| part.site <= site);
+    later.saturating_sub(1)
 }
 
 #[cycle(message)]
@@ -227,6 +312,7 @@ fn part_message(
     site: u16,
     vars: &[Datum],
 ) -> Result<Option<Items<u8>>, Memory>
+    requires { PartInPreorder (slice_get (views parts.now.items) at) }
     ensures { IfOk result (λ sent. sent ≡ carried (part_output site (slice_get (views parts.now.items) at) (store vars.now))) }
 {
     if at < parts.len() {
@@ -240,12 +326,14 @@ fn part_assigned_in(
     alloc: Global,
     parts: &Vec<Frame>,
     at: usize,
+    site: u16,
     vars: &[Datum],
 ) -> Result<Option<Datum>, Memory>
-    ensures { IfOk result (λ value. value ≡ part_assigned (slice_get (views parts.now.items) at) (store vars.now)) }
+    requires { PartInPreorder (slice_get (views parts.now.items) at) }
+    ensures { IfOk result (λ value. value ≡ part_assigned site (slice_get (views parts.now.items) at) (store vars.now)) }
 {
     if at < parts.len() {
-        return parts[at].assigned(alloc, vars);
+        return parts[at].assigned(alloc, site, vars);
     }
     Ok(None)
 }
@@ -307,6 +395,7 @@ fn ready_move(site: u16, kind: &Kind, parts: &Vec<Frame>, vars: &[Datum]) -> Opt
         Kind::Receive { chan, .. } => Some(Move::Want { site, chan: *chan }),
         Kind::Stopch { chan } => Some(Move::Stopch { site, chan: *chan }),
         Kind::Seq if !parts.is_empty() => None,
+        Kind::Par if !parts.is_empty() => None,
         Kind::While { .. } if parts.is_empty() => None,
         Kind::Count { .. } if parts.is_empty() => None,
         _ => Some(Move::Quiet { site }),
@@ -342,10 +431,14 @@ fn ready_assigned(
     own: u16,
     kind: &Kind,
     parts: &Vec<Frame>,
+    site: u16,
     vars: &[Datum],
 ) -> Result<Option<Datum>, Memory>
-    ensures { IfOk result (λ value. value ≡ assigned_at (Fresh (plan_at kind.now own (views parts.now.items))) (store vars.now)) }
+    ensures { IfOk result (λ value. value ≡ assigned_at site (Fresh (plan_at kind.now own (views parts.now.items))) (store vars.now)) }
 {
+    if site != own {
+        return Ok(None);
+    }
     match kind {
         Kind::Set { value, .. } => value.datum(alloc, vars),
         _ => Ok(None),

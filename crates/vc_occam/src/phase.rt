@@ -9,6 +9,8 @@ pub(crate) enum Phase {
     Waiting,
     /// A turn of a counted SEQ goes on, with this index and the last one.
     Turning { index: i64, last: i64 },
+    /// The parts of a PAR go on, side by side.
+    Together,
     /// An ALT took the guard at its place, whose message hasn't come.
     Chosen,
     /// Nothing remains.

@@ -2,7 +2,7 @@
 ghost use Rattle.std.specs.Prelude.{◌≡◌, IfOk};
 ghost use Rattle.vc_occam.specs.ChannelUses.{channel_uses as uses_of};
 ghost use Rattle.vc_occam.specs.Numbering.{written};
-ghost use Rattle.vc_occam.specs.ProcessLimits.{depth_within as is_depth_within, exps_within, in_length, names_fit, in_order};
+ghost use Rattle.vc_occam.specs.ProcessLimits.{depth_within as is_depth_within, exps_within, in_length, names_fit};
 
 use crate::asked::Asked;
 use crate::channel_use::ChannelUse;
@@ -15,13 +15,6 @@ use std::alloc::Global;
 use vc_packets::Memory;
 
 impl Process {
-    /// Whether no PAR stands in it, so that one thing happens after the other.
-    pub fn runs_in_order(&self) -> bool
-        ensures { result ≡ in_order (written self.now) }
-    {
-        Asked::InOrder.everywhere(self, &[])
-    }
-
     /// Whether it has at most this depth; a process without parts has depth 1.
     pub fn is_within(&self, depth: u32) -> bool
         ensures { result ≡ is_depth_within (written self.now) depth }

@@ -1,15 +1,21 @@
 //! Running processes.
 ghost use Rattle.std.specs.Prelude.{◌≡◌, length};
 ghost use Rattle.vc_occam.specs.Frames.{HasVariables, view};
-ghost use Rattle.vc_occam.specs.Moving.{deed_for as deed_of, deed_on as going_on, site_of as its_site};
+ghost use Rattle.vc_occam.specs.InUse.{UsesLawfully};
+ghost use Rattle.vc_occam.specs.First.{own};
+ghost use Rattle.vc_occam.specs.Moving.{CanBegin, HasMet, at, deed_for as deed_of, deed_on as going_on, site_of as its_site};
+ghost use Rattle.vc_occam.specs.OneProof.{InPreorder-prop, OwnSites-prop, UsesLawfully-prop};
+ghost use Rattle.vc_occam.specs.Sites.{InPreorder, OwnSites};
+ghost use Rattle.vc_occam.specs.States.{came, carried, output_at};
+ghost use Rattle.vc_occam.specs.Terms.{store};
 
 use crate::answer::Answer;
 use crate::datum::Datum;
 use crate::deed::Deed;
 use crate::frame::Frame;
 use crate::framing::begin_frame;
+use crate::meeting::{is_outside, joined, partner};
 use crate::moves::Move;
-use crate::outside::{is_outside, outside};
 use crate::process::Process;
 use crate::value_kind::ValueKind;
 use crate::variables::empty_variables;
@@ -26,6 +32,9 @@ pub struct Running {
     vars: Vec<Datum>,
     inside: Items<u16>,
     ghost has_variables: { HasVariables (view frame).0 (length vars.items) },
+    ghost in_preorder: { InPreorder (view frame).0 } by { InPreorder-prop (view frame).0 },
+    ghost own_sites: { OwnSites (view frame).1 } by { OwnSites-prop (view frame).1 },
+    ghost uses_lawfully: { UsesLawfully (view frame).1 } by { UsesLawfully-prop (view frame).1 },
 }
 
 /// What the move's site does, where the channel gave this answer.
@@ -73,24 +82,49 @@ fn site_of(made: &Move) -> u16
     }
 }
 
+/// An output meets an input or guard inside the node: it begins, its message is taken, and it is finished.
+fn meet(
+    frame: &mut Frame,
+    vars: &mut Vec<Datum>,
+    sender: u16,
+    chan: u16,
+    taken: &Move,
+    answer: Answer,
+)
+    requires meets { CanBegin (own (view frame.old).1 (store vars.old.items)) sender chan taken.now }
+    requires fits { came answer ≡ carried (output_at sender (view frame.old).1 (store vars.old.items)) }
+    requires variables { HasVariables (view frame.old).0 (length vars.old.items) }
+    requires in_preorder { InPreorder (view frame.old).0 }
+    requires own_sites { OwnSites (view frame.old).1 }
+    ensures met { HasMet (at (view frame.old).1 (store vars.old.items)) sender chan taken.now answer (at (view frame.new).1 (store vars.new.items)) }
+    ensures plan { (view frame.new).0 ≡ (view frame.old).0 }
+    ensures length { length vars.new.items ≡ length vars.old.items }
+{
+    frame.go(sender, Deed::Offer { chan }, None, vars);
+    frame.go(site_of(taken), deed_for(taken, answer), None, vars);
+    frame.go(sender, Deed::Finish, None, vars);
+}
+
 impl Running {
     ghost use Rattle.std.specs.Prelude.{◌≡◌, ◌≤◌, ◌↔◌, IsTrue, IfOk, OnOk, OnErr, MatchOption, Some, None, true, ℕ};
     ghost use Rattle.std.specs.List.{Contains};
+    ghost use Rattle.vc_occam.specs.First.{own};
     ghost use Rattle.vc_occam.specs.Frames.{assigned_at};
+    ghost use Rattle.vc_occam.specs.Moving.{CanMeet, IsAlone};
     ghost use Rattle.vc_occam.specs.declared.answer.Answer.{Answer};
     ghost use Rattle.vc_occam.specs.declared.deed.Deed.TheVariants.{Quiet};
     ghost use Rattle.vc_occam.specs.Terms.{store};
     ghost use Rattle.vc_occam.specs.InOrder.{number};
     ghost use Rattle.vc_occam.specs.Numbering.{written};
     ghost use Rattle.vc_occam.specs.Opening.{Fits, opening};
-    ghost use Rattle.vc_occam.specs.ProcessLimits.{in_order};
+    ghost use Rattle.vc_occam.specs.Lawful.{Lawfully};
     ghost use Rattle.vc_occam.specs.Remains.{Done};
     ghost use Rattle.vc_occam.specs.Runnings.{inner_channels, moves, state};
     ghost use Rattle.vc_occam.specs.Usage.{among};
     ghost use Rattle.vc_occam.specs.States.{Acts, FitsMove, IsAwaited, IsQuiet, Resumes, doing, sent_by, waiting, output, input};
 
-    /// A process in which no PAR stands, about to begin, its variables being 0 or without bytes. `inside` are the channels inside
-    /// its node. At most 65,536 processes are written in it, since a site's number has 16 bits.
+    /// A process about to begin, its variables being 0 or without bytes. `inside` are the channels inside its node. At most 65,536
+    /// processes are written in it, since a site's number has 16 bits.
     #[tactic(auto, unfolding(crate::specs::Runnings::state, crate::specs::Runnings::inner_channels))]
     pub fn new(
         alloc: Global,
@@ -98,7 +132,7 @@ impl Running {
         kinds: &[ValueKind],
         inside: &[u16],
     ) -> Result<Running, Memory>
-        requires in_order { in_order (written process.now) ≡ true }
+        requires lawful { Lawfully (written process.now) }
         requires sites { (number process.now).sites ≤ 65536 }
         requires fits { Fits kinds.now process.now }
         ensures state { IfOk result (λ r. state r ≡ opening kinds.now process.now) }
@@ -122,7 +156,7 @@ impl Running {
     {
         let mut own = Items::new(self.alloc);
         self.frame.push_moves(&mut own, &self.vars)?;
-        outside(self.alloc, own.as_slice(), self.inside.as_slice())
+        joined(self.alloc, own.as_slice(), self.inside.as_slice())
     }
 
     /// Whether the move is one that it can begin with.
@@ -130,7 +164,28 @@ impl Running {
     pub fn lists(&self, made: &Move) -> bool
         ensures { IsTrue result ↔ Contains (moves self.now) made.now }
     {
-        is_outside(made, self.inside.as_slice()) && self.frame.begins_with(made, &self.vars)
+        match made {
+            Move::Inner {
+                sender,
+                receiver,
+                guard,
+                chan,
+            } => self.meet_now(*sender, *receiver, *guard, *chan),
+            _ => is_outside(made, self.inside.as_slice())
+                && self.frame.begins_with(made, &self.vars),
+        }
+    }
+
+    /// Whether an output and an input or guard can begin that meet on this channel inside the node.
+    #[tactic(auto, unfolding(crate::specs::Runnings::state, crate::specs::Runnings::inner_channels))]
+    fn meet_now(&self, sender: u16, receiver: u16, guard: Option<u16>, chan: u16) -> bool
+        ensures { IsTrue result ↔ CanMeet (inner_channels self.now) (own (state self.now).rest (state self.now).store) sender receiver guard chan }
+    {
+        let offer = Move::Offer { site: sender, chan };
+        let taken = partner(receiver, guard, chan);
+        self.inside.as_slice().contains(&chan)
+            && self.frame.begins_with(&offer, &self.vars)
+            && self.frame.begins_with(&taken, &self.vars)
     }
 
     /// The message that the move's output sends; None where the move has no output.
@@ -146,11 +201,43 @@ impl Running {
         }
     }
 
-    /// Makes the move, to which its channel gave this answer. Only a move without a communication can be without memory, and
-    /// then nothing has changed.
+    /// Makes the move, to which its channel gave this answer; where an output meets an input, that is the output's message, and the
+    /// output begins, the input has it, and the output is finished. Only a move without a communication can be without memory,
+    /// and then nothing has changed.
     #[tactic(auto, unfolding(crate::specs::Runnings::state, crate::specs::Runnings::inner_channels))]
     pub fn act(&mut self, made: &Move, answer: Answer) -> Result<(), Memory>
         requires listed { Contains (moves self.old) made.now }
+        requires fits { FitsMove made.now (sent_by (state self.old) made.now) answer }
+        ensures made { OnOk result (Acts (state self.old) (doing made.now (sent_by (state self.old) made.now) answer) (state self.new)) }
+        ensures unchanged { OnErr result ((self.new ≡ self.old) × IsQuiet made.now) }
+        ensures inside { inner_channels self.new ≡ inner_channels self.old }
+    {
+        if let Move::Inner {
+            sender,
+            receiver,
+            guard,
+            chan,
+        } = made
+        {
+            let taken = partner(*receiver, *guard, *chan);
+            meet(
+                &mut self.frame,
+                &mut self.vars,
+                *sender,
+                *chan,
+                &taken,
+                answer,
+            );
+            return Ok(());
+        }
+        self.act_alone(made, answer)
+    }
+
+    /// Makes a move that is no meeting.
+    #[tactic(auto, unfolding(crate::specs::Runnings::state, crate::specs::Runnings::inner_channels))]
+    fn act_alone(&mut self, made: &Move, answer: Answer) -> Result<(), Memory>
+        requires listed { Contains (moves self.old) made.now }
+        requires alone { IsAlone made.now }
         requires fits { FitsMove made.now (sent_by (state self.old) made.now) answer }
         ensures made { OnOk result (Acts (state self.old) (doing made.now (sent_by (state self.old) made.now) answer) (state self.new)) }
         ensures unchanged { OnErr result ((self.new ≡ self.old) × IsQuiet made.now) }
@@ -164,11 +251,11 @@ impl Running {
 
     /// The value that the move assigns; None where it assigns none, or its value is a fault.
     fn assigned_by(&self, made: &Move) -> Result<Option<Datum>, Memory>
-        ensures value { IfOk result (λ value. (answer : Answer) → deed_of made.now answer ≡ Quiet → value ≡ assigned_at (view self.now.frame).1 (store self.now.vars.items)) }
+        ensures value { IfOk result (λ value. (answer : Answer) → deed_of made.now answer ≡ Quiet → value ≡ assigned_at (its_site made.now) (view self.now.frame).1 (store self.now.vars.items)) }
         ensures quiet { OnErr result (IsQuiet made.now) }
     {
         match made {
-            Move::Quiet { .. } => self.frame.assigned(self.alloc, &self.vars),
+            Move::Quiet { site } => self.frame.assigned(self.alloc, *site, &self.vars),
             _ => Ok(None),
         }
     }
@@ -188,10 +275,7 @@ impl Running {
     pub fn output_on(&self, chan: u16) -> Option<u16>
         ensures { MatchOption result ((i : ℕ) → Contains (waiting (state self.now).rest) (output i chan) → ⊥) (λ i. Contains (waiting (state self.now).rest) (output i chan)) }
     {
-        match self.frame.waits() {
-            Some(Waits::Output { site, chan: on }) if on == chan => Some(site),
-            _ => None,
-        }
+        self.frame.waits_on(Waits::Output { chan })
     }
 
     /// The site whose input on the channel waits for a message, if there is one.
@@ -199,10 +283,7 @@ impl Running {
     pub fn input_on(&self, chan: u16) -> Option<u16>
         ensures { MatchOption result ((i : ℕ) → Contains (waiting (state self.now).rest) (input i chan) → ⊥) (λ i. Contains (waiting (state self.now).rest) (input i chan)) }
     {
-        match self.frame.waits() {
-            Some(Waits::Input { site, chan: on }) if on == chan => Some(site),
-            _ => None,
-        }
+        self.frame.waits_on(Waits::Input { chan })
     }
 
     /// Whether nothing remains.

@@ -233,10 +233,7 @@ fn a_body_may_not_change_its_index(rt: HostRuntime) -> Result<(), Fail> {
         count: Expr::Num(3),
         body: Boxed::new(rt.alloc(), Process::Receive { chan: 0, var: 0 })?,
     };
-    if !process.runs_in_order() {
-        return Err(Fail::from("a process without PAR"));
-    }
-    assert_eq!(rt; check_use(&process), Err(UseFault::Var(0)));
+    assert_eq!(rt; check_use(rt.alloc(), &process), Err(UseFault::Var(0)));
     Ok(())
 }
 

@@ -1,4 +1,8 @@
 //! Why processes may not run side by side.
+ghost use Rattle.std.specs.Prelude.{◌≡◌};
+ghost use Rattle.vc_occam.specs.declared.use_fault.UseFault.TheVariants as fault;
+
+use vc_packets::Memory;
 
 /// What `check_use` found: the first PAR or replicated SEQ, by site, with unlawful use.
 #[derive(Clone, Copy, Debug, PartialEq, Eq, Drop)]
@@ -9,4 +13,12 @@ pub enum UseFault {
     Var(u8),
     /// There was no memory for the check.
     Memory,
+}
+
+impl From<Memory> for UseFault {
+    ghost from_gives = { λ _ why. why ≡ fault.Memory };
+
+    fn from(_error: Memory) -> UseFault {
+        UseFault::Memory
+    }
 }

@@ -3,8 +3,6 @@ use Rattle.std.proofs.Common.{◌≡◌, ℕ, zero, suc, ◌<◌, ◌≤◌, Boo
 use Rattle.std.proofs.lemmas.Bool.Decides.{nat_tests}
 use Rattle.std.specs.Prelude.{slice_get}
 use Rattle.std.specs.List.{list_all}
-use Rattle.vc_occam.specs.Numbering.{written}
-use Rattle.vc_occam.specs.ProcessLimits.{depth_within, in_order, exps_within}
 use Rattle.vc_plan.specs.declared.plan.Plan.{Plan}
 use Rattle.vc_plan.specs.declared.channel.Channel.{Channel}
 use Rattle.vc_plan.specs.declared.node_plan.NodePlan.{NodePlan}
@@ -105,12 +103,6 @@ few-vlinks p h = let t = (keeps p h).vlinks in grind (arith, nat_tests)
 
 pub few-channels : (p : Plan) → limit_broken p ≡ None → length p.channels < 65536
 few-channels p h = let t = (keeps p h).channels in grind (arith, nat_tests)
-
--- a process that is no deeper than it may be runs in order
-pub in-order : (n : NodePlan) → depth_ok n ≡ true → in_order (written n.process) ≡ true
-in-order n h =
-    let shallow = both (depth_within (written n.process) 32 && in_order (written n.process)) (exps_within (written n.process) 8) h in
-    (both (depth_within (written n.process) 32) (in_order (written n.process)) shallow.0).1
 
 -- the names of each process fit
 pub names-fit : (p : Plan) → Keeps p → list_all (process_names p) p.nodes ≡ true

@@ -7,7 +7,7 @@ use Rattle.vc_labels.specs.declared.action.Action.TheVariants.{Out, Portal}
 use Rattle.vc_occam.specs.declared.value_kind.ValueKind.{ValueKind}
 use Rattle.vc_occam.specs.InOrder.{number}
 use Rattle.vc_occam.specs.Numbering.{written}
-use Rattle.vc_occam.specs.ProcessLimits.{depth_within, in_order, exps_within, in_length, names_fit}
+use Rattle.vc_occam.specs.ProcessLimits.{depth_within, exps_within, in_length, names_fit}
 use Rattle.vc_plan.specs.declared.plan.Plan.{Plan}
 use Rattle.vc_plan.specs.declared.node_plan.NodePlan.{NodePlan}
 use Rattle.vc_plan.specs.declared.node_plan.Variable.{Variable}
@@ -83,7 +83,7 @@ random_ok s = list_all range_ok s.random && links_differ s.random
 
 -- a process nests at most 32 deep, and an expression 8; today a PAR is too deep
 abbrev pub depth_ok : NodePlan → Bool
-depth_ok n = depth_within (written n.process) 32 && in_order (written n.process) && exps_within (written n.process) 8
+depth_ok n = depth_within (written n.process) 32 && exps_within (written n.process) 8
 
 -- how many processes are written in a node
 abbrev pub parts_ok : NodePlan → Bool

@@ -173,9 +173,7 @@ fn random_is_ok(switches: &[SwitchPlan]) -> bool
 fn depth_of_node_is_ok(node: &NodePlan) -> bool
     ensures { result ≡ has_depth node.now }
 {
-    node.process.is_within(32)
-        && node.process.runs_in_order()
-        && node.process.expressions_are_within(8)
+    node.process.is_within(32) && node.process.expressions_are_within(8)
 }
 
 fn depth_is_ok(nodes: &[NodePlan]) -> bool

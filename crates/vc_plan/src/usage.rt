@@ -1,12 +1,11 @@
 //! Whether processes use their channels and variables lawfully.
 ghost use Rattle.std.specs.Prelude.{◌≡◌, ◌<◌, IfNone, IfOk, IfSome, Some, length, slice_get, true};
 ghost use Rattle.std.specs.List.{list_all};
-ghost use Rattle.vc_occam.specs.Indexes.{IsUseFault};
 ghost use Rattle.vc_occam.specs.Lawful.{Lawfully};
 ghost use Rattle.vc_occam.specs.Numbering.{written};
-ghost use Rattle.vc_occam.specs.ProcessLimits.{in_order};
+ghost use Rattle.vc_occam.specs.UseFaults.{IsUseFault};
 ghost use Rattle.vc_plan.specs.Check.{AreLawful, IsFirstUsage, IsUsage, channel_name, variable_name};
-ghost use Rattle.vc_plan.specs.Limits.{depth_ok, process_names};
+ghost use Rattle.vc_plan.specs.Limits.{process_names};
 
 use crate::channel::Channel;
 use crate::name::Name;
@@ -53,12 +52,11 @@ fn name_of_fault(
 
 /// The name of the first channel or variable that a node's process uses unlawfully.
 fn usage_of(alloc: Global, plan: &Plan, node: &NodePlan) -> Result<Option<Name>, Memory>
-    requires in_order { in_order (written node.now.process) ≡ true }
-    requires names { process_names plan.now node.now ≡ true }
+    requires { process_names plan.now node.now ≡ true }
     ensures lawful { IfOk result (λ found. IfNone found (Lawfully (written node.now.process))) }
     ensures usage { IfOk result (λ found. IfSome found (λ name. IsUsage plan.now node.now name)) }
 {
-    match check_use(&node.process) {
+    match check_use(alloc, &node.process) {
         Ok(()) => Ok(None),
         Err(fault) => Ok(Some(name_of_fault(alloc, plan, node, fault)?)),
     }
@@ -67,7 +65,6 @@ fn usage_of(alloc: Global, plan: &Plan, node: &NodePlan) -> Result<Option<Name>,
 /// The first node whose process uses a channel or a variable unlawfully, and the name of the first of these.
 pub(crate) fn find_usage(alloc: Global, plan: &Plan) -> Result<Option<(u8, Name)>, Memory>
     requires few { length plan.now.nodes < 256 }
-    requires depth { list_all depth_ok plan.now.nodes ≡ true }
     requires names { list_all (process_names plan.now) plan.now.nodes ≡ true }
     ensures lawful { IfOk result (λ found. IfNone found (AreLawful plan.now)) }
     ensures first { IfOk result (λ found. IfSome found (λ usage. IsFirstUsage plan.now usage.0 usage.1)) }

@@ -1,53 +1,98 @@
-use Rattle.std.proofs.Common.{◌∙◌, ℕ, sym, ap}
+use Rattle.std.proofs.Common.{◌∙◌, ℕ, sym, subst, ap, rules}
 use Rattle.std.specs.Prelude.{slice_get}
-use Rattle.vc_occam.specs.declared.frame.Frame.TheViews.{out-Frame}
-use Rattle.vc_occam.specs.Frames.{behind, part_assigned, place_of, views, assigned_at}
+use Rattle.vc_occam.specs.declared.frame.Frame.TheViews.{the_lemmas, out-Frame}
+use Rattle.vc_occam.specs.Frames.{behind, part_assigned, place_of, View, views, assigned_at}
 use Rattle.vc_occam.specs.Remains.{Rest}
+use Rattle.vc_occam.specs.Sites.{InPreorder}
 use Rattle.vc_occam.specs.Terms.{store}
-use Rattle.vc_occam.proofs.Frames.{awaiting_assigned, is_awaiting, turning_assigned, turning_none, rest_ready, rest_going, rest_idle, rest_ended, rest_stuck, follow_assigned, idle_assigned, on_ok}
+use Rattle.vc_occam.proofs.Frames.{awaiting_assigned, is_awaiting, turning_assigned, turning_none, rest_apart, rest_together, view_out, rest_ready, rest_going, rest_idle, rest_ended, rest_stuck, follow_assigned, idle_assigned, on_ok}
+use Rattle.vc_occam.proofs.Inside.{frames_inside}
+use Rattle.vc_occam.proofs.Places.{found_assigned}
+use Rattle.vc_occam.proofs.Stepping.{body_preorder, par_preorder, parts_preorder, within_preorder}
 use Rattle.vc_occam.proofs.+assigned.Goals as goal
 
 pub frame::Frame::assigned-returns-in-Ready : goal.frame::Frame::assigned-returns-in-Ready
 frame::Frame::assigned-returns-in-Ready t c =
     let f = c.args.self.now in
-    let F = λ (r : Rest). assigned_at r (store c.args.vars.now) in
+    let F = λ (r : Rest). assigned_at c.args.site r (store c.args.vars.now) in
     on_ok c.ready_assigned.result _ _ (sym (ap F (rest_ready f c.in-Ready.is))) c.ready_assigned.ensures
 
 pub frame::Frame::assigned-returns-then-has_parts : goal.frame::Frame::assigned-returns-then-has_parts
 frame::Frame::assigned-returns-then-has_parts t c =
     let f = c.args.self.now in
-    let F = λ (r : Rest). assigned_at r (store c.args.vars.now) in
-    let o = out-Frame f in on_ok c.part_assigned_in.result _ _ (sym ((ap F (rest_going f c.in-Waiting.is (sym c.has_parts.ensures ∙ c.if-has_parts.true)) ∙ follow_assigned (slice_get (views o.parts.items) (place_of o.kind o.at)) (behind o.kind o.site (views o.parts.items) o.at) (store c.args.vars.now) ∙ ap (λ (k : ℕ). part_assigned (slice_get (views o.parts.items) k) (store c.args.vars.now)) (sym c.place.ensures)))) c.part_assigned_in.ensures
+    let F = λ (r : Rest). assigned_at c.args.site r (store c.args.vars.now) in
+    let o = out-Frame f in on_ok c.part_assigned_in.result _ _ (sym ((ap F (rest_going f c.in-Waiting.is (sym c.has_parts.ensures ∙ c.if-has_parts.true)) ∙ follow_assigned c.args.site (slice_get (views o.parts.items) (place_of o.kind o.at)) (behind o.kind o.site (views o.parts.items) o.at) (store c.args.vars.now) ∙ ap (λ (k : ℕ). part_assigned c.args.site (slice_get (views o.parts.items) k) (store c.args.vars.now)) (sym c.place.ensures)))) c.part_assigned_in.ensures
 
 pub frame::Frame::assigned-returns-else-has_parts : goal.frame::Frame::assigned-returns-else-has_parts
 frame::Frame::assigned-returns-else-has_parts t c =
     let f = c.args.self.now in
-    let F = λ (r : Rest). assigned_at r (store c.args.vars.now) in
-    sym (idle_assigned (store c.args.vars.now) (rest_idle f c.in-Waiting.is (sym c.has_parts.ensures ∙ c.if-has_parts.false)))
+    let F = λ (r : Rest). assigned_at c.args.site r (store c.args.vars.now) in
+    sym (idle_assigned c.args.site (store c.args.vars.now) (rest_idle f c.in-Waiting.is (sym c.has_parts.ensures ∙ c.if-has_parts.false)))
 
 pub frame::Frame::assigned-returns-in-Ended : goal.frame::Frame::assigned-returns-in-Ended
 frame::Frame::assigned-returns-in-Ended t c =
     let f = c.args.self.now in
-    let F = λ (r : Rest). assigned_at r (store c.args.vars.now) in
+    let F = λ (r : Rest). assigned_at c.args.site r (store c.args.vars.now) in
     sym (ap F (rest_ended f c.in-Ended.is))
 
 pub frame::Frame::assigned-returns-in-Stuck : goal.frame::Frame::assigned-returns-in-Stuck
 frame::Frame::assigned-returns-in-Stuck t c =
     let f = c.args.self.now in
-    let F = λ (r : Rest). assigned_at r (store c.args.vars.now) in
+    let F = λ (r : Rest). assigned_at c.args.site r (store c.args.vars.now) in
     sym (ap F (rest_stuck f c.in-Stuck.is))
 
 pub frame::Frame::assigned-returns-then-is_counted : goal.frame::Frame::assigned-returns-then-is_counted
 frame::Frame::assigned-returns-then-is_counted t c =
     let f = c.args.self.now in
     let k = sym c.is_counted.ensures ∙ c.if-is_counted.true in
-    on_ok c.part_assigned_in-then-is_counted.result _ _ (sym (turning_assigned f c.in-Turning.index c.in-Turning.last (store c.args.vars.now) c.in-Turning.is k)) c.part_assigned_in-then-is_counted.ensures
+    on_ok c.part_assigned_in-then-is_counted.result _ _ (sym (turning_assigned c.args.site f c.in-Turning.index c.in-Turning.last (store c.args.vars.now) c.in-Turning.is k)) c.part_assigned_in-then-is_counted.ensures
 
 pub frame::Frame::assigned-returns-else-is_counted : goal.frame::Frame::assigned-returns-else-is_counted
 frame::Frame::assigned-returns-else-is_counted t c =
     let f = c.args.self.now in
     let k = sym c.is_counted.ensures ∙ c.if-is_counted.false in
-    sym (ap (λ (r : Rest). assigned_at r (store c.args.vars.now)) (turning_none f c.in-Turning.index c.in-Turning.last c.in-Turning.is k))
+    sym (ap (λ (r : Rest). assigned_at c.args.site r (store c.args.vars.now)) (turning_none f c.in-Turning.index c.in-Turning.last c.in-Turning.is k))
 
 pub frame::Frame::assigned-returns-in-Chosen : goal.frame::Frame::assigned-returns-in-Chosen
-frame::Frame::assigned-returns-in-Chosen t c = sym (awaiting_assigned (store c.args.vars.now) (is_awaiting c.args.self.now c.in-Chosen.is))
+frame::Frame::assigned-returns-in-Chosen t c = sym (awaiting_assigned c.args.site (store c.args.vars.now) (is_awaiting c.args.self.now c.in-Chosen.is))
+
+pub frame::Frame::assigned-returns-then-is_par : goal.frame::Frame::assigned-returns-then-is_par
+frame::Frame::assigned-returns-then-is_par t c =
+    let f = c.args.self.now in
+    let o = out-Frame f in
+    let vs = views o.parts.items in
+    let F = λ (r : Rest). assigned_at c.args.site r (store c.args.vars.now) in
+    let k = sym c.is_par.ensures ∙ c.if-is_par.true in
+    let pre = par_preorder o.kind o.site vs k (subst (λ (v : View). InPreorder v.0) (view_out f) c.requires) in
+    on_ok c.part_assigned_in-then-is_par.result _ _ (sym (ap F (rest_together f c.in-Together.is k) ∙ (found_assigned c.args.site vs (store c.args.vars.now) pre (frames_inside o.parts.items)) ∙ ap (λ (k : ℕ). part_assigned c.args.site (slice_get vs k) (store c.args.vars.now)) (sym c.part_with.ensures))) c.part_assigned_in-then-is_par.ensures
+
+pub frame::Frame::assigned-returns-else-is_par : goal.frame::Frame::assigned-returns-else-is_par
+frame::Frame::assigned-returns-else-is_par t c =
+    let F = λ (r : Rest). assigned_at c.args.site r (store c.args.vars.now) in
+    sym (ap F (rest_apart c.args.self.now c.in-Together.is (sym c.is_par.ensures ∙ c.if-is_par.false)))
+
+pub frame::Frame::assigned-part_assigned_in-requires : goal.frame::Frame::assigned-part_assigned_in-requires
+frame::Frame::assigned-part_assigned_in-requires t c =
+    let f = c.args.self.now in
+    let o = out-Frame f in
+    (search (rules, the_lemmas), within_preorder o.kind o.site (views o.parts.items) o.at c.place.result (sym c.has_parts.ensures ∙ c.if-has_parts.true) c.place.ensures (subst (λ (v : View). InPreorder v.0) (view_out f) c.requires))
+
+pub frame::Frame::assigned-part_assigned_in-requires-then-is_counted : goal.frame::Frame::assigned-part_assigned_in-requires-then-is_counted
+frame::Frame::assigned-part_assigned_in-requires-then-is_counted t c =
+    let f = c.args.self.now in
+    let o = out-Frame f in
+    (search (rules, the_lemmas), body_preorder o.kind o.site (views o.parts.items) (sym c.is_counted.ensures ∙ c.if-is_counted.true) (subst (λ (v : View). InPreorder v.0) (view_out f) c.requires))
+
+pub frame::Frame::assigned-part_assigned_in-requires-then-is_par : goal.frame::Frame::assigned-part_assigned_in-requires-then-is_par
+frame::Frame::assigned-part_assigned_in-requires-then-is_par t c =
+    let f = c.args.self.now in
+    let o = out-Frame f in
+    let vs = views o.parts.items in
+    let k = sym c.is_par.ensures ∙ c.if-is_par.true in
+    (search (rules, the_lemmas), parts_preorder vs c.part_with.result (par_preorder o.kind o.site vs k (subst (λ (v : View). InPreorder v.0) (view_out f) c.requires)))
+
+pub frame::Frame::assigned-part_with-requires : goal.frame::Frame::assigned-part_with-requires
+frame::Frame::assigned-part_with-requires t c =
+    let f = c.args.self.now in
+    let o = out-Frame f in
+    par_preorder o.kind o.site (views o.parts.items) (sym c.is_par.ensures ∙ c.if-is_par.true) (subst (λ (v : View). InPreorder v.0) (view_out f) c.requires)

@@ -1,11 +1,12 @@
-use Rattle.std.proofs.Common.{◌∙◌, ℕ, sym, ap}
+use Rattle.std.proofs.Common.{◌∙◌, ◌<◌, ℕ, length, rules, sym, ap}
 use Rattle.std.specs.Prelude.{slice_get}
 use Rattle.vc_occam.specs.declared.frame.Frame.TheViews.{out-Frame}
 use Rattle.vc_occam.specs.First.{own}
 use Rattle.vc_occam.specs.Frames.{behind, part_own, place_of, views}
 use Rattle.vc_occam.specs.Remains.{Rest}
 use Rattle.vc_occam.specs.Terms.{store}
-use Rattle.vc_occam.proofs.Frames.{awaiting_own, is_awaiting, turning_own, turning_none, rest_ready, rest_going, rest_idle, rest_ended, rest_stuck, follow_own, idle_own}
+use Rattle.vc_occam.proofs.Frames.{awaiting_own, is_awaiting, turning_own, turning_none, rest_apart, rest_together, rest_ready, rest_going, rest_idle, rest_ended, rest_stuck, follow_own, idle_own}
+use Rattle.vc_occam.proofs.Besides.{begins_found, begins_more}
 use Rattle.vc_occam.proofs.Gates.{has_none, has_same}
 use Rattle.vc_occam.proofs.+begins.Goals as goal
 
@@ -49,3 +50,25 @@ frame::Frame::begins_with-returns-else-is_counted t c =
     let f = c.args.self.now in
     let k = sym c.is_counted.ensures ∙ c.if-is_counted.false in
     has_none c.args.made.now _ (ap (λ (r : Rest). own r (store c.args.vars.now)) (turning_none f c.in-Turning.index c.in-Turning.last c.in-Turning.is k))
+
+pub frame::Frame::begins_with-returns-then-is_par : goal.frame::Frame::begins_with-returns-then-is_par
+frame::Frame::begins_with-returns-then-is_par t c =
+    let F = λ (r : Rest). own r (store c.args.vars.now) in
+    has_same _ c.args.made.now _ _ (ap F (rest_together c.args.self.now c.in-Together.is (sym c.is_par.ensures ∙ c.if-is_par.true))) c.parts_begin.ensures
+
+pub frame::Frame::begins_with-returns-else-is_par : goal.frame::Frame::begins_with-returns-else-is_par
+frame::Frame::begins_with-returns-else-is_par t c =
+    let F = λ (r : Rest). own r (store c.args.vars.now) in
+    has_none c.args.made.now _ (ap F (rest_apart c.args.self.now c.in-Together.is (sym c.is_par.ensures ∙ c.if-is_par.false)))
+
+pub looking::parts_begin-returns-then-begins_with : goal.looking::parts_begin-returns-then-begins_with
+looking::parts_begin-returns-then-begins_with t c =
+    let fs = c.args.parts.now.items in
+    let l : c.loop-place.place < length fs = search rules in
+    begins_found fs c.loop-place.place c.index.result.now (store c.args.vars.now) c.args.made.now _ l c.index.ensures c.begins_with.ensures c.if-begins_with.true c.loop-place.invariant
+
+pub looking::parts_begin-loop-place-preserved : goal.looking::parts_begin-loop-place-preserved
+looking::parts_begin-loop-place-preserved t c =
+    let fs = c.args.parts.now.items in
+    let l : c.loop-place.place < length fs = search rules in
+    begins_more fs c.loop-place.place c.index.result.now (store c.args.vars.now) c.args.made.now _ l c.index.ensures c.begins_with.ensures c.if-begins_with.false c.loop-place.invariant

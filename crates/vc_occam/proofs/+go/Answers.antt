@@ -5,12 +5,16 @@ use Rattle.std.proofs.lemmas.Int.{to_z-of_z}
 use mir.Val.{SFits}
 use Rattle.vc_occam.specs.declared.datum.Datum.{Datum}
 use Rattle.vc_occam.specs.declared.frame.Frame.TheViews.{the_lemmas, out-Frame}
-use Rattle.vc_occam.specs.declared.phase.Phase.TheVariants.{Ready, Waiting, Turning, Chosen}
-use Rattle.vc_occam.specs.Frames.{Able, Did, HasVariables, View, assigned_at, part_done, plans, part_rest, plan_at, rest_at, view, views}
-use Rattle.vc_occam.specs.Remains.{Fresh, Rest}
+use Rattle.vc_occam.specs.declared.phase.Phase.TheVariants.{Ready, Waiting, Turning, Together, Chosen}
+use Rattle.vc_occam.specs.Frames.{Able, Did, HasVariables, View, assigned_at, is_counted, is_par, part_done, plans, part_rest, plan_at, rest_at, view, views}
+use Rattle.vc_occam.specs.Remains.{Done, Fresh, Rest}
+use Rattle.vc_occam.specs.Sites.{InPreorder}
+use Rattle.vc_occam.specs.Syntax.{STOP}
 use Rattle.vc_occam.specs.Terms.{store}
-use Rattle.vc_occam.proofs.Frames.{some_left, view_roll, view_out}
-use Rattle.vc_occam.proofs.Stepping.{within_able, within_assigned, within_variables, within_did, phase_able, phase_did, never_there, same_plan, get_view, set_view, set_plans, none_view}
+use Rattle.vc_occam.proofs.Frames.{parts_len, some_left, view_roll, view_out}
+use Rattle.vc_occam.proofs.Inside.{frames_inside}
+use Rattle.vc_occam.proofs.Places.{together_able, together_did, together_preorder, together_value, together_variables}
+use Rattle.vc_occam.proofs.Stepping.{within_able, within_assigned, within_preorder, within_variables, within_did, body_preorder, par_preorder, none_changed, set_changed, phase_able, phase_did, never_there, same_plan, get_view, set_view, set_plans, none_view}
 use Rattle.vc_occam.proofs.Turns.{count_variable, phase_same, store_same, turned_plans, turning_same, views_same, turning_able, turning_did, turning_value, turning_variables}
 use Rattle.vc_occam.proofs.+go.Goals as goal
 
@@ -22,8 +26,8 @@ frame::Frame::go-go_on-next-requires t c =
       (
         subst (λ (v : View). Able v.1 (store c.args.vars.now.items) c.args.site c.args.deed) is c.requires.able,
         (
-          λ q. c.requires.assigned q ∙ ap (λ (v : View). assigned_at v.1 (store c.args.vars.now.items)) is,
-          subst (λ (v : View). HasVariables v.0 (length c.args.vars.now.items)) is c.requires.variables,
+          λ q. c.requires.assigned q ∙ ap (λ (v : View). assigned_at c.args.site v.1 (store c.args.vars.now.items)) is,
+          (subst (λ (v : View). HasVariables v.0 (length c.args.vars.now.items)) is c.requires.variables, subst (λ (v : View). InPreorder v.0) is c.requires.in_preorder),
         ),
       ),
     )
@@ -55,8 +59,8 @@ going::go_on-go_within-requires t c =
       (
         within_able k c.args.own _ vs c.args.at c.place.result _ c.args.site c.args.deed c.in-Waiting.is h c.place.ensures c.requires.able,
         (
-          λ q. c.requires.assigned q ∙ within_assigned k c.args.own _ vs c.args.at c.place.result _ c.in-Waiting.is h c.place.ensures,
-          within_variables k c.args.own vs c.args.at c.place.result _ h c.place.ensures c.requires.variables,
+          λ q. c.requires.assigned q ∙ within_assigned k c.args.own c.args.site _ vs c.args.at c.place.result _ c.in-Waiting.is h c.place.ensures,
+          (within_variables k c.args.own vs c.args.at c.place.result _ h c.place.ensures c.requires.variables, within_preorder k c.args.own vs c.args.at c.place.result h c.place.ensures c.requires.in_preorder),
         ),
       ),
     )
@@ -127,8 +131,8 @@ going::go_turn-go_within-requires t c =
       (
         turning_able k c.in-Count.var _ _ vs c.args.index c.args.last e c.args.site c.args.deed c.in-Count.is c.requires.able,
         (
-          λ q. c.requires.assigned q ∙ turning_value k c.in-Count.var _ _ vs c.args.index c.args.last e c.in-Count.is,
-          turning_variables k c.args.own c.in-Count.var _ _ vs _ c.in-Count.is c.requires.variables,
+          λ q. c.requires.assigned q ∙ turning_value k c.args.site c.in-Count.var _ _ vs c.args.index c.args.last e c.in-Count.is,
+          (turning_variables k c.args.own c.in-Count.var _ _ vs _ c.in-Count.is c.requires.variables, body_preorder k c.args.own vs (ap is_counted c.in-Count.is) c.requires.in_preorder),
         ),
       ),
     )
@@ -169,3 +173,39 @@ going::go_on-returns-in-Chosen-clause-did t c =
     let vs = views c.args.parts.now.items in
     phase_did k c.args.own _ Chosen vs c.args.at _ _ c.args.site c.args.deed _ c.in-Chosen.is
     (c.end_choice-phase.ensures.did c.args.site (phase_able k c.args.own _ Chosen vs c.args.at _ c.args.site c.args.deed c.in-Chosen.is c.requires.able))
+
+pub going::go_within-returns-then-at-len-clause-others : goal.going::go_within-returns-then-at-len-clause-others
+going::go_within-returns-then-at-len-clause-others t c = (view c.go.new.self, set_changed c.args.parts.now.items c.args.at c.go.new.self)
+
+pub going::go_within-returns-else-at-len-clause-others : goal.going::go_within-returns-else-at-len-clause-others
+going::go_within-returns-else-at-len-clause-others t c =
+    let o = parts_len c.args.parts.now in
+    let nothing : View = (STOP 0, Done) in
+    (nothing, none_changed (views c.args.parts.now.items) c.args.at nothing (omega (arith, c.len.ensures)))
+
+pub going::go_on-returns-in-Together-clause-did : goal.going::go_on-returns-in-Together-clause-did
+going::go_on-returns-in-Together-clause-did t c =
+    phase_did c.args.kind.now c.args.own _ Together (views c.args.parts.now.items) c.args.at _ _ c.args.site c.args.deed _ c.in-Together.is (c.go_together-phase.ensures.did c.args.at)
+
+pub going::go_together-go_within-requires : goal.going::go_together-go_within-requires
+going::go_together-go_within-requires t c =
+    let k = c.args.kind.now in
+    let fs = c.args.parts.now.items in
+    let e = store c.args.vars.now.items in
+    let w = frames_inside fs in (
+      search rules,
+      (
+        together_able k c.args.own fs c.part_with.result e c.args.site c.args.deed c.in-Par.is c.requires.in_preorder w c.part_with.ensures c.requires.able,
+        (
+          λ q. c.requires.assigned q ∙ together_value k c.args.own fs c.part_with.result e c.args.site c.in-Par.is c.requires.in_preorder w c.part_with.ensures,
+          (together_variables k c.args.own (views fs) c.part_with.result _ c.in-Par.is c.requires.variables, together_preorder k c.args.own (views fs) c.part_with.result c.in-Par.is c.requires.in_preorder),
+        ),
+      ),
+    )
+
+pub going::go_together-returns-in-Par-clause-did : goal.going::go_together-returns-in-Par-clause-did
+going::go_together-returns-in-Par-clause-did t c = λ at.
+    together_did c.args.kind.now c.args.own (views c.args.parts.now.items) (views c.go_within.new.parts.items) c.part_with.result at _ _ c.args.site c.args.deed c.in-Par.is c.go_within.ensures.plans c.go_within.ensures.others c.go_within.ensures.did
+
+pub going::go_together-part_with-requires : goal.going::go_together-part_with-requires
+going::go_together-part_with-requires t c = par_preorder c.args.kind.now c.args.own (views c.args.parts.now.items) (ap is_par c.in-Par.is) c.requires.in_preorder

@@ -10,5 +10,8 @@ decreases-going::go_on l = 4 * goal.size-going::go_on l + 3
 abbrev pub decreases-going::go_turn : goal.decreases-going::go_turn
 decreases-going::go_turn l = 4 * goal.size-going::go_turn l + 2
 
+abbrev pub decreases-going::go_together : goal.decreases-going::go_together
+decreases-going::go_together l = 4 * goal.size-going::go_together l + 2
+
 abbrev pub decreases-going::go_within : goal.decreases-going::go_within
 decreases-going::go_within l = 4 * goal.size-going::go_within l + 1

@@ -5,7 +5,7 @@ use Rattle.vc_occam.specs.First.{own}
 use Rattle.vc_occam.specs.Frames.{View, behind, part_own, place_of, views}
 use Rattle.vc_occam.specs.Remains.{Rest}
 use Rattle.vc_occam.specs.Terms.{store}
-use Rattle.vc_occam.proofs.Frames.{awaiting_own, is_awaiting, turning_own, turning_none, rest_ready, rest_going, rest_idle, rest_ended, rest_stuck, follow_own, idle_own}
+use Rattle.vc_occam.proofs.Frames.{awaiting_own, is_awaiting, turning_own, turning_none, rest_apart, rest_together, rest_ready, rest_going, rest_idle, rest_ended, rest_stuck, follow_own, idle_own}
 use Rattle.vc_occam.proofs.Gates.{pushed_none, pushed_same}
 use Rattle.vc_occam.proofs.Stepping.{none_view}
 use Rattle.vc_occam.proofs.+moves.Goals as goal
@@ -55,3 +55,13 @@ pub looking::push_part-returns : goal.looking::push_part-returns
 looking::push_part-returns t c =
     let o = c.args.parts.now.ok.0 in
     pushed_none _ _ (ap (λ (v : Option View). part_own v (store c.args.vars.now)) (none_view c.args.parts.now.items c.args.at (omega (arith, c.len.ensures))))
+
+pub frame::Frame::push_moves-returns-then-is_par : goal.frame::Frame::push_moves-returns-then-is_par
+frame::Frame::push_moves-returns-then-is_par t c =
+    let F = λ (r : Rest). own r (store c.args.vars.now) in
+    pushed_same c.push_parts.result _ _ _ _ (ap F (rest_together c.args.self.now c.in-Together.is (sym c.is_par.ensures ∙ c.if-is_par.true))) c.push_parts.ensures
+
+pub frame::Frame::push_moves-returns-else-is_par : goal.frame::Frame::push_moves-returns-else-is_par
+frame::Frame::push_moves-returns-else-is_par t c =
+    let F = λ (r : Rest). own r (store c.args.vars.now) in
+    pushed_none _ _ (ap F (rest_apart c.args.self.now c.in-Together.is (sym c.is_par.ensures ∙ c.if-is_par.false)))

@@ -1,67 +1,86 @@
-use Rattle.std.proofs.Common.{◌∙◌, ℕ, sym, ap}
+use Rattle.std.proofs.Common.{◌∙◌, ◌<◌, ℕ, length, rules, sym, ap}
 use Rattle.std.specs.Prelude.{slice_get}
 use Rattle.vc_occam.specs.declared.frame.Frame.TheViews.{out-Frame}
-use Rattle.vc_occam.specs.Frames.{behind, part_waits, place_of, views}
+use Rattle.vc_occam.specs.Frames.{behind, first_waits, part_waits, place_of, views}
 use Rattle.vc_occam.specs.Remains.{Rest}
 use Rattle.vc_occam.specs.States.{waiting}
-use Rattle.vc_occam.proofs.Frames.{rest_chosen, turning_waits, turning_none, rest_ready, rest_sending, rest_receiving, rest_going, rest_nothing, rest_ended, rest_stuck, follow_waits}
+use Rattle.vc_occam.proofs.Besides.{waits_found, waits_more}
+use Rattle.vc_occam.proofs.Frames.{rest_apart, rest_chosen, rest_together, turning_waits, turning_none, rest_ready, rest_sending, rest_receiving, rest_going, rest_nothing, rest_ended, rest_stuck, follow_waits}
 use Rattle.vc_occam.proofs.+waits.Goals as goal
 
-pub frame::Frame::waits-returns-in-Ready : goal.frame::Frame::waits-returns-in-Ready
-frame::Frame::waits-returns-in-Ready t c =
-    let f = c.args.self.now in
-    let F = λ (r : Rest). waiting r in
-    ap F (rest_ready f c.in-Ready.is)
+pub frame::Frame::waits_on-returns-in-Ready : goal.frame::Frame::waits_on-returns-in-Ready
+frame::Frame::waits_on-returns-in-Ready t c =
+    let F = λ (r : Rest). first_waits c.args.wanted (waiting r) in
+    sym (ap F (rest_ready c.args.self.now c.in-Ready.is))
 
-pub frame::Frame::waits-returns-then-has_parts : goal.frame::Frame::waits-returns-then-has_parts
-frame::Frame::waits-returns-then-has_parts t c =
+pub frame::Frame::waits_on-returns-then-has_parts : goal.frame::Frame::waits_on-returns-then-has_parts
+frame::Frame::waits_on-returns-then-has_parts t c =
     let f = c.args.self.now in
-    let F = λ (r : Rest). waiting r in
-    let o = out-Frame f in (ap F (rest_going f c.in-Waiting.is (sym c.has_parts.ensures ∙ c.if-has_parts.true)) ∙ follow_waits (slice_get (views o.parts.items) (place_of o.kind o.at)) (behind o.kind o.site (views o.parts.items) o.at) ∙ ap (λ (k : ℕ). part_waits (slice_get (views o.parts.items) k)) (sym c.place.ensures)) ∙ c.part_waits.ensures
+    let o = out-Frame f in
+    let vs = views o.parts.items in
+    c.part_waits_on.ensures
+    ∙ sym (ap (first_waits c.args.wanted) (ap waiting (rest_going f c.in-Waiting.is (sym c.has_parts.ensures ∙ c.if-has_parts.true)) ∙ follow_waits (slice_get vs (place_of o.kind o.at)) (behind o.kind o.site vs o.at) ∙ ap (λ (k : ℕ). part_waits (slice_get vs k)) (sym c.place.ensures)))
 
-pub frame::Frame::waits-returns-in-Send : goal.frame::Frame::waits-returns-in-Send
-frame::Frame::waits-returns-in-Send t c =
-    let f = c.args.self.now in
-    let F = λ (r : Rest). waiting r in
-    ap F (rest_sending f _ _ c.in-Waiting.is c.in-Send.is)
+pub frame::Frame::waits_on-returns-in-Send : goal.frame::Frame::waits_on-returns-in-Send
+frame::Frame::waits_on-returns-in-Send t c =
+    let F = λ (r : Rest). first_waits c.args.wanted (waiting r) in
+    c.if_waits.ensures ∙ sym (ap F (rest_sending c.args.self.now _ _ c.in-Waiting.is c.in-Send.is))
 
-pub frame::Frame::waits-returns-in-Receive : goal.frame::Frame::waits-returns-in-Receive
-frame::Frame::waits-returns-in-Receive t c =
-    let f = c.args.self.now in
-    let F = λ (r : Rest). waiting r in
-    ap F (rest_receiving f _ _ c.in-Waiting.is c.in-Receive.is)
+pub frame::Frame::waits_on-returns-in-Receive : goal.frame::Frame::waits_on-returns-in-Receive
+frame::Frame::waits_on-returns-in-Receive t c =
+    let F = λ (r : Rest). first_waits c.args.wanted (waiting r) in
+    c.if_waits-in-Receive.ensures ∙ sym (ap F (rest_receiving c.args.self.now _ _ c.in-Waiting.is c.in-Receive.is))
 
-pub frame::Frame::waits-returns-in_default : goal.frame::Frame::waits-returns-in_default
-frame::Frame::waits-returns-in_default t c =
-    let f = c.args.self.now in
-    let F = λ (r : Rest). waiting r in
-    ap F (rest_nothing f c.in-Waiting.is (sym c.has_parts.ensures ∙ c.if-has_parts.false) c.in_default.not-Send c.in_default.not-Receive)
+pub frame::Frame::waits_on-returns-in_default : goal.frame::Frame::waits_on-returns-in_default
+frame::Frame::waits_on-returns-in_default t c =
+    let F = λ (r : Rest). first_waits c.args.wanted (waiting r) in
+    sym (ap F (rest_nothing c.args.self.now c.in-Waiting.is (sym c.has_parts.ensures ∙ c.if-has_parts.false) c.in_default.not-Send c.in_default.not-Receive))
 
-pub frame::Frame::waits-returns-in-Ended : goal.frame::Frame::waits-returns-in-Ended
-frame::Frame::waits-returns-in-Ended t c =
-    let f = c.args.self.now in
-    let F = λ (r : Rest). waiting r in
-    ap F (rest_ended f c.in-Ended.is)
+pub frame::Frame::waits_on-returns-in-Ended : goal.frame::Frame::waits_on-returns-in-Ended
+frame::Frame::waits_on-returns-in-Ended t c =
+    let F = λ (r : Rest). first_waits c.args.wanted (waiting r) in
+    sym (ap F (rest_ended c.args.self.now c.in-Ended.is))
 
-pub frame::Frame::waits-returns-in-Stuck : goal.frame::Frame::waits-returns-in-Stuck
-frame::Frame::waits-returns-in-Stuck t c =
-    let f = c.args.self.now in
-    let F = λ (r : Rest). waiting r in
-    ap F (rest_stuck f c.in-Stuck.is)
+pub frame::Frame::waits_on-returns-in-Stuck : goal.frame::Frame::waits_on-returns-in-Stuck
+frame::Frame::waits_on-returns-in-Stuck t c =
+    let F = λ (r : Rest). first_waits c.args.wanted (waiting r) in
+    sym (ap F (rest_stuck c.args.self.now c.in-Stuck.is))
 
-pub frame::Frame::waits-returns-then-is_counted : goal.frame::Frame::waits-returns-then-is_counted
-frame::Frame::waits-returns-then-is_counted t c =
+pub frame::Frame::waits_on-returns-then-is_counted : goal.frame::Frame::waits_on-returns-then-is_counted
+frame::Frame::waits_on-returns-then-is_counted t c =
     let f = c.args.self.now in
     let k = sym c.is_counted.ensures ∙ c.if-is_counted.true in
-    turning_waits f c.in-Turning.index c.in-Turning.last c.in-Turning.is k ∙ c.part_waits-then-is_counted.ensures
+    c.part_waits_on-then-is_counted.ensures ∙ sym (ap (first_waits c.args.wanted) (turning_waits f c.in-Turning.index c.in-Turning.last c.in-Turning.is k))
 
-pub frame::Frame::waits-returns-else-is_counted : goal.frame::Frame::waits-returns-else-is_counted
-frame::Frame::waits-returns-else-is_counted t c =
+pub frame::Frame::waits_on-returns-else-is_counted : goal.frame::Frame::waits_on-returns-else-is_counted
+frame::Frame::waits_on-returns-else-is_counted t c =
     let f = c.args.self.now in
     let k = sym c.is_counted.ensures ∙ c.if-is_counted.false in
-    ap (λ (r : Rest). waiting r) (turning_none f c.in-Turning.index c.in-Turning.last c.in-Turning.is k)
+    sym (ap (λ (r : Rest). first_waits c.args.wanted (waiting r)) (turning_none f c.in-Turning.index c.in-Turning.last c.in-Turning.is k))
 
-pub frame::Frame::waits-returns-in-Chosen : goal.frame::Frame::waits-returns-in-Chosen
-frame::Frame::waits-returns-in-Chosen t c =
+pub frame::Frame::waits_on-returns-then-is_par : goal.frame::Frame::waits_on-returns-then-is_par
+frame::Frame::waits_on-returns-then-is_par t c =
+    let F = λ (r : Rest). first_waits c.args.wanted (waiting r) in
+    c.parts_wait_on.ensures ∙ sym (ap F (rest_together c.args.self.now c.in-Together.is (sym c.is_par.ensures ∙ c.if-is_par.true)))
+
+pub frame::Frame::waits_on-returns-else-is_par : goal.frame::Frame::waits_on-returns-else-is_par
+frame::Frame::waits_on-returns-else-is_par t c =
+    let F = λ (r : Rest). first_waits c.args.wanted (waiting r) in
+    sym (ap F (rest_apart c.args.self.now c.in-Together.is (sym c.is_par.ensures ∙ c.if-is_par.false)))
+
+pub frame::Frame::waits_on-returns-in-Chosen : goal.frame::Frame::waits_on-returns-in-Chosen
+frame::Frame::waits_on-returns-in-Chosen t c =
     let f = c.args.self.now in
-    ap waiting (rest_chosen f c.in-Chosen.is) ∙ c.chosen_waits.ensures (views (out-Frame f).parts.items)
+    c.chosen_waits.ensures (views (out-Frame f).parts.items) ∙ sym (ap (λ (r : Rest). first_waits c.args.wanted (waiting r)) (rest_chosen f c.in-Chosen.is))
+
+pub looking::parts_wait_on-returns-in-Some : goal.looking::parts_wait_on-returns-in-Some
+looking::parts_wait_on-returns-in-Some t c =
+    let fs = c.args.parts.now.items in
+    let l : c.loop-place.place < length fs = search rules in
+    waits_found fs c.loop-place.place c.index.result.now c.args.wanted _ c.in-Some.site l c.index.ensures (sym c.in-Some.is ∙ c.waits_on.ensures) c.loop-place.invariant
+
+pub looking::parts_wait_on-loop-place-preserved : goal.looking::parts_wait_on-loop-place-preserved
+looking::parts_wait_on-loop-place-preserved t c =
+    let fs = c.args.parts.now.items in
+    let l : c.loop-place.place < length fs = search rules in
+    waits_more fs c.loop-place.place c.index.result.now c.args.wanted _ l c.index.ensures (sym c.in_default.is ∙ c.waits_on.ensures) c.loop-place.invariant

@@ -28,8 +28,8 @@ inside_of-requires c =
     let same = ap length c.as_slice.ensures in
     omega arith
 
-pub new-requires-2-clause-in_order : goal.new-requires-2-clause-in_order
-new-requires-2-clause-in_order c = (node_runs c.args.plan.now c.requires.accepted c.args.number c.args.node.now c.requires.node).in_order
+pub new-requires-2-clause-lawful : goal.new-requires-2-clause-lawful
+new-requires-2-clause-lawful c = (node_runs c.args.plan.now c.requires.accepted c.args.number c.args.node.now c.requires.node).lawful
 
 pub new-requires-2-clause-sites : goal.new-requires-2-clause-sites
 new-requires-2-clause-sites c = (node_runs c.args.plan.now c.requires.accepted c.args.number c.args.node.now c.requires.node).sites

@@ -3,7 +3,7 @@ use Rattle.vc_occam.specs.InOrder.{number, number_branch, number_guard}
 use Rattle.vc_occam.specs.Frames.{View, views}
 use Rattle.vc_occam.specs.Numbering.{NumberedBranch, NumberedGuard}
 use Rattle.vc_occam.specs.Wholes.{whole_from}
-use Rattle.vc_occam.proofs.Making.{alt_whole, branch_made, few_inputs, guard_made, if_whole, part_made, seq_whole, views_push}
+use Rattle.vc_occam.proofs.Making.{alt_whole, branch_made, few_inputs, guard_made, if_whole, par_whole, part_made, seq_whole, views_push}
 use Rattle.vc_occam.proofs.Numbers.{number_branch_out, number_guard_out}
 use Rattle.vc_occam.proofs.Reaching.{drop_at}
 use Rattle.vc_occam.proofs.framing.+framing.Goals as goal
@@ -11,6 +11,10 @@ use Rattle.vc_occam.proofs.framing.+framing.Goals as goal
 pub frame_of-returns-in_ok-made-in-Seq-clause-frame : goal.frame_of-returns-in_ok-made-in-Seq-clause-frame
 frame_of-returns-in_ok-made-in-Seq-clause-frame t c =
     c.with_parts-in-Seq.ensures.frame ∙ seq_whole c.args.site c.args.process.now c.in-Seq.parts (views c.in_ok-made-in-Seq.made.parts.items) c.in-Seq.is c.in_ok-made-in-Seq.ensures.parts
+
+pub frame_of-returns-in_ok-made-in-Par-clause-frame : goal.frame_of-returns-in_ok-made-in-Par-clause-frame
+frame_of-returns-in_ok-made-in-Par-clause-frame t c =
+    c.with_parts-in-Par.ensures.frame ∙ par_whole c.args.site c.args.process.now c.in-Par.parts (views c.in_ok-made-in-Par.made.parts.items) c.in-Par.is c.in_ok-made-in-Par.ensures.parts
 
 pub frame_of-returns-in_ok-made-in-If-clause-frame : goal.frame_of-returns-in_ok-made-in-If-clause-frame
 frame_of-returns-in_ok-made-in-If-clause-frame t c =

@@ -1,6 +1,5 @@
 use Rattle.std.proofs.Common.{◌∙◌, sym, ap}
 use Rattle.vc_occam.specs.Frames.{View}
-use Rattle.vc_occam.specs.ProcessLimits.{in_order}
 use Rattle.vc_occam.specs.Remains.{begin}
 use Rattle.vc_occam.specs.Syntax.{Proc}
 use Rattle.vc_occam.proofs.Fitting.{written_is}
@@ -10,6 +9,3 @@ pub returns : goal.returns
 returns c =
     let whole : Proc → View = λ p. (p, begin p) in
     c.start.ensures ∙ ap (λ (v : View). whole v.0) c.in_ok-frame.ensures.frame ∙ ap whole (sym (written_is c.args.process.now))
-
-pub frame_of-requires-clause-in_order : goal.frame_of-requires-clause-in_order
-frame_of-requires-clause-in_order c = ap in_order (sym (written_is c.args.process.now)) ∙ c.requires.in_order

@@ -1,18 +1,13 @@
-use Rattle.std.proofs.Common.{◌≡◌, ◌∙◌, sym, ap, Some, None}
-use Rattle.vc_occam.specs.Indexes.{changed_index}
+use Rattle.std.proofs.Common.{sym, subst}
+use Rattle.vc_occam.specs.Lawful.{FirstOffence, Lawfully}
 use Rattle.vc_occam.specs.Numbering.{written}
+use Rattle.vc_occam.specs.Sharing.{Judges}
+use Rattle.vc_occam.specs.Syntax.{Proc}
 use Rattle.vc_occam.proofs.Fitting.{written_is}
-use Rattle.vc_occam.proofs.Offending.{lawful, offending}
+use Rattle.vc_occam.proofs.Judging.{judges_use}
 use Rattle.vc_occam.proofs.use_check.check_use.Goals as goal
 
-pub returns-in-Some : goal.returns-in-Some
-returns-in-Some c =
-    let p = written c.args.process.now in
-    let found : changed_index p ≡ Some c.in-Some.var = ap changed_index (written_is c.args.process.now) ∙ sym (c.changed_index.ensures 0) ∙ c.in-Some.is in
-    offending p c.in-Some.var c.requires found
-
-pub returns-in-None : goal.returns-in-None
-returns-in-None c =
-    let p = written c.args.process.now in
-    let found : changed_index p ≡ None = ap changed_index (written_is c.args.process.now) ∙ sym (c.changed_index.ensures 0) ∙ c.in-None.is in
-    lawful p c.requires found
+pub returns : goal.returns
+returns c =
+    let p = c.args.process.now in
+    judges_use (written p) c.check_process.result (subst (λ (q : Proc). Judges c.check_process.result (Lawfully q) (FirstOffence q)) (sym (written_is p)) (c.check_process.ensures 0))

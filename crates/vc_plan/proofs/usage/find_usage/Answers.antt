@@ -2,24 +2,17 @@ use Rattle.std.proofs.Common.{◌≡◌, ◌<◌, ℕ, true, length, get_or, ari
 use Rattle.vc_occam.specs.Lawful.{Lawfully}
 use Rattle.vc_occam.specs.Numbering.{written}
 use Rattle.vc_plan.specs.declared.node_plan.NodePlan.{NodePlan}
-use Rattle.vc_plan.specs.Limits.{depth_ok, process_names}
+use Rattle.vc_plan.specs.Limits.{process_names}
 use Rattle.vc_plan.proofs.Indexed.{there-at, each-more, each-all}
-use Rattle.vc_plan.proofs.Limited.{in-order, passes}
+use Rattle.vc_plan.proofs.Limited.{passes}
 use Rattle.vc_plan.proofs.usage.find_usage.Goals as goal
 use Rattle.vc_plan.proofs.usage.find_usage.Goals.{After-usage_of}
 
 abbrev Keeps : ℕ → NodePlan → Type 0
 Keeps k node = Lawfully (written node.process)
 
-pub usage_of-requires-clause-in_order : goal.usage_of-requires-clause-in_order
-usage_of-requires-clause-in_order c =
-    let is = rw c.as_slice-node-items.ensures at c.node-item.is in
-    let l = ap length c.as_slice-node-items.ensures in
-    let there = there-at c.args.plan.now.nodes c.loop-n.n c.node-item.result (omega (arith, l)) is in
-    in-order c.node-item.result (passes depth_ok c.args.plan.now.nodes c.loop-n.n c.node-item.result c.requires.depth there)
-
-pub usage_of-requires-clause-names : goal.usage_of-requires-clause-names
-usage_of-requires-clause-names c =
+pub usage_of-requires : goal.usage_of-requires
+usage_of-requires c =
     let is = rw c.as_slice-node-items.ensures at c.node-item.is in
     let l = ap length c.as_slice-node-items.ensures in
     let there = there-at c.args.plan.now.nodes c.loop-n.n c.node-item.result (omega (arith, l)) is in

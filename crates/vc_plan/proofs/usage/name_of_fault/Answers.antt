@@ -1,7 +1,7 @@
 use Rattle.std.proofs.Common.{◌∙◌, ◌<◌, arith, ap, length, subst, sym}
 use Rattle.std.proofs.lemmas.List.{length-map}
 use Rattle.vc_occam.specs.declared.use_fault.UseFault.{UseFault}
-use Rattle.vc_occam.specs.Indexes.{IsUseFault}
+use Rattle.vc_occam.specs.UseFaults.{IsUseFault}
 use Rattle.vc_occam.specs.Numbering.{written}
 use Rattle.vc_plan.specs.declared.node_plan.Variable.{Variable}
 use Rattle.vc_plan.specs.Limits.{kinds_of}

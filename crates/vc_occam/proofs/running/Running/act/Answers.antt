@@ -1,39 +1,61 @@
-use Rattle.std.proofs.Common.{sym, subst, ℕ}
-use Rattle.vc_occam.specs.declared.deed.Deed.{Deed}
-use Rattle.vc_occam.specs.Frames.{Able, Did, view}
-use Rattle.vc_occam.specs.Moving.{site_of, deed_for}
+use Rattle.std.proofs.Common.{sym, subst}
+use Rattle.std.specs.List.{Contains}
+use Rattle.vc_occam.specs.declared.moves.Move.{Move}
+use Rattle.vc_occam.specs.First.{own, first_moves}
+use Rattle.vc_occam.specs.Frames.{view}
+use Rattle.vc_occam.specs.Moving.{CanBegin, HasMet, at}
 use Rattle.vc_occam.specs.Runnings.{state, inner_channels}
-use Rattle.vc_occam.specs.States.{State}
+use Rattle.vc_occam.specs.States.{Acts, FitsMove, doing, sent_by}
 use Rattle.vc_occam.specs.Terms.{store}
 use Rattle.vc_occam.specs.Usage.{among}
-use Rattle.vc_occam.proofs.Listing.{one_move}
-use Rattle.vc_occam.proofs.Made.{able}
-use Rattle.vc_occam.proofs.Single.{acts, frame_single}
+use Rattle.vc_occam.proofs.Meets.{acts_met, can_begin, is_alone, meeting_listed, met_sites, met_use}
 use Rattle.vc_occam.proofs.running.Running.act.Goals as goal
 
-pub go-requires-clause-able : goal.go-requires-clause-able
+pub meet-requires-clause-meets : goal.meet-requires-clause-meets
 unfolding state inner_channels
-go-requires-clause-able c =
+meet-requires-clause-meets c =
     let self = c.args.self.now in
+    let ins = among self.inside in
     let r = (view self.frame).1 in
     let e = store self.vars.items in
-    let made = c.args.made.now in
-    let n = one_move r e (among self.inside) made (frame_single self.frame) c.requires.listed in
-    subst (λ (i : ℕ). Able r e i c.deed_for-deed.result) (sym c.site_of.ensures)
-    (subst (λ (d : Deed). Able r e (site_of made) d) (sym c.deed_for-deed.ensures) (able r e made c.args.answer n.0))
+    let i = c.in-Inner.sender in
+    let j = c.in-Inner.receiver in
+    let k = c.in-Inner.guard in
+    let d = c.in-Inner.chan in
+    let n = meeting_listed ins r e i j k d (subst (λ (m : Move). Contains (first_moves ins r e) m) c.in-Inner.is c.requires.listed) in
+    subst (λ (m : Move). CanBegin (own r e) i d m) (sym c.partner-taken.ensures) (can_begin ins (own r e) i j k d n)
 
-pub returns-clause-made : goal.returns-clause-made
-unfolding state inner_channels
-returns-clause-made c =
+pub invariant_of-self-clause-own_sites : goal.invariant_of-self-clause-own_sites
+invariant_of-self-clause-own_sites c =
     let self = c.args.self.now in
-    let r = (view self.frame).1 in
-    let e = store self.vars.items in
-    let made = c.args.made.now in
-    let n = one_move r e (among self.inside) made (frame_single self.frame) c.requires.listed in
-    let q = (view c.go.new.self).1 in
-    let f = store c.go.new.vars.items in
-    let before : State = record { rest = r; store = e } in
-    let after : State = record { rest = q; store = f } in
-    acts before after made c.args.answer (frame_single self.frame) n.1
-    (subst (λ (i : ℕ). Did r e i (deed_for made c.args.answer) q f) c.site_of.ensures
-    (subst (λ (d : Deed). Did r e c.site_of.result d q f) c.deed_for-deed.ensures c.go.ensures.did))
+    let before = at (view self.frame).1 (store self.vars.items) in
+    let after = at (view c.meet.new.frame).1 (store c.meet.new.vars.items) in
+    let i = c.in-Inner.sender in
+    let d = c.in-Inner.chan in
+    met_sites before after i c.in-Inner.receiver c.in-Inner.guard d c.args.answer self.own_sites (subst (λ (m : Move). HasMet before i d m c.args.answer after) c.partner-taken.ensures c.meet.ensures.met)
+
+pub invariant_of-self-clause-uses_lawfully : goal.invariant_of-self-clause-uses_lawfully
+invariant_of-self-clause-uses_lawfully c =
+    let self = c.args.self.now in
+    let before = at (view self.frame).1 (store self.vars.items) in
+    let after = at (view c.meet.new.frame).1 (store c.meet.new.vars.items) in
+    let i = c.in-Inner.sender in
+    let d = c.in-Inner.chan in
+    met_use before after i c.in-Inner.receiver c.in-Inner.guard d c.args.answer self.uses_lawfully (subst (λ (m : Move). HasMet before i d m c.args.answer after) c.partner-taken.ensures c.meet.ensures.met)
+
+pub returns-in-Inner-clause-made : goal.returns-in-Inner-clause-made
+unfolding state inner_channels
+returns-in-Inner-clause-made c =
+    let self = c.args.self.now in
+    let before = at (view self.frame).1 (store self.vars.items) in
+    let after = at (view c.meet.new.frame).1 (store c.meet.new.vars.items) in
+    let i = c.in-Inner.sender in
+    let j = c.in-Inner.receiver in
+    let k = c.in-Inner.guard in
+    let d = c.in-Inner.chan in
+    let fits = subst (λ (m : Move). FitsMove m (sent_by before m) c.args.answer) c.in-Inner.is c.requires.fits in
+    subst (λ (m : Move). Acts before (doing m (sent_by before m) c.args.answer) after) (sym c.in-Inner.is)
+    (acts_met before after i j k d c.args.answer self.uses_lawfully fits (subst (λ (m : Move). HasMet before i d m c.args.answer after) c.partner-taken.ensures c.meet.ensures.met))
+
+pub act_alone-requires-clause-alone : goal.act_alone-requires-clause-alone
+act_alone-requires-clause-alone c = is_alone c.args.made.now c.in_default.not-Inner

@@ -1,35 +1,52 @@
 use Rattle.std.proofs.Common.{◌≡◌, true, false, sym, ◌∙◌, ap, subst, List, ℕ}
 use Rattle.std.specs.List.{Contains}
 use Rattle.vc_occam.specs.declared.datum.Datum.{Datum}
-use Rattle.vc_occam.specs.First.{own}
+use Rattle.vc_occam.specs.declared.moves.Move.{Move}
+use Rattle.vc_occam.specs.First.{own, first_moves}
 use Rattle.vc_occam.specs.Frames.{is_outside, view}
 use Rattle.vc_occam.specs.Runnings.{state, inner_channels}
 use Rattle.vc_occam.specs.Terms.{store}
 use Rattle.vc_occam.specs.Usage.{among}
-use Rattle.vc_occam.proofs.Listing.{listed_when, lists_when}
-use Rattle.vc_occam.proofs.Single.{frame_single}
+use Rattle.vc_occam.proofs.Meets.{meeting_listed, lists_meeting, other_listed, lists_other}
 use Rattle.vc_occam.proofs.running.Running.lists.Goals as goal
+
+pub returns-in-Inner : goal.returns-in-Inner
+unfolding state inner_channels
+returns-in-Inner c =
+    let self = c.args.self.now in
+    let ins = among self.inside in
+    let r = (view self.frame).1 in
+    let e = store self.vars.items in
+    let i = c.in-Inner.sender in
+    let j = c.in-Inner.receiver in
+    let k = c.in-Inner.guard in
+    let d = c.in-Inner.chan in (
+      λ q. subst (λ (m : Move). Contains (first_moves ins r e) m) (sym c.in-Inner.is) (lists_meeting ins r e i j k d (c.meet_now.ensures.0 q)),
+      λ q. c.meet_now.ensures.1 (meeting_listed ins r e i j k d (subst (λ (m : Move). Contains (first_moves ins r e) m) c.in-Inner.is q)),
+    )
 
 pub returns-then-is_outside : goal.returns-then-is_outside
 unfolding state inner_channels
 returns-then-is_outside c =
     let self = c.args.self.now in
+    let ins = among self.inside in
     let r = (view self.frame).1 in
     let e = store self.vars.items in
     let made = c.args.made.now in
-    let o : is_outside (among self.inside) made ≡ true = ap (λ (xs : List ℕ). is_outside (among xs) made) (sym c.as_slice.ensures) ∙ sym c.is_outside.ensures ∙ c.if-is_outside.true in (
-      λ q. lists_when (among self.inside) r e made (frame_single self.frame) o (subst (λ (xs : List Datum). Contains (own r (store xs)) made) c.deref.ensures.value (c.begins_with.ensures.0 q)),
-      λ q. c.begins_with.ensures.1 (subst (λ (xs : List Datum). Contains (own r (store xs)) made) (sym c.deref.ensures.value) (listed_when (among self.inside) r e made (frame_single self.frame) q).1),
+    let o : is_outside ins made ≡ true = ap (λ (xs : List ℕ). is_outside (among xs) made) (sym c.as_slice.ensures) ∙ sym c.is_outside.ensures ∙ c.if-is_outside.true in (
+      λ q. lists_other ins r e made o (subst (λ (xs : List Datum). Contains (own r (store xs)) made) c.deref.ensures.value (c.begins_with.ensures.0 q)),
+      λ q. c.begins_with.ensures.1 (subst (λ (xs : List Datum). Contains (own r (store xs)) made) (sym c.deref.ensures.value) (other_listed ins r e made c.in_default.not-Inner q).1),
     )
 
 pub returns-else-is_outside : goal.returns-else-is_outside
 unfolding state inner_channels
 returns-else-is_outside c =
     let self = c.args.self.now in
+    let ins = among self.inside in
     let r = (view self.frame).1 in
     let e = store self.vars.items in
     let made = c.args.made.now in
-    let o : is_outside (among self.inside) made ≡ false = ap (λ (xs : List ℕ). is_outside (among xs) made) (sym c.as_slice.ensures) ∙ sym c.is_outside.ensures ∙ c.if-is_outside.false in (
+    let o : is_outside ins made ≡ false = ap (λ (xs : List ℕ). is_outside (among xs) made) (sym c.as_slice.ensures) ∙ sym c.is_outside.ensures ∙ c.if-is_outside.false in (
       λ q. absurd (let z : false ≡ true = sym c.if-is_outside.false ∙ q in cc),
-      λ q. absurd (let z : false ≡ true = sym o ∙ (listed_when (among self.inside) r e made (frame_single self.frame) q).0 in cc),
+      λ q. absurd (let z : false ≡ true = sym o ∙ (other_listed ins r e made c.in_default.not-Inner q).0 in cc),
     )

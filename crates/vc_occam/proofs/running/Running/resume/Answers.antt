@@ -4,8 +4,10 @@ use Rattle.vc_occam.specs.Frames.{Able, Did, view}
 use Rattle.vc_occam.specs.Runnings.{state}
 use Rattle.vc_occam.specs.States.{State}
 use Rattle.vc_occam.specs.Terms.{store}
+use Rattle.vc_occam.proofs.Acting.{resumes}
+use Rattle.vc_occam.proofs.Keeping.{step_uses}
 use Rattle.vc_occam.proofs.Made.{able_on}
-use Rattle.vc_occam.proofs.Single.{resumes, frame_single}
+use Rattle.vc_occam.proofs.Sites.{step_keeps}
 use Rattle.vc_occam.proofs.running.Running.resume.Goals as goal
 
 pub go-requires-clause-able : goal.go-requires-clause-able
@@ -26,5 +28,11 @@ returns-clause-resumed c =
     let f = store c.go.new.vars.items in
     let before : State = record { rest = r; store = e } in
     let after : State = record { rest = q; store = f } in
-    resumes before after c.args.site c.args.message (frame_single self.frame)
+    resumes before after c.args.site c.args.message self.own_sites self.uses_lawfully
     (subst (λ (d : Deed). Did r e c.args.site d q f) c.deed_on.ensures c.go.ensures.did)
+
+pub invariant_of-self-clause-own_sites : goal.invariant_of-self-clause-own_sites
+invariant_of-self-clause-own_sites c = (step_keeps c.go.ensures.did.1 c.args.self.now.own_sites).1
+
+pub invariant_of-self-clause-uses_lawfully : goal.invariant_of-self-clause-uses_lawfully
+invariant_of-self-clause-uses_lawfully c = step_uses c.go.ensures.did.1 c.args.self.now.uses_lawfully

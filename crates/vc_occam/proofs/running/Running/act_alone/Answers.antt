@@ -1,0 +1,45 @@
+use Rattle.std.proofs.Common.{sym, subst, ℕ}
+use Rattle.vc_occam.specs.declared.deed.Deed.{Deed}
+use Rattle.vc_occam.specs.Frames.{Able, Did, view}
+use Rattle.vc_occam.specs.Moving.{site_of, deed_for}
+use Rattle.vc_occam.specs.Runnings.{state, inner_channels}
+use Rattle.vc_occam.specs.States.{State}
+use Rattle.vc_occam.specs.Terms.{store}
+use Rattle.vc_occam.specs.Usage.{among}
+use Rattle.vc_occam.proofs.Acting.{acts, alone_move}
+use Rattle.vc_occam.proofs.Keeping.{step_uses}
+use Rattle.vc_occam.proofs.Made.{able}
+use Rattle.vc_occam.proofs.Sites.{step_keeps}
+use Rattle.vc_occam.proofs.running.Running.act_alone.Goals as goal
+
+pub go-requires-clause-able : goal.go-requires-clause-able
+unfolding state inner_channels
+go-requires-clause-able c =
+    let self = c.args.self.now in
+    let r = (view self.frame).1 in
+    let e = store self.vars.items in
+    let made = c.args.made.now in
+    let n = alone_move r e (among self.inside) made c.requires.alone c.requires.listed in
+    subst (λ (i : ℕ). Able r e i c.deed_for-deed.result) (sym c.site_of.ensures)
+    (subst (λ (d : Deed). Able r e (site_of made) d) (sym c.deed_for-deed.ensures) (able r e made c.args.answer n))
+
+pub returns-clause-made : goal.returns-clause-made
+unfolding state inner_channels
+returns-clause-made c =
+    let self = c.args.self.now in
+    let r = (view self.frame).1 in
+    let e = store self.vars.items in
+    let made = c.args.made.now in
+    let q = (view c.go.new.self).1 in
+    let f = store c.go.new.vars.items in
+    let before : State = record { rest = r; store = e } in
+    let after : State = record { rest = q; store = f } in
+    acts before after made c.args.answer self.own_sites self.uses_lawfully c.requires.alone
+    (subst (λ (i : ℕ). Did r e i (deed_for made c.args.answer) q f) c.site_of.ensures
+    (subst (λ (d : Deed). Did r e c.site_of.result d q f) c.deed_for-deed.ensures c.go.ensures.did))
+
+pub invariant_of-self-clause-own_sites : goal.invariant_of-self-clause-own_sites
+invariant_of-self-clause-own_sites c = (step_keeps c.go.ensures.did.1 c.args.self.now.own_sites).1
+
+pub invariant_of-self-clause-uses_lawfully : goal.invariant_of-self-clause-uses_lawfully
+invariant_of-self-clause-uses_lawfully c = step_uses c.go.ensures.did.1 c.args.self.now.uses_lawfully

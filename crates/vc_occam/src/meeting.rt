@@ -1,0 +1,106 @@
+//! What meets inside the node.
+ghost use Rattle.std.specs.Prelude.{◌≡◌, ◌++◌, ◌∷◌, [], IfOk, OnOk};
+ghost use Rattle.vc_occam.specs.First.{joined as as_joined, meetings};
+ghost use Rattle.vc_occam.specs.Frames.{is_outside as stays_outside};
+ghost use Rattle.vc_occam.specs.Moving.{partner as its_partner};
+ghost use Rattle.vc_occam.specs.Usage.{among};
+
+use crate::moves::Move;
+use sqlite_items::Items;
+use std::alloc::Global;
+use vc_packets::Memory;
+
+/// Whether the move needs no channel inside the node.
+pub(crate) fn is_outside(made: &Move, inside: &[u16]) -> bool
+    ensures { result ≡ stays_outside (among inside.now) made.now }
+{
+    match made {
+        Move::Offer { chan, .. } => !inside.contains(chan),
+        Move::Want { chan, .. } => !inside.contains(chan),
+        Move::Choose { chan, .. } => !inside.contains(chan),
+        _ => true,
+    }
+}
+
+/// The input, or the guard of an ALT, that an output meets.
+pub(crate) fn partner(receiver: u16, guard: Option<u16>, chan: u16) -> Move
+    ensures { result ≡ its_partner receiver guard chan }
+{
+    match guard {
+        Some(guard) => Move::Choose {
+            site: receiver,
+            guard,
+            chan,
+        },
+        None => Move::Want {
+            site: receiver,
+            chan,
+        },
+    }
+}
+
+/// Adds the meeting of the output at this site with the move, if they meet.
+fn push_meeting(found: &mut Items<Move>, sender: u16, chan: u16, made: &Move) -> Result<(), Memory>
+    ensures { OnOk result (found.new ≡ found.old ++ meetings sender chan (made.now ∷ [])) }
+{
+    let (receiver, guard, on) = match made {
+        Move::Want { site, chan } => (*site, None, *chan),
+        Move::Choose { site, guard, chan } => (*site, Some(*guard), *chan),
+        _ => return Ok(()),
+    };
+    if chan == on {
+        found.push(Move::Inner {
+            sender,
+            receiver,
+            guard,
+            chan,
+        })?;
+    }
+    Ok(())
+}
+
+/// Adds what the output at this site meets among these moves.
+fn push_meetings(
+    found: &mut Items<Move>,
+    sender: u16,
+    chan: u16,
+    all: &[Move],
+) -> Result<(), Memory>
+    ensures { OnOk result (found.new ≡ found.old ++ meetings sender chan all.now) }
+{
+    for made in all {
+        push_meeting(found, sender, chan, made)?;
+    }
+    Ok(())
+}
+
+/// Adds the move, if it needs no channel inside the node, or what an output meets there.
+fn push_joined(
+    found: &mut Items<Move>,
+    made: &Move,
+    all: &[Move],
+    inside: &[u16],
+) -> Result<(), Memory>
+    ensures { OnOk result (found.new ≡ found.old ++ as_joined (among inside.now) all.now (made.now ∷ [])) }
+{
+    if is_outside(made, inside) {
+        found.push(*made)?;
+        return Ok(());
+    }
+    if let Move::Offer { site, chan } = made {
+        push_meetings(found, *site, *chan, all)?;
+    }
+    Ok(())
+}
+
+/// Of the moves that each site can begin with, those that need no channel inside the node, and what meets there: each output
+/// with each input or guard on its channel.
+pub(crate) fn joined(alloc: Global, all: &[Move], inside: &[u16]) -> Result<Items<Move>, Memory>
+    ensures { IfOk result (λ found. found ≡ as_joined (among inside.now) all.now all.now) }
+{
+    let mut found = Items::new(alloc);
+    for made in all {
+        push_joined(&mut found, made, all, inside)?;
+    }
+    Ok(found)
+}
