@@ -84,7 +84,6 @@ impl Running {
     ghost use Rattle.std.specs.List.{Contains};
     ghost use Rattle.vc_occam.specs.First.{own};
     ghost use Rattle.vc_occam.specs.Frames.{assigned_at, is_outside as stays_outside, outside as kept_outside};
-    ghost use Rattle.vc_occam.specs.Moving.{IsAlone};
     ghost use Rattle.vc_occam.specs.declared.answer.Answer.{Answer};
     ghost use Rattle.vc_occam.specs.declared.deed.Deed.TheVariants.{Quiet};
     ghost use Rattle.vc_occam.specs.Terms.{store};
@@ -160,9 +159,8 @@ impl Running {
     /// then nothing has changed.
     #[tactic(auto, unfolding(crate::specs::Runnings::state, crate::specs::Runnings::inner_channels))]
     pub fn act(&mut self, made: &Move, answer: Answer) -> Result<(), Memory>
-        requires listed { Contains (moves self.old) made.now }
-        // Until what meets inside the node is made: no meeting.
-        requires alone { IsAlone made.now }
+        // Until what meets inside the node is made: a move of one site.
+        requires listed { Contains (own (state self.old).rest (state self.old).store) made.now }
         requires fits { FitsMove made.now (sent_by (state self.old) made.now) answer }
         ensures made { OnOk result (Acts (state self.old) (doing made.now (sent_by (state self.old) made.now) answer) (state self.new)) }
         ensures unchanged { OnErr result ((self.new ≡ self.old) × IsQuiet made.now) }
