@@ -27,7 +27,7 @@ use Rattle.vc_occam.specs.States.{State, Acts, Wants, Chooses, IsTraced, Resumes
 use Rattle.vc_occam.proofs.Keeping.{lawful}
 use Rattle.vc_occam.proofs.Law.{law}
 use Rattle.vc_occam.proofs.Lists.{at_front, behind, front_or, only, none, is_inserted}
-use Rattle.vc_occam.proofs.Made.{Listed, listed, not_there}
+use Rattle.vc_occam.proofs.Made.{Listed, listed, no_meeting, not_there}
 use Rattle.vc_occam.proofs.Places.{doers, itself, step_site}
 use Rattle.vc_occam.proofs.Sites.{Within, clash, either, not_true, within_none}
 use Rattle.vc_occam.proofs.Stores.{or_left, or_right}
@@ -128,22 +128,14 @@ acts s s' (Stopch i c) a o u al (ks, st) = (ks, (says st, st), traced s s' i (de
 acts s s' (Quiet i) a o u al (ks, st) = (ks, (says st, st), traced s s' i deed.Quiet ks u st)
 acts s s' (Inner i j k c) a o u al st = absurd al
 
--- a move that is listed, and no meeting, is one site's own
-pub alone_move : (r : Rest) (e : Store) (inside : ℕ → _) (m : Move) → IsAlone m → Contains (first_moves inside r e) m → Contains (own r e) m
-alone_move r e inside m al h = own_when m al (listed inside (own r e) (own r e) m h)
-  where
-    own_when : (m : Move) → IsAlone m → Listed (own r e) (own r e) m → Contains (own r e) m
-    own_when (Offer i c) al (inl k) = k
-    own_when (Want i c) al (inl k) = k
-    own_when (Choose i g c) al (inl k) = k
-    own_when (Stopch i c) al (inl k) = k
-    own_when (Quiet i) al (inl k) = k
-    own_when (Inner i j g c) al k = absurd al
-    own_when (Offer i c) al (inr k) = absurd k
-    own_when (Want i c) al (inr k) = absurd k
-    own_when (Choose i g c) al (inr k) = absurd k
-    own_when (Stopch i c) al (inr k) = absurd k
-    own_when (Quiet i) al (inr k) = absurd k
+-- one site's own move is no meeting
+pub own_alone : (r : Rest) (e : Store) (m : Move) → Contains (own r e) m → IsAlone m
+own_alone r e (Offer i c) h = tt
+own_alone r e (Want i c) h = tt
+own_alone r e (Choose i k c) h = tt
+own_alone r e (Stopch i c) h = tt
+own_alone r e (Quiet i) h = tt
+own_alone r e (Inner i j k c) h = absurd (no_meeting r e i j k c h)
 
 -- the site that waits
 unfoldable pub waits_site : Waiting → ℕ

@@ -1,5 +1,5 @@
 -- What may do something in a frame is one of its process's sites.
-use Rattle.std.proofs.Common.{◌≡◌, ℕ, zero, suc, ℤ, true, false, refl, ap, sym, subst, List, [], ◌∷◌, map, drop, Option, Some, None}
+use Rattle.std.proofs.Common.{ℕ, zero, suc, ℤ, sym, subst, List, [], ◌∷◌, map, drop, Option, Some, None}
 use Rattle.std.specs.Prelude.{slice_get}
 use Rattle.vc_occam.specs.declared.frame.Frame.{Frame}
 use Rattle.vc_occam.specs.declared.frame.Frame.TheOpen.{Frame-F}

@@ -14,7 +14,7 @@ use Rattle.vc_occam.specs.First.{own, first_moves, joined, meetings}
 use Rattle.vc_occam.specs.Frames.{Able, Did, is_outside}
 use Rattle.vc_occam.specs.InUse.{UsesLawfully}
 use Rattle.vc_occam.specs.Messages.{message}
-use Rattle.vc_occam.specs.Moving.{CanBegin, CanMeet, HasMet, IsAlone, at, deed_for, partner, site_of}
+use Rattle.vc_occam.specs.Moving.{CanBegin, CanMeet, HasMet, at, deed_for, partner, site_of}
 use Rattle.vc_occam.specs.Remains.{Rest, Step}
 use Rattle.vc_occam.specs.Sites.{OwnSites}
 use Rattle.vc_occam.specs.States.{State, Acts, Does, FitsMove, doing, sent_by, Meets, bytes_or_none, came, carried, meeting, output_at, output, waiting}
@@ -285,12 +285,3 @@ met_sites s s' i j k c a o h = let n = partner_met s s' i j k c a h in doing_kee
 
 pub met_use : (s s' : State) (i j : ℕ) (k : Option ℕ) (c : ℕ) (a : Answer) → UsesLawfully s.rest → HasMet s i c (partner j k c) a s' → UsesLawfully s'.rest
 met_use s s' i j k c a u h = let n = partner_met s s' i j k c a h in doing_keeps_use s s' (Meets i j k c (bytes_or_none (came a))) n.0 n.1 u
-
--- a move that is no meeting
-pub is_alone : (m : Move) → ((i j : ℕ) (k : Option ℕ) (c : ℕ) → m ≡ Inner i j k c → ⊥) → IsAlone m
-is_alone (Offer i c) h = tt
-is_alone (Want i c) h = tt
-is_alone (Choose i k c) h = tt
-is_alone (Stopch i c) h = tt
-is_alone (Inner i j k c) h = absurd (h i j k c refl)
-is_alone (Quiet i) h = tt

@@ -1,31 +1,26 @@
 -- Where the part that has a site stands.
-use Rattle.std.proofs.Common.{◌≡◌, ℕ, zero, suc, ℤ, length, Bool, true, false, ◌||◌, ◌≤◌, ◌<◌, refl, ap, sym, ◌∙◌, subst, List, [], ◌∷◌, map, Option, Some, None, ◌⊎◌, inl, inr, arith}
+use Rattle.std.proofs.Common.{◌≡◌, ℕ, zero, suc, length, Bool, true, false, ◌≤◌, ◌<◌, refl, ap, sym, ◌∙◌, subst, List, [], ◌∷◌, Option, Some, None, inl, inr, arith}
 use Rattle.std.specs.List.Sorted.{IsNonDecreasingBy, IsPartitionPoint}
 use Rattle.std.specs.Prelude.{slice_get, slice_index_or, nat_le, if◌then◌else◌, ◌==◌, ◌-◌}
 use Rattle.std.proofs.lemmas.Bool.Decides.{nat_tests}
-use Rattle.vc_occam.specs.declared.datum.Datum.{Datum}
 use Rattle.vc_occam.specs.declared.deed.Deed.{Deed}
 use Rattle.vc_occam.specs.declared.frame.Frame.{Frame}
-use Rattle.vc_occam.specs.declared.frame.Frame.TheOpen.{Frame-F}
-use Rattle.vc_occam.specs.declared.frame.Frame.TheFolds.{ind-Frame}
 use Rattle.vc_occam.specs.declared.frame.Frame.TheViews.{out-Frame}
 use Rattle.vc_occam.specs.declared.kind.Kind.{Kind}
 use Rattle.vc_occam.specs.declared.kind.Kind.TheVariants as kind
-use Rattle.vc_occam.specs.declared.phase.Phase.{Phase}
 use Rattle.vc_occam.specs.declared.phase.Phase.TheVariants as phase
-use Rattle.vc_occam.specs.Gates.{Gate, gate}
-use Rattle.vc_occam.specs.Syntax.{Exp, Test, Proc, SKIP, STOP, Assign, Output, Input, StopChan, SEQ, PAR, IF, WHILE, COUNT, ALT, Procs, no_parts, part}
+use Rattle.vc_occam.specs.Syntax.{Exp, Test, Proc, SKIP, STOP, Assign, Output, Input, StopChan, SEQ, PAR, IF, WHILE, COUNT, ALT, no_parts}
 use Rattle.vc_occam.specs.Terms.{exp, test}
 use Rattle.vc_occam.specs.Traces.{Comm}
 use Rattle.vc_occam.specs.Values.{Store}
 use Rattle.vc_occam.specs.Usage.{Set, changes, just, nothing, ◌∪◌}
-use Rattle.vc_occam.specs.Remains.{Rest, Done, Stopped, Fresh, Finishing, Getting, Then, Turns, Beside, and_then, begin, beside_on, Step, does_skip, does_empty_seq, does_empty_par, does_assign, faults_assign, faults_out, does_if, does_turn, does_leave, faults_while, does_count, does_count_none, faults_count, does_offer, does_finish, does_input, waits_input, gets, does_stop, does_choose, waits_choose, in_then, in_turns, in_left, in_right}
+use Rattle.vc_occam.specs.Remains.{Rest, Done, Stopped, Fresh, Finishing, Getting, Then, Turns, Beside, beside_on, Step, does_skip, does_empty_seq, does_empty_par, does_assign, faults_assign, faults_out, does_if, does_turn, does_leave, faults_while, does_count, does_count_none, faults_count, does_offer, does_finish, does_input, waits_input, gets, does_stop, does_choose, waits_choose, in_then, in_turns, in_left, in_right}
 use Rattle.vc_occam.specs.Sites.{sites, sites_all, sites_branches, sites_guards, site, Precedes, InPreorder, PartsInPreorder}
 use Rattle.vc_occam.specs.States.{or_else, output_at}
-use Rattle.vc_occam.specs.Frames.{Able, ChangedAt, Did, HasVariables, PartHasVariables, PartInPreorder, View, assigned_at, awaiting, behind, besides, branches_of, chosen_at, count_of, follow, going_at, guards_of, part_assigned, part_output, part_plan, part_rest, place_with, plan_at, plans, plans_of, rest_at, together, turn_of, turning, view, views, while_of}
+use Rattle.vc_occam.specs.Frames.{Able, ChangedAt, Did, HasVariables, PartHasVariables, PartInPreorder, View, assigned_at, besides, count_of, part_assigned, part_output, part_rest, place_with, plan_at, plans, plans_of, rest_at, together, view, views, while_of}
 use Rattle.vc_occam.proofs.Besides.{besides_did, beside_able, beside_assigned, beside_output}
-use Rattle.vc_occam.proofs.Frames.{view_out, view_roll}
-use Rattle.vc_occam.proofs.Sites.{Within, either, not_true, clash, within_left, within_right}
+use Rattle.vc_occam.proofs.Frames.{view_out}
+use Rattle.vc_occam.proofs.Sites.{Within, either, not_true, clash}
 use Rattle.vc_occam.proofs.Stepping.{all_variables, parts_preorder}
 use Rattle.vc_occam.proofs.Stores.{or_false, or_left, or_right}
 

@@ -1,11 +1,11 @@
 -- What is said of the sites and of the use of a process has one proof at most.
 use denote.Struct.Props as logic
-use Rattle.std.specs.Prelude.{◌≡◌, ◌<◌, ℕ, true, false}
+use Rattle.std.specs.Prelude.{◌≡◌, ℕ, false}
 use Rattle.std.specs.Coded.{×_prop, Unit-prop}
 use Rattle.vc_occam.specs.InUse.{UseApart, UsesLawfully}
 use Rattle.vc_occam.specs.Lawful.{Lawfully, LawfullyAll, LawfullyBranches, LawfullyGuards, SideBySide}
-use Rattle.vc_occam.specs.Remains.{Rest, Done, Stopped, Fresh, Finishing, Getting, Then, Turns, Beside, Apart, changes_rest}
-use Rattle.vc_occam.specs.Sites.{Disjoint, Precedes, sites_rest, InPreorder, PartsInPreorder, BranchesInPreorder, GuardsInPreorder, HasOwnSites, AllHaveOwnSites, PartsHaveOwnSites, BranchesHaveOwnSites, GuardsHaveOwnSites, OwnSites}
+use Rattle.vc_occam.specs.Remains.{Rest, Done, Stopped, Fresh, Finishing, Getting, Then, Turns, Beside, changes_rest}
+use Rattle.vc_occam.specs.Sites.{Disjoint, Precedes, InPreorder, PartsInPreorder, BranchesInPreorder, GuardsInPreorder, HasOwnSites, AllHaveOwnSites, PartsHaveOwnSites, BranchesHaveOwnSites, GuardsHaveOwnSites, OwnSites}
 use Rattle.vc_occam.specs.Syntax.{Proc, SKIP, STOP, Assign, Output, Input, StopChan, SEQ, PAR, IF, WHILE, COUNT, ALT, Procs, no_parts, part, Branches, no_branches, branch, Guards, no_guards, guard}
 use Rattle.vc_occam.specs.Usage.{Set, changes}
 

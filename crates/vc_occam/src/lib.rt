@@ -43,6 +43,8 @@ mod laws;
 mod limits;
 mod looking;
 mod meeting;
+#[cfg(test)]
+mod meeting_tests;
 mod moves;
 mod operator;
 mod phase;

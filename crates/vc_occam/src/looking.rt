@@ -96,7 +96,11 @@ impl Frame {
                 }
                 match self.kind {
                     Kind::Send { chan, .. } => if_waits(self.site, Waits::Output { chan }, wanted),
-                    Kind::Receive { chan, .. } => if_waits(self.site, Waits::Input { chan }, wanted),
+                    Kind::Receive { chan, .. } => if_waits(
+                        self.site,
+                        Waits::Input { chan },
+                        wanted,
+                    ),
                     _ => None,
                 }
             }
@@ -145,7 +149,13 @@ impl Frame {
             }
             Phase::Together => {
                 if self.kind.is_par() {
-                    return part_message(alloc, &self.parts, part_with(&self.parts, site), site, vars);
+                    return part_message(
+                        alloc,
+                        &self.parts,
+                        part_with(&self.parts, site),
+                        site,
+                        vars,
+                    );
                 }
                 Ok(None)
             }
@@ -170,7 +180,13 @@ impl Frame {
             Phase::Ready => ready_assigned(alloc, self.site, &self.kind, &self.parts, site, vars),
             Phase::Waiting => {
                 if self.kind.has_parts() {
-                    return part_assigned_in(alloc, &self.parts, self.kind.place(self.at), site, vars);
+                    return part_assigned_in(
+                        alloc,
+                        &self.parts,
+                        self.kind.place(self.at),
+                        site,
+                        vars,
+                    );
                 }
                 Ok(None)
             }
@@ -182,7 +198,13 @@ impl Frame {
             }
             Phase::Together => {
                 if self.kind.is_par() {
-                    return part_assigned_in(alloc, &self.parts, part_with(&self.parts, site), site, vars);
+                    return part_assigned_in(
+                        alloc,
+                        &self.parts,
+                        part_with(&self.parts, site),
+                        site,
+                        vars,
+                    );
                 }
                 Ok(None)
             }
@@ -218,7 +240,13 @@ fn input_waits(site: u16, inputs: &[GuardedInput], at: usize, wanted: Waits) -> 
     ensures { (v : Option View) → result ≡ first_waits wanted (waiting (chosen_at site (slice_get (map gate inputs.now) at) v)) }
 {
     if at < inputs.len() {
-        return if_waits(site, Waits::Input { chan: inputs[at].chan }, wanted);
+        return if_waits(
+            site,
+            Waits::Input {
+                chan: inputs[at].chan,
+            },
+            wanted,
+        );
     }
     None
 }

@@ -110,7 +110,7 @@ impl Running {
     ghost use Rattle.std.specs.List.{Contains};
     ghost use Rattle.vc_occam.specs.First.{own};
     ghost use Rattle.vc_occam.specs.Frames.{assigned_at};
-    ghost use Rattle.vc_occam.specs.Moving.{CanMeet, IsAlone};
+    ghost use Rattle.vc_occam.specs.Moving.{CanMeet};
     ghost use Rattle.vc_occam.specs.declared.answer.Answer.{Answer};
     ghost use Rattle.vc_occam.specs.declared.deed.Deed.TheVariants.{Quiet};
     ghost use Rattle.vc_occam.specs.Terms.{store};
@@ -233,11 +233,10 @@ impl Running {
         self.act_alone(made, answer)
     }
 
-    /// Makes a move that is no meeting.
+    /// Makes a move of one site.
     #[tactic(auto, unfolding(crate::specs::Runnings::state, crate::specs::Runnings::inner_channels))]
     fn act_alone(&mut self, made: &Move, answer: Answer) -> Result<(), Memory>
-        requires listed { Contains (moves self.old) made.now }
-        requires alone { IsAlone made.now }
+        requires listed { Contains (own (state self.old).rest (state self.old).store) made.now }
         requires fits { FitsMove made.now (sent_by (state self.old) made.now) answer }
         ensures made { OnOk result (Acts (state self.old) (doing made.now (sent_by (state self.old) made.now) answer) (state self.new)) }
         ensures unchanged { OnErr result ((self.new ≡ self.old) × IsQuiet made.now) }

@@ -14,8 +14,11 @@ fn begin(
     kinds: &[ValueKind],
     inside: &[u16],
 ) -> Result<Running, Fail> {
-    if !process.runs_in_order() || process.sites(4096).is_none() {
-        return Err(Fail::from("a process without PAR"));
+    if process.sites(4096).is_none() {
+        return Err(Fail::from("few processes"));
+    }
+    if check_use(alloc, &process).is_err() {
+        return Err(Fail::from("a process of lawful use"));
     }
     if !process.fits(kinds, 512) {
         return Err(Fail::from("variables that are there"));
@@ -222,6 +225,73 @@ fn an_alt_waits_for_the_message_of_its_guard(rt: HostRuntime) -> Result<(), Fail
     let site = alt.input_on(1).ok_or("an input that waits")?;
     alt.resume(site, Some(Items::from_slice(rt.alloc(), b"x")?));
     assert!(rt; alt.lists(&Move::Quiet { site: 1 }));
+    Ok(())
+}
+
+/// Two outputs side by side.
+fn two_outputs(alloc: Global) -> Result<Process, Fail> {
+    let mut parts = Items::new(alloc);
+    for chan in 1..3 {
+        parts.push(Process::Send {
+            chan,
+            value: Value::Int(Expr::Num(7)),
+        })?;
+    }
+    Ok(Process::Par(parts))
+}
+
+#[test]
+fn a_par_may_begin_with_each_of_its_parts(rt: HostRuntime) -> Result<(), Fail> {
+    let par = begin(rt.alloc(), two_outputs(rt.alloc())?, &[], &[])?;
+    let moves = [
+        Move::Offer { site: 1, chan: 1 },
+        Move::Offer { site: 2, chan: 2 },
+    ];
+    assert_eq!(rt; par.actions()?.as_slice(), moves.as_slice());
+    Ok(())
+}
+
+#[test]
+fn a_par_ends_when_its_parts_have(rt: HostRuntime) -> Result<(), Fail> {
+    let mut parts = Items::new(rt.alloc());
+    parts.push(Process::Skip)?;
+    parts.push(Process::Skip)?;
+    let mut par = begin(rt.alloc(), Process::Par(parts), &[], &[])?;
+    let second = Move::Quiet { site: 2 };
+    assert!(rt; par.lists(&second));
+    par.act(&second, Answer::Nothing)?;
+    assert!(rt; !par.ended());
+    let first = Move::Quiet { site: 1 };
+    assert!(rt; par.lists(&first));
+    par.act(&first, Answer::Nothing)?;
+    assert!(rt; par.ended());
+    Ok(())
+}
+
+#[test]
+fn a_seq_goes_on_after_a_par(rt: HostRuntime) -> Result<(), Fail> {
+    let mut inner = Items::new(rt.alloc());
+    inner.push(Process::Skip)?;
+    let mut parts = Items::new(rt.alloc());
+    parts.push(Process::Par(inner))?;
+    parts.push(Process::Skip)?;
+    let mut seq = begin(rt.alloc(), Process::Seq(parts), &[], &[])?;
+    let quiet = Move::Quiet { site: 2 };
+    assert!(rt; seq.lists(&quiet));
+    seq.act(&quiet, Answer::Nothing)?;
+    assert!(rt; seq.lists(&Move::Quiet { site: 3 }));
+    assert!(rt; !seq.ended());
+    Ok(())
+}
+
+#[test]
+fn an_output_of_a_part_is_finished_at_its_site(rt: HostRuntime) -> Result<(), Fail> {
+    let mut par = begin(rt.alloc(), two_outputs(rt.alloc())?, &[], &[])?;
+    let offer = Move::Offer { site: 2, chan: 2 };
+    assert!(rt; par.lists(&offer));
+    par.act(&offer, Answer::Nothing)?;
+    assert_eq!(rt; par.output_on(2), Some(2));
+    assert_eq!(rt; par.output_on(1), None);
     Ok(())
 }
 

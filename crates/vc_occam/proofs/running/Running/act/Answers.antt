@@ -8,7 +8,7 @@ use Rattle.vc_occam.specs.Runnings.{state, inner_channels}
 use Rattle.vc_occam.specs.States.{Acts, FitsMove, doing, sent_by}
 use Rattle.vc_occam.specs.Terms.{store}
 use Rattle.vc_occam.specs.Usage.{among}
-use Rattle.vc_occam.proofs.Meets.{acts_met, can_begin, is_alone, meeting_listed, met_sites, met_use}
+use Rattle.vc_occam.proofs.Meets.{acts_met, can_begin, meeting_listed, other_listed, met_sites, met_use}
 use Rattle.vc_occam.proofs.running.Running.act.Goals as goal
 
 pub meet-requires-clause-meets : goal.meet-requires-clause-meets
@@ -57,5 +57,8 @@ returns-in-Inner-clause-made c =
     subst (λ (m : Move). Acts before (doing m (sent_by before m) c.args.answer) after) (sym c.in-Inner.is)
     (acts_met before after i j k d c.args.answer self.uses_lawfully fits (subst (λ (m : Move). HasMet before i d m c.args.answer after) c.partner-taken.ensures c.meet.ensures.met))
 
-pub act_alone-requires-clause-alone : goal.act_alone-requires-clause-alone
-act_alone-requires-clause-alone c = is_alone c.args.made.now c.in_default.not-Inner
+pub act_alone-requires-clause-listed : goal.act_alone-requires-clause-listed
+unfolding state inner_channels
+act_alone-requires-clause-listed c =
+    let self = c.args.self.now in
+    (other_listed (among self.inside) (view self.frame).1 (store self.vars.items) c.args.made.now c.in_default.not-Inner c.requires.listed).1

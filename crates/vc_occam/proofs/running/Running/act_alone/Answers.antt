@@ -5,8 +5,7 @@ use Rattle.vc_occam.specs.Moving.{site_of, deed_for}
 use Rattle.vc_occam.specs.Runnings.{state, inner_channels}
 use Rattle.vc_occam.specs.States.{State}
 use Rattle.vc_occam.specs.Terms.{store}
-use Rattle.vc_occam.specs.Usage.{among}
-use Rattle.vc_occam.proofs.Acting.{acts, alone_move}
+use Rattle.vc_occam.proofs.Acting.{acts, own_alone}
 use Rattle.vc_occam.proofs.Keeping.{step_uses}
 use Rattle.vc_occam.proofs.Made.{able}
 use Rattle.vc_occam.proofs.Sites.{step_keeps}
@@ -19,9 +18,8 @@ go-requires-clause-able c =
     let r = (view self.frame).1 in
     let e = store self.vars.items in
     let made = c.args.made.now in
-    let n = alone_move r e (among self.inside) made c.requires.alone c.requires.listed in
     subst (λ (i : ℕ). Able r e i c.deed_for-deed.result) (sym c.site_of.ensures)
-    (subst (λ (d : Deed). Able r e (site_of made) d) (sym c.deed_for-deed.ensures) (able r e made c.args.answer n))
+    (subst (λ (d : Deed). Able r e (site_of made) d) (sym c.deed_for-deed.ensures) (able r e made c.args.answer c.requires.listed))
 
 pub returns-clause-made : goal.returns-clause-made
 unfolding state inner_channels
@@ -34,7 +32,7 @@ returns-clause-made c =
     let f = store c.go.new.vars.items in
     let before : State = record { rest = r; store = e } in
     let after : State = record { rest = q; store = f } in
-    acts before after made c.args.answer self.own_sites self.uses_lawfully c.requires.alone
+    acts before after made c.args.answer self.own_sites self.uses_lawfully (own_alone r e made c.requires.listed)
     (subst (λ (i : ℕ). Did r e i (deed_for made c.args.answer) q f) c.site_of.ensures
     (subst (λ (d : Deed). Did r e c.site_of.result d q f) c.deed_for-deed.ensures c.go.ensures.did))
 
