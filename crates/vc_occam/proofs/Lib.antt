@@ -42,3 +42,4 @@ pub mod Shares
 pub mod Judging
 pub mod Parted
 pub mod Placed
+pub mod Determinate
