@@ -6,7 +6,7 @@ use Rattle.vc_text.specs.declared.fault.RunFault.TheVariants.{Read, Write, Text,
 use Rattle.vc_text.specs.Streams.{Writes}
 use Rattle.vc_text.specs.Checking.{ReadsAccepted, Checks, accepted_text}
 
-memory_any : (known : Option (List ℕ)) → ReadsAccepted known (Err Memory)
+pub memory_any : (known : Option (List ℕ)) → ReadsAccepted known (Err Memory)
 memory_any None = tt
 memory_any (Some text) = tt
 

@@ -4,3 +4,4 @@ pub mod Checked
 pub mod Channels
 pub mod Closing
 pub mod Quieting
+pub mod Threaded
