@@ -15,8 +15,10 @@ pub mod Happening
 pub mod Replayed
 pub mod Viewing
 pub mod Finding
+pub mod Following
 pub mod Summing
 pub mod Placing
+pub mod Onward
 pub mod Belonging
 pub mod Everywhere
 pub mod Standing

@@ -1,5 +1,5 @@
 -- Which packets are sought at a node that they reach, and what is known of a packet before it comes there.
-use Rattle.std.specs.Prelude.{◌≡◌, ◌⊎◌, ◌↔◌, ℕ, ◌≤◌, List, [], ◌∷◌, ◌++◌, length, take, ◌==◌, Option, Some, None, IsTrue, if◌then◌else◌}
+use Rattle.std.specs.Prelude.{◌≡◌, ◌⊎◌, ◌↔◌, ℕ, ◌≤◌, ◌<◌, List, [], ◌∷◌, ◌++◌, length, take, ◌==◌, Option, Some, None, IsTrue, if◌then◌else◌}
 use Rattle.std.specs.List.{Contains}
 use Rattle.vc_packets.specs.declared.mark.Mark.{Mark}
 use Rattle.vc_packets.specs.declared.packet.Packet.{Packet}
@@ -8,7 +8,7 @@ use Rattle.vc_tokens.specs.Tokens.{Token, Byte, Fct, EndMark}
 use Rattle.vc_machine.specs.Owners.{HasOwner}
 use Rattle.vc_machine.specs.Paths.{Net, End, Delivers}
 use Rattle.vc_machine.specs.Places.{Place, OnWire, IsOf}
-use Rattle.vc_network.specs.Plan.{Plan, body_limit, home, net_of}
+use Rattle.vc_network.specs.Plan.{Plan, body_limit, home, net_of, ways}
 use Rattle.vc_plan.specs.declared.plan.Plan.{Plan as Given}
 use Rattle.vc_accepted.specs.NetworkOf.{network_of}
 use Rattle.vc_vcp.specs.State.{IsPieceOf, IsAckOf}
@@ -58,6 +58,7 @@ left got (Fct ∷ ts) = left got ts
 -- on way w these packets have been read, in search of one of channel c's, and then these bytes of another, of which no more than 45 are kept
 pub record HasRead (p : Given) (c w : ℕ) (ps : List Packet) (got : List ℕ) (r : Reader) : Type 0 where
   pub way : r.way ≡ w
+  pub real : w < ways (network_of p)
   pub ends : ends_at (network_of p) (home (network_of p) c) ≡ Some r.ends
   pub coming : r.coming.bytes.items ≡ take 45 got
   pub found : ((q : Packet) → Contains ps q → IsOwned (network_of p) (OnWire w, q)) → IsTrue r.found ↔ Has (λ q. IsOf (net_of (network_of p)) w None q c) ps

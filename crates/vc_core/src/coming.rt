@@ -17,10 +17,13 @@ impl Coming {
     pub(crate) fn of(bytes: &[u8]) -> Coming
         ensures { result.bytes.items ≡ take 45 bytes.now }
     {
+        let first = if bytes.len() < KEPT {
+            bytes
+        } else {
+            &bytes[..KEPT]
+        };
         let mut kept = ArrayVec::new();
-        for byte in bytes.iter().take(KEPT) {
-            kept.push(*byte);
-        }
+        let _fits = kept.try_extend_from_slice(first);
         Coming { bytes: kept }
     }
 

@@ -1,11 +1,11 @@
 //! Packets read from tokens.
-ghost use Rattle.std.specs.Prelude.{◌≡◌, ◌++◌, [], ◌∷◌, ℕ, List, Some};
+ghost use Rattle.std.specs.Prelude.{◌≡◌, ◌<◌, ◌++◌, [], ◌∷◌, ℕ, List, Some};
 ghost use Rattle.vc_accepted.specs.NetworkOf.{network_of};
 ghost use Rattle.vc_core.specs.Channels.{ends_at};
 ghost use Rattle.vc_core.specs.Sought.{HasRead, left};
 ghost use Rattle.vc_core.specs.State.{state_of, IsNetworkOf};
 ghost use Rattle.vc_machine.specs.Seen.{read};
-ghost use Rattle.vc_network.specs.Plan.{home};
+ghost use Rattle.vc_network.specs.Plan.{home, ways};
 ghost use Rattle.vc_packets.specs.declared.packet.Packet.{Packet};
 ghost use Rattle.vc_plan.specs.declared.plan.Plan.{Plan};
 ghost use Rattle.vc_tokens.specs.Spelt.{token as spelt, tokens as all_spelt};
@@ -29,7 +29,7 @@ impl Reader {
     /// A reader of a way in search of a packet of the channel with these ends, which begins within a packet, of which these bytes
     /// have come.
     pub(crate) fn new(way: usize, ends: Ends, passed: &[u8]) -> Reader
-        ensures { (p : Plan) (c : ℕ) → ends_at (network_of p) (home (network_of p) c) ≡ Some ends → HasRead p c way [] passed.now result }
+        ensures { (p : Plan) (c : ℕ) → way < ways (network_of p) → ends_at (network_of p) (home (network_of p) c) ≡ Some ends → HasRead p c way [] passed.now result }
     {
         Reader {
             way,

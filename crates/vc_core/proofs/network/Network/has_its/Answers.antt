@@ -5,7 +5,7 @@ use Rattle.vc_vcp.proofs.Placed.{same_read}
 use Rattle.vc_core.specs.Sought.{IsSought}
 use Rattle.vc_core.proofs.Finding.{has_at, has_none}
 use Rattle.vc_core.proofs.Turning.{clash}
-use Rattle.vc_core.proofs.sought.Sought.is_among.Goals as goal
+use Rattle.vc_core.proofs.network.Network.has_its.Goals as goal
 
 pub returns-then-is : goal.returns-then-is
 returns-then-is c =
