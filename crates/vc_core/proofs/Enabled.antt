@@ -163,7 +163,7 @@ few_out p acc w k l o = settle (there wire_of p.wires (w / 2) (let r = o.0 in om
 few_into : (p : Plan) → IsAccepted p → (w k l : ℕ) → IsInto (network_of p) w (AtNode k l) → l < 4
 few_into p acc w k l o = few_out p acc (back w) k l (back_out (network_of p) w (AtNode k l) o)
 
-real_out : (p : Plan) → IsAccepted p → (w i l : ℕ) → IsOutOf (network_of p) w (AtSwitch i l) → (i < length p.switches) × (l < 32)
+pub real_out : (p : Plan) → IsAccepted p → (w i l : ℕ) → IsOutOf (network_of p) w (AtSwitch i l) → (i < length p.switches) × (l < 32)
 real_out p acc w i l o = settle (there wire_of p.wires (w / 2) (let r = o.0 in omega arith))
   where
     settle : (x : Wire) × (slice_get p.wires (w / 2) ≡ Some x) → (i < length p.switches) × (l < 32)

@@ -1,8 +1,9 @@
 -- Whether one of a list is such; and what is read from more tokens.
-use Rattle.std.proofs.Common.{◌≡◌, ◌⊎◌, ◌↔◌, append_assoc, ℕ, zero, suc, ◌+◌, ◌*◌, ◌≤◌, ◌<◌, ◌==◌, Bool, true, false, IsTrue, List, [], ◌∷◌, ◌++◌, length, min, take, slice_get, Some, None, refl, sym, ap, ◌∙◌, subst, inl, inr, arith, if◌then◌else◌}
+use Rattle.std.proofs.Common.{◌≡◌, ◌⊎◌, ◌↔◌, append_assoc, ℕ, zero, suc, ◌+◌, ◌*◌, ◌≤◌, ◌<◌, ◌==◌, Bool, true, false, IsTrue, List, [], ◌∷◌, ◌++◌, length, min, take, slice_get, Some, None, Result, Ok, Err, IsOk, OnOk, refl, sym, ap, ◌∙◌, subst, inl, inr, arith, if◌then◌else◌}
 use Rattle.std.specs.List.{Contains}
 use Rattle.std.proofs.lemmas.List.{map-append, take-append-le, take_all, length-take, length-append}
 use Rattle.std.proofs.lemmas.List.Elements.{Contains-append_left, Contains-append_right}
+use Rattle.std.proofs.Math.Nat.{min-eq_left, min-le_right}
 use Rattle.std.proofs.lemmas.Bool.{cases_lt}
 use Rattle.vc_packets.specs.declared.mark.Mark.{Mark}
 use Rattle.vc_packets.specs.declared.packet.Packet.{Packet}
@@ -14,7 +15,7 @@ use Rattle.vc_machine.specs.Seen.{read}
 use Rattle.vc_network.specs.Plan.{body_limit, net_of}
 use Rattle.vc_plan.specs.declared.plan.Plan.{Plan}
 use Rattle.vc_accepted.specs.NetworkOf.{network_of}
-use Rattle.vc_occam.proofs.Lists.{at_front}
+use Rattle.vc_occam.proofs.Lists.{at_front, behind}
 use Rattle.vc_core.specs.Sought.{Has, IsOwned, HasRead, left}
 use Rattle.vc_core.specs.declared.reader.Reader.{Reader}
 use Rattle.vc_core.proofs.Turning.{clash}
@@ -66,6 +67,17 @@ in_second B xs ys t u is_false first second = (
   (λ has. elim (has_either B xs ys has) [ inl a ↦ absurd (clash t is_false (first.1 a)) | inr b ↦ second.1 b ]),
 )
 
+-- a place in a list has one of its members
+pub contains_at : {X : Type 0} (xs : List X) (i : ℕ) (x : X) → slice_get xs i ≡ Some x → Contains xs x
+contains_at [] i x e = absurd (cc)
+contains_at (y ∷ ys) zero x e = let same : y ≡ x = cc in subst (Contains (y ∷ ys)) same (at_front y ys)
+contains_at (y ∷ ys) (suc i) x e = behind y ys x (contains_at ys i x e)
+
+-- what holds of a success
+pub of_ok : {X E A : Type 0} (r : Result X E) → IsOk r → OnOk r A → A
+of_ok (Ok x) t h = h
+of_ok (Err e) t h = absurd (cc)
+
 -- what is kept of the bytes that come
 pub kept_more : (got items : List ℕ) (b : ℕ) → items ≡ take 45 got → length items < 45 → items ++ b ∷ [] ≡ take 45 (got ++ b ∷ [])
 kept_more got items b is few =
@@ -75,7 +87,7 @@ kept_more got items b is few =
     ap (λ z. z ++ b ∷ []) (is ∙ take_all 45 got (omega arith)) ∙ sym (take_all 45 (got ++ b ∷ []) (omega arith))
   where
     below : (n m : ℕ) → m ≡ min 45 n → m < 45 → n < 45
-    below n m e h = elim (cases_lt n 45) [ inl k ↦ k | inr k ↦ absurd (omega (arith, e, h, k, min_above n k)) ]
+    below n m e h = elim (cases_lt n 45) [ inl k ↦ k | inr k ↦ absurd (let m_is = e ∙ min-eq_left (let a : 45 ≤ n = omega arith in a) in omega arith) ]
 
 pub kept_same : (got items : List ℕ) (b : ℕ) → items ≡ take 45 got → 45 ≤ length items → items ≡ take 45 (got ++ b ∷ [])
 kept_same got items b is many =
@@ -83,7 +95,7 @@ kept_same got items b is many =
     is ∙ sym (take-append-le 45 got (b ∷ []) (above (length got) (length items) long many))
   where
     above : (n m : ℕ) → m ≡ min 45 n → 45 ≤ m → 45 ≤ n
-    above n m e h = elim (cases_lt n 45) [ inl k ↦ absurd (omega (arith, e, h, k, min_below n k)) | inr k ↦ k ]
+    above n m e h = elim (cases_lt n 45) [ inl k ↦ absurd (let less = min-le_right 45 n in omega arith) | inr k ↦ k ]
 
 -- a packet of a network is kept whole
 pub limit_small : (p : Plan) → body_limit (network_of p) ≤ 44

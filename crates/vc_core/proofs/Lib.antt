@@ -21,6 +21,7 @@ pub mod Placing
 pub mod Onward
 pub mod Belonging
 pub mod Everywhere
+pub mod Ways
 pub mod Standing
 pub mod GoingOn
 pub mod AbleMoves

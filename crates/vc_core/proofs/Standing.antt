@@ -61,7 +61,7 @@ no_ends p s c e = λ place stands. off_link (network_of p) (home (network_of p) 
 -- one of the channel's packets was found at a way
 pub found_way : (p : Plan) (s : State) (c w : ℕ) (e : Ends) (x : Place) → ends_at (network_of p) (home (network_of p) c) ≡ Some e → w < ways (network_of p) →
     FindsOn (network_of p) (shown s) c w (Some x) → FindsPlace p s c (Some x)
-found_way p s c w e x ends less (place, at, has, named) =
+found_way p s c w e x ends less (place, at, (has, named)) =
     let plan = network_of p in
     let r = has_in (λ q. BelongsTo (net_of plan) c (place, q)) (packets_at plan (shown s) place) has in
     (place, record { on_link = on_link plan (home plan c) e ends; here = (r.0, goes_there plan (shown s) w place r.0 less at r.1, r.2) }, named)

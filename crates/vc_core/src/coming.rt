@@ -17,13 +17,8 @@ impl Coming {
     pub(crate) fn of(bytes: &[u8]) -> Coming
         ensures { result.bytes.items ≡ take 45 bytes.now }
     {
-        let first = if bytes.len() < KEPT {
-            bytes
-        } else {
-            &bytes[..KEPT]
-        };
         let mut kept = ArrayVec::new();
-        let _fits = kept.try_extend_from_slice(first);
+        let _fits = kept.try_extend_from_slice(first_of(bytes));
         Coming { bytes: kept }
     }
 
@@ -43,5 +38,15 @@ impl Coming {
         ensures { result.now ≡ self.now.bytes.items }
     {
         self.bytes.as_slice()
+    }
+}
+
+// The first of these bytes, as many as are kept.
+fn first_of(bytes: &[u8]) -> &[u8]
+    ensures { result.now ≡ take 45 bytes.now }
+{
+    match bytes.get(..KEPT) {
+        Some(first) => first,
+        None => bytes,
     }
 }

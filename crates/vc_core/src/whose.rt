@@ -11,6 +11,7 @@ ghost use Rattle.vc_core.specs.Channels.{ends_at};
 ghost use Rattle.vc_core.specs.Parts.{switch_at};
 ghost use Rattle.vc_core.specs.Sought.{ComesTo, Has, IsOwned, IsSoughtAt};
 ghost use Rattle.vc_core.specs.State.{state_of, IsNetworkOf};
+ghost use Rattle.vc_core.specs.Wired.{out_at};
 ghost use Rattle.vc_machine.specs.Machine.{BodyLeaves};
 ghost use Rattle.vc_machine.specs.Paths.{AtSwitch, End};
 ghost use Rattle.vc_machine.specs.Places.{BelongsTo, Inside, IsOf, OnWire};
@@ -65,7 +66,10 @@ impl Network {
             return false;
         }
         match self.way_on(switch, body) {
-            Some((way, from)) => self.leads(way, &body[from..], mark, ends, HOPS - 1),
+            Some((way, from)) => {
+                let (_, left) = body.split_at(from);
+                self.leads(way, left, mark, ends, HOPS - 1)
+            }
             None => false,
         }
     }
@@ -78,7 +82,8 @@ impl Network {
         let Some(wire) = at(self.wires.as_slice(), way / 2) else {
             return false;
         };
-        let far = port_of(wire, way % 2 != 0);
+        let from_one = way % 2 == 0;
+        let far = port_of(wire, !from_one);
         match far.spot {
             Spot::Node(node) => ends.sought_at(node).is(body, mark),
             Spot::Switch(switch) => {
@@ -87,13 +92,10 @@ impl Network {
                 }
                 let headed = headed(self.least_header(switch, far.link), body);
                 match self.way_on(switch, headed.as_slice()) {
-                    Some((way, from)) => self.leads(
-                        way,
-                        &headed.as_slice()[from..],
-                        mark,
-                        ends,
-                        hops - 1,
-                    ),
+                    Some((way, from)) => {
+                        let (_, left) = headed.as_slice().split_at(from);
+                        self.leads(way, left, mark, ends, hops - 1)
+                    }
                     None => false,
                 }
             }
@@ -117,9 +119,17 @@ impl Network {
         ensures leaves { (p : Plan) → IsNetworkOf p (state_of self.now) → MatchOption result ((out : ℕ) (left : List ℕ) → BodyLeaves (net_of (network_of p)) switch body.now out left → ⊥) (λ way. BodyLeaves (net_of (network_of p)) switch body.now way.0 (drop way.1 body.now)) }
     {
         let (link, from) = self.switch(switch)?.first_way(body)?;
-        let actor = self.nodes.checked_add(switch)?;
-        let way = self.wiring.outgoing(actor, link)?;
-        Some((way, from))
+        Some((self.way_out(switch, link)?, from))
+    }
+
+    // The way that goes out by a link of a switch, if the link is on a wire.
+    fn way_out(&self, switch: u8, link: u8) -> Option<usize>
+        ensures { (p : Plan) → IsNetworkOf p (state_of self.now) → result ≡ out_at self.now.wiring (self.now.nodes + switch) link }
+    {
+        match self.nodes.checked_add(switch) {
+            Some(actor) => self.wiring.outgoing(actor, link),
+            None => None,
+        }
     }
 
     /// The switch of this number, if there is one.

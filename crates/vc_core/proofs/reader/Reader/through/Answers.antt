@@ -11,12 +11,12 @@ use Rattle.vc_core.proofs.Replayed.{take_more}
 use Rattle.vc_core.proofs.reader.Reader.through.Goals as goal
 
 pub loop-token-preserved : goal.loop-token-preserved
-loop-token-preserved c = λ x ps got h.
+loop-token-preserved c = λ p c' w ps got is h.
     let xs = c.args.tokens.now in
     let k = c.loop-token.token-index in
     let t : Token = get_or xs k (Byte 0) in
     let there = slice_get-get_or xs k (Byte 0) c.loop-token-test.true in
     let more : tokens (take k xs) ++ token t ∷ [] ≡ tokens (take (k + 1) xs) = sym (ap tokens (ap (λ n. take n xs) (add-one k) ∙ take_more xs k t there) ∙ map-append token (take k xs) (t ∷ [])) in
     let r = c.with-reader.result in
-    subst (λ ts. HasRead x (ps ++ read got ts) (left got ts) r) more
-    (through_more x ps got (tokens (take k xs)) (token t ∷ []) r (c.with-reader.ensures x (ps ++ read got (tokens (take k xs))) (left got (tokens (take k xs))) (c.loop-token.invariant x ps got h)))
+    subst (λ ts. HasRead p c' w (ps ++ read got ts) (left got ts) r) more
+    (through_more p c' w ps got (tokens (take k xs)) (token t ∷ []) r (c.with-reader.ensures p c' w (ps ++ read got (tokens (take k xs))) (left got (tokens (take k xs))) is (c.loop-token.invariant p c' w ps got is h)))

@@ -1,0 +1,6 @@
+use Rattle.std.proofs.Common.{◌≤◌, length, sym, arith}
+use Rattle.std.proofs.lemmas.List.{take_all}
+use Rattle.vc_core.proofs.coming.first_of.Goals as goal
+
+pub returns-in-None : goal.returns-in-None
+returns-in-None c = sym (take_all 45 c.args.bytes.now ?)
