@@ -61,7 +61,7 @@ returns-in-Some-way_on t c = λ p e load is less comes.
     let leaves = subst (λ b. BodyLeaves net k b c.in-Some-way_on.way (drop c.in-Some-way_on.from b)) one (c.in-Some-way_on.ensures.leaves p is) in
     let next = hop_for net (c.args.hops - 1) w c.args.body.now load headed e k link c.least_header.result c.in-Some-way_on.way (drop c.in-Some-way_on.from headed) at (c.least_header.ensures p is) c.headed-headed.ensures
     (subst (λ h. ComesTo net h w c.args.body.now e load) more comes) leaves in
-    c.leads.ensures p e load is leaves.leaves.real (subst (λ b. ComesTo net (c.args.hops - 1) c.in-Some-way_on.way (drop c.in-Some-way_on.from b) e load) (sym two) next)
+    c.leads.ensures p e load is leaves.leaves.real (subst (λ b. ComesTo net (c.args.hops - 1) c.in-Some-way_on.way b e load) (sym (c.split_at.ensures.back ∙ ap (drop c.in-Some-way_on.from) two)) next)
 
 pub returns-in-None : goal.returns-in-None
 returns-in-None t c = λ p e load is less comes.

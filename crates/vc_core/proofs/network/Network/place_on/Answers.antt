@@ -33,4 +33,5 @@ returns c = λ p c' is owned ends less.
     let real : slice_get s.wires (w / 2) ≡ Some x = ap (λ z. slice_get z (w / 2)) (sym c.as_slice.ensures) ∙ sym c.in_ok-wire.ensures in
     let at = far_is p s w x is real ∙ ap to.port_of (sym c.port_of-far.ensures) in
     let from = near_is p s w x is real ∙ ap to.port_of (sym c.port_of.ensures) in
-    last_on (network_of p) s c' w c.place_before.result ? ? (c.place_before.ensures p c' is owned ends less from)
+    last_on (network_of p) s c' w c.place_before.result (subst (FindsAt (network_of p) (shown s) c' (OnWire w)) c.in_default.is (c.place_along.ensures p c' is owned ends less at))
+    (subst (FindsAt (network_of p) (shown s) c' (Inside w)) c.in_default-place_inside.is (c.place_inside.ensures p c' w is owned ends less at)) (c.place_before.ensures p c' is owned ends less from)
