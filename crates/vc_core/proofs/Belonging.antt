@@ -1,5 +1,5 @@
 -- Whose a packet is: the end to which its headers lead it, and its kind there, tell it.
-use Rattle.std.proofs.Common.{◌≡◌, ◌↔◌, ℕ, zero, suc, ◌==◌, Bool, true, false, not, IsTrue, List, [], ◌∷◌, ◌++◌, length, drop, nat_eq, nat_le, Option, Some, None, refl, sym, ap, ◌∙◌, subst, inl, inr, arith, if◌then◌else◌, eqb-true, eq-eqb}
+use Rattle.std.proofs.Common.{◌≡◌, ◌↔◌, ℕ, ◌==◌, Bool, true, false, not, IsTrue, List, [], ◌∷◌, ◌++◌, length, drop, nat_eq, nat_le, Option, Some, None, refl, sym, ap, ◌∙◌, subst, inl, inr, arith, if◌then◌else◌, eqb-true, eq-eqb}
 use Rattle.std.proofs.lemmas.Bool.Decides.{nat_tests}
 use Rattle.vc_packets.specs.declared.mark.Mark.{Mark}
 use Rattle.vc_packets.specs.declared.mark.Mark.TheVariants.{Eop, Eom}
@@ -20,7 +20,7 @@ use Rattle.vc_network.specs.Plan as network
 use Rattle.vc_network.proofs.Wiring.{carried, net_accepted}
 use Rattle.vc_vcp.specs.State.{IsPieceOf, IsAckOf}
 use Rattle.vc_core.specs.Channels.{ends_at, block_of}
-use Rattle.vc_core.specs.Sought.{IsSoughtAt, ComesTo, IsOwned, sought_at}
+use Rattle.vc_core.specs.Sought.{IsSoughtAt, ComesTo, IsOwned}
 use Rattle.vc_core.specs.declared.channels.BlockAt.{BlockAt}
 use Rattle.vc_core.specs.declared.channels.Ends.{Ends}
 use Rattle.vc_core.proofs.Following.{goes_on}

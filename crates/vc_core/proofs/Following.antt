@@ -1,7 +1,6 @@
 -- Where the headers of a body lead it: hop by hop, whatever path it takes.
-use Rattle.std.proofs.Common.{◌≡◌, ◌⊎◌, ◌↔◌, ℕ, zero, suc, Bool, true, false, IsTrue, List, [], ◌∷◌, ◌++◌, Option, Some, None, refl, sym, ap, ◌∙◌, subst, inl, inr}
+use Rattle.std.proofs.Common.{◌≡◌, ◌↔◌, ℕ, suc, Bool, IsTrue, List, [], ◌∷◌, ◌++◌, Option, refl, ap, ◌∙◌, subst}
 use Rattle.vc_packets.specs.declared.mark.Mark.{Mark}
-use Rattle.vc_packets.specs.declared.packet.Packet.{Packet}
 use Rattle.vc_packets.specs.Headers.{spelled}
 use Rattle.vc_switch.specs.Forward.{IsDrawn, behind}
 use Rattle.vc_machine.specs.Machine.{BodyLeaves}

@@ -2,9 +2,8 @@
 use Rattle.std.proofs.Common.{◌≡◌, ℕ, ◌+◌, ◌≤◌, List, length, Option, Some, None, slice_get, refl, arith, sym, ap, ◌∙◌, subst}
 use Rattle.vc_machine.specs.Machine.{BodyLeaves}
 use Rattle.vc_machine.specs.Paths.{AtSwitch}
-use Rattle.vc_network.specs.Plan.{IsOutOf, net_of, switch_plan}
+use Rattle.vc_network.specs.Plan.{IsOutOf, net_of}
 use Rattle.vc_plan.specs.declared.plan.Plan.{Plan}
-use Rattle.vc_labels.specs.declared.action.Action.{Action}
 use Rattle.vc_labels.specs.declared.action.Action.TheVariants.{Out}
 use Rattle.vc_labels.specs.Interval.{action_for}
 use Rattle.vc_accepted.specs.NetworkOf.{network_of}

@@ -1,5 +1,5 @@
 -- What the code finds at the ports of a way.
-use Rattle.std.proofs.Common.{◌≡◌, ◌⊎◌, ℕ, ◌+◌, ◌/◌, ◌%◌, ◌<◌, ◌≤◌, ◌==◌, Bool, true, false, not, [], length, slice_get, Option, Some, None, refl, sym, ap, ◌∙◌, subst, inl, inr, arith}
+use Rattle.std.proofs.Common.{◌≡◌, ℕ, ◌+◌, ◌/◌, ◌%◌, ◌<◌, ◌≤◌, ◌==◌, Bool, false, not, [], length, slice_get, Option, Some, None, refl, sym, ap, ◌∙◌, subst, inl, inr, arith}
 use Rattle.std.proofs.lemmas.List.{length-map}
 use Rattle.std.proofs.lemmas.Option.{slice_get_past}
 use Rattle.vc_machine.specs.Places as places
@@ -20,11 +20,11 @@ use Rattle.vc_accepted.proofs.Wired.{ways_few}
 use Rattle.vc_switch.specs.Forward.{Interval, SwitchPlan}
 use Rattle.vc_switch.specs.Seen.{seen}
 use Rattle.vc_switch.specs.State.{State as SwitchState, plan_of}
-use Rattle.vc_switch.specs.Switch.{Switch, new_switch}
+use Rattle.vc_switch.specs.Switch.{new_switch}
 use Rattle.vc_vcp.specs.Keyed.{shown_or}
-use Rattle.vc_core.specs.OfPlan.{IsActorOf, IsSwitchOf}
+use Rattle.vc_core.specs.OfPlan.{IsSwitchOf}
 use Rattle.vc_core.specs.Parts.{switch_at}
-use Rattle.vc_core.specs.Placed.{FindsAt, FindsOn, HasIts, IsAt}
+use Rattle.vc_core.specs.Placed.{FindsAt, FindsOn, HasIts}
 use Rattle.vc_core.specs.Shown.{Acting, OfNode, OfSwitch, actor_of}
 use Rattle.vc_core.specs.State.{State, shown, IsNetworkOf}
 use Rattle.vc_core.specs.declared.place.Place.{Place}

@@ -1,4 +1,4 @@
-use Rattle.std.proofs.Common.{◌≤◌, length, sym, inl, inr, arith}
+use Rattle.std.proofs.Common.{sym, inl, inr, arith}
 use Rattle.std.proofs.lemmas.List.{take_all}
 use Rattle.vc_core.proofs.coming.first_of.Goals as goal
 

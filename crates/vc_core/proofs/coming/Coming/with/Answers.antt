@@ -1,4 +1,4 @@
-use Rattle.std.proofs.Common.{◌≡◌, ◌<◌, ◌≤◌, length, sym, ap, ◌∙◌, true, false, ◌==◌, arith}
+use Rattle.std.proofs.Common.{ap, ◌∙◌, arith}
 use Rattle.std.proofs.lemmas.Bool.Decides.{nat_tests}
 use Rattle.vc_core.proofs.Finding.{kept_more, kept_same}
 use Rattle.vc_core.proofs.coming.Coming.with.Goals.{then-not-is_full, else-not-is_full}

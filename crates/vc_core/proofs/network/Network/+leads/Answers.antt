@@ -1,6 +1,4 @@
-use Rattle.std.proofs.Common.{◌≡◌, ◌↔◌, ◌<◌, ◌+◌, ◌-◌, ◌/◌, ◌++◌, ℕ, List, [], suc, IsTrue, length, drop, None, Some, slice_get, sym, ap, ◌∙◌, subst, arith}
-use Rattle.vc_packets.specs.Headers.{spelled}
-use Rattle.vc_packets.specs.declared.packet.Packet.{Packet}
+use Rattle.std.proofs.Common.{◌≡◌, ◌↔◌, ◌<◌, ◌-◌, ◌/◌, suc, IsTrue, drop, None, Some, slice_get, sym, ap, ◌∙◌, subst, arith}
 use Rattle.vc_machine.specs.Machine.{BodyLeaves}
 use Rattle.vc_machine.specs.Paths.{Delivers}
 use Rattle.vc_network.specs.Plan.{net_of}
@@ -8,7 +6,6 @@ use Rattle.vc_network.proofs.Wiring.{net_accepted}
 use Rattle.vc_accepted.specs.NetworkOf.{network_of, port_at}
 use Rattle.vc_accepted.specs.NetworkOf as to
 use Rattle.vc_accepted.proofs.Accepting.{accepted}
-use Rattle.vc_switch.specs.Forward.{behind}
 use Rattle.vc_core.specs.Sought.{IsSought, ComesTo}
 use Rattle.vc_core.specs.State.{state_of}
 use Rattle.vc_core.proofs.Following.{sought_there, no_hop, hop_for, some_hop}

@@ -1,14 +1,14 @@
-use Rattle.std.proofs.Common.{◌≡◌, ◌↔◌, ◌++◌, ◌<◌, [], length, slice_get, IsTrue, List, None, sym, ap, ◌∙◌, subst, arith}
+use Rattle.std.proofs.Common.{◌≡◌, ◌↔◌, ◌++◌, ◌<◌, [], slice_get, IsTrue, List, sym, ap, ◌∙◌, subst, arith}
 use Rattle.vc_tokens.specs.Spelt.{tokens}
 use Rattle.vc_tokens.specs.Tokens.{Token}
 use Rattle.vc_machine.specs.Places.{OnWire}
-use Rattle.vc_machine.specs.Seen.{read, passed_on}
-use Rattle.vc_network.specs.Plan.{net_of, ways}
+use Rattle.vc_machine.specs.Seen.{read}
+use Rattle.vc_network.specs.Plan.{ways}
 use Rattle.vc_network.specs.Views.{vcps, switches, arrived}
 use Rattle.vc_accepted.specs.NetworkOf.{network_of, port_of}
 use Rattle.vc_vcp.specs.Keyed.{shown_or}
 use Rattle.vc_core.specs.Placed.{HasIts}
-use Rattle.vc_core.specs.Sought.{HasRead, left}
+use Rattle.vc_core.specs.Sought.{left}
 use Rattle.vc_core.specs.State.{shown, state_of}
 use Rattle.vc_core.proofs.Finding.{through_both, through_more}
 use Rattle.vc_core.proofs.Happening.{none_past}

@@ -1,6 +1,4 @@
-use Rattle.std.proofs.Common.{◌<◌, sym, ap, ◌∙◌, subst}
-use Rattle.vc_network.specs.Plan.{ways}
-use Rattle.vc_accepted.specs.NetworkOf.{network_of}
+use Rattle.std.proofs.Common.{◌<◌, sym, subst}
 use Rattle.vc_switch.specs.Seen.{seen}
 use Rattle.vc_core.specs.State.{state_of}
 use Rattle.vc_core.proofs.Placing.{switch_shown}

@@ -1,6 +1,5 @@
-use Rattle.std.proofs.Common.{◌<◌, sym, ap, ◌∙◌, subst}
-use Rattle.vc_network.specs.Plan.{ways}
-use Rattle.vc_accepted.specs.NetworkOf.{network_of, port_at}
+use Rattle.std.proofs.Common.{◌<◌, ap, ◌∙◌, subst}
+use Rattle.vc_accepted.specs.NetworkOf.{port_at}
 use Rattle.vc_core.specs.State.{state_of}
 use Rattle.vc_core.proofs.Turning.{clash}
 use Rattle.vc_core.proofs.Ways.{waiting, before_it, none_before}

@@ -1,4 +1,4 @@
-use Rattle.std.proofs.Common.{◌≡◌, ◌/◌, ◌%◌, ◌==◌, slice_get, Some, None, refl, inl, inr, sym, ap, ◌∙◌, subst}
+use Rattle.std.proofs.Common.{◌≡◌, ◌/◌, slice_get, Some, refl, inl, inr, sym, ap, ◌∙◌, subst}
 use Rattle.vc_machine.specs.Places.{OnWire, Inside}
 use Rattle.vc_accepted.specs.NetworkOf.{network_of}
 use Rattle.vc_accepted.specs.NetworkOf as to

@@ -1,4 +1,4 @@
-use Rattle.std.proofs.Common.{◌≡◌, ◌+◌, ℕ, List, drop, MatchOption, Some, None, sym, ap, ◌∙◌, subst}
+use Rattle.std.proofs.Common.{ℕ, List, drop, MatchOption, sym, subst}
 use Rattle.vc_machine.specs.Machine.{BodyLeaves}
 use Rattle.vc_network.specs.Plan.{net_of}
 use Rattle.vc_accepted.specs.NetworkOf.{network_of}

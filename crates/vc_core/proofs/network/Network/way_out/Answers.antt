@@ -1,7 +1,6 @@
-use Rattle.std.proofs.Common.{◌≡◌, ◌+◌, ◌≤◌, sym, ap, ◌∙◌, inl, inr, arith}
+use Rattle.std.proofs.Common.{◌+◌, inl, inr, arith}
 use Rattle.std.proofs.lemmas.Bool.{cases_lt}
 use Rattle.vc_core.specs.State.{state_of}
-use Rattle.vc_core.specs.Wired.{out_at}
 use Rattle.vc_core.proofs.Onward.{none_far}
 use Rattle.vc_core.proofs.network.Network.way_out.Goals as goal
 

@@ -1,4 +1,4 @@
-use Rattle.std.proofs.Common.{◌≡◌, ◌↔◌, ◌<◌, ◌++◌, ◌∷◌, [], ℕ, List, IsTrue, None, take, sym, ap, ◌∙◌, subst}
+use Rattle.std.proofs.Common.{◌≡◌, ◌↔◌, ◌<◌, ◌++◌, ◌∷◌, [], ℕ, List, IsTrue, None, take, sym, ◌∙◌, subst}
 use Rattle.vc_machine.specs.Places.{IsOf, OnWire}
 use Rattle.vc_network.specs.Plan.{net_of, ways}
 use Rattle.vc_packets.specs.declared.packet.Packet.{Packet}
