@@ -1,5 +1,5 @@
--- Whose a packet is that comes to a node: its block and its kind tell it.
-use Rattle.std.proofs.Common.{◌≡◌, ℕ, zero, suc, ◌==◌, Bool, true, false, not, List, [], ◌∷◌, ◌++◌, length, drop, nat_eq, nat_le, Some, None, refl, sym, ap, ◌∙◌, subst, inl, inr, arith, if◌then◌else◌, eqb-true, eq-eqb}
+-- Whose a packet is: the end to which its headers lead it, and its kind there, tell it.
+use Rattle.std.proofs.Common.{◌≡◌, ◌↔◌, ℕ, ◌==◌, Bool, true, false, not, IsTrue, List, [], ◌∷◌, ◌++◌, length, drop, nat_eq, nat_le, Option, Some, None, refl, sym, ap, ◌∙◌, subst, inl, inr, arith, if◌then◌else◌, eqb-true, eq-eqb}
 use Rattle.std.proofs.lemmas.Bool.Decides.{nat_tests}
 use Rattle.vc_packets.specs.declared.mark.Mark.{Mark}
 use Rattle.vc_packets.specs.declared.mark.Mark.TheVariants.{Eop, Eom}
@@ -8,15 +8,22 @@ use Rattle.vc_packets.specs.declared.kind.Kind.TheVariants.{Ack, Piece, Malforme
 use Rattle.vc_packets.specs.Headers.{spelled}
 use Rattle.vc_packets.specs.Kind.{kind}
 use Rattle.vc_blocks.specs.Halves.{load_of, ends_message}
-use Rattle.vc_machine.specs.Paths.{Net, End, AtNode, IsWellAt, Delivers}
-use Rattle.vc_machine.specs.Places.{IsOf}
-use Rattle.vc_machine.proofs.Cover.{at_node}
-use Rattle.vc_network.specs.Plan.{Plan, Home, Way, Inside, far, home, end_of, virtual_link, net_of, net_channel}
+use Rattle.vc_switch.specs.Forward.{behind}
+use Rattle.vc_machine.specs.Paths.{Net, End, AtSwitch, Carries, Delivers, GoesOn}
+use Rattle.vc_machine.specs.Paths.{IsAccepted as IsAcceptedNet}
+use Rattle.vc_machine.specs.Places.{Place, OnWire, Inside, LeadsTo, IsOf, BelongsTo}
+use Rattle.vc_machine.proofs.Basics.{header_same, header_rest_same}
+use Rattle.vc_machine.proofs.Counts.{piece_ack}
+use Rattle.vc_machine.proofs.Owned.{owners_one}
+use Rattle.vc_network.specs.Plan.{Plan, Home, Way, far, home, end_of, virtual_link, net_of, net_channel, IsAccepted}
+use Rattle.vc_network.specs.Plan as network
+use Rattle.vc_network.proofs.Wiring.{carried, net_accepted}
 use Rattle.vc_vcp.specs.State.{IsPieceOf, IsAckOf}
 use Rattle.vc_core.specs.Channels.{ends_at, block_of}
-use Rattle.vc_core.specs.Sought.{IsSought, sought_at}
+use Rattle.vc_core.specs.Sought.{IsSoughtAt, ComesTo, IsOwned}
 use Rattle.vc_core.specs.declared.channels.BlockAt.{BlockAt}
 use Rattle.vc_core.specs.declared.channels.Ends.{Ends}
+use Rattle.vc_core.proofs.Following.{goes_on}
 
 -- a piece is a message's last where its mark ends a message
 last_is : (load : List ℕ) (m : Mark) (last : Bool) → kind load m ≡ Piece last → last ≡ ends_message m
@@ -74,7 +81,7 @@ pub are_ends : (plan : Plan) (c : ℕ) (e : Ends) → ends_at plan (home plan c)
 are_ends plan c e h = by_home (home plan c) refl h
   where
     by_home : (k : Home) → home plan c ≡ k → ends_at plan k ≡ Some e → AreEnds plan c e
-    by_home (Inside n) at h = absurd (cc)
+    by_home (network.Inside n) at h = absurd (cc)
     by_home (Way v ab) at h =
         let same : record { from = block_of (end_of (virtual_link plan v) ab); to = block_of (end_of (virtual_link plan v) (not ab)) } ≡ e = cc in
         record {
@@ -84,9 +91,13 @@ are_ends plan c e h = by_home (home plan c) refl h
           from_block = ap (λ z. (net_channel plan z).from.block) at ∙ ap (λ (z : Ends). z.from.block) same;
         }
 
-delivered : (net : Net) (fuel w : ℕ) (e : End) (n i : ℕ) → net.far w ≡ AtNode n i → n ≡ e.node → Delivers net fuel w (e.block ∷ []) e
-delivered net zero w e n i far node = subst (λ q. IsWellAt net (λ w2 s2. ⊥) q (e.block ∷ []) e) (sym far) (node, refl)
-delivered net (suc fuel) w e n i far node = subst (λ q. IsWellAt net (λ w2 s2. Delivers net fuel w2 s2 e) q (e.block ∷ []) e) (sym far) (node, refl)
+-- a channel with ends is one that the network carries
+pub is_carried : (plan : Plan) (c : ℕ) (e : Ends) → ends_at plan (home plan c) ≡ Some e → Carries (net_of plan) c
+is_carried plan c e h = by_home (home plan c) refl h
+  where
+    by_home : (k : Home) → home plan c ≡ k → ends_at plan k ≡ Some e → Carries (net_of plan) c
+    by_home (Way v ab) at h = carried plan c v ab at
+    by_home (network.Inside n) at h = absurd (cc)
 
 -- what is sought for a block, where the block is at the node
 wanted : (x : BlockAt) (n : ℕ) → n ≡ x.node → (if x.node == n then Some x.block else None) ≡ Some x.block
@@ -99,40 +110,85 @@ wanted_is x n block h = by_test (x.node == n) refl h
     by_test true t h = (sym (eqb-true x.node n t), cc)
     by_test false t h = absurd (cc)
 
--- a packet on a way to a node is the channel's where it is sought there
-pub is_sought : (plan : Plan) (c w n i : ℕ) (e : Ends) (p : Packet) → AreEnds plan c e → far plan w ≡ AtNode n i → IsOf (net_of plan) w None p c → IsSought (sought_at e n) p
-is_sought plan c w n i e p ends there (inl (load, last, leads, piece)) =
-    let at = at_node (net_of plan) 32 w leads.stack ((net_of plan).chan c).to n i there leads.delivers in
-    let body : p.body ≡ spelled (e.to.block ∷ []) ++ load = leads.body ∙ ap (λ s. spelled s ++ load) (at.1 ∙ ap (λ b. b ∷ []) ends.to_block) in
-    inl (e.to.block, wanted e.to n (at.0 ∙ ends.to_node), piece_of e.to.block p load last body piece)
-is_sought plan c w n i e p ends there (inr (load, leads, ack)) =
-    let at = at_node (net_of plan) 32 w leads.stack ((net_of plan).chan c).from n i there leads.delivers in
-    let body : p.body ≡ spelled (e.from.block ∷ []) ++ load = leads.body ∙ ap (λ s. spelled s ++ load) (at.1 ∙ ap (λ b. b ∷ []) ends.from_block) in
-    inr (e.from.block, wanted e.from n (at.0 ∙ ends.from_node), ack_of e.from.block p load body ack)
+-- whether a packet that belongs to channel d, and is sought where its headers lead it, is channel c's
+pub one_sought : (plan : Plan) (c d w : ℕ) (v : Option ℕ) (e : Ends) (q : Packet) (t : Bool) → IsAcceptedNet (net_of plan) → AreEnds plan c e → Carries (net_of plan) c → Carries (net_of plan) d → IsOf (net_of plan) w v q d →
+    ((to : End) (load : List ℕ) → LeadsTo (net_of plan) w v q to load → IsTrue t ↔ IsSoughtAt e to load q.mark) → (IsTrue t → c ≡ d) × (c ≡ d → IsTrue t)
+one_sought plan c d w v e q t acc ends rc rd (inl (load, last, leads, piece)) told = (
+  (λ h. by_kind (tells.0 h)),
+  (λ same.
+      let block : to.block ≡ e.to.block = ap (λ k. ((net_of plan).chan k).to.block) (sym same) ∙ ends.to_block in
+      tells.1 (inl (e.to.block, wanted e.to to.node (ap (λ k. ((net_of plan).chan k).to.node) (sym same) ∙ ends.to_node), piece_of e.to.block here load last (ap (λ b. spelled (b ∷ []) ++ load) block) piece))),
+)
+  where
+    to : End
+    to = ((net_of plan).chan d).to
 
-pub is_its : (plan : Plan) (c w n i : ℕ) (e : Ends) (p : Packet) → AreEnds plan c e → far plan w ≡ AtNode n i → IsSought (sought_at e n) p → IsOf (net_of plan) w None p c
-is_its plan c w n i e p ends there (inl (block, here, piece)) =
-    let at = wanted_is e.to n block here in
-    let to = ((net_of plan).chan c).to in
-    inl (
-      load_of p,
-      ends_message p.mark,
-      record {
-        stack = to.block ∷ [];
-        body = piece.body ∙ ap (λ b. spelled (b ∷ []) ++ load_of p) (at.1 ∙ sym ends.to_block);
-        delivers = delivered (net_of plan) 32 w to n i there (at.0 ∙ sym ends.to_node);
-      },
-      piece.piece.kind,
-    )
-is_its plan c w n i e p ends there (inr (block, here, ack)) =
-    let at = wanted_is e.from n block here in
-    let from = ((net_of plan).chan c).from in
-    inr (
-      [],
-      record {
-        stack = from.block ∷ [];
-        body = ack.body ∙ ap (λ b. spelled (b ∷ [])) (at.1 ∙ sym ends.from_block);
-        delivers = delivered (net_of plan) 32 w from n i there (at.0 ∙ sym ends.from_node);
-      },
-      ack.kind,
-    )
+    here : Packet
+    here = record { body = spelled (to.block ∷ []) ++ load; mark = q.mark }
+
+    tells : IsTrue t ↔ IsSoughtAt e to load q.mark
+    tells = told to load leads
+
+    by_kind : IsSoughtAt e to load q.mark → c ≡ d
+    by_kind (inl (block, at_block, is)) =
+        let at = wanted_is e.to to.node block at_block in
+        let same = header_same to.block block load (load_of here) is.body in
+        acc.one_in c d rc rd (ends.to_node ∙ sym at.0, ends.to_block ∙ sym at.1 ∙ sym same)
+    by_kind (inr (block, at_block, is)) =
+        let none : load ≡ [] = header_rest_same to.block block load [] is.body in
+        absurd (piece_ack [] q.mark last (ap (λ z. kind z q.mark) (sym none) ∙ piece) is.kind)
+one_sought plan c d w v e q t acc ends rc rd (inr (load, leads, ack)) told = (
+  (λ h. by_kind (tells.0 h)),
+  (λ same.
+      let block : to.block ≡ e.from.block = ap (λ k. ((net_of plan).chan k).from.block) (sym same) ∙ ends.from_block in
+      tells.1 (inr (e.from.block, wanted e.from to.node (ap (λ k. ((net_of plan).chan k).from.node) (sym same) ∙ ends.from_node), ack_of e.from.block here load (ap (λ b. spelled (b ∷ []) ++ load) block) ack))),
+)
+  where
+    to : End
+    to = ((net_of plan).chan d).from
+
+    here : Packet
+    here = record { body = spelled (to.block ∷ []) ++ load; mark = q.mark }
+
+    tells : IsTrue t ↔ IsSoughtAt e to load q.mark
+    tells = told to load leads
+
+    by_kind : IsSoughtAt e to load q.mark → c ≡ d
+    by_kind (inl (block, at_block, is)) =
+        let rest : load ≡ load_of here = header_rest_same to.block block load (load_of here) is.body in
+        absurd (piece_ack (load_of here) q.mark (ends_message q.mark) is.piece.kind (ap (λ z. kind z q.mark) (sym rest) ∙ ack))
+    by_kind (inr (block, at_block, is)) =
+        let at = wanted_is e.from to.node block at_block in
+        let same = header_same to.block block load [] is.body in
+        acc.one_out c d rc rd (ends.from_node ∙ sym at.0, ends.from_block ∙ sym at.1 ∙ sym same)
+
+-- so a test of where the headers lead tells whose a packet is
+tells_whose : (net : Net) (c d : ℕ) (x : Place × Packet) (t : Bool) → IsAcceptedNet net → Carries net c → Carries net d → BelongsTo net d x → (IsTrue t → c ≡ d) × (c ≡ d → IsTrue t) → IsTrue t ↔ BelongsTo net c x
+tells_whose net c d x t acc rc rd its told = ((λ h. subst (λ k. BelongsTo net k x) (sym (told.0 h)) its), (λ b. told.1 (owners_one net c d x acc rc rd b its)))
+
+-- of a packet on a way
+pub its_on : (plan : Plan) (c w : ℕ) (e : Ends) (q : Packet) (t : Bool) → IsAccepted plan → ends_at plan (home plan c) ≡ Some e → IsOwned plan (OnWire w, q) →
+    ((to : End) (load : List ℕ) → ComesTo (net_of plan) 32 w q.body to load → IsTrue t ↔ IsSoughtAt e to load q.mark) → IsTrue t ↔ IsOf (net_of plan) w None q c
+its_on plan c w e q t acc at owned told =
+    let net = net_of plan in
+    let ok = net_accepted plan acc in
+    let real = is_carried plan c e at in
+    let o = owned.owner in
+    tells_whose net c o.chan (OnWire w, q) t ok real o.real o.its
+    (one_sought plan c o.chan w None e q t ok (are_ends plan c e at) real o.real o.its (λ to load l. told to load (record { stack = l.stack; is = l.body; delivers = l.delivers })))
+
+-- and of one that is whole in a switch
+pub its_inside : (plan : Plan) (c w k i : ℕ) (e : Ends) (q : Packet) (t : Bool) → IsAccepted plan → ends_at plan (home plan c) ≡ Some e → far plan w ≡ AtSwitch k i → IsOwned plan (Inside w, q) →
+    ((to : End) (load stack : List ℕ) → q.body ≡ spelled stack ++ load → GoesOn (net_of plan) (λ w2 s2. Delivers (net_of plan) 31 w2 s2 to) k stack → IsTrue t ↔ IsSoughtAt e to load q.mark) →
+    IsTrue t ↔ BelongsTo (net_of plan) c (Inside w, q)
+its_inside plan c w k i e q t acc at there owned told =
+    let net = net_of plan in
+    let ok = net_accepted plan acc in
+    let real = is_carried plan c e at in
+    let o = owned.owner in
+    let b = o.its in
+    let same : AtSwitch b.0 b.1 ≡ AtSwitch k i = sym b.3 ∙ there in
+    let switch : b.0 ≡ k = cc in
+    tells_whose net c o.chan (Inside w, q) t ok real o.real o.its
+    (one_sought plan c o.chan w b.2 e q t ok (are_ends plan c e at) real o.real b.5 (λ to load l.
+    told to load (behind b.2 l.stack) l.body (subst (λ z. GoesOn net (λ w2 s2. Delivers net 31 w2 s2 to) z (behind b.2 l.stack)) switch (goes_on net 31 w l.stack to b.0 b.1 b.2 b.3 b.4 l.delivers))))

@@ -1,5 +1,5 @@
 -- An event has a step of the definitions where its actor has the act and its ways let it, and only there.
-use Rattle.std.proofs.Common.{◌≡◌, ℕ, zero, suc, ◌+◌, ◌-◌, ◌/◌, ◌%◌, ◌<◌, ◌≤◌, Bool, true, false, ◌&&◌, List, [], ◌∷◌, ◌++◌, length, slice_get, Option, Some, None, refl, sym, ap, ◌∙◌, subst, arith, append-nil, if◌then◌else◌, ◌==◌, eq-eqb}
+use Rattle.std.proofs.Common.{◌≡◌, ℕ, zero, suc, ◌+◌, ◌/◌, ◌%◌, ◌<◌, ◌≤◌, Bool, true, false, ◌&&◌, List, [], ◌∷◌, ◌++◌, length, slice_get, Option, Some, None, refl, sym, ap, ◌∙◌, subst, arith, append-nil, if◌then◌else◌, ◌==◌, eq-eqb}
 use Rattle.std.proofs.lemmas.Bool.Decides.{nat_tests}
 use Rattle.std.specs.List.{list_all}
 use Rattle.std.specs.Option.{option_map}
@@ -163,7 +163,7 @@ few_out p acc w k l o = settle (there wire_of p.wires (w / 2) (let r = o.0 in om
 few_into : (p : Plan) → IsAccepted p → (w k l : ℕ) → IsInto (network_of p) w (AtNode k l) → l < 4
 few_into p acc w k l o = few_out p acc (back w) k l (back_out (network_of p) w (AtNode k l) o)
 
-real_out : (p : Plan) → IsAccepted p → (w i l : ℕ) → IsOutOf (network_of p) w (AtSwitch i l) → (i < length p.switches) × (l < 32)
+pub real_out : (p : Plan) → IsAccepted p → (w i l : ℕ) → IsOutOf (network_of p) w (AtSwitch i l) → (i < length p.switches) × (l < 32)
 real_out p acc w i l o = settle (there wire_of p.wires (w / 2) (let r = o.0 in omega arith))
   where
     settle : (x : Wire) × (slice_get p.wires (w / 2) ≡ Some x) → (i < length p.switches) × (l < 32)

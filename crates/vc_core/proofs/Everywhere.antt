@@ -11,6 +11,7 @@ use Rattle.vc_network.specs.Network.{Actor}
 use Rattle.vc_network.specs.Plan.{Plan, ways, near, far, home}
 use Rattle.vc_network.specs.Views.{vcps, switches, sink_node, queue_at, arrived, on_wire, inside, in_ways, in_halves, everywhere}
 use Rattle.vc_occam.proofs.Lists.{none, at_front, behind, front_or}
+use Rattle.vc_core.specs.Placed.{IsAt, packets_at}
 use Rattle.vc_core.specs.Sought.{Has}
 
 -- the packets on a way, in the switch at its far end, and held on a channel
@@ -92,19 +93,26 @@ in_all_halves plan s (suc n) c x less h = elim (cases_lt c n) [
   | inr later ↦ (let same : c ≡ n = omega arith in Contains-append_left (at_place (Held n) (held_on plan s n)) (in_halves plan s n) x (subst (λ d. Contains (at_place (Held d) (held_on plan s d)) x) same h))
 ]
 
-pub waits_there : {P : Type 0} (plan : Plan) (s : Network (Actor P) Token) (w : ℕ) (p : Packet) → w < ways plan → Contains (before_it plan s w) p → Contains (everywhere plan s) (Queue w, p)
-waits_there plan s w p less h =
-    Contains-append_left (in_ways plan s (ways plan)) (in_halves plan s (length plan.channels)) (Queue w, p)
+-- a packet at a place of a way is on the ways
+pub on_ways : {P : Type 0} (plan : Plan) (s : Network (Actor P) Token) (w : ℕ) (place : Place) (p : Packet) → w < ways plan → IsAt w place → Contains (packets_at plan s place) p → Contains (in_ways plan s (ways plan)) (place, p)
+on_ways plan s w place p less (inl at) h =
+    subst (λ z. Contains (in_ways plan s (ways plan)) (z, p)) (sym at)
     (in_all_ways plan s (ways plan) w (Queue w, p) less
     (Contains-append_left (at_place (Queue w) (before_it plan s w) ++ at_place (OnWire w) (on_it plan s w)) (at_place (Inside w) (in_it plan s w)) (Queue w, p)
-    (Contains-append_left (at_place (Queue w) (before_it plan s w)) (at_place (OnWire w) (on_it plan s w)) (Queue w, p) (one_at (Queue w) (before_it plan s w) p h))))
-
-pub goes_there : {P : Type 0} (plan : Plan) (s : Network (Actor P) Token) (w : ℕ) (p : Packet) → w < ways plan → Contains (on_it plan s w) p → Contains (everywhere plan s) (OnWire w, p)
-goes_there plan s w p less h =
-    Contains-append_left (in_ways plan s (ways plan)) (in_halves plan s (length plan.channels)) (OnWire w, p)
+    (Contains-append_left (at_place (Queue w) (before_it plan s w)) (at_place (OnWire w) (on_it plan s w)) (Queue w, p) (one_at (Queue w) (before_it plan s w) p (subst (λ z. Contains (packets_at plan s z) p) at h)))))
+on_ways plan s w place p less (inr (inl at)) h =
+    subst (λ z. Contains (in_ways plan s (ways plan)) (z, p)) (sym at)
     (in_all_ways plan s (ways plan) w (OnWire w, p) less
     (Contains-append_left (at_place (Queue w) (before_it plan s w) ++ at_place (OnWire w) (on_it plan s w)) (at_place (Inside w) (in_it plan s w)) (OnWire w, p)
-    (Contains-append_right (at_place (Queue w) (before_it plan s w)) (at_place (OnWire w) (on_it plan s w)) (OnWire w, p) (one_at (OnWire w) (on_it plan s w) p h))))
+    (Contains-append_right (at_place (Queue w) (before_it plan s w)) (at_place (OnWire w) (on_it plan s w)) (OnWire w, p) (one_at (OnWire w) (on_it plan s w) p (subst (λ z. Contains (packets_at plan s z) p) at h)))))
+on_ways plan s w place p less (inr (inr at)) h =
+    subst (λ z. Contains (in_ways plan s (ways plan)) (z, p)) (sym at)
+    (in_all_ways plan s (ways plan) w (Inside w, p) less
+    (Contains-append_right (at_place (Queue w) (before_it plan s w) ++ at_place (OnWire w) (on_it plan s w)) (at_place (Inside w) (in_it plan s w)) (Inside w, p)
+    (one_at (Inside w) (in_it plan s w) p (subst (λ z. Contains (packets_at plan s z) p) at h))))
+
+pub goes_there : {P : Type 0} (plan : Plan) (s : Network (Actor P) Token) (w : ℕ) (place : Place) (p : Packet) → w < ways plan → IsAt w place → Contains (packets_at plan s place) p → Contains (everywhere plan s) (place, p)
+goes_there plan s w place p less at h = Contains-append_left (in_ways plan s (ways plan)) (in_halves plan s (length plan.channels)) (place, p) (on_ways plan s w place p less at h)
 
 pub rests_there : {P : Type 0} (plan : Plan) (s : Network (Actor P) Token) (c : ℕ) (p : Packet) → c < length plan.channels → Contains (held_on plan s c) p → Contains (everywhere plan s) (Held c, p)
 rests_there plan s c p less h =

@@ -86,7 +86,7 @@ own_happens p s e a b is here made =
     let local : net.Local plan Wormhole does k ((shown s).state k) (Own (act_of e.act)) (actor_of b) = subst (λ z. net.Local plan Wormhole does k z (Own (act_of e.act)) (actor_of b)) (sym (state_at s k a here)) made.step in
     record {
       happens = (Own (act_of e.act), refl, subst (Step (net.Local plan Wormhole does) (shown s) k (Own (act_of e.act))) (λ i. record { state = sym (states s k b less) i; way = (shown s).way }) (own_step (net.Local plan Wormhole does) (shown s) k (act_of e.act) (actor_of b) local));
-      kept = record { accepted = is.accepted; count = length-set s.actors k b ∙ is.count; actors = each_actor p s k b is less made.kept; ways = is.ways; wiring = is.wiring; wires = is.wires; channels = is.channels };
+      kept = record { accepted = is.accepted; count = length-set s.actors k b ∙ is.count; actors = each_actor p s k b is less made.kept; nodes = is.nodes; ways = is.ways; wiring = is.wiring; wires = is.wires; channels = is.channels };
     }
 
 -- the way that comes in by an actor's link, and the one that goes out
@@ -112,7 +112,7 @@ take_happens p s e l x a b f is_take is here made =
         subst (Step (net.Local plan Wormhole does) (shown s) k label) (λ i. record { state = sym (states s k b less) i; way = sym (lines s f.way f.rest real) i })
             (take_step (net.Local plan Wormhole does) (shown s) k (net.Take l x) f.way f.token f.rest (actor_of b) (way_at s f.way (f.token ∷ f.rest) f.stands) local),
       );
-      kept = record { accepted = is.accepted; count = length-set s.actors k b ∙ is.count; actors = each_actor p s k b is less made.kept; ways = length-set s.ways f.way f.rest ∙ is.ways; wiring = is.wiring; wires = is.wires; channels = is.channels };
+      kept = record { accepted = is.accepted; count = length-set s.actors k b ∙ is.count; actors = each_actor p s k b is less made.kept; nodes = is.nodes; ways = length-set s.ways f.way f.rest ∙ is.ways; wiring = is.wiring; wires = is.wires; channels = is.channels };
     }
 
 -- what a put of any kind is to the network
@@ -132,7 +132,7 @@ put_by p s e l a b f t is here step kept =
         subst (Step (net.Local plan Wormhole does) (shown s) k label) (λ i. record { state = sym (states s k b less) i; way = (ap (λ z. put (shown s).way f.way (z ++ t ∷ [])) (way_at s f.way f.tokens f.stand) ∙ sym (lines s f.way (f.tokens ++ t ∷ []) real)) i })
             (put_step (net.Local plan Wormhole does) (shown s) k (act_of e.act) f.way t (actor_of b) local),
       );
-      kept = record { accepted = is.accepted; count = length-set s.actors k b ∙ is.count; actors = each_actor p s k b is less kept; ways = length-set s.ways f.way (f.tokens ++ t ∷ []) ∙ is.ways; wiring = is.wiring; wires = is.wires; channels = is.channels };
+      kept = record { accepted = is.accepted; count = length-set s.actors k b ∙ is.count; actors = each_actor p s k b is less kept; nodes = is.nodes; ways = length-set s.ways f.way (f.tokens ++ t ∷ []) ∙ is.ways; wiring = is.wiring; wires = is.wires; channels = is.channels };
     }
 
 pub put_happens : (p : Plan) (s : State) (e : Event) (l : ℕ) (a b : Acting) (f : HasWay s e.actor l) (t : Token) → e.act ≡ act.Put l → IsNetworkOf p s → slice_get s.actors e.actor ≡ Some a →
@@ -171,7 +171,7 @@ placed p s t u v e l f k is_put pushed puts replaced is =
     let stands : slice_get u.ways f.way ≡ Some (f.tokens ++ tokens.Fct ∷ []) = ap (λ z. slice_get z.ways f.way) mid ∙ place-set_same s.ways f.way (f.tokens ++ tokens.Fct ∷ []) real in
     let after : v ≡ with_way s e.actor puts.after f.way (f.tokens ++ k ∷ []) =
     replaced f.tokens tokens.Fct stands ∙ ap (λ z. with_line z f.way (f.tokens ++ k ∷ [])) mid
-    ∙ (λ i. record { actors = slice_set s.actors e.actor puts.after; ways = written_twice s.ways f.way (f.tokens ++ tokens.Fct ∷ []) (f.tokens ++ k ∷ []) i; wiring = s.wiring; wires = s.wires; channels = s.channels }) in
+    ∙ (λ i. record { actors = slice_set s.actors e.actor puts.after; nodes = s.nodes; ways = written_twice s.ways f.way (f.tokens ++ tokens.Fct ∷ []) (f.tokens ++ k ∷ []) i; wiring = s.wiring; wires = s.wires; channels = s.channels }) in
     subst (MakesEvent p s e) (sym after) (put_happens p s e l puts.before puts.after f k is_put is here (puts.puts (network_of p) e.actor (is.actors e.actor puts.before here)))
 
 -- the way that the code found, as the event's

@@ -15,10 +15,13 @@ pub mod Happening
 pub mod Replayed
 pub mod Viewing
 pub mod Finding
+pub mod Following
 pub mod Summing
 pub mod Placing
+pub mod Onward
 pub mod Belonging
 pub mod Everywhere
+pub mod Ways
 pub mod Standing
 pub mod GoingOn
 pub mod AbleMoves

@@ -1,41 +1,34 @@
--- Where the packets of a channel stand, by what the code finds at each link and on each way.
-use Rattle.std.proofs.Common.{◌≡◌, ℕ, ◌/◌, ◌%◌, ◌<◌, ◌==◌, Bool, not, [], length, slice_get, Option, Some, None, refl, sym, ap, ◌∙◌, subst, inl, inr, arith}
+-- What the code finds at the ports of a way.
+use Rattle.std.proofs.Common.{◌≡◌, ℕ, ◌+◌, ◌/◌, ◌%◌, ◌<◌, ◌≤◌, ◌==◌, Bool, false, not, [], length, slice_get, Option, Some, None, refl, sym, ap, ◌∙◌, subst, inl, inr, arith}
 use Rattle.std.proofs.lemmas.List.{length-map}
-use Rattle.vc_credit.specs.Ends.{new_receiver}
-use Rattle.vc_machine.specs.Paths.{Port, AtNode, AtSwitch}
-use Rattle.vc_machine.specs.Seen.{read}
-use Rattle.vc_network.specs.Plan.{ways, near, far, wire}
+use Rattle.std.proofs.lemmas.Option.{slice_get_past}
+use Rattle.vc_machine.specs.Places as places
+use Rattle.vc_machine.specs.Seen.{without_random}
+use Rattle.vc_network.specs.Network as net
+use Rattle.vc_network.specs.Plan.{ways, near, far, wire, switch_plan}
 use Rattle.vc_network.specs.Plan as network
-use Rattle.vc_network.specs.Views.{vcps, queue_at}
+use Rattle.vc_network.specs.Views.{switches, switch_of}
 use Rattle.vc_plan.specs.declared.plan.Plan.{Plan}
 use Rattle.vc_plan.specs.declared.port.Wire.{Wire}
 use Rattle.vc_plan.specs.Accepted as plan
 use Rattle.vc_accepted.specs.NetworkOf.{network_of, wire_of}
 use Rattle.vc_accepted.specs.NetworkOf as to
 use Rattle.vc_accepted.proofs.Crossing.{wire_is}
+use Rattle.vc_accepted.proofs.Listed.{made, made_or}
 use Rattle.vc_accepted.proofs.Ported.{side_of}
 use Rattle.vc_accepted.proofs.Wired.{ways_few}
+use Rattle.vc_switch.specs.Forward.{Interval, SwitchPlan}
+use Rattle.vc_switch.specs.Seen.{seen}
+use Rattle.vc_switch.specs.State.{State as SwitchState, plan_of}
+use Rattle.vc_switch.specs.Switch.{new_switch}
 use Rattle.vc_vcp.specs.Keyed.{shown_or}
-use Rattle.vc_vcp.specs.LinkIn.{Receiving}
-use Rattle.vc_vcp.specs.Seen.{seen}
-use Rattle.vc_vcp.specs.State.{State as Processor}
-use Rattle.vc_core.specs.Placed.{FindsOn, FindsBefore, before_way, coming_by}
-use Rattle.vc_core.specs.Sought.{Has, IsSought, HasRead, HasReadAt, left, sought_at}
+use Rattle.vc_core.specs.OfPlan.{IsSwitchOf}
+use Rattle.vc_core.specs.Parts.{switch_at}
+use Rattle.vc_core.specs.Placed.{FindsAt, FindsOn, HasIts}
+use Rattle.vc_core.specs.Shown.{Acting, OfNode, OfSwitch, actor_of}
 use Rattle.vc_core.specs.State.{State, shown, IsNetworkOf}
-use Rattle.vc_core.specs.declared.channels.Ends.{Ends}
 use Rattle.vc_core.specs.declared.place.Place.{Place}
-use Rattle.vc_core.specs.declared.place.Place.TheVariants as name
-use Rattle.vc_core.specs.declared.reader.Reader.{Reader}
-use Rattle.vc_core.specs.declared.sought.Sought.{Sought}
 use Rattle.vc_core.proofs.Happening.{none_past}
-
--- what was read at the receiving end of a link was read at the link
-pub read_there : (v : Processor) (link : ℕ) (x : Receiving) (q : Sought) (r : Reader) → slice_get v.ins link ≡ Some x →
-    HasRead q (read x.passed x.receiver.buffer) (left x.passed x.receiver.buffer) r → HasReadAt q ((seen v).link link) r
-read_there v link x q r e h =
-    subst
-    (λ o. HasRead q (read (shown_or [] (λ (z : Receiving). z.passed) o) (shown_or new_receiver (λ (z : Receiving). z.receiver) o).buffer) (left (shown_or [] (λ (z : Receiving). z.passed) o) (shown_or new_receiver (λ (z : Receiving). z.receiver) o).buffer) r)
-    (sym e) h
 
 -- the ports of a way
 port_is : (p : Plan) (s : State) (i : ℕ) (x : Wire) (b : Bool) → IsNetworkOf p s → slice_get s.wires i ≡ Some x → network.port_of (wire (network_of p) i) b ≡ to.port_of (plan.port_of x b)
@@ -62,25 +55,76 @@ few_wires p s w is less =
     let count = is.ways in
     omega arith
 
--- a way that comes to a switch
-pub at_switch : (p : Plan) (s : State) (ends : Ends) (w k l : ℕ) → far (network_of p) w ≡ AtSwitch k l → FindsOn (network_of p) (shown s) ends w None
-at_switch p s ends w k l there = λ n link here. (let e : AtSwitch k l ≡ AtNode n link = sym there ∙ here in absurd (cc))
+-- the switch of a number
+pub switch_here : (p : Plan) (s : State) (k : ℕ) (x : SwitchState) → IsNetworkOf p s → switch_at (slice_get s.actors (s.nodes + k)) ≡ Some x → IsSwitchOf (network_of p) k x
+switch_here p s k x is e = by_actor (slice_get s.actors (s.nodes + k)) refl e
+  where
+    by_actor : (o : Option Acting) → slice_get s.actors (s.nodes + k) ≡ o → switch_at o ≡ Some x → IsSwitchOf (network_of p) k x
+    by_actor None at h = absurd (cc)
+    by_actor (Some (OfNode n)) at h = absurd (cc)
+    by_actor (Some (OfSwitch y)) at h =
+        let same : y ≡ x = cc in
+        let of = is.actors (s.nodes + k) (OfSwitch y) at in
+        let first = is.nodes in
+        let number : of.0 ≡ k = (let sum = of.1 in omega arith) in
+        subst (IsSwitchOf (network_of p) k) same (subst (λ i. IsSwitchOf (network_of p) i y) number of.2)
 
--- one of the channel's packets is on the way
-pub found_on : (p : Plan) (s : State) (ends : Ends) (w n link : ℕ) → far (network_of p) w ≡ AtNode n link → Has (IsSought (sought_at ends n)) (coming_by (shown s) w n link) →
-    FindsOn (network_of p) (shown s) ends w (Some (name.Wire (w / 2) (w % 2 == 0)))
-found_on p s ends w n link there has = (n, link, there, inr (has, refl))
+pub switch_shown : (p : Plan) (s : State) (k : ℕ) (x : SwitchState) → IsNetworkOf p s → switch_at (slice_get s.actors (s.nodes + k)) ≡ Some x → switches (network_of p) (shown s) k ≡ seen x
+switch_shown p s k x is e = ap (λ n. switch_of (shown_or (net.IsSwitch new_switch) actor_of (slice_get s.actors (n + k)))) (sym is.nodes) ∙ by_actor (slice_get s.actors (s.nodes + k)) e
+  where
+    by_actor : (o : Option Acting) → switch_at o ≡ Some x → switch_of (shown_or (net.IsSwitch new_switch) actor_of o) ≡ seen x
+    by_actor None h = absurd (cc)
+    by_actor (Some (OfNode n)) h = absurd (cc)
+    by_actor (Some (OfSwitch y)) h = let same : y ≡ x = cc in ap seen same
 
--- or it waits before the way, or none is there
-pub found_before : (p : Plan) (s : State) (ends : Ends) (w n link : ℕ) (port : Port) (o : Option Place) → far (network_of p) w ≡ AtNode n link → near (network_of p) w ≡ port →
-    (Has (IsSought (sought_at ends n)) (coming_by (shown s) w n link) → ⊥) →
-    FindsBefore (shown s) (sought_at ends n) port o → FindsOn (network_of p) (shown s) ends w o
-found_before p s ends w n link port None there from none h = λ m l here.
-    let e : AtNode n link ≡ AtNode m l = sym there ∙ here in
-    let node : n ≡ m = cc in
-    let at : link ≡ l = cc in (
-      (λ has. h (subst (λ z. Has (IsSought (sought_at ends n)) (queue_at (λ m. (vcps (shown s) m).carrier) z)) from (subst (λ z. Has (IsSought (sought_at ends z)) (before_way (network_of p) (shown s) w)) (sym node) has))),
-      (λ has. none (subst (λ z. Has (IsSought (sought_at ends n)) (coming_by (shown s) w n z)) (sym at) (subst (λ z. Has (IsSought (sought_at ends z)) (coming_by (shown s) w z l)) (sym node) has))),
-    )
-found_before p s ends w n link port (Some x) there from none h =
-    (n, link, there, inl (subst (λ z. Has (IsSought (sought_at ends n)) (queue_at (λ m. (vcps (shown s) m).carrier) z)) (sym from) h.0, (h.1.0, h.1.1, from ∙ h.1.2, h.1.3)))
+pub switch_plan_is : (p : Plan) (s : State) (k : ℕ) (x : SwitchState) → IsNetworkOf p s → switch_at (slice_get s.actors (s.nodes + k)) ≡ Some x → plan_of x ≡ switch_plan (network_of p) k
+switch_plan_is p s k x is e = (switch_here p s k x is e).given
+
+-- there is none of a number past the plan's
+pub no_switch_there : (p : Plan) (s : State) (k : ℕ) → IsNetworkOf p s → switch_at (slice_get s.actors (s.nodes + k)) ≡ None → length p.switches ≤ k
+no_switch_there p s k is e = by_actor (slice_get s.actors (s.nodes + k)) refl e
+  where
+    by_actor : (o : Option Acting) → slice_get s.actors (s.nodes + k) ≡ o → switch_at o ≡ None → length p.switches ≤ k
+    by_actor None at h =
+        let past = none_past s.actors (s.nodes + k) at in
+        let count = is.count in
+        let first = is.nodes in
+        omega arith
+    by_actor (Some (OfNode n)) at h =
+        let of = is.actors (s.nodes + k) (OfNode n) at in
+        let less = of.0 in
+        let first = is.nodes in
+        absurd (omega arith)
+    by_actor (Some (OfSwitch y)) at h = absurd (cc)
+
+abbrev nothing : SwitchPlan
+nothing = record { table = []; random = λ link. None; deletes = λ link. false }
+
+pub no_switch_plan : (p : Plan) (k : ℕ) → length p.switches ≤ k → switch_plan (network_of p) k ≡ record { table = []; random = λ link. None; deletes = λ link. false }
+no_switch_plan p k past = made to.switch_of p.switches k nothing ∙ ap (made_or nothing to.switch_of) (slice_get_past p.switches k past)
+
+pub no_switch_shown : (p : Plan) (s : State) (k : ℕ) → IsNetworkOf p s → switch_at (slice_get s.actors (s.nodes + k)) ≡ None → switches (network_of p) (shown s) k ≡ new_switch
+no_switch_shown p s k is e = ap (λ n. switch_of (shown_or (net.IsSwitch new_switch) actor_of (slice_get s.actors (n + k)))) (sym is.nodes) ∙ by_actor (slice_get s.actors (s.nodes + k)) e
+  where
+    by_actor : (o : Option Acting) → switch_at o ≡ None → switch_of (shown_or (net.IsSwitch new_switch) actor_of o) ≡ new_switch
+    by_actor None h = refl
+    by_actor (Some (OfNode n)) h = refl
+    by_actor (Some (OfSwitch y)) h = absurd (cc)
+
+-- nothing was found at any place of a way
+pub none_on : (plan : network.Plan) (s : State) (c w : ℕ) → FindsAt plan (shown s) c (places.OnWire w) None → FindsAt plan (shown s) c (places.Inside w) None → FindsAt plan (shown s) c (places.Queue w) None →
+    FindsOn plan (shown s) c w None
+none_on plan s c w along within before place (inl at) has = before (subst (HasIts plan (shown s) c) at has)
+none_on plan s c w along within before place (inr (inl at)) has = along (subst (HasIts plan (shown s) c) at has)
+none_on plan s c w along within before place (inr (inr at)) has = within (subst (HasIts plan (shown s) c) at has)
+
+-- the last of them decides
+pub last_on : (plan : network.Plan) (s : State) (c w : ℕ) (o : Option Place) → FindsAt plan (shown s) c (places.OnWire w) None → FindsAt plan (shown s) c (places.Inside w) None → FindsAt plan (shown s) c (places.Queue w) o →
+    FindsOn plan (shown s) c w o
+last_on plan s c w None along within before = none_on plan s c w along within before
+last_on plan s c w (Some x) along within before = (places.Queue w, inl refl, before)
+
+-- and nothing has passed there
+pub none_passed : (o : Option Interval) → [] ≡ without_random o []
+none_passed None = refl
+none_passed (Some i) = refl

@@ -1,6 +1,6 @@
 -- An actor that can do nothing but take can do no more until it takes: what others do leaves it as it is.
-use Rattle.std.proofs.Common.{◌≡◌, ◌≢◌, ℕ, Some, None, refl, sym, ap, ◌∙◌, subst}
-use Rattle.vc_actors.specs.Actors.{Network, Label, Step, act_of as label_act}
+use Rattle.std.proofs.Common.{◌≡◌, ◌≢◌, ℕ, None, subst}
+use Rattle.vc_actors.specs.Actors.{Network, Label, act_of as label_act}
 use Rattle.vc_actors.specs.Actors.Label.{Own, Takes, Puts}
 use Rattle.vc_accepted.specs.NetworkOf.{network_of}
 use Rattle.vc_network.specs.Enabled.{IsEnabled}
@@ -12,7 +12,6 @@ use Rattle.vc_switch.specs.Switch.{Switch}
 use Rattle.vc_switch.specs.Waiting.{Wormhole}
 use Rattle.vc_told.specs.Process.{Process, does}
 use Rattle.vc_tokens.specs.Tokens.{Token}
-use Rattle.vc_core.specs.Enabled.{CanHappen}
 use Rattle.vc_core.specs.Shown.{act_of}
 use Rattle.vc_core.specs.State.{State, shown, MakesEvent}
 use Rattle.vc_core.specs.Turns.{TakesNone, FindsEvent}

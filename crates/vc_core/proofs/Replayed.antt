@@ -51,13 +51,14 @@ no_token [] all w = refl
 no_token (x ∷ xs) all zero = all.0
 no_token (x ∷ xs) all (suc w) = no_token xs all.1 w
 
-pub opened : (p : Plan) (s : State) → IsAccepted p → AreFirst p (actors p) s.actors → length s.ways ≡ 2 * length p.wires → AllByRecursion (λ way. way ≡ []) s.ways →
+pub opened : (p : Plan) (s : State) → IsAccepted p → AreFirst p (actors p) s.actors → s.nodes ≡ length p.nodes → length s.ways ≡ 2 * length p.wires → AllByRecursion (λ way. way ≡ []) s.ways →
     ((actor link : ℕ) → out_at s.wiring actor link ≡ outgoing p actor link) → s.wires ≡ p.wires → AreChannelsOf p s.channels → IsOpening p s
-opened p s acc first count empty wiring wires channels = record {
+opened p s acc first nodes count empty wiring wires channels = record {
   is = record {
     accepted = acc;
     count = first.count;
     actors = λ k a e. (first.each k a e).is;
+    nodes = nodes;
     ways = count ∙ ap (λ n. 2 * n) (sym (length-map p.wires wire_of));
     wiring = wiring;
     wires = wires;

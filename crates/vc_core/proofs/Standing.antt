@@ -1,65 +1,50 @@
 -- What the code finds of a channel's packets is where they stand.
-use Rattle.std.proofs.Common.{◌≡◌, ◌≢◌, ◌⊎◌, ◌↔◌, ℕ, suc, ◌+◌, ◌/◌, ◌%◌, ◌==◌, ◌<◌, ◌≤◌, Bool, true, false, not, List, [], length, slice_get, Option, Some, None, IsSome, refl, sym, ap, ◌∙◌, subst, inl, inr, arith}
+use Rattle.std.proofs.Common.{◌≡◌, ◌≢◌, ◌⊎◌, ◌↔◌, ℕ, suc, ◌<◌, ◌≤◌, Bool, true, false, not, List, length, map, Option, Some, None, IsSome, slice_get, refl, sym, ap, ◌∙◌, subst, inl, inr, arith}
 use Rattle.std.specs.List.{Contains}
 use Rattle.std.proofs.lemmas.Bool.{cases_eq, cases_lt}
 use Rattle.std.proofs.lemmas.List.{length-append, length-map}
 use Rattle.std.proofs.lemmas.Option.{slice_get_past}
-use Rattle.std.proofs.lemmas.Bool.Decides.{nat_tests}
 use Rattle.vc_packets.specs.declared.packet.Packet.{Packet}
-use Rattle.vc_machine.specs.Paths.{Port, AtNode, AtSwitch}
-use Rattle.vc_machine.specs.Places.{Queue, OnWire, Held, of_held, BelongsTo, IsOf}
+use Rattle.vc_machine.specs.Places.{Queue, OnWire, Held, of_held, BelongsTo}
 use Rattle.vc_machine.specs.Places as places
 use Rattle.vc_machine.specs.Rendezvous.{nothing_yet}
 use Rattle.vc_network.specs.Headline.{IsFaithful}
 use Rattle.vc_network.specs.Network as net
-use Rattle.vc_network.specs.Plan.{Home, Way, end_of, virtual_link, ways, near, far, home, is_virtual, net_of}
+use Rattle.vc_network.specs.Plan.{Home, Way, end_of, virtual_link, ways, home, is_virtual, net_of}
 use Rattle.vc_network.specs.Plan as network
-use Rattle.vc_network.specs.Views.{vcps, switches, sink_node, arrived, on_wire, inside, everywhere, view, view_at, inner_of, switch_of}
-use Rattle.vc_plan.specs.declared.plan.Plan.{Plan}
-use Rattle.vc_plan.specs.declared.port.Spot.{Spot}
-use Rattle.vc_plan.specs.declared.port.Spot.TheVariants.{Node, Switch}
-use Rattle.vc_plan.specs.Accepted as plan
-use Rattle.vc_plan.specs.Accepted.{IsAccepted}
-use Rattle.vc_plan.specs.Limits.{spot_there}
-use Rattle.vc_accepted.specs.NetworkOf.{network_of, wire_of, home_in, port_at}
-use Rattle.vc_accepted.proofs.Crossing.{wire_is}
-use Rattle.vc_accepted.proofs.Listed.{there, made, made_or}
-use Rattle.vc_accepted.proofs.Ported.{side_of}
-use Rattle.vc_accepted.proofs.Wired.{wired}
+use Rattle.vc_network.specs.Views.{vcps, sink_node, everywhere, view, view_at, inner_of}
+use Rattle.vc_network.proofs.Owned.{each_owned, packets_are_short}
 use Rattle.vc_network.proofs.Wiring.{carried}
+use Rattle.vc_plan.specs.declared.plan.Plan.{Plan}
+use Rattle.vc_accepted.specs.NetworkOf.{network_of, home_in}
+use Rattle.vc_accepted.proofs.Accepting.{accepted}
+use Rattle.vc_accepted.proofs.Listed.{made, made_or}
 use Rattle.vc_switch.specs.Switch.{new_switch}
+use Rattle.vc_switch.specs.Waiting.{Wormhole}
+use Rattle.vc_told.specs.Begin.{begin_of}
+use Rattle.vc_told.specs.Process.{does}
 use Rattle.vc_vcp.specs.Keyed.{named, shown_or}
 use Rattle.vc_core.specs.Channels.{ends_at, block_of}
-use Rattle.vc_core.specs.Placed.{FindsPlace, FindsOn, IsUnfinished, before_way, coming_by}
-use Rattle.vc_core.specs.Replaying.{Replays}
+use Rattle.vc_core.specs.Placed.{AreOwned, FindsPlace, FindsOn, IsAt, IsUnfinished, packets_at}
+use Rattle.vc_core.specs.Replaying.{Reached, Replays}
 use Rattle.vc_core.specs.Shown.{Acting, OfNode, OfSwitch, actor_of, view_of}
-use Rattle.vc_core.specs.Sought.{IsSought, sought_at}
-use Rattle.vc_core.specs.State.{State, shown, IsNetworkOf}
+use Rattle.vc_core.specs.State.{State, shown, event_of, IsNetworkOf}
 use Rattle.vc_core.specs.declared.act.Event.{Event}
 use Rattle.vc_core.specs.declared.channels.Ends.{Ends}
 use Rattle.vc_core.specs.declared.inside.Internal.{Internal}
 use Rattle.vc_core.specs.declared.place.Place.{Place}
 use Rattle.vc_core.specs.declared.place.Place.TheVariants as name
-use Rattle.vc_core.proofs.Belonging.{AreEnds, are_ends, is_sought, is_its}
-use Rattle.vc_core.proofs.Everywhere.{IsThere, waits, goes, stays, rests, on_it, in_it, where_it_is, waits_there, goes_there, rests_there, number_has, number_none, has_in, in_has}
+use Rattle.vc_core.proofs.Everywhere.{IsThere, waits, goes, stays, rests, where_it_is, goes_there, rests_there, number_has, number_none, has_in, in_has}
 
--- where there is no switch, no packet is inside one
-no_switch : (p : Plan) (s : State) → IsNetworkOf p s → p.switches ≡ [] → (k : ℕ) → switches (network_of p) (shown s) k ≡ new_switch
-no_switch p s is none k =
-    let long = is.count in
-    let few = ap length none in
-    ap (λ (z : Option Acting). switch_of (shown_or (net.IsSwitch new_switch) actor_of z)) (slice_get_past s.actors (length p.nodes + k) (omega arith))
-
-none_inside : (p : Plan) (s : State) → IsNetworkOf p s → p.switches ≡ [] → (w : ℕ) → in_it (network_of p) (shown s) w ≡ []
-none_inside p s is none w = by_port (far (network_of p) w)
-  where
-    by_port : (q : Port) → inside (arrived (vcps (shown s)) (switches (network_of p) (shown s)) q) ≡ []
-    by_port (AtNode n l) = refl
-    by_port (AtSwitch k l) = ap (λ z. inside (arrived (vcps (shown s)) (λ j. z) (AtSwitch k l))) (no_switch p s is none k)
-
--- what comes to a node
-coming_is : (s : State) (plan : network.Plan) (w n l : ℕ) → far plan w ≡ AtNode n l → on_it plan (shown s) w ≡ coming_by (shown s) w n l
-coming_is s plan w n l e = ap (λ q. on_wire plan q (arrived (vcps (shown s)) (switches plan (shown s)) q) ((shown s).way w)) e
+-- after any events each packet on the ways belongs to a channel, and is no longer than the limit
+pub are_owned : (p : Plan) (events : List Event) (s : State) → Reached p events s → AreOwned (network_of p) (shown s)
+are_owned p events s r x here =
+    let plan = network_of p in
+    let acc = accepted p r.is.accepted in
+    record {
+      owner = each_owned plan Wormhole does (begin_of p) (map event_of events) (shown s) acc r.happen x here;
+      short = packets_are_short plan Wormhole does (begin_of p) (map event_of events) (shown s) acc r.happen x here;
+    }
 
 -- a channel with ends is on a virtual link
 on_link : (plan : network.Plan) (h : Home) (e : Ends) → ends_at plan h ≡ Some e → is_virtual h ≡ true
@@ -71,20 +56,15 @@ off_link plan (Way v ab) e h = absurd (cc)
 off_link plan (network.Inside n) e h = absurd (cc)
 
 pub no_ends : (p : Plan) (s : State) (c : ℕ) → ends_at (network_of p) (home (network_of p) c) ≡ None → FindsPlace p s c None
-no_ends p s c e = λ none place stands. off_link (network_of p) (home (network_of p) c) e stands.on_link
+no_ends p s c e = λ place stands. off_link (network_of p) (home (network_of p) c) e stands.on_link
 
 -- one of the channel's packets was found at a way
 pub found_way : (p : Plan) (s : State) (c w : ℕ) (e : Ends) (x : Place) → ends_at (network_of p) (home (network_of p) c) ≡ Some e → w < ways (network_of p) →
-    FindsOn (network_of p) (shown s) e w (Some x) → FindsPlace p s c (Some x)
-found_way p s c w e x ends less (n, l, there, inl (has, named)) =
+    FindsOn (network_of p) (shown s) c w (Some x) → FindsPlace p s c (Some x)
+found_way p s c w e x ends less (place, at, (has, named)) =
     let plan = network_of p in
-    let r = has_in (IsSought (sought_at e n)) (before_way plan (shown s) w) has in
-    (Queue w, record { on_link = on_link plan (home plan c) e ends; here = (r.0, waits_there plan (shown s) w r.0 less r.1, is_its plan c w n l e r.0 (are_ends plan c e ends) there r.2) }, named)
-found_way p s c w e x ends less (n, l, there, inr (has, named)) =
-    let plan = network_of p in
-    let r = has_in (IsSought (sought_at e n)) (coming_by (shown s) w n l) has in
-    let at : Contains (on_it plan (shown s) w) r.0 = subst (λ ps. Contains ps r.0) (sym (coming_is s plan w n l there)) r.1 in
-    (OnWire w, record { on_link = on_link plan (home plan c) e ends; here = (r.0, goes_there plan (shown s) w r.0 less at, is_its plan c w n l e r.0 (are_ends plan c e ends) there r.2) }, named)
+    let r = has_in (λ q. BelongsTo (net_of plan) c (place, q)) (packets_at plan (shown s) place) has in
+    (place, record { on_link = on_link plan (home plan c) e ends; here = (r.0, goes_there plan (shown s) w place r.0 less at r.1, r.2) }, named)
 
 -- or it is held
 held_one : (o : Option Packet) → o ≢ None → (p : Packet) × Contains (of_held o) p
@@ -109,52 +89,29 @@ found_held p s c e ends less held =
     let r = held_one ((vcps (shown s) (sink_node plan (home plan c))).carrier.into c).held (subst (λ n. ((vcps (shown s) n).carrier.into c).held ≢ None) (sym sink) held) in
     (Held c, record { on_link = on_link plan (home plan c) e ends; here = (r.0, rests_there plan (shown s) c r.0 less r.1, refl) }, ap name.Held (sym sink))
 
--- where there are no switches, each way comes to a node
-spot_there_is : (p : Plan) (x : Spot) (l k i : ℕ) → p.switches ≡ [] → spot_there p x ≡ true → port_at x l ≡ AtSwitch k i → ⊥
-spot_there_is p (Node n) l k i none real e = absurd (cc)
-spot_there_is p (Switch n) l k i none real e =
-    let few = ap length none in
-    let less : n < length p.switches = grind (arith, nat_tests) in
-    omega arith
-
-to_nodes : (p : Plan) (w k l : ℕ) → IsAccepted p → p.switches ≡ [] → w < ways (network_of p) → far (network_of p) w ≡ AtSwitch k l → ⊥
-to_nodes p w k l acc none less at =
-    let x = there wire_of p.wires (w / 2) (omega arith) in
-    let side = not (w % 2 == 0) in
-    let port = plan.port_of x.0 side in
-    let is = ap (λ z. network.port_of z side) (wire_is p (w / 2) x.0 x.1) ∙ side_of x.0 side in
-    spot_there_is p port.spot port.link k l none (wired p acc (w / 2) x.0 side x.1) (sym is ∙ at)
-
 -- nothing was found
-at_port : (p : Plan) (s : State) (c : ℕ) (e : Ends) (w : ℕ) (q : Packet) (port : Port) → AreEnds (network_of p) c e → ((k l : ℕ) → port ≡ AtSwitch k l → ⊥) → FindsOn (network_of p) (shown s) e w None →
-    far (network_of p) w ≡ port → Contains (before_way (network_of p) (shown s) w) q ⊎ Contains (on_it (network_of p) (shown s) w) q → IsOf (net_of (network_of p)) w None q c → ⊥
-at_port p s c e w q (AtSwitch k l) ends node nothing at h b = node k l refl
-at_port p s c e w q (AtNode n l) ends node nothing at (inl h) b = (nothing n l at).0 (in_has (IsSought (sought_at e n)) (before_way (network_of p) (shown s) w) q h (is_sought (network_of p) c w n l e q ends at b))
-at_port p s c e w q (AtNode n l) ends node nothing at (inr h) b =
-    (nothing n l at).1 (in_has (IsSought (sought_at e n)) (coming_by (shown s) w n l) q (subst (λ ps. Contains ps q) (coming_is s (network_of p) w n l at) h) (is_sought (network_of p) c w n l e q ends at b))
+at_none : (p : Plan) (s : State) (c w : ℕ) (place at : places.Place) (q : Packet) → FindsOn (network_of p) (shown s) c w None → IsAt w at → place ≡ at → Contains (packets_at (network_of p) (shown s) at) q → BelongsTo (net_of (network_of p)) c (place, q) → ⊥
+at_none p s c w place at q nothing there same h b =
+    let plan = network_of p in
+    nothing at there (in_has (λ k. BelongsTo (net_of plan) c (at, k)) (packets_at plan (shown s) at) q h (subst (λ z. BelongsTo (net_of plan) c (z, q)) same b))
 
-no_place : (p : Plan) (s : State) (c : ℕ) (e : Ends) → ends_at (network_of p) (home (network_of p) c) ≡ Some e → IsNetworkOf p s → p.switches ≡ [] →
-    (((vcps (shown s) e.to.node).carrier.into c).held ≢ None → ⊥) → ((w : ℕ) → w < ways (network_of p) → FindsOn (network_of p) (shown s) e w None) →
+no_place : (p : Plan) (s : State) (c : ℕ) (e : Ends) → ends_at (network_of p) (home (network_of p) c) ≡ Some e →
+    (((vcps (shown s) e.to.node).carrier.into c).held ≢ None → ⊥) → ((w : ℕ) → w < ways (network_of p) → FindsOn (network_of p) (shown s) c w None) →
     (place : places.Place) (q : Packet) → BelongsTo (net_of (network_of p)) c (place, q) → IsThere (network_of p) (shown s) place q → ⊥
-no_place p s c e ends is none not_held nothing place q b (waits w less at h) =
-    let plan = network_of p in
-    at_port p s c e w q (far plan w) (are_ends plan c e ends) (λ k l at'. to_nodes p w k l is.accepted none less at') (nothing w less) refl (inl h) (subst (λ z. BelongsTo (net_of plan) c (z, q)) at b)
-no_place p s c e ends is none not_held nothing place q b (goes w less at h) =
-    let plan = network_of p in
-    at_port p s c e w q (far plan w) (are_ends plan c e ends) (λ k l at'. to_nodes p w k l is.accepted none less at') (nothing w less) refl (inr h) (subst (λ z. BelongsTo (net_of plan) c (z, q)) at b)
-no_place p s c e ends is none not_held nothing place q b (stays w less at h) =
-    absurd (let l = (subst (λ ps. Contains ps q) (none_inside p s is none w) h).1 in omega arith)
-no_place p s c e ends is none not_held nothing place q b (rests d less at h) =
+no_place p s c e ends not_held nothing place q b (waits w less at h) = at_none p s c w place (Queue w) q (nothing w less) (inl refl) at h b
+no_place p s c e ends not_held nothing place q b (goes w less at h) = at_none p s c w place (OnWire w) q (nothing w less) (inr (inl refl)) at h b
+no_place p s c e ends not_held nothing place q b (stays w less at h) = at_none p s c w place (places.Inside w) q (nothing w less) (inr (inr refl)) at h b
+no_place p s c e ends not_held nothing place q b (rests d less at h) =
     let plan = network_of p in
     let same : c ≡ d = subst (λ z. BelongsTo (net_of plan) c (z, q)) at b in
     let held = none_held ((vcps (shown s) (sink_node plan (home plan d))).carrier.into d).held q h in
     let held_c = subst (λ z. ((vcps (shown s) (sink_node plan (home plan z))).carrier.into z).held ≢ None) (sym same) held in
     not_held (subst (λ n. ((vcps (shown s) n).carrier.into c).held ≢ None) (sink_is plan (home plan c) e ends) held_c)
 
-pub found_nowhere : (p : Plan) (s : State) (c : ℕ) (e : Ends) → ends_at (network_of p) (home (network_of p) c) ≡ Some e → IsNetworkOf p s → (((vcps (shown s) e.to.node).carrier.into c).held ≢ None → ⊥) →
-    ((w : ℕ) → w < ways (network_of p) → FindsOn (network_of p) (shown s) e w None) → FindsPlace p s c None
-found_nowhere p s c e ends is not_held nothing = λ none place stands.
-    no_place p s c e ends is none not_held nothing place stands.here.0 stands.here.2 (where_it_is (network_of p) (shown s) place stands.here.0 stands.here.1)
+pub found_nowhere : (p : Plan) (s : State) (c : ℕ) (e : Ends) → ends_at (network_of p) (home (network_of p) c) ≡ Some e → (((vcps (shown s) e.to.node).carrier.into c).held ≢ None → ⊥) →
+    ((w : ℕ) → w < ways (network_of p) → FindsOn (network_of p) (shown s) c w None) → FindsPlace p s c None
+found_nowhere p s c e ends not_held nothing = λ place stands.
+    no_place p s c e ends not_held nothing place stands.here.0 stands.here.2 (where_it_is (network_of p) (shown s) place stands.here.0 stands.here.1)
 
 -- a channel with ends is one of the plan's
 pub is_channel : (p : Plan) (c : ℕ) (e : Ends) → ends_at (network_of p) (home (network_of p) c) ≡ Some e → c < length (network_of p).channels
@@ -192,8 +149,8 @@ finished_or plan s c f =
     ]
 
 -- a packet is found exactly where an output is not finished
-pub unfinished : (p : Plan) (events : List Event) (s : State) (c : ℕ) (r : Option Place) → Replays p events s → p.switches ≡ [] → c < length p.channels → FindsPlace p s c r → IsSome r ↔ IsUnfinished p s c
-unfinished p events s c r replays none less finds = by_home (home plan c) refl
+pub unfinished : (p : Plan) (events : List Event) (s : State) (c : ℕ) (r : Option Place) → Replays p events s → c < length p.channels → FindsPlace p s c r → IsSome r ↔ IsUnfinished p s c
+unfinished p events s c r replays less finds = by_home (home plan c) refl
   where
     plan : network.Plan
     plan = network_of p
@@ -207,7 +164,7 @@ unfinished p events s c r replays none less finds = by_home (home plan c) refl
           (λ t. absurd (cc)),
           (λ u.
               let r = number_has (BelongsTo (net_of plan) c) (everywhere plan (shown s)) 0 (its.one_packet u) in
-              absurd (finds none r.0.0 (record { on_link = ap is_virtual at; here = (r.0.1, r.1, r.2) }))),
+              absurd (finds r.0.0 (record { on_link = ap is_virtual at; here = (r.0.1, r.1, r.2) }))),
         )
     on_way v ab at (Some x) (place, stands, named) =
         let its = replays.headline.packets c v ab below at in (

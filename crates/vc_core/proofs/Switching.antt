@@ -1,13 +1,13 @@
 -- What a call of a switch is: a step of its actor.
-use Rattle.std.proofs.Common.{◌≡◌, ℕ, zero, suc, ◌+◌, ◌-◌, ◌<◌, ◌≤◌, false, List, [], ◌∷◌, ◌++◌, length, slice_get, Option, Some, None, refl, sym, ap, ◌∙◌, subst, arith, inl, inr, nat_lt, if◌then◌else◌}
+use Rattle.std.proofs.Common.{◌≡◌, ℕ, ◌+◌, ◌-◌, ◌<◌, ◌≤◌, false, List, [], ◌∷◌, ◌++◌, slice_get, Option, Some, None, refl, sym, ap, ◌∙◌, subst, arith, inl, inr, nat_lt, if◌then◌else◌}
 use Rattle.std.proofs.lemmas.Bool.{cases_lt}
 use Rattle.std.proofs.lemmas.Bool.Decides.{nat_tests}
 use Rattle.vc_machine.specs.Paths.{AtNode, AtSwitch}
-use Rattle.vc_network.specs.Plan.{Plan, IsOutOf, IsInto, body_limit, switch_plan}
+use Rattle.vc_network.specs.Plan.{Plan, IsOutOf, IsInto, switch_plan}
 use Rattle.vc_tokens.specs.Tokens.{Token}
 use Rattle.vc_switch.specs.Able.{CanPass, CanLeave, IsFree, CanRoute, CanPut}
 use Rattle.vc_switch.specs.Seen.{seen, IsKept}
-use Rattle.vc_switch.specs.State.{State, IsSwitch, plan_of, limit_of, shown_or, bound_at, source_at}
+use Rattle.vc_switch.specs.State.{State, IsSwitch, plan_of, limit_of, shown_or, source_at}
 use Rattle.vc_switch.specs.Switch.{Switch, Passes, passes_byte, drops_byte, passes_mark, loses, Routes, Sends, SendsFct, Comes}
 use Rattle.vc_switch.specs.Waiting.{Wormhole}
 use Rattle.vc_labels.specs.declared.row.Row.{Row}
@@ -23,7 +23,7 @@ use Rattle.vc_switch.proofs.Routing.{links}
 use Rattle.std.proofs.lemmas.Option.{slice_get_past}
 use Rattle.vc_core.specs.Able.{SwitchCan}
 use Rattle.vc_core.specs.Acting.{port, ByLinksOfSwitch, SwitchMay, MakesOwn, MakesTake, MakesPut, MakesGrant}
-use Rattle.vc_core.specs.OfPlan.{IsSwitchOf, IsActorOf}
+use Rattle.vc_core.specs.OfPlan.{IsActorOf}
 use Rattle.vc_core.specs.Shown.{OfSwitch}
 use Rattle.vc_core.specs.declared.act.Act.{Act}
 use Rattle.vc_core.specs.declared.act.Act.TheVariants as act

@@ -14,10 +14,9 @@ use Rattle.vc_network.specs.Plan.{back}
 use Rattle.vc_network.specs.Views.{vcp_of, switch_of}
 use Rattle.vc_occam.specs.declared.moves.Move.{Move}
 use Rattle.vc_occam.specs.Remains.{Done}
-use Rattle.vc_occam.specs.Runnings.{state}
 use Rattle.vc_plan.specs.declared.plan.Plan.{Plan}
 use Rattle.vc_switch.specs.State.{State as SwitchState}
-use Rattle.vc_core.specs.Able.{NodeCan, SwitchCan, CanAct, CanMove}
+use Rattle.vc_core.specs.Able.{NodeCan, SwitchCan, CanMove}
 use Rattle.vc_core.specs.Acting.{MayAct}
 use Rattle.vc_core.specs.Enabled.{CanHappen}
 use Rattle.vc_core.specs.OfPlan.{IsActorOf}
@@ -34,7 +33,7 @@ use Rattle.vc_core.specs.declared.act.Event.{Event}
 use Rattle.vc_core.specs.declared.node.Node.{Node}
 use Rattle.vc_core.specs.declared.turn.Turn.{Turn}
 use Rattle.vc_core.specs.declared.turn.Turn.TheVariants as turn
-use Rattle.vc_core.proofs.Happening.{below, state_at}
+use Rattle.vc_core.proofs.Happening.{state_at}
 use Rattle.vc_core.proofs.Enabled.{happens, has_act, has_ways, has_actor, has, can_take}
 
 -- An actor's own search.

@@ -3,6 +3,7 @@ use Rattle.std.specs.Prelude.{◌≡◌, ℕ, min, Option, Some, None}
 use Rattle.vc_occam.specs.Remains.{Done}
 use Rattle.vc_occam.specs.Runnings.{state}
 use Rattle.vc_switch.specs.Seen.{seen as seen_switch}
+use Rattle.vc_switch.specs.State.{State as SwitchState}
 use Rattle.vc_vcp.specs.Links.{Vcp, new_vcp}
 use Rattle.vc_vcp.specs.Seen.{seen}
 use Rattle.vc_core.specs.Shown.{Acting, OfNode, OfSwitch}
@@ -22,6 +23,15 @@ node_in (OfSwitch s) = None
 abbrev pub node_at : Option Acting → Option Node
 node_at None = None
 node_at (Some a) = node_in a
+
+-- the switch, if the actor is one
+abbrev pub switch_in : Acting → Option SwitchState
+switch_in (OfNode n) = None
+switch_in (OfSwitch s) = Some s
+
+abbrev pub switch_at : Option Acting → Option SwitchState
+switch_at None = None
+switch_at (Some a) = switch_in a
 
 -- what the node shows; nothing where there is none
 abbrev pub vcp_in : Option Node → Vcp

@@ -1,13 +1,19 @@
--- Which packets are sought at a node that they reach, and what is kept of a packet while it comes.
-use Rattle.std.specs.Prelude.{◌≡◌, ◌⊎◌, ◌↔◌, ℕ, List, [], ◌∷◌, ◌++◌, length, nat_lt, ◌==◌, Some, None, IsTrue, if◌then◌else◌}
+-- Which packets are sought at a node that they reach, and what is known of a packet before it comes there.
+use Rattle.std.specs.Prelude.{◌≡◌, ◌⊎◌, ◌↔◌, ℕ, ◌≤◌, ◌<◌, List, [], ◌∷◌, ◌++◌, length, take, ◌==◌, Some, None, IsTrue, if◌then◌else◌}
+use Rattle.std.specs.List.{Contains}
+use Rattle.vc_packets.specs.declared.mark.Mark.{Mark}
 use Rattle.vc_packets.specs.declared.packet.Packet.{Packet}
+use Rattle.vc_packets.specs.Headers.{spelled}
 use Rattle.vc_tokens.specs.Tokens.{Token, Byte, Fct, EndMark}
-use Rattle.vc_machine.specs.Seen.{read}
-use Rattle.vc_vcp.specs.Links.{Link}
+use Rattle.vc_machine.specs.Owners.{HasOwner}
+use Rattle.vc_machine.specs.Paths.{Net, End, Delivers}
+use Rattle.vc_machine.specs.Places.{Place, OnWire, IsOf}
+use Rattle.vc_network.specs.Plan.{Plan, body_limit, home, net_of, ways}
+use Rattle.vc_plan.specs.declared.plan.Plan.{Plan as Given}
+use Rattle.vc_accepted.specs.NetworkOf.{network_of}
 use Rattle.vc_vcp.specs.State.{IsPieceOf, IsAckOf}
+use Rattle.vc_core.specs.Channels.{ends_at}
 use Rattle.vc_core.specs.declared.channels.Ends.{Ends}
-use Rattle.vc_core.specs.declared.coming.Coming.{Coming}
-use Rattle.vc_core.specs.declared.coming.Coming.TheVariants.{Nothing, High, Behind}
 use Rattle.vc_core.specs.declared.reader.Reader.{Reader}
 use Rattle.vc_core.specs.declared.sought.Sought.{Sought}
 
@@ -22,20 +28,25 @@ sought_at e n = record {
   acks = if e.from.node == n then Some e.from.block else None;
 }
 
+-- a packet that comes to an end with this load is sought there
+abbrev pub IsSoughtAt : Ends → End → List ℕ → Mark → Type 0
+IsSoughtAt ends e load mark = IsSought (sought_at ends e.node) (record { body = spelled (e.block ∷ []) ++ load; mark = mark })
+
+-- the headers of a body on way w deliver it to an end, in so many hops at most, and this is what follows them
+pub record ComesTo (net : Net) (hops w : ℕ) (body : List ℕ) (e : End) (load : List ℕ) : Type 0 where
+  pub stack : List ℕ
+  pub is : body ≡ spelled stack ++ load
+  pub delivers : Delivers net hops w stack e
+
 -- one of them is such
 abbrev pub Has : {X : Type 0} → (X → Type 0) → List X → Type 0
 Has B [] = ⊥
 Has B (x ∷ xs) = B x ⊎ Has B xs
 
--- no more than 33 bytes are counted behind the block
-abbrev pub counted : ℕ → ℕ
-counted n = if nat_lt n 33 then n else 33
-
--- what is kept of the bytes that have come of a packet
-abbrev pub coming : List ℕ → Coming
-coming [] = Nothing
-coming (high ∷ []) = High high
-coming (high ∷ low ∷ load) = Behind high low (counted (length load))
+-- the packet belongs to a channel, and is no longer than the limit
+pub record IsOwned (plan : Plan) (x : Place × Packet) : Type 0 where
+  pub owner : HasOwner (net_of plan) x
+  pub short : length x.1.body ≤ body_limit plan
 
 -- the bytes of the packet whose mark is not among these tokens, behind those that came before
 abbrev pub left : List ℕ → List Token → List ℕ
@@ -44,12 +55,10 @@ left got (Byte b ∷ ts) = left (got ++ b ∷ []) ts
 left got (EndMark m ∷ ts) = left [] ts
 left got (Fct ∷ ts) = left got ts
 
--- these packets have been read, and then these bytes of another
-pub record HasRead (x : Sought) (ps : List Packet) (got : List ℕ) (r : Reader) : Type 0 where
-  pub sought : r.sought ≡ x
-  pub coming : r.coming ≡ coming got
-  pub found : IsTrue r.found ↔ Has (IsSought x) ps
-
--- all that has passed at a link, or waits in its buffer, has been read
-abbrev pub HasReadAt : Sought → Link → Reader → Type 0
-HasReadAt x l r = HasRead x (read l.passed l.receiver.buffer) (left l.passed l.receiver.buffer) r
+-- on way w these packets have been read, in search of one of channel c's, and then these bytes of another, of which no more than 45 are kept
+pub record HasRead (p : Given) (c w : ℕ) (ps : List Packet) (got : List ℕ) (r : Reader) : Type 0 where
+  pub way : r.way ≡ w
+  pub real : w < ways (network_of p)
+  pub ends : ends_at (network_of p) (home (network_of p) c) ≡ Some r.ends
+  pub coming : r.coming.bytes.items ≡ take 45 got
+  pub found : ((q : Packet) → Contains ps q → IsOwned (network_of p) (OnWire w, q)) → IsTrue r.found ↔ Has (λ q. IsOf (net_of (network_of p)) w None q c) ps

@@ -27,13 +27,14 @@ use Rattle.vc_core.specs.declared.network.Network.{Network}
 
 pub record State : Type 0 where
   pub actors : List Acting
+  pub nodes : ℕ  -- how many of the actors are nodes
   pub ways : List (List Token)
   pub wiring : List (Option ℕ)
   pub wires : List Wire
   pub channels : List ChannelInfo
 
 abbrev pub state_of : Network → State
-state_of n = record { actors = n.actors.items; ways = n.ways.items; wiring = n.wiring; wires = n.wires; channels = n.channels.items }
+state_of n = record { actors = n.actors.items; nodes = n.nodes; ways = n.ways.items; wiring = n.wiring; wires = n.wires; channels = n.channels.items }
 
 -- in the words of the network's steps
 abbrev pub shown : State → actors.Network (net.Actor Process) Token
@@ -50,6 +51,7 @@ pub record IsNetworkOf (p : Plan) (s : State) : Type 0 where
   pub accepted : IsAccepted p
   pub count : length s.actors ≡ length p.nodes + length p.switches
   pub actors : (k : ℕ) (a : Acting) → slice_get s.actors k ≡ Some a → IsActorOf (network_of p) k a
+  pub nodes : s.nodes ≡ length p.nodes
   pub ways : length s.ways ≡ ways (network_of p)
   pub wiring : AreWaysAt p s.wiring
   pub wires : s.wires ≡ p.wires

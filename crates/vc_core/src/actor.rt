@@ -4,7 +4,7 @@ ghost use Rattle.std.specs.Option.{option_copied};
 ghost use Rattle.vc_core.specs.Able.{CanAct};
 ghost use Rattle.vc_core.specs.Acting.{HasLink, MayAct, MakesOwn, MakesTake, MakesPut, MakesGrant, IsOwn};
 ghost use Rattle.vc_core.specs.OfPlan.{IsActorOf};
-ghost use Rattle.vc_core.specs.Parts.{HasEnded, node_in, strays_of, lost_of, faults_of};
+ghost use Rattle.vc_core.specs.Parts.{HasEnded, node_in, switch_in, strays_of, lost_of, faults_of};
 ghost use Rattle.vc_core.specs.Shown.{OfNode, OfSwitch};
 ghost use Rattle.vc_core.specs.Turns.{FindsTurn, IsTold, MakesTurn};
 ghost use Rattle.vc_network.specs.Plan.{Plan};
@@ -72,6 +72,16 @@ impl Actor {
         match &self.part {
             Part::Node(node) => Some(node.node()),
             Part::Switch(_) => None,
+        }
+    }
+
+    /// The switch, if the actor is one.
+    pub(crate) fn switch(&self) -> Option<&Switch>
+        ensures { option_copied result ≡ switch_in self.now }
+    {
+        match &self.part {
+            Part::Node(_) => None,
+            Part::Switch(switch) => Some(switch.switch()),
         }
     }
 

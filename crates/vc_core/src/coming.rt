@@ -1,89 +1,52 @@
 //! Packets while they come.
-ghost use Rattle.std.specs.Prelude.{◌≡◌, ◌↔◌, ◌++◌, [], ◌∷◌, ℕ, List, IsTrue};
-ghost use Rattle.vc_core.specs.Sought.{IsSought, coming, counted};
+ghost use Rattle.std.specs.Prelude.{◌≡◌, ◌++◌, [], ◌∷◌, ℕ, List, take};
 
-use crate::sought::Sought;
-use vc_packets::Mark;
+use arrayvec::ArrayVec;
 
-/// What is kept of the bytes that have come of a packet: as much as tells whose it is and of which kind.
-#[derive(Clone, Copy, Drop)]
-pub(crate) enum Coming {
-    /// None has come.
-    Nothing,
-    /// The high byte of its block.
-    High(u8),
-    /// Its block, and bytes behind it.
-    Behind {
-        /// The high byte of the block.
-        high: u8,
-        /// The low byte of the block.
-        low: u8,
-        /// How many bytes are behind it: at most 32, or 33 for more than a piece has.
-        load: u8,
-    },
+/// How many bytes are kept of a packet: one more than any packet has, with six headers and 32 bytes of data.
+const KEPT: usize = 45;
+
+/// What is kept of the bytes that have come of a packet: all, up to one more than any packet has.
+#[derive(Drop)]
+pub(crate) struct Coming {
+    bytes: ArrayVec<u8, 45>,
 }
-
-/// One more byte behind its block than a piece may have.
-const TOO_MANY: u8 = 33;
 
 impl Coming {
     /// What is kept of a packet of which these bytes have come.
     pub(crate) fn of(bytes: &[u8]) -> Coming
-        ensures { result ≡ coming bytes.now }
+        ensures { result.bytes.items ≡ take 45 bytes.now }
     {
-        match bytes {
-            [] => Coming::Nothing,
-            [high] => Coming::High(*high),
-            [high, low, load @ ..] => Coming::Behind {
-                high: *high,
-                low: *low,
-                load: counted(load.len()),
-            },
-        }
+        let mut kept = ArrayVec::new();
+        let _fits = kept.try_extend_from_slice(first_of(bytes));
+        Coming { bytes: kept }
     }
 
     /// What is kept where one byte more has come.
     pub(crate) fn with(self, byte: u8) -> Coming
-        ensures { (got : List ℕ) → self ≡ coming got → result ≡ coming (got ++ byte ∷ []) }
+        ensures { (got : List ℕ) → self.bytes.items ≡ take 45 got → result.bytes.items ≡ take 45 (got ++ byte ∷ []) }
     {
-        match self {
-            Coming::Nothing => Coming::High(byte),
-            Coming::High(high) => Coming::Behind {
-                high,
-                low: byte,
-                load: 0,
-            },
-            Coming::Behind { high, low, load } => Coming::Behind {
-                high,
-                low,
-                load: if load < TOO_MANY { load + 1 } else { load },
-            },
+        let mut bytes = self.bytes;
+        if !bytes.is_full() {
+            bytes.push(byte);
         }
+        Coming { bytes }
     }
 
-    /// Whether the packet that has come so is sought, where this is its mark.
-    pub(crate) fn is(self, sought: Sought, mark: Mark) -> bool
-        ensures { (body : List ℕ) → self ≡ coming body → IsTrue result ↔ IsSought sought (record { body = body; mark = mark }) }
+    /// The bytes that are kept.
+    pub(crate) fn bytes(&self) -> &[u8]
+        ensures { result.now ≡ self.now.bytes.items }
     {
-        let Coming::Behind { high, low, load } = self else {
-            return false;
-        };
-        let block = u16::from_be_bytes([high, low]);
-        match mark {
-            Mark::Eop if load == 0 => sought.acks == Some(block),
-            Mark::Eop => load == 32 && sought.pieces == Some(block),
-            Mark::Eom => load <= 32 && sought.pieces == Some(block),
-        }
+        self.bytes.as_slice()
     }
 }
 
-// As many as are counted of this many bytes.
-fn counted(len: usize) -> u8
-    ensures { result ≡ counted len }
+// The first of these bytes, as many as are kept.
+fn first_of(bytes: &[u8]) -> &[u8]
+    ensures { result.now ≡ take 45 bytes.now }
 {
-    if len < usize::from(TOO_MANY) {
-        len as u8
-    } else {
-        TOO_MANY
+    match bytes.get(..KEPT) {
+        Some(first) => first,
+        None => bytes,
     }
 }

@@ -21,12 +21,14 @@ mod place;
 mod reader;
 mod refused;
 mod room;
+mod search;
 mod sought;
 mod spans;
 mod switch_actor;
 mod switch_building;
 mod turn;
 mod way;
+mod whose;
 mod wiring;
 
 pub use act::{Act, Event};

@@ -1,7 +1,7 @@
 //! A network: its actors, and the ways that join them.
 ghost use Rattle.std.specs.Prelude.{◌≡◌, ◌≢◌, ◌<◌, ◌↔◌, ◌*◌, ℕ, List, [], ◌∷◌, ◌++◌, length, slice_get, Some, None, IsTrue, IsSome, IfOk, IfErr, IfSome, OnOk, OnErr, MatchOption, MatchResult};
 ghost use Rattle.std.specs.List.{AllByRecursion};
-ghost use Rattle.vc_core.specs.Replaying.{IsOpening, Replays, RefusedAt};
+ghost use Rattle.vc_core.specs.Replaying.{IsOpening, Reached, Replays, RefusedAt};
 ghost use Rattle.vc_plan.specs.declared.plan.Plan.{Plan};
 ghost use Rattle.vc_core.specs.Acting.{IsOwn};
 ghost use Rattle.std.specs.Option.{option_copied};
@@ -9,11 +9,8 @@ ghost use Rattle.vc_plan.specs.Accepted.{port_of as side_of};
 ghost use Rattle.vc_plan.specs.declared.channel.Channel.{Channel};
 ghost use Rattle.vc_accepted.specs.NetworkOf.{network_of};
 ghost use Rattle.vc_network.specs.Plan.{home};
-ghost use Rattle.vc_network.specs.Views.{view, source_node, sink_node, vcps, queue_at};
-ghost use Rattle.vc_accepted.specs.NetworkOf.{port_of};
-ghost use Rattle.vc_machine.specs.Paths.{AtNode};
-ghost use Rattle.vc_core.specs.Placed.{FindsPlace, FindsOn, FindsBefore, IsUnfinished, coming_by};
-ghost use Rattle.vc_core.specs.Sought.{Has, IsSought, HasReadAt};
+ghost use Rattle.vc_network.specs.Views.{view, source_node, sink_node, vcps};
+ghost use Rattle.vc_core.specs.Placed.{AreOwned, FindsPlace, IsUnfinished};
 ghost use Rattle.vc_core.specs.Channels.{ends_at};
 ghost use Rattle.vc_core.specs.Enabled.{CanHappen};
 ghost use Rattle.std.specs.Int.{bit_at};
@@ -31,25 +28,25 @@ use crate::building::actors;
 use crate::channels::{ChannelInfo, Ends, channels_of};
 use crate::node::Node;
 use crate::place::Place;
-use crate::reader::Reader;
 use crate::refused::{ReplayRefused, StepRefused};
-use crate::sought::Sought;
 use crate::way::Way;
 use crate::wiring::Wiring;
 use sqlite_items::{Items, at};
 use std::alloc::Global;
 use vc_occam::ValueKind;
 use vc_packets::Memory;
-use vc_plan::{Accepted, Port, Spot, Wire};
+use vc_plan::{Accepted, Port, Wire};
 use vc_tokens::Token;
 
 /// A network: its actors, and the tokens on the ways that join them.
 #[derive(Drop)]
 pub struct Network {
-    actors: Vec<Actor>,
-    ways: Vec<Way>,
-    wiring: Wiring,
-    wires: Items<Wire>,
+    pub(crate) actors: Vec<Actor>,
+    /// How many of the actors are nodes.
+    pub(crate) nodes: u8,
+    pub(crate) ways: Vec<Way>,
+    pub(crate) wiring: Wiring,
+    pub(crate) wires: Items<Wire>,
     channels: Vec<ChannelInfo>,
 }
 
@@ -61,6 +58,7 @@ impl Network {
         let plan = accepted.plan();
         Ok(Network {
             actors: actors(alloc, accepted)?,
+            nodes: plan.nodes.len() as u8,
             ways: ways_of(alloc, plan.wires.len())?,
             wiring: Wiring::new(alloc, plan)?,
             wires: Items::from_slice(alloc, plan.wires.as_slice())?,
@@ -374,11 +372,10 @@ impl Network {
 
     /// Where a packet of a channel stands: there its end mark is. After any events from the opening state on a channel has a packet
     /// exactly where an output on it is not finished, and has only that one; a channel inside a node never has one. It takes no
-    /// memory. Packets on a way to a switch or inside one are not looked at yet, so that a channel has none is told of networks
-    /// without switches.
+    /// memory. Whose a packet is, the tables tell by which it goes.
     pub fn place(&self, chan: u16) -> Option<Place>
-        ensures finds { (p : Plan) → IsNetworkOf p (state_of self.now) → FindsPlace p (state_of self.now) chan result }
-        ensures unfinished { (p : Plan) (events : List Happening) → Replays p events (state_of self.now) → p.switches ≡ [] → chan < length p.channels → IsSome result ↔ IsUnfinished p (state_of self.now) chan }
+        ensures finds { (p : Plan) (events : List Happening) → Reached p events (state_of self.now) → FindsPlace p (state_of self.now) chan result }
+        ensures unfinished { (p : Plan) (events : List Happening) → Replays p events (state_of self.now) → chan < length p.channels → IsSome result ↔ IsUnfinished p (state_of self.now) chan }
     {
         let ends = self.ends(chan)?;
         self.place_by(chan, &ends)
@@ -396,7 +393,7 @@ impl Network {
 
     // Where a packet of the channel with these ends stands: held, or at one of the ways.
     fn place_by(&self, chan: u16, ends: &Ends) -> Option<Place>
-        ensures { (p : Plan) → IsNetworkOf p (state_of self.now) → ends_at (network_of p) (home (network_of p) chan) ≡ Some ends.now → FindsPlace p (state_of self.now) chan result }
+        ensures { (p : Plan) → IsNetworkOf p (state_of self.now) → AreOwned (network_of p) (shown (state_of self.now)) → ends_at (network_of p) (home (network_of p) chan) ≡ Some ends.now → FindsPlace p (state_of self.now) chan result }
     {
         let node = ends.to.node;
         if self.holds(node, chan) {
@@ -420,72 +417,8 @@ impl Network {
         }
     }
 
-    // Where a packet of the channel with these ends stands at a way: in the queue at its near end, or on it.
-    fn place_on(&self, way: usize, ends: &Ends) -> Option<Place>
-        ensures { (p : Plan) → IsNetworkOf p (state_of self.now) → way < length self.now.ways.items → FindsOn (network_of p) (shown (state_of self.now)) ends.now way result }
-    {
-        let wire = at(self.wires.as_slice(), way / 2)?;
-        let Ok(number) = u16::try_from(way / 2) else {
-            return None;
-        };
-        let from_one = way % 2 == 0;
-        let far = port_of(wire, !from_one);
-        let Spot::Node(node) = far.spot else {
-            return None;
-        };
-        let sought = ends.sought_at(node);
-        if self.carries(way, node, far.link, sought) {
-            return Some(Place::Wire(number, from_one));
-        }
-        self.place_before(port_of(wire, from_one), sought)
-    }
-
-    // Where a packet that is sought waits in the queue at a port.
-    fn place_before(&self, near: Port, sought: Sought) -> Option<Place>
-        ensures { FindsBefore (shown (state_of self.now)) sought (port_of near) result }
-    {
-        match near.spot {
-            Spot::Node(node) if self.queues(node, near.link, sought) => Some(Place::Queue(node)),
-            _ => None,
-        }
-    }
-
-    // Whether a packet that is sought waits in the queue of a node's link.
-    fn queues(&self, node: u8, link: u8, sought: Sought) -> bool
-        ensures { IsTrue result ↔ Has (IsSought sought) ((vcps (shown (state_of self.now)) node).carrier.queue link) }
-    {
-        match self.node(node) {
-            Some(node) => node.queues(link, sought),
-            None => false,
-        }
-    }
-
-    // Whether a packet that is sought is on a way that comes in by a node's link, or in the buffer there.
-    fn carries(&self, way: usize, node: u8, link: u8, sought: Sought) -> bool
-        ensures { IsTrue result ↔ Has (IsSought sought) (coming_by (shown (state_of self.now)) way node link) }
-    {
-        let reader = self.read_at(node, link, sought);
-        match at(self.ways.as_slice(), way) {
-            Some(line) => {
-                let (first, second) = line.tokens();
-                reader.through(first).through(second).has_found()
-            }
-            None => reader.has_found(),
-        }
-    }
-
-    // Reads what has passed at a node's link, and the tokens that wait there.
-    fn read_at(&self, node: u8, link: u8, sought: Sought) -> Reader
-        ensures { HasReadAt sought ((vcps (shown (state_of self.now)) node).link link) result }
-    {
-        match self.node(node) {
-            Some(node) => node.read_at(link, sought),
-            None => Reader::new(sought, &[]),
-        }
-    }
-
-    // The node of this number, if there is one.
-    fn node(&self, number: u8) -> Option<&Node>
+    /// The node of this number, if there is one.
+    pub(crate) fn node(&self, number: u8) -> Option<&Node>
         ensures { vcps (shown (state_of self.now)) number ≡ vcp_in (option_copied result) }
     {
         match at(self.actors.as_slice(), usize::from(number)) {
@@ -555,8 +488,8 @@ fn is_done(actor: &Actor) -> bool
     }
 }
 
-// Port one or port two of a wire.
-fn port_of(wire: &Wire, is_one: bool) -> Port
+/// Port one or port two of a wire.
+pub(crate) fn port_of(wire: &Wire, is_one: bool) -> Port
     ensures { result ≡ side_of wire.now is_one }
 {
     if is_one { wire.one } else { wire.two }

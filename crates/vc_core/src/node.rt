@@ -1,5 +1,5 @@
 //! A node: its process, and the virtual channel processor that carries its channels.
-ghost use Rattle.std.specs.Prelude.{◌≡◌, ◌≢◌, ◌<◌, ◌↔◌, ℕ, [], Option, Some, IsTrue, OnOk, OnErr};
+ghost use Rattle.std.specs.Prelude.{◌≡◌, ◌≢◌, ◌<◌, ◌↔◌, ◌++◌, ℕ, [], Option, Some, IsTrue, OnOk, OnErr};
 ghost use Rattle.vc_occam.specs.States.{came};
 ghost use Rattle.vc_vcp.specs.Seen.{seen, answered, passed_of};
 ghost use Rattle.vc_vcp.specs.Steps.{Complete, Finished};
@@ -12,15 +12,14 @@ ghost use Rattle.vc_network.specs.Plan.{Plan};
 ghost use Rattle.vc_core.specs.OfPlan.{IsNodeOf};
 ghost use Rattle.vc_core.specs.MayMove.{MayMove, AnswersMove, MakesMove};
 ghost use Rattle.vc_core.specs.Able.{HalfCan, CanMove};
-ghost use Rattle.vc_core.specs.Sought.{Has, IsSought, HasReadAt};
+ghost use Rattle.vc_tokens.specs.Spelt.{tokens};
 
 use crate::inside::Inside;
-use crate::reader::Reader;
-use crate::sought::Sought;
 use sqlite_items::Items;
 use std::alloc::Global;
 use vc_occam::{Answer, Move, Running};
-use vc_packets::Memory;
+use vc_packets::{Memory, Packet};
+use vc_tokens::Token;
 use vc_vcp::{Taken, Vcp, Want};
 
 /// A node: its process, the virtual channel processor that carries its channels, and the channels inside it.
@@ -112,29 +111,34 @@ impl Node {
         }
     }
 
-    /// Whether a packet that is sought waits in the send queue of a link.
-    pub(crate) fn queues(&self, link: u8, sought: Sought) -> bool
-        ensures { IsTrue result ↔ Has (IsSought sought) ((seen self.now.vcp).carrier.queue link) }
+    /// The packets that wait at a link, in two parts: those of the first go out before those of the second.
+    pub(crate) fn packets_at(&self, link: u8) -> (&[Packet], &[Packet])
+        ensures { result.0.now ++ result.1.now ≡ (seen self.now.vcp).carrier.queue link }
     {
         if link >= self.vcp.links() {
-            return false;
+            return (&[], &[]);
         }
-        let (first, second) = self.vcp.sending(link).packets();
-        sought.is_among(first) || sought.is_among(second)
+        self.vcp.sending(link).packets()
     }
 
-    /// Reads what has passed at a link, and the tokens that wait there.
-    pub(crate) fn read_at(&self, link: u8, sought: Sought) -> Reader
-        ensures { HasReadAt sought ((seen self.now.vcp).link link) result }
+    /// The tokens that wait in a link's buffer, in two parts: those of the first came before those of the second.
+    pub(crate) fn tokens_at(&self, link: u8) -> (&[Token], &[Token])
+        ensures { tokens (result.0.now ++ result.1.now) ≡ ((seen self.now.vcp).link link).receiver.buffer }
     {
         if link >= self.vcp.links() {
-            return Reader::new(sought, &[]);
+            return (&[], &[]);
         }
-        let into = self.vcp.receiving(link);
-        let (first, second) = into.tokens();
-        Reader::new(sought, into.passed())
-            .through(first)
-            .through(second)
+        self.vcp.receiving(link).tokens()
+    }
+
+    /// The bytes that have passed at a link of a packet whose mark has not.
+    pub(crate) fn passed_at(&self, link: u8) -> &[u8]
+        ensures { result.now ≡ ((seen self.now.vcp).link link).passed }
+    {
+        if link >= self.vcp.links() {
+            return &[];
+        }
+        self.vcp.receiving(link).passed()
     }
 
     /// Makes a move.

@@ -1,78 +1,89 @@
 //! Packets read from tokens.
-ghost use Rattle.std.specs.Prelude.{◌≡◌, ◌++◌, [], ◌∷◌, ℕ, List};
+ghost use Rattle.std.specs.Prelude.{◌≡◌, ◌<◌, ◌++◌, [], ◌∷◌, ℕ, List, Some};
+ghost use Rattle.vc_accepted.specs.NetworkOf.{network_of};
+ghost use Rattle.vc_core.specs.Channels.{ends_at};
 ghost use Rattle.vc_core.specs.Sought.{HasRead, left};
-ghost use Rattle.vc_core.specs.declared.sought.Sought.{Sought as Wanted};
+ghost use Rattle.vc_core.specs.State.{state_of, IsNetworkOf};
 ghost use Rattle.vc_machine.specs.Seen.{read};
+ghost use Rattle.vc_network.specs.Plan.{home, ways};
 ghost use Rattle.vc_packets.specs.declared.packet.Packet.{Packet};
+ghost use Rattle.vc_plan.specs.declared.plan.Plan.{Plan};
 ghost use Rattle.vc_tokens.specs.Spelt.{token as spelt, tokens as all_spelt};
 
+use crate::channels::Ends;
 use crate::coming::Coming;
-use crate::sought::Sought;
+use crate::network::Network;
 use vc_packets::Mark;
 use vc_tokens::Token;
 
-/// Reads the packets that tokens spell, and tells whether one that is sought was among them.
-#[derive(Clone, Copy, Drop)]
+/// Reads the packets that tokens on a way spell, and tells whether one of a channel's was among them.
+#[derive(Drop)]
 pub(crate) struct Reader {
-    sought: Sought,
+    way: usize,
+    ends: Ends,
     coming: Coming,
     found: bool,
 }
 
 impl Reader {
-    /// A reader that begins within a packet, of which these bytes have come.
-    pub(crate) fn new(sought: Sought, passed: &[u8]) -> Reader
-        ensures { HasRead sought [] passed.now result }
+    /// A reader of a way in search of a packet of the channel with these ends, which begins within a packet, of which these bytes
+    /// have come.
+    pub(crate) fn new(way: usize, ends: Ends, passed: &[u8]) -> Reader
+        ensures { (p : Plan) (c : ℕ) → way < ways (network_of p) → ends_at (network_of p) (home (network_of p) c) ≡ Some ends → HasRead p c way [] passed.now result }
     {
         Reader {
-            sought,
+            way,
+            ends,
             coming: Coming::of(passed),
             found: false,
         }
     }
 
     /// The same, when these tokens have been read as well.
-    pub(crate) fn through(self, tokens: &[Token]) -> Reader
-        ensures { (x : Wanted) (ps : List Packet) (got : List ℕ) → HasRead x ps got self → HasRead x (ps ++ read got (all_spelt tokens.now)) (left got (all_spelt tokens.now)) result }
+    pub(crate) fn through(self, network: &Network, tokens: &[Token]) -> Reader
+        ensures { (p : Plan) (c w : ℕ) (ps : List Packet) (got : List ℕ) → IsNetworkOf p (state_of network.now) → HasRead p c w ps got self → HasRead p c w (ps ++ read got (all_spelt tokens.now)) (left got (all_spelt tokens.now)) result }
     {
         let mut reader = self;
         for token in tokens {
-            reader = reader.with(token);
+            reader = reader.with(network, token);
         }
         reader
     }
 
-    /// Whether a packet that is sought has been read.
-    pub(crate) fn has_found(self) -> bool
-        ensures { result ≡ self.found }
+    /// Whether one of the channel's packets has been read.
+    pub(crate) fn has_found(&self) -> bool
+        ensures { result ≡ self.now.found }
     {
         self.found
     }
 
     // The same, when one token more has been read.
-    fn with(self, token: &Token) -> Reader
-        ensures { (x : Wanted) (ps : List Packet) (got : List ℕ) → HasRead x ps got self → HasRead x (ps ++ read got (spelt token.now ∷ [])) (left got (spelt token.now ∷ [])) result }
+    fn with(self, network: &Network, token: &Token) -> Reader
+        ensures { (p : Plan) (c w : ℕ) (ps : List Packet) (got : List ℕ) → IsNetworkOf p (state_of network.now) → HasRead p c w ps got self → HasRead p c w (ps ++ read got (spelt token.now ∷ [])) (left got (spelt token.now ∷ [])) result }
     {
         match *token {
             Token::Byte(byte) => Reader {
-                sought: self.sought,
+                way: self.way,
+                ends: self.ends,
                 coming: self.coming.with(byte),
                 found: self.found,
             },
-            Token::Eop => self.ended(Mark::Eop),
-            Token::Eom => self.ended(Mark::Eom),
+            Token::Eop => self.ended(network, Mark::Eop),
+            Token::Eom => self.ended(network, Mark::Eom),
             Token::Fct => self,
         }
     }
 
     // The same, when the packet that comes has ended with this mark.
-    fn ended(self, mark: Mark) -> Reader
-        ensures { (x : Wanted) (ps : List Packet) (got : List ℕ) → HasRead x ps got self → HasRead x (ps ++ record { body = got; mark = mark } ∷ []) [] result }
+    fn ended(self, network: &Network, mark: Mark) -> Reader
+        ensures { (p : Plan) (c w : ℕ) (ps : List Packet) (got : List ℕ) → IsNetworkOf p (state_of network.now) → HasRead p c w ps got self → HasRead p c w (ps ++ record { body = got; mark = mark } ∷ []) [] result }
     {
+        let found = self.found || network.is_its(self.way, self.coming.bytes(), mark, &self.ends);
         Reader {
-            sought: self.sought,
-            coming: Coming::Nothing,
-            found: self.found || self.coming.is(self.sought, mark),
+            way: self.way,
+            ends: self.ends,
+            coming: Coming::of(&[]),
+            found,
         }
     }
 }

@@ -1,9 +1,8 @@
 //! Packets that are sought at a node.
 ghost use Rattle.std.specs.Prelude.{◌↔◌, IsTrue};
-ghost use Rattle.vc_core.specs.Sought.{Has, IsSought};
+ghost use Rattle.vc_core.specs.Sought.{IsSought};
 
-use crate::coming::Coming;
-use vc_packets::Packet;
+use vc_packets::Mark;
 
 /// The packets that are sought among those that reach a node.
 #[derive(Clone, Copy, Drop)]
@@ -15,22 +14,18 @@ pub(crate) struct Sought {
 }
 
 impl Sought {
-    /// Whether a packet is sought.
-    pub(crate) fn is(self, packet: &Packet) -> bool
-        ensures { IsTrue result ↔ IsSought self packet.now }
+    /// Whether a packet with this body and mark is sought.
+    pub(crate) fn is(self, body: &[u8], mark: Mark) -> bool
+        ensures { IsTrue result ↔ IsSought self (record { body = body.now; mark = mark }) }
     {
-        Coming::of(packet.body.as_slice()).is(self, packet.mark)
-    }
-
-    /// Whether one of these packets is sought.
-    pub(crate) fn is_among(self, packets: &[Packet]) -> bool
-        ensures { IsTrue result ↔ Has (IsSought self) packets.now }
-    {
-        for packet in packets {
-            if self.is(packet) {
-                return true;
-            }
+        let [high, low, load @ ..] = body else {
+            return false;
+        };
+        let block = u16::from_be_bytes([*high, *low]);
+        match mark {
+            Mark::Eop if load.is_empty() => self.acks == Some(block),
+            Mark::Eop => load.len() == 32 && self.pieces == Some(block),
+            Mark::Eom => load.len() <= 32 && self.pieces == Some(block),
         }
-        false
     }
 }

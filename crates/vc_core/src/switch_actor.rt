@@ -30,6 +30,12 @@ impl SwitchActor {
         SwitchActor { switch }
     }
 
+    pub(crate) fn switch(&self) -> &Switch
+        ensures { result.now ≡ self.now.switch }
+    {
+        &self.switch
+    }
+
     /// Whether an act is one that the switch can make now, whatever stands on its ways.
     pub(crate) fn can(&self, act: &Act) -> bool
         ensures may { IsTrue result ↔ SwitchMay self.now.switch act.now }

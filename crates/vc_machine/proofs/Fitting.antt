@@ -211,9 +211,12 @@ run_fits : (net : Net) (most : ℕ) → IsAccepted net → HasHeaders net most �
 run_fits net most a h [] s t f k = subst (PacketsFit net most) (sym k) f
 run_fits net most a h (e ∷ es) s t f k = run_fits net most a h es k.0 t (step_fits net most a h s e k.0 f k.1) k.2
 
+pub packets_fit : (net : Net) (most : ℕ) → IsAccepted net → HasHeaders net most → (es : List Event) (s : State) → Run net start es s → PacketsFit net most s
+packets_fit net most a h es s k = run_fits net most a h es start s (start_fits net most) k
+
 pub all_fit : (net : Net) (most : ℕ) → IsAccepted net → HasHeaders net most → (es : List Event) (s : State) → Run net start es s → AllFit net (FitsWay net most) s
 all_fit net most a h es s k =
-    let f = run_fits net most a h es start s (start_fits net most) k in
+    let f = packets_fit net most a h es s k in
     record {
       queues = λ w p rest real e. front_fits w p rest (subst (AllByRecursion (λ (q : Packet). FitsWay net most w q.body)) e (f.queues w));
       lines = λ w real. f.lines w;

@@ -48,3 +48,4 @@ pub mod Views
 pub mod Ways
 pub mod Whole
 pub mod Owned
+pub mod Short

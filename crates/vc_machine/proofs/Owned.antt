@@ -21,7 +21,7 @@ use Rattle.vc_machine.proofs.Runs.{at_start, ran}
 abbrev AreGoing : Net → (ℕ → Phase) → (ℕ → ChanState) → (ℕ → ℕ) → Type 0
 AreGoing net ph chans n = (d : ℕ) → Carries net d → (n d ≡ 0 → ⊥) → Going (chans d) (ph d)
 
-all_both : {X : Type 0} (B : X → Type 0) (xs ys : List X) → AllByRecursion B xs → AllByRecursion B ys → AllByRecursion B (xs ++ ys)
+pub all_both : {X : Type 0} (B : X → Type 0) (xs ys : List X) → AllByRecursion B xs → AllByRecursion B ys → AllByRecursion B (xs ++ ys)
 all_both B [] ys a b = b
 all_both B (x ∷ xs) ys a b = (a.0, all_both B xs ys a.1 b)
 

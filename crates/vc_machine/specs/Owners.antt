@@ -1,5 +1,5 @@
--- Whose each packet is, and where its headers let it come.
-use Rattle.std.specs.Prelude.{◌≡◌, ◌⊎◌, ℕ, Bool, List, [], ◌∷◌, ◌++◌, Option, None}
+-- Whose each packet is, where its headers let it come, and how long it is at most.
+use Rattle.std.specs.Prelude.{◌≡◌, ◌⊎◌, ℕ, ◌+◌, ◌*◌, ◌≤◌, Bool, List, [], ◌∷◌, ◌++◌, length, Option, None}
 use Rattle.std.specs.List.{Contains}
 use Rattle.vc_packets.specs.declared.packet.Packet.{Packet}
 use Rattle.vc_packets.specs.declared.kind.Kind.TheVariants.{Ack, Piece}
@@ -9,6 +9,7 @@ use Rattle.vc_switch.specs.Forward.{IsDrawn, behind}
 use Rattle.vc_machine.specs.Paths.{AtNode, AtSwitch, Net, Carries, IsAccepted}
 use Rattle.vc_machine.specs.Machine.{State, Event, BodyLeaves, Run, start}
 use Rattle.vc_machine.specs.Places.{Place, in_ways, BelongsTo, IsOf}
+use Rattle.vc_machine.specs.Laws.{HasHeaders}
 
 -- a channel that the network carries, to which the packet belongs
 pub record HasOwner (net : Net) (x : Place × Packet) : Type 0 where
@@ -39,3 +40,7 @@ ReachesEnd net c p n rest =
 -- whatever path a packet of channel c takes from way w on, it comes to the channel's end
 abbrev pub PathsReachEnds : Net → Type 0
 PathsReachEnds net = (w c n : ℕ) (p : Packet) (rest : List ℕ) → IsOf net w None p c → Path net w p.body n rest → ReachesEnd net c p n rest
+
+-- after any list of steps no packet in a queue, on a way or in a switch is longer than the headers that may be on its way, and 32 bytes
+abbrev pub PacketsAreShort : Net → Type 0
+PacketsAreShort net = (most : ℕ) (es : List Event) (s : State) → IsAccepted net → HasHeaders net most → Run net start es s → (x : Place × Packet) → Contains (in_ways s net.ways) x → length x.1.body ≤ 2 * most + 32

@@ -2,7 +2,7 @@
 #![tactic(auto)]
 
 ghost use Rattle.std.specs.Prelude.{◌≡◌, ℕ, List, [], ◌∷◌};
-ghost use Rattle.vc_machine.specs.Owners.{EachHasOwner, OwnersAreOne, PathsReachEnds};
+ghost use Rattle.vc_machine.specs.Owners.{EachHasOwner, OwnersAreOne, PacketsAreShort, PathsReachEnds};
 ghost use Rattle.vc_machine.specs.Paths.{Net, IsAccepted};
 ghost use Rattle.vc_machine.specs.Machine.{State, Event, Step, Run, start};
 ghost use Rattle.vc_machine.specs.Headline.{Headline};
@@ -87,4 +87,11 @@ pub fn each_packet_has_its_channel()
     ensures owner { (net : Net) → EachHasOwner net }
     ensures one { (net : Net) → OwnersAreOne net }
     ensures paths { (net : Net) → PathsReachEnds net }
+{}
+
+/// After any list of steps no packet in a queue, on a way or in a switch is longer than the headers that may be on its way, of two
+/// bytes each, and 32 bytes of data.
+#[tactic(auto, using(crate::proofs::Short::packets_short))]
+pub fn no_packet_is_longer()
+    ensures { (net : Net) → PacketsAreShort net }
 {}

@@ -11,7 +11,7 @@ use Rattle.vc_network.specs.Plan.{Plan, switch_plan, body_limit, Home, Way, Insi
 use Rattle.vc_network.proofs.Wiring.{net_accepted}
 use Rattle.vc_network.proofs.Steps.{Sound}
 
-has_headers : (plan : Plan) → IsAccepted plan → HasHeaders (net_of plan) plan.headers
+pub has_headers : (plan : Plan) → IsAccepted plan → HasHeaders (net_of plan) plan.headers
 has_headers plan acc = record { routes = λ c r. by_home c (home plan c) refl r.1; random = λ n i v k d h. drawn n i v k ((switch_plan plan n).random i) refl d h }
   where
     by_home : (c : ℕ) (h : Home) → home plan c ≡ h → is_virtual h ≡ true → (length (net_channel plan (home plan c)).from.route ≤ plan.headers) × (length (net_channel plan (home plan c)).to.route ≤ plan.headers)

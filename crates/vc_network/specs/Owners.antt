@@ -1,5 +1,5 @@
--- Whose each packet of the network is.
-use Rattle.std.specs.Prelude.{ℕ, List}
+-- Whose each packet of the network is, and how long it is at most.
+use Rattle.std.specs.Prelude.{ℕ, ◌≤◌, List, length}
 use Rattle.std.specs.List.{Contains}
 use Rattle.vc_actors.specs.Actors.{Network, ActBy}
 use Rattle.vc_packets.specs.declared.packet.Packet.{Packet}
@@ -7,7 +7,7 @@ use Rattle.vc_tokens.specs.Tokens.{Token}
 use Rattle.vc_switch.specs.Waiting.{Waiting}
 use Rattle.vc_machine.specs.Owners.{HasOwner}
 use Rattle.vc_machine.specs.Places.{Place}
-use Rattle.vc_network.specs.Plan.{Plan, ways, net_of, IsAccepted}
+use Rattle.vc_network.specs.Plan.{Plan, body_limit, ways, net_of, IsAccepted}
 use Rattle.vc_network.specs.Processes.{Doing}
 use Rattle.vc_network.specs.Network.{Act, Actor, begins, HappenAll}
 use Rattle.vc_network.specs.Views.{in_ways}
@@ -17,3 +17,9 @@ abbrev pub EachHasOwner : {P : Type 0} → Plan → Waiting → Doing P → (ℕ
 EachHasOwner {P} plan waiting Does begin =
     (es : List (ActBy Act)) (s : Network (Actor P) Token) → IsAccepted plan → HappenAll plan waiting Does (begins plan begin) es s →
     (x : Place × Packet) → Contains (in_ways plan s (ways plan)) x → HasOwner (net_of plan) x
+
+-- and none is longer than the limit
+abbrev pub PacketsAreShort : {P : Type 0} → Plan → Waiting → Doing P → (ℕ → P) → Type 0
+PacketsAreShort {P} plan waiting Does begin =
+    (es : List (ActBy Act)) (s : Network (Actor P) Token) → IsAccepted plan → HappenAll plan waiting Does (begins plan begin) es s →
+    (x : Place × Packet) → Contains (in_ways plan s (ways plan)) x → length x.1.body ≤ body_limit plan

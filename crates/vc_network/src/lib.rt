@@ -13,7 +13,7 @@ ghost use Rattle.vc_network.specs.Processes.{Deed, by_test};
 ghost use Rattle.vc_network.specs.Credit.{CreditHolds, BodiesFit};
 ghost use Rattle.vc_network.specs.Enabled.{EventsAreOne};
 ghost use Rattle.vc_network.specs.Headline.{HeadlineHolds};
-ghost use Rattle.vc_network.specs.Owners.{EachHasOwner};
+ghost use Rattle.vc_network.specs.Owners.{EachHasOwner, PacketsAreShort};
 ghost use Rattle.vc_network.specs.Threads.{ThreadsKeepHeadline, ReplaysReach};
 
 /// On an accepted network, after any list of steps, each channel's taken messages are the first of its
@@ -44,6 +44,11 @@ pub fn no_packet_grows()
 /// After any list of steps each packet in a queue, on a way or in a switch belongs to a channel.
 pub fn each_packet_has_its_channel()
     ensures { (plan : Plan) (waiting : Waiting) (does : ℕ → Deed → ℕ → Bool) (begin : ℕ → ℕ) → EachHasOwner plan waiting (by_test does) begin }
+{}
+
+/// After any list of steps no packet in a queue, on a way or in a switch is longer than the limit.
+pub fn no_packet_is_longer()
+    ensures { (plan : Plan) (waiting : Waiting) (does : ℕ → Deed → ℕ → Bool) (begin : ℕ → ℕ) → PacketsAreShort plan waiting (by_test does) begin }
 {}
 
 /// On an accepted network an event leads from a state to one state only.

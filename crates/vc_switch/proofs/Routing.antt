@@ -79,6 +79,14 @@ choices_some s l x f w here idle is has =
     let group = links (starts_at s.table) s.table has.header f.first f.last w.table has.group in
     (group.0, (let most = group.1 in omega (arith, most)), λ j. (λ can. in_group s l j x f here is can, λ h. can_leave s l j x f here idle has h.0 h.1))
 
+-- a body with a front may leave by the first link of the group
+pub first_leaves : (s : State) (b : List ℕ) (f : Front) → IsSwitch s → HasFront s.table b f → BodyLeaves (plan_of s) b f.first (drop (start_of ((plan_of s).deletes f.first) f) b)
+first_leaves s b f w has = leaves_by (plan_of s) b f f.first has (omega arith) (links (starts_at s.table) s.table has.header f.first f.last w.table has.group).0
+
+pub start_within : (deletes : Bool) (f : Front) (b : List ℕ) → f.at + 2 ≤ length b → start_of deletes f ≤ length b
+start_within true f b long = long
+start_within false f b long = omega arith
+
 -- The outputs of a group that are free.
 
 pub can_route : (plan : SwitchPlan) (s : Switch) (l j : ℕ) → CanLeave plan s l j → IsFree s j → CanRoute plan s l j

@@ -1,16 +1,17 @@
 //! A switch: the calls by which it is run, each a step of the switch.
 //!
 //! A link is named by its number at the switch, 0 to 31. Only [`Switch::new`] takes memory.
-ghost use Rattle.std.specs.Prelude.{◌≡◌, ◌<◌, ◌≤◌, ◌↔◌, ℕ, None, Some, IsTrue, IsOk, IfOk, MatchOption};
+ghost use Rattle.std.specs.Prelude.{◌≡◌, ◌<◌, ◌≤◌, ◌↔◌, ◌++◌, ℕ, List, length, drop, None, Some, IsTrue, IsOk, IfOk, MatchOption};
 ghost use Rattle.std.specs.List.{AllByRecursion};
 ghost use Rattle.vc_labels.specs.Lawful.{IsLawful};
 ghost use Rattle.vc_packets.specs.Counting.{one_more};
-ghost use Rattle.vc_tokens.specs.Spelt.{token};
+ghost use Rattle.vc_tokens.specs.Spelt.{token, tokens};
 ghost use Rattle.vc_tokens.specs.Tokens.{Byte, Fct, EndMark};
 ghost use Rattle.vc_credit.specs.Ends.{IsFront};
 ghost use Rattle.vc_credit.specs.Laws.{NeedsPlace};
 ghost use Rattle.vc_switch.specs.Waiting.{Wormhole};
-ghost use Rattle.vc_switch.specs.Switch.{new_switch, Comes, Passes, Routes, Sends, SendsFct};
+ghost use Rattle.vc_switch.specs.Forward.{IsDrawn};
+ghost use Rattle.vc_switch.specs.Switch.{new_switch, BodyLeaves, Comes, Passes, Routes, Sends, SendsFct};
 ghost use Rattle.vc_switch.specs.Able.{CanPass, CanRoute, CanPut, CanGrant, CanLeave, IsFree};
 ghost use Rattle.vc_switch.specs.Opening.{plan_given, IsRandomInput};
 ghost use Rattle.vc_switch.specs.State.{plan_of, limit_of, IsSwitch};
@@ -327,6 +328,71 @@ impl Switch {
                 Token::from(mark)
             }
             None => unreachable!(),
+        }
+    }
+
+    /// The tokens that wait in a link's buffer, in two parts: those of the first came before those of the second. No link beyond
+    /// the 32 has any.
+    pub fn tokens(&self, link: u8) -> (&[Token], &[Token])
+        ensures { tokens (result.0.now ++ result.1.now) ≡ ((seen self.now).input link).receiver.buffer }
+    {
+        match self.inputs.get(usize::from(link)) {
+            Some(input) => input.receiver.tokens(),
+            None => (&[], &[]),
+        }
+    }
+
+    /// The bytes that have passed of the packet at an input, behind the random header.
+    pub fn passed(&self, link: u8) -> &[u8]
+        ensures { result.now ≡ ((seen self.now).input link).got }
+    {
+        match self.inputs.get(usize::from(link)) {
+            Some(input) => input.got.bytes(),
+            None => &[],
+        }
+    }
+
+    /// The mark of the packet at an input, once it has come whole.
+    pub fn mark(&self, link: u8) -> Option<Mark>
+        ensures { result ≡ ((seen self.now).input link).mark }
+    {
+        match self.inputs.get(usize::from(link)) {
+            Some(input) => input.mark,
+            None => None,
+        }
+    }
+
+    /// The least header that an input may put in front of a packet, if it has a range.
+    pub fn least_header(&self, link: u8) -> Option<u16>
+        ensures { IsDrawn ((plan_of self.now).random link) result }
+    {
+        match self.ranges.get(usize::from(link)) {
+            Some(range) => draw(*range, 0),
+            None => None,
+        }
+    }
+
+    /// The first link by which a packet with this body may leave, and at which of its bytes begins what leaves; nothing where it may
+    /// leave by none.
+    pub fn first_way(&self, body: &[u8]) -> Option<(u8, usize)>
+        ensures { MatchOption result ((output : ℕ) (left : List ℕ) → BodyLeaves (plan_of self.now) body.now output left → ⊥) (λ way. (way.1 ≤ length body.now) × BodyLeaves (plan_of self.now) body.now way.0 (drop way.1 body.now)) }
+    {
+        match find_front(&self.table, body) {
+            Some(front) => Some((
+                front.first,
+                front.leaves_from(self.does_delete(front.first)),
+            )),
+            None => None,
+        }
+    }
+
+    // Whether an output link deletes the front header.
+    fn does_delete(&self, link: u8) -> bool
+        ensures { result ≡ (plan_of self.now).deletes link }
+    {
+        match self.deletes.get(usize::from(link)) {
+            Some(deletes) => *deletes,
+            None => false,
         }
     }
 

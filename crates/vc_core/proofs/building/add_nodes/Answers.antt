@@ -1,6 +1,5 @@
-use Rattle.std.proofs.Common.{◌≡◌, sym, subst}
+use Rattle.std.proofs.Common.{sym, subst}
 use Rattle.vc_core.specs.Begin.{BeginsAs}
-use Rattle.vc_core.specs.Shown.{Acting, OfNode}
 use Rattle.vc_core.proofs.Beginning.{none_yet, first_more}
 use Rattle.vc_core.proofs.building.add_nodes.Goals as goal
 

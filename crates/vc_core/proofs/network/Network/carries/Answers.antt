@@ -1,26 +1,49 @@
-use Rattle.std.proofs.Common.{◌≡◌, ◌↔◌, ◌++◌, List, [], slice_get, IsTrue, sym, ap, ◌∙◌, subst}
+use Rattle.std.proofs.Common.{◌≡◌, ◌↔◌, ◌++◌, ◌<◌, [], slice_get, IsTrue, List, sym, ap, ◌∙◌, subst, arith}
 use Rattle.vc_tokens.specs.Spelt.{tokens}
 use Rattle.vc_tokens.specs.Tokens.{Token}
+use Rattle.vc_machine.specs.Places.{OnWire}
 use Rattle.vc_machine.specs.Seen.{read}
-use Rattle.vc_network.specs.Views.{vcps}
+use Rattle.vc_network.specs.Plan.{ways}
+use Rattle.vc_network.specs.Views.{vcps, switches, arrived}
+use Rattle.vc_accepted.specs.NetworkOf.{network_of, port_of}
 use Rattle.vc_vcp.specs.Keyed.{shown_or}
-use Rattle.vc_core.specs.Sought.{Has, IsSought, left}
+use Rattle.vc_core.specs.Placed.{HasIts}
+use Rattle.vc_core.specs.Sought.{left}
 use Rattle.vc_core.specs.State.{shown, state_of}
-use Rattle.vc_core.proofs.Finding.{through_both, read_more}
+use Rattle.vc_core.proofs.Finding.{through_both, through_more}
+use Rattle.vc_core.proofs.Happening.{none_past}
+use Rattle.vc_core.proofs.Ways.{along}
 use Rattle.vc_core.proofs.network.Network.carries.Goals as goal
 
 pub returns-in-Some : goal.returns-in-Some
-returns-in-Some c =
-    let s = shown (state_of c.args.self.now) in
-    let q = c.args.sought in
-    let x = (vcps s c.args.node).link c.args.link in
-    let first = c.tokens.result.0.now in
-    let second = c.tokens.result.1.now in
-    let ps = read x.passed x.receiver.buffer in
-    let got = left x.passed x.receiver.buffer in
-    let line : tokens (first ++ second) ≡ s.way c.args.way = c.tokens.ensures ∙ ap (shown_or [] (λ (ts : List Token). ts)) (c.in-Some.ensures ∙ ap (λ z. slice_get z c.args.way) c.as_slice.ensures.value) in
-    let one = c.through.ensures q ps got c.read_at-reader.ensures in
-    let two = c.through-in-Some.ensures q (ps ++ read got (tokens first)) (left got (tokens first)) one in
-    let all = through_both q ps got first second (s.way c.args.way) c.through-in-Some.result line two in
-    subst (λ t. IsTrue t ↔ Has (IsSought q) (read x.passed (x.receiver.buffer ++ s.way c.args.way))) (sym c.has_found.ensures)
-    (subst (λ zs. IsTrue c.through-in-Some.result.found ↔ Has (IsSought q) zs) (sym (read_more x.passed x.receiver.buffer (s.way c.args.way))) all.found)
+returns-in-Some c = λ p c' is owned ends less there.
+    let n = state_of c.args.self.now in
+    let s = shown n in
+    let plan = network_of p in
+    let w = c.args.way in
+    let real : w < ways plan = subst (λ k. w < k) is.ways less in
+    let port = port_of c.args.far in
+    let a = arrived (vcps s) (switches plan s) port in
+    let passed = c.passed_at.result.now in
+    let first = c.tokens_at.result.0.now in
+    let second = c.tokens_at.result.1.now in
+    let begun = c.new.ensures p c' real ends in
+    let one = c.through.ensures p c' w [] passed is begun in
+    let two = c.through-reader.ensures p c' w (read passed (tokens first)) (left passed (tokens first)) is one in
+    let buffer = through_both p c' w [] passed first second a.buffer c.through-reader.result (c.tokens_at.ensures p is) two in
+    let third = c.tokens.result.0.now in
+    let fourth = c.tokens.result.1.now in
+    let ps = read passed a.buffer in
+    let got = left passed a.buffer in
+    let line : tokens (third ++ fourth) ≡ s.way w = c.tokens.ensures ∙ ap (shown_or [] (λ (ts : List Token). ts)) (c.in-Some.ensures ∙ ap (λ z. slice_get z w) c.as_slice.ensures.value) in
+    let three = c.through-in-Some.ensures p c' w ps got is buffer in
+    let four = c.through-in-Some-2.ensures p c' w (ps ++ read got (tokens third)) (left got (tokens third)) is three in
+    let all = through_both p c' w ps got third fourth (s.way w) c.through-in-Some-2.result line four in
+    subst (λ t. IsTrue t ↔ HasIts plan s c' (OnWire w)) (sym c.has_found.ensures)
+    (along p n c' w port passed c.through-in-Some-2.result is owned real there (c.passed_at.ensures p is) (through_more p c' w [] passed a.buffer (s.way w) c.through-in-Some-2.result all))
+
+pub returns-in-None : goal.returns-in-None
+returns-in-None c = λ p c' is owned ends less there.
+    let n = state_of c.args.self.now in
+    let past = none_past n.ways c.args.way (sym (c.in-None.ensures ∙ ap (λ z. slice_get z c.args.way) c.as_slice.ensures.value)) in
+    absurd (omega arith)

@@ -11,7 +11,7 @@ pub returns : goal.returns
 returns c =
     let p = c.plan-plan.result.now in
     let same = c.plan-plan.ensures.plan in
-    let s : State = record { actors = c.in_ok-actors.field-0.items; ways = c.in_ok-ways_of.field-0.items; wiring = c.in_ok-new.field-0; wires = c.in_ok-from_slice.field-0; channels = c.in_ok-channels_of.field-0.items } in
+    let s : State = record { actors = c.in_ok-actors.field-0.items; nodes = c.len.result; ways = c.in_ok-ways_of.field-0.items; wiring = c.in_ok-new.field-0; wires = c.in_ok-from_slice.field-0; channels = c.in_ok-channels_of.field-0.items } in
     subst (λ z. IsOpening z s) same
-    (opened p s (subst IsAccepted (sym same) c.plan-plan.ensures.accepted) (subst (λ z. AreFirst z (actors z) c.in_ok-actors.field-0.items) (sym same) c.in_ok-actors.ensures)
-    (c.in_ok-ways_of.ensures.count ∙ ap (λ n. 2 * n) c.len.ensures) c.in_ok-ways_of.ensures.empty c.in_ok-new.ensures (c.in_ok-from_slice.ensures ∙ c.as_slice.ensures) c.in_ok-channels_of.ensures)
+    (opened p s (subst IsAccepted (sym same) c.plan-plan.ensures.accepted) (subst (λ z. AreFirst z (actors z) c.in_ok-actors.field-0.items) (sym same) c.in_ok-actors.ensures) c.len.ensures
+    (c.in_ok-ways_of.ensures.count ∙ ap (λ n. 2 * n) c.len-2.ensures) c.in_ok-ways_of.ensures.empty c.in_ok-new.ensures (c.in_ok-from_slice.ensures ∙ c.as_slice.ensures) c.in_ok-channels_of.ensures)

@@ -1,8 +1,13 @@
 use Rattle.std.proofs.Common.{sym}
 use Rattle.vc_core.specs.State.{state_of}
-use Rattle.vc_core.proofs.Standing.{unfinished}
+use Rattle.vc_core.proofs.Standing.{are_owned, unfinished}
 use Rattle.vc_core.proofs.network.Network.place.Goals as goal
 
 pub returns-clause-unfinished : goal.returns-clause-unfinished
-returns-clause-unfinished c = λ p events replays none less.
-    unfinished p events (state_of c.args.self.now) c.args.chan c.place_by.result replays none less (c.place_by.ensures p replays.is (sym (c.in_ok-ends.ensures p replays.is)))
+returns-clause-unfinished c = λ p events replays less.
+    unfinished p events (state_of c.args.self.now) c.args.chan c.place_by.result replays less
+    (c.place_by.ensures p replays.is (are_owned p events (state_of c.args.self.now) (record { is = replays.is; happen = replays.happen })) (sym (c.in_ok-ends.ensures p replays.is)))
+
+pub returns-clause-finds : goal.returns-clause-finds
+returns-clause-finds c = λ p events reached.
+    c.place_by.ensures p reached.is (are_owned p events (state_of c.args.self.now) reached) (sym (c.in_ok-ends.ensures p reached.is))

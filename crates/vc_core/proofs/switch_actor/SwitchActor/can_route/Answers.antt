@@ -1,4 +1,4 @@
-use Rattle.std.proofs.Common.{◌≤◌, arith}
+use Rattle.std.proofs.Common.{arith}
 use Rattle.vc_core.specs.declared.act.Act.TheVariants.{Route}
 use Rattle.vc_core.proofs.Switching.{within}
 use Rattle.vc_core.proofs.switch_actor.SwitchActor.can_route.Goals.{then-input-links-via-then-input-links, then-input-links-via-else-input-links+then-output-links}

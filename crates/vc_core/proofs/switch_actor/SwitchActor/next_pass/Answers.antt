@@ -1,4 +1,4 @@
-use Rattle.std.proofs.Common.{◌<◌, subst, arith}
+use Rattle.std.proofs.Common.{◌<◌, arith}
 use Rattle.vc_core.specs.Able.{SwitchCan}
 use Rattle.vc_core.specs.declared.act.Act.TheVariants.{Pass}
 use Rattle.vc_core.proofs.Switching.{within}

@@ -1,7 +1,6 @@
-use Rattle.std.proofs.Common.{◌≡◌, ◌<◌, Option, None, subst, inl, inr, arith}
+use Rattle.std.proofs.Common.{◌≡◌, ◌<◌, subst, inl, inr, arith}
 use Rattle.std.proofs.lemmas.Bool.{cases_lt}
 use Rattle.vc_core.specs.Able.{SwitchCan}
-use Rattle.vc_core.specs.Turns.{FindsAt}
 use Rattle.vc_core.specs.declared.act.Act.TheVariants.{Route}
 use Rattle.vc_core.proofs.Switching.{within}
 use Rattle.vc_core.proofs.switch_actor.SwitchActor.next_route.Goals as goal

@@ -1,5 +1,3 @@
-use Rattle.std.specs.Prelude.{ℕ, None, MatchOption}
-use Rattle.std.proofs.Common.{sym, subst}
 use Rattle.vc_switch.specs.Seen.{seen}
 use Rattle.vc_switch.specs.State.{plan_of}
 use Rattle.vc_core.proofs.Switching.{route_leaves}
