@@ -149,13 +149,8 @@ impl Frame {
             }
             Phase::Together => {
                 if self.kind.is_par() {
-                    return part_message(
-                        alloc,
-                        &self.parts,
-                        part_with(&self.parts, site),
-                        site,
-                        vars,
-                    );
+                    let at = part_with(&self.parts, site);
+                    return part_message(alloc, &self.parts, at, site, vars);
                 }
                 Ok(None)
             }
@@ -198,13 +193,8 @@ impl Frame {
             }
             Phase::Together => {
                 if self.kind.is_par() {
-                    return part_assigned_in(
-                        alloc,
-                        &self.parts,
-                        part_with(&self.parts, site),
-                        site,
-                        vars,
-                    );
+                    let at = part_with(&self.parts, site);
+                    return part_assigned_in(alloc, &self.parts, at, site, vars);
                 }
                 Ok(None)
             }

@@ -1,4 +1,7 @@
 //! Each word that runs, and each fault, by one example.
+ghost use Rattle.vc_occam.specs.Lawful.{Lawfully};
+ghost use Rattle.vc_occam.specs.Numbering.{written};
+
 use crate::{
     Answer, BytesExpr, Cond, Expr, Guard, Move, Op, Process, Running, UseFault, Value, ValueKind,
     check_use,
@@ -14,16 +17,27 @@ fn begin(
     kinds: &[ValueKind],
     inside: &[u16],
 ) -> Result<Running, Fail> {
-    if process.sites(4096).is_none() {
-        return Err(Fail::from("few processes"));
-    }
     if check_use(alloc, &process).is_err() {
         return Err(Fail::from("a process of lawful use"));
+    }
+    begin_lawful(alloc, &process, kinds, inside)
+}
+
+fn begin_lawful(
+    alloc: Global,
+    process: &Process,
+    kinds: &[ValueKind],
+    inside: &[u16],
+) -> Result<Running, Fail>
+    requires { Lawfully (written process.now) }
+{
+    if process.sites(4096).is_none() {
+        return Err(Fail::from("few processes"));
     }
     if !process.fits(kinds, 512) {
         return Err(Fail::from("variables that are there"));
     }
-    Ok(Running::new(alloc, &process, kinds, inside)?)
+    Ok(Running::new(alloc, process, kinds, inside)?)
 }
 
 fn hello(alloc: Global) -> Result<Running, Fail> {

@@ -64,7 +64,7 @@ frame::Frame::assigned-returns-then-is_par t c =
     let F = λ (r : Rest). assigned_at c.args.site r (store c.args.vars.now) in
     let k = sym c.is_par.ensures ∙ c.if-is_par.true in
     let pre = par_preorder o.kind o.site vs k (subst (λ (v : View). InPreorder v.0) (view_out f) c.requires) in
-    on_ok c.part_assigned_in-then-is_par.result _ _ (sym (ap F (rest_together f c.in-Together.is k) ∙ (found_assigned c.args.site vs (store c.args.vars.now) pre (frames_inside o.parts.items)) ∙ ap (λ (k : ℕ). part_assigned c.args.site (slice_get vs k) (store c.args.vars.now)) (sym c.part_with.ensures))) c.part_assigned_in-then-is_par.ensures
+    on_ok c.part_assigned_in-then-is_par.result _ _ (sym (ap F (rest_together f c.in-Together.is k) ∙ (found_assigned c.args.site vs (store c.args.vars.now) pre (frames_inside o.parts.items)) ∙ ap (λ (k : ℕ). part_assigned c.args.site (slice_get vs k) (store c.args.vars.now)) (sym c.part_with-at.ensures))) c.part_assigned_in-then-is_par.ensures
 
 pub frame::Frame::assigned-returns-else-is_par : goal.frame::Frame::assigned-returns-else-is_par
 frame::Frame::assigned-returns-else-is_par t c =
@@ -89,10 +89,10 @@ frame::Frame::assigned-part_assigned_in-requires-then-is_par t c =
     let o = out-Frame f in
     let vs = views o.parts.items in
     let k = sym c.is_par.ensures ∙ c.if-is_par.true in
-    (search (rules, the_lemmas), parts_preorder vs c.part_with.result (par_preorder o.kind o.site vs k (subst (λ (v : View). InPreorder v.0) (view_out f) c.requires)))
+    (search (rules, the_lemmas), parts_preorder vs c.part_with-at.result (par_preorder o.kind o.site vs k (subst (λ (v : View). InPreorder v.0) (view_out f) c.requires)))
 
-pub frame::Frame::assigned-part_with-requires : goal.frame::Frame::assigned-part_with-requires
-frame::Frame::assigned-part_with-requires t c =
+pub frame::Frame::assigned-part_with-at-requires : goal.frame::Frame::assigned-part_with-at-requires
+frame::Frame::assigned-part_with-at-requires t c =
     let f = c.args.self.now in
     let o = out-Frame f in
     par_preorder o.kind o.site (views o.parts.items) (sym c.is_par.ensures ∙ c.if-is_par.true) (subst (λ (v : View). InPreorder v.0) (view_out f) c.requires)
