@@ -11,7 +11,7 @@ use std::alloc::Global;
 use std::test::Fail;
 
 /// The process at its beginning, once it is seen that it can run.
-fn begin(
+pub(crate) fn begin(
     alloc: Global,
     process: Process,
     kinds: &[ValueKind],
