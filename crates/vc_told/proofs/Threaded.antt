@@ -129,9 +129,9 @@ begins_lawful p acc n less = record { uses = (begins_good p acc n less).lawful; 
 
 first_lawful : (p : Plan) → IsAccepted p → (k : ℕ) → LawfulActor (first (network_of p) (begin_of p) k)
 first_lawful p acc k = elim (cases_lt k (length p.nodes)) [
-      | inl less ↦ (let is : nat_lt k (length p.nodes) ≡ true = grind (arith, nat_tests) in rw is (begins_lawful p acc k less))
-      | inr past ↦ (let not : nat_lt k (length p.nodes) ≡ false = grind (arith, nat_tests) in rw not tt)
-    ]
+  | inl less ↦ (let is : nat_lt k (length p.nodes) ≡ true = grind (arith, nat_tests) in rw is (begins_lawful p acc k less))
+  | inr past ↦ (let not : nat_lt k (length p.nodes) ≡ false = grind (arith, nat_tests) in rw not tt)
+]
 
 pub replayed : ActsCanBeReplayed
 replayed p waiting last runs left acts acc threads =
