@@ -196,6 +196,48 @@ fn processes_run_in_order(rt: HostRuntime) -> Result<(), Fail> {
     Ok(())
 }
 
+/// Two nodes that each output on one channel of a virtual link and input on its other one, side by side.
+const BOTH_WAYS: &str =
+    r#"{"version":1,"nodes":[{"name":"a","vars":[["x","int"]],"process":{"par":[{"out":["c",7]},{"in":["d","x"]}]}},{"name":"b","vars":[["y","int"]],"process":{"par":[{"out":["d",-8]},{"in":["c","y"]}]}}],"wires":[["a",0,"b",0]],"vlinks":[{"name":"v","a":["a",0,1,[1]],"b":["b",0,1,[1]]}],"channels":[{"name":"c","kind":"int","vlink":"v","way":"ab"},{"name":"d","kind":"int","vlink":"v","way":"ba"}]}"#;
+
+/// An output and an input side by side on a channel inside their node.
+const INSIDE: &str =
+    r#"{"version":1,"nodes":[{"name":"a","vars":[["x","int"]],"process":{"par":[{"out":["i",5]},{"in":["i","x"]}]}}],"channels":[{"name":"i","kind":"int","node":"a"}]}"#;
+
+#[test]
+fn parts_run_side_by_side(rt: HostRuntime) -> Result<(), Fail> {
+    let alloc = rt.alloc();
+    let both =
+        "channel c offered 1 taken 1 finished 1\n  0 7\nchannel d offered 1 taken 1 finished 1\n  0 -8\nend done\n";
+    assert!(rt; step(&rt, alloc, BOTH_WAYS).is(both, 0));
+    let inside = "channel i offered 1 taken 1 finished 1\n  0 5\nend done\n";
+    assert!(rt; step(&rt, alloc, INSIDE).is(inside, 0));
+    assert!(rt; run(&rt, alloc, INSIDE).is(inside, 0));
+    Ok(())
+}
+
+#[test]
+fn parts_share_no_output(rt: HostRuntime) -> Result<(), Fail> {
+    let alloc = rt.alloc();
+    let twice = r#"{"par":[{"out":["c",{"text":"x"}]},{"out":["c",{"text":"y"}]}]}"#;
+    let network = two_nodes(alloc, twice, INPUT)?;
+    assert!(rt; step(&rt, alloc, &network).is("refused 13 Usage a c\n", 2));
+    Ok(())
+}
+
+/// A node that outputs on two virtual links side by side, and one that takes from whichever is ready.
+const CHOICE: &str =
+    r#"{"version":1,"nodes":[{"name":"a","process":{"par":[{"out":["c",1]},{"out":["d",2]}]}},{"name":"b","vars":[["k","int"],["x","int"]],"process":{"for":["k",0,2,{"alt":[[true,"c","x","skip"],[true,"d","x","skip"]]}]}}],"wires":[["a",0,"b",0]],"vlinks":[{"name":"v","a":["a",0,1,[1]],"b":["b",0,1,[1]]},{"name":"w","a":["a",0,2,[2]],"b":["b",0,2,[2]]}],"channels":[{"name":"c","kind":"int","vlink":"v","way":"ab"},{"name":"d","kind":"int","vlink":"w","way":"ab"}]}"#;
+
+#[test]
+fn a_choice_takes_what_is_ready(rt: HostRuntime) -> Result<(), Fail> {
+    let alloc = rt.alloc();
+    let traffic =
+        "channel c offered 1 taken 1 finished 1\n  0 1\nchannel d offered 1 taken 1 finished 1\n  0 2\nend done\n";
+    assert!(rt; step(&rt, alloc, CHOICE).is(traffic, 0));
+    Ok(())
+}
+
 #[test]
 fn a_body_keeps_its_index(rt: HostRuntime) -> Result<(), Fail> {
     let alloc = rt.alloc();
