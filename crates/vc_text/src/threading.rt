@@ -27,7 +27,7 @@ pub fn run_net<T: Threads + Wait, R: Read, W: Write>(
     turns: u64,
     seed: u32,
 ) -> Result<Report, RunFault>
-    ensures { RunsInThreads (R.remaining reader.old) (W.contents writer.old) (W.contents writer.new) result }
+    ensures { RunsInThreads turns seed (R.remaining reader.old) (W.contents writer.old) (W.contents writer.new) result }
 {
     let accepted = read_accepted(alloc, reader)?;
     let gate = gate_of(&accepted);

@@ -1,12 +1,14 @@
 -- Jobs whose ends have links of their own, and how the jobs are numbered.
-use Rattle.std.proofs.Common.{◌≡◌, ◌≢◌, ℕ, ◌+◌, ◌<◌, ◌⊎◌, Bool, true, false, if◌then◌else◌, List, [], ◌∷◌, ◌++◌, length, map, get_or, inl, inr, ap, sym, subst, ◌∙◌, arith, length-append, suc, refl}
+use Rattle.std.proofs.Common.{◌≡◌, ◌≢◌, ℕ, ◌+◌, ◌<◌, ◌⊎◌, Bool, true, false, if◌then◌else◌, List, [], ◌∷◌, ◌++◌, length, map, get_or, inl, inr, ap, sym, subst, ◌∙◌, arith, length-append, suc, refl, append_assoc}
 use Rattle.std.specs.List.{All, AllByRecursion}
 use Rattle.std.proofs.lemmas.Bool.{cases_order}
 use Rattle.std.proofs.lemmas.List.{map-append, get_or-map, get_or_append_left}
 use Rattle.std.proofs.Math.Seq.{get_or-append_seam}
 use Rattle.std.proofs.lemmas.List.Elements.{All-push}
+use Rattle.std.proofs.lemmas.Simd.{map-map}
 use Rattle.vc_core.specs.Shown.{Acting}
-use Rattle.vc_threads.specs.Threads.{AreNumbered}
+use Rattle.vc_threads.specs.Threads.{AreNumbered, actor_in, who}
+use Rattle.vc_threads.specs.declared.crew.Job.{Job}
 use Rattle.vc_threads.specs.Wires.{Distinct, out_links, in_links}
 use Rattle.vc_threads.specs.Works.{Out, In}
 
@@ -62,3 +64,13 @@ numbered_push n (v ∷ vs) w are is = (are.0, numbered_push (n + 1) vs w are.1 (
 pub by_recursion : {X : Type 0} (P : X → Type 0) (xs : List X) → All P xs → AllByRecursion P xs
 by_recursion P [] h = tt
 by_recursion P (x ∷ xs) h = (h 0 x (omega arith), by_recursion P xs (λ k d l. h (suc k) d (omega arith)))
+
+-- one actor more has its job
+pub actors_step : (js js' : List Job) (job : Job) {x : Acting} {rest rest' all : List Acting} → js' ≡ js ++ job ∷ [] → actor_in job ≡ x → rest ≡ x ∷ rest' → map actor_in js ++ rest ≡ all → map actor_in js' ++ rest' ≡ all
+actors_step js js' job {x} {rest} {rest'} {all} pushed is steps before =
+    ap (λ ys. map actor_in ys ++ rest') pushed ∙ (ap (λ ys. ys ++ rest') (map-append actor_in js (job ∷ [])) ∙ (append_assoc (map actor_in js) (actor_in job ∷ []) rest'
+    ∙ (ap (λ a. map actor_in js ++ a ∷ rest') is ∙ (ap (λ ys. map actor_in js ++ ys) (sym steps) ∙ before))))
+
+-- jobs of the same actors
+pub actors_kept : (old new : List Job) → map who new ≡ map who old → map actor_in new ≡ map actor_in old
+actors_kept old new e = sym (map-map (λ (w : ℕ × Acting). w.1) who new) ∙ (ap (map (λ (w : ℕ × Acting). w.1)) e ∙ map-map (λ (w : ℕ × Acting). w.1) who old)

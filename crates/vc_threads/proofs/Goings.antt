@@ -1,6 +1,6 @@
 -- How a turn of a desk is put together.
 use Rattle.std.proofs.Common.{◌≡◌, ◌≢◌, ℕ, zero, suc, ◌+◌, ◌<◌, ◌≤◌, List, [], ◌∷◌, ◌++◌, length, get_or, false, eqb, inl, inr, refl, ap, sym, subst, arith, map, ◌∙◌, append_assoc, length-append, eq-eqb}
-use Rattle.std.specs.List.{AllZip, All}
+use Rattle.std.specs.List.{AllZip, All, AllByRecursion}
 use Rattle.std.proofs.Math.ListN.{set}
 use Rattle.std.proofs.lemmas.List.{append-nil, map-append}
 use Rattle.std.proofs.lemmas.Bool.Decides.{eqb_tells}
@@ -9,6 +9,7 @@ use Rattle.rand_pcg.specs.Lcg.{started, increment_of}
 use Rattle.rand_pcg.specs.Pcg.{multiplier_64}
 use Rattle.rtrb.specs.Ring.{sent, received, SameProducer, SameConsumer}
 use Rattle.vc_actors.specs.Actors.Label.{Takes, Puts}
+use Rattle.vc_actors.proofs.Merging.{both_lists}
 use Rattle.vc_actors.specs.LocalRun.{Turn, LocalRun, CarriesStamp, next_stamp, plain, clock_after, all_put, all_taken}
 use Rattle.vc_network.specs.Plan.{Plan}
 use Rattle.vc_tokens.specs.declared.token.Token.{Token}
@@ -21,9 +22,9 @@ use Rattle.vc_threads.specs.declared.link.Stamped.{Stamped}
 use Rattle.vc_threads.specs.declared.run.ActorRun.{ActorRun}
 use Rattle.vc_threads.specs.declared.run.Stop.TheVariants.{Turns}
 use Rattle.vc_threads.specs.Stamps.{stamped, all_stamped}
-use Rattle.vc_threads.specs.Wires.{OutLooked, InLooked, Distinct, Sends, Receives, out_links, in_links}
+use Rattle.vc_threads.specs.Wires.{OutLooked, InLooked, Distinct, IsAmong, Sends, Receives, out_links, in_links}
 use Rattle.vc_threads.specs.Runs.{StepsByLink, IsQuiet, Used, Draws, words_of}
-use Rattle.vc_threads.specs.Works.{Out, In, Seen, desk, logged, Uses, Stays, HasRun}
+use Rattle.vc_threads.specs.Works.{Out, In, Seen, desk, logged, GoesOver, GoOver, Uses, Stays, HasRun}
 use Rattle.vc_threads.proofs.Zips.{zip_weaker, zip_then, zip_one, zip_map, zip_same, zip_length, zip_at}
 use Rattle.vc_threads.proofs.Looks.{producer_then, consumer_then, looked_same, in_looked_same, in_looked_then}
 use Rattle.vc_threads.proofs.Steps.{clock_then, run_then, put_then, taken_then, words_then, draws_then, used_then, run_kept}
@@ -41,6 +42,10 @@ link_at (x ∷ xs) (suc k) d l = link_at xs k d (omega arith)
 length_links : {X : Type 0} (xs : List (ℕ × X)) → length (map (λ o. o.0) xs) ≡ length xs
 length_links [] = refl
 length_links (x ∷ xs) = ap suc (length_links xs)
+
+-- an end's link is among the links
+pub among : {X : Type 0} (xs : List (ℕ × X)) (k : ℕ) (r : ℕ × X) → k < length xs → r ≡ get_or xs k r → IsAmong (map (λ o. o.0) xs) r.0
+among xs k r within is = (k, (let n = length_links xs in omega (arith, n, within)), link_at xs k r within ∙ ap (λ o. o.0) (sym is))
 
 -- two places have two links
 apart : {X : Type 0} (xs : List (ℕ × X)) (j k : ℕ) (d e : ℕ × X) → Distinct (map (λ o. o.0) xs) → j < length xs → k < length xs → j ≢ k → eqb (get_or xs j d).0 (get_or xs k e).0 ≡ false
@@ -148,6 +153,7 @@ module _ (plan : Plan) (k : ℕ) where
       log = log ∙ sym (append-nil a.log);
       outs = sends_quiet [] (λ l. refl) a.outs b.outs outs;
       ins = receives_quiet [] (λ l. refl) a.ins b.ins ins;
+      links = tt;
       words = words;
     };
     used = inr ([], [], a.actor, refl, refl, node, quiet);
@@ -155,9 +161,9 @@ module _ (plan : Plan) (k : ℕ) where
 
   -- one step was made
   pub uses_one : (a b : Seen) (t : Turn Act Token) → StepsByLink plan k a.actor (plain t.it) b.actor → t.at ≡ next_stamp a.clock t.it → CarriesStamp t.at t.it
-      → b.clock ≡ t.at → b.log ≡ a.log ++ logged t ∷ [] → Draws a.words (words_of (t ∷ [])) b.words
+      → GoesOver (out_links a.outs) (in_links a.ins) t.it → b.clock ≡ t.at → b.log ≡ a.log ++ logged t ∷ [] → Draws a.words (words_of (t ∷ [])) b.words
       → AllZip (Sends (t ∷ [])) a.outs b.outs → AllZip (Receives (t ∷ [])) a.ins b.ins → Uses plan k 1 a b
-  uses_one a b t step stamp carries clock log words outs ins = record {
+  uses_one a b t step stamp carries over clock log words outs ins = record {
     steps = t ∷ [];
     few = omega arith;
     goes = record {
@@ -166,6 +172,7 @@ module _ (plan : Plan) (k : ℕ) where
       log = log;
       outs = outs;
       ins = ins;
+      links = (over, tt);
       words = words;
     };
     used = inl refl;
@@ -182,6 +189,7 @@ module _ (plan : Plan) (k : ℕ) where
       log = p.goes.log;
       outs = p.goes.outs;
       ins = looked_receives p.steps ins a.ins b.ins looked p.goes.ins;
+      links = subst (λ ls. AllByRecursion (λ t. GoesOver (out_links a.outs) ls t.it) p.steps) (looked_in_links ins a.ins looked) p.goes.links;
       words = p.goes.words;
     };
     used = p.used;
@@ -198,10 +206,18 @@ module _ (plan : Plan) (k : ℕ) where
       log = sym (append-nil a.log);
       outs = sends_quiet [] (λ l. refl) a.outs a.outs (zip_same OutLooked looked_same a.outs);
       ins = receives_quiet [] (λ l. refl) a.ins a.ins (zip_same InLooked in_looked_same a.ins);
+      links = tt;
       words = refl;
     };
     used = inl refl;
   }
+
+  -- the ends stay those of the same links
+  outs_same : (n : ℕ) (a b : Seen) → Uses plan k n a b → out_links b.outs ≡ out_links a.outs
+  outs_same n a b p = zip_map (λ o. o.0) (λ o. o.0) (Sends p.steps) (λ x y l. l.0) a.outs b.outs p.goes.outs
+
+  ins_same : (n : ℕ) (a b : Seen) → Uses plan k n a b → in_links b.ins ≡ in_links a.ins
+  ins_same n a b p = zip_map (λ o. o.0) (λ o. o.0) (Receives p.steps) (λ x y l. l.0) a.ins b.ins p.goes.ins
 
   -- one turn after another
   pub uses_then : (n m : ℕ) (a b c : Seen) → Uses plan k n a b → Uses plan k m b c → Uses plan k (n + m) a c
@@ -218,17 +234,19 @@ module _ (plan : Plan) (k : ℕ) where
           log = q.goes.log ∙ (ap (λ w. w ++ map logged q.steps) p.goes.log ∙ (append_assoc a.log (map logged p.steps) (map logged q.steps) ∙ ap (λ w. a.log ++ w) (sym (map-append logged p.steps q.steps))));
           outs = sends_then p.steps q.steps a.outs b.outs c.outs p.goes.outs q.goes.outs;
           ins = receives_then p.steps q.steps a.ins b.ins c.ins p.goes.ins q.goes.ins;
+          links = both_lists (λ t. GoesOver (out_links a.outs) (in_links a.ins) t.it) p.steps q.steps p.goes.links
+              (subst (λ ls. AllByRecursion (λ t. GoesOver ls (in_links a.ins) t.it) q.steps) (outs_same n a b p)
+              (subst (λ ls. AllByRecursion (λ t. GoesOver (out_links b.outs) ls t.it) q.steps) (ins_same n a b p) q.goes.links));
           words = subst (λ w. Draws a.words w c.words) (sym (words_then p.steps q.steps)) (draws_then a.words b.words c.words (words_of p.steps) (words_of q.steps) p.goes.words q.goes.words);
         };
         used = used_then plan k n m a.clock a.actor b.actor c.actor p.steps q.steps p.goes.run run p.used (subst (λ w. Used plan k m w b.actor q.steps c.actor) p.goes.clock q.used);
       }
 
-  -- the ends stay those of the same links
   pub outs_apart : (n : ℕ) (a b : Seen) → Uses plan k n a b → Distinct (out_links a.outs) → Distinct (out_links b.outs)
-  outs_apart n a b p = subst Distinct (sym (zip_map (λ o. o.0) (λ o. o.0) (Sends p.steps) (λ x y l. l.0) a.outs b.outs p.goes.outs))
+  outs_apart n a b p = subst Distinct (sym (outs_same n a b p))
 
   pub ins_apart : (n : ℕ) (a b : Seen) → Uses plan k n a b → Distinct (in_links a.ins) → Distinct (in_links b.ins)
-  ins_apart n a b p = subst Distinct (sym (zip_map (λ o. o.0) (λ o. o.0) (Receives p.steps) (λ x y l. l.0) a.ins b.ins p.goes.ins))
+  ins_apart n a b p = subst Distinct (sym (ins_same n a b p))
 
   pub outs_low : (n : ℕ) (a b : Seen) → Uses plan k n a b → All (λ o. o.0 < 32) a.outs → All (λ o. o.0 < 32) b.outs
   outs_low n a b p low j d m =
@@ -269,6 +287,7 @@ has_run plan k n m id seed a b c actor ends r p s le actor_is clock_is acts_is e
       acts = ap (λ v. v.items) acts' ∙ (s.log ∙ (p.goes.log ∙ ap (λ w. w ++ map logged p.steps) acts_is));
       outs = subst (λ e. AllZip (Sends p.steps) e.outs.items r.ends.outs.items) ends_is (subst (λ e. AllZip (Sends p.steps) a.ends.outs.items e.outs.items) (sym ends') outs);
       ins = subst (λ e. AllZip (Receives p.steps) e.ins.items r.ends.ins.items) ends_is (subst (λ e. AllZip (Receives p.steps) a.ends.ins.items e.ins.items) (sym ends') ins);
+      links = subst (λ e. GoOver e.outs.items e.ins.items p.steps) ends_is p.goes.links;
       rest = b.words;
       words = subst (λ g. Draws g (words_of p.steps) b.words) words_is p.goes.words;
       used = λ h. subst (λ j. Used plan k j 0 actor p.steps r.actor) (turns h)

@@ -4,4 +4,5 @@ pub mod Wires
 pub mod Runs
 pub mod Works
 pub mod Crews
+pub mod Rings
 pub mod Threads

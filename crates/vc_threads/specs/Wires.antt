@@ -10,6 +10,10 @@ use Rattle.vc_tokens.specs.declared.token.Token.{Token}
 use Rattle.vc_threads.specs.declared.link.Stamped.{Stamped}
 use Rattle.vc_threads.specs.Stamps.{all_stamped}
 
+-- the number stands among these
+abbrev pub IsAmong : List ℕ → ℕ → Type 0
+IsAmong ns n = (i : ℕ) × (i < length ns) × (slice_index ns i ≡ n)
+
 -- no number stands twice
 abbrev pub Distinct : List ℕ → Type 0
 Distinct ns = (i j : ℕ) → i < j → j < length ns → slice_index ns i ≢ slice_index ns j

@@ -1,13 +1,14 @@
 -- What a worker does.
 use Rattle.std.specs.Prelude.{◌≡◌, ℕ, ◌≤◌, ◌++◌, List, [], ◌∷◌, length, map}
-use Rattle.std.specs.List.{AllZip}
+use Rattle.std.specs.List.{AllZip, AllByRecursion}
 use Rattle.std.specs.declared.alloc.Global.{Global}
 use Rattle.rand_pcg.specs.Lcg.{Lcg, started, increment_of}
 use Rattle.rand_pcg.specs.Pcg.{multiplier_64}
 use Rattle.rtrb.specs.Ring.{received, SameConsumer}
 use Rattle.rtrb.specs.declared.producer.Producer.{Producer}
 use Rattle.rtrb.specs.declared.consumer.Consumer.{Consumer}
-use Rattle.vc_actors.specs.Actors.Label.{Takes}
+use Rattle.vc_actors.specs.Actors.{Label}
+use Rattle.vc_actors.specs.Actors.Label.{Own, Takes, Puts}
 use Rattle.vc_actors.specs.LocalRun as local
 use Rattle.vc_actors.specs.LocalRun.{Turn, LocalRun, clock_after}
 use Rattle.vc_actors.specs.Actors.{act_of}
@@ -18,7 +19,6 @@ use Rattle.vc_core.specs.OfPlan.{IsActorOf}
 use Rattle.vc_core.specs.declared.act.Act.{Act}
 use Rattle.vc_core.specs.declared.act.Act.TheVariants.{Take}
 use Rattle.vc_core.specs.Shown.{Acting}
-use Rattle.vc_core.specs.Shown.{Acting}
 use Rattle.vc_threads.specs.declared.desk.Desk.{Desk}
 use Rattle.vc_threads.specs.declared.link.Ends.{Ends}
 use Rattle.vc_threads.specs.declared.link.LinkRule.{LinkRule}
@@ -27,7 +27,7 @@ use Rattle.vc_threads.specs.declared.run.ActorRun.{ActorRun}
 use Rattle.vc_threads.specs.declared.run.Stop.TheVariants.{Turns}
 use Rattle.vc_threads.specs.Runs.{StepsByLink, Used, Draws, words_of}
 use Rattle.vc_threads.specs.Stamps.{stamped}
-use Rattle.vc_threads.specs.Wires.{Sends, Receives, OutLooked, InLooked, IsReady}
+use Rattle.vc_threads.specs.Wires.{Sends, Receives, OutLooked, InLooked, IsReady, IsAmong, out_links, in_links}
 
 -- the actor is one of some plan
 abbrev pub IsOfSomePlan : Acting → Type 0
@@ -59,14 +59,25 @@ desk d = record { actor = d.actor; clock = d.clock; log = d.acts.items; outs = d
 abbrev pub logged : Turn Act Token → ℕ × Act
 logged t = (t.at, act_of t.it)
 
+-- a put goes out by one of the first links, and a take comes in by one of the others
+abbrev pub GoesOver : List ℕ → List ℕ → Label Act (local.Stamped Token) → Type 0
+GoesOver outs ins (Own act) = Unit {0}
+GoesOver outs ins (Takes act link s) = IsAmong ins link
+GoesOver outs ins (Puts act link s) = IsAmong outs link
+
+-- all steps go over the links of these ends
+abbrev pub GoOver : List Out → List In → List (Turn Act Token) → Type 0
+GoOver outs ins = AllByRecursion (λ t. GoesOver (out_links outs) (in_links ins) t.it)
+
 -- Some steps lead from one desk to the other: they are a run of actor k by itself, they are logged, the rings show what they took and
--- put, and the words of their takes were drawn.
+-- put, all over the links of these rings, and the words of their takes were drawn.
 pub record Goes (plan : Plan) (k : ℕ) (a : Seen) (ts : List (Turn Act Token)) (b : Seen) : Type 0 where
   pub run : LocalRun (StepsByLink plan) k a.clock a.actor ts b.actor
   pub clock : b.clock ≡ clock_after a.clock ts
   pub log : b.log ≡ a.log ++ map logged ts
   pub outs : AllZip (Sends ts) a.outs b.outs
   pub ins : AllZip (Receives ts) a.ins b.ins
+  pub links : GoOver a.outs a.ins ts
   pub words : Draws a.words (words_of ts) b.words
 
 -- at most n steps lead from one desk to the other, which use n turns
@@ -98,7 +109,8 @@ pub record TakesFront (plan : Plan) (k : ℕ) (old : Acting) (clock word : ℕ) 
   pub got : received end'.1 ≡ received end.1 ++ item ∷ []
 
 -- What a worker gives back: some steps, at most n, are a run of actor k by itself from its first state to its last. They are the acts.
--- What the ring ends sent and received is what the steps put and took, and the words of the takes are those of the generator, in order.
+-- What the ring ends sent and received is what the steps put and took, all over the links of these ends, and the words of the takes are
+-- those of the generator, in order.
 -- A worker that ended by its turns used them.
 pub record HasRun (plan : Plan) (k n id seed : ℕ) (actor : Acting) (ends : Ends) (r : ActorRun) : Type 0 where
   pub steps : List (Turn Act Token)
@@ -107,6 +119,7 @@ pub record HasRun (plan : Plan) (k n id seed : ℕ) (actor : Acting) (ends : End
   pub acts : r.acts.items ≡ map logged steps
   pub outs : AllZip (Sends steps) ends.outs.items r.ends.outs.items
   pub ins : AllZip (Receives steps) ends.ins.items r.ends.ins.items
+  pub links : GoOver ends.outs.items ends.ins.items steps
   pub rest : Lcg
   pub words : Draws (started 64 multiplier_64 seed (increment_of 64 id)) (words_of steps) rest
   pub used : r.stop ≡ Turns → Used plan k n 0 actor steps r.actor

@@ -1,9 +1,13 @@
 //! The actors of a plan, with a ring for each way between them.
-ghost use Rattle.std.specs.Prelude.{◌≡◌, ◌≢◌, ◌≤◌, ◌<◌, IfOk, OnOk, IsFalse, length, map};
+ghost use Rattle.std.specs.Prelude.{◌≡◌, ◌≢◌, ◌≤◌, ◌<◌, ◌++◌, [], ◌∷◌, IfOk, OnOk, IsFalse, length, map};
 ghost use Rattle.std.specs.List.{All, AllByRecursion};
+ghost use Rattle.vc_accepted.specs.Outgoing.{actor_of};
+ghost use Rattle.vc_core.specs.Begin.{AreFirst};
+ghost use Rattle.vc_core.specs.Turns.{actors as actors_in};
 ghost use Rattle.vc_plan.specs.Accepted.{IsAccepted};
 ghost use Rattle.vc_threads.specs.Crews.{IsFit};
-ghost use Rattle.vc_threads.specs.Threads.{AreNumbered, who};
+ghost use Rattle.vc_threads.specs.Rings.{AddsRing, AreBare, AreWired, outs_in, ins_in};
+ghost use Rattle.vc_threads.specs.Threads.{AreNumbered, actor_in, who};
 ghost use Rattle.vc_threads.specs.Works.{IsOfSomePlan};
 
 use crate::crew::{Job, ThreadFault};
@@ -19,6 +23,7 @@ fn job_of(alloc: Global, id: u8, actor: Actor) -> Job
     requires { IsOfSomePlan actor }
     ensures who { who result ≡ (id, actor) }
     ensures fit { IsFit result }
+    ensures bare { (outs_in result ≡ []) × (ins_in result ≡ []) }
 {
     let outs = Vec::new(alloc);
     let ins = Vec::new(alloc);
@@ -35,6 +40,8 @@ fn jobs_of(alloc: Global, actors: Vec<Actor>) -> Result<Vec<Job>, Memory>
     requires actors { AllByRecursion IsOfSomePlan actors.items }
     ensures fit { IfOk result (λ jobs. All IsFit jobs.items) }
     ensures numbered { IfOk result (λ jobs. AreNumbered 0 (map who jobs.items)) }
+    ensures actors { IfOk result (λ jobs. map actor_in jobs.items ≡ actors.items) }
+    ensures bare { IfOk result (λ jobs. AreBare jobs.items) }
 {
     let mut jobs = Vec::new(alloc);
     for actor in actors {
@@ -73,6 +80,8 @@ fn add_out(job: &mut Job, link: u8, producer: Out) -> Result<(), ThreadFault>
     requires { IsFit job.old }
     ensures fit { IsFit job.new }
     ensures same { who job.new ≡ who job.old }
+    ensures outs { OnOk result (outs_in job.new ≡ outs_in job.old ++ (link, producer) ∷ []) }
+    ensures ins { ins_in job.new ≡ ins_in job.old }
 {
     if link > 31 || has_out(job.ends.outs.as_slice(), link) {
         return Err(ThreadFault::Start);
@@ -88,6 +97,8 @@ fn add_in(job: &mut Job, link: u8, consumer: In) -> Result<(), ThreadFault>
     requires { IsFit job.old }
     ensures fit { IsFit job.new }
     ensures same { who job.new ≡ who job.old }
+    ensures ins { OnOk result (ins_in job.new ≡ ins_in job.old ++ (link, consumer) ∷ []) }
+    ensures outs { outs_in job.new ≡ outs_in job.old }
 {
     if link > 31 || has_in(job.ends.ins.as_slice(), link) {
         return Err(ThreadFault::Start);
@@ -101,6 +112,7 @@ fn add_in(job: &mut Job, link: u8, consumer: In) -> Result<(), ThreadFault>
 // The number of a node or a switch among the actors.
 fn number_of(spot: Spot, nodes: usize) -> usize
     requires { nodes ≤ 32 }
+    ensures { result ≡ actor_of nodes spot }
 {
     match spot {
         Spot::Node(node) => usize::from(node),
@@ -120,6 +132,7 @@ fn add_ring(
     requires fit { All IsFit jobs.old.items }
     ensures fit { OnOk result (All IsFit jobs.new.items) }
     ensures same { OnOk result (map who jobs.new.items ≡ map who jobs.old.items) }
+    ensures ring { OnOk result (AddsRing nodes jobs.old.items from to jobs.new.items) }
 {
     let source = number_of(from.spot, nodes);
     let sink = number_of(to.spot, nodes);
@@ -139,8 +152,10 @@ fn add_ring(
 fn add_rings(alloc: Global, jobs: &mut Vec<Job>, plan: &Plan) -> Result<(), ThreadFault>
     requires plan { IsAccepted plan.now }
     requires fit { All IsFit jobs.old.items }
+    requires bare { AreBare jobs.old.items }
     ensures fit { OnOk result (All IsFit jobs.new.items) }
     ensures same { OnOk result (map who jobs.new.items ≡ map who jobs.old.items) }
+    ensures wired { OnOk result (AreWired plan.now (length plan.now.wires) jobs.new.items) }
 {
     let nodes = plan.nodes.len();
     for wire in plan.wires.as_slice() {
@@ -150,10 +165,13 @@ fn add_rings(alloc: Global, jobs: &mut Vec<Job>, plan: &Plan) -> Result<(), Thre
     Ok(())
 }
 
-/// A job for each actor of an accepted plan, with the ends of its rings.
+/// A job for each actor of an accepted plan, which begins, with the ends of its rings: one for each way of the plan, from the actor at
+/// its near end to the one at its far end.
 pub(crate) fn make_jobs(alloc: Global, accepted: &Accepted) -> Result<Vec<Job>, ThreadFault>
     ensures fit { IfOk result (λ jobs. All IsFit jobs.items) }
     ensures numbered { IfOk result (λ jobs. AreNumbered 0 (map who jobs.items)) }
+    ensures begins { IfOk result (λ jobs. AreFirst accepted.now (actors_in accepted.now) (map actor_in jobs.items)) }
+    ensures wired { IfOk result (λ jobs. AreWired accepted.now (length accepted.now.wires) jobs.items) }
 {
     let plan = accepted.plan();
     let mut jobs = jobs_of(alloc, actors(alloc, accepted)?)?;

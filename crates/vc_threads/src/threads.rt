@@ -45,7 +45,7 @@ pub fn run_threads<G: Gate, R: Threads + Wait>(
     turns: u64,
     seed: u32,
 ) -> Result<Report, ThreadFault>
-    ensures { IfOk result (Reports accepted.now) }
+    ensures { IfOk result (Reports accepted.now turns seed) }
 {
     let jobs = make_jobs(alloc, accepted)?;
     let runs = run_jobs(rt, alloc, jobs, gate, turns, seed)?;

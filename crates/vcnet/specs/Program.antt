@@ -35,11 +35,11 @@ StepsNetwork known old new limit status =
     ((report : StepReport) × Steps known old new limit (Ok report) × (status ≡ status_of_end report.close))
     ⊎ ((fault : RunFault) × (mid : Option (List ℕ)) × Steps known old mid limit (Err fault) × TellsFault mid new fault status)
 
--- it is run in threads, or a fault of it is told
-abbrev pub RunsNetwork : Option (List ℕ) → Option (List ℕ) → Option (List ℕ) → ℕ → Type 0
-RunsNetwork known old new status =
-    ((report : Report) × RunsInThreads known old new (Ok report) × (status ≡ status_of_end report.close))
-    ⊎ ((fault : RunFault) × (mid : Option (List ℕ)) × RunsInThreads known old mid (Err fault) × TellsFault mid new fault status)
+-- it is run in threads, of so many turns at most and with this seed, or a fault of it is told
+abbrev pub RunsNetwork : ℕ → ℕ → Option (List ℕ) → Option (List ℕ) → Option (List ℕ) → ℕ → Type 0
+RunsNetwork turns seed known old new status =
+    ((report : Report) × RunsInThreads turns seed known old new (Ok report) × (status ≡ status_of_end report.close))
+    ⊎ ((fault : RunFault) × (mid : Option (List ℕ)) × RunsInThreads turns seed known old mid (Err fault) × TellsFault mid new fault status)
 
 -- a bad line or a request for help is told, or want of memory
 abbrev pub TellsLine : Option (List ℕ) → Option (List ℕ) → ℕ → Type 0
@@ -50,5 +50,5 @@ TellsLine old new status =
 pub data Runs (known rest old new : Option (List ℕ)) (status : ℕ) : Type 0 where
   checks : ChecksNetwork known old new status → Runs known rest old new status
   steps : (limit : ℕ) → limit ≤ 1000000000 → StepsNetwork known old new limit status → Runs known rest old new status
-  runs : RunsNetwork known old new status → Runs known rest old new status
+  runs : (turns seed : ℕ) → turns ≤ 1000000000 → RunsNetwork turns seed known old new status → Runs known rest old new status
   tells : rest ≡ known → TellsLine old new status → Runs known rest old new status

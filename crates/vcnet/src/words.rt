@@ -148,7 +148,7 @@ fn run_by<T: Threads + Wait, R: Read, W: Write>(
     turns: u64,
     seed: u32,
 ) -> u8
-    ensures { RunsNetwork (R.remaining reader.old) (W.contents writer.old) (W.contents writer.new) result }
+    ensures { RunsNetwork turns seed (R.remaining reader.old) (W.contents writer.old) (W.contents writer.new) result }
 {
     match run_net(rt, alloc, reader, writer, turns, seed) {
         Ok(report) => status_of_close(report.close),

@@ -8,5 +8,5 @@ pub returns : goal.returns
 returns g c =
     let p = c.in_ok-accepted.accepted in
     let r = c.in_ok-report.report in
-    unwritten (g.R.Read.remaining c.args.reader.now) (g.W.Write.contents c.args.writer.now) (g.W.Write.contents c.write_traffic.new.writer) p r c.in-Err.fault c.in_ok-accepted.ensures c.in_ok-report.ensures
+    unwritten c.args.turns c.args.seed (g.R.Read.remaining c.args.reader.now) (g.W.Write.contents c.args.writer.now) (g.W.Write.contents c.write_traffic.new.writer) p r c.in-Err.fault c.in_ok-accepted.ensures c.in_ok-report.ensures
     (subst (Writes (g.W.Write.contents c.args.writer.now) (g.W.Write.contents c.write_traffic.new.writer) (report_text p r)) c.in-Err.is (c.write_traffic.ensures p c.in_ok-report.ensures.replays.is))

@@ -1,6 +1,7 @@
 use Rattle.std.proofs.Common.{◌≡◌, map}
 use Rattle.std.specs.List.{All}
 use Rattle.vc_threads.specs.Crews.{IsFit}
+use Rattle.vc_threads.specs.Rings.{AreWired}
 use Rattle.vc_threads.specs.Threads.{who}
 use Rattle.vc_threads.proofs.jobs.add_rings.Given as goal
 
@@ -8,4 +9,5 @@ abbrev pub invariant-loop-wire : goal.invariant-loop-wire
 invariant-loop-wire l = record {
   fit : All IsFit l.jobs.items;
   same : map who l.jobs.items ≡ map who l.fn.jobs.items;
+  wired : AreWired l.fn.plan l.wire-index l.jobs.items;
 }

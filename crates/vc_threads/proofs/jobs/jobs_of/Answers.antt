@@ -5,7 +5,9 @@ use Rattle.std.proofs.lemmas.List.Elements.{All-push}
 use Rattle.vc_threads.specs.Crews.{IsFit}
 use Rattle.vc_threads.specs.Threads.{AreNumbered, who}
 use Rattle.vc_threads.specs.Works.{IsOfSomePlan}
-use Rattle.vc_threads.proofs.Fitting.{numbered_push}
+use Rattle.vc_threads.proofs.Fitting.{numbered_push, actors_step}
+use Rattle.vc_threads.proofs.Ringed.{none_more}
+use Rattle.vc_threads.specs.Rings.{AreBare, outs_in, ins_in}
 use Rattle.vc_threads.proofs.jobs.jobs_of.Goals as goal
 
 pub job_of-requires : goal.job_of-requires
@@ -28,4 +30,6 @@ loop-actor-preserved c =
       fit = subst (All IsFit) (sym pushed) (All-push IsFit jobs job inv.fit c.job_of.ensures.fit);
       numbered = subst (AreNumbered 0) (sym (ap (map who) pushed ∙ map-append who jobs (job ∷ [])))
           (numbered_push 0 (map who jobs) (who job) inv.numbered (ap (λ w. w.0) c.job_of.ensures.who ∙ grind (arith, length-map)));
+      all = actors_step jobs c.push.new.self.items job pushed (ap (λ w. w.1) c.job_of.ensures.who) steps inv.all;
+      bare = subst AreBare (sym pushed) (λ k. (none_more outs_in jobs job (λ i. (inv.bare i).0) c.job_of.ensures.bare.0 k, none_more ins_in jobs job (λ i. (inv.bare i).1) c.job_of.ensures.bare.1 k));
     }

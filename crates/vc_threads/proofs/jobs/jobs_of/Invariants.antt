@@ -1,7 +1,8 @@
-use Rattle.std.proofs.Common.{◌+◌, ◌≤◌, length, map}
+use Rattle.std.proofs.Common.{◌≡◌, ◌+◌, ◌≤◌, ◌++◌, length, map}
 use Rattle.std.specs.List.{All, AllByRecursion}
 use Rattle.vc_threads.specs.Crews.{IsFit}
-use Rattle.vc_threads.specs.Threads.{AreNumbered, who}
+use Rattle.vc_threads.specs.Rings.{AreBare}
+use Rattle.vc_threads.specs.Threads.{AreNumbered, actor_in, who}
 use Rattle.vc_threads.specs.Works.{IsOfSomePlan}
 use Rattle.vc_threads.proofs.jobs.jobs_of.Given as goal
 
@@ -11,4 +12,6 @@ invariant-loop-actor l = record {
   few : length l.jobs.items + length l.actor-iterator.rest.items ≤ 64;
   fit : All IsFit l.jobs.items;
   numbered : AreNumbered 0 (map who l.jobs.items);
+  all : map actor_in l.jobs.items ++ l.actor-iterator.rest.items ≡ l.fn.actors.items;
+  bare : AreBare l.jobs.items;
 }

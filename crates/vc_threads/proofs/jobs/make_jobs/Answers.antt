@@ -1,9 +1,11 @@
-use Rattle.std.proofs.Common.{arith, get_or}
+use Rattle.std.proofs.Common.{arith, get_or, sym, subst, ◌∙◌}
 use Rattle.std.proofs.lemmas.Option.{slice_get-get_or}
 use Rattle.vc_accepted.specs.NetworkOf.{network_of}
 use Rattle.vc_core.proofs.Leaving.{few}
 use Rattle.vc_threads.specs.Works.{IsOfSomePlan}
-use Rattle.vc_threads.proofs.Fitting.{by_recursion}
+use Rattle.vc_core.specs.Begin.{AreFirst}
+use Rattle.vc_core.specs.Turns.{actors}
+use Rattle.vc_threads.proofs.Fitting.{by_recursion, actors_kept}
 use Rattle.vc_threads.proofs.jobs.make_jobs.Goals as goal
 
 pub jobs_of-requires-clause-few : goal.jobs_of-requires-clause-few
@@ -19,3 +21,8 @@ pub jobs_of-requires-clause-actors : goal.jobs_of-requires-clause-actors
 jobs_of-requires-clause-actors c =
     let xs = c.in_ok-actors.field-0.items in
     by_recursion IsOfSomePlan xs (λ k d l. (network_of c.args.accepted.now, k, (c.in_ok-actors.ensures.each k (get_or xs k d) (slice_get-get_or xs k d l)).is))
+
+pub returns-clause-begins : goal.returns-clause-begins
+returns-clause-begins c =
+    let p = c.args.accepted.now in
+    subst (AreFirst p (actors p)) (sym (actors_kept c.in_ok-jobs.jobs.items c.add_rings.new.jobs.items c.in_ok-add_rings.ensures.same ∙ c.in_ok-jobs.ensures.actors)) c.in_ok-actors.ensures

@@ -1,12 +1,13 @@
 use Rattle.std.proofs.Common.{sym, subst, map}
 use Rattle.std.specs.List.{AllByRecursion}
-use Rattle.vc_actors.specs.Merge.{AreDistinct, RunRises}
+use Rattle.vc_actors.specs.Merge.{AreDistinct, IsMerge, RunRises, run_of}
 use Rattle.vc_core.specs.Replaying.{Replays}
 use Rattle.vc_core.specs.State.{state_of}
 use Rattle.vc_threads.specs.Crews.{IsFit}
 use Rattle.vc_threads.specs.Merged.{numbered}
 use Rattle.vc_threads.proofs.Fitting.{by_recursion}
 use Rattle.vc_threads.proofs.Rising.{all_apart, all_rise}
+use Rattle.vc_threads.proofs.Reported.{steps_of, each_run, no_run, acts_merged}
 use Rattle.vc_threads.proofs.threads.run_threads.Goals as goal
 
 pub merge-requires-clause-distinct : goal.merge-requires-clause-distinct
@@ -22,6 +23,23 @@ merge-requires-clause-rising g c =
 pub returns : goal.returns
 returns g c =
     let p = c.args.accepted.now in
+    let js = c.in_ok-jobs.jobs.items in
+    let rs = c.in_ok-runs.runs.items in
     let s = state_of c.in_ok-state.state in
+    let m = c.in_ok-steps.ensures in
     let replays : Replays p c.in_ok-steps.steps.items s = subst (λ w. Replays p w s) c.as_slice-2.ensures.value c.in_ok-state.ensures in
-    record { replays = replays; done = c.close_of-close.ensures p replays.is }
+    let t = c.args.turns in
+    let seed = c.args.seed in
+    let begins = c.in_ok-jobs.ensures.begins in
+    let are = c.in_ok-jobs.ensures.numbered in
+    let ran = c.in_ok-runs.ensures in
+    record {
+      runs = steps_of p t seed js rs begins are ran;
+      each = each_run p t seed js rs begins are ran;
+      none = no_run p t seed js rs begins are ran;
+      merged = m.0;
+      merge = acts_merged p t seed js rs begins are ran m.0 (subst (λ xs. IsMerge (run_of (map numbered xs)) m.0) c.as_slice.ensures.value m.1);
+      steps = m.2;
+      replays = replays;
+      done = c.close_of-close.ensures p replays.is;
+    }

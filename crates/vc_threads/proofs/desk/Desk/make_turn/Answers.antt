@@ -7,12 +7,12 @@ use Rattle.vc_core.specs.declared.act.Act.{Act}
 use Rattle.vc_tokens.specs.declared.token.Token.{Token}
 use Rattle.vc_threads.specs.declared.link.Stamped.{Stamped}
 use Rattle.vc_threads.specs.Stamps.{stamped}
-use Rattle.vc_threads.specs.Wires.{OutLooked, InLooked, HasRoom, Distinct}
+use Rattle.vc_threads.specs.Wires.{OutLooked, InLooked, HasRoom, Distinct, IsAmong}
 use Rattle.vc_threads.specs.Works.{Out, desk}
 use Rattle.vc_threads.proofs.Zips.{zip_same}
 use Rattle.vc_threads.proofs.Looks.{looked_same, in_looked_same}
 use Rattle.vc_threads.proofs.Steps.{finds_quiet, put_room}
-use Rattle.vc_threads.proofs.Goings.{uses_idle, uses_one, sends_one, sends_quiet, receives_quiet, looked_sends, looked_out_links}
+use Rattle.vc_threads.proofs.Goings.{among, uses_idle, uses_one, sends_one, sends_quiet, receives_quiet, looked_sends, looked_out_links}
 use Rattle.vc_threads.proofs.Backs.{same_back, zip_back}
 use Rattle.vc_threads.proofs.desk.Desk.make_turn.Goals as goal
 
@@ -75,7 +75,7 @@ returns-in-Ok-Local-clause-done c = λ plan n of.
     let t : Turn Act Token = record { at = c.in-Some.stamp; it = Own c.in-Ok-Local.act } in
     uses_one plan n (desk a)
     (record { actor = c.turn.new.self; clock = c.in-Some.stamp; log = c.push_reserved.new.self.items; outs = mid; ins = a.ends.ins.items; words = a.words })
-    t did.1 c.in-Some.ensures tt refl (c.push_reserved.ensures.items ∙ ap (λ w. w ++ made ∷ []) c.reserve.ensures.items) refl
+    t did.1 c.in-Some.ensures tt tt refl (c.push_reserved.ensures.items ∙ ap (λ w. w ++ made ∷ []) c.reserve.ensures.items) refl
     (sends_quiet (t ∷ []) (λ l. refl) a.ends.outs.items mid outs')
     (receives_quiet (t ∷ []) (λ l. refl) a.ends.ins.items a.ends.ins.items (zip_same InLooked in_looked_same a.ends.ins.items))
 
@@ -99,7 +99,7 @@ returns-in-Ok-Put-clause-done c = λ plan n of.
     subst (λ l. IsPut plan n a.actor l act c.in-Ok-Put.item c.turn.new.self) (sym link) did.1 in
     uses_one plan n (desk a)
     (record { actor = c.turn.new.self; clock = c.in-Some.stamp; log = c.push_reserved-in-Ok-Put.new.self.items; outs = set mid k c.put_item.new.end; ins = a.ends.ins.items; words = a.words })
-    t step c.in-Some.ensures refl refl (c.push_reserved-in-Ok-Put.ensures.items ∙ ap (λ w. w ++ made ∷ []) c.reserve.ensures.items) refl
+    t step c.in-Some.ensures refl (subst (λ ls. IsAmong ls r.0) (looked_out_links a.ends.outs.items mid outs') (among mid k r within c.index_mut.ensures.value)) refl (c.push_reserved-in-Ok-Put.ensures.items ∙ ap (λ w. w ++ made ∷ []) c.reserve.ensures.items) refl
     (looked_sends (t ∷ []) a.ends.outs.items mid (set mid k c.put_item.new.end) outs'
     (sends_one mid k r c.put_item.new.end c.in-Some.stamp act x links within c.index_mut.ensures.value c.put_item.ensures.link c.put_item.ensures.ring c.put_item.ensures.sent))
     (receives_quiet (t ∷ []) (λ l. refl) a.ends.ins.items a.ends.ins.items (zip_same InLooked in_looked_same a.ends.ins.items))

@@ -10,7 +10,7 @@ use Rattle.vc_threads.specs.Works.{take_of, desk}
 use Rattle.vc_threads.proofs.Zips.{zip_same, zip_step}
 use Rattle.vc_threads.proofs.Looks.{looked_same, in_looked_same, in_looked_then}
 use Rattle.vc_threads.proofs.Outcomes.{on_err}
-use Rattle.vc_threads.proofs.Goings.{uses_one, receives_one, sends_quiet}
+use Rattle.vc_threads.proofs.Goings.{among, uses_one, receives_one, sends_quiet}
 use Rattle.vc_threads.proofs.desk.Desk.take_from.Goals as goal
 
 pub returns-then-is_err-clause-stopped : goal.returns-then-is_err-clause-stopped
@@ -44,7 +44,7 @@ returns-clause-done c = λ plan n of.
     let t = take_of made c.index_mut.result.now.0 h.item in
     uses_one plan n (desk a)
     (record { actor = c.take_front.new.actor; clock = c.in_ok-stamp.stamp; log = c.push_reserved.new.self.items; outs = a.ends.outs.items; ins = set a.ends.ins.items c.args.k c.take_front.new.end; words = c.next_word-word.new.self })
-    t h.step h.stamp tt refl
+    t h.step h.stamp tt (among a.ends.ins.items c.args.k c.index_mut.result.now c.requires.within c.index_mut.ensures.value) refl
     (c.push_reserved.ensures.items ∙ ap (λ w. w ++ made ∷ []) c.reserve.ensures.items)
     (subst (λ x. Draws a.words (word_of (Takes x c.index_mut.result.now.0 (stamped h.item)) ++ []) c.next_word-word.new.self) (sym h.act)
     (ap (λ (p : ℕ × Lcg). p.0) c.next_word-word.ensures, ap (λ (p : ℕ × Lcg). p.1) c.next_word-word.ensures))

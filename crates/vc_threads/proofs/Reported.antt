@@ -1,0 +1,139 @@
+-- What the runs of all jobs report.
+use Rattle.std.proofs.Common.{◌≡◌, ℕ, zero, suc, ◌+◌, ◌<◌, ◌≤◌, ◌==◌, ◌⊎◌, inl, inr, Bool, true, false, if◌then◌else◌, List, [], ◌∷◌, length, map, slice_get, option_map, Some, refl, ap, sym, subst, ◌∙◌, arith, eq-eqb}
+use Rattle.std.specs.List.{AllZip}
+use Rattle.std.proofs.lemmas.Bool.{cases_lt}
+use Rattle.std.proofs.lemmas.Bool.Decides.{nat_tests}
+use Rattle.std.proofs.lemmas.List.{length-map}
+use Rattle.std.proofs.lemmas.Option.{slice_get-map}
+use Rattle.std.proofs.lemmas.Simd.{map-map}
+use Rattle.rand_pcg.specs.Lcg.{started, increment_of}
+use Rattle.rand_pcg.specs.Pcg.{multiplier_64}
+use Rattle.vc_accepted.specs.NetworkOf.{network_of}
+use Rattle.vc_actors.specs.Actors.{act_of}
+use Rattle.vc_actors.specs.LocalRun.{Turn, restamped}
+use Rattle.vc_actors.specs.Merge.{Made, IsMerge, run_of}
+use Rattle.vc_core.specs.Begin.{AreFirst, BeginsAs}
+use Rattle.vc_core.specs.Turns.{actors}
+use Rattle.vc_core.specs.declared.act.Act.{Act}
+use Rattle.vc_plan.specs.declared.plan.Plan.{Plan}
+use Rattle.vc_tokens.specs.declared.token.Token.{Token}
+use Rattle.vc_threads.specs.Crews.{Ran}
+use Rattle.vc_threads.specs.Merged.{of_pair, numbered}
+use Rattle.vc_threads.specs.Runs.{Draws, words_of}
+use Rattle.vc_threads.specs.Threads.{AreNumbered, IsRunOf, actor_in, who}
+use Rattle.vc_threads.specs.Works.{logged, HasRun}
+use Rattle.vc_threads.specs.declared.crew.Job.{Job}
+use Rattle.vc_threads.specs.declared.run.ActorRun.{ActorRun}
+
+-- the job and the run of actor n + k, where the jobs are numbered from n on
+pub record Done (turns seed n k : ℕ) (js : List Job) (rs : List ActorRun) : Type 0 where
+  pub job : Job
+  pub run : ActorRun
+  pub job_is : slice_get js k ≡ Some job
+  pub run_is : slice_get rs k ≡ Some run
+  pub id : job.id ≡ n + k
+  pub ran : Ran turns seed job run
+  pub acts : run_of (map numbered rs) (n + k) ≡ map of_pair run.acts.items
+
+pub done_at : (turns seed n k : ℕ) (js : List Job) (rs : List ActorRun) → AreNumbered n (map who js) → AllZip (Ran turns seed) js rs → k < length js → Done turns seed n k js rs
+done_at turns seed n k [] rs are ran less = absurd (omega (arith, less))
+done_at turns seed n k (j ∷ js) [] are ran less = absurd ran
+done_at turns seed n zero (j ∷ js) (r ∷ rs) are ran less =
+    let none : n ≡ n + 0 = omega arith in
+    record {
+      job = j;
+      run = r;
+      job_is = refl;
+      run_is = refl;
+      id = are.0 ∙ none;
+      ran = ran.0;
+      acts = ap (λ b. if b then map of_pair r.acts.items else run_of (map numbered rs) (n + 0)) (eq-eqb r.id (n + 0) (ran.0.0 ∙ (are.0 ∙ none)));
+    }
+done_at turns seed n (suc k) (j ∷ js) (r ∷ rs) are ran less =
+    let d = done_at turns seed (n + 1) k js rs are.1 ran.1 (omega (arith, less)) in
+    let e : r.id ≡ n = ran.0.0 ∙ are.0 in
+    let same : n + 1 + k ≡ n + suc k = omega arith in
+    let other : (r.id == n + suc k) ≡ false = grind (arith, nat_tests) in
+    record {
+      job = d.job;
+      run = d.run;
+      job_is = d.job_is;
+      run_is = d.run_is;
+      id = d.id ∙ same;
+      ran = d.ran;
+      acts = ap (λ b. if b then map of_pair r.acts.items else run_of (map numbered rs) (n + suc k)) other ∙ (ap (run_of (map numbered rs)) (sym same) ∙ d.acts);
+    }
+
+-- past the jobs there is no run
+pub none_past : (turns seed n i : ℕ) (js : List Job) (rs : List ActorRun) → AreNumbered n (map who js) → AllZip (Ran turns seed) js rs → n + length js ≤ i → run_of (map numbered rs) i ≡ []
+none_past turns seed n i [] [] are ran past = refl
+none_past turns seed n i [] (r ∷ rs) are ran past = absurd ran
+none_past turns seed n i (j ∷ js) [] are ran past = absurd ran
+none_past turns seed n i (j ∷ js) (r ∷ rs) are ran past =
+    let e : r.id ≡ n = ran.0.0 ∙ are.0 in
+    let less : n < i = omega (arith, past) in
+    let other : (r.id == i) ≡ false = grind (arith, nat_tests) in
+    ap (λ b. if b then map of_pair r.acts.items else run_of (map numbered rs) i) other ∙ none_past turns seed (n + 1) i js rs are.1 ran.1 (omega (arith, past))
+
+module _ (p : Plan) (turns seed : ℕ) (js : List Job) (rs : List ActorRun) (first : AreFirst p (actors p) (map actor_in js)) (are : AreNumbered 0 (map who js)) (ran : AllZip (Ran turns seed) js rs) where
+  count : length js ≡ actors p
+  count = sym (length-map js actor_in) ∙ first.count
+
+  -- the job of an actor, its run, and what the run did
+  pub record Did (k : ℕ) : Type 0 where
+    pub done : Done turns seed 0 k js rs
+    pub begins : BeginsAs p k done.job.actor
+    pub has : HasRun (network_of p) k turns done.job.id seed done.job.actor done.job.ends done.run
+
+  pub did : (k : ℕ) → k < actors p → Did k
+  did k less =
+      let n = count in
+      let d = done_at turns seed 0 k js rs are ran (omega (arith, n, less)) in
+      let b = first.each k d.job.actor (slice_get-map actor_in js k ∙ ap (option_map actor_in) d.job_is) in
+      record { done = d; begins = b; has = d.ran.1 (network_of p) k b.is }
+
+  did_acts : (k : ℕ) (d : Did k) → run_of (map numbered rs) k ≡ map (restamped act_of) d.has.steps
+  did_acts k d =
+      let at : 0 + k ≡ k = omega arith in
+      ap (run_of (map numbered rs)) (sym at) ∙ (d.done.acts ∙ (ap (map of_pair) d.has.acts ∙ map-map of_pair logged d.has.steps))
+
+  abbrev pick : (k : ℕ) → (k < actors p) ⊎ (actors p ≤ k) → List (Turn Act Token)
+  pick k (inl less) = (did k less).has.steps
+  pick k (inr past) = []
+
+  -- what each actor did
+  abbrev pub steps_of : ℕ → List (Turn Act Token)
+  steps_of k = pick k (cases_lt k (actors p))
+
+  picked_run : (k : ℕ) (c : (k < actors p) ⊎ (actors p ≤ k)) → k < actors p → IsRunOf p turns seed k (pick k c)
+  picked_run k (inr past) less = absurd (omega (arith, past, less))
+  picked_run k (inl within) less =
+      let d = did k within in
+      let at : 0 + k ≡ k = omega arith in
+      record {
+        first = d.done.job.actor;
+        last = d.done.run.actor;
+        begins = d.begins;
+        few = d.has.few;
+        run = d.has.run;
+        rest = d.has.rest;
+        words = subst (λ i. Draws (started 64 multiplier_64 seed (increment_of 64 i)) (words_of d.has.steps) d.has.rest) (d.done.id ∙ at) d.has.words;
+      }
+
+  picked_none : (k : ℕ) (c : (k < actors p) ⊎ (actors p ≤ k)) → actors p ≤ k → pick k c ≡ []
+  picked_none k (inl less) past = absurd (omega (arith, past, less))
+  picked_none k (inr beyond) past = refl
+
+  picked_acts : (k : ℕ) (c : (k < actors p) ⊎ (actors p ≤ k)) → run_of (map numbered rs) k ≡ map (restamped act_of) (pick k c)
+  picked_acts k (inl less) = did_acts k (did k less)
+  picked_acts k (inr past) = let n = count in none_past turns seed 0 k js rs are ran (omega (arith, n, past))
+
+  pub each_run : (k : ℕ) → k < actors p → IsRunOf p turns seed k (steps_of k)
+  each_run k less = picked_run k (cases_lt k (actors p)) less
+
+  pub no_run : (k : ℕ) → actors p ≤ k → steps_of k ≡ []
+  no_run k past = picked_none k (cases_lt k (actors p)) past
+
+  -- their acts are merged
+  pub acts_merged : (merged : List (Made Act)) → IsMerge (run_of (map numbered rs)) merged → IsMerge (λ k. map (restamped act_of) (steps_of k)) merged
+  acts_merged merged m = record { ordered = m.ordered; parts = λ k. m.parts k ∙ picked_acts k (cases_lt k (actors p)) }

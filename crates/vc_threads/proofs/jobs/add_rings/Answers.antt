@@ -1,0 +1,38 @@
+use Rattle.std.proofs.Common.{length, slice_get, get_or, refl, ap, sym, subst, ◌∙◌, arith}
+use Rattle.std.proofs.lemmas.Option.{slice_get-get_or}
+use Rattle.vc_plan.specs.declared.port.Port.{Port}
+use Rattle.vc_plan.specs.declared.port.Spot.TheVariants.{Node}
+use Rattle.vc_plan.specs.declared.port.Wire.{Wire}
+use Rattle.vc_threads.specs.Rings.{AddsRing, AreWired}
+use Rattle.vc_threads.proofs.Ringed.{wired_more, wired_none}
+use Rattle.vc_threads.proofs.jobs.add_rings.Goals as goal
+
+pub loop-wire-init : goal.loop-wire-init
+loop-wire-init c = record { fit = c.requires.fit; same = refl; wired = wired_none c.args.plan.now c.args.jobs.now.items c.requires.bare }
+
+pub loop-wire-preserved : goal.loop-wire-preserved
+loop-wire-preserved c =
+    let p = c.args.plan.now in
+    let i = c.loop-wire.wire-index in
+    let ws = c.as_slice-wire-items.result.now in
+    let less = c.loop-wire-test.true in
+    let none : Port = record { spot = Node 0; link = 0 } in
+    let w : Wire = get_or ws i (record { one = none; two = none }) in
+    let js = c.loop-wire.jobs.items in
+    let mid = c.add_ring.new.jobs.items in
+    let new = c.add_ring-in-loop-wire.new.jobs.items in
+    record {
+      fit = c.in_ok-add_ring-2.ensures.fit;
+      same = c.in_ok-add_ring-2.ensures.same ∙ (c.in_ok-add_ring.ensures.same ∙ c.loop-wire.invariant.same);
+      wired = wired_more p i w (ap (λ xs. slice_get xs i) (sym c.as_slice-wire-items.ensures) ∙ slice_get-get_or ws i (record { one = none; two = none }) less)
+          js mid new c.loop-wire.invariant.wired
+          (subst (λ n. AddsRing n js w.one w.two mid) c.len-nodes.ensures c.in_ok-add_ring.ensures.ring)
+          (subst (λ n. AddsRing n mid w.two w.one new) c.len-nodes.ensures c.in_ok-add_ring-2.ensures.ring);
+    }
+
+pub returns-clause-wired : goal.returns-clause-wired
+returns-clause-wired c =
+    let all = c.loop-wire-test.false in
+    let end = c.loop-wire.auto.wire-index-end in
+    let same = ap length c.as_slice-wire-items.ensures in
+    subst (λ n. AreWired c.args.plan.now n c.loop-wire.jobs.items) (omega (arith, all, end, same)) c.loop-wire.invariant.wired
