@@ -6,6 +6,6 @@ pub returns-in-Ok : goal.returns-in-Ok
 returns-in-Ok g c =
     inl (
       c.in-Ok.report,
-      subst (RunsInThreads (g.R.Read.remaining c.args.reader.now) (g.W.Write.contents c.args.writer.now) (g.W.Write.contents c.run_net.new.writer)) c.in-Ok.is c.run_net.ensures,
+      subst (RunsInThreads c.args.turns c.args.seed (g.R.Read.remaining c.args.reader.now) (g.W.Write.contents c.args.writer.now) (g.W.Write.contents c.run_net.new.writer)) c.in-Ok.is c.run_net.ensures,
       c.status_of_close.ensures,
     )
