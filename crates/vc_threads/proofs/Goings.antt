@@ -29,7 +29,7 @@ use Rattle.vc_threads.proofs.Zips.{zip_weaker, zip_then, zip_one, zip_map, zip_s
 use Rattle.vc_threads.proofs.Looks.{producer_then, consumer_then, looked_same, in_looked_same, in_looked_then}
 use Rattle.vc_threads.proofs.Steps.{clock_then, run_then, put_then, taken_then, words_then, draws_then, used_then, run_kept}
 
-any_default : {X : Type 0} (xs : List X) (k : ℕ) (d e : X) → k < length xs → get_or xs k d ≡ get_or xs k e
+pub any_default : {X : Type 0} (xs : List X) (k : ℕ) (d e : X) → k < length xs → get_or xs k d ≡ get_or xs k e
 any_default [] k d e l = absurd (omega arith)
 any_default (x ∷ xs) zero d e l = refl
 any_default (x ∷ xs) (suc k) d e l = any_default xs k d e (omega arith)
@@ -48,7 +48,7 @@ pub among : {X : Type 0} (xs : List (ℕ × X)) (k : ℕ) (r : ℕ × X) → k <
 among xs k r within is = (k, (let n = length_links xs in omega (arith, n, within)), link_at xs k r within ∙ ap (λ o. o.0) (sym is))
 
 -- two places have two links
-apart : {X : Type 0} (xs : List (ℕ × X)) (j k : ℕ) (d e : ℕ × X) → Distinct (map (λ o. o.0) xs) → j < length xs → k < length xs → j ≢ k → eqb (get_or xs j d).0 (get_or xs k e).0 ≡ false
+pub apart : {X : Type 0} (xs : List (ℕ × X)) (j k : ℕ) (d e : ℕ × X) → Distinct (map (λ o. o.0) xs) → j < length xs → k < length xs → j ≢ k → eqb (get_or xs j d).0 (get_or xs k e).0 ≡ false
 apart xs j k d e dist l m ne =
     let p = link_at xs j d l in
     let q = link_at xs k e m in

@@ -76,8 +76,8 @@ none_past turns seed n i (j ∷ js) (r ∷ rs) are ran past =
     ap (λ b. if b then map of_pair r.acts.items else run_of (map numbered rs) i) other ∙ none_past turns seed (n + 1) i js rs are.1 ran.1 (omega (arith, past))
 
 module _ (p : Plan) (turns seed : ℕ) (js : List Job) (rs : List ActorRun) (first : AreFirst p (actors p) (map actor_in js)) (are : AreNumbered 0 (map who js)) (ran : AllZip (Ran turns seed) js rs) where
-  count : length js ≡ actors p
-  count = sym (length-map js actor_in) ∙ first.count
+  pub jobs_count : length js ≡ actors p
+  jobs_count = sym (length-map js actor_in) ∙ first.count
 
   -- the job of an actor, its run, and what the run did
   pub record Did (k : ℕ) : Type 0 where
@@ -87,7 +87,7 @@ module _ (p : Plan) (turns seed : ℕ) (js : List Job) (rs : List ActorRun) (fir
 
   pub did : (k : ℕ) → k < actors p → Did k
   did k less =
-      let n = count in
+      let n = jobs_count in
       let d = done_at turns seed 0 k js rs are ran (omega (arith, n, less)) in
       let b = first.each k d.job.actor (slice_get-map actor_in js k ∙ ap (option_map actor_in) d.job_is) in
       record { done = d; begins = b; has = d.ran.1 (network_of p) k b.is }
@@ -97,7 +97,7 @@ module _ (p : Plan) (turns seed : ℕ) (js : List Job) (rs : List ActorRun) (fir
       let at : 0 + k ≡ k = omega arith in
       ap (run_of (map numbered rs)) (sym at) ∙ (d.done.acts ∙ (ap (map of_pair) d.has.acts ∙ map-map of_pair logged d.has.steps))
 
-  abbrev pick : (k : ℕ) → (k < actors p) ⊎ (actors p ≤ k) → List (Turn Act Token)
+  abbrev pub pick : (k : ℕ) → (k < actors p) ⊎ (actors p ≤ k) → List (Turn Act Token)
   pick k (inl less) = (did k less).has.steps
   pick k (inr past) = []
 
@@ -126,7 +126,7 @@ module _ (p : Plan) (turns seed : ℕ) (js : List Job) (rs : List ActorRun) (fir
 
   picked_acts : (k : ℕ) (c : (k < actors p) ⊎ (actors p ≤ k)) → run_of (map numbered rs) k ≡ map (restamped act_of) (pick k c)
   picked_acts k (inl less) = did_acts k (did k less)
-  picked_acts k (inr past) = let n = count in none_past turns seed 0 k js rs are ran (omega (arith, n, past))
+  picked_acts k (inr past) = let n = jobs_count in none_past turns seed 0 k js rs are ran (omega (arith, n, past))
 
   pub each_run : (k : ℕ) → k < actors p → IsRunOf p turns seed k (steps_of k)
   each_run k less = picked_run k (cases_lt k (actors p)) less

@@ -5,4 +5,5 @@ pub mod Runs
 pub mod Works
 pub mod Crews
 pub mod Rings
+pub mod Order
 pub mod Threads

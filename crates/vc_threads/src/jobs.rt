@@ -109,8 +109,8 @@ fn add_in(job: &mut Job, link: u8, consumer: In) -> Result<(), ThreadFault>
     }
 }
 
-// The number of a node or a switch among the actors.
-fn number_of(spot: Spot, nodes: usize) -> usize
+/// The number of a node or a switch among the actors.
+pub(crate) fn number_of(spot: Spot, nodes: usize) -> usize
     requires { nodes ≤ 32 }
     ensures { result ≡ actor_of nodes spot }
 {

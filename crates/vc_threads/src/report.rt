@@ -29,9 +29,9 @@ fn has_stop(runs: &[ActorRun], stop: Stop) -> bool {
     false
 }
 
-// How a run ended in which not every process has: the first that fits of an actor that found no memory, a clock at its end, a gate that
-// closed, and turns that were used.
-fn stopped(runs: &[ActorRun]) -> Close
+/// How a run ended in which not every process has: the first that fits of an actor that found no memory, a clock at its end, a gate that
+/// closed, and turns that were used. The runs are in the actors' order.
+pub(crate) fn stopped(runs: &[ActorRun]) -> Close
     ensures { result ≢ Done }
 {
     for run in runs {
@@ -48,13 +48,14 @@ fn stopped(runs: &[ActorRun]) -> Close
     }
 }
 
-/// How a run ended. The runs are in the actors' order.
-pub(crate) fn close_of(runs: &[ActorRun], state: &Network) -> Close
+/// How a run ended, where it ended as `otherwise` says if not every process has.
+pub(crate) fn close_of(otherwise: Close, state: &Network) -> Close
+    requires { otherwise ≢ Done }
     ensures { (p : Plan) → IsNetworkOf p (state_of state.now) → result ≡ Done ↔ HaveEnded p (state_of state.now) }
 {
     if state.ended() {
         Close::Done
     } else {
-        stopped(runs)
+        otherwise
     }
 }

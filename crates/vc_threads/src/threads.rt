@@ -8,7 +8,8 @@ use crate::crew::{ThreadFault, run_jobs};
 use crate::gate::Gate;
 use crate::jobs::make_jobs;
 use crate::merging::merge;
-use crate::report::{Report, close_of};
+use crate::order::{all_ends, look_all};
+use crate::report::{Report, close_of, stopped};
 use std::alloc::Global;
 use std::sync::Wait;
 use std::thread::Threads;
@@ -34,7 +35,7 @@ fn replayed(alloc: Global, accepted: &Accepted, steps: &[Event]) -> Result<Netwo
 }
 
 /// Runs each node and each switch of an accepted plan in a thread of its own, for at most so many turns each, as long as the gate lets it.
-/// The threads are joined, and their acts are made one list, which is replayed.
+/// The threads are joined, both ends of each ring are compared, and their acts are made one list, which is replayed.
 ///
 /// The words of an actor's takes are those of the generator of this seed and the actor's number.
 pub fn run_threads<G: Gate, R: Threads + Wait>(
@@ -50,8 +51,11 @@ pub fn run_threads<G: Gate, R: Threads + Wait>(
     let jobs = make_jobs(alloc, accepted)?;
     let runs = run_jobs(rt, alloc, jobs, gate, turns, seed)?;
     let steps = merge(alloc, runs.as_slice())?;
+    let otherwise = stopped(runs.as_slice());
+    let mut ends = all_ends(alloc, runs)?;
+    look_all(&mut ends, accepted.plan());
     let state = replayed(alloc, accepted, steps.as_slice())?;
-    let close = close_of(runs.as_slice(), &state);
+    let close = close_of(otherwise, &state);
     Ok(Report {
         steps,
         state,

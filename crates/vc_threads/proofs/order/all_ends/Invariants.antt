@@ -1,0 +1,9 @@
+use Rattle.std.proofs.Common.{◌≡◌, ◌++◌, map}
+use Rattle.vc_threads.specs.Order.{outs_left, ins_left}
+use Rattle.vc_threads.proofs.order.all_ends.Given as goal
+
+abbrev pub invariant-loop-run : goal.invariant-loop-run
+invariant-loop-run l = record {
+  outs : map (λ v. v.items) l.outs.items ++ map outs_left l.run-iterator.rest.items ≡ map outs_left l.fn.runs.items;
+  ins : map (λ v. v.items) l.ins.items ++ map ins_left l.run-iterator.rest.items ≡ map ins_left l.fn.runs.items;
+}
