@@ -421,6 +421,38 @@ impl Frame {
     }
 }
 
+/// A process begins with what a site does: an ALT takes a guard, an IF a branch, a WHILE or a counted SEQ a turn, and a process without
+/// parts does what it is.
+fn begin(
+    own: u16,
+    kind: &Kind,
+    at: usize,
+    parts: &mut Vec<Frame>,
+    site: u16,
+    deed: Deed,
+    assigned: Option<Datum>,
+    vars: &mut Vec<Datum>,
+) -> Next
+    requires assigned { deed ≡ Quiet → assigned ≡ assigned_at site (Fresh (plan_at kind.now own (views parts.old.items))) (store vars.old.items) }
+    requires variables { HasVariables (plan_at kind.now own (views parts.old.items)) (length vars.old.items) }
+    ensures did { Able (Fresh (plan_at kind.now own (views parts.old.items))) (store vars.old.items) site deed → Did (Fresh (plan_at kind.now own (views parts.old.items))) (store vars.old.items) site deed (rest_at kind.now result.phase own (views parts.new.items) result.at) (store vars.new.items) }
+    ensures plans { plans (views parts.new.items) ≡ plans (views parts.old.items) }
+    ensures length { length vars.new.items ≡ length vars.old.items }
+{
+    if kind.is_choice() {
+        return begin_choice(own, kind, parts, deed, vars);
+    }
+    if kind.has_parts() {
+        return begin_composed(own, kind, parts, vars);
+    }
+    if kind.is_counted() {
+        let phase = begin_count(own, kind, parts, vars);
+        return Next { phase, at };
+    }
+    let phase = begin_alone(own, kind, site, deed, assigned, vars);
+    Next { phase, at }
+}
+
 /// What a site does, and how far the frame is then.
 #[cycle(go)]
 fn go_on(
@@ -443,20 +475,7 @@ fn go_on(
     ensures length { length vars.new.items ≡ length vars.old.items }
 {
     match phase {
-        Phase::Ready => {
-            if kind.is_choice() {
-                return begin_choice(own, kind, parts, deed, vars);
-            }
-            if kind.has_parts() {
-                return begin_composed(own, kind, parts, vars);
-            }
-            if kind.is_counted() {
-                let phase = begin_count(own, kind, parts, vars);
-                return Next { phase, at };
-            }
-            let phase = begin_alone(own, kind, site, deed, assigned, vars);
-            Next { phase, at }
-        }
+        Phase::Ready => begin(own, kind, at, parts, site, deed, assigned, vars),
         Phase::Waiting => {
             if kind.has_parts() {
                 go_within(kind.place(at), parts, site, deed, assigned, vars);

@@ -41,20 +41,11 @@ frame::Frame::go-returns-clause-plan t c =
     let o = out-Frame c.args.self.now in
     simp (the_lemmas, view_roll, view_out) (same_plan o.kind o.site (views o.parts.items) (views c.go_on-next.new.parts.items) c.go_on-next.ensures.plans)
 
-pub going::go_on-returns-then-has_parts-clause-did : goal.going::go_on-returns-then-has_parts-clause-did
-going::go_on-returns-then-has_parts-clause-did t c =
-    let k = c.args.kind.now in
-    let vs = views c.args.parts.now.items in
-    let r = rest_at k c.begin_composed.result.phase c.args.own (views c.begin_composed.new.parts.items) c.begin_composed.result.at in
-    phase_did k c.args.own _ Ready vs c.args.at _ _ c.args.site c.args.deed r c.in-Ready.is
-    (subst (λ (xs : List Datum). Did (Fresh (plan_at k c.args.own vs)) (store xs) c.args.site c.args.deed r (store xs)) c.deref.ensures.value
-    (c.begin_composed.ensures.did c.args.site c.args.deed (subst (λ (xs : List Datum). Able (Fresh (plan_at k c.args.own vs)) (store xs) c.args.site c.args.deed) (sym c.deref.ensures.value) (phase_able k c.args.own _ Ready vs c.args.at _ c.args.site c.args.deed c.in-Ready.is c.requires.able))))
-
 pub going::go_on-go_within-requires : goal.going::go_on-go_within-requires
 going::go_on-go_within-requires t c =
     let k = c.args.kind.now in
     let vs = views c.args.parts.now.items in
-    let h = sym c.has_parts-in-Waiting.ensures ∙ c.if-has_parts-2.true in (
+    let h = sym c.has_parts.ensures ∙ c.if-has_parts.true in (
       search rules,
       (
         within_able k c.args.own _ vs c.args.at c.place.result _ c.args.site c.args.deed c.in-Waiting.is h c.place.ensures c.requires.able,
@@ -65,23 +56,16 @@ going::go_on-go_within-requires t c =
       ),
     )
 
-pub going::go_on-returns-then-has_parts-2-clause-did : goal.going::go_on-returns-then-has_parts-2-clause-did
-going::go_on-returns-then-has_parts-2-clause-did t c =
+pub going::go_on-returns-then-has_parts-clause-did : goal.going::go_on-returns-then-has_parts-clause-did
+going::go_on-returns-then-has_parts-clause-did t c =
     let k = c.args.kind.now in
     let vs = views c.args.parts.now.items in
     let ws = views c.go_within.new.parts.items in
-    let h = sym c.has_parts-in-Waiting.ensures ∙ c.if-has_parts-2.true in
+    let h = sym c.has_parts.ensures ∙ c.if-has_parts.true in
     within_did k c.args.own _ vs ws c.args.at c.place.result _ _ c.args.site c.args.deed _ c.in-Waiting.is h c.place.ensures c.go_within.ensures.plans (c.after_part.ensures.rest c.args.own) c.go_within.ensures.did
 
-pub going::go_on-returns-else-is_counted-clause-did : goal.going::go_on-returns-else-is_counted-clause-did
-going::go_on-returns-else-is_counted-clause-did t c =
-    let k = c.args.kind.now in
-    let vs = views c.args.parts.now.items in
-    phase_did k c.args.own _ Ready vs c.args.at _ _ c.args.site c.args.deed _ c.in-Ready.is
-    (c.begin_alone-phase.ensures.did vs c.args.at (phase_able k c.args.own _ Ready vs c.args.at _ c.args.site c.args.deed c.in-Ready.is c.requires.able))
-
-pub going::go_on-returns-else-has_parts-2-clause-did : goal.going::go_on-returns-else-has_parts-2-clause-did
-going::go_on-returns-else-has_parts-2-clause-did t c =
+pub going::go_on-returns-else-has_parts-clause-did : goal.going::go_on-returns-else-has_parts-clause-did
+going::go_on-returns-else-has_parts-clause-did t c =
     let k = c.args.kind.now in
     let vs = views c.args.parts.now.items in
     phase_did k c.args.own _ Waiting vs c.args.at _ _ c.args.site c.args.deed _ c.in-Waiting.is
@@ -104,13 +88,6 @@ going::go_within-returns-else-at-len-clause-did t c =
     let o = c.args.parts.now.ok.0 in
     let n = none_view fs c.args.at (omega (arith, c.len.ensures)) in
     never_there _ _ _ _ c.args.site c.args.deed (subst (λ (r : Rest). Able r (store c.args.vars.now.items) c.args.site c.args.deed) (ap part_rest n) c.requires.able)
-
-pub going::go_on-returns-then-is_counted-clause-did : goal.going::go_on-returns-then-is_counted-clause-did
-going::go_on-returns-then-is_counted-clause-did t c =
-    let k = c.args.kind.now in
-    let vs = views c.args.parts.now.items in
-    phase_did k c.args.own _ Ready vs c.args.at _ _ c.args.site c.args.deed _ c.in-Ready.is
-    (c.begin_count-phase.ensures.did c.args.site c.args.deed c.args.at (phase_able k c.args.own _ Ready vs c.args.at _ c.args.site c.args.deed c.in-Ready.is c.requires.able))
 
 pub going::go_on-returns-in-Turning-clause-did : goal.going::go_on-returns-in-Turning-clause-did
 going::go_on-returns-in-Turning-clause-did t c =
@@ -160,13 +137,6 @@ going::go_turn-returns-in-Count-clause-plans t c =
     let vs = views c.go_within.new.parts.items in
     ap plans c.after_turn.ensures.parts ∙ turned_plans (part_done (slice_get vs 0)) _ _ vs ∙ c.go_within.ensures.plans
 
-pub going::go_on-returns-then-is_choice-clause-did : goal.going::go_on-returns-then-is_choice-clause-did
-going::go_on-returns-then-is_choice-clause-did t c =
-    let k = c.args.kind.now in
-    let vs = views c.args.parts.now.items in
-    phase_did k c.args.own _ Ready vs c.args.at _ _ c.args.site c.args.deed _ c.in-Ready.is
-    (c.begin_choice.ensures.did c.args.site (phase_able k c.args.own _ Ready vs c.args.at _ c.args.site c.args.deed c.in-Ready.is c.requires.able))
-
 pub going::go_on-returns-in-Chosen-clause-did : goal.going::go_on-returns-in-Chosen-clause-did
 going::go_on-returns-in-Chosen-clause-did t c =
     let k = c.args.kind.now in
@@ -209,3 +179,10 @@ going::go_together-returns-in-Par-clause-did t c = λ at.
 
 pub going::go_together-part_with-requires : goal.going::go_together-part_with-requires
 going::go_together-part_with-requires t c = par_preorder c.args.kind.now c.args.own (views c.args.parts.now.items) (ap is_par c.in-Par.is) c.requires.in_preorder
+
+pub going::go_on-returns-in-Ready-clause-did : goal.going::go_on-returns-in-Ready-clause-did
+going::go_on-returns-in-Ready-clause-did t c =
+    let k = c.args.kind.now in
+    let vs = views c.args.parts.now.items in
+    phase_did k c.args.own _ Ready vs c.args.at _ _ c.args.site c.args.deed _ c.in-Ready.is
+    (c.begin.ensures.did (phase_able k c.args.own _ Ready vs c.args.at _ c.args.site c.args.deed c.in-Ready.is c.requires.able))

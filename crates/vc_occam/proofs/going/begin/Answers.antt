@@ -1,0 +1,14 @@
+use Rattle.std.proofs.Common.{List, sym, subst}
+use Rattle.vc_occam.specs.declared.datum.Datum.{Datum}
+use Rattle.vc_occam.specs.Frames.{Able, Did, plan_at, rest_at, views}
+use Rattle.vc_occam.specs.Remains.{Fresh}
+use Rattle.vc_occam.specs.Terms.{store}
+use Rattle.vc_occam.proofs.going.begin.Goals as goal
+
+pub returns-then-has_parts-clause-did : goal.returns-then-has_parts-clause-did
+returns-then-has_parts-clause-did c = λ able.
+    let k = c.args.kind.now in
+    let vs = views c.args.parts.now.items in
+    let r = rest_at k c.begin_composed.result.phase c.args.own (views c.begin_composed.new.parts.items) c.begin_composed.result.at in
+    subst (λ (xs : List Datum). Did (Fresh (plan_at k c.args.own vs)) (store xs) c.args.site c.args.deed r (store xs)) c.deref.ensures.value
+    (c.begin_composed.ensures.did c.args.site c.args.deed (subst (λ (xs : List Datum). Able (Fresh (plan_at k c.args.own vs)) (store xs) c.args.site c.args.deed) (sym c.deref.ensures.value) able))
