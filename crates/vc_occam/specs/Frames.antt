@@ -241,11 +241,6 @@ is_outside inside (move.Stopch i c) = true
 is_outside inside (move.Inner i j k c) = true
 is_outside inside (move.Quiet i) = true
 
--- the moves that need none
-abbrev pub outside : (ℕ → Bool) → List Move → List Move
-outside inside [] = []
-outside inside (m ∷ ms) = (if is_outside inside m then (m ∷ []) else []) ++ outside inside ms
-
 -- the site, if it waits for this
 abbrev pub waits_there : Waits → Waiting → Option ℕ
 waits_there (waits.Output c) (output i d) = if c == d then Some i else None

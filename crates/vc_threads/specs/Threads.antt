@@ -51,8 +51,7 @@ abbrev pub TakesInOrder : ℕ → (ℕ → List (Turn Act Token)) → Port → P
 TakesInOrder nodes runs from to = IsPrefix (all_taken to.link (runs (actor_of nodes to.spot))) (all_put from.link (runs (actor_of nodes from.spot)))
 
 -- The reported steps are those of all actors' runs, by stamp, then actor. On both ways of each wire what was taken is the front of what
--- was put. The steps replay to the state, and the run closes Done exactly where
--- every process has ended there.
+-- was put. The steps replay to the state, and the run closes Done exactly where every process has ended there.
 pub record Reports (p : Plan) (turns seed : ℕ) (r : Report) : Type 0 where
   pub runs : ℕ → List (Turn Act Token)
   pub each : (k : ℕ) → k < actors p → IsRunOf p turns seed k (runs k)
