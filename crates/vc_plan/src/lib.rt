@@ -33,8 +33,6 @@ mod port;
 mod search;
 mod stack;
 mod switch_plan;
-#[cfg(test)]
-mod tests;
 mod usage;
 mod vlink;
 

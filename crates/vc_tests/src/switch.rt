@@ -3,12 +3,12 @@ ghost use Rattle.std.specs.Prelude.{◌<◌};
 ghost use Rattle.std.specs.List.{AllByRecursion};
 ghost use Rattle.vc_switch.specs.Opening.{IsRandomInput};
 
-use crate::{RandomInput, Switch, SwitchPlan};
 use sqlite_items::Items;
 use std::alloc::Global;
 use std::test::Fail;
 use vc_labels::{Action, Row, Table};
 use vc_packets::Memory;
+use vc_switch::{RandomInput, Switch, SwitchPlan};
 use vc_tokens::Token;
 
 /// A row of a table.

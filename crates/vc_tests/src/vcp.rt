@@ -1,9 +1,10 @@
-use super::*;
+//! Two nodes whose ends of a virtual link exchange packets.
 use sqlite_items::Items;
 use std::alloc::Global;
 use std::test::Fail;
 use vc_packets::{Mark, Memory, Packet};
 use vc_tokens::Token;
+use vc_vcp::{End, Taken, Vcp};
 
 /// A node with one end, by link 0 and of block 1.
 fn node(alloc: Global, output: Option<u16>, input: Option<u16>) -> Result<Vcp, Memory> {

@@ -1,5 +1,4 @@
-use super::streams::read_plan;
-use super::*;
+//! Streams that fail, and the lines of faults.
 use sqlite_items::Items;
 use std::alloc::Global;
 use std::io::{Read, Write};
@@ -7,6 +6,7 @@ use std::test::Fail;
 use vc_core::Close;
 use vc_occam::ValueKind;
 use vc_reader::read_network;
+use vc_text::{ChannelView, RunFault, run_check, write_channels, write_fault};
 
 const HELLO: &str =
     "{\"version\":1,\"nodes\":[{\"name\":\"a\",\"process\":{\"out\":[\"c\",{\"text\":\"hello\"}]}},{\"name\":\"b\",\"vars\":[[\"m\",\"bytes\"]],\"process\":{\"in\":[\"c\",\"m\"]}}],\"wires\":[[\"a\",0,\"b\",0]],\"vlinks\":[{\"name\":\"v\",\"a\":[\"a\",0,1,[1]],\"b\":[\"b\",0,1,[1]]}],\"channels\":[{\"name\":\"c\",\"kind\":\"bytes\",\"vlink\":\"v\",\"way\":\"ab\"}]}";
@@ -75,6 +75,12 @@ impl Write for Stubborn {
     }
 }
 
+/// Checks the network of a reader, and writes to memory.
+fn check<R: Read>(alloc: Global, reader: &mut R) -> Result<(), RunFault> {
+    let mut out: Vec<u8> = Vec::new(alloc);
+    run_check(alloc, reader, &mut out)
+}
+
 #[test]
 fn a_reader_that_fails_is_read(rt: HostRuntime) -> Result<(), Fail> {
     for reads_left in 0..=HELLO.len() {
@@ -82,19 +88,19 @@ fn a_reader_that_fails_is_read(rt: HostRuntime) -> Result<(), Fail> {
             rest: HELLO.as_bytes(),
             reads_left,
         };
-        assert!(rt; matches!(read_plan(rt.alloc(), &mut reader), Err(RunFault::Read)));
+        assert!(rt; matches!(check(rt.alloc(), &mut reader), Err(RunFault::Read)));
     }
     let mut reader = Failing {
         rest: HELLO.as_bytes(),
         reads_left: HELLO.len() + 1,
     };
-    assert!(rt; read_plan(rt.alloc(), &mut reader).is_ok());
+    assert!(rt; check(rt.alloc(), &mut reader).is_ok());
     Ok(())
 }
 
 #[test]
 fn a_reader_without_an_end_is_read(rt: HostRuntime) -> Result<(), Fail> {
-    assert!(rt; matches!(read_plan(rt.alloc(), &mut Endless), Err(RunFault::Read)));
+    assert!(rt; matches!(check(rt.alloc(), &mut Endless), Err(RunFault::Read)));
     Ok(())
 }
 

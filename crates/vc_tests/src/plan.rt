@@ -1,13 +1,13 @@
 //! Small networks that are accepted, or refused for one cause.
-use crate::{
-    CheckRefused, End, Hop, LimitWord, Name, NodePlan, Plan, Port, Spot, SwitchPlan, Vlink, Wire,
-    check,
-};
 use sqlite_items::Items;
 use std::alloc::Global;
 use std::test::Fail;
 use vc_labels::{Action, Row};
 use vc_occam::Process;
+use vc_plan::{
+    CheckRefused, End, Hop, LimitWord, Name, NodePlan, Plan, Port, Spot, SwitchPlan, Vlink, Wire,
+    check,
+};
 
 fn name(alloc: Global, text: &[u8]) -> Result<Name, Fail> {
     Ok(Items::from_slice(alloc, text)?)

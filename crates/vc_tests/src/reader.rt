@@ -1,7 +1,8 @@
-use super::*;
+//! Network files that are read, or refused for their first fault.
 use std::alloc::Global;
 use std::test::Fail;
 use vc_occam::{BytesExpr, Process, Value};
+use vc_reader::{ReadRefused, Step, Why, Word, read_network};
 
 const HELLO: &str =
     "{\"version\":1,\"nodes\":[{\"name\":\"a\",\"process\":{\"out\":[\"c\",{\"text\":\"hello\"}]}},{\"name\":\"b\",\"vars\":[[\"m\",\"bytes\"]],\"process\":{\"in\":[\"c\",\"m\"]}}],\"wires\":[[\"a\",0,\"b\",0]],\"vlinks\":[{\"name\":\"v\",\"a\":[\"a\",0,1,[1]],\"b\":[\"b\",0,1,[1]]}],\"channels\":[{\"name\":\"c\",\"kind\":\"bytes\",\"vlink\":\"v\",\"way\":\"ab\"}]}";

@@ -1,0 +1,13 @@
+//! Tests of the libraries over their public calls.
+#![tactic(auto)]
+
+#[cfg(test)]
+mod plan;
+#[cfg(test)]
+mod reader;
+#[cfg(test)]
+mod switch;
+#[cfg(test)]
+mod text;
+#[cfg(test)]
+mod vcp;
