@@ -2,6 +2,10 @@
 #![tactic(auto)]
 
 #[cfg(test)]
+mod network;
+#[cfg(test)]
+mod overtaking;
+#[cfg(test)]
 mod plan;
 #[cfg(test)]
 mod reader;

@@ -1,4 +1,8 @@
 //! Small networks that are accepted, or refused for one cause.
+ghost use Rattle.std.specs.Prelude.{◌≡◌, IfOk};
+ghost use Rattle.vc_plan.specs.Versions.{IsVersionOne};
+ghost use Rattle.vc_plan.specs.declared.plan.Plan.{Plan as SpecPlan};
+
 use sqlite_items::Items;
 use std::alloc::Global;
 use std::test::Fail;
@@ -6,7 +10,7 @@ use vc_labels::{Action, Row};
 use vc_occam::Process;
 use vc_plan::{
     CheckRefused, End, Hop, LimitWord, Name, NodePlan, Plan, Port, Spot, SwitchPlan, Vlink, Wire,
-    check,
+    as_version_two, check,
 };
 
 fn name(alloc: Global, text: &[u8]) -> Result<Name, Fail> {
@@ -75,7 +79,9 @@ fn plan(
     switches: Items<SwitchPlan>,
     wires: &[Wire],
     vlinks: Items<Vlink>,
-) -> Result<Plan, Fail> {
+) -> Result<Plan, Fail>
+    ensures { IfOk result (λ (plan : SpecPlan). (plan.version ≡ 1) × (plan.switches ≡ switches)) }
+{
     Ok(Plan {
         version: 1,
         nodes: nodes(alloc)?,
@@ -87,7 +93,9 @@ fn plan(
 }
 
 /// Two nodes and one wire.
-fn direct(alloc: Global, vlinks: Items<Vlink>) -> Result<Plan, Fail> {
+fn direct(alloc: Global, vlinks: Items<Vlink>) -> Result<Plan, Fail>
+    ensures { IfOk result IsVersionOne }
+{
     let wires = [wire(at(Spot::Node(0), 0), at(Spot::Node(1), 0))];
     plan(alloc, Items::new(alloc), &wires, vlinks)
 }
@@ -189,4 +197,15 @@ fn a_route_has_headers(rt: HostRuntime) -> Result<(), Fail> {
         CheckRefused::Limit(LimitWord::Route) => Ok(()),
         _ => Err(Fail::from("a route without headers")),
     }
+}
+
+#[test]
+fn a_plan_is_accepted_in_both_versions(rt: HostRuntime) -> Result<(), Fail> {
+    let plan = direct(rt.alloc(), one(rt.alloc(), &[1], &[1])?)?;
+    assert_eq!(rt; plan.version, 1);
+    let accepted = check(rt.alloc(), as_version_two(plan))
+        .ok()
+        .ok_or("a lawful network")?;
+    assert_eq!(rt; accepted.plan().version, 2);
+    Ok(())
 }

@@ -6,7 +6,7 @@ use std::test::Fail;
 use vc_core::Close;
 use vc_occam::ValueKind;
 use vc_reader::read_network;
-use vc_text::{ChannelView, RunFault, run_check, write_channels, write_fault};
+use vc_text::{ChannelView, RunFault, run_check, run_step, write_channels, write_fault};
 
 const HELLO: &str =
     "{\"version\":1,\"nodes\":[{\"name\":\"a\",\"process\":{\"out\":[\"c\",{\"text\":\"hello\"}]}},{\"name\":\"b\",\"vars\":[[\"m\",\"bytes\"]],\"process\":{\"in\":[\"c\",\"m\"]}}],\"wires\":[[\"a\",0,\"b\",0]],\"vlinks\":[{\"name\":\"v\",\"a\":[\"a\",0,1,[1]],\"b\":[\"b\",0,1,[1]]}],\"channels\":[{\"name\":\"c\",\"kind\":\"bytes\",\"vlink\":\"v\",\"way\":\"ab\"}]}";
@@ -186,5 +186,37 @@ fn names_the_place_of_a_fault(rt: HostRuntime) -> Result<(), Fail> {
     let long = HELLO.replace(alloc, "{\"text\":\"hello\"}", "{\"fill\":[7,65536]}")?;
     let line = "refused 23 Range /nodes/0/process/out/1/fill/1\n";
     assert!(rt; is_refused_as(alloc, long.as_str(), line));
+    Ok(())
+}
+
+/// Two nodes that each output 65,535 bytes and input as many, at once.
+const CROSSING: &str =
+    r#"{"version":1,"nodes":[{"name":"a","vars":[["m","bytes"]],"process":{"par":[{"out":["c",{"fill":[7,65535]}]},{"in":["d","m"]}]}},{"name":"b","vars":[["m","bytes"]],"process":{"par":[{"in":["c","m"]},{"out":["d",{"fill":[7,65535]}]}]}}],"wires":[["a",0,"b",0]],"vlinks":[{"name":"v","a":["a",0,1,[1]],"b":["b",0,1,[1]]}],"channels":[{"name":"c","kind":"bytes","vlink":"v","way":"ab"},{"name":"d","kind":"bytes","vlink":"v","way":"ba"}]}"#;
+
+/// The lines of a channel on which one message of 65,535 sevens was taken.
+fn push_sevens(out: &mut Vec<u8>, head: &[u8]) -> Result<(), Fail> {
+    out.extend_from_slice(head)?;
+    for _ in 0..65535 {
+        out.extend_from_slice(b"07")?;
+    }
+    out.push(b'\n')?;
+    Ok(())
+}
+
+#[test]
+fn the_longest_messages_cross(rt: HostRuntime) -> Result<(), Fail> {
+    let alloc = rt.alloc();
+    let mut reader = Failing {
+        rest: CROSSING.as_bytes(),
+        reads_left: usize::MAX,
+    };
+    let mut out: Vec<u8> = Vec::new(alloc);
+    let report = run_step(alloc, &mut reader, &mut out, 10_000_000).ok();
+    assert!(rt; report.is_some());
+    let mut wanted: Vec<u8> = Vec::new(alloc);
+    push_sevens(&mut wanted, b"channel c offered 1 taken 1 finished 1\n  0 ")?;
+    push_sevens(&mut wanted, b"channel d offered 1 taken 1 finished 1\n  0 ")?;
+    wanted.extend_from_slice(b"end done\n")?;
+    assert!(rt; out.as_slice() == wanted.as_slice());
     Ok(())
 }

@@ -4,7 +4,7 @@ use std::alloc::Global;
 use std::test::Fail;
 use vc_packets::{Mark, Memory, Packet};
 use vc_tokens::Token;
-use vc_vcp::{End, Taken, Vcp};
+use vc_vcp::{End, Taken, Vcp, Want};
 
 /// A node with one end, by link 0 and of block 1.
 fn node(alloc: Global, output: Option<u16>, input: Option<u16>) -> Result<Vcp, Memory> {
