@@ -43,8 +43,6 @@ mod laws;
 mod limits;
 mod looking;
 mod meeting;
-#[cfg(test)]
-mod meeting_tests;
 mod moves;
 mod operator;
 mod phase;
@@ -53,13 +51,9 @@ mod process_limits;
 mod relation;
 mod running;
 mod sharing;
-#[cfg(test)]
-mod tests;
 mod usages;
 mod use_check;
 mod use_fault;
-#[cfg(test)]
-mod use_tests;
 mod used;
 mod uses;
 mod value;

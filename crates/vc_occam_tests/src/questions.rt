@@ -1,0 +1,29 @@
+//! What is asked of a process as it is written.
+use crate::write::{count, number, seq, skip};
+use std::alloc::Global;
+use std::test::Fail;
+use vc_occam::Process;
+use vc_packets::Memory;
+
+/// How many processes are written, and whether these are a few, and how deep they are.
+fn counted(
+    alloc: Global,
+    process: Result<Process, Memory>,
+) -> Result<(Option<u32>, Option<u32>, bool, bool), Fail> {
+    let process = process?.copy(alloc)?;
+    Ok((
+        process.sites(4),
+        process.sites(3),
+        process.is_within(3),
+        process.is_within(2),
+    ))
+}
+
+#[test]
+fn processes_are_counted_and_their_depth_too(rt: HostRuntime) -> Result<(), Fail> {
+    let loop_of_one = count(rt.alloc(), number(0), number(1), skip());
+    let process = seq(rt.alloc(), skip(), loop_of_one);
+    let found = counted(rt.alloc(), process)?;
+    assert_eq!(rt; found, (Some(4), None, true, false));
+    Ok(())
+}
