@@ -9,6 +9,7 @@ pub mod Passing
 pub mod Insides
 pub mod Linking
 pub mod Switching
+pub mod Masks
 pub mod SwitchGiven
 pub mod Parting
 pub mod Happening

@@ -17,7 +17,7 @@ use crate::switch_actor::SwitchActor;
 use crate::turn::Turn;
 use std::marker::Model;
 use vc_packets::Memory;
-use vc_switch::Switch;
+use vc_switch::{ReadySwitch, Switch};
 use vc_tokens::Token;
 
 /// A node or a switch of the network, which makes its steps by itself.
@@ -57,7 +57,7 @@ impl Actor {
         }
     }
 
-    pub(crate) fn of_switch(switch: Switch) -> Actor
+    pub(crate) fn of_switch(switch: ReadySwitch) -> Actor
         ensures { result ≡ OfSwitch switch }
     {
         Actor {

@@ -12,19 +12,19 @@ ghost use Rattle.vc_switch.specs.State.{plan_of};
 ghost use Rattle.vc_tokens.specs.Spelt.{token};
 
 use crate::act::Act;
-use crate::room::has_room;
+use crate::room::{lowest, without};
 use vc_packets::Memory;
-use vc_switch::Switch;
+use vc_switch::{ReadySwitch, Switch};
 use vc_tokens::Token;
 
 /// A switch, which makes its steps by itself.
 #[derive(Drop)]
 pub(crate) struct SwitchActor {
-    switch: Switch,
+    switch: ReadySwitch,
 }
 
 impl SwitchActor {
-    pub(crate) fn new(switch: Switch) -> SwitchActor
+    pub(crate) fn new(switch: ReadySwitch) -> SwitchActor
         ensures { result.switch ≡ switch }
     {
         SwitchActor { switch }
@@ -33,7 +33,7 @@ impl SwitchActor {
     pub(crate) fn switch(&self) -> &Switch
         ensures { result.now ≡ self.now.switch }
     {
-        &self.switch
+        self.switch.switch()
     }
 
     /// Whether an act is one that the switch can make now, whatever stands on its ways.
@@ -41,13 +41,14 @@ impl SwitchActor {
         ensures may { IsTrue result ↔ SwitchMay self.now.switch act.now }
         ensures can { IsTrue result ↔ SwitchCan self.now.switch act.now }
     {
-        let links = self.switch.links();
+        let switch = self.switch.switch();
+        let links = switch.links();
         match *act {
             Act::Proc(_) => false,
             Act::Take { link, .. } => link < links,
-            Act::Put { link } => link < links && self.switch.may_put(link),
-            Act::Fct { link } => link < links && self.switch.may_grant(link),
-            Act::Pass { link } => link < links && self.switch.may_pass(link),
+            Act::Put { link } => link < links && switch.may_put(link),
+            Act::Fct { link } => link < links && switch.may_grant(link),
+            Act::Pass { link } => link < links && switch.may_pass(link),
             Act::Route { input, output } => self.can_route(input, output),
         }
     }
@@ -57,11 +58,12 @@ impl SwitchActor {
         ensures may { IsTrue result ↔ SwitchMay self.now.switch (Act.Route input output) }
         ensures can { IsTrue result ↔ SwitchCan self.now.switch (Act.Route input output) }
     {
-        let links = self.switch.links();
+        let switch = self.switch.switch();
+        let links = switch.links();
         if input >= links || output >= links {
             return false;
         }
-        self.switch.may_route(input, output)
+        switch.may_route(input, output)
     }
 
     /// A token comes over a link, with a word for a random header.
@@ -129,12 +131,8 @@ impl SwitchActor {
         ensures may { IfSome result (λ a. SwitchMay self.now.switch a) }
         ensures finds { FindsAt (λ link. Act.Pass link) (SwitchCan self.now.switch) result }
     {
-        for link in 0..self.switch.links() {
-            if self.switch.may_pass(link) {
-                return Some(Act::Pass { link });
-            }
-        }
-        None
+        let link = lowest(self.switch.passes(), self.switch.switch().links())?;
+        Some(Act::Pass { link })
     }
 
     // The least input whose packet may be bound, and the least output to which it may.
@@ -142,10 +140,14 @@ impl SwitchActor {
         ensures may { IfSome result (λ a. SwitchMay self.now.switch a) }
         ensures finds { FindsRoute self.now.switch result }
     {
-        for input in 0..self.switch.links() {
+        let links = self.switch.switch().links();
+        let mut left = self.switch.waits();
+        for _ in 0..links {
+            let input = lowest(left, links)?;
             if let Some(act) = self.route_of(input) {
                 return Some(act);
             }
+            left = without(left, input);
         }
         None
     }
@@ -156,7 +158,7 @@ impl SwitchActor {
         ensures may { IfSome result (λ a. SwitchMay self.now.switch a) }
         ensures finds { FindsAt (λ output. Act.Route input output) (SwitchCan self.now.switch) result }
     {
-        match self.switch.choices(input) {
+        match self.switch.switch().choices(input) {
             None => None,
             Some((first, last)) => self.route_within(input, first, last),
         }
@@ -171,7 +173,7 @@ impl SwitchActor {
         ensures finds { FindsAt (λ output. Act.Route input output) (SwitchCan self.now.switch) result }
     {
         for output in first..last + 1 {
-            if self.switch.free(output) {
+            if self.switch.switch().free(output) {
                 return Some(Act::Route { input, output });
             }
         }
@@ -183,10 +185,14 @@ impl SwitchActor {
         ensures may { IfSome result (λ a. SwitchMay self.now.switch a) }
         ensures finds { (plan : Plan) (k : ℕ) → FindsAt (λ link. Act.Put link) (IsTurn plan k (OfSwitch self.now.switch) room) result }
     {
-        for link in 0..self.switch.links() {
-            if has_room(room, link) && self.switch.may_put(link) {
+        let links = self.switch.switch().links();
+        let mut left = self.switch.puts() & room;
+        for _ in 0..links {
+            let link = lowest(left, links)?;
+            if self.switch.switch().may_put(link) {
                 return Some(Act::Put { link });
             }
+            left = without(left, link);
         }
         None
     }
@@ -196,18 +202,14 @@ impl SwitchActor {
         ensures may { IfSome result (λ a. SwitchMay self.now.switch a) }
         ensures finds { (plan : Plan) (k : ℕ) → FindsAt (λ link. Act.Fct link) (IsTurn plan k (OfSwitch self.now.switch) room) result }
     {
-        for link in 0..self.switch.links() {
-            if has_room(room, link) && self.switch.may_grant(link) {
-                return Some(Act::Fct { link });
-            }
-        }
-        None
+        let link = lowest(self.switch.grants() & room, self.switch.switch().links())?;
+        Some(Act::Fct { link })
     }
 
     /// How many packets and tokens were dropped.
     pub(crate) fn lost(&self) -> u64
         ensures { result ≡ (seen self.now.switch).lost }
     {
-        self.switch.lost()
+        self.switch.switch().lost()
     }
 }

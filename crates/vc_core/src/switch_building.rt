@@ -10,7 +10,7 @@ use std::alloc::Global;
 use vc_labels::Table;
 use vc_packets::Memory;
 use vc_plan::{RandomInput as PlanRange, SwitchPlan};
-use vc_switch::{RandomInput, Switch, SwitchPlan as Given};
+use vc_switch::{RandomInput, ReadySwitch, SwitchPlan as Given};
 
 // The random ranges of a plan's switch.
 fn ranges_of(alloc: Global, ranges: &[PlanRange]) -> Result<Items<RandomInput>, Memory>
@@ -32,7 +32,7 @@ pub(crate) fn build_switch(
     alloc: Global,
     plan: &SwitchPlan,
     body_limit: usize,
-) -> Result<Switch, Memory>
+) -> Result<ReadySwitch, Memory>
     requires table { table_fault plan.now.rows ≡ None }
     requires links { switch_links_ok plan.now ≡ true }
     requires ranges { list_all range_ok plan.now.random ≡ true }
@@ -49,5 +49,5 @@ pub(crate) fn build_switch(
         delete,
         random,
     };
-    Switch::new(alloc, given, body_limit)
+    ReadySwitch::new(alloc, given, body_limit)
 }

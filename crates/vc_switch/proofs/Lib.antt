@@ -8,3 +8,4 @@ pub mod Enabling
 pub mod Routing
 pub mod Putting
 pub mod Opened
+pub mod Readying

@@ -6,3 +6,4 @@ pub mod Front
 pub mod Opening
 pub mod State
 pub mod Seen
+pub mod Ready

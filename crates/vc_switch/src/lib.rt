@@ -14,16 +14,19 @@
 //! each input has the same limit.
 #![tactic(auto)]
 
+mod bits;
 mod front;
 mod laws;
 mod link_in;
 mod link_out;
 mod opening;
 mod random_range;
+mod ready_switch;
 mod switch;
 mod switch_plan;
 
 pub use laws::each_token_comes;
+pub use ready_switch::ReadySwitch;
 pub use switch::Switch;
 pub use switch_plan::{RandomInput, SwitchPlan};
 

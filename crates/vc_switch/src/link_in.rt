@@ -161,6 +161,13 @@ impl LinkIn {
         self.bound.is_none()
     }
 
+    /// Whether bytes of a packet are there that is bound to no output.
+    pub(crate) fn waits(&self) -> bool
+        ensures { IsTrue result ↔ ((self.now.bound ≡ None) × (self.now.got.passed ≢ [])) }
+    {
+        self.is_idle() && !self.got.is_empty()
+    }
+
     /// The packet is bound to an output, to leave from this byte on.
     pub(crate) fn bind(&mut self, output: u8, from: usize)
         ensures { self.new ≡ record self.old { bound = Some (record { output = output; from = from; sent = 0 }) } }

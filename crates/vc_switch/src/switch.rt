@@ -14,6 +14,7 @@ ghost use Rattle.vc_switch.specs.Forward.{IsDrawn};
 ghost use Rattle.vc_switch.specs.Switch.{new_switch, BodyLeaves, Comes, Passes, Routes, Sends, SendsFct};
 ghost use Rattle.vc_switch.specs.Able.{CanPass, CanRoute, CanPut, CanGrant, CanLeave, IsFree};
 ghost use Rattle.vc_switch.specs.Opening.{plan_given, IsRandomInput};
+ghost use Rattle.vc_switch.specs.Ready.{Waits};
 ghost use Rattle.vc_switch.specs.State.{plan_of, limit_of, IsSwitch};
 ghost use Rattle.vc_switch.specs.Seen.{seen, IsKept, IsBoundTo, IsNext};
 
@@ -207,6 +208,22 @@ impl Switch {
             Some(front) => Some((front.first, front.last)),
             None => None,
         }
+    }
+
+    /// Whether bytes of a packet are at an input, bound to no output.
+    pub(crate) fn waits(&self, input: u8) -> bool
+        requires { input < 32 }
+        ensures { IsTrue result ↔ Waits ((seen self.now).input input) }
+    {
+        self.inputs[usize::from(input)].waits()
+    }
+
+    /// The input whose packet is bound to an output.
+    pub(crate) fn source(&self, output: u8) -> Option<u8>
+        requires { output < 32 }
+        ensures { MatchOption result (IsFree (seen self.now) output) (λ input. (input < 32) × (((seen self.now).input input).bound ≡ Some output)) }
+    {
+        self.outputs[usize::from(output)].source
     }
 
     /// Whether no input is bound to an output.

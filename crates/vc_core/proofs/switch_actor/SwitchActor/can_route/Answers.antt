@@ -1,4 +1,5 @@
-use Rattle.std.proofs.Common.{arith}
+use Rattle.std.proofs.Common.{subst, arith}
+use Rattle.vc_switch.specs.State.{IsSwitch}
 use Rattle.vc_core.specs.declared.act.Act.TheVariants.{Route}
 use Rattle.vc_core.proofs.Switching.{within}
 use Rattle.vc_core.proofs.switch_actor.SwitchActor.can_route.Goals.{then-input-links-via-then-input-links, then-input-links-via-else-input-links+then-output-links}
@@ -8,7 +9,7 @@ pub returns-then-input-links-clause-can : goal.returns-then-input-links-clause-c
 returns-then-input-links-clause-can c = (
   (λ t. absurd (cc)),
   (λ can.
-      let few = within c.args.self.now.switch c.links-links.ensures.holds (Route c.args.input c.args.output) can in
+      let few = within c.args.self.now.switch (subst IsSwitch c.switch-switch.ensures c.links-links.ensures.holds) (Route c.args.input c.args.output) can in
       let low = few.0 in
       let high = few.1 in
       let all = c.links-links.ensures.count in

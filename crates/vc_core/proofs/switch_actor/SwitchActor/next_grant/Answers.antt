@@ -1,31 +1,37 @@
-use Rattle.std.proofs.Common.{◌<◌, refl, arith}
+use Rattle.std.proofs.Common.{◌<◌, refl, sym, subst, arith}
 use Rattle.vc_core.specs.Shown.{OfSwitch}
-use Rattle.vc_core.specs.Turns.{IsTurn}
+use Rattle.vc_core.specs.Turns.{IsTurn, FindsAt}
 use Rattle.vc_core.specs.declared.act.Act.TheVariants.{Fct}
-use Rattle.vc_core.proofs.Switching.{within}
-use Rattle.vc_core.proofs.Turning.{none_more, clash}
-use Rattle.vc_core.proofs.switch_actor.SwitchActor.next_grant.Goals.{else-has_room-via-then-has_room+else-may_grant, else-has_room-via-else-has_room}
+use Rattle.vc_core.proofs.Masks.{both_bits, bits_both, not_both}
 use Rattle.vc_core.proofs.switch_actor.SwitchActor.next_grant.Goals as goal
 
-pub returns-then-may_grant-clause-finds : goal.returns-then-may_grant-clause-finds
-returns-then-may_grant-clause-finds c = λ plan k.
-    let t = c.loop-link-test.true in
-    let all = c.links-link-end.ensures.count in
-    let few : c.loop-link.link < 32 = omega arith in
-    (c.loop-link.link, refl, record { can = (few, c.if-may_grant.ensures.0 refl); lets = c.if-has_room.ensures.0 refl }, c.loop-link.invariant plan k)
+pub returns-in_err-link-clause-finds : goal.returns-in_err-link-clause-finds
+returns-in_err-link-clause-finds c = λ plan k.
+    let s = c.args.self.now.switch in
+    subst (FindsAt (λ l. Fct l) (IsTurn plan k (OfSwitch s) c.args.room)) (sym c.from_residual.ensures) (λ l turn.
+    let few = turn.can.0 in
+    let all = c.links.ensures.count in
+    not_both (c.in_err-link.ensures l (omega arith)) (both_bits c.grants.result c.args.room l ((c.grants.ensures l few).1 turn.can.1) turn.lets))
 
-pub loop-link-preserved : goal.loop-link-preserved
-loop-link-preserved c = λ plan k.
-    none_more (IsTurn plan k (OfSwitch c.args.self.now.switch) c.args.room) (λ l. Fct l) c.loop-link.link (c.loop-link.invariant plan k)
-    (elim c.else-has_room.branch [
-      | else-has_room-via-then-has_room+else-may_grant w ↦ (λ turn. clash w.may_grant.result w.if-may_grant.false (w.may_grant.ensures.1 turn.can.1))
-      | else-has_room-via-else-has_room w ↦ (λ turn. clash c.has_room.result w.if-has_room.false (c.has_room.ensures.1 turn.lets))
-    ])
+pub returns-clause-may : goal.returns-clause-may
+returns-clause-may c =
+    let l = c.in_ok-link.link in
+    let less = c.in_ok-link.ensures.0 in
+    let all = c.links.ensures.count in
+    let few : l < 32 = omega arith in
+    let bits = bits_both c.grants.result c.args.room l c.in_ok-link.ensures.1 in
+    record { links = few; can = (few, (c.grants.ensures l few).0 bits.0) }
 
 pub returns-clause-finds : goal.returns-clause-finds
-returns-clause-finds c = λ plan k link turn.
-    let past = c.loop-link-test.false in
-    let few = within c.args.self.now.switch c.links-link-end.ensures.holds (Fct link) turn.can in
-    let all = c.links-link-end.ensures.count in
-    let less : link < c.loop-link.link = omega arith in
-    c.loop-link.invariant plan k link less turn
+returns-clause-finds c = λ plan k.
+    let l = c.in_ok-link.link in
+    let less = c.in_ok-link.ensures.0 in
+    let all = c.links.ensures.count in
+    let few : l < 32 = omega arith in
+    let bits = bits_both c.grants.result c.args.room l c.in_ok-link.ensures.1 in (
+      l,
+      refl,
+      record { can = (few, (c.grants.ensures l few).0 bits.0); lets = bits.1 },
+      λ j low turn.
+          not_both (c.in_ok-link.ensures.2 j low) (both_bits c.grants.result c.args.room j ((c.grants.ensures j turn.can.0).1 turn.can.1) turn.lets),
+    )

@@ -1,18 +1,26 @@
-use Rattle.std.proofs.Common.{◌<◌, arith}
+use Rattle.std.proofs.Common.{◌<◌, refl, sym, subst, arith}
+use Rattle.vc_switch.specs.State.{IsSwitch}
 use Rattle.vc_core.specs.Able.{SwitchCan}
+use Rattle.vc_core.specs.Turns.{FindsAt}
 use Rattle.vc_core.specs.declared.act.Act.TheVariants.{Pass}
+use Rattle.vc_core.proofs.Masks.{not_both}
 use Rattle.vc_core.proofs.Switching.{within}
-use Rattle.vc_core.proofs.Turning.{none_more, clash}
 use Rattle.vc_core.proofs.switch_actor.SwitchActor.next_pass.Goals as goal
 
-pub loop-link-preserved : goal.loop-link-preserved
-loop-link-preserved c =
-    none_more (SwitchCan c.args.self.now.switch) (λ l. Pass l) c.loop-link.link c.loop-link.invariant (λ can. clash c.may_pass.result c.if-may_pass.false (c.may_pass.ensures.1 can))
+pub returns-in_err-link-clause-finds : goal.returns-in_err-link-clause-finds
+returns-in_err-link-clause-finds c =
+    let s = c.args.self.now.switch in
+    let holds = subst IsSwitch c.switch.ensures c.links.ensures.holds in
+    subst (FindsAt (λ l. Pass l) (SwitchCan s)) (sym c.from_residual.ensures) (λ l can.
+    let few = within s holds (Pass l) can in
+    let all = c.links.ensures.count in
+    not_both (c.in_err-link.ensures l (omega arith)) ((c.passes.ensures l few).1 can))
 
 pub returns-clause-finds : goal.returns-clause-finds
-returns-clause-finds c = λ link can.
-    let past = c.loop-link-test.false in
-    let few = within c.args.self.now.switch c.links-link-end.ensures.holds (Pass link) can in
-    let all = c.links-link-end.ensures.count in
-    let less : link < c.loop-link.link = omega arith in
-    c.loop-link.invariant link less can
+returns-clause-finds c =
+    let s = c.args.self.now.switch in
+    let l = c.in_ok-link.link in
+    let less = c.in_ok-link.ensures.0 in
+    let all = c.links.ensures.count in
+    let few : l < 32 = omega arith in
+    (l, refl, (c.passes.ensures l few).0 c.in_ok-link.ensures.1, λ j low can. (let small : j < 32 = omega arith in not_both (c.in_ok-link.ensures.2 j low) ((c.passes.ensures j small).1 can)))

@@ -1,9 +1,12 @@
-use Rattle.std.specs.Prelude.{ℕ, ◌<◌}
-use Rattle.vc_network.specs.Plan.{Plan}
-use Rattle.vc_core.specs.Shown.{OfSwitch}
-use Rattle.vc_core.specs.Turns.{IsTurn}
+use Rattle.std.specs.Prelude.{◌≡◌, ℕ, ◌<◌}
+use Rattle.std.specs.Int.{bit_at}
+use Rattle.vc_core.specs.Acting.{SwitchMay}
 use Rattle.vc_core.specs.declared.act.Act.TheVariants.{Put}
 use Rattle.vc_core.proofs.switch_actor.SwitchActor.next_put.Given as goal
 
-abbrev pub invariant-loop-link : goal.invariant-loop-link
-invariant-loop-link l = (plan : Plan) (k j : ℕ) → j < l.link → IsTurn plan k (OfSwitch l.fn.self.switch) l.fn.room (Put j) → ⊥
+abbrev pub invariant-loop : goal.invariant-loop
+invariant-loop l = record {
+  gone : (j : ℕ) → j < l.counter → bit_at l.left j ≡ 0;
+  tried : (j : ℕ) → SwitchMay l.fn.self.switch (Put j) → bit_at l.fn.room j ≡ 1 → bit_at l.left j ≡ 1;
+  room : (j : ℕ) → j < 32 → bit_at l.left j ≡ 1 → bit_at l.fn.room j ≡ 1;
+}

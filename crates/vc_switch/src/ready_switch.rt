@@ -1,0 +1,193 @@
+//! A switch that knows at which of its links there is something to do, so that nobody looks at the others.
+ghost use Rattle.std.specs.Prelude.{◌≡◌, ◌≢◌, ◌<◌, ◌≤◌, ◌↔◌, ◌++◌, ℕ, None, IsTrue, IsOk, IfOk};
+ghost use Rattle.std.specs.Int.{bit_at};
+ghost use Rattle.std.specs.List.{AllByRecursion};
+ghost use Rattle.vc_labels.specs.Lawful.{IsLawful};
+ghost use Rattle.vc_tokens.specs.Spelt.{token};
+ghost use Rattle.vc_switch.specs.Waiting.{Wormhole};
+ghost use Rattle.vc_switch.specs.Switch.{new_switch, Comes, Passes, Routes, Sends, SendsFct};
+ghost use Rattle.vc_switch.specs.Able.{CanPass, CanLeave, CanRoute, CanPut, CanGrant};
+ghost use Rattle.vc_switch.specs.Opening.{plan_given, IsRandomInput};
+ghost use Rattle.vc_switch.specs.Ready.{Looks};
+ghost use Rattle.vc_switch.specs.State.{plan_of, limit_of};
+ghost use Rattle.vc_switch.specs.Seen.{seen, IsKept};
+
+use crate::bits::told;
+use crate::switch::Switch;
+use crate::switch_plan::SwitchPlan;
+use std::alloc::Global;
+use std::marker::Model;
+use vc_packets::Memory;
+use vc_tokens::Token;
+
+/// A bit for each link at which there is something to do, by what it is.
+#[derive(Clone, Copy, Debug, PartialEq, Eq, Drop)]
+pub(crate) struct Ready {
+    /// The inputs from whose buffer a token may pass.
+    pub(crate) passes: u32,
+    /// The inputs with bytes of a packet that is bound to no output.
+    pub(crate) waits: u32,
+    /// The outputs to which a packet is bound.
+    pub(crate) puts: u32,
+    /// The inputs of whose places eight may be granted.
+    pub(crate) grants: u32,
+}
+
+impl Ready {
+    /// Looks at one input of the switch.
+    fn look(&mut self, switch: &Switch, link: u8)
+        requires { link < 32 }
+        ensures { Looks switch.now link self.old self.new }
+    {
+        self.passes = told(self.passes, link, switch.may_pass(link));
+        self.waits = told(self.waits, link, switch.waits(link));
+        self.grants = told(self.grants, link, switch.may_grant(link));
+    }
+}
+
+/// A [`Switch`], with masks of the links at which there is something to do. Its calls are those of the switch.
+#[derive(Drop)]
+pub struct ReadySwitch {
+    switch: Switch,
+    ready: Ready,
+}
+
+impl Model for ReadySwitch {
+    ghost use Rattle.vc_switch.specs.State.{State};
+    ghost use Rattle.vc_switch.specs.Ready.{IsReady};
+
+    ghost Value = { State };
+
+    ghost view = { λ x. x.switch };
+
+    ghost invariant = { λ x. IsReady x.switch x.ready };
+}
+
+impl ReadySwitch {
+    /// A switch of this plan with nothing on its links, for packets whose headers and data have at most `body_limit` bytes.
+    pub fn new(alloc: Global, plan: SwitchPlan, body_limit: usize) -> Result<ReadySwitch, Memory>
+        requires table { IsLawful plan.table }
+        requires limit { 2 ≤ body_limit }
+        requires delete { AllByRecursion (λ link. link < 32) plan.delete }
+        requires random { AllByRecursion IsRandomInput plan.random }
+        ensures seen { IfOk result (λ switch. seen switch ≡ new_switch) }
+        ensures plan { IfOk result (λ switch. plan_of switch ≡ plan_given plan) }
+        ensures limit { IfOk result (λ switch. limit_of switch.inputs ≡ body_limit) }
+    {
+        Ok(ReadySwitch {
+            switch: Switch::new(alloc, plan, body_limit)?,
+            ready: Ready {
+                passes: 0,
+                waits: 0,
+                puts: 0,
+                grants: u32::MAX,
+            },
+        })
+    }
+
+    /// The switch, for its questions.
+    pub fn switch(&self) -> &Switch
+        ensures { result.now ≡ self.now }
+    {
+        &self.switch
+    }
+
+    /// A bit for each link from whose buffer a token may pass.
+    pub fn passes(&self) -> u32
+        ensures { (l : ℕ) → l < 32 → (bit_at result l ≡ 1) ↔ CanPass (limit_of self.now.inputs) (plan_of self.now) (seen self.now) l }
+    {
+        self.ready.passes
+    }
+
+    /// A bit for each input whose packet is bound to no output and may leave by some; and for others whose headers have not come.
+    pub fn waits(&self) -> u32
+        ensures { (l output : ℕ) → l < 32 → CanLeave (plan_of self.now) (seen self.now) l output → bit_at result l ≡ 1 }
+    {
+        self.ready.waits
+    }
+
+    /// A bit for each output on which a token may be put; and for others to which a packet is bound.
+    pub fn puts(&self) -> u32
+        ensures { (l : ℕ) → l < 32 → CanPut (plan_of self.now) (seen self.now) l → bit_at result l ≡ 1 }
+    {
+        self.ready.puts
+    }
+
+    /// A bit for each link on which an FCT may be put.
+    pub fn grants(&self) -> u32
+        ensures { (l : ℕ) → l < 32 → (bit_at result l ≡ 1) ↔ CanGrant (seen self.now) l }
+    {
+        self.ready.grants
+    }
+
+    /// A token comes over a link, with a word for a random header.
+    pub fn take(&mut self, link: u8, came: Token, word: u32) -> Result<(), Memory>
+        requires { link < 32 }
+        ensures comes { Comes (seen self.old) link word (token came) (seen self.new) }
+        ensures kept { IsKept self.old self.new }
+        ensures ok { IsOk result }
+    {
+        let taken = self.switch.take(link, came, word);
+        self.ready.look(&self.switch, link);
+        taken
+    }
+
+    /// A token passes from a link's buffer.
+    pub fn pass(&mut self, link: u8) -> Result<(), Memory>
+        requires link { link < 32 }
+        requires may { CanPass (limit_of self.old.inputs) (plan_of self.old) (seen self.old) link }
+        ensures passes { Passes (limit_of self.old.inputs) (plan_of self.old) (seen self.old) link (seen self.new) }
+        ensures kept { IsKept self.old self.new }
+        ensures ok { IsOk result }
+    {
+        let passed = self.switch.pass(link);
+        self.ready.look(&self.switch, link);
+        passed
+    }
+
+    /// An input's packet is bound to an output of its group that is free.
+    pub fn route(&mut self, input: u8, output: u8)
+        requires input { input < 32 }
+        requires output { output < 32 }
+        requires may { CanRoute (plan_of self.old) (seen self.old) input output }
+        ensures routes { Routes (plan_of self.old) Wormhole (seen self.old) input output (seen self.new) }
+        ensures kept { IsKept self.old self.new }
+    {
+        self.switch.route(input, output);
+        self.ready.look(&self.switch, input);
+        self.ready.puts = told(self.ready.puts, output, true);
+    }
+
+    /// Puts the next token of the packet that is bound to an output; with its mark the packet leaves its input, and the output is
+    /// free again.
+    pub fn put(&mut self, output: u8) -> Token
+        requires output { output < 32 }
+        requires may { CanPut (plan_of self.old) (seen self.old) output }
+        ensures sends { Sends (plan_of self.old) Wormhole (seen self.old) output (token result) (seen self.new) }
+        ensures kept { IsKept self.old self.new }
+    {
+        let Some(source) = self.switch.source(output) else {
+            unreachable!();
+        };
+        let token = self.switch.put(output);
+        match token {
+            Token::Byte(_) | Token::Fct => {}
+            Token::Eop | Token::Eom => {
+                self.ready.look(&self.switch, source);
+                self.ready.puts = told(self.ready.puts, output, false);
+            }
+        }
+        token
+    }
+
+    /// An FCT is put on a link.
+    pub fn grant(&mut self, link: u8)
+        requires link { link < 32 }
+        requires may { CanGrant (seen self.old) link }
+        ensures grants { SendsFct (seen self.old) link (seen self.new) }
+        ensures kept { IsKept self.old self.new }
+    {
+        self.switch.grant(link);
+        self.ready.look(&self.switch, link);
+    }
+}
