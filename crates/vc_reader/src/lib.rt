@@ -28,4 +28,3 @@ pub use network::read_network;
 pub use path::{Path, Step};
 pub use refused::ReadRefused;
 pub use word::Word;
-

@@ -29,4 +29,3 @@ pub use laws::each_token_comes;
 pub use ready_switch::ReadySwitch;
 pub use switch::Switch;
 pub use switch_plan::{RandomInput, SwitchPlan};
-

@@ -24,4 +24,3 @@ pub use run::{StepReport, run_step, write_traffic};
 pub use streams::write_text;
 pub use threading::run_net;
 pub use traffic::{ChannelView, write_channels};
-

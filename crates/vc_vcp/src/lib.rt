@@ -32,4 +32,3 @@ pub use link_out::LinkOut;
 pub use taken::Taken;
 pub use vc_blocks::Want;
 pub use vcp::Vcp;
-
