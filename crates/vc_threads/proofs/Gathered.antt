@@ -24,6 +24,7 @@ use Rattle.vc_threads.specs.declared.crew.Job.{Job}
 use Rattle.vc_threads.specs.declared.order.AllEnds.{AllEnds}
 use Rattle.vc_threads.specs.declared.report.Report.{Report}
 use Rattle.vc_threads.specs.declared.run.ActorRun.{ActorRun}
+use Rattle.vc_threads.proofs.Fullness.{greatest_there}
 use Rattle.vc_threads.proofs.Ordered.{takes_in_order}
 use Rattle.vc_threads.proofs.Reported.{steps_of, last_of, each_run, no_run, idle_there, acts_merged, runs_count}
 use Rattle.vc_threads.proofs.Threading.{can_be_replayed, ends_there}
@@ -65,5 +66,6 @@ module _ (p : Plan) (acc : IsAccepted p) (turns seed : ℕ) (js : List Job) (rs 
         steps = are_steps ∙ steps_are;
         replays = subst (λ w. Replays p w (state_of r.state)) (sym are_steps) replays;
         done = done;
+        full = greatest_there p turns seed js rs begins are ran e outs ins wired looked;
         closes = λ not. subst (λ n. ClosesBy n (stop_at rs) r.close) (runs_count p turns seed js rs begins are ran) (closes not);
       }

@@ -20,11 +20,11 @@ use Rattle.vc_threads.specs.declared.desk.Desk.{Desk}
 use Rattle.vc_threads.specs.declared.link.Ends.{Ends}
 use Rattle.vc_threads.specs.declared.link.Stamped.{Stamped}
 use Rattle.vc_threads.specs.declared.run.ActorRun.{ActorRun}
-use Rattle.vc_threads.specs.declared.run.Stop.TheVariants.{Turns}
+use Rattle.vc_threads.specs.declared.run.Stop.TheVariants.{Turns, Clock}
 use Rattle.vc_threads.specs.Stamps.{stamped, all_stamped}
 use Rattle.vc_threads.specs.Wires.{OutLooked, InLooked, Distinct, IsAmong, Sends, Receives, out_links, in_links}
 use Rattle.vc_threads.specs.Runs.{StepsByLink, IsQuiet, Used, Draws, words_of}
-use Rattle.vc_threads.specs.Works.{Out, In, Seen, desk, logged, GoesOver, GoOver, Uses, Stays, HasRun}
+use Rattle.vc_threads.specs.Works.{Out, In, Seen, desk, logged, GoesOver, GoOver, IsFull, Uses, Stays, HasRun}
 use Rattle.vc_threads.proofs.Zips.{zip_weaker, zip_then, zip_one, zip_map, zip_same, zip_length, zip_at}
 use Rattle.vc_threads.proofs.Looks.{producer_then, consumer_then, looked_same, in_looked_same, in_looked_then}
 use Rattle.vc_threads.proofs.Steps.{clock_then, run_then, put_then, taken_then, words_then, draws_then, used_then, run_kept}
@@ -257,11 +257,11 @@ module _ (plan : Plan) (k : ℕ) where
       subst (λ (v : ℕ). v < 32) (sym same) h
 
 pub stays_same : (a : Seen) → Stays a a
-stays_same a = record { actor = refl; log = refl; outs = zip_same OutLooked looked_same a.outs; ins = zip_same InLooked in_looked_same a.ins }
+stays_same a = record { actor = refl; clock = refl; log = refl; outs = zip_same OutLooked looked_same a.outs; ins = zip_same InLooked in_looked_same a.ins }
 
 -- nothing was done after a look
 pub stays_looked : (a b : Seen) (ins : List In) → AllZip InLooked ins a.ins → Stays a b → Stays (record a { ins = ins }) b
-stays_looked a b ins looked p = record { actor = p.actor; log = p.log; outs = p.outs; ins = zip_then InLooked InLooked InLooked in_looked_then ins a.ins b.ins looked p.ins }
+stays_looked a b ins looked p = record { actor = p.actor; clock = p.clock; log = p.log; outs = p.outs; ins = zip_then InLooked InLooked InLooked in_looked_then ins a.ins b.ins looked p.ins }
 
 -- an actor of the plan stays one
 pub actor_kept : (plan : Plan) (k n : ℕ) (a b : Seen) → Uses plan k n a b → IsActorOf plan k a.actor → IsActorOf plan k b.actor
@@ -271,9 +271,9 @@ actor_kept plan k n a b p h = run_kept plan k a.clock a.actor p.steps b.actor p.
 pub has_run : (plan : Plan) (k n m id seed : ℕ) (a b c : Desk) (actor : Acting) (ends : Ends) (r : ActorRun)
     → Uses plan k n (desk a) (desk b) → Stays (desk b) (desk c) → n ≤ m
     → a.actor ≡ actor → a.clock ≡ 0 → a.acts.items ≡ [] → a.ends ≡ ends → a.words ≡ started 64 multiplier_64 seed (increment_of 64 id)
-    → r.actor ≡ c.actor → r.acts ≡ c.acts → r.ends ≡ c.ends → (r.stop ≡ Turns → n ≡ m)
+    → r.actor ≡ c.actor → r.acts ≡ c.acts → r.ends ≡ c.ends → (r.stop ≡ Turns → n ≡ m) → (r.stop ≡ Clock → IsFull c.clock c.ends.ins.items)
     → HasRun plan k m id seed actor ends r
-has_run plan k n m id seed a b c actor ends r p s le actor_is clock_is acts_is ends_is words_is actor' acts' ends' turns =
+has_run plan k n m id seed a b c actor ends r p s le actor_is clock_is acts_is ends_is words_is actor' acts' ends' turns full =
     let few = p.few in
     let last : r.actor ≡ b.actor = actor' ∙ s.actor in
     let outs = sends_looked p.steps a.ends.outs.items b.ends.outs.items c.ends.outs.items p.goes.outs s.outs in
@@ -294,4 +294,6 @@ has_run plan k n m id seed a b c actor ends r p s le actor_is clock_is acts_is e
           (subst (λ v. Used plan k n 0 v p.steps r.actor) actor_is
           (subst (λ w. Used plan k n w a.actor p.steps r.actor) clock_is
           (subst (λ v. Used plan k n a.clock a.actor p.steps v) (sym last) p.used)));
+      full = λ h. subst (λ e. IsFull (clock_after 0 p.steps) e.ins.items) (sym ends')
+          (subst (λ w. IsFull w c.ends.ins.items) (s.clock ∙ (p.goes.clock ∙ ap (λ w. clock_after w p.steps) clock_is)) (full h));
     }

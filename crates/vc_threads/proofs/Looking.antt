@@ -13,7 +13,7 @@ use Rattle.vc_threads.specs.Wires.{Distinct, OutLooked, InLooked}
 use Rattle.vc_threads.specs.Works.{Out, In}
 use Rattle.vc_threads.specs.declared.order.AllEnds.{AllEnds}
 use Rattle.vc_threads.proofs.Goings.{apart, any_default}
-use Rattle.vc_threads.proofs.Looks.{looked_same, looked_then, in_looked_same, in_looked_then}
+use Rattle.vc_threads.proofs.Looks.{looked_order, looked_same, looked_then, in_looked_same, in_looked_then}
 use Rattle.vc_threads.proofs.Zips.{zip_same, zip_then, zip_weaker, zip_at, zip_length, zip_map}
 
 -- two ends with one link are one
@@ -106,8 +106,7 @@ pub order_before : (os os' : List Out) (is is' : List In) (from to : ℕ) → Al
 order_before os os' is is' from to zo zi w o i co ci eo ei =
     let x = after OutLooked os os' o zo co in
     let y = after InLooked is is' i zi ci in
-    let h = w x.it y.it x.at y.at (x.is.0 ∙ eo) (y.is.0 ∙ ei) in
-    (h.0, ap (λ v. v ++ h.0) (sym y.is.1.1) ∙ (h.1 ∙ x.is.1.1))
+    looked_order o.1 x.it.1 i.1 y.it.1 x.is.1 y.is.1 (w x.it y.it x.at y.at (x.is.0 ∙ eo) (y.is.0 ∙ ei))
 
 module _ {V Y : Type 0} (f : V → List Y) where
   -- the ends of one actor change

@@ -1,10 +1,10 @@
 -- The ends that the runs leave are those of the jobs' rings, and what went over them is what the runs put and took.
-use Rattle.std.proofs.Common.{◌≡◌, ℕ, zero, suc, ◌<◌, ◌≤◌, ◌⊎◌, inl, inr, List, [], ◌∷◌, ◌++◌, length, map, get_or, option_map, ap, sym, subst, ◌∙◌, arith}
+use Rattle.std.proofs.Common.{◌≡◌, ℕ, zero, suc, ◌<◌, ◌≤◌, ◌⊎◌, inl, inr, List, [], ◌∷◌, ◌++◌, length, map, get_or, option_map, ap, sym, subst, ◌∙◌, arith, append_assoc}
 use Rattle.std.specs.List.{AllZip, AllByRecursion}
 use Rattle.std.proofs.lemmas.Bool.{cases_lt}
 use Rattle.std.proofs.lemmas.List.{length-map, map-append, get_or_past}
 use Rattle.std.proofs.lemmas.Option.{slice_get-map, get_or_from_slice_get}
-use Rattle.rtrb.specs.Ring.{sent, received, IsPair}
+use Rattle.rtrb.specs.Ring.{sent, received, known_items, IsPair}
 use Rattle.vc_accepted.specs.Outgoing.{actor_of}
 use Rattle.vc_actors.specs.LocalRun.{all_put, all_taken}
 use Rattle.vc_core.specs.Begin.{AreFirst}
@@ -88,10 +88,10 @@ module _ (p : Plan) (turns seed : ℕ) (js : List Job) (rs : List ActorRun) (fir
       subst (λ xs. AllZip (Receives []) xs (get_or (map ins_left rs) k [])) (sym a) (subst (AllZip (Receives []) []) (sym b) tt)
 
   module _ (e : AllEnds) (outs : map (λ v. v.items) e.outs.items ≡ map outs_left rs) (ins : map (λ v. v.items) e.ins.items ≡ map ins_left rs) (wired : AreWired p (length p.wires) js) where
-    sends : (k : ℕ) → AllZip (Sends (steps_of p turns seed js rs first are ran k)) (outs_of js k) (outs_at e k)
+    pub sends : (k : ℕ) → AllZip (Sends (steps_of p turns seed js rs first are ran k)) (outs_of js k) (outs_at e k)
     sends k = subst (λ xs. AllZip (Sends (steps_of p turns seed js rs first are ran k)) (outs_of js k) (get_or xs k [])) (sym outs) (sent_by k (cases_lt k (actors p)))
 
-    receives : (k : ℕ) → AllZip (Receives (steps_of p turns seed js rs first are ran k)) (ins_of js k) (ins_at e k)
+    pub receives : (k : ℕ) → AllZip (Receives (steps_of p turns seed js rs first are ran k)) (ins_of js k) (ins_at e k)
     receives k = subst (λ xs. AllZip (Receives (steps_of p turns seed js rs first are ran k)) (ins_of js k) (get_or xs k [])) (sym ins) (taken_by k (cases_lt k (actors p)))
 
     meet : (fit : AllByRecursion IsFit js) (from to : Port) → HasRing (length p.nodes) js from to → MeetAt (length p.nodes) e from to
@@ -117,7 +117,11 @@ module _ (p : Plan) (turns seed : ℕ) (js : List Job) (rs : List ActorRun) (fir
         let f = order x.it y.it x.at y.at (x.is.0 ∙ h.ring.near) (y.is.0 ∙ h.ring.far) in
         let a : all_stamped (sent x.it.1) ≡ all_put from.link put = x.is.2 ∙ (ap (λ xs. all_stamped xs ++ all_put h.out.0 put) h.ring.unsent ∙ ap (λ l. all_put l put) h.ring.near) in
         let b : all_stamped (received y.it.1) ≡ all_taken to.link took = y.is.2 ∙ (ap (λ xs. all_stamped xs ++ all_taken h.into.0 took) h.ring.unreceived ∙ ap (λ l. all_taken l took) h.ring.far) in
-        (all_stamped f.0, ap (λ xs. xs ++ all_stamped f.0) (sym b) ∙ (sym (map-append stamped (received y.it.1) f.0) ∙ (ap all_stamped f.1 ∙ a)))
+        let rest = known_items y.it.1 ++ f.0 in (
+          all_stamped rest,
+          ap (λ xs. xs ++ all_stamped rest) (sym b)
+              ∙ (sym (map-append stamped (received y.it.1) rest) ∙ (ap all_stamped (sym (append_assoc (received y.it.1) (known_items y.it.1) f.0) ∙ f.1) ∙ a)),
+        )
 
     pub takes_in_order : OnWires (InOrderAt (length p.nodes) e) p.wires (length p.wires) → OnWires (TakesInOrder (length p.nodes) (steps_of p turns seed js rs first are ran)) p.wires (length p.wires)
     takes_in_order order i w less at =

@@ -148,7 +148,7 @@ module _ (p : Plan) (turns seed : ℕ) (js : List Job) (rs : List ActorRun) (fir
   idle_there k past = picked_idle k (cases_lt k (actors p)) past
 
   -- why each worker ended
-  stop_is : (k : ℕ) (d : Did k) → stop_at rs k ≡ d.done.run.stop
+  pub stop_is : (k : ℕ) (d : Did k) → stop_at rs k ≡ d.done.run.stop
   stop_is k d = get_or_from_slice_get (map stop_in rs) k d.done.run.stop Turns (slice_get-map stop_in rs k ∙ ap (option_map stop_in) d.done.run_is)
 
   module _ (wired : AreWired p (length p.wires) js) where

@@ -1,8 +1,8 @@
 -- What was taken off each way, beside what was put on it.
-use Rattle.std.specs.Prelude.{◌≡◌, ℕ, ◌<◌, List, [], map, get_or, slice_get, Some}
+use Rattle.std.specs.Prelude.{◌≡◌, ℕ, ◌<◌, List, [], ◌++◌, map, get_or, slice_get, Some}
 use Rattle.std.specs.List.{AllZip, Contains}
 use mathlib.Core.List.{IsPrefix}
-use Rattle.rtrb.specs.Ring.{sent, received, IsPair}
+use Rattle.rtrb.specs.Ring.{sent, received, known_items, IsPair}
 use Rattle.vc_accepted.specs.Outgoing.{actor_of}
 use Rattle.vc_plan.specs.declared.port.Port.{Port}
 use Rattle.vc_plan.specs.declared.port.Wire.{Wire}
@@ -28,9 +28,9 @@ ins_at e k = get_or (map (λ v. v.items) e.ins.items) k []
 abbrev pub HasEnd : {Y : Type 0} → List (ℕ × Y) → ℕ → Type 0
 HasEnd {Y} ends link = (o : ℕ × Y) × Contains ends o × (o.0 ≡ link)
 
--- what was received is the front of what was sent
+-- what was received, and then what is seen to wait, is the front of what was sent
 abbrev pub IsInOrder : Out → In → Type 0
-IsInOrder o i = IsPrefix (received i.1) (sent o.1)
+IsInOrder o i = IsPrefix (received i.1 ++ known_items i.1) (sent o.1)
 
 -- R of the end with the one link that goes out, and of the end with the other that comes in
 abbrev pub AtLinks : (Out → In → Type 0) → List Out → List In → ℕ → ℕ → Type 0

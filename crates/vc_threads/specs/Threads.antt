@@ -1,6 +1,6 @@
 -- The jobs of all actors, and what a run in threads reports.
 use Rattle.std.specs.Prelude.{◌≡◌, ◌≢◌, ◌↔◌, ℕ, ◌+◌, ◌<◌, ◌≤◌, List, [], ◌∷◌, length, map, take, slice_get, Some}
-use Rattle.std.specs.List.{AllByRecursion}
+use Rattle.std.specs.List.{AllByRecursion, Contains}
 use Rattle.rand_pcg.specs.Lcg.{Lcg, started, increment_of}
 use Rattle.rand_pcg.specs.Pcg.{multiplier_64}
 use Rattle.vc_accepted.specs.NetworkOf.{network_of}
@@ -28,10 +28,11 @@ use Rattle.vc_threads.specs.Merged.{event_of}
 use Rattle.vc_threads.specs.Order.{OnWires}
 use Rattle.vc_threads.specs.Rings.{IsOnWire}
 use Rattle.vc_threads.specs.Runs.{StepsByLink, Used, Draws, words_of}
+use Rattle.vc_threads.specs.Works.{IsGreatest}
 use Rattle.vc_threads.specs.declared.crew.Job.{Job}
 use Rattle.vc_threads.specs.declared.report.Report.{Report}
 use Rattle.vc_threads.specs.declared.run.Stop.{Stop}
-use Rattle.vc_threads.specs.declared.run.Stop.TheVariants.{Turns}
+use Rattle.vc_threads.specs.declared.run.Stop.TheVariants.{Turns, Clock}
 
 -- the actors' numbers go up from n
 abbrev pub AreNumbered : ℕ → List (ℕ × Acting) → Type 0
@@ -74,9 +75,13 @@ TakesInOrder nodes runs from to = IsPrefix (all_taken to.link (runs (port_actor 
 abbrev pub CanBeReplayed : Plan → List Event → Type 0
 CanBeReplayed p steps = (n : ℕ) (e : Event) (s : State) → slice_get steps n ≡ Some e → Replays p (take n steps) s → CanHappen p s e
 
+-- an act of the run has the greatest stamp
+abbrev pub HasGreatest : List (Turn Act Token) → Type 0
+HasGreatest ts = (t : Turn Act Token) × Contains ts t × IsGreatest t.at
+
 -- The reported steps are those of all actors' runs, by stamp, then actor. On both ways of each wire what was taken is the front of what
 -- was put. The steps replay to the state, where each actor is as its run left it. The run closes Done exactly where every process has
--- ended there, and else by why the workers ended.
+-- ended there, and else by why the workers ended; where one ended by its clock an act has the greatest stamp.
 pub record Reports (p : Plan) (turns seed : ℕ) (r : Report) : Type 0 where
   pub runs : ℕ → List (Turn Act Token)
   pub stops : ℕ → Stop
@@ -89,3 +94,4 @@ pub record Reports (p : Plan) (turns seed : ℕ) (r : Report) : Type 0 where
   pub replays : Replays p r.steps.items (state_of r.state)
   pub done : r.close ≡ Done ↔ HaveEnded p (state_of r.state)
   pub closes : r.close ≢ Done → ClosesBy (actors p) stops r.close
+  pub full : (k : ℕ) → k < actors p → stops k ≡ Clock → (j : ℕ) × HasGreatest (runs j)

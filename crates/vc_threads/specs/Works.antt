@@ -1,10 +1,11 @@
 -- What a worker does.
-use Rattle.std.specs.Prelude.{◌≡◌, ℕ, ◌≤◌, ◌++◌, List, [], ◌∷◌, length, map}
-use Rattle.std.specs.List.{AllZip, AllByRecursion}
+use Rattle.std.specs.Prelude.{◌≡◌, ℕ, ◌+◌, ◌^◌, ◌≤◌, ◌⊎◌, ◌++◌, List, [], ◌∷◌, length, map}
+use Rattle.std.specs.List.{AllZip, AllByRecursion, Contains}
+use mathlib.Core.List.{IsPrefix}
 use Rattle.std.specs.declared.alloc.Global.{Global}
 use Rattle.rand_pcg.specs.Lcg.{Lcg, started, increment_of}
 use Rattle.rand_pcg.specs.Pcg.{multiplier_64}
-use Rattle.rtrb.specs.Ring.{received, SameConsumer}
+use Rattle.rtrb.specs.Ring.{received, known_items, SameConsumer}
 use Rattle.rtrb.specs.declared.producer.Producer.{Producer}
 use Rattle.rtrb.specs.declared.consumer.Consumer.{Consumer}
 use Rattle.vc_actors.specs.Actors.{Label}
@@ -24,7 +25,7 @@ use Rattle.vc_threads.specs.declared.link.Ends.{Ends}
 use Rattle.vc_threads.specs.declared.link.LinkRule.{LinkRule}
 use Rattle.vc_threads.specs.declared.link.Stamped.{Stamped}
 use Rattle.vc_threads.specs.declared.run.ActorRun.{ActorRun}
-use Rattle.vc_threads.specs.declared.run.Stop.TheVariants.{Turns}
+use Rattle.vc_threads.specs.declared.run.Stop.TheVariants.{Turns, Clock}
 use Rattle.vc_threads.specs.Runs.{StepsByLink, Used, Draws, words_of}
 use Rattle.vc_threads.specs.Stamps.{stamped}
 use Rattle.vc_threads.specs.Wires.{Sends, Receives, OutLooked, InLooked, IsReady, IsAmong, out_links, in_links}
@@ -87,9 +88,22 @@ pub record Uses (plan : Plan) (k n : ℕ) (a b : Seen) : Type 0 where
   pub goes : Goes plan k a steps b
   pub used : Used plan k n a.clock a.actor steps b.actor
 
+-- a stamp after which there is none
+abbrev pub IsGreatest : ℕ → Type 0
+IsGreatest stamp = 2 ^ 64 ≤ stamp + 1
+
+-- the item that waits in front has the greatest stamp
+abbrev pub IsLate : In → Type 0
+IsLate i = (x : Stamped) × IsPrefix (x ∷ []) (known_items i.1) × IsGreatest x.at
+
+-- the clock is at its end, or an item with the greatest stamp waits
+abbrev pub IsFull : ℕ → List In → Type 0
+IsFull clock ins = IsGreatest clock ⊎ ((i : In) × Contains ins i × IsLate i)
+
 -- nothing was done
 pub record Stays (a b : Seen) : Type 0 where
   pub actor : b.actor ≡ a.actor
+  pub clock : b.clock ≡ a.clock
   pub log : b.log ≡ a.log
   pub outs : AllZip OutLooked a.outs b.outs
   pub ins : AllZip InLooked a.ins b.ins
@@ -111,7 +125,8 @@ pub record TakesFront (plan : Plan) (k : ℕ) (old : Acting) (clock word : ℕ) 
 -- What a worker gives back: some steps, at most n, are a run of actor k by itself from its first state to its last. They are the acts.
 -- What the ring ends sent and received is what the steps put and took, all over the links of these ends, and the words of the takes are
 -- those of the generator, in order.
--- A worker that ended by its turns used them.
+-- A worker that ended by its turns used them, and one that ended by its clock had a stamp that was the greatest, its own or that of an
+-- item that waited.
 pub record HasRun (plan : Plan) (k n id seed : ℕ) (actor : Acting) (ends : Ends) (r : ActorRun) : Type 0 where
   pub steps : List (Turn Act Token)
   pub few : length steps ≤ n
@@ -123,3 +138,4 @@ pub record HasRun (plan : Plan) (k n id seed : ℕ) (actor : Acting) (ends : End
   pub rest : Lcg
   pub words : Draws (started 64 multiplier_64 seed (increment_of 64 id)) (words_of steps) rest
   pub used : r.stop ≡ Turns → Used plan k n 0 actor steps r.actor
+  pub full : r.stop ≡ Clock → IsFull (clock_after 0 steps) r.ends.ins.items

@@ -1,12 +1,12 @@
 //! An actor at work, with its ends of the rings.
-ghost use Rattle.std.specs.Prelude.{◌≡◌, ◌≢◌, ℕ, ◌+◌, ◌<◌, ◌≤◌, ◌++◌, [], ◌∷◌, length, OnErr, IfOk, IfSome, IfErr, IsTrue};
+ghost use Rattle.std.specs.Prelude.{◌≡◌, ◌≢◌, ℕ, ◌+◌, ◌<◌, ◌≤◌, ◌++◌, ◌⊎◌, [], ◌∷◌, length, OnErr, IfOk, IfSome, IfErr, IsTrue};
 ghost use Rattle.std.specs.List.{All, AllZip, HoldsAt};
 ghost use Rattle.std.specs.Int.{bit_at};
 ghost use Rattle.rtrb.specs.Ring.{sent, known_free, SameProducer};
 ghost use Rattle.vc_core.specs.OfPlan.{IsActorOf};
 ghost use Rattle.vc_network.specs.Plan.{Plan};
 ghost use Rattle.vc_threads.specs.Wires.{OutLooked, InLooked, HasRoom, IsFree, IsReady};
-ghost use Rattle.vc_threads.specs.Works.{CanTake, TakesFront};
+ghost use Rattle.vc_threads.specs.Works.{CanTake, IsGreatest, IsLate, TakesFront};
 
 use crate::link::{Ends, In, Out, Stamped};
 use crate::run::{ActorRun, Stop};
@@ -111,6 +111,7 @@ fn take_front(
     ensures ok { (plan : Plan) (k : ℕ) → IsActorOf plan k actor.old → IfOk result (λ made. TakesFront plan k actor.old clock word end.old made actor.new end.new) }
     ensures err { OnErr result ((actor.new ≡ actor.old) × (end.new ≡ end.old)) }
     ensures why { IfErr result (λ why. why ≢ Stop.Turns) }
+    ensures full { IfErr result (λ why. why ≡ Stop.Clock → IsGreatest clock ⊎ IsLate end.new) }
 {
     let (link, consumer) = end;
     let front = consumer.peek_known();
@@ -144,7 +145,7 @@ impl Desk {
     ghost use Rattle.vc_core.specs.OfPlan.{IsActorOf};
     ghost use Rattle.vc_network.specs.Plan.{Plan};
     ghost use Rattle.vc_threads.specs.Wires.{Distinct, in_links, out_links};
-    ghost use Rattle.vc_threads.specs.Works.{CanTake, IsOfSomePlan, Uses, Stays, desk};
+    ghost use Rattle.vc_threads.specs.Works.{CanTake, IsFull, IsOfSomePlan, Uses, Stays, desk};
 
     /// An actor that did nothing yet. Its words are those of the generator of this seed and number.
     pub(crate) fn new(alloc: Global, id: u8, actor: Actor, ends: Ends, seed: u32) -> Desk
@@ -195,6 +196,7 @@ impl Desk {
         ensures done { (plan : Plan) (n : ℕ) → IsActorOf plan n self.old.actor → OnOk result (Uses plan n 1 (desk self.old) (desk self.new)) }
         ensures stopped { OnErr result (Stays (desk self.old) (desk self.new)) }
         ensures why { IfErr result (λ why. why ≢ Stop.Turns) }
+        ensures full { IfErr result (λ why. why ≡ Stop.Clock → IsFull self.new.clock self.new.ends.ins.items) }
     {
         if self.acts.reserve(1).is_err() {
             return Err(Stop::Memory);
@@ -214,6 +216,7 @@ impl Desk {
         ensures done { (plan : Plan) (n : ℕ) → IsActorOf plan n self.old.actor → OnOk result (Uses plan n 1 (desk self.old) (desk self.new)) }
         ensures stopped { OnErr result (Stays (desk self.old) (desk self.new)) }
         ensures why { IfErr result (λ why. why ≢ Stop.Turns) }
+        ensures full { IfErr result (λ why. why ≡ Stop.Clock → IsFull self.new.clock self.new.ends.ins.items) }
     {
         if self.acts.reserve(1).is_err() {
             return Err(Stop::Memory);
@@ -249,6 +252,7 @@ impl Desk {
         ensures done { (plan : Plan) (n : ℕ) → IsActorOf plan n self.old.actor → OnOk result (Uses plan n 1 (desk self.old) (desk self.new)) }
         ensures stopped { OnErr result (Stays (desk self.old) (desk self.new)) }
         ensures why { IfErr result (λ why. why ≢ Stop.Turns) }
+        ensures full { IfErr result (λ why. why ≡ Stop.Clock → IsFull self.new.clock self.new.ends.ins.items) }
     {
         match find_in(&self.actor, self.ends.ins.as_mut_slice()) {
             Some(k) => self.take_from(k),

@@ -1,11 +1,12 @@
 -- The item that is seen is the item that is taken.
-use Rattle.std.proofs.Common.{◌≡◌, ◌+◌, List, [], ◌∷◌, ◌++◌, refl, sym, subst, ap, max, ◌∙◌}
+use Rattle.std.proofs.Common.{◌≡◌, ◌+◌, List, [], ◌∷◌, ◌++◌, inl, inr, refl, sym, subst, ap, max, ◌∙◌}
 use Rattle.rtrb.specs.Ring.{known_items}
 use Rattle.vc_actors.specs.Actors.Label.{Takes}
 use Rattle.vc_core.specs.Acting.{MakesTake}
 use Rattle.vc_tokens.specs.Spelt.{token}
 use Rattle.vc_threads.specs.declared.link.Stamped.{Stamped}
 use Rattle.vc_threads.specs.Runs.{StepsByLink}
+use Rattle.vc_threads.proofs.Late.{greatest_of}
 use Rattle.vc_threads.proofs.desk.take_front.Goals as goal
 
 -- the front item is the first that is known
@@ -31,3 +32,11 @@ returns-clause-ok c = λ plan k of.
       ring = c.pop_known.ensures.ring;
       got = r.0;
     }
+
+pub returns-in_default-clause-full : goal.returns-in_default-clause-full
+returns-in_default-clause-full c = λ is.
+    let front = c.peek_known-front.result.now in
+    elim (greatest_of c.args.clock front.at c.in_default.ensures) [
+      | inl own ↦ inl own
+      | inr late ↦ inr (front, c.peek_known-front.ensures, late)
+    ]

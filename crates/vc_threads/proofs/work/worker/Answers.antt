@@ -3,7 +3,7 @@ use Rattle.std.specs.List.{All}
 use Rattle.vc_core.specs.OfPlan.{IsActorOf}
 use Rattle.vc_threads.specs.Wires.{Distinct, out_links, in_links}
 use Rattle.vc_threads.specs.Works.{desk}
-use Rattle.vc_threads.specs.declared.run.Stop.TheVariants.{Turns, Gate}
+use Rattle.vc_threads.specs.declared.run.Stop.TheVariants.{Turns, Gate, Clock}
 use Rattle.vc_threads.proofs.Goings.{uses_zero, uses_then, outs_apart, ins_apart, outs_low, actor_kept, stays_same, has_run}
 use Rattle.vc_threads.proofs.work.worker.Goals as goal
 
@@ -48,7 +48,7 @@ returns-then-not-pass-clause-run g c = λ plan n of.
     let less = c.loop-turn-test.true in
     has_run plan n c.loop-turn.turn c.args.turns c.args.id c.args.seed c.new-desk.result c.loop-turn.desk c.loop-turn.desk c.args.actor c.args.ends c.into_run.result
     (c.loop-turn.invariant plan n (subst (λ a. IsActorOf plan n a) (sym d.actor) of)) (stays_same (desk c.loop-turn.desk)) (omega (arith, less))
-    d.actor d.clock d.acts d.ends d.words e.actor e.acts e.ends (λ h. let f : Gate ≡ Turns = sym e.stop ∙ h in cc)
+    d.actor d.clock d.acts d.ends d.words e.actor e.acts e.ends (λ h. let f : Gate ≡ Turns = sym e.stop ∙ h in cc) (λ h. let f : Gate ≡ Clock = sym e.stop ∙ h in cc)
 
 pub returns-in-Err-clause-run : goal.returns-in-Err-clause-run
 returns-in-Err-clause-run g c = λ plan n of.
@@ -57,7 +57,7 @@ returns-in-Err-clause-run g c = λ plan n of.
     let less = c.loop-turn-test.true in
     has_run plan n c.loop-turn.turn c.args.turns c.args.id c.args.seed c.new-desk.result c.loop-turn.desk c.turn.new.self c.args.actor c.args.ends c.into_run-in-Err.result
     (c.loop-turn.invariant plan n (subst (λ a. IsActorOf plan n a) (sym d.actor) of)) c.in-Err.ensures.stopped (omega (arith, less))
-    d.actor d.clock d.acts d.ends d.words e.actor e.acts e.ends (λ h. absurd (c.in-Err.ensures.why (sym e.stop ∙ h)))
+    d.actor d.clock d.acts d.ends d.words e.actor e.acts e.ends (λ h. absurd (c.in-Err.ensures.why (sym e.stop ∙ h))) (λ h. c.in-Err.ensures.full (sym e.stop ∙ h))
 
 pub loop-turn-preserved : goal.loop-turn-preserved
 loop-turn-preserved g c = λ plan n of.
@@ -73,4 +73,4 @@ returns-clause-run g c = λ plan n of.
     let end = c.loop-turn.auto.turn-end in
     has_run plan n c.loop-turn.turn c.args.turns c.args.id c.args.seed c.new-desk.result c.loop-turn.desk c.loop-turn.desk c.args.actor c.args.ends c.into_run-2.result
     (c.loop-turn.invariant plan n (subst (λ a. IsActorOf plan n a) (sym d.actor) of)) (stays_same (desk c.loop-turn.desk)) (omega (arith, end))
-    d.actor d.clock d.acts d.ends d.words e.actor e.acts e.ends (λ h. omega (arith, all, end))
+    d.actor d.clock d.acts d.ends d.words e.actor e.acts e.ends (λ h. omega (arith, all, end)) (λ h. let f : Turns ≡ Clock = sym e.stop ∙ h in cc)

@@ -21,6 +21,7 @@ returns-then-is_err-clause-stopped c =
     let a = c.args.self.now in
     record {
       actor = refl;
+      clock = refl;
       log = c.reserve.ensures.items;
       outs = zip_same OutLooked looked_same a.ends.outs.items;
       ins = zip_same InLooked in_looked_same a.ends.ins.items;
@@ -31,6 +32,7 @@ returns-in_default-clause-stopped c =
     let a = c.args.self.now in
     record {
       actor = refl;
+      clock = refl;
       log = c.reserve.ensures.items;
       outs = zip_same OutLooked looked_same a.ends.outs.items;
       ins = zip_same InLooked in_looked_same a.ends.ins.items;
@@ -41,6 +43,7 @@ returns-in-Err-clause-stopped c =
     let a = c.args.self.now in
     record {
       actor = c.in-Err.ensures.refused;
+      clock = refl;
       log = c.reserve.ensures.items;
       outs = zip_back OutLooked a.ends.outs.len a.ends.outs.items c.as_mut_slice.result.now c.room_of-room.new.outs a.ends.outs.ok.0 c.as_mut_slice.ensures.value c.room_of-room.ensures.looked;
       ins = zip_same InLooked in_looked_same a.ends.ins.items;

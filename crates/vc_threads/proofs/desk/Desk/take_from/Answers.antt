@@ -3,12 +3,13 @@ use Rattle.vc_actors.specs.Actors.Label.{Takes}
 use Rattle.vc_threads.specs.Stamps.{stamped}
 use Rattle.vc_threads.specs.Runs.{Draws, word_of}
 use Rattle.vc_core.specs.declared.act.Act.{Act}
-use Rattle.std.proofs.Common.{ℕ, refl, subst, sym, get_or, ap, ◌∙◌, ◌++◌, ◌∷◌, []}
+use Rattle.std.proofs.Common.{ℕ, inl, inr, refl, subst, sym, get_or, ap, ◌∙◌, ◌++◌, ◌∷◌, []}
 use Rattle.std.proofs.Math.ListN.{set}
 use Rattle.vc_threads.specs.Wires.{OutLooked, InLooked}
 use Rattle.vc_threads.specs.Works.{take_of, desk}
 use Rattle.vc_threads.proofs.Zips.{zip_same, zip_step}
 use Rattle.vc_threads.proofs.Looks.{looked_same, in_looked_same, in_looked_then}
+use Rattle.vc_threads.proofs.Late.{full_passed, written_in}
 use Rattle.vc_threads.proofs.Outcomes.{on_err}
 use Rattle.vc_threads.proofs.Goings.{among, uses_one, receives_one, sends_quiet}
 use Rattle.vc_threads.proofs.desk.Desk.take_from.Goals as goal
@@ -18,6 +19,7 @@ returns-then-is_err-clause-stopped c =
     let a = c.args.self.now in
     record {
       actor = refl;
+      clock = refl;
       log = c.reserve.ensures.items;
       outs = zip_same OutLooked looked_same a.ends.outs.items;
       ins = zip_same InLooked in_looked_same a.ends.ins.items;
@@ -31,6 +33,7 @@ returns-in_err-stamp-clause-stopped c =
     subst (λ v. InLooked v c.take_front.new.end) (same.1 ∙ c.index_mut.ensures.value) (in_looked_same c.take_front.new.end) in
     on_err _ c.from_residual.result (record {
       actor = same.0;
+      clock = refl;
       log = c.reserve.ensures.items;
       outs = zip_same OutLooked looked_same a.ends.outs.items;
       ins = zip_step InLooked in_looked_then a.ends.ins.items a.ends.ins.items c.args.k c.index_mut.result.now c.take_front.new.end (zip_same InLooked in_looked_same a.ends.ins.items) c.requires.within looked;
@@ -50,3 +53,10 @@ returns-clause-done c = λ plan n of.
     (ap (λ (p : ℕ × Lcg). p.0) c.next_word-word.ensures, ap (λ (p : ℕ × Lcg). p.1) c.next_word-word.ensures))
     (sends_quiet (t ∷ []) (λ l. refl) a.ends.outs.items a.ends.outs.items (zip_same OutLooked looked_same a.ends.outs.items))
     (receives_one a.ends.ins.items c.args.k c.index_mut.result.now c.take_front.new.end c.in_ok-stamp.stamp c.in_ok-stamp.act h.item c.requires.links c.requires.within c.index_mut.ensures.value h.link h.ring h.got)
+
+pub returns-in_err-stamp-clause-full : goal.returns-in_err-stamp-clause-full
+returns-in_err-stamp-clause-full c =
+    full_passed _ c.from_residual.result c.in_err-stamp.field-0.0 c.from_residual.ensures.1 (λ is. elim (c.in_err-stamp.ensures.full is) [
+      | inl own ↦ inl own
+      | inr late ↦ inr (c.take_front.new.end, written_in c.args.self.now.ends.ins.items c.args.k c.take_front.new.end c.requires.within, late)
+    ])
