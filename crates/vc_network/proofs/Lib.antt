@@ -6,6 +6,7 @@ pub mod Determinate
 pub mod ExampleHolds
 pub mod FirstExchange
 pub mod Fitting
+pub mod Headers
 pub mod Homed
 pub mod Main
 pub mod Nexts

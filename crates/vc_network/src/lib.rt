@@ -12,6 +12,7 @@ ghost use Rattle.vc_network.specs.Example.{example, hello, does, begin, exchange
 ghost use Rattle.vc_network.specs.Processes.{Deed, by_test};
 ghost use Rattle.vc_network.specs.Credit.{CreditHolds, BodiesFit};
 ghost use Rattle.vc_network.specs.Enabled.{EventsAreOne};
+ghost use Rattle.vc_network.specs.Headers.{MoreHeadersChangeNothing};
 ghost use Rattle.vc_network.specs.Headline.{HeadlineHolds};
 ghost use Rattle.vc_network.specs.Owners.{EachHasOwner, PacketsAreShort};
 ghost use Rattle.vc_network.specs.Threads.{ThreadsKeepHeadline, ReplaysReach};
@@ -49,6 +50,12 @@ pub fn each_packet_has_its_channel()
 /// After any list of steps no packet in a queue, on a way or in a switch is longer than the limit.
 pub fn no_packet_is_longer()
     ensures { (plan : Plan) (waiting : Waiting) (does : ℕ → Deed → ℕ → Bool) (begin : ℕ → ℕ) → PacketsAreShort plan waiting (by_test does) begin }
+{}
+
+/// Where more headers may be on the way than a network needs, the same lists of events happen, to the same states: no packet of an
+/// accepted network needs the room.
+pub fn more_headers_change_nothing()
+    ensures { (plan : Plan) (waiting : Waiting) (does : ℕ → Deed → ℕ → Bool) (begin : ℕ → ℕ) → MoreHeadersChangeNothing plan waiting (by_test does) begin }
 {}
 
 /// On an accepted network an event leads from a state to one state only.

@@ -7,4 +7,5 @@ pub mod Labelling
 pub mod Limits
 pub mod Places
 pub mod Search
+pub mod Versions
 pub mod Wires

@@ -81,7 +81,7 @@ links_differ (r ∷ rs) = not (list_any (λ (s : RandomInput). s.link == r.link)
 abbrev pub random_ok : SwitchPlan → Bool
 random_ok s = list_all range_ok s.random && links_differ s.random
 
--- a process nests at most 32 deep, and an expression 8; today a PAR is too deep
+-- a process nests at most 32 deep, and an expression 8
 abbrev pub depth_ok : NodePlan → Bool
 depth_ok n = depth_within (written n.process) 32 && exps_within (written n.process) 8
 

@@ -11,7 +11,9 @@
 //! virtual link in order, way ab before ba, with the fewest hops, then the least by its choices (`specs/Faults`).
 //!
 //! The search keeps the places reached after equally many hops, each once, in the order of their least paths; the definitions
-//! speak of all paths. Today processes run in order, and one with a PAR is over the limit of depth.
+//! speak of all paths.
+//!
+//! A plan of version 1 means the same network as a plan of version 2 ([`as_version_two`], [`versions_agree`]).
 #![tactic(auto)]
 
 mod accepted;
@@ -33,9 +35,8 @@ mod port;
 mod search;
 mod stack;
 mod switch_plan;
-#[cfg(test)]
-mod tests;
 mod usage;
+mod version;
 mod vlink;
 
 pub use accepted::Accepted;
@@ -49,4 +50,5 @@ pub use path_fault::{Hop, PathFault};
 pub use plan::Plan;
 pub use port::{Port, Spot, Wire};
 pub use switch_plan::{RandomInput, SwitchPlan};
+pub use version::{as_version_two, versions_agree};
 pub use vlink::{End, Vlink};

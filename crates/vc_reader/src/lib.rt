@@ -29,5 +29,3 @@ pub use path::{Path, Step};
 pub use refused::ReadRefused;
 pub use word::Word;
 
-#[cfg(test)]
-mod tests;

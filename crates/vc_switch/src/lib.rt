@@ -27,5 +27,3 @@ pub use laws::each_token_comes;
 pub use switch::Switch;
 pub use switch_plan::{RandomInput, SwitchPlan};
 
-#[cfg(test)]
-mod tests;

@@ -166,7 +166,6 @@ check_line plan why = check_head why ++ offender_text plan why
 abbrev pub thread_line : ThreadFault → List ℕ
 thread_line thread.Memory = codes "fault memory"
 thread_line thread.Start = codes "fault thread"
-thread_line thread.NotARun = codes "fault notarun"
 
 -- ---- the whole
 

@@ -25,5 +25,3 @@ pub use streams::write_text;
 pub use threading::run_net;
 pub use traffic::{ChannelView, write_channels};
 
-#[cfg(test)]
-mod tests;

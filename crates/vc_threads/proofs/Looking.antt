@@ -1,15 +1,15 @@
 -- Rings, looked at from both ends.
-use Rattle.std.proofs.Common.{◌≡◌, ◌≢◌, ℕ, zero, suc, ◌+◌, ◌<◌, ◌≤◌, true, false, List, [], ◌∷◌, ◌++◌, length, map, get_or, slice_get, Some, refl, ap, sym, subst, ◌∙◌, arith, inl, inr, eq-eqb, eqb, append_assoc}
+use Rattle.std.proofs.Common.{◌≡◌, ℕ, zero, suc, ◌+◌, ◌<◌, true, false, List, [], ◌∷◌, ◌++◌, length, map, get_or, slice_get, Some, ap, sym, subst, ◌∙◌, arith, inl, inr, eq-eqb, eqb, append_assoc}
 use Rattle.std.specs.List.{AllZip, Contains, HoldsAt}
 use Rattle.std.proofs.lemmas.Bool.{cases_eq}
 use Rattle.std.proofs.Math.ListN.{set}
 use Rattle.std.proofs.lemmas.List.{map-append}
 use Rattle.vc_accepted.specs.Outgoing.{actor_of}
-use Rattle.rtrb.specs.Ring.{sent, received, IsPair, SameProducer, SameConsumer}
+use Rattle.rtrb.specs.Ring.{IsPair, SameProducer, SameConsumer}
 use Rattle.vc_plan.specs.declared.port.Port.{Port}
 use Rattle.vc_plan.specs.declared.port.Wire.{Wire}
 use Rattle.vc_threads.specs.Order.{outs_at, ins_at, HasEnd, IsInOrder, AtLinks, Meet, EndsLooked, MeetAt, InOrderAt, OnWires}
-use Rattle.vc_threads.specs.Wires.{Distinct, out_links, in_links, OutLooked, InLooked}
+use Rattle.vc_threads.specs.Wires.{Distinct, OutLooked, InLooked}
 use Rattle.vc_threads.specs.Works.{Out, In}
 use Rattle.vc_threads.specs.declared.order.AllEnds.{AllEnds}
 use Rattle.vc_threads.proofs.Goings.{apart, any_default}

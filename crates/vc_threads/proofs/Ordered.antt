@@ -1,6 +1,6 @@
 -- The ends that the runs leave are those of the jobs' rings, and what went over them is what the runs put and took.
-use Rattle.std.proofs.Common.{◌≡◌, ℕ, zero, suc, ◌<◌, ◌≤◌, ◌⊎◌, inl, inr, List, [], ◌∷◌, ◌++◌, length, map, get_or, slice_get, option_map, Some, refl, ap, sym, subst, ◌∙◌, arith}
-use Rattle.std.specs.List.{All, AllZip, AllByRecursion, Contains}
+use Rattle.std.proofs.Common.{◌≡◌, ℕ, zero, suc, ◌<◌, ◌≤◌, ◌⊎◌, inl, inr, List, [], ◌∷◌, ◌++◌, length, map, get_or, option_map, ap, sym, subst, ◌∙◌, arith}
+use Rattle.std.specs.List.{AllZip, AllByRecursion}
 use Rattle.std.proofs.lemmas.Bool.{cases_lt}
 use Rattle.std.proofs.lemmas.List.{length-map, map-append, get_or_past}
 use Rattle.std.proofs.lemmas.Option.{slice_get-map, get_or_from_slice_get}
@@ -12,7 +12,7 @@ use Rattle.vc_core.specs.Turns.{actors}
 use Rattle.vc_plan.specs.declared.plan.Plan.{Plan}
 use Rattle.vc_plan.specs.declared.port.Port.{Port}
 use Rattle.vc_threads.specs.Crews.{IsFit, Ran}
-use Rattle.vc_threads.specs.Order.{outs_left, ins_left, outs_at, ins_at, AtLinks, IsInOrder, Meet, MeetAt, InOrderAt, OnWires}
+use Rattle.vc_threads.specs.Order.{outs_left, ins_left, outs_at, ins_at, Meet, MeetAt, InOrderAt, OnWires}
 use Rattle.vc_threads.specs.Rings.{outs_in, ins_in, outs_of, ins_of, HasRing, AreWired}
 use Rattle.vc_threads.specs.Stamps.{stamped, all_stamped}
 use Rattle.vc_threads.specs.Threads.{AreNumbered, TakesInOrder, actor_in, who}
@@ -22,8 +22,8 @@ use Rattle.vc_threads.specs.declared.crew.Job.{Job}
 use Rattle.vc_threads.specs.declared.order.AllEnds.{AllEnds}
 use Rattle.vc_threads.specs.declared.run.ActorRun.{ActorRun}
 use Rattle.vc_threads.proofs.Fitting.{none_apart}
-use Rattle.vc_threads.proofs.Looking.{SameOut, SameIn, Twin, one_end, has_end, after, meet_kept}
-use Rattle.vc_threads.proofs.Reported.{Done, Did, did, pick, steps_of, jobs_count}
+use Rattle.vc_threads.proofs.Looking.{SameOut, SameIn, one_end, has_end, after, meet_kept}
+use Rattle.vc_threads.proofs.Reported.{did, pick, steps_of, jobs_count}
 use Rattle.vc_threads.proofs.Zips.{zip_weaker, zip_length}
 
 outs_apart : (js : List Job) → AllByRecursion IsFit js → (k : ℕ) → Distinct (out_links (outs_of js k))

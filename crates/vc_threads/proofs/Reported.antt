@@ -1,10 +1,10 @@
 -- What the runs of all jobs report.
-use Rattle.std.proofs.Common.{◌≡◌, ℕ, zero, suc, ◌+◌, ◌<◌, ◌≤◌, ◌==◌, ◌⊎◌, inl, inr, Bool, true, false, if◌then◌else◌, List, [], ◌∷◌, length, map, slice_get, option_map, Some, refl, ap, sym, subst, ◌∙◌, arith, eq-eqb}
-use Rattle.std.specs.List.{AllZip}
+use Rattle.std.proofs.Common.{◌≡◌, ℕ, zero, suc, ◌+◌, ◌<◌, ◌≤◌, ◌==◌, ◌⊎◌, inl, inr, false, if◌then◌else◌, List, [], ◌∷◌, length, map, slice_get, option_map, Some, refl, ap, sym, subst, ◌∙◌, arith, eq-eqb}
+use Rattle.std.specs.List.{AllZip, Contains}
 use Rattle.std.proofs.lemmas.Bool.{cases_lt}
 use Rattle.std.proofs.lemmas.Bool.Decides.{nat_tests}
 use Rattle.std.proofs.lemmas.List.{length-map}
-use Rattle.std.proofs.lemmas.Option.{slice_get-map}
+use Rattle.std.proofs.lemmas.Option.{slice_get-map, get_or_from_slice_get, slice_get_within}
 use Rattle.std.proofs.lemmas.Simd.{map-map}
 use Rattle.rand_pcg.specs.Lcg.{started, increment_of}
 use Rattle.rand_pcg.specs.Pcg.{multiplier_64}
@@ -13,17 +13,26 @@ use Rattle.vc_actors.specs.Actors.{act_of}
 use Rattle.vc_actors.specs.LocalRun.{Turn, restamped}
 use Rattle.vc_actors.specs.Merge.{Made, IsMerge, run_of}
 use Rattle.vc_core.specs.Begin.{AreFirst, BeginsAs}
+use Rattle.vc_core.specs.Shown.{actor_of}
 use Rattle.vc_core.specs.Turns.{actors}
 use Rattle.vc_core.specs.declared.act.Act.{Act}
+use Rattle.vc_network.specs.Network.{Actor, first as begun}
 use Rattle.vc_plan.specs.declared.plan.Plan.{Plan}
+use Rattle.vc_told.specs.Begin.{begin_of}
+use Rattle.vc_told.specs.Process.{Process}
 use Rattle.vc_tokens.specs.declared.token.Token.{Token}
+use Rattle.vc_threads.specs.Closing.{AreInOrder, stop_in, stop_at}
 use Rattle.vc_threads.specs.Crews.{Ran}
 use Rattle.vc_threads.specs.Merged.{of_pair, numbered}
+use Rattle.vc_threads.specs.Rings.{AreWired, outs_in, ins_in}
 use Rattle.vc_threads.specs.Runs.{Draws, words_of}
 use Rattle.vc_threads.specs.Threads.{AreNumbered, IsRunOf, actor_in, who}
 use Rattle.vc_threads.specs.Works.{logged, HasRun}
 use Rattle.vc_threads.specs.declared.crew.Job.{Job}
 use Rattle.vc_threads.specs.declared.run.ActorRun.{ActorRun}
+use Rattle.vc_threads.specs.declared.run.Stop.TheVariants.{Turns}
+use Rattle.vc_threads.proofs.OverWires.{over_wires}
+use Rattle.vc_threads.proofs.Zips.{zip_length}
 
 -- the job and the run of actor n + k, where the jobs are numbered from n on
 pub record Done (turns seed n k : ℕ) (js : List Job) (rs : List ActorRun) : Type 0 where
@@ -79,6 +88,9 @@ module _ (p : Plan) (turns seed : ℕ) (js : List Job) (rs : List ActorRun) (fir
   pub jobs_count : length js ≡ actors p
   jobs_count = sym (length-map js actor_in) ∙ first.count
 
+  pub runs_count : length rs ≡ actors p
+  runs_count = zip_length (Ran turns seed) js rs ran ∙ jobs_count
+
   -- the job of an actor, its run, and what the run did
   pub record Did (k : ℕ) : Type 0 where
     pub done : Done turns seed 0 k js rs
@@ -105,21 +117,6 @@ module _ (p : Plan) (turns seed : ℕ) (js : List Job) (rs : List ActorRun) (fir
   abbrev pub steps_of : ℕ → List (Turn Act Token)
   steps_of k = pick k (cases_lt k (actors p))
 
-  picked_run : (k : ℕ) (c : (k < actors p) ⊎ (actors p ≤ k)) → k < actors p → IsRunOf p turns seed k (pick k c)
-  picked_run k (inr past) less = absurd (omega (arith, past, less))
-  picked_run k (inl within) less =
-      let d = did k within in
-      let at : 0 + k ≡ k = omega arith in
-      record {
-        first = d.done.job.actor;
-        last = d.done.run.actor;
-        begins = d.begins;
-        few = d.has.few;
-        run = d.has.run;
-        rest = d.has.rest;
-        words = subst (λ i. Draws (started 64 multiplier_64 seed (increment_of 64 i)) (words_of d.has.steps) d.has.rest) (d.done.id ∙ at) d.has.words;
-      }
-
   picked_none : (k : ℕ) (c : (k < actors p) ⊎ (actors p ≤ k)) → actors p ≤ k → pick k c ≡ []
   picked_none k (inl less) past = absurd (omega (arith, past, less))
   picked_none k (inr beyond) past = refl
@@ -128,12 +125,66 @@ module _ (p : Plan) (turns seed : ℕ) (js : List Job) (rs : List ActorRun) (fir
   picked_acts k (inl less) = did_acts k (did k less)
   picked_acts k (inr past) = let n = jobs_count in none_past turns seed 0 k js rs are ran (omega (arith, n, past))
 
-  pub each_run : (k : ℕ) → k < actors p → IsRunOf p turns seed k (steps_of k)
-  each_run k less = picked_run k (cases_lt k (actors p)) less
-
   pub no_run : (k : ℕ) → actors p ≤ k → steps_of k ≡ []
   no_run k past = picked_none k (cases_lt k (actors p)) past
 
   -- their acts are merged
   pub acts_merged : (merged : List (Made Act)) → IsMerge (run_of (map numbered rs)) merged → IsMerge (λ k. map (restamped act_of) (steps_of k)) merged
   acts_merged merged m = record { ordered = m.ordered; parts = λ k. m.parts k ∙ picked_acts k (cases_lt k (actors p)) }
+
+  -- where each actor's run led
+  abbrev pub pick_last : (k : ℕ) → (k < actors p) ⊎ (actors p ≤ k) → Actor Process
+  pick_last k (inl less) = actor_of (did k less).done.run.actor
+  pick_last k (inr past) = begun (network_of p) (begin_of p) k
+
+  abbrev pub last_of : ℕ → Actor Process
+  last_of k = pick_last k (cases_lt k (actors p))
+
+  picked_idle : (k : ℕ) (c : (k < actors p) ⊎ (actors p ≤ k)) → actors p ≤ k → pick_last k c ≡ begun (network_of p) (begin_of p) k
+  picked_idle k (inl less) past = absurd (omega (arith, past, less))
+  picked_idle k (inr beyond) past = refl
+
+  pub idle_there : (k : ℕ) → actors p ≤ k → last_of k ≡ begun (network_of p) (begin_of p) k
+  idle_there k past = picked_idle k (cases_lt k (actors p)) past
+
+  -- why each worker ended
+  stop_is : (k : ℕ) (d : Did k) → stop_at rs k ≡ d.done.run.stop
+  stop_is k d = get_or_from_slice_get (map stop_in rs) k d.done.run.stop Turns (slice_get-map stop_in rs k ∙ ap (option_map stop_in) d.done.run_is)
+
+  module _ (wired : AreWired p (length p.wires) js) where
+    picked_run : (k : ℕ) (c : (k < actors p) ⊎ (actors p ≤ k)) → k < actors p → IsRunOf p turns seed k (pick k c) (stop_at rs k) (pick_last k c)
+    picked_run k (inr past) less = absurd (omega (arith, past, less))
+    picked_run k (inl within) less =
+        let d = did k within in
+        let at : 0 + k ≡ k = omega arith in
+        let outs = get_or_from_slice_get (map outs_in js) k (outs_in d.done.job) [] (slice_get-map outs_in js k ∙ ap (option_map outs_in) d.done.job_is) in
+        let ins = get_or_from_slice_get (map ins_in js) k (ins_in d.done.job) [] (slice_get-map ins_in js k ∙ ap (option_map ins_in) d.done.job_is) in
+        record {
+          from = d.done.job.actor;
+          to = d.done.run.actor;
+          begins = d.begins;
+          few = d.has.few;
+          run = d.has.run;
+          wires = over_wires p k (outs_in d.done.job) (ins_in d.done.job)
+              (λ o h. wired.outs k o (subst (λ xs. Contains xs o) (sym outs) h)) (λ i h. wired.ins k i (subst (λ xs. Contains xs i) (sym ins) h)) d.has.steps d.has.links;
+          used = λ h. d.has.used (sym (stop_is k d) ∙ h);
+          ends = refl;
+          rest = d.has.rest;
+          words = subst (λ i. Draws (started 64 multiplier_64 seed (increment_of 64 i)) (words_of d.has.steps) d.has.rest) (d.done.id ∙ at) d.has.words;
+        }
+
+    pub each_run : (k : ℕ) → k < actors p → IsRunOf p turns seed k (steps_of k) (stop_at rs k) (last_of k)
+    each_run k less = picked_run k (cases_lt k (actors p)) less
+
+-- the runs stand in the order of their actors
+pub in_order : (turns seed : ℕ) (js : List Job) (rs : List ActorRun) → AreNumbered 0 (map who js) → AllZip (Ran turns seed) js rs → AreInOrder rs
+in_order turns seed js rs are ran k r here =
+    let n = zip_length (Ran turns seed) js rs ran in
+    let within = slice_get_within rs k r here in
+    let d = done_at turns seed 0 k js rs are ran (omega (arith, n, within)) in
+    let same : d.run ≡ r = some_is d.run r (sym d.run_is ∙ here) in
+    let at : 0 + k ≡ k = omega arith in
+    ap (λ (x : ActorRun). x.id) (sym same) ∙ (d.ran.0 ∙ (d.id ∙ at))
+  where
+    some_is : (x y : ActorRun) → Some x ≡ Some y → x ≡ y
+    some_is x y e = cc

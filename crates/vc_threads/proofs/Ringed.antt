@@ -85,7 +85,7 @@ module _ {X : Type 0} where
     | inr ne ↦ subst (λ zs. Contains zs x) (sym (m.1 k ne)) h
   ]
 
-  only : (old new : ℕ → List X) (s : ℕ) (y : X) → OneMore old s y new → (k : ℕ) (x : X) → Contains (new k) x → Contains (old k) x ⊎ ((k ≡ s) × (y ≡ x))
+  pub only : (old new : ℕ → List X) (s : ℕ) (y : X) → OneMore old s y new → (k : ℕ) (x : X) → Contains (new k) x → Contains (old k) x ⊎ ((k ≡ s) × (y ≡ x))
   only old new s y m k x h = elim (cases_eq k s) [
     | inl e ↦ elim (in_either (old s) y x (subst (λ zs. Contains zs x) m.0 (subst (λ i. Contains (new i) x) e h))) [
       | inl before ↦ inl (subst (λ i. Contains (old i) x) (sym e) before)
@@ -114,7 +114,7 @@ ring_kept nodes old new from to a b m h = record {
   sink = kept (ins_of old) (ins_of new) (actor_of nodes to.spot) m.into m.sink (actor_of nodes b.spot) h.into h.sink;
 }
 
-is_at : (nodes actor link : ℕ) (port : Port) → actor ≡ actor_of nodes port.spot → link ≡ port.link → is_link nodes actor link port ≡ true
+pub is_at : (nodes actor link : ℕ) (port : Port) → actor ≡ actor_of nodes port.spot → link ≡ port.link → is_link nodes actor link port ≡ true
 is_at nodes actor link port a b = ap (λ z. z && (port.link == link)) (eq-eqb (actor_of nodes port.spot) actor (sym a)) ∙ eq-eqb port.link link (sym b)
 
 on_later : (p : Plan) (n k link : ℕ) → IsOnWire p n k link → IsOnWire p (n + 1) k link

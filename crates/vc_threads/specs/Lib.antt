@@ -6,4 +6,5 @@ pub mod Works
 pub mod Crews
 pub mod Rings
 pub mod Order
+pub mod Closing
 pub mod Threads

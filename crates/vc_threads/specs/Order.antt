@@ -2,9 +2,8 @@
 use Rattle.std.specs.Prelude.{◌≡◌, ℕ, ◌<◌, List, [], map, get_or, slice_get, Some}
 use Rattle.std.specs.List.{AllZip, Contains}
 use mathlib.Core.List.{IsPrefix}
-use Rattle.rtrb.specs.Ring.{sent, received, IsPair, SameProducer, SameConsumer}
+use Rattle.rtrb.specs.Ring.{sent, received, IsPair}
 use Rattle.vc_accepted.specs.Outgoing.{actor_of}
-use Rattle.vc_plan.specs.declared.plan.Plan.{Plan}
 use Rattle.vc_plan.specs.declared.port.Port.{Port}
 use Rattle.vc_plan.specs.declared.port.Wire.{Wire}
 use Rattle.vc_threads.specs.Wires.{Distinct, out_links, in_links, OutLooked, InLooked}

@@ -1,6 +1,6 @@
 -- The rings of a plan's ways, as the jobs hold their ends.
 use Rattle.std.specs.Prelude.{◌≡◌, ◌≢◌, ℕ, ◌<◌, true, Bool, List, [], ◌∷◌, ◌++◌, length, map, get_or, slice_get, Some}
-use Rattle.std.specs.List.{Contains}
+use Rattle.std.specs.List.{All, Contains}
 use Rattle.rtrb.specs.Ring.{sent, received, IsPair}
 use Rattle.vc_accepted.specs.Outgoing.{actor_of, is_link}
 use Rattle.vc_plan.specs.Accepted.{port_of}
@@ -42,6 +42,14 @@ pub record AddsRing (nodes : ℕ) (old : List Job) (from to : Port) (new : List 
   pub ring : IsRing from to out into
   pub source : OneMore (outs_of old) (actor_of nodes from.spot) out (outs_of new)
   pub sink : OneMore (ins_of old) (actor_of nodes to.spot) into (ins_of new)
+
+-- the way from one port to another can have a ring: the actors are there, and neither has such an end at its link yet
+pub record CanAddRing (nodes : ℕ) (js : List Job) (from to : Port) : Type 0 where
+  pub source : actor_of nodes from.spot < length js
+  pub sink : actor_of nodes to.spot < length js
+  pub low : from.link < 32
+  pub out : All (λ o. o.0 ≢ from.link) (outs_of js (actor_of nodes from.spot))
+  pub into : All (λ i. i.0 ≢ to.link) (ins_of js (actor_of nodes to.spot))
 
 -- the actors at the two ports hold the ends of a ring for the way from the one to the other
 pub record HasRing (nodes : ℕ) (js : List Job) (from to : Port) : Type 0 where

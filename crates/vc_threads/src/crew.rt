@@ -33,8 +33,6 @@ pub enum ThreadFault {
     Memory,
     /// A thread was not started.
     Start,
-    /// The acts of the threads, in one list, are no events of the network one after another.
-    NotARun,
 }
 
 /// A job, as it is given to a thread.

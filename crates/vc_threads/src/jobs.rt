@@ -1,16 +1,16 @@
 //! The actors of a plan, with a ring for each way between them.
-ghost use Rattle.std.specs.Prelude.{◌≡◌, ◌≢◌, ◌≤◌, ◌<◌, ◌++◌, [], ◌∷◌, IfOk, OnOk, IsFalse, length, map};
+ghost use Rattle.std.specs.Prelude.{◌≡◌, ◌≢◌, ◌≤◌, ◌<◌, ◌++◌, [], ◌∷◌, IfOk, OnOk, length, map};
 ghost use Rattle.std.specs.List.{All, AllByRecursion};
 ghost use Rattle.vc_accepted.specs.Outgoing.{actor_of};
 ghost use Rattle.vc_core.specs.Begin.{AreFirst};
 ghost use Rattle.vc_core.specs.Turns.{actors as actors_in};
 ghost use Rattle.vc_plan.specs.Accepted.{IsAccepted};
 ghost use Rattle.vc_threads.specs.Crews.{IsFit};
-ghost use Rattle.vc_threads.specs.Rings.{AddsRing, AreBare, AreWired, outs_in, ins_in};
+ghost use Rattle.vc_threads.specs.Rings.{AddsRing, AreBare, AreWired, CanAddRing, outs_in, ins_in};
 ghost use Rattle.vc_threads.specs.Threads.{AreNumbered, actor_in, who};
 ghost use Rattle.vc_threads.specs.Works.{IsOfSomePlan};
 
-use crate::crew::{Job, ThreadFault};
+use crate::crew::Job;
 use crate::link::{Ends, In, LinkRule, Out, PLACES};
 use rtrb::RingBuffer;
 use std::alloc::Global;
@@ -51,62 +51,31 @@ fn jobs_of(alloc: Global, actors: Vec<Actor>) -> Result<Vec<Job>, Memory>
     Ok(jobs)
 }
 
-// Whether an end goes out by the link.
-fn has_out(outs: &[(u8, Out)], link: u8) -> bool
-    ensures { IsFalse result → All (λ o. o.0 ≢ link) outs.now }
-{
-    for k in 0..outs.len() {
-        if outs[k].0 == link {
-            return true;
-        }
-    }
-    false
-}
-
-// Whether an end comes in by the link.
-fn has_in(ins: &[(u8, In)], link: u8) -> bool
-    ensures { IsFalse result → All (λ i. i.0 ≢ link) ins.now }
-{
-    for k in 0..ins.len() {
-        if ins[k].0 == link {
-            return true;
-        }
-    }
-    false
-}
-
 // Gives an actor the end of a ring that goes out by a link of its own.
-fn add_out(job: &mut Job, link: u8, producer: Out) -> Result<(), ThreadFault>
-    requires { IsFit job.old }
+fn add_out(job: &mut Job, link: u8, producer: Out) -> Result<(), Memory>
+    requires fit { IsFit job.old }
+    requires low { link < 32 }
+    requires fresh { All (λ o. o.0 ≢ link) (outs_in job.old) }
     ensures fit { IsFit job.new }
     ensures same { who job.new ≡ who job.old }
     ensures outs { OnOk result (outs_in job.new ≡ outs_in job.old ++ (link, producer) ∷ []) }
     ensures ins { ins_in job.new ≡ ins_in job.old }
 {
-    if link > 31 || has_out(job.ends.outs.as_slice(), link) {
-        return Err(ThreadFault::Start);
-    }
-    match job.ends.outs.push((link, producer)) {
-        Ok(()) => Ok(()),
-        Err(_) => Err(ThreadFault::Memory),
-    }
+    job.ends.outs.push((link, producer))?;
+    Ok(())
 }
 
 // Gives an actor the end of a ring that comes in by a link of its own.
-fn add_in(job: &mut Job, link: u8, consumer: In) -> Result<(), ThreadFault>
-    requires { IsFit job.old }
+fn add_in(job: &mut Job, link: u8, consumer: In) -> Result<(), Memory>
+    requires fit { IsFit job.old }
+    requires fresh { All (λ i. i.0 ≢ link) (ins_in job.old) }
     ensures fit { IsFit job.new }
     ensures same { who job.new ≡ who job.old }
     ensures ins { OnOk result (ins_in job.new ≡ ins_in job.old ++ (link, consumer) ∷ []) }
     ensures outs { outs_in job.new ≡ outs_in job.old }
 {
-    if link > 31 || has_in(job.ends.ins.as_slice(), link) {
-        return Err(ThreadFault::Start);
-    }
-    match job.ends.ins.push((link, consumer)) {
-        Ok(()) => Ok(()),
-        Err(_) => Err(ThreadFault::Memory),
-    }
+    job.ends.ins.push((link, consumer))?;
+    Ok(())
 }
 
 /// The number of a node or a switch among the actors.
@@ -127,21 +96,19 @@ fn add_ring(
     nodes: usize,
     from: Port,
     to: Port,
-) -> Result<(), ThreadFault>
+) -> Result<(), Memory>
     requires nodes { nodes ≤ 32 }
     requires fit { All IsFit jobs.old.items }
+    requires free { CanAddRing nodes jobs.old.items from to }
     ensures fit { OnOk result (All IsFit jobs.new.items) }
     ensures same { OnOk result (map who jobs.new.items ≡ map who jobs.old.items) }
     ensures ring { OnOk result (AddsRing nodes jobs.old.items from to jobs.new.items) }
 {
     let source = number_of(from.spot, nodes);
     let sink = number_of(to.spot, nodes);
-    if source >= jobs.len() || sink >= jobs.len() {
-        return Err(ThreadFault::Start);
-    }
     let Ok((producer, consumer)) = RingBuffer::with_protocol::<Global, LinkRule>(alloc, PLACES)
     else {
-        return Err(ThreadFault::Memory);
+        return Err(Memory);
     };
     add_out(&mut jobs[source], from.link, producer)?;
     add_in(&mut jobs[sink], to.link, consumer)?;
@@ -149,8 +116,9 @@ fn add_ring(
 }
 
 // Makes a ring for each way of each wire.
-fn add_rings(alloc: Global, jobs: &mut Vec<Job>, plan: &Plan) -> Result<(), ThreadFault>
+fn add_rings(alloc: Global, jobs: &mut Vec<Job>, plan: &Plan) -> Result<(), Memory>
     requires plan { IsAccepted plan.now }
+    requires count { length jobs.old.items ≡ actors_in plan.now }
     requires fit { All IsFit jobs.old.items }
     requires bare { AreBare jobs.old.items }
     ensures fit { OnOk result (All IsFit jobs.new.items) }
@@ -167,7 +135,7 @@ fn add_rings(alloc: Global, jobs: &mut Vec<Job>, plan: &Plan) -> Result<(), Thre
 
 /// A job for each actor of an accepted plan, which begins, with the ends of its rings: one for each way of the plan, from the actor at
 /// its near end to the one at its far end.
-pub(crate) fn make_jobs(alloc: Global, accepted: &Accepted) -> Result<Vec<Job>, ThreadFault>
+pub(crate) fn make_jobs(alloc: Global, accepted: &Accepted) -> Result<Vec<Job>, Memory>
     ensures fit { IfOk result (λ jobs. All IsFit jobs.items) }
     ensures numbered { IfOk result (λ jobs. AreNumbered 0 (map who jobs.items)) }
     ensures begins { IfOk result (λ jobs. AreFirst accepted.now (actors_in accepted.now) (map actor_in jobs.items)) }

@@ -4,8 +4,8 @@
 //! What a [`worker`] does is a run of its actor by itself, stamped act by act (`specs/Runs`), and what its ring ends sent and received
 //! is what the run put and took. [`merge`] makes one list of all workers' acts, by stamp, then actor. [`run_threads`] starts the
 //! workers, each way of the plan being a ring between two of them (`specs/Rings`), joins them, looks at both ends of each ring, and replays
-//! that list: what was taken off each way is the front of what was put on it, and the steps that it reports lead to the state that it
-//! reports (`specs/Threads`).
+//! that list: what was taken off each way is the front of what was put on it, so that for every schedule the list is a run of the
+//! network, which leads to the state that it reports (`specs/Threads`).
 #![tactic(auto)]
 
 mod crew;

@@ -1,9 +1,10 @@
 //! What a run in threads reports.
-ghost use Rattle.std.specs.Prelude.{◌≡◌, ◌≢◌, ◌↔◌};
+ghost use Rattle.std.specs.Prelude.{◌≡◌, ◌≢◌, ◌↔◌, ◌<◌, length, IsNone, IfSome};
 ghost use Rattle.vc_core.specs.State.{state_of, IsNetworkOf};
 ghost use Rattle.vc_core.specs.Turns.{HaveEnded};
 ghost use Rattle.vc_core.specs.declared.close.Close.TheVariants.{Done};
 ghost use Rattle.vc_plan.specs.declared.plan.Plan.{Plan};
+ghost use Rattle.vc_threads.specs.Closing.{AreInOrder, ClosesBy, NoneStopped, stop_at};
 
 use crate::run::{ActorRun, Stop};
 use vc_core::{Close, Event, Network};
@@ -19,29 +20,30 @@ pub struct Report {
     pub close: Close,
 }
 
-// Whether a worker ended so.
-fn has_stop(runs: &[ActorRun], stop: Stop) -> bool {
-    for run in runs {
-        if run.stop == stop {
-            return true;
+// The first worker that ended so.
+fn first_stop(runs: &[ActorRun], stop: Stop) -> Option<usize>
+    ensures none { IsNone result → NoneStopped (length runs.now) (stop_at runs.now) stop }
+    ensures first { IfSome result (λ k. (k < length runs.now) × (stop_at runs.now k ≡ stop) × NoneStopped k (stop_at runs.now) stop) }
+{
+    for k in 0..runs.len() {
+        if runs[k].stop == stop {
+            return Some(k);
         }
     }
-    false
+    None
 }
 
 /// How a run ended in which not every process has: the first that fits of an actor that found no memory, a clock at its end, a gate that
 /// closed, and turns that were used. The runs are in the actors' order.
 pub(crate) fn stopped(runs: &[ActorRun]) -> Close
-    ensures { result ≢ Done }
+    requires { AreInOrder runs.now }
+    ensures { ClosesBy (length runs.now) (stop_at runs.now) result }
 {
-    for run in runs {
-        if run.stop == Stop::Memory {
-            return Close::Failed(run.id);
-        }
-    }
-    if has_stop(runs, Stop::Clock) {
+    if let Some(k) = first_stop(runs, Stop::Memory) {
+        Close::Failed(runs[k].id)
+    } else if first_stop(runs, Stop::Clock).is_some() {
         Close::ClockFull
-    } else if has_stop(runs, Stop::Gate) {
+    } else if first_stop(runs, Stop::Gate).is_some() {
         Close::GateClosed
     } else {
         Close::Limit
@@ -51,7 +53,8 @@ pub(crate) fn stopped(runs: &[ActorRun]) -> Close
 /// How a run ended, where it ended as `otherwise` says if not every process has.
 pub(crate) fn close_of(otherwise: Close, state: &Network) -> Close
     requires { otherwise ≢ Done }
-    ensures { (p : Plan) → IsNetworkOf p (state_of state.now) → result ≡ Done ↔ HaveEnded p (state_of state.now) }
+    ensures done { (p : Plan) → IsNetworkOf p (state_of state.now) → result ≡ Done ↔ HaveEnded p (state_of state.now) }
+    ensures other { result ≢ Done → result ≡ otherwise }
 {
     if state.ended() {
         Close::Done

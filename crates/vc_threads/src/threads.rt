@@ -2,7 +2,7 @@
 ghost use Rattle.std.specs.Prelude.{IfOk};
 ghost use Rattle.vc_core.specs.Replaying.{Replays};
 ghost use Rattle.vc_core.specs.State.{state_of};
-ghost use Rattle.vc_threads.specs.Threads.{Reports};
+ghost use Rattle.vc_threads.specs.Threads.{CanBeReplayed, Reports};
 
 use crate::crew::{ThreadFault, run_jobs};
 use crate::gate::Gate;
@@ -14,28 +14,27 @@ use std::alloc::Global;
 use std::sync::Wait;
 use std::thread::Threads;
 use vc_core::{Event, Network, StepRefused, replay};
+use vc_packets::Memory;
 use vc_plan::Accepted;
 
-// What stops a replay of the threads' acts.
-fn fault_of(why: StepRefused) -> ThreadFault {
-    match why {
-        StepRefused::NotEnabled => ThreadFault::NotARun,
-        StepRefused::Memory => ThreadFault::Memory,
-    }
-}
-
 // The network after these events.
-fn replayed(alloc: Global, accepted: &Accepted, steps: &[Event]) -> Result<Network, ThreadFault>
+#[tactic(auto, using(crate::proofs::Gathered::never_refused))]
+fn replayed(alloc: Global, accepted: &Accepted, steps: &[Event]) -> Result<Network, Memory>
+    requires { CanBeReplayed accepted.now steps.now }
     ensures { IfOk result (λ network. Replays accepted.now steps.now (state_of network)) }
 {
     match replay(alloc, accepted, steps) {
         Ok(network) => Ok(network),
-        Err(refused) => Err(fault_of(refused.why)),
+        Err(refused) => match refused.why {
+            StepRefused::Memory => Err(Memory),
+            StepRefused::NotEnabled => unreachable!(),
+        },
     }
 }
 
 /// Runs each node and each switch of an accepted plan in a thread of its own, for at most so many turns each, as long as the gate lets it.
-/// The threads are joined, both ends of each ring are compared, and their acts are made one list, which is replayed.
+/// The threads are joined, both ends of each ring are looked at, and their acts are made one list, which is replayed: whatever the
+/// threads did, it is a run of the network.
 ///
 /// The words of an actor's takes are those of the generator of this seed and the actor's number.
 pub fn run_threads<G: Gate, R: Threads + Wait>(

@@ -7,3 +7,4 @@ pub mod Sending
 pub mod Swapped
 pub mod Determinate
 pub mod Threaded
+pub mod Versions

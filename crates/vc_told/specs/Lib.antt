@@ -5,3 +5,4 @@ pub mod Swapping
 pub mod Process
 pub mod Determinate
 pub mod Threads
+pub mod Versions

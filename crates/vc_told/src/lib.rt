@@ -7,6 +7,7 @@ ghost use Rattle.vc_told.specs.OneList.{AllIsTold};
 ghost use Rattle.vc_told.specs.Sent.{NothingIsGotUnsent};
 ghost use Rattle.vc_told.specs.Swapping.{NothingIsSwapped};
 ghost use Rattle.vc_told.specs.Threads.{ActsCanBeReplayed};
+ghost use Rattle.vc_told.specs.Versions.{VersionsRunAlike};
 
 /// After any events of an accepted plan's network there is one list of communications, each with the node that makes it. Each
 /// node's part is a trace of its process, from the process as the plan has it on: one that has ended where nothing remains of it,
@@ -37,4 +38,11 @@ pub fn lawful_processes_are_determinate()
 /// events of the network one after another, and lead to where the actors ended.
 pub fn acts_can_be_replayed()
     ensures { ActsCanBeReplayed }
+{}
+
+/// An accepted plan and the same in version 2 (`as_version_two` of vc_plan) are run alike: the same lists of events happen, to the
+/// same states, and each channel shows the same.
+#[tactic(auto, using(crate::proofs::Versions::run_alike))]
+pub fn versions_run_alike()
+    ensures { VersionsRunAlike }
 {}

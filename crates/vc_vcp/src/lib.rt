@@ -33,5 +33,3 @@ pub use taken::Taken;
 pub use vc_blocks::Want;
 pub use vcp::Vcp;
 
-#[cfg(test)]
-mod tests;

@@ -1,24 +1,52 @@
-use Rattle.std.proofs.Common.{◌<◌, length, refl, sym, subst, arith, ap, ◌∙◌, length-set}
+use Rattle.std.proofs.Common.{◌≡◌, ◌≢◌, ◌<◌, [], length, map, get_or, refl, sym, subst, arith, ap, ◌∙◌, length-set}
+use Rattle.std.specs.List.{All}
 use Rattle.std.proofs.Math.ListN.{set}
 use Rattle.std.proofs.Math.Seq.{map-set_same}
 use Rattle.std.proofs.lemmas.List.Elements.{All-set}
 use Rattle.vc_threads.specs.Crews.{IsFit}
+use Rattle.vc_threads.specs.Rings.{outs_of, ins_of, outs_in, ins_in}
 use Rattle.vc_threads.specs.Threads.{who}
 use Rattle.vc_threads.specs.Works.{Out, In}
+use Rattle.vc_threads.proofs.Looking.{item_at}
 use Rattle.vc_threads.proofs.Ringed.{makes_ring}
 use Rattle.vc_threads.proofs.jobs.add_ring.Goals as goal
 
-pub add_out-requires : goal.add_out-requires
-add_out-requires c =
-    let l : c.number_of-source.result < length c.args.jobs.now.items = grind arith in
+pub add_out-requires-clause-fit : goal.add_out-requires-clause-fit
+add_out-requires-clause-fit c =
+    let same = c.number_of-source.ensures in
+    let less = c.requires.free.source in
+    let l : c.number_of-source.result < length c.args.jobs.now.items = omega (arith, same, less) in
     subst IsFit (sym c.index_mut.ensures.value) (c.requires.fit c.number_of-source.result c.index_mut.result.now l)
 
-pub add_in-requires : goal.add_in-requires
-add_in-requires c =
+pub add_out-requires-clause-fresh : goal.add_out-requires-clause-fresh
+add_out-requires-clause-fresh c =
     let js = c.args.jobs.now.items in
-    let l : c.number_of-sink.result < length js = grind arith in
+    let same = c.number_of-source.ensures in
+    let less = c.requires.free.source in
+    let l : c.number_of-source.result < length js = omega (arith, same, less) in
+    subst (All (λ (o : Out). o.0 ≢ c.args.from.link)) (ap (outs_of js) (sym same) ∙ item_at outs_in js c.number_of-source.result c.index_mut.result.now l c.index_mut.ensures.value) c.requires.free.out
+
+pub add_in-requires-clause-fit : goal.add_in-requires-clause-fit
+add_in-requires-clause-fit c =
+    let js = c.args.jobs.now.items in
+    let same = c.number_of-sink.ensures in
+    let less = c.requires.free.sink in
+    let l : c.number_of-sink.result < length js = omega (arith, same, less) in
     subst IsFit (sym c.index_mut-2.ensures.value)
     (All-set IsFit js c.number_of-source.result c.add_out.new.job c.in_ok-add_out.ensures.fit c.requires.fit c.number_of-sink.result c.index_mut-2.result.now (omega (arith, l, length-set js c.number_of-source.result c.add_out.new.job)))
+
+pub add_in-requires-clause-fresh : goal.add_in-requires-clause-fresh
+add_in-requires-clause-fresh c =
+    let js = c.args.jobs.now.items in
+    let s = c.number_of-source.result in
+    let t = c.number_of-sink.result in
+    let job = c.add_out.new.job in
+    let same = c.number_of-sink.ensures in
+    let less = c.requires.free.sink in
+    let l : t < length (set js s job) = omega (arith, same, less, length-set js s job) in
+    let ins : map ins_in (set js s job) ≡ map ins_in js = map-set_same ins_in js s job c.index_mut.result.now (c.in_ok-add_out.ensures.ins ∙ ap ins_in c.index_mut.ensures.value) in
+    subst (All (λ (i : In). i.0 ≢ c.args.to.link))
+    (ap (ins_of js) (sym same) ∙ (ap (λ xs. get_or xs t []) (sym ins) ∙ item_at ins_in (set js s job) t c.index_mut-2.result.now l c.index_mut-2.ensures.value)) c.requires.free.into
 
 pub returns-clause-fit : goal.returns-clause-fit
 returns-clause-fit c =
@@ -35,8 +63,12 @@ returns-clause-same c =
 pub returns-clause-ring : goal.returns-clause-ring
 returns-clause-ring c =
     let js = c.args.jobs.now.items in
-    let l : c.number_of-source.result < length js = grind arith in
-    let m : c.number_of-sink.result < length js = grind arith in
+    let source = c.number_of-source.ensures in
+    let sink = c.number_of-sink.ensures in
+    let first = c.requires.free.source in
+    let second = c.requires.free.sink in
+    let l : c.number_of-source.result < length js = omega (arith, source, first) in
+    let m : c.number_of-sink.result < length js = omega (arith, sink, second) in
     let out : Out = (c.args.from.link, c.in-Ok.producer) in
     let into : In = (c.args.to.link, c.in-Ok.consumer) in
     let made = c.in-Ok.ensures in

@@ -3,12 +3,39 @@ use Rattle.std.proofs.lemmas.Option.{slice_get-get_or}
 use Rattle.vc_plan.specs.declared.port.Port.{Port}
 use Rattle.vc_plan.specs.declared.port.Spot.TheVariants.{Node}
 use Rattle.vc_plan.specs.declared.port.Wire.{Wire}
-use Rattle.vc_threads.specs.Rings.{AddsRing, AreWired}
+use Rattle.vc_threads.specs.Rings.{AddsRing, AreWired, CanAddRing}
+use Rattle.vc_threads.proofs.Freeing.{count_kept, free_first, free_second}
 use Rattle.vc_threads.proofs.Ringed.{wired_more, wired_none}
 use Rattle.vc_threads.proofs.jobs.add_rings.Goals as goal
 
 pub loop-wire-init : goal.loop-wire-init
 loop-wire-init c = record { fit = c.requires.fit; same = refl; wired = wired_none c.args.plan.now c.args.jobs.now.items c.requires.bare }
+
+pub add_ring-requires-clause-free : goal.add_ring-requires-clause-free
+add_ring-requires-clause-free c =
+    let p = c.args.plan.now in
+    let i = c.loop-wire.wire-index in
+    let ws = c.as_slice-wire-items.result.now in
+    let none : Port = record { spot = Node 0; link = 0 } in
+    let w : Wire = get_or ws i (record { one = none; two = none }) in
+    let js = c.loop-wire.jobs.items in
+    let at = ap (λ xs. slice_get xs i) (sym c.as_slice-wire-items.ensures) ∙ slice_get-get_or ws i (record { one = none; two = none }) c.loop-wire-test.true in
+    subst (λ n. CanAddRing n js w.one w.two) (sym c.len-nodes.ensures)
+    (free_first p c.requires.plan i w at js c.loop-wire.invariant.wired (count_kept js c.args.jobs.now.items c.loop-wire.invariant.same ∙ c.requires.count))
+
+pub add_ring-requires-in-loop-wire-clause-free : goal.add_ring-requires-in-loop-wire-clause-free
+add_ring-requires-in-loop-wire-clause-free c =
+    let p = c.args.plan.now in
+    let i = c.loop-wire.wire-index in
+    let ws = c.as_slice-wire-items.result.now in
+    let none : Port = record { spot = Node 0; link = 0 } in
+    let w : Wire = get_or ws i (record { one = none; two = none }) in
+    let js = c.loop-wire.jobs.items in
+    let mid = c.add_ring.new.jobs.items in
+    let at = ap (λ xs. slice_get xs i) (sym c.as_slice-wire-items.ensures) ∙ slice_get-get_or ws i (record { one = none; two = none }) c.loop-wire-test.true in
+    subst (λ n. CanAddRing n mid w.two w.one) (sym c.len-nodes.ensures)
+    (free_second p c.requires.plan i w at js mid c.loop-wire.invariant.wired (subst (λ n. AddsRing n js w.one w.two mid) c.len-nodes.ensures c.in_ok-add_ring.ensures.ring)
+    (count_kept mid c.args.jobs.now.items (c.in_ok-add_ring.ensures.same ∙ c.loop-wire.invariant.same) ∙ c.requires.count))
 
 pub loop-wire-preserved : goal.loop-wire-preserved
 loop-wire-preserved c =

@@ -1,7 +1,9 @@
-use Rattle.std.proofs.Common.{arith, get_or, sym, subst, ◌∙◌}
+use Rattle.std.proofs.Common.{ap, arith, get_or, length, sym, subst, ◌∙◌}
+use Rattle.std.proofs.lemmas.List.{length-map}
 use Rattle.std.proofs.lemmas.Option.{slice_get-get_or}
 use Rattle.vc_accepted.specs.NetworkOf.{network_of}
 use Rattle.vc_core.proofs.Leaving.{few}
+use Rattle.vc_threads.specs.Threads.{actor_in}
 use Rattle.vc_threads.specs.Works.{IsOfSomePlan}
 use Rattle.vc_core.specs.Begin.{AreFirst}
 use Rattle.vc_core.specs.Turns.{actors}
@@ -21,6 +23,10 @@ pub jobs_of-requires-clause-actors : goal.jobs_of-requires-clause-actors
 jobs_of-requires-clause-actors c =
     let xs = c.in_ok-actors.field-0.items in
     by_recursion IsOfSomePlan xs (λ k d l. (network_of c.args.accepted.now, k, (c.in_ok-actors.ensures.each k (get_or xs k d) (slice_get-get_or xs k d l)).is))
+
+pub add_rings-requires-clause-count : goal.add_rings-requires-clause-count
+add_rings-requires-clause-count c =
+    sym (length-map c.in_ok-jobs.jobs.items actor_in) ∙ (ap length c.in_ok-jobs.ensures.actors ∙ (c.in_ok-actors.ensures.count ∙ ap actors (sym c.plan-plan.ensures.plan)))
 
 pub returns-clause-begins : goal.returns-clause-begins
 returns-clause-begins c =

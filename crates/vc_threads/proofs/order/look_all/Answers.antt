@@ -1,4 +1,4 @@
-use Rattle.std.proofs.Common.{ℕ, length, slice_get, get_or, ap, sym, subst, ◌∙◌, arith}
+use Rattle.std.proofs.Common.{length, slice_get, get_or, ap, sym, subst, ◌∙◌, arith}
 use Rattle.std.proofs.lemmas.Option.{slice_get-get_or}
 use Rattle.vc_plan.specs.declared.port.Spot.TheVariants.{Node}
 use Rattle.vc_plan.specs.declared.port.Wire.{Wire}

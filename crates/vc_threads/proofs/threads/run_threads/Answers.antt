@@ -1,15 +1,19 @@
-use Rattle.std.proofs.Common.{length, sym, subst, map}
+use Rattle.std.proofs.Common.{length, map, refl, sym, subst}
 use Rattle.std.specs.List.{AllByRecursion}
 use Rattle.vc_actors.specs.Merge.{AreDistinct, IsMerge, RunRises, run_of}
 use Rattle.vc_core.specs.Replaying.{Replays}
 use Rattle.vc_core.specs.State.{state_of}
+use Rattle.vc_threads.specs.Closing.{AreInOrder, ClosesBy, stop_at}
 use Rattle.vc_threads.specs.Crews.{IsFit}
 use Rattle.vc_threads.specs.Merged.{numbered}
-use Rattle.vc_threads.proofs.Fitting.{by_recursion}
-use Rattle.vc_threads.proofs.Rising.{all_apart, all_rise}
 use Rattle.vc_threads.specs.Order.{MeetAt, InOrderAt, OnWires}
-use Rattle.vc_threads.proofs.Ordered.{ends_meet, takes_in_order}
-use Rattle.vc_threads.proofs.Reported.{steps_of, each_run, no_run, acts_merged}
+use Rattle.vc_threads.specs.Threads.{CanBeReplayed}
+use Rattle.vc_threads.proofs.Closings.{not_done}
+use Rattle.vc_threads.proofs.Fitting.{by_recursion}
+use Rattle.vc_threads.proofs.Gathered.{can, reports}
+use Rattle.vc_threads.proofs.Ordered.{ends_meet}
+use Rattle.vc_threads.proofs.Reported.{in_order}
+use Rattle.vc_threads.proofs.Rising.{all_apart, all_rise}
 use Rattle.vc_threads.proofs.threads.run_threads.Goals as goal
 
 pub merge-requires-clause-distinct : goal.merge-requires-clause-distinct
@@ -22,6 +26,10 @@ merge-requires-clause-rising g c =
     subst (λ rs. AllByRecursion RunRises (map numbered rs)) (sym c.as_slice.ensures.value)
     (all_rise c.args.turns c.args.seed c.in_ok-jobs.jobs.items c.in_ok-runs.runs.items (by_recursion IsFit c.in_ok-jobs.jobs.items c.in_ok-jobs.ensures.fit) c.in_ok-runs.ensures)
 
+pub stopped-otherwise-requires : goal.stopped-otherwise-requires
+stopped-otherwise-requires g c =
+    subst AreInOrder (sym c.as_slice-2.ensures.value) (in_order c.args.turns c.args.seed c.in_ok-jobs.jobs.items c.in_ok-runs.runs.items c.in_ok-jobs.ensures.numbered c.in_ok-runs.ensures)
+
 pub look_all-requires-clause-rings : goal.look_all-requires-clause-rings
 look_all-requires-clause-rings g c =
     let js = c.in_ok-jobs.jobs.items in
@@ -29,28 +37,31 @@ look_all-requires-clause-rings g c =
     (ends_meet c.args.accepted.now c.args.turns c.args.seed js c.in_ok-runs.runs.items c.in_ok-jobs.ensures.begins c.in_ok-jobs.ensures.numbered c.in_ok-runs.ensures
     c.in_ok-ends.ends c.in_ok-ends.ensures.outs c.in_ok-ends.ensures.ins c.in_ok-jobs.ensures.wired (by_recursion IsFit js c.in_ok-jobs.ensures.fit))
 
+pub replayed-requires : goal.replayed-requires
+replayed-requires g c =
+    let m = c.in_ok-steps.ensures in
+    subst (CanBeReplayed c.args.accepted.now) (sym c.as_slice-3.ensures.value)
+    (can c.args.accepted.now c.plan.ensures.accepted c.args.turns c.args.seed c.in_ok-jobs.jobs.items c.in_ok-runs.runs.items
+    c.in_ok-jobs.ensures.begins c.in_ok-jobs.ensures.numbered c.in_ok-runs.ensures c.in_ok-jobs.ensures.wired
+    c.in_ok-ends.ends c.in_ok-ends.ensures.outs c.in_ok-ends.ensures.ins
+    (subst (λ q. OnWires (InOrderAt (length q.nodes) c.in_ok-ends.ends) q.wires (length q.wires)) c.plan.ensures.plan c.look_all.ensures.order)
+    m.0 (subst (λ xs. IsMerge (run_of (map numbered xs)) m.0) c.as_slice.ensures.value m.1) c.in_ok-steps.steps.items m.2)
+
+pub close_of-close-requires : goal.close_of-close-requires
+close_of-close-requires g c = not_done (length c.as_slice-2.result.now) (stop_at c.as_slice-2.result.now) c.stopped-otherwise.result c.stopped-otherwise.ensures
+
 pub returns : goal.returns
 returns g c =
     let p = c.args.accepted.now in
-    let js = c.in_ok-jobs.jobs.items in
-    let rs = c.in_ok-runs.runs.items in
     let s = state_of c.in_ok-state.state in
     let m = c.in_ok-steps.ensures in
     let replays : Replays p c.in_ok-steps.steps.items s = subst (λ w. Replays p w s) c.as_slice-3.ensures.value c.in_ok-state.ensures in
-    let t = c.args.turns in
-    let seed = c.args.seed in
-    let begins = c.in_ok-jobs.ensures.begins in
-    let are = c.in_ok-jobs.ensures.numbered in
-    let ran = c.in_ok-runs.ensures in
-    record {
-      runs = steps_of p t seed js rs begins are ran;
-      each = each_run p t seed js rs begins are ran;
-      none = no_run p t seed js rs begins are ran;
-      order = takes_in_order p t seed js rs begins are ran c.in_ok-ends.ends c.in_ok-ends.ensures.outs c.in_ok-ends.ensures.ins c.in_ok-jobs.ensures.wired
-          (subst (λ q. OnWires (InOrderAt (length q.nodes) c.in_ok-ends.ends) q.wires (length q.wires)) c.plan.ensures.plan c.look_all.ensures.order);
-      merged = m.0;
-      merge = acts_merged p t seed js rs begins are ran m.0 (subst (λ xs. IsMerge (run_of (map numbered xs)) m.0) c.as_slice.ensures.value m.1);
-      steps = m.2;
-      replays = replays;
-      done = c.close_of-close.ensures p replays.is;
-    }
+    let done = c.close_of-close.ensures in
+    reports p c.plan.ensures.accepted c.args.turns c.args.seed c.in_ok-jobs.jobs.items c.in_ok-runs.runs.items
+    c.in_ok-jobs.ensures.begins c.in_ok-jobs.ensures.numbered c.in_ok-runs.ensures c.in_ok-jobs.ensures.wired
+    c.in_ok-ends.ends c.in_ok-ends.ensures.outs c.in_ok-ends.ensures.ins
+    (subst (λ q. OnWires (InOrderAt (length q.nodes) c.in_ok-ends.ends) q.wires (length q.wires)) c.plan.ensures.plan c.look_all.ensures.order)
+    m.0 (subst (λ xs. IsMerge (run_of (map numbered xs)) m.0) c.as_slice.ensures.value m.1) c.in_ok-steps.steps.items m.2
+    (record { steps = c.in_ok-steps.steps; state = c.in_ok-state.state; close = c.close_of-close.result }) refl replays (done.done p replays.is)
+    (λ not. subst (ClosesBy (length c.in_ok-runs.runs.items) (stop_at c.in_ok-runs.runs.items)) (sym (done.other not))
+    (subst (λ xs. ClosesBy (length xs) (stop_at xs) c.stopped-otherwise.result) c.as_slice-2.ensures.value c.stopped-otherwise.ensures))

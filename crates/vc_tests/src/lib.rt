@@ -1,0 +1,17 @@
+//! Tests of the libraries over their public calls.
+#![tactic(auto)]
+
+#[cfg(test)]
+mod network;
+#[cfg(test)]
+mod overtaking;
+#[cfg(test)]
+mod plan;
+#[cfg(test)]
+mod reader;
+#[cfg(test)]
+mod switch;
+#[cfg(test)]
+mod text;
+#[cfg(test)]
+mod vcp;

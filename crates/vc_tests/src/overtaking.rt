@@ -1,0 +1,141 @@
+//! An acknowledge that overtakes a piece by another link of its group.
+use std::alloc::Global;
+use std::test::Fail;
+use vc_core::{Act, Event, Network, replay};
+use vc_occam::Move;
+use vc_plan::{Accepted, check};
+use vc_reader::read_network;
+
+/// Two nodes that output to each other, each by a switch of its own, and four wires between the switches.
+const SQUARES: &str =
+    r#"{"version":1,"nodes":[{"name":"a","vars":[["i","int"]],"process":{"par":[{"out":["c",3]},{"in":["d","i"]}]}},{"name":"b","vars":[["x","int"]],"process":{"par":[{"in":["c","x"]},{"out":["d",4]}]}}],"switches":[{"name":"s","table":[[0,10,0,0],[10,20,4,7]],"delete":[0]},{"name":"t","table":[[0,10,4,7],[10,20,0,0]],"delete":[0]}],"wires":[["a",0,"s",0],["b",0,"t",0],["s",4,"t",4],["s",5,"t",5],["s",6,"t",6],["s",7,"t",7]],"vlinks":[{"name":"v","a":["a",0,1,[10,1]],"b":["b",0,1,[0,1]]}],"channels":[{"name":"c","kind":"int","vlink":"v","way":"ab"},{"name":"d","kind":"int","vlink":"v","way":"ba"}]}"#;
+
+/// The switches at nodes a and b.
+const S: u8 = 2;
+
+const T: u8 = 3;
+
+/// A network as it goes on, with its events.
+#[derive(Drop)]
+struct Play {
+    network: Network,
+    events: Vec<Event>,
+    /// Nothing is taken at link 4 of switch t.
+    holds: bool,
+}
+
+impl Play {
+    fn begin(alloc: Global, accepted: &Accepted) -> Result<Play, Fail> {
+        Ok(Play {
+            network: Network::new(alloc, accepted)?,
+            events: Vec::new(alloc),
+            holds: true,
+        })
+    }
+
+    /// Makes an event where it is enabled.
+    fn make(&mut self, actor: u8, act: Act) -> Result<bool, Fail> {
+        let event = Event { actor, act };
+        if !self.network.enabled(&event) {
+            return Ok(false);
+        }
+        self.network.step(&event)?;
+        self.events.push(event)?;
+        Ok(true)
+    }
+
+    /// Moves tokens at a link of an actor.
+    fn move_tokens(&mut self, actor: u8, link: u8) -> Result<(), Fail> {
+        if !(self.holds && actor == T && link == 4) {
+            self.make(actor, Act::Take { link, word: 0 })?;
+        }
+        self.make(actor, Act::Pass { link })?;
+        self.make(actor, Act::Fct { link })?;
+        self.make(actor, Act::Put { link })?;
+        Ok(())
+    }
+
+    fn move_processes(&mut self) -> Result<(), Fail> {
+        for site in 1..3 {
+            for chan in 0..2 {
+                for actor in 0..2 {
+                    self.make(actor, Act::Proc(Move::Offer { site, chan }))?;
+                    self.make(actor, Act::Proc(Move::Want { site, chan }))?;
+                }
+            }
+        }
+        Ok(())
+    }
+
+    /// Goes on until nothing is left but to bind what node a sent to a link of the group from s to t.
+    fn settle(&mut self) -> Result<(), Fail> {
+        for _ in 0..60 {
+            self.move_processes()?;
+            self.move_tokens(0, 0)?;
+            self.move_tokens(1, 0)?;
+            for link in 0..8 {
+                self.move_tokens(S, link)?;
+                self.move_tokens(T, link)?;
+                self.make(
+                    T,
+                    Act::Route {
+                        input: link,
+                        output: 0,
+                    },
+                )?;
+                self.make(
+                    S,
+                    Act::Route {
+                        input: link,
+                        output: 0,
+                    },
+                )?;
+            }
+            self.make(
+                T,
+                Act::Route {
+                    input: 0,
+                    output: 6,
+                },
+            )?;
+        }
+        Ok(())
+    }
+}
+
+/// The events in which a's piece of c leaves s by link 4 and stays on the wire, while a's acknowledge for d goes by link 5.
+fn overtake(alloc: Global, accepted: &Accepted) -> Result<Vec<Event>, Fail> {
+    let mut play = Play::begin(alloc, accepted)?;
+    play.settle()?;
+    for output in [4, 5] {
+        if !play.make(S, Act::Route { input: 0, output })? {
+            return Err(Fail::from("a packet that is not at the switch"));
+        }
+        play.settle()?;
+    }
+    let is_overtaken = play.network.finished(1) == 1 && play.network.taken(0).is_empty();
+    play.holds = false;
+    play.settle()?;
+    if is_overtaken {
+        Ok(play.events)
+    } else {
+        Err(Fail::from("an acknowledge that did not overtake"))
+    }
+}
+
+#[test]
+fn an_acknowledge_overtakes_a_piece(rt: HostRuntime) -> Result<(), Fail> {
+    let alloc = rt.alloc();
+    let plan = read_network(alloc, SQUARES.as_bytes())?;
+    let accepted = check(alloc, plan).ok().ok_or("an accepted network")?;
+    let events = overtake(alloc, &accepted)?;
+    let network = replay(alloc, &accepted, events.as_slice())
+        .ok()
+        .ok_or("events that replay")?;
+    assert!(rt; network.ended());
+    assert_eq!(rt; network.taken(0).len(), 1);
+    assert_eq!(rt; network.taken(1).len(), 1);
+    assert_eq!(rt; network.finished(0), 1);
+    assert_eq!(rt; network.finished(1), 1);
+    Ok(())
+}

@@ -1,0 +1,133 @@
+//! Two nodes whose ends of a virtual link exchange packets.
+use sqlite_items::Items;
+use std::alloc::Global;
+use std::test::Fail;
+use vc_packets::{Mark, Memory, Packet};
+use vc_tokens::Token;
+use vc_vcp::{End, Taken, Vcp, Want};
+
+/// A node with one end, by link 0 and of block 1.
+fn node(alloc: Global, output: Option<u16>, input: Option<u16>) -> Result<Vcp, Memory> {
+    let end = End {
+        link: 0,
+        block: 1,
+        route: Items::from_slice(alloc, &[1])?,
+        output,
+        input,
+    };
+    Vcp::new(alloc, &[end], 64)
+}
+
+/// A packet of these bytes.
+fn packet(alloc: Global, bytes: &[u8], mark: Mark) -> Result<Packet, Memory> {
+    let body = Items::from_slice(alloc, bytes)?;
+    Ok(Packet { body, mark })
+}
+
+/// Offers a message on channel 0, where that may be.
+fn offer(vcp: &mut Vcp, message: &[u8]) -> Result<bool, Memory> {
+    if !vcp.may_offer(0) {
+        return Ok(false);
+    }
+    vcp.offer(0, message)?;
+    Ok(true)
+}
+
+/// Inputs on channel 0, where that may be.
+fn want(vcp: &mut Vcp) -> Result<Option<Want>, Memory> {
+    if !vcp.may_want(0) {
+        return Ok(None);
+    }
+    Ok(Some(vcp.want(0)?))
+}
+
+/// Grants eight tokens by link 0, where there is room.
+fn grant(from: &mut Vcp, to: &mut Vcp) {
+    if from.may_grant(0) {
+        from.grant(0);
+        to.accept(0, Token::Fct);
+    }
+}
+
+/// Puts a token by link 0, where there is one and credit.
+fn put(from: &mut Vcp, to: &mut Vcp) {
+    if from.may_put(0) {
+        to.accept(0, from.put(0));
+    }
+}
+
+/// Carries tokens over a wire until a packet has arrived.
+fn carry(from: &mut Vcp, to: &mut Vcp) -> Result<Option<Taken>, Memory> {
+    for _ in 0..100 {
+        grant(to, from);
+        put(from, to);
+        let taken = to.pass(0)?;
+        if taken.is_some() {
+            return Ok(taken);
+        }
+    }
+    Ok(None)
+}
+
+#[test]
+fn a_message_of_two_pieces_is_exchanged(rt: HostRuntime) -> Result<(), Fail> {
+    let alloc = rt.alloc();
+    let mut a = node(alloc, Some(0), None)?;
+    let mut b = node(alloc, None, Some(0))?;
+    assert!(rt; matches!(want(&mut b)?, Some(Want::Waits)));
+    assert!(rt; offer(&mut a, &[7; 33])?);
+    assert!(rt; matches!(carry(&mut a, &mut b)?, Some(Taken::Stored { chan: 0 })));
+    assert!(rt; matches!(carry(&mut b, &mut a)?, Some(Taken::More { chan: 0 })));
+    assert!(rt;
+        matches!(
+            carry(&mut a, &mut b)?,
+            Some(Taken::Complete { chan: 0, .. })
+        )
+    );
+    assert!(rt; matches!(carry(&mut b, &mut a)?, Some(Taken::Finished { chan: 0 })));
+    assert_eq!(rt; (a.finished(0), b.taken(0).len()), (1, 1));
+    Ok(())
+}
+
+#[test]
+fn a_token_that_is_not_due_is_dropped(rt: HostRuntime) -> Result<(), Fail> {
+    let mut a = node(rt.alloc(), None, None)?;
+    a.accept(0, Token::Byte(7));
+    assert!(rt; !a.may_pass(0));
+    assert_eq!(rt; a.strays(), 1);
+    Ok(())
+}
+
+#[test]
+fn a_packet_for_no_half_is_dropped(rt: HostRuntime) -> Result<(), Fail> {
+    let alloc = rt.alloc();
+    let mut a = node(alloc, Some(0), Some(0))?;
+    let idle = packet(alloc, &[0, 1], Mark::Eop)?;
+    assert!(rt; matches!(a.take(&idle)?, Taken::Stray));
+    let elsewhere = packet(alloc, &[0, 9, 7], Mark::Eom)?;
+    assert!(rt; matches!(a.take(&elsewhere)?, Taken::Stray));
+    assert_eq!(rt; a.strays(), 2);
+    Ok(())
+}
+
+#[test]
+fn a_held_piece_waits_for_its_input(rt: HostRuntime) -> Result<(), Fail> {
+    let alloc = rt.alloc();
+    let mut b = node(alloc, None, Some(0))?;
+    let piece = packet(alloc, &[0, 1, 7], Mark::Eom)?;
+    assert!(rt; matches!(b.take(&piece)?, Taken::Held { chan: 0 }));
+    assert!(rt; b.ready(0) && b.next_out(0).is_none());
+    assert!(rt; matches!(want(&mut b)?, Some(Want::Complete(_))));
+    assert!(rt; b.next_out(0).is_some());
+    Ok(())
+}
+
+#[test]
+fn a_channel_is_stopped(rt: HostRuntime) -> Result<(), Fail> {
+    let mut b = node(rt.alloc(), None, Some(0))?;
+    if b.may_stop(0) {
+        b.stopch(0);
+    }
+    assert!(rt; b.stopped(0) && !b.may_want(0));
+    Ok(())
+}

@@ -1,0 +1,24 @@
+-- How a run closes, by why its workers ended.
+use Rattle.std.proofs.Common.{◌≡◌, ◌≢◌, ℕ, ◌+◌, ◌<◌, List, length, get_or, inl, inr, refl, sym, subst, arith}
+use Rattle.std.proofs.lemmas.Bool.{cases_eq}
+use Rattle.std.proofs.lemmas.List.{get_or-map}
+use Rattle.vc_core.specs.declared.close.Close.{Close}
+use Rattle.vc_core.specs.declared.close.Close.TheVariants.{Done}
+use Rattle.vc_threads.specs.Closing.{ClosesBy, NoneStopped, stop_in, stop_at}
+use Rattle.vc_threads.specs.declared.run.ActorRun.{ActorRun}
+use Rattle.vc_threads.specs.declared.run.Stop.{Stop}
+use Rattle.vc_threads.specs.declared.run.Stop.TheVariants.{Turns}
+
+pub stop_of : (rs : List ActorRun) (k : ℕ) (d : ActorRun) → k < length rs → stop_at rs k ≡ (get_or rs k d).stop
+stop_of rs k d within = get_or-map stop_in rs k d Turns within
+
+-- one worker more did not end so
+pub none_more : (n : ℕ) (stops : ℕ → Stop) (stop : Stop) → NoneStopped n stops stop → stops n ≢ stop → NoneStopped (n + 1) stops stop
+none_more n stops stop none ne k less = elim (cases_eq k n) [
+  | inl same ↦ subst (λ j. stops j ≢ stop) (sym same) ne
+  | inr other ↦ none k (omega (arith, less, other))
+]
+
+-- such a close is not Done
+pub not_done : (n : ℕ) (stops : ℕ → Stop) (close : Close) → ClosesBy n stops close → close ≢ Done
+not_done n stops close by e = subst (ClosesBy n stops) e by

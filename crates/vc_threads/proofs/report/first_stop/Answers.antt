@@ -1,0 +1,15 @@
+use Rattle.std.proofs.Common.{get_or, ◌∙◌, sym}
+use denote.Enum.Bare.{same_false}
+use Rattle.vc_threads.specs.Closing.{stop_at}
+use Rattle.vc_threads.specs.contracts.run.Stop.{the_type}
+use Rattle.vc_threads.proofs.Closings.{none_more, stop_of}
+use Rattle.vc_threads.proofs.report.first_stop.Goals as goal
+
+-- src/report.rt:28:5
+pub loop-k-preserved : goal.loop-k-preserved
+loop-k-preserved c =
+    let rs = c.args.runs.now in
+    let k = c.loop-k.k in
+    none_more k (stop_at rs) c.args.stop c.loop-k.invariant (λ same.
+    same_false the_type (get_or rs k c.index-runs-k.result).stop c.args.stop (sym c.eq.ensures ∙ c.if-eq.false)
+    (sym (stop_of rs k c.index-runs-k.result c.loop-k-test.true) ∙ same))
