@@ -36,9 +36,18 @@ pub(crate) fn wrong_step(
     process: Result<Process, Memory>,
     steps: &[Step],
 ) -> Result<Option<usize>, Fail> {
-    let mut running = begin(alloc, process?)?;
+    let process = process?;
+    let mut running = begin(alloc, &process)?;
+    first_wrong(&mut running, alloc, steps)
+}
+
+fn first_wrong(
+    running: &mut Running,
+    alloc: Global,
+    steps: &[Step],
+) -> Result<Option<usize>, Fail> {
     for (place, step) in steps.iter().enumerate() {
-        if !takes(&mut running, alloc, *step)? {
+        if !takes(running, alloc, *step)? {
             return Ok(Some(place));
         }
     }
@@ -46,11 +55,11 @@ pub(crate) fn wrong_step(
 }
 
 /// The process at its beginning, once it is seen that it can run.
-fn begin(alloc: Global, process: Process) -> Result<Running, Fail> {
-    if check_use(alloc, &process).is_err() {
+fn begin(alloc: Global, process: &Process) -> Result<Running, Fail> {
+    if check_use(alloc, process).is_err() {
         return Err(Fail::from("a process of lawful use"));
     }
-    begin_lawful(alloc, &process)
+    begin_lawful(alloc, process)
 }
 
 fn begin_lawful(alloc: Global, process: &Process) -> Result<Running, Fail>

@@ -5,12 +5,16 @@ use std::test::Fail;
 use vc_occam::Process;
 use vc_packets::Memory;
 
-/// How many processes are written, and whether these are a few, and how deep they are.
+/// An equal process.
+fn copied(alloc: Global, process: Result<Process, Memory>) -> Result<Process, Memory> {
+    process?.copy(alloc)
+}
+
+/// How many processes are written, where they are at most four and at most three; and whether they are at most three deep, and two.
 fn counted(
-    alloc: Global,
     process: Result<Process, Memory>,
 ) -> Result<(Option<u32>, Option<u32>, bool, bool), Fail> {
-    let process = process?.copy(alloc)?;
+    let process = process?;
     Ok((
         process.sites(4),
         process.sites(3),
@@ -23,7 +27,7 @@ fn counted(
 fn processes_are_counted_and_their_depth_too(rt: HostRuntime) -> Result<(), Fail> {
     let loop_of_one = count(rt.alloc(), number(0), number(1), skip());
     let process = seq(rt.alloc(), skip(), loop_of_one);
-    let found = counted(rt.alloc(), process)?;
+    let found = counted(copied(rt.alloc(), process))?;
     assert_eq!(rt; found, (Some(4), None, true, false));
     Ok(())
 }

@@ -4,6 +4,32 @@ use std::alloc::Global;
 use vc_occam::{Branch, BytesExpr, Cond, Expr, Guard, Op, Process, Rel, Value};
 use vc_packets::Memory;
 
+/// Both values.
+fn pair<A: Drop, B: Drop>(
+    first: Result<A, Memory>,
+    second: Result<B, Memory>,
+) -> Result<(A, B), Memory> {
+    let first = first?;
+    Ok((first, second?))
+}
+
+/// A list of two.
+fn list<T: Drop>(
+    alloc: Global,
+    first: Result<T, Memory>,
+    second: Result<T, Memory>,
+) -> Result<Items<T>, Memory> {
+    let mut items = Items::new(alloc);
+    items.push(first?)?;
+    items.push(second?)?;
+    Ok(items)
+}
+
+/// A value in a box.
+fn boxed<T: Drop>(alloc: Global, value: Result<T, Memory>) -> Result<Boxed<T>, Memory> {
+    Ok(Boxed::new(alloc, value?)?)
+}
+
 /// A whole number.
 pub(crate) fn number(number: i64) -> Result<Expr, Memory> {
     Ok(Expr::Num(number))
@@ -26,8 +52,7 @@ pub(crate) fn binary(
     left: Result<Expr, Memory>,
     right: Result<Expr, Memory>,
 ) -> Result<Expr, Memory> {
-    let left = Boxed::new(alloc, left?)?;
-    let right = Boxed::new(alloc, right?)?;
+    let (left, right) = pair(boxed(alloc, left), boxed(alloc, right))?;
     Ok(Expr::Bin { op, left, right })
 }
 
@@ -47,11 +72,8 @@ pub(crate) fn compare(
     left: Result<Expr, Memory>,
     right: Result<Expr, Memory>,
 ) -> Result<Cond, Memory> {
-    Ok(Cond::Cmp {
-        rel,
-        left: left?,
-        right: right?,
-    })
+    let (left, right) = pair(left, right)?;
+    Ok(Cond::Cmp { rel, left, right })
 }
 
 /// A condition that is a fault.
@@ -65,8 +87,8 @@ pub(crate) fn both(
     left: Result<Cond, Memory>,
     right: Result<Cond, Memory>,
 ) -> Result<Cond, Memory> {
-    let left = Boxed::new(alloc, left?)?;
-    Ok(Cond::And(left, Boxed::new(alloc, right?)?))
+    let (left, right) = pair(boxed(alloc, left), boxed(alloc, right))?;
+    Ok(Cond::And(left, right))
 }
 
 /// One of the conditions.
@@ -75,13 +97,13 @@ pub(crate) fn either(
     left: Result<Cond, Memory>,
     right: Result<Cond, Memory>,
 ) -> Result<Cond, Memory> {
-    let left = Boxed::new(alloc, left?)?;
-    Ok(Cond::Or(left, Boxed::new(alloc, right?)?))
+    let (left, right) = pair(boxed(alloc, left), boxed(alloc, right))?;
+    Ok(Cond::Or(left, right))
 }
 
 /// Not the condition.
 pub(crate) fn not(alloc: Global, cond: Result<Cond, Memory>) -> Result<Cond, Memory> {
-    Ok(Cond::Not(Boxed::new(alloc, cond?)?))
+    Ok(Cond::Not(boxed(alloc, cond)?))
 }
 
 /// SKIP.
@@ -133,24 +155,13 @@ pub(crate) fn none(alloc: Global) -> Items<Process> {
     Items::new(alloc)
 }
 
-fn two(
-    alloc: Global,
-    first: Result<Process, Memory>,
-    second: Result<Process, Memory>,
-) -> Result<Items<Process>, Memory> {
-    let mut parts = Items::new(alloc);
-    parts.push(first?)?;
-    parts.push(second?)?;
-    Ok(parts)
-}
-
 /// Two processes in order.
 pub(crate) fn seq(
     alloc: Global,
     first: Result<Process, Memory>,
     second: Result<Process, Memory>,
 ) -> Result<Process, Memory> {
-    Ok(Process::Seq(two(alloc, first, second)?))
+    Ok(Process::Seq(list(alloc, first, second)?))
 }
 
 /// Two processes side by side.
@@ -159,7 +170,7 @@ pub(crate) fn par(
     first: Result<Process, Memory>,
     second: Result<Process, Memory>,
 ) -> Result<Process, Memory> {
-    Ok(Process::Par(two(alloc, first, second)?))
+    Ok(Process::Par(list(alloc, first, second)?))
 }
 
 /// A branch of an IF.
@@ -167,8 +178,8 @@ pub(crate) fn branch(
     cond: Result<Cond, Memory>,
     body: Result<Process, Memory>,
 ) -> Result<Branch, Memory> {
-    let cond = cond?;
-    Ok(Branch { cond, body: body? })
+    let (cond, body) = pair(cond, body)?;
+    Ok(Branch { cond, body })
 }
 
 /// An IF with two branches.
@@ -177,10 +188,7 @@ pub(crate) fn choice(
     first: Result<Branch, Memory>,
     second: Result<Branch, Memory>,
 ) -> Result<Process, Memory> {
-    let mut branches = Items::new(alloc);
-    branches.push(first?)?;
-    branches.push(second?)?;
-    Ok(Process::If(branches))
+    Ok(Process::If(list(alloc, first, second)?))
 }
 
 /// A WHILE.
@@ -189,8 +197,7 @@ pub(crate) fn repeat(
     cond: Result<Cond, Memory>,
     body: Result<Process, Memory>,
 ) -> Result<Process, Memory> {
-    let cond = cond?;
-    let body = Boxed::new(alloc, body?)?;
+    let (cond, body) = pair(cond, boxed(alloc, body))?;
     Ok(Process::While { cond, body })
 }
 
@@ -201,8 +208,8 @@ pub(crate) fn count(
     count: Result<Expr, Memory>,
     body: Result<Process, Memory>,
 ) -> Result<Process, Memory> {
-    let (base, count) = (base?, count?);
-    let body = Boxed::new(alloc, body?)?;
+    let (bounds, body) = pair(pair(base, count), boxed(alloc, body))?;
+    let (base, count) = bounds;
     Ok(Process::Count {
         var: 0,
         base,
@@ -217,12 +224,12 @@ pub(crate) fn guard(
     chan: u16,
     body: Result<Process, Memory>,
 ) -> Result<Guard, Memory> {
-    let cond = cond?;
+    let (cond, body) = pair(cond, body)?;
     Ok(Guard {
         cond,
         chan,
         var: 0,
-        body: body?,
+        body,
     })
 }
 
@@ -232,8 +239,5 @@ pub(crate) fn alt(
     first: Result<Guard, Memory>,
     second: Result<Guard, Memory>,
 ) -> Result<Process, Memory> {
-    let mut guards = Items::new(alloc);
-    guards.push(first?)?;
-    guards.push(second?)?;
-    Ok(Process::Alt(guards))
+    Ok(Process::Alt(list(alloc, first, second)?))
 }
