@@ -29,3 +29,4 @@ pub mod AbleMoves
 pub mod Enabled
 pub mod Turning
 pub mod Quiet
+pub mod Waking

@@ -60,7 +60,7 @@ way_below s k l n beyond f = elim (cases_lt l n) [
 ]
 
 -- the table of ways has 32 places an actor
-few_at : (out : List (Option ℕ)) (k l w : ℕ) → out_at out k l ≡ Some w → l < 32
+pub few_at : (out : List (Option ℕ)) (k l w : ℕ) → out_at out k l ≡ Some w → l < 32
 few_at out k l w e = by_test (nat_lt l 32) refl e
   where
     by_test : (b : Bool) → nat_lt l 32 ≡ b → (if b then there (slice_get out (k * 32 + l)) else None) ≡ Some w → l < 32

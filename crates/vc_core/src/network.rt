@@ -8,6 +8,8 @@ ghost use Rattle.std.specs.Option.{option_copied};
 ghost use Rattle.vc_plan.specs.Accepted.{port_of as side_of};
 ghost use Rattle.vc_plan.specs.declared.channel.Channel.{Channel};
 ghost use Rattle.vc_accepted.specs.NetworkOf.{network_of};
+ghost use Rattle.vc_accepted.specs.Outgoing.{actor_of as actor_number};
+ghost use Rattle.vc_core.specs.Wired.{out_at, in_at};
 ghost use Rattle.vc_network.specs.Plan.{home};
 ghost use Rattle.vc_network.specs.Views.{view, source_node, sink_node, vcps};
 ghost use Rattle.vc_core.specs.Placed.{AreOwned, FindsPlace, IsUnfinished};
@@ -29,14 +31,18 @@ use crate::channels::{ChannelInfo, Ends, channels_of};
 use crate::node::Node;
 use crate::place::Place;
 use crate::refused::{ReplayRefused, StepRefused};
+use crate::room::{lowest, without};
 use crate::way::Way;
 use crate::wiring::Wiring;
 use sqlite_items::{Items, at};
 use std::alloc::Global;
 use vc_occam::ValueKind;
 use vc_packets::Memory;
-use vc_plan::{Accepted, Port, Wire};
+use vc_plan::{Accepted, Port, Spot, Wire};
 use vc_tokens::Token;
+
+/// The links of an actor, of which a node has four.
+const LINKS: u8 = 32;
 
 /// A network: its actors, and the tokens on the ways that join them.
 #[derive(Drop)]
@@ -256,6 +262,42 @@ impl Network {
             }
         }
         None
+    }
+
+    /// The least link of a mask by which an actor can take a token, where the mask has a bit for each link by which one comes.
+    pub fn link_among(&self, actor: u8, links: u32) -> Option<u8>
+        ensures least { ((l : ℕ) → HasFront (state_of self.now) actor l → bit_at links l ≡ 1) → FindsFront (state_of self.now) actor result }
+        ensures takes { (p : Plan) → IsNetworkOf p (state_of self.now) → ((l : ℕ) → HasFront (state_of self.now) actor l → bit_at links l ≡ 1) → FindsTake p (state_of self.now) actor result }
+    {
+        let mut left = links;
+        for _ in 0..LINKS {
+            let link = lowest(left, LINKS)?;
+            if self.has_front(actor, link) {
+                return Some(link);
+            }
+            left = without(left, link);
+        }
+        None
+    }
+
+    /// The actor and its link to which a token goes out by a link of an actor.
+    pub fn far(&self, actor: u8, link: u8) -> Option<(u16, u8)>
+        ensures { (p : Plan) (way k l : ℕ) → IsNetworkOf p (state_of self.now) → out_at (state_of self.now).wiring actor link ≡ Some way → in_at (state_of self.now).wiring k l ≡ Some way → result ≡ Some (k, l) }
+    {
+        let way = self.wiring.outgoing(actor, link)?;
+        let wire = at(self.wires.as_slice(), way / 2)?;
+        let port = port_of(wire, way % 2 != 0);
+        Some((self.number_of(port.spot), port.link))
+    }
+
+    // The number of a node or a switch among the actors.
+    fn number_of(&self, spot: Spot) -> u16
+        ensures { result ≡ actor_number (state_of self.now).nodes spot }
+    {
+        match spot {
+            Spot::Node(node) => u16::from(node),
+            Spot::Switch(switch) => u16::from(self.nodes) + u16::from(switch),
+        }
     }
 
     /// What an actor does next where every way has room; nothing where it has no step but to take.
