@@ -51,6 +51,8 @@ mod process_limits;
 mod relation;
 mod running;
 mod sharing;
+#[cfg(test)]
+mod tests;
 mod usages;
 mod use_check;
 mod use_fault;
