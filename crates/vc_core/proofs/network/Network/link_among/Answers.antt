@@ -56,6 +56,6 @@ returns-clause-takes c = λ p is all.
     let s = state_of c.args.self.now in
     let test = c.loop-test.false in
     takes p s c.args.actor None is (λ l front.
-      let few = front_few s c.args.actor l front in
-      let past : l < c.loop.counter = omega arith in
-      not_both (c.loop.invariant.gone l past) (c.loop.invariant.tried all l front))
+    let few = front_few s c.args.actor l front in
+    let past : l < c.loop.counter = omega arith in
+    not_both (c.loop.invariant.gone l past) (c.loop.invariant.tried all l front))
