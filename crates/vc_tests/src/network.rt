@@ -75,12 +75,12 @@ fn settle(network: &mut Network, events: &mut Vec<Event>) -> Result<(), Fail> {
     Ok(())
 }
 
-/// The events of the choice network in which the ALT first takes the guard of channel `first`, once both are ready.
-fn play(alloc: Global, accepted: &Accepted, first: u16) -> Result<Vec<Event>, Fail> {
+/// The events of the choice network in which the ALT takes its guards in this order, once both are ready.
+fn play(alloc: Global, accepted: &Accepted, order: [u16; 2]) -> Result<Vec<Event>, Fail> {
     let mut network = Network::new(alloc, accepted)?;
     let mut events = Vec::new(alloc);
     settle(&mut network, &mut events)?;
-    for guard in [first, 1 - first] {
+    for guard in order {
         let choice = Act::Proc(Move::Choose {
             site: 1,
             guard,
@@ -125,8 +125,8 @@ fn same_view(left: &Network, right: &Network, chan: u16) -> bool {
 fn either_guard_first_gives_the_same_views(rt: HostRuntime) -> Result<(), Fail> {
     let alloc = rt.alloc();
     let accepted = accept(alloc, CHOICE)?;
-    let c_first = play(alloc, &accepted, 0)?;
-    let d_first = play(alloc, &accepted, 1)?;
+    let c_first = play(alloc, &accepted, [0, 1])?;
+    let d_first = play(alloc, &accepted, [1, 0])?;
     assert!(rt; c_first.as_slice() != d_first.as_slice());
     let left = replayed(alloc, &accepted, c_first.as_slice())?;
     let right = replayed(alloc, &accepted, d_first.as_slice())?;
