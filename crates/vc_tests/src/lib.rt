@@ -17,3 +17,5 @@ mod switch;
 mod text;
 #[cfg(test)]
 mod vcp;
+#[cfg(test)]
+mod workers;

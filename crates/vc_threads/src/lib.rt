@@ -30,6 +30,3 @@ pub use run::{ActorRun, Stop};
 pub use stamp::next_stamp;
 pub use threads::run_threads;
 pub use work::worker;
-
-#[cfg(test)]
-mod tests;

@@ -1,8 +1,8 @@
+//! A worker by itself, its stamps, its gate, and the merge of what workers did.
 ghost use Rattle.std.specs.Prelude.{◌≡◌, ℕ, ◌∷◌, [], IfOk};
 ghost use Rattle.vc_core.specs.declared.act.Act.{Act as SpeltAct};
 ghost use Rattle.vc_threads.specs.Works.{IsOfSomePlan};
 
-use super::*;
 use rtrb::RingBuffer;
 use sqlite_items::Items;
 use std::alloc::Global;
@@ -11,6 +11,9 @@ use std::test::Fail;
 use vc_core::{Act, Actor, actors};
 use vc_occam::Process;
 use vc_plan::{NodePlan, Plan, check};
+use vc_threads::{
+    ActorRun, EndGate, Ends, Gate, LinkRule, Stamped, Stop, merge, next_stamp, worker,
+};
 use vc_tokens::Token;
 
 #[test]
