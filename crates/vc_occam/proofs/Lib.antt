@@ -43,3 +43,4 @@ pub mod Judging
 pub mod Parted
 pub mod Placed
 pub mod Determinate
+pub mod Unjoined

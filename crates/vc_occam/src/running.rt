@@ -14,7 +14,7 @@ use crate::datum::Datum;
 use crate::deed::Deed;
 use crate::frame::Frame;
 use crate::framing::begin_frame;
-use crate::meeting::{is_outside, joined, partner};
+use crate::meeting::{clear, is_outside, partner, push_all_joined};
 use crate::moves::Move;
 use crate::process::Process;
 use crate::value_kind::ValueKind;
@@ -106,7 +106,7 @@ fn meet(
 }
 
 impl Running {
-    ghost use Rattle.std.specs.Prelude.{◌≡◌, ◌≤◌, ◌↔◌, IsTrue, IfOk, OnOk, OnErr, MatchOption, Some, None, true, ℕ};
+    ghost use Rattle.std.specs.Prelude.{◌≡◌, ◌≤◌, ◌↔◌, ◌++◌, [], IsTrue, IfOk, OnOk, OnErr, MatchOption, Some, None, true, ℕ};
     ghost use Rattle.std.specs.List.{Contains};
     ghost use Rattle.vc_occam.specs.First.{own};
     ghost use Rattle.vc_occam.specs.Frames.{assigned_at};
@@ -154,9 +154,36 @@ impl Running {
     pub fn actions(&self) -> Result<Items<Move>, Memory>
         ensures { IfOk result (λ found. found ≡ moves self.now) }
     {
+        let mut found = Items::new(self.alloc);
+        self.push_actions(&mut found)?;
+        Ok(found)
+    }
+
+    /// Puts the same moves in a list in place of what it holds, whose room serves again; where memory is refused, the list is
+    /// empty then.
+    pub fn list_actions(&self, found: &mut Items<Move>) -> Result<(), Memory>
+        ensures listed { OnOk result (found.new ≡ moves self.now) }
+        ensures refused { OnErr result (found.new ≡ []) }
+    {
+        clear(found);
+        let listed = self.push_actions(found);
+        if listed.is_err() {
+            clear(found);
+        }
+        listed
+    }
+
+    /// Adds the moves that it can begin with; where no channel is inside the node they are its sites' own.
+    #[tactic(auto, unfolding(crate::specs::Runnings::state, crate::specs::Runnings::inner_channels))]
+    fn push_actions(&self, found: &mut Items<Move>) -> Result<(), Memory>
+        ensures { OnOk result (found.new ≡ found.old ++ moves self.now) }
+    {
+        if self.inside.is_empty() {
+            return self.frame.push_moves(found, &self.vars);
+        }
         let mut own = Items::new(self.alloc);
         self.frame.push_moves(&mut own, &self.vars)?;
-        joined(self.alloc, own.as_slice(), self.inside.as_slice())
+        push_all_joined(found, own.as_slice(), self.inside.as_slice())
     }
 
     /// Whether the move is one that it can begin with.
