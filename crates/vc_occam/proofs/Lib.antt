@@ -44,3 +44,4 @@ pub mod Parted
 pub mod Placed
 pub mod Determinate
 pub mod Unjoined
+pub mod Ending

@@ -17,6 +17,7 @@ use crate::framing::begin_frame;
 use crate::meeting::{clear, is_outside, partner, push_all_joined};
 use crate::moves::Move;
 use crate::process::Process;
+use crate::site_deed::SiteDeed;
 use crate::value_kind::ValueKind;
 use crate::variables::empty_variables;
 use crate::waits::Waits;
@@ -100,9 +101,24 @@ fn meet(
     ensures plan { (view frame.new).0 ≡ (view frame.old).0 }
     ensures length { length vars.new.items ≡ length vars.old.items }
 {
-    frame.go(sender, Deed::Offer { chan }, None, vars);
-    frame.go(site_of(taken), deed_for(taken, answer), None, vars);
-    frame.go(sender, Deed::Finish, None, vars);
+    let mut offers = SiteDeed {
+        site: sender,
+        deed: Deed::Offer { chan },
+        assigned: None,
+    };
+    frame.go(&mut offers, vars);
+    let mut takes = SiteDeed {
+        site: site_of(taken),
+        deed: deed_for(taken, answer),
+        assigned: None,
+    };
+    frame.go(&mut takes, vars);
+    let mut finishes = SiteDeed {
+        site: sender,
+        deed: Deed::Finish,
+        assigned: None,
+    };
+    frame.go(&mut finishes, vars);
 }
 
 impl Running {
@@ -270,8 +286,12 @@ impl Running {
         ensures inside { inner_channels self.new ≡ inner_channels self.old }
     {
         let assigned = self.assigned_by(made)?;
-        let deed = deed_for(made, answer);
-        self.frame.go(site_of(made), deed, assigned, &mut self.vars);
+        let mut doing = SiteDeed {
+            site: site_of(made),
+            deed: deed_for(made, answer),
+            assigned,
+        };
+        self.frame.go(&mut doing, &mut self.vars);
         Ok(())
     }
 
@@ -293,7 +313,12 @@ impl Running {
         ensures resumed { Resumes (state self.old) site message (state self.new) }
         ensures inside { inner_channels self.new ≡ inner_channels self.old }
     {
-        self.frame.go(site, deed_on(message), None, &mut self.vars);
+        let mut doing = SiteDeed {
+            site,
+            deed: deed_on(message),
+            assigned: None,
+        };
+        self.frame.go(&mut doing, &mut self.vars);
     }
 
     /// The site whose output on the channel waits to be finished, if there is one.

@@ -1,4 +1,4 @@
-use Rattle.std.proofs.Common.{◌≡◌, ◌∙◌, ap, sym, List, ℕ}
+use Rattle.std.proofs.Common.{◌∙◌, ap, sym, List, ℕ}
 use Rattle.vc_occam.specs.declared.datum.Datum.{Datum}
 use Rattle.vc_occam.specs.First.{joined, own}
 use Rattle.vc_occam.specs.Frames.{view}
