@@ -43,7 +43,7 @@ beside_assigned i mine Done Done e = refl
 beside_assigned i mine r q e = refl
 
 -- a process that begins has not ended
-goes_then : (r : Rest) (ps : Procs) → is_done r ≡ false → is_done (and_then r ps) ≡ false
+pub goes_then : (r : Rest) (ps : Procs) → is_done r ≡ false → is_done (and_then r ps) ≡ false
 goes_then r no_parts h = h
 goes_then r (part p ps) h = refl
 

@@ -3,7 +3,7 @@ use Rattle.std.proofs.Common.{◌≡◌, ℕ, ℤ, zero, suc, Bool, true, false,
 use Rattle.std.proofs.lemmas.Bool.Decides.{nat_tests}
 use Rattle.std.specs.Prelude.{slice_get, vec_len, nat_le, IfOk, ◌==◌}
 use Rattle.vc_occam.specs.Syntax.{Exp, Test, Proc, SEQ, PAR, Procs, no_parts, part}
-use Rattle.vc_occam.specs.Remains.{Rest, Done, Stopped, Fresh, Finishing, Getting, Then, and_then, begin}
+use Rattle.vc_occam.specs.Remains.{Rest, Done, Stopped, Fresh, Finishing, Getting, Then, Turns, Beside, and_then, then_on, begin}
 use Rattle.vc_occam.specs.declared.kind.Kind.{Kind}
 use Rattle.vc_occam.specs.declared.kind.Kind.TheVariants as kind
 use Rattle.vc_occam.specs.declared.phase.Phase.{Phase}
@@ -18,8 +18,8 @@ use Rattle.vc_occam.specs.First.{own}
 use Rattle.vc_occam.specs.declared.moves.Move.TheVariants.{Quiet}
 use Rattle.vc_occam.specs.States.{waiting, output_at}
 use Rattle.vc_occam.specs.Gates.{Gate, gate}
-use Rattle.vc_occam.specs.Frames.{View, awaiting, chosen_at, count_of, is_counted, is_par, all_begun, turn_of, turning, together, besides, plans_of, behind, follow, going_at, has_parts, is_last, place_of, while_of, so_far, plan_at, rest_at, view_step, view, views, is_done, part_done, part_own, part_waits, part_output, part_assigned, assigned_at, begun_parts, begun_phase}
-use Rattle.vc_occam.proofs.Besides.{begun_plans_of, besides_begun}
+use Rattle.vc_occam.specs.Frames.{View, awaiting, chosen_at, count_of, is_counted, is_par, all_begun, turn_of, turning, together, besides, plans_of, behind, follow, follow_on, going_at, has_parts, is_last, place_of, while_of, so_far, plan_at, rest_at, view_step, view, views, is_done, part_done, part_own, part_waits, part_output, part_assigned, assigned_at, begun_parts, begun_phase}
+use Rattle.vc_occam.proofs.Besides.{begin_goes, begun_plans_of, besides_begun, goes_then}
 
 pub view_roll : (f : Frame-F Frame) → view (roll-Frame f) ≡ (plan_at f.kind f.site (views f.parts.items), rest_at f.kind f.phase f.site (views f.parts.items) f.at)
 unfolding view view_step
@@ -146,14 +146,6 @@ done_phase phase.Chosen p r w b t l d h k g = k
 done_phase phase.Ended p r w b t l d h k g = refl
 done_phase phase.Stuck p r w b t l d h k g = refl
 
-pub ended_is : (f : Frame) →
-    is_done (view f).1 ≡ done_by (out-Frame f).phase (is_last (out-Frame f).kind (out-Frame f).at (length (views (out-Frame f).parts.items))) (part_done (slice_get (views (out-Frame f).parts.items) (place_of (out-Frame f).kind (out-Frame f).at))) (is_done (together (out-Frame f).kind (views (out-Frame f).parts.items)))
-ended_is f =
-    let o = out-Frame f in
-    let vs = views o.parts.items in
-    ap (λ (v : View). is_done v.1) (view_out f)
-    ∙ done_phase o.phase (plan_at o.kind o.site vs) (going_at o.kind o.site vs o.at) (awaiting o.kind o.site vs o.at) (together o.kind vs) (turning o.kind vs) _ _ (going_done o.kind o.site vs o.at) (awaiting_done (awaiting_is o.kind o.site vs o.at)) (turning_done o.kind vs)
-
 pub length-views : (fs : List Frame) → length (views fs) ≡ length fs
 length-views [] = refl
 length-views (f ∷ fs) = ap suc (length-views fs)
@@ -161,11 +153,45 @@ length-views (f ∷ fs) = ap suc (length-views fs)
 pub parts_len : (v : Vec Frame Global) → vec_len v ≡ length (views v.items)
 parts_len v = v.ok.0 ∙ sym (length-views v.items)
 
-pub ended_by : (f : Frame) (p : Phase) (l d b : Bool) → (out-Frame f).phase ≡ p → is_last (out-Frame f).kind (out-Frame f).at (vec_len (out-Frame f).parts) ≡ l → part_done (slice_get (views (out-Frame f).parts.items) (place_of (out-Frame f).kind (out-Frame f).at)) ≡ d → is_done (together (out-Frame f).kind (views (out-Frame f).parts.items)) ≡ b → is_done (view f).1 ≡ done_by p l d b
-ended_by f p l d b hp hl hd hb =
-    let o = out-Frame f in
-    let all = is_done (together o.kind (views o.parts.items)) in
-    ended_is f ∙ ap (λ n. done_by o.phase (is_last o.kind o.at n) (part_done (slice_get (views o.parts.items) (place_of o.kind o.at))) all) (sym (parts_len o.parts)) ∙ rw (hp, hl, hd, hb) refl
+pub rest_done : (k : Kind) (i : ℕ) (ph q : Phase) (parts : Vec Frame Global) (at : ℕ) (l d b : Bool) → ph ≡ q → is_last k at (vec_len parts) ≡ l → part_done (slice_get (views parts.items) (place_of k at)) ≡ d → is_done (together k (views parts.items)) ≡ b → is_done (rest_at k ph i (views parts.items) at) ≡ done_by q l d b
+rest_done k i ph q parts at l d b hp hl hd hb =
+    let vs = views parts.items in
+    let all = is_done (together k vs) in
+    done_phase ph (plan_at k i vs) (going_at k i vs at) (awaiting k i vs at) (together k vs) (turning k vs) _ _ (going_done k i vs at) (awaiting_done (awaiting_is k i vs at)) (turning_done k vs)
+    ∙ ap (λ n. done_by ph (is_last k at n) (part_done (slice_get vs (place_of k at))) all) (sym (parts_len parts)) ∙ rw (hp, hl, hd, hb) refl
+
+-- what remains after a part did something: nothing where nothing remains of the part and nothing comes behind it
+then_goes : (r : Rest) (p : Proc) (ps : Procs) → is_done (then_on r (part p ps)) ≡ false
+then_goes Done p ps = goes_then (begin p) ps (begin_goes p)
+then_goes Stopped p ps = refl
+then_goes (Fresh q) p ps = refl
+then_goes (Finishing i c) p ps = refl
+then_goes (Getting i c v) p ps = refl
+then_goes (Then q qs) p ps = refl
+then_goes (Turns q v b n x) p ps = refl
+then_goes (Beside m q s) p ps = refl
+
+follow_on_done : (o : Option View) (ps : Procs) → is_done (follow_on o ps) ≡ (no_plans ps && part_done o)
+unfolding no_plans
+follow_on_done None no_parts = refl
+follow_on_done None (part p ps) = refl
+follow_on_done (Some v) no_parts = refl
+follow_on_done (Some v) (part p ps) = then_goes v.1 p ps
+
+pub went_done : (k : Kind) (i : ℕ) (vs : List View) (at : ℕ) → has_parts k ≡ true → is_done (follow_on (slice_get vs (place_of k at)) (behind k i vs at)) ≡ (is_last k at (length vs) && part_done (slice_get vs (place_of k at)))
+unfolding no_plans
+went_done kind.Skip i vs at h = absurd (let z : false ≡ true = h in cc)
+went_done kind.Stop i vs at h = absurd (let z : false ≡ true = h in cc)
+went_done (kind.Set v a) i vs at h = absurd (let z : false ≡ true = h in cc)
+went_done (kind.Send c a) i vs at h = absurd (let z : false ≡ true = h in cc)
+went_done (kind.Receive c v) i vs at h = absurd (let z : false ≡ true = h in cc)
+went_done (kind.Stopch c) i vs at h = absurd (let z : false ≡ true = h in cc)
+went_done kind.Seq i vs at h = follow_on_done (slice_get vs at) (plans_of (drop (suc at) vs)) ∙ ap (λ b. b && part_done (slice_get vs at)) (none_behind vs at)
+went_done kind.Par i vs at h = absurd (let z : false ≡ true = h in cc)
+went_done (kind.If bs) i vs at h = follow_on_done (slice_get vs at) no_parts
+went_done (kind.Count v a n) i vs at h = absurd (let z : false ≡ true = h in cc)
+went_done (kind.While b) i vs at h = follow_on_done (slice_get vs 0) (behind (kind.While b) i vs at)
+went_done (kind.Alt gs) i vs at h = follow_on_done (slice_get vs at) no_parts
 
 pub frame_begun : (k : Kind) (i : ℕ) (vs : List View) → ◌≡◌ {A = View} (plan_at k i (begun_parts k vs), rest_at k (begun_phase k vs) i (begun_parts k vs) 0) (plan_at k i vs, begin (plan_at k i vs))
 frame_begun kind.Skip i vs = refl
@@ -273,7 +299,7 @@ pub turning_none : (f : Frame) (x y : ℤ) → (out-Frame f).phase ≡ phase.Tur
 turning_none f x y h k = rest_turning f x y h ∙ turning_not (out-Frame f).kind (views (out-Frame f).parts.items) x y k
 
 -- a PAR whose parts go on; no other kind is in this phase
-together_is : (k : Kind) (vs : List View) → is_par k ≡ true → together k vs ≡ besides vs
+pub together_is : (k : Kind) (vs : List View) → is_par k ≡ true → together k vs ≡ besides vs
 together_is kind.Skip vs h = absurd (let e : false ≡ true = h in cc)
 together_is kind.Stop vs h = absurd (let e : false ≡ true = h in cc)
 together_is (kind.Set v a) vs h = absurd (let e : false ≡ true = h in cc)
@@ -287,7 +313,7 @@ together_is (kind.While b) vs h = absurd (let e : false ≡ true = h in cc)
 together_is (kind.Count v a n) vs h = absurd (let e : false ≡ true = h in cc)
 together_is (kind.Alt gs) vs h = absurd (let e : false ≡ true = h in cc)
 
-together_not : (k : Kind) (vs : List View) → is_par k ≡ false → together k vs ≡ Stopped
+pub together_not : (k : Kind) (vs : List View) → is_par k ≡ false → together k vs ≡ Stopped
 together_not kind.Skip vs h = refl
 together_not kind.Stop vs h = refl
 together_not (kind.Set v a) vs h = refl

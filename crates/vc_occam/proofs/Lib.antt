@@ -43,3 +43,5 @@ pub mod Judging
 pub mod Parted
 pub mod Placed
 pub mod Determinate
+pub mod Unjoined
+pub mod Ending

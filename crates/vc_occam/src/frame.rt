@@ -1,6 +1,6 @@
 //! Processes that run: a tree of frames, each with its parts and how far it is.
-ghost use Rattle.std.specs.Prelude.{◌≡◌, slice_get};
-ghost use Rattle.vc_occam.specs.Frames.{all_begun, begun_parts, begun_phase, besides, is_choice, is_counted, is_par, has_parts as is_composed, is_done, is_last as nothing_behind, part_done, place_of, view, views};
+ghost use Rattle.std.specs.Prelude.{◌≡◌, ℕ, slice_get};
+ghost use Rattle.vc_occam.specs.Frames.{all_begun, begun_parts, begun_phase, besides, is_choice, is_counted, is_par, has_parts as is_composed, is_done, is_last as nothing_behind, part_done, place_of, rest_at, view, views};
 ghost use Rattle.vc_occam.specs.Remains.{begin};
 
 use crate::kind::Kind;
@@ -80,18 +80,7 @@ impl Frame {
     pub(crate) fn ended(&self) -> bool
         ensures { result ≡ is_done (view self.now).1 }
     {
-        match self.phase {
-            Phase::Ended => true,
-            Phase::Waiting => {
-                self.kind.is_last(self.at, self.parts.len())
-                    && part_ended(&self.parts, self.kind.place(self.at))
-            }
-            Phase::Ready => false,
-            Phase::Turning { .. } => false,
-            Phase::Together => self.kind.is_par() && all_ended(&self.parts),
-            Phase::Chosen => false,
-            Phase::Stuck => false,
-        }
+        is_ended(&self.kind, self.phase, &self.parts, self.at)
     }
 
     /// The process begins, whatever went on before.
@@ -104,9 +93,25 @@ impl Frame {
     }
 }
 
+/// Whether nothing remains of a process that is so far.
+#[cycle(ended)]
+pub(crate) fn is_ended(kind: &Kind, phase: Phase, parts: &Vec<Frame>, at: usize) -> bool
+    ensures { (own : ℕ) → result ≡ is_done (rest_at kind.now phase own (views parts.now.items) at) }
+{
+    match phase {
+        Phase::Ended => true,
+        Phase::Waiting => kind.is_last(at, parts.len()) && part_ended(parts, kind.place(at)),
+        Phase::Ready => false,
+        Phase::Turning { .. } => false,
+        Phase::Together => kind.is_par() && all_ended(parts),
+        Phase::Chosen => false,
+        Phase::Stuck => false,
+    }
+}
+
 /// Whether nothing remains of the part at a place.
 #[cycle(ended)]
-pub(crate) fn part_ended(parts: &Vec<Frame>, at: usize) -> bool
+fn part_ended(parts: &Vec<Frame>, at: usize) -> bool
     ensures { result ≡ part_done (slice_get (views parts.now.items) at) }
 {
     if at < parts.len() {
@@ -117,7 +122,7 @@ pub(crate) fn part_ended(parts: &Vec<Frame>, at: usize) -> bool
 
 /// Whether nothing remains of any part.
 #[cycle(ended)]
-fn all_ended(parts: &Vec<Frame>) -> bool
+pub(crate) fn all_ended(parts: &Vec<Frame>) -> bool
     ensures { result ≡ is_done (besides (views parts.now.items)) }
 {
     for place in 0..parts.len() {

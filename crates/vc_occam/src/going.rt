@@ -1,7 +1,7 @@
 //! How frames go on: one site does something.
-ghost use Rattle.std.specs.Prelude.{◌≡◌, ◌<◌, length, map, nat_lt, slice_get, false, true, List, [], ℕ, ℤ, ◌^◌};
+ghost use Rattle.std.specs.Prelude.{◌≡◌, ◌<◌, ◌&&◌, length, map, nat_le, nat_lt, slice_get, suc, false, true, List, [], ℕ, ℤ, ◌^◌};
 ghost use Rattle.vc_occam.specs.declared.deed.Deed.TheVariants.{Quiet};
-ghost use Rattle.vc_occam.specs.Frames.{Able, ChangedAt, Did, HasVariables, PartHasVariables, PartInPreorder, View, assigned_at, awaiting, is_choice, is_counted, part_done, turning, follow_on, part_assigned, place_of, begun_at, behind, chosen_from, going_at, has_parts, part_rest, plan_at, plans, rest_at, together, view, views};
+ghost use Rattle.vc_occam.specs.Frames.{Able, ChangedAt, Did, HasVariables, PartHasVariables, PartInPreorder, View, assigned_at, awaiting, is_choice, is_counted, part_done, turning, follow_on, part_assigned, place_of, begun_at, behind, chosen_from, going_at, besides, has_parts, is_done, is_last, part_rest, plan_at, plans, rest_at, together, view, views};
 ghost use Rattle.vc_occam.specs.Gates.{gate};
 ghost use Rattle.vc_occam.specs.Nexts.{GateHasVariable, branch_next, choice_begun, choice_next, choice_store, count_begun, count_phase, count_store, gate_begun, gate_next, gate_store, seq_begun, seq_next, stuck_next, turn_begun, turn_next, turn_phase, turn_store, turn_views};
 ghost use Rattle.vc_occam.specs.declared.deed.Deed.{Deed};
@@ -15,11 +15,12 @@ use crate::condition::Cond;
 use crate::datum::Datum;
 use crate::deed::Deed;
 use crate::expression::Expr;
-use crate::frame::{Frame, part_ended};
+use crate::frame::{Frame, all_ended, is_ended};
 use crate::guarded::GuardedInput;
 use crate::kind::Kind;
 use crate::looking::part_with;
 use crate::phase::Phase;
+use crate::site_deed::SiteDeed;
 use crate::variables::{put, set_variable};
 use sqlite_items::Items;
 
@@ -30,38 +31,43 @@ pub(crate) struct Next {
     pub(crate) at: usize,
 }
 
+/// How far a frame is after what its site did, and whether nothing remains.
+#[derive(Clone, Copy, Debug, PartialEq, Eq, Drop)]
+struct Went {
+    next: Next,
+    ended: bool,
+}
+
 /// A process without parts begins with what its site does.
 pub(crate) fn begin_alone(
     own: u16,
     kind: &Kind,
-    site: u16,
-    deed: Deed,
-    assigned: Option<Datum>,
+    doing: &mut SiteDeed,
     vars: &mut Vec<Datum>,
 ) -> Phase
     requires alone { has_parts kind.now ≡ false }
     requires uncounted { is_counted kind.now ≡ false }
-    requires assigned { deed ≡ Quiet → assigned ≡ assigned_at site (Fresh (plan_at kind.now own [])) (store vars.old.items) }
+    requires assigned { doing.old.deed ≡ Quiet → doing.old.assigned ≡ assigned_at doing.old.site (Fresh (plan_at kind.now own [])) (store vars.old.items) }
     requires variables { HasVariables (plan_at kind.now own []) (length vars.old.items) }
-    ensures did { (vs : List View) (at : ℕ) → Able (Fresh (plan_at kind.now own vs)) (store vars.old.items) site deed → Did (Fresh (plan_at kind.now own vs)) (store vars.old.items) site deed (rest_at kind.now result own vs at) (store vars.new.items) }
+    ensures did { (vs : List View) (at : ℕ) → Able (Fresh (plan_at kind.now own vs)) (store vars.old.items) doing.old.site doing.old.deed → Did (Fresh (plan_at kind.now own vs)) (store vars.old.items) doing.old.site doing.old.deed (rest_at kind.now result own vs at) (store vars.new.items) }
     ensures length { length vars.new.items ≡ length vars.old.items }
 {
     match kind {
         Kind::Skip => Phase::Ended,
         Kind::Par => Phase::Ended,
         Kind::Stopch { .. } => Phase::Ended,
-        Kind::Set { var, .. } => match assigned {
+        Kind::Set { var, .. } => match doing.assigned.take() {
             Some(datum) => {
                 set_variable(vars, *var, datum);
                 Phase::Ended
             }
             None => Phase::Stuck,
         },
-        Kind::Send { .. } => match deed {
+        Kind::Send { .. } => match &doing.deed {
             Deed::Offer { .. } => Phase::Waiting,
             _ => Phase::Stuck,
         },
-        Kind::Receive { var, .. } => match deed {
+        Kind::Receive { var, .. } => match doing.take_deed() {
             Deed::Want { message, .. } => match message {
                 Some(message) => {
                     put(vars, *var, message);
@@ -76,21 +82,15 @@ pub(crate) fn begin_alone(
 }
 
 /// A process without parts that waits goes on.
-pub(crate) fn end_alone(
-    own: u16,
-    kind: &Kind,
-    site: u16,
-    deed: Deed,
-    vars: &mut Vec<Datum>,
-) -> Phase
+pub(crate) fn end_alone(own: u16, kind: &Kind, doing: &mut SiteDeed, vars: &mut Vec<Datum>) -> Phase
     requires alone { has_parts kind.now ≡ false }
     requires variables { HasVariables (plan_at kind.now own []) (length vars.old.items) }
-    ensures did { (vs : List View) (at : ℕ) → Able (going_at kind.now own vs at) (store vars.old.items) site deed → Did (going_at kind.now own vs at) (store vars.old.items) site deed (rest_at kind.now result own vs at) (store vars.new.items) }
+    ensures did { (vs : List View) (at : ℕ) → Able (going_at kind.now own vs at) (store vars.old.items) doing.old.site doing.old.deed → Did (going_at kind.now own vs at) (store vars.old.items) doing.old.site doing.old.deed (rest_at kind.now result own vs at) (store vars.new.items) }
     ensures length { length vars.new.items ≡ length vars.old.items }
 {
     match kind {
         Kind::Send { .. } => Phase::Ended,
-        Kind::Receive { var, .. } => match deed {
+        Kind::Receive { var, .. } => match doing.take_deed() {
             Deed::Message(message) => {
                 put(vars, *var, message);
                 Phase::Ended
@@ -142,16 +142,18 @@ fn after_turn(
     var: u8,
     index: i64,
     last: i64,
+    ended: bool,
     parts: &mut Vec<Frame>,
     vars: &mut Vec<Datum>,
 ) -> Phase
-    requires { var < length vars.old.items }
+    requires variable { var < length vars.old.items }
+    requires ended { ended ≡ part_done (slice_get (views parts.old.items) 0) }
     ensures phase { result ≡ turn_phase (part_done (slice_get (views parts.old.items) 0)) index last }
     ensures parts { views parts.new.items ≡ turn_views (part_done (slice_get (views parts.old.items) 0)) index last (views parts.old.items) }
     ensures value { store vars.new.items ≡ turn_store (part_done (slice_get (views parts.old.items) 0)) var index last (store vars.old.items) }
     ensures length { length vars.new.items ≡ length vars.old.items }
 {
-    if !part_ended(parts, 0) {
+    if !ended {
         return Phase::Turning { index, last };
     }
     if index >= last {
@@ -281,17 +283,17 @@ fn begin_choice(
     own: u16,
     kind: &Kind,
     parts: &mut Vec<Frame>,
-    deed: Deed,
+    doing: &mut SiteDeed,
     vars: &mut Vec<Datum>,
 ) -> Next
     requires choice { is_choice kind.now ≡ true }
     requires variables { HasVariables (plan_at kind.now own (views parts.old.items)) (length vars.old.items) }
-    ensures did { (site : ℕ) → Able (Fresh (plan_at kind.now own (views parts.old.items))) (store vars.old.items) site deed → Did (Fresh (plan_at kind.now own (views parts.old.items))) (store vars.old.items) site deed (rest_at kind.now result.phase own (views parts.new.items) result.at) (store vars.new.items) }
+    ensures did { (site : ℕ) → Able (Fresh (plan_at kind.now own (views parts.old.items))) (store vars.old.items) site doing.old.deed → Did (Fresh (plan_at kind.now own (views parts.old.items))) (store vars.old.items) site doing.old.deed (rest_at kind.now result.phase own (views parts.new.items) result.at) (store vars.new.items) }
     ensures plans { plans (views parts.new.items) ≡ plans (views parts.old.items) }
     ensures length { length vars.new.items ≡ length vars.old.items }
 {
     match kind {
-        Kind::Alt { guards } => match deed {
+        Kind::Alt { guards } => match doing.take_deed() {
             Deed::Choose { place, message, .. } => {
                 let place = usize::from(place);
                 take_guard(guards.inputs.as_slice(), place, message, parts, vars)
@@ -308,16 +310,16 @@ fn end_choice(
     kind: &Kind,
     at: usize,
     parts: &mut Vec<Frame>,
-    deed: Deed,
+    doing: &mut SiteDeed,
     vars: &mut Vec<Datum>,
 ) -> Phase
     requires variables { HasVariables (plan_at kind.now own (views parts.old.items)) (length vars.old.items) }
-    ensures did { (site : ℕ) → Able (awaiting kind.now own (views parts.old.items) at) (store vars.old.items) site deed → Did (awaiting kind.now own (views parts.old.items) at) (store vars.old.items) site deed (rest_at kind.now result own (views parts.new.items) at) (store vars.new.items) }
+    ensures did { (site : ℕ) → Able (awaiting kind.now own (views parts.old.items) at) (store vars.old.items) site doing.old.deed → Did (awaiting kind.now own (views parts.old.items) at) (store vars.old.items) site doing.old.deed (rest_at kind.now result own (views parts.new.items) at) (store vars.new.items) }
     ensures plans { plans (views parts.new.items) ≡ plans (views parts.old.items) }
     ensures length { length vars.new.items ≡ length vars.old.items }
 {
     match kind {
-        Kind::Alt { guards } => match deed {
+        Kind::Alt { guards } => match doing.take_deed() {
             Deed::Message(message) => {
                 take_guard(guards.inputs.as_slice(), at, Some(message), parts, vars).phase
             }
@@ -388,36 +390,30 @@ fn take_input(
 }
 
 impl Frame {
-    /// A site does something. Where an assignment is made, its value comes along, or None where it is a fault.
+    /// A site does something; answers whether nothing remains then.
     #[cycle(go)]
-    pub(crate) fn go(
-        &mut self,
-        site: u16,
-        deed: Deed,
-        assigned: Option<Datum>,
-        vars: &mut Vec<Datum>,
-    )
-        requires able { Able (view self.old).1 (store vars.old.items) site deed }
-        requires assigned { deed ≡ Quiet → assigned ≡ assigned_at site (view self.old).1 (store vars.old.items) }
+    pub(crate) fn go(&mut self, doing: &mut SiteDeed, vars: &mut Vec<Datum>) -> bool
+        requires able { Able (view self.old).1 (store vars.old.items) doing.old.site doing.old.deed }
+        requires assigned { doing.old.deed ≡ Quiet → doing.old.assigned ≡ assigned_at doing.old.site (view self.old).1 (store vars.old.items) }
         requires variables { HasVariables (view self.old).0 (length vars.old.items) }
         requires in_preorder { InPreorder (view self.old).0 }
-        ensures did { Did (view self.old).1 (store vars.old.items) site deed (view self.new).1 (store vars.new.items) }
+        ensures did { Did (view self.old).1 (store vars.old.items) doing.old.site doing.old.deed (view self.new).1 (store vars.new.items) }
         ensures plan { (view self.new).0 ≡ (view self.old).0 }
+        ensures ended { result ≡ is_done (view self.new).1 }
         ensures length { length vars.new.items ≡ length vars.old.items }
     {
-        let next = go_on(
+        let went = go_on(
             self.site,
             &self.kind,
             self.phase,
             self.at,
             &mut self.parts,
-            site,
-            deed,
-            assigned,
+            doing,
             vars,
         );
-        self.phase = next.phase;
-        self.at = next.at;
+        self.phase = went.next.phase;
+        self.at = went.next.at;
+        went.ended
     }
 }
 
@@ -428,19 +424,17 @@ fn begin(
     kind: &Kind,
     at: usize,
     parts: &mut Vec<Frame>,
-    site: u16,
-    deed: Deed,
-    assigned: Option<Datum>,
+    doing: &mut SiteDeed,
     vars: &mut Vec<Datum>,
 ) -> Next
-    requires assigned { deed ≡ Quiet → assigned ≡ assigned_at site (Fresh (plan_at kind.now own (views parts.old.items))) (store vars.old.items) }
+    requires assigned { doing.old.deed ≡ Quiet → doing.old.assigned ≡ assigned_at doing.old.site (Fresh (plan_at kind.now own (views parts.old.items))) (store vars.old.items) }
     requires variables { HasVariables (plan_at kind.now own (views parts.old.items)) (length vars.old.items) }
-    ensures did { Able (Fresh (plan_at kind.now own (views parts.old.items))) (store vars.old.items) site deed → Did (Fresh (plan_at kind.now own (views parts.old.items))) (store vars.old.items) site deed (rest_at kind.now result.phase own (views parts.new.items) result.at) (store vars.new.items) }
+    ensures did { Able (Fresh (plan_at kind.now own (views parts.old.items))) (store vars.old.items) doing.old.site doing.old.deed → Did (Fresh (plan_at kind.now own (views parts.old.items))) (store vars.old.items) doing.old.site doing.old.deed (rest_at kind.now result.phase own (views parts.new.items) result.at) (store vars.new.items) }
     ensures plans { plans (views parts.new.items) ≡ plans (views parts.old.items) }
     ensures length { length vars.new.items ≡ length vars.old.items }
 {
     if kind.is_choice() {
-        return begin_choice(own, kind, parts, deed, vars);
+        return begin_choice(own, kind, parts, doing, vars);
     }
     if kind.has_parts() {
         return begin_composed(own, kind, parts, vars);
@@ -449,7 +443,7 @@ fn begin(
         let phase = begin_count(own, kind, parts, vars);
         return Next { phase, at };
     }
-    let phase = begin_alone(own, kind, site, deed, assigned, vars);
+    let phase = begin_alone(own, kind, doing, vars);
     Next { phase, at }
 }
 
@@ -461,43 +455,55 @@ fn go_on(
     phase: Phase,
     at: usize,
     parts: &mut Vec<Frame>,
-    site: u16,
-    deed: Deed,
-    assigned: Option<Datum>,
+    doing: &mut SiteDeed,
     vars: &mut Vec<Datum>,
-) -> Next
-    requires able { Able (rest_at kind.now phase own (views parts.old.items) at) (store vars.old.items) site deed }
-    requires assigned { deed ≡ Quiet → assigned ≡ assigned_at site (rest_at kind.now phase own (views parts.old.items) at) (store vars.old.items) }
+) -> Went
+    requires able { Able (rest_at kind.now phase own (views parts.old.items) at) (store vars.old.items) doing.old.site doing.old.deed }
+    requires assigned { doing.old.deed ≡ Quiet → doing.old.assigned ≡ assigned_at doing.old.site (rest_at kind.now phase own (views parts.old.items) at) (store vars.old.items) }
     requires variables { HasVariables (plan_at kind.now own (views parts.old.items)) (length vars.old.items) }
     requires in_preorder { InPreorder (plan_at kind.now own (views parts.old.items)) }
-    ensures did { Did (rest_at kind.now phase own (views parts.old.items) at) (store vars.old.items) site deed (rest_at kind.now result.phase own (views parts.new.items) result.at) (store vars.new.items) }
+    ensures did { Did (rest_at kind.now phase own (views parts.old.items) at) (store vars.old.items) doing.old.site doing.old.deed (rest_at kind.now result.next.phase own (views parts.new.items) result.next.at) (store vars.new.items) }
     ensures plans { plans (views parts.new.items) ≡ plans (views parts.old.items) }
+    ensures ended { result.ended ≡ is_done (rest_at kind.now result.next.phase own (views parts.new.items) result.next.at) }
     ensures length { length vars.new.items ≡ length vars.old.items }
 {
     match phase {
-        Phase::Ready => begin(own, kind, at, parts, site, deed, assigned, vars),
+        Phase::Ready => {
+            let next = begin(own, kind, at, parts, doing, vars);
+            let ended = is_ended(kind, next.phase, parts, next.at);
+            Went { next, ended }
+        }
         Phase::Waiting => {
             if kind.has_parts() {
-                go_within(kind.place(at), parts, site, deed, assigned, vars);
-                return after_part(kind, at, parts);
+                let ended = go_within(kind.place(at), parts, doing, vars);
+                return after_part(kind, at, ended, parts);
             }
-            let phase = end_alone(own, kind, site, deed, vars);
-            Next { phase, at }
+            let phase = end_alone(own, kind, doing, vars);
+            let next = Next { phase, at };
+            let ended = is_ended(kind, phase, parts, at);
+            Went { next, ended }
         }
         Phase::Turning { index, last } => {
-            let phase = go_turn(own, kind, index, last, parts, site, deed, assigned, vars);
-            Next { phase, at }
+            let phase = go_turn(own, kind, index, last, parts, doing, vars);
+            let next = Next { phase, at };
+            let ended = is_ended(kind, phase, parts, at);
+            Went { next, ended }
         }
-        Phase::Together => {
-            let phase = go_together(own, kind, parts, site, deed, assigned, vars);
-            Next { phase, at }
-        }
+        Phase::Together => go_together(own, kind, at, parts, doing, vars),
         Phase::Chosen => {
-            let phase = end_choice(own, kind, at, parts, deed, vars);
-            Next { phase, at }
+            let phase = end_choice(own, kind, at, parts, doing, vars);
+            let next = Next { phase, at };
+            let ended = is_ended(kind, phase, parts, at);
+            Went { next, ended }
         }
-        Phase::Ended => Next { phase, at },
-        Phase::Stuck => Next { phase, at },
+        Phase::Ended => Went {
+            next: Next { phase, at },
+            ended: true,
+        },
+        Phase::Stuck => Went {
+            next: Next { phase, at },
+            ended: false,
+        },
     }
 }
 
@@ -509,23 +515,21 @@ fn go_turn(
     index: i64,
     last: i64,
     parts: &mut Vec<Frame>,
-    site: u16,
-    deed: Deed,
-    assigned: Option<Datum>,
+    doing: &mut SiteDeed,
     vars: &mut Vec<Datum>,
 ) -> Phase
-    requires able { Able (turning kind.now (views parts.old.items) index last) (store vars.old.items) site deed }
-    requires assigned { deed ≡ Quiet → assigned ≡ assigned_at site (turning kind.now (views parts.old.items) index last) (store vars.old.items) }
+    requires able { Able (turning kind.now (views parts.old.items) index last) (store vars.old.items) doing.old.site doing.old.deed }
+    requires assigned { doing.old.deed ≡ Quiet → doing.old.assigned ≡ assigned_at doing.old.site (turning kind.now (views parts.old.items) index last) (store vars.old.items) }
     requires variables { HasVariables (plan_at kind.now own (views parts.old.items)) (length vars.old.items) }
     requires in_preorder { InPreorder (plan_at kind.now own (views parts.old.items)) }
-    ensures did { (at : ℕ) → Did (turning kind.now (views parts.old.items) index last) (store vars.old.items) site deed (rest_at kind.now result own (views parts.new.items) at) (store vars.new.items) }
+    ensures did { (at : ℕ) → Did (turning kind.now (views parts.old.items) index last) (store vars.old.items) doing.old.site doing.old.deed (rest_at kind.now result own (views parts.new.items) at) (store vars.new.items) }
     ensures plans { plans (views parts.new.items) ≡ plans (views parts.old.items) }
     ensures length { length vars.new.items ≡ length vars.old.items }
 {
     match kind {
         Kind::Count { var, .. } if !parts.is_empty() => {
-            go_within(0, parts, site, deed, assigned, vars);
-            after_turn(*var, index, last, parts, vars)
+            let ended = go_within(0, parts, doing, vars);
+            after_turn(*var, index, last, ended, parts, vars)
         }
         _ => Phase::Stuck,
     }
@@ -536,94 +540,129 @@ fn go_turn(
 fn go_together(
     own: u16,
     kind: &Kind,
+    at: usize,
     parts: &mut Vec<Frame>,
-    site: u16,
-    deed: Deed,
-    assigned: Option<Datum>,
+    doing: &mut SiteDeed,
     vars: &mut Vec<Datum>,
-) -> Phase
-    requires able { Able (together kind.now (views parts.old.items)) (store vars.old.items) site deed }
-    requires assigned { deed ≡ Quiet → assigned ≡ assigned_at site (together kind.now (views parts.old.items)) (store vars.old.items) }
+) -> Went
+    requires able { Able (together kind.now (views parts.old.items)) (store vars.old.items) doing.old.site doing.old.deed }
+    requires assigned { doing.old.deed ≡ Quiet → doing.old.assigned ≡ assigned_at doing.old.site (together kind.now (views parts.old.items)) (store vars.old.items) }
     requires variables { HasVariables (plan_at kind.now own (views parts.old.items)) (length vars.old.items) }
     requires in_preorder { InPreorder (plan_at kind.now own (views parts.old.items)) }
-    ensures did { (at : ℕ) → Did (together kind.now (views parts.old.items)) (store vars.old.items) site deed (rest_at kind.now result own (views parts.new.items) at) (store vars.new.items) }
+    ensures did { Did (together kind.now (views parts.old.items)) (store vars.old.items) doing.old.site doing.old.deed (rest_at kind.now result.next.phase own (views parts.new.items) result.next.at) (store vars.new.items) }
     ensures plans { plans (views parts.new.items) ≡ plans (views parts.old.items) }
+    ensures ended { result.ended ≡ is_done (rest_at kind.now result.next.phase own (views parts.new.items) result.next.at) }
     ensures length { length vars.new.items ≡ length vars.old.items }
 {
     match kind {
         Kind::Par => {
-            go_within(part_with(parts, site), parts, site, deed, assigned, vars);
-            Phase::Together
+            let place = part_with(parts, doing.site);
+            let ended = go_within(place, parts, doing, vars);
+            let next = Next {
+                phase: Phase::Together,
+                at,
+            };
+            let ended = have_ended(place, ended, parts);
+            Went { next, ended }
         }
-        _ => Phase::Stuck,
+        _ => Went {
+            next: Next {
+                phase: Phase::Stuck,
+                at,
+            },
+            ended: false,
+        },
     }
+}
+
+/// Whether nothing remains of any part, which nobody asks where something remains of the part at this place.
+fn have_ended(at: usize, ended: bool, parts: &Vec<Frame>) -> bool
+    requires there { at < length (views parts.now.items) }
+    requires ended { ended ≡ part_done (slice_get (views parts.now.items) at) }
+    ensures { result ≡ is_done (besides (views parts.now.items)) }
+{
+    ended && all_ended(parts)
 }
 
 /// What a site of the part at a place does.
 #[cycle(go)]
-fn go_within(
-    at: usize,
-    parts: &mut Vec<Frame>,
-    site: u16,
-    deed: Deed,
-    assigned: Option<Datum>,
-    vars: &mut Vec<Datum>,
-)
-    requires able { Able (part_rest (slice_get (views parts.old.items) at)) (store vars.old.items) site deed }
-    requires assigned { deed ≡ Quiet → assigned ≡ part_assigned site (slice_get (views parts.old.items) at) (store vars.old.items) }
+fn go_within(at: usize, parts: &mut Vec<Frame>, doing: &mut SiteDeed, vars: &mut Vec<Datum>) -> bool
+    requires able { Able (part_rest (slice_get (views parts.old.items) at)) (store vars.old.items) doing.old.site doing.old.deed }
+    requires assigned { doing.old.deed ≡ Quiet → doing.old.assigned ≡ part_assigned doing.old.site (slice_get (views parts.old.items) at) (store vars.old.items) }
     requires variables { PartHasVariables (slice_get (views parts.old.items) at) (length vars.old.items) }
     requires in_preorder { PartInPreorder (slice_get (views parts.old.items) at) }
-    ensures did { Did (part_rest (slice_get (views parts.old.items) at)) (store vars.old.items) site deed (part_rest (slice_get (views parts.new.items) at)) (store vars.new.items) }
+    ensures did { Did (part_rest (slice_get (views parts.old.items) at)) (store vars.old.items) doing.old.site doing.old.deed (part_rest (slice_get (views parts.new.items) at)) (store vars.new.items) }
     ensures plans { plans (views parts.new.items) ≡ plans (views parts.old.items) }
     ensures others { ChangedAt at (views parts.old.items) (views parts.new.items) }
+    ensures ended { result ≡ part_done (slice_get (views parts.new.items) at) }
     ensures length { length vars.new.items ≡ length vars.old.items }
 {
     if at < parts.len() {
-        parts[at].go(site, deed, assigned, vars);
+        return parts[at].go(doing, vars);
     }
+    false
 }
 
-/// Where a part has ended, a SEQ begins the next one, and a WHILE tests again.
-fn after_part(kind: &Kind, at: usize, parts: &mut Vec<Frame>) -> Next
+/// Where the part that a process was at has ended, a SEQ begins the next one, and a WHILE tests again.
+fn after_part(kind: &Kind, at: usize, ended: bool, parts: &mut Vec<Frame>) -> Went
     requires composed { has_parts kind.now ≡ true }
-    ensures rest { (own : ℕ) → rest_at kind.now result.phase own (views parts.new.items) result.at ≡ follow_on (slice_get (views parts.old.items) (place_of kind.now at)) (behind kind.now own (views parts.old.items) at) }
+    requires ended { ended ≡ part_done (slice_get (views parts.old.items) (place_of kind.now at)) }
+    ensures rest { (own : ℕ) → rest_at kind.now result.next.phase own (views parts.new.items) result.next.at ≡ follow_on (slice_get (views parts.old.items) (place_of kind.now at)) (behind kind.now own (views parts.old.items) at) }
     ensures plans { plans (views parts.new.items) ≡ plans (views parts.old.items) }
+    ensures ended { result.ended ≡ (is_last kind.now at (length (views parts.old.items)) && ended) }
 {
     match kind {
-        Kind::Seq => next_part(at, parts),
+        Kind::Seq => next_part(at, ended, parts),
         Kind::While { .. } => {
-            if part_ended(parts, 0) {
-                return Next {
-                    phase: Phase::Ready,
-                    at: 0,
+            if ended {
+                return Went {
+                    next: Next {
+                        phase: Phase::Ready,
+                        at: 0,
+                    },
+                    ended: false,
                 };
             }
-            Next {
-                phase: Phase::Waiting,
-                at: 0,
+            Went {
+                next: Next {
+                    phase: Phase::Waiting,
+                    at: 0,
+                },
+                ended: false,
             }
         }
-        _ => Next {
-            phase: Phase::Waiting,
-            at,
+        _ => Went {
+            next: Next {
+                phase: Phase::Waiting,
+                at,
+            },
+            ended,
         },
     }
 }
 
 /// Where the part that a SEQ is at has ended, the next one begins, if there is one.
-fn next_part(at: usize, parts: &mut Vec<Frame>) -> Next
+fn next_part(at: usize, ended: bool, parts: &mut Vec<Frame>) -> Went
+    requires { ended ≡ part_done (slice_get (views parts.old.items) at) }
     ensures parts { views parts.new.items ≡ seq_begun at (views parts.old.items) }
-    ensures next { result ≡ seq_next at (views parts.old.items) }
+    ensures next { result.next ≡ seq_next at (views parts.old.items) }
+    ensures ended { result.ended ≡ (nat_le (length (views parts.old.items)) (suc at) && ended) }
 {
-    if at < parts.len() && parts.len() - at > 1 && part_ended(parts, at) {
+    if at < parts.len() && parts.len() - at > 1 && ended {
         start_at(parts, at + 1);
-        return Next {
-            phase: Phase::Waiting,
-            at: at + 1,
+        return Went {
+            next: Next {
+                phase: Phase::Waiting,
+                at: at + 1,
+            },
+            ended: false,
         };
     }
-    Next {
-        phase: Phase::Waiting,
-        at,
+    Went {
+        next: Next {
+            phase: Phase::Waiting,
+            at,
+        },
+        ended,
     }
 }

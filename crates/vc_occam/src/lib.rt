@@ -5,10 +5,11 @@
 //! begin with are definitions over plain trees (`specs/Values`, `specs/Traces`, `specs/Remains`, `specs/First`), for every word of
 //! the language; so are lawful use in parallel and the uses of channels (`specs/Lawful`, `specs/ChannelUses`).
 //!
-//! The layer above knows of a [`Running`] that [`Running::actions`] are the first moves of what remains, [`Running::lists`] is true
-//! exactly of them, and [`Running::act`] and [`Running::resume`] each make exactly one step, whose communications, followed by any
-//! trace of what remains, are a trace of what remained before (`specs/States`). A message of another length than 8 on a channel of
-//! whole numbers is worth the number of its first eight bytes, missing ones being 0 (`specs/Messages`).
+//! The layer above knows of a [`Running`] that [`Running::actions`] are the first moves of what remains, which
+//! [`Running::list_actions`] puts in a list that the caller keeps, [`Running::lists`] is true exactly of them, and
+//! [`Running::act`] and [`Running::resume`] each make exactly one step, whose communications, followed by any trace of what
+//! remains, are a trace of what remained before (`specs/States`). A message of another length than 8 on a channel of whole
+//! numbers is worth the number of its first eight bytes, missing ones being 0 (`specs/Messages`).
 //!
 //! Laws of the definitions, for every word of the language, stand in `laws.rt`: what a step makes, followed by any trace of what
 //! remains, is a trace of what remained before; no step loses lawful use; each listed move can be made; what waits after whatever a
@@ -18,7 +19,8 @@
 //! PAR it lists what its parts use, puts that in order, and compares all uses of one thing with the first of them (`sharing.rt`).
 //!
 //! A process runs as a tree of frames (`frame.rt`), one for each process that is written, with how far it is and at which part;
-//! what it stands for is said in `specs/Frames`. A part begins, ends and begins again by a change of its frame, without memory. The
+//! what it stands for is said in `specs/Frames`. A part begins, ends and begins again by a change of its frame, without memory; what
+//! a site does is handed down to it by one borrow (`site_deed.rt`), and each frame answers on the way up whether it has ended. The
 //! parts of a PAR all go on, and since sites are in preorder the one that has a site is found by halving. The invariant of a
 //! [`Running`] is that the variables that its process changes are there, that its sites are in preorder, and that parts side by
 //! side have no site in common and use channels and variables lawfully.
@@ -51,6 +53,7 @@ mod process_limits;
 mod relation;
 mod running;
 mod sharing;
+mod site_deed;
 #[cfg(test)]
 mod tests;
 mod usages;

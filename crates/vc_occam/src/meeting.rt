@@ -1,5 +1,5 @@
 //! What meets inside the node.
-ghost use Rattle.std.specs.Prelude.{◌≡◌, ◌++◌, ◌∷◌, [], IfOk, OnOk};
+ghost use Rattle.std.specs.Prelude.{◌≡◌, ◌++◌, ◌∷◌, [], OnOk};
 ghost use Rattle.vc_occam.specs.First.{joined as as_joined, meetings};
 ghost use Rattle.vc_occam.specs.Frames.{is_outside as stays_outside};
 ghost use Rattle.vc_occam.specs.Moving.{partner as its_partner};
@@ -7,7 +7,6 @@ ghost use Rattle.vc_occam.specs.Usage.{among};
 
 use crate::moves::Move;
 use sqlite_items::Items;
-use std::alloc::Global;
 use vc_packets::Memory;
 
 /// Whether the move needs no channel inside the node.
@@ -93,14 +92,26 @@ fn push_joined(
     Ok(())
 }
 
-/// Of the moves that each site can begin with, those that need no channel inside the node, and what meets there: each output
+/// Adds, of the moves that each site can begin with, those that need no channel inside the node, and what meets there: each output
 /// with each input or guard on its channel.
-pub(crate) fn joined(alloc: Global, all: &[Move], inside: &[u16]) -> Result<Items<Move>, Memory>
-    ensures { IfOk result (λ found. found ≡ as_joined (among inside.now) all.now all.now) }
+pub(crate) fn push_all_joined(
+    found: &mut Items<Move>,
+    all: &[Move],
+    inside: &[u16],
+) -> Result<(), Memory>
+    ensures { OnOk result (found.new ≡ found.old ++ as_joined (among inside.now) all.now all.now) }
 {
-    let mut found = Items::new(alloc);
     for made in all {
-        push_joined(&mut found, made, all, inside)?;
+        push_joined(found, made, all, inside)?;
     }
-    Ok(found)
+    Ok(())
+}
+
+/// Takes all moves out of a list, whose room stays.
+pub(crate) fn clear(found: &mut Items<Move>)
+    ensures { found.new ≡ [] }
+{
+    while !found.is_empty() {
+        found.pop();
+    }
 }

@@ -14,9 +14,10 @@ use crate::datum::Datum;
 use crate::deed::Deed;
 use crate::frame::Frame;
 use crate::framing::begin_frame;
-use crate::meeting::{is_outside, joined, partner};
+use crate::meeting::{clear, is_outside, partner, push_all_joined};
 use crate::moves::Move;
 use crate::process::Process;
+use crate::site_deed::SiteDeed;
 use crate::value_kind::ValueKind;
 use crate::variables::empty_variables;
 use crate::waits::Waits;
@@ -100,13 +101,28 @@ fn meet(
     ensures plan { (view frame.new).0 ≡ (view frame.old).0 }
     ensures length { length vars.new.items ≡ length vars.old.items }
 {
-    frame.go(sender, Deed::Offer { chan }, None, vars);
-    frame.go(site_of(taken), deed_for(taken, answer), None, vars);
-    frame.go(sender, Deed::Finish, None, vars);
+    let mut offers = SiteDeed {
+        site: sender,
+        deed: Deed::Offer { chan },
+        assigned: None,
+    };
+    frame.go(&mut offers, vars);
+    let mut takes = SiteDeed {
+        site: site_of(taken),
+        deed: deed_for(taken, answer),
+        assigned: None,
+    };
+    frame.go(&mut takes, vars);
+    let mut finishes = SiteDeed {
+        site: sender,
+        deed: Deed::Finish,
+        assigned: None,
+    };
+    frame.go(&mut finishes, vars);
 }
 
 impl Running {
-    ghost use Rattle.std.specs.Prelude.{◌≡◌, ◌≤◌, ◌↔◌, IsTrue, IfOk, OnOk, OnErr, MatchOption, Some, None, true, ℕ};
+    ghost use Rattle.std.specs.Prelude.{◌≡◌, ◌≤◌, ◌↔◌, ◌++◌, [], IsTrue, IfOk, OnOk, OnErr, MatchOption, Some, None, true, ℕ};
     ghost use Rattle.std.specs.List.{Contains};
     ghost use Rattle.vc_occam.specs.First.{own};
     ghost use Rattle.vc_occam.specs.Frames.{assigned_at};
@@ -154,9 +170,36 @@ impl Running {
     pub fn actions(&self) -> Result<Items<Move>, Memory>
         ensures { IfOk result (λ found. found ≡ moves self.now) }
     {
+        let mut found = Items::new(self.alloc);
+        self.push_actions(&mut found)?;
+        Ok(found)
+    }
+
+    /// Puts the same moves in a list in place of what it holds, whose room serves again; where memory is refused, the list is
+    /// empty then.
+    pub fn list_actions(&self, found: &mut Items<Move>) -> Result<(), Memory>
+        ensures listed { OnOk result (found.new ≡ moves self.now) }
+        ensures refused { OnErr result (found.new ≡ []) }
+    {
+        clear(found);
+        let listed = self.push_actions(found);
+        if listed.is_err() {
+            clear(found);
+        }
+        listed
+    }
+
+    /// Adds the moves that it can begin with; where no channel is inside the node they are its sites' own.
+    #[tactic(auto, unfolding(crate::specs::Runnings::state, crate::specs::Runnings::inner_channels))]
+    fn push_actions(&self, found: &mut Items<Move>) -> Result<(), Memory>
+        ensures { OnOk result (found.new ≡ found.old ++ moves self.now) }
+    {
+        if self.inside.is_empty() {
+            return self.frame.push_moves(found, &self.vars);
+        }
         let mut own = Items::new(self.alloc);
         self.frame.push_moves(&mut own, &self.vars)?;
-        joined(self.alloc, own.as_slice(), self.inside.as_slice())
+        push_all_joined(found, own.as_slice(), self.inside.as_slice())
     }
 
     /// Whether the move is one that it can begin with.
@@ -243,8 +286,12 @@ impl Running {
         ensures inside { inner_channels self.new ≡ inner_channels self.old }
     {
         let assigned = self.assigned_by(made)?;
-        let deed = deed_for(made, answer);
-        self.frame.go(site_of(made), deed, assigned, &mut self.vars);
+        let mut doing = SiteDeed {
+            site: site_of(made),
+            deed: deed_for(made, answer),
+            assigned,
+        };
+        self.frame.go(&mut doing, &mut self.vars);
         Ok(())
     }
 
@@ -266,7 +313,12 @@ impl Running {
         ensures resumed { Resumes (state self.old) site message (state self.new) }
         ensures inside { inner_channels self.new ≡ inner_channels self.old }
     {
-        self.frame.go(site, deed_on(message), None, &mut self.vars);
+        let mut doing = SiteDeed {
+            site,
+            deed: deed_on(message),
+            assigned: None,
+        };
+        self.frame.go(&mut doing, &mut self.vars);
     }
 
     /// The site whose output on the channel waits to be finished, if there is one.

@@ -1,38 +1,62 @@
-use Rattle.std.proofs.Common.{ℕ, ◌∙◌, sym, ap, refl, true, false}
-use Rattle.vc_occam.specs.declared.phase.Phase.TheVariants.{Ready, Waiting, Turning, Chosen, Ended, Stuck}
+use Rattle.std.proofs.Common.{ℕ, ◌∙◌, ◌<◌, length, arith, sym, ap, refl, true, false}
+use Rattle.vc_occam.specs.declared.phase.Phase.TheVariants.{Ready, Waiting, Turning, Together, Chosen, Ended, Stuck}
 use Rattle.std.specs.Prelude.{slice_get}
 use Rattle.vc_occam.specs.declared.frame.Frame.TheViews.{out-Frame}
-use Rattle.vc_occam.specs.Frames.{is_done, is_last, part_done, views}
-use Rattle.vc_occam.proofs.Frames.{ended_by, rest_apart, rest_together}
+use Rattle.vc_occam.specs.Frames.{View, is_done, is_last, part_done, views}
+use Rattle.vc_occam.proofs.Frames.{rest_done, together_is, together_not, view_out}
+use Rattle.vc_occam.proofs.Stepping.{get_view, none_view}
 use Rattle.vc_occam.proofs.frame.+ended.Goals as goal
 
-pub Frame::ended-returns-in-Ended : goal.Frame::ended-returns-in-Ended
-Frame::ended-returns-in-Ended t c = sym (ended_by c.args.self.now Ended _ _ _ c.in-Ended.is refl refl refl)
-
-pub Frame::ended-returns-in-Ready : goal.Frame::ended-returns-in-Ready
-Frame::ended-returns-in-Ready t c = sym (ended_by c.args.self.now Ready _ _ _ c.in-Ready.is refl refl refl)
-
-pub Frame::ended-returns-in-Stuck : goal.Frame::ended-returns-in-Stuck
-Frame::ended-returns-in-Stuck t c = sym (ended_by c.args.self.now Stuck _ _ _ c.in-Stuck.is refl refl refl)
-
-pub Frame::ended-returns-then-is_last : goal.Frame::ended-returns-then-is_last
-Frame::ended-returns-then-is_last t c = c.part_ended.ensures ∙ ap (λ (k : ℕ). part_done (slice_get (views (out-Frame c.args.self.now).parts.items) k)) c.place.ensures ∙ sym (ended_by c.args.self.now Waiting true _ _ c.in-Waiting.is (ap (is_last _ _) (sym c.len.ensures) ∙ sym c.is_last.ensures ∙ c.if-is_last.true) refl refl)
-
-pub Frame::ended-returns-else-is_last : goal.Frame::ended-returns-else-is_last
-Frame::ended-returns-else-is_last t c = c.if-is_last.false ∙ sym (ended_by c.args.self.now Waiting false _ _ c.in-Waiting.is (ap (is_last _ _) (sym c.len.ensures) ∙ sym c.is_last.ensures ∙ c.if-is_last.false) refl refl)
-
-pub Frame::ended-returns-in-Turning : goal.Frame::ended-returns-in-Turning
-Frame::ended-returns-in-Turning t c = sym (ended_by c.args.self.now (Turning c.in-Turning.index c.in-Turning.last) _ _ _ c.in-Turning.is refl refl refl)
-
-pub Frame::ended-returns-in-Chosen : goal.Frame::ended-returns-in-Chosen
-Frame::ended-returns-in-Chosen t c = sym (ended_by c.args.self.now Chosen _ _ _ c.in-Chosen.is refl refl refl)
-
-pub Frame::ended-returns-then-is_par : goal.Frame::ended-returns-then-is_par
-Frame::ended-returns-then-is_par t c =
+pub Frame::ended-returns : goal.Frame::ended-returns
+Frame::ended-returns t c =
     let f = c.args.self.now in
-    c.all_ended.ensures ∙ sym (ap is_done (rest_together f c.in-Together.is (sym c.is_par.ensures ∙ c.if-is_par.true)))
+    let o = out-Frame f in
+    c.is_ended.ensures o.site ∙ sym (ap (λ (v : View). is_done v.1) (view_out f))
 
-pub Frame::ended-returns-else-is_par : goal.Frame::ended-returns-else-is_par
-Frame::ended-returns-else-is_par t c =
-    let f = c.args.self.now in
-    c.if-is_par.false ∙ sym (ap is_done (rest_apart f c.in-Together.is (sym c.is_par.ensures ∙ c.if-is_par.false)))
+pub is_ended-returns-in-Ended : goal.is_ended-returns-in-Ended
+is_ended-returns-in-Ended t c = λ i. sym (rest_done c.args.kind.now i _ Ended c.args.parts.now c.args.at _ _ _ c.in-Ended.is refl refl refl)
+
+pub is_ended-returns-in-Ready : goal.is_ended-returns-in-Ready
+is_ended-returns-in-Ready t c = λ i. sym (rest_done c.args.kind.now i _ Ready c.args.parts.now c.args.at _ _ _ c.in-Ready.is refl refl refl)
+
+pub is_ended-returns-in-Stuck : goal.is_ended-returns-in-Stuck
+is_ended-returns-in-Stuck t c = λ i. sym (rest_done c.args.kind.now i _ Stuck c.args.parts.now c.args.at _ _ _ c.in-Stuck.is refl refl refl)
+
+pub is_ended-returns-then-is_last : goal.is_ended-returns-then-is_last
+is_ended-returns-then-is_last t c = λ i.
+    c.part_ended.ensures ∙ ap (λ (k : ℕ). part_done (slice_get (views c.args.parts.now.items) k)) c.place.ensures
+    ∙ sym (rest_done c.args.kind.now i _ Waiting c.args.parts.now c.args.at true _ _ c.in-Waiting.is (ap (is_last _ _) (sym c.len.ensures) ∙ sym c.is_last.ensures ∙ c.if-is_last.true) refl refl)
+
+pub is_ended-returns-else-is_last : goal.is_ended-returns-else-is_last
+is_ended-returns-else-is_last t c = λ i.
+    c.if-is_last.false ∙ sym (rest_done c.args.kind.now i _ Waiting c.args.parts.now c.args.at false _ _ c.in-Waiting.is (ap (is_last _ _) (sym c.len.ensures) ∙ sym c.is_last.ensures ∙ c.if-is_last.false) refl refl)
+
+pub is_ended-returns-in-Turning : goal.is_ended-returns-in-Turning
+is_ended-returns-in-Turning t c = λ i. sym (rest_done c.args.kind.now i _ (Turning c.in-Turning.index c.in-Turning.last) c.args.parts.now c.args.at _ _ _ c.in-Turning.is refl refl refl)
+
+pub is_ended-returns-in-Chosen : goal.is_ended-returns-in-Chosen
+is_ended-returns-in-Chosen t c = λ i. sym (rest_done c.args.kind.now i _ Chosen c.args.parts.now c.args.at _ _ _ c.in-Chosen.is refl refl refl)
+
+pub is_ended-returns-then-is_par : goal.is_ended-returns-then-is_par
+is_ended-returns-then-is_par t c = λ i.
+    let vs = views c.args.parts.now.items in
+    c.all_ended.ensures ∙ sym (ap is_done (together_is c.args.kind.now vs (sym c.is_par.ensures ∙ c.if-is_par.true)))
+    ∙ sym (rest_done c.args.kind.now i _ Together c.args.parts.now c.args.at _ _ _ c.in-Together.is refl refl refl)
+
+pub is_ended-returns-else-is_par : goal.is_ended-returns-else-is_par
+is_ended-returns-else-is_par t c = λ i.
+    let vs = views c.args.parts.now.items in
+    c.if-is_par.false ∙ sym (ap is_done (together_not c.args.kind.now vs (sym c.is_par.ensures ∙ c.if-is_par.false)))
+    ∙ sym (rest_done c.args.kind.now i _ Together c.args.parts.now c.args.at _ _ _ c.in-Together.is refl refl refl)
+
+pub part_ended-returns-then-at-len : goal.part_ended-returns-then-at-len
+part_ended-returns-then-at-len t c =
+    let fs = c.args.parts.now.items in
+    let o = c.args.parts.now.ok.0 in
+    let l : c.args.at < length fs = omega (arith, c.len.ensures) in
+    c.ended.ensures ∙ sym (ap part_done (get_view fs c.args.at _ l c.index.ensures))
+
+pub part_ended-returns : goal.part_ended-returns
+part_ended-returns t c =
+    let o = c.args.parts.now.ok.0 in
+    sym (ap part_done (none_view c.args.parts.now.items c.args.at (omega (arith, c.len.ensures))))

@@ -10,5 +10,5 @@ returns-then-has_parts-clause-did c = λ able.
     let k = c.args.kind.now in
     let vs = views c.args.parts.now.items in
     let r = rest_at k c.begin_composed.result.phase c.args.own (views c.begin_composed.new.parts.items) c.begin_composed.result.at in
-    subst (λ (xs : List Datum). Did (Fresh (plan_at k c.args.own vs)) (store xs) c.args.site c.args.deed r (store xs)) c.deref.ensures.value
-    (c.begin_composed.ensures.did c.args.site c.args.deed (subst (λ (xs : List Datum). Able (Fresh (plan_at k c.args.own vs)) (store xs) c.args.site c.args.deed) (sym c.deref.ensures.value) able))
+    subst (λ (xs : List Datum). Did (Fresh (plan_at k c.args.own vs)) (store xs) c.args.doing.now.site c.args.doing.now.deed r (store xs)) c.deref.ensures.value
+    (c.begin_composed.ensures.did c.args.doing.now.site c.args.doing.now.deed (subst (λ (xs : List Datum). Able (Fresh (plan_at k c.args.own vs)) (store xs) c.args.doing.now.site c.args.doing.now.deed) (sym c.deref.ensures.value) able))

@@ -18,16 +18,16 @@ pub returns-in-Some-clause-did : goal.returns-in-Some-clause-did
 returns-in-Some-clause-did c = λ vs at able.
     let e = store c.args.vars.now.items in
     did_store _ _ _ _ _ _ _ c.set_variable.ensures.value
-    (at_kind c.args.own vs at e _ c.args.site c.args.deed Ended _ _ c.in-Set.is
-    (set_did c.args.own _ _ e c.args.site c.args.deed _ (λ q. sym c.in-Some.is ∙ c.requires.assigned q ∙ ap (λ (k : Kind). assigned_at c.args.site (Fresh (plan_at k c.args.own [])) e) c.in-Set.is)) able)
+    (at_kind c.args.own vs at e _ c.args.doing.now.site c.args.doing.now.deed Ended _ _ c.in-Set.is
+    (set_did c.args.own _ _ e c.args.doing.now.site c.args.doing.now.deed _ (λ q. sym c.in-Some.is ∙ c.take.ensures.value ∙ c.requires.assigned q ∙ ap (λ (k : Kind). assigned_at c.args.doing.now.site (Fresh (plan_at k c.args.own [])) e) c.in-Set.is)) able)
 
 pub returns-in-Set-clause-did : goal.returns-in-Set-clause-did
 returns-in-Set-clause-did c = λ vs at able.
     let e = store c.args.vars.now.items in
-    at_kind c.args.own vs at e _ c.args.site c.args.deed Stuck _ _ c.in-Set.is
-    (set_faulted c.args.own _ _ e c.args.site c.args.deed (λ q. sym c.in-None.is ∙ c.requires.assigned q ∙ ap (λ (k : Kind). assigned_at c.args.site (Fresh (plan_at k c.args.own [])) e) c.in-Set.is)) able
+    at_kind c.args.own vs at e _ c.args.doing.now.site c.args.doing.now.deed Stuck _ _ c.in-Set.is
+    (set_faulted c.args.own _ _ e c.args.doing.now.site c.args.doing.now.deed (λ q. sym c.in-None.is ∙ c.take.ensures.value ∙ c.requires.assigned q ∙ ap (λ (k : Kind). assigned_at c.args.doing.now.site (Fresh (plan_at k c.args.own [])) e) c.in-Set.is)) able
 
 pub returns-in-Par-clause-did : goal.returns-in-Par-clause-did
 returns-in-Par-clause-did c = λ vs at able.
     let e = store c.args.vars.now.items in
-    at_kind c.args.own vs at e e c.args.site c.args.deed Ended _ _ c.in-Par.is (empty_par c.args.own vs e c.args.site c.args.deed) able
+    at_kind c.args.own vs at e e c.args.doing.now.site c.args.doing.now.deed Ended _ _ c.in-Par.is (empty_par c.args.own vs e c.args.doing.now.site c.args.doing.now.deed) able

@@ -1,4 +1,4 @@
-use Rattle.std.proofs.Common.{◌∙◌, ap}
+use Rattle.std.proofs.Common.{◌∙◌, sym, ap}
 use Rattle.vc_occam.specs.Frames.{plans, views}
 use Rattle.vc_occam.proofs.Gates.{choice_did, gate_plans, gate_variable}
 use Rattle.vc_occam.proofs.going.begin_choice.Goals as goal
@@ -8,7 +8,7 @@ take_guard-requires c = gate_variable c.args.kind.now c.args.own c.in-Alt.guards
 
 pub returns-in-Choose-clause-did : goal.returns-in-Choose-clause-did
 returns-in-Choose-clause-did c = λ s.
-    choice_did c.args.kind.now c.args.own c.in-Alt.guards (views c.args.parts.now.items) _ _ _ s c.args.deed _ c.in-Choose.place _ c.in-Choose.message _ _ c.in-Alt.is c.in-Choose.is c.from-place.ensures c.as_slice.ensures
+    choice_did c.args.kind.now c.args.own c.in-Alt.guards (views c.args.parts.now.items) _ _ _ s c.args.doing.now.deed _ c.in-Choose.place _ c.in-Choose.message _ _ c.in-Alt.is (sym c.take_deed.ensures ∙ c.in-Choose.is) c.from-place.ensures c.as_slice.ensures
     c.take_guard.ensures.next c.take_guard.ensures.parts c.take_guard.ensures.value
 
 pub returns-in-Choose-clause-plans : goal.returns-in-Choose-clause-plans

@@ -18,8 +18,8 @@ go-requires-clause-able c =
     let r = (view self.frame).1 in
     let e = store self.vars.items in
     let made = c.args.made.now in
-    subst (λ (i : ℕ). Able r e i c.deed_for-deed.result) (sym c.site_of.ensures)
-    (subst (λ (d : Deed). Able r e (site_of made) d) (sym c.deed_for-deed.ensures) (able r e made c.args.answer c.requires.listed))
+    subst (λ (i : ℕ). Able r e i c.deed_for.result) (sym c.site_of.ensures)
+    (subst (λ (d : Deed). Able r e (site_of made) d) (sym c.deed_for.ensures) (able r e made c.args.answer c.requires.listed))
 
 pub returns-clause-made : goal.returns-clause-made
 unfolding state inner_channels
@@ -34,7 +34,7 @@ returns-clause-made c =
     let after : State = record { rest = q; store = f } in
     acts before after made c.args.answer self.own_sites self.uses_lawfully (own_alone r e made c.requires.listed)
     (subst (λ (i : ℕ). Did r e i (deed_for made c.args.answer) q f) c.site_of.ensures
-    (subst (λ (d : Deed). Did r e c.site_of.result d q f) c.deed_for-deed.ensures c.go.ensures.did))
+    (subst (λ (d : Deed). Did r e c.site_of.result d q f) c.deed_for.ensures c.go.ensures.did))
 
 pub invariant_of-self-clause-own_sites : goal.invariant_of-self-clause-own_sites
 invariant_of-self-clause-own_sites c = (step_keeps c.go.ensures.did.1 c.args.self.now.own_sites).1

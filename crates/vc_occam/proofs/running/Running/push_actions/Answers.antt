@@ -1,0 +1,20 @@
+use Rattle.std.proofs.Common.{◌∙◌, ap, sym, List, ℕ}
+use Rattle.vc_occam.specs.declared.datum.Datum.{Datum}
+use Rattle.vc_occam.specs.First.{joined, own}
+use Rattle.vc_occam.specs.Frames.{view}
+use Rattle.vc_occam.specs.Runnings.{state, inner_channels}
+use Rattle.vc_occam.specs.Terms.{store}
+use Rattle.vc_occam.specs.Usage.{among}
+use Rattle.vc_occam.proofs.Gates.{pushed_same}
+use Rattle.vc_occam.proofs.Unjoined.{unjoined}
+use Rattle.vc_occam.proofs.running.Running.push_actions.Goals as goal
+
+pub returns-then-is_empty : goal.returns-then-is_empty
+unfolding state inner_channels
+returns-then-is_empty c =
+    let self = c.args.self.now in
+    let r = (view self.frame).1 in
+    let ms = own r (store self.vars.items) in
+    let none = c.is_empty.ensures.0 c.if-is_empty.true in
+    let alone = ap (λ (xs : List ℕ). joined (among xs) ms ms) none ∙ unjoined ms ms in
+    pushed_same c.push_moves.result _ _ _ _ (alone ∙ sym (ap (λ (xs : List Datum). own r (store xs)) c.deref.ensures.value)) c.push_moves.ensures

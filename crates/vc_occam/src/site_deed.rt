@@ -1,0 +1,23 @@
+//! What one site of a running process does, on its way to the site.
+ghost use Rattle.std.specs.Prelude.{◌≡◌};
+
+use crate::datum::Datum;
+use crate::deed::Deed;
+use std::mem;
+
+/// What a site does. Where that makes an assignment, its value comes along, or None where it is a fault. The site takes out what it uses.
+#[derive(Drop)]
+pub(crate) struct SiteDeed {
+    pub(crate) site: u16,
+    pub(crate) deed: Deed,
+    pub(crate) assigned: Option<Datum>,
+}
+
+impl SiteDeed {
+    /// Takes the deed out.
+    pub(crate) fn take_deed(&mut self) -> Deed
+        ensures { result ≡ self.old.deed }
+    {
+        mem::replace(&mut self.deed, Deed::Quiet)
+    }
+}
