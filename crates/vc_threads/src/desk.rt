@@ -82,10 +82,7 @@ fn can_take(actor: &Actor, end: &mut (u8, In)) -> bool
     ensures looked { InLooked end.old end.new }
     ensures can { IsTrue result → CanTake actor.now end.new }
 {
-    if !actor.may_take(end.0) {
-        return false;
-    }
-    is_ready(end)
+    is_ready(end) && actor.may_take(end.0)
 }
 
 // The place of the first link from which the actor may take and whose ring has an item.
