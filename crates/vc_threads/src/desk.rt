@@ -1,5 +1,5 @@
 //! An actor at work, with its ends of the rings.
-ghost use Rattle.std.specs.Prelude.{◌≡◌, ◌≢◌, ℕ, ◌+◌, ◌<◌, ◌≤◌, ◌++◌, ◌⊎◌, [], ◌∷◌, length, OnErr, IfOk, IfSome, IfErr, IsTrue};
+ghost use Rattle.std.specs.Prelude.{◌≡◌, ◌≢◌, ℕ, ◌+◌, ◌<◌, ◌≤◌, ◌++◌, ◌⊎◌, [], ◌∷◌, length, OnErr, IfOk, IfSome, IfErr, IsSome, IsTrue};
 ghost use Rattle.std.specs.List.{All, AllZip, HoldsAt};
 ghost use Rattle.std.specs.Int.{bit_at};
 ghost use Rattle.rtrb.specs.Ring.{sent, known_free, SameProducer};
@@ -98,6 +98,16 @@ fn find_in(actor: &Actor, ins: &mut [(u8, In)]) -> Option<usize>
     None
 }
 
+// Whether this was the room when the actor had no step.
+fn is_same(rested: Option<u32>, room: u32) -> bool
+    ensures { IsTrue result → IsSome rested }
+{
+    match rested {
+        Some(then) => then == room,
+        None => false,
+    }
+}
+
 // Takes the front item. It is popped only once the actor took it.
 fn take_front(
     actor: &mut Actor,
@@ -136,13 +146,14 @@ fn put_item(end: &mut (u8, Out), item: Stamped)
 }
 
 impl Desk {
-    ghost use Rattle.std.specs.Prelude.{◌≡◌, ◌≢◌, ◌<◌, ◌++◌, ℕ, [], ◌∷◌, length, OnOk, OnErr, IfErr};
+    ghost use Rattle.std.specs.Prelude.{◌≡◌, ◌≢◌, ◌<◌, ◌++◌, ℕ, [], ◌∷◌, length, OnOk, OnErr, IfOk, IfErr, IfSome};
     ghost use Rattle.std.specs.List.{All, HoldsAt};
     ghost use Rattle.std.specs.Vec.{vec_len, vec_capacity};
     ghost use Rattle.rand_pcg.specs.Lcg.{started, increment_of};
     ghost use Rattle.rand_pcg.specs.Pcg.{multiplier_64};
     ghost use Rattle.vc_core.specs.OfPlan.{IsActorOf};
     ghost use Rattle.vc_network.specs.Plan.{Plan};
+    ghost use Rattle.vc_threads.specs.Runs.{IsQuiet};
     ghost use Rattle.vc_threads.specs.Wires.{Distinct, in_links, out_links};
     ghost use Rattle.vc_threads.specs.Works.{CanTake, IsFull, IsOfSomePlan, Uses, Stays, desk};
 
@@ -210,7 +221,7 @@ impl Desk {
     }
 
     // Takes the front item of the k-th incoming link.
-    fn take_from(&mut self, k: usize) -> Result<(), Stop>
+    fn take_from(&mut self, k: usize) -> Result<Option<u32>, Stop>
         requires links { Distinct (in_links self.old.ends.ins.items) }
         requires within { k < length self.old.ends.ins.items }
         requires can { HoldsAt (CanTake self.old.actor) self.old.ends.ins.items k }
@@ -219,64 +230,74 @@ impl Desk {
         ensures stopped { OnErr result (Stays (desk self.old) (desk self.new)) }
         ensures why { IfErr result (λ why. why ≢ Stop.Turns) }
         ensures full { IfErr result (λ why. why ≡ Stop.Clock → IsFull self.new.clock self.new.ends.ins.items) }
+        ensures rests { (plan : Plan) (n : ℕ) → IsActorOf plan n self.new.actor → IfOk result (λ rested. IfSome rested (λ room. IsQuiet plan n self.new.actor)) }
     {
         let word = self.words.next_word();
         let (stamp, act) = take_front(&mut self.actor, &mut self.ends.ins[k], self.clock, word)?;
         self.log(stamp, act);
-        Ok(())
+        Ok(None)
     }
 
-    // What the actor does where it takes nothing.
-    fn make_turn(&mut self) -> Result<(), Stop>
+    // What the actor does where it takes nothing. It is not asked where it had no step with this room before.
+    fn make_turn(&mut self, rested: Option<u32>) -> Result<Option<u32>, Stop>
         requires actor { IsOfSomePlan self.old.actor }
         requires links { Distinct (out_links self.old.ends.outs.items) }
         requires low { All (λ o. o.0 < 32) self.old.ends.outs.items }
         requires room { vec_len self.old.acts < vec_capacity self.old.acts }
+        requires rests { (plan : Plan) (n : ℕ) → IsActorOf plan n self.old.actor → IfSome rested (λ room. IsQuiet plan n self.old.actor) }
         ensures done { (plan : Plan) (n : ℕ) → IsActorOf plan n self.old.actor → OnOk result (Uses plan n 1 (desk self.old) (desk self.new)) }
         ensures stopped { OnErr result (Stays (desk self.old) (desk self.new)) }
         ensures why { IfErr result (λ why. why ≢ Stop.Turns) }
         ensures full { IfErr result (λ why. why ≡ Stop.Clock → IsFull self.new.clock self.new.ends.ins.items) }
+        ensures rests { (plan : Plan) (n : ℕ) → IsActorOf plan n self.new.actor → IfOk result (λ rested. IfSome rested (λ room. IsQuiet plan n self.new.actor)) }
     {
         let Some(stamp) = next_stamp(self.clock, None) else {
             return Err(Stop::Clock);
         };
         let room = room_of(self.ends.outs.as_mut_slice());
+        if is_same(rested, room) {
+            self.idle = self.idle.saturating_add(1);
+            return Ok(rested);
+        }
         match self.actor.turn(room) {
             Ok(Turn::Idle) => {
                 self.idle = self.idle.saturating_add(1);
-                Ok(())
+                Ok(Some(room))
             }
             Ok(Turn::Local(act)) => {
                 self.log(stamp, act);
-                Ok(())
+                Ok(None)
             }
             Ok(Turn::Put { link, act, item }) => {
                 let k = find_out(self.ends.outs.as_slice(), link);
                 put_item(&mut self.ends.outs[k], Stamped { at: stamp, item });
                 self.log(stamp, act);
-                Ok(())
+                Ok(None)
             }
             Err(_) => Err(Stop::Memory),
         }
     }
 
-    /// One turn: the take of an item from the first link that may take one and whose ring has one, or else what the actor does.
-    pub(crate) fn turn(&mut self) -> Result<(), Stop>
+    /// One turn: the take of an item from the first link that may take one and whose ring has one, or else what the actor does. The
+    /// answer is the room with which the actor has no step, where that is known, and the next turn is given it.
+    pub(crate) fn turn(&mut self, rested: Option<u32>) -> Result<Option<u32>, Stop>
         requires actor { IsOfSomePlan self.old.actor }
         requires outs { Distinct (out_links self.old.ends.outs.items) }
         requires ins { Distinct (in_links self.old.ends.ins.items) }
         requires low { All (λ o. o.0 < 32) self.old.ends.outs.items }
+        requires rests { (plan : Plan) (n : ℕ) → IsActorOf plan n self.old.actor → IfSome rested (λ room. IsQuiet plan n self.old.actor) }
         ensures done { (plan : Plan) (n : ℕ) → IsActorOf plan n self.old.actor → OnOk result (Uses plan n 1 (desk self.old) (desk self.new)) }
         ensures stopped { OnErr result (Stays (desk self.old) (desk self.new)) }
         ensures why { IfErr result (λ why. why ≢ Stop.Turns) }
         ensures full { IfErr result (λ why. why ≡ Stop.Clock → IsFull self.new.clock self.new.ends.ins.items) }
+        ensures rests { (plan : Plan) (n : ℕ) → IsActorOf plan n self.new.actor → IfOk result (λ rested. IfSome rested (λ room. IsQuiet plan n self.new.actor)) }
     {
         if self.acts.capacity() <= self.acts.len() {
             return Err(Stop::Memory);
         }
         match find_in(&self.actor, self.ends.ins.as_mut_slice()) {
             Some(k) => self.take_from(k),
-            None => self.make_turn(),
+            None => self.make_turn(rested),
         }
     }
 }

@@ -40,12 +40,14 @@ pub fn worker<G: Gate>(
 {
     let mut desk = Desk::new(alloc, id, actor, ends, seed);
     let mut told = false;
+    let mut rested = None;
     for turn in 0..turns {
         if !gate.pass(id, turn) {
             return desk.into_run(id, Stop::Gate);
         }
-        if let Err(why) = desk.turn() {
-            return desk.into_run(id, why);
+        match desk.turn(rested) {
+            Ok(room) => rested = room,
+            Err(why) => return desk.into_run(id, why),
         }
         if !told && desk.idle() < 2 && desk.actor.ended() {
             gate.ended(id);
