@@ -2,10 +2,13 @@
 """Makes each allocation of a run fail in turn.
 
 Usage: bench/allocations.py VCNET [NETWORK..], VCNET being the built program (crates/vcnet/out/vcnet), the networks those of
-examples/ where none is named. Each run must print what it prints with ample memory, or that memory is short, with status 4.
+examples/ where none is named. Each check and each run by step must print what it prints with ample memory, or that memory is short,
+with status 4. A run in threads, of which no two need be alike, must print a fault alone, or the traffic of a run that ended because an
+actor found no memory, both with status 4; or the traffic of a run to its end, or to the end of its turns.
 """
 import os
 import pathlib
+import re
 import subprocess
 import sys
 import tempfile
@@ -13,31 +16,40 @@ import tempfile
 # Counts allocations, and refuses the one whose number is FAIL_AT; the count goes to the file COUNT_TO at the end.
 SHIM = r"""
 #include <errno.h>
+#include <stdatomic.h>
 #include <stdio.h>
 #include <stdlib.h>
+#include <sys/syscall.h>
+#include <unistd.h>
 extern void *__libc_malloc(size_t);
 extern void *__libc_calloc(size_t, size_t);
 extern void *__libc_realloc(void *, size_t);
 extern void *__libc_memalign(size_t, size_t);
-static long seen, at = -1;
+static atomic_long seen, at = -1;
 static int fails(void) {
     if (at < 0) { const char *s = getenv("FAIL_AT"); at = s ? atol(s) : 0; }
-    if (++seen == at) { errno = ENOMEM; return 1; }
+    if (atomic_fetch_add(&seen, 1) + 1 == at) { errno = ENOMEM; return 1; }
     return 0;
 }
 void *malloc(size_t n) { return fails() ? 0 : __libc_malloc(n); }
 void *calloc(size_t k, size_t n) { return fails() ? 0 : __libc_calloc(k, n); }
 void *realloc(void *p, size_t n) { return fails() ? 0 : __libc_realloc(p, n); }
 void *aligned_alloc(size_t a, size_t n) { return fails() ? 0 : __libc_memalign(a, n); }
-__attribute__((destructor)) static void tell(void) {
+void _exit(int status) {
     const char *s = getenv("COUNT_TO");
     long count = seen;
     FILE *f = s ? fopen(s, "w") : 0;
     if (f) { fprintf(f, "%ld", count); fclose(f); }
+    for (;;) syscall(SYS_exit_group, status);
 }
 """
 ROOT = pathlib.Path(__file__).resolve().parent.parent
 SHORT = (b"fault memory\n", 4)
+TURNS = ["--turns", "200000", "--seed", "0"]
+# The runs in threads make their allocations in no one order: so many are tried past those of a run with ample memory.
+MORE = 40
+TRAFFIC = re.compile(rb"(channel \S+ offered \d+ taken \d+ finished \d+( stopped)?\n(  \d+ .*\n)*)*end (\w+)\n")
+STATUS = {b"done": 0, b"limit": 3, b"memory": 4}
 
 
 def outcome(words, network, env):
@@ -63,6 +75,33 @@ def sweep(words, network, shim, folder):
     print(f"{network.name} {' '.join(words[1:])}: {count} allocations, {short} told, {unharmed} unharmed", flush=True)
 
 
+def ending(got):
+    """How a run in threads ended, if what it printed may be."""
+    text, status = got
+    if status == 4 and text in (b"fault memory\n", b"fault thread\n"):
+        return text.decode().strip()
+    traffic = TRAFFIC.fullmatch(text)
+    if traffic and STATUS.get(traffic[4]) == status:
+        return "end " + traffic[4].decode()
+    return None
+
+
+def sweep_threads(words, network, shim, folder):
+    """Fails each allocation of a run in threads in turn, and says how the runs ended."""
+    count_to = folder / "count"
+    outcome(words, network, {"LD_PRELOAD": str(shim), "COUNT_TO": str(count_to)})
+    count = int(count_to.read_text()) + MORE
+    ended = {}
+    for number in range(1, count + 1):
+        got = outcome(words, network, {"LD_PRELOAD": str(shim), "FAIL_AT": str(number)})
+        how = ending(got)
+        if how is None:
+            sys.exit(f"{network.name}: with allocation {number} refused, status {got[1]}: {got[0][:200]!r}")
+        ended[how] = ended.get(how, 0) + 1
+    told = ", ".join(f"{count} {how}" for how, count in sorted(ended.items()))
+    print(f"{network.name} {' '.join(words[1:])}: {count} allocations: {told}", flush=True)
+
+
 def main():
     if len(sys.argv) < 2:
         sys.exit(__doc__)
@@ -76,6 +115,7 @@ def main():
         for network in networks:
             for word in ("check", "step"):
                 sweep([vcnet, word], network, shim, folder)
+            sweep_threads([vcnet, "run", *TURNS], network, shim, folder)
 
 
 main()

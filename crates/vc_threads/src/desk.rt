@@ -1,5 +1,5 @@
 //! An actor at work, with its ends of the rings.
-ghost use Rattle.std.specs.Prelude.{◌≡◌, ◌≢◌, ℕ, ◌+◌, ◌<◌, ◌≤◌, ◌++◌, ◌⊎◌, [], ◌∷◌, length, OnErr, IfOk, IfSome, IfErr, IsTrue};
+ghost use Rattle.std.specs.Prelude.{◌≡◌, ◌≢◌, ℕ, ◌+◌, ◌<◌, ◌≤◌, ◌++◌, ◌⊎◌, [], ◌∷◌, length, OnErr, IfOk, IfSome, IfErr, IsSome, IsTrue};
 ghost use Rattle.std.specs.List.{All, AllZip, HoldsAt};
 ghost use Rattle.std.specs.Int.{bit_at};
 ghost use Rattle.rtrb.specs.Ring.{sent, known_free, SameProducer};
@@ -24,6 +24,7 @@ pub(crate) struct Desk {
     acts: Vec<(u64, Act)>,
     ends: Ends,
     words: Lcg64Xsh32,
+    idle: u32,
 }
 
 // Whether a link's ring has room.
@@ -32,7 +33,7 @@ fn has_room(out: &mut (u8, Out)) -> bool
     ensures room { IsTrue result → 0 < known_free out.new.1 }
 {
     let (_, producer) = out;
-    producer.slots() > 0
+    !producer.is_full()
 }
 
 // The outgoing links whose rings have room, a bit for each.
@@ -73,7 +74,7 @@ fn is_ready(end: &mut (u8, In)) -> bool
     ensures ready { IsTrue result → IsReady end.new }
 {
     let (_, consumer) = end;
-    consumer.slots() > 0
+    !consumer.is_empty()
 }
 
 // Whether the actor may take from a link, and its ring has an item.
@@ -81,10 +82,7 @@ fn can_take(actor: &Actor, end: &mut (u8, In)) -> bool
     ensures looked { InLooked end.old end.new }
     ensures can { IsTrue result → CanTake actor.now end.new }
 {
-    if !actor.may_take(end.0) {
-        return false;
-    }
-    is_ready(end)
+    is_ready(end) && actor.may_take(end.0)
 }
 
 // The place of the first link from which the actor may take and whose ring has an item.
@@ -98,6 +96,16 @@ fn find_in(actor: &Actor, ins: &mut [(u8, In)]) -> Option<usize>
         }
     }
     None
+}
+
+// Whether this was the room when the actor had no step.
+fn is_same(rested: Option<u32>, room: u32) -> bool
+    ensures { IsTrue result → IsSome rested }
+{
+    match rested {
+        Some(then) => then == room,
+        None => false,
+    }
 }
 
 // Takes the front item. It is popped only once the actor took it.
@@ -138,12 +146,14 @@ fn put_item(end: &mut (u8, Out), item: Stamped)
 }
 
 impl Desk {
-    ghost use Rattle.std.specs.Prelude.{◌≡◌, ◌≢◌, ◌<◌, ℕ, [], length, OnOk, OnErr, IfErr};
+    ghost use Rattle.std.specs.Prelude.{◌≡◌, ◌≢◌, ◌<◌, ◌++◌, ℕ, [], ◌∷◌, length, OnOk, OnErr, IfOk, IfErr, IfSome};
     ghost use Rattle.std.specs.List.{All, HoldsAt};
+    ghost use Rattle.std.specs.Vec.{vec_len, vec_capacity};
     ghost use Rattle.rand_pcg.specs.Lcg.{started, increment_of};
     ghost use Rattle.rand_pcg.specs.Pcg.{multiplier_64};
     ghost use Rattle.vc_core.specs.OfPlan.{IsActorOf};
     ghost use Rattle.vc_network.specs.Plan.{Plan};
+    ghost use Rattle.vc_threads.specs.Runs.{IsQuiet};
     ghost use Rattle.vc_threads.specs.Wires.{Distinct, in_links, out_links};
     ghost use Rattle.vc_threads.specs.Works.{CanTake, IsFull, IsOfSomePlan, Uses, Stays, desk};
 
@@ -155,12 +165,15 @@ impl Desk {
         ensures ends { result.ends ≡ ends }
         ensures words { result.words ≡ started 64 multiplier_64 seed (increment_of 64 id) }
     {
+        let mut acts = Vec::new(alloc);
+        let _room = acts.reserve(1);
         Desk {
             actor,
             clock: 0,
-            acts: Vec::new(alloc),
+            acts,
             ends,
             words: Lcg64Xsh32::new(u64::from(seed), u64::from(id)),
+            idle: 0,
         }
     }
 
@@ -178,6 +191,7 @@ impl Desk {
             acts,
             ends,
             words: _,
+            idle: _,
         } = self;
         ActorRun {
             id,
@@ -188,75 +202,102 @@ impl Desk {
         }
     }
 
+    /// How many turns one after another were idle until now.
+    pub(crate) fn idle(&self) -> u32
+        ensures { result ≡ self.now.idle }
+    {
+        self.idle
+    }
+
+    // Logs an act for which there is room, and makes room for the next one. Where memory is wanting, the next turn says so.
+    fn log(&mut self, stamp: u64, act: Act)
+        requires room { vec_len self.old.acts < vec_capacity self.old.acts }
+        ensures { desk self.new ≡ record (desk self.old) { clock = stamp; log = (desk self.old).log ++ (stamp, act) ∷ [] } }
+    {
+        self.acts.push_reserved((stamp, act));
+        let _room = self.acts.reserve(1);
+        self.clock = stamp;
+        self.idle = 0;
+    }
+
     // Takes the front item of the k-th incoming link.
-    fn take_from(&mut self, k: usize) -> Result<(), Stop>
+    fn take_from(&mut self, k: usize) -> Result<Option<u32>, Stop>
         requires links { Distinct (in_links self.old.ends.ins.items) }
         requires within { k < length self.old.ends.ins.items }
         requires can { HoldsAt (CanTake self.old.actor) self.old.ends.ins.items k }
+        requires room { vec_len self.old.acts < vec_capacity self.old.acts }
         ensures done { (plan : Plan) (n : ℕ) → IsActorOf plan n self.old.actor → OnOk result (Uses plan n 1 (desk self.old) (desk self.new)) }
         ensures stopped { OnErr result (Stays (desk self.old) (desk self.new)) }
         ensures why { IfErr result (λ why. why ≢ Stop.Turns) }
         ensures full { IfErr result (λ why. why ≡ Stop.Clock → IsFull self.new.clock self.new.ends.ins.items) }
+        ensures rests { (plan : Plan) (n : ℕ) → IsActorOf plan n self.new.actor → IfOk result (λ rested. IfSome rested (λ room. IsQuiet plan n self.new.actor)) }
     {
-        if self.acts.reserve(1).is_err() {
-            return Err(Stop::Memory);
-        }
         let word = self.words.next_word();
         let (stamp, act) = take_front(&mut self.actor, &mut self.ends.ins[k], self.clock, word)?;
-        self.acts.push_reserved((stamp, act));
-        self.clock = stamp;
-        Ok(())
+        self.log(stamp, act);
+        Ok(None)
     }
 
-    // What the actor does where it takes nothing.
-    fn make_turn(&mut self) -> Result<(), Stop>
+    // What the actor does where it takes nothing. It is not asked where it had no step with this room before.
+    fn make_turn(&mut self, rested: Option<u32>) -> Result<Option<u32>, Stop>
         requires actor { IsOfSomePlan self.old.actor }
         requires links { Distinct (out_links self.old.ends.outs.items) }
         requires low { All (λ o. o.0 < 32) self.old.ends.outs.items }
+        requires room { vec_len self.old.acts < vec_capacity self.old.acts }
+        requires rests { (plan : Plan) (n : ℕ) → IsActorOf plan n self.old.actor → IfSome rested (λ room. IsQuiet plan n self.old.actor) }
         ensures done { (plan : Plan) (n : ℕ) → IsActorOf plan n self.old.actor → OnOk result (Uses plan n 1 (desk self.old) (desk self.new)) }
         ensures stopped { OnErr result (Stays (desk self.old) (desk self.new)) }
         ensures why { IfErr result (λ why. why ≢ Stop.Turns) }
         ensures full { IfErr result (λ why. why ≡ Stop.Clock → IsFull self.new.clock self.new.ends.ins.items) }
+        ensures rests { (plan : Plan) (n : ℕ) → IsActorOf plan n self.new.actor → IfOk result (λ rested. IfSome rested (λ room. IsQuiet plan n self.new.actor)) }
     {
-        if self.acts.reserve(1).is_err() {
-            return Err(Stop::Memory);
-        }
         let Some(stamp) = next_stamp(self.clock, None) else {
             return Err(Stop::Clock);
         };
         let room = room_of(self.ends.outs.as_mut_slice());
+        if is_same(rested, room) {
+            self.idle = self.idle.saturating_add(1);
+            return Ok(rested);
+        }
         match self.actor.turn(room) {
-            Ok(Turn::Idle) => Ok(()),
+            Ok(Turn::Idle) => {
+                self.idle = self.idle.saturating_add(1);
+                Ok(Some(room))
+            }
             Ok(Turn::Local(act)) => {
-                self.acts.push_reserved((stamp, act));
-                self.clock = stamp;
-                Ok(())
+                self.log(stamp, act);
+                Ok(None)
             }
             Ok(Turn::Put { link, act, item }) => {
                 let k = find_out(self.ends.outs.as_slice(), link);
                 put_item(&mut self.ends.outs[k], Stamped { at: stamp, item });
-                self.acts.push_reserved((stamp, act));
-                self.clock = stamp;
-                Ok(())
+                self.log(stamp, act);
+                Ok(None)
             }
             Err(_) => Err(Stop::Memory),
         }
     }
 
-    /// One turn: the take of an item from the first link that may take one and whose ring has one, or else what the actor does.
-    pub(crate) fn turn(&mut self) -> Result<(), Stop>
+    /// One turn: the take of an item from the first link that may take one and whose ring has one, or else what the actor does. The
+    /// answer is the room with which the actor has no step, where that is known, and the next turn is given it.
+    pub(crate) fn turn(&mut self, rested: Option<u32>) -> Result<Option<u32>, Stop>
         requires actor { IsOfSomePlan self.old.actor }
         requires outs { Distinct (out_links self.old.ends.outs.items) }
         requires ins { Distinct (in_links self.old.ends.ins.items) }
         requires low { All (λ o. o.0 < 32) self.old.ends.outs.items }
+        requires rests { (plan : Plan) (n : ℕ) → IsActorOf plan n self.old.actor → IfSome rested (λ room. IsQuiet plan n self.old.actor) }
         ensures done { (plan : Plan) (n : ℕ) → IsActorOf plan n self.old.actor → OnOk result (Uses plan n 1 (desk self.old) (desk self.new)) }
         ensures stopped { OnErr result (Stays (desk self.old) (desk self.new)) }
         ensures why { IfErr result (λ why. why ≢ Stop.Turns) }
         ensures full { IfErr result (λ why. why ≡ Stop.Clock → IsFull self.new.clock self.new.ends.ins.items) }
+        ensures rests { (plan : Plan) (n : ℕ) → IsActorOf plan n self.new.actor → IfOk result (λ rested. IfSome rested (λ room. IsQuiet plan n self.new.actor)) }
     {
+        if self.acts.capacity() <= self.acts.len() {
+            return Err(Stop::Memory);
+        }
         match find_in(&self.actor, self.ends.ins.as_mut_slice()) {
             Some(k) => self.take_from(k),
-            None => self.make_turn(),
+            None => self.make_turn(rested),
         }
     }
 }

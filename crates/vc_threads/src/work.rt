@@ -11,7 +11,11 @@ use crate::gate::Gate;
 use crate::link::Ends;
 use crate::run::{ActorRun, Stop};
 use std::alloc::Global;
+use std::thread;
 use vc_core::Actor;
+
+/// After so many idle turns one after another a worker leaves the processor to others, and again after as many more.
+const SPINS: u32 = 64;
 
 /// Runs an actor for at most so many turns, as long as the gate lets it. In a turn it takes the item of the first link from which it may and whose
 /// ring has one, or else does what [`Actor::turn`] does. The actor's number is the stream of the generator of its takes' words.
@@ -36,16 +40,21 @@ pub fn worker<G: Gate>(
 {
     let mut desk = Desk::new(alloc, id, actor, ends, seed);
     let mut told = false;
+    let mut rested = None;
     for turn in 0..turns {
         if !gate.pass(id, turn) {
             return desk.into_run(id, Stop::Gate);
         }
-        if let Err(why) = desk.turn() {
-            return desk.into_run(id, why);
+        match desk.turn(rested) {
+            Ok(room) => rested = room,
+            Err(why) => return desk.into_run(id, why),
         }
-        if !told && desk.actor.ended() {
+        if !told && desk.idle() < 2 && desk.actor.ended() {
             gate.ended(id);
             told = true;
+        }
+        if desk.idle() % SPINS == SPINS - 1 {
+            thread::yield_now();
         }
     }
     desk.into_run(id, Stop::Turns)

@@ -8,24 +8,16 @@ use Rattle.vc_tokens.specs.declared.token.Token.{Token}
 use Rattle.vc_threads.specs.declared.link.Stamped.{Stamped}
 use Rattle.vc_threads.specs.Stamps.{stamped}
 use Rattle.vc_threads.specs.Wires.{OutLooked, InLooked, HasRoom, Distinct, IsAmong}
-use Rattle.vc_threads.specs.Works.{Out, desk}
+use Rattle.vc_threads.specs.Works.{Out, Uses, desk}
 use Rattle.vc_threads.proofs.Zips.{zip_same}
 use Rattle.vc_threads.proofs.Looks.{looked_same, in_looked_same}
 use Rattle.vc_threads.proofs.Steps.{finds_quiet, put_room}
 use Rattle.vc_threads.proofs.Goings.{among, uses_idle, uses_one, sends_one, sends_quiet, receives_quiet, looked_sends, looked_out_links}
 use Rattle.vc_threads.proofs.Backs.{same_back, zip_back}
+use Rattle.vc_threads.proofs.Outcomes.{of_some}
+use Rattle.vc_core.specs.OfPlan.{IsActorOf}
+use Rattle.vc_threads.specs.Runs.{IsQuiet}
 use Rattle.vc_threads.proofs.desk.Desk.make_turn.Goals as goal
-
-pub returns-then-is_err-clause-stopped : goal.returns-then-is_err-clause-stopped
-returns-then-is_err-clause-stopped c =
-    let a = c.args.self.now in
-    record {
-      actor = refl;
-      clock = refl;
-      log = c.reserve.ensures.items;
-      outs = zip_same OutLooked looked_same a.ends.outs.items;
-      ins = zip_same InLooked in_looked_same a.ends.ins.items;
-    }
 
 pub returns-in_default-clause-stopped : goal.returns-in_default-clause-stopped
 returns-in_default-clause-stopped c =
@@ -33,7 +25,7 @@ returns-in_default-clause-stopped c =
     record {
       actor = refl;
       clock = refl;
-      log = c.reserve.ensures.items;
+      log = refl;
       outs = zip_same OutLooked looked_same a.ends.outs.items;
       ins = zip_same InLooked in_looked_same a.ends.ins.items;
     }
@@ -44,10 +36,28 @@ returns-in-Err-clause-stopped c =
     record {
       actor = c.in-Err.ensures.refused;
       clock = refl;
-      log = c.reserve.ensures.items;
+      log = refl;
       outs = zip_back OutLooked a.ends.outs.len a.ends.outs.items c.as_mut_slice.result.now c.room_of-room.new.outs a.ends.outs.ok.0 c.as_mut_slice.ensures.value c.room_of-room.ensures.looked;
       ins = zip_same InLooked in_looked_same a.ends.ins.items;
     }
+
+pub returns-then-is_same-clause-done : goal.returns-then-is_same-clause-done
+returns-then-is_same-clause-done c = λ plan n of.
+    let a = c.args.self.now in
+    let mid = take a.ends.outs.len (c.room_of-room.new.outs ++ drop (length c.room_of-room.new.outs) a.ends.outs.items) in
+    let outs' = zip_back OutLooked a.ends.outs.len a.ends.outs.items c.as_mut_slice.result.now c.room_of-room.new.outs a.ends.outs.ok.0 c.as_mut_slice.ensures.value c.room_of-room.ensures.looked in
+    uses_idle plan n (desk a)
+    (record { actor = a.actor; clock = a.clock; log = a.acts.items; outs = mid; ins = a.ends.ins.items; words = a.words })
+    (of_some (IsQuiet plan n a.actor) c.args.rested (c.is_same.ensures c.if-is_same.true) (c.requires.rests plan n of)) refl refl refl refl outs' (zip_same InLooked in_looked_same a.ends.ins.items)
+
+pub returns-in-Ok-Idle-clause-rests : goal.returns-in-Ok-Idle-clause-rests
+returns-in-Ok-Idle-clause-rests c = λ plan n of.
+    let a = c.args.self.now in
+    let k = c.requires.actor in
+    let same : c.turn.new.self ≡ a.actor = (subst (λ t. MakesTurn k.0 k.1 a.actor c.room_of-room.result t c.turn.new.self) c.in-Ok-Idle.field-0-is (c.in-Ok-Idle.ensures.makes k.0 k.1 k.2)).0 in
+    let of' : IsActorOf plan n a.actor = subst (IsActorOf plan n) same of in
+    let did = subst (λ t. MakesTurn plan n a.actor c.room_of-room.result t c.turn.new.self) c.in-Ok-Idle.field-0-is (c.in-Ok-Idle.ensures.makes plan n of') in
+    subst (IsQuiet plan n) (sym same) (finds_quiet plan n a.actor c.room_of-room.result did.1)
 
 pub find_out-k-requires : goal.find_out-k-requires
 find_out-k-requires c =
@@ -65,8 +75,8 @@ returns-in-Ok-Idle-clause-done c = λ plan n of.
     let outs' = zip_back OutLooked a.ends.outs.len a.ends.outs.items c.as_mut_slice.result.now c.room_of-room.new.outs a.ends.outs.ok.0 c.as_mut_slice.ensures.value c.room_of-room.ensures.looked in
     let did = subst (λ t. MakesTurn plan n a.actor c.room_of-room.result t c.turn.new.self) c.in-Ok-Idle.field-0-is (c.in-Ok-Idle.ensures.makes plan n of) in
     uses_idle plan n (desk a)
-    (record { actor = c.turn.new.self; clock = a.clock; log = c.reserve.new.self.items; outs = take a.ends.outs.len (c.room_of-room.new.outs ++ drop (length c.room_of-room.new.outs) a.ends.outs.items); ins = a.ends.ins.items; words = a.words })
-    (finds_quiet plan n a.actor c.room_of-room.result did.1) did.0 refl c.reserve.ensures.items refl outs' (zip_same InLooked in_looked_same a.ends.ins.items)
+    (record { actor = c.turn.new.self; clock = a.clock; log = a.acts.items; outs = take a.ends.outs.len (c.room_of-room.new.outs ++ drop (length c.room_of-room.new.outs) a.ends.outs.items); ins = a.ends.ins.items; words = a.words })
+    (finds_quiet plan n a.actor c.room_of-room.result did.1) did.0 refl refl refl outs' (zip_same InLooked in_looked_same a.ends.ins.items)
 
 pub returns-in-Ok-Local-clause-done : goal.returns-in-Ok-Local-clause-done
 returns-in-Ok-Local-clause-done c = λ plan n of.
@@ -76,11 +86,11 @@ returns-in-Ok-Local-clause-done c = λ plan n of.
     let did = subst (λ t. MakesTurn plan n a.actor c.room_of-room.result t c.turn.new.self) c.in-Ok-Local.field-0-is (c.in-Ok-Local.ensures.makes plan n of) in
     let made : ℕ × Act = (c.in-Some.stamp, c.in-Ok-Local.act) in
     let t : Turn Act Token = record { at = c.in-Some.stamp; it = Own c.in-Ok-Local.act } in
-    uses_one plan n (desk a)
-    (record { actor = c.turn.new.self; clock = c.in-Some.stamp; log = c.push_reserved.new.self.items; outs = mid; ins = a.ends.ins.items; words = a.words })
-    t did.1 c.in-Some.ensures tt tt refl (c.push_reserved.ensures.items ∙ ap (λ w. w ++ made ∷ []) c.reserve.ensures.items) refl
+    subst (λ b. Uses plan n 1 (desk a) b) (sym c.log.ensures) (uses_one plan n (desk a)
+    (record { actor = c.turn.new.self; clock = c.in-Some.stamp; log = a.acts.items ++ made ∷ []; outs = mid; ins = a.ends.ins.items; words = a.words })
+    t did.1 c.in-Some.ensures tt tt refl refl refl
     (sends_quiet (t ∷ []) (λ l. refl) a.ends.outs.items mid outs')
-    (receives_quiet (t ∷ []) (λ l. refl) a.ends.ins.items a.ends.ins.items (zip_same InLooked in_looked_same a.ends.ins.items))
+    (receives_quiet (t ∷ []) (λ l. refl) a.ends.ins.items a.ends.ins.items (zip_same InLooked in_looked_same a.ends.ins.items)))
 
 pub returns-in-Ok-Put-clause-done : goal.returns-in-Ok-Put-clause-done
 returns-in-Ok-Put-clause-done c = λ plan n of.
@@ -100,9 +110,9 @@ returns-in-Ok-Put-clause-done c = λ plan n of.
     let links = subst Distinct (sym (looked_out_links a.ends.outs.items mid outs')) c.requires.links in
     let step : IsPut plan n a.actor r.0 act c.in-Ok-Put.item c.turn.new.self =
     subst (λ l. IsPut plan n a.actor l act c.in-Ok-Put.item c.turn.new.self) (sym link) did.1 in
-    uses_one plan n (desk a)
-    (record { actor = c.turn.new.self; clock = c.in-Some.stamp; log = c.push_reserved-in-Ok-Put.new.self.items; outs = set mid k c.put_item.new.end; ins = a.ends.ins.items; words = a.words })
-    t step c.in-Some.ensures refl (subst (λ ls. IsAmong ls r.0) (looked_out_links a.ends.outs.items mid outs') (among mid k r within c.index_mut.ensures.value)) refl (c.push_reserved-in-Ok-Put.ensures.items ∙ ap (λ w. w ++ made ∷ []) c.reserve.ensures.items) refl
+    subst (λ b. Uses plan n 1 (desk a) b) (sym c.log-in-Ok-Put.ensures) (uses_one plan n (desk a)
+    (record { actor = c.turn.new.self; clock = c.in-Some.stamp; log = a.acts.items ++ made ∷ []; outs = set mid k c.put_item.new.end; ins = a.ends.ins.items; words = a.words })
+    t step c.in-Some.ensures refl (subst (λ ls. IsAmong ls r.0) (looked_out_links a.ends.outs.items mid outs') (among mid k r within c.index_mut.ensures.value)) refl refl refl
     (looked_sends (t ∷ []) a.ends.outs.items mid (set mid k c.put_item.new.end) outs'
     (sends_one mid k r c.put_item.new.end c.in-Some.stamp act x links within c.index_mut.ensures.value c.put_item.ensures.link c.put_item.ensures.ring c.put_item.ensures.sent))
-    (receives_quiet (t ∷ []) (λ l. refl) a.ends.ins.items a.ends.ins.items (zip_same InLooked in_looked_same a.ends.ins.items))
+    (receives_quiet (t ∷ []) (λ l. refl) a.ends.ins.items a.ends.ins.items (zip_same InLooked in_looked_same a.ends.ins.items)))

@@ -6,24 +6,13 @@ use Rattle.vc_core.specs.declared.act.Act.{Act}
 use Rattle.std.proofs.Common.{ℕ, inl, inr, refl, subst, sym, get_or, ap, ◌∙◌, ◌++◌, ◌∷◌, []}
 use Rattle.std.proofs.Math.ListN.{set}
 use Rattle.vc_threads.specs.Wires.{OutLooked, InLooked}
-use Rattle.vc_threads.specs.Works.{take_of, desk}
+use Rattle.vc_threads.specs.Works.{Uses, take_of, desk}
 use Rattle.vc_threads.proofs.Zips.{zip_same, zip_step}
 use Rattle.vc_threads.proofs.Looks.{looked_same, in_looked_same, in_looked_then}
 use Rattle.vc_threads.proofs.Late.{full_passed, written_in}
 use Rattle.vc_threads.proofs.Outcomes.{on_err}
 use Rattle.vc_threads.proofs.Goings.{among, uses_one, receives_one, sends_quiet}
 use Rattle.vc_threads.proofs.desk.Desk.take_from.Goals as goal
-
-pub returns-then-is_err-clause-stopped : goal.returns-then-is_err-clause-stopped
-returns-then-is_err-clause-stopped c =
-    let a = c.args.self.now in
-    record {
-      actor = refl;
-      clock = refl;
-      log = c.reserve.ensures.items;
-      outs = zip_same OutLooked looked_same a.ends.outs.items;
-      ins = zip_same InLooked in_looked_same a.ends.ins.items;
-    }
 
 pub returns-in_err-stamp-clause-stopped : goal.returns-in_err-stamp-clause-stopped
 returns-in_err-stamp-clause-stopped c =
@@ -34,7 +23,7 @@ returns-in_err-stamp-clause-stopped c =
     on_err _ c.from_residual.result (record {
       actor = same.0;
       clock = refl;
-      log = c.reserve.ensures.items;
+      log = refl;
       outs = zip_same OutLooked looked_same a.ends.outs.items;
       ins = zip_step InLooked in_looked_then a.ends.ins.items a.ends.ins.items c.args.k c.index_mut.result.now c.take_front.new.end (zip_same InLooked in_looked_same a.ends.ins.items) c.requires.within looked;
     })
@@ -45,14 +34,14 @@ returns-clause-done c = λ plan n of.
     let h = c.in_ok-stamp.ensures.ok plan n of in
     let made : ℕ × Act = (c.in_ok-stamp.stamp, c.in_ok-stamp.act) in
     let t = take_of made c.index_mut.result.now.0 h.item in
-    uses_one plan n (desk a)
-    (record { actor = c.take_front.new.actor; clock = c.in_ok-stamp.stamp; log = c.push_reserved.new.self.items; outs = a.ends.outs.items; ins = set a.ends.ins.items c.args.k c.take_front.new.end; words = c.next_word-word.new.self })
+    subst (λ b. Uses plan n 1 (desk a) b) (sym c.log.ensures) (uses_one plan n (desk a)
+    (record { actor = c.take_front.new.actor; clock = c.in_ok-stamp.stamp; log = a.acts.items ++ made ∷ []; outs = a.ends.outs.items; ins = set a.ends.ins.items c.args.k c.take_front.new.end; words = c.next_word-word.new.self })
     t h.step h.stamp tt (among a.ends.ins.items c.args.k c.index_mut.result.now c.requires.within c.index_mut.ensures.value) refl
-    (c.push_reserved.ensures.items ∙ ap (λ w. w ++ made ∷ []) c.reserve.ensures.items)
+    refl
     (subst (λ x. Draws a.words (word_of (Takes x c.index_mut.result.now.0 (stamped h.item)) ++ []) c.next_word-word.new.self) (sym h.act)
     (ap (λ (p : ℕ × Lcg). p.0) c.next_word-word.ensures, ap (λ (p : ℕ × Lcg). p.1) c.next_word-word.ensures))
     (sends_quiet (t ∷ []) (λ l. refl) a.ends.outs.items a.ends.outs.items (zip_same OutLooked looked_same a.ends.outs.items))
-    (receives_one a.ends.ins.items c.args.k c.index_mut.result.now c.take_front.new.end c.in_ok-stamp.stamp c.in_ok-stamp.act h.item c.requires.links c.requires.within c.index_mut.ensures.value h.link h.ring h.got)
+    (receives_one a.ends.ins.items c.args.k c.index_mut.result.now c.take_front.new.end c.in_ok-stamp.stamp c.in_ok-stamp.act h.item c.requires.links c.requires.within c.index_mut.ensures.value h.link h.ring h.got))
 
 pub returns-in_err-stamp-clause-full : goal.returns-in_err-stamp-clause-full
 returns-in_err-stamp-clause-full c =

@@ -2,10 +2,13 @@ use Rattle.std.proofs.Common.{sym, subst, ◌++◌, take, drop, length}
 use Rattle.std.specs.List.{HoldsAt}
 use Rattle.vc_threads.specs.Wires.{InLooked, Distinct}
 use Rattle.vc_threads.specs.Works.{Seen, CanTake, desk}
-use Rattle.vc_threads.proofs.Goings.{uses_looked, stays_looked, looked_in_links}
+use Rattle.vc_threads.proofs.Goings.{uses_looked, stays_same, stays_looked, looked_in_links}
 use Rattle.vc_threads.proofs.Outcomes.{on_ok_map, on_err_map}
 use Rattle.vc_threads.proofs.Backs.{same_back, zip_back}
 use Rattle.vc_threads.proofs.desk.Desk.turn.Goals as goal
+
+pub returns-then-capacity-len-clause-stopped : goal.returns-then-capacity-len-clause-stopped
+returns-then-capacity-len-clause-stopped c = stays_same (desk c.args.self.now)
 
 pub take_from-requires-clause-links : goal.take_from-requires-clause-links
 take_from-requires-clause-links c =
