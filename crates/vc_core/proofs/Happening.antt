@@ -9,6 +9,7 @@ use Rattle.vc_actors.specs.Actors.Label.{Own, Takes, Puts}
 use Rattle.vc_packets.specs.Functions.{put}
 use Rattle.vc_network.specs.Network as net
 use Rattle.vc_network.specs.Plan.{IsOutOf, IsInto, back}
+use Rattle.vc_network.specs.Plan as network
 use Rattle.vc_network.proofs.Writes.{own_step, take_step, put_step}
 use Rattle.vc_plan.specs.declared.plan.Plan.{Plan}
 use Rattle.vc_accepted.specs.NetworkOf.{network_of}
@@ -23,7 +24,7 @@ use Rattle.vc_core.specs.Acting.{port, MakesOwn, MakesTake, MakesPut, MakesGrant
 use Rattle.vc_core.specs.OfPlan.{IsActorOf}
 use Rattle.vc_told.specs.Process.{does}
 use Rattle.vc_core.specs.Shown.{Acting, actor_of, act_of}
-use Rattle.vc_core.specs.State.{State, shown, IsNetworkOf, HasFront, HasWay, MakesEvent, Accepts, PutsBy, GrantsBy, with_actor, with_line}
+use Rattle.vc_core.specs.State.{State, shown, IsNetworkOf, HasFront, HasWay, MakesEvent, Accepts, GrantsBy, with_actor, with_line}
 use Rattle.vc_core.specs.Turns.{actors}
 use Rattle.vc_core.specs.Wired.{out_at, in_at}
 use Rattle.vc_core.specs.declared.act.Act.TheVariants as act
@@ -38,12 +39,6 @@ pub written_back : {X : Type 0} (xs : List X) (i : ℕ) (x y : X) → slice_get 
 written_back [] i x y h e = refl
 written_back (z ∷ zs) zero x y h e = let f : z ≡ x = cc in ap (λ w. w ∷ zs) (e ∙ sym f)
 written_back (z ∷ zs) (suc i) x y h e = ap (λ ws. z ∷ ws) (written_back zs i x y h e)
-
--- the last of two writes counts
-pub written_twice : {X : Type 0} (xs : List X) (i : ℕ) (x y : X) → slice_set (slice_set xs i x) i y ≡ slice_set xs i y
-written_twice [] i x y = refl
-written_twice (z ∷ zs) zero x y = refl
-written_twice (z ∷ zs) (suc i) x y = ap (λ ws. z ∷ ws) (written_twice zs i x y)
 
 pub none_past : {X : Type 0} (xs : List X) (k : ℕ) → slice_get xs k ≡ None → length xs ≤ k
 none_past [] k e = omega arith
@@ -145,14 +140,13 @@ pub grant_happens : (p : Plan) (s : State) (e : Event) (l : ℕ) (a b : Acting) 
 grant_happens p s e l a b f is_fct is here made =
     put_by p s e l a b f tokens.Fct is here (subst (λ z. net.Local (network_of p) Wormhole does e.actor (actor_of a) (Puts z f.way tokens.Fct) (actor_of b)) (sym (ap act_of is_fct)) (made.step f.way (out_of p s e.actor l f is))) made.kept
 
--- a token is taken: it comes to the actor, and then leaves its way
-pub taken : (p : Plan) (s t u : State) (e : Event) (l x : ℕ) (f : HasFront s e.actor l) (k : Token) → e.act ≡ act.Take l x → f.token ≡ k → Accepts s e.actor l x k t →
-    ((j : Token) (rest : List Token) → slice_get t.ways f.way ≡ Some (j ∷ rest) → u ≡ with_line t f.way rest) → IsNetworkOf p s → MakesEvent p s e u
-taken p s t u e l x f k is_take token accepts drops is =
-    let lines = ap (λ z. z.ways) accepts.new_is in
-    let after : u ≡ with_way s e.actor accepts.after f.way f.rest = drops f.token f.rest (ap (λ z. slice_get z f.way) lines ∙ f.stands) ∙ ap (λ z. with_line z f.way f.rest) accepts.new_is in
+-- a token is taken: it leaves its way, and comes to the actor
+pub taken : (p : Plan) (s t u : State) (e : Event) (l x : ℕ) (f : HasFront s e.actor l) (k : Token) → e.act ≡ act.Take l x → f.token ≡ k → t ≡ with_line s f.way f.rest → Accepts t e.actor l x k u → IsNetworkOf p s → MakesEvent p s e u
+taken p s t u e l x f k is_take token took accepts is =
+    let here : slice_get s.actors e.actor ≡ Some accepts.before = sym (ap (λ z. slice_get z.actors e.actor) took) ∙ accepts.here in
+    let after : u ≡ with_way s e.actor accepts.after f.way f.rest = accepts.new_is ∙ ap (λ z. with_actor z e.actor accepts.after) took in
     subst (MakesEvent p s e) (sym after)
-    (take_happens p s e l x accepts.before accepts.after f is_take is accepts.here (subst (λ z. MakesTake (network_of p) e.actor accepts.before l x z accepts.after) (sym token) (accepts.takes (network_of p) e.actor (is.actors e.actor accepts.before accepts.here))))
+    (take_happens p s e l x accepts.before accepts.after f is_take is here (subst (λ z. MakesTake (network_of p) e.actor accepts.before l x z accepts.after) (sym token) (accepts.takes (network_of p) e.actor (is.actors e.actor accepts.before here))))
 
 -- a flow control token is put: it comes to the end of the way, and the actor grants its places
 pub granted : (p : Plan) (s t u : State) (e : Event) (l : ℕ) (f : HasWay s e.actor l) → e.act ≡ act.Fct l → t ≡ with_line s f.way (f.tokens ++ tokens.Fct ∷ []) → GrantsBy t e.actor l u → IsNetworkOf p s → MakesEvent p s e u
@@ -161,31 +155,14 @@ granted p s t u e l f is_fct pushed grants is =
     let after : u ≡ with_way s e.actor grants.after f.way (f.tokens ++ tokens.Fct ∷ []) = grants.new_is ∙ ap (λ z. with_actor z e.actor grants.after) pushed in
     subst (MakesEvent p s e) (sym after) (grant_happens p s e l grants.before grants.after f is_fct is here (grants.grants (network_of p) e.actor (is.actors e.actor grants.before here)))
 
--- a token is put: a place is made at the end of the way, the actor puts its token, and it stands there
-pub placed : (p : Plan) (s t u v : State) (e : Event) (l : ℕ) (f : HasWay s e.actor l) (k : Token) → e.act ≡ act.Put l → t ≡ with_line s f.way (f.tokens ++ tokens.Fct ∷ []) → PutsBy t e.actor l k u →
-    ((ts : List Token) (last : Token) → slice_get u.ways f.way ≡ Some (ts ++ last ∷ []) → v ≡ with_line u f.way (ts ++ k ∷ [])) → IsNetworkOf p s → MakesEvent p s e v
-placed p s t u v e l f k is_put pushed puts replaced is =
-    let here : slice_get s.actors e.actor ≡ Some puts.before = sym (ap (λ z. slice_get z.actors e.actor) pushed) ∙ puts.here in
-    let real = slice_get_within s.ways f.way f.tokens f.stand in
-    let mid : u ≡ with_way s e.actor puts.after f.way (f.tokens ++ tokens.Fct ∷ []) = puts.new_is ∙ ap (λ z. with_actor z e.actor puts.after) pushed in
-    let stands : slice_get u.ways f.way ≡ Some (f.tokens ++ tokens.Fct ∷ []) = ap (λ z. slice_get z.ways f.way) mid ∙ place-set_same s.ways f.way (f.tokens ++ tokens.Fct ∷ []) real in
-    let after : v ≡ with_way s e.actor puts.after f.way (f.tokens ++ k ∷ []) =
-    replaced f.tokens tokens.Fct stands ∙ ap (λ z. with_line z f.way (f.tokens ++ k ∷ [])) mid
-    ∙ (λ i. record { actors = slice_set s.actors e.actor puts.after; nodes = s.nodes; ways = written_twice s.ways f.way (f.tokens ++ tokens.Fct ∷ []) (f.tokens ++ k ∷ []) i; wiring = s.wiring; wires = s.wires; channels = s.channels }) in
-    subst (MakesEvent p s e) (sym after) (put_happens p s e l puts.before puts.after f k is_put is here (puts.puts (network_of p) e.actor (is.actors e.actor puts.before here)))
+-- a token is put: the actor puts it, and it comes to the end of the way
+pub placed : (p : Plan) (s u : State) (e : Event) (l : ℕ) (a b : Acting) (f : HasWay s e.actor l) (k : Token) → e.act ≡ act.Put l → slice_get s.actors e.actor ≡ Some a →
+    ((plan : network.Plan) (n : ℕ) → IsActorOf plan n a → MakesPut plan n a l k b) → u ≡ with_way s e.actor b f.way (f.tokens ++ k ∷ []) → IsNetworkOf p s → MakesEvent p s e u
+placed p s u e l a b f k is_put here puts after is = subst (MakesEvent p s e) (sym after) (put_happens p s e l a b f k is_put is here (puts (network_of p) e.actor (is.actors e.actor a here)))
 
 -- the way that the code found, as the event's
-abbrev pub front_at : (s : State) (a l w : ℕ) (ts : List Token) (k : Token) (rest : List Token) → Some w ≡ in_at s.wiring a l → slice_get s.ways w ≡ Some ts → ts ≡ k ∷ rest → HasFront s a l
-front_at s a l w ts k rest into stands is = record { way = w; token = k; rest = rest; into = sym into; stands = stands ∙ ap Some is }
-
 pub way_found : (s : State) (a l w : ℕ) (f : HasWay s a l) → Some w ≡ out_at s.wiring a l → slice_get s.ways w ≡ Some f.tokens
 way_found s a l w f out = let e : Some w ≡ Some f.way = out ∙ f.out in let same : w ≡ f.way = cc in ap (slice_get s.ways) same ∙ f.stand
 
 abbrev pub way_is : (s : State) (a l w : ℕ) (f : HasWay s a l) → Some w ≡ out_at s.wiring a l → HasWay s a l
 way_is s a l w f out = record { way = w; tokens = f.tokens; out = sym out; stand = way_found s a l w f out }
-
-pub front_real : (s : State) (a l w : ℕ) (f : HasFront s a l) → Some w ≡ in_at s.wiring a l → w < length s.ways
-front_real s a l w f into =
-    let e : Some w ≡ Some f.way = into ∙ f.into in
-    let same : w ≡ f.way = cc in
-    subst (λ z. z < length s.ways) (sym same) (slice_get_within s.ways f.way (f.token ∷ f.rest) f.stands)

@@ -30,3 +30,7 @@ pub mod Enabled
 pub mod Turning
 pub mod Quiet
 pub mod Waking
+pub mod Taking
+pub mod Leading
+pub mod Bits
+pub mod Lined

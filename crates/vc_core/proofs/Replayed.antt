@@ -46,7 +46,7 @@ first_at p xs are k = by_place (slice_get xs k) refl
         let past : actors p ≤ k = subst (λ z. z ≤ k) are.count (none_past xs k e) in
         sym (ap (λ b. if b then net.IsNode (record { vcp = new_vcp; process = begin_of p k; inner = λ c. nothing_yet }) else net.IsSwitch new_switch) (not_less k (length p.nodes) (omega arith)))
 
-no_token : (ws : List (List Token)) → AllByRecursion (λ way. way ≡ []) ws → (w : ℕ) → shown_or [] (λ ts. ts) (slice_get ws w) ≡ []
+pub no_token : (ws : List (List Token)) → AllByRecursion (λ way. way ≡ []) ws → (w : ℕ) → shown_or [] (λ ts. ts) (slice_get ws w) ≡ []
 no_token [] all w = refl
 no_token (x ∷ xs) all zero = all.0
 no_token (x ∷ xs) all (suc w) = no_token xs all.1 w

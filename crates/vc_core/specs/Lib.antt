@@ -10,6 +10,8 @@ pub mod Passing
 pub mod Acting
 pub mod Ways
 pub mod Wired
+pub mod Fronts
+pub mod Lined
 pub mod State
 pub mod Replaying
 pub mod Viewed

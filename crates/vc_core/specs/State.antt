@@ -18,7 +18,7 @@ use Rattle.vc_core.specs.Acting.{MayAct, MakesTake, MakesPut, MakesGrant}
 use Rattle.vc_core.specs.OfPlan.{IsActorOf}
 use Rattle.vc_told.specs.Process.{Process, does}
 use Rattle.vc_core.specs.Shown.{Acting, actor_of, act_of}
-use Rattle.vc_core.specs.Wired.{out_at, in_at, AreWaysAt}
+use Rattle.vc_core.specs.Wired.{AreWaysAt, Comes, Goes}
 use Rattle.vc_core.specs.declared.act.Act.{Act}
 use Rattle.vc_core.specs.declared.act.Act.TheVariants.{Proc, Take, Put, Route, Fct, Pass}
 use Rattle.vc_core.specs.declared.act.Event.{Event}
@@ -34,7 +34,7 @@ pub record State : Type 0 where
   pub channels : List ChannelInfo
 
 abbrev pub state_of : Network → State
-state_of n = record { actors = n.actors.items; nodes = n.nodes; ways = n.ways.items; wiring = n.wiring; wires = n.wires; channels = n.channels.items }
+state_of n = record { actors = n.actors.items; nodes = n.nodes; ways = n.lines.ways; wiring = n.lines.wiring; wires = n.wires; channels = n.channels.items }
 
 -- in the words of the network's steps
 abbrev pub shown : State → actors.Network (net.Actor Process) Token
@@ -58,19 +58,12 @@ pub record IsNetworkOf (p : Plan) (s : State) : Type 0 where
   pub channels : AreChannelsOf p s.channels
 
 -- a token stands on the way that comes in by a link
-pub record HasFront (s : State) (actor link : ℕ) : Type 0 where
-  pub way : ℕ
-  pub token : Token
-  pub rest : List Token
-  pub into : in_at s.wiring actor link ≡ Some way
-  pub stands : slice_get s.ways way ≡ Some (token ∷ rest)
+abbrev pub HasFront : State → ℕ → ℕ → Type 0
+HasFront s actor link = Comes s.wiring s.ways actor link
 
 -- a way goes out by a link
-pub record HasWay (s : State) (actor link : ℕ) : Type 0 where
-  pub way : ℕ
-  pub tokens : List Token
-  pub out : out_at s.wiring actor link ≡ Some way
-  pub stand : slice_get s.ways way ≡ Some tokens
+abbrev pub HasWay : State → ℕ → ℕ → Type 0
+HasWay s actor link = Goes s.wiring s.ways actor link
 
 -- the act's way is there, and has a token where it takes one
 abbrev pub WaysLet : State → ℕ → Act → Type 0
@@ -114,14 +107,6 @@ pub record Accepts (old : State) (k link word : ℕ) (t : Token) (new : State) :
   pub here : slice_get old.actors k ≡ Some before
   pub new_is : new ≡ with_actor old k after
   pub takes : (plan : network.Plan) (n : ℕ) → IsActorOf plan n before → MakesTake plan n before link word t after
-
--- actor k puts a token
-pub record PutsBy (old : State) (k link : ℕ) (t : Token) (new : State) : Type 0 where
-  pub before : Acting
-  pub after : Acting
-  pub here : slice_get old.actors k ≡ Some before
-  pub new_is : new ≡ with_actor old k after
-  pub puts : (plan : network.Plan) (n : ℕ) → IsActorOf plan n before → MakesPut plan n before link t after
 
 -- actor k grants eight places
 pub record GrantsBy (old : State) (k link : ℕ) (new : State) : Type 0 where

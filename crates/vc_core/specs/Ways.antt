@@ -1,12 +1,12 @@
--- What a way is after a token was taken off its front, or another stands at its end.
-use Rattle.std.specs.Prelude.{◌≡◌, List, [], ◌∷◌, ◌++◌}
+-- What a way and an actor are after the actor put a token at the way's end.
+use Rattle.std.specs.Prelude.{◌≡◌, ℕ, List, [], ◌∷◌, ◌++◌}
+use Rattle.vc_network.specs.Plan.{Plan}
 use Rattle.vc_tokens.specs.Tokens.{Token}
+use Rattle.vc_core.specs.Acting.{MakesPut}
+use Rattle.vc_core.specs.OfPlan.{IsActorOf}
+use Rattle.vc_core.specs.Shown.{Acting}
 
-abbrev pub IsFront : List Token → Token → Type 0
-IsFront ts t = (rest : List Token) × (ts ≡ t ∷ rest)
-
-abbrev pub LosesFront : List Token → List Token → Type 0
-LosesFront old new = (t : Token) (rest : List Token) → old ≡ t ∷ rest → new ≡ rest
-
-abbrev pub LastIs : List Token → Token → List Token → Type 0
-LastIs old t new = (before : List Token) (last : Token) → old ≡ before ++ last ∷ [] → new ≡ before ++ t ∷ []
+pub record PutsAt (before : Acting) (link : ℕ) (old : List Token) (after : Acting) (new : List Token) : Type 0 where
+  pub token : Token
+  pub ends : new ≡ old ++ token ∷ []
+  pub puts : (plan : Plan) (k : ℕ) → IsActorOf plan k before → MakesPut plan k before link token after

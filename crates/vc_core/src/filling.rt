@@ -38,8 +38,8 @@ fn leave(out: &mut Vec<Option<u16>>, nodes: usize, port: Port, way: u16)
     }
 }
 
-// The number of a node or a switch among the actors.
-fn actor_of(spot: Spot, nodes: usize) -> usize
+/// The number of a node or a switch among the actors.
+pub(crate) fn actor_of(spot: Spot, nodes: usize) -> usize
     requires { nodes ≤ 32 }
     ensures number { result ≡ number_of nodes spot }
     ensures few { result ≤ 300 }

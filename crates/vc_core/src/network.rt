@@ -1,6 +1,5 @@
 //! A network: its actors, and the ways that join them.
-ghost use Rattle.std.specs.Prelude.{◌≡◌, ◌≢◌, ◌<◌, ◌↔◌, ◌*◌, ℕ, List, [], ◌∷◌, ◌++◌, length, slice_get, Some, None, IsTrue, IsSome, IfOk, IfErr, IfSome, OnOk, OnErr, MatchOption, MatchResult};
-ghost use Rattle.std.specs.List.{AllByRecursion};
+ghost use Rattle.std.specs.Prelude.{◌≡◌, ◌≢◌, ◌<◌, ◌↔◌, ℕ, true, false, List, length, slice_get, Some, None, IsTrue, IsSome, IfOk, IfErr, IfSome, OnOk, OnErr, MatchResult};
 ghost use Rattle.vc_core.specs.Replaying.{IsOpening, Reached, Replays, RefusedAt};
 ghost use Rattle.vc_plan.specs.declared.plan.Plan.{Plan};
 ghost use Rattle.vc_core.specs.Acting.{IsOwn};
@@ -8,7 +7,6 @@ ghost use Rattle.std.specs.Option.{option_copied};
 ghost use Rattle.vc_plan.specs.Accepted.{port_of as side_of};
 ghost use Rattle.vc_plan.specs.declared.channel.Channel.{Channel};
 ghost use Rattle.vc_accepted.specs.NetworkOf.{network_of};
-ghost use Rattle.vc_accepted.specs.Outgoing.{actor_of as actor_number};
 ghost use Rattle.vc_core.specs.Wired.{out_at, in_at};
 ghost use Rattle.vc_network.specs.Plan.{home};
 ghost use Rattle.vc_network.specs.Views.{view, source_node, sink_node, vcps};
@@ -20,25 +18,23 @@ ghost use Rattle.vc_core.specs.Parts.{IsDone, node_at, vcp_in, strays_of, lost_o
 ghost use Rattle.std.specs.List.{sum_by};
 ghost use Rattle.vc_core.specs.Turns.{FindsFront, FindsTake, FindsEvent, HaveEnded, actors};
 ghost use Rattle.vc_core.specs.declared.act.Event.{Event as Happening};
-ghost use Rattle.vc_core.specs.State.{shown, state_of, IsNetworkOf, MayHappen, WaysLet, HasFront, HasWay, MakesEvent, MayActAt, Accepts, PutsBy, GrantsBy, with_line};
-ghost use Rattle.vc_tokens.specs.Tokens.{Token as SpeltToken};
+ghost use Rattle.vc_core.specs.State.{shown, state_of, IsNetworkOf, MayHappen, WaysLet, HasFront, HasWay, MakesEvent, MakesOne, MayActAt, Accepts, GrantsBy};
 ghost use Rattle.vc_tokens.specs.Spelt.{token as spelt};
 
 use crate::act::{Act, Event};
 use crate::actor::Actor;
 use crate::building::actors;
 use crate::channels::{ChannelInfo, Ends, channels_of};
+use crate::lines::Lines;
 use crate::node::Node;
 use crate::place::Place;
 use crate::refused::{ReplayRefused, StepRefused};
-use crate::room::{lowest, without};
-use crate::way::Way;
-use crate::wiring::Wiring;
+use crate::room::{has_room, lowest, without};
 use sqlite_items::{Items, at};
 use std::alloc::Global;
 use vc_occam::ValueKind;
 use vc_packets::Memory;
-use vc_plan::{Accepted, Port, Spot, Wire};
+use vc_plan::{Accepted, Port, Wire};
 use vc_tokens::Token;
 
 /// The links of an actor, of which a node has four.
@@ -50,8 +46,7 @@ pub struct Network {
     pub(crate) actors: Vec<Actor>,
     /// How many of the actors are nodes.
     pub(crate) nodes: u8,
-    pub(crate) ways: Vec<Way>,
-    pub(crate) wiring: Wiring,
+    pub(crate) lines: Lines,
     pub(crate) wires: Items<Wire>,
     channels: Vec<ChannelInfo>,
 }
@@ -65,8 +60,7 @@ impl Network {
         Ok(Network {
             actors: actors(alloc, accepted)?,
             nodes: plan.nodes.len() as u8,
-            ways: ways_of(alloc, plan.wires.len())?,
-            wiring: Wiring::new(alloc, plan)?,
+            lines: Lines::new(alloc, plan)?,
             wires: Items::from_slice(alloc, plan.wires.as_slice())?,
             channels: channels_of(alloc, plan)?,
         })
@@ -98,20 +92,14 @@ impl Network {
     fn has_front(&self, actor: u8, link: u8) -> bool
         ensures { IsTrue result ↔ HasFront (state_of self.now) actor link }
     {
-        match self.wiring.incoming(actor, link) {
-            Some(way) if way < self.ways.len() => self.ways[way].front().is_some(),
-            _ => false,
-        }
+        link < LINKS && has_room(self.lines.fronts(actor), link)
     }
 
     // Whether a way goes out by a link.
     fn has_way(&self, actor: u8, link: u8) -> bool
         ensures { IsTrue result ↔ HasWay (state_of self.now) actor link }
     {
-        match self.wiring.outgoing(actor, link) {
-            Some(way) => self.ways.get(way).is_some(),
-            None => false,
-        }
+        link < LINKS && has_room(self.lines.room(actor), link)
     }
 
     /// Makes an event. It is refused where it is not enabled, or there is no memory for it; the network is then as it was.
@@ -128,16 +116,16 @@ impl Network {
         }
     }
 
-    // Makes an event that can be made.
+    // Makes an event that its actor can make, and its ways let it.
     fn make(&mut self, event: &Event) -> Result<(), Memory>
-        requires { MayHappen (state_of self.old) event.now }
-        ensures makes { (p : Plan) → IsNetworkOf p (state_of self.old) → OnOk result (MakesEvent p (state_of self.old) event.now (state_of self.new)) }
+        requires { MayActAt (state_of self.old) event.now.actor event.now.act }
+        ensures makes { (p : Plan) → IsNetworkOf p (state_of self.old) → WaysLet (state_of self.old) event.now.actor event.now.act → OnOk result (MakesEvent p (state_of self.old) event.now (state_of self.new)) }
         ensures refused { OnErr result (state_of self.new ≡ state_of self.old) }
     {
         match event.act {
             Act::Proc(_) | Act::Pass { .. } | Act::Route { .. } => self.act(event),
             Act::Take { link, word } => {
-                self.take(event, link, word);
+                let _taken = self.take(event.actor, link, word);
                 Ok(())
             }
             Act::Put { link } => self.put(event, link),
@@ -147,7 +135,7 @@ impl Network {
 
     // An actor makes a step of its own.
     fn act(&mut self, event: &Event) -> Result<(), Memory>
-        requires may { MayHappen (state_of self.old) event.now }
+        requires may { MayActAt (state_of self.old) event.now.actor event.now.act }
         requires own { IsOwn event.now.act }
         ensures makes { (p : Plan) → IsNetworkOf p (state_of self.old) → OnOk result (MakesEvent p (state_of self.old) event.now (state_of self.new)) }
         ensures refused { OnErr result (state_of self.new ≡ state_of self.old) }
@@ -155,51 +143,31 @@ impl Network {
         self.actors[usize::from(event.actor)].make(&event.act)
     }
 
-    // An actor takes the front token of the way that comes in by a link.
-    fn take(&mut self, event: &Event, link: u8, word: u32)
-        requires may { MayHappen (state_of self.old) event.now }
-        requires is { event.now.act ≡ Act.Take link word }
-        ensures { (p : Plan) → IsNetworkOf p (state_of self.old) → MakesEvent p (state_of self.old) event.now (state_of self.new) }
+    /// An actor takes the front token of the way that comes in by a link. The answer is whether it can.
+    pub fn take(&mut self, actor: u8, link: u8, word: u32) -> bool
+        ensures may { IsTrue result ↔ MayHappen (state_of self.old) (record { actor = actor; act = Act.Take link word }) }
+        ensures can { (p : Plan) → IsNetworkOf p (state_of self.old) → IsTrue result ↔ CanHappen p (state_of self.old) (record { actor = actor; act = Act.Take link word }) }
+        ensures makes { (p : Plan) → IsNetworkOf p (state_of self.old) → result ≡ true → MakesEvent p (state_of self.old) (record { actor = actor; act = Act.Take link word }) (state_of self.new) }
+        ensures refused { result ≡ false → state_of self.new ≡ state_of self.old }
     {
-        let Some(way) = self.wiring.incoming(event.actor, link) else {
-            unreachable!();
+        if !self.has_link(actor, link) {
+            return false;
+        }
+        let Some(token) = self.lines.take(actor, link) else {
+            return false;
         };
-        let Some(token) = self.ways[way].front() else {
-            unreachable!();
-        };
-        self.accept(event.actor, link, token, word);
-        self.drop_front(way);
+        self.accept(actor, link, token, word);
+        true
     }
 
-    // The next token of a packet goes to the end of the way that goes out by a link.
-    fn put(&mut self, event: &Event, link: u8) -> Result<(), Memory>
-        requires may { MayHappen (state_of self.old) event.now }
-        requires is { event.now.act ≡ Act.Put link }
-        ensures makes { (p : Plan) → IsNetworkOf p (state_of self.old) → OnOk result (MakesEvent p (state_of self.old) event.now (state_of self.new)) }
-        ensures refused { OnErr result (state_of self.new ≡ state_of self.old) }
+    // Whether an actor is there, and has a link.
+    fn has_link(&self, actor: u8, link: u8) -> bool
+        ensures { (word : ℕ) → IsTrue result ↔ MayActAt (state_of self.now) actor (Act.Take link word) }
     {
-        let Some(way) = self.wiring.outgoing(event.actor, link) else {
-            unreachable!();
-        };
-        self.push(way, Token::Fct)?;
-        let token = self.put_by(event.actor, link);
-        self.replace_last(way, token);
-        Ok(())
-    }
-
-    // A flow control token goes to the end of the way that goes out by a link.
-    fn grant(&mut self, event: &Event, link: u8) -> Result<(), Memory>
-        requires may { MayHappen (state_of self.old) event.now }
-        requires is { event.now.act ≡ Act.Fct link }
-        ensures makes { (p : Plan) → IsNetworkOf p (state_of self.old) → OnOk result (MakesEvent p (state_of self.old) event.now (state_of self.new)) }
-        ensures refused { OnErr result (state_of self.new ≡ state_of self.old) }
-    {
-        let Some(way) = self.wiring.outgoing(event.actor, link) else {
-            unreachable!();
-        };
-        self.push(way, Token::Fct)?;
-        self.grant_by(event.actor, link);
-        Ok(())
+        match at(self.actors.as_slice(), usize::from(actor)) {
+            Some(acting) => acting.may_take(link),
+            None => false,
+        }
     }
 
     // A token comes to an actor.
@@ -210,12 +178,33 @@ impl Network {
         self.actors[usize::from(actor)].accept(link, token, word);
     }
 
-    // An actor puts its next token.
-    fn put_by(&mut self, actor: u8, link: u8) -> Token
-        requires { MayActAt (state_of self.old) actor (Act.Put link) }
-        ensures { PutsBy (state_of self.old) actor link (spelt result) (state_of self.new) }
+    // The next token of a packet goes to the end of the way that goes out by a link.
+    fn put(&mut self, event: &Event, link: u8) -> Result<(), Memory>
+        requires may { MayActAt (state_of self.old) event.now.actor event.now.act }
+        requires is { event.now.act ≡ Act.Put link }
+        ensures makes { (p : Plan) → IsNetworkOf p (state_of self.old) → HasWay (state_of self.old) event.now.actor link → OnOk result (MakesEvent p (state_of self.old) event.now (state_of self.new)) }
+        ensures refused { OnErr result (state_of self.new ≡ state_of self.old) }
     {
-        self.actors[usize::from(actor)].put(link)
+        let Some(way) = self.lines.outgoing(event.actor, link) else {
+            return Ok(());
+        };
+        self.lines
+            .put(way, &mut self.actors[usize::from(event.actor)], link)
+    }
+
+    // A flow control token goes to the end of the way that goes out by a link.
+    fn grant(&mut self, event: &Event, link: u8) -> Result<(), Memory>
+        requires may { MayActAt (state_of self.old) event.now.actor event.now.act }
+        requires is { event.now.act ≡ Act.Fct link }
+        ensures makes { (p : Plan) → IsNetworkOf p (state_of self.old) → HasWay (state_of self.old) event.now.actor link → OnOk result (MakesEvent p (state_of self.old) event.now (state_of self.new)) }
+        ensures refused { OnErr result (state_of self.new ≡ state_of self.old) }
+    {
+        let Some(way) = self.lines.outgoing(event.actor, link) else {
+            return Ok(());
+        };
+        self.lines.push(way, Token::Fct)?;
+        self.grant_by(event.actor, link);
+        Ok(())
     }
 
     // An actor grants eight places.
@@ -226,42 +215,19 @@ impl Network {
         self.actors[usize::from(actor)].grant(link);
     }
 
-    // A token more comes to the end of a way.
-    fn push(&mut self, way: usize, token: Token) -> Result<(), Memory>
-        requires { way < length self.old.ways.items }
-        ensures ok { (ts : List SpeltToken) → slice_get self.old.ways.items way ≡ Some ts → OnOk result (state_of self.new ≡ with_line (state_of self.old) way (ts ++ spelt token ∷ [])) }
-        ensures err { OnErr result (state_of self.new ≡ state_of self.old) }
-    {
-        self.ways[way].push(token)
-    }
-
-    // Another token stands at the end of a way.
-    fn replace_last(&mut self, way: usize, token: Token)
-        requires { way < length self.old.ways.items }
-        ensures { (ts : List SpeltToken) (last : SpeltToken) → slice_get self.old.ways.items way ≡ Some (ts ++ last ∷ []) → state_of self.new ≡ with_line (state_of self.old) way (ts ++ spelt token ∷ []) }
-    {
-        self.ways[way].replace_last(token);
-    }
-
-    // The front token leaves a way.
-    fn drop_front(&mut self, way: usize)
-        requires { way < length self.old.ways.items }
-        ensures { (t : SpeltToken) (rest : List SpeltToken) → slice_get self.old.ways.items way ≡ Some (t ∷ rest) → state_of self.new ≡ with_line (state_of self.old) way rest }
-    {
-        self.ways[way].take();
-    }
-
     /// The least link of an actor by which a token can be taken.
     pub fn link_to_take(&self, actor: u8) -> Option<u8>
         ensures least { FindsFront (state_of self.now) actor result }
         ensures takes { (p : Plan) → IsNetworkOf p (state_of self.now) → FindsTake p (state_of self.now) actor result }
     {
-        for link in 0..self.wiring.span(actor) {
-            if self.has_front(actor, link) {
-                return Some(link);
-            }
-        }
-        None
+        lowest(self.lines.fronts(actor), LINKS)
+    }
+
+    /// A bit for each of the first 64 actors to which a token comes.
+    pub fn awake(&self) -> u64
+        ensures { (actor link : ℕ) → actor < 64 → HasFront (state_of self.now) actor link → bit_at result actor ≡ 1 }
+    {
+        self.lines.awake()
     }
 
     /// The least link of a mask by which an actor can take a token, where the mask has a bit for each link by which one comes.
@@ -284,46 +250,36 @@ impl Network {
     pub fn far(&self, actor: u8, link: u8) -> Option<(u16, u8)>
         ensures { (p : Plan) (way k l : ℕ) → IsNetworkOf p (state_of self.now) → out_at (state_of self.now).wiring actor link ≡ Some way → in_at (state_of self.now).wiring k l ≡ Some way → result ≡ Some (k, l) }
     {
-        let way = self.wiring.outgoing(actor, link)?;
-        let wire = at(self.wires.as_slice(), way / 2)?;
-        let port = port_of(wire, way % 2 != 0);
-        Some((self.number_of(port.spot), port.link))
-    }
-
-    // The number of a node or a switch among the actors.
-    fn number_of(&self, spot: Spot) -> u16
-        ensures { result ≡ actor_number (state_of self.now).nodes spot }
-    {
-        match spot {
-            Spot::Node(node) => u16::from(node),
-            Spot::Switch(switch) => u16::from(self.nodes) + u16::from(switch),
-        }
+        let way = self.lines.outgoing(actor, link)?;
+        let end = self.lines.end(way)?;
+        Some((end.actor, end.link))
     }
 
     /// What an actor does next where every way has room; nothing where it has no step but to take.
     pub fn next(&self, actor: u8) -> Result<Option<Event>, Memory>
-        ensures { (p : Plan) → IsNetworkOf p (state_of self.now) → IfOk result (FindsEvent p (state_of self.now) actor) }
+        ensures may { IfOk result (λ found. IfSome found (λ e. MayActAt (state_of self.now) e.actor e.act)) }
+        ensures finds { (p : Plan) → IsNetworkOf p (state_of self.now) → IfOk result (FindsEvent p (state_of self.now) actor) }
     {
         let Some(acting) = at(self.actors.as_slice(), usize::from(actor)) else {
             return Ok(None);
         };
-        match acting.next(self.room(actor))? {
+        match acting.next(self.lines.room(actor))? {
             Some(act) => Ok(Some(Event { actor, act })),
             None => Ok(None),
         }
     }
 
-    // A bit for each link of an actor by which a way goes out.
-    fn room(&self, actor: u8) -> u32
-        ensures { (link : ℕ) → link < 32 → (bit_at result link ≡ 1) ↔ HasWay (state_of self.now) actor link }
+    /// An actor makes the event, but a take, that it makes next where every way has room; nothing where it has none.
+    pub fn turn(&mut self, actor: u8) -> Result<Option<Event>, Memory>
+        ensures finds { (p : Plan) → IsNetworkOf p (state_of self.old) → IfOk result (FindsEvent p (state_of self.old) actor) }
+        ensures makes { (p : Plan) → IsNetworkOf p (state_of self.old) → IfOk result (λ made. MakesOne p (state_of self.old) made (state_of self.new)) }
+        ensures refused { OnErr result (state_of self.new ≡ state_of self.old) }
     {
-        let mut room = 0;
-        for link in 0..self.wiring.span(actor) {
-            if self.has_way(actor, link) {
-                room |= 1u32 << link;
-            }
-        }
-        room
+        let Some(event) = self.next(actor)? else {
+            return Ok(None);
+        };
+        self.make(&event)?;
+        Ok(Some(event))
     }
 
     /// Whether every process has ended.
@@ -441,7 +397,7 @@ impl Network {
         if self.holds(node, chan) {
             return Some(Place::Held(node));
         }
-        for way in 0..self.ways.len() {
+        for way in 0..self.lines.ways().len() {
             if let Some(place) = self.place_on(way, ends) {
                 return Some(place);
             }
@@ -535,19 +491,6 @@ pub(crate) fn port_of(wire: &Wire, is_one: bool) -> Port
     ensures { result ≡ side_of wire.now is_one }
 {
     if is_one { wire.one } else { wire.two }
-}
-
-// Two ways for each wire, with no token on them.
-fn ways_of(alloc: Global, wires: usize) -> Result<Vec<Way>, Memory>
-    ensures count { IfOk result (λ ways. length ways.items ≡ 2 * wires) }
-    ensures empty { IfOk result (λ ways. AllByRecursion (λ way. way ≡ []) ways.items) }
-{
-    let mut ways = Vec::new(alloc);
-    for _ in 0..wires {
-        ways.push(Way::new(alloc))?;
-        ways.push(Way::new(alloc))?;
-    }
-    Ok(ways)
 }
 
 /// Makes a list of events from the opening state on. The first event that is refused is answered with the network before it.

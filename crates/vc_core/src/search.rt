@@ -30,7 +30,7 @@ use vc_tokens::Token;
 impl Network {
     /// Where at a way a packet of the channel with these ends stands.
     pub(crate) fn place_on(&self, way: usize, ends: &Ends) -> Option<Place>
-        ensures { (p : Plan) (c : ℕ) → IsNetworkOf p (state_of self.now) → AreOwned (network_of p) (shown (state_of self.now)) → ends_at (network_of p) (home (network_of p) c) ≡ Some ends.now → way < length self.now.ways.items → FindsOn (network_of p) (shown (state_of self.now)) c way result }
+        ensures { (p : Plan) (c : ℕ) → IsNetworkOf p (state_of self.now) → AreOwned (network_of p) (shown (state_of self.now)) → ends_at (network_of p) (home (network_of p) c) ≡ Some ends.now → way < length self.now.lines.ways → FindsOn (network_of p) (shown (state_of self.now)) c way result }
     {
         let wire = at(self.wires.as_slice(), way / 2)?;
         let from_one = way % 2 == 0;
@@ -46,7 +46,7 @@ impl Network {
 
     // Where one stands that is on the way, or in the buffer at its far end.
     fn place_along(&self, way: usize, far: Port, ends: &Ends) -> Option<Place>
-        ensures { (p : Plan) (c : ℕ) → IsNetworkOf p (state_of self.now) → AreOwned (network_of p) (shown (state_of self.now)) → ends_at (network_of p) (home (network_of p) c) ≡ Some ends.now → way < length self.now.ways.items → far_port (network_of p) way ≡ named_port far → FindsAt (network_of p) (shown (state_of self.now)) c (places.OnWire way) result }
+        ensures { (p : Plan) (c : ℕ) → IsNetworkOf p (state_of self.now) → AreOwned (network_of p) (shown (state_of self.now)) → ends_at (network_of p) (home (network_of p) c) ≡ Some ends.now → way < length self.now.lines.ways → far_port (network_of p) way ≡ named_port far → FindsAt (network_of p) (shown (state_of self.now)) c (places.OnWire way) result }
     {
         let Ok(number) = u16::try_from(way / 2) else {
             return None;
@@ -60,13 +60,13 @@ impl Network {
 
     // Whether one is on the way, or in the buffer at its far end.
     fn carries(&self, way: usize, far: Port, ends: &Ends) -> bool
-        ensures { (p : Plan) (c : ℕ) → IsNetworkOf p (state_of self.now) → AreOwned (network_of p) (shown (state_of self.now)) → ends_at (network_of p) (home (network_of p) c) ≡ Some ends.now → way < length self.now.ways.items → far_port (network_of p) way ≡ named_port far → IsTrue result ↔ HasIts (network_of p) (shown (state_of self.now)) c (places.OnWire way) }
+        ensures { (p : Plan) (c : ℕ) → IsNetworkOf p (state_of self.now) → AreOwned (network_of p) (shown (state_of self.now)) → ends_at (network_of p) (home (network_of p) c) ≡ Some ends.now → way < length self.now.lines.ways → far_port (network_of p) way ≡ named_port far → IsTrue result ↔ HasIts (network_of p) (shown (state_of self.now)) c (places.OnWire way) }
     {
         let (first, second) = self.tokens_at(far);
         let reader = Reader::new(way, *ends, self.passed_at(far))
             .through(self, first)
             .through(self, second);
-        match at(self.ways.as_slice(), way) {
+        match at(self.lines.ways(), way) {
             Some(line) => {
                 let (first, second) = line.tokens();
                 reader
@@ -112,7 +112,7 @@ impl Network {
 
     // Where one stands that is whole in the switch at a port.
     fn place_inside(&self, far: Port, ends: &Ends) -> Option<Place>
-        ensures { (p : Plan) (c way : ℕ) → IsNetworkOf p (state_of self.now) → AreOwned (network_of p) (shown (state_of self.now)) → ends_at (network_of p) (home (network_of p) c) ≡ Some ends.now → way < length self.now.ways.items → far_port (network_of p) way ≡ named_port far → FindsAt (network_of p) (shown (state_of self.now)) c (places.Inside way) result }
+        ensures { (p : Plan) (c way : ℕ) → IsNetworkOf p (state_of self.now) → AreOwned (network_of p) (shown (state_of self.now)) → ends_at (network_of p) (home (network_of p) c) ≡ Some ends.now → way < length self.now.lines.ways → far_port (network_of p) way ≡ named_port far → FindsAt (network_of p) (shown (state_of self.now)) c (places.Inside way) result }
     {
         match far.spot {
             Spot::Switch(number) if self.has_whole(number, far.link, ends) => {
@@ -124,7 +124,7 @@ impl Network {
 
     // Whether one is whole at an input of a switch.
     fn has_whole(&self, number: u8, link: u8, ends: &Ends) -> bool
-        ensures { (p : Plan) (c way : ℕ) → IsNetworkOf p (state_of self.now) → AreOwned (network_of p) (shown (state_of self.now)) → ends_at (network_of p) (home (network_of p) c) ≡ Some ends.now → way < length self.now.ways.items → far_port (network_of p) way ≡ AtSwitch number link → IsTrue result ↔ HasIts (network_of p) (shown (state_of self.now)) c (places.Inside way) }
+        ensures { (p : Plan) (c way : ℕ) → IsNetworkOf p (state_of self.now) → AreOwned (network_of p) (shown (state_of self.now)) → ends_at (network_of p) (home (network_of p) c) ≡ Some ends.now → way < length self.now.lines.ways → far_port (network_of p) way ≡ AtSwitch number link → IsTrue result ↔ HasIts (network_of p) (shown (state_of self.now)) c (places.Inside way) }
     {
         let Some(switch) = self.switch(number) else {
             return false;
@@ -137,7 +137,7 @@ impl Network {
 
     // Where one stands that waits to go by the way, in the queue at a port.
     fn place_before(&self, way: usize, near: Port, ends: &Ends) -> Option<Place>
-        ensures { (p : Plan) (c : ℕ) → IsNetworkOf p (state_of self.now) → AreOwned (network_of p) (shown (state_of self.now)) → ends_at (network_of p) (home (network_of p) c) ≡ Some ends.now → way < length self.now.ways.items → near_port (network_of p) way ≡ named_port near → FindsAt (network_of p) (shown (state_of self.now)) c (places.Queue way) result }
+        ensures { (p : Plan) (c : ℕ) → IsNetworkOf p (state_of self.now) → AreOwned (network_of p) (shown (state_of self.now)) → ends_at (network_of p) (home (network_of p) c) ≡ Some ends.now → way < length self.now.lines.ways → near_port (network_of p) way ≡ named_port near → FindsAt (network_of p) (shown (state_of self.now)) c (places.Queue way) result }
     {
         match near.spot {
             Spot::Node(number) if self.queues(number, near.link, way, ends) => {

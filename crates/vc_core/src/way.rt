@@ -1,4 +1,5 @@
 //! Ways: each is one direction of a wire.
+use crate::actor::Actor;
 use std::alloc::Global;
 use std::collections::VecDeque;
 use std::marker::Model;
@@ -22,10 +23,12 @@ impl Model for Way {
 }
 
 impl Way {
-    ghost use Rattle.std.specs.Prelude.{◌≡◌, [], ◌∷◌, ◌++◌, List, OnOk, OnErr, MatchOption};
+    ghost use Rattle.std.specs.Prelude.{◌≡◌, ◌↔◌, [], ◌∷◌, ◌++◌, List, IsTrue, OnOk, OnErr, MatchOption};
     ghost use Rattle.vc_tokens.specs.Tokens.{Token};
     ghost use Rattle.vc_tokens.specs.Spelt.{token, tokens};
-    ghost use Rattle.vc_core.specs.Ways.{IsFront, LosesFront, LastIs};
+    ghost use Rattle.vc_core.specs.Acting.{MayAct};
+    ghost use Rattle.vc_core.specs.Ways.{PutsAt};
+    ghost use Rattle.vc_core.specs.declared.act.Act.TheVariants as act;
 
     /// A way with no token on it.
     pub(crate) fn new(alloc: Global) -> Way
@@ -36,13 +39,6 @@ impl Way {
         }
     }
 
-    /// The front token, if there is one.
-    pub(crate) fn front(&self) -> Option<Token>
-        ensures { MatchOption result (self.now ≡ []) (λ k. IsFront self.now (token k)) }
-    {
-        self.queue.front().copied()
-    }
-
     /// The tokens on the way, in two parts: those of the first stand before those of the second.
     pub(crate) fn tokens(&self) -> (&[Token], &[Token])
         ensures { tokens (result.0.now ++ result.1.now) ≡ self.now }
@@ -51,10 +47,17 @@ impl Way {
     }
 
     /// The front token is taken off, if there is one.
-    pub(crate) fn take(&mut self)
-        ensures { LosesFront self.old self.new }
+    pub(crate) fn take(&mut self) -> Option<Token>
+        ensures { MatchOption result ((self.old ≡ []) × (self.new ≡ [])) (λ k. self.old ≡ token k ∷ self.new) }
     {
-        let _front = self.queue.pop_front();
+        self.queue.pop_front()
+    }
+
+    /// Whether no token is on the way.
+    pub(crate) fn is_empty(&self) -> bool
+        ensures { IsTrue result ↔ (self.now ≡ []) }
+    {
+        self.queue.is_empty()
     }
 
     /// A token more comes to the end.
@@ -66,12 +69,15 @@ impl Way {
         Ok(())
     }
 
-    /// Another token stands at the end.
-    pub(crate) fn replace_last(&mut self, last: Token)
-        ensures { LastIs self.old (token last) self.new }
+    /// The next token that an actor puts on a link comes to the end.
+    pub(crate) fn put(&mut self, from: &mut Actor, link: u8) -> Result<(), Memory>
+        requires { MayAct from.old (act.Put link) }
+        ensures ok { OnOk result (PutsAt from.old link self.old from.new self.new) }
+        ensures err { OnErr result ((from.new ≡ from.old) × (self.new ≡ self.old)) }
     {
-        if self.queue.pop_back().is_some() {
-            let _room = self.queue.push_back(last);
-        }
+        self.queue.try_reserve(1)?;
+        let token = from.put(link);
+        self.queue.push_back_reserved(token);
+        Ok(())
     }
 }

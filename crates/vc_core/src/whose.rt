@@ -124,10 +124,10 @@ impl Network {
 
     // The way that goes out by a link of a switch, if the link is on a wire.
     fn way_out(&self, switch: u8, link: u8) -> Option<usize>
-        ensures { (p : Plan) → IsNetworkOf p (state_of self.now) → result ≡ out_at self.now.wiring (self.now.nodes + switch) link }
+        ensures { (p : Plan) → IsNetworkOf p (state_of self.now) → result ≡ out_at self.now.lines.wiring (self.now.nodes + switch) link }
     {
         match self.nodes.checked_add(switch) {
-            Some(actor) => self.wiring.outgoing(actor, link),
+            Some(actor) => self.lines.outgoing(actor, link),
             None => None,
         }
     }

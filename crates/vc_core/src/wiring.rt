@@ -1,12 +1,14 @@
 //! The ways of a network: two for each wire.
-ghost use Rattle.std.specs.Prelude.{◌≡◌, ◌≤◌, ◌<◌, ℕ, IfOk, IfSome, None};
-ghost use Rattle.vc_accepted.specs.Outgoing.{outgoing};
-ghost use Rattle.vc_core.specs.Wired.{out_at, in_at};
+ghost use Rattle.std.specs.Prelude.{◌≡◌, ◌↔◌, ◌+◌, ◌*◌, ◌<◌, ℕ, IfOk, IfSome, Some, length};
+ghost use Rattle.std.specs.Int.{bit_at};
+ghost use Rattle.vc_core.specs.Wired.{out_at, in_at, AreWaysAt, IsWired};
 ghost use Rattle.vc_network.specs.Plan.{back as other_way};
 ghost use Rattle.vc_plan.specs.Accepted.{IsAccepted};
 
+use crate::ends::{End, ends_of};
 use crate::filling::ways_out;
-use crate::spans::spans_of;
+use crate::rooms::rooms_of;
+use sqlite_items::at;
 use std::alloc::Global;
 use std::marker::Model;
 use vc_packets::Memory;
@@ -20,40 +22,54 @@ pub(crate) const LINKS: usize = 32;
 #[derive(Drop)]
 pub(crate) struct Wiring {
     out: Vec<Option<u16>>,
-    // for each actor one more than its greatest link on a wire
-    spans: Vec<u8>,
+    // for each actor a bit for each link by which a way goes out
+    rooms: Vec<u32>,
+    // the port to which each way leads
+    ends: Vec<End>,
 }
 
 impl Model for Wiring {
     ghost use Rattle.std.specs.Prelude.{ℕ, List, Option};
-    ghost use Rattle.vc_core.specs.Wired.{AreSpans};
+    ghost use Rattle.vc_core.specs.Wired.{AreRooms, AreEnds};
 
     ghost Value = { List (Option ℕ) };
 
     ghost view = { λ x. x.out.items };
 
-    ghost invariant = { λ x. AreSpans x.out.items x.spans.items };
+    ghost invariant = { λ x. AreRooms x.out.items x.rooms.items × AreEnds x.out.items x.ends.items };
 }
 
 impl Wiring {
     /// The ways of an accepted plan, at its nodes and then its switches.
     pub(crate) fn new(alloc: Global, plan: &Plan) -> Result<Wiring, Memory>
         requires { IsAccepted plan.now }
-        ensures { IfOk result (λ wiring. (actor link : ℕ) → out_at wiring actor link ≡ outgoing plan.now actor link) }
+        ensures tells { IfOk result (λ wiring. AreWaysAt plan.now wiring) }
+        ensures long { IfOk result (λ wiring. length wiring ≡ (length plan.now.nodes + length plan.now.switches) * 32) }
+        ensures one { IfOk result (λ wiring. (k l j i way : ℕ) → in_at wiring k l ≡ Some way → in_at wiring j i ≡ Some way → (j ≡ k) × (i ≡ l)) }
     {
         let out = ways_out(alloc, plan)?;
-        let spans = spans_of(alloc, out.as_slice())?;
-        Ok(Wiring { out, spans })
+        let rooms = rooms_of(alloc, out.as_slice())?;
+        let ends = ends_of(alloc, plan)?;
+        Ok(Wiring { out, rooms, ends })
     }
 
-    /// How many of an actor's links, from link 0 on, may be on a wire: at most 32, and none beyond is.
-    pub(crate) fn span(&self, actor: u8) -> u8
-        ensures few { result ≤ 32 }
-        ensures beyond { (link : ℕ) → result ≤ link → out_at self.now actor link ≡ None }
+    /// A bit for each link of an actor by which a way goes out.
+    pub(crate) fn room(&self, actor: u8) -> u32
+        ensures { (link : ℕ) → link < 32 → (bit_at result link ≡ 1) ↔ IsWired self.now actor link }
     {
-        match self.spans.get(usize::from(actor)) {
-            Some(span) => *span,
+        match at(self.rooms.as_slice(), usize::from(actor)) {
+            Some(room) => *room,
             None => 0,
+        }
+    }
+
+    /// The port to which a way leads.
+    pub(crate) fn end(&self, way: usize) -> Option<End>
+        ensures { (actor link : ℕ) → (in_at self.now actor link ≡ Some way) ↔ (result ≡ Some (record { actor = actor; link = link })) }
+    {
+        match at(self.ends.as_slice(), way) {
+            Some(end) => Some(*end),
+            None => None,
         }
     }
 

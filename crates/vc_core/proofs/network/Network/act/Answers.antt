@@ -15,5 +15,5 @@ returns-clause-makes c = λ p is.
     let here = subst (λ z. slice_get n.actors.items z ≡ Some c.index_mut.result.now) c.from.ensures read in
     on_ok c.make.result (λ made.
     subst (MakesEvent p (state_of n) e)
-    (λ i. record { actors = slice_set n.actors.items (sym c.from.ensures i) c.make.new.self; nodes = n.nodes; ways = n.ways.items; wiring = n.wiring; wires = n.wires; channels = n.channels.items })
+    (λ i. record { actors = slice_set n.actors.items (sym c.from.ensures i) c.make.new.self; nodes = n.nodes; ways = n.lines.ways; wiring = n.lines.wiring; wires = n.wires; channels = n.channels.items })
     (own_happens p (state_of n) e c.index_mut.result.now c.make.new.self is here made)) (c.make.ensures.ok _ e.actor (is.actors e.actor c.index_mut.result.now here))

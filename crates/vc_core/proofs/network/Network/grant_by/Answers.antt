@@ -11,6 +11,6 @@ returns c =
       before = c.index_mut.result.now;
       after = c.grant.new.self;
       here = subst (λ z. slice_get n.actors.items z ≡ Some c.index_mut.result.now) c.from.ensures here;
-      new_is = (λ i. record { actors = slice_set n.actors.items (c.from.ensures i) c.grant.new.self; nodes = n.nodes; ways = n.ways.items; wiring = n.wiring; wires = n.wires; channels = n.channels.items });
+      new_is = (λ i. record { actors = slice_set n.actors.items (c.from.ensures i) c.grant.new.self; nodes = n.nodes; ways = n.lines.ways; wiring = n.lines.wiring; wires = n.wires; channels = n.channels.items });
       grants = c.grant.ensures;
     }

@@ -1,34 +1,51 @@
-use Rattle.std.proofs.Common.{◌<◌, length, sym, ap, ◌∙◌, subst, slice_get}
-use Rattle.std.proofs.lemmas.List.{length-set}
-use Rattle.std.proofs.lemmas.Option.{slice_get_within}
+use Rattle.std.proofs.Common.{◌≡◌, ◌<◌, [], ◌∷◌, ◌++◌, length, slice_get, slice_set, Some, refl, sym, ap, ◌∙◌, subst}
+use Rattle.std.proofs.lemmas.Option.{slice_get_read, slice_get_within}
+use Rattle.vc_vcp.proofs.Placed.{on_ok}
 use Rattle.vc_core.specs.Acting.{MayAct}
-use Rattle.vc_core.specs.State.{state_of, WaysLet}
-use Rattle.vc_core.proofs.Happening.{placed, way_is, way_found}
+use Rattle.vc_core.specs.Lined.{with_way}
+use Rattle.vc_core.specs.State.{state_of, HasWay}
+use Rattle.vc_core.specs.declared.act.Act.TheVariants as act
+use Rattle.vc_core.proofs.Happening.{on_err, placed, written_back}
 use Rattle.vc_core.proofs.network.Network.put.Goals as goal
 
-pub put_by-token-requires : goal.put_by-token-requires
-put_by-token-requires c =
-    let s = state_of c.args.self.now in
+pub put-requires-clause-may : goal.put-requires-clause-may
+put-requires-clause-may c =
+    let n = c.args.self.now in
     let e = c.args.event.now in
     let m = c.requires.may in
-    let f = subst (WaysLet s e.actor) c.requires.is m.ways in
-    let pushed = c.in_ok-push.ensures.ok f.tokens (way_found s e.actor c.args.link c.in-Some.way f c.in-Some.ensures.way) in
-    record { actor = m.actor; here = ap (λ z. slice_get z.actors e.actor) pushed ∙ m.here; may = subst (MayAct m.actor) c.requires.is m.may }
-
-pub replace_last-requires : goal.replace_last-requires
-replace_last-requires c =
-    let s = state_of c.args.self.now in
-    let e = c.args.event.now in
-    let f = subst (WaysLet s e.actor) c.requires.is c.requires.may.ways in
-    let found = way_found s e.actor c.args.link c.in-Some.way f c.in-Some.ensures.way in
-    let pushed = c.in_ok-push.ensures.ok f.tokens found in
-    subst (λ z. c.in-Some.way < z) (sym (ap (λ z. length z.ways) (c.put_by-token.ensures.new_is) ∙ ap (λ z. length z.ways) pushed ∙ length-set s.ways c.in-Some.way _)) (slice_get_within s.ways c.in-Some.way f.tokens found)
+    let x = c.index_mut.result.now in
+    let less = subst (λ z. z < length n.actors.items) (sym c.from.ensures) (slice_get_within n.actors.items e.actor m.actor m.here) in
+    let read = slice_get_read n.actors.items (length n.actors.items) c.from.result x refl less c.index_mut.ensures.value in
+    let here = subst (λ z. slice_get n.actors.items z ≡ Some x) c.from.ensures read in
+    let both : Some m.actor ≡ Some x = sym m.here ∙ here in
+    let same : m.actor ≡ x = cc in
+    subst (λ z. MayAct z (act.Put c.args.link)) same (subst (MayAct m.actor) c.requires.is m.may)
 
 pub returns-clause-makes : goal.returns-clause-makes
-returns-clause-makes c = λ p is.
-    let s = state_of c.args.self.now in
+returns-clause-makes c = λ p is lets.
+    let n = c.args.self.now in
+    let s = state_of n in
     let e = c.args.event.now in
     let m = c.requires.may in
-    let f = subst (WaysLet s e.actor) c.requires.is m.ways in
-    let pushed = c.in_ok-push.ensures.ok f.tokens (way_found s e.actor c.args.link c.in-Some.way f c.in-Some.ensures.way) in
-    placed p s (state_of c.push.new.self) (state_of c.put_by-token.new.self) (state_of c.replace_last.new.self) e c.args.link (way_is s e.actor c.args.link c.in-Some.way f c.in-Some.ensures.way) _ c.requires.is pushed c.put_by-token.ensures c.replace_last.ensures is
+    let x = c.index_mut.result.now in
+    let less = subst (λ z. z < length n.actors.items) (sym c.from.ensures) (slice_get_within n.actors.items e.actor m.actor m.here) in
+    let read = slice_get_read n.actors.items (length n.actors.items) c.from.result x refl less c.index_mut.ensures.value in
+    let here = subst (λ z. slice_get n.actors.items z ≡ Some x) c.from.ensures read in
+    on_ok c.put.result (λ puts.
+    let f : HasWay s e.actor c.args.link = record { way = c.in-Some.way; tokens = puts.tokens; out = sym c.in-Some.ensures.way; stand = puts.stand } in
+    let line = puts.new_is ∙ ap (with_way n.lines c.in-Some.way) puts.puts.ends in
+    placed p s _ e c.args.link x c.put.new.from f puts.puts.token c.requires.is here puts.puts.puts
+    (λ i. record { actors = slice_set n.actors.items (c.from.ensures i) c.put.new.from; nodes = n.nodes; ways = (line i).ways; wiring = (line i).wiring; wires = n.wires; channels = n.channels.items }) is) c.put.ensures.ok
+
+pub returns-clause-refused : goal.returns-clause-refused
+returns-clause-refused c =
+    let n = c.args.self.now in
+    let e = c.args.event.now in
+    let m = c.requires.may in
+    let x = c.index_mut.result.now in
+    let less = subst (λ z. z < length n.actors.items) (sym c.from.ensures) (slice_get_within n.actors.items e.actor m.actor m.here) in
+    let read = slice_get_read n.actors.items (length n.actors.items) c.from.result x refl less c.index_mut.ensures.value in
+    on_err c.put.result (λ same. (λ i. record { actors = written_back n.actors.items c.from.result x c.put.new.from read same.0 i; nodes = n.nodes; ways = (same.1 i).ways; wiring = (same.1 i).wiring; wires = n.wires; channels = n.channels.items })) c.put.ensures.err
+
+pub returns-in_default-clause-makes : goal.returns-in_default-clause-makes
+returns-in_default-clause-makes c = λ p is lets. absurd (let none = c.in_default.ensures.way in let out = lets.out in cc)

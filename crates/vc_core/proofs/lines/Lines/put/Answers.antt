@@ -1,0 +1,44 @@
+use Rattle.std.proofs.Common.{◌<◌, length, slice_get, refl, sym, ap, ◌∙◌, subst}
+use Rattle.std.proofs.lemmas.Option.{slice_get_read}
+use Rattle.vc_core.specs.Lined.{Lined, AreLined, with_way}
+use Rattle.vc_core.proofs.Happening.{written_back}
+use Rattle.vc_core.proofs.Lined.{woken, end_first, err_all}
+use Rattle.vc_core.proofs.lines.Lines.put.Goals as goal
+
+pub wake-requires : goal.wake-requires
+wake-requires c = λ k l into. c.self.invariant.long k l c.args.way into
+
+pub invariant_of-self-2 : goal.invariant_of-self-2
+invariant_of-self-2 c =
+    let x = c.self.inside in
+    let less = subst (λ (z : Lined). c.args.way < length z.ways) (sym c.self.view_is) c.requires.way in
+    let puts = c.in_ok-put.ensures.ok in
+    let first = end_first c.index_mut.result.now puts.token in
+    woken x.wiring x.ways.items x.fronts c.wake.new.fronts c.args.way c.put.new.self first.0 first.1 c.self.invariant less (puts.ends ∙ first.2) c.wake.ensures
+
+pub invariant_of-self : goal.invariant_of-self
+invariant_of-self c =
+    let x = c.self.inside in
+    let less = subst (λ (z : Lined). c.args.way < length z.ways) (sym c.self.view_is) c.requires.way in
+    let read = slice_get_read x.ways.items (length x.ways.items) c.args.way c.index_mut.result.now refl less c.index_mut.ensures.value in
+    subst (λ ws. AreLined x.wiring ws x.fronts) (sym (written_back x.ways.items c.args.way c.index_mut.result.now c.put.new.self read c.in_err-put.ensures.err.1)) c.self.invariant
+
+pub returns-clause-ok : goal.returns-clause-ok
+returns-clause-ok c =
+    let x = c.self.inside in
+    let less = subst (λ (z : Lined). c.args.way < length z.ways) (sym c.self.view_is) c.requires.way in
+    let read = slice_get_read x.ways.items (length x.ways.items) c.args.way c.index_mut.result.now refl less c.index_mut.ensures.value in
+    record {
+      tokens = c.index_mut.result.now;
+      more = c.put.new.self;
+      stand = ap (λ (z : Lined). slice_get z.ways c.args.way) (sym c.self.view_is) ∙ read;
+      new_is = ap (λ (z : Lined). with_way z c.args.way c.put.new.self) c.self.view_is;
+      puts = c.in_ok-put.ensures.ok;
+    }
+
+pub returns-in_err-put-clause-err : goal.returns-in_err-put-clause-err
+returns-in_err-put-clause-err c =
+    let x = c.self.inside in
+    let less = subst (λ (z : Lined). c.args.way < length z.ways) (sym c.self.view_is) c.requires.way in
+    let read = slice_get_read x.ways.items (length x.ways.items) c.args.way c.index_mut.result.now refl less c.index_mut.ensures.value in
+    err_all c.from_residual.result (c.in_err-put.ensures.err.0, (λ i. record { ways = written_back x.ways.items c.args.way c.index_mut.result.now c.put.new.self read c.in_err-put.ensures.err.1 i; wiring = x.wiring }) ∙ c.self.view_is)

@@ -1,0 +1,10 @@
+use Rattle.std.specs.Prelude.{◌≡◌, ◌↔◌, ◌<◌, ℕ, length, get_or}
+use Rattle.std.specs.Int.{bit_at}
+use Rattle.vc_core.specs.Wired.{IsWired}
+use Rattle.vc_core.proofs.rooms.rooms_of.Given as goal
+
+abbrev pub invariant-loop-actor : goal.invariant-loop-actor
+invariant-loop-actor l = record {
+  count : length l.rooms.items ≡ l.actor;
+  told : (actor link : ℕ) → actor < l.actor → link < 32 → (bit_at (get_or l.rooms.items actor 0) link ≡ 1) ↔ IsWired l.out actor link;
+}

@@ -1,0 +1,81 @@
+//! By which links of which actors tokens come, as bits.
+ghost use Rattle.std.specs.Prelude.{◌≡◌, ◌<◌, ℕ, IfOk, length, get_or};
+ghost use Rattle.std.specs.Int.{bit_at};
+ghost use Rattle.vc_core.specs.Fronts.{Marked};
+
+use crate::room::without;
+use std::alloc::Global;
+use std::marker::Model;
+use vc_packets::Memory;
+
+/// For each actor a bit for each link by which a token comes.
+#[derive(Drop)]
+pub(crate) struct Fronts {
+    links: Vec<u32>,
+    // a bit for each of the first 64 actors with a bit
+    awake: u64,
+}
+
+impl Model for Fronts {
+    ghost use Rattle.std.specs.Prelude.{ℕ, List};
+    ghost use Rattle.vc_core.specs.Fronts.{AreAwake};
+
+    ghost Value = { List ℕ };
+
+    ghost view = { λ x. x.links.items };
+
+    ghost invariant = { λ x. AreAwake x.links.items x.awake };
+}
+
+impl Fronts {
+    /// So many actors, to which no token comes.
+    pub(crate) fn new(alloc: Global, actors: usize) -> Result<Fronts, Memory>
+        ensures count { IfOk result (λ fronts. length fronts ≡ actors) }
+        ensures none { IfOk result (λ fronts. (k : ℕ) → get_or fronts k 0 ≡ 0) }
+    {
+        let links = vec![in alloc; 0; actors]?;
+        Ok(Fronts { links, awake: 0 })
+    }
+
+    /// A bit for each link of an actor by which a token comes.
+    pub(crate) fn links(&self, actor: u8) -> u32
+        ensures { result ≡ get_or self.now actor 0 }
+    {
+        match self.links.get(usize::from(actor)) {
+            Some(links) => *links,
+            None => 0,
+        }
+    }
+
+    /// A bit for each of the first 64 actors to which a token comes.
+    pub(crate) fn awake(&self) -> u64
+        ensures { (k l : ℕ) → k < 64 → l < 32 → bit_at (get_or self.now k 0) l ≡ 1 → bit_at result k ≡ 1 }
+    {
+        self.awake
+    }
+
+    /// From now on a token comes by a link of an actor.
+    pub(crate) fn set(&mut self, actor: u16, link: u8)
+        requires actor { actor < length self.old }
+        requires link { link < 32 }
+        ensures { Marked self.old actor link 1 self.new }
+    {
+        self.links[usize::from(actor)] |= 1u32 << link;
+        if actor < 64 {
+            self.awake |= 1u64 << actor;
+        }
+    }
+
+    /// No token comes by a link of an actor any more.
+    pub(crate) fn clear(&mut self, actor: u8, link: u8)
+        requires actor { actor < length self.old }
+        requires link { link < 32 }
+        ensures { Marked self.old actor link 0 self.new }
+    {
+        let left = without(self.links[usize::from(actor)], link);
+        self.links[usize::from(actor)] = left;
+        if left == 0 && actor < 64 {
+            self.awake &= !(1u64 << actor);
+        }
+    }
+}

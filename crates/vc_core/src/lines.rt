@@ -1,0 +1,164 @@
+//! The ways of a network, with the tokens on them, at the links of its actors.
+ghost use Rattle.std.specs.Prelude.{◌≡◌, ◌↔◌, ◌+◌, ◌*◌, ◌<◌, ◌++◌, [], ◌∷◌, ℕ, List, IfOk, IfSome, OnOk, OnErr, Some, length, slice_get};
+ghost use Rattle.std.specs.Int.{bit_at};
+ghost use Rattle.std.specs.List.{AllByRecursion};
+ghost use Rattle.vc_plan.specs.Accepted.{IsAccepted};
+ghost use Rattle.vc_core.specs.Acting.{MayAct};
+ghost use Rattle.vc_core.specs.Lined.{TakesOff, PutsOnWay, Wakes, with_way};
+ghost use Rattle.vc_core.specs.Wired.{out_at, in_at, AreWaysAt, Comes, Goes};
+ghost use Rattle.vc_core.specs.declared.act.Act.TheVariants as act;
+ghost use Rattle.vc_tokens.specs.Tokens.{Token as SpeltToken};
+ghost use Rattle.vc_tokens.specs.Spelt.{token as spelt};
+
+use crate::actor::Actor;
+use crate::ends::End;
+use crate::fronts::Fronts;
+use crate::way::Way;
+use crate::wiring::Wiring;
+use std::alloc::Global;
+use std::marker::Model;
+use vc_packets::Memory;
+use vc_plan::Plan;
+use vc_tokens::Token;
+
+/// The ways of a network, with the tokens on them, and by which links of which actors tokens come.
+#[derive(Drop)]
+pub(crate) struct Lines {
+    wiring: Wiring,
+    ways: Vec<Way>,
+    fronts: Fronts,
+}
+
+impl Model for Lines {
+    ghost use Rattle.vc_core.specs.Lined.{Lined, AreLined};
+
+    ghost Value = { Lined };
+
+    ghost view = { λ x. record { ways = x.ways.items; wiring = x.wiring } };
+
+    ghost invariant = { λ x. AreLined x.wiring x.ways.items x.fronts };
+}
+
+impl Lines {
+    /// The ways of an accepted plan, with no token on them.
+    pub(crate) fn new(alloc: Global, plan: &Plan) -> Result<Lines, Memory>
+        requires { IsAccepted plan.now }
+        ensures wired { IfOk result (λ lines. AreWaysAt plan.now lines.wiring) }
+        ensures count { IfOk result (λ lines. length lines.ways ≡ 2 * length plan.now.wires) }
+        ensures empty { IfOk result (λ lines. AllByRecursion (λ way. way ≡ []) lines.ways) }
+    {
+        let nodes = plan.nodes.len();
+        let switches = plan.switches.len();
+        let wires = plan.wires.len();
+        let wiring = Wiring::new(alloc, plan)?;
+        let ways = ways_of(alloc, wires)?;
+        let fronts = Fronts::new(alloc, nodes + switches)?;
+        Ok(Lines {
+            wiring,
+            ways,
+            fronts,
+        })
+    }
+
+    /// The ways, in their order.
+    pub(crate) fn ways(&self) -> &[Way]
+        ensures { result.now ≡ self.now.ways }
+    {
+        self.ways.as_slice()
+    }
+
+    /// The way that goes out by a link of an actor, if the link is on a wire.
+    pub(crate) fn outgoing(&self, actor: u8, link: u8) -> Option<usize>
+        ensures way { result ≡ out_at self.now.wiring actor link }
+        ensures real { IfSome result (λ way. way < length self.now.ways) }
+    {
+        self.wiring.outgoing(actor, link)
+    }
+
+    /// The port to which a way leads.
+    pub(crate) fn end(&self, way: usize) -> Option<End>
+        ensures { (actor link : ℕ) → (in_at self.now.wiring actor link ≡ Some way) ↔ (result ≡ Some (record { actor = actor; link = link })) }
+    {
+        self.wiring.end(way)
+    }
+
+    /// A bit for each link of an actor by which a way goes out.
+    pub(crate) fn room(&self, actor: u8) -> u32
+        ensures { (link : ℕ) → link < 32 → (bit_at result link ≡ 1) ↔ Goes self.now.wiring self.now.ways actor link }
+    {
+        self.wiring.room(actor)
+    }
+
+    /// A bit for each link of an actor by which a token comes.
+    pub(crate) fn fronts(&self, actor: u8) -> u32
+        ensures { (link : ℕ) → link < 32 → (bit_at result link ≡ 1) ↔ Comes self.now.wiring self.now.ways actor link }
+    {
+        self.fronts.links(actor)
+    }
+
+    /// A bit for each of the first 64 actors to which a token comes.
+    pub(crate) fn awake(&self) -> u64
+        ensures { (actor link : ℕ) → actor < 64 → Comes self.now.wiring self.now.ways actor link → bit_at result actor ≡ 1 }
+    {
+        self.fronts.awake()
+    }
+
+    /// The front token of the way that comes in by a link of an actor is taken off, if there is one.
+    pub(crate) fn take(&mut self, actor: u8, link: u8) -> Option<Token>
+        ensures { TakesOff self.old actor link result self.new }
+    {
+        let way = self.wiring.incoming(actor, link)?;
+        let line = self.ways.get_mut(way)?;
+        let token = line.take()?;
+        if line.is_empty() {
+            self.fronts.clear(actor, link);
+        }
+        Some(token)
+    }
+
+    /// A token more comes to the end of a way.
+    pub(crate) fn push(&mut self, way: usize, token: Token) -> Result<(), Memory>
+        requires { way < length self.old.ways }
+        ensures ok { (ts : List SpeltToken) → slice_get self.old.ways way ≡ Some ts → OnOk result (self.new ≡ with_way self.old way (ts ++ spelt token ∷ [])) }
+        ensures err { OnErr result (self.new ≡ self.old) }
+    {
+        self.ways[way].push(token)?;
+        wake(&self.wiring, &mut self.fronts, way);
+        Ok(())
+    }
+
+    /// The next token that an actor puts on a link comes to the end of a way.
+    pub(crate) fn put(&mut self, way: usize, from: &mut Actor, link: u8) -> Result<(), Memory>
+        requires way { way < length self.old.ways }
+        requires may { MayAct from.old (act.Put link) }
+        ensures ok { OnOk result (PutsOnWay self.old way from.old link from.new self.new) }
+        ensures err { OnErr result ((from.new ≡ from.old) × (self.new ≡ self.old)) }
+    {
+        self.ways[way].put(from, link)?;
+        wake(&self.wiring, &mut self.fronts, way);
+        Ok(())
+    }
+}
+
+// From now on a token comes by the link to which a way leads.
+fn wake(wiring: &Wiring, fronts: &mut Fronts, way: usize)
+    requires { (k l : ℕ) → in_at wiring.now k l ≡ Some way → k < length fronts.old }
+    ensures { Wakes wiring.now fronts.old way fronts.new }
+{
+    if let Some(end) = wiring.end(way) {
+        fronts.set(end.actor, end.link);
+    }
+}
+
+// Two ways for each wire, with no token on them.
+fn ways_of(alloc: Global, wires: usize) -> Result<Vec<Way>, Memory>
+    ensures count { IfOk result (λ ways. length ways.items ≡ 2 * wires) }
+    ensures empty { IfOk result (λ ways. AllByRecursion (λ way. way ≡ []) ways.items) }
+{
+    let mut ways = Vec::new(alloc);
+    for _ in 0..wires {
+        ways.push(Way::new(alloc))?;
+        ways.push(Way::new(alloc))?;
+    }
+    Ok(ways)
+}

@@ -1,0 +1,46 @@
+//! By which links of each actor a way goes out.
+ghost use Rattle.std.specs.Prelude.{◌≡◌, ◌↔◌, ◌≤◌, ◌<◌, ℕ, IfOk, is_some, length};
+ghost use Rattle.std.specs.Int.{bit_at};
+ghost use Rattle.vc_core.specs.Wired.{out_at, IsWired, AreRooms};
+
+use crate::wiring::LINKS;
+use std::alloc::Global;
+use vc_packets::Memory;
+
+// Whether a way goes out by a link.
+fn is_wired(out: &[Option<u16>], actor: usize, link: u8) -> bool
+    requires actor { actor < 65536 }
+    requires link { link < 32 }
+    ensures { result ≡ is_some (out_at out.now actor link) }
+{
+    match out.get(actor * LINKS + usize::from(link)) {
+        Some(way) => way.is_some(),
+        None => false,
+    }
+}
+
+// A bit for each link of an actor by which a way goes out.
+fn room_of(out: &[Option<u16>], actor: usize) -> u32
+    requires { actor < 65536 }
+    ensures { (link : ℕ) → link < 32 → (bit_at result link ≡ 1) ↔ IsWired out.now actor link }
+{
+    let mut room = 0;
+    for link in 0..LINKS as u8 {
+        if is_wired(out, actor, link) {
+            room |= 1u32 << link;
+        }
+    }
+    room
+}
+
+/// For each actor a bit for each link by which a way goes out.
+pub(crate) fn rooms_of(alloc: Global, out: &[Option<u16>]) -> Result<Vec<u32>, Memory>
+    requires { length out.now ≤ 20480 }
+    ensures { IfOk result (λ rooms. AreRooms out.now rooms.items) }
+{
+    let mut rooms = Vec::new(alloc);
+    for actor in 0..out.len() / LINKS + 1 {
+        rooms.push(room_of(out, actor))?;
+    }
+    Ok(rooms)
+}
