@@ -152,7 +152,8 @@ fn act_once(
     ensures more { result ≡ Ok true → length events.new ≡ length events.old + 1 }
     ensures same { result ≡ Ok false → events.new ≡ events.old }
     ensures reached { (p : Plan) → Reached p events.old (state_of network.old) → OnOk result (Reached p events.new (state_of network.new)) }
-    ensures rests { (p : Plan) → Reached p events.old (state_of network.old) → actor < actors p → result ≡ Ok false → Rests p (state_of network.old) actor × (state_of network.new ≡ state_of network.old) }
+    ensures still { (p : Plan) → Reached p events.old (state_of network.old) → result ≡ Ok false → state_of network.new ≡ state_of network.old }
+    ensures rests { (p : Plan) → Reached p events.old (state_of network.old) → actor < actors p → result ≡ Ok false → Rests p (state_of network.old) actor }
     ensures quiet { (p : Plan) → Reached p events.old (state_of network.old) → AreQuiet p (state_of network.old) seats.old → IfOk result (λ had. AreQuiet p (state_of network.new) seats.new) }
 {
     match act(network, seats, actor)? {

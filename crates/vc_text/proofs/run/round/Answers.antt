@@ -1,4 +1,4 @@
-use Rattle.std.proofs.Common.{◌≡◌, ◌<◌, ◌≤◌, ◌||◌, Bool, true, false, Ok, length, refl, sym, ap, ◌∙◌, subst, inl, inr, arith}
+use Rattle.std.proofs.Common.{◌≡◌, ◌<◌, false, Ok, length, sym, ap, ◌∙◌, subst, inl, inr, arith}
 use Rattle.std.proofs.lemmas.Bool.{cases_lt}
 use Rattle.vc_core.specs.State.{state_of}
 use Rattle.vc_core.specs.Turns.{Rests, IsAtRest, actors}
@@ -23,9 +23,7 @@ loop-preserved c =
       reached = λ p r. n.reached p (inv.reached p r);
       some = (let s = inv.some in omega arith);
       more = grown c.loop.moved had (length c.args.events.now) (length c.loop.events) (length c.act_once.new.events) inv.some inv.more grows (λ e. n.more (ap Ok e));
-      same = λ p r q e. (let b = neither c.loop.moved had e in
-          let less : c.in-Some.actor < 64 = next.1 in
-          inv.same p r q b.0);
+      same = λ p r q e. (let b = neither c.loop.moved had e in n.still p (inv.reached p r) (ap Ok b.1) ∙ inv.same p r q b.0);
       quiet = λ p r q. n.quiet p (inv.reached p r) (inv.quiet p r q);
       rests = λ p r q e k less node. (let b = neither c.loop.moved had e in
           elim (cases_lt k c.loop.from) [
@@ -34,7 +32,7 @@ loop-preserved c =
               | inl idle ↦ subst (λ z. Rests p z k) (inv.same p r q b.0)
                   (idle_rests p (state_of c.loop.network) c.loop.seats c.awake.result k (inv.reached p r).is (inv.quiet p r q) (λ l f. c.awake.ensures k l (let s = next.1 in omega arith) f) (let s = next.1 in omega arith) (next.2 k later idle))
               | inr here ↦ (let at : c.in-Some.actor ≡ k = omega arith in
-                  let rest = (n.rests p (inv.reached p r) (subst (λ z. z < actors p) (sym at) node) (ap Ok b.1)).0 in
+                  let rest = n.rests p (inv.reached p r) (subst (λ z. z < actors p) (sym at) node) (ap Ok b.1) in
                   subst (λ z. Rests p (state_of c.args.network.now) z) at (subst (λ z. Rests p z c.in-Some.actor) (inv.same p r q b.0) rest))
             ]
           ]);
