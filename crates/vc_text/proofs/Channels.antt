@@ -1,12 +1,11 @@
 -- The channels of a network, one after the other.
-use Rattle.std.proofs.Common.{◌≡◌, ℕ, zero, suc, ◌+◌, ◌<◌, ◌≤◌, List, [], ◌∷◌, ◌++◌, length, map, take, slice_get, Some, refl, sym, ap, ◌∙◌, subst, arith}
+use Rattle.std.proofs.Common.{◌≡◌, ℕ, zero, suc, ◌+◌, ◌<◌, ◌≤◌, List, [], ◌∷◌, ◌++◌, length, map, take, slice_get, Some, refl, sym, ap, ◌∙◌, arith}
 use Rattle.std.proofs.lemmas.List.{map-append}
 use Rattle.vc_plan.specs.declared.channel.Channel.{Channel}
 use Rattle.vc_plan.specs.declared.plan.Plan.{Plan}
 use Rattle.vc_core.specs.State.{State}
 use Rattle.vc_core.proofs.Replayed.{take_more, all_taken}
 use Rattle.vc_text.specs.Shown.{channel_of, channels_from, channels_of}
-use Rattle.vc_text.specs.Traffic.{ChannelTraffic}
 use Rattle.vc_text.specs.Views.{shown}
 use Rattle.vc_text.specs.declared.traffic.ChannelView.{ChannelView}
 

@@ -6,12 +6,7 @@ use Rattle.vc_core.specs.Turns.{Rests, IsAtRest, FindsTake, FindsEvent, actors}
 use Rattle.vc_core.specs.declared.act.Act.TheVariants.{Take}
 use Rattle.vc_core.specs.declared.act.Event.{Event}
 use Rattle.vc_core.proofs.Turning.{at_rest}
-use Rattle.vc_text.specs.Closing.{HasNext, HasEvent}
-
--- what an actor without a token to take does next
-pub next_of : (p : Plan) (s : State) (k : ℕ) (o : Option Event) → FindsTake p s k None → FindsEvent p s k o → HasNext p s k o
-next_of p s k None takes acts = record { takes = takes; acts = acts }
-next_of p s k (Some e) takes (same, none, can) = can
+use Rattle.vc_text.specs.Closing.{HasEvent}
 
 -- where all actors rest
 pub all_rest : (p : Plan) (s : State) → IsNetworkOf p s → (n : ℕ) → actors p ≤ n → ((k : ℕ) → k < n → Rests p s k) → IsAtRest p s

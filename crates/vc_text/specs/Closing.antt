@@ -1,5 +1,5 @@
 -- What the close of a run says of the state after it.
-use Rattle.std.specs.Prelude.{◌≡◌, ℕ, Bool, true, false, Option, Some, None}
+use Rattle.std.specs.Prelude.{◌≡◌, ℕ, Bool, true, false}
 use Rattle.vc_plan.specs.declared.plan.Plan.{Plan}
 use Rattle.vc_core.specs.Enabled.{CanHappen}
 use Rattle.vc_core.specs.State.{State}
@@ -7,11 +7,6 @@ use Rattle.vc_core.specs.Turns.{Rests, IsAtRest, HaveEnded}
 use Rattle.vc_core.specs.declared.act.Event.{Event}
 use Rattle.vc_core.specs.declared.close.Close.{Close}
 use Rattle.vc_core.specs.declared.close.Close.TheVariants.{Done, Quiet, Limit}
-
--- an event that can happen, or none where the actor has none
-abbrev pub HasNext : Plan → State → ℕ → Option Event → Type 0
-HasNext p s k None = Rests p s k
-HasNext p s k (Some e) = CanHappen p s e
 
 -- whether the actor has an event
 abbrev pub HasEvent : Plan → State → ℕ → Bool → Type 0

@@ -1,11 +1,11 @@
 //! Running a network event by event.
-ghost use Rattle.std.specs.Prelude.{◌≡◌, ◌⊎◌, ◌<◌, ◌≤◌, ◌+◌, ℕ, true, false, length, map, slice_get, Some, None, Ok, IfOk, IfSome, OnOk};
+ghost use Rattle.std.specs.Prelude.{◌≡◌, ◌⊎◌, ◌<◌, ◌≤◌, ◌+◌, ℕ, true, false, length, map, slice_get, Some, None, Ok, IfOk, OnOk};
 ghost use Rattle.vc_plan.specs.declared.plan.Plan.{Plan};
 ghost use Rattle.vc_core.specs.State.{state_of, IsNetworkOf, MakesOne};
 ghost use Rattle.vc_core.specs.Replaying.{Reached, Replays};
 ghost use Rattle.vc_core.specs.Turns.{Rests, IsAtRest, GoesOn, actors};
 ghost use Rattle.vc_core.specs.Turns.{FindsEvent};
-ghost use Rattle.vc_text.specs.Closing.{HasNext, HasEvent, Closes};
+ghost use Rattle.vc_text.specs.Closing.{HasEvent, Closes};
 ghost use Rattle.vc_text.specs.Quiet.{AreQuiet};
 ghost use Rattle.vc_plan.specs.declared.channel.Channel.{Channel};
 ghost use Rattle.vc_text.specs.Running.{Steps};
@@ -21,9 +21,12 @@ use crate::traffic::{ChannelView, write_channels};
 use sqlite_items::Items;
 use std::alloc::Global;
 use std::io::{Read, Write};
-use vc_core::{Act, Close, Event, Network, StepRefused};
+use vc_core::{Act, Close, Event, Network};
 use vc_packets::Memory;
 use vc_plan::Accepted;
+
+/// The most actors that an accepted plan has: 32 nodes and 32 switches.
+const ACTORS: u8 = 64;
 
 /// What a run made, and how it ended.
 #[derive(Debug, Drop)]
@@ -72,53 +75,37 @@ pub fn write_traffic<W: Write>(
     write_channels(alloc, views.as_slice(), close, writer)
 }
 
-/// The event, but a take, that an actor makes next where every way has room; an actor that is known to have none is not asked again.
-fn other_event(network: &Network, seats: &mut Seats, actor: u8) -> Result<Option<Event>, Memory>
-    ensures finds { (p : Plan) → IsNetworkOf p (state_of network.now) → AreQuiet p (state_of network.now) seats.old → IfOk result (FindsEvent p (state_of network.now) actor) }
-    ensures quiet { (p : Plan) → IsNetworkOf p (state_of network.now) → AreQuiet p (state_of network.now) seats.old → IfOk result (λ found. AreQuiet p (state_of network.now) seats.new) }
+/// Makes the event that takes no token that an actor makes next, if it has one.
+fn turn(network: &mut Network, seats: &mut Seats, actor: u8) -> Result<Option<Event>, Memory>
+    ensures finds { (p : Plan) → IsNetworkOf p (state_of network.old) → IfOk result (FindsEvent p (state_of network.old) actor) }
+    ensures made { (p : Plan) → IsNetworkOf p (state_of network.old) → IfOk result (λ made. MakesOne p (state_of network.old) made (state_of network.new)) }
+    ensures quiet { (p : Plan) → IsNetworkOf p (state_of network.old) → AreQuiet p (state_of network.old) seats.old → IfOk result (λ made. AreQuiet p (state_of network.new) seats.new) }
 {
-    if seats.is_quiet(actor) {
-        return Ok(None);
-    }
-    let Some(event) = network.next(actor)? else {
-        seats.mark(actor, true);
+    let Some(event) = network.turn(actor)? else {
+        seats.rest(actor);
         return Ok(None);
     };
+    seats.wake(actor);
     Ok(Some(event))
 }
 
-/// The event that an actor makes next: a take from the least link that has a token, else what it does where every way has room.
-/// Nothing where it has no event.
-fn next_event(network: &Network, seats: &mut Seats, actor: u8) -> Result<Option<Event>, Memory>
-    ensures next { (p : Plan) → IsNetworkOf p (state_of network.now) → AreQuiet p (state_of network.now) seats.old → actor < actors p → IfOk result (HasNext p (state_of network.now) actor) }
-    ensures quiet { (p : Plan) → IsNetworkOf p (state_of network.now) → AreQuiet p (state_of network.now) seats.old → IfOk result (λ event. AreQuiet p (state_of network.now) seats.new) }
-    ensures actor { (p : Plan) → IsNetworkOf p (state_of network.now) → AreQuiet p (state_of network.now) seats.old → IfOk result (λ event. IfSome event (λ e. e.actor ≡ actor)) }
-{
-    let Some(link) = network.link_to_take(actor) else {
-        return other_event(network, seats, actor);
-    };
-    let word = seats.next_word(actor);
-    let act = Act::Take { link, word };
-    Ok(Some(Event { actor, act }))
-}
-
-/// Makes the event that an actor makes next, if it has one.
+/// Makes the event that an actor makes next, if it has one: a take from the least link that has a token, else what it does where
+/// every way has room.
 fn act(network: &mut Network, seats: &mut Seats, actor: u8) -> Result<Option<Event>, Memory>
     ensures made { (p : Plan) → IsNetworkOf p (state_of network.old) → IfOk result (λ made. MakesOne p (state_of network.old) made (state_of network.new)) }
-    ensures rests { (p : Plan) → IsNetworkOf p (state_of network.old) → AreQuiet p (state_of network.old) seats.old → actor < actors p → result ≡ Ok None → Rests p (state_of network.old) actor }
+    ensures rests { (p : Plan) → IsNetworkOf p (state_of network.old) → actor < actors p → result ≡ Ok None → Rests p (state_of network.old) actor }
     ensures quiet { (p : Plan) → IsNetworkOf p (state_of network.old) → AreQuiet p (state_of network.old) seats.old → IfOk result (λ made. AreQuiet p (state_of network.new) seats.new) }
 {
-    let Some(event) = next_event(network, seats, actor)? else {
-        return Ok(None);
+    let Some(link) = network.link_to_take(actor) else {
+        return turn(network, seats, actor);
     };
-    match network.step(&event) {
-        Ok(()) => {
-            seats.mark(actor, false);
-            Ok(Some(event))
-        }
-        Err(StepRefused::NotEnabled) => Ok(None),
-        Err(StepRefused::Memory) => Err(Memory),
+    let word = seats.next_word(actor);
+    if !network.take(actor, link, word) {
+        return Ok(None);
     }
+    seats.wake(actor);
+    let act = Act::Take { link, word };
+    Ok(Some(Event { actor, act }))
 }
 
 /// Whether an actor has an event.
@@ -165,7 +152,8 @@ fn act_once(
     ensures more { result ≡ Ok true → length events.new ≡ length events.old + 1 }
     ensures same { result ≡ Ok false → events.new ≡ events.old }
     ensures reached { (p : Plan) → Reached p events.old (state_of network.old) → OnOk result (Reached p events.new (state_of network.new)) }
-    ensures rests { (p : Plan) → Reached p events.old (state_of network.old) → AreQuiet p (state_of network.old) seats.old → actor < actors p → result ≡ Ok false → Rests p (state_of network.old) actor × (state_of network.new ≡ state_of network.old) }
+    ensures still { (p : Plan) → Reached p events.old (state_of network.old) → result ≡ Ok false → state_of network.new ≡ state_of network.old }
+    ensures rests { (p : Plan) → Reached p events.old (state_of network.old) → actor < actors p → result ≡ Ok false → Rests p (state_of network.old) actor }
     ensures quiet { (p : Plan) → Reached p events.old (state_of network.old) → AreQuiet p (state_of network.old) seats.old → IfOk result (λ had. AreQuiet p (state_of network.new) seats.new) }
 {
     match act(network, seats, actor)? {
@@ -192,11 +180,16 @@ fn round(
     ensures quiet { (p : Plan) → Reached p events.old (state_of network.old) → AreQuiet p (state_of network.old) seats.old → IfOk result (λ had. AreQuiet p (state_of network.new) seats.new) }
 {
     let mut moved = false;
-    for actor in 0..network.actors().min(255) as u8 {
+    let mut from = 0u8;
+    for _ in 0..ACTORS {
         if events.len() as u64 >= limit {
             return Ok(true);
         }
+        let Some(actor) = seats.next_of(network.awake(), from) else {
+            return Ok(moved);
+        };
         moved |= act_once(network, seats, events, actor)?;
+        from = actor + 1;
     }
     Ok(moved)
 }

@@ -1,6 +1,7 @@
 //! What a run keeps of each actor.
-ghost use Rattle.std.specs.Prelude.{◌≡◌, ◌≢◌, ℕ, true, false, IfOk};
-ghost use Rattle.vc_text.specs.Quiet.{quiet_at};
+ghost use Rattle.std.specs.Prelude.{◌≡◌, ◌≢◌, ◌≤◌, ◌<◌, ℕ, IfOk, MatchOption};
+ghost use Rattle.std.specs.Int.{bit_at};
+ghost use Rattle.vc_text.specs.Quiet.{active_at, IsIdle};
 
 use rand_core::utils::NextWord;
 use rand_pcg::Lcg64Xsh32;
@@ -11,50 +12,73 @@ use vc_packets::Memory;
 #[derive(Drop)]
 pub(crate) struct Seats {
     words: Vec<Lcg64Xsh32>,
-    quiet: Vec<bool>,
+    // a bit for each of 64 actors that may have an event but a take
+    active: u64,
 }
 
 impl Seats {
     /// So many actors, of which nothing is known.
     pub(crate) fn new(alloc: Global, actors: usize) -> Result<Seats, Memory>
-        ensures { IfOk result (λ seats. (k : ℕ) → quiet_at seats k ≡ false) }
+        ensures { IfOk result (λ seats. (k : ℕ) → k < 64 → active_at seats k ≡ 1) }
     {
         let mut words = Vec::new(alloc);
-        let mut quiet = Vec::new(alloc);
         for actor in 0..actors {
             words.push(Lcg64Xsh32::new(0, actor as u64))?;
-            quiet.push(false)?;
         }
-        Ok(Seats { words, quiet })
+        let active = u64::MAX;
+        Ok(Seats { words, active })
     }
 
-    /// Whether an actor is known to have no event but takes.
-    pub(crate) fn is_quiet(&self, actor: u8) -> bool
-        ensures { result ≡ quiet_at self.now actor }
+    /// The least actor from one on that may have an event, where these are awake.
+    pub(crate) fn next_of(&self, awake: u64, from: u8) -> Option<u8>
+        requires { from ≤ 64 }
+        ensures { MatchOption result ((k : ℕ) → from ≤ k → k < 64 → IsIdle self.now awake k) (λ next. (from ≤ next) × (next < 64) × ((k : ℕ) → from ≤ k → k < next → IsIdle self.now awake k)) }
     {
-        match self.quiet.get(usize::from(actor)) {
-            Some(quiet) => *quiet,
-            None => false,
+        lowest_from(awake | self.active, from)
+    }
+
+    /// From now on an actor is known to have no event but takes.
+    pub(crate) fn rest(&mut self, actor: u8)
+        ensures { (k : ℕ) → k < 64 → k ≢ actor → active_at self.new k ≡ active_at self.old k }
+    {
+        if actor < 64 {
+            self.active &= !(1u64 << actor);
         }
     }
 
-    /// From now on it is known of an actor, or no more.
-    pub(crate) fn mark(&mut self, actor: u8, quiet: bool)
-        ensures it { quiet_at self.new actor ≡ true → quiet ≡ true }
-        ensures others { (k : ℕ) → k ≢ actor → quiet_at self.new k ≡ quiet_at self.old k }
+    /// An actor is known so no more.
+    pub(crate) fn wake(&mut self, actor: u8)
+        ensures it { actor < 64 → active_at self.new actor ≡ 1 }
+        ensures others { (k : ℕ) → k ≢ actor → active_at self.new k ≡ active_at self.old k }
     {
-        if let Some(known) = self.quiet.get_mut(usize::from(actor)) {
-            *known = quiet;
+        if actor < 64 {
+            self.active |= 1u64 << actor;
         }
     }
 
     /// The next word of an actor.
     pub(crate) fn next_word(&mut self, actor: u8) -> u32
-        ensures { (k : ℕ) → quiet_at self.new k ≡ quiet_at self.old k }
+        ensures { (k : ℕ) → active_at self.new k ≡ active_at self.old k }
     {
         match self.words.get_mut(usize::from(actor)) {
             Some(generator) => generator.next_word(),
             None => 0,
         }
+    }
+}
+
+// The least bit of a mask from one on.
+fn lowest_from(mask: u64, from: u8) -> Option<u8>
+    requires { from ≤ 64 }
+    ensures { MatchOption result ((k : ℕ) → from ≤ k → k < 64 → bit_at mask k ≡ 0) (λ next. (from ≤ next) × (next < 64) × ((k : ℕ) → from ≤ k → k < next → bit_at mask k ≡ 0)) }
+{
+    if from == 64 {
+        return None;
+    }
+    let above = (mask >> from).trailing_zeros() as u8;
+    if above < 64 - from {
+        Some(from + above)
+    } else {
+        None
     }
 }

@@ -1,6 +1,6 @@
 use Rattle.std.proofs.Common.{subst, inl, inr, arith}
 use Rattle.vc_core.specs.State.{state_of}
-use Rattle.vc_core.specs.Turns.{GoesOn, IsAtRest}
+use Rattle.vc_core.specs.Turns.{GoesOn}
 use Rattle.vc_text.proofs.run.close_of.Goals.{else-events-limit-via-then-events-limit+in_ok-goes_on+else-branch, else-events-limit-via-else-events-limit}
 use Rattle.vc_text.proofs.run.close_of.Goals as goal
 

@@ -1,4 +1,4 @@
-use Rattle.std.proofs.Common.{◌≡◌, ◌<◌, ◌≤◌, ap, ◌∙◌, map, length, arith}
+use Rattle.std.proofs.Common.{◌<◌, ◌≤◌, ap, ◌∙◌, map, length, arith}
 use Rattle.vc_core.specs.State.{state_of}
 use Rattle.vc_core.proofs.Carrying.{few_channels}
 use Rattle.vc_text.specs.Views.{shown}

@@ -1,0 +1,20 @@
+use Rattle.std.proofs.Common.{subst, sym}
+use Rattle.vc_core.specs.State.{state_of, MakesOne}
+use Rattle.vc_core.specs.Turns.{FindsEvent}
+use Rattle.vc_text.specs.Quiet.{AreQuiet}
+use Rattle.vc_text.proofs.Quieting.{one_acts, one_quiet}
+use Rattle.vc_text.proofs.run.turn.Goals as goal
+
+pub returns-clause-quiet : goal.returns-clause-quiet
+returns-clause-quiet c = λ p is quiet.
+    let s = state_of c.args.network.now in
+    let t = state_of c.turn.new.self in
+    let found = subst (FindsEvent p s c.args.actor) c.in-Some.is (c.in_ok-event.ensures.finds p is) in
+    one_acts p s t c.in-Some.event c.args.seats.now c.wake.new.self c.args.actor found.0 (subst (λ o. MakesOne p s o t) c.in-Some.is (c.in_ok-event.ensures.makes p is)) c.wake.ensures.others c.wake.ensures.it quiet
+
+pub returns-in_default-clause-quiet : goal.returns-in_default-clause-quiet
+returns-in_default-clause-quiet c = λ p is quiet.
+    let s = state_of c.args.network.now in
+    let t = state_of c.turn.new.self in
+    let same = subst (λ o. MakesOne p s o t) c.in_default.is (c.in_ok-event.ensures.makes p is) in
+    subst (λ z. AreQuiet p z c.rest.new.self) (sym same) (one_quiet p s c.args.seats.now c.rest.new.self c.args.actor c.rest.ensures (subst (FindsEvent p s c.args.actor) c.in_default.is (c.in_ok-event.ensures.finds p is)) quiet)
