@@ -223,7 +223,7 @@ impl Network {
         lowest(self.lines.fronts(actor), LINKS)
     }
 
-    /// A bit for each of the first 64 actors to which a token comes.
+    /// A mask that has a bit for each of the first 64 actors to which a token comes; it may have more.
     pub fn awake(&self) -> u64
         ensures { (actor link : ℕ) → actor < 64 → HasFront (state_of self.now) actor link → bit_at result actor ≡ 1 }
     {
