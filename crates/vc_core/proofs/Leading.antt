@@ -1,5 +1,5 @@
 -- By which links ways go out, as bits, and where ways lead.
-use Rattle.std.proofs.Common.{◌≡◌, ◌≢◌, ◌↔◌, ℕ, zero, suc, ◌+◌, ◌*◌, ◌/◌, ◌%◌, ◌<◌, ◌≤◌, ◌==◌, ◌&&◌, Bool, true, false, not, nat_lt, is_some, List, [], ◌∷◌, ◌++◌, length, take, get_or, slice_get, Option, Some, None, refl, sym, ap, ◌∙◌, subst, arith, inl, inr, if◌then◌else◌, eq-eqb}
+use Rattle.std.proofs.Common.{◌≡◌, ◌≢◌, ◌↔◌, ℕ, zero, suc, ◌+◌, ◌-◌, ◌*◌, ◌/◌, ◌%◌, ◌<◌, ◌≤◌, ◌==◌, ◌&&◌, Bool, true, false, not, nat_lt, is_some, List, [], ◌∷◌, ◌++◌, length, take, get_or, slice_get, Option, Some, None, refl, sym, ap, ◌∙◌, subst, arith, inl, inr, if◌then◌else◌, eq-eqb}
 use Rattle.std.proofs.lemmas.Bool.{cases_lt}
 use Rattle.std.proofs.lemmas.Bool.Decides.{nat_tests}
 use Rattle.std.proofs.lemmas.List.{get_or_append_left, length-map}
@@ -15,16 +15,39 @@ use Rattle.vc_plan.specs.Accepted as plan
 use Rattle.vc_plan.specs.declared.plan.Plan.{Plan}
 use Rattle.vc_plan.specs.declared.port.Port.{Port}
 use Rattle.vc_plan.specs.declared.port.Wire.{Wire}
-use Rattle.vc_accepted.specs.NetworkOf.{network_of, wire_of}
+use Rattle.vc_accepted.specs.NetworkOf.{network_of, port_at, wire_of}
 use Rattle.vc_accepted.specs.NetworkOf as to
-use Rattle.vc_accepted.specs.Outgoing.{actor_of, is_link, link_port}
+use Rattle.vc_accepted.specs.Outgoing.{actor_of, actor_of as number_of, is_link, link_port}
+use Rattle.vc_machine.specs.Paths.{AtNode, AtSwitch}
+use Rattle.vc_plan.specs.declared.port.Spot.{Spot}
+use Rattle.vc_plan.specs.declared.port.Spot.TheVariants.{Node, Switch}
 use Rattle.vc_accepted.proofs.Crossing.{wire_is}
 use Rattle.vc_accepted.proofs.Listed.{there as found_there}
 use Rattle.vc_accepted.proofs.Ported.{side_of}
 use Rattle.vc_accepted.proofs.Wired.{incoming_is, link_is_at, wired}
 use Rattle.vc_core.specs.Wired.{there, out_at, in_at, AreWaysAt, IsWired, AreRooms, AreEnds, end_at, ends_of}
 use Rattle.vc_core.specs.declared.ends.End.{End}
-use Rattle.vc_core.proofs.Waking.{number_at}
+
+-- the port that a link stands for names its actor and the link
+
+at_node : (n m l link : ℕ) → AtNode n l ≡ AtNode m link → (n ≡ m) × (l ≡ link)
+at_node n m l link e = (cc, cc)
+
+at_switch : (n m l link : ℕ) → AtSwitch n l ≡ AtSwitch m link → (n ≡ m) × (l ≡ link)
+at_switch n m l link e = (cc, cc)
+
+pub number_at : (p : Plan) (actor link : ℕ) (s : Spot) (l : ℕ) → port_at s l ≡ link_port p actor link → (number_of (length p.nodes) s ≡ actor) × (l ≡ link)
+number_at p actor link s l e = by_test (nat_lt actor (length p.nodes)) refl s e
+  where
+    by_test : (b : Bool) → nat_lt actor (length p.nodes) ≡ b → (s : Spot) → port_at s l ≡ (if b then AtNode actor link else AtSwitch (actor - length p.nodes) link) →
+        (number_of (length p.nodes) s ≡ actor) × (l ≡ link)
+    by_test true t (Node n) e = at_node n actor l link e
+    by_test false t (Switch k) e =
+        let r = at_switch k (actor - length p.nodes) l link e in
+        let past : length p.nodes ≤ actor = grind (arith, nat_tests) in
+        ((let a = r.0 in omega arith), r.1)
+    by_test true t (Switch k) e = absurd (cc)
+    by_test false t (Node n) e = absurd (cc)
 
 -- Rooms.
 

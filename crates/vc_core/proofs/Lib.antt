@@ -29,7 +29,6 @@ pub mod AbleMoves
 pub mod Enabled
 pub mod Turning
 pub mod Quiet
-pub mod Waking
 pub mod Taking
 pub mod Leading
 pub mod Bits

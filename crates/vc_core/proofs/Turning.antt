@@ -44,21 +44,6 @@ none_more Can at i before now j less can = elim (cases_lt j i) [
   | inr later ↦ (let same : j ≡ i = omega arith in now (subst (λ z. Can (at z)) same can))
 ]
 
--- by a link at or past the span of its actor nothing comes, and no way goes out
-pub front_below : (s : State) (k l n : ℕ) → ((j : ℕ) → n ≤ j → out_at s.wiring k j ≡ None) → HasFront s k l → l < n
-front_below s k l n beyond f = elim (cases_lt l n) [
-  | inl less ↦ less
-  | inr far ↦ (let e : option_map back (out_at s.wiring k l) ≡ None = ap (option_map back) (beyond l far) in
-      let i = f.into in absurd (cc))
-]
-
-pub way_below : (s : State) (k l n : ℕ) → ((j : ℕ) → n ≤ j → out_at s.wiring k j ≡ None) → HasWay s k l → l < n
-way_below s k l n beyond f = elim (cases_lt l n) [
-  | inl less ↦ less
-  | inr far ↦ (let e = beyond l far in
-      let i = f.out in absurd (cc))
-]
-
 -- the table of ways has 32 places an actor
 pub few_at : (out : List (Option ℕ)) (k l w : ℕ) → out_at out k l ≡ Some w → l < 32
 few_at out k l w e = by_test (nat_lt l 32) refl e

@@ -118,20 +118,3 @@ abbrev pub MakesTurn : Plan → ℕ → Acting → ℕ → Turn → Acting → T
 MakesTurn plan k old room turn.Idle new = (new ≡ old) × FindsTurn plan k old room None
 MakesTurn plan k old room (turn.Local a) new = IsTurn plan k old room a × MakesOwn plan k old a new
 MakesTurn plan k old room (turn.Put link a item) new = IsTurn plan k old room a × IsPut plan k old link a item new
-
--- the act puts a token on the link
-abbrev pub PutsOn : Act → ℕ → Type 0
-PutsOn (Put l) link = l ≡ link
-PutsOn (Fct l) link = l ≡ link
-PutsOn (Take l word) link = ⊥
-PutsOn (Proc made) link = ⊥
-PutsOn (Pass l) link = ⊥
-PutsOn (Route input output) link = ⊥
-
--- the event puts a token on the way that comes to actor k by link l
-pub record Brings (s : State) (e : Event) (k l : ℕ) : Type 0 where
-  pub link : ℕ
-  pub way : ℕ
-  pub puts : PutsOn e.act link
-  pub out : out_at s.wiring e.actor link ≡ Some way
-  pub into : in_at s.wiring k l ≡ Some way

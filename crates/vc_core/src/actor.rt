@@ -120,6 +120,7 @@ impl Actor {
     }
 
     /// A token comes over a link, with a word.
+    #[inline(always)]
     pub(crate) fn accept(&mut self, link: u8, came: Token, word: u32)
         requires { HasLink self.old link }
         ensures { (plan : Plan) (k : ℕ) → IsActorOf plan k self.old → MakesTake plan k self.old link word (token came) self.new }
@@ -131,6 +132,7 @@ impl Actor {
     }
 
     /// Makes a step of its own: a move of a process, a token that passes, or a packet that is bound to an output.
+    #[inline(always)]
     pub(crate) fn make(&mut self, act: &Act) -> Result<(), Memory>
         requires may { MayAct self.old act.now }
         requires own { IsOwn act.now }
@@ -144,6 +146,7 @@ impl Actor {
     }
 
     /// Puts the next token on a link.
+    #[inline(always)]
     pub(crate) fn put(&mut self, link: u8) -> Token
         requires { MayAct self.old (Act.Put link) }
         ensures { (plan : Plan) (k : ℕ) → IsActorOf plan k self.old → MakesPut plan k self.old link (token result) self.new }
@@ -155,6 +158,7 @@ impl Actor {
     }
 
     /// Grants eight places of a link's buffer.
+    #[inline(always)]
     pub(crate) fn grant(&mut self, link: u8)
         requires { MayAct self.old (Act.Fct link) }
         ensures { (plan : Plan) (k : ℕ) → IsActorOf plan k self.old → MakesGrant plan k self.old link self.new }
@@ -168,6 +172,7 @@ impl Actor {
     /// Makes the actor's next step: a token passes, by the least link; a switch binds a packet, the least input's to the least
     /// output; a token is put, by the least link with room; a flow control token is put, by the least link with room; then a move
     /// of the process, beginning behind the site that acted last. `room` has a bit for each outgoing link that has room.
+    #[inline(always)]
     pub fn turn(&mut self, room: u32) -> Result<Turn, Memory>
         ensures makes { (plan : Plan) (k : ℕ) → IsActorOf plan k self.old → IfOk result (λ turn. MakesTurn plan k self.old room turn self.new) }
         ensures refused { OnErr result (self.new ≡ self.old) }
@@ -179,6 +184,7 @@ impl Actor {
     }
 
     // Makes this step.
+    #[inline(always)]
     fn turn_by(&mut self, act: Act) -> Result<Turn, Memory>
         requires { MayAct self.old act }
         ensures makes { (plan : Plan) (k : ℕ) → IsActorOf plan k self.old → IfOk result (λ turn. IsTold plan k self.old act turn self.new) }
@@ -203,6 +209,7 @@ impl Actor {
     }
 
     /// What the actor does next, if it has a step to make where its links have this room.
+    #[inline(always)]
     pub(crate) fn next(&self, room: u32) -> Result<Option<Act>, Memory>
         ensures may { IfOk result (λ act. IfSome act (λ a. MayAct self.now a)) }
         ensures finds { (plan : Plan) (k : ℕ) → IsActorOf plan k self.now → IfOk result (FindsTurn plan k self.now room) }

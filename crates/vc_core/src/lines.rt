@@ -11,7 +11,6 @@ ghost use Rattle.vc_tokens.specs.Tokens.{Token as SpeltToken};
 ghost use Rattle.vc_tokens.specs.Spelt.{token as spelt};
 
 use crate::actor::Actor;
-use crate::ends::End;
 use crate::fronts::Fronts;
 use crate::way::Way;
 use crate::wiring::Wiring;
@@ -75,13 +74,6 @@ impl Lines {
         self.wiring.outgoing(actor, link)
     }
 
-    /// The port to which a way leads.
-    pub(crate) fn end(&self, way: usize) -> Option<End>
-        ensures { (actor link : ℕ) → (in_at self.now.wiring actor link ≡ Some way) ↔ (result ≡ Some (record { actor = actor; link = link })) }
-    {
-        self.wiring.end(way)
-    }
-
     /// A bit for each link of an actor by which a way goes out.
     pub(crate) fn room(&self, actor: u8) -> u32
         ensures { (link : ℕ) → link < 32 → (bit_at result link ≡ 1) ↔ Goes self.now.wiring self.now.ways actor link }
@@ -104,6 +96,7 @@ impl Lines {
     }
 
     /// The front token of the way that comes in by a link of an actor is taken off, if there is one.
+    #[inline(always)]
     pub(crate) fn take(&mut self, actor: u8, link: u8) -> Option<Token>
         ensures { TakesOff self.old actor link result self.new }
     {
@@ -117,6 +110,7 @@ impl Lines {
     }
 
     /// A token more comes to the end of a way.
+    #[inline(always)]
     pub(crate) fn push(&mut self, way: usize, token: Token) -> Result<(), Memory>
         requires { way < length self.old.ways }
         ensures ok { (ts : List SpeltToken) → slice_get self.old.ways way ≡ Some ts → OnOk result (self.new ≡ with_way self.old way (ts ++ spelt token ∷ [])) }
@@ -128,6 +122,7 @@ impl Lines {
     }
 
     /// The next token that an actor puts on a link comes to the end of a way.
+    #[inline(always)]
     pub(crate) fn put(&mut self, way: usize, from: &mut Actor, link: u8) -> Result<(), Memory>
         requires way { way < length self.old.ways }
         requires may { MayAct from.old (act.Put link) }

@@ -7,7 +7,6 @@ ghost use Rattle.std.specs.Option.{option_copied};
 ghost use Rattle.vc_plan.specs.Accepted.{port_of as side_of};
 ghost use Rattle.vc_plan.specs.declared.channel.Channel.{Channel};
 ghost use Rattle.vc_accepted.specs.NetworkOf.{network_of};
-ghost use Rattle.vc_core.specs.Wired.{out_at, in_at};
 ghost use Rattle.vc_network.specs.Plan.{home};
 ghost use Rattle.vc_network.specs.Views.{view, source_node, sink_node, vcps};
 ghost use Rattle.vc_core.specs.Placed.{AreOwned, FindsPlace, IsUnfinished};
@@ -29,7 +28,7 @@ use crate::lines::Lines;
 use crate::node::Node;
 use crate::place::Place;
 use crate::refused::{ReplayRefused, StepRefused};
-use crate::room::{has_room, lowest, without};
+use crate::room::{has_room, lowest};
 use sqlite_items::{Items, at};
 use std::alloc::Global;
 use vc_occam::ValueKind;
@@ -117,6 +116,7 @@ impl Network {
     }
 
     // Makes an event that its actor can make, and its ways let it.
+    #[inline(always)]
     fn make(&mut self, event: &Event) -> Result<(), Memory>
         requires { MayActAt (state_of self.old) event.now.actor event.now.act }
         ensures makes { (p : Plan) → IsNetworkOf p (state_of self.old) → WaysLet (state_of self.old) event.now.actor event.now.act → OnOk result (MakesEvent p (state_of self.old) event.now (state_of self.new)) }
@@ -134,6 +134,7 @@ impl Network {
     }
 
     // An actor makes a step of its own.
+    #[inline(always)]
     fn act(&mut self, event: &Event) -> Result<(), Memory>
         requires may { MayActAt (state_of self.old) event.now.actor event.now.act }
         requires own { IsOwn event.now.act }
@@ -144,6 +145,7 @@ impl Network {
     }
 
     /// An actor takes the front token of the way that comes in by a link. The answer is whether it can.
+    #[inline(always)]
     pub fn take(&mut self, actor: u8, link: u8, word: u32) -> bool
         ensures may { IsTrue result ↔ MayHappen (state_of self.old) (record { actor = actor; act = Act.Take link word }) }
         ensures can { (p : Plan) → IsNetworkOf p (state_of self.old) → IsTrue result ↔ CanHappen p (state_of self.old) (record { actor = actor; act = Act.Take link word }) }
@@ -171,6 +173,7 @@ impl Network {
     }
 
     // A token comes to an actor.
+    #[inline(always)]
     fn accept(&mut self, actor: u8, link: u8, token: Token, word: u32)
         requires { MayActAt (state_of self.old) actor (Act.Take link word) }
         ensures { Accepts (state_of self.old) actor link word (spelt token) (state_of self.new) }
@@ -179,6 +182,7 @@ impl Network {
     }
 
     // The next token of a packet goes to the end of the way that goes out by a link.
+    #[inline(always)]
     fn put(&mut self, event: &Event, link: u8) -> Result<(), Memory>
         requires may { MayActAt (state_of self.old) event.now.actor event.now.act }
         requires is { event.now.act ≡ Act.Put link }
@@ -193,6 +197,7 @@ impl Network {
     }
 
     // A flow control token goes to the end of the way that goes out by a link.
+    #[inline(always)]
     fn grant(&mut self, event: &Event, link: u8) -> Result<(), Memory>
         requires may { MayActAt (state_of self.old) event.now.actor event.now.act }
         requires is { event.now.act ≡ Act.Fct link }
@@ -230,32 +235,8 @@ impl Network {
         self.lines.awake()
     }
 
-    /// The least link of a mask by which an actor can take a token, where the mask has a bit for each link by which one comes.
-    pub fn link_among(&self, actor: u8, links: u32) -> Option<u8>
-        ensures least { ((l : ℕ) → HasFront (state_of self.now) actor l → bit_at links l ≡ 1) → FindsFront (state_of self.now) actor result }
-        ensures takes { (p : Plan) → IsNetworkOf p (state_of self.now) → ((l : ℕ) → HasFront (state_of self.now) actor l → bit_at links l ≡ 1) → FindsTake p (state_of self.now) actor result }
-    {
-        let mut left = links;
-        for _ in 0..LINKS {
-            let link = lowest(left, LINKS)?;
-            if self.has_front(actor, link) {
-                return Some(link);
-            }
-            left = without(left, link);
-        }
-        None
-    }
-
-    /// The actor and its link to which a token goes out by a link of an actor.
-    pub fn far(&self, actor: u8, link: u8) -> Option<(u16, u8)>
-        ensures { (p : Plan) (way k l : ℕ) → IsNetworkOf p (state_of self.now) → out_at (state_of self.now).wiring actor link ≡ Some way → in_at (state_of self.now).wiring k l ≡ Some way → result ≡ Some (k, l) }
-    {
-        let way = self.lines.outgoing(actor, link)?;
-        let end = self.lines.end(way)?;
-        Some((end.actor, end.link))
-    }
-
     /// What an actor does next where every way has room; nothing where it has no step but to take.
+    #[inline(always)]
     pub fn next(&self, actor: u8) -> Result<Option<Event>, Memory>
         ensures may { IfOk result (λ found. IfSome found (λ e. MayActAt (state_of self.now) e.actor e.act)) }
         ensures finds { (p : Plan) → IsNetworkOf p (state_of self.now) → IfOk result (FindsEvent p (state_of self.now) actor) }
@@ -270,6 +251,7 @@ impl Network {
     }
 
     /// An actor makes the event, but a take, that it makes next where every way has room; nothing where it has none.
+    #[inline(always)]
     pub fn turn(&mut self, actor: u8) -> Result<Option<Event>, Memory>
         ensures finds { (p : Plan) → IsNetworkOf p (state_of self.old) → IfOk result (FindsEvent p (state_of self.old) actor) }
         ensures makes { (p : Plan) → IsNetworkOf p (state_of self.old) → IfOk result (λ made. MakesOne p (state_of self.old) made (state_of self.new)) }

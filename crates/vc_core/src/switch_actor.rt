@@ -67,6 +67,7 @@ impl SwitchActor {
     }
 
     /// A token comes over a link, with a word for a random header.
+    #[inline(always)]
     pub(crate) fn accept(&mut self, link: u8, came: Token, word: u32)
         requires { link < 32 }
         ensures { (plan : Plan) (k : ℕ) → IsActorOf plan k (OfSwitch self.old.switch) → MakesTake plan k (OfSwitch self.old.switch) link word (token came) (OfSwitch self.new.switch) }
@@ -75,6 +76,7 @@ impl SwitchActor {
     }
 
     /// Makes a step of its own: a token passes, or a packet is bound to an output. It takes no memory, so the answer is `Ok`.
+    #[inline(always)]
     pub(crate) fn make(&mut self, act: &Act) -> Result<(), Memory>
         requires may { SwitchMay self.old.switch act.now }
         requires own { IsOwn act.now }
@@ -92,6 +94,7 @@ impl SwitchActor {
     }
 
     /// Puts the next token of the packet that is bound to an output.
+    #[inline(always)]
     pub(crate) fn put(&mut self, link: u8) -> Token
         requires { SwitchMay self.old.switch (Act.Put link) }
         ensures { (plan : Plan) (k : ℕ) → IsActorOf plan k (OfSwitch self.old.switch) → MakesPut plan k (OfSwitch self.old.switch) link (token result) (OfSwitch self.new.switch) }
@@ -100,6 +103,7 @@ impl SwitchActor {
     }
 
     /// Grants eight places of a link's buffer.
+    #[inline(always)]
     pub(crate) fn grant(&mut self, link: u8)
         requires { SwitchMay self.old.switch (Act.Fct link) }
         ensures { (plan : Plan) (k : ℕ) → IsActorOf plan k (OfSwitch self.old.switch) → MakesGrant plan k (OfSwitch self.old.switch) link (OfSwitch self.new.switch) }
@@ -110,6 +114,7 @@ impl SwitchActor {
     /// What the switch does next, if it has a step to make where its links have this room: a token passes, by the least link; a
     /// packet is bound, the least input's to the least output; a token is put, by the least link with room; a flow control token
     /// is put, by the least link with room.
+    #[inline(always)]
     pub(crate) fn next(&self, room: u32) -> Option<Act>
         ensures may { IfSome result (λ a. SwitchMay self.now.switch a) }
         ensures finds { (plan : Plan) (k : ℕ) → FindsTurn plan k (OfSwitch self.now.switch) room result }

@@ -47,6 +47,7 @@ impl Way {
     }
 
     /// The front token is taken off, if there is one.
+    #[inline(always)]
     pub(crate) fn take(&mut self) -> Option<Token>
         ensures { MatchOption result ((self.old ≡ []) × (self.new ≡ [])) (λ k. self.old ≡ token k ∷ self.new) }
     {
@@ -61,6 +62,7 @@ impl Way {
     }
 
     /// A token more comes to the end.
+    #[inline(always)]
     pub(crate) fn push(&mut self, more: Token) -> Result<(), Memory>
         ensures ok { OnOk result (self.new ≡ self.old ++ token more ∷ []) }
         ensures err { OnErr result (self.new ≡ self.old) }
@@ -70,6 +72,7 @@ impl Way {
     }
 
     /// The next token that an actor puts on a link comes to the end.
+    #[inline(always)]
     pub(crate) fn put(&mut self, from: &mut Actor, link: u8) -> Result<(), Memory>
         requires { MayAct from.old (act.Put link) }
         ensures ok { OnOk result (PutsAt from.old link self.old from.new self.new) }

@@ -121,6 +121,7 @@ impl ReadySwitch {
     }
 
     /// A token comes over a link, with a word for a random header.
+    #[inline(always)]
     pub fn take(&mut self, link: u8, came: Token, word: u32) -> Result<(), Memory>
         requires { link < 32 }
         ensures comes { Comes (seen self.old) link word (token came) (seen self.new) }
@@ -133,6 +134,7 @@ impl ReadySwitch {
     }
 
     /// A token passes from a link's buffer.
+    #[inline(always)]
     pub fn pass(&mut self, link: u8) -> Result<(), Memory>
         requires link { link < 32 }
         requires may { CanPass (limit_of self.old.inputs) (plan_of self.old) (seen self.old) link }
@@ -160,6 +162,7 @@ impl ReadySwitch {
 
     /// Puts the next token of the packet that is bound to an output; with its mark the packet leaves its input, and the output is
     /// free again.
+    #[inline(always)]
     pub fn put(&mut self, output: u8) -> Token
         requires output { output < 32 }
         requires may { CanPut (plan_of self.old) (seen self.old) output }

@@ -1,8 +1,8 @@
 -- What is known of quiet actors stays so.
 use Rattle.std.proofs.Common.{◌≡◌, ◌≢◌, ◌<◌, ◌≤◌, ◌+◌, ◌-◌, ◌/◌, ◌%◌, ◌^◌, ℕ, zero, suc, bit_or, MatchOption, Option, Some, None, inl, inr, sym, ap, ◌∙◌, subst, arith}
-use Rattle.std.proofs.lemmas.Bool.{cases_eq}
+use Rattle.std.proofs.lemmas.Bool.{cases_eq, cases_lt}
 use Rattle.std.proofs.lemmas.Nat.Bits.{bit_at-zero, bit_at-trailing_zeros, bit_at_or}
-use Rattle.std.proofs.Math.Nat.{div-div-eq-div-mul}
+use Rattle.std.proofs.Math.Nat.{div-div-eq-div-mul, div-eq_of_lt, pow-le-pow_right}
 use Rattle.std.proofs.lemmas.Nat.{pow-add}
 use Rattle.std.specs.Int.{bit_at, trailing_zeros, w64}
 use Rattle.vc_plan.specs.declared.plan.Plan.{Plan}
@@ -70,3 +70,24 @@ shifted mask from k past =
 
 pub none_from : (mask from k : ℕ) → mask / 2 ^ from < 2 ^ 64 → from ≤ k → k < from + trailing_zeros w64 (mask / 2 ^ from) → bit_at mask k ≡ 0
 none_from mask from k fits past less = sym (shifted mask from k past) ∙ low_zero (mask / 2 ^ from) (k - from) fits (omega arith)
+
+-- behind the highest set bit none is set
+pub none_past : (mask from k : ℕ) → mask / 2 ^ from ≡ 0 → from ≤ k → bit_at mask k ≡ 0
+none_past mask from k none past = sym (shifted mask from k past) ∙ ap (λ x. bit_at x (k - from)) none ∙ bit_at-zero (k - from)
+
+-- no bit stands past the width
+past_width : (mask k : ℕ) → mask < 2 ^ 64 → 64 ≤ k → bit_at mask k ≡ 0
+past_width mask k fits past = ap (λ x. x % 2) (div-eq_of_lt (let more = pow-le-pow_right {n = 2} (omega arith) {i = 64} {j = k} past in omega (arith, fits, more)))
+
+behind : (a b : ℕ) → a + b - a ≡ b
+behind a b = omega arith
+
+-- the least set bit from one on is one of the 64
+pub low_place : (mask from : ℕ) → mask / 2 ^ from < 2 ^ 64 → mask < 2 ^ 64 → (mask / 2 ^ from ≡ 0 → ⊥) → from + trailing_zeros w64 (mask / 2 ^ from) < 64
+low_place mask from small fits some =
+    let t : ℕ = trailing_zeros w64 (mask / 2 ^ from) in
+    let set = (bit_at-trailing_zeros w64 (mask / 2 ^ from) (omega (arith, some)) small).1 in
+    elim (cases_lt (from + t) 64) [
+      | inl less ↦ less
+      | inr past ↦ absurd (let none = sym (ap (λ x. bit_at (mask / 2 ^ from) x) (behind from t)) ∙ shifted mask from (from + t) (omega arith) ∙ past_width mask (from + t) fits past in omega (arith, set, none))
+    ]

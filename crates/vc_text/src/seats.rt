@@ -75,10 +75,9 @@ fn lowest_from(mask: u64, from: u8) -> Option<u8>
     if from == 64 {
         return None;
     }
-    let above = (mask >> from).trailing_zeros() as u8;
-    if above < 64 - from {
-        Some(from + above)
-    } else {
-        None
+    let left = mask >> from;
+    if left == 0 {
+        return None;
     }
+    Some(from + left.trailing_zeros() as u8)
 }

@@ -267,6 +267,7 @@ impl Vcp {
     }
 
     /// Puts the next token of the packet at the front of a link's send queue; with its mark the packet leaves the queue.
+    #[inline(always)]
     pub fn put(&mut self, link: u8) -> Token
         requires { MayPut self.old link }
         ensures sends { Sends (seen self.old) link (token result) (seen self.new) }
@@ -294,6 +295,7 @@ impl Vcp {
     }
 
     /// A token comes over a link: an FCT is credit, all else goes to the buffer. It is dropped and counted where it is not due.
+    #[inline(always)]
     pub fn accept(&mut self, link: u8, came: Token)
         requires { link < 4 }
         ensures comes { Comes (seen self.old) link (token came) (seen self.new) }
@@ -336,6 +338,7 @@ impl Vcp {
 
     /// A token passes from a link's buffer: a byte joins the packet that is arriving, or is dropped and counted past the limit, and
     /// with its mark the packet reaches its half. Only a mark may find no memory. Where no token waits, nothing changes.
+    #[inline(always)]
     pub fn pass(&mut self, link: u8) -> Result<Option<Taken>, Memory>
         requires { link < 4 }
         ensures passes { HaveOwnNames self.old.outputs self.old.inputs → ((seen self.old).link link).receiver.buffer ≢ [] → IfOk result (λ t. Passes (limit_of self.old.ins) (ends_of self.old) (seen self.old) link (passed_of t) (seen self.new)) }
