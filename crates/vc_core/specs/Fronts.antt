@@ -6,9 +6,14 @@ use Rattle.std.specs.Int.{bit_at}
 abbrev pub bit_of : List ℕ → ℕ → ℕ → ℕ
 bit_of links k link = bit_at (get_or links k 0) link
 
--- each of the first 64 actors that has a bit has one here
-abbrev pub AreAwake : List ℕ → ℕ → Type 0
-AreAwake links awake = (k link : ℕ) → k < 64 → link < 32 → bit_of links k link ≡ 1 → bit_at awake k ≡ 1
+-- the actor has a bit
+abbrev pub HasBit : List ℕ → ℕ → Type 0
+HasBit links k = (link : ℕ) × (link < 32) × (bit_of links k link ≡ 1)
+
+-- of the first 64 actors those have a bit here that have one of their own, and no others
+pub record AreAwake (links : List ℕ) (awake : ℕ) : Type 0 where
+  pub told : (k link : ℕ) → k < 64 → link < 32 → bit_of links k link ≡ 1 → bit_at awake k ≡ 1
+  pub only : (k : ℕ) → k < 64 → bit_at awake k ≡ 1 → HasBit links k
 
 -- one bit is b now, and the others are as they were
 pub record Marked (old : List ℕ) (actor link b : ℕ) (new : List ℕ) : Type 0 where

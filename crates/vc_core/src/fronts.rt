@@ -1,7 +1,7 @@
 //! By which links of which actors tokens come, as bits.
 ghost use Rattle.std.specs.Prelude.{◌≡◌, ◌<◌, ℕ, IfOk, length, get_or};
 ghost use Rattle.std.specs.Int.{bit_at};
-ghost use Rattle.vc_core.specs.Fronts.{Marked};
+ghost use Rattle.vc_core.specs.Fronts.{HasBit, Marked};
 
 use crate::room::without;
 use std::alloc::Global;
@@ -49,7 +49,8 @@ impl Fronts {
 
     /// A bit for each of the first 64 actors to which a token comes.
     pub(crate) fn awake(&self) -> u64
-        ensures { (k l : ℕ) → k < 64 → l < 32 → bit_at (get_or self.now k 0) l ≡ 1 → bit_at result k ≡ 1 }
+        ensures told { (k l : ℕ) → k < 64 → l < 32 → bit_at (get_or self.now k 0) l ≡ 1 → bit_at result k ≡ 1 }
+        ensures only { (k : ℕ) → k < 64 → bit_at result k ≡ 1 → HasBit self.now k }
     {
         self.awake
     }

@@ -90,7 +90,8 @@ impl Lines {
 
     /// A bit for each of the first 64 actors to which a token comes.
     pub(crate) fn awake(&self) -> u64
-        ensures { (actor link : ℕ) → actor < 64 → Comes self.now.wiring self.now.ways actor link → bit_at result actor ≡ 1 }
+        ensures told { (actor link : ℕ) → actor < 64 → Comes self.now.wiring self.now.ways actor link → bit_at result actor ≡ 1 }
+        ensures only { (actor : ℕ) → actor < 64 → bit_at result actor ≡ 1 → (link : ℕ) × Comes self.now.wiring self.now.ways actor link }
     {
         self.fronts.awake()
     }

@@ -228,9 +228,10 @@ impl Network {
         lowest(self.lines.fronts(actor), LINKS)
     }
 
-    /// A mask that has a bit for each of the first 64 actors to which a token comes; it may have more.
+    /// A mask that has a bit for each of the first 64 actors to which a token comes, and no other.
     pub fn awake(&self) -> u64
-        ensures { (actor link : ℕ) → actor < 64 → HasFront (state_of self.now) actor link → bit_at result actor ≡ 1 }
+        ensures told { (actor link : ℕ) → actor < 64 → HasFront (state_of self.now) actor link → bit_at result actor ≡ 1 }
+        ensures only { (actor : ℕ) → actor < 64 → bit_at result actor ≡ 1 → (link : ℕ) × HasFront (state_of self.now) actor link }
     {
         self.lines.awake()
     }

@@ -39,7 +39,8 @@ impl Seats {
 
     /// From now on an actor is known to have no event but takes.
     pub(crate) fn rest(&mut self, actor: u8)
-        ensures { (k : ℕ) → k < 64 → k ≢ actor → active_at self.new k ≡ active_at self.old k }
+        ensures it { actor < 64 → active_at self.new actor ≡ 0 }
+        ensures others { (k : ℕ) → k < 64 → k ≢ actor → active_at self.new k ≡ active_at self.old k }
     {
         if actor < 64 {
             self.active &= !(1u64 << actor);

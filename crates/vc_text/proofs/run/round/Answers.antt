@@ -30,7 +30,7 @@ loop-preserved c =
             | inl sooner ↦ inv.rests p r q b.0 k sooner node
             | inr later ↦ elim (cases_lt k c.in-Some.actor) [
               | inl idle ↦ subst (λ z. Rests p z k) (inv.same p r q b.0)
-                  (idle_rests p (state_of c.loop.network) c.loop.seats c.awake.result k (inv.reached p r).is (inv.quiet p r q) (λ l f. c.awake.ensures k l (let s = next.1 in omega arith) f) (let s = next.1 in omega arith) (next.2 k later idle))
+                  (idle_rests p (state_of c.loop.network) c.loop.seats c.awake.result k (inv.reached p r).is (inv.quiet p r q) (λ l f. c.awake.ensures.told k l (let s = next.1 in omega arith) f) (let s = next.1 in omega arith) (next.2 k later idle))
               | inr here ↦ (let at : c.in-Some.actor ≡ k = omega arith in
                   let rest = n.rests p (inv.reached p r) (subst (λ z. z < actors p) (sym at) node) (ap Ok b.1) in
                   subst (λ z. Rests p (state_of c.args.network.now) z) at (subst (λ z. Rests p z c.in-Some.actor) (inv.same p r q b.0) rest))
@@ -50,7 +50,7 @@ returns-in_default-clause-rests c = λ p r q e.
       | inl sooner ↦ inv.rests p r q none k sooner less
       | inr later ↦ (let low : k < 64 = omega arith in
           subst (λ z. Rests p z k) (inv.same p r q none)
-          (idle_rests p (state_of c.loop.network) c.loop.seats c.awake.result k (inv.reached p r).is (inv.quiet p r q) (λ l f. c.awake.ensures k l low f) low (c.in_default.ensures k later low)))
+          (idle_rests p (state_of c.loop.network) c.loop.seats c.awake.result k (inv.reached p r).is (inv.quiet p r q) (λ l f. c.awake.ensures.told k l low f) low (c.in_default.ensures k later low)))
     ]))
 
 pub returns-clause-rests : goal.returns-clause-rests

@@ -17,4 +17,4 @@ returns-in_default-clause-quiet c = λ p is quiet.
     let s = state_of c.args.network.now in
     let t = state_of c.turn.new.self in
     let same = subst (λ o. MakesOne p s o t) c.in_default.is (c.in_ok-event.ensures.makes p is) in
-    subst (λ z. AreQuiet p z c.rest.new.self) (sym same) (one_quiet p s c.args.seats.now c.rest.new.self c.args.actor c.rest.ensures (subst (FindsEvent p s c.args.actor) c.in_default.is (c.in_ok-event.ensures.finds p is)) quiet)
+    subst (λ z. AreQuiet p z c.rest.new.self) (sym same) (one_quiet p s c.args.seats.now c.rest.new.self c.args.actor c.rest.ensures.others (subst (FindsEvent p s c.args.actor) c.in_default.is (c.in_ok-event.ensures.finds p is)) quiet)
