@@ -107,12 +107,27 @@ impl Network {
         ensures refused { OnErr result (state_of self.new ≡ state_of self.old) }
         ensures not_enabled { (p : Plan) → IsNetworkOf p (state_of self.old) → MatchResult result (λ _. CanHappen p (state_of self.old) event.now) (λ why. why ≡ StepRefused.NotEnabled ↔ (CanHappen p (state_of self.old) event.now → ⊥)) }
     {
+        if let Act::Take { link, word } = event.act {
+            return self.take_only(event.actor, link, word);
+        }
         if self.enabled(event) {
             self.make(event)?;
             Ok(())
         } else {
             Err(StepRefused::NotEnabled)
         }
+    }
+
+    // A token is taken, if one can be.
+    fn take_only(&mut self, actor: u8, link: u8, word: u32) -> Result<(), StepRefused>
+        ensures makes { (p : Plan) → IsNetworkOf p (state_of self.old) → OnOk result (MakesEvent p (state_of self.old) (record { actor = actor; act = Act.Take link word }) (state_of self.new)) }
+        ensures refused { OnErr result (state_of self.new ≡ state_of self.old) }
+        ensures not_enabled { (p : Plan) → IsNetworkOf p (state_of self.old) → MatchResult result (λ _. CanHappen p (state_of self.old) (record { actor = actor; act = Act.Take link word })) (λ why. why ≡ StepRefused.NotEnabled ↔ (CanHappen p (state_of self.old) (record { actor = actor; act = Act.Take link word }) → ⊥)) }
+    {
+        if !self.take(actor, link, word) {
+            return Err(StepRefused::NotEnabled);
+        }
+        Ok(())
     }
 
     // Makes an event that its actor can make, and its ways let it.
