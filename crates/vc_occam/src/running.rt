@@ -14,6 +14,7 @@ use crate::datum::Datum;
 use crate::deed::Deed;
 use crate::frame::Frame;
 use crate::framing::begin_frame;
+use crate::hints::Hints;
 use crate::meeting::{clear, is_outside, partner, push_all_joined};
 use crate::moves::Move;
 use crate::process::Process;
@@ -32,6 +33,7 @@ pub struct Running {
     frame: Frame,
     vars: Vec<Datum>,
     inside: Items<u16>,
+    hints: Hints,
     ghost has_variables: { HasVariables (view frame).0 (length vars.items) },
     ghost in_preorder: { InPreorder (view frame).0 } by { InPreorder-prop (view frame).0 },
     ghost own_sites: { OwnSites (view frame).1 } by { OwnSites-prop (view frame).1 },
@@ -125,7 +127,7 @@ impl Running {
     ghost use Rattle.std.specs.Prelude.{◌≡◌, ◌≤◌, ◌↔◌, ◌++◌, [], IsTrue, IfOk, OnOk, OnErr, MatchOption, Some, None, true, ℕ};
     ghost use Rattle.std.specs.List.{Contains};
     ghost use Rattle.vc_occam.specs.First.{own};
-    ghost use Rattle.vc_occam.specs.Frames.{assigned_at};
+    ghost use Rattle.vc_occam.specs.Frames.{assigned_at, waits_at};
     ghost use Rattle.vc_occam.specs.Moving.{CanMeet};
     ghost use Rattle.vc_occam.specs.declared.answer.Answer.{Answer};
     ghost use Rattle.vc_occam.specs.declared.deed.Deed.TheVariants.{Quiet};
@@ -162,6 +164,7 @@ impl Running {
             frame,
             vars,
             inside,
+            hints: Hints::new(),
         })
     }
 
@@ -292,6 +295,7 @@ impl Running {
             assigned,
         };
         self.frame.go(&mut doing, &mut self.vars);
+        self.hints.note(made);
         Ok(())
     }
 
@@ -321,12 +325,22 @@ impl Running {
         self.frame.go(&mut doing, &mut self.vars);
     }
 
+    /// A site that waits for this, if one does; it is looked for first at the hint.
+    fn waits_on(&self, hint: u16, wanted: Waits) -> Option<u16>
+        ensures { MatchOption result ((i : ℕ) → Contains (waiting (view self.now.frame).1) (waits_at wanted i) → ⊥) (λ i. Contains (waiting (view self.now.frame).1) (waits_at wanted i)) }
+    {
+        match self.frame.find(hint).waits_on(wanted) {
+            Some(site) => Some(site),
+            None => self.frame.waits_on(wanted),
+        }
+    }
+
     /// The site whose output on the channel waits to be finished, if there is one.
     #[tactic(auto, unfolding(crate::specs::Runnings::state))]
     pub fn output_on(&self, chan: u16) -> Option<u16>
         ensures { MatchOption result ((i : ℕ) → Contains (waiting (state self.now).rest) (output i chan) → ⊥) (λ i. Contains (waiting (state self.now).rest) (output i chan)) }
     {
-        self.frame.waits_on(Waits::Output { chan })
+        self.waits_on(self.hints.output_on(chan), Waits::Output { chan })
     }
 
     /// The site whose input on the channel waits for a message, if there is one.
@@ -334,7 +348,7 @@ impl Running {
     pub fn input_on(&self, chan: u16) -> Option<u16>
         ensures { MatchOption result ((i : ℕ) → Contains (waiting (state self.now).rest) (input i chan) → ⊥) (λ i. Contains (waiting (state self.now).rest) (input i chan)) }
     {
-        self.frame.waits_on(Waits::Input { chan })
+        self.waits_on(self.hints.input_on(chan), Waits::Input { chan })
     }
 
     /// Whether nothing remains.
