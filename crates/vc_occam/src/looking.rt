@@ -4,7 +4,7 @@ ghost use Rattle.std.specs.List.{Contains};
 ghost use Rattle.vc_occam.specs.declared.frame.Frame.TheViews.{out-Frame};
 ghost use Rattle.vc_occam.specs.First.{own};
 ghost use Rattle.vc_occam.specs.Gates.{gate};
-ghost use Rattle.vc_occam.specs.Frames.{BeginsAt, HasSiteIn, View, assigned_at, awaiting, besides, chosen_at, first_waits, is_choice, listed, part_own, part_waits, place_with, plan_at, plans_of, view, views, waits_at};
+ghost use Rattle.vc_occam.specs.Frames.{BeginsAt, HasSiteIn, MovesAt, View, assigned_at, awaiting, besides, chosen_at, first_waits, is_choice, listed, part_own, part_waits, place_with, plan_at, plans_of, view, views, waits_at};
 ghost use Rattle.vc_occam.specs.Remains.{Fresh};
 ghost use Rattle.vc_occam.specs.Sites.{InPreorder, PartsInPreorder};
 ghost use Rattle.vc_occam.specs.States.{Waiting, carried, output_at, waiting};
@@ -15,7 +15,7 @@ use crate::datum::Datum;
 use crate::frame::Frame;
 use crate::guarded::GuardedInput;
 use crate::kind::Kind;
-use crate::moves::Move;
+use crate::moves::{Move, site_of};
 use crate::phase::Phase;
 use crate::waits::Waits;
 use sqlite_items::Items;
@@ -81,33 +81,14 @@ impl Frame {
     }
 
     /// Whether the move is one that it can begin with.
-    #[cycle(begins)]
     pub(crate) fn begins_with(&self, made: &Move, vars: &[Datum]) -> bool
+        requires { InPreorder (view self.now).0 }
         ensures { IsTrue result ↔ Contains (own (view self.now).1 (store vars.now)) made.now }
     {
-        match self.phase {
-            Phase::Ready => ready_begins(made, self.site, &self.kind, &self.parts, vars),
-            Phase::Waiting => {
-                if self.kind.has_parts() {
-                    return part_begins(made, &self.parts, self.kind.place(self.at), vars);
-                }
-                false
-            }
-            Phase::Turning { .. } => {
-                if self.kind.is_counted() {
-                    return part_begins(made, &self.parts, 0, vars);
-                }
-                false
-            }
-            Phase::Together => {
-                if self.kind.is_par() {
-                    return parts_begin(made, &self.parts, vars);
-                }
-                false
-            }
-            Phase::Chosen => false,
-            Phase::Ended => false,
-            Phase::Stuck => false,
+        let frame = self.find(site_of(made));
+        match frame.phase {
+            Phase::Ready => ready_begins(made, frame.site, &frame.kind, &frame.parts, vars),
+            _ => false,
         }
     }
 
@@ -154,6 +135,7 @@ impl Frame {
     pub(crate) fn find(&self, site: u16) -> &Frame
         requires { InPreorder (view self.now).0 }
         ensures begins { BeginsAt (out-Frame result.now).phase (view result.now).0 site (view self.now).1 }
+        ensures moves { MovesAt (out-Frame result.now).phase (view result.now).0 site (view self.now).1 }
         ensures waits { (w : Waiting) → Contains (waiting (view result.now).1) w → Contains (waiting (view self.now).1) w }
     {
         match self.part_with_site(site) {
@@ -166,7 +148,7 @@ impl Frame {
     /// part goes on.
     fn part_with_site(&self, site: u16) -> Option<usize>
         requires { InPreorder (view self.now).0 }
-        ensures { MatchOption result (BeginsAt (out-Frame self.now).phase (view self.now).0 site (view self.now).1) (λ at. HasSiteIn site (views (out-Frame self.now).parts.items) at (view self.now).1) }
+        ensures { MatchOption result (BeginsAt (out-Frame self.now).phase (view self.now).0 site (view self.now).1 × MovesAt (out-Frame self.now).phase (view self.now).0 site (view self.now).1) (λ at. HasSiteIn site (views (out-Frame self.now).parts.items) at (view self.now).1) }
     {
         match self.phase {
             Phase::Waiting => {
@@ -319,29 +301,6 @@ fn part_rests(parts: &Vec<Frame>, at: usize) -> bool
         return parts[at].rests();
     }
     true
-}
-
-#[cycle(begins)]
-fn part_begins(made: &Move, parts: &Vec<Frame>, at: usize, vars: &[Datum]) -> bool
-    ensures { IsTrue result ↔ Contains (part_own (slice_get (views parts.now.items) at) (store vars.now)) made.now }
-{
-    if at < parts.len() {
-        return parts[at].begins_with(made, vars);
-    }
-    false
-}
-
-/// Whether the move is one that parts side by side can begin with.
-#[cycle(begins)]
-fn parts_begin(made: &Move, parts: &Vec<Frame>, vars: &[Datum]) -> bool
-    ensures { IsTrue result ↔ Contains (own (besides (views parts.now.items)) (store vars.now)) made.now }
-{
-    for place in 0..parts.len() {
-        if parts[place].begins_with(made, vars) {
-            return true;
-        }
-    }
-    false
 }
 
 #[cycle(waits)]

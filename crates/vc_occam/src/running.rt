@@ -16,7 +16,7 @@ use crate::frame::Frame;
 use crate::framing::begin_frame;
 use crate::hints::Hints;
 use crate::meeting::{clear, is_outside, partner, push_all_joined};
-use crate::moves::Move;
+use crate::moves::{Move, site_of};
 use crate::process::Process;
 use crate::site_deed::SiteDeed;
 use crate::value_kind::ValueKind;
@@ -68,20 +68,6 @@ fn deed_on(message: Option<Items<u8>>) -> Deed
     match message {
         Some(message) => Deed::Message(message),
         None => Deed::Finish,
-    }
-}
-
-/// The move's site; of an output that meets an input, the output's.
-fn site_of(made: &Move) -> u16
-    ensures { result ≡ its_site made.now }
-{
-    match made {
-        Move::Offer { site, .. } => *site,
-        Move::Want { site, .. } => *site,
-        Move::Choose { site, .. } => *site,
-        Move::Stopch { site, .. } => *site,
-        Move::Inner { sender, .. } => *sender,
-        Move::Quiet { site } => *site,
     }
 }
 

@@ -1,11 +1,12 @@
-use Rattle.std.proofs.Common.{◌≡◌, ◌∙◌, refl, sym, subst}
+use Rattle.std.proofs.Common.{◌≡◌, ◌∙◌, ap, refl, sym, subst}
 use Rattle.vc_occam.specs.declared.frame.Frame.TheViews.{out-Frame}
 use Rattle.vc_occam.specs.declared.phase.Phase.TheVariants as phase
 use Rattle.vc_occam.specs.Frames.{View, view, views}
-use Rattle.vc_occam.specs.Remains.{Done, Stopped}
+use Rattle.vc_occam.specs.Remains.{Done, Rest, Stopped}
+use Rattle.vc_occam.specs.First.{own}
 use Rattle.vc_occam.specs.Sites.{InPreorder}
-use Rattle.vc_occam.proofs.Frames.{awaiting_assigned, awaiting_output, idle_assigned, idle_output, is_awaiting, rest_apart, rest_ended, rest_idle, rest_stuck, turning_none, view_out}
-use Rattle.vc_occam.proofs.Found.{going_in, none_begins, placed, ready_begins, same_nothing, together_in, turning_in}
+use Rattle.vc_occam.proofs.Frames.{awaiting_assigned, awaiting_output, awaiting_own, idle_assigned, idle_output, idle_own, is_awaiting, rest_apart, rest_ended, rest_idle, rest_stuck, turning_none, view_out}
+use Rattle.vc_occam.proofs.Found.{going_in, placed, ready_begins, same_nothing, still, together_in, turning_in}
 use Rattle.vc_occam.proofs.Stepping.{body_preorder, par_preorder, parts_preorder, within_preorder}
 use Rattle.vc_occam.proofs.frame.Frame.part_with_site.Goals as goal
 
@@ -46,21 +47,21 @@ pub returns-else-has_parts : goal.returns-else-has_parts
 returns-else-has_parts c =
     let f = c.args.self.now in
     let idle = rest_idle f c.in-Waiting.is (sym c.has_parts.ensures ∙ c.if-has_parts.false) in
-    none_begins (out-Frame f).phase (view f).0 c.args.site (view f).1 (λ q. let z : phase.Waiting ≡ phase.Ready = sym c.in-Waiting.is ∙ q in cc) (λ e. (idle_output c.args.site e idle, idle_assigned c.args.site e idle))
+    still f c.args.site (λ q. let z : phase.Waiting ≡ phase.Ready = sym c.in-Waiting.is ∙ q in cc) (λ e. (idle_output c.args.site e idle, idle_assigned c.args.site e idle)) (λ e. idle_own e idle)
 
 pub returns-else-is_counted : goal.returns-else-is_counted
 returns-else-is_counted c =
     let f = c.args.self.now in
     let x = c.in-Turning.index in
     let y = c.in-Turning.last in
-    let still = turning_none f x y c.in-Turning.is (sym c.is_counted.ensures ∙ c.if-is_counted.false) in
-    none_begins (out-Frame f).phase (view f).0 c.args.site (view f).1 (λ q. let z : phase.Turning x y ≡ phase.Ready = sym c.in-Turning.is ∙ q in cc) (same_nothing c.args.site (view f).1 Stopped still (λ e. (refl, refl)))
+    let rest = turning_none f x y c.in-Turning.is (sym c.is_counted.ensures ∙ c.if-is_counted.false) in
+    still f c.args.site (λ q. let z : phase.Turning x y ≡ phase.Ready = sym c.in-Turning.is ∙ q in cc) (same_nothing c.args.site (view f).1 Stopped rest (λ e. (refl, refl))) (λ e. ap (λ (r : Rest). own r e) rest)
 
 pub returns-else-is_par : goal.returns-else-is_par
 returns-else-is_par c =
     let f = c.args.self.now in
-    let still = rest_apart f c.in-Together.is (sym c.is_par.ensures ∙ c.if-is_par.false) in
-    none_begins (out-Frame f).phase (view f).0 c.args.site (view f).1 (λ q. let z : phase.Together ≡ phase.Ready = sym c.in-Together.is ∙ q in cc) (same_nothing c.args.site (view f).1 Stopped still (λ e. (refl, refl)))
+    let rest = rest_apart f c.in-Together.is (sym c.is_par.ensures ∙ c.if-is_par.false) in
+    still f c.args.site (λ q. let z : phase.Together ≡ phase.Ready = sym c.in-Together.is ∙ q in cc) (same_nothing c.args.site (view f).1 Stopped rest (λ e. (refl, refl))) (λ e. ap (λ (r : Rest). own r e) rest)
 
 pub returns-in-Ready : goal.returns-in-Ready
 returns-in-Ready c = ready_begins c.args.self.now c.args.site c.in-Ready.is
@@ -69,14 +70,14 @@ pub returns-in-Chosen : goal.returns-in-Chosen
 returns-in-Chosen c =
     let f = c.args.self.now in
     let awaits = is_awaiting f c.in-Chosen.is in
-    none_begins (out-Frame f).phase (view f).0 c.args.site (view f).1 (λ q. let z : phase.Chosen ≡ phase.Ready = sym c.in-Chosen.is ∙ q in cc) (λ e. (awaiting_output c.args.site e awaits, awaiting_assigned c.args.site e awaits))
+    still f c.args.site (λ q. let z : phase.Chosen ≡ phase.Ready = sym c.in-Chosen.is ∙ q in cc) (λ e. (awaiting_output c.args.site e awaits, awaiting_assigned c.args.site e awaits)) (λ e. awaiting_own e awaits)
 
 pub returns-in-Ended : goal.returns-in-Ended
 returns-in-Ended c =
     let f = c.args.self.now in
-    none_begins (out-Frame f).phase (view f).0 c.args.site (view f).1 (λ q. let z : phase.Ended ≡ phase.Ready = sym c.in-Ended.is ∙ q in cc) (same_nothing c.args.site (view f).1 Done (rest_ended f c.in-Ended.is) (λ e. (refl, refl)))
+    still f c.args.site (λ q. let z : phase.Ended ≡ phase.Ready = sym c.in-Ended.is ∙ q in cc) (same_nothing c.args.site (view f).1 Done (rest_ended f c.in-Ended.is) (λ e. (refl, refl))) (λ e. ap (λ (r : Rest). own r e) (rest_ended f c.in-Ended.is))
 
 pub returns-in-Stuck : goal.returns-in-Stuck
 returns-in-Stuck c =
     let f = c.args.self.now in
-    none_begins (out-Frame f).phase (view f).0 c.args.site (view f).1 (λ q. let z : phase.Stuck ≡ phase.Ready = sym c.in-Stuck.is ∙ q in cc) (same_nothing c.args.site (view f).1 Stopped (rest_stuck f c.in-Stuck.is) (λ e. (refl, refl)))
+    still f c.args.site (λ q. let z : phase.Stuck ≡ phase.Ready = sym c.in-Stuck.is ∙ q in cc) (same_nothing c.args.site (view f).1 Stopped (rest_stuck f c.in-Stuck.is) (λ e. (refl, refl))) (λ e. ap (λ (r : Rest). own r e) (rest_stuck f c.in-Stuck.is))
