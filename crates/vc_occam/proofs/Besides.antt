@@ -162,6 +162,9 @@ pushed_more fs k f e now later top l h g q =
     let rest = besides (views (drop (k + 1) fs)) in
     ap (λ ms. ms ++ own rest e) g ∙ append_assoc now (own (view f).1 e) (own rest e) ∙ ap (λ ms. now ++ ms) (sym (beside_own (changes (view f).0) (view f).1 rest e)) ∙ ap (λ r. now ++ own r e) (sym (drop_view k fs f l h)) ∙ q
 
+pub rested : (fs : List Frame) (k : ℕ) (f : Frame) (e : Store) (now top : List Move) → k < length fs → f ≡ get_or fs k f → own (view f).1 e ≡ [] → now ++ own (besides (views (drop k fs))) e ≡ top → now ++ own (besides (views (drop (k + 1) fs))) e ≡ top
+rested fs k f e now top l h none q = pushed_more fs k f e now now top l h (sym (append-nil now) ∙ ap (λ ms. now ++ ms) (sym none)) q
+
 pub pushed_all : (fs : List Frame) (k : ℕ) (e : Store) (now top : List Move) → length fs ≤ k → now ++ own (besides (views (drop k fs))) e ≡ top → now ≡ top
 pushed_all fs k e now top l q = sym (append-nil now) ∙ ap (λ r. now ++ own r e) (sym (drop_none k fs l)) ∙ q
 

@@ -8,6 +8,7 @@ pub mod Deep
 pub mod Doing
 pub mod Everywhere
 pub mod Fitting
+pub mod Found
 pub mod Frames
 pub mod Gates
 pub mod GoingOn

@@ -199,10 +199,10 @@ besides_sites (v ∷ vs) w k h = elim (either (doers v.1 k) (doers (besides vs) 
 ]
 
 -- a site from the next part's own on is not one of this part; one before it is not one of the later parts
-not_before : (v w : View) (vs : List View) (i : ℕ) → PartsInPreorder (plans_of (v ∷ w ∷ vs)) → site w.0 ≤ i → sites v.0 i ≡ false
+pub not_before : (v w : View) (vs : List View) (i : ℕ) → PartsInPreorder (plans_of (v ∷ w ∷ vs)) → site w.0 ≤ i → sites v.0 i ≡ false
 not_before v w vs i h l = not_true (sites v.0 i) (λ e. let z = h.0 i (site w.0) e (or_left (sites w.0 (site w.0)) (sites_all (plans_of vs) (site w.0)) (own_site w.0)) in omega arith)
 
-not_behind : (v w : View) (vs : List View) (i : ℕ) → PartsInPreorder (plans_of (v ∷ w ∷ vs)) → i < site w.0 → sites_all (plans_of (w ∷ vs)) i ≡ false
+pub not_behind : (v w : View) (vs : List View) (i : ℕ) → PartsInPreorder (plans_of (v ∷ w ∷ vs)) → i < site w.0 → sites_all (plans_of (w ∷ vs)) i ≡ false
 not_behind v w vs i h l = not_true (sites_all (plans_of (w ∷ vs)) i) (λ e.
     elim (either (sites w.0 i) (sites_all (plans_of vs) i) e) [
       | inl g ↦ let z = first_site w.0 i h.2.1 g in omega arith

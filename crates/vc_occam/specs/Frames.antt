@@ -1,5 +1,6 @@
 -- What the running code stands for: a tree of frames, each with the process that was written and what remains of it.
-use Rattle.std.specs.Prelude.{◌≡◌, ℕ, zero, suc, ℤ, pos, ◌+ℤ◌, ◌-ℤ◌, int_lt, Bool, true, false, not, ◌==◌, List, [], ◌∷◌, ◌++◌, ◌<◌, nat_le, map, drop, set, slice_get, Option, Some, None, if◌then◌else◌}
+use Rattle.std.specs.Prelude.{◌≡◌, ℕ, zero, suc, ℤ, pos, ◌+ℤ◌, ◌-ℤ◌, int_lt, Bool, true, false, not, ◌==◌, List, [], ◌∷◌, ◌<◌, ◌↔◌, nat_le, map, drop, length, set, slice_get, Option, Some, None, if◌then◌else◌}
+use Rattle.std.specs.List.{Contains}
 use lib.Signed.{mag}
 use Rattle.vc_occam.specs.declared.kind.Kind.{Kind}
 use Rattle.vc_occam.specs.declared.kind.Kind.TheVariants as kind
@@ -24,6 +25,7 @@ use Rattle.vc_occam.specs.Sites.{InPreorder, site}
 use Rattle.vc_occam.specs.States.{Waiting, output, input, waiting, output_at, or_else}
 use Rattle.vc_occam.specs.First.{own}
 use Rattle.vc_occam.specs.Gates.{Gate, gate}
+use Rattle.vc_occam.specs.Moving.{site_of}
 
 -- a process that was written, and what remains of it
 abbrev pub View : Type 0
@@ -352,3 +354,23 @@ PartInPreorder (Some v) = InPreorder v.0
 -- only the k-th part has changed
 abbrev pub ChangedAt : ℕ → List View → List View → Type 0
 ChangedAt k vs ws = (w : View) × (ws ≡ set vs k w)
+
+-- what begins at a site is what a process that is so far outputs or assigns there, before it has begun, and else nothing
+abbrev pub BeginsAt : Phase → Proc → ℕ → Rest → Type 0
+BeginsAt phase.Ready p i r = (e : Store) → (output_at i r e ≡ output_at i (Fresh p) e) × (assigned_at i r e ≡ assigned_at i (Fresh p) e)
+BeginsAt ph p i r = (e : Store) → (output_at i r e ≡ None) × (assigned_at i r e ≡ None)
+
+-- so are the moves of a site
+abbrev pub MovesAt : Phase → Proc → ℕ → Rest → Type 0
+MovesAt phase.Ready p i r = (m : Move) (e : Store) → site_of m ≡ i → Contains (own r e) m ↔ Contains (own (Fresh p) e) m
+MovesAt ph p i r = (m : Move) (e : Store) → site_of m ≡ i → Contains (own r e) m → ⊥
+
+-- what begins at a site begins in this part, and what this part waits for is waited for
+abbrev pub GoesOnIn : ℕ → Option View → Rest → Type 0
+GoesOnIn i o r =
+    ((e : Store) → (output_at i r e ≡ part_output i o e) × (assigned_at i r e ≡ part_assigned i o e))
+    × ((m : Move) (e : Store) → site_of m ≡ i → Contains (own r e) m ↔ Contains (part_own o e) m) × ((w : Waiting) → Contains (part_waits o) w → Contains (waiting r) w)
+
+-- the k-th part is there, and a site is in it
+abbrev pub HasSiteIn : ℕ → List View → ℕ → Rest → Type 0
+HasSiteIn i vs k r = (k < length vs) × PartInPreorder (slice_get vs k) × GoesOnIn i (slice_get vs k) r

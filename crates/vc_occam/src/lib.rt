@@ -40,6 +40,7 @@ mod frame;
 mod framing;
 mod going;
 mod guarded;
+mod hints;
 mod kind;
 mod laws;
 mod limits;

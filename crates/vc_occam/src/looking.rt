@@ -1,19 +1,21 @@
 //! What frames may begin with, wait for, output and assign.
-ghost use Rattle.std.specs.Prelude.{◌≡◌, ◌↔◌, ◌++◌, ◌∷◌, [], IfOk, IsTrue, List, OnOk, Option, false, map, slice_get};
+ghost use Rattle.std.specs.Prelude.{◌≡◌, ◌<◌, ◌↔◌, ◌++◌, ◌∷◌, [], IfOk, IsTrue, List, MatchOption, None, OnOk, Option, false, length, map, slice_get};
 ghost use Rattle.std.specs.List.{Contains};
+ghost use Rattle.vc_occam.specs.declared.frame.Frame.TheViews.{out-Frame};
 ghost use Rattle.vc_occam.specs.First.{own};
 ghost use Rattle.vc_occam.specs.Gates.{gate};
-ghost use Rattle.vc_occam.specs.Frames.{PartInPreorder, View, assigned_at, awaiting, besides, chosen_at, first_waits, is_choice, listed, part_assigned, part_output, part_own, part_waits, place_with, plan_at, plans_of, view, views, waits_at};
+ghost use Rattle.vc_occam.specs.Frames.{BeginsAt, HasSiteIn, MovesAt, View, assigned_at, awaiting, besides, chosen_at, first_waits, is_choice, listed, part_own, part_waits, place_with, plan_at, plans_of, view, views, waits_at};
 ghost use Rattle.vc_occam.specs.Remains.{Fresh};
 ghost use Rattle.vc_occam.specs.Sites.{InPreorder, PartsInPreorder};
-ghost use Rattle.vc_occam.specs.States.{carried, output_at, waiting};
+ghost use Rattle.vc_occam.specs.States.{Waiting, carried, output_at, waiting};
 ghost use Rattle.vc_occam.specs.Terms.{store};
+ghost use Rattle.vc_occam.specs.Values.{Store};
 
 use crate::datum::Datum;
 use crate::frame::Frame;
 use crate::guarded::GuardedInput;
 use crate::kind::Kind;
-use crate::moves::Move;
+use crate::moves::{Move, site_of};
 use crate::phase::Phase;
 use crate::waits::Waits;
 use sqlite_items::Items;
@@ -52,34 +54,41 @@ impl Frame {
         }
     }
 
-    /// Whether the move is one that it can begin with.
-    #[cycle(begins)]
-    pub(crate) fn begins_with(&self, made: &Move, vars: &[Datum]) -> bool
-        ensures { IsTrue result ↔ Contains (own (view self.now).1 (store vars.now)) made.now }
+    /// Whether it begins with nothing, since it waits, has ended or never goes on. Where this is false it may begin.
+    #[cycle(rests)]
+    fn rests(&self) -> bool
+        ensures { IsTrue result → (e : Store) → own (view self.now).1 e ≡ [] }
     {
         match self.phase {
-            Phase::Ready => ready_begins(made, self.site, &self.kind, &self.parts, vars),
+            Phase::Ready => false,
             Phase::Waiting => {
                 if self.kind.has_parts() {
-                    return part_begins(made, &self.parts, self.kind.place(self.at), vars);
+                    return part_rests(&self.parts, self.kind.place(self.at));
                 }
-                false
+                true
             }
             Phase::Turning { .. } => {
                 if self.kind.is_counted() {
-                    return part_begins(made, &self.parts, 0, vars);
+                    return part_rests(&self.parts, 0);
                 }
-                false
+                true
             }
-            Phase::Together => {
-                if self.kind.is_par() {
-                    return parts_begin(made, &self.parts, vars);
-                }
-                false
-            }
-            Phase::Chosen => false,
-            Phase::Ended => false,
-            Phase::Stuck => false,
+            Phase::Together => false,
+            Phase::Chosen => true,
+            Phase::Ended => true,
+            Phase::Stuck => true,
+        }
+    }
+
+    /// Whether the move is one that it can begin with.
+    pub(crate) fn begins_with(&self, made: &Move, vars: &[Datum]) -> bool
+        requires { InPreorder (view self.now).0 }
+        ensures { IsTrue result ↔ Contains (own (view self.now).1 (store vars.now)) made.now }
+    {
+        let frame = self.find(site_of(made));
+        match frame.phase {
+            Phase::Ready => ready_begins(made, frame.site, &frame.kind, &frame.parts, vars),
+            _ => false,
         }
     }
 
@@ -122,8 +131,52 @@ impl Frame {
         }
     }
 
+    /// The frame that a site is at: this one, or one within it, down the parts that go on.
+    pub(crate) fn find(&self, site: u16) -> &Frame
+        requires { InPreorder (view self.now).0 }
+        ensures begins { BeginsAt (out-Frame result.now).phase (view result.now).0 site (view self.now).1 }
+        ensures moves { MovesAt (out-Frame result.now).phase (view result.now).0 site (view self.now).1 }
+        ensures waits { (w : Waiting) → Contains (waiting (view result.now).1) w → Contains (waiting (view self.now).1) w }
+    {
+        match self.part_with_site(site) {
+            Some(at) => self.parts[at].find(site),
+            None => self,
+        }
+    }
+
+    /// The place of the part that a site is in: of the one that goes on, and in a PAR of the one that has the site. None where no
+    /// part goes on.
+    fn part_with_site(&self, site: u16) -> Option<usize>
+        requires { InPreorder (view self.now).0 }
+        ensures { MatchOption result (BeginsAt (out-Frame self.now).phase (view self.now).0 site (view self.now).1 × MovesAt (out-Frame self.now).phase (view self.now).0 site (view self.now).1) (λ at. HasSiteIn site (views (out-Frame self.now).parts.items) at (view self.now).1) }
+    {
+        match self.phase {
+            Phase::Waiting => {
+                if self.kind.has_parts() {
+                    return place_among(&self.parts, self.kind.place(self.at));
+                }
+                None
+            }
+            Phase::Turning { .. } => {
+                if self.kind.is_counted() {
+                    return place_among(&self.parts, 0);
+                }
+                None
+            }
+            Phase::Together => {
+                if self.kind.is_par() {
+                    return place_among(&self.parts, part_with(&self.parts, site));
+                }
+                None
+            }
+            Phase::Ready => None,
+            Phase::Chosen => None,
+            Phase::Ended => None,
+            Phase::Stuck => None,
+        }
+    }
+
     /// The message of the output that can begin at a site, if there is one.
-    #[cycle(message)]
     pub(crate) fn message(
         &self,
         alloc: Global,
@@ -133,35 +186,14 @@ impl Frame {
         requires { InPreorder (view self.now).0 }
         ensures { IfOk result (λ sent. sent ≡ carried (output_at site (view self.now).1 (store vars.now))) }
     {
-        match self.phase {
-            Phase::Ready => ready_message(alloc, self.site, &self.kind, &self.parts, site, vars),
-            Phase::Waiting => {
-                if self.kind.has_parts() {
-                    return part_message(alloc, &self.parts, self.kind.place(self.at), site, vars);
-                }
-                Ok(None)
-            }
-            Phase::Turning { .. } => {
-                if self.kind.is_counted() {
-                    return part_message(alloc, &self.parts, 0, site, vars);
-                }
-                Ok(None)
-            }
-            Phase::Together => {
-                if self.kind.is_par() {
-                    let at = part_with(&self.parts, site);
-                    return part_message(alloc, &self.parts, at, site, vars);
-                }
-                Ok(None)
-            }
-            Phase::Chosen => Ok(None),
-            Phase::Ended => Ok(None),
-            Phase::Stuck => Ok(None),
+        let frame = self.find(site);
+        match frame.phase {
+            Phase::Ready => ready_message(alloc, frame.site, &frame.kind, &frame.parts, site, vars),
+            _ => Ok(None),
         }
     }
 
     /// The value that the assignment at a site is about to assign; None where it is a fault, or none begins there.
-    #[cycle(assigned)]
     pub(crate) fn assigned(
         &self,
         alloc: Global,
@@ -171,38 +203,29 @@ impl Frame {
         requires { InPreorder (view self.now).0 }
         ensures { IfOk result (λ value. value ≡ assigned_at site (view self.now).1 (store vars.now)) }
     {
-        match self.phase {
-            Phase::Ready => ready_assigned(alloc, self.site, &self.kind, &self.parts, site, vars),
-            Phase::Waiting => {
-                if self.kind.has_parts() {
-                    return part_assigned_in(
-                        alloc,
-                        &self.parts,
-                        self.kind.place(self.at),
-                        site,
-                        vars,
-                    );
-                }
-                Ok(None)
-            }
-            Phase::Turning { .. } => {
-                if self.kind.is_counted() {
-                    return part_assigned_in(alloc, &self.parts, 0, site, vars);
-                }
-                Ok(None)
-            }
-            Phase::Together => {
-                if self.kind.is_par() {
-                    let at = part_with(&self.parts, site);
-                    return part_assigned_in(alloc, &self.parts, at, site, vars);
-                }
-                Ok(None)
-            }
-            Phase::Chosen => Ok(None),
-            Phase::Ended => Ok(None),
-            Phase::Stuck => Ok(None),
+        let frame = self.find(site);
+        match frame.phase {
+            Phase::Ready => ready_assigned(
+                alloc,
+                frame.site,
+                &frame.kind,
+                &frame.parts,
+                site,
+                vars,
+            ),
+            _ => Ok(None),
         }
     }
+}
+
+/// The place, if there is a part at it.
+fn place_among(parts: &Vec<Frame>, at: usize) -> Option<usize>
+    ensures { MatchOption result (slice_get (views parts.now.items) at ≡ None) (λ place. (place ≡ at) × (place < length (views parts.now.items))) }
+{
+    if at < parts.len() {
+        return Some(at);
+    }
+    None
 }
 
 /// The site, if what it waits for is what is wanted.
@@ -262,32 +285,22 @@ fn push_parts(found: &mut Items<Move>, parts: &Vec<Frame>, vars: &[Datum]) -> Re
     ensures { OnOk result (found.new ≡ found.old ++ own (besides (views parts.now.items)) (store vars.now)) }
 {
     for place in 0..parts.len() {
+        if parts[place].rests() {
+            continue;
+        }
         parts[place].push_moves(found, vars)?;
     }
     Ok(())
 }
 
-#[cycle(begins)]
-fn part_begins(made: &Move, parts: &Vec<Frame>, at: usize, vars: &[Datum]) -> bool
-    ensures { IsTrue result ↔ Contains (part_own (slice_get (views parts.now.items) at) (store vars.now)) made.now }
+#[cycle(rests)]
+fn part_rests(parts: &Vec<Frame>, at: usize) -> bool
+    ensures { IsTrue result → (e : Store) → part_own (slice_get (views parts.now.items) at) e ≡ [] }
 {
     if at < parts.len() {
-        return parts[at].begins_with(made, vars);
+        return parts[at].rests();
     }
-    false
-}
-
-/// Whether the move is one that parts side by side can begin with.
-#[cycle(begins)]
-fn parts_begin(made: &Move, parts: &Vec<Frame>, vars: &[Datum]) -> bool
-    ensures { IsTrue result ↔ Contains (own (besides (views parts.now.items)) (store vars.now)) made.now }
-{
-    for place in 0..parts.len() {
-        if parts[place].begins_with(made, vars) {
-            return true;
-        }
-    }
-    false
+    true
 }
 
 #[cycle(waits)]
@@ -320,40 +333,6 @@ pub(crate) fn part_with(parts: &Vec<Frame>, site: u16) -> usize
 {
     let later = parts.partition_point(|part| part.site <= site);
     later.saturating_sub(1)
-}
-
-#[cycle(message)]
-fn part_message(
-    alloc: Global,
-    parts: &Vec<Frame>,
-    at: usize,
-    site: u16,
-    vars: &[Datum],
-) -> Result<Option<Items<u8>>, Memory>
-    requires { PartInPreorder (slice_get (views parts.now.items) at) }
-    ensures { IfOk result (λ sent. sent ≡ carried (part_output site (slice_get (views parts.now.items) at) (store vars.now))) }
-{
-    if at < parts.len() {
-        return parts[at].message(alloc, site, vars);
-    }
-    Ok(None)
-}
-
-#[cycle(assigned)]
-fn part_assigned_in(
-    alloc: Global,
-    parts: &Vec<Frame>,
-    at: usize,
-    site: u16,
-    vars: &[Datum],
-) -> Result<Option<Datum>, Memory>
-    requires { PartInPreorder (slice_get (views parts.now.items) at) }
-    ensures { IfOk result (λ value. value ≡ part_assigned site (slice_get (views parts.now.items) at) (store vars.now)) }
-{
-    if at < parts.len() {
-        return parts[at].assigned(alloc, site, vars);
-    }
-    Ok(None)
 }
 
 /// Adds the moves of a process that hasn't begun.

@@ -1,4 +1,6 @@
 //! What a running process may begin with.
+ghost use Rattle.std.specs.Prelude.{◌≡◌};
+ghost use Rattle.vc_occam.specs.Moving.{site_of as its_site};
 
 /// A move of a running process. Sites are preorder numbers, channels the plan's numbers, and guards count from 0 in their ALT.
 #[derive(Clone, Copy, Debug, PartialEq, Eq, Drop)]
@@ -49,4 +51,18 @@ pub enum Move {
         /// The site that makes it.
         site: u16,
     },
+}
+
+/// The move's site; of an output that meets an input, the output's.
+pub(crate) fn site_of(made: &Move) -> u16
+    ensures { result ≡ its_site made.now }
+{
+    match made {
+        Move::Offer { site, .. } => *site,
+        Move::Want { site, .. } => *site,
+        Move::Choose { site, .. } => *site,
+        Move::Stopch { site, .. } => *site,
+        Move::Inner { sender, .. } => *sender,
+        Move::Quiet { site } => *site,
+    }
 }

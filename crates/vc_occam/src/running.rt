@@ -14,8 +14,9 @@ use crate::datum::Datum;
 use crate::deed::Deed;
 use crate::frame::Frame;
 use crate::framing::begin_frame;
+use crate::hints::Hints;
 use crate::meeting::{clear, is_outside, partner, push_all_joined};
-use crate::moves::Move;
+use crate::moves::{Move, site_of};
 use crate::process::Process;
 use crate::site_deed::SiteDeed;
 use crate::value_kind::ValueKind;
@@ -32,6 +33,7 @@ pub struct Running {
     frame: Frame,
     vars: Vec<Datum>,
     inside: Items<u16>,
+    hints: Hints,
     ghost has_variables: { HasVariables (view frame).0 (length vars.items) },
     ghost in_preorder: { InPreorder (view frame).0 } by { InPreorder-prop (view frame).0 },
     ghost own_sites: { OwnSites (view frame).1 } by { OwnSites-prop (view frame).1 },
@@ -66,20 +68,6 @@ fn deed_on(message: Option<Items<u8>>) -> Deed
     match message {
         Some(message) => Deed::Message(message),
         None => Deed::Finish,
-    }
-}
-
-/// The move's site; of an output that meets an input, the output's.
-fn site_of(made: &Move) -> u16
-    ensures { result ≡ its_site made.now }
-{
-    match made {
-        Move::Offer { site, .. } => *site,
-        Move::Want { site, .. } => *site,
-        Move::Choose { site, .. } => *site,
-        Move::Stopch { site, .. } => *site,
-        Move::Inner { sender, .. } => *sender,
-        Move::Quiet { site } => *site,
     }
 }
 
@@ -125,7 +113,7 @@ impl Running {
     ghost use Rattle.std.specs.Prelude.{◌≡◌, ◌≤◌, ◌↔◌, ◌++◌, [], IsTrue, IfOk, OnOk, OnErr, MatchOption, Some, None, true, ℕ};
     ghost use Rattle.std.specs.List.{Contains};
     ghost use Rattle.vc_occam.specs.First.{own};
-    ghost use Rattle.vc_occam.specs.Frames.{assigned_at};
+    ghost use Rattle.vc_occam.specs.Frames.{assigned_at, waits_at};
     ghost use Rattle.vc_occam.specs.Moving.{CanMeet};
     ghost use Rattle.vc_occam.specs.declared.answer.Answer.{Answer};
     ghost use Rattle.vc_occam.specs.declared.deed.Deed.TheVariants.{Quiet};
@@ -162,6 +150,7 @@ impl Running {
             frame,
             vars,
             inside,
+            hints: Hints::new(),
         })
     }
 
@@ -292,6 +281,7 @@ impl Running {
             assigned,
         };
         self.frame.go(&mut doing, &mut self.vars);
+        self.hints.note(made);
         Ok(())
     }
 
@@ -321,12 +311,22 @@ impl Running {
         self.frame.go(&mut doing, &mut self.vars);
     }
 
+    /// A site that waits for this, if one does; it is looked for first at the hint.
+    fn waits_on(&self, hint: u16, wanted: Waits) -> Option<u16>
+        ensures { MatchOption result ((i : ℕ) → Contains (waiting (view self.now.frame).1) (waits_at wanted i) → ⊥) (λ i. Contains (waiting (view self.now.frame).1) (waits_at wanted i)) }
+    {
+        match self.frame.find(hint).waits_on(wanted) {
+            Some(site) => Some(site),
+            None => self.frame.waits_on(wanted),
+        }
+    }
+
     /// The site whose output on the channel waits to be finished, if there is one.
     #[tactic(auto, unfolding(crate::specs::Runnings::state))]
     pub fn output_on(&self, chan: u16) -> Option<u16>
         ensures { MatchOption result ((i : ℕ) → Contains (waiting (state self.now).rest) (output i chan) → ⊥) (λ i. Contains (waiting (state self.now).rest) (output i chan)) }
     {
-        self.frame.waits_on(Waits::Output { chan })
+        self.waits_on(self.hints.output_on(chan), Waits::Output { chan })
     }
 
     /// The site whose input on the channel waits for a message, if there is one.
@@ -334,7 +334,7 @@ impl Running {
     pub fn input_on(&self, chan: u16) -> Option<u16>
         ensures { MatchOption result ((i : ℕ) → Contains (waiting (state self.now).rest) (input i chan) → ⊥) (λ i. Contains (waiting (state self.now).rest) (input i chan)) }
     {
-        self.frame.waits_on(Waits::Input { chan })
+        self.waits_on(self.hints.input_on(chan), Waits::Input { chan })
     }
 
     /// Whether nothing remains.

@@ -1,4 +1,4 @@
-use Rattle.std.proofs.Common.{◌∙◌, ℕ, sym, ap, arith, Option}
+use Rattle.std.proofs.Common.{◌∙◌, ◌<◌, ℕ, length, sym, ap, arith, rules, Option}
 use Rattle.std.specs.Prelude.{slice_get}
 use Rattle.vc_occam.specs.declared.frame.Frame.TheViews.{out-Frame}
 use Rattle.vc_occam.specs.First.{own}
@@ -6,6 +6,7 @@ use Rattle.vc_occam.specs.Frames.{View, behind, part_own, place_of, views}
 use Rattle.vc_occam.specs.Remains.{Rest}
 use Rattle.vc_occam.specs.Terms.{store}
 use Rattle.vc_occam.proofs.Frames.{awaiting_own, is_awaiting, turning_own, turning_none, rest_apart, rest_together, rest_ready, rest_going, rest_idle, rest_ended, rest_stuck, follow_own, idle_own}
+use Rattle.vc_occam.proofs.Besides.{rested}
 use Rattle.vc_occam.proofs.Gates.{pushed_none, pushed_same}
 use Rattle.vc_occam.proofs.Stepping.{none_view}
 use Rattle.vc_occam.proofs.+moves.Goals as goal
@@ -65,3 +66,9 @@ pub frame::Frame::push_moves-returns-else-is_par : goal.frame::Frame::push_moves
 frame::Frame::push_moves-returns-else-is_par t c =
     let F = λ (r : Rest). own r (store c.args.vars.now) in
     pushed_none _ _ (ap F (rest_apart c.args.self.now c.in-Together.is (sym c.is_par.ensures ∙ c.if-is_par.false)))
+
+pub looking::push_parts-loop-place-preserved-then-rests : goal.looking::push_parts-loop-place-preserved-then-rests
+looking::push_parts-loop-place-preserved-then-rests t c =
+    let fs = c.args.parts.now.items in
+    let l : c.loop-place.place < length fs = search rules in
+    rested fs c.loop-place.place c.index.result.now (store c.args.vars.now) c.loop-place.found _ l c.index.ensures (c.rests.ensures c.if-rests.true (store c.args.vars.now)) c.loop-place.invariant

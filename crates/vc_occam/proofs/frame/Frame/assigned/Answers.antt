@@ -1,0 +1,11 @@
+use Rattle.std.proofs.Common.{sym}
+use Rattle.vc_occam.specs.Frames.{view}
+use Rattle.vc_occam.specs.Terms.{store}
+use Rattle.vc_occam.proofs.Frames.{on_ok}
+use Rattle.vc_occam.proofs.Found.{begins_ready}
+use Rattle.vc_occam.proofs.frame.Frame.assigned.Goals as goal
+
+pub returns-in-Ready : goal.returns-in-Ready
+returns-in-Ready c =
+    let frame = c.find-frame.result.now in
+    on_ok c.ready_assigned.result _ _ (sym (begins_ready frame c.args.site (view c.args.self.now).1 (store c.args.vars.now) c.in-Ready.is c.find-frame.ensures.begins).1) c.ready_assigned.ensures
