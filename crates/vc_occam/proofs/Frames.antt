@@ -18,7 +18,7 @@ use Rattle.vc_occam.specs.First.{own}
 use Rattle.vc_occam.specs.declared.moves.Move.TheVariants.{Quiet}
 use Rattle.vc_occam.specs.States.{waiting, output_at}
 use Rattle.vc_occam.specs.Gates.{Gate, gate}
-use Rattle.vc_occam.specs.Frames.{View, awaiting, chosen_at, count_of, is_counted, is_par, all_begun, turn_of, turning, together, besides, plans_of, behind, follow, follow_on, going_at, has_parts, is_last, place_of, while_of, so_far, plan_at, rest_at, view_step, view, views, is_done, part_done, part_own, part_waits, part_output, part_assigned, assigned_at, begun_parts, begun_phase}
+use Rattle.vc_occam.specs.Frames.{View, awaiting, chosen_at, count_of, is_counted, is_par, all_begun, turn_of, turning, together, besides, plans_of, behind, follow, follow_on, going_at, gone_on, has_parts, is_last, place_of, while_of, so_far, plan_at, rest_at, view_step, view, views, is_done, part_done, part_own, part_waits, part_output, part_assigned, assigned_at, begun_parts, begun_phase}
 use Rattle.vc_occam.proofs.Besides.{begin_goes, begun_plans_of, besides_begun, goes_then}
 
 pub view_roll : (f : Frame-F Frame) → view (roll-Frame f) ≡ (plan_at f.kind f.site (views f.parts.items), rest_at f.kind f.phase f.site (views f.parts.items) f.at)
@@ -192,6 +192,14 @@ went_done (kind.If bs) i vs at h = follow_on_done (slice_get vs at) no_parts
 went_done (kind.Count v a n) i vs at h = absurd (let z : false ≡ true = h in cc)
 went_done (kind.While b) i vs at h = follow_on_done (slice_get vs 0) (behind (kind.While b) i vs at)
 went_done (kind.Alt gs) i vs at h = follow_on_done (slice_get vs at) no_parts
+
+and_yes : (a b : Bool) → b ≡ true → (a && b) ≡ a
+and_yes true b h = h
+and_yes false b h = refl
+
+-- where its part has ended, it has ended if nothing comes behind the part
+pub gone_done : (k : Kind) (i : ℕ) (vs : List View) (at : ℕ) → has_parts k ≡ true → part_done (slice_get vs (place_of k at)) ≡ true → is_done (gone_on k i vs at) ≡ is_last k at (length vs)
+gone_done k i vs at h e = went_done k i vs at h ∙ and_yes (is_last k at (length vs)) (part_done (slice_get vs (place_of k at))) e
 
 pub frame_begun : (k : Kind) (i : ℕ) (vs : List View) → ◌≡◌ {A = View} (plan_at k i (begun_parts k vs), rest_at k (begun_phase k vs) i (begun_parts k vs) 0) (plan_at k i vs, begin (plan_at k i vs))
 frame_begun kind.Skip i vs = refl

@@ -1,3 +1,4 @@
+pub mod Abreast
 pub mod Acting
 pub mod Answered
 pub mod Beginning

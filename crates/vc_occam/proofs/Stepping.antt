@@ -15,10 +15,10 @@ use Rattle.vc_occam.specs.Values.{Store}
 use Rattle.vc_occam.specs.Remains.{Rest, Done, Stopped, Fresh, Finishing, Getting, Then, Turns, Beside, and_then, then_on, in_then}
 use Rattle.vc_occam.specs.Gates.{Gate, gate}
 use Rattle.vc_occam.specs.Sites.{InPreorder, PartsInPreorder, BranchesInPreorder, GuardsInPreorder}
-use Rattle.vc_occam.specs.Frames.{Able, Did, HasVariables, PartHasVariables, PartInPreorder, View, assigned_at, begun_at, behind, branches_of, count_of, follow, follow_on, guards_of, has_parts, is_counted, is_done, is_par, on_part, part_assigned, part_done, part_rest, place_of, plan_at, plans, plans_of, rest_at, view, views, while_of}
+use Rattle.vc_occam.specs.Frames.{Able, Did, HasVariables, PartHasVariables, PartInPreorder, View, assigned_at, begun_at, behind, branches_of, count_of, follow, follow_on, goes_within, gone_on, guards_of, has_parts, is_counted, is_done, is_last, is_par, on_part, part_assigned, part_done, part_rest, place_of, plan_at, plans, plans_of, rest_at, view, views, while_of}
 use Rattle.vc_occam.specs.Nexts.{goes_further, seq_begun, seq_next}
 use Rattle.vc_occam.proofs.Beginning.{begun_plans}
-use Rattle.vc_occam.proofs.Frames.{going_part, follow_assigned}
+use Rattle.vc_occam.proofs.Frames.{going_part, follow_assigned, went_done}
 use Rattle.vc_occam.proofs.Stores.{or_left, or_right}
 
 then_able : (r : Rest) (ps : Procs) (e : Store) (s : ℕ) (d : Deed) → Able (and_then r ps) e s d → Able r e s d
@@ -198,6 +198,46 @@ within_did k i ph vs ws at p e f s d r h t g q z y =
     subst (λ x. Did x e s d r f) (sym (going_rest k i ph vs at p h t g))
     (subst (λ x. Did (follow (slice_get vs p) b) e s d x f) (sym is) (follow_did (slice_get vs p) (slice_get ws p) b e f s d (same_some vs ws p q) y))
 
+not_done : (r : Rest) (p : Proc) (ps : Procs) → is_done r ≡ false → then_on r (part p ps) ≡ Then r (part p ps)
+not_done Done p ps h = absurd (let z : true ≡ false = h in cc)
+not_done Stopped p ps h = refl
+not_done (Fresh q) p ps h = refl
+not_done (Finishing i c) p ps h = refl
+not_done (Getting i c v) p ps h = refl
+not_done (Then q qs) p ps h = refl
+not_done (Turns q v b n x) p ps h = refl
+not_done (Beside m q s) p ps h = refl
+
+-- where something remains of the part, nothing behind it begins
+goes_on : (o : Option View) (ps : Procs) → part_done o ≡ false → follow o ps ≡ follow_on o ps
+goes_on None ps h = refl
+goes_on (Some v) no_parts h = refl
+goes_on (Some v) (part p ps) h = sym (not_done v.1 p ps h)
+
+pub going_on : (k : Kind) (i : ℕ) (ph : Phase) (vs : List View) (at p : ℕ) → ph ≡ phase.Waiting → has_parts k ≡ true → p ≡ place_of k at → part_done (slice_get vs p) ≡ false → rest_at k ph i vs at ≡ gone_on k i vs at
+going_on k i ph vs at p h t g e =
+    let z = goes_on (slice_get vs p) (behind k i vs at) e in
+    going_rest k i ph vs at p h t g ∙ z ∙ ap (λ x. follow_on (slice_get vs x) (behind k i vs at)) g
+
+and_no : (b : Bool) → (b && false) ≡ false
+and_no true = refl
+and_no false = refl
+
+pub goes_undone : (k : Kind) (i : ℕ) (ph : Phase) (vs : List View) (at p : ℕ) → ph ≡ phase.Waiting → has_parts k ≡ true → p ≡ place_of k at → part_done (slice_get vs p) ≡ false → is_done (rest_at k ph i vs at) ≡ false
+goes_undone k i ph vs at p h t g e =
+    let z : part_done (slice_get vs (place_of k at)) ≡ false = ap (λ x. part_done (slice_get vs x)) (sym g) ∙ e in
+    ap is_done (going_on k i ph vs at p h t g e) ∙ went_done k i vs at t ∙ ap (λ b. is_last k at (length vs) && b) z ∙ and_no (is_last k at (length vs))
+
+-- what a frame is that goes on neither within a part nor by its own site
+pub idle : (k : Kind) (ph : Phase) (i : ℕ) (vs : List View) (at : ℕ) (e : Store) (s : ℕ) (d : Deed) → goes_within k ph ≡ false → (ph ≡ phase.Ready → ⊥) → (ph ≡ phase.Waiting → ⊥) → (ph ≡ phase.Chosen → ⊥) → Able (rest_at k ph i vs at) e s d → Did (rest_at k ph i vs at) e s d (rest_at k ph i vs at) e
+idle k phase.Ready i vs at e s d h f g w a = absurd (f refl)
+idle k phase.Waiting i vs at e s d h f g w a = absurd (g refl)
+idle k (phase.Turning x y) i vs at e s d h f g w a = absurd (let z : true ≡ false = h in cc)
+idle k phase.Together i vs at e s d h f g w a = absurd (let z : true ≡ false = h in cc)
+idle k phase.Chosen i vs at e s d h f g w a = absurd (w refl)
+idle k phase.Ended i vs at e s d h f g w (ks, q, t, st) = elim st [ ]
+idle k phase.Stuck i vs at e s d h f g w (ks, q, t, st) = elim st [ ]
+
 -- sites in preorder
 pub parts_preorder : (vs : List View) (at : ℕ) → PartsInPreorder (plans_of vs) → PartInPreorder (slice_get vs at)
 parts_preorder [] at h = tt
@@ -344,16 +384,6 @@ begun_is p (Getting i c v) h = absurd (let z : false ≡ true = h in cc)
 begun_is p (Then q ps) h = absurd (let z : false ≡ true = h in cc)
 begun_is p (Turns q v b n x) h = absurd (let z : false ≡ true = h in cc)
 begun_is p (Beside m q s) h = absurd (let z : false ≡ true = h in cc)
-
-not_done : (r : Rest) (p : Proc) (ps : Procs) → is_done r ≡ false → then_on r (part p ps) ≡ Then r (part p ps)
-not_done Done p ps h = absurd (let z : true ≡ false = h in cc)
-not_done Stopped p ps h = refl
-not_done (Fresh q) p ps h = refl
-not_done (Finishing i c) p ps h = refl
-not_done (Getting i c v) p ps h = refl
-not_done (Then q qs) p ps h = refl
-not_done (Turns q v b n x) p ps h = refl
-not_done (Beside m q s) p ps h = refl
 
 and_true : (a b : Bool) → (a && b) ≡ true → (a ≡ true) × (b ≡ true)
 and_true true b h = (refl, h)

@@ -17,11 +17,12 @@ use Rattle.vc_occam.specs.Terms.{exp}
 use Rattle.vc_occam.specs.Traces.{Counts, set}
 use Rattle.vc_occam.specs.Usage.{changes, just}
 use Rattle.vc_occam.proofs.Beginning.{begun_plans}
+use Rattle.vc_occam.proofs.Stepping.{never}
 use Rattle.vc_occam.proofs.Stores.{or_left, or_right}
 use Rattle.vc_occam.specs.Values.{Store, value_of, within}
 use Rattle.vc_occam.specs.Remains.{Rest, Done, Stopped, Fresh, Finishing, Getting, Then, Turns, Beside, Step, begin, index_on, turns_on, in_turns, does_count, does_count_none, faults_count}
-use Rattle.vc_occam.specs.Frames.{Able, Did, HasVariables, PartHasVariables, View, assigned_at, part_assigned, begun_at, count_of, is_done, part_done, part_rest, plan_at, plans, rest_at, so_far, turn_of, turning, turns_left}
-use Rattle.vc_occam.specs.Nexts.{count_begun, count_phase, count_store, last_phase, turn_phase, turn_store, turn_views}
+use Rattle.vc_occam.specs.Frames.{Able, Did, HasVariables, PartHasVariables, View, assigned_at, part_assigned, begun_at, count_of, is_counted, is_done, part_done, part_rest, plan_at, plans, rest_at, so_far, turn_of, turning, turns_left}
+use Rattle.vc_occam.specs.Nexts.{count_begun, count_phase, count_store, last_phase, TurnEnded, turn_phase, turn_store, turn_views}
 
 pub left_of : (x : ℤ) (m : ℕ) → turns_left x (x +ℤ pos m) ≡ m
 left_of x m = by (int_lt x (x +ℤ pos m)) refl
@@ -184,6 +185,73 @@ turning_did k i v a n vs ws us x y e f g s d ph h l same st p w z at =
         let by_store : g ≡ index_on c.1 v (x +ℤ pos 1) (turns_left x y) f = z ∙ sym m.1 in
         subst (λ r. Did (turn_of v (b ∷ vs) x y) e s d r g) (sym by_rest) (subst (λ q. Did (turn_of v (b ∷ vs) x y) e s d (turns_on c.1 v (x +ℤ pos 1) (turns_left x y) b.0) q) (sym by_store) (ks, in_turns st))
 
+counted_did : (b : Bool) (i v : ℕ) (a n : Expr) (x y : ℤ) (vs ws : List View) (e f : Store) (s : ℕ) (d : Deed) (at : ℕ) → plans ws ≡ plans vs → Did (part_rest (slice_get vs 0)) e s d (part_rest (slice_get ws 0)) f → part_done (slice_get ws 0) ≡ b →
+    Did (turn_of v vs x y) e s d (rest_at (kind.Count v a n) (turn_phase b x y) i (turn_views b x y ws) at) (turn_store b v x y f)
+counted_did b i v a n x y [] ws e f s d at same (ks, st) h = elim st [ ]
+counted_did b i v a n x y (u ∷ us) ws e f s d at same st h =
+    turning_did (kind.Count v a n) i v a n (u ∷ us) ws (turn_views b x y ws) x y e f (turn_store b v x y f) s d (turn_phase b x y) refl (λ z. absurd cc) same st (ap (λ q. turn_phase q x y) (sym h)) (ap (λ q. turn_views q x y ws) (sym h)) (ap (λ q. turn_store q v x y f) (sym h)) at
+
+pub counted_is : (k : Kind) → is_counted k ≡ true → (v : ℕ) × (a : Expr) × (n : Expr) × (k ≡ kind.Count v a n)
+counted_is (kind.Count v a n) h = (v, a, n, refl)
+counted_is kind.Skip h = absurd (let z : false ≡ true = h in cc)
+counted_is kind.Stop h = absurd (let z : false ≡ true = h in cc)
+counted_is (kind.Set v a) h = absurd (let z : false ≡ true = h in cc)
+counted_is (kind.Send c a) h = absurd (let z : false ≡ true = h in cc)
+counted_is (kind.Receive c v) h = absurd (let z : false ≡ true = h in cc)
+counted_is (kind.Stopch c) h = absurd (let z : false ≡ true = h in cc)
+counted_is kind.Seq h = absurd (let z : false ≡ true = h in cc)
+counted_is kind.Par h = absurd (let z : false ≡ true = h in cc)
+counted_is (kind.If bs) h = absurd (let z : false ≡ true = h in cc)
+counted_is (kind.While b) h = absurd (let z : false ≡ true = h in cc)
+counted_is (kind.Alt gs) h = absurd (let z : false ≡ true = h in cc)
+
+turns_not : (k : Kind) (vs : List View) (x y : ℤ) → is_counted k ≡ false → turning k vs x y ≡ Stopped
+turns_not (kind.Count v a n) vs x y h = absurd (let z : true ≡ false = h in cc)
+turns_not kind.Skip vs x y h = refl
+turns_not kind.Stop vs x y h = refl
+turns_not (kind.Set v a) vs x y h = refl
+turns_not (kind.Send c a) vs x y h = refl
+turns_not (kind.Receive c v) vs x y h = refl
+turns_not (kind.Stopch c) vs x y h = refl
+turns_not kind.Seq vs x y h = refl
+turns_not kind.Par vs x y h = refl
+turns_not (kind.If bs) vs x y h = refl
+turns_not (kind.While b) vs x y h = refl
+turns_not (kind.Alt gs) vs x y h = refl
+
+-- no other process turns
+pub none_turns : (k : Kind) (i : ℕ) (ph : Phase) (x y : ℤ) (vs : List View) (at : ℕ) (e : Store) (s : ℕ) (d : Deed) (r : Rest) → ph ≡ phase.Turning x y → is_counted k ≡ false → Able (rest_at k ph i vs at) e s d → Did (rest_at k ph i vs at) e s d r e
+none_turns k i ph x y vs at e s d r h c a = never _ r e e s d (subst (λ (q : Rest). Able q e s d) (ap (λ (q : Phase). rest_at k q i vs at) h ∙ turns_not k vs x y c) a)
+
+turn_goes_on : (v : ℕ) (vs : List View) (x y : ℤ) → is_done (turn_of v vs x y) ≡ false
+turn_goes_on v [] x y = refl
+turn_goes_on v (w ∷ vs) x y = refl
+
+pub turn_undone : (k : Kind) (i : ℕ) (ph : Phase) (x y : ℤ) (vs : List View) (at : ℕ) → ph ≡ phase.Turning x y → is_counted k ≡ true → is_done (rest_at k ph i vs at) ≡ false
+turn_undone k i ph x y vs at h c =
+    let is = counted_is k c in
+    ap (λ (q : Phase). is_done (rest_at k q i vs at)) h ∙ ap (λ (j : Kind). is_done (turning j vs x y)) is.3 ∙ turn_goes_on is.0 vs x y
+
+-- a turn goes on
+pub turn_goes : (k : Kind) (i : ℕ) (ph : Phase) (x y : ℤ) (vs ws : List View) (e f : Store) (s : ℕ) (d : Deed) (at : ℕ) → ph ≡ phase.Turning x y → is_counted k ≡ true → plans ws ≡ plans vs → Did (part_rest (slice_get vs 0)) e s d (part_rest (slice_get ws 0)) f → part_done (slice_get ws 0) ≡ false →
+    Did (rest_at k ph i vs at) e s d (rest_at k ph i ws at) f
+turn_goes k i ph x y vs ws e f s d at h c same st g =
+    let is = counted_is k c in
+    subst (λ (q : Phase). Did (rest_at k q i vs at) e s d (rest_at k q i ws at) f) (sym h)
+    (subst (λ (j : Kind). Did (turning j vs x y) e s d (turning j ws x y) f) (sym is.3) (counted_did false i is.0 is.1 is.2 x y vs ws e f s d at same st g))
+
+-- a turn has ended
+pub turn_gone : (k : Kind) (i : ℕ) (ph : Phase) (x y : ℤ) (vs ws : List View) (e f g : Store) (s : ℕ) (d : Deed) (at : ℕ) (r : Rest) → ph ≡ phase.Turning x y → is_counted k ≡ true → plans ws ≡ plans vs → Did (part_rest (slice_get vs 0)) e s d (part_rest (slice_get ws 0)) f → part_done (slice_get ws 0) ≡ true →
+    TurnEnded k ph i ws f r g → Did (rest_at k ph i vs at) e s d r g
+turn_gone k i ph x y vs ws e f g s d at r h c same st done t =
+    let is = counted_is k c in
+    let o = subst (λ (j : Kind). TurnEnded j (phase.Turning x y) i ws f r g) is.3 (subst (λ (q : Phase). TurnEnded k q i ws f r g) h t) in
+    let after = counted_did true i is.0 is.1 is.2 x y vs ws e f s d 0 same st done in
+    subst (λ (q : Phase). Did (rest_at k q i vs at) e s d r g) (sym h)
+    (subst (λ (j : Kind). Did (turning j vs x y) e s d r g) (sym is.3)
+    (subst (λ (q : Rest). Did (turn_of is.0 vs x y) e s d q g) (sym o.0)
+    (subst (λ (z : Store). Did (turn_of is.0 vs x y) e s d (rest_at (kind.Count is.0 is.1 is.2) (turn_phase true x y) i (turn_views true x y ws) 0) z) (sym o.1) after)))
+
 pub turned_plans : (d : Bool) (x y : ℤ) (vs : List View) → plans (turn_views d x y vs) ≡ plans vs
 turned_plans false x y vs = refl
 turned_plans true x y vs = on (int_lt x y)
@@ -203,3 +271,19 @@ views_same d x z y w vs h g = ap (λ u. turn_views d u w vs) h ∙ ap (λ u. tur
 
 pub store_same : (d : Bool) (v : ℕ) (x z y w : ℤ) (e : Store) → z ≡ x → w ≡ y → turn_store d v z w e ≡ turn_store d v x y e
 store_same d v x z y w e h g = ap (λ u. turn_store d v u w e) h ∙ ap (λ u. turn_store d v x u e) g
+
+pub count_done_variable : (k : Kind) (i v : ℕ) (a n : Expr) (vs : List View) (m : ℕ) → k ≡ kind.Count v a n → part_done (slice_get vs 0) ≡ true → HasVariables (plan_at k i vs) m → v < m
+count_done_variable k i v a n [] m h d g = absurd (let z : false ≡ true = d in cc)
+count_done_variable k i v a n (w ∷ vs) m h d g = count_variable k i v a n (w ∷ vs) m h (λ z. absurd cc) g
+
+-- a turn has ended, by what the phase, the parts and the variables are then
+pub turned : (k : Kind) (ph : Phase) (i v : ℕ) (a n : Expr) (x x' y y' : ℤ) (vs ws : List View) (e f : Store) (q : Phase) (at : ℕ) → k ≡ kind.Count v a n → ph ≡ phase.Turning x y → x' ≡ x → y' ≡ y →
+    q ≡ turn_phase true x' y' → ws ≡ turn_views true x' y' vs → f ≡ turn_store true v x' y' e → TurnEnded k ph i vs e (rest_at k q i ws at) f
+turned k ph i v a n x x' y y' vs ws e f q at h t xs ys p w z =
+    let p1 = p ∙ phase_same true x x' y y' xs ys in
+    let w1 = w ∙ views_same true x x' y y' vs xs ys in
+    let z1 = z ∙ store_same true v x x' y y' e xs ys in
+    let c = kind.Count v a n in
+    let r : rest_at c q i ws at ≡ rest_at c (turn_phase true x y) i (turn_views true x y vs) 0 = ap (λ (g : Phase). rest_at c g i ws at) p1 ∙ ap (λ (us : List View). rest_at c (turn_phase true x y) i us at) w1 in
+    let done : TurnEnded c (phase.Turning x y) i vs e (rest_at c q i ws at) f = (r, z1) in
+    subst (λ (j : Kind). TurnEnded j ph i vs e (rest_at j q i ws at) f) (sym h) (subst (λ (g : Phase). TurnEnded c g i vs e (rest_at c q i ws at) f) (sym t) done)

@@ -319,6 +319,17 @@ abbrev pub follow_on : Option View → Procs → Rest
 follow_on None ps = Fresh (STOP 0)
 follow_on (Some v) ps = on_part v.1 ps
 
+-- what remains of a process after the part that it is at did something
+abbrev pub gone_on : Kind → ℕ → List View → ℕ → Rest
+gone_on k i vs at = follow_on (slice_get vs (place_of k at)) (behind k i vs at)
+
+-- a process that is so far goes on within a part
+abbrev pub goes_within : Kind → Phase → Bool
+goes_within k phase.Waiting = has_parts k
+goes_within k (phase.Turning x y) = true
+goes_within k phase.Together = true
+goes_within k ph = false
+
 -- the processes that were written
 abbrev pub plans : List View → List Proc
 plans = map (λ v. v.0)

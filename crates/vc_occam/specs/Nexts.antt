@@ -1,10 +1,13 @@
 -- How far a frame is after what its site did.
-use Rattle.std.specs.Prelude.{ℕ, zero, suc, ℤ, pos, negsuc, ◌+ℤ◌, int_lt, ◌<◌, Bool, true, false, ◌&&◌, List, length, nat_lt, slice_get, Option, Some, None, if◌then◌else◌}
+use Rattle.std.specs.Prelude.{◌≡◌, ℕ, zero, suc, ℤ, pos, negsuc, ◌+ℤ◌, int_lt, ◌<◌, Bool, true, false, ◌&&◌, List, length, nat_lt, slice_get, Option, Some, None, if◌then◌else◌}
 use Rattle.vc_occam.specs.declared.datum.Datum.TheVariants as datum
 use Rattle.vc_occam.specs.declared.phase.Phase.{Phase}
 use Rattle.vc_occam.specs.declared.phase.Phase.TheVariants as phase
 use Rattle.vc_occam.specs.declared.going.Next.{Next}
-use Rattle.vc_occam.specs.Frames.{View, begun_at, part_done}
+use Rattle.vc_occam.specs.declared.kind.Kind.{Kind}
+use Rattle.vc_occam.specs.declared.kind.Kind.TheVariants as kind
+use Rattle.vc_occam.specs.Frames.{View, begun_at, part_done, rest_at}
+use Rattle.vc_occam.specs.Remains.{Rest}
 use Rattle.vc_occam.specs.Gates.{Gate}
 use Rattle.vc_occam.specs.Messages.{received}
 use Rattle.vc_occam.specs.Traces.{set}
@@ -67,6 +70,11 @@ turn_views true x y vs = if int_lt x y then begun_at 0 vs else vs
 abbrev pub turn_store : Bool → ℕ → ℤ → ℤ → Store → Store
 turn_store false v x y e = e
 turn_store true v x y e = if int_lt x y then set e v (datum.Int (x +ℤ pos 1)) else e
+
+-- what remains of a counted SEQ whose turn has ended, and what the variables hold, before and after the next turn begins
+abbrev pub TurnEnded : Kind → Phase → ℕ → List View → Store → Rest → Store → Type 0
+TurnEnded (kind.Count v a n) (phase.Turning x y) i vs e r f = (r ≡ rest_at (kind.Count v a n) (turn_phase true x y) i (turn_views true x y vs) 0) × (f ≡ turn_store true v x y e)
+TurnEnded k ph i vs e r f = Unit {0}
 
 -- an ALT takes its k-th guard: with the message its variable takes it and its body begins, else it waits
 abbrev pub choice_next : Option (List ℕ) → ℕ → Next

@@ -1,9 +1,10 @@
 //! How frames go on: one site does something.
 ghost use Rattle.std.specs.Prelude.{◌≡◌, ◌<◌, ◌&&◌, length, map, nat_le, nat_lt, slice_get, suc, false, true, List, [], ℕ, ℤ, ◌^◌};
 ghost use Rattle.vc_occam.specs.declared.deed.Deed.TheVariants.{Quiet};
-ghost use Rattle.vc_occam.specs.Frames.{Able, ChangedAt, Did, HasVariables, PartHasVariables, PartInPreorder, View, assigned_at, awaiting, is_choice, is_counted, part_done, turning, follow_on, part_assigned, place_of, begun_at, behind, chosen_from, going_at, besides, has_parts, is_done, is_last, part_rest, plan_at, plans, rest_at, together, view, views};
+ghost use Rattle.vc_occam.specs.declared.frame.Frame.TheViews.{out-Frame};
+ghost use Rattle.vc_occam.specs.Frames.{Able, ChangedAt, Did, HasVariables, PartHasVariables, PartInPreorder, View, assigned_at, awaiting, is_choice, is_counted, part_done, goes_within, gone_on, part_assigned, place_of, begun_at, behind, chosen_from, going_at, besides, has_parts, is_done, is_last, part_rest, plan_at, plans, rest_at, together, view, views};
 ghost use Rattle.vc_occam.specs.Gates.{gate};
-ghost use Rattle.vc_occam.specs.Nexts.{GateHasVariable, branch_next, choice_begun, choice_next, choice_store, count_begun, count_phase, count_store, gate_begun, gate_next, gate_store, seq_begun, seq_next, stuck_next, turn_begun, turn_next, turn_phase, turn_store, turn_views};
+ghost use Rattle.vc_occam.specs.Nexts.{GateHasVariable, branch_next, choice_begun, choice_next, choice_store, count_begun, count_phase, count_store, gate_begun, gate_next, gate_store, seq_begun, seq_next, stuck_next, TurnEnded, turn_begun, turn_next, turn_phase, turn_store, turn_views};
 ghost use Rattle.vc_occam.specs.declared.deed.Deed.{Deed};
 ghost use Rattle.vc_occam.specs.Remains.{Fresh};
 ghost use Rattle.vc_occam.specs.Sites.{InPreorder};
@@ -142,20 +143,15 @@ fn after_turn(
     var: u8,
     index: i64,
     last: i64,
-    ended: bool,
     parts: &mut Vec<Frame>,
     vars: &mut Vec<Datum>,
 ) -> Phase
-    requires variable { var < length vars.old.items }
-    requires ended { ended ≡ part_done (slice_get (views parts.old.items) 0) }
-    ensures phase { result ≡ turn_phase (part_done (slice_get (views parts.old.items) 0)) index last }
-    ensures parts { views parts.new.items ≡ turn_views (part_done (slice_get (views parts.old.items) 0)) index last (views parts.old.items) }
-    ensures value { store vars.new.items ≡ turn_store (part_done (slice_get (views parts.old.items) 0)) var index last (store vars.old.items) }
+    requires { var < length vars.old.items }
+    ensures phase { result ≡ turn_phase true index last }
+    ensures parts { views parts.new.items ≡ turn_views true index last (views parts.old.items) }
+    ensures value { store vars.new.items ≡ turn_store true var index last (store vars.old.items) }
     ensures length { length vars.new.items ≡ length vars.old.items }
 {
-    if !ended {
-        return Phase::Turning { index, last };
-    }
     if index >= last {
         return Phase::Ended;
     }
@@ -402,6 +398,49 @@ impl Frame {
         ensures ended { result ≡ is_done (view self.new).1 }
         ensures length { length vars.new.items ≡ length vars.old.items }
     {
+        match self.phase {
+            Phase::Ready => self.go_itself(doing, vars),
+            Phase::Waiting => {
+                if self.kind.has_parts() {
+                    let place = self.kind.place(self.at);
+                    let ended = go_within(place, &mut self.parts, doing, vars);
+                    return ended && self.leave_part();
+                }
+                self.go_itself(doing, vars)
+            }
+            Phase::Turning { .. } => {
+                if self.kind.is_counted() {
+                    let ended = go_within(0, &mut self.parts, doing, vars);
+                    return ended && self.leave_turn(vars);
+                }
+                false
+            }
+            Phase::Together => {
+                if self.kind.is_par() {
+                    let place = part_with(&self.parts, doing.site);
+                    let ended = go_within(place, &mut self.parts, doing, vars);
+                    return ended && self.all_parts_ended();
+                }
+                false
+            }
+            Phase::Chosen => self.go_itself(doing, vars),
+            Phase::Ended => true,
+            Phase::Stuck => false,
+        }
+    }
+
+    /// The frame's own site does something; answers whether nothing remains then.
+    #[inline(never)]
+    fn go_itself(&mut self, doing: &mut SiteDeed, vars: &mut Vec<Datum>) -> bool
+        requires itself { goes_within (out-Frame self.old).kind (out-Frame self.old).phase ≡ false }
+        requires able { Able (view self.old).1 (store vars.old.items) doing.old.site doing.old.deed }
+        requires assigned { doing.old.deed ≡ Quiet → doing.old.assigned ≡ assigned_at doing.old.site (view self.old).1 (store vars.old.items) }
+        requires variables { HasVariables (view self.old).0 (length vars.old.items) }
+        ensures did { Did (view self.old).1 (store vars.old.items) doing.old.site doing.old.deed (view self.new).1 (store vars.new.items) }
+        ensures plan { (view self.new).0 ≡ (view self.old).0 }
+        ensures ended { result ≡ is_done (view self.new).1 }
+        ensures length { length vars.new.items ≡ length vars.old.items }
+    {
         let went = go_on(
             self.site,
             &self.kind,
@@ -414,6 +453,49 @@ impl Frame {
         self.phase = went.next.phase;
         self.at = went.next.at;
         went.ended
+    }
+
+    /// The part that it is at has ended: a SEQ begins the next one, and a WHILE tests again; answers whether nothing remains then.
+    #[inline(never)]
+    fn leave_part(&mut self) -> bool
+        requires composed { has_parts (out-Frame self.old).kind ≡ true }
+        requires ended { part_done (slice_get (views (out-Frame self.old).parts.items) (place_of (out-Frame self.old).kind (out-Frame self.old).at)) ≡ true }
+        ensures rest { (view self.new).1 ≡ gone_on (out-Frame self.old).kind (out-Frame self.old).site (views (out-Frame self.old).parts.items) (out-Frame self.old).at }
+        ensures plan { (view self.new).0 ≡ (view self.old).0 }
+        ensures ended { result ≡ is_done (view self.new).1 }
+    {
+        let went = after_part(&self.kind, self.at, &mut self.parts);
+        self.phase = went.next.phase;
+        self.at = went.next.at;
+        went.ended
+    }
+
+    /// A turn of a counted SEQ has ended: the next one begins, if there is one; answers whether nothing remains then.
+    #[inline(never)]
+    fn leave_turn(&mut self, vars: &mut Vec<Datum>) -> bool
+        requires variables { HasVariables (view self.old).0 (length vars.old.items) }
+        requires ended { part_done (slice_get (views (out-Frame self.old).parts.items) 0) ≡ true }
+        ensures turned { TurnEnded (out-Frame self.old).kind (out-Frame self.old).phase (out-Frame self.old).site (views (out-Frame self.old).parts.items) (store vars.old.items) (view self.new).1 (store vars.new.items) }
+        ensures plan { (view self.new).0 ≡ (view self.old).0 }
+        ensures ended { result ≡ is_done (view self.new).1 }
+        ensures length { length vars.new.items ≡ length vars.old.items }
+    {
+        if let Kind::Count { var, .. } = &self.kind {
+            if let Phase::Turning { index, last } = self.phase {
+                let phase = after_turn(*var, index, last, &mut self.parts, vars);
+                self.phase = phase;
+                return self.ended();
+            }
+        }
+        self.ended()
+    }
+
+    /// Whether nothing remains of any part.
+    #[inline(never)]
+    fn all_parts_ended(&self) -> bool
+        ensures { result ≡ is_done (besides (views (out-Frame self.now).parts.items)) }
+    {
+        all_ended(&self.parts)
     }
 }
 
@@ -447,8 +529,7 @@ fn begin(
     Next { phase, at }
 }
 
-/// What a site does, and how far the frame is then.
-#[cycle(go)]
+/// What the frame's own site does, and how far the frame is then.
 fn go_on(
     own: u16,
     kind: &Kind,
@@ -458,10 +539,10 @@ fn go_on(
     doing: &mut SiteDeed,
     vars: &mut Vec<Datum>,
 ) -> Went
+    requires itself { goes_within kind.now phase ≡ false }
     requires able { Able (rest_at kind.now phase own (views parts.old.items) at) (store vars.old.items) doing.old.site doing.old.deed }
     requires assigned { doing.old.deed ≡ Quiet → doing.old.assigned ≡ assigned_at doing.old.site (rest_at kind.now phase own (views parts.old.items) at) (store vars.old.items) }
     requires variables { HasVariables (plan_at kind.now own (views parts.old.items)) (length vars.old.items) }
-    requires in_preorder { InPreorder (plan_at kind.now own (views parts.old.items)) }
     ensures did { Did (rest_at kind.now phase own (views parts.old.items) at) (store vars.old.items) doing.old.site doing.old.deed (rest_at kind.now result.next.phase own (views parts.new.items) result.next.at) (store vars.new.items) }
     ensures plans { plans (views parts.new.items) ≡ plans (views parts.old.items) }
     ensures ended { result.ended ≡ is_done (rest_at kind.now result.next.phase own (views parts.new.items) result.next.at) }
@@ -470,122 +551,32 @@ fn go_on(
     match phase {
         Phase::Ready => {
             let next = begin(own, kind, at, parts, doing, vars);
-            let ended = is_ended(kind, next.phase, parts, next.at);
-            Went { next, ended }
+            reached(kind, next, parts)
         }
         Phase::Waiting => {
-            if kind.has_parts() {
-                let ended = go_within(kind.place(at), parts, doing, vars);
-                return after_part(kind, at, ended, parts);
-            }
             let phase = end_alone(own, kind, doing, vars);
-            let next = Next { phase, at };
-            let ended = is_ended(kind, phase, parts, at);
-            Went { next, ended }
+            reached(kind, Next { phase, at }, parts)
         }
-        Phase::Turning { index, last } => {
-            let phase = go_turn(own, kind, index, last, parts, doing, vars);
-            let next = Next { phase, at };
-            let ended = is_ended(kind, phase, parts, at);
-            Went { next, ended }
-        }
-        Phase::Together => go_together(own, kind, at, parts, doing, vars),
         Phase::Chosen => {
             let phase = end_choice(own, kind, at, parts, doing, vars);
-            let next = Next { phase, at };
-            let ended = is_ended(kind, phase, parts, at);
-            Went { next, ended }
+            reached(kind, Next { phase, at }, parts)
         }
-        Phase::Ended => Went {
-            next: Next { phase, at },
-            ended: true,
-        },
-        Phase::Stuck => Went {
-            next: Next { phase, at },
-            ended: false,
-        },
+        _ => reached(kind, Next { phase, at }, parts),
     }
 }
 
-/// What a site of a turn does, and how far the counted SEQ is then.
-#[cycle(go)]
-fn go_turn(
-    own: u16,
-    kind: &Kind,
-    index: i64,
-    last: i64,
-    parts: &mut Vec<Frame>,
-    doing: &mut SiteDeed,
-    vars: &mut Vec<Datum>,
-) -> Phase
-    requires able { Able (turning kind.now (views parts.old.items) index last) (store vars.old.items) doing.old.site doing.old.deed }
-    requires assigned { doing.old.deed ≡ Quiet → doing.old.assigned ≡ assigned_at doing.old.site (turning kind.now (views parts.old.items) index last) (store vars.old.items) }
-    requires variables { HasVariables (plan_at kind.now own (views parts.old.items)) (length vars.old.items) }
-    requires in_preorder { InPreorder (plan_at kind.now own (views parts.old.items)) }
-    ensures did { (at : ℕ) → Did (turning kind.now (views parts.old.items) index last) (store vars.old.items) doing.old.site doing.old.deed (rest_at kind.now result own (views parts.new.items) at) (store vars.new.items) }
-    ensures plans { plans (views parts.new.items) ≡ plans (views parts.old.items) }
-    ensures length { length vars.new.items ≡ length vars.old.items }
+/// How far a frame is, and whether nothing remains then.
+fn reached(kind: &Kind, next: Next, parts: &Vec<Frame>) -> Went
+    ensures next { result.next ≡ next }
+    ensures ended { (own : ℕ) → result.ended ≡ is_done (rest_at kind.now next.phase own (views parts.now.items) next.at) }
 {
-    match kind {
-        Kind::Count { var, .. } if !parts.is_empty() => {
-            let ended = go_within(0, parts, doing, vars);
-            after_turn(*var, index, last, ended, parts, vars)
-        }
-        _ => Phase::Stuck,
-    }
-}
-
-/// What a site of a PAR does: the part that has it does it.
-#[cycle(go)]
-fn go_together(
-    own: u16,
-    kind: &Kind,
-    at: usize,
-    parts: &mut Vec<Frame>,
-    doing: &mut SiteDeed,
-    vars: &mut Vec<Datum>,
-) -> Went
-    requires able { Able (together kind.now (views parts.old.items)) (store vars.old.items) doing.old.site doing.old.deed }
-    requires assigned { doing.old.deed ≡ Quiet → doing.old.assigned ≡ assigned_at doing.old.site (together kind.now (views parts.old.items)) (store vars.old.items) }
-    requires variables { HasVariables (plan_at kind.now own (views parts.old.items)) (length vars.old.items) }
-    requires in_preorder { InPreorder (plan_at kind.now own (views parts.old.items)) }
-    ensures did { Did (together kind.now (views parts.old.items)) (store vars.old.items) doing.old.site doing.old.deed (rest_at kind.now result.next.phase own (views parts.new.items) result.next.at) (store vars.new.items) }
-    ensures plans { plans (views parts.new.items) ≡ plans (views parts.old.items) }
-    ensures ended { result.ended ≡ is_done (rest_at kind.now result.next.phase own (views parts.new.items) result.next.at) }
-    ensures length { length vars.new.items ≡ length vars.old.items }
-{
-    match kind {
-        Kind::Par => {
-            let place = part_with(parts, doing.site);
-            let ended = go_within(place, parts, doing, vars);
-            let next = Next {
-                phase: Phase::Together,
-                at,
-            };
-            let ended = have_ended(place, ended, parts);
-            Went { next, ended }
-        }
-        _ => Went {
-            next: Next {
-                phase: Phase::Stuck,
-                at,
-            },
-            ended: false,
-        },
-    }
-}
-
-/// Whether nothing remains of any part, which nobody asks where something remains of the part at this place.
-fn have_ended(at: usize, ended: bool, parts: &Vec<Frame>) -> bool
-    requires there { at < length (views parts.now.items) }
-    requires ended { ended ≡ part_done (slice_get (views parts.now.items) at) }
-    ensures { result ≡ is_done (besides (views parts.now.items)) }
-{
-    ended && all_ended(parts)
+    let ended = is_ended(kind, next.phase, parts, next.at);
+    Went { next, ended }
 }
 
 /// What a site of the part at a place does.
 #[cycle(go)]
+#[inline(always)]
 fn go_within(at: usize, parts: &mut Vec<Frame>, doing: &mut SiteDeed, vars: &mut Vec<Datum>) -> bool
     requires able { Able (part_rest (slice_get (views parts.old.items) at)) (store vars.old.items) doing.old.site doing.old.deed }
     requires assigned { doing.old.deed ≡ Quiet → doing.old.assigned ≡ part_assigned doing.old.site (slice_get (views parts.old.items) at) (store vars.old.items) }
@@ -604,51 +595,40 @@ fn go_within(at: usize, parts: &mut Vec<Frame>, doing: &mut SiteDeed, vars: &mut
 }
 
 /// Where the part that a process was at has ended, a SEQ begins the next one, and a WHILE tests again.
-fn after_part(kind: &Kind, at: usize, ended: bool, parts: &mut Vec<Frame>) -> Went
+fn after_part(kind: &Kind, at: usize, parts: &mut Vec<Frame>) -> Went
     requires composed { has_parts kind.now ≡ true }
-    requires ended { ended ≡ part_done (slice_get (views parts.old.items) (place_of kind.now at)) }
-    ensures rest { (own : ℕ) → rest_at kind.now result.next.phase own (views parts.new.items) result.next.at ≡ follow_on (slice_get (views parts.old.items) (place_of kind.now at)) (behind kind.now own (views parts.old.items) at) }
+    requires ended { part_done (slice_get (views parts.old.items) (place_of kind.now at)) ≡ true }
+    ensures rest { (own : ℕ) → rest_at kind.now result.next.phase own (views parts.new.items) result.next.at ≡ gone_on kind.now own (views parts.old.items) at }
     ensures plans { plans (views parts.new.items) ≡ plans (views parts.old.items) }
-    ensures ended { result.ended ≡ (is_last kind.now at (length (views parts.old.items)) && ended) }
+    ensures ended { result.ended ≡ is_last kind.now at (length (views parts.old.items)) }
 {
     match kind {
-        Kind::Seq => next_part(at, ended, parts),
-        Kind::While { .. } => {
-            if ended {
-                return Went {
-                    next: Next {
-                        phase: Phase::Ready,
-                        at: 0,
-                    },
-                    ended: false,
-                };
-            }
-            Went {
-                next: Next {
-                    phase: Phase::Waiting,
-                    at: 0,
-                },
-                ended: false,
-            }
-        }
+        Kind::Seq => next_part(at, parts),
+        Kind::While { .. } => Went {
+            next: Next {
+                phase: Phase::Ready,
+                at: 0,
+            },
+            ended: false,
+        },
         _ => Went {
             next: Next {
                 phase: Phase::Waiting,
                 at,
             },
-            ended,
+            ended: true,
         },
     }
 }
 
 /// Where the part that a SEQ is at has ended, the next one begins, if there is one.
-fn next_part(at: usize, ended: bool, parts: &mut Vec<Frame>) -> Went
-    requires { ended ≡ part_done (slice_get (views parts.old.items) at) }
+fn next_part(at: usize, parts: &mut Vec<Frame>) -> Went
+    requires { part_done (slice_get (views parts.old.items) at) ≡ true }
     ensures parts { views parts.new.items ≡ seq_begun at (views parts.old.items) }
     ensures next { result.next ≡ seq_next at (views parts.old.items) }
-    ensures ended { result.ended ≡ (nat_le (length (views parts.old.items)) (suc at) && ended) }
+    ensures ended { result.ended ≡ nat_le (length (views parts.old.items)) (suc at) }
 {
-    if at < parts.len() && parts.len() - at > 1 && ended {
+    if at < parts.len() && parts.len() - at > 1 {
         start_at(parts, at + 1);
         return Went {
             next: Next {
@@ -663,6 +643,6 @@ fn next_part(at: usize, ended: bool, parts: &mut Vec<Frame>) -> Went
             phase: Phase::Waiting,
             at,
         },
-        ended,
+        ended: true,
     }
 }

@@ -1,77 +1,304 @@
-use Rattle.std.proofs.Common.{◌∙◌, ◌&&◌, ℕ, List, sym, ap, subst, rules, arith, ◌<◌, length, set}
+use Rattle.std.proofs.Common.{◌≡◌, ◌∙◌, ℕ, List, refl, sym, ap, subst, rules, arith, ◌<◌, length, set}
 use Rattle.std.specs.Prelude.{slice_get}
-use Rattle.std.specs.Int.{w64}
-use Rattle.std.proofs.lemmas.Int.{to_z-of_z}
-use mir.Val.{SFits}
-use Rattle.vc_occam.specs.declared.datum.Datum.{Datum}
-use Rattle.vc_occam.specs.declared.frame.Frame.TheViews.{the_lemmas, out-Frame}
-use Rattle.vc_occam.specs.declared.kind.Kind.{Kind}
-use Rattle.vc_occam.specs.declared.phase.Phase.TheVariants.{Ready, Waiting, Turning, Together, Chosen}
-use Rattle.vc_occam.specs.Frames.{Able, Did, HasVariables, View, assigned_at, is_counted, is_done, is_last, is_par, part_done, together, plans, part_rest, plan_at, rest_at, view, views}
-use Rattle.vc_occam.specs.Remains.{Done, Fresh, Rest}
+use Rattle.vc_occam.specs.declared.frame.Frame.TheViews.{the_lemmas, out-Frame, roll-Frame}
+use Rattle.vc_occam.specs.declared.frame.Frame.{Frame}
+use Rattle.vc_occam.specs.declared.frame.Frame.TheOpen.{Frame-F}
+use Rattle.vc_occam.specs.declared.phase.Phase.{Phase}
+use Rattle.vc_occam.specs.declared.phase.Phase.TheVariants.{Turning, Ended, Stuck}
+use Rattle.vc_occam.specs.Frames.{Able, Did, HasVariables, View, assigned_at, besides, gone_on, is_done, part_done, part_rest, plan_at, plans, rest_at, view, views}
+use Rattle.vc_occam.specs.Nexts.{TurnEnded}
+use Rattle.vc_occam.specs.Remains.{Done, Rest}
 use Rattle.vc_occam.specs.Sites.{InPreorder}
-use Rattle.vc_occam.specs.Syntax.{STOP}
+use Rattle.vc_occam.specs.Syntax.{Proc, STOP}
 use Rattle.vc_occam.specs.Terms.{store}
-use Rattle.vc_occam.proofs.Ending.{able_there, same_length}
-use Rattle.vc_occam.proofs.Frames.{parts_len, some_left, view_roll, view_out, went_done}
-use Rattle.vc_occam.proofs.Inside.{frames_inside}
-use Rattle.vc_occam.proofs.Places.{together_able, together_did, together_preorder, together_value, together_variables}
-use Rattle.vc_occam.proofs.Stepping.{within_able, within_assigned, within_preorder, within_variables, within_did, body_preorder, par_preorder, none_changed, set_changed, phase_able, phase_did, never_there, same_plan, get_view, set_view, set_plans, none_view}
-use Rattle.vc_occam.proofs.Turns.{count_variable, phase_same, store_same, turned_plans, turning_same, views_same, turning_able, turning_did, turning_value, turning_variables}
+use Rattle.vc_occam.proofs.Abreast.{beside_rest, none_beside, part_able, part_did, part_preorder, part_value, part_variables}
+use Rattle.vc_occam.proofs.Ending.{able_there, besides_goes, same_length}
+use Rattle.vc_occam.proofs.Frames.{parts_len, view_roll, view_out}
+use Rattle.vc_occam.proofs.Stepping.{body_preorder, get_view, goes_undone, going_on, never, never_done, never_there, none_changed, none_view, par_preorder, phase_able, phase_did, same_plan, set_changed, set_plans, set_view, within_able, within_assigned, within_did, within_preorder, within_variables}
+use Rattle.vc_occam.proofs.Turns.{counted_is, none_turns, turn_goes, turn_gone, turn_undone, turning_able, turning_value, turning_variables}
 use Rattle.vc_occam.proofs.+go.Goals as goal
 
-pub frame::Frame::go-go_on-went-requires : goal.frame::Frame::go-go_on-went-requires
-frame::Frame::go-go_on-went-requires t c =
-    let f = c.args.self.now in
-    let is = view_out f in (
+pub frame::Frame::go-go_within-ended-requires : goal.frame::Frame::go-go_within-ended-requires
+frame::Frame::go-go_within-ended-requires t c =
+    let o = out-Frame c.args.self.now in
+    let is = view_out c.args.self.now in
+    let vs = views o.parts.items in
+    let e = store c.args.vars.now.items in
+    let s = c.args.doing.now.site in
+    let d = c.args.doing.now.deed in
+    let h = sym c.has_parts.ensures ∙ c.if-has_parts.true in
+    let able = subst (λ (v : View). Able v.1 e s d) is c.requires.able in
+    let has = subst (λ (v : View). HasVariables v.0 (length c.args.vars.now.items)) is c.requires.variables in
+    let pre = subst (λ (v : View). InPreorder v.0) is c.requires.in_preorder in (
       search (rules, the_lemmas),
       (
-        subst (λ (v : View). Able v.1 (store c.args.vars.now.items) c.args.doing.now.site c.args.doing.now.deed) is c.requires.able,
+        simp the_lemmas (within_able o.kind o.site o.phase vs o.at c.place-place.result e s d c.in-Waiting.is h c.place-place.ensures able),
         (
-          λ q. c.requires.assigned q ∙ ap (λ (v : View). assigned_at c.args.doing.now.site v.1 (store c.args.vars.now.items)) is,
-          (subst (λ (v : View). HasVariables v.0 (length c.args.vars.now.items)) is c.requires.variables, subst (λ (v : View). InPreorder v.0) is c.requires.in_preorder),
+          λ q. simp the_lemmas (c.requires.assigned q ∙ ap (λ (v : View). assigned_at s v.1 e) is ∙ within_assigned o.kind o.site s o.phase vs o.at c.place-place.result e c.in-Waiting.is h c.place-place.ensures),
+          (simp the_lemmas (within_variables o.kind o.site vs o.at c.place-place.result _ h c.place-place.ensures has), simp the_lemmas (within_preorder o.kind o.site vs o.at c.place-place.result h c.place-place.ensures pre)),
         ),
       ),
     )
 
-pub frame::Frame::go-returns-clause-did : goal.frame::Frame::go-returns-clause-did
-frame::Frame::go-returns-clause-did t c =
-    simp (the_lemmas, view_roll, view_out) c.go_on-went.ensures.did
-
-pub frame::Frame::go-returns-clause-plan : goal.frame::Frame::go-returns-clause-plan
-frame::Frame::go-returns-clause-plan t c =
+pub frame::Frame::go-returns-then-ended-clause-did : goal.frame::Frame::go-returns-then-ended-clause-did
+frame::Frame::go-returns-then-ended-clause-did t c =
     let o = out-Frame c.args.self.now in
-    simp (the_lemmas, view_roll, view_out) (same_plan o.kind o.site (views o.parts.items) (views c.go_on-went.new.parts.items) c.go_on-went.ensures.plans)
+    let vs = views o.parts.items in
+    let ws = views c.go_within-ended.new.parts.items in
+    let us = views (out-Frame (roll-Frame (record { site = o.site; kind = o.kind; phase = o.phase; at = o.at; parts = o.parts }))).parts.items in
+    let unrolled : us ≡ vs = simp the_lemmas refl in
+    let s = c.args.doing.now.site in
+    let d = c.args.doing.now.deed in
+    let h = sym c.has_parts.ensures ∙ c.if-has_parts.true in
+    let r : (view c.leave_part.new.self).1 ≡ gone_on o.kind o.site ws o.at = c.leave_part.ensures.rest ∙ simp the_lemmas refl in
+    let same : plans ws ≡ plans vs = c.go_within-ended.ensures.plans ∙ ap plans unrolled in
+    let st = subst (λ (xs : List View). Did (part_rest (slice_get xs c.place-place.result)) (store c.args.vars.now.items) s d (part_rest (slice_get ws c.place-place.result)) (store c.go_within-ended.new.vars.items)) unrolled c.go_within-ended.ensures.did in
+    subst (λ (v : View). Did v.1 (store c.args.vars.now.items) s d (view c.leave_part.new.self).1 (store c.go_within-ended.new.vars.items)) (sym (view_out c.args.self.now))
+    (within_did o.kind o.site o.phase vs ws o.at c.place-place.result _ _ s d (view c.leave_part.new.self).1 c.in-Waiting.is h c.place-place.ensures same r st)
 
-pub going::go_on-go_within-ended-requires : goal.going::go_on-go_within-ended-requires
-going::go_on-go_within-ended-requires t c =
-    let k = c.args.kind.now in
-    let vs = views c.args.parts.now.items in
-    let h = sym c.has_parts.ensures ∙ c.if-has_parts.true in (
-      search rules,
-      (
-        within_able k c.args.own _ vs c.args.at c.place.result _ c.args.doing.now.site c.args.doing.now.deed c.in-Waiting.is h c.place.ensures c.requires.able,
-        (
-          λ q. c.requires.assigned q ∙ within_assigned k c.args.own c.args.doing.now.site _ vs c.args.at c.place.result _ c.in-Waiting.is h c.place.ensures,
-          (within_variables k c.args.own vs c.args.at c.place.result _ h c.place.ensures c.requires.variables, within_preorder k c.args.own vs c.args.at c.place.result h c.place.ensures c.requires.in_preorder),
-        ),
-      ),
-    )
+pub frame::Frame::go-returns-then-ended-clause-plan : goal.frame::Frame::go-returns-then-ended-clause-plan
+frame::Frame::go-returns-then-ended-clause-plan t c =
+    let o = out-Frame c.args.self.now in
+    let vs = views o.parts.items in
+    let ws = views c.go_within-ended.new.parts.items in
+    let us = views (out-Frame (roll-Frame (record { site = o.site; kind = o.kind; phase = o.phase; at = o.at; parts = o.parts }))).parts.items in
+    let unrolled : us ≡ vs = simp the_lemmas refl in
+    let same : plans ws ≡ plans vs = c.go_within-ended.ensures.plans ∙ ap plans unrolled in
+    let p : (view c.leave_part.new.self).0 ≡ plan_at o.kind o.site ws = c.leave_part.ensures.plan ∙ simp (the_lemmas, view_roll, view_out) refl in
+    p ∙ same_plan o.kind o.site vs ws same ∙ ap (λ (v : View). v.0) (sym (view_out c.args.self.now))
 
-pub going::go_on-returns-then-has_parts-clause-did : goal.going::go_on-returns-then-has_parts-clause-did
-going::go_on-returns-then-has_parts-clause-did t c =
-    let k = c.args.kind.now in
-    let vs = views c.args.parts.now.items in
+pub frame::Frame::go-returns-else-ended-clause-did : goal.frame::Frame::go-returns-else-ended-clause-did
+frame::Frame::go-returns-else-ended-clause-did t c =
+    let o = out-Frame c.args.self.now in
+    let vs = views o.parts.items in
+    let ws = views c.go_within-ended.new.parts.items in
+    let us = views (out-Frame (roll-Frame (record { site = o.site; kind = o.kind; phase = o.phase; at = o.at; parts = o.parts }))).parts.items in
+    let unrolled : us ≡ vs = simp the_lemmas refl in
+    let s = c.args.doing.now.site in
+    let d = c.args.doing.now.deed in
+    let h = sym c.has_parts.ensures ∙ c.if-has_parts.true in
+    let same : plans ws ≡ plans vs = c.go_within-ended.ensures.plans ∙ ap plans unrolled in
+    let st = subst (λ (xs : List View). Did (part_rest (slice_get xs c.place-place.result)) (store c.args.vars.now.items) s d (part_rest (slice_get ws c.place-place.result)) (store c.go_within-ended.new.vars.items)) unrolled c.go_within-ended.ensures.did in
+    let r = going_on o.kind o.site o.phase ws o.at c.place-place.result c.in-Waiting.is h c.place-place.ensures (sym c.go_within-ended.ensures.ended ∙ c.if-ended.false) in
+    simp (the_lemmas, view_roll, view_out) (within_did o.kind o.site o.phase vs ws o.at c.place-place.result _ _ s d _ c.in-Waiting.is h c.place-place.ensures same r st)
+
+pub frame::Frame::go-returns-else-ended-clause-plan : goal.frame::Frame::go-returns-else-ended-clause-plan
+frame::Frame::go-returns-else-ended-clause-plan t c =
+    let o = out-Frame c.args.self.now in
+    let vs = views o.parts.items in
+    let ws = views c.go_within-ended.new.parts.items in
+    let us = views (out-Frame (roll-Frame (record { site = o.site; kind = o.kind; phase = o.phase; at = o.at; parts = o.parts }))).parts.items in
+    let unrolled : us ≡ vs = simp the_lemmas refl in
+    let same : plans ws ≡ plans vs = c.go_within-ended.ensures.plans ∙ ap plans unrolled in
+    simp (the_lemmas, view_roll, view_out) (same_plan o.kind o.site vs ws same)
+
+pub frame::Frame::go-returns-else-ended-clause-ended : goal.frame::Frame::go-returns-else-ended-clause-ended
+frame::Frame::go-returns-else-ended-clause-ended t c =
+    let o = out-Frame c.args.self.now in
     let ws = views c.go_within-ended.new.parts.items in
     let h = sym c.has_parts.ensures ∙ c.if-has_parts.true in
-    within_did k c.args.own _ vs ws c.args.at c.place.result _ _ c.args.doing.now.site c.args.doing.now.deed _ c.in-Waiting.is h c.place.ensures c.go_within-ended.ensures.plans (c.after_part.ensures.rest c.args.own) c.go_within-ended.ensures.did
+    let n = goes_undone o.kind o.site o.phase ws o.at c.place-place.result c.in-Waiting.is h c.place-place.ensures (sym c.go_within-ended.ensures.ended ∙ c.if-ended.false) in
+    simp (the_lemmas, view_roll, view_out) (c.if-ended.false ∙ sym n)
 
-pub going::go_on-returns-else-has_parts-clause-did : goal.going::go_on-returns-else-has_parts-clause-did
-going::go_on-returns-else-has_parts-clause-did t c =
-    let k = c.args.kind.now in
-    let vs = views c.args.parts.now.items in
-    phase_did k c.args.own _ Waiting vs c.args.at _ _ c.args.doing.now.site c.args.doing.now.deed _ c.in-Waiting.is
-    (c.end_alone-phase.ensures.did vs c.args.at (phase_able k c.args.own _ Waiting vs c.args.at _ c.args.doing.now.site c.args.doing.now.deed c.in-Waiting.is c.requires.able))
+pub frame::Frame::go-go_within-ended-requires-then-is_counted : goal.frame::Frame::go-go_within-ended-requires-then-is_counted
+frame::Frame::go-go_within-ended-requires-then-is_counted t c =
+    let o = out-Frame c.args.self.now in
+    let is = view_out c.args.self.now in
+    let vs = views o.parts.items in
+    let e = store c.args.vars.now.items in
+    let s = c.args.doing.now.site in
+    let d = c.args.doing.now.deed in
+    let h = sym c.is_counted.ensures ∙ c.if-is_counted.true in
+    let z = counted_is o.kind h in
+    let x = c.in-Turning.index in
+    let y = c.in-Turning.last in
+    let able = phase_able o.kind o.site _ (Turning x y) vs o.at e s d c.in-Turning.is (subst (λ (v : View). Able v.1 e s d) is c.requires.able) in
+    let has = subst (λ (v : View). HasVariables v.0 (length c.args.vars.now.items)) is c.requires.variables in
+    let pre = subst (λ (v : View). InPreorder v.0) is c.requires.in_preorder in (
+      search (rules, the_lemmas),
+      (
+        turning_able o.kind z.0 z.1 z.2 vs x y e s d z.3 able,
+        (
+          λ q. c.requires.assigned q ∙ ap (λ (v : View). assigned_at s v.1 e) is ∙ ap (λ (p : Phase). assigned_at s (rest_at o.kind p o.site vs o.at) e) c.in-Turning.is ∙ turning_value o.kind s z.0 z.1 z.2 vs x y e z.3,
+          (turning_variables o.kind o.site z.0 z.1 z.2 vs _ z.3 has, body_preorder o.kind o.site vs h pre),
+        ),
+      ),
+    )
+
+pub frame::Frame::go-leave_turn-requires-clause-variables : goal.frame::Frame::go-leave_turn-requires-clause-variables
+frame::Frame::go-leave_turn-requires-clause-variables t c =
+    let o = out-Frame c.args.self.now in
+    let vs = views o.parts.items in
+    let ws = views c.go_within-ended-then-is_counted.new.parts.items in
+    let has = subst (λ (v : View). HasVariables v.0 (length c.args.vars.now.items)) (view_out c.args.self.now) c.requires.variables in
+    let p = subst (λ (m : ℕ). HasVariables (plan_at o.kind o.site vs) m) (sym c.go_within-ended-then-is_counted.ensures.length) has in
+    let w = subst (λ (p : Proc). HasVariables p (length c.go_within-ended-then-is_counted.new.vars.items)) (sym (same_plan o.kind o.site vs ws c.go_within-ended-then-is_counted.ensures.plans)) p in
+    simp (the_lemmas, view_roll, view_out) w
+
+pub frame::Frame::go-returns-then-ended-2-clause-did : goal.frame::Frame::go-returns-then-ended-2-clause-did
+frame::Frame::go-returns-then-ended-2-clause-did t c =
+    let o = out-Frame c.args.self.now in
+    let vs = views o.parts.items in
+    let ws = views c.go_within-ended-then-is_counted.new.parts.items in
+    let s = c.args.doing.now.site in
+    let d = c.args.doing.now.deed in
+    let h = sym c.is_counted.ensures ∙ c.if-is_counted.true in
+    let g : Frame-F Frame = record { site = o.site; kind = o.kind; phase = o.phase; at = o.at; parts = c.go_within-ended-then-is_counted.new.parts } in
+    let unrolled : out-Frame (roll-Frame g) ≡ g = simp the_lemmas refl in
+    let n = subst (λ (m : Frame-F Frame). TurnEnded m.kind m.phase m.site (views m.parts.items) (store c.go_within-ended-then-is_counted.new.vars.items) (view c.leave_turn.new.self).1 (store c.leave_turn.new.vars.items)) unrolled c.leave_turn.ensures.turned in
+    subst (λ (v : View). Did v.1 (store c.args.vars.now.items) s d (view c.leave_turn.new.self).1 (store c.leave_turn.new.vars.items)) (sym (view_out c.args.self.now))
+    (turn_gone o.kind o.site o.phase c.in-Turning.index c.in-Turning.last vs ws _ _ _ s d o.at _ c.in-Turning.is h c.go_within-ended-then-is_counted.ensures.plans c.go_within-ended-then-is_counted.ensures.did (sym c.go_within-ended-then-is_counted.ensures.ended ∙ c.if-ended-2.true) n)
+
+pub frame::Frame::go-returns-then-ended-2-clause-plan : goal.frame::Frame::go-returns-then-ended-2-clause-plan
+frame::Frame::go-returns-then-ended-2-clause-plan t c =
+    let o = out-Frame c.args.self.now in
+    let vs = views o.parts.items in
+    let ws = views c.go_within-ended-then-is_counted.new.parts.items in
+    let p : (view c.leave_turn.new.self).0 ≡ plan_at o.kind o.site ws = c.leave_turn.ensures.plan ∙ simp (the_lemmas, view_roll, view_out) refl in
+    p ∙ same_plan o.kind o.site vs ws c.go_within-ended-then-is_counted.ensures.plans ∙ ap (λ (v : View). v.0) (sym (view_out c.args.self.now))
+
+pub frame::Frame::go-returns-else-ended-2-clause-did : goal.frame::Frame::go-returns-else-ended-2-clause-did
+frame::Frame::go-returns-else-ended-2-clause-did t c =
+    let o = out-Frame c.args.self.now in
+    let vs = views o.parts.items in
+    let ws = views c.go_within-ended-then-is_counted.new.parts.items in
+    let h = sym c.is_counted.ensures ∙ c.if-is_counted.true in
+    simp (the_lemmas, view_roll, view_out)
+    (turn_goes o.kind o.site o.phase c.in-Turning.index c.in-Turning.last vs ws _ _ c.args.doing.now.site c.args.doing.now.deed o.at c.in-Turning.is h c.go_within-ended-then-is_counted.ensures.plans c.go_within-ended-then-is_counted.ensures.did (sym c.go_within-ended-then-is_counted.ensures.ended ∙ c.if-ended-2.false))
+
+pub frame::Frame::go-returns-else-ended-2-clause-plan : goal.frame::Frame::go-returns-else-ended-2-clause-plan
+frame::Frame::go-returns-else-ended-2-clause-plan t c =
+    let o = out-Frame c.args.self.now in
+    simp (the_lemmas, view_roll, view_out) (same_plan o.kind o.site (views o.parts.items) (views c.go_within-ended-then-is_counted.new.parts.items) c.go_within-ended-then-is_counted.ensures.plans)
+
+pub frame::Frame::go-returns-else-ended-2-clause-ended : goal.frame::Frame::go-returns-else-ended-2-clause-ended
+frame::Frame::go-returns-else-ended-2-clause-ended t c =
+    let o = out-Frame c.args.self.now in
+    let ws = views c.go_within-ended-then-is_counted.new.parts.items in
+    let h = sym c.is_counted.ensures ∙ c.if-is_counted.true in
+    simp (the_lemmas, view_roll, view_out) (c.if-ended-2.false ∙ sym (turn_undone o.kind o.site o.phase c.in-Turning.index c.in-Turning.last ws o.at c.in-Turning.is h))
+
+pub frame::Frame::go-part_with-place-requires : goal.frame::Frame::go-part_with-place-requires
+frame::Frame::go-part_with-place-requires t c =
+    let o = out-Frame c.args.self.now in
+    let h = sym c.is_par.ensures ∙ c.if-is_par.true in
+    par_preorder o.kind o.site (views o.parts.items) h (subst (λ (v : View). InPreorder v.0) (view_out c.args.self.now) c.requires.in_preorder)
+
+pub frame::Frame::go-go_within-ended-requires-then-is_par : goal.frame::Frame::go-go_within-ended-requires-then-is_par
+frame::Frame::go-go_within-ended-requires-then-is_par t c =
+    let o = out-Frame c.args.self.now in
+    let is = view_out c.args.self.now in
+    let fs = o.parts.items in
+    let e = store c.args.vars.now.items in
+    let s = c.args.doing.now.site in
+    let p = c.part_with-place.result in
+    let h = sym c.is_par.ensures ∙ c.if-is_par.true in
+    let pre = subst (λ (v : View). InPreorder v.0) is c.requires.in_preorder in
+    let has = subst (λ (v : View). HasVariables v.0 (length c.args.vars.now.items)) is c.requires.variables in (
+      search (rules, the_lemmas),
+      (
+        (part_able o.kind o.site o.phase fs o.at p e s c.in-Together.is h pre c.part_with-place.ensures c.args.doing.now.deed (subst (λ (v : View). Able v.1 e s c.args.doing.now.deed) is c.requires.able)),
+        (
+          λ q. (c.requires.assigned q ∙ ap (λ (v : View). assigned_at s v.1 e) is ∙ part_value o.kind o.site o.phase fs o.at p e s c.in-Together.is h pre c.part_with-place.ensures),
+          ((part_variables o.kind o.site (views fs) p _ h has), (part_preorder o.kind o.site (views fs) p h pre)),
+        ),
+      ),
+    )
+
+pub frame::Frame::go-returns-then-ended-3-clause-did : goal.frame::Frame::go-returns-then-ended-3-clause-did
+frame::Frame::go-returns-then-ended-3-clause-did t c =
+    let o = out-Frame c.args.self.now in
+    let h = sym c.is_par.ensures ∙ c.if-is_par.true in
+    simp (the_lemmas, view_roll, view_out)
+    (part_did o.kind o.site o.phase (views o.parts.items) (views c.go_within-ended-then-is_par.new.parts.items) c.part_with-place.result o.at _ _ c.args.doing.now.site c.args.doing.now.deed c.in-Together.is h c.go_within-ended-then-is_par.ensures.plans c.go_within-ended-then-is_par.ensures.others c.go_within-ended-then-is_par.ensures.did)
+
+pub frame::Frame::go-returns-then-ended-3-clause-plan : goal.frame::Frame::go-returns-then-ended-3-clause-plan
+frame::Frame::go-returns-then-ended-3-clause-plan t c =
+    let o = out-Frame c.args.self.now in
+    simp (the_lemmas, view_roll, view_out) (same_plan o.kind o.site (views o.parts.items) (views c.go_within-ended-then-is_par.new.parts.items) c.go_within-ended-then-is_par.ensures.plans)
+
+pub frame::Frame::go-returns-then-ended-3-clause-ended : goal.frame::Frame::go-returns-then-ended-3-clause-ended
+frame::Frame::go-returns-then-ended-3-clause-ended t c =
+    let o = out-Frame c.args.self.now in
+    let ws = views c.go_within-ended-then-is_par.new.parts.items in
+    let h = sym c.is_par.ensures ∙ c.if-is_par.true in
+    let n : c.all_parts_ended.result ≡ is_done (besides ws) = c.all_parts_ended.ensures ∙ simp the_lemmas refl in
+    simp (the_lemmas, view_roll, view_out) (n ∙ sym (ap is_done (beside_rest o.kind o.site o.phase ws o.at c.in-Together.is h)))
+
+pub frame::Frame::go-returns-else-ended-3-clause-did : goal.frame::Frame::go-returns-else-ended-3-clause-did
+frame::Frame::go-returns-else-ended-3-clause-did t c =
+    let o = out-Frame c.args.self.now in
+    let h = sym c.is_par.ensures ∙ c.if-is_par.true in
+    simp (the_lemmas, view_roll, view_out)
+    (part_did o.kind o.site o.phase (views o.parts.items) (views c.go_within-ended-then-is_par.new.parts.items) c.part_with-place.result o.at _ _ c.args.doing.now.site c.args.doing.now.deed c.in-Together.is h c.go_within-ended-then-is_par.ensures.plans c.go_within-ended-then-is_par.ensures.others c.go_within-ended-then-is_par.ensures.did)
+
+pub frame::Frame::go-returns-else-ended-3-clause-plan : goal.frame::Frame::go-returns-else-ended-3-clause-plan
+frame::Frame::go-returns-else-ended-3-clause-plan t c =
+    let o = out-Frame c.args.self.now in
+    simp (the_lemmas, view_roll, view_out) (same_plan o.kind o.site (views o.parts.items) (views c.go_within-ended-then-is_par.new.parts.items) c.go_within-ended-then-is_par.ensures.plans)
+
+pub frame::Frame::go-returns-else-ended-3-clause-ended : goal.frame::Frame::go-returns-else-ended-3-clause-ended
+frame::Frame::go-returns-else-ended-3-clause-ended t c =
+    let o = out-Frame c.args.self.now in
+    let is = view_out c.args.self.now in
+    let fs = o.parts.items in
+    let vs = views fs in
+    let ws = views c.go_within-ended-then-is_par.new.parts.items in
+    let e = store c.args.vars.now.items in
+    let s = c.args.doing.now.site in
+    let d = c.args.doing.now.deed in
+    let p = c.part_with-place.result in
+    let h = sym c.is_par.ensures ∙ c.if-is_par.true in
+    let pre = subst (λ (v : View). InPreorder v.0) is c.requires.in_preorder in
+    let able = part_able o.kind o.site o.phase fs o.at p e s c.in-Together.is h pre c.part_with-place.ensures d (subst (λ (v : View). Able v.1 e s d) is c.requires.able) in
+    let there = subst (λ (n : ℕ). p < n) (same_length vs ws c.go_within-ended-then-is_par.ensures.plans) (able_there vs p e s d able) in
+    let goes = besides_goes ws p there (sym c.go_within-ended-then-is_par.ensures.ended ∙ c.if-ended-3.false) in
+    simp (the_lemmas, view_roll, view_out) (c.if-ended-3.false ∙ sym goes ∙ sym (ap is_done (beside_rest o.kind o.site o.phase ws o.at c.in-Together.is h)))
+
+pub frame::Frame::go-returns-else-is_counted-clause-did : goal.frame::Frame::go-returns-else-is_counted-clause-did
+frame::Frame::go-returns-else-is_counted-clause-did t c =
+    let o = out-Frame c.args.self.now in
+    let is = view_out c.args.self.now in
+    let e = store c.args.vars.now.items in
+    let h = sym c.is_counted.ensures ∙ c.if-is_counted.false in
+    let able = subst (λ (v : View). Able v.1 e c.args.doing.now.site c.args.doing.now.deed) is c.requires.able in
+    subst (λ (v : View). Did v.1 e c.args.doing.now.site c.args.doing.now.deed (view c.args.self.now).1 e) (sym is)
+    (none_turns o.kind o.site o.phase c.in-Turning.index c.in-Turning.last (views o.parts.items) o.at e _ _ _ c.in-Turning.is h able)
+
+pub frame::Frame::go-returns-else-is_par-clause-did : goal.frame::Frame::go-returns-else-is_par-clause-did
+frame::Frame::go-returns-else-is_par-clause-did t c =
+    let o = out-Frame c.args.self.now in
+    let is = view_out c.args.self.now in
+    let e = store c.args.vars.now.items in
+    let h = sym c.is_par.ensures ∙ c.if-is_par.false in
+    let able = subst (λ (v : View). Able v.1 e c.args.doing.now.site c.args.doing.now.deed) is c.requires.able in
+    subst (λ (v : View). Did v.1 e c.args.doing.now.site c.args.doing.now.deed (view c.args.self.now).1 e) (sym is)
+    (none_beside o.kind o.site o.phase (views o.parts.items) o.at e _ _ _ c.in-Together.is h able)
+
+pub frame::Frame::go-returns-in-Ended-clause-did : goal.frame::Frame::go-returns-in-Ended-clause-did
+frame::Frame::go-returns-in-Ended-clause-did t c =
+    let o = out-Frame c.args.self.now in
+    let is = view_out c.args.self.now in
+    let vs = views o.parts.items in
+    let e = store c.args.vars.now.items in
+    let able = subst (λ (v : View). Able v.1 e c.args.doing.now.site c.args.doing.now.deed) is c.requires.able in
+    subst (λ (v : View). Did v.1 e c.args.doing.now.site c.args.doing.now.deed (view c.args.self.now).1 e) (sym is)
+    (phase_did o.kind o.site _ Ended vs o.at e e _ _ _ c.in-Ended.is (never_done _ _ e e _ _ (phase_able o.kind o.site _ Ended vs o.at e _ _ c.in-Ended.is able)))
+
+pub frame::Frame::go-returns-in-Ended-clause-ended : goal.frame::Frame::go-returns-in-Ended-clause-ended
+frame::Frame::go-returns-in-Ended-clause-ended t c =
+    let o = out-Frame c.args.self.now in
+    sym (ap (λ (v : View). is_done v.1) (view_out c.args.self.now) ∙ ap (λ (p : Phase). is_done (rest_at o.kind p o.site (views o.parts.items) o.at)) c.in-Ended.is)
+
+pub frame::Frame::go-returns-in-Stuck-clause-did : goal.frame::Frame::go-returns-in-Stuck-clause-did
+frame::Frame::go-returns-in-Stuck-clause-did t c =
+    let o = out-Frame c.args.self.now in
+    let is = view_out c.args.self.now in
+    let vs = views o.parts.items in
+    let e = store c.args.vars.now.items in
+    let able = subst (λ (v : View). Able v.1 e c.args.doing.now.site c.args.doing.now.deed) is c.requires.able in
+    subst (λ (v : View). Did v.1 e c.args.doing.now.site c.args.doing.now.deed (view c.args.self.now).1 e) (sym is)
+    (phase_did o.kind o.site _ Stuck vs o.at e e _ _ _ c.in-Stuck.is (never _ _ e e _ _ (phase_able o.kind o.site _ Stuck vs o.at e _ _ c.in-Stuck.is able)))
 
 pub going::go_within-returns-then-at-len-clause-did : goal.going::go_within-returns-then-at-len-clause-did
 going::go_within-returns-then-at-len-clause-did t c =
@@ -91,61 +318,6 @@ going::go_within-returns-clause-did t c =
     let n = none_view fs c.args.at (omega (arith, c.len.ensures)) in
     never_there _ _ _ _ c.args.doing.now.site c.args.doing.now.deed (subst (λ (r : Rest). Able r (store c.args.vars.now.items) c.args.doing.now.site c.args.doing.now.deed) (ap part_rest n) c.requires.able)
 
-pub going::go_on-returns-in-Turning-clause-did : goal.going::go_on-returns-in-Turning-clause-did
-going::go_on-returns-in-Turning-clause-did t c =
-    let x = c.in-Turning.index in
-    let y = c.in-Turning.last in
-    let vs = views c.args.parts.now.items in
-    let f : SFits w64 x = search rules in
-    let g : SFits w64 y = search rules in
-    phase_did c.args.kind.now c.args.own _ (Turning x y) vs c.args.at _ _ c.args.doing.now.site c.args.doing.now.deed _ c.in-Turning.is
-    (turning_same c.args.kind.now vs x _ y _ _ _ c.args.doing.now.site c.args.doing.now.deed _ (to_z-of_z w64 x f) (to_z-of_z w64 y g) (c.go_turn-phase.ensures.did c.args.at))
-
-pub going::go_turn-go_within-ended-requires : goal.going::go_turn-go_within-ended-requires
-going::go_turn-go_within-ended-requires t c =
-    let k = c.args.kind.now in
-    let vs = views c.args.parts.now.items in
-    let e = store c.args.vars.now.items in (
-      search rules,
-      (
-        turning_able k c.in-Count.var _ _ vs c.args.index c.args.last e c.args.doing.now.site c.args.doing.now.deed c.in-Count.is c.requires.able,
-        (
-          λ q. c.requires.assigned q ∙ turning_value k c.args.doing.now.site c.in-Count.var _ _ vs c.args.index c.args.last e c.in-Count.is,
-          (turning_variables k c.args.own c.in-Count.var _ _ vs _ c.in-Count.is c.requires.variables, body_preorder k c.args.own vs (ap is_counted c.in-Count.is) c.requires.in_preorder),
-        ),
-      ),
-    )
-
-pub going::go_turn-after_turn-requires-clause-variable : goal.going::go_turn-after_turn-requires-clause-variable
-going::go_turn-after_turn-requires-clause-variable t c =
-    let l = count_variable c.args.kind.now c.args.own c.in-Count.var _ _ (views c.args.parts.now.items) _ c.in-Count.is (some_left c.args.parts.now _ c.is_empty.ensures c.if-not-is_empty.true) c.requires.variables in
-    subst (λ (m : ℕ). c.in-Count.var < m) (sym c.go_within-ended.ensures.length) l
-
-pub going::go_turn-returns-in-Count-clause-did : goal.going::go_turn-returns-in-Count-clause-did
-going::go_turn-returns-in-Count-clause-did t c =
-    let x = c.args.index in
-    let y = c.args.last in
-    let f : SFits w64 x = search rules in
-    let g : SFits w64 y = search rules in
-    let i = to_z-of_z w64 x f in
-    let j = to_z-of_z w64 y g in
-    let ws = views c.go_within-ended.new.parts.items in
-    let d = part_done (slice_get ws 0) in
-    turning_did c.args.kind.now c.args.own c.in-Count.var _ _ (views c.args.parts.now.items) (views c.go_within-ended.new.parts.items) _ c.args.index c.args.last _ _ _ c.args.doing.now.site c.args.doing.now.deed _ c.in-Count.is (some_left c.args.parts.now _ c.is_empty.ensures c.if-not-is_empty.true)
-    c.go_within-ended.ensures.plans c.go_within-ended.ensures.did (c.after_turn.ensures.phase ∙ phase_same d x _ y _ i j) (c.after_turn.ensures.parts ∙ views_same d x _ y _ ws i j) (c.after_turn.ensures.value ∙ store_same d c.in-Count.var x _ y _ (store c.go_within-ended.new.vars.items) i j)
-
-pub going::go_turn-returns-in-Count-clause-plans : goal.going::go_turn-returns-in-Count-clause-plans
-going::go_turn-returns-in-Count-clause-plans t c =
-    let vs = views c.go_within-ended.new.parts.items in
-    ap plans c.after_turn.ensures.parts ∙ turned_plans (part_done (slice_get vs 0)) _ _ vs ∙ c.go_within-ended.ensures.plans
-
-pub going::go_on-returns-in-Chosen-clause-did : goal.going::go_on-returns-in-Chosen-clause-did
-going::go_on-returns-in-Chosen-clause-did t c =
-    let k = c.args.kind.now in
-    let vs = views c.args.parts.now.items in
-    phase_did k c.args.own _ Chosen vs c.args.at _ _ c.args.doing.now.site c.args.doing.now.deed _ c.in-Chosen.is
-    (c.end_choice-phase.ensures.did c.args.doing.now.site (phase_able k c.args.own _ Chosen vs c.args.at _ c.args.doing.now.site c.args.doing.now.deed c.in-Chosen.is c.requires.able))
-
 pub going::go_within-returns-then-at-len-clause-others : goal.going::go_within-returns-then-at-len-clause-others
 going::go_within-returns-then-at-len-clause-others t c = (view c.go.new.self, set_changed c.args.parts.now.items c.args.at c.go.new.self)
 
@@ -154,44 +326,6 @@ going::go_within-returns-clause-others t c =
     let o = parts_len c.args.parts.now in
     let nothing : View = (STOP 0, Done) in
     (nothing, none_changed (views c.args.parts.now.items) c.args.at nothing (omega (arith, c.len.ensures)))
-
-pub going::go_on-returns-in-Together-clause-did : goal.going::go_on-returns-in-Together-clause-did
-going::go_on-returns-in-Together-clause-did t c =
-    phase_did c.args.kind.now c.args.own _ Together (views c.args.parts.now.items) c.args.at _ _ c.args.doing.now.site c.args.doing.now.deed _ c.in-Together.is c.go_together.ensures.did
-
-pub going::go_together-go_within-ended-requires : goal.going::go_together-go_within-ended-requires
-going::go_together-go_within-ended-requires t c =
-    let k = c.args.kind.now in
-    let fs = c.args.parts.now.items in
-    let e = store c.args.vars.now.items in
-    let w = frames_inside fs in (
-      search rules,
-      (
-        together_able k c.args.own fs c.part_with-place.result e c.args.doing.now.site c.args.doing.now.deed c.in-Par.is c.requires.in_preorder w c.part_with-place.ensures c.requires.able,
-        (
-          λ q. c.requires.assigned q ∙ together_value k c.args.own fs c.part_with-place.result e c.args.doing.now.site c.in-Par.is c.requires.in_preorder w c.part_with-place.ensures,
-          (together_variables k c.args.own (views fs) c.part_with-place.result _ c.in-Par.is c.requires.variables, together_preorder k c.args.own (views fs) c.part_with-place.result c.in-Par.is c.requires.in_preorder),
-        ),
-      ),
-    )
-
-pub going::go_together-returns-in-Par-clause-did : goal.going::go_together-returns-in-Par-clause-did
-going::go_together-returns-in-Par-clause-did t c =
-    together_did c.args.kind.now c.args.own (views c.args.parts.now.items) (views c.go_within-ended.new.parts.items) c.part_with-place.result c.args.at _ _ c.args.doing.now.site c.args.doing.now.deed c.in-Par.is c.go_within-ended.ensures.plans c.go_within-ended.ensures.others c.go_within-ended.ensures.did
-
-pub going::go_together-part_with-place-requires : goal.going::go_together-part_with-place-requires
-going::go_together-part_with-place-requires t c = par_preorder c.args.kind.now c.args.own (views c.args.parts.now.items) (ap is_par c.in-Par.is) c.requires.in_preorder
-
-pub going::go_on-returns-in-Ready-clause-did : goal.going::go_on-returns-in-Ready-clause-did
-going::go_on-returns-in-Ready-clause-did t c =
-    let k = c.args.kind.now in
-    let vs = views c.args.parts.now.items in
-    phase_did k c.args.own _ Ready vs c.args.at _ _ c.args.doing.now.site c.args.doing.now.deed _ c.in-Ready.is
-    (c.begin-next.ensures.did (phase_able k c.args.own _ Ready vs c.args.at _ c.args.doing.now.site c.args.doing.now.deed c.in-Ready.is c.requires.able))
-
-pub frame::Frame::go-returns-clause-ended : goal.frame::Frame::go-returns-clause-ended
-frame::Frame::go-returns-clause-ended t c =
-    simp (the_lemmas, view_roll, view_out) c.go_on-went.ensures.ended
 
 pub going::go_within-returns-then-at-len-clause-ended : goal.going::go_within-returns-then-at-len-clause-ended
 going::go_within-returns-then-at-len-clause-ended t c =
@@ -204,28 +338,3 @@ pub going::go_within-returns-clause-ended : goal.going::go_within-returns-clause
 going::go_within-returns-clause-ended t c =
     let o = c.args.parts.now.ok.0 in
     sym (ap part_done (none_view c.args.parts.now.items c.args.at (omega (arith, c.len.ensures))))
-
-pub going::go_on-after_part-requires-clause-ended : goal.going::go_on-after_part-requires-clause-ended
-going::go_on-after_part-requires-clause-ended t c =
-    c.go_within-ended.ensures.ended ∙ ap (λ (k : ℕ). part_done (slice_get (views c.go_within-ended.new.parts.items) k)) c.place.ensures
-
-pub going::go_on-returns-then-has_parts-clause-ended : goal.going::go_on-returns-then-has_parts-clause-ended
-going::go_on-returns-then-has_parts-clause-ended t c =
-    let k = c.args.kind.now in
-    let ws = views c.go_within-ended.new.parts.items in
-    let h = sym c.has_parts.ensures ∙ c.if-has_parts.true in
-    let e = c.go_within-ended.ensures.ended ∙ ap (λ (n : ℕ). part_done (slice_get ws n)) c.place.ensures in
-    c.after_part.ensures.ended ∙ ap (λ b. is_last k c.args.at (length ws) && b) e ∙ sym (went_done k c.args.own ws c.args.at h) ∙ sym (ap is_done (c.after_part.ensures.rest c.args.own))
-
-pub going::go_together-have_ended-ended-requires-clause-there : goal.going::go_together-have_ended-ended-requires-clause-there
-going::go_together-have_ended-ended-requires-clause-there t c =
-    let k = c.args.kind.now in
-    let fs = c.args.parts.now.items in
-    let e = store c.args.vars.now.items in
-    let w = frames_inside fs in
-    let a = together_able k c.args.own fs c.part_with-place.result e c.args.doing.now.site c.args.doing.now.deed c.in-Par.is c.requires.in_preorder w c.part_with-place.ensures c.requires.able in
-    subst (λ (n : ℕ). c.part_with-place.result < n) (same_length (views fs) (views c.go_within-ended.new.parts.items) c.go_within-ended.ensures.plans) (able_there (views fs) c.part_with-place.result e c.args.doing.now.site c.args.doing.now.deed a)
-
-pub going::go_together-returns-in-Par-clause-ended : goal.going::go_together-returns-in-Par-clause-ended
-going::go_together-returns-in-Par-clause-ended t c =
-    c.have_ended-ended.ensures ∙ ap (λ (k : Kind). is_done (together k (views c.go_within-ended.new.parts.items))) (sym c.in-Par.is)

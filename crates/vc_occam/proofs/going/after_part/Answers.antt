@@ -1,4 +1,4 @@
-use Rattle.std.proofs.Common.{◌≡◌, ◌∙◌, ◌&&◌, List, length, sym, ap, subst}
+use Rattle.std.proofs.Common.{◌≡◌, ◌∙◌, List, length, sym, ap, subst}
 use Rattle.std.specs.Prelude.{slice_get}
 use Rattle.vc_occam.specs.declared.kind.Kind.{Kind}
 use Rattle.vc_occam.specs.declared.kind.Kind.TheVariants.{Seq}
@@ -23,9 +23,9 @@ returns-in-Seq-clause-plans c = ap plans c.next_part.ensures.parts ∙ seq_plans
 pub next_part-requires : goal.next_part-requires
 next_part-requires c =
     let vs = views c.args.parts.now.items in
-    c.requires.ended ∙ ap (λ (k : Kind). part_done (slice_get vs (place_of k c.args.at))) c.in-Seq.is
+    sym (ap (λ (k : Kind). part_done (slice_get vs (place_of k c.args.at))) c.in-Seq.is) ∙ c.requires.ended
 
 pub returns-in-Seq-clause-ended : goal.returns-in-Seq-clause-ended
 returns-in-Seq-clause-ended c =
     let vs = views c.args.parts.now.items in
-    c.next_part.ensures.ended ∙ ap (λ (k : Kind). is_last k c.args.at (length vs) && c.args.ended) (sym c.in-Seq.is)
+    c.next_part.ensures.ended ∙ ap (λ (k : Kind). is_last k c.args.at (length vs)) (sym c.in-Seq.is)
