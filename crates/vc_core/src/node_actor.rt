@@ -146,7 +146,6 @@ impl NodeActor {
     }
 
     // The next move that the process can make, where the links have nothing to do, going round behind the site that acted last.
-    #[inline(never)]
     fn next_move(&mut self) -> Result<Option<Act>, Memory>
         ensures same { self.new ≡ self.old }
         ensures may { IfOk result (λ act. IfSome act (λ a. NodeMay self.old a)) }

@@ -1,18 +1,11 @@
 use Rattle.std.proofs.Common.{◌≡◌, ◌<◌, refl, sym, subst, arith, inl, inr, get_or}
 use Rattle.std.proofs.lemmas.Bool.{cases_lt}
 use Rattle.std.proofs.lemmas.List.Elements.{Contains-get_or}
-use Rattle.std.specs.List.{Contains}
-use Rattle.vc_occam.specs.Runnings.{moves}
 use Rattle.vc_occam.specs.declared.moves.Move.TheVariants.{Offer}
 use Rattle.vc_core.specs.Able.{CanMove}
 use Rattle.vc_core.proofs.AbleMoves.{half_can, can_half}
 use Rattle.vc_core.proofs.Turning.{same_there, clash}
 use Rattle.vc_core.proofs.node.Node.first_let.Goals as goal
-
-pub returns-then-channel_lets-clause-may : goal.returns-then-channel_lets-clause-may
-returns-then-channel_lets-clause-may c =
-    let i = c.loop-made.made-index in
-    record { listed = c.requires _ (Contains-get_or c.args.moves.now i (Offer 0 0) c.loop-made-test.true); answers = c.if-channel_lets.ensures.lets.0 refl }
 
 pub returns-then-channel_lets-clause-some : goal.returns-then-channel_lets-clause-some
 returns-then-channel_lets-clause-some c = λ plan k is.
