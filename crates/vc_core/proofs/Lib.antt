@@ -33,3 +33,4 @@ pub mod Taking
 pub mod Leading
 pub mod Bits
 pub mod Lined
+pub mod Listing

@@ -12,6 +12,7 @@ pub mod Ways
 pub mod Wired
 pub mod Fronts
 pub mod Lined
+pub mod Listed
 pub mod State
 pub mod Replaying
 pub mod Viewed

@@ -12,7 +12,7 @@ use Rattle.vc_core.specs.declared.actor.Part.TheVariants as part
 use Rattle.vc_core.specs.declared.node.Node.{Node}
 
 abbrev pub acting : Part → Acting
-acting (part.Node x) = OfNode x.node
+acting (part.Node x) = OfNode x
 acting (part.Switch x) = OfSwitch x.switch
 
 -- the node, if the actor is one

@@ -210,11 +210,12 @@ impl Actor {
 
     /// What the actor does next, if it has a step to make where its links have this room.
     #[inline(always)]
-    pub(crate) fn next(&self, room: u32) -> Result<Option<Act>, Memory>
-        ensures may { IfOk result (λ act. IfSome act (λ a. MayAct self.now a)) }
-        ensures finds { (plan : Plan) (k : ℕ) → IsActorOf plan k self.now → IfOk result (FindsTurn plan k self.now room) }
+    pub(crate) fn next(&mut self, room: u32) -> Result<Option<Act>, Memory>
+        ensures same { self.new ≡ self.old }
+        ensures may { IfOk result (λ act. IfSome act (λ a. MayAct self.old a)) }
+        ensures finds { (plan : Plan) (k : ℕ) → IsActorOf plan k self.old → IfOk result (FindsTurn plan k self.old room) }
     {
-        match &self.part {
+        match &mut self.part {
             Part::Node(node) => node.next(room),
             Part::Switch(switch) => Ok(switch.next(room)),
         }

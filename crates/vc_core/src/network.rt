@@ -253,14 +253,17 @@ impl Network {
 
     /// What an actor does next where every way has room; nothing where it has no step but to take.
     #[inline(always)]
-    pub fn next(&self, actor: u8) -> Result<Option<Event>, Memory>
-        ensures may { IfOk result (λ found. IfSome found (λ e. MayActAt (state_of self.now) e.actor e.act)) }
-        ensures finds { (p : Plan) → IsNetworkOf p (state_of self.now) → IfOk result (FindsEvent p (state_of self.now) actor) }
+    pub fn next(&mut self, actor: u8) -> Result<Option<Event>, Memory>
+        ensures same { state_of self.new ≡ state_of self.old }
+        ensures may { IfOk result (λ found. IfSome found (λ e. MayActAt (state_of self.old) e.actor e.act)) }
+        ensures finds { (p : Plan) → IsNetworkOf p (state_of self.old) → IfOk result (FindsEvent p (state_of self.old) actor) }
     {
-        let Some(acting) = at(self.actors.as_slice(), usize::from(actor)) else {
+        let place = usize::from(actor);
+        if place >= self.actors.len() {
             return Ok(None);
-        };
-        match acting.next(self.lines.room(actor))? {
+        }
+        let room = self.lines.room(actor);
+        match self.actors[place].next(room)? {
             Some(act) => Ok(Some(Event { actor, act })),
             None => Ok(None),
         }

@@ -1,20 +1,27 @@
 //! A node: its process, and the virtual channel processor that carries its channels.
-ghost use Rattle.std.specs.Prelude.{◌≡◌, ◌≢◌, ◌<◌, ◌↔◌, ◌++◌, ℕ, [], Option, Some, IsTrue, OnOk, OnErr};
+ghost use Rattle.std.specs.Prelude.{◌≡◌, ◌≢◌, ◌<◌, ◌≤◌, ◌↔◌, ◌++◌, ℕ, [], length, false, Option, Some, None, IsTrue, IfOk, IfSome, OnOk, OnErr};
+ghost use Rattle.std.specs.List.{Contains};
+ghost use Rattle.vc_occam.specs.Runnings.{moves as moves_of};
+ghost use Rattle.vc_occam.specs.declared.moves.Move.{Move as SpeltMove};
+ghost use Rattle.vc_core.specs.Acting.{NodeMay};
+ghost use Rattle.vc_core.specs.Turns.{IsTurn, FindsAt, FindsMove};
 ghost use Rattle.vc_occam.specs.States.{came};
 ghost use Rattle.vc_vcp.specs.Seen.{seen, answered, passed_of};
 ghost use Rattle.vc_vcp.specs.Steps.{Complete, Finished};
 ghost use Rattle.vc_network.specs.Network.{GoesOn};
 ghost use Rattle.vc_told.specs.Process.{does};
-ghost use Rattle.vc_core.specs.Shown.{process_of};
+ghost use Rattle.vc_core.specs.Shown.{process_of, OfNode};
 ghost use Rattle.vc_core.specs.Passing.{IsAwaited, MakesPass};
 ghost use Rattle.vc_core.specs.Viewed.{node_view};
 ghost use Rattle.vc_network.specs.Plan.{Plan};
 ghost use Rattle.vc_core.specs.OfPlan.{IsNodeOf};
 ghost use Rattle.vc_core.specs.MayMove.{MayMove, AnswersMove, MakesMove};
-ghost use Rattle.vc_core.specs.Able.{HalfCan, CanMove};
+ghost use Rattle.vc_core.specs.Able.{HalfCan, NodeCan, CanMove};
 ghost use Rattle.vc_tokens.specs.Spelt.{tokens};
 
+use crate::act::Act;
 use crate::inside::Inside;
+use crate::room::has_room;
 use sqlite_items::Items;
 use std::alloc::Global;
 use vc_occam::{Answer, Move, Running};
@@ -22,10 +29,13 @@ use vc_packets::{Memory, Packet};
 use vc_tokens::Token;
 use vc_vcp::{Taken, Vcp, Want};
 
+/// The links of a node.
+pub(crate) const NODE_LINKS: u8 = 4;
+
 /// A node: its process, the virtual channel processor that carries its channels, and the channels inside it.
 #[derive(Drop)]
 pub(crate) struct Node {
-    alloc: Global,
+    pub(crate) alloc: Global,
     pub(crate) vcp: Vcp,
     pub(crate) process: Running,
     pub(crate) inside: Inside,
@@ -65,6 +75,74 @@ impl Node {
             Move::Inner { chan, .. } => self.inside.is_open(chan),
             Move::Quiet { .. } => true,
         }
+    }
+
+    /// The least link whose buffer has a token.
+    pub(crate) fn next_pass(&self) -> Option<Act>
+        ensures may { IfSome result (λ a. NodeMay self.now a) }
+        ensures finds { (plan : Plan) (k : ℕ) → IsNodeOf plan k self.now → FindsAt (λ link. Act.Pass link) (NodeCan plan k self.now) result }
+    {
+        prove!(self.vcp.links() == NODE_LINKS);
+        for link in 0..NODE_LINKS {
+            if self.vcp.may_pass(link) {
+                return Some(Act::Pass { link });
+            }
+        }
+        None
+    }
+
+    /// The least link with room on which a token may be put.
+    pub(crate) fn next_put(&self, room: u32) -> Option<Act>
+        ensures may { IfSome result (λ a. NodeMay self.now a) }
+        ensures finds { (plan : Plan) (k : ℕ) → IsNodeOf plan k self.now → FindsAt (λ link. Act.Put link) (IsTurn plan k (OfNode self.now) room) result }
+    {
+        for link in 0..NODE_LINKS {
+            if has_room(room, link) && self.vcp.may_put(link) {
+                return Some(Act::Put { link });
+            }
+        }
+        None
+    }
+
+    /// The least link with room on which a flow control token may be put.
+    pub(crate) fn next_grant(&self, room: u32) -> Option<Act>
+        ensures may { IfSome result (λ a. NodeMay self.now a) }
+        ensures finds { (plan : Plan) (k : ℕ) → IsNodeOf plan k self.now → FindsAt (λ link. Act.Fct link) (IsTurn plan k (OfNode self.now) room) result }
+    {
+        for link in 0..NODE_LINKS {
+            if has_room(room, link) && self.vcp.may_grant(link) {
+                return Some(Act::Fct { link });
+            }
+        }
+        None
+    }
+
+    /// The next of the process's moves that can be made, going round from this site on.
+    pub(crate) fn next_move(&self, moves: &[Move], site: u16) -> Option<Act>
+        requires { moves.now ≡ moves_of self.now.process }
+        ensures may { IfSome result (λ a. NodeMay self.now a) }
+        ensures finds { (plan : Plan) (k : ℕ) → IsNodeOf plan k self.now → FindsMove plan k self.now result }
+    {
+        let (before, rest) = moves.split_at(first_from(moves, site));
+        match self.first_let(rest) {
+            Some(act) => Some(act),
+            None => self.first_let(before),
+        }
+    }
+
+    // The first of these moves of the process that its channel lets be made.
+    fn first_let(&self, moves: &[Move]) -> Option<Act>
+        requires { (m : SpeltMove) → Contains moves.now m → Contains (moves_of self.now.process) m }
+        ensures may { IfSome result (λ a. NodeMay self.now a) }
+        ensures some { (plan : Plan) (k : ℕ) → IsNodeOf plan k self.now → IfSome result (λ a. FindsMove plan k self.now (Some a)) }
+        ensures none { (plan : Plan) (k : ℕ) (m : SpeltMove) → IsNodeOf plan k self.now → result ≡ None → Contains moves.now m → CanMove plan k self.now m → ⊥ }
+    {
+        for made in moves {
+            if self.channel_lets(made) {
+                return Some(Act::Proc(*made));
+            }
+        }
+        None
     }
 
     /// The messages offered on a channel here, the first one first.
@@ -234,27 +312,35 @@ impl Node {
         self.process.act(made, Answer::Nothing)
     }
 
-    /// A token passes from a link's buffer; where a message is whole or an output finished the process goes on.
-    pub(crate) fn pass(&mut self, link: u8) -> Result<(), Memory>
+    /// A token passes from a link's buffer; where a message is whole or an output finished the process goes on, and the answer is
+    /// whether it may have.
+    pub(crate) fn pass(&mut self, link: u8) -> Result<bool, Memory>
         requires link { link < 4 }
         requires waits { ((seen self.old.vcp).link link).receiver.buffer ≢ [] }
         ensures ok { (plan : Plan) (k : ℕ) → IsNodeOf plan k self.old → OnOk result (MakesPass plan k self.old link self.new) }
+        ensures rests { IfOk result (λ goes_on. goes_on ≡ false → self.new.process ≡ self.old.process) }
         ensures err { OnErr result (self.new ≡ self.old) }
     {
         let taken = self.vcp.pass(link)?;
-        go_on(&mut self.process, taken);
-        Ok(())
+        Ok(go_on(&mut self.process, taken))
     }
 }
 
-// The process goes on where its message is whole or its output finished.
-fn go_on(process: &mut Running, taken: Option<Taken>)
-    ensures { IsAwaited (process_of process.old) (passed_of taken) → GoesOn does (process_of process.old) (passed_of taken) (process_of process.new) }
+// The process goes on where its message is whole or its output finished. The answer is whether it may have.
+fn go_on(process: &mut Running, taken: Option<Taken>) -> bool
+    ensures goes_on { IsAwaited (process_of process.old) (passed_of taken) → GoesOn does (process_of process.old) (passed_of taken) (process_of process.new) }
+    ensures rests { result ≡ false → process.new ≡ process.old }
 {
     match taken {
-        Some(Taken::Complete { chan, message }) => receive(process, chan, message),
-        Some(Taken::Finished { chan }) => finish(process, chan),
-        _ => {}
+        Some(Taken::Complete { chan, message }) => {
+            receive(process, chan, message);
+            true
+        }
+        Some(Taken::Finished { chan }) => {
+            finish(process, chan);
+            true
+        }
+        _ => false,
     }
 }
 
@@ -284,5 +370,29 @@ fn answer_of(want: Want) -> Answer
     match want {
         Want::Waits | Want::Stored => Answer::Waits,
         Want::Complete(message) => Answer::Got(message),
+    }
+}
+
+// The place of the first move by a site from this one on.
+fn first_from(moves: &[Move], site: u16) -> usize
+    ensures { result ≤ length moves.now }
+{
+    for (place, made) in moves.iter().enumerate() {
+        if site_of(made) >= site {
+            return place;
+        }
+    }
+    0
+}
+
+/// The site that makes a move; that of the output where two sites meet.
+pub(crate) fn site_of(made: &Move) -> u16 {
+    match *made {
+        Move::Offer { site, .. }
+        | Move::Want { site, .. }
+        | Move::Choose { site, .. }
+        | Move::Stopch { site, .. }
+        | Move::Quiet { site } => site,
+        Move::Inner { sender, .. } => sender,
     }
 }

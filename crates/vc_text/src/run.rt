@@ -109,8 +109,9 @@ fn act(network: &mut Network, seats: &mut Seats, actor: u8) -> Result<Option<Eve
 }
 
 /// Whether an actor has an event.
-fn has_event(network: &Network, actor: u8) -> Result<bool, Memory>
-    ensures { (p : Plan) → IsNetworkOf p (state_of network.now) → actor < actors p → IfOk result (HasEvent p (state_of network.now) actor) }
+fn has_event(network: &mut Network, actor: u8) -> Result<bool, Memory>
+    ensures has { (p : Plan) → IsNetworkOf p (state_of network.old) → actor < actors p → IfOk result (HasEvent p (state_of network.old) actor) }
+    ensures same { state_of network.new ≡ state_of network.old }
 {
     if network.link_to_take(actor).is_some() {
         return Ok(true);
@@ -119,8 +120,9 @@ fn has_event(network: &Network, actor: u8) -> Result<bool, Memory>
 }
 
 /// Whether some actor has an event.
-fn goes_on(network: &Network) -> Result<bool, Memory>
-    ensures { (p : Plan) → IsNetworkOf p (state_of network.now) → IfOk result (GoesOn p (state_of network.now)) }
+fn goes_on(network: &mut Network) -> Result<bool, Memory>
+    ensures goes_on { (p : Plan) → IsNetworkOf p (state_of network.old) → IfOk result (GoesOn p (state_of network.old)) }
+    ensures same { state_of network.new ≡ state_of network.old }
 {
     for actor in 0..network.actors().min(255) as u8 {
         if has_event(network, actor)? {
@@ -215,9 +217,10 @@ fn run_rounds(
 }
 
 /// How a run ends that has made so many events.
-fn close_of(network: &Network, events: usize, limit: u64) -> Result<Close, Memory>
+fn close_of(network: &mut Network, events: usize, limit: u64) -> Result<Close, Memory>
     requires { events ≤ limit }
-    ensures { (p : Plan) → IsNetworkOf p (state_of network.now) → (events ≡ limit) ⊎ IsAtRest p (state_of network.now) → IfOk result (Closes p (state_of network.now) events limit) }
+    ensures closes { (p : Plan) → IsNetworkOf p (state_of network.old) → (events ≡ limit) ⊎ IsAtRest p (state_of network.old) → IfOk result (Closes p (state_of network.old) events limit) }
+    ensures same { state_of network.new ≡ state_of network.old }
 {
     if events as u64 >= limit && goes_on(network)? {
         Ok(Close::Limit)
@@ -236,7 +239,7 @@ fn run(alloc: Global, accepted: &Accepted, limit: u64) -> Result<(Network, StepR
     let mut seats = Seats::new(alloc, network.actors())?;
     let mut events = Items::new(alloc);
     run_rounds(&mut network, &mut seats, &mut events, limit)?;
-    let close = close_of(&network, events.len(), limit)?;
+    let close = close_of(&mut network, events.len(), limit)?;
     Ok((network, StepReport { events, close }))
 }
 

@@ -11,7 +11,7 @@ use Rattle.vc_core.proofs.actor.Actor.put.Goals as goal
 pub returns : goal.returns
 returns c = elim c.match-self.branch [
   | in-Node w ↦ alike (λ x y. (plan : _) (k : _) → IsActorOf plan k x → MakesPut plan k x c.args.link (token c.match-self.result) y) _ c.args.self.now _ _ (sym (ap acting w.in-Node.is) ∙ c.self.view_is) (sym (ap (λ z. acting z.part) w.self-inside-is))
-      (λ plan k is. subst (λ t. MakesPut plan k (OfNode w.in-Node.node.node) c.args.link (token t) (OfNode w.put.new.self.node)) (sym w.result-is) (w.put.ensures plan k is))
+      (λ plan k is. subst (λ t. MakesPut plan k (OfNode w.in-Node.node) c.args.link (token t) (OfNode w.put.new.self)) (sym w.result-is) (w.put.ensures plan k is))
   | in-Switch w ↦ alike (λ x y. (plan : _) (k : _) → IsActorOf plan k x → MakesPut plan k x c.args.link (token c.match-self.result) y) _ c.args.self.now _ _ (sym (ap acting w.in-Switch.is) ∙ c.self.view_is) (sym (ap (λ z. acting z.part) w.self-inside-is))
       (λ plan k is. subst (λ t. MakesPut plan k (OfSwitch w.in-Switch.switch.switch) c.args.link (token t) (OfSwitch w.put-in-Switch.new.self.switch)) (sym w.result-is) (w.put-in-Switch.ensures plan k is))
 ]

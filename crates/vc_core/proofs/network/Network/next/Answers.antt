@@ -1,35 +1,41 @@
-use Rattle.std.proofs.Common.{◌≡◌, sym, ◌∙◌, subst, slice_get, Some, None, IfSome}
+use Rattle.std.proofs.Common.{◌≡◌, ◌<◌, ◌≤◌, length, slice_get, Some, IfSome, refl, ◌∙◌, subst}
+use Rattle.std.proofs.lemmas.Option.{slice_get_read, slice_get_past}
 use Rattle.vc_core.specs.Acting.{MayAct}
 use Rattle.vc_core.specs.State.{state_of}
 use Rattle.vc_core.specs.Turns.{FindsTurn}
 use Rattle.vc_core.proofs.Turning.{some_event, no_event, no_actor, few_links}
 use Rattle.vc_core.proofs.network.Network.next.Goals as goal
 
-pub returns-in-Some-2-clause-finds : goal.returns-in-Some-2-clause-finds
-returns-in-Some-2-clause-finds c = λ p is.
+pub returns-then-place-len-clause-finds : goal.returns-then-place-len-clause-finds
+returns-then-place-len-clause-finds c = λ p is.
+    let xs = c.args.self.now.actors.items in
+    let past = subst (λ z. length xs ≤ z) c.from-place.ensures (subst (λ z. z ≤ c.from-place.result) (c.len.ensures ∙ c.args.self.now.actors.ok.0) c.if-place-len.true) in
+    no_actor p (state_of c.args.self.now) c.args.actor is (slice_get_past xs c.args.actor past)
+
+pub returns-in-Some-clause-may : goal.returns-in-Some-clause-may
+returns-in-Some-clause-may c =
+    let xs = c.args.self.now.actors.items in
+    let a = c.index_mut.result.now in
+    let less = subst (λ z. c.from-place.result < z) (c.len.ensures ∙ c.args.self.now.actors.ok.0) c.if-place-len.false in
+    let read = slice_get_read xs (length xs) c.from-place.result a refl less c.index_mut.ensures.value in
+    record { actor = a; here = subst (λ z. slice_get xs z ≡ Some a) c.from-place.ensures read; may = subst (λ o. IfSome o (λ b. MayAct a b)) c.in-Some.is c.in_ok-act.ensures.may }
+
+pub returns-in-Some-clause-finds : goal.returns-in-Some-clause-finds
+returns-in-Some-clause-finds c = λ p is.
     let n = c.args.self.now in
-    let a = c.in-Some.acting.now in
-    let here : slice_get n.actors.items c.args.actor ≡ Some a = (λ i. slice_get (sym c.as_slice.ensures.value i) (sym c.from.ensures i)) ∙ sym c.in-Some.ensures in
-    let may = subst (λ o. IfSome o (λ b. MayAct a b)) c.in-Some-2.is c.in_ok-act.ensures.may in
-    some_event p (state_of n) c.args.actor c.room.result c.room.ensures is a here c.in-Some-2.act (few_links a c.in-Some-2.act may)
-    (subst (FindsTurn _ c.args.actor a c.room.result) c.in-Some-2.is (c.in_ok-act.ensures.finds _ c.args.actor (is.actors c.args.actor a here)))
+    let xs = n.actors.items in
+    let a = c.index_mut.result.now in
+    let less = subst (λ z. c.from-place.result < z) (c.len.ensures ∙ c.args.self.now.actors.ok.0) c.if-place-len.false in
+    let here = subst (λ z. slice_get xs z ≡ Some a) c.from-place.ensures (slice_get_read xs (length xs) c.from-place.result a refl less c.index_mut.ensures.value) in
+    let may = subst (λ o. IfSome o (λ b. MayAct a b)) c.in-Some.is c.in_ok-act.ensures.may in
+    some_event p (state_of n) c.args.actor c.room-room.result c.room-room.ensures is a here c.in-Some.act (few_links a c.in-Some.act may)
+    (subst (FindsTurn _ c.args.actor a c.room-room.result) c.in-Some.is (c.in_ok-act.ensures.finds _ c.args.actor (is.actors c.args.actor a here)))
 
 pub returns-in-None-clause-finds : goal.returns-in-None-clause-finds
 returns-in-None-clause-finds c = λ p is.
     let n = c.args.self.now in
-    let a = c.in-Some.acting.now in
-    let here : slice_get n.actors.items c.args.actor ≡ Some a = (λ i. slice_get (sym c.as_slice.ensures.value i) (sym c.from.ensures i)) ∙ sym c.in-Some.ensures in
-    no_event p (state_of n) c.args.actor c.room.result c.room.ensures is a here (subst (FindsTurn _ c.args.actor a c.room.result) c.in-None.is (c.in_ok-act.ensures.finds _ c.args.actor (is.actors c.args.actor a here)))
-
-pub returns-in_default-clause-finds : goal.returns-in_default-clause-finds
-returns-in_default-clause-finds c = λ p is.
-    let n = c.args.self.now in
-    let none : slice_get n.actors.items c.args.actor ≡ None = (λ i. slice_get (sym c.as_slice.ensures.value i) (sym c.from.ensures i)) ∙ sym c.in_default.ensures in
-    no_actor p (state_of n) c.args.actor is none
-
-pub returns-in-Some-2-clause-may : goal.returns-in-Some-2-clause-may
-returns-in-Some-2-clause-may c =
-    let n = c.args.self.now in
-    let a = c.in-Some.acting.now in
-    let here : slice_get n.actors.items c.args.actor ≡ Some a = (λ i. slice_get (sym c.as_slice.ensures.value i) (sym c.from.ensures i)) ∙ sym c.in-Some.ensures in
-    record { actor = a; here = here; may = subst (λ o. IfSome o (λ b. MayAct a b)) c.in-Some-2.is c.in_ok-act.ensures.may }
+    let xs = n.actors.items in
+    let a = c.index_mut.result.now in
+    let less = subst (λ z. c.from-place.result < z) (c.len.ensures ∙ c.args.self.now.actors.ok.0) c.if-place-len.false in
+    let here = subst (λ z. slice_get xs z ≡ Some a) c.from-place.ensures (slice_get_read xs (length xs) c.from-place.result a refl less c.index_mut.ensures.value) in
+    no_event p (state_of n) c.args.actor c.room-room.result c.room-room.ensures is a here (subst (FindsTurn _ c.args.actor a c.room-room.result) c.in-None.is (c.in_ok-act.ensures.finds _ c.args.actor (is.actors c.args.actor a here)))

@@ -1,6 +1,12 @@
-use Rattle.std.proofs.Common.{refl}
+use Rattle.std.proofs.Common.{refl, ap}
+use Rattle.vc_core.specs.Acting.{MakesGrant}
+use Rattle.vc_core.specs.OfPlan.{IsActorOf}
+use Rattle.vc_core.specs.Shown.{OfNode}
 use Rattle.vc_core.proofs.Linking.{grants}
+use Rattle.vc_core.proofs.Parting.{alike}
 use Rattle.vc_core.proofs.node_actor.NodeActor.grant.Goals as goal
 
 pub returns : goal.returns
-returns c = λ plan k is. grants plan k c.args.self.now.node _ c.args.link is c.grant.ensures.grants c.grant.ensures.kept refl refl
+returns c =
+    alike (λ x y. (plan : _) (k : _) → IsActorOf plan k x → MakesGrant plan k x c.args.link y) (OfNode c.self.inside.node) (OfNode c.args.self.now) _ _ (ap OfNode c.self.view_is) refl
+    (λ plan k is. grants plan k c.self.inside.node _ c.args.link is c.grant.ensures.grants c.grant.ensures.kept refl refl)

@@ -1,11 +1,13 @@
-use Rattle.std.proofs.Common.{sym, ◌∙◌, subst, refl}
-use Rattle.std.specs.List.{Contains}
-use Rattle.vc_core.proofs.AbleMoves.{can_listed}
-use Rattle.vc_core.proofs.Turning.{found_move}
+use Rattle.std.proofs.Common.{◌≡◌, ap, ◌∙◌, subst}
+use Rattle.vc_core.specs.OfPlan.{IsNodeOf}
+use Rattle.vc_core.specs.Turns.{FindsMove}
+use Rattle.vc_core.proofs.node_actor.NodeActor.next_move.Goals.{then-not-self+in_ok-list_actions, else-not-self}
 use Rattle.vc_core.proofs.node_actor.NodeActor.next_move.Goals as goal
 
 pub returns-clause-finds : goal.returns-clause-finds
-returns-clause-finds c = λ plan k is.
-    let n = c.args.self.now.node in
-    found_move plan k n c.first_move-in-None.result (c.first_move-in-None.ensures.some plan k is)
-    (λ e m can. c.first_move-in-None.ensures.none plan k m is refl e (subst (λ xs. Contains xs m) (sym (c.as_slice-in-None.ensures ∙ c.in_ok-moves.ensures)) (can_listed plan k n m can)) can)
+returns-clause-finds c =
+    let same : c.if-not-self.self-inside.node ≡ c.args.self.now = elim c.if-not-self.branch [
+      | then-not-self+in_ok-list_actions w ↦ ap (λ z. z.node) w.self-inside-is ∙ c.self.view_is
+      | else-not-self w ↦ ap (λ z. z.node) w.self-inside-is ∙ c.self.view_is
+    ] in
+    subst (λ n. (plan : _) (k : _) → IsNodeOf plan k n → FindsMove plan k n c.next_move.result) same c.next_move.ensures.finds

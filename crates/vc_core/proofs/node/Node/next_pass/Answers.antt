@@ -5,11 +5,11 @@ use Rattle.vc_vcp.specs.Able.{CanPass}
 use Rattle.vc_vcp.specs.Seen.{seen}
 use Rattle.vc_vcp.specs.State.{limit_of}
 use Rattle.vc_core.proofs.AbleMoves.{no_pass}
-use Rattle.vc_core.proofs.node_actor.NodeActor.next_pass.Goals as goal
+use Rattle.vc_core.proofs.node.Node.next_pass.Goals as goal
 
 pub returns-then-may_pass-clause-finds : goal.returns-then-may_pass-clause-finds
 returns-then-may_pass-clause-finds c = λ plan k is.
-    let v = c.args.self.now.node.vcp in
+    let v = c.args.self.now.vcp in
     let can = (c.if-may_pass.ensures.can is.names).0 refl in
     (c.loop-link.link, refl, subst (λ m. CanPass m (ends plan k) (seen v) c.loop-link.link) is.limit (subst (λ es. CanPass (limit_of v.ins) es (seen v) c.loop-link.link) is.ends can), c.loop-link.invariant plan k is)
 
@@ -17,6 +17,6 @@ pub returns-clause-finds : goal.returns-clause-finds
 returns-clause-finds c = λ plan k is link can. elim (cases_lt link c.loop-link.link) [
   | inl less ↦ c.loop-link.invariant plan k is link less can
   | inr later ↦ (let past = c.loop-link-test.false in
-      let far : c.links-link-end.result ≤ link = omega arith in
-      no_pass c.args.self.now.node.vcp link _ _ c.links-link-end.ensures.ends.1 c.links-link-end.result c.links-link-end.ensures.four far can)
+      let far : 4 ≤ link = omega arith in
+      no_pass c.args.self.now.vcp link _ _ c.links.ensures.ends.1 4 refl far can)
 ]

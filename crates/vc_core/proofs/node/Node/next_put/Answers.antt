@@ -3,8 +3,8 @@ use Rattle.vc_core.specs.Shown.{OfNode}
 use Rattle.vc_core.specs.Turns.{IsTurn}
 use Rattle.vc_core.specs.declared.act.Act.TheVariants.{Put}
 use Rattle.vc_core.proofs.Turning.{none_more, clash}
-use Rattle.vc_core.proofs.node_actor.NodeActor.next_put.Goals.{else-has_room-via-then-has_room+else-may_put, else-has_room-via-else-has_room}
-use Rattle.vc_core.proofs.node_actor.NodeActor.next_put.Goals as goal
+use Rattle.vc_core.proofs.node.Node.next_put.Goals.{else-has_room-via-then-has_room+else-may_put, else-has_room-via-else-has_room}
+use Rattle.vc_core.proofs.node.Node.next_put.Goals as goal
 
 pub returns-then-may_put-clause-finds : goal.returns-then-may_put-clause-finds
 returns-then-may_put-clause-finds c = λ plan k is.
@@ -14,7 +14,7 @@ returns-then-may_put-clause-finds c = λ plan k is.
 
 pub loop-link-preserved : goal.loop-link-preserved
 loop-link-preserved c = λ plan k is.
-    none_more (IsTurn plan k (OfNode c.args.self.now.node) c.args.room) (λ l. Put l) c.loop-link.link (c.loop-link.invariant plan k is)
+    none_more (IsTurn plan k (OfNode c.args.self.now) c.args.room) (λ l. Put l) c.loop-link.link (c.loop-link.invariant plan k is)
     (elim c.else-has_room.branch [
       | else-has_room-via-then-has_room+else-may_put w ↦ (λ turn. clash w.may_put.result w.if-may_put.false (w.may_put.ensures.can.1 turn.can.1))
       | else-has_room-via-else-has_room w ↦ (λ turn. clash c.has_room.result w.if-has_room.false (c.has_room.ensures.1 turn.lets))

@@ -4,7 +4,7 @@ use Rattle.vc_core.specs.Shown.{OfNode}
 use Rattle.vc_core.specs.Turns.{IsTurn}
 use Rattle.vc_core.specs.OfPlan.{IsNodeOf}
 use Rattle.vc_core.specs.declared.act.Act.TheVariants.{Fct}
-use Rattle.vc_core.proofs.node_actor.NodeActor.next_grant.Given as goal
+use Rattle.vc_core.proofs.node.Node.next_grant.Given as goal
 
 abbrev pub invariant-loop-link : goal.invariant-loop-link
-invariant-loop-link l = (plan : Plan) (k : ℕ) → IsNodeOf plan k l.fn.self.node → (j : ℕ) → j < l.link → IsTurn plan k (OfNode l.fn.self.node) l.fn.room (Fct j) → ⊥
+invariant-loop-link l = (plan : Plan) (k : ℕ) → IsNodeOf plan k l.fn.self → (j : ℕ) → j < l.link → IsTurn plan k (OfNode l.fn.self) l.fn.room (Fct j) → ⊥

@@ -3,8 +3,7 @@ use Rattle.vc_network.specs.Plan.{Plan}
 use Rattle.vc_occam.specs.declared.moves.Move.{Move}
 use Rattle.vc_core.specs.Able.{CanMove}
 use Rattle.vc_core.specs.OfPlan.{IsNodeOf}
-use Rattle.vc_core.proofs.node_actor.NodeActor.first_move.Given as goal
+use Rattle.vc_core.proofs.node.Node.first_let.Given as goal
 
 abbrev pub invariant-loop-made : goal.invariant-loop-made
-invariant-loop-made l =
-    (plan : Plan) (k : ℕ) → IsNodeOf plan k l.fn.self.node → l.fn.from ≡ 0 → (j : ℕ) (m : Move) → j < l.made-index → get_or l.moves j m ≡ m → CanMove plan k l.fn.self.node m → ⊥
+invariant-loop-made l = (plan : Plan) (k : ℕ) → IsNodeOf plan k l.fn.self → (j : ℕ) (m : Move) → j < l.made-index → get_or l.moves j m ≡ m → CanMove plan k l.fn.self m → ⊥

@@ -1,0 +1,21 @@
+-- The moves of a list that is looked at in two parts, and a list in which nothing changes.
+use Rattle.std.proofs.Common.{◌≡◌, ℕ, zero, suc, List, [], ◌∷◌, take, drop, slice_get, slice_set, Some, refl, sym, ap, subst, inl, inr}
+use Rattle.std.proofs.lemmas.List.{take-append-drop}
+use Rattle.std.proofs.lemmas.List.Elements.{Contains-append_left, Contains-append_right, Contains-append_cases}
+use Rattle.std.specs.List.{Contains}
+
+pub in_before : {X : Type 0} (xs : List X) (i : ℕ) (x : X) → Contains (take i xs) x → Contains xs x
+in_before xs i x h = subst (λ ys. Contains ys x) (take-append-drop i xs) (Contains-append_left (take i xs) (drop i xs) x h)
+
+pub in_rest : {X : Type 0} (xs : List X) (i : ℕ) (x : X) → Contains (drop i xs) x → Contains xs x
+in_rest xs i x h = subst (λ ys. Contains ys x) (take-append-drop i xs) (Contains-append_right (take i xs) (drop i xs) x h)
+
+-- one that is in neither part is not in the list
+pub in_neither : {X : Type 0} (xs : List X) (i : ℕ) (x : X) → (Contains (take i xs) x → ⊥) → (Contains (drop i xs) x → ⊥) → Contains xs x → ⊥
+in_neither xs i x before rest h = elim (Contains-append_cases (take i xs) (drop i xs) x (subst (λ ys. Contains ys x) (sym (take-append-drop i xs)) h)) [ inl a ↦ before a | inr b ↦ rest b ]
+
+-- what stands in a place is put there again
+pub put_back : {X : Type 0} (xs : List X) (i : ℕ) (x : X) → slice_get xs i ≡ Some x → slice_set xs i x ≡ xs
+put_back [] i x e = refl
+put_back (y ∷ ys) zero x e = let same : y ≡ x = cc in ap (λ z. z ∷ ys) (sym same)
+put_back (y ∷ ys) (suc i) x e = ap (λ zs. y ∷ zs) (put_back ys i x e)
