@@ -78,6 +78,7 @@ impl Node {
     }
 
     /// The least link whose buffer has a token.
+    #[inline(always)]
     pub(crate) fn next_pass(&self) -> Option<Act>
         ensures may { IfSome result (λ a. NodeMay self.now a) }
         ensures finds { (plan : Plan) (k : ℕ) → IsNodeOf plan k self.now → FindsAt (λ link. Act.Pass link) (NodeCan plan k self.now) result }
@@ -92,6 +93,7 @@ impl Node {
     }
 
     /// The least link with room on which a token may be put.
+    #[inline(always)]
     pub(crate) fn next_put(&self, room: u32) -> Option<Act>
         ensures may { IfSome result (λ a. NodeMay self.now a) }
         ensures finds { (plan : Plan) (k : ℕ) → IsNodeOf plan k self.now → FindsAt (λ link. Act.Put link) (IsTurn plan k (OfNode self.now) room) result }
@@ -105,6 +107,7 @@ impl Node {
     }
 
     /// The least link with room on which a flow control token may be put.
+    #[inline(always)]
     pub(crate) fn next_grant(&self, room: u32) -> Option<Act>
         ensures may { IfSome result (λ a. NodeMay self.now a) }
         ensures finds { (plan : Plan) (k : ℕ) → IsNodeOf plan k self.now → FindsAt (λ link. Act.Fct link) (IsTurn plan k (OfNode self.now) room) result }
@@ -314,6 +317,7 @@ impl Node {
 
     /// A token passes from a link's buffer; where a message is whole or an output finished the process goes on, and the answer is
     /// whether it may have.
+    #[inline(always)]
     pub(crate) fn pass(&mut self, link: u8) -> Result<bool, Memory>
         requires link { link < 4 }
         requires waits { ((seen self.old.vcp).link link).receiver.buffer ≢ [] }

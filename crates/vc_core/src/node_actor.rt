@@ -78,6 +78,7 @@ impl NodeActor {
     }
 
     /// A token comes over a link.
+    #[inline(always)]
     pub(crate) fn accept(&mut self, link: u8, came: Token)
         requires { link < 4 }
         ensures { (plan : Plan) (k word : ℕ) → IsActorOf plan k (OfNode self.old) → MakesTake plan k (OfNode self.old) link word (token came) (OfNode self.new) }
@@ -86,6 +87,7 @@ impl NodeActor {
     }
 
     /// Makes a step of its own: a move of the process, or a token that passes.
+    #[inline(always)]
     pub(crate) fn make(&mut self, act: &Act) -> Result<(), Memory>
         requires may { NodeMay self.old act.now }
         requires own { IsOwn act.now }
@@ -110,6 +112,7 @@ impl NodeActor {
     }
 
     /// Puts the next token on a link.
+    #[inline(always)]
     pub(crate) fn put(&mut self, link: u8) -> Token
         requires { NodeMay self.old (Act.Put link) }
         ensures { (plan : Plan) (k : ℕ) → IsActorOf plan k (OfNode self.old) → MakesPut plan k (OfNode self.old) link (token result) (OfNode self.new) }
@@ -118,6 +121,7 @@ impl NodeActor {
     }
 
     /// Grants eight places of a link's buffer.
+    #[inline(always)]
     pub(crate) fn grant(&mut self, link: u8)
         requires { NodeMay self.old (Act.Fct link) }
         ensures { (plan : Plan) (k : ℕ) → IsActorOf plan k (OfNode self.old) → MakesGrant plan k (OfNode self.old) link (OfNode self.new) }
@@ -128,6 +132,7 @@ impl NodeActor {
     /// What the node does next, if it has a step to make where its links have this room: a token passes, by the least link; a token
     /// is put, by the least link with room; a flow control token is put, by the least link with room; then a move of the process,
     /// beginning behind the site that acted last.
+    #[inline(always)]
     pub(crate) fn next(&mut self, room: u32) -> Result<Option<Act>, Memory>
         ensures same { self.new ≡ self.old }
         ensures may { IfOk result (λ act. IfSome act (λ a. NodeMay self.old a)) }

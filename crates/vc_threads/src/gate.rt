@@ -1,5 +1,5 @@
 //! Who may go on.
-ghost use Rattle.std.specs.Prelude.{◌≤◌};
+ghost use Rattle.std.specs.Prelude.{◌≡◌, ◌≤◌};
 
 use std::sync::atomic::{AtomicU64, Ordering};
 
@@ -24,6 +24,7 @@ impl EndGate {
     /// The gate of a network with so many nodes, at most 64: its first actors. It is open until [`Gate::ended`] was told of each.
     pub fn new(nodes: u8) -> EndGate
         requires { nodes ≤ 64 }
+        ensures { result.nodes ≡ nodes }
     {
         EndGate {
             nodes,
