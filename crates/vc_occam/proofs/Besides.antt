@@ -1,8 +1,6 @@
 -- Parts that go on side by side.
-use Rattle.std.proofs.Common.{◌≡◌, ℕ, zero, suc, Bool, true, false, ◌&&◌, refl, ap, sym, ◌∙◌, subst, List, [], ◌∷◌, ◌++◌, Option, Some, None, length, set, drop, get_or, ◌+◌, ◌≤◌, ◌<◌, ◌↔◌, arith, append_assoc, append-nil, ◌⊎◌, inl, inr}
-use Rattle.std.proofs.lemmas.List.Elements.{Contains-append_left, Contains-append_right, Contains-append_cases}
-use Rattle.std.specs.List.{Contains}
-use Rattle.std.specs.Prelude.{slice_get, IsTrue}
+use Rattle.std.proofs.Common.{◌≡◌, ℕ, zero, suc, true, false, ◌&&◌, refl, ap, sym, ◌∙◌, subst, List, [], ◌∷◌, ◌++◌, Option, Some, None, length, set, drop, get_or, ◌+◌, ◌≤◌, ◌<◌, arith, append_assoc, append-nil, ◌⊎◌, inl, inr}
+use Rattle.std.specs.Prelude.{slice_get}
 use Rattle.vc_occam.specs.declared.deed.Deed.{Deed}
 use Rattle.vc_occam.specs.declared.frame.Frame.{Frame}
 use Rattle.vc_occam.specs.declared.moves.Move.{Move}
@@ -180,33 +178,3 @@ waits_found fs k f w o i l h g q =
 
 pub waits_none : (fs : List Frame) (k : ℕ) (w : Waits) (o : Option ℕ) → length fs ≤ k → first_waits w (waiting (besides (views (drop k fs)))) ≡ o → None ≡ o
 waits_none fs k w o l q = ap (λ r. first_waits w (waiting r)) (sym (drop_none k fs l)) ∙ q
-
-one_less : (all one rest : List Move) (m : Move) → (Contains one m → ⊥) → (Contains all m ↔ Contains (one ++ rest) m) → Contains all m ↔ Contains rest m
-one_less all one rest m h (f, g) = (
-  λ k. elim (Contains-append_cases one rest m (f k)) [ inl q ↦ absurd (h q) | inr q ↦ q ],
-  λ k. g (Contains-append_right one rest m k),
-)
-
-abbrev pub BeginsFrom : List Frame → ℕ → Store → Move → Type 0
-BeginsFrom fs k e m = Contains (own (besides (views fs)) e) m ↔ Contains (own (besides (views (drop k fs))) e) m
-
-split : (fs : List Frame) (k : ℕ) (f : Frame) (e : Store) (m : Move) → k < length fs → f ≡ get_or fs k f → BeginsFrom fs k e m → Contains (own (besides (views fs)) e) m ↔ Contains (own (view f).1 e ++ own (besides (views (drop (k + 1) fs))) e) m
-split fs k f e m l h q =
-    let rest = besides (views (drop (k + 1) fs)) in
-    subst (λ ms. Contains (own (besides (views fs)) e) m ↔ Contains ms m) (ap (λ r. own r e) (drop_view k fs f l h) ∙ beside_own (changes (view f).0) (view f).1 rest e) q
-
-pub begins_more : (fs : List Frame) (k : ℕ) (f : Frame) (e : Store) (m : Move) (b : Bool) → k < length fs → f ≡ get_or fs k f → (IsTrue b ↔ Contains (own (view f).1 e) m) → b ≡ false → BeginsFrom fs k e m → BeginsFrom fs (k + 1) e m
-begins_more fs k f e m b l h t z q =
-    one_less (own (besides (views fs)) e) (own (view f).1 e) (own (besides (views (drop (k + 1) fs))) e) m (λ g. let y : true ≡ false = sym (t.1 g) ∙ z in absurd cc) (split fs k f e m l h q)
-
-pub begins_found : (fs : List Frame) (k : ℕ) (f : Frame) (e : Store) (m : Move) (b : Bool) → k < length fs → f ≡ get_or fs k f → (IsTrue b ↔ Contains (own (view f).1 e) m) → b ≡ true → BeginsFrom fs k e m → IsTrue true ↔ Contains (own (besides (views fs)) e) m
-begins_found fs k f e m b l h t z q = (
-  λ y. (split fs k f e m l h q).1 (Contains-append_left (own (view f).1 e) (own (besides (views (drop (k + 1) fs))) e) m (t.0 z)),
-  λ y. refl,
-)
-
-pub begins_none : (fs : List Frame) (k : ℕ) (e : Store) (m : Move) → length fs ≤ k → BeginsFrom fs k e m → IsTrue false ↔ Contains (own (besides (views fs)) e) m
-begins_none fs k e m l q = (
-  λ y. absurd (let z : false ≡ true = y in cc),
-  λ y. absurd (none m (subst (λ r. Contains (own r e) m) (drop_none k fs l) (q.0 y))),
-)

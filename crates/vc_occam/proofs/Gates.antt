@@ -22,7 +22,6 @@ use Rattle.vc_occam.specs.Traces.{Decided, In, set}
 use Rattle.vc_occam.specs.Usage.{changes, changes_guards, just}
 use Rattle.vc_occam.specs.Values.{Store, holds}
 use Rattle.vc_occam.proofs.Beginning.{begun_plans}
-use Rattle.vc_occam.proofs.Lists.{none}
 use Rattle.vc_occam.proofs.Reaching.{drop_at}
 use Rattle.vc_occam.proofs.Stepping.{never}
 use Rattle.vc_occam.proofs.Stores.{or_left, or_right}
@@ -49,9 +48,6 @@ not_taken xs i k x e m all l h t f =
 -- a list of moves by another
 pub has_same : (b : Bool) (m : Move) (ms ns : List Move) → ns ≡ ms → (IsTrue b ↔ Contains ms m) → IsTrue b ↔ Contains ns m
 has_same b m ms ns h = subst (λ xs. IsTrue b ↔ Contains xs m) (sym h)
-
-pub has_none : (m : Move) (ms : List Move) → ms ≡ [] → IsTrue false ↔ Contains ms m
-has_none m ms h = (λ t. absurd (let z : false ≡ true = t in cc), λ k. absurd (none m (subst (λ xs. Contains xs m) h k)))
 
 pub pushed_same : {T E : Type 0} (r : Result T E) (new old ms ns : List Move) → ns ≡ ms → OnOk r (new ≡ old ++ ms) → OnOk r (new ≡ old ++ ns)
 pushed_same r new old ms ns h = subst (λ xs. OnOk r (new ≡ old ++ xs)) (sym h)

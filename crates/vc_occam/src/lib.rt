@@ -21,8 +21,9 @@
 //! A process runs as a tree of frames (`frame.rt`), one for each process that is written, with how far it is and at which part;
 //! what it stands for is said in `specs/Frames`. A part begins, ends and begins again by a change of its frame, without memory; what
 //! a site does is handed down to it by one borrow (`site_deed.rt`), and each frame answers on the way up whether it has ended. The
-//! parts of a PAR all go on, and since sites are in preorder the one that has a site is found by halving. The invariant of a
-//! [`Running`] is that the variables that its process changes are there, that its sites are in preorder, and that parts side by
+//! parts of a PAR all go on, and since sites are in preorder the one that has a site is found by halving. Who waits on a channel is
+//! looked for first at the site that last began on it (`hints.rt`), and parts that wait are passed over where moves are listed. The
+//! invariant of a [`Running`] is that the variables that its process changes are there, that its sites are in preorder, and that parts side by
 //! side have no site in common and use channels and variables lawfully.
 #![tactic(auto)]
 
