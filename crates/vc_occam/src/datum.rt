@@ -30,6 +30,12 @@ fn byte_at(message: &[u8], place: usize) -> u8
 fn number_in(message: &[u8]) -> i64
     ensures { result ≡ number_of message.now }
 {
+    if message.len() >= 8 {
+        return i64::from_le_bytes([
+            message[0], message[1], message[2], message[3], message[4], message[5], message[6],
+            message[7],
+        ]);
+    }
     let low = [
         byte_at(message, 0),
         byte_at(message, 1),

@@ -66,9 +66,25 @@ impl Rel {
 }
 
 impl Expr {
-    /// The value of the expression, or None where it is a fault.
+    /// The value of the expression, or None where it is a fault; of a number or a variable at once.
+    #[cycle(value)]
+    #[inline(always)]
     #[tactic(auto, unfolding(crate::specs::Terms::exp))]
     pub(crate) fn value(&self, vars: &[Datum]) -> Option<i64>
+        ensures { result ≡ value_of (exp self.now) (store vars.now) }
+    {
+        match self {
+            Expr::Num(number) => Some(*number),
+            Expr::Var(var) => Some(whole_at(vars, *var)),
+            _ => self.computed(vars),
+        }
+    }
+
+    /// The value of any expression, or None where it is a fault.
+    #[cycle(value)]
+    #[inline(never)]
+    #[tactic(auto, unfolding(crate::specs::Terms::exp))]
+    fn computed(&self, vars: &[Datum]) -> Option<i64>
         ensures { result ≡ value_of (exp self.now) (store vars.now) }
     {
         match self {

@@ -1,5 +1,5 @@
 //! What meets inside the node.
-ghost use Rattle.std.specs.Prelude.{◌≡◌, ◌++◌, ◌∷◌, [], OnOk};
+ghost use Rattle.std.specs.Prelude.{◌≡◌, ◌≤◌, ◌++◌, ◌∷◌, [], OnOk, drop, length, take};
 ghost use Rattle.vc_occam.specs.First.{joined as as_joined, meetings};
 ghost use Rattle.vc_occam.specs.Frames.{is_outside as stays_outside};
 ghost use Rattle.vc_occam.specs.Moving.{partner as its_partner};
@@ -58,52 +58,75 @@ fn push_meeting(found: &mut Items<Move>, sender: u16, chan: u16, made: &Move) ->
     Ok(())
 }
 
-/// Adds what the output at this site meets among these moves.
+/// Adds what the output at this site meets among so many moves at the front of the list.
 fn push_meetings(
     found: &mut Items<Move>,
     sender: u16,
     chan: u16,
-    all: &[Move],
+    count: usize,
 ) -> Result<(), Memory>
-    ensures { OnOk result (found.new ≡ found.old ++ meetings sender chan all.now) }
+    requires { count ≤ length found.old }
+    ensures { OnOk result (found.new ≡ found.old ++ meetings sender chan (take count found.old)) }
 {
-    for made in all {
-        push_meeting(found, sender, chan, made)?;
+    for place in 0..count {
+        let made = found.as_slice()[place];
+        push_meeting(found, sender, chan, &made)?;
     }
     Ok(())
 }
 
-/// Adds the move, if it needs no channel inside the node, or what an output meets there.
+/// Adds the move, if it needs no channel inside the node, or what an output meets there, among so many moves at the front of the
+/// list.
 fn push_joined(
     found: &mut Items<Move>,
     made: &Move,
-    all: &[Move],
+    count: usize,
     inside: &[u16],
 ) -> Result<(), Memory>
-    ensures { OnOk result (found.new ≡ found.old ++ as_joined (among inside.now) all.now (made.now ∷ [])) }
+    requires { count ≤ length found.old }
+    ensures { OnOk result (found.new ≡ found.old ++ as_joined (among inside.now) (take count found.old) (made.now ∷ [])) }
 {
     if is_outside(made, inside) {
         found.push(*made)?;
         return Ok(());
     }
     if let Move::Offer { site, chan } = made {
-        push_meetings(found, *site, *chan, all)?;
+        push_meetings(found, *site, *chan, count)?;
     }
     Ok(())
 }
 
-/// Adds, of the moves that each site can begin with, those that need no channel inside the node, and what meets there: each output
-/// with each input or guard on its channel.
-pub(crate) fn push_all_joined(
-    found: &mut Items<Move>,
-    all: &[Move],
-    inside: &[u16],
-) -> Result<(), Memory>
-    ensures { OnOk result (found.new ≡ found.old ++ as_joined (among inside.now) all.now all.now) }
+/// Adds, of so many moves at the front of the list, those that need no channel inside the node, and what meets there: each output with
+/// each input or guard on its channel.
+fn push_all_joined(found: &mut Items<Move>, count: usize, inside: &[u16]) -> Result<(), Memory>
+    requires { count ≤ length found.old }
+    ensures { OnOk result (found.new ≡ found.old ++ as_joined (among inside.now) (take count found.old) (take count found.old)) }
 {
-    for made in all {
-        push_joined(found, made, all, inside)?;
+    for place in 0..count {
+        let made = found.as_slice()[place];
+        push_joined(found, &made, count, inside)?;
     }
+    Ok(())
+}
+
+/// Takes so many moves out of the front of the list.
+fn drop_front(found: &mut Items<Move>, count: usize)
+    requires { count ≤ length found.old }
+    ensures { found.new ≡ drop count found.old }
+{
+    for _done in 0..count {
+        found.remove(0);
+    }
+}
+
+/// In place of the moves that each site can begin with, puts those that need no channel inside the node, and what meets there. The
+/// list's room serves for both.
+pub(crate) fn join(found: &mut Items<Move>, inside: &[u16]) -> Result<(), Memory>
+    ensures { OnOk result (found.new ≡ as_joined (among inside.now) found.old found.old) }
+{
+    let count = found.len();
+    push_all_joined(found, count, inside)?;
+    drop_front(found, count);
     Ok(())
 }
 

@@ -15,7 +15,7 @@ use crate::deed::Deed;
 use crate::frame::Frame;
 use crate::framing::begin_frame;
 use crate::hints::Hints;
-use crate::meeting::{clear, is_outside, partner, push_all_joined};
+use crate::meeting::{clear, is_outside, join, partner};
 use crate::moves::{Move, site_of};
 use crate::process::Process;
 use crate::site_deed::SiteDeed;
@@ -178,17 +178,17 @@ impl Running {
         listed
     }
 
-    /// Adds the moves that it can begin with; where no channel is inside the node they are its sites' own.
+    /// Puts the moves that it can begin with in an empty list; where no channel is inside the node they are its sites' own.
     #[tactic(auto, unfolding(crate::specs::Runnings::state, crate::specs::Runnings::inner_channels))]
     fn push_actions(&self, found: &mut Items<Move>) -> Result<(), Memory>
-        ensures { OnOk result (found.new ≡ found.old ++ moves self.now) }
+        requires { found.old ≡ [] }
+        ensures { OnOk result (found.new ≡ moves self.now) }
     {
+        self.frame.push_moves(found, &self.vars)?;
         if self.inside.is_empty() {
-            return self.frame.push_moves(found, &self.vars);
+            return Ok(());
         }
-        let mut own = Items::new(self.alloc);
-        self.frame.push_moves(&mut own, &self.vars)?;
-        push_all_joined(found, own.as_slice(), self.inside.as_slice())
+        join(found, self.inside.as_slice())
     }
 
     /// Whether the move is one that it can begin with.

@@ -1,11 +1,11 @@
-use Rattle.std.proofs.Common.{◌∙◌, ap, sym, List, ℕ}
+use Rattle.std.proofs.Common.{◌≡◌, ◌∙◌, ◌++◌, ap, sym, List, ℕ}
 use Rattle.vc_occam.specs.declared.datum.Datum.{Datum}
+use Rattle.vc_occam.specs.declared.moves.Move.{Move}
 use Rattle.vc_occam.specs.First.{joined, own}
 use Rattle.vc_occam.specs.Frames.{view}
 use Rattle.vc_occam.specs.Runnings.{state, inner_channels}
 use Rattle.vc_occam.specs.Terms.{store}
 use Rattle.vc_occam.specs.Usage.{among}
-use Rattle.vc_occam.proofs.Gates.{pushed_same}
 use Rattle.vc_occam.proofs.Unjoined.{unjoined}
 use Rattle.vc_occam.proofs.running.Running.push_actions.Goals as goal
 
@@ -16,5 +16,6 @@ returns-then-is_empty c =
     let r = (view self.frame).1 in
     let ms = own r (store self.vars.items) in
     let none = c.is_empty.ensures.0 c.if-is_empty.true in
-    let alone = ap (λ (xs : List ℕ). joined (among xs) ms ms) none ∙ unjoined ms ms in
-    pushed_same c.push_moves.result _ _ _ _ (alone ∙ sym (ap (λ (xs : List Datum). own r (store xs)) c.deref.ensures.value)) c.push_moves.ensures
+    let alone : joined (among self.inside) ms ms ≡ ms = ap (λ (xs : List ℕ). joined (among xs) ms ms) none ∙ unjoined ms ms in
+    let same = ap (λ (xs : List Datum). own r (store xs)) c.deref.ensures.value in
+    c.in_ok-push_moves.ensures ∙ ap (λ (xs : List Move). xs ++ own r (store c.deref.result.now)) c.requires ∙ same ∙ sym alone
