@@ -11,7 +11,7 @@ use Rattle.vc_occam.specs.declared.kind.Kind.TheVariants as kind
 use Rattle.vc_occam.specs.declared.phase.Phase.{Phase}
 use Rattle.vc_occam.specs.declared.phase.Phase.TheVariants as phase
 use Rattle.vc_occam.specs.Syntax.{Test, SEQ, PAR, IF, no_parts}
-use Rattle.vc_occam.specs.Terms.{test}
+use Rattle.vc_occam.specs.Terms.{as_test}
 use Rattle.vc_occam.specs.Values.{Store, holds}
 use Rattle.vc_occam.specs.Remains.{Rest, Done, Stopped, Fresh, begin, branch_on, chosen, does_empty_seq, does_empty_par, does_if, does_turn, does_leave, faults_while}
 use Rattle.vc_occam.specs.Frames.{Able, Did, View, begun_at, branches_of, chosen_from, follow, has_parts, is_choice, plan_at, plans, plans_of, place_on, rest_at, view, views}
@@ -34,9 +34,9 @@ begun_plans zero (v ∷ vs) = refl
 begun_plans (suc k) (v ∷ vs) = ap (λ ps. v.0 ∷ ps) (begun_plans k vs)
 
 -- one condition more
-pub chosen_more : (cs : List Cond) (i k : ℕ) (c : Cond) (e : Store) → i < length cs → c ≡ get_or cs i c → chosen_from k (map test (drop i cs)) e ≡ place_on (holds (test c) e) k (chosen_from (suc k) (map test (drop (suc i) cs)) e)
+pub chosen_more : (cs : List Cond) (i k : ℕ) (c : Cond) (e : Store) → i < length cs → c ≡ get_or cs i c → chosen_from k (map as_test (drop i cs)) e ≡ place_on (holds (as_test c) e) k (chosen_from (suc k) (map as_test (drop (suc i) cs)) e)
 chosen_more [] i k c e l h = absurd (omega arith)
-chosen_more (d ∷ cs) zero k c e l h = ap (λ x. place_on (holds (test x) e) k (chosen_from (suc k) (map test cs) e)) (sym h)
+chosen_more (d ∷ cs) zero k c e l h = ap (λ x. place_on (holds (as_test x) e) k (chosen_from (suc k) (map as_test cs) e)) (sym h)
 chosen_more (d ∷ cs) (suc i) k c e l h = chosen_more cs i k c e (omega arith) h
 
 -- a branch that begins
@@ -101,25 +101,25 @@ branch_is (v ∷ vs) zero false h = absurd (grind (arith, nat_tests))
 branch_is (v ∷ vs) (suc k) true h = branch_is vs k true (grind (arith, nat_tests))
 branch_is (v ∷ vs) (suc k) false h = branch_is vs k false (grind (arith, nat_tests))
 
-if_did : (i : ℕ) (cs : List Cond) (vs : List View) (e : Store) (s : ℕ) (d : Deed) (r : Rest) → chosen (branches_of (map test cs) vs) e ≡ r → Able (Fresh (IF i (branches_of (map test cs) vs))) e s d → Did (Fresh (IF i (branches_of (map test cs) vs))) e s d r e
-if_did i cs vs e s d r h (ks, q, f, does_if) = subst (λ x. Did (Fresh (IF i (branches_of (map test cs) vs))) e s d x e) h ([], does_if)
+if_did : (i : ℕ) (cs : List Cond) (vs : List View) (e : Store) (s : ℕ) (d : Deed) (r : Rest) → chosen (branches_of (map as_test cs) vs) e ≡ r → Able (Fresh (IF i (branches_of (map as_test cs) vs))) e s d → Did (Fresh (IF i (branches_of (map as_test cs) vs))) e s d r e
+if_did i cs vs e s d r h (ks, q, f, does_if) = subst (λ x. Did (Fresh (IF i (branches_of (map as_test cs) vs))) e s d x e) h ([], does_if)
 
-placed : (i : ℕ) (cs : List Cond) (vs : List View) (e : Store) (s : ℕ) (d : Deed) (k : ℕ) (b : Bool) → b ≡ nat_lt k (length vs) → chosen (branches_of (map test cs) vs) e ≡ branch_rest (slice_get vs k) → Able (Fresh (plan_at (kind.If cs) i vs)) e s d →
+placed : (i : ℕ) (cs : List Cond) (vs : List View) (e : Store) (s : ℕ) (d : Deed) (k : ℕ) (b : Bool) → b ≡ nat_lt k (length vs) → chosen (branches_of (map as_test cs) vs) e ≡ branch_rest (slice_get vs k) → Able (Fresh (plan_at (kind.If cs) i vs)) e s d →
     Did (Fresh (plan_at (kind.If cs) i vs)) e s d (rest_at (kind.If cs) (branch_next k b).phase i (begun_at k vs) (branch_next k b).at) e
 placed i cs vs e s d k true h c a = if_did i cs vs e s d _ (c ∙ branch_is vs k true h) a
 placed i cs vs e s d k false h c a = if_did i cs vs e s d _ (c ∙ branch_is vs k false h) a
 
-pub branch_did : (i : ℕ) (cs : List Cond) (vs ws : List View) (e : Store) (s : ℕ) (d : Deed) (k : ℕ) (n : Next) → Some k ≡ chosen_from 0 (map test cs) e → ws ≡ begun_at k vs → n ≡ branch_next k (nat_lt k (length vs)) → Able (Fresh (plan_at (kind.If cs) i vs)) e s d →
+pub branch_did : (i : ℕ) (cs : List Cond) (vs ws : List View) (e : Store) (s : ℕ) (d : Deed) (k : ℕ) (n : Next) → Some k ≡ chosen_from 0 (map as_test cs) e → ws ≡ begun_at k vs → n ≡ branch_next k (nat_lt k (length vs)) → Able (Fresh (plan_at (kind.If cs) i vs)) e s d →
     Did (Fresh (plan_at (kind.If cs) i vs)) e s d (rest_at (kind.If cs) n.phase i ws n.at) e
 branch_did i cs vs ws e s d k n h w g a =
     subst (λ m. Did (Fresh (plan_at (kind.If cs) i vs)) e s d (rest_at (kind.If cs) m.phase i ws m.at) e) (sym g)
     (subst (λ us. Did (Fresh (plan_at (kind.If cs) i vs)) e s d (rest_at (kind.If cs) (branch_next k (nat_lt k (length vs))).phase i us (branch_next k (nat_lt k (length vs))).at) e) (sym w)
-    (placed i cs vs e s d k (nat_lt k (length vs)) refl (chosen_at (map test cs) vs e k (sym h)) a))
+    (placed i cs vs e s d k (nat_lt k (length vs)) refl (chosen_at (map as_test cs) vs e k (sym h)) a))
 
-pub fault_did : (i : ℕ) (cs : List Cond) (vs : List View) (e : Store) (s : ℕ) (d : Deed) → None ≡ chosen_from 0 (map test cs) e → Able (Fresh (plan_at (kind.If cs) i vs)) e s d → Did (Fresh (plan_at (kind.If cs) i vs)) e s d Stopped e
-fault_did i cs vs e s d h a = if_did i cs vs e s d Stopped (chosen_none (map test cs) vs e 0 (sym h)) a
+pub fault_did : (i : ℕ) (cs : List Cond) (vs : List View) (e : Store) (s : ℕ) (d : Deed) → None ≡ chosen_from 0 (map as_test cs) e → Able (Fresh (plan_at (kind.If cs) i vs)) e s d → Did (Fresh (plan_at (kind.If cs) i vs)) e s d Stopped e
+fault_did i cs vs e s d h a = if_did i cs vs e s d Stopped (chosen_none (map as_test cs) vs e 0 (sym h)) a
 
-tested : (i : ℕ) (c : Cond) (vs : List View) (e : Store) (s : ℕ) (d : Deed) (b : Bool) → holds (test c) e ≡ Some b → Able (Fresh (plan_at (kind.While c) i vs)) e s d → Did (Fresh (plan_at (kind.While c) i vs)) e s d (rest_at (kind.While c) (turn_next b).phase i (turn_begun b vs) (turn_next b).at) e
+tested : (i : ℕ) (c : Cond) (vs : List View) (e : Store) (s : ℕ) (d : Deed) (b : Bool) → holds (as_test c) e ≡ Some b → Able (Fresh (plan_at (kind.While c) i vs)) e s d → Did (Fresh (plan_at (kind.While c) i vs)) e s d (rest_at (kind.While c) (turn_next b).phase i (turn_begun b vs) (turn_next b).at) e
 tested i c [] e s d b h (ks, q, f, st) = elim st [ ]
 tested i c (v ∷ vs) e s d true h (ks, q, f, does_turn g) = ([], does_turn h)
 tested i c (v ∷ vs) e s d true h (ks, q, f, does_leave g) = ([], does_turn h)
@@ -128,14 +128,14 @@ tested i c (v ∷ vs) e s d false h (ks, q, f, does_turn g) = ([], does_leave h)
 tested i c (v ∷ vs) e s d false h (ks, q, f, does_leave g) = ([], does_leave h)
 tested i c (v ∷ vs) e s d false h (ks, q, f, faults_while g) = ([], does_leave h)
 
-pub turn_did : (i : ℕ) (c : Cond) (vs ws : List View) (e : Store) (s : ℕ) (d : Deed) (b : Bool) (n : Next) → Some b ≡ holds (test c) e → ws ≡ turn_begun b vs → n ≡ turn_next b → Able (Fresh (plan_at (kind.While c) i vs)) e s d →
+pub turn_did : (i : ℕ) (c : Cond) (vs ws : List View) (e : Store) (s : ℕ) (d : Deed) (b : Bool) (n : Next) → Some b ≡ holds (as_test c) e → ws ≡ turn_begun b vs → n ≡ turn_next b → Able (Fresh (plan_at (kind.While c) i vs)) e s d →
     Did (Fresh (plan_at (kind.While c) i vs)) e s d (rest_at (kind.While c) n.phase i ws n.at) e
 turn_did i c vs ws e s d b n h w g a =
     subst (λ m. Did (Fresh (plan_at (kind.While c) i vs)) e s d (rest_at (kind.While c) m.phase i ws m.at) e) (sym g)
     (subst (λ us. Did (Fresh (plan_at (kind.While c) i vs)) e s d (rest_at (kind.While c) (turn_next b).phase i us (turn_next b).at) e) (sym w)
     (tested i c vs e s d b (sym h) a))
 
-pub no_turn : (i : ℕ) (c : Cond) (vs : List View) (e : Store) (s : ℕ) (d : Deed) → None ≡ holds (test c) e → Able (Fresh (plan_at (kind.While c) i vs)) e s d → Did (Fresh (plan_at (kind.While c) i vs)) e s d Stopped e
+pub no_turn : (i : ℕ) (c : Cond) (vs : List View) (e : Store) (s : ℕ) (d : Deed) → None ≡ holds (as_test c) e → Able (Fresh (plan_at (kind.While c) i vs)) e s d → Did (Fresh (plan_at (kind.While c) i vs)) e s d Stopped e
 no_turn i c [] e s d h (ks, q, f, st) = elim st [ ]
 no_turn i c (v ∷ vs) e s d h (ks, q, f, does_turn g) = ([], faults_while (sym h))
 no_turn i c (v ∷ vs) e s d h (ks, q, f, does_leave g) = ([], faults_while (sym h))

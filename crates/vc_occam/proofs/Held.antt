@@ -10,7 +10,7 @@ use Rattle.vc_occam.specs.declared.value.Value.{Value}
 use Rattle.vc_occam.specs.Limits.{holds_kind}
 use Rattle.vc_occam.specs.Numbering.{Numbered, NumberedBranch, NumberedGuard, numbered, written}
 use Rattle.vc_occam.specs.Syntax.{Assign}
-use Rattle.vc_occam.specs.Terms.{given, test}
+use Rattle.vc_occam.specs.Terms.{given, as_test}
 
 pub held_there : (kinds : List ValueKind) (v : ℕ) (k : ValueKind) → holds_kind kinds v k ≡ true → v < length kinds
 held_there [] v k h = absurd cc
@@ -29,5 +29,5 @@ pub written-set : (p : Process) (v : ℕ) (a : Value) → p ≡ process.Set v a 
 unfolding written out-Process out
 written-set p v a h =
     ap written h ∙ ap (λ (n : Numbered). n.tree 0)
-    (fold_out-Process Numbered NumberedBranch NumberedGuard numbered (λ b. record { when = test b.cond; then_do = b.body })
-    (λ g. record { when = test g.cond; chan = g.chan; var = g.var; then_do = g.body }) (process.Set v a))
+    (fold_out-Process Numbered NumberedBranch NumberedGuard numbered (λ b. record { when = as_test b.cond; then_do = b.body })
+    (λ g. record { when = as_test g.cond; chan = g.chan; var = g.var; then_do = g.body }) (process.Set v a))

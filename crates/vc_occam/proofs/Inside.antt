@@ -11,7 +11,7 @@ use Rattle.vc_occam.specs.declared.phase.Phase.TheVariants as phase
 use Rattle.vc_occam.specs.Gates.{Gate, gate}
 use Rattle.vc_occam.specs.Syntax.{Exp, Test, Proc, STOP, Procs, no_parts, part}
 use Rattle.vc_occam.specs.Remains.{Rest, Fresh, and_then}
-use Rattle.vc_occam.specs.Terms.{exp, test}
+use Rattle.vc_occam.specs.Terms.{exp, as_test}
 use Rattle.vc_occam.specs.Usage.{Set, just, nothing, ◌∪◌}
 use Rattle.vc_occam.specs.Sites.{sites, sites_all, sites_branches, sites_guards}
 use Rattle.vc_occam.specs.Frames.{View, awaiting, branches_of, chosen_at, count_of, follow, going_at, guards_of, plan_at, plans_of, rest_at, together, turn_of, turning, view, views, while_of}
@@ -69,8 +69,8 @@ going_inside (kind.Receive c v) i vs at w = λ k e. e
 going_inside (kind.Stopch c) i vs at w = within_none (just i)
 going_inside kind.Seq i vs at w = later (doers (follow (slice_get vs at) (plans_of (drop (suc at) vs)))) (just i) (sites_all (plans_of vs)) (seq_inside vs at (plans_of (drop (suc at) vs)) w)
 going_inside kind.Par i vs at w = within_none (just i ∪ sites_all (plans_of vs))
-going_inside (kind.If bs) i vs at w = later (doers (follow (slice_get vs at) no_parts)) (just i) (sites_branches (branches_of (map test bs) vs)) (branch_inside (map test bs) vs at w)
-going_inside (kind.While b) i vs at w = while_inside i (test b) vs w
+going_inside (kind.If bs) i vs at w = later (doers (follow (slice_get vs at) no_parts)) (just i) (sites_branches (branches_of (map as_test bs) vs)) (branch_inside (map as_test bs) vs at w)
+going_inside (kind.While b) i vs at w = while_inside i (as_test b) vs w
 going_inside (kind.Count v a n) i vs at w = within_none (sites (count_of i v (exp a) (exp n) vs))
 going_inside (kind.Alt gs) i vs at w = later (doers (follow (slice_get vs at) no_parts)) (just i) (sites_guards (guards_of (map gate gs.inputs) vs)) (guard_inside (map gate gs.inputs) vs at w)
 
@@ -83,8 +83,8 @@ awaiting_inside (kind.Receive c v) i vs at = within_none (just i)
 awaiting_inside (kind.Stopch c) i vs at = within_none (just i)
 awaiting_inside kind.Seq i vs at = within_none (just i ∪ sites_all (plans_of vs))
 awaiting_inside kind.Par i vs at = within_none (just i ∪ sites_all (plans_of vs))
-awaiting_inside (kind.If bs) i vs at = within_none (just i ∪ sites_branches (branches_of (map test bs) vs))
-awaiting_inside (kind.While b) i vs at = within_none (sites (while_of i (test b) vs))
+awaiting_inside (kind.If bs) i vs at = within_none (just i ∪ sites_branches (branches_of (map as_test bs) vs))
+awaiting_inside (kind.While b) i vs at = within_none (sites (while_of i (as_test b) vs))
 awaiting_inside (kind.Count v a n) i vs at = within_none (sites (count_of i v (exp a) (exp n) vs))
 awaiting_inside (kind.Alt gs) i vs at = chosen_inside i (map gate gs.inputs) vs (slice_get (map gate gs.inputs) at) (slice_get vs at)
 
@@ -97,8 +97,8 @@ turning_inside (kind.Receive c v) i vs x y w = within_none (just i)
 turning_inside (kind.Stopch c) i vs x y w = within_none (just i)
 turning_inside kind.Seq i vs x y w = within_none (just i ∪ sites_all (plans_of vs))
 turning_inside kind.Par i vs x y w = within_none (just i ∪ sites_all (plans_of vs))
-turning_inside (kind.If bs) i vs x y w = within_none (just i ∪ sites_branches (branches_of (map test bs) vs))
-turning_inside (kind.While b) i vs x y w = within_none (sites (while_of i (test b) vs))
+turning_inside (kind.If bs) i vs x y w = within_none (just i ∪ sites_branches (branches_of (map as_test bs) vs))
+turning_inside (kind.While b) i vs x y w = within_none (sites (while_of i (as_test b) vs))
 turning_inside (kind.Count v a n) i vs x y w = turn_inside i v (exp a) (exp n) vs x y w
 turning_inside (kind.Alt gs) i vs x y w = within_none (just i ∪ sites_guards (guards_of (map gate gs.inputs) vs))
 
@@ -111,8 +111,8 @@ together_inside (kind.Receive c v) i vs w = within_none (just i)
 together_inside (kind.Stopch c) i vs w = within_none (just i)
 together_inside kind.Seq i vs w = within_none (just i ∪ sites_all (plans_of vs))
 together_inside kind.Par i vs w = later (doers (together kind.Par vs)) (just i) (sites_all (plans_of vs)) (besides_sites vs w)
-together_inside (kind.If bs) i vs w = within_none (just i ∪ sites_branches (branches_of (map test bs) vs))
-together_inside (kind.While b) i vs w = within_none (sites (while_of i (test b) vs))
+together_inside (kind.If bs) i vs w = within_none (just i ∪ sites_branches (branches_of (map as_test bs) vs))
+together_inside (kind.While b) i vs w = within_none (sites (while_of i (as_test b) vs))
 together_inside (kind.Count v a n) i vs w = within_none (sites (count_of i v (exp a) (exp n) vs))
 together_inside (kind.Alt gs) i vs w = within_none (just i ∪ sites_guards (guards_of (map gate gs.inputs) vs))
 

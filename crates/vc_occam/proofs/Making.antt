@@ -18,7 +18,7 @@ use Rattle.vc_occam.specs.InOrder.{branch_layer, guard_layer, number, number_bra
 use Rattle.vc_occam.specs.Numbering.{Numbered, NumberedBranch, NumberedGuard, branch_sites, branches_from, guard_sites, guards_from, numbered, part_sites, parts_from}
 use Rattle.vc_occam.specs.Remains.{Fresh}
 use Rattle.vc_occam.specs.Syntax.{Branches, Guards, Proc, Procs, ALT, COUNT, IF, PAR, SEQ, WHILE, branch, guard, part}
-use Rattle.vc_occam.specs.Terms.{exp, test}
+use Rattle.vc_occam.specs.Terms.{exp, as_test}
 use Rattle.vc_occam.specs.Wholes.{branch_wholes_from, gates, guard_wholes_from, tests, whole_from, wholes_from}
 use Rattle.vc_occam.proofs.Numbers.{number_alt, number_guard_out, number_if, number_par, number_seq}
 
@@ -45,22 +45,22 @@ number_while : (p : Process) (b : Cond) (q : Process) → p ≡ process.While b 
 unfolding number
 number_while p b q h = ap number (h ∙ sym (process.rolls-While b q)) ∙ fold-roll-Process Numbered NumberedBranch NumberedGuard numbered branch_layer guard_layer (layer.While b q)
 
-pub while_whole : (site : ℕ) (p : Process) (b c : Cond) (q : Process) (vs : List View) → p ≡ process.While b q → c ≡ b → vs ≡ whole_from (site + 1) (number q) ∷ [] → ◌≡◌ {A = View} (while_of site (test c) vs, Fresh (while_of site (test c) vs)) (whole_from site (number p))
+pub while_whole : (site : ℕ) (p : Process) (b c : Cond) (q : Process) (vs : List View) → p ≡ process.While b q → c ≡ b → vs ≡ whole_from (site + 1) (number q) ∷ [] → ◌≡◌ {A = View} (while_of site (as_test c) vs, Fresh (while_of site (as_test c) vs)) (whole_from site (number p))
 while_whole site p b c q vs h e g =
     let W : Proc → View = λ x. (x, Fresh x) in
-    ap W (ap (while_of site (test c)) g ∙ ap (λ d. WHILE site (test d) ((number q).tree (site + 1))) e ∙ ap (λ k. WHILE site (test b) ((number q).tree k)) (add-one site)) ∙ ap (whole_from site) (sym (number_while p b q h))
+    ap W (ap (while_of site (as_test c)) g ∙ ap (λ d. WHILE site (as_test d) ((number q).tree (site + 1))) e ∙ ap (λ k. WHILE site (as_test b) ((number q).tree k)) (add-one site)) ∙ ap (whole_from site) (sym (number_while p b q h))
 
 -- an IF as it is numbered
 pub branches_wholes : (i : ℕ) (bs : List NumberedBranch) → branches_of (tests bs) (branch_wholes_from i bs) ≡ branches_from i bs
 branches_wholes i [] = refl
 branches_wholes i (b ∷ bs) = ap (branch b.when (b.then_do.tree i)) (branches_wholes (i + b.then_do.sites) bs)
 
-pub if_whole : (site : ℕ) (p : Process) (bs : List Branch) (cs : List Cond) (vs : List View) → p ≡ process.If bs → map test cs ≡ tests (map number_branch bs) → vs ≡ branch_wholes_from (site + 1) (map number_branch bs) →
-    ◌≡◌ {A = View} (IF site (branches_of (map test cs) vs), Fresh (IF site (branches_of (map test cs) vs))) (whole_from site (number p))
+pub if_whole : (site : ℕ) (p : Process) (bs : List Branch) (cs : List Cond) (vs : List View) → p ≡ process.If bs → map as_test cs ≡ tests (map number_branch bs) → vs ≡ branch_wholes_from (site + 1) (map number_branch bs) →
+    ◌≡◌ {A = View} (IF site (branches_of (map as_test cs) vs), Fresh (IF site (branches_of (map as_test cs) vs))) (whole_from site (number p))
 if_whole site p bs cs vs h e g =
     let W : Branches → View = λ qs. (IF site qs, Fresh (IF site qs)) in
     let ns = map number_branch bs in
-    ap W (ap (branches_of (map test cs)) g ∙ ap (λ ts. branches_of ts (branch_wholes_from (site + 1) ns)) e ∙ branches_wholes (site + 1) ns ∙ ap (λ k. branches_from k ns) (add-one site)) ∙ ap (whole_from site) (sym (number_if p bs h))
+    ap W (ap (branches_of (map as_test cs)) g ∙ ap (λ ts. branches_of ts (branch_wholes_from (site + 1) ns)) e ∙ branches_wholes (site + 1) ns ∙ ap (λ k. branches_from k ns) (add-one site)) ∙ ap (whole_from site) (sym (number_if p bs h))
 
 -- an ALT as it is numbered
 pub guards_wholes : (i : ℕ) (gs : List NumberedGuard) → guards_of (gates gs) (guard_wholes_from i gs) ≡ guards_from i gs

@@ -11,7 +11,7 @@ use Rattle.vc_occam.specs.declared.process.Process.TheOpen as layer
 use Rattle.vc_occam.specs.declared.process.Process.TheFolds.{fold-roll-Process, fold_out-Branch, fold_out-Guard}
 use Rattle.vc_occam.specs.InOrder.{branch_layer, guard_layer, number, number_branch, number_guard}
 use Rattle.vc_occam.specs.Numbering.{Numbered, NumberedBranch, NumberedGuard, numbered}
-use Rattle.vc_occam.specs.Terms.{test}
+use Rattle.vc_occam.specs.Terms.{as_test}
 
 pub number_seq : (p : Process) (ps : List Process) → p ≡ process.Seq ps → number p ≡ numbered (layer.Seq (map number ps))
 unfolding number
@@ -37,10 +37,10 @@ pub number_alt : (p : Process) (gs : List Guard) → p ≡ process.Alt gs → nu
 unfolding number number_guard
 number_alt p gs h = ap number (h ∙ sym (process.rolls-Alt gs)) ∙ fold-roll-Process Numbered NumberedBranch NumberedGuard numbered branch_layer guard_layer (layer.Alt gs)
 
-pub number_branch_out : (b : Branch) → number_branch b ≡ record { when = test (out-Branch b).cond; then_do = number (out-Branch b).body }
+pub number_branch_out : (b : Branch) → number_branch b ≡ record { when = as_test (out-Branch b).cond; then_do = number (out-Branch b).body }
 unfolding number number_branch
 number_branch_out = fold_out-Branch Numbered NumberedBranch NumberedGuard numbered branch_layer guard_layer
 
-pub number_guard_out : (g : Guard) → number_guard g ≡ record { when = test (out-Guard g).cond; chan = (out-Guard g).chan; var = (out-Guard g).var; then_do = number (out-Guard g).body }
+pub number_guard_out : (g : Guard) → number_guard g ≡ record { when = as_test (out-Guard g).cond; chan = (out-Guard g).chan; var = (out-Guard g).var; then_do = number (out-Guard g).body }
 unfolding number number_guard
 number_guard_out = fold_out-Guard Numbered NumberedBranch NumberedGuard numbered branch_layer guard_layer

@@ -10,7 +10,7 @@ use Rattle.vc_occam.specs.declared.kind.Kind.{Kind}
 use Rattle.vc_occam.specs.declared.kind.Kind.TheVariants as kind
 use Rattle.vc_occam.specs.declared.phase.Phase.TheVariants as phase
 use Rattle.vc_occam.specs.Syntax.{Exp, Test, Proc, SKIP, STOP, Assign, Output, Input, StopChan, SEQ, PAR, IF, WHILE, COUNT, ALT, no_parts}
-use Rattle.vc_occam.specs.Terms.{exp, test}
+use Rattle.vc_occam.specs.Terms.{exp, as_test}
 use Rattle.vc_occam.specs.Traces.{Comm}
 use Rattle.vc_occam.specs.Values.{Store}
 use Rattle.vc_occam.specs.Usage.{Set, changes, just, nothing, ◌∪◌}
@@ -81,7 +81,7 @@ plan_site (kind.Stopch c) i vs = refl
 plan_site kind.Seq i vs = refl
 plan_site kind.Par i vs = refl
 plan_site (kind.If bs) i vs = refl
-plan_site (kind.While b) i vs = while_site i (test b) vs
+plan_site (kind.While b) i vs = while_site i (as_test b) vs
 plan_site (kind.Count v a n) i vs = count_site i v (exp a) (exp n) vs
 plan_site (kind.Alt gs) i vs = refl
 

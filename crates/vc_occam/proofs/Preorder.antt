@@ -6,7 +6,7 @@ use Rattle.vc_occam.specs.declared.process.Branch.{Branch}
 use Rattle.vc_occam.specs.declared.process.Guard.{Guard}
 use Rattle.vc_occam.specs.declared.process.Process.TheOpen as layer
 use Rattle.vc_occam.specs.declared.process.Process.TheFolds.{ind-Process, fold-Process, fold-Branch, fold-Guard, fold-roll-Process, fold-roll-Branch, fold-roll-Guard, map-Process}
-use Rattle.vc_occam.specs.Terms.{test}
+use Rattle.vc_occam.specs.Terms.{as_test}
 use Rattle.vc_occam.specs.Numbering.{Numbered, NumberedBranch, NumberedGuard, parts_from, branches_from, guards_from, part_sites, branch_sites, guard_sites, numbered, written}
 use Rattle.vc_occam.specs.Usage.{Set, just, ◌∪◌}
 use Rattle.vc_occam.specs.Remains.{begin}
@@ -130,10 +130,10 @@ layer_good (layer.Count v a k p) h i = let n = h (suc i) in (n.0, above i p.site
 layer_good (layer.Alt gs) h i = let n = guards gs h (suc i) in (n.0, above i (guard_sites gs) (sites_guards (guards_from (suc i) gs)) n.1, (own_first i (suc i + guard_sites gs) (sites_guards (guards_from (suc i) gs)) n.1, n.2))
 
 abbrev branch_of : layer.Branch-F Numbered NumberedBranch NumberedGuard → NumberedBranch
-branch_of b = record { when = test b.cond; then_do = b.body }
+branch_of b = record { when = as_test b.cond; then_do = b.body }
 
 abbrev guard_of : layer.Guard-F Numbered NumberedBranch NumberedGuard → NumberedGuard
-guard_of g = record { when = test g.cond; chan = g.chan; var = g.var; then_do = g.body }
+guard_of g = record { when = as_test g.cond; chan = g.chan; var = g.var; then_do = g.body }
 
 abbrev number : Process → Numbered
 number = fold-Process Numbered NumberedBranch NumberedGuard numbered branch_of guard_of

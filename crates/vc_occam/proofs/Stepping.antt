@@ -9,7 +9,7 @@ use Rattle.vc_occam.specs.declared.kind.Kind.TheVariants as kind
 use Rattle.vc_occam.specs.declared.phase.Phase.{Phase}
 use Rattle.vc_occam.specs.declared.phase.Phase.TheVariants as phase
 use Rattle.vc_occam.specs.Syntax.{Exp, Test, Proc, STOP, SEQ, PAR, IF, WHILE, COUNT, ALT, Procs, no_parts, part, Branches, no_branches, branch, Guards, no_guards, guard, Constant}
-use Rattle.vc_occam.specs.Terms.{exp, test}
+use Rattle.vc_occam.specs.Terms.{exp, as_test}
 use Rattle.vc_occam.specs.Usage.{changes, changes_all, changes_branches, changes_guards, just}
 use Rattle.vc_occam.specs.Values.{Store}
 use Rattle.vc_occam.specs.Remains.{Rest, Done, Stopped, Fresh, Finishing, Getting, Then, Turns, Beside, and_then, then_on, in_then}
@@ -100,8 +100,8 @@ same_plan (kind.Receive c v) i vs ws h = refl
 same_plan (kind.Stopch c) i vs ws h = refl
 same_plan kind.Seq i vs ws h = ap (SEQ i) (procs_is ws ∙ ap procs_of h ∙ sym (procs_is vs))
 same_plan kind.Par i vs ws h = ap (PAR i) (procs_is ws ∙ ap procs_of h ∙ sym (procs_is vs))
-same_plan (kind.If bs) i vs ws h = ap (IF i) (branches_is (map test bs) ws ∙ ap (branches_by (map test bs)) h ∙ sym (branches_is (map test bs) vs))
-same_plan (kind.While b) i vs ws h = while_is i (test b) ws ∙ ap (while_by i (test b)) h ∙ sym (while_is i (test b) vs)
+same_plan (kind.If bs) i vs ws h = ap (IF i) (branches_is (map as_test bs) ws ∙ ap (branches_by (map as_test bs)) h ∙ sym (branches_is (map as_test bs) vs))
+same_plan (kind.While b) i vs ws h = while_is i (as_test b) ws ∙ ap (while_by i (as_test b)) h ∙ sym (while_is i (as_test b) vs)
 same_plan (kind.Count v a n) i vs ws h = count_is i v (exp a) (exp n) ws ∙ ap (count_by i v (exp a) (exp n)) h ∙ sym (count_is i v (exp a) (exp n) vs)
 same_plan (kind.Alt gs) i vs ws h = ap (ALT i) (guards_is (map gate gs.inputs) ws ∙ ap (guards_by (map gate gs.inputs)) h ∙ sym (guards_is (map gate gs.inputs) vs))
 
@@ -182,9 +182,9 @@ place_variables (kind.Receive c v) i vs at n h g = absurd (let z : false ≡ tru
 place_variables (kind.Stopch c) i vs at n h g = absurd (let z : false ≡ true = h in cc)
 place_variables kind.Seq i vs at n h g = all_variables vs at n g
 place_variables kind.Par i vs at n h g = absurd (let z : false ≡ true = h in cc)
-place_variables (kind.If bs) i vs at n h g = branch_variables (map test bs) vs at n g
+place_variables (kind.If bs) i vs at n h g = branch_variables (map as_test bs) vs at n g
 place_variables (kind.Count v a m) i vs at n h g = absurd (let z : false ≡ true = h in cc)
-place_variables (kind.While b) i vs at n h g = while_variables i (test b) vs n g
+place_variables (kind.While b) i vs at n h g = while_variables i (as_test b) vs n g
 place_variables (kind.Alt gs) i vs at n h g = guard_variables (map gate gs.inputs) vs at n g
 
 pub within_variables : (k : Kind) (i : ℕ) (vs : List View) (at p n : ℕ) → has_parts k ≡ true → p ≡ place_of k at → HasVariables (plan_at k i vs) n → PartHasVariables (slice_get vs p) n
@@ -276,8 +276,8 @@ place_preorder (kind.Receive c v) i vs at h g = absurd (let z : false ≡ true =
 place_preorder (kind.Stopch c) i vs at h g = absurd (let z : false ≡ true = h in cc)
 place_preorder kind.Seq i vs at h g = parts_preorder vs at g.1
 place_preorder kind.Par i vs at h g = absurd (let z : false ≡ true = h in cc)
-place_preorder (kind.If bs) i vs at h g = branches_preorder (map test bs) vs at g.1
-place_preorder (kind.While b) i vs at h g = while_preorder i (test b) vs g
+place_preorder (kind.If bs) i vs at h g = branches_preorder (map as_test bs) vs at g.1
+place_preorder (kind.While b) i vs at h g = while_preorder i (as_test b) vs g
 place_preorder (kind.Count v a m) i vs at h g = absurd (let z : false ≡ true = h in cc)
 place_preorder (kind.Alt gs) i vs at h g = guards_preorder (map gate gs.inputs) vs at g.1
 

@@ -19,7 +19,7 @@ use Rattle.vc_occam.specs.Values.{Store, datum_of, holds}
 use Rattle.vc_occam.specs.Traces.{Comm}
 use Rattle.vc_occam.specs.Usage.{changes}
 use Rattle.vc_occam.specs.Syntax.{Exp, Test, Constant, Proc, SKIP, STOP, Assign, Output, Input, StopChan, SEQ, PAR, IF, WHILE, COUNT, ALT, Procs, no_parts, part, Branches, no_branches, branch, Guards, no_guards, guard}
-use Rattle.vc_occam.specs.Terms.{exp, given, test}
+use Rattle.vc_occam.specs.Terms.{exp, given, as_test}
 use Rattle.vc_occam.specs.Remains.{Rest, Done, Stopped, Fresh, Finishing, Getting, Then, Turns, Beside, and_then, then_on, beside_on, begin, Step}
 use Rattle.vc_occam.specs.Sites.{InPreorder, site}
 use Rattle.vc_occam.specs.States.{Waiting, output, input, waiting, output_at, or_else}
@@ -70,15 +70,15 @@ plan_at (kind.Receive c v) i vs = Input i c v
 plan_at (kind.Stopch c) i vs = StopChan i c
 plan_at kind.Seq i vs = SEQ i (plans_of vs)
 plan_at kind.Par i vs = PAR i (plans_of vs)
-plan_at (kind.If bs) i vs = IF i (branches_of (map test bs) vs)
-plan_at (kind.While b) i vs = while_of i (test b) vs
+plan_at (kind.If bs) i vs = IF i (branches_of (map as_test bs) vs)
+plan_at (kind.While b) i vs = while_of i (as_test b) vs
 plan_at (kind.Count v a n) i vs = count_of i v (exp a) (exp n) vs
 plan_at (kind.Alt gs) i vs = ALT i (guards_of (map gate gs.inputs) vs)
 
 -- what comes behind the part that a process is at: the later parts of a SEQ, or a WHILE again
 abbrev pub behind : Kind → ℕ → List View → ℕ → Procs
 behind kind.Seq i vs k = plans_of (drop (suc k) vs)
-behind (kind.While b) i vs k = part (while_of i (test b) vs) no_parts
+behind (kind.While b) i vs k = part (while_of i (as_test b) vs) no_parts
 behind p i vs k = no_parts
 
 -- it is a counted SEQ

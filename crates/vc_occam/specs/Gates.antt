@@ -5,7 +5,7 @@ use Rattle.vc_occam.specs.declared.moves.Move.{Move}
 use Rattle.vc_occam.specs.declared.moves.Move.TheVariants.{Choose}
 use Rattle.vc_occam.specs.First.{is_true}
 use Rattle.vc_occam.specs.Syntax.{Test}
-use Rattle.vc_occam.specs.Terms.{test}
+use Rattle.vc_occam.specs.Terms.{as_test}
 use Rattle.vc_occam.specs.Values.{Store, holds}
 
 -- what a guard tests, its channel and its variable
@@ -15,7 +15,7 @@ pub record Gate : Type 0 where
   pub var : ℕ
 
 abbrev pub gate : GuardedInput → Gate
-gate g = record { when = test g.cond; chan = g.chan; var = g.var }
+gate g = record { when = as_test g.cond; chan = g.chan; var = g.var }
 
 -- no condition is a fault
 abbrev pub are_decided : List Gate → Store → Bool

@@ -4,14 +4,14 @@ use Rattle.vc_occam.specs.declared.process.Branch.{Branch}
 use Rattle.vc_occam.specs.declared.process.Guard.{Guard}
 use Rattle.vc_occam.specs.declared.process.Process.TheOpen as layer
 use Rattle.vc_occam.specs.declared.process.Process.TheFolds.{fold-Process, fold-Branch, fold-Guard}
-use Rattle.vc_occam.specs.Terms.{test}
+use Rattle.vc_occam.specs.Terms.{as_test}
 use Rattle.vc_occam.specs.Numbering.{Numbered, NumberedBranch, NumberedGuard, numbered}
 
 abbrev pub branch_layer : layer.Branch-F Numbered NumberedBranch NumberedGuard → NumberedBranch
-branch_layer b = record { when = test b.cond; then_do = b.body }
+branch_layer b = record { when = as_test b.cond; then_do = b.body }
 
 abbrev pub guard_layer : layer.Guard-F Numbered NumberedBranch NumberedGuard → NumberedGuard
-guard_layer g = record { when = test g.cond; chan = g.chan; var = g.var; then_do = g.body }
+guard_layer g = record { when = as_test g.cond; chan = g.chan; var = g.var; then_do = g.body }
 
 -- a process that is yet to be numbered, and a branch and a guard
 unfoldable pub number : Process → Numbered

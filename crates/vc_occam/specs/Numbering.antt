@@ -4,7 +4,7 @@ use Rattle.vc_occam.specs.declared.process.Process.{Process}
 use Rattle.vc_occam.specs.declared.process.Process.TheOpen as layer
 use Rattle.vc_occam.specs.declared.process.Process.TheFolds.{fold-Process}
 use Rattle.vc_occam.specs.Syntax.{Test, Proc, SKIP, STOP, Assign, Output, Input, StopChan, SEQ, PAR, IF, WHILE, COUNT, ALT, Procs, no_parts, part, Branches, no_branches, branch, Guards, no_guards, guard}
-use Rattle.vc_occam.specs.Terms.{exp, test, given}
+use Rattle.vc_occam.specs.Terms.{exp, as_test, given}
 
 -- a process that is yet to be numbered: how many sites it has, and its tree with the first of them
 pub record Numbered : Type 0 where
@@ -56,12 +56,12 @@ numbered (layer.Stopch c) = record { sites = 1; tree = λ i. StopChan i c }
 numbered (layer.Seq ps) = record { sites = suc (part_sites ps); tree = λ i. SEQ i (parts_from (suc i) ps) }
 numbered (layer.Par ps) = record { sites = suc (part_sites ps); tree = λ i. PAR i (parts_from (suc i) ps) }
 numbered (layer.If bs) = record { sites = suc (branch_sites bs); tree = λ i. IF i (branches_from (suc i) bs) }
-numbered (layer.While b p) = record { sites = suc p.sites; tree = λ i. WHILE i (test b) (p.tree (suc i)) }
+numbered (layer.While b p) = record { sites = suc p.sites; tree = λ i. WHILE i (as_test b) (p.tree (suc i)) }
 numbered (layer.Count v a n p) = record { sites = suc p.sites; tree = λ i. COUNT i v (exp a) (exp n) (p.tree (suc i)) }
 numbered (layer.Alt gs) = record { sites = suc (guard_sites gs); tree = λ i. ALT i (guards_from (suc i) gs) }
 
 -- the tree of a process as it is written, its own site being 0
 unfoldable pub written : Process → Proc
 written p =
-    (fold-Process Numbered NumberedBranch NumberedGuard numbered (λ b. record { when = test b.cond; then_do = b.body })
-    (λ g. record { when = test g.cond; chan = g.chan; var = g.var; then_do = g.body }) p).tree 0
+    (fold-Process Numbered NumberedBranch NumberedGuard numbered (λ b. record { when = as_test b.cond; then_do = b.body })
+    (λ g. record { when = as_test g.cond; chan = g.chan; var = g.var; then_do = g.body }) p).tree 0

@@ -37,8 +37,8 @@ test_layer (cond.And a b) = Both a b
 test_layer (cond.Or a b) = Either a b
 test_layer (cond.Not a) = Negate a
 
-unfoldable pub test : Cond → Test
-test = fold-Cond Test test_layer
+unfoldable pub as_test : Cond → Test
+as_test = fold-Cond Test test_layer
 
 abbrev pub text : BytesExpr → Text
 text (bytes.Lit xs) = Literal xs

@@ -4,7 +4,7 @@ ghost use Rattle.vc_occam.specs.Asking.{asking, everywhere as is_everywhere, in_
 ghost use Rattle.vc_occam.specs.InOrder.{number, number_branch, number_guard};
 ghost use Rattle.vc_occam.specs.Numbering.{branches_from, guards_from, parts_from};
 ghost use Rattle.vc_occam.specs.ProcessLimits.{test_within, test_fits};
-ghost use Rattle.vc_occam.specs.Terms.{test};
+ghost use Rattle.vc_occam.specs.Terms.{as_test};
 
 use crate::condition::Cond;
 use crate::limits::holds_kind;
@@ -27,9 +27,9 @@ pub(crate) enum Asked {
 
 impl Cond {
     /// Whether the condition has at most this depth; TRUE and FALSE have depth 1.
-    #[tactic(auto, unfolding(crate::specs::Terms::test))]
+    #[tactic(auto, unfolding(crate::specs::Terms::as_test))]
     fn is_within(&self, depth: u32) -> bool
-        ensures { result ≡ test_within (test self.now) depth }
+        ensures { result ≡ test_within (as_test self.now) depth }
     {
         match self {
             Cond::Always(_) => depth > 0,
@@ -47,9 +47,9 @@ impl Cond {
     }
 
     /// Whether its variables are among these, and hold numbers where it wants them.
-    #[tactic(auto, unfolding(crate::specs::Terms::test))]
+    #[tactic(auto, unfolding(crate::specs::Terms::as_test))]
     fn fits(&self, kinds: &[ValueKind]) -> bool
-        ensures { result ≡ test_fits (test self.now) kinds.now }
+        ensures { result ≡ test_fits (as_test self.now) kinds.now }
     {
         match self {
             Cond::Always(_) => true,
@@ -137,7 +137,7 @@ impl Asked {
 
     /// Whether it is so of a condition.
     fn condition(self, cond: &Cond, kinds: &[ValueKind]) -> bool
-        ensures { result ≡ (asking self kinds.now).condition (test cond.now) }
+        ensures { result ≡ (asking self kinds.now).condition (as_test cond.now) }
     {
         match self {
             Asked::Expressions { depth } => cond.is_within(depth),
@@ -169,7 +169,7 @@ impl Asked {
 
     /// Whether it is so of a guard, apart from its body.
     fn guard(self, guard: &Guard, kinds: &[ValueKind]) -> bool
-        ensures { result ≡ ((asking self kinds.now).condition (test guard.now.cond) && (asking self kinds.now).channel guard.now.chan && (asking self kinds.now).variable guard.now.var) }
+        ensures { result ≡ ((asking self kinds.now).condition (as_test guard.now.cond) && (asking self kinds.now).channel guard.now.chan && (asking self kinds.now).variable guard.now.var) }
     {
         self.condition(&guard.cond, kinds)
             && self.channel(guard.chan, kinds)

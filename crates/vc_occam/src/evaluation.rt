@@ -1,6 +1,6 @@
 //! What expressions and conditions are worth.
 ghost use Rattle.std.specs.Prelude.{◌≡◌, IfOk, is_some};
-ghost use Rattle.vc_occam.specs.Terms.{store, exp, test, text, given};
+ghost use Rattle.vc_occam.specs.Terms.{store, exp, as_test, text, given};
 ghost use Rattle.vc_occam.specs.Values.{whole_of, bytes_of, result as result_of, value_of, compares, holds, text_of, datum_of};
 
 use crate::bytes_expression::BytesExpr;
@@ -102,9 +102,9 @@ impl Expr {
 
 impl Cond {
     /// Whether the condition holds, or None where it is a fault.
-    #[tactic(auto, unfolding(crate::specs::Terms::test))]
+    #[tactic(auto, unfolding(crate::specs::Terms::as_test))]
     pub(crate) fn holds(&self, vars: &[Datum]) -> Option<bool>
-        ensures { result ≡ holds (test self.now) (store vars.now) }
+        ensures { result ≡ holds (as_test self.now) (store vars.now) }
     {
         match self {
             Cond::Always(yes) => Some(*yes),

@@ -6,7 +6,7 @@ ghost use Rattle.vc_occam.specs.Wholes.{branch_wholes_from, gates, guard_wholes_
 ghost use Rattle.vc_occam.specs.Gates.{gate};
 ghost use Rattle.vc_occam.specs.InOrder.{number, number_branch, number_guard};
 ghost use Rattle.vc_occam.specs.Numbering.{branch_sites, guard_sites, part_sites, written};
-ghost use Rattle.vc_occam.specs.Terms.{test};
+ghost use Rattle.vc_occam.specs.Terms.{as_test};
 
 use crate::condition::Cond;
 use crate::frame::Frame;
@@ -144,7 +144,7 @@ pub(crate) fn frame_of(alloc: Global, process: &Process, site: u32) -> Result<Fr
 /// The conditions of branches.
 #[tactic(auto, unfolding(crate::specs::InOrder::number, crate::specs::InOrder::number_branch))]
 fn conds_of(alloc: Global, branches: &Items<Branch>) -> Result<Items<Cond>, Memory>
-    ensures { IfOk result (λ conds. map test conds ≡ tests (map number_branch branches.now)) }
+    ensures { IfOk result (λ conds. map as_test conds ≡ tests (map number_branch branches.now)) }
 {
     let mut conds = Items::new(alloc);
     for branch in branches.as_slice() {

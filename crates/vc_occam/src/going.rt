@@ -8,7 +8,7 @@ ghost use Rattle.vc_occam.specs.Nexts.{GateHasVariable, branch_next, choice_begu
 ghost use Rattle.vc_occam.specs.declared.deed.Deed.{Deed};
 ghost use Rattle.vc_occam.specs.Remains.{Fresh};
 ghost use Rattle.vc_occam.specs.Sites.{InPreorder};
-ghost use Rattle.vc_occam.specs.Terms.{exp, store, test};
+ghost use Rattle.vc_occam.specs.Terms.{exp, store, as_test};
 ghost use Rattle.vc_occam.specs.Values.{value_of};
 ghost use lib.Signed.{mag};
 
@@ -177,7 +177,7 @@ fn start_at(parts: &mut Vec<Frame>, at: usize) -> bool
 
 /// The place of the first branch whose condition is true, before a condition that is a fault.
 fn chosen(conds: &[Cond], vars: &[Datum]) -> Option<usize>
-    ensures { result ≡ chosen_from 0 (map test conds.now) (store vars.now) }
+    ensures { result ≡ chosen_from 0 (map as_test conds.now) (store vars.now) }
 {
     for place in 0..conds.len() {
         match conds[place].holds(vars) {

@@ -3,7 +3,7 @@ ghost use Rattle.std.specs.Prelude.{◌≡◌, ◌<◌, ◌++◌, ◌↔◌, IsT
 ghost use Rattle.std.specs.List.{Contains};
 ghost use Rattle.vc_occam.specs.Gates.{are_decided as all_decided, choices_at, gate, open_from, open_one};
 ghost use Rattle.vc_occam.specs.First.{is_true};
-ghost use Rattle.vc_occam.specs.Terms.{store, test};
+ghost use Rattle.vc_occam.specs.Terms.{store, as_test};
 ghost use Rattle.vc_occam.specs.Values.{holds};
 
 use crate::condition::Cond;
@@ -30,7 +30,7 @@ pub(crate) struct GuardedInputs {
 impl GuardedInput {
     /// Whether its condition is true.
     fn is_open(&self, vars: &[Datum]) -> bool
-        ensures { result ≡ is_true (holds (test self.now.cond) (store vars.now)) }
+        ensures { result ≡ is_true (holds (as_test self.now.cond) (store vars.now)) }
     {
         match self.cond.holds(vars) {
             Some(held) => held,

@@ -56,8 +56,6 @@ mod relation;
 mod running;
 mod sharing;
 mod site_deed;
-#[cfg(test)]
-mod tests;
 mod usages;
 mod use_check;
 mod use_fault;

@@ -3,7 +3,7 @@ ghost use Rattle.std.specs.Prelude.{◌≡◌, ◌++◌, ◌∷◌, ℕ, OnOk, m
 ghost use Rattle.vc_occam.specs.declared.used.Used.TheVariants as of;
 ghost use Rattle.vc_occam.specs.InOrder.{number, number_branch, number_guard};
 ghost use Rattle.vc_occam.specs.Numbering.{branches_from, guards_from, parts_from};
-ghost use Rattle.vc_occam.specs.Terms.{exp, given, test};
+ghost use Rattle.vc_occam.specs.Terms.{exp, given, as_test};
 ghost use Rattle.vc_occam.specs.Usages.{changing as as_changing, exp_usages, given_usages, input_usages, reading as as_reading, test_usages, usages, usages_of_branches, usages_of_guards, usages_of_parts};
 
 use crate::bytes_expression::BytesExpr;
@@ -50,9 +50,9 @@ fn push_expression(uses: &mut Items<Usage>, expression: &Expr) -> Result<(), Mem
 }
 
 /// Adds the uses of a condition.
-#[tactic(auto, unfolding(crate::specs::Terms::test))]
+#[tactic(auto, unfolding(crate::specs::Terms::as_test))]
 fn push_condition(uses: &mut Items<Usage>, cond: &Cond) -> Result<(), Memory>
-    ensures { OnOk result (uses.new ≡ uses.old ++ test_usages (test cond.now)) }
+    ensures { OnOk result (uses.new ≡ uses.old ++ test_usages (as_test cond.now)) }
 {
     match cond {
         Cond::Always(_) => {}

@@ -2,7 +2,7 @@
 use crate::write::{count, number, seq, skip};
 use std::alloc::Global;
 use std::test::Fail;
-use vc_occam::Process;
+use vc_occam::{Expr, Process};
 use vc_packets::Memory;
 
 /// An equal process.
@@ -29,5 +29,12 @@ fn processes_are_counted_and_their_depth_too(rt: HostRuntime) -> Result<(), Fail
     let process = seq(rt.alloc(), skip(), loop_of_one);
     let found = counted(copied(rt.alloc(), process))?;
     assert_eq!(rt; found, (Some(4), None, true, false));
+    Ok(())
+}
+
+#[test]
+fn a_literal_has_depth_one(rt: HostRuntime) -> Result<(), Fail> {
+    assert!(rt; Expr::Num(7).is_within(1));
+    assert!(rt; !Expr::Num(7).is_within(0));
     Ok(())
 }

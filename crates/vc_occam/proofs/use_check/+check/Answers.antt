@@ -8,7 +8,7 @@ use Rattle.vc_occam.specs.Lawful.{FirstOffence, Lawfully, Offends, SideBySide, a
 use Rattle.vc_occam.specs.Numbering.{NumberedBranch, NumberedGuard, numbered, parts_from, branches_from, guards_from}
 use Rattle.vc_occam.specs.Sharing.{Judges}
 use Rattle.vc_occam.specs.Syntax.{PAR, COUNT}
-use Rattle.vc_occam.specs.Terms.{exp, test}
+use Rattle.vc_occam.specs.Terms.{exp, as_test}
 use Rattle.vc_occam.proofs.Judging.{judges_err, judges_tree, judges_seq, judges_if, judges_while, judges_alt, judges_par, judges_count, comes_next, comes_fault, comes_end, parts_so, parts_first, part_so, part_first, behind_part, parts_go, branches_so, branches_first, branch_so, branch_first, behind_branch, branches_go, guards_so, guards_first, guard_so, guard_first, behind_guard, guards_go}
 use Rattle.vc_occam.proofs.Numbers.{number_seq, number_par, number_if, number_while, number_count, number_alt, number_branch_out, number_guard_out}
 use Rattle.vc_occam.proofs.use_check.+check.Goals as goal
@@ -107,7 +107,7 @@ check_process-returns-in-While t c = λ site.
     let b = c.in-While.cond in
     let p = c.in-While.body in
     judges_tree _ (numbered (layer.While b (number p))) site c.check_process.result (number_while c.args.process.now b p c.in-While.is)
-    (judges_while site (test b) ((number p).tree (suc site)) c.check_process.result
+    (judges_while site (as_test b) ((number p).tree (suc site)) c.check_process.result
     (subst (λ (q : Process). Judges c.check_process.result (Lawfully ((number q).tree (suc site))) (FirstOffence ((number q).tree (suc site)))) c.get.ensures (c.check_process.ensures (suc site))))
 
 pub check_process-returns-in-Count : goal.check_process-returns-in-Count
