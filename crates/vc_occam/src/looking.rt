@@ -54,20 +54,30 @@ impl Frame {
         }
     }
 
-    /// Whether it waits, itself or at the part of a SEQ or WHILE, or has ended, so that it begins with nothing. Where this is false
-    /// it may begin with something.
+    /// Whether it begins with nothing, since it waits, has ended or never goes on. Where this is false it may begin.
     #[cycle(rests)]
     fn rests(&self) -> bool
         ensures { IsTrue result → (e : Store) → own (view self.now).1 e ≡ [] }
     {
-        if let Phase::Waiting = self.phase {
-            return match self.kind {
-                Kind::Seq => part_rests(&self.parts, self.at),
-                Kind::While { .. } => part_rests(&self.parts, 0),
-                _ => !self.kind.has_parts(),
-            };
+        match self.phase {
+            Phase::Ready => false,
+            Phase::Waiting => {
+                if self.kind.has_parts() {
+                    return part_rests(&self.parts, self.kind.place(self.at));
+                }
+                true
+            }
+            Phase::Turning { .. } => {
+                if self.kind.is_counted() {
+                    return part_rests(&self.parts, 0);
+                }
+                true
+            }
+            Phase::Together => false,
+            Phase::Chosen => true,
+            Phase::Ended => true,
+            Phase::Stuck => true,
         }
-        matches!(self.phase, Phase::Ended)
     }
 
     /// Whether the move is one that it can begin with.
