@@ -1,5 +1,5 @@
 -- Parts of a PAR that go on side by side.
-use Rattle.std.proofs.Common.{◌≡◌, ℕ, Bool, true, false, refl, ap, ◌∙◌, sym, subst, List}
+use Rattle.std.proofs.Common.{◌≡◌, ℕ, true, false, refl, ap, ◌∙◌, sym, subst, List}
 use Rattle.std.specs.Prelude.{slice_get}
 use Rattle.vc_occam.specs.declared.deed.Deed.{Deed}
 use Rattle.vc_occam.specs.declared.frame.Frame.{Frame}

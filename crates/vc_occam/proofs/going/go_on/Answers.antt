@@ -1,4 +1,4 @@
-use Rattle.std.proofs.Common.{◌∙◌, ap, sym, subst}
+use Rattle.std.proofs.Common.{sym, subst}
 use Rattle.vc_occam.specs.declared.going.Next.{Next}
 use Rattle.vc_occam.specs.declared.phase.Phase.TheVariants.{Waiting, Chosen}
 use Rattle.vc_occam.specs.Frames.{Did, rest_at, views}

@@ -1,4 +1,4 @@
-use Rattle.std.proofs.Common.{◌∙◌, ap, subst, rules, length}
+use Rattle.std.proofs.Common.{◌∙◌, ap, subst, length}
 use Rattle.vc_occam.specs.declared.frame.Frame.TheViews.{the_lemmas, out-Frame}
 use Rattle.vc_occam.specs.Frames.{Able, HasVariables, View, assigned_at, views}
 use Rattle.vc_occam.specs.Terms.{store}

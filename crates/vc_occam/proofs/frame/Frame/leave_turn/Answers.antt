@@ -5,7 +5,6 @@ use mir.Val.{SFits, to_z, of_z}
 use Rattle.vc_occam.specs.declared.frame.Frame.TheViews.{the_lemmas, out-Frame, roll-Frame}
 use Rattle.vc_occam.specs.Frames.{HasVariables, View, plans, views}
 use Rattle.vc_occam.specs.Nexts.{turn_views}
-use Rattle.vc_occam.specs.Terms.{store}
 use Rattle.vc_occam.proofs.Frames.{view_roll, view_out}
 use Rattle.vc_occam.proofs.Stepping.{same_plan}
 use Rattle.vc_occam.proofs.Turns.{count_done_variable, turned_plans, turned}
