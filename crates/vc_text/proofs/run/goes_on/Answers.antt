@@ -1,4 +1,4 @@
-use Rattle.std.proofs.Common.{◌≡◌, ◌<◌, ◌≤◌, sym, ◌∙◌, subst, inl, inr, arith, true, false}
+use Rattle.std.proofs.Common.{◌≡◌, ◌<◌, ◌≤◌, sym, ◌∙◌, subst, inl, inr, arith, true}
 use Rattle.std.proofs.lemmas.Bool.{cases_lt}
 use Rattle.vc_core.specs.State.{state_of, IsNetworkOf}
 use Rattle.vc_core.specs.Turns.{Rests, GoesOn, actors}
