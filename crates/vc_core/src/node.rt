@@ -377,7 +377,7 @@ fn answer_of(want: Want) -> Answer
     }
 }
 
-// The place of the first move by a site from this one on.
+// The place of the first move by a site from this one on; the first place where there is none.
 fn first_from(moves: &[Move], site: u16) -> usize
     ensures { result ≤ length moves.now }
 {

@@ -24,6 +24,8 @@ use Rattle.vc_occam.proofs.bytes_expression.BytesExpr.TheSendSync as bytes
 use Rattle.vc_occam.proofs.relation.Rel.TheSendSync as rel
 use Rattle.vc_occam.proofs.phase.Phase.TheSendSync as phase
 use Rattle.vc_occam.proofs.datum.Datum.TheSendSync as datum
+use Rattle.vc_occam.specs.contracts.moves.Move as Move
+use Rattle.vc_occam.proofs.moves.Move.TheSendSync as move
 use Rattle.vc_core.proofs.act.Act.TheSendSync as act
 use Rattle.vc_threads.specs.contracts.crew.Job as Job
 use Rattle.vc_threads.specs.contracts.run.ActorRun as ActorRun
@@ -95,8 +97,11 @@ running_field = search (sendable, crosses, frame_field, datum_send, items_send) 
 node_field : IsSend Node.the_field.row
 node_field = search (sendable, crosses, vcp.the_send, running_field, inside.the_send) depth 20
 
+moves_send : IsSend (Items.the_row Move.the_row)
+moves_send = search (sendable, crosses, move.the_send, move.the_field_send) depth 20
+
 node_actor_field : IsSend NodeActor.the_field.row
-node_actor_field = search (sendable, node_field) depth 20
+node_actor_field = search (sendable, node_field, moves_send) depth 20
 
 part_field : IsSend Part.the_field.row
 part_field = search (sendable, node_actor_field, switch.the_field_send) depth 20
