@@ -284,11 +284,11 @@ fn push_part(
 fn push_parts(found: &mut Items<Move>, parts: &Vec<Frame>, vars: &[Datum]) -> Result<(), Memory>
     ensures { OnOk result (found.new ≡ found.old ++ own (besides (views parts.now.items)) (store vars.now)) }
 {
-    for place in 0..parts.len() {
-        if parts[place].rests() {
+    for part in parts.as_slice() {
+        if part.rests() {
             continue;
         }
-        parts[place].push_moves(found, vars)?;
+        part.push_moves(found, vars)?;
     }
     Ok(())
 }

@@ -1,5 +1,6 @@
-use Rattle.std.proofs.Common.{◌∙◌, ◌<◌, ℕ, length, sym, ap, arith, rules, Option}
+use Rattle.std.proofs.Common.{◌≡◌, ◌∙◌, ◌<◌, ℕ, List, get_or, length, subst, sym, ap, arith, Option}
 use Rattle.std.specs.Prelude.{slice_get}
+use Rattle.vc_occam.specs.declared.frame.Frame.{Frame}
 use Rattle.vc_occam.specs.declared.frame.Frame.TheViews.{out-Frame}
 use Rattle.vc_occam.specs.First.{own}
 use Rattle.vc_occam.specs.Frames.{View, behind, part_own, place_of, views}
@@ -67,8 +68,12 @@ frame::Frame::push_moves-returns-else-is_par t c =
     let F = λ (r : Rest). own r (store c.args.vars.now) in
     pushed_none _ _ (ap F (rest_apart c.args.self.now c.in-Together.is (sym c.is_par.ensures ∙ c.if-is_par.false)))
 
-pub looking::push_parts-loop-place-preserved-then-rests : goal.looking::push_parts-loop-place-preserved-then-rests
-looking::push_parts-loop-place-preserved-then-rests t c =
+pub looking::push_parts-loop-part-preserved-then-rests : goal.looking::push_parts-loop-part-preserved-then-rests
+looking::push_parts-loop-part-preserved-then-rests t c =
     let fs = c.args.parts.now.items in
-    let l : c.loop-place.place < length fs = search rules in
-    rested fs c.loop-place.place c.index.result.now (store c.args.vars.now) c.loop-place.found _ l c.index.ensures (c.rests.ensures c.if-rests.true (store c.args.vars.now)) c.loop-place.invariant
+    let k = c.loop-part.part-index in
+    let part = c.part-item.result in
+    let same = c.as_slice-part-items.ensures.value in
+    let l = subst (λ (xs : List Frame). k < length xs) same c.loop-part-test.true in
+    let h = subst (λ (xs : List Frame). part ≡ get_or xs k part) same c.part-item.is in
+    rested fs k part (store c.args.vars.now) c.loop-part.found _ l h (c.rests.ensures c.if-rests.true (store c.args.vars.now)) c.loop-part.invariant
