@@ -26,7 +26,7 @@ use Rattle.vc_told.specs.Process.{does}
 use Rattle.vc_core.specs.Shown.{Acting, actor_of, act_of}
 use Rattle.vc_core.specs.State.{State, shown, IsNetworkOf, HasFront, HasWay, MakesEvent, Accepts, GrantsBy, with_actor, with_line}
 use Rattle.vc_core.specs.Turns.{actors}
-use Rattle.vc_core.specs.Wired.{out_at, in_at}
+use Rattle.vc_core.specs.Wired.{out_at}
 use Rattle.vc_core.specs.declared.act.Act.TheVariants as act
 use Rattle.vc_core.specs.declared.act.Event.{Event}
 

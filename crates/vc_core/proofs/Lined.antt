@@ -7,7 +7,7 @@ use Rattle.std.specs.Int.{bit_at}
 use Rattle.std.specs.List.{AllByRecursion}
 use Rattle.std.specs.Option.{option_map}
 use Rattle.vc_network.specs.Plan.{back}
-use Rattle.vc_accepted.specs.NetworkOf.{network_of, wire_of}
+use Rattle.vc_accepted.specs.NetworkOf.{wire_of}
 use Rattle.vc_accepted.proofs.Wired.{outgoing_is, incoming_is}
 use Rattle.vc_plan.specs.Accepted.{IsAccepted}
 use Rattle.vc_plan.specs.declared.plan.Plan.{Plan}

@@ -1,5 +1,5 @@
 -- Going through the links of a mask, the least one first.
-use Rattle.std.proofs.Common.{◌≡◌, ◌≢◌, ◌+◌, ◌<◌, ◌≤◌, ◌^◌, ℕ, zero, suc, min, refl, sym, ap, ◌∙◌, subst, arith, inl, inr, bit_and}
+use Rattle.std.proofs.Common.{◌≡◌, ◌≢◌, ◌+◌, ◌<◌, ◌^◌, ℕ, zero, suc, refl, sym, ◌∙◌, subst, arith, inl, inr, bit_and}
 use Rattle.std.proofs.lemmas.Bool.{cases_eq, cases_lt}
 use Rattle.std.proofs.lemmas.Nat.Bits.{bit_at-zero, bit_at-trailing_zeros, bit_at_and, bit_at-lt}
 use Rattle.std.specs.Int.{bit_at, trailing_zeros, w32}

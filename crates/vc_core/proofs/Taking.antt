@@ -7,7 +7,7 @@ use Rattle.vc_core.specs.Able.{CanAct}
 use Rattle.vc_core.specs.Acting.{HasLink, MayAct}
 use Rattle.vc_core.specs.Enabled.{CanHappen}
 use Rattle.vc_core.specs.Shown.{Acting, OfNode, OfSwitch}
-use Rattle.vc_core.specs.State.{State, IsNetworkOf, HasFront, MayActAt, MayHappen, WaysLet}
+use Rattle.vc_core.specs.State.{State, IsNetworkOf, MayActAt, MayHappen, WaysLet}
 use Rattle.vc_core.specs.declared.act.Act.TheVariants as act
 use Rattle.vc_core.specs.declared.act.Event.{Event}
 use Rattle.vc_core.proofs.Enabled.{happens, has_act, has_ways, has_actor, can_take}

@@ -1,5 +1,5 @@
 -- What the code's network is: its actors, and the ways between them; and when an event can be made.
-use Rattle.std.specs.Prelude.{◌≡◌, ℕ, ◌+◌, List, [], ◌∷◌, Option, Some, None, slice_get, slice_set, length}
+use Rattle.std.specs.Prelude.{◌≡◌, ℕ, ◌+◌, List, [], Option, Some, None, slice_get, slice_set, length}
 use Rattle.vc_actors.specs.Actors.{ActBy}
 use Rattle.vc_actors.specs.Actors as actors
 use Rattle.vc_network.specs.Network as net
@@ -14,7 +14,7 @@ use Rattle.vc_switch.specs.Waiting.{Wormhole}
 use Rattle.vc_tokens.specs.Tokens.{Token}
 use Rattle.vc_vcp.specs.Keyed.{shown_or}
 use Rattle.vc_core.specs.Channels.{AreChannelsOf}
-use Rattle.vc_core.specs.Acting.{MayAct, MakesTake, MakesPut, MakesGrant}
+use Rattle.vc_core.specs.Acting.{MayAct, MakesTake, MakesGrant}
 use Rattle.vc_core.specs.OfPlan.{IsActorOf}
 use Rattle.vc_told.specs.Process.{Process, does}
 use Rattle.vc_core.specs.Shown.{Acting, actor_of, act_of}

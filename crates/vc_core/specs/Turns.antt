@@ -20,7 +20,6 @@ use Rattle.vc_core.specs.declared.act.Act.{Act}
 use Rattle.vc_core.specs.declared.act.Act.TheVariants.{Proc, Take, Put, Route, Fct, Pass}
 use Rattle.vc_core.specs.declared.act.Event.{Event}
 use Rattle.vc_core.specs.declared.node.Node.{Node}
-use Rattle.vc_core.specs.Wired.{out_at, in_at}
 use Rattle.vc_core.specs.declared.turn.Turn.{Turn}
 use Rattle.vc_core.specs.declared.turn.Turn.TheVariants as turn
 

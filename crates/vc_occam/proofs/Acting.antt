@@ -15,7 +15,7 @@ use Rattle.vc_occam.specs.Messages.{message}
 use Rattle.vc_occam.specs.Traces.{Comm, Out, Fin, In, Stp}
 use Rattle.vc_occam.specs.Values.{Store}
 use Rattle.vc_occam.specs.Usage.{just, nothing}
-use Rattle.vc_occam.specs.First.{own, first_moves}
+use Rattle.vc_occam.specs.First.{own}
 use Rattle.vc_occam.specs.InUse.{UsesLawfully}
 use Rattle.vc_occam.specs.Remains.{Rest, Done, Stopped, Fresh, Finishing, Getting, Then, Turns, Beside, Step, does_skip, does_empty_seq, does_empty_par, does_assign, faults_assign, faults_out, does_if, does_turn, does_leave, faults_while, does_count, does_count_none, faults_count, does_offer, does_finish, does_input, waits_input, gets, does_stop, does_choose, waits_choose, in_then, in_turns, in_left, in_right}
 use Rattle.vc_occam.specs.declared.waits.Waits.{Waits}
@@ -27,7 +27,7 @@ use Rattle.vc_occam.specs.States.{State, Acts, Wants, Chooses, IsTraced, Resumes
 use Rattle.vc_occam.proofs.Keeping.{lawful}
 use Rattle.vc_occam.proofs.Law.{law}
 use Rattle.vc_occam.proofs.Lists.{at_front, behind, front_or, only, none, is_inserted}
-use Rattle.vc_occam.proofs.Made.{Listed, listed, no_meeting, not_there}
+use Rattle.vc_occam.proofs.Made.{no_meeting, not_there}
 use Rattle.vc_occam.proofs.Places.{doers, itself, step_site}
 use Rattle.vc_occam.proofs.Sites.{Within, clash, either, not_true, within_none}
 use Rattle.vc_occam.proofs.Stores.{or_left, or_right}

@@ -8,7 +8,7 @@ use Rattle.vc_occam.specs.declared.deed.Deed.TheVariants.{Quiet, Offer, Finish, 
 use Rattle.vc_occam.specs.InUse.{UsesLawfully, outputs_rest, inputs_rest}
 use Rattle.vc_occam.specs.Lawful.{outputs_all, inputs_all, outputs, inputs}
 use Rattle.vc_occam.specs.Messages.{message, received}
-use Rattle.vc_occam.specs.Remains.{Rest, Done, Stopped, Fresh, Finishing, Getting, Then, Turns, Beside, begin, chosen, then_on, turns_on, index_on, beside_on, GuardAt, first, later, Step, does_skip, does_empty_seq, does_empty_par, does_assign, faults_assign, faults_out, does_if, does_turn, does_leave, faults_while, does_count, does_count_none, faults_count, does_offer, does_finish, does_input, waits_input, gets, does_stop, does_choose, waits_choose, in_then, in_turns, in_left, in_right}
+use Rattle.vc_occam.specs.Remains.{Rest, Done, Finishing, Getting, Then, Turns, begin, then_on, turns_on, index_on, beside_on, GuardAt, first, later, Step, does_skip, does_empty_seq, does_empty_par, does_assign, faults_assign, faults_out, does_if, does_turn, does_leave, faults_while, does_count, does_count_none, faults_count, does_offer, does_finish, does_input, waits_input, gets, does_stop, does_choose, waits_choose, in_then, in_turns, in_left, in_right}
 use Rattle.vc_occam.specs.Sites.{sites, sites_all, sites_guards, sites_branches, sites_rest, OwnSites}
 use Rattle.vc_occam.specs.States.{State, StepsTo, Doing, Offers, Wants, Chooses, Stops, Meets, Rests, Finishes, Receives, Does, meeting}
 use Rattle.vc_occam.specs.Syntax.{Test, Proc, Guards, no_parts, part}

@@ -1,5 +1,5 @@
 -- What is asked of each process within a process, one after the other.
-use Rattle.std.specs.Prelude.{ℕ, Bool, true, false, ◌&&◌, not, eqb, List, length, nat_lt}
+use Rattle.std.specs.Prelude.{ℕ, Bool, true, ◌&&◌, not, eqb, List, length, nat_lt}
 use Rattle.vc_occam.specs.declared.value_kind.ValueKind.{ValueKind}
 use Rattle.vc_occam.specs.declared.value_kind.ValueKind.TheVariants as of
 use Rattle.vc_occam.specs.declared.asked.Asked.{Asked}

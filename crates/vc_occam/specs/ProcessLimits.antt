@@ -1,6 +1,6 @@
 -- What is asked of a whole process: its depth and that of its expressions, how many processes are written in it, its messages, and
 -- the channels and variables that it names.
-use Rattle.std.specs.Prelude.{ℕ, ◌-◌, Bool, true, false, ◌&&◌, List, length, nat_lt}
+use Rattle.std.specs.Prelude.{ℕ, ◌-◌, Bool, true, ◌&&◌, List, length, nat_lt}
 use Rattle.vc_occam.specs.declared.value_kind.ValueKind.{ValueKind}
 use Rattle.vc_occam.specs.declared.value_kind.ValueKind.TheVariants as of
 use Rattle.vc_occam.specs.Syntax.{Test, Constant, Compare, Both, Either, Negate, Proc, SKIP, STOP, Assign, Output, Input, StopChan, SEQ, PAR, IF, WHILE, COUNT, ALT, Procs, no_parts, part, Branches, no_branches, branch, Guards, no_guards, guard}

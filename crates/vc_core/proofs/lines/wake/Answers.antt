@@ -1,5 +1,4 @@
-use Rattle.std.proofs.Common.{◌≡◌, Some, None, inl, inr, refl, sym, ◌∙◌}
-use Rattle.vc_core.specs.Wired.{in_at}
+use Rattle.std.proofs.Common.{inl, inr, refl}
 use Rattle.vc_core.proofs.Lined.{in_few}
 use Rattle.vc_core.proofs.lines.wake.Goals as goal
 

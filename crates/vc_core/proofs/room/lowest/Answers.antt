@@ -1,4 +1,4 @@
-use Rattle.std.proofs.Common.{◌≡◌, ◌<◌, ◌≤◌, ℕ, sym, subst, arith}
+use Rattle.std.proofs.Common.{◌<◌, arith}
 use Rattle.std.specs.Int.{trailing_zeros, w32}
 use Rattle.vc_core.proofs.Masks.{lowest_set, below_lowest}
 use Rattle.vc_core.proofs.room.lowest.Goals as goal

@@ -1,6 +1,4 @@
-use Rattle.std.proofs.Common.{◌≡◌, ◌↔◌, ◌<◌, ℕ, sym}
-use Rattle.std.specs.Int.{bit_at}
-use Rattle.vc_core.specs.State.{state_of, HasFront}
+use Rattle.vc_core.specs.State.{state_of}
 use Rattle.vc_core.proofs.Lined.{least_front}
 use Rattle.vc_core.proofs.Turning.{takes}
 use Rattle.vc_core.proofs.network.Network.link_to_take.Goals as goal

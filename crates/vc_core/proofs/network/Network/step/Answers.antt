@@ -17,7 +17,7 @@ returns-in_ok-make-clause-not_enabled c = λ p is. (c.if-enabled.ensures.can p i
 pub returns-in-Take-clause-not_enabled : goal.returns-in-Take-clause-not_enabled
 returns-in-Take-clause-not_enabled c = λ p is.
     subst
-      (λ (a : Act). MatchResult c.take_only.result (λ x. CanHappen p (state_of c.args.self.now) (record { actor = c.args.event.now.actor; act = a }))
-        (λ why. why ≡ refused.NotEnabled ↔ (CanHappen p (state_of c.args.self.now) (record { actor = c.args.event.now.actor; act = a }) → ⊥)))
-      (sym c.in-Take.is)
-      (c.take_only.ensures.not_enabled p is)
+    (λ (a : Act). MatchResult c.take_only.result (λ x. CanHappen p (state_of c.args.self.now) (record { actor = c.args.event.now.actor; act = a }))
+    (λ why. why ≡ refused.NotEnabled ↔ (CanHappen p (state_of c.args.self.now) (record { actor = c.args.event.now.actor; act = a }) → ⊥)))
+    (sym c.in-Take.is)
+    (c.take_only.ensures.not_enabled p is)

@@ -1,6 +1,5 @@
 use Rattle.std.proofs.Common.{◌≡◌, ◌↔◌, slice_get, Some, None, sym, ap, ◌∙◌, subst}
 use Rattle.vc_core.specs.Wired.{in_at, AreEnds}
-use Rattle.vc_core.specs.declared.ends.End.{End}
 use Rattle.vc_core.proofs.Leading.{found_end, no_end}
 use Rattle.vc_core.proofs.wiring.Wiring.end.Goals as goal
 

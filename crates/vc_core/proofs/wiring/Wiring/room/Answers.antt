@@ -1,4 +1,4 @@
-use Rattle.std.proofs.Common.{◌≡◌, ◌↔◌, get_or, slice_get, Some, None, refl, sym, ap, ◌∙◌, subst}
+use Rattle.std.proofs.Common.{◌≡◌, ◌↔◌, get_or, slice_get, Some, None, sym, ap, ◌∙◌, subst}
 use Rattle.std.proofs.lemmas.Option.{get_or_from_slice_get, unwrap_or-slice_get}
 use Rattle.std.specs.Int.{bit_at}
 use Rattle.vc_core.specs.Wired.{IsWired}
