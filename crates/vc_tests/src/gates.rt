@@ -4,7 +4,7 @@ use std::sync::Wait;
 use std::sync::atomic::{AtomicU64, Ordering};
 use std::test::Fail;
 use std::thread::Threads;
-use vc_core::{Close, Event, replay};
+use vc_core::{Close, Event, Network, replay};
 use vc_plan::{Accepted, check};
 use vc_reader::read_network;
 use vc_threads::{Gate, Report, run_threads};
@@ -49,6 +49,14 @@ fn run<R: Threads + Wait, G: Gate>(
 /// How many of these events are the actor's.
 fn count(events: &[Event], actor: u8) -> usize {
     events.iter().filter(|event| event.actor == actor).count()
+}
+
+/// Whether two networks show the same of the channel.
+fn show_the_same(one: &Network, other: &Network) -> bool {
+    one.offered(0).len() == other.offered(0).len()
+        && one.taken(0).len() == other.taken(0).len()
+        && one.finished(0) == other.finished(0)
+        && one.place(0) == other.place(0)
 }
 
 /// Holds the first turns of both nodes until both stand there.
@@ -102,7 +110,10 @@ fn a_worker_ends_at_the_turn_that_it_is_refused(rt: HostRuntime) -> Result<(), F
         let report = run(&rt, alloc, &accepted, &Refuses { turn }, 100_000)?;
         assert!(rt; matches!(report.close, Close::GateClosed | Close::Done));
         assert!(rt; count(report.steps.as_slice(), 0) as u64 <= turn);
-        assert!(rt; replay(alloc, &accepted, report.steps.as_slice()).is_ok());
+        let replayed = replay(alloc, &accepted, report.steps.as_slice())
+            .ok()
+            .ok_or("a replay")?;
+        assert!(rt; show_the_same(&replayed, &report.state));
     }
     Ok(())
 }
