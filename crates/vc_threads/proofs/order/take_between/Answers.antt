@@ -1,45 +1,46 @@
-use Rattle.std.proofs.Common.{◌<◌, length, sym, subst, ◌∙◌}
-use Rattle.vc_threads.specs.Order.{HasEnd, IsInOrder}
-use Rattle.vc_threads.specs.Wires.{OutLooked, InLooked}
+use Rattle.std.proofs.Common.{◌≡◌, ◌<◌, length, sym, subst, ◌∙◌}
+use Rattle.vc_threads.specs.Order.{AtLinks, HasEnd, IsLeft, TakenBy}
+use Rattle.vc_threads.specs.Wires.{OutLooked}
 use Rattle.vc_threads.specs.Works.{Out, In}
-use Rattle.vc_threads.proofs.Looking.{found, one_end}
-use Rattle.vc_threads.proofs.Looks.{looked_same, looked_then, in_looked_same, in_looked_then}
-use Rattle.vc_threads.proofs.Zips.{zip_same, zip_step}
-use Rattle.vc_threads.proofs.order.look.Goals as goal
+use Rattle.vc_threads.proofs.Looking.{found, one_end, taken_none}
+use Rattle.vc_threads.proofs.Goings.{any_default}
+use Rattle.vc_threads.proofs.Looks.{looked_same, looked_then}
+use Rattle.vc_threads.proofs.Outcomes.{if_ok_map}
+use Rattle.vc_threads.proofs.Zips.{zip_same, zip_set, zip_step}
+use Rattle.vc_threads.proofs.order.take_between.Goals as goal
 
-pub look_at-requires : goal.look_at-requires
-look_at-requires c =
+pub take_rest-requires : goal.take_rest-requires
+take_rest-requires c =
     let x = c.index_mut.result.now in
     let y = c.index_mut-2.result.now in
     let f = found c.as_slice.result.now c.args.outs.now.items c.place_out-a.result c.args.from x c.as_slice.ensures.value c.place_out-a.ensures.within c.index_mut.ensures.value c.place_out-a.ensures.link in
     let g = found c.as_slice-2.result.now c.args.ins.now.items c.place_in-b.result c.args.to y c.as_slice-2.ensures.value c.place_in-b.ensures.within c.index_mut-2.ensures.value c.place_in-b.ensures.link in
     c.requires.pair x y f.0 g.0 f.1 g.1
 
-pub returns-clause-outs : goal.returns-clause-outs
-returns-clause-outs c =
+pub returns : goal.returns
+returns c =
     let os = c.args.outs.now.items in
+    let is = c.args.ins.now.items in
     let a = c.place_out-a.result in
-    let within = subst (λ w. a < length w) c.as_slice.ensures.value c.place_out-a.ensures.within in
-    zip_step OutLooked looked_then os os a c.index_mut.result.now c.look_at.new.out (zip_same OutLooked looked_same os) within (subst (λ v. OutLooked v c.look_at.new.out) c.index_mut.ensures.value c.look_at.ensures.out)
-
-pub returns-clause-ins : goal.returns-clause-ins
-returns-clause-ins c =
-    let is = c.args.ins.now.items in
     let b = c.place_in-b.result in
-    let within = subst (λ w. b < length w) c.as_slice-2.ensures.value c.place_in-b.ensures.within in
-    zip_step InLooked in_looked_then is is b c.index_mut-2.result.now c.look_at.new.into (zip_same InLooked in_looked_same is) within (subst (λ v. InLooked v c.look_at.new.into) c.index_mut-2.ensures.value c.look_at.ensures.into)
-
-pub returns-clause-order : goal.returns-clause-order
-returns-clause-order c = λ o i co ci eo ei.
-    let os = c.args.outs.now.items in
-    let is = c.args.ins.now.items in
     let x = c.index_mut.result.now in
     let y = c.index_mut-2.result.now in
-    let f = found c.as_slice.result.now os c.place_out-a.result c.args.from x c.as_slice.ensures.value c.place_out-a.ensures.within c.index_mut.ensures.value c.place_out-a.ensures.link in
-    let g = found c.as_slice-2.result.now is c.place_in-b.result c.args.to y c.as_slice-2.ensures.value c.place_in-b.ensures.within c.index_mut-2.ensures.value c.place_in-b.ensures.link in
-    let so = one_end os x o c.requires.outs_apart f.0 co (f.1 ∙ sym eo) in
-    let si = one_end is y i c.requires.ins_apart g.0 ci (g.1 ∙ sym ei) in
-    subst (λ (v : Out). IsInOrder v i) so (subst (λ (w : In). IsInOrder x w) si c.look_at.ensures.order)
+    let new = c.take_rest.new.into in
+    let f = found c.as_slice.result.now os a c.args.from x c.as_slice.ensures.value c.place_out-a.ensures.within c.index_mut.ensures.value c.place_out-a.ensures.link in
+    let g = found c.as_slice-2.result.now is b c.args.to y c.as_slice-2.ensures.value c.place_in-b.ensures.within c.index_mut-2.ensures.value c.place_in-b.ensures.link in
+    let within = subst (λ w. a < length w) c.as_slice.ensures.value c.place_out-a.ensures.within in
+    let within2 = subst (λ w. b < length w) c.as_slice-2.ensures.value c.place_in-b.ensures.within in
+    let By : In → In → Type 0 = TakenBy (λ link. link ≡ c.args.to) in
+    record {
+      outs = zip_step OutLooked looked_then os os a x c.take_rest.new.out (zip_same OutLooked looked_same os) within (subst (λ v. OutLooked v c.take_rest.new.out) c.index_mut.ensures.value c.take_rest.ensures.out);
+      ins = zip_set By is is b new (zip_same By (taken_none (λ link. link ≡ c.args.to)) is) within2 (λ d.
+          subst (λ v. By v new) (c.index_mut-2.ensures.value ∙ any_default is b y d within2) (c.take_rest.ensures.into, λ none. absurd (none g.1)));
+      left = if_ok_map (λ tokens. IsLeft tokens.items x y) (λ tokens. AtLinks (IsLeft tokens.items) os is c.args.from c.args.to) c.take_rest.result
+          (λ tokens left o i co ci eo ei.
+              subst (λ (v : Out). IsLeft tokens.items v i) (one_end os x o c.requires.outs_apart f.0 co (f.1 ∙ sym eo))
+              (subst (λ (w : In). IsLeft tokens.items x w) (one_end is y i c.requires.ins_apart g.0 ci (g.1 ∙ sym ei)) left))
+          c.take_rest.ensures.left;
+    }
 
 pub place_out-a-requires : goal.place_out-a-requires
 place_out-a-requires c = subst (λ xs. HasEnd xs c.args.from) (sym c.as_slice.ensures.value) c.requires.out
