@@ -33,4 +33,5 @@ pub mod Taking
 pub mod Leading
 pub mod Bits
 pub mod Lined
+pub mod Laying
 pub mod Listing

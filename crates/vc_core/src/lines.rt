@@ -1,5 +1,5 @@
 //! The ways of a network, with the tokens on them, at the links of its actors.
-ghost use Rattle.std.specs.Prelude.{◌≡◌, ◌↔◌, ◌+◌, ◌*◌, ◌<◌, ◌++◌, [], ◌∷◌, ℕ, List, IfOk, IfSome, OnOk, OnErr, Some, length, slice_get};
+ghost use Rattle.std.specs.Prelude.{◌≡◌, ◌↔◌, ◌+◌, ◌*◌, ◌<◌, ◌++◌, [], ◌∷◌, ℕ, List, IfOk, IfSome, OnOk, OnErr, Some, length, map, slice_get};
 ghost use Rattle.std.specs.Int.{bit_at};
 ghost use Rattle.std.specs.List.{AllByRecursion};
 ghost use Rattle.vc_plan.specs.Accepted.{IsAccepted};
@@ -8,7 +8,7 @@ ghost use Rattle.vc_core.specs.Lined.{TakesOff, PutsOnWay, Wakes, with_way};
 ghost use Rattle.vc_core.specs.Wired.{out_at, in_at, AreWaysAt, Comes, Goes};
 ghost use Rattle.vc_core.specs.declared.act.Act.TheVariants as act;
 ghost use Rattle.vc_tokens.specs.Tokens.{Token as SpeltToken};
-ghost use Rattle.vc_tokens.specs.Spelt.{token as spelt};
+ghost use Rattle.vc_tokens.specs.Spelt.{token as spelt, tokens as all_spelt};
 
 use crate::actor::Actor;
 use crate::fronts::Fronts;
@@ -57,6 +57,35 @@ impl Lines {
             ways,
             fronts,
         })
+    }
+
+    /// The ways of an accepted plan, with these tokens on each in turn.
+    pub(crate) fn with_tokens(
+        alloc: Global,
+        plan: &Plan,
+        tokens: &[Vec<Token>],
+    ) -> Result<Lines, Memory>
+        requires plan { IsAccepted plan.now }
+        requires count { length tokens.now ≡ 2 * length plan.now.wires }
+        ensures wired { IfOk result (λ lines. AreWaysAt plan.now lines.wiring) }
+        ensures ways { IfOk result (λ lines. lines.ways ≡ map (λ line. all_spelt line.items) tokens.now) }
+    {
+        let mut lines = Lines::new(alloc, plan)?;
+        for (way, line) in tokens.iter().enumerate() {
+            lines.lay(way, line.as_slice())?;
+        }
+        Ok(lines)
+    }
+
+    // These tokens come to the end of a way, one after another.
+    fn lay(&mut self, way: usize, tokens: &[Token]) -> Result<(), Memory>
+        requires { way < length self.old.ways }
+        ensures { (ts : List SpeltToken) → slice_get self.old.ways way ≡ Some ts → OnOk result (self.new ≡ with_way self.old way (ts ++ all_spelt tokens.now)) }
+    {
+        for token in tokens {
+            self.push(way, *token)?;
+        }
+        Ok(())
     }
 
     /// The ways, in their order.

@@ -1,5 +1,5 @@
 //! A network: its actors, and the ways that join them.
-ghost use Rattle.std.specs.Prelude.{◌≡◌, ◌≢◌, ◌<◌, ◌↔◌, ℕ, true, false, List, length, slice_get, Some, None, IsTrue, IsSome, IfOk, IfErr, IfSome, OnOk, OnErr, MatchResult};
+ghost use Rattle.std.specs.Prelude.{◌≡◌, ◌≢◌, ◌+◌, ◌*◌, ◌<◌, ◌↔◌, ℕ, true, false, List, length, map, slice_get, Some, None, IsTrue, IsSome, IfOk, IfErr, IfSome, OnOk, OnErr, MatchResult};
 ghost use Rattle.vc_core.specs.Replaying.{IsOpening, Reached, Replays, RefusedAt};
 ghost use Rattle.vc_plan.specs.declared.plan.Plan.{Plan};
 ghost use Rattle.vc_core.specs.Acting.{IsOwn};
@@ -15,10 +15,12 @@ ghost use Rattle.vc_core.specs.Enabled.{CanHappen};
 ghost use Rattle.std.specs.Int.{bit_at};
 ghost use Rattle.vc_core.specs.Parts.{IsDone, node_at, vcp_in, strays_of, lost_of, saturated};
 ghost use Rattle.std.specs.List.{sum_by};
+ghost use Rattle.vc_core.specs.OfPlan.{IsActorOf};
+ghost use Rattle.vc_core.specs.Shown.{Acting};
 ghost use Rattle.vc_core.specs.Turns.{FindsFront, FindsTake, FindsEvent, HaveEnded, actors};
 ghost use Rattle.vc_core.specs.declared.act.Event.{Event as Happening};
 ghost use Rattle.vc_core.specs.State.{shown, state_of, IsNetworkOf, MayHappen, WaysLet, HasFront, HasWay, MakesEvent, MakesOne, MayActAt, Accepts, GrantsBy};
-ghost use Rattle.vc_tokens.specs.Spelt.{token as spelt};
+ghost use Rattle.vc_tokens.specs.Spelt.{token as spelt, tokens as all_spelt};
 
 use crate::act::{Act, Event};
 use crate::actor::Actor;
@@ -60,6 +62,30 @@ impl Network {
             actors: actors(alloc, accepted)?,
             nodes: plan.nodes.len() as u8,
             lines: Lines::new(alloc, plan)?,
+            wires: Items::from_slice(alloc, plan.wires.as_slice())?,
+            channels: channels_of(alloc, plan)?,
+        })
+    }
+
+    /// The network of an accepted plan with these actors, and with these tokens on each of its ways in turn.
+    pub fn of_parts(
+        alloc: Global,
+        accepted: &Accepted,
+        actors: Vec<Actor>,
+        tokens: &[Vec<Token>],
+    ) -> Result<Network, Memory>
+        requires count { length actors.items ≡ length accepted.now.nodes + length accepted.now.switches }
+        requires actors { (k : ℕ) (a : Acting) → slice_get actors.items k ≡ Some a → IsActorOf (network_of accepted.now) k a }
+        requires ways { length tokens.now ≡ 2 * length accepted.now.wires }
+        ensures is { IfOk result (λ network. IsNetworkOf accepted.now (state_of network)) }
+        ensures actors { IfOk result (λ network. (state_of network).actors ≡ actors.items) }
+        ensures ways { IfOk result (λ network. (state_of network).ways ≡ map (λ line. all_spelt line.items) tokens.now) }
+    {
+        let plan = accepted.plan();
+        Ok(Network {
+            actors,
+            nodes: plan.nodes.len() as u8,
+            lines: Lines::with_tokens(alloc, plan, tokens)?,
             wires: Items::from_slice(alloc, plan.wires.as_slice())?,
             channels: channels_of(alloc, plan)?,
         })

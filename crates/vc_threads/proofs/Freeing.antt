@@ -61,14 +61,14 @@ module _ (p : Plan) (acc : IsAccepted p) (i : ℕ) (w : Wire) (is : slice_get p.
       (one_port_of (port_of w a) (port_of v b) (link_is_at p k link (port_of w a) (wired p acc i w a is) s ∙ sym (link_is_at p k link (port_of v b) (wired p acc j v b at) t)))
 
   -- no wire before this one has its port
-  fresh : (side : Bool) (k link : ℕ) → k ≡ actor_of (length p.nodes) (port_of w side).spot → link ≡ (port_of w side).link → IsOnWire p i k link → ⊥
+  pub fresh : (side : Bool) (k link : ℕ) → k ≡ actor_of (length p.nodes) (port_of w side).spot → link ≡ (port_of w side).link → IsOnWire p i k link → ⊥
   fresh side k link a b (j, v, other, less, at, l) =
       let r = one_wire k link j v side other at (is_at (length p.nodes) k link (port_of w side) a b) l in
       let same = r.0 in
       omega (arith, same, less)
 
   -- nor has its other side
-  other_side : (side : Bool) (k link : ℕ) → k ≡ actor_of (length p.nodes) (port_of w side).spot → link ≡ (port_of w side).link
+  pub other_side : (side : Bool) (k link : ℕ) → k ≡ actor_of (length p.nodes) (port_of w side).spot → link ≡ (port_of w side).link
       → k ≡ actor_of (length p.nodes) (port_of w (not side)).spot → link ≡ (port_of w (not side)).link → ⊥
   other_side side k link a b c d =
       differ side (one_wire k link i w side (not side) is (is_at (length p.nodes) k link (port_of w side) a b) (is_at (length p.nodes) k link (port_of w (not side)) c d)).1

@@ -1,5 +1,6 @@
 -- Where a worker ended by its clock, an act of the runs has the greatest stamp.
-use Rattle.std.proofs.Common.{◌≡◌, ℕ, suc, ◌+◌, ◌^◌, ◌<◌, ◌≤◌, ◌⊎◌, inl, inr, Bool, true, false, not, if◌then◌else◌, ◌==◌, List, [], ◌∷◌, ◌++◌, length, map, get_or, option_map, slice_get, Some, refl, ap, sym, subst, ◌∙◌, arith, eqb-true}
+use Rattle.std.proofs.Common.{◌≡◌, ℕ, suc, ◌+◌, ◌*◌, ◌^◌, ◌<◌, ◌≤◌, ◌⊎◌, inl, inr, Bool, true, false, not, if◌then◌else◌, ◌==◌, List, [], ◌∷◌, ◌++◌, length, map, get_or, option_map, slice_get, Some, refl, ap, sym, subst, ◌∙◌, arith, eqb-true, append_assoc}
+use Rattle.std.specs.Global.{Vec}
 use Rattle.std.specs.List.{AllZip, Contains}
 use mathlib.Core.List.{IsPrefix}
 use Rattle.std.proofs.lemmas.Bool.{cases_lt}
@@ -23,7 +24,7 @@ use Rattle.vc_plan.specs.declared.port.Wire.{Wire}
 use Rattle.vc_tokens.specs.declared.token.Token.{Token}
 use Rattle.vc_threads.specs.Closing.{stop_at}
 use Rattle.vc_threads.specs.Crews.{Ran}
-use Rattle.vc_threads.specs.Order.{outs_left, ins_left, outs_at, ins_at, InOrderAt, OnWires}
+use Rattle.vc_threads.specs.Order.{outs_left, ins_left, outs_at, ins_at, LeftOn, OnWays}
 use Rattle.vc_threads.specs.Rings.{outs_of, ins_of, AreWired, HasRing, IsOnWire}
 use Rattle.vc_threads.specs.Runs.{StepsByLink}
 use Rattle.vc_threads.specs.Stamps.{stamped, all_stamped}
@@ -99,7 +100,7 @@ put_act Local k link clock old new (t ∷ ts) run h = elim (late_split (put_on l
 
 module _ (p : Plan) (turns seed : ℕ) (js : List Job) (rs : List ActorRun) (first : AreFirst p (actors p) (map actor_in js)) (are : AreNumbered 0 (map who js)) (ran : AllZip (Ran turns seed) js rs)
     (e : AllEnds) (outs : map (λ v. v.items) e.outs.items ≡ map outs_left rs) (ins : map (λ v. v.items) e.ins.items ≡ map ins_left rs) (wired : AreWired p (length p.wires) js)
-    (looked : OnWires (InOrderAt (length p.nodes) e) p.wires (length p.wires)) where
+    (lines : List (Vec Token)) (left : OnWays (LeftOn (length p.nodes) e lines) p.wires (length p.wires)) where
   picked_act : (s link : ℕ) (c : (s < actors p) ⊎ (actors p ≤ s)) → Late (all_put link (pick p turns seed js rs first are ran s c)) → HasGreatest (pick p turns seed js rs first are ran s c)
   picked_act s link (inl less) h = let d = did p turns seed js rs first are ran s less in put_act (StepsByLink (network_of p)) s link 0 d.done.job.actor d.done.run.actor d.has.steps d.has.run h
   picked_act s link (inr past) h = absurd h
@@ -115,16 +116,17 @@ module _ (p : Plan) (turns seed : ℕ) (js : List Job) (rs : List ActorRun) (fir
       let h = ring side in
       let x = after (Sends put) (outs_of js s) (outs_at e s) h.out (sends p turns seed js rs first are ran e outs ins wired s) h.source in
       let a : all_stamped (sent x.it.1) ≡ all_put from.link put = x.is.2 ∙ (ap (λ xs. all_stamped xs ++ all_put h.out.0 put) h.ring.unsent ∙ ap (λ l. all_put l put) h.ring.near) in
-      let o = order side x.it i x.at ci (x.is.0 ∙ h.ring.near) at in
-      (s, picked_act s from.link (cases_lt s (actors p)) (subst Late a (late_sent (received i.1) (known_items i.1) (sent x.it.1) late.0 late.1 late.2 o)))
+      let o = (order side).1 x.it i x.at ci (x.is.0 ∙ h.ring.near) at in
+      let front : IsPrefix (received i.1 ++ known_items i.1) (sent x.it.1) = (o.seen.0, append_assoc (received i.1) (known_items i.1) o.seen.0 ∙ (ap (λ xs. received i.1 ++ xs) o.seen.1 ∙ o.order)) in
+      (s, picked_act s from.link (cases_lt s (actors p)) (subst Late a (late_sent (received i.1) (known_items i.1) (sent x.it.1) late.0 late.1 late.2 front)))
     where
       ring : (b : Bool) → HasRing (length p.nodes) js (port_of w (not b)) (port_of w b)
       ring true = (wired.rings m w less is).1
       ring false = (wired.rings m w less is).0
 
-      order : (b : Bool) → InOrderAt (length p.nodes) e (port_of w (not b)) (port_of w b)
-      order true = (looked m w less is).1
-      order false = (looked m w less is).0
+      order : (b : Bool) → (way : ℕ) × LeftOn (length p.nodes) e lines way (port_of w (not b)) (port_of w b)
+      order true = (2 * m + 1, (left m w less is).1)
+      order false = (2 * m, (left m w less is).0)
 
   waits : (k : ℕ) (i : In) → Contains (ins_at e k) i → IsLate i → (j : ℕ) × HasGreatest (steps_of p turns seed js rs first are ran j)
   waits k i c late =

@@ -1,19 +1,20 @@
 -- Rings, looked at from both ends.
-use Rattle.std.proofs.Common.{◌≡◌, ℕ, zero, suc, ◌+◌, ◌<◌, true, false, List, [], ◌∷◌, ◌++◌, length, map, get_or, slice_get, Some, ap, sym, subst, ◌∙◌, arith, inl, inr, eq-eqb, eqb, append_assoc}
+use Rattle.std.proofs.Common.{◌≡◌, ℕ, zero, suc, ◌+◌, ◌*◌, ◌<◌, true, false, List, [], ◌∷◌, ◌++◌, length, map, get_or, slice_get, Some, refl, ap, sym, subst, ◌∙◌, arith, inl, inr, eq-eqb, eqb, length-append}
+use Rattle.std.specs.Global.{Vec}
 use Rattle.std.specs.List.{AllZip, Contains, HoldsAt}
 use Rattle.std.proofs.lemmas.Bool.{cases_eq}
 use Rattle.std.proofs.Math.ListN.{set}
-use Rattle.std.proofs.lemmas.List.{map-append}
 use Rattle.vc_accepted.specs.Outgoing.{actor_of}
-use Rattle.rtrb.specs.Ring.{IsPair, SameProducer, SameConsumer}
+use Rattle.rtrb.specs.Ring.{IsPair, SameProducer}
 use Rattle.vc_plan.specs.declared.port.Port.{Port}
 use Rattle.vc_plan.specs.declared.port.Wire.{Wire}
-use Rattle.vc_threads.specs.Order.{outs_at, ins_at, HasEnd, IsInOrder, AtLinks, Meet, EndsLooked, MeetAt, InOrderAt, OnWires}
-use Rattle.vc_threads.specs.Wires.{Distinct, OutLooked, InLooked}
+use Rattle.vc_threads.specs.Order.{outs_at, ins_at, tokens_at, HasEnd, IsLeft, Meet, TakenBy, EndsTaken, MeetAt, LeftAt, LeftOn, OnWays}
+use Rattle.vc_threads.specs.Wires.{Distinct, OutLooked, SameIn}
+use Rattle.vc_tokens.specs.declared.token.Token.{Token}
 use Rattle.vc_threads.specs.Works.{Out, In}
 use Rattle.vc_threads.specs.declared.order.AllEnds.{AllEnds}
 use Rattle.vc_threads.proofs.Goings.{apart, any_default}
-use Rattle.vc_threads.proofs.Looks.{looked_order, looked_same, looked_then, in_looked_same, in_looked_then}
+use Rattle.vc_threads.proofs.Looks.{consumer_then, looked_same, looked_then}
 use Rattle.vc_threads.proofs.Zips.{zip_same, zip_then, zip_weaker, zip_at, zip_length, zip_map}
 
 -- two ends with one link are one
@@ -65,9 +66,6 @@ after R xs ys x z h =
 abbrev pub SameOut : Out → Out → Type 0
 SameOut a b = (b.0 ≡ a.0) × SameProducer a.1 b.1
 
-abbrev pub SameIn : In → In → Type 0
-SameIn a b = (b.0 ≡ a.0) × SameConsumer a.1 b.1
-
 pair_kept : (o o' : Out) (i i' : In) → SameOut o o' → SameIn i i' → IsPair o.1 i.1 → IsPair o'.1 i'.1
 pair_kept o o' i i' p q r =
     let a = p.1.0 in
@@ -92,31 +90,32 @@ meet_kept os os' is is' from to zo zi m = record {
       pair_kept x.it o' y.it i' x.is y.is (m.pair x.it y.it x.at y.at (sym x.is.0 ∙ eo) (sym y.is.0 ∙ ei));
 }
 
-looked_out : (os os' : List Out) → AllZip OutLooked os os' → AllZip SameOut os os'
-looked_out = zip_weaker OutLooked SameOut (λ a b l. (l.0, l.1.0))
+-- Nothing was taken off an end, or what was taken off it in turn.
 
-looked_in : (is is' : List In) → AllZip InLooked is is' → AllZip SameIn is is'
-looked_in = zip_weaker InLooked SameIn (λ a b l. (l.0, l.1.0))
+same_in : (i : In) → SameIn i i
+same_in i = (refl, ((refl, refl, refl, refl), refl))
 
-pub meet_looked : (os os' : List Out) (is is' : List In) (from to : ℕ) → AllZip OutLooked os os' → AllZip InLooked is is' → Meet os is from to → Meet os' is' from to
-meet_looked os os' is is' from to zo zi = meet_kept os os' is is' from to (looked_out os os' zo) (looked_in is is' zi)
+pub taken_none : (P : ℕ → Type 0) (i : In) → TakenBy P i i
+taken_none P i = (same_in i, λ none. refl)
 
--- the order that is seen later was there before
-pub order_before : (os os' : List Out) (is is' : List In) (from to : ℕ) → AllZip OutLooked os os' → AllZip InLooked is is' → AtLinks IsInOrder os' is' from to → AtLinks IsInOrder os is from to
-order_before os os' is is' from to zo zi w o i co ci eo ei =
-    let x = after OutLooked os os' o zo co in
-    let y = after InLooked is is' i zi ci in
-    looked_order o.1 x.it.1 i.1 y.it.1 x.is.1 y.is.1 (w x.it y.it x.at y.at (x.is.0 ∙ eo) (y.is.0 ∙ ei))
+pub taken_more : (P Q : ℕ → Type 0) → ((l : ℕ) → P l → Q l) → (a b : In) → TakenBy P a b → TakenBy Q a b
+taken_more P Q u a b t = (t.0, λ none. t.1 (λ h. none (u a.0 h)))
+
+taken_then : (P Q R : ℕ → Type 0) → ((l : ℕ) → P l → R l) → ((l : ℕ) → Q l → R l) → (a b c : In) → TakenBy P a b → TakenBy Q b c → TakenBy R a c
+taken_then P Q R u v a b c p q = (
+  (q.0.0 ∙ p.0.0, consumer_then a.1 b.1 c.1 p.0.1 q.0.1),
+  λ none. q.1 (λ h. none (subst R p.0.0 (v b.0 h))) ∙ p.1 (λ h. none (u a.0 h)),
+)
 
 module _ {V Y : Type 0} (f : V → List Y) where
   -- the ends of one actor change
-  pub one_changed : (R : Y → Y → Type 0) → ((y : Y) → R y y) → (vs : List V) (s : ℕ) (v d : V) → s < length vs → d ≡ get_or vs s d → AllZip R (f d) (f v)
-      → (k : ℕ) → AllZip R (get_or (map f vs) k []) (get_or (map f (set vs s v)) k [])
+  pub one_changed : (R : ℕ → Y → Y → Type 0) → ((k : ℕ) (y : Y) → R k y y) → (vs : List V) (s : ℕ) (v d : V) → s < length vs → d ≡ get_or vs s d → AllZip (R s) (f d) (f v)
+      → (k : ℕ) → AllZip (R k) (get_or (map f vs) k []) (get_or (map f (set vs s v)) k [])
   one_changed R same [] s v d l is z k = absurd (omega arith)
-  one_changed R same (x ∷ xs) zero v d l is z zero = subst (λ w. AllZip R (f w) (f v)) is z
-  one_changed R same (x ∷ xs) zero v d l is z (suc k) = zip_same R same (get_or (map f xs) k [])
-  one_changed R same (x ∷ xs) (suc s) v d l is z zero = zip_same R same (f x)
-  one_changed R same (x ∷ xs) (suc s) v d l is z (suc k) = one_changed R same xs s v d (omega arith) is z k
+  one_changed R same (x ∷ xs) zero v d l is z zero = subst (λ w. AllZip (R 0) (f w) (f v)) is z
+  one_changed R same (x ∷ xs) zero v d l is z (suc k) = zip_same (R (suc k)) (same (suc k)) (get_or (map f xs) k [])
+  one_changed R same (x ∷ xs) (suc s) v d l is z zero = zip_same (R 0) (same 0) (f x)
+  one_changed R same (x ∷ xs) (suc s) v d l is z (suc k) = one_changed (λ j. R (suc j)) (λ j. same (suc j)) xs s v d (omega arith) is z k
 
   pub item_at : (vs : List V) (s : ℕ) (d : V) → s < length vs → d ≡ get_or vs s d → get_or (map f vs) s [] ≡ f d
   item_at [] s d l is = absurd (omega arith)
@@ -133,41 +132,68 @@ actor_there f (x ∷ xs) (suc k) link h = let m = actor_there f xs k link h in o
 pub ends_there : {V Y : Type 0} (f : V → List (ℕ × Y)) (vs : List V) (s a link : ℕ) (d : V) → s ≡ a → d ≡ get_or vs s d → HasEnd (get_or (map f vs) a []) link → get_or (map f vs) a [] ≡ f d
 ends_there f vs s a link d same is h = ap (λ k. get_or (map f vs) k []) (sym same) ∙ item_at f vs s d (subst (λ k. k < length vs) (sym same) (actor_there f vs a link h)) is
 
-pub ends_same : (e : AllEnds) → EndsLooked e e
-ends_same e = record { outs = λ k. zip_same OutLooked looked_same (outs_at e k); ins = λ k. zip_same InLooked in_looked_same (ins_at e k) }
+pub ends_same : (P : ℕ → ℕ → Type 0) (e : AllEnds) → EndsTaken P e e
+ends_same P e = record { outs = λ k. zip_same OutLooked looked_same (outs_at e k); ins = λ k. zip_same (TakenBy (P k)) (taken_none (P k)) (ins_at e k) }
 
-pub ends_then : (a b c : AllEnds) → EndsLooked a b → EndsLooked b c → EndsLooked a c
-ends_then a b c p q = record {
+pub ends_then : (P Q R : ℕ → ℕ → Type 0) → ((k l : ℕ) → P k l → R k l) → ((k l : ℕ) → Q k l → R k l) → (a b c : AllEnds) → EndsTaken P a b → EndsTaken Q b c → EndsTaken R a c
+ends_then P Q R u v a b c p q = record {
   outs = λ k. zip_then OutLooked OutLooked OutLooked looked_then (outs_at a k) (outs_at b k) (outs_at c k) (p.outs k) (q.outs k);
-  ins = λ k. zip_then InLooked InLooked InLooked in_looked_then (ins_at a k) (ins_at b k) (ins_at c k) (p.ins k) (q.ins k);
+  ins = λ k. zip_then (TakenBy (P k)) (TakenBy (Q k)) (TakenBy (R k)) (taken_then (P k) (Q k) (R k) (u k) (v k)) (ins_at a k) (ins_at b k) (ins_at c k) (p.ins k) (q.ins k);
 }
 
-pub meet_later : (nodes : ℕ) (a b : AllEnds) (from to : Port) → EndsLooked a b → MeetAt nodes a from to → MeetAt nodes b from to
-meet_later nodes a b from to l =
-    let s = actor_of nodes from.spot in
-    let t = actor_of nodes to.spot in
-    meet_looked (outs_at a s) (outs_at b s) (ins_at a t) (ins_at b t) from.link to.link (l.outs s) (l.ins t)
+pub meet_later : (P : ℕ → ℕ → Type 0) (nodes : ℕ) (a b : AllEnds) (from to : Port) → EndsTaken P a b → MeetAt nodes a from to → MeetAt nodes b from to
+meet_later P nodes a b from to t =
+    let j = actor_of nodes from.spot in
+    let k = actor_of nodes to.spot in
+    meet_kept (outs_at a j) (outs_at b j) (ins_at a k) (ins_at b k) from.link to.link
+    (zip_weaker OutLooked SameOut (λ x y l. (l.0, l.1.0)) (outs_at a j) (outs_at b j) (t.outs j)) (zip_weaker (TakenBy (P k)) SameIn (λ x y l. l.0) (ins_at a k) (ins_at b k) (t.ins k))
 
-pub order_earlier : (nodes : ℕ) (a b : AllEnds) (from to : Port) → EndsLooked a b → InOrderAt nodes b from to → InOrderAt nodes a from to
-order_earlier nodes a b from to l =
-    let s = actor_of nodes from.spot in
-    let t = actor_of nodes to.spot in
-    order_before (outs_at a s) (outs_at b s) (ins_at a t) (ins_at b t) from.link to.link (l.outs s) (l.ins t)
+-- what is left in a ring off which nothing was taken was left there before
+pub left_before : (P : ℕ → ℕ → Type 0) (nodes : ℕ) (a b : AllEnds) (ts : List Token) (from to : Port) → EndsTaken P a b → (P (actor_of nodes to.spot) to.link → ⊥) → LeftAt nodes b ts from to → LeftAt nodes a ts from to
+left_before P nodes a b ts from to t none left o i co ci eo ei =
+    let j = actor_of nodes from.spot in
+    let k = actor_of nodes to.spot in
+    let x = after OutLooked (outs_at a j) (outs_at b j) o (t.outs j) co in
+    let y = after (TakenBy (P k)) (ins_at a k) (ins_at b k) i (t.ins k) ci in
+    let same : y.it ≡ i = y.is.1 (λ h. none (subst (P k) ei h)) in
+    let there : IsLeft ts x.it i = subst (IsLeft ts x.it) same (left x.it y.it x.at y.at (x.is.0 ∙ eo) (y.is.0.0 ∙ ei)) in
+    record { rest = there.rest; order = there.order ∙ x.is.1.1; seen = there.seen; tokens_are = there.tokens_are }
 
--- one wire more
-pub wire_more : (R : Port → Port → Type 0) (ws : List Wire) (n : ℕ) (w : Wire) → slice_get ws n ≡ Some w → OnWires R ws n → R w.one w.two → R w.two w.one → OnWires R ws (n + 1)
-wire_more R ws n w is h p q i v less at = elim (cases_eq i n) [
-  | inl e ↦
-      let same : v ≡ w = some_is v w (sym at ∙ (ap (slice_get ws) e ∙ is)) in
-      subst (λ (x : Wire). R x.one x.two × R x.two x.one) (sym same) (p, q)
-  | inr ne ↦ h i v (omega (arith, less, ne)) at
+tokens_still : (left : List (Vec Token)) (v : Vec Token) (way : ℕ) → way < length left → tokens_at (left ++ v ∷ []) way ≡ tokens_at left way
+tokens_still [] v way less = absurd (omega arith)
+tokens_still (x ∷ xs) v zero less = refl
+tokens_still (x ∷ xs) v (suc way) less = tokens_still xs v way (omega arith)
+
+tokens_last : (left : List (Vec Token)) (v : Vec Token) → tokens_at (left ++ v ∷ []) (length left) ≡ v.items
+tokens_last [] v = refl
+tokens_last (x ∷ xs) v = tokens_last xs v
+
+-- the two ways of one wire more
+pub left_more : (nodes : ℕ) (e : AllEnds) (ws : List Wire) (n : ℕ) (w : Wire) (left : List (Vec Token)) (u v : Vec Token) → slice_get ws n ≡ Some w → length left ≡ 2 * n → OnWays (LeftOn nodes e left) ws n
+    → LeftAt nodes e u.items w.one w.two → LeftAt nodes e v.items w.two w.one → OnWays (LeftOn nodes e ((left ++ u ∷ []) ++ v ∷ [])) ws (n + 1)
+left_more nodes e ws n w left u v is count had one two i x less at = elim (cases_eq i n) [
+  | inl here ↦
+      let same : x ≡ w = some_is x w (sym at ∙ (ap (slice_get ws) here ∙ is)) in
+      let first : length left ≡ 2 * i = omega arith in
+      let second : length (left ++ u ∷ []) ≡ 2 * i + 1 = omega (arith, more) in (
+        subst (λ ts. LeftAt nodes e ts x.one x.two) (sym (tokens_still (left ++ u ∷ []) v (2 * i) (omega (arith, more)) ∙ (ap (tokens_at (left ++ u ∷ [])) (sym first) ∙ tokens_last left u)))
+            (subst (λ (y : Wire). LeftAt nodes e u.items y.one y.two) (sym same) one),
+        subst (λ ts. LeftAt nodes e ts x.two x.one) (sym (ap (tokens_at ((left ++ u ∷ []) ++ v ∷ [])) (sym second) ∙ tokens_last (left ++ u ∷ []) v))
+            (subst (λ (y : Wire). LeftAt nodes e v.items y.two y.one) (sym same) two),
+      )
+  | inr ne ↦
+      let b : i < n = omega arith in
+      let h = had i x b at in (
+        subst (λ ts. LeftAt nodes e ts x.one x.two) (sym (still (2 * i) (omega arith))) h.0,
+        subst (λ ts. LeftAt nodes e ts x.two x.one) (sym (still (2 * i + 1) (omega arith))) h.1,
+      )
 ]
   where
     some_is : (x y : Wire) → Some x ≡ Some y → x ≡ y
     some_is x y e = cc
 
--- the ends of one run more
-pub ends_step : {V X Y : Type 0} (f : V → List Y) (g : X → List Y) (vs vs' : List V) (v : V) (x : X) {rest rest' : List X} {all : List (List Y)} → vs' ≡ vs ++ v ∷ [] → f v ≡ g x → rest ≡ x ∷ rest' → map f vs ++ map g rest ≡ all → map f vs' ++ map g rest' ≡ all
-ends_step f g vs vs' v x {rest} {rest'} {all} pushed is steps had =
-    ap (λ ys. map f ys ++ map g rest') pushed ∙ (ap (λ ys. ys ++ map g rest') (map-append f vs (v ∷ [])) ∙ (append_assoc (map f vs) (f v ∷ []) (map g rest')
-    ∙ (ap (λ a. map f vs ++ a ∷ map g rest') is ∙ (ap (λ ys. map f vs ++ map g ys) (sym steps) ∙ had))))
+    more : length (left ++ u ∷ []) ≡ length left + 1
+    more = length-append left (u ∷ [])
+
+    still : (way : ℕ) → way < length left → tokens_at ((left ++ u ∷ []) ++ v ∷ []) way ≡ tokens_at left way
+    still way within = tokens_still (left ++ u ∷ []) v way (omega (arith, more, within)) ∙ tokens_still left u way within

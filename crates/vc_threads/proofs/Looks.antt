@@ -4,7 +4,7 @@ use Rattle.std.specs.List.{AllZip, All}
 use Rattle.std.proofs.Math.ListN.{set}
 use mathlib.Core.List.{IsPrefix}
 use Rattle.std.proofs.lemmas.Grind.{common_steps}
-use Rattle.rtrb.specs.Ring.{sent, received, known_free, known_items, SameProducer, SameConsumer, ProducerLooked, ConsumerLooked}
+use Rattle.rtrb.specs.Ring.{known_free, known_items, SameProducer, SameConsumer}
 use Rattle.rtrb.specs.Ends.{SameRing}
 use Rattle.rtrb.specs.declared.end.End.{End}
 use Rattle.rtrb.specs.declared.producer.Producer.{Producer}
@@ -61,17 +61,6 @@ module _ {A P : Type 0} where
   pub in_looked_then : (a b c : ℕ × Consumer Stamped A P) → InLooked a b → InLooked b c → InLooked a c
   in_looked_then a b c p q =
       (q.0 ∙ p.0, (consumer_then a.1 b.1 c.1 p.1.0 q.1.0, q.1.1 ∙ p.1.1, prefix_then (known_items a.1) (known_items b.1) (known_items c.1) p.1.2 q.1.2))
-
-  -- the order that is seen later was there before
-  pub looked_order : (o o' : Producer Stamped A P) (i i' : Consumer Stamped A P) → ProducerLooked o o' → ConsumerLooked i i'
-      → IsPrefix (received i' ++ known_items i') (sent o') → IsPrefix (received i ++ known_items i) (sent o)
-  looked_order o o' i i' p q h =
-      let r = received i in
-      let k = known_items i in (
-        q.2.0 ++ h.0,
-        sym (append_assoc (r ++ k) q.2.0 h.0)
-            ∙ (ap (λ w. w ++ h.0) (append_assoc r k q.2.0 ∙ (ap (λ w. r ++ w) q.2.1 ∙ ap (λ w. w ++ known_items i') (sym q.1))) ∙ (h.1 ∙ p.1)),
-      )
 
   -- one more bit, for a link that has room
   pub room_more : (outs : List (ℕ × Producer Stamped A P)) (room k l : ℕ) (e y : ℕ × Producer Stamped A P) → k < length outs → l < 32 → (get_or outs k e).0 ≡ l

@@ -1,28 +1,33 @@
 -- The ends that the runs leave are those of the jobs' rings, and what went over them is what the runs put and took.
-use Rattle.std.proofs.Common.{◌≡◌, ℕ, zero, suc, ◌<◌, ◌≤◌, ◌⊎◌, inl, inr, List, [], ◌∷◌, ◌++◌, length, map, get_or, option_map, ap, sym, subst, ◌∙◌, arith, append_assoc}
+use Rattle.std.proofs.Common.{◌≡◌, ℕ, zero, suc, ◌+◌, ◌*◌, ◌<◌, ◌≤◌, ◌⊎◌, inl, inr, List, [], ◌∷◌, ◌++◌, length, map, get_or, option_map, ap, sym, subst, ◌∙◌, arith}
+use Rattle.std.specs.Global.{Vec}
 use Rattle.std.specs.List.{AllZip, AllByRecursion}
 use Rattle.std.proofs.lemmas.Bool.{cases_lt}
 use Rattle.std.proofs.lemmas.List.{length-map, map-append, get_or_past}
 use Rattle.std.proofs.lemmas.Option.{slice_get-map, get_or_from_slice_get}
-use Rattle.rtrb.specs.Ring.{sent, received, known_items, IsPair}
+use Rattle.std.proofs.lemmas.Simd.{map-map}
+use Rattle.rtrb.specs.Ring.{sent, received, IsPair}
 use Rattle.vc_accepted.specs.Outgoing.{actor_of}
 use Rattle.vc_actors.specs.LocalRun.{all_put, all_taken}
 use Rattle.vc_core.specs.Begin.{AreFirst}
 use Rattle.vc_core.specs.Turns.{actors}
 use Rattle.vc_plan.specs.declared.plan.Plan.{Plan}
 use Rattle.vc_plan.specs.declared.port.Port.{Port}
+use Rattle.vc_tokens.specs.Spelt.{tokens}
+use Rattle.vc_tokens.specs.Tokens.{Token as Item}
+use Rattle.vc_tokens.specs.declared.token.Token.{Token}
 use Rattle.vc_threads.specs.Crews.{IsFit, Ran}
-use Rattle.vc_threads.specs.Order.{outs_left, ins_left, outs_at, ins_at, Meet, MeetAt, InOrderAt, OnWires}
+use Rattle.vc_threads.specs.Order.{outs_left, ins_left, outs_at, ins_at, tokens_at, Meet, MeetAt, LeftOn, OnWires, OnWays}
 use Rattle.vc_threads.specs.Rings.{outs_in, ins_in, outs_of, ins_of, HasRing, AreWired}
 use Rattle.vc_threads.specs.Stamps.{stamped, all_stamped}
 use Rattle.vc_threads.specs.Threads.{AreNumbered, TakesInOrder, actor_in, who}
-use Rattle.vc_threads.specs.Wires.{Distinct, out_links, in_links, Sends, Receives}
+use Rattle.vc_threads.specs.Wires.{Distinct, out_links, in_links, Sends, Receives, SameIn}
 use Rattle.vc_threads.specs.Works.{Out, In}
 use Rattle.vc_threads.specs.declared.crew.Job.{Job}
 use Rattle.vc_threads.specs.declared.order.AllEnds.{AllEnds}
 use Rattle.vc_threads.specs.declared.run.ActorRun.{ActorRun}
 use Rattle.vc_threads.proofs.Fitting.{none_apart}
-use Rattle.vc_threads.proofs.Looking.{SameOut, SameIn, one_end, has_end, after, meet_kept}
+use Rattle.vc_threads.proofs.Looking.{SameOut, one_end, has_end, after, meet_kept}
 use Rattle.vc_threads.proofs.Reported.{did, pick, steps_of, jobs_count}
 use Rattle.vc_threads.proofs.Zips.{zip_weaker, zip_length}
 
@@ -106,25 +111,25 @@ module _ (p : Plan) (turns seed : ℕ) (js : List Job) (rs : List ActorRun) (fir
     pub ends_meet : AllByRecursion IsFit js → OnWires (MeetAt (length p.nodes) e) p.wires (length p.wires)
     ends_meet fit i w less at = let h = wired.rings i w less at in (meet fit w.one w.two h.0, meet fit w.two w.one h.1)
 
-    takes : (from to : Port) → HasRing (length p.nodes) js from to → InOrderAt (length p.nodes) e from to → TakesInOrder (length p.nodes) (steps_of p turns seed js rs first are ran) from to
-    takes from to h order =
-        let s = actor_of (length p.nodes) from.spot in
-        let t = actor_of (length p.nodes) to.spot in
-        let put = steps_of p turns seed js rs first are ran s in
-        let took = steps_of p turns seed js rs first are ran t in
-        let x = after (Sends put) (outs_of js s) (outs_at e s) h.out (sends s) h.source in
-        let y = after (Receives took) (ins_of js t) (ins_at e t) h.into (receives t) h.sink in
-        let f = order x.it y.it x.at y.at (x.is.0 ∙ h.ring.near) (y.is.0 ∙ h.ring.far) in
-        let a : all_stamped (sent x.it.1) ≡ all_put from.link put = x.is.2 ∙ (ap (λ xs. all_stamped xs ++ all_put h.out.0 put) h.ring.unsent ∙ ap (λ l. all_put l put) h.ring.near) in
-        let b : all_stamped (received y.it.1) ≡ all_taken to.link took = y.is.2 ∙ (ap (λ xs. all_stamped xs ++ all_taken h.into.0 took) h.ring.unreceived ∙ ap (λ l. all_taken l took) h.ring.far) in
-        let rest = known_items y.it.1 ++ f.0 in (
-          all_stamped rest,
-          ap (λ xs. xs ++ all_stamped rest) (sym b)
-              ∙ (sym (map-append stamped (received y.it.1) rest) ∙ (ap all_stamped (sym (append_assoc (received y.it.1) (known_items y.it.1) f.0) ∙ f.1) ∙ a)),
-        )
+    module _ (lines : List (Vec Token)) (left : ℕ → List Item) (left_is : (w : ℕ) → left w ≡ tokens (tokens_at lines w)) where
+      takes : (way : ℕ) (from to : Port) → HasRing (length p.nodes) js from to → LeftOn (length p.nodes) e lines way from to → TakesInOrder (length p.nodes) (steps_of p turns seed js rs first are ran) left way from to
+      takes way from to h order =
+          let s = actor_of (length p.nodes) from.spot in
+          let t = actor_of (length p.nodes) to.spot in
+          let put = steps_of p turns seed js rs first are ran s in
+          let took = steps_of p turns seed js rs first are ran t in
+          let x = after (Sends put) (outs_of js s) (outs_at e s) h.out (sends s) h.source in
+          let y = after (Receives took) (ins_of js t) (ins_at e t) h.into (receives t) h.sink in
+          let f = order x.it y.it x.at y.at (x.is.0 ∙ h.ring.near) (y.is.0 ∙ h.ring.far) in
+          let a : all_stamped (sent x.it.1) ≡ all_put from.link put = x.is.2 ∙ (ap (λ xs. all_stamped xs ++ all_put h.out.0 put) h.ring.unsent ∙ ap (λ l. all_put l put) h.ring.near) in
+          let b : all_stamped (received y.it.1) ≡ all_taken to.link took = y.is.2 ∙ (ap (λ xs. all_stamped xs ++ all_taken h.into.0 took) h.ring.unreceived ∙ ap (λ l. all_taken l took) h.ring.far) in (
+            all_stamped f.rest,
+            ap (λ xs. xs ++ all_stamped f.rest) (sym b) ∙ (sym (map-append stamped (received y.it.1) f.rest) ∙ (ap all_stamped f.order ∙ a)),
+            left_is way ∙ ap tokens (f.tokens_are ∙ sym (map-map (λ s. s.it) stamped f.rest)),
+          )
 
-    pub takes_in_order : OnWires (InOrderAt (length p.nodes) e) p.wires (length p.wires) → OnWires (TakesInOrder (length p.nodes) (steps_of p turns seed js rs first are ran)) p.wires (length p.wires)
-    takes_in_order order i w less at =
-        let h = wired.rings i w less at in
-        let o = order i w less at in
-        (takes w.one w.two h.0 o.0, takes w.two w.one h.1 o.1)
+      pub takes_in_order : OnWays (LeftOn (length p.nodes) e lines) p.wires (length p.wires) → OnWays (TakesInOrder (length p.nodes) (steps_of p turns seed js rs first are ran) left) p.wires (length p.wires)
+      takes_in_order order i w less at =
+          let h = wired.rings i w less at in
+          let o = order i w less at in
+          (takes (2 * i) w.one w.two h.0 o.0, takes (2 * i + 1) w.two w.one h.1 o.1)

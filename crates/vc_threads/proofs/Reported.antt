@@ -1,10 +1,10 @@
 -- What the runs of all jobs report.
-use Rattle.std.proofs.Common.{◌≡◌, ℕ, zero, suc, ◌+◌, ◌<◌, ◌≤◌, ◌==◌, ◌⊎◌, inl, inr, false, if◌then◌else◌, List, [], ◌∷◌, length, map, slice_get, option_map, Some, refl, ap, sym, subst, ◌∙◌, arith, eq-eqb}
+use Rattle.std.proofs.Common.{◌≡◌, ℕ, zero, suc, ◌+◌, ◌<◌, ◌≤◌, ◌==◌, ◌⊎◌, inl, inr, false, nat_lt, if◌then◌else◌, List, [], ◌∷◌, length, map, slice_get, option_map, Some, None, refl, ap, sym, subst, ◌∙◌, arith, eq-eqb}
 use Rattle.std.specs.List.{AllZip, Contains}
 use Rattle.std.proofs.lemmas.Bool.{cases_lt}
 use Rattle.std.proofs.lemmas.Bool.Decides.{nat_tests}
 use Rattle.std.proofs.lemmas.List.{length-map}
-use Rattle.std.proofs.lemmas.Option.{slice_get-map, get_or_from_slice_get, slice_get_within}
+use Rattle.std.proofs.lemmas.Option.{slice_get-map, slice_get_past, get_or_from_slice_get, slice_get_within}
 use Rattle.std.proofs.lemmas.Simd.{map-map}
 use Rattle.rand_pcg.specs.Lcg.{started, increment_of}
 use Rattle.rand_pcg.specs.Pcg.{multiplier_64}
@@ -13,17 +13,23 @@ use Rattle.vc_actors.specs.Actors.{act_of}
 use Rattle.vc_actors.specs.LocalRun.{Turn, restamped}
 use Rattle.vc_actors.specs.Merge.{Made, IsMerge, run_of}
 use Rattle.vc_core.specs.Begin.{AreFirst, BeginsAs}
-use Rattle.vc_core.specs.Shown.{actor_of}
+use Rattle.vc_core.specs.OfPlan.{IsActorOf}
+use Rattle.vc_core.specs.Shown.{Acting, actor_of}
 use Rattle.vc_core.specs.Turns.{actors}
 use Rattle.vc_core.specs.declared.act.Act.{Act}
-use Rattle.vc_network.specs.Network.{Actor, first as begun}
+use Rattle.vc_machine.specs.Rendezvous.{nothing_yet}
+use Rattle.vc_network.specs.Network.{Actor, IsNode, IsSwitch, first as begun}
 use Rattle.vc_plan.specs.declared.plan.Plan.{Plan}
+use Rattle.vc_switch.specs.Switch.{new_switch}
 use Rattle.vc_told.specs.Begin.{begin_of}
 use Rattle.vc_told.specs.Process.{Process}
 use Rattle.vc_tokens.specs.declared.token.Token.{Token}
+use Rattle.vc_vcp.specs.Keyed.{shown_or}
+use Rattle.vc_vcp.specs.Links.{new_vcp}
 use Rattle.vc_threads.specs.Closing.{AreInOrder, stop_in, stop_at}
 use Rattle.vc_threads.specs.Crews.{Ran}
 use Rattle.vc_threads.specs.Merged.{of_pair, numbered}
+use Rattle.vc_threads.specs.Order.{actor_left}
 use Rattle.vc_threads.specs.Rings.{AreWired, outs_in, ins_in}
 use Rattle.vc_threads.specs.Runs.{Draws, words_of}
 use Rattle.vc_threads.specs.Threads.{AreNumbered, IsRunOf, actor_in, who}
@@ -32,6 +38,7 @@ use Rattle.vc_threads.specs.declared.crew.Job.{Job}
 use Rattle.vc_threads.specs.declared.run.ActorRun.{ActorRun}
 use Rattle.vc_threads.specs.declared.run.Stop.TheVariants.{Turns}
 use Rattle.vc_threads.proofs.OverWires.{over_wires}
+use Rattle.vc_threads.proofs.Steps.{run_kept}
 use Rattle.vc_threads.proofs.Zips.{zip_length}
 
 -- the job and the run of actor n + k, where the jobs are numbered from n on
@@ -175,6 +182,31 @@ module _ (p : Plan) (turns seed : ℕ) (js : List Job) (rs : List ActorRun) (fir
 
     pub each_run : (k : ℕ) → k < actors p → IsRunOf p turns seed k (steps_of k) (stop_at rs k) (last_of k)
     each_run k less = picked_run k (cases_lt k (actors p)) less
+
+
+  -- each actor, as its run left it, is one of the plan
+  pub parts_fit : (k : ℕ) (x : Acting) → slice_get (map actor_left rs) k ≡ Some x → IsActorOf (network_of p) k x
+  parts_fit k x here =
+      let n = runs_count in
+      let m = length-map rs actor_left in
+      let within = slice_get_within (map actor_left rs) k x here in
+      let d = did k (omega (arith, n, m, within)) in
+      let both : Some d.done.run.actor ≡ Some x = sym (slice_get-map actor_left rs k ∙ ap (option_map actor_left) d.done.run_is) ∙ here in
+      let same : d.done.run.actor ≡ x = cc in
+      subst (IsActorOf (network_of p) k) same (run_kept (network_of p) k 0 d.done.job.actor d.has.steps d.done.run.actor d.has.run d.begins.is)
+
+  -- and stands where its run led
+  picked_there : (k : ℕ) (c : (k < actors p) ⊎ (actors p ≤ k)) → pick_last k c ≡ shown_or (IsSwitch new_switch) actor_of (slice_get (map actor_left rs) k)
+  picked_there k (inl less) = let d = did k less in ap (shown_or (IsSwitch new_switch) actor_of) (sym (slice_get-map actor_left rs k ∙ ap (option_map actor_left) d.done.run_is))
+  picked_there k (inr past) =
+      let n = runs_count in
+      let m = length-map rs actor_left in
+      let far : nat_lt k (length p.nodes) ≡ false = grind (arith, nat_tests) in
+      let none : slice_get (map actor_left rs) k ≡ None = slice_get_past (map actor_left rs) k (omega (arith, n, m, past)) in
+      ap (λ b. if b then IsNode (record { vcp = new_vcp; process = begin_of p k; inner = λ c. nothing_yet }) else IsSwitch new_switch) far ∙ ap (shown_or (IsSwitch new_switch) actor_of) (sym none)
+
+  pub ends_there : (k : ℕ) → last_of k ≡ shown_or (IsSwitch new_switch) actor_of (slice_get (map actor_left rs) k)
+  ends_there k = picked_there k (cases_lt k (actors p))
 
 -- the runs stand in the order of their actors
 pub in_order : (turns seed : ℕ) (js : List Job) (rs : List ActorRun) → AreNumbered 0 (map who js) → AllZip (Ran turns seed) js rs → AreInOrder rs

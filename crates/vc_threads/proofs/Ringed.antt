@@ -117,7 +117,7 @@ ring_kept nodes old new from to a b m h = record {
 pub is_at : (nodes actor link : ℕ) (port : Port) → actor ≡ actor_of nodes port.spot → link ≡ port.link → is_link nodes actor link port ≡ true
 is_at nodes actor link port a b = ap (λ z. z && (port.link == link)) (eq-eqb (actor_of nodes port.spot) actor (sym a)) ∙ eq-eqb port.link link (sym b)
 
-on_later : (p : Plan) (n k link : ℕ) → IsOnWire p n k link → IsOnWire p (n + 1) k link
+pub on_later : (p : Plan) (n k link : ℕ) → IsOnWire p n k link → IsOnWire p (n + 1) k link
 on_later p n k link (i, w, side, less, is, at) = (i, w, side, omega (arith, less), is, at)
 
 module _ (p : Plan) (n : ℕ) (w : Wire) (is : slice_get p.wires n ≡ Some w) where

@@ -1,24 +1,27 @@
--- The actors' runs fit on the network's ways, so that their acts can be replayed.
-use Rattle.std.proofs.Common.{◌≡◌, ℕ, zero, suc, ◌/◌, ◌%◌, ◌<◌, ◌≤◌, Bool, true, false, not, ◌&&◌, if◌then◌else◌, ◌==◌, List, [], ◌∷◌, ◌++◌, length, map, take, drop, slice_get, Some, refl, sym, ap, subst, ◌∙◌, inl, inr, arith, eq-eqb}
+-- The actors' runs fit on the network's ways, so that their acts lead to the state that they left.
+use Rattle.std.proofs.Common.{◌≡◌, ℕ, ◌+◌, ◌*◌, ◌/◌, ◌%◌, ◌<◌, ◌≤◌, Bool, true, false, not, ◌&&◌, if◌then◌else◌, ◌==◌, List, [], ◌∷◌, ◌++◌, length, map, slice_get, Some, refl, sym, ap, subst, ◌∙◌, inl, inr, arith, eq-eqb, eqb-true, ◌≢◌}
+use mathlib.Core.Path.{fun_ext}
 use Rattle.std.specs.List.{AllByRecursion}
-use Rattle.std.proofs.lemmas.Bool.{cases_lt}
+use Rattle.std.proofs.lemmas.Bool.{cases_lt, eqb-false}
 use Rattle.std.proofs.lemmas.List.{map-append}
 use Rattle.std.proofs.lemmas.Option.{slice_get_within}
 use Rattle.vc_accepted.specs.NetworkOf.{network_of, wire_of}
 use Rattle.vc_accepted.specs.NetworkOf as to
 use Rattle.vc_accepted.specs.Outgoing.{actor_of, link_port}
+use Rattle.vc_accepted.proofs.Accepting.{accepted}
 use Rattle.vc_accepted.proofs.Crossing.{wire_is}
 use Rattle.vc_accepted.proofs.Listed.{there}
 use Rattle.vc_accepted.proofs.Ported.{side_of}
 use Rattle.vc_accepted.proofs.Wired.{link_is_at, wired}
 use Rattle.vc_actors.specs.Actors.{Label, act_of}
 use Rattle.vc_actors.specs.Actors.Label.{Own, Takes, Puts}
-use Rattle.vc_actors.specs.LocalRun.{Stamped, Turn, LocalRun, all_put, all_taken, restamped}
+use Rattle.vc_actors.specs.LocalRun.{Stamped, Turn, LocalRun, all_put, all_taken, items, restamped}
 use Rattle.vc_actors.specs.Merge.{Made, part, NotAfter, IsOrdered, IsMerge, remade}
 use Rattle.vc_core.specs.Replaying.{Replays}
 use Rattle.vc_core.specs.Shown.{actor_of as net_actor, act_of as code_act}
-use Rattle.vc_core.specs.State.{State, shown}
+use Rattle.vc_core.specs.State.{State, shown, IsNetworkOf}
 use Rattle.vc_core.specs.State as core
+use Rattle.vc_core.proofs.Replayed.{replays}
 use Rattle.vc_core.specs.Turns.{actors}
 use Rattle.vc_core.specs.declared.act.Act.{Act}
 use Rattle.vc_core.specs.declared.act.Event.{Event}
@@ -26,7 +29,8 @@ use Rattle.vc_network.specs.Network.{Actor, Local, first, begins, actor_at}
 use Rattle.vc_network.specs.Network as net
 use Rattle.vc_network.specs.Plan.{ways, near, far, IsOutOf, IsInto}
 use Rattle.vc_network.specs.Plan as network
-use Rattle.vc_network.specs.Threads.{AreThreads, made_by, source, sink}
+use Rattle.vc_network.specs.Threads.{AreThreads, ended, made_by, source, sink}
+use Rattle.vc_network.proofs.Threads.{threads_headline}
 use Rattle.vc_plan.specs.Accepted.{IsAccepted, port_of}
 use Rattle.vc_plan.specs.declared.plan.Plan.{Plan}
 use Rattle.vc_plan.specs.declared.port.Spot.{Spot}
@@ -35,12 +39,12 @@ use Rattle.vc_plan.specs.declared.port.Wire.{Wire}
 use Rattle.vc_switch.specs.Waiting.{Wormhole}
 use Rattle.vc_told.specs.Begin.{begin_of}
 use Rattle.vc_told.specs.Process.{Process, does}
-use Rattle.vc_told.proofs.Threaded.{replayed}
+use Rattle.vc_tokens.specs.Spelt.{token}
 use Rattle.vc_tokens.specs.Tokens as tokens
 use Rattle.vc_tokens.specs.declared.token.Token.{Token}
 use Rattle.vc_threads.specs.Merged.{event_of}
-use Rattle.vc_threads.specs.Order.{OnWires}
-use Rattle.vc_threads.specs.Threads.{CanBeReplayed, IsOverWires, IsRunOf, TakesInOrder}
+use Rattle.vc_threads.specs.Order.{OnWays}
+use Rattle.vc_threads.specs.Threads.{IsOverWires, IsRunOf, TakesInOrder}
 use Rattle.vc_threads.specs.declared.run.Stop.{Stop}
 use Rattle.vc_threads.proofs.ByWays.{item_by, label_by, turn_by, all_put_by, all_taken_by, none_put_by, none_taken_by, run_by}
 
@@ -84,20 +88,21 @@ events_by : (ms : List (Made Act)) → map made_by (map (remade code_act) ms) �
 events_by [] = refl
 events_by (m ∷ ms) = ap (λ xs. made_by (remade code_act m) ∷ xs) (events_by ms)
 
-cut_at : {X : Type 0} (xs : List X) (n : ℕ) (x : X) → slice_get xs n ≡ Some x → xs ≡ take n xs ++ x ∷ drop (suc n) xs
-cut_at [] n x e = absurd (cc)
-cut_at (y ∷ ys) zero x e = cc
-cut_at (y ∷ ys) (suc n) x e = ap (λ zs. y ∷ zs) (cut_at ys n x e)
+-- what is left on a way, with its stamps
+record Fits (p : Plan) (runs : ℕ → List (Turn net.Act tokens.Token)) (left : ℕ → List tokens.Token) (w : ℕ) : Type 0 where
+  rest : List (Stamped tokens.Token)
+  is : all_taken w (runs (sink (network_of p) w)) ++ rest ≡ all_put w (runs (source (network_of p) w))
+  left_is : items rest ≡ left w
 
--- what is left on a way
-record Fits (p : Plan) (runs : ℕ → List (Turn net.Act tokens.Token)) (w : ℕ) : Type 0 where
-  left : List (Stamped tokens.Token)
-  is : all_taken w (runs (sink (network_of p) w)) ++ left ≡ all_put w (runs (source (network_of p) w))
+-- the items of stamped tokens, in the words of the definitions
+items_by : (ss : List (Stamped Token)) → items (map item_by ss) ≡ map token (items ss)
+items_by [] = refl
+items_by (s ∷ ss) = ap (λ ts. token s.it ∷ ts) (items_by ss)
 
 module _ (p : Plan) (acc : IsAccepted p) (turns seed : ℕ) (runs : ℕ → List (Turn Act Token)) (stops : ℕ → Stop) (last : ℕ → Actor Process)
     (each : (k : ℕ) → k < actors p → IsRunOf p turns seed k (runs k) (stops k) (last k))
     (none : (k : ℕ) → actors p ≤ k → runs k ≡ []) (idle : (k : ℕ) → actors p ≤ k → last k ≡ first (network_of p) (begin_of p) k)
-    (order : OnWires (TakesInOrder (length p.nodes) runs) p.wires (length p.wires)) where
+    (left : ℕ → List tokens.Token) (order : OnWays (TakesInOrder (length p.nodes) runs left) p.wires (length p.wires)) (bare : (w : ℕ) → ways (network_of p) ≤ w → left w ≡ []) where
   abbrev by_ways : ℕ → List (Turn net.Act tokens.Token)
   by_ways k = map (turn_by p k) (runs k)
 
@@ -133,11 +138,15 @@ module _ (p : Plan) (acc : IsAccepted p) (turns seed : ℕ) (runs : ℕ → List
         let k = actor_of (length p.nodes) q.spot in
         link_is_at p k q.link q (wired p acc (w / 2) x b is) (ap (λ z. z && (q.link == q.link)) (eq-eqb k k refl) ∙ eq-eqb q.link q.link refl)
 
-    in_order : (b : Bool) → TakesInOrder (length p.nodes) runs (port_of x b) (port_of x (not b))
-    in_order true = (order (w / 2) x (slice_get_within p.wires (w / 2) x is) is).0
-    in_order false = (order (w / 2) x (slice_get_within p.wires (w / 2) x is) is).1
+    in_order : (b : Bool) → side ≡ b → TakesInOrder (length p.nodes) runs left w (port_of x b) (port_of x (not b))
+    in_order true even =
+        let here : 2 * (w / 2) ≡ w = let e = eqb-true (w % 2) 0 even in omega (arith, e) in
+        subst (λ v. TakesInOrder (length p.nodes) runs left v x.one x.two) here (order (w / 2) x (slice_get_within p.wires (w / 2) x is) is).0
+    in_order false odd =
+        let here : 2 * (w / 2) + 1 ≡ w = let e : w % 2 ≢ 0 = eqb-false (w % 2) 0 odd in omega (arith, e) in
+        subst (λ v. TakesInOrder (length p.nodes) runs left v x.two x.one) here (order (w / 2) x (slice_get_within p.wires (w / 2) x is) is).1
 
-    fits_here : Fits p by_ways w
+    fits_here : Fits p by_ways left w
     fits_here =
         let from = port_of x side in
         let dest = port_of x (not side) in
@@ -145,23 +154,24 @@ module _ (p : Plan) (acc : IsAccepted p) (turns seed : ℕ) (runs : ℕ → List
         let t = actor_of (length p.nodes) dest.spot in
         let source_is : source (network_of p) w ≡ s = ap (actor_at (network_of p)) near_is ∙ port_actor p from.spot from.link in
         let sink_is : sink (network_of p) w ≡ t = ap (actor_at (network_of p)) far_is ∙ port_actor p dest.spot dest.link in
-        let o = in_order side in
+        let o = in_order side refl in
         record {
-          left = map item_by o.0;
+          rest = map item_by o.0;
           is = ap (λ k. all_taken w (by_ways k) ++ map item_by o.0) sink_is
               ∙ (ap (λ xs. xs ++ map item_by o.0) (all_taken_by p acc t dest.link w (real, far_is ∙ at (not side)) (runs t) (over t))
               ∙ (sym (map-append item_by (all_taken dest.link (runs t)) o.0)
               ∙ (ap (map item_by) o.1
               ∙ (sym (all_put_by p acc s from.link w (real, near_is ∙ at side) (runs s) (over s)) ∙ ap (λ k. all_put w (by_ways k)) (sym source_is)))));
+          left_is = items_by o.0 ∙ sym o.2;
         }
 
-  fits : (w : ℕ) → Fits p by_ways w
+  fits : (w : ℕ) → Fits p by_ways left w
   fits w = elim (cases_lt w (ways (network_of p))) [
     | inl real ↦ (let x = there wire_of p.wires (w / 2) (omega (arith, real)) in fits_here w real x.0 x.1)
     | inr past ↦
         let s = source (network_of p) w in
         let t = sink (network_of p) w in
-        record { left = []; is = ap (λ xs. xs ++ []) (none_taken_by p acc t w past (runs t) (over t)) ∙ sym (none_put_by p acc s w past (runs s) (over s)) }
+        record { rest = []; is = ap (λ xs. xs ++ []) (none_taken_by p acc t w past (runs t) (over t)) ∙ sym (none_put_by p acc s w past (runs s) (over s)); left_is = sym (bare w past) }
   ]
 
   module _ (merged : List (Made Act)) (merge : IsMerge (λ k. map (restamped act_of) (runs k)) merged) where
@@ -170,24 +180,21 @@ module _ (p : Plan) (acc : IsAccepted p) (turns seed : ℕ) (runs : ℕ → List
         let m = merge_of code_act (λ k. map (restamped act_of) (runs k)) merged merge in
         record { ordered = m.ordered; parts = λ k. m.parts k ∙ acts_by p k (runs k) }
 
-    threads : AreThreads (network_of p) Wormhole does (begin_of p) by_ways last (λ w. (fits w).left) (map (remade code_act) merged)
+    threads : AreThreads (network_of p) Wormhole does (begin_of p) by_ways last (λ w. (fits w).rest) (map (remade code_act) merged)
     threads = record { fit = record { local = local; ways = λ w. (fits w).is }; merged = merge_by }
 
     module _ (steps : List Event) (steps_are : steps ≡ map event_of merged) where
       events_are : map made_by (map (remade code_act) merged) ≡ map core.event_of steps
       events_are = events_by merged ∙ ap (map core.event_of) (sym steps_are)
 
-      pub can_be_replayed : CanBeReplayed p steps
-      can_be_replayed n e s here r =
-          let done = take n steps in
-          let rest = drop (suc n) steps in
-          let law = replayed p Wormhole last by_ways (λ w. (fits w).left) (map (remade code_act) merged) acc threads in
-          law.0 (map core.event_of done) (map core.event_of rest) (core.event_of e) (shown s)
-          (events_are ∙ (ap (map core.event_of) (cut_at steps n e here) ∙ map-append core.event_of done (e ∷ rest))) r.happen
-
-      -- each actor is where its run left it
-      pub ends_there : (s : State) → Replays p steps s → (k : ℕ) → last k ≡ (shown s).state k
-      ends_there s r k =
-          let law = replayed p Wormhole last by_ways (λ w. (fits w).left) (map (remade code_act) merged) acc threads in
-          let alike = law.1 (shown s) (subst (λ es. net.HappenAll (network_of p) Wormhole does (begins (network_of p) (begin_of p)) es (shown s)) (sym events_are) r.happen) in
-          sym (alike.states k)
+      -- the events lead to the network that the runs left
+      pub leads_there : (s : State) → IsNetworkOf p s → ((k : ℕ) → last k ≡ (shown s).state k) → ((w : ℕ) → left w ≡ (shown s).way w) → Replays p steps s
+      leads_there s is states lefts =
+          let plan = network_of p in
+          let done = threads_headline plan Wormhole does (begin_of p) last by_ways (λ w. (fits w).rest) (map (remade code_act) merged) (accepted p acc) threads in
+          let there : ended last (λ w. (fits w).rest) ≡ shown s = λ i. record { state = fun_ext states i; way = fun_ext (λ w. (fits w).left_is ∙ lefts w) i } in
+          replays p steps s (record {
+            is = is;
+            happen = subst (λ es. net.HappenAll plan Wormhole does (begins plan (begin_of p)) es (shown s)) events_are
+                (subst (net.HappenAll plan Wormhole does (begins plan (begin_of p)) (map made_by (map (remade code_act) merged))) there done.0);
+          })

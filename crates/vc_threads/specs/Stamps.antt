@@ -11,6 +11,9 @@ abbrev pub step_with : Option ℕ → Label (Unit {0}) (local.Stamped (Unit {0})
 step_with None = Own tt
 step_with (Some at) = Takes tt 0 (record { at = at; it = tt })
 
+abbrev pub item_of : Stamped → Token
+item_of s = s.item
+
 abbrev pub stamped : Stamped → local.Stamped Token
 stamped s = record { at = s.at; it = s.item }
 

@@ -1,5 +1,5 @@
 -- The jobs of all actors, and what a run in threads reports.
-use Rattle.std.specs.Prelude.{◌≡◌, ◌≢◌, ◌↔◌, ℕ, ◌+◌, ◌<◌, ◌≤◌, List, [], ◌∷◌, length, map, take, slice_get, Some}
+use Rattle.std.specs.Prelude.{◌≡◌, ◌≢◌, ◌↔◌, ℕ, ◌+◌, ◌<◌, ◌≤◌, List, [], ◌∷◌, ◌++◌, length, map}
 use Rattle.std.specs.List.{AllByRecursion, Contains}
 use Rattle.rand_pcg.specs.Lcg.{Lcg, started, increment_of}
 use Rattle.rand_pcg.specs.Pcg.{multiplier_64}
@@ -7,25 +7,25 @@ use Rattle.vc_accepted.specs.NetworkOf.{network_of}
 use Rattle.vc_accepted.specs.Outgoing.{actor_of as port_actor}
 use Rattle.vc_actors.specs.Actors.{Label, act_of}
 use Rattle.vc_actors.specs.Actors.Label.{Own, Takes, Puts}
-use Rattle.vc_actors.specs.LocalRun.{Stamped, Turn, LocalRun, IsPrefix, all_put, all_taken, restamped}
+use Rattle.vc_actors.specs.LocalRun.{Stamped, Turn, LocalRun, all_put, all_taken, items, restamped}
 use Rattle.vc_actors.specs.Merge.{Made, IsMerge}
 use Rattle.vc_core.specs.Begin.{BeginsAs}
-use Rattle.vc_core.specs.Enabled.{CanHappen}
 use Rattle.vc_core.specs.Replaying.{Replays}
 use Rattle.vc_core.specs.Shown.{Acting, actor_of}
-use Rattle.vc_core.specs.State.{State, state_of, shown}
+use Rattle.vc_core.specs.State.{state_of, shown}
 use Rattle.vc_core.specs.Turns.{HaveEnded, actors}
 use Rattle.vc_core.specs.declared.act.Act.{Act}
-use Rattle.vc_core.specs.declared.act.Event.{Event}
 use Rattle.vc_core.specs.declared.close.Close.TheVariants.{Done}
 use Rattle.vc_network.specs.Network as net
 use Rattle.vc_plan.specs.declared.plan.Plan.{Plan}
 use Rattle.vc_plan.specs.declared.port.Port.{Port}
+use Rattle.vc_tokens.specs.Spelt.{tokens}
+use Rattle.vc_tokens.specs.Tokens.{Token as Item}
 use Rattle.vc_tokens.specs.declared.token.Token.{Token}
 use Rattle.vc_told.specs.Process.{Process}
 use Rattle.vc_threads.specs.Closing.{ClosesBy}
 use Rattle.vc_threads.specs.Merged.{event_of}
-use Rattle.vc_threads.specs.Order.{OnWires}
+use Rattle.vc_threads.specs.Order.{OnWays}
 use Rattle.vc_threads.specs.Rings.{IsOnWire}
 use Rattle.vc_threads.specs.Runs.{StepsByLink, Used, Draws, words_of}
 use Rattle.vc_threads.specs.Works.{IsGreatest}
@@ -67,27 +67,24 @@ pub record IsRunOf (p : Plan) (turns seed k : ℕ) (steps : List (Turn Act Token
   pub rest : Lcg
   pub words : Draws (started 64 multiplier_64 seed (increment_of 64 k)) (words_of steps) rest
 
--- what was taken off the way from one port to another is the front of what was put on it, with its stamps
-abbrev pub TakesInOrder : ℕ → (ℕ → List (Turn Act Token)) → Port → Port → Type 0
-TakesInOrder nodes runs from to = IsPrefix (all_taken to.link (runs (port_actor nodes to.spot))) (all_put from.link (runs (port_actor nodes from.spot)))
-
--- wherever a replay of these events has come, the next one can happen
-abbrev pub CanBeReplayed : Plan → List Event → Type 0
-CanBeReplayed p steps = (n : ℕ) (e : Event) (s : State) → slice_get steps n ≡ Some e → Replays p (take n steps) s → CanHappen p s e
+-- what was taken off the way from one port to another, and then what is left on it, is what was put on it, with its stamps
+abbrev pub TakesInOrder : ℕ → (ℕ → List (Turn Act Token)) → (ℕ → List Item) → ℕ → Port → Port → Type 0
+TakesInOrder nodes runs left way from to =
+    (rest : List (Stamped Token)) × (all_taken to.link (runs (port_actor nodes to.spot)) ++ rest ≡ all_put from.link (runs (port_actor nodes from.spot))) × (left way ≡ tokens (items rest))
 
 -- an act of the run has the greatest stamp
 abbrev pub HasGreatest : List (Turn Act Token) → Type 0
 HasGreatest ts = (t : Turn Act Token) × Contains ts t × IsGreatest t.at
 
--- The reported steps are those of all actors' runs, by stamp, then actor. On both ways of each wire what was taken is the front of what
--- was put. The steps replay to the state, where each actor is as its run left it. The run closes Done exactly where every process has
+-- The reported steps are those of all actors' runs, by stamp, then actor. On both ways of each wire what was taken, and then what the
+-- state has there, is what was put. The steps lead to the state, where each actor is as its run left it. The run closes Done exactly where every process has
 -- ended there, and else by why the workers ended; where one ended by its clock an act has the greatest stamp.
 pub record Reports (p : Plan) (turns seed : ℕ) (r : Report) : Type 0 where
   pub runs : ℕ → List (Turn Act Token)
   pub stops : ℕ → Stop
   pub each : (k : ℕ) → k < actors p → IsRunOf p turns seed k (runs k) (stops k) ((shown (state_of r.state)).state k)
   pub none : (k : ℕ) → actors p ≤ k → runs k ≡ []
-  pub order : OnWires (TakesInOrder (length p.nodes) runs) p.wires (length p.wires)
+  pub order : OnWays (TakesInOrder (length p.nodes) runs (shown (state_of r.state)).way) p.wires (length p.wires)
   pub merged : List (Made Act)
   pub merge : IsMerge (λ k. map (restamped act_of) (runs k)) merged
   pub steps : r.steps.items ≡ map event_of merged

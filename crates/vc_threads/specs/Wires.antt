@@ -41,6 +41,10 @@ module _ {A P : Type 0} where
   abbrev pub InLooked : ℕ × Consumer Stamped A P → ℕ × Consumer Stamped A P → Type 0
   InLooked a b = (b.0 ≡ a.0) × ConsumerLooked a.1 b.1
 
+  -- the same end of the same ring
+  abbrev pub SameIn : ℕ × Consumer Stamped A P → ℕ × Consumer Stamped A P → Type 0
+  SameIn a b = (b.0 ≡ a.0) × SameConsumer a.1 b.1
+
   -- a slot is known to be free in this link's ring
   abbrev pub IsFree : ℕ → ℕ × Producer Stamped A P → Type 0
   IsFree link o = (o.0 ≡ link) × (0 < known_free o.1)

@@ -3,9 +3,9 @@
 //!
 //! What a [`worker`] does is a run of its actor by itself, stamped act by act (`specs/Runs`), and what its ring ends sent and received
 //! is what the run put and took. [`merge`] makes one list of all workers' acts, by stamp, then actor. [`run_threads`] starts the
-//! workers, each way of the plan being a ring between two of them (`specs/Rings`), joins them, looks at both ends of each ring, and replays
-//! that list: what was taken off each way is the front of what was put on it, so that for every schedule the list is a run of the
-//! network, which leads to the state that it reports (`specs/Threads`).
+//! workers, each way of the plan being a ring between two of them (`specs/Rings`), joins them, and takes what is left off each ring: what
+//! was taken off each way, and then what is left there, is what was put on it (`specs/Order`). So for every schedule the list is a run of the
+//! network, which leads to the state that is put together from the actors and from what is left in the rings (`specs/Threads`).
 #![tactic(auto)]
 
 mod crew;

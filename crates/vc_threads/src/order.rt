@@ -1,17 +1,20 @@
-//! What was taken off each way, beside what was put on it.
-ghost use Rattle.std.specs.Prelude.{◌≡◌, ◌<◌, ◌≤◌, IfOk, length, map};
+//! What was taken off each way and what is left on it, beside what was put on it.
+ghost use Rattle.std.specs.Prelude.{◌≡◌, ◌*◌, ◌<◌, ◌≤◌, IfOk, length, map};
 ghost use Rattle.std.specs.List.{AllZip, HoldsAt};
-ghost use Rattle.rtrb.specs.Ring.{IsPair};
+ghost use Rattle.rtrb.specs.Ring.{known_items, IsPair, SameConsumer};
 ghost use Rattle.vc_plan.specs.Accepted.{IsAccepted};
-ghost use Rattle.vc_threads.specs.Order.{outs_left, ins_left, HasEnd, IsInOrder, AtLinks, Meet, EndsLooked, MeetAt, InOrderAt, OnWires};
-ghost use Rattle.vc_threads.specs.Wires.{OutLooked, InLooked};
+ghost use Rattle.vc_threads.specs.Order.{actor_left, outs_left, ins_left, HasEnd, IsLeft, AtLinks, Meet, TakenBy, IsPort, EndsTaken, MeetAt, LeftAt, LeftOn, OnWires, OnWays};
+ghost use Rattle.vc_threads.specs.Stamps.{item_of};
+ghost use Rattle.vc_threads.specs.Wires.{OutLooked, SameIn};
 
 use crate::jobs::number_of;
 use crate::link::{Ends, In, Out};
 use crate::run::ActorRun;
 use std::alloc::Global;
+use vc_core::Actor;
 use vc_packets::Memory;
 use vc_plan::{Plan, Port};
+use vc_tokens::Token;
 
 /// The ends of all actors, in their order.
 #[derive(Drop)]
@@ -20,26 +23,32 @@ pub(crate) struct AllEnds {
     ins: Vec<Vec<(u8, In)>>,
 }
 
-// The ends that a run leaves.
-fn ends_in(run: ActorRun) -> Ends
-    ensures { result ≡ run.ends }
+// The actor and the ends that a run leaves.
+fn parts_of(run: ActorRun) -> (Actor, Ends)
+    ensures { result ≡ (run.actor, run.ends) }
 {
-    run.ends
+    (run.actor, run.ends)
 }
 
-/// The ends that the runs leave.
-pub(crate) fn all_ends(alloc: Global, runs: Vec<ActorRun>) -> Result<AllEnds, Memory>
-    ensures outs { IfOk result (λ ends. map (λ v. v.items) ends.outs.items ≡ map outs_left runs.items) }
-    ensures ins { IfOk result (λ ends. map (λ v. v.items) ends.ins.items ≡ map ins_left runs.items) }
+/// The actors and the ends that the runs leave.
+pub(crate) fn all_parts(
+    alloc: Global,
+    runs: Vec<ActorRun>,
+) -> Result<(Vec<Actor>, AllEnds), Memory>
+    ensures actors { IfOk result (λ parts. parts.0.items ≡ map actor_left runs.items) }
+    ensures outs { IfOk result (λ parts. map (λ v. v.items) parts.1.outs.items ≡ map outs_left runs.items) }
+    ensures ins { IfOk result (λ parts. map (λ v. v.items) parts.1.ins.items ≡ map ins_left runs.items) }
 {
+    let mut actors = Vec::new(alloc);
     let mut outs = Vec::new(alloc);
     let mut ins = Vec::new(alloc);
     for run in runs {
-        let ends = ends_in(run);
+        let (actor, ends) = parts_of(run);
+        actors.push(actor)?;
         outs.push(ends.outs)?;
         ins.push(ends.ins)?;
     }
-    Ok(AllEnds { outs, ins })
+    Ok((actors, AllEnds { outs, ins }))
 }
 
 // The place of the end that goes out by a link.
@@ -70,56 +79,94 @@ fn place_in(ins: &[(u8, In)], link: u8) -> usize
     unreachable!()
 }
 
-// Looks at the two ends of a ring.
-fn look_at(out: &mut (u8, Out), into: &mut (u8, In))
+// Takes off the items that are known to wait in a ring, front first.
+fn take_known(alloc: Global, consumer: &mut In) -> Result<Vec<Token>, Memory>
+    ensures ring { SameConsumer consumer.old consumer.new }
+    ensures tokens { IfOk result (λ tokens. tokens.items ≡ map item_of (known_items consumer.old)) }
+{
+    let mut tokens = Vec::new(alloc);
+    for _ in 0..consumer.cached_slots() {
+        tokens.push(consumer.pop_known().item)?;
+    }
+    Ok(tokens)
+}
+
+// Takes off what is left in a ring, whose two ends these are.
+fn take_rest(
+    alloc: Global,
+    out: &mut (u8, Out),
+    into: &mut (u8, In),
+) -> Result<Vec<Token>, Memory>
     requires { IsPair out.old.1 into.old.1 }
     ensures out { OutLooked out.old out.new }
-    ensures into { InLooked into.old into.new }
-    ensures order { IsInOrder out.old into.old }
+    ensures into { SameIn into.old into.new }
+    ensures left { IfOk result (λ tokens. IsLeft tokens.items out.old into.old) }
 {
     let (_, producer) = out;
     let (_, consumer) = into;
     consumer.slots_beside(producer);
+    take_known(alloc, consumer)
 }
 
-// Looks at the ring from one actor's link to another's.
-fn look(outs: &mut Vec<(u8, Out)>, ins: &mut Vec<(u8, In)>, from: u8, to: u8)
+// Takes off what is left in the ring from one actor's link to another's.
+fn take_between(
+    alloc: Global,
+    outs: &mut Vec<(u8, Out)>,
+    ins: &mut Vec<(u8, In)>,
+    from: u8,
+    to: u8,
+) -> Result<Vec<Token>, Memory>
     requires { Meet outs.old.items ins.old.items from to }
     ensures outs { AllZip OutLooked outs.old.items outs.new.items }
-    ensures ins { AllZip InLooked ins.old.items ins.new.items }
-    ensures order { AtLinks IsInOrder outs.old.items ins.old.items from to }
+    ensures ins { AllZip (TakenBy (λ link. link ≡ to)) ins.old.items ins.new.items }
+    ensures left { IfOk result (λ tokens. AtLinks (IsLeft tokens.items) outs.old.items ins.old.items from to) }
 {
     let a = place_out(outs.as_slice(), from);
     let b = place_in(ins.as_slice(), to);
-    look_at(&mut outs[a], &mut ins[b]);
+    take_rest(alloc, &mut outs[a], &mut ins[b])
 }
 
-// Looks at the ring of the way from one port to another.
-fn look_way(ends: &mut AllEnds, nodes: usize, from: Port, to: Port)
+// Takes off what is left in the ring of the way from one port to another.
+fn take_way(
+    alloc: Global,
+    ends: &mut AllEnds,
+    nodes: usize,
+    from: Port,
+    to: Port,
+) -> Result<Vec<Token>, Memory>
     requires nodes { nodes ≤ 32 }
     requires ring { MeetAt nodes ends.old from to }
-    ensures looked { EndsLooked ends.old ends.new }
-    ensures order { InOrderAt nodes ends.old from to }
+    ensures taken { EndsTaken (IsPort nodes to) ends.old ends.new }
+    ensures left { IfOk result (λ tokens. LeftAt nodes ends.old tokens.items from to) }
 {
     let source = number_of(from.spot, nodes);
     let sink = number_of(to.spot, nodes);
-    look(
+    take_between(
+        alloc,
         &mut ends.outs[source],
         &mut ends.ins[sink],
         from.link,
         to.link,
-    );
+    )
 }
 
-/// Looks at the ring of each way: what was received there is the front of what was sent.
-pub(crate) fn look_all(ends: &mut AllEnds, plan: &Plan)
+/// What is left in the ring of each way, the ways in their order: what was received there, and then this, is what was sent.
+pub(crate) fn take_all(
+    alloc: Global,
+    ends: AllEnds,
+    plan: &Plan,
+) -> Result<Vec<Vec<Token>>, Memory>
     requires plan { IsAccepted plan.now }
-    requires rings { OnWires (MeetAt (length plan.now.nodes) ends.old) plan.now.wires (length plan.now.wires) }
-    ensures order { OnWires (InOrderAt (length plan.now.nodes) ends.old) plan.now.wires (length plan.now.wires) }
+    requires rings { OnWires (MeetAt (length plan.now.nodes) ends) plan.now.wires (length plan.now.wires) }
+    ensures count { IfOk result (λ left. length left.items ≡ 2 * length plan.now.wires) }
+    ensures left { IfOk result (λ left. OnWays (LeftOn (length plan.now.nodes) ends left.items) plan.now.wires (length plan.now.wires)) }
 {
+    let mut ends = ends;
+    let mut left = Vec::new(alloc);
     let nodes = plan.nodes.len();
     for wire in plan.wires.as_slice() {
-        look_way(ends, nodes, wire.one, wire.two);
-        look_way(ends, nodes, wire.two, wire.one);
+        left.push(take_way(alloc, &mut ends, nodes, wire.one, wire.two)?)?;
+        left.push(take_way(alloc, &mut ends, nodes, wire.two, wire.one)?)?;
     }
+    Ok(left)
 }
