@@ -183,7 +183,6 @@ module _ (p : Plan) (turns seed : ℕ) (js : List Job) (rs : List ActorRun) (fir
     pub each_run : (k : ℕ) → k < actors p → IsRunOf p turns seed k (steps_of k) (stop_at rs k) (last_of k)
     each_run k less = picked_run k (cases_lt k (actors p)) less
 
-
   -- each actor, as its run left it, is one of the plan
   pub parts_fit : (k : ℕ) (x : Acting) → slice_get (map actor_left rs) k ≡ Some x → IsActorOf (network_of p) k x
   parts_fit k x here =

@@ -31,10 +31,7 @@ fn parts_of(run: ActorRun) -> (Actor, Ends)
 }
 
 /// The actors and the ends that the runs leave.
-pub(crate) fn all_parts(
-    alloc: Global,
-    runs: Vec<ActorRun>,
-) -> Result<(Vec<Actor>, AllEnds), Memory>
+pub(crate) fn all_parts(alloc: Global, runs: Vec<ActorRun>) -> Result<(Vec<Actor>, AllEnds), Memory>
     ensures actors { IfOk result (λ parts. parts.0.items ≡ map actor_left runs.items) }
     ensures outs { IfOk result (λ parts. map (λ v. v.items) parts.1.outs.items ≡ map outs_left runs.items) }
     ensures ins { IfOk result (λ parts. map (λ v. v.items) parts.1.ins.items ≡ map ins_left runs.items) }
@@ -92,11 +89,7 @@ fn take_known(alloc: Global, consumer: &mut In) -> Result<Vec<Token>, Memory>
 }
 
 // Takes off what is left in a ring, whose two ends these are.
-fn take_rest(
-    alloc: Global,
-    out: &mut (u8, Out),
-    into: &mut (u8, In),
-) -> Result<Vec<Token>, Memory>
+fn take_rest(alloc: Global, out: &mut (u8, Out), into: &mut (u8, In)) -> Result<Vec<Token>, Memory>
     requires { IsPair out.old.1 into.old.1 }
     ensures out { OutLooked out.old out.new }
     ensures into { SameIn into.old into.new }
@@ -151,11 +144,7 @@ fn take_way(
 }
 
 /// What is left in the ring of each way, the ways in their order: what was received there, and then this, is what was sent.
-pub(crate) fn take_all(
-    alloc: Global,
-    ends: AllEnds,
-    plan: &Plan,
-) -> Result<Vec<Vec<Token>>, Memory>
+pub(crate) fn take_all(alloc: Global, ends: AllEnds, plan: &Plan) -> Result<Vec<Vec<Token>>, Memory>
     requires plan { IsAccepted plan.now }
     requires rings { OnWires (MeetAt (length plan.now.nodes) ends) plan.now.wires (length plan.now.wires) }
     ensures count { IfOk result (λ left. length left.items ≡ 2 * length plan.now.wires) }

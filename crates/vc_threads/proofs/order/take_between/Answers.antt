@@ -37,8 +37,8 @@ returns c =
           subst (λ v. By v new) (c.index_mut-2.ensures.value ∙ any_default is b y d within2) (c.take_rest.ensures.into, λ none. absurd (none g.1)));
       left = if_ok_map (λ tokens. IsLeft tokens.items x y) (λ tokens. AtLinks (IsLeft tokens.items) os is c.args.from c.args.to) c.take_rest.result
           (λ tokens left o i co ci eo ei.
-              subst (λ (v : Out). IsLeft tokens.items v i) (one_end os x o c.requires.outs_apart f.0 co (f.1 ∙ sym eo))
-              (subst (λ (w : In). IsLeft tokens.items x w) (one_end is y i c.requires.ins_apart g.0 ci (g.1 ∙ sym ei)) left))
+          subst (λ (v : Out). IsLeft tokens.items v i) (one_end os x o c.requires.outs_apart f.0 co (f.1 ∙ sym eo))
+          (subst (λ (w : In). IsLeft tokens.items x w) (one_end is y i c.requires.ins_apart g.0 ci (g.1 ∙ sym ei)) left))
           c.take_rest.ensures.left;
     }
 
