@@ -209,7 +209,7 @@ fn run_rounds(
     ensures ends { (p : Plan) → Reached p events.old (state_of network.old) → AreQuiet p (state_of network.old) seats.old → OnOk result ((length events.new ≡ limit) ⊎ IsAtRest p (state_of network.new)) }
 {
     for _ in 0..limit {
-        if !round(network, seats, events, limit)? {
+        if !round(network, seats, events, limit)? || events.len() as u64 >= limit {
             return Ok(());
         }
     }
