@@ -28,7 +28,7 @@ use Rattle.vc_switch.specs.declared.ready_switch.Ready.{Ready}
 use Rattle.vc_switch.specs.declared.link_in.LinkIn.{LinkIn}
 use Rattle.vc_switch.proofs.Fronts.{gone}
 use Rattle.vc_switch.proofs.Placed.{put-same, put-other}
-use Rattle.vc_switch.proofs.Readying.{SameBut, OneElse, leaving_waits, passes_else}
+use Rattle.vc_switch.proofs.Readying.{SameBut, OneElse, came_got, leaving_waits, passes_else}
 use Rattle.vc_switch.proofs.Routing.{can_route, route_leaves}
 use Rattle.vc_switch.proofs.Showing.{input_at}
 
@@ -216,12 +216,6 @@ same_one s t link others got bound = λ l. elim (cases_eq l link) [
   | inl e ↦ subst (λ z. ((t.input z).got ≡ (s.input z).got) × ((t.input z).bound ≡ (s.input z).bound)) (sym e) (got, bound)
   | inr ne ↦ (ap (λ x. x.got) (others l ne), ap (λ x. x.bound) (others l ne))
 ]
-
-came_got : (s : Switch) (link word : ℕ) (k : Token) (t : Switch) → Comes s link word k t → (t.input link).got ≡ (s.input link).got
-came_got s link word Fct t (due d is) = ap (λ z. (z.input link).got) is ∙ ap (λ x. x.got) (put-same s.input link _)
-came_got s link word (Byte b) t (due d is) = ap (λ z. (z.input link).got) is ∙ ap (λ x. x.got) (put-same s.input link _)
-came_got s link word (EndMark m) t (due d is) = ap (λ z. (z.input link).got) is ∙ ap (λ x. x.got) (put-same s.input link _)
-came_got s link word k t (not_due d is) = ap (λ z. (z.input link).got) is ∙ ap (λ x. x.got) (put-same s.input link _)
 
 pub came_same : (s : Switch) (link word : ℕ) (k : Token) (t : Switch) → Comes s link word k t → OneElse s link t → SamePackets s t
 came_same s link word k t h one = same_one s t link one.others (came_got s link word k t h) one.bound

@@ -148,7 +148,7 @@ impl ReadySwitch {
         ensures ok { IsOk result }
     {
         let taken = self.switch.take(link, came, word);
-        self.ready.look(&self.switch, link);
+        self.ready.passes = told(self.ready.passes, link, self.switch.may_pass(link));
         taken
     }
 
