@@ -91,8 +91,7 @@ grants_by s t link same = (λ can. room_grants t link (subst HasRoom (sym same) 
 
 grants_received : (s t : Switch) (link : ℕ) (k : Token) → 0 < (s.input link).receiver.promised → (t.input link).receiver ≡ received (s.input link).receiver k → CanGrant s link ↔ CanGrant t link
 grants_received s t link k place same =
-    let long = length-append (s.input link).receiver.buffer (k ∷ []) in
-    (
+    let long = length-append (s.input link).receiver.buffer (k ∷ []) in (
       λ can. (let room = can.1.grants.room in room_grants t link (subst HasRoom (sym same) (omega (arith, long, room, place)))),
       λ can. (let room : HasRoom (received (s.input link).receiver k) = subst HasRoom same can.1.grants.room in room_grants s link (omega (arith, long, room, place))),
     )

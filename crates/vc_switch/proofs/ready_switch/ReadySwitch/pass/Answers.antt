@@ -20,7 +20,7 @@ invariant_of-self c =
     let one = passes_else (limit_of s.inputs) (plan_of s) (seen s) c.args.link (seen t) passes in
     let masks = ready_else s t c.args.link c.self.inside.ready c.look.new.self kept one c.self.invariant.masks c.look.ensures in
     let now = asked_passed s t c.args.link c.of.result c.asked-asks.result c.self.inside.asks c.set.new.self kept passes c.self.invariant.asked c.requires.link c.of.ensures c.asked-asks.ensures.known c.asked-asks.ensures.told
-            c.asked-asks.ensures.others c.set.ensures.it c.set.ensures.others in
+    c.asked-asks.ensures.others c.set.ensures.it c.set.ensures.others in
     record {
       masks = masks;
       asked = now;
