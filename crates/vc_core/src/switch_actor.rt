@@ -146,7 +146,7 @@ impl SwitchActor {
         ensures finds { FindsRoute self.now.switch result }
     {
         let links = self.switch.switch().links();
-        let mut left = self.switch.waits();
+        let mut left = self.switch.routes();
         for _ in 0..links {
             let input = lowest(left, links)?;
             if let Some(act) = self.route_of(input) {

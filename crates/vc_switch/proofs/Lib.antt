@@ -9,3 +9,4 @@ pub mod Routing
 pub mod Putting
 pub mod Opened
 pub mod Readying
+pub mod Asking

@@ -1,10 +1,10 @@
 -- What a step of a switch changes at its links, and what masks are of it afterwards.
-use Rattle.std.proofs.Common.{◌≡◌, ◌≢◌, ◌↔◌, ◌+◌, ◌<◌, ◌≤◌, ◌^◌, ℕ, Bool, true, false, IsTrue, List, [], ◌∷◌, ◌++◌, length, refl, sym, ap, ◌∙◌, subst, arith, slice_get, Option, Some, None, MatchOption, ◌⊎◌, inl, inr}
+use Rattle.std.proofs.Common.{◌≡◌, ◌≢◌, ◌↔◌, ◌+◌, ◌<◌, ◌≤◌, ◌^◌, ℕ, Bool, true, false, IsTrue, List, [], ◌∷◌, ◌++◌, length, refl, sym, ap, ◌∙◌, subst, arith, length-append, slice_get, Option, Some, None, MatchOption, ◌⊎◌, inl, inr}
 use Rattle.std.proofs.lemmas.Bool.{cases_eq}
 use Rattle.std.proofs.lemmas.Nat.Bits.{bit_at-zero, bit_at_ones}
 use Rattle.std.specs.Int.{bit_at}
 use Rattle.vc_packets.specs.Counting.{one_more}
-use Rattle.vc_credit.specs.Ends.{Grants}
+use Rattle.vc_credit.specs.Ends.{Grants, HasRoom, received}
 use Rattle.vc_packets.specs.Functions.{put}
 use Rattle.vc_packets.specs.declared.mark.Mark.{Mark}
 use Rattle.vc_packets.specs.declared.mark.Mark.TheVariants as mark
@@ -76,6 +76,26 @@ grant_same s t l e (new, h) =
     let g = subst (λ x. Grants x.receiver h.receiver) e h.grants in
     (set_input t l (record (t.input l) { receiver = h.receiver }), record { receiver = h.receiver; grants = g; after = refl })
 
+-- the bytes of a packet stay as they are where a token comes
+pub came_got : (s : Switch) (link word : ℕ) (k : Token) (t : Switch) → Comes s link word k t → (t.input link).got ≡ (s.input link).got
+came_got s link word Fct t (due d is) = ap (λ z. (z.input link).got) is ∙ ap (λ x. x.got) (put-same s.input link _)
+came_got s link word (Byte b) t (due d is) = ap (λ z. (z.input link).got) is ∙ ap (λ x. x.got) (put-same s.input link _)
+came_got s link word (EndMark m) t (due d is) = ap (λ z. (z.input link).got) is ∙ ap (λ x. x.got) (put-same s.input link _)
+came_got s link word k t (not_due d is) = ap (λ z. (z.input link).got) is ∙ ap (λ x. x.got) (put-same s.input link _)
+
+room_grants : (s : Switch) (link : ℕ) → HasRoom (s.input link).receiver → CanGrant s link
+room_grants s link room = (_, record { receiver = _; grants = record { room = room; after = refl }; after = refl })
+
+grants_by : (s t : Switch) (link : ℕ) → (t.input link).receiver ≡ (s.input link).receiver → CanGrant s link ↔ CanGrant t link
+grants_by s t link same = (λ can. room_grants t link (subst HasRoom (sym same) can.1.grants.room), λ can. room_grants s link (subst HasRoom same can.1.grants.room))
+
+grants_received : (s t : Switch) (link : ℕ) (k : Token) → 0 < (s.input link).receiver.promised → (t.input link).receiver ≡ received (s.input link).receiver k → CanGrant s link ↔ CanGrant t link
+grants_received s t link k place same =
+    let long = length-append (s.input link).receiver.buffer (k ∷ []) in (
+      λ can. (let room = can.1.grants.room in room_grants t link (subst HasRoom (sym same) (omega (arith, long, room, place)))),
+      λ can. (let room : HasRoom (received (s.input link).receiver k) = subst HasRoom same can.1.grants.room in room_grants s link (omega (arith, long, room, place))),
+    )
+
 -- an output is free where the inputs are bound as before
 pub free_same : (s t : Switch) (o : ℕ) → ((i : ℕ) → (t.input i).bound ≡ Some o → (s.input i).bound ≡ Some o) → IsFree s o → IsFree t o
 free_same s t o back free i e = free i (back i e)
@@ -87,6 +107,9 @@ bound_else s link t one i = elim (cases_eq i link) [
 ]
 
 -- The masks after a step.
+
+pub told_is : {P Q R : Type 0} → P ↔ Q → Q ↔ R → P ↔ R
+told_is a b = (λ p. b.0 (a.0 p), λ r. a.1 (b.1 r))
 
 -- a mask that was told of one link, where the others are as before
 told_more : (P Q : ℕ → Type 0) (link old new : ℕ) → ((l : ℕ) → l < 32 → (bit_at old l ≡ 1) ↔ P l) → Tells (Q link) link old new → ((l : ℕ) → l ≢ link → P l → Q l) → ((l : ℕ) → l ≢ link → Q l → P l) →
@@ -122,6 +145,33 @@ free_iff_else s t link m n o one same was = (
 pub ready_else : (s t : State) (link : ℕ) (old new : Ready) → IsKept s t → OneElse (seen s) link (seen t) → IsReady s old → Looks t link old new → IsReady t new
 ready_else s t link old new kept one was looks =
     ready_by s t link old new new kept one.others was looks refl refl refl (λ o less. free_iff_else s t link old.puts new.puts o one looks.puts (was.puts o less))
+
+-- what came is a place less that is promised: as many may be granted as before
+pub came_grants : (s : Switch) (link word : ℕ) (k : Token) (t : Switch) → Comes s link word k t → CanGrant s link ↔ CanGrant t link
+came_grants s link word Fct t (due d is) = grants_by s t link (ap (λ z. (z.input link).receiver) is ∙ ap (λ x. x.receiver) (put-same s.input link _))
+came_grants s link word (Byte b) t (due d is) = grants_received s t link (Byte b) d (ap (λ z. (z.input link).receiver) is ∙ ap (λ x. x.receiver) (put-same s.input link _))
+came_grants s link word (EndMark m) t (due d is) = grants_received s t link (EndMark m) d (ap (λ z. (z.input link).receiver) is ∙ ap (λ x. x.receiver) (put-same s.input link _))
+came_grants s link word k t (not_due d is) = grants_by s t link (ap (λ z. (z.input link).receiver) is ∙ ap (λ x. x.receiver) (put-same s.input link _))
+
+-- a token came, and only from its buffer more may pass
+pub ready_came : (s t : State) (link word n : ℕ) (k : Token) (old : Ready) → IsKept s t → Comes (seen s) link word k (seen t) → link < 32 → IsReady s old → Tells (CanPass (limit_of t.inputs) (plan_of t) (seen t) link) link old.passes n →
+    IsReady t (record old { passes = n })
+ready_came s t link word n k old kept comes less was tells =
+    let one = comes_else (seen s) link word k (seen t) comes in
+    let got = came_got (seen s) link word k (seen t) comes in
+    let grants = came_grants (seen s) link word k (seen t) comes in
+    ready_else s t link old (record old { passes = n }) kept one was (record {
+      passes = tells;
+      waits = record {
+        it = (
+          λ e. (let w = (was.waits link less).0 e in (one.bound ∙ w.0, λ none. w.1 (sym got ∙ none))),
+          λ w. (was.waits link less).1 (sym one.bound ∙ w.0, λ none. w.1 (got ∙ none)),
+        );
+        others = λ l few ne. refl;
+      };
+      puts = refl;
+      grants = record { it = (λ e. grants.0 ((was.grants link less).0 e), λ can. (was.grants link less).1 (grants.1 can)); others = λ l few ne. refl };
+    })
 
 -- a packet was bound to an output
 pub ready_routed : (s t : State) (link output n : ℕ) (old looked : Ready) → IsKept s t → Routes (plan_of s) Wormhole (seen s) link output (seen t) → IsReady s old → Looks t link old looked → Tells (IsTrue true) output looked.puts n →

@@ -1,5 +1,6 @@
 //! Masks of links, a bit for each of the 32.
-ghost use Rattle.std.specs.Prelude.{◌<◌, IsTrue};
+ghost use Rattle.std.specs.Prelude.{◌≡◌, ◌<◌, ℕ, IsTrue};
+ghost use Rattle.std.specs.Int.{bit_at};
 ghost use Rattle.vc_switch.specs.Ready.{Tells};
 
 /// The mask with one link's bit as told, and the other bits as before.
@@ -12,4 +13,11 @@ pub(crate) fn told(mask: u32, link: u8, is: bool) -> u32
     } else {
         mask & !(1u32 << link)
     }
+}
+
+/// Whether a mask has a bit that another has not.
+pub(crate) fn has_more(mask: u32, other: u32) -> bool
+    ensures { (l : ℕ) → bit_at mask l ≡ 1 → bit_at other l ≡ 0 → IsTrue result }
+{
+    mask & other != mask
 }

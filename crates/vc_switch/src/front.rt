@@ -1,5 +1,6 @@
 //! The front header of a body: portals passed, the first header that has a group.
-ghost use Rattle.std.specs.Prelude.{◌≡◌, ◌+◌, ◌^◌, ◌≤◌, ◌<◌, length, IfSome};
+ghost use Rattle.std.specs.Prelude.{◌≡◌, ◌+◌, ◌^◌, ◌≤◌, ◌<◌, length, Some, IfSome};
+ghost use Rattle.vc_switch.specs.Asking.{links_of};
 ghost use Rattle.vc_switch.specs.Front.{front_of, behind_portal, start_of, HasFront};
 
 use vc_labels::{Action, Table};
@@ -22,6 +23,17 @@ impl Front {
         ensures { result ≡ start_of deletes self.now }
     {
         if deletes { self.at + 2 } else { self.at }
+    }
+
+    /// A bit for each link of the group.
+    pub(crate) fn links(&self) -> u32
+        requires group { self.now.first ≤ self.now.last }
+        requires few { self.now.last < 32 }
+        ensures { result ≡ links_of (Some self.now) }
+    {
+        let past = 1u64 << (self.last + 1);
+        let below = 1u64 << self.first;
+        (past - below) as u32
     }
 }
 

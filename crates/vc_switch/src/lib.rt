@@ -14,6 +14,7 @@
 //! each input has the same limit.
 #![tactic(auto)]
 
+mod asks;
 mod bits;
 mod front;
 mod laws;

@@ -1,5 +1,5 @@
 //! A switch that knows at which of its links there is something to do, so that nobody looks at the others.
-ghost use Rattle.std.specs.Prelude.{◌≡◌, ◌≢◌, ◌<◌, ◌≤◌, ◌↔◌, ◌++◌, ℕ, None, IsTrue, IsOk, IfOk};
+ghost use Rattle.std.specs.Prelude.{◌≡◌, ◌≢◌, ◌<◌, ◌≤◌, ◌↔◌, ◌++◌, ℕ, None, IsTrue, IsOk, IfOk, get_or};
 ghost use Rattle.std.specs.Int.{bit_at};
 ghost use Rattle.std.specs.List.{AllByRecursion};
 ghost use Rattle.vc_labels.specs.Lawful.{IsLawful};
@@ -8,11 +8,14 @@ ghost use Rattle.vc_switch.specs.Waiting.{Wormhole};
 ghost use Rattle.vc_switch.specs.Switch.{new_switch, Comes, Passes, Routes, Sends, SendsFct};
 ghost use Rattle.vc_switch.specs.Able.{CanPass, CanLeave, CanRoute, CanPut, CanGrant};
 ghost use Rattle.vc_switch.specs.Opening.{plan_given, IsRandomInput};
-ghost use Rattle.vc_switch.specs.Ready.{Looks};
+ghost use Rattle.vc_switch.specs.Asking.{links_of};
+ghost use Rattle.vc_switch.specs.Front.{front_of};
+ghost use Rattle.vc_switch.specs.Ready.{Looks, Waits};
 ghost use Rattle.vc_switch.specs.State.{plan_of, limit_of};
 ghost use Rattle.vc_switch.specs.Seen.{seen, IsKept};
 
-use crate::bits::told;
+use crate::asks::Asks;
+use crate::bits::{has_more, told};
 use crate::switch::Switch;
 use crate::switch_plan::SwitchPlan;
 use std::alloc::Global;
@@ -45,22 +48,29 @@ impl Ready {
     }
 }
 
+/// How many links a switch has.
+const LINKS: u8 = 32;
+
 /// A [`Switch`], with masks of the links at which there is something to do. Its calls are those of the switch.
 #[derive(Drop)]
 pub struct ReadySwitch {
     switch: Switch,
     ready: Ready,
+    // what the packets ask for that are bound to no output
+    asks: Asks,
+    // a bit for each input whose packet asks for a free output
+    routes: u32,
 }
 
 impl Model for ReadySwitch {
     ghost use Rattle.vc_switch.specs.State.{State};
-    ghost use Rattle.vc_switch.specs.Ready.{IsReady};
+    ghost use Rattle.vc_switch.specs.Asking.{IsKnown};
 
     ghost Value = { State };
 
     ghost view = { λ x. x.switch };
 
-    ghost invariant = { λ x. IsReady x.switch x.ready };
+    ghost invariant = { λ x. IsKnown x.switch x.ready x.asks x.routes };
 }
 
 impl ReadySwitch {
@@ -82,6 +92,8 @@ impl ReadySwitch {
                 puts: 0,
                 grants: u32::MAX,
             },
+            asks: Asks::new(alloc)?,
+            routes: 0,
         })
     }
 
@@ -104,6 +116,13 @@ impl ReadySwitch {
         ensures { (l output : ℕ) → l < 32 → CanLeave (plan_of self.now) (seen self.now) l output → bit_at result l ≡ 1 }
     {
         self.ready.waits
+    }
+
+    /// A bit for each input whose packet may be bound to an output.
+    pub fn routes(&self) -> u32
+        ensures { (l output : ℕ) → l < 32 → CanRoute (plan_of self.now) (seen self.now) l output → bit_at result l ≡ 1 }
+    {
+        self.routes
     }
 
     /// A bit for each output on which a token may be put; and for others to which a packet is bound.
@@ -129,7 +148,7 @@ impl ReadySwitch {
         ensures ok { IsOk result }
     {
         let taken = self.switch.take(link, came, word);
-        self.ready.look(&self.switch, link);
+        self.ready.passes = told(self.ready.passes, link, self.switch.may_pass(link));
         taken
     }
 
@@ -144,6 +163,9 @@ impl ReadySwitch {
     {
         let passed = self.switch.pass(link);
         self.ready.look(&self.switch, link);
+        let asks = asked(&self.switch, link, self.asks.of(link));
+        self.asks.set(link, asks);
+        self.routes = told(self.routes, link, has_more(asks, self.ready.puts));
         passed
     }
 
@@ -158,6 +180,8 @@ impl ReadySwitch {
         self.switch.route(input, output);
         self.ready.look(&self.switch, input);
         self.ready.puts = told(self.ready.puts, output, true);
+        self.asks.set(input, 0);
+        self.routes = asking(&self.asks, self.ready.waits, self.ready.puts);
     }
 
     /// Puts the next token of the packet that is bound to an output; with its mark the packet leaves its input, and the output is
@@ -178,6 +202,7 @@ impl ReadySwitch {
             Token::Eop | Token::Eom => {
                 self.ready.look(&self.switch, source);
                 self.ready.puts = told(self.ready.puts, output, false);
+                self.routes = asking(&self.asks, self.ready.waits, self.ready.puts);
             }
         }
         token
@@ -193,4 +218,40 @@ impl ReadySwitch {
         self.switch.grant(link);
         self.ready.look(&self.switch, link);
     }
+}
+
+// What an input's packet asks for, where this was known of it before its latest token.
+fn asked(switch: &Switch, link: u8, known: u32) -> u32
+    requires { link < 32 }
+    ensures known { Waits ((seen switch.now).input link) → known ≢ 0 → result ≡ known }
+    ensures told { Waits ((seen switch.now).input link) → known ≡ 0 → result ≡ links_of (front_of switch.now.table ((seen switch.now).input link).got) }
+    ensures others { (Waits ((seen switch.now).input link) → ⊥) → result ≡ 0 }
+{
+    if !switch.waits(link) {
+        0
+    } else if known != 0 {
+        known
+    } else {
+        switch.asks(link)
+    }
+}
+
+// The inputs that wait, but those that ask for busy outputs alone.
+fn asking(asks: &Asks, waits: u32, busy: u32) -> u32
+    ensures { (l output : ℕ) → l < 32 → bit_at waits l ≡ 1 → bit_at (get_or asks.now l 0) output ≡ 1 → bit_at busy output ≡ 0 → bit_at result l ≡ 1 }
+{
+    let mut routes = waits;
+    let mut left = waits;
+    for _ in 0..LINKS {
+        let link = left.trailing_zeros();
+        if link >= u32::from(LINKS) {
+            return routes;
+        }
+        let link = link as u8;
+        if !has_more(asks.of(link), busy) {
+            routes = told(routes, link, false);
+        }
+        left = told(left, link, false);
+    }
+    routes
 }

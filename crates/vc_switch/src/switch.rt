@@ -14,6 +14,8 @@ ghost use Rattle.vc_switch.specs.Forward.{IsDrawn};
 ghost use Rattle.vc_switch.specs.Switch.{new_switch, BodyLeaves, Comes, Passes, Routes, Sends, SendsFct};
 ghost use Rattle.vc_switch.specs.Able.{CanPass, CanRoute, CanPut, CanGrant, CanLeave, IsFree};
 ghost use Rattle.vc_switch.specs.Opening.{plan_given, IsRandomInput};
+ghost use Rattle.vc_switch.specs.Asking.{links_of};
+ghost use Rattle.vc_switch.specs.Front.{front_of};
 ghost use Rattle.vc_switch.specs.Ready.{Waits};
 ghost use Rattle.vc_switch.specs.State.{plan_of, limit_of, IsSwitch};
 ghost use Rattle.vc_switch.specs.Seen.{seen, IsKept, IsBoundTo, IsNext};
@@ -207,6 +209,17 @@ impl Switch {
         match find_front(&self.table, waiting.got.bytes()) {
             Some(front) => Some((front.first, front.last)),
             None => None,
+        }
+    }
+
+    /// A bit for each link of the group that the front header of an input's packet has; none where it has no group yet.
+    pub(crate) fn asks(&self, input: u8) -> u32
+        requires { input < 32 }
+        ensures { result ≡ links_of (front_of self.now.table ((seen self.now).input input).got) }
+    {
+        match find_front(&self.table, self.inputs[usize::from(input)].got.bytes()) {
+            Some(front) => front.links(),
+            None => 0,
         }
     }
 

@@ -1,7 +1,7 @@
 //! Running a network event by event.
 ghost use Rattle.std.specs.Prelude.{◌≡◌, ◌⊎◌, ◌<◌, ◌≤◌, ◌+◌, ℕ, true, false, length, map, slice_get, Some, None, Ok, IfOk, OnOk};
 ghost use Rattle.vc_plan.specs.declared.plan.Plan.{Plan};
-ghost use Rattle.vc_core.specs.State.{state_of, IsNetworkOf, MakesOne};
+ghost use Rattle.vc_core.specs.State.{state_of, IsNetworkOf};
 ghost use Rattle.vc_core.specs.Replaying.{Reached, Replays};
 ghost use Rattle.vc_core.specs.Turns.{Rests, IsAtRest, GoesOn, actors};
 ghost use Rattle.vc_core.specs.Turns.{FindsEvent};
@@ -75,37 +75,60 @@ pub fn write_traffic<W: Write>(
     write_channels(alloc, views.as_slice(), close, writer)
 }
 
-/// Makes the event that takes no token that an actor makes next, if it has one.
-fn turn(network: &mut Network, seats: &mut Seats, actor: u8) -> Result<Option<Event>, Memory>
-    ensures finds { (p : Plan) → IsNetworkOf p (state_of network.old) → IfOk result (FindsEvent p (state_of network.old) actor) }
-    ensures made { (p : Plan) → IsNetworkOf p (state_of network.old) → IfOk result (λ made. MakesOne p (state_of network.old) made (state_of network.new)) }
-    ensures quiet { (p : Plan) → IsNetworkOf p (state_of network.old) → AreQuiet p (state_of network.old) seats.old → IfOk result (λ made. AreQuiet p (state_of network.new) seats.new) }
+/// An actor makes the event, but a take, that it makes next, if it has one, and the event joins those made. The answer is whether it
+/// had one.
+fn turn(
+    network: &mut Network,
+    seats: &mut Seats,
+    events: &mut Items<Event>,
+    actor: u8,
+) -> Result<bool, Memory>
+    requires { actor < 64 }
+    ensures few { OnOk result (length events.new ≤ length events.old + 1) }
+    ensures more { result ≡ Ok true → length events.new ≡ length events.old + 1 }
+    ensures same { result ≡ Ok false → events.new ≡ events.old }
+    ensures reached { (p : Plan) → Reached p events.old (state_of network.old) → OnOk result (Reached p events.new (state_of network.new)) }
+    ensures still { (p : Plan) → Reached p events.old (state_of network.old) → result ≡ Ok false → state_of network.new ≡ state_of network.old }
+    ensures rests { (p : Plan) → Reached p events.old (state_of network.old) → result ≡ Ok false → FindsEvent p (state_of network.old) actor None }
+    ensures quiet { (p : Plan) → Reached p events.old (state_of network.old) → AreQuiet p (state_of network.old) seats.old → IfOk result (λ had. AreQuiet p (state_of network.new) seats.new) }
 {
     let Some(event) = network.turn(actor)? else {
         seats.rest(actor);
-        return Ok(None);
+        return Ok(false);
     };
     seats.wake(actor);
-    Ok(Some(event))
+    events.push(event)?;
+    Ok(true)
 }
 
-/// Makes the event that an actor makes next, if it has one: a take from the least link that has a token, else what it does where
-/// every way has room.
-fn act(network: &mut Network, seats: &mut Seats, actor: u8) -> Result<Option<Event>, Memory>
-    ensures made { (p : Plan) → IsNetworkOf p (state_of network.old) → IfOk result (λ made. MakesOne p (state_of network.old) made (state_of network.new)) }
-    ensures rests { (p : Plan) → IsNetworkOf p (state_of network.old) → actor < actors p → result ≡ Ok None → Rests p (state_of network.old) actor }
-    ensures quiet { (p : Plan) → IsNetworkOf p (state_of network.old) → AreQuiet p (state_of network.old) seats.old → IfOk result (λ made. AreQuiet p (state_of network.new) seats.new) }
+/// An actor makes the event that it makes next, if it has one, and the event joins those made: a take from the least link that has
+/// a token, else what it does where every way has room. The answer is whether it had one.
+fn act(
+    network: &mut Network,
+    seats: &mut Seats,
+    events: &mut Items<Event>,
+    actor: u8,
+) -> Result<bool, Memory>
+    requires { actor < 64 }
+    ensures few { OnOk result (length events.new ≤ length events.old + 1) }
+    ensures more { result ≡ Ok true → length events.new ≡ length events.old + 1 }
+    ensures same { result ≡ Ok false → events.new ≡ events.old }
+    ensures reached { (p : Plan) → Reached p events.old (state_of network.old) → OnOk result (Reached p events.new (state_of network.new)) }
+    ensures still { (p : Plan) → Reached p events.old (state_of network.old) → result ≡ Ok false → state_of network.new ≡ state_of network.old }
+    ensures rests { (p : Plan) → Reached p events.old (state_of network.old) → actor < actors p → result ≡ Ok false → Rests p (state_of network.old) actor }
+    ensures quiet { (p : Plan) → Reached p events.old (state_of network.old) → AreQuiet p (state_of network.old) seats.old → IfOk result (λ had. AreQuiet p (state_of network.new) seats.new) }
 {
     let Some(link) = network.link_to_take(actor) else {
-        return turn(network, seats, actor);
+        return turn(network, seats, events, actor);
     };
     let word = seats.next_word(actor);
     if !network.take(actor, link, word) {
-        return Ok(None);
+        return Ok(false);
     }
     seats.wake(actor);
     let act = Act::Take { link, word };
-    Ok(Some(Event { actor, act }))
+    events.push(Event { actor, act })?;
+    Ok(true)
 }
 
 /// Whether an actor has an event.
@@ -143,30 +166,6 @@ fn resting(network: &Network) -> Close
     }
 }
 
-/// An actor makes the event that it makes next, if it has one, and the event joins those made. The answer is whether it had one.
-fn act_once(
-    network: &mut Network,
-    seats: &mut Seats,
-    events: &mut Items<Event>,
-    actor: u8,
-) -> Result<bool, Memory>
-    ensures few { OnOk result (length events.new ≤ length events.old + 1) }
-    ensures more { result ≡ Ok true → length events.new ≡ length events.old + 1 }
-    ensures same { result ≡ Ok false → events.new ≡ events.old }
-    ensures reached { (p : Plan) → Reached p events.old (state_of network.old) → OnOk result (Reached p events.new (state_of network.new)) }
-    ensures still { (p : Plan) → Reached p events.old (state_of network.old) → result ≡ Ok false → state_of network.new ≡ state_of network.old }
-    ensures rests { (p : Plan) → Reached p events.old (state_of network.old) → actor < actors p → result ≡ Ok false → Rests p (state_of network.old) actor }
-    ensures quiet { (p : Plan) → Reached p events.old (state_of network.old) → AreQuiet p (state_of network.old) seats.old → IfOk result (λ had. AreQuiet p (state_of network.new) seats.new) }
-{
-    match act(network, seats, actor)? {
-        Some(event) => {
-            events.push(event)?;
-            Ok(true)
-        }
-        None => Ok(false),
-    }
-}
-
 /// One round over the actors: each makes at most one event, up to so many events in all. The answer is whether an event was made.
 fn round(
     network: &mut Network,
@@ -190,7 +189,7 @@ fn round(
         let Some(actor) = seats.next_of(network.awake(), from) else {
             return Ok(moved);
         };
-        moved |= act_once(network, seats, events, actor)?;
+        moved |= act(network, seats, events, actor)?;
         from = actor + 1;
     }
     Ok(moved)
@@ -210,6 +209,9 @@ fn run_rounds(
 {
     for _ in 0..limit {
         if !round(network, seats, events, limit)? {
+            return Ok(());
+        }
+        if events.len() as u64 >= limit {
             return Ok(());
         }
     }

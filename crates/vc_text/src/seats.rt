@@ -39,22 +39,20 @@ impl Seats {
 
     /// From now on an actor is known to have no event but takes.
     pub(crate) fn rest(&mut self, actor: u8)
-        ensures it { actor < 64 → active_at self.new actor ≡ 0 }
+        requires { actor < 64 }
+        ensures it { active_at self.new actor ≡ 0 }
         ensures others { (k : ℕ) → k < 64 → k ≢ actor → active_at self.new k ≡ active_at self.old k }
     {
-        if actor < 64 {
-            self.active &= !(1u64 << actor);
-        }
+        self.active &= !(1u64 << actor);
     }
 
     /// An actor is known so no more.
     pub(crate) fn wake(&mut self, actor: u8)
-        ensures it { actor < 64 → active_at self.new actor ≡ 1 }
+        requires { actor < 64 }
+        ensures it { active_at self.new actor ≡ 1 }
         ensures others { (k : ℕ) → k ≢ actor → active_at self.new k ≡ active_at self.old k }
     {
-        if actor < 64 {
-            self.active |= 1u64 << actor;
-        }
+        self.active |= 1u64 << actor;
     }
 
     /// The next word of an actor.

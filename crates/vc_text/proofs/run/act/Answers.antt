@@ -1,32 +1,40 @@
-use Rattle.std.proofs.Common.{IfOk, refl, subst, sym}
+use Rattle.std.proofs.Common.{refl, subst, sym}
+use Rattle.vc_core.specs.Replaying.{Reached}
 use Rattle.vc_core.specs.State.{state_of}
-use Rattle.vc_core.specs.Turns.{FindsEvent, FindsTake}
+use Rattle.vc_core.specs.Turns.{FindsTake}
 use Rattle.vc_core.specs.declared.act.Act.TheVariants.{Take}
+use Rattle.vc_core.proofs.Replayed.{reached_next}
 use Rattle.vc_core.proofs.Turning.{clash}
 use Rattle.vc_text.specs.Quiet.{AreQuiet}
 use Rattle.vc_text.proofs.Quieting.{one_acts, same_quiet}
 use Rattle.vc_text.proofs.run.act.Goals as goal
 
 pub returns-in_default-clause-rests : goal.returns-in_default-clause-rests
-returns-in_default-clause-rests c = λ p is less none.
-    let s = state_of c.args.network.now in
+returns-in_default-clause-rests c = λ p r less none.
     record {
-      takes = subst (FindsTake p s c.args.actor) c.in_default.is (c.link_to_take.ensures.takes p is);
-      acts = subst (λ r. IfOk r (FindsEvent p s c.args.actor)) none (c.turn.ensures.finds p is);
+      takes = subst (FindsTake p (state_of c.args.network.now) c.args.actor) c.in_default.is (c.link_to_take.ensures.takes p r.is);
+      acts = c.turn.ensures.rests p r none;
     }
 
 pub returns-then-not-take-clause-rests : goal.returns-then-not-take-clause-rests
-returns-then-not-take-clause-rests c = λ p is less none.
-    let can = subst (FindsTake p (state_of c.args.network.now) c.args.actor) c.in-Some.is (c.link_to_take.ensures.takes p is) in
-    absurd (clash c.take.result c.if-not-take.true ((c.take.ensures.can p is).1 (can less c.next_word-word.result)))
+returns-then-not-take-clause-rests c = λ p r less none.
+    let can = subst (FindsTake p (state_of c.args.network.now) c.args.actor) c.in-Some.is (c.link_to_take.ensures.takes p r.is) in
+    absurd (clash c.take.result c.if-not-take.true ((c.take.ensures.can p r.is).1 (can less c.next_word-word.result)))
 
 pub returns-then-not-take-clause-quiet : goal.returns-then-not-take-clause-quiet
-returns-then-not-take-clause-quiet c = λ p is quiet.
+returns-then-not-take-clause-quiet c = λ p r quiet.
     subst (λ z. AreQuiet p z c.next_word-word.new.self) (sym (c.take.ensures.refused c.if-not-take.true))
     (same_quiet p (state_of c.args.network.now) c.args.seats.now c.next_word-word.new.self c.next_word-word.ensures quiet)
 
+pub returns-clause-reached : goal.returns-clause-reached
+returns-clause-reached c = λ p r.
+    let s = state_of c.args.network.now in
+    let t = state_of c.take.new.self in
+    subst (λ es. Reached p es t) (sym c.in_ok-push.ensures.ok)
+    (reached_next p c.args.events.now (record { actor = c.args.actor; act = Take c.in-Some.link c.next_word-word.result }) s t r (c.take.ensures.makes p r.is c.if-not-take.false))
+
 pub returns-clause-quiet : goal.returns-clause-quiet
-returns-clause-quiet c = λ p is quiet.
+returns-clause-quiet c = λ p r quiet.
     let s = state_of c.args.network.now in
     one_acts p s (state_of c.take.new.self) (record { actor = c.args.actor; act = Take c.in-Some.link c.next_word-word.result }) c.next_word-word.new.self c.wake.new.self c.args.actor refl
-    (c.take.ensures.makes p is c.if-not-take.false) c.wake.ensures.others c.wake.ensures.it (same_quiet p s c.args.seats.now c.next_word-word.new.self c.next_word-word.ensures quiet)
+    (c.take.ensures.makes p r.is c.if-not-take.false) c.wake.ensures.others (λ low. c.wake.ensures.it) (same_quiet p s c.args.seats.now c.next_word-word.new.self c.next_word-word.ensures quiet)

@@ -15,14 +15,14 @@ loop-preserved c =
     let under = c.if-len-limit.false in
     let most = n.few in
     let next = c.in-Some.ensures in
-    let grows = longer had c.loop.events c.act_once.new.events (λ e. n.more (ap Ok e)) (λ e. n.same (ap Ok e)) in
+    let grows = longer had c.loop.events c.act.new.events (λ e. n.more (ap Ok e)) (λ e. n.same (ap Ok e)) in
     record {
       few = omega arith;
       low = (let a = next.1 in omega arith);
       far = (let a = next.0 in let b = inv.far in omega arith);
       reached = λ p r. n.reached p (inv.reached p r);
       some = (let s = inv.some in omega arith);
-      more = grown c.loop.moved had (length c.args.events.now) (length c.loop.events) (length c.act_once.new.events) inv.some inv.more grows (λ e. n.more (ap Ok e));
+      more = grown c.loop.moved had (length c.args.events.now) (length c.loop.events) (length c.act.new.events) inv.some inv.more grows (λ e. n.more (ap Ok e));
       same = λ p r q e. (let b = neither c.loop.moved had e in n.still p (inv.reached p r) (ap Ok b.1) ∙ inv.same p r q b.0);
       quiet = λ p r q. n.quiet p (inv.reached p r) (inv.quiet p r q);
       rests = λ p r q e k less node. (let b = neither c.loop.moved had e in

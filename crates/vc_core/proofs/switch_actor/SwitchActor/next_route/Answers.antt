@@ -1,11 +1,10 @@
 use Rattle.std.proofs.Common.{◌<◌, ℕ, sym, subst, arith}
-use Rattle.vc_switch.specs.Seen.{seen}
-use Rattle.vc_switch.specs.State.{IsSwitch, plan_of}
+use Rattle.vc_switch.specs.State.{IsSwitch}
 use Rattle.vc_core.specs.Able.{SwitchCan}
 use Rattle.vc_core.specs.Turns.{FindsRoute}
 use Rattle.vc_core.specs.declared.act.Act.TheVariants.{Route}
 use Rattle.vc_core.proofs.Masks.{not_both, gone_more, left_more}
-use Rattle.vc_core.proofs.Switching.{within, route_leaves}
+use Rattle.vc_core.proofs.Switching.{within}
 use Rattle.vc_core.proofs.switch_actor.SwitchActor.next_route.Goals as goal
 
 pub loop-init : goal.loop-init
@@ -14,7 +13,7 @@ loop-init c =
     let holds = subst IsSwitch c.switch.ensures c.links-links.ensures.holds in
     record {
       gone = λ j less. absurd (omega arith);
-      tried = λ j o can. c.waits-left.ensures j o (within s holds (Route j o) can).0 (route_leaves (plan_of s) (seen s) j o can);
+      tried = λ j o can. c.routes-left.ensures j o (within s holds (Route j o) can).0 can;
     }
 
 pub returns-in_err-input-clause-finds : goal.returns-in_err-input-clause-finds

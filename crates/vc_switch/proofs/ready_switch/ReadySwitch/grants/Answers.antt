@@ -5,4 +5,4 @@ use Rattle.vc_switch.specs.Seen.{seen}
 use Rattle.vc_switch.proofs.ready_switch.ReadySwitch.grants.Goals as goal
 
 pub returns : goal.returns
-returns c = subst (λ s. (l : ℕ) → l < 32 → (bit_at c.self.inside.ready.grants l ≡ 1) ↔ CanGrant (seen s) l) c.self.view_is c.self.invariant.grants
+returns c = subst (λ s. (l : ℕ) → l < 32 → (bit_at c.self.inside.ready.grants l ≡ 1) ↔ CanGrant (seen s) l) c.self.view_is c.self.invariant.masks.grants

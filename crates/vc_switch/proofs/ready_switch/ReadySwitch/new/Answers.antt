@@ -1,6 +1,11 @@
 use Rattle.std.proofs.Common.{refl}
+use Rattle.vc_switch.proofs.Asking.{asked_first, routed_first}
 use Rattle.vc_switch.proofs.Readying.{ready_first}
 use Rattle.vc_switch.proofs.ready_switch.ReadySwitch.new.Goals as goal
 
 pub invariant_of-result : goal.invariant_of-result
-invariant_of-result c = ready_first c.in_ok-new.field-0 _ c.in_ok-new.ensures.seen refl refl refl refl
+invariant_of-result c = record {
+  masks = ready_first c.in_ok-new.field-0 _ c.in_ok-new.ensures.seen refl refl refl refl;
+  asked = asked_first c.in_ok-new.field-0 _ c.in_ok-new.ensures.seen c.in_ok-new-2.ensures;
+  routed = routed_first c.in_ok-new.field-0 0 c.in_ok-new.ensures.seen;
+}

@@ -10,4 +10,4 @@ pub returns : goal.returns
 returns c =
     let x = c.self.inside in
     subst (λ s. (l : ℕ) → l < 32 → CanPut (plan_of s) (seen s) l → bit_at x.ready.puts l ≡ 1) c.self.view_is
-    (λ l less can. (c.self.invariant.puts l less).1 (putting_bound (plan_of x.switch) (seen x.switch) l can))
+    (λ l less can. (c.self.invariant.masks.puts l less).1 (putting_bound (plan_of x.switch) (seen x.switch) l can))

@@ -1,6 +1,15 @@
+use Rattle.vc_switch.proofs.Asking.{asked_routed, routed_all}
 use Rattle.vc_switch.proofs.Readying.{ready_routed}
 use Rattle.vc_switch.proofs.ready_switch.ReadySwitch.route.Goals as goal
 
 pub invariant_of-self : goal.invariant_of-self
 invariant_of-self c =
-    ready_routed c.self.inside.switch c.route.new.self c.args.input c.args.output c.told-self-inside.result c.self.inside.ready c.look.new.self c.route.ensures.kept c.route.ensures.routes c.self.invariant c.look.ensures c.told-self-inside.ensures
+    let s = c.self.inside.switch in
+    let t = c.route.new.self in
+    let masks = ready_routed s t c.args.input c.args.output c.told-self-inside.result c.self.inside.ready c.look.new.self c.route.ensures.kept c.route.ensures.routes c.self.invariant.masks c.look.ensures c.told-self-inside.ensures in
+    let now = asked_routed s t c.args.input c.args.output c.self.inside.asks c.set.new.self c.route.ensures.kept c.route.ensures.routes c.self.invariant.asked c.set.ensures.it c.set.ensures.others in
+    record {
+      masks = masks;
+      asked = now;
+      routed = routed_all t _ c.set.new.self c.asking-self-inside.result masks now c.told-self-inside.type_inv c.asking-self-inside.ensures;
+    }

@@ -10,4 +10,4 @@ pub returns : goal.returns
 returns c =
     let x = c.self.inside in
     subst (λ s. (l o : ℕ) → l < 32 → CanLeave (plan_of s) (seen s) l o → bit_at x.ready.waits l ≡ 1) c.self.view_is
-    (λ l o less can. (c.self.invariant.waits l less).1 (leaving_waits (plan_of x.switch) (seen x.switch) l o can))
+    (λ l o less can. (c.self.invariant.masks.waits l less).1 (leaving_waits (plan_of x.switch) (seen x.switch) l o can))
