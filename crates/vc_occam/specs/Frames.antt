@@ -11,14 +11,17 @@ use Rattle.vc_occam.specs.declared.frame.Frame.TheOpen.{Frame-F}
 use Rattle.vc_occam.specs.declared.frame.Frame.TheFolds.{fold-Frame}
 use Rattle.vc_occam.specs.declared.moves.Move.{Move}
 use Rattle.vc_occam.specs.declared.moves.Move.TheVariants as move
+use Rattle.vc_occam.specs.declared.begins.Begins.{Begins}
+use Rattle.vc_occam.specs.declared.begins.Begins.TheVariants as begins
 use Rattle.vc_occam.specs.declared.datum.Datum.{Datum}
+use Rattle.vc_occam.specs.declared.datum.Datum.TheVariants as datum
 use Rattle.vc_occam.specs.declared.deed.Deed.{Deed}
 use Rattle.vc_occam.specs.declared.waits.Waits.{Waits}
 use Rattle.vc_occam.specs.declared.waits.Waits.TheVariants as waits
-use Rattle.vc_occam.specs.Values.{Store, datum_of, holds}
+use Rattle.vc_occam.specs.Values.{Store, holds, text_of}
 use Rattle.vc_occam.specs.Traces.{Comm}
 use Rattle.vc_occam.specs.Usage.{changes}
-use Rattle.vc_occam.specs.Syntax.{Exp, Test, Constant, Proc, SKIP, STOP, Assign, Output, Input, StopChan, SEQ, PAR, IF, WHILE, COUNT, ALT, Procs, no_parts, part, Branches, no_branches, branch, Guards, no_guards, guard}
+use Rattle.vc_occam.specs.Syntax.{Given, Whole, Bytes, Exp, Test, Constant, Proc, SKIP, STOP, Assign, Output, Input, StopChan, SEQ, PAR, IF, WHILE, COUNT, ALT, Procs, no_parts, part, Branches, no_branches, branch, Guards, no_guards, guard}
 use Rattle.vc_occam.specs.Terms.{exp, given, as_test}
 use Rattle.vc_occam.specs.Remains.{Rest, Done, Stopped, Fresh, Finishing, Getting, Then, Turns, Beside, and_then, then_on, beside_on, begin, Step}
 use Rattle.vc_occam.specs.Sites.{InPreorder, site}
@@ -201,9 +204,14 @@ abbrev pub part_done : Option View → Bool
 part_done None = false
 part_done (Some v) = is_done v.1
 
--- the value that the assignment at a site is about to assign
+-- what is assigned, where that is bytes
+abbrev pub assigned_bytes : Given → Store → Option Datum
+assigned_bytes (Whole a) e = None
+assigned_bytes (Bytes a) e = Some (datum.Bytes (text_of a e))
+
+-- the bytes that the assignment at a site is about to assign
 abbrev pub assigned_at : ℕ → Rest → Store → Option Datum
-assigned_at i (Fresh (Assign j v a)) e = if i == j then datum_of a e else None
+assigned_at i (Fresh (Assign j v a)) e = if i == j then assigned_bytes a e else None
 assigned_at i (Then r ps) e = assigned_at i r e
 assigned_at i (Turns r v b n p) e = assigned_at i r e
 assigned_at i (Beside mine r q) e = or_else (assigned_at i r e) (assigned_at i q e)
@@ -229,6 +237,12 @@ part_output i (Some v) e = output_at i v.1 e
 abbrev pub part_assigned : ℕ → Option View → Store → Option Datum
 part_assigned i None e = None
 part_assigned i (Some v) e = assigned_at i v.1 e
+
+-- it begins with this, whatever the variables hold
+abbrev pub BeginsWith : Begins → Rest → Type 0
+BeginsWith begins.Nothing r = (e : Store) → own r e ≡ []
+BeginsWith (begins.Quiet i) r = (e : Store) → (own r e ≡ move.Quiet i ∷ []) × ((j : ℕ) → assigned_at j r e ≡ None)
+BeginsWith begins.Other r = Unit {0}
 
 abbrev pub listed : Option Move → List Move
 listed None = []

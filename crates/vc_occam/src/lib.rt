@@ -29,6 +29,7 @@
 
 mod answer;
 mod asked;
+mod begins;
 mod bytes_expression;
 mod channel_use;
 mod condition;

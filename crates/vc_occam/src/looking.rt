@@ -4,19 +4,21 @@ ghost use Rattle.std.specs.List.{Contains};
 ghost use Rattle.vc_occam.specs.declared.frame.Frame.TheViews.{out-Frame};
 ghost use Rattle.vc_occam.specs.First.{own};
 ghost use Rattle.vc_occam.specs.Gates.{gate};
-ghost use Rattle.vc_occam.specs.Frames.{BeginsAt, HasSiteIn, MovesAt, View, assigned_at, awaiting, besides, chosen_at, first_waits, is_choice, listed, part_own, part_waits, place_with, plan_at, plans_of, view, views, waits_at};
+ghost use Rattle.vc_occam.specs.Frames.{BeginsAt, BeginsWith, HasSiteIn, MovesAt, View, assigned_at, awaiting, besides, chosen_at, first_waits, is_choice, listed, part_own, part_rest, part_waits, place_with, plan_at, plans_of, view, views, waits_at};
 ghost use Rattle.vc_occam.specs.Remains.{Fresh};
 ghost use Rattle.vc_occam.specs.Sites.{InPreorder, PartsInPreorder};
 ghost use Rattle.vc_occam.specs.States.{Waiting, carried, output_at, waiting};
 ghost use Rattle.vc_occam.specs.Terms.{store};
 ghost use Rattle.vc_occam.specs.Values.{Store};
 
+use crate::begins::Begins;
 use crate::datum::Datum;
 use crate::frame::Frame;
 use crate::guarded::GuardedInput;
 use crate::kind::Kind;
 use crate::moves::{Move, site_of};
 use crate::phase::Phase;
+use crate::value::Value;
 use crate::waits::Waits;
 use sqlite_items::Items;
 use std::alloc::Global;
@@ -54,29 +56,39 @@ impl Frame {
         }
     }
 
-    /// Whether it begins with nothing, since it waits, has ended or never goes on. Where this is false it may begin.
-    #[cycle(rests)]
-    fn rests(&self) -> bool
-        ensures { IsTrue result → (e : Store) → own (view self.now).1 e ≡ [] }
+    /// What it begins with, whatever the variables hold.
+    #[cycle(begins)]
+    pub(crate) fn begins(&self) -> Begins
+        ensures { BeginsWith result (view self.now).1 }
     {
         match self.phase {
-            Phase::Ready => false,
+            Phase::Ready => ready_step(self.site, &self.kind, &self.parts),
             Phase::Waiting => {
                 if self.kind.has_parts() {
-                    return part_rests(&self.parts, self.kind.place(self.at));
+                    return part_begins(&self.parts, self.kind.place(self.at));
                 }
-                true
+                Begins::Nothing
             }
             Phase::Turning { .. } => {
                 if self.kind.is_counted() {
-                    return part_rests(&self.parts, 0);
+                    return part_begins(&self.parts, 0);
                 }
-                true
+                Begins::Nothing
             }
-            Phase::Together => false,
-            Phase::Chosen => true,
-            Phase::Ended => true,
-            Phase::Stuck => true,
+            Phase::Together => Begins::Other,
+            Phase::Chosen => Begins::Nothing,
+            Phase::Ended => Begins::Nothing,
+            Phase::Stuck => Begins::Nothing,
+        }
+    }
+
+    /// Whether it begins with nothing, whatever the variables hold. Where this is false it may begin.
+    fn rests(&self) -> bool
+        ensures { IsTrue result → (e : Store) → own (view self.now).1 e ≡ [] }
+    {
+        match self.begins() {
+            Begins::Nothing => true,
+            _ => false,
         }
     }
 
@@ -193,7 +205,7 @@ impl Frame {
         }
     }
 
-    /// The value that the assignment at a site is about to assign; None where it is a fault, or none begins there.
+    /// The bytes that the assignment at a site is about to assign; None where it assigns a number, or none begins there.
     pub(crate) fn assigned(
         &self,
         alloc: Global,
@@ -293,14 +305,14 @@ fn push_parts(found: &mut Items<Move>, parts: &Vec<Frame>, vars: &[Datum]) -> Re
     Ok(())
 }
 
-#[cycle(rests)]
-fn part_rests(parts: &Vec<Frame>, at: usize) -> bool
-    ensures { IsTrue result → (e : Store) → part_own (slice_get (views parts.now.items) at) e ≡ [] }
+#[cycle(begins)]
+fn part_begins(parts: &Vec<Frame>, at: usize) -> Begins
+    ensures { BeginsWith result (part_rest (slice_get (views parts.now.items) at)) }
 {
     if at < parts.len() {
-        return parts[at].rests();
+        return parts[at].begins();
     }
-    true
+    Begins::Nothing
 }
 
 #[cycle(waits)]
@@ -399,6 +411,24 @@ fn ready_move(site: u16, kind: &Kind, parts: &Vec<Frame>, vars: &[Datum]) -> Opt
     }
 }
 
+/// What a process that hasn't begun begins with, whatever the variables hold.
+fn ready_step(site: u16, kind: &Kind, parts: &Vec<Frame>) -> Begins
+    ensures { BeginsWith result (Fresh (plan_at kind.now site (views parts.now.items))) }
+{
+    match kind {
+        Kind::Skip => Begins::Quiet { site },
+        Kind::Stop => Begins::Nothing,
+        Kind::Set { value, .. } => match value {
+            Value::Int(_) => Begins::Quiet { site },
+            Value::Bytes(_) => Begins::Other,
+        },
+        Kind::If { .. } => Begins::Quiet { site },
+        Kind::While { .. } if !parts.is_empty() => Begins::Quiet { site },
+        Kind::Count { .. } if !parts.is_empty() => Begins::Quiet { site },
+        _ => Begins::Other,
+    }
+}
+
 /// The message of an output that hasn't begun.
 fn ready_message(
     alloc: Global,
@@ -422,7 +452,7 @@ fn ready_message(
     }
 }
 
-/// The value of an assignment that hasn't begun.
+/// The bytes of an assignment that hasn't begun.
 fn ready_assigned(
     alloc: Global,
     own: u16,
@@ -437,7 +467,7 @@ fn ready_assigned(
         return Ok(None);
     }
     match kind {
-        Kind::Set { value, .. } => value.datum(alloc, vars),
+        Kind::Set { value, .. } => value.assigned_bytes(alloc, vars),
         _ => Ok(None),
     }
 }

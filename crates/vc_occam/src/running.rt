@@ -1,15 +1,16 @@
 //! Running processes.
 ghost use Rattle.std.specs.Prelude.{◌≡◌, length};
-ghost use Rattle.vc_occam.specs.Frames.{HasVariables, view};
+ghost use Rattle.vc_occam.specs.Frames.{BeginsWith, HasVariables, view};
 ghost use Rattle.vc_occam.specs.InUse.{UsesLawfully};
 ghost use Rattle.vc_occam.specs.First.{own};
 ghost use Rattle.vc_occam.specs.Moving.{CanBegin, HasMet, at, deed_for as deed_of, deed_on as going_on, site_of as its_site};
-ghost use Rattle.vc_occam.specs.OneProof.{InPreorder-prop, OwnSites-prop, UsesLawfully-prop};
+ghost use Rattle.vc_occam.specs.OneProof.{BeginsWith-prop, InPreorder-prop, OwnSites-prop, UsesLawfully-prop};
 ghost use Rattle.vc_occam.specs.Sites.{InPreorder, OwnSites};
 ghost use Rattle.vc_occam.specs.States.{came, carried, output_at};
 ghost use Rattle.vc_occam.specs.Terms.{store};
 
 use crate::answer::Answer;
+use crate::begins::Begins;
 use crate::datum::Datum;
 use crate::deed::Deed;
 use crate::frame::Frame;
@@ -34,10 +35,12 @@ pub struct Running {
     vars: Vec<Datum>,
     inside: Items<u16>,
     hints: Hints,
+    begins: Begins,
     ghost has_variables: { HasVariables (view frame).0 (length vars.items) },
     ghost in_preorder: { InPreorder (view frame).0 } by { InPreorder-prop (view frame).0 },
     ghost own_sites: { OwnSites (view frame).1 } by { OwnSites-prop (view frame).1 },
     ghost uses_lawfully: { UsesLawfully (view frame).1 } by { UsesLawfully-prop (view frame).1 },
+    ghost begins_so: { BeginsWith begins (view frame).1 } by { BeginsWith-prop begins (view frame).1 },
 }
 
 /// What the move's site does, where the channel gave this answer.
@@ -145,12 +148,14 @@ impl Running {
         let vars = empty_variables(alloc, kinds)?;
         let inside = Items::from_slice(alloc, inside)?;
         let frame = begin_frame(alloc, process)?;
+        let begins = frame.begins();
         Ok(Running {
             alloc,
             frame,
             vars,
             inside,
             hints: Hints::new(),
+            begins,
         })
     }
 
@@ -178,9 +183,26 @@ impl Running {
         listed
     }
 
-    /// Puts the moves that it can begin with in an empty list; where no channel is inside the node they are its sites' own.
+    /// Puts the moves that it can begin with in an empty list.
     #[tactic(auto, unfolding(crate::specs::Runnings::state, crate::specs::Runnings::inner_channels))]
     fn push_actions(&self, found: &mut Items<Move>) -> Result<(), Memory>
+        requires { found.old ≡ [] }
+        ensures { OnOk result (found.new ≡ moves self.now) }
+    {
+        match self.begins {
+            Begins::Nothing => Ok(()),
+            Begins::Quiet { site } => {
+                found.push(Move::Quiet { site })?;
+                Ok(())
+            }
+            Begins::Other => self.push_joined(found),
+        }
+    }
+
+    /// Looks for the moves that it can begin with, and puts them in an empty list; where no channel is inside the node they are its
+    /// sites' own.
+    #[tactic(auto, unfolding(crate::specs::Runnings::state, crate::specs::Runnings::inner_channels))]
+    fn push_joined(&self, found: &mut Items<Move>) -> Result<(), Memory>
         requires { found.old ≡ [] }
         ensures { OnOk result (found.new ≡ moves self.now) }
     {
@@ -260,6 +282,7 @@ impl Running {
                 &taken,
                 answer,
             );
+            self.begins = self.frame.begins();
             return Ok(());
         }
         self.act_alone(made, answer)
@@ -281,17 +304,21 @@ impl Running {
             assigned,
         };
         self.frame.go(&mut doing, &mut self.vars);
+        self.begins = self.frame.begins();
         self.hints.note(made);
         Ok(())
     }
 
-    /// The value that the move assigns; None where it assigns none, or its value is a fault.
+    /// The bytes that the move assigns; None where it assigns none.
     fn assigned_by(&self, made: &Move) -> Result<Option<Datum>, Memory>
         ensures value { IfOk result (λ value. (answer : Answer) → deed_of made.now answer ≡ Quiet → value ≡ assigned_at (its_site made.now) (view self.now.frame).1 (store self.now.vars.items)) }
         ensures quiet { OnErr result (IsQuiet made.now) }
     {
         match made {
-            Move::Quiet { site } => self.frame.assigned(self.alloc, *site, &self.vars),
+            Move::Quiet { site } => match self.begins {
+                Begins::Quiet { .. } => Ok(None),
+                _ => self.frame.assigned(self.alloc, *site, &self.vars),
+            },
             _ => Ok(None),
         }
     }
@@ -309,6 +336,7 @@ impl Running {
             assigned: None,
         };
         self.frame.go(&mut doing, &mut self.vars);
+        self.begins = self.frame.begins();
     }
 
     /// A site that waits for this, if one does; it is looked for first at the hint.
