@@ -120,6 +120,16 @@ impl Node {
         None
     }
 
+    /// The process's only move, where that is known to be a step without a communication.
+    #[inline(always)]
+    pub(crate) fn only_step(&self) -> Option<Act>
+        ensures may { IfSome result (λ a. NodeMay self.now a) }
+        ensures finds { (plan : Plan) (k : ℕ) → IsNodeOf plan k self.now → IfSome result (λ a. FindsMove plan k self.now (Some a)) }
+    {
+        let site = self.process.only_step()?;
+        Some(Act::Proc(Move::Quiet { site }))
+    }
+
     /// The next of the process's moves that can be made, going round from this site on.
     pub(crate) fn next_move(&self, moves: &[Move], site: u16) -> Option<Act>
         requires { moves.now ≡ moves_of self.now.process }

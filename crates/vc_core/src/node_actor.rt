@@ -156,6 +156,9 @@ impl NodeActor {
         ensures may { IfOk result (λ act. IfSome act (λ a. NodeMay self.old a)) }
         ensures finds { (plan : Plan) (k : ℕ) → IsNodeOf plan k self.old → IfOk result (FindsMove plan k self.old) }
     {
+        if let Some(act) = self.node.only_step() {
+            return Ok(Some(act));
+        }
         if !self.is_listed {
             self.node.process.list_actions(&mut self.moves)?;
             self.is_listed = true;

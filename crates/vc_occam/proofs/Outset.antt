@@ -1,6 +1,6 @@
 -- What a frame begins with, whatever the variables hold.
-use Rattle.std.proofs.Common.{◌≡◌, ◌∙◌, ℕ, ℤ, true, refl, sym, ap, List, [], ◌∷◌, Option, None, Some, length}
-use Rattle.std.specs.Prelude.{slice_get}
+use Rattle.std.proofs.Common.{◌≡◌, ◌∙◌, ℕ, ℤ, true, refl, sym, ap, subst, List, [], ◌∷◌, Option, None, Some, length}
+use Rattle.std.specs.Prelude.{◌<◌, IfSome, MatchOption, slice_get}
 use Rattle.vc_occam.specs.declared.begins.Begins.{Begins}
 use Rattle.vc_occam.specs.declared.begins.Begins.TheVariants as begins
 use Rattle.vc_occam.specs.declared.frame.Frame.{Frame}
@@ -8,7 +8,7 @@ use Rattle.vc_occam.specs.declared.frame.Frame.TheViews.{out-Frame}
 use Rattle.vc_occam.specs.declared.moves.Move.{Move}
 use Rattle.vc_occam.specs.declared.moves.Move.TheVariants.{Quiet}
 use Rattle.vc_occam.specs.declared.phase.Phase.TheVariants as phase
-use Rattle.vc_occam.specs.Frames.{BeginsWith, View, assigned_at, behind, count_of, has_parts, is_counted, part_assigned, part_own, part_rest, place_of, view, views, while_of}
+use Rattle.vc_occam.specs.Frames.{BeginsAs, BeginsWith, View, assigned_at, behind, count_of, has_parts, is_counted, part_assigned, part_own, part_rest, place_of, view, views, while_of}
 use Rattle.vc_occam.specs.First.{own}
 use Rattle.vc_occam.specs.Remains.{Rest, Fresh}
 use Rattle.vc_occam.specs.Syntax.{Exp, Test}
@@ -49,6 +49,17 @@ pub as_turn : (b : Begins) (f : Frame) (x y : ℤ) → (out-Frame f).phase ≡ p
 as_turn b f x y h k w =
     let v = slice_get (views (out-Frame f).parts.items) 0 in
     alike b (view f).1 (part_rest v) (λ e. turning_own f x y e h k ∙ own_part v e) (λ j e. turning_assigned j f x y e h k ∙ assigned_part j v e) w
+
+-- the part that goes on is there, where its place is known
+pub goes_as_part : (f : Frame) (k : ℕ) (p : Option ℕ) → (out-Frame f).phase ≡ phase.Waiting → has_parts (out-Frame f).kind ≡ true → k ≡ place_of (out-Frame f).kind (out-Frame f).at → MatchOption p (slice_get (views (out-Frame f).parts.items) k ≡ None) (λ n. (n ≡ k) × (n < length (views (out-Frame f).parts.items))) → IfSome p (λ n. BeginsAs n (views (out-Frame f).parts.items) (view f).1)
+goes_as_part f k None h q g m = tt
+goes_as_part f k (Some n) h q g m = (m.1, λ b w. as_part b f h q n (m.0 ∙ g) w)
+
+pub goes_as_turn : (f : Frame) (x y : ℤ) (p : Option ℕ) → (out-Frame f).phase ≡ phase.Turning x y → is_counted (out-Frame f).kind ≡ true → MatchOption p (slice_get (views (out-Frame f).parts.items) 0 ≡ None) (λ n. (n ≡ 0) × (n < length (views (out-Frame f).parts.items))) → IfSome p (λ n. BeginsAs n (views (out-Frame f).parts.items) (view f).1)
+goes_as_turn f x y None h q m = tt
+goes_as_turn f x y (Some n) h q m =
+    let vs = views (out-Frame f).parts.items in
+    (m.1, λ b w. as_turn b f x y h q (subst (λ (i : ℕ). BeginsWith b (part_rest (slice_get vs i))) m.0 w))
 
 while_assigned : (j i : ℕ) (b : Test) (vs : List View) (e : Store) → assigned_at j (Fresh (while_of i b vs)) e ≡ None
 while_assigned j i b [] e = refl

@@ -244,6 +244,10 @@ BeginsWith begins.Nothing r = (e : Store) → own r e ≡ []
 BeginsWith (begins.Quiet i) r = (e : Store) → (own r e ≡ move.Quiet i ∷ []) × ((j : ℕ) → assigned_at j r e ≡ None)
 BeginsWith begins.Other r = Unit {0}
 
+-- the k-th part is there, and it begins with what this part begins with
+abbrev pub BeginsAs : ℕ → List View → Rest → Type 0
+BeginsAs k vs r = (k < length vs) × ((b : Begins) → BeginsWith b (part_rest (slice_get vs k)) → BeginsWith b r)
+
 abbrev pub listed : Option Move → List Move
 listed None = []
 listed (Some m) = m ∷ []

@@ -1,10 +1,11 @@
 //! What frames may begin with, wait for, output and assign.
-ghost use Rattle.std.specs.Prelude.{◌≡◌, ◌<◌, ◌↔◌, ◌++◌, ◌∷◌, [], IfOk, IsTrue, List, MatchOption, None, OnOk, Option, false, length, map, slice_get};
+ghost use Rattle.std.specs.Prelude.{◌≡◌, ◌<◌, ◌↔◌, ◌++◌, ◌∷◌, [], IfOk, IfSome, IsTrue, List, MatchOption, None, OnOk, Option, false, length, map, slice_get};
 ghost use Rattle.std.specs.List.{Contains};
+ghost use Rattle.vc_occam.specs.declared.begins.Begins.{Begins};
 ghost use Rattle.vc_occam.specs.declared.frame.Frame.TheViews.{out-Frame};
 ghost use Rattle.vc_occam.specs.First.{own};
 ghost use Rattle.vc_occam.specs.Gates.{gate};
-ghost use Rattle.vc_occam.specs.Frames.{BeginsAt, BeginsWith, HasSiteIn, MovesAt, View, assigned_at, awaiting, besides, chosen_at, first_waits, is_choice, listed, part_own, part_rest, part_waits, place_with, plan_at, plans_of, view, views, waits_at};
+ghost use Rattle.vc_occam.specs.Frames.{BeginsAs, BeginsAt, BeginsWith, HasSiteIn, MovesAt, View, assigned_at, awaiting, besides, chosen_at, first_waits, is_choice, listed, part_own, part_waits, place_with, plan_at, plans_of, view, views, waits_at};
 ghost use Rattle.vc_occam.specs.Remains.{Fresh};
 ghost use Rattle.vc_occam.specs.Sites.{InPreorder, PartsInPreorder};
 ghost use Rattle.vc_occam.specs.States.{Waiting, carried, output_at, waiting};
@@ -57,28 +58,67 @@ impl Frame {
     }
 
     /// What it begins with, whatever the variables hold.
-    #[cycle(begins)]
+    #[inline(always)]
     pub(crate) fn begins(&self) -> Begins
+        ensures { BeginsWith result (view self.now).1 }
+    {
+        self.innermost().begins_itself()
+    }
+
+    /// What the frame's own site begins with, where none of its parts goes on alone.
+    #[inline(always)]
+    fn begins_itself(&self) -> Begins
         ensures { BeginsWith result (view self.now).1 }
     {
         match self.phase {
             Phase::Ready => ready_step(self.site, &self.kind, &self.parts),
             Phase::Waiting => {
                 if self.kind.has_parts() {
-                    return part_begins(&self.parts, self.kind.place(self.at));
+                    return Begins::Other;
                 }
                 Begins::Nothing
             }
-            Phase::Turning { .. } => {
-                if self.kind.is_counted() {
-                    return part_begins(&self.parts, 0);
-                }
-                Begins::Nothing
-            }
+            Phase::Turning { .. } => Begins::Other,
             Phase::Together => Begins::Other,
             Phase::Chosen => Begins::Nothing,
             Phase::Ended => Begins::Nothing,
             Phase::Stuck => Begins::Nothing,
+        }
+    }
+
+    /// The frame that goes on alone: this one, or one within it, down the parts that go on; a PAR's parts go on side by side.
+    fn innermost(&self) -> &Frame
+        ensures { (b : Begins) → BeginsWith b (view result.now).1 → BeginsWith b (view self.now).1 }
+    {
+        match self.part_alone() {
+            Some(at) => self.parts[at].innermost(),
+            None => self,
+        }
+    }
+
+    /// The place of the part that goes on alone; None where none does.
+    #[inline(always)]
+    fn part_alone(&self) -> Option<usize>
+        ensures { IfSome result (λ at. BeginsAs at (views (out-Frame self.now).parts.items) (view self.now).1) }
+    {
+        match self.phase {
+            Phase::Waiting => {
+                if self.kind.has_parts() {
+                    return place_among(&self.parts, self.kind.place(self.at));
+                }
+                None
+            }
+            Phase::Turning { .. } => {
+                if self.kind.is_counted() {
+                    return place_among(&self.parts, 0);
+                }
+                None
+            }
+            Phase::Ready => None,
+            Phase::Together => None,
+            Phase::Chosen => None,
+            Phase::Ended => None,
+            Phase::Stuck => None,
         }
     }
 
@@ -303,16 +343,6 @@ fn push_parts(found: &mut Items<Move>, parts: &Vec<Frame>, vars: &[Datum]) -> Re
         part.push_moves(found, vars)?;
     }
     Ok(())
-}
-
-#[cycle(begins)]
-fn part_begins(parts: &Vec<Frame>, at: usize) -> Begins
-    ensures { BeginsWith result (part_rest (slice_get (views parts.now.items) at)) }
-{
-    if at < parts.len() {
-        return parts[at].begins();
-    }
-    Begins::Nothing
 }
 
 #[cycle(waits)]
