@@ -244,7 +244,7 @@ impl Node {
             Move::Choose { chan, .. } => self.choose(made, chan),
             Move::Stopch { chan, .. } => self.stopch(made, chan),
             Move::Inner { chan, .. } => self.meet(made, chan),
-            Move::Quiet { .. } => self.rest(made),
+            Move::Quiet { site } => self.rest(site),
         }
     }
 
@@ -316,13 +316,12 @@ impl Node {
     }
 
     // A step without a communication.
-    fn rest(&mut self, made: &Move) -> Result<(), Memory>
-        requires may { MayMove self.old made.now }
-        requires is { (site : ℕ) × (made.now ≡ Move.Quiet site) }
-        ensures ok { (plan : Plan) (k : ℕ) → IsNodeOf plan k self.old → OnOk result (MakesMove plan k self.old made.now self.new) }
+    fn rest(&mut self, site: u16) -> Result<(), Memory>
+        requires may { MayMove self.old (Move.Quiet site) }
+        ensures ok { (plan : Plan) (k : ℕ) → IsNodeOf plan k self.old → OnOk result (MakesMove plan k self.old (Move.Quiet site) self.new) }
         ensures err { OnErr result (self.new ≡ self.old) }
     {
-        self.process.act(made, Answer::Nothing)
+        self.process.act_quietly(site)
     }
 
     /// A token passes from a link's buffer; where a message is whole or an output finished the process goes on, and the answer is

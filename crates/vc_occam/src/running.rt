@@ -323,10 +323,10 @@ impl Running {
         self.hints.note(made);
     }
 
-    /// Makes a step without a communication.
+    /// Makes a step without a communication. Where it is without memory nothing has changed.
     #[tactic(auto, unfolding(crate::specs::Runnings::state, crate::specs::Runnings::inner_channels))]
-    fn act_quietly(&mut self, site: u16) -> Result<(), Memory>
-        requires listed { Contains (own (state self.old).rest (state self.old).store) (Move.Quiet site) }
+    pub fn act_quietly(&mut self, site: u16) -> Result<(), Memory>
+        requires listed { Contains (moves self.old) (Move.Quiet site) }
         ensures made { OnOk result (Acts (state self.old) (Rests site) (state self.new)) }
         ensures unchanged { OnErr result (self.new ≡ self.old) }
         ensures inside { inner_channels self.new ≡ inner_channels self.old }

@@ -1,7 +1,6 @@
 use Rattle.std.proofs.Common.{sym, subst}
 use Rattle.std.specs.List.{Contains}
 use Rattle.vc_occam.specs.declared.moves.Move.{Move}
-use Rattle.vc_occam.specs.declared.moves.Move.TheVariants.{Quiet}
 use Rattle.vc_occam.specs.First.{own, first_moves}
 use Rattle.vc_occam.specs.Frames.{view}
 use Rattle.vc_occam.specs.Moving.{CanBegin, HasMet, at}
@@ -63,14 +62,3 @@ unfolding state inner_channels
 act_alone-requires-clause-listed c =
     let self = c.args.self.now in
     (other_listed (among self.inside) (view self.frame).1 (store self.vars.items) c.args.made.now c.in_default.not-Inner c.requires.listed).1
-
-pub act_quietly-requires : goal.act_quietly-requires
-unfolding state inner_channels
-act_quietly-requires c =
-    let self = c.args.self.now in
-    let ins = among self.inside in
-    let r = (view self.frame).1 in
-    let e = store self.vars.items in
-    let site = c.in-Quiet.site in
-    let there = subst (λ (m : Move). Contains (first_moves ins r e) m) c.in-Quiet.is c.requires.listed in
-    record { listed = (other_listed ins r e (Quiet site) (λ i j k d q. cc) there).1 }
