@@ -126,10 +126,38 @@ impl Frame {
     fn rests(&self) -> bool
         ensures { IsTrue result → (e : Store) → own (view self.now).1 e ≡ [] }
     {
+        if self.waits_soon() {
+            return true;
+        }
         match self.begins() {
             Begins::Nothing => true,
             _ => false,
         }
+    }
+
+    /// Whether it is at a part that waits itself. Where this is false it may wait as well.
+    #[inline(always)]
+    fn waits_soon(&self) -> bool
+        ensures { IsTrue result → (e : Store) → own (view self.now).1 e ≡ [] }
+    {
+        if let Phase::Waiting = self.phase {
+            return self.kind.has_parts() && part_waits(&self.parts, self.kind.place(self.at));
+        }
+        false
+    }
+
+    /// Whether it waits itself: it has no parts, and its output or input has begun and hasn't ended.
+    #[inline(always)]
+    fn waits_itself(&self) -> bool
+        ensures { IsTrue result → (e : Store) → own (view self.now).1 e ≡ [] }
+    {
+        if let Phase::Waiting = self.phase {
+            if self.kind.has_parts() {
+                return false;
+            }
+            return true;
+        }
+        false
     }
 
     /// Whether the move is one that it can begin with.
@@ -343,6 +371,17 @@ fn push_parts(found: &mut Items<Move>, parts: &Vec<Frame>, vars: &[Datum]) -> Re
         part.push_moves(found, vars)?;
     }
     Ok(())
+}
+
+/// Whether the part at a place waits itself.
+#[inline(always)]
+fn part_waits(parts: &Vec<Frame>, at: usize) -> bool
+    ensures { IsTrue result → (e : Store) → part_own (slice_get (views parts.now.items) at) e ≡ [] }
+{
+    if at < parts.len() {
+        return parts[at].waits_itself();
+    }
+    false
 }
 
 #[cycle(waits)]
