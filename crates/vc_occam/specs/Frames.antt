@@ -166,18 +166,35 @@ abbrev pub awaiting : Kind → ℕ → List View → ℕ → Rest
 awaiting (kind.Alt gs) i vs k = chosen_at i (slice_get (map gate gs.inputs) k) (slice_get vs k)
 awaiting p i vs k = Stopped
 
+-- an output or input that has begun and hasn't ended; no other process goes on so
+abbrev pub as_begun : Proc → Rest
+as_begun (Output i c a) = Finishing i c
+as_begun (Input i c v) = Getting i c v
+as_begun p = Stopped
+
+-- the k-th part has begun and hasn't ended
+abbrev pub resting_at : ℕ → List View → List View
+resting_at k [] = []
+resting_at zero (v ∷ vs) = (v.0, as_begun v.0) ∷ vs
+resting_at (suc k) (v ∷ vs) = v ∷ resting_at k vs
+
+-- a process that goes on at such a part
+abbrev pub resting : Kind → ℕ → List View → ℕ → Rest
+resting k i vs at = if has_parts k then going_at k i (resting_at (place_of k at) vs) at else Stopped
+
 -- what remains of a process that is so far
-abbrev pub so_far : Phase → Proc → Rest → Rest → Rest → (ℤ → ℤ → Rest) → Rest
-so_far phase.Ready p r w b t = Fresh p
-so_far phase.Waiting p r w b t = r
-so_far (phase.Turning x y) p r w b t = t x y
-so_far phase.Together p r w b t = b
-so_far phase.Chosen p r w b t = w
-so_far phase.Ended p r w b t = Done
-so_far phase.Stuck p r w b t = Stopped
+abbrev pub so_far : Phase → Proc → Rest → Rest → Rest → Rest → (ℤ → ℤ → Rest) → Rest
+so_far phase.Ready p r z w b t = Fresh p
+so_far phase.Waiting p r z w b t = r
+so_far phase.Resting p r z w b t = z
+so_far (phase.Turning x y) p r z w b t = t x y
+so_far phase.Together p r z w b t = b
+so_far phase.Chosen p r z w b t = w
+so_far phase.Ended p r z w b t = Done
+so_far phase.Stuck p r z w b t = Stopped
 
 abbrev pub rest_at : Kind → Phase → ℕ → List View → ℕ → Rest
-rest_at k ph i vs at = so_far ph (plan_at k i vs) (going_at k i vs at) (awaiting k i vs at) (together k vs) (turning k vs)
+rest_at k ph i vs at = so_far ph (plan_at k i vs) (going_at k i vs at) (resting k i vs at) (awaiting k i vs at) (together k vs) (turning k vs)
 
 -- one frame, with what its parts stand for in their place
 unfoldable pub view_step : Frame-F View → View
@@ -344,6 +361,7 @@ gone_on k i vs at = follow_on (slice_get vs (place_of k at)) (behind k i vs at)
 -- a process that is so far goes on within a part
 abbrev pub goes_within : Kind → Phase → Bool
 goes_within k phase.Waiting = has_parts k
+goes_within k phase.Resting = true
 goes_within k (phase.Turning x y) = true
 goes_within k phase.Together = true
 goes_within k ph = false

@@ -5,7 +5,7 @@ ghost use Rattle.vc_occam.specs.declared.begins.Begins.{Begins};
 ghost use Rattle.vc_occam.specs.declared.frame.Frame.TheViews.{out-Frame};
 ghost use Rattle.vc_occam.specs.First.{own};
 ghost use Rattle.vc_occam.specs.Gates.{gate};
-ghost use Rattle.vc_occam.specs.Frames.{BeginsAs, BeginsAt, BeginsWith, HasSiteIn, MovesAt, View, assigned_at, awaiting, besides, chosen_at, first_waits, is_choice, listed, part_own, part_waits, place_with, plan_at, plans_of, view, views, waits_at};
+ghost use Rattle.vc_occam.specs.Frames.{BeginsAs, BeginsAt, BeginsWith, HasSiteIn, MovesAt, View, as_begun, assigned_at, awaiting, besides, chosen_at, first_waits, is_choice, listed, part_own, part_waits, place_with, plan_at, plans_of, resting_at, view, views, waits_at};
 ghost use Rattle.vc_occam.specs.Remains.{Fresh};
 ghost use Rattle.vc_occam.specs.Sites.{InPreorder, PartsInPreorder};
 ghost use Rattle.vc_occam.specs.States.{Waiting, carried, output_at, waiting};
@@ -51,6 +51,7 @@ impl Frame {
                 }
                 Ok(())
             }
+            Phase::Resting => Ok(()),
             Phase::Chosen => Ok(()),
             Phase::Ended => Ok(()),
             Phase::Stuck => Ok(()),
@@ -78,6 +79,7 @@ impl Frame {
                 }
                 Begins::Nothing
             }
+            Phase::Resting => Begins::Nothing,
             Phase::Turning { .. } => Begins::Other,
             Phase::Together => Begins::Other,
             Phase::Chosen => Begins::Nothing,
@@ -115,6 +117,7 @@ impl Frame {
                 None
             }
             Phase::Ready => None,
+            Phase::Resting => None,
             Phase::Together => None,
             Phase::Chosen => None,
             Phase::Ended => None,
@@ -126,7 +129,7 @@ impl Frame {
     fn rests(&self) -> bool
         ensures { IsTrue result → (e : Store) → own (view self.now).1 e ≡ [] }
     {
-        if self.waits_soon() {
+        if let Phase::Resting = self.phase {
             return true;
         }
         match self.begins() {
@@ -135,29 +138,15 @@ impl Frame {
         }
     }
 
-    /// Whether it is at a part that waits itself. Where this is false it may wait as well.
-    #[inline(always)]
-    fn waits_soon(&self) -> bool
-        ensures { IsTrue result → (e : Store) → own (view self.now).1 e ≡ [] }
+    /// Its site, if it is an output or input that waits for this once it has begun.
+    fn waits_begun(&self, wanted: Waits) -> Option<u16>
+        ensures { result ≡ first_waits wanted (waiting (as_begun (view self.now).0)) }
     {
-        if let Phase::Waiting = self.phase {
-            return self.kind.has_parts() && part_waits(&self.parts, self.kind.place(self.at));
+        match self.kind {
+            Kind::Send { chan, .. } => if_waits(self.site, Waits::Output { chan }, wanted),
+            Kind::Receive { chan, .. } => if_waits(self.site, Waits::Input { chan }, wanted),
+            _ => None,
         }
-        false
-    }
-
-    /// Whether it waits itself: it has no parts, and its output or input has begun and hasn't ended.
-    #[inline(always)]
-    fn waits_itself(&self) -> bool
-        ensures { IsTrue result → (e : Store) → own (view self.now).1 e ≡ [] }
-    {
-        if let Phase::Waiting = self.phase {
-            if self.kind.has_parts() {
-                return false;
-            }
-            return true;
-        }
-        false
     }
 
     /// Whether the move is one that it can begin with.
@@ -192,6 +181,12 @@ impl Frame {
                     ),
                     _ => None,
                 }
+            }
+            Phase::Resting => {
+                if self.kind.has_parts() {
+                    return part_waits_begun(&self.parts, self.kind.place(self.at), wanted);
+                }
+                None
             }
             Phase::Turning { .. } => {
                 if self.kind.is_counted() {
@@ -250,6 +245,7 @@ impl Frame {
                 None
             }
             Phase::Ready => None,
+            Phase::Resting => None,
             Phase::Chosen => None,
             Phase::Ended => None,
             Phase::Stuck => None,
@@ -373,15 +369,14 @@ fn push_parts(found: &mut Items<Move>, parts: &Vec<Frame>, vars: &[Datum]) -> Re
     Ok(())
 }
 
-/// Whether the part at a place waits itself.
-#[inline(always)]
-fn part_waits(parts: &Vec<Frame>, at: usize) -> bool
-    ensures { IsTrue result → (e : Store) → part_own (slice_get (views parts.now.items) at) e ≡ [] }
+/// The site of the part at a place, if that is an output or input that waits for this once it has begun.
+fn part_waits_begun(parts: &Vec<Frame>, at: usize, wanted: Waits) -> Option<u16>
+    ensures { result ≡ first_waits wanted (part_waits (slice_get (resting_at at (views parts.now.items)) at)) }
 {
     if at < parts.len() {
-        return parts[at].waits_itself();
+        return parts[at].waits_begun(wanted);
     }
-    false
+    None
 }
 
 #[cycle(waits)]

@@ -1,7 +1,7 @@
 use Rattle.std.proofs.Common.{◌∙◌, sym, ap}
 use Rattle.vc_occam.specs.First.{own}
 use Rattle.vc_occam.specs.Remains.{Rest}
-use Rattle.vc_occam.proofs.Frames.{awaiting_own, idle_own, is_awaiting, rest_ended, rest_idle, rest_ready, rest_stuck}
+use Rattle.vc_occam.proofs.Frames.{awaiting_own, idle_own, is_awaiting, rest_ended, rest_idle, rest_ready, rest_stuck, resting_nothing}
 use Rattle.vc_occam.proofs.Outset.{same_rest}
 use Rattle.vc_occam.proofs.frame.Frame.begins_itself.Goals as goal
 
@@ -19,3 +19,6 @@ returns-in-Ended c = λ e. ap (λ (r : Rest). own r e) (rest_ended c.args.self.n
 
 pub returns-in-Stuck : goal.returns-in-Stuck
 returns-in-Stuck c = λ e. ap (λ (r : Rest). own r e) (rest_stuck c.args.self.now c.in-Stuck.is)
+
+pub returns-in-Resting : goal.returns-in-Resting
+returns-in-Resting c = λ e. resting_nothing c.args.self.now e c.in-Resting.is
