@@ -1,5 +1,5 @@
 -- What a process without parts does.
-use Rattle.std.proofs.Common.{◌≡◌, ℕ, true, refl, sym, ◌∙◌, subst, List, [], arith, Option, Some, None, ◌<◌}
+use Rattle.std.proofs.Common.{◌≡◌, ℕ, true, refl, sym, subst, List, [], arith, Option, Some, None, ◌<◌}
 use Rattle.std.specs.Prelude.{◌==◌, if◌then◌else◌}
 use Rattle.std.proofs.lemmas.Bool.Decides.{nat_tests}
 use Rattle.vc_occam.specs.declared.datum.Datum.{Datum}

@@ -5,8 +5,6 @@ use Rattle.vc_occam.specs.declared.begins.Begins.{Begins}
 use Rattle.vc_occam.specs.declared.begins.Begins.TheVariants as begins
 use Rattle.vc_occam.specs.declared.frame.Frame.{Frame}
 use Rattle.vc_occam.specs.declared.frame.Frame.TheViews.{out-Frame}
-use Rattle.vc_occam.specs.declared.moves.Move.{Move}
-use Rattle.vc_occam.specs.declared.moves.Move.TheVariants.{Quiet}
 use Rattle.vc_occam.specs.declared.phase.Phase.TheVariants as phase
 use Rattle.vc_occam.specs.Frames.{BeginsAs, BeginsWith, View, assigned_at, behind, count_of, has_parts, is_counted, part_assigned, part_own, part_rest, place_of, view, views, while_of}
 use Rattle.vc_occam.specs.First.{own}

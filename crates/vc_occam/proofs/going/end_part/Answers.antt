@@ -1,4 +1,4 @@
-use Rattle.std.proofs.Common.{◌≡◌, ◌∙◌, ◌<◌, Option, ap, arith, length, set, subst, sym}
+use Rattle.std.proofs.Common.{◌∙◌, ◌<◌, Option, ap, arith, length, set, subst, sym}
 use Rattle.std.specs.Prelude.{slice_get}
 use Rattle.vc_occam.specs.Frames.{Able, Did, PartHasVariables, View, as_begun, part_done, part_rest, view, views}
 use Rattle.vc_occam.specs.Remains.{Rest}

@@ -1,4 +1,4 @@
-use Rattle.std.proofs.Common.{◌≡◌, ◌∙◌, ap, length, refl, subst, sym}
+use Rattle.std.proofs.Common.{◌∙◌, ap, length, refl, subst, sym}
 use Rattle.vc_occam.specs.declared.frame.Frame.TheViews.{the_lemmas, out-Frame}
 use Rattle.vc_occam.specs.Frames.{Able, Did, HasVariables, View, as_begun, plan_at, rest_at, views}
 use Rattle.vc_occam.specs.Remains.{Rest}
@@ -33,7 +33,7 @@ returns-clause-did c =
     let g = going_begun o.kind o.site vs o.at (sym c.has_parts.ensures ∙ c.if-has_parts.false) in
     let able = subst (λ (v : View). Able (as_begun v.0) e s d) (view_out c.args.self.now) c.requires.able in
     let did : Did (as_begun (plan_at o.kind o.site vs)) e s d (rest_at o.kind c.end_alone-phase.result o.site vs o.at) f =
-        subst (λ (r : Rest). Did r e s d (rest_at o.kind c.end_alone-phase.result o.site vs o.at) f) g (c.end_alone-phase.ensures.did vs o.at (subst (λ (r : Rest). Able r e s d) (sym g) able)) in
+    subst (λ (r : Rest). Did r e s d (rest_at o.kind c.end_alone-phase.result o.site vs o.at) f) g (c.end_alone-phase.ensures.did vs o.at (subst (λ (r : Rest). Able r e s d) (sym g) able)) in
     simp (the_lemmas, view_roll, view_out) did
 
 pub returns-clause-plan : goal.returns-clause-plan
