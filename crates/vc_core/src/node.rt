@@ -120,6 +120,16 @@ impl Node {
         None
     }
 
+    /// The process's only move, where that is known to be a step without a communication.
+    #[inline(always)]
+    pub(crate) fn only_step(&self) -> Option<Act>
+        ensures may { IfSome result (λ a. NodeMay self.now a) }
+        ensures finds { (plan : Plan) (k : ℕ) → IsNodeOf plan k self.now → IfSome result (λ a. FindsMove plan k self.now (Some a)) }
+    {
+        let site = self.process.only_step()?;
+        Some(Act::Proc(Move::Quiet { site }))
+    }
+
     /// The next of the process's moves that can be made, going round from this site on.
     pub(crate) fn next_move(&self, moves: &[Move], site: u16) -> Option<Act>
         requires { moves.now ≡ moves_of self.now.process }
@@ -234,7 +244,7 @@ impl Node {
             Move::Choose { chan, .. } => self.choose(made, chan),
             Move::Stopch { chan, .. } => self.stopch(made, chan),
             Move::Inner { chan, .. } => self.meet(made, chan),
-            Move::Quiet { .. } => self.rest(made),
+            Move::Quiet { site } => self.rest(site),
         }
     }
 
@@ -306,13 +316,12 @@ impl Node {
     }
 
     // A step without a communication.
-    fn rest(&mut self, made: &Move) -> Result<(), Memory>
-        requires may { MayMove self.old made.now }
-        requires is { (site : ℕ) × (made.now ≡ Move.Quiet site) }
-        ensures ok { (plan : Plan) (k : ℕ) → IsNodeOf plan k self.old → OnOk result (MakesMove plan k self.old made.now self.new) }
+    fn rest(&mut self, site: u16) -> Result<(), Memory>
+        requires may { MayMove self.old (Move.Quiet site) }
+        ensures ok { (plan : Plan) (k : ℕ) → IsNodeOf plan k self.old → OnOk result (MakesMove plan k self.old (Move.Quiet site) self.new) }
         ensures err { OnErr result (self.new ≡ self.old) }
     {
-        self.process.act(made, Answer::Nothing)
+        self.process.act_quietly(site)
     }
 
     /// A token passes from a link's buffer; where a message is whole or an output finished the process goes on, and the answer is

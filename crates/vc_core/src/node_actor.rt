@@ -151,7 +151,21 @@ impl NodeActor {
     }
 
     // The next move that the process can make, where the links have nothing to do, going round behind the site that acted last.
+    #[inline(always)]
     fn next_move(&mut self) -> Result<Option<Act>, Memory>
+        ensures same { self.new ≡ self.old }
+        ensures may { IfOk result (λ act. IfSome act (λ a. NodeMay self.old a)) }
+        ensures finds { (plan : Plan) (k : ℕ) → IsNodeOf plan k self.old → IfOk result (FindsMove plan k self.old) }
+    {
+        if let Some(act) = self.node.only_step() {
+            return Ok(Some(act));
+        }
+        self.next_listed()
+    }
+
+    // The next of the process's moves that can be made, which are listed where the process has changed.
+    #[inline(never)]
+    fn next_listed(&mut self) -> Result<Option<Act>, Memory>
         ensures same { self.new ≡ self.old }
         ensures may { IfOk result (λ act. IfSome act (λ a. NodeMay self.old a)) }
         ensures finds { (plan : Plan) (k : ℕ) → IsNodeOf plan k self.old → IfOk result (FindsMove plan k self.old) }

@@ -84,6 +84,7 @@ chosen_at bs vs e k h =
 abbrev after_phase : Phase → Rest → Rest
 after_phase phase.Ready r = Stopped
 after_phase phase.Waiting r = r
+after_phase phase.Resting r = Stopped
 after_phase (phase.Turning x y) r = Stopped
 after_phase phase.Together r = Stopped
 after_phase phase.Chosen r = Stopped

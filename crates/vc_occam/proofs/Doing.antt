@@ -1,5 +1,5 @@
 -- What a process without parts does.
-use Rattle.std.proofs.Common.{◌≡◌, ℕ, true, refl, sym, ◌∙◌, subst, List, [], arith, Option, Some, None, ◌<◌}
+use Rattle.std.proofs.Common.{◌≡◌, ℕ, true, refl, sym, subst, List, [], arith, Option, Some, None, ◌<◌}
 use Rattle.std.specs.Prelude.{◌==◌, if◌then◌else◌}
 use Rattle.std.proofs.lemmas.Bool.Decides.{nat_tests}
 use Rattle.vc_occam.specs.declared.datum.Datum.{Datum}
@@ -23,15 +23,15 @@ module _ (i : ℕ) (vs : List View) (at : ℕ) (e f : Store) (s : ℕ) (d : Deed
   pub at_kind : (ph : Phase) (k j : Kind) → k ≡ j → Begins ph j → Begins ph k
   at_kind ph k j h b = subst (Begins ph) (sym h) b
 
-at_site : (i : ℕ) (o : Option Datum) → (if i == i then o else None) ≡ o
-at_site i o = let on : (i == i) ≡ true = grind (arith, nat_tests) in rw on refl
+pub at_site : (s i : ℕ) (o : Option Datum) → s ≡ i → (if s == i then o else None) ≡ o
+at_site s i o h = let on : (s == i) ≡ true = grind (arith, nat_tests) in rw on refl
 
-pub set_did : (i v : ℕ) (a : Given) (e : Store) (s : ℕ) (d : Deed) (x : Datum) → (d ≡ deed.Quiet → Some x ≡ (if s == i then datum_of a e else None)) → Able (Fresh (Assign i v a)) e s d → Did (Fresh (Assign i v a)) e s d Done (set e v x)
-set_did i v a e s d x h (ks, q, f, does_assign k) = (ks, does_assign (sym (h refl ∙ at_site i (datum_of a e))))
-set_did i v a e s d x h (ks, q, f, faults_assign k) = (ks, does_assign (sym (h refl ∙ at_site i (datum_of a e))))
+pub set_did : (i v : ℕ) (a : Given) (e : Store) (s : ℕ) (d : Deed) (x : Datum) → (d ≡ deed.Quiet → s ≡ i → Some x ≡ datum_of a e) → Able (Fresh (Assign i v a)) e s d → Did (Fresh (Assign i v a)) e s d Done (set e v x)
+set_did i v a e s d x h (ks, q, f, does_assign k) = (ks, does_assign (sym (h refl refl)))
+set_did i v a e s d x h (ks, q, f, faults_assign k) = (ks, does_assign (sym (h refl refl)))
 
-pub set_faulted : (i v : ℕ) (a : Given) (e : Store) (s : ℕ) (d : Deed) → (d ≡ deed.Quiet → None ≡ (if s == i then datum_of a e else None)) → Able (Fresh (Assign i v a)) e s d → Did (Fresh (Assign i v a)) e s d Stopped e
-set_faulted i v a e s d h (ks, q, f, does_assign k) = (ks, faults_assign (sym (h refl ∙ at_site i (datum_of a e))))
+pub set_faulted : (i v : ℕ) (a : Given) (e : Store) (s : ℕ) (d : Deed) → (d ≡ deed.Quiet → s ≡ i → None ≡ datum_of a e) → Able (Fresh (Assign i v a)) e s d → Did (Fresh (Assign i v a)) e s d Stopped e
+set_faulted i v a e s d h (ks, q, f, does_assign k) = (ks, faults_assign (sym (h refl refl)))
 set_faulted i v a e s d h (ks, q, f, faults_assign k) = (ks, faults_assign k)
 
 itself : (v : ℕ) → just v v ≡ true

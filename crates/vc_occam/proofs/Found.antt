@@ -41,6 +41,7 @@ MovesNothing i r = (m : Move) (e : Store) → site_of m ≡ i → Contains (own 
 none_begins : (ph : Phase) (p : Proc) (i : ℕ) (r : Rest) → (ph ≡ phase.Ready → ⊥) → BeginsNothing i r → MovesNothing i r → BeginsAt ph p i r × MovesAt ph p i r
 none_begins phase.Ready p i r n h g = absurd (n refl)
 none_begins phase.Waiting p i r n h g = (h, g)
+none_begins phase.Resting p i r n h g = (h, g)
 none_begins (phase.Turning x y) p i r n h g = (h, g)
 none_begins phase.Together p i r n h g = (h, g)
 none_begins phase.Chosen p i r n h g = (h, g)
@@ -67,6 +68,7 @@ ready_begins f i h =
 begins_in : (ph : Phase) (p : Proc) (i : ℕ) (r q : Rest) → ((e : Store) → (output_at i r e ≡ output_at i q e) × (assigned_at i r e ≡ assigned_at i q e)) → BeginsAt ph p i q → BeginsAt ph p i r
 begins_in phase.Ready p i r q s h = λ e. ((s e).0 ∙ (h e).0, (s e).1 ∙ (h e).1)
 begins_in phase.Waiting p i r q s h = λ e. ((s e).0 ∙ (h e).0, (s e).1 ∙ (h e).1)
+begins_in phase.Resting p i r q s h = λ e. ((s e).0 ∙ (h e).0, (s e).1 ∙ (h e).1)
 begins_in (phase.Turning x y) p i r q s h = λ e. ((s e).0 ∙ (h e).0, (s e).1 ∙ (h e).1)
 begins_in phase.Together p i r q s h = λ e. ((s e).0 ∙ (h e).0, (s e).1 ∙ (h e).1)
 begins_in phase.Chosen p i r q s h = λ e. ((s e).0 ∙ (h e).0, (s e).1 ∙ (h e).1)
@@ -76,6 +78,7 @@ begins_in phase.Stuck p i r q s h = λ e. ((s e).0 ∙ (h e).0, (s e).1 ∙ (h e
 moves_in : (ph : Phase) (p : Proc) (i : ℕ) (r q : Rest) → ((m : Move) (e : Store) → site_of m ≡ i → Contains (own r e) m ↔ Contains (own q e) m) → MovesAt ph p i q → MovesAt ph p i r
 moves_in phase.Ready p i r q s h = λ m e k. (λ c. (h m e k).0 ((s m e k).0 c), λ c. (s m e k).1 ((h m e k).1 c))
 moves_in phase.Waiting p i r q s h = λ m e k c. h m e k ((s m e k).0 c)
+moves_in phase.Resting p i r q s h = λ m e k c. h m e k ((s m e k).0 c)
 moves_in (phase.Turning x y) p i r q s h = λ m e k c. h m e k ((s m e k).0 c)
 moves_in phase.Together p i r q s h = λ m e k c. h m e k ((s m e k).0 c)
 moves_in phase.Chosen p i r q s h = λ m e k c. h m e k ((s m e k).0 c)
@@ -199,6 +202,7 @@ begins_ready f i r e h b =
 pub begins_not : (ph : Phase) (p : Proc) (i : ℕ) (r : Rest) → (ph ≡ phase.Ready → ⊥) → BeginsAt ph p i r → BeginsNothing i r
 begins_not phase.Ready p i r n h = absurd (n refl)
 begins_not phase.Waiting p i r n h = h
+begins_not phase.Resting p i r n h = h
 begins_not (phase.Turning x y) p i r n h = h
 begins_not phase.Together p i r n h = h
 begins_not phase.Chosen p i r n h = h
@@ -217,6 +221,7 @@ moves_ready f i r e m b s h k t =
 pub moves_not : (ph : Phase) (p : Proc) (i : ℕ) (r : Rest) (e : Store) (m : Move) → i ≡ site_of m → (ph ≡ phase.Ready → ⊥) → MovesAt ph p i r → Contains (own r e) m → ⊥
 moves_not phase.Ready p i r e m s n h = absurd (n refl)
 moves_not phase.Waiting p i r e m s n h = h m e (sym s)
+moves_not phase.Resting p i r e m s n h = h m e (sym s)
 moves_not (phase.Turning x y) p i r e m s n h = h m e (sym s)
 moves_not phase.Together p i r e m s n h = h m e (sym s)
 moves_not phase.Chosen p i r e m s n h = h m e (sym s)

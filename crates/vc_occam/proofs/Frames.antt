@@ -1,8 +1,8 @@
 -- What frames stand for.
 use Rattle.std.proofs.Common.{◌≡◌, ℕ, ℤ, zero, suc, Bool, true, false, ◌&&◌, refl, ap, sym, ◌∙◌, subst, List, [], ◌∷◌, length, map, arith, Option, Some, None, Vec, Global, drop, Result, Ok, Err}
 use Rattle.std.proofs.lemmas.Bool.Decides.{nat_tests}
-use Rattle.std.specs.Prelude.{slice_get, vec_len, nat_le, IfOk, ◌==◌}
-use Rattle.vc_occam.specs.Syntax.{Exp, Test, Proc, SEQ, PAR, Procs, no_parts, part}
+use Rattle.std.specs.Prelude.{slice_get, vec_len, nat_le, IfOk, ◌==◌, if◌then◌else◌}
+use Rattle.vc_occam.specs.Syntax.{Exp, Test, Proc, Output, Input, SEQ, PAR, Procs, no_parts, part}
 use Rattle.vc_occam.specs.Remains.{Rest, Done, Stopped, Fresh, Finishing, Getting, Then, Turns, Beside, and_then, then_on, begin}
 use Rattle.vc_occam.specs.declared.kind.Kind.{Kind}
 use Rattle.vc_occam.specs.declared.kind.Kind.TheVariants as kind
@@ -18,7 +18,7 @@ use Rattle.vc_occam.specs.First.{own}
 use Rattle.vc_occam.specs.declared.moves.Move.TheVariants.{Quiet}
 use Rattle.vc_occam.specs.States.{waiting, output_at}
 use Rattle.vc_occam.specs.Gates.{Gate, gate}
-use Rattle.vc_occam.specs.Frames.{View, awaiting, chosen_at, count_of, is_counted, is_par, all_begun, turn_of, turning, together, besides, plans_of, behind, follow, follow_on, going_at, gone_on, has_parts, is_last, place_of, while_of, so_far, plan_at, rest_at, view_step, view, views, is_done, part_done, part_own, part_waits, part_output, part_assigned, assigned_at, begun_parts, begun_phase}
+use Rattle.vc_occam.specs.Frames.{View, awaiting, chosen_at, count_of, is_counted, is_par, all_begun, turn_of, turning, together, besides, plans_of, behind, follow, follow_on, going_at, resting, resting_at, as_begun, gone_on, has_parts, is_last, place_of, while_of, so_far, plan_at, rest_at, view_step, view, views, is_done, part_done, part_own, part_waits, part_output, part_assigned, assigned_at, begun_parts, begun_phase}
 use Rattle.vc_occam.proofs.Besides.{begin_goes, begun_plans_of, besides_begun, goes_then}
 
 pub view_roll : (f : Frame-F Frame) → view (roll-Frame f) ≡ (plan_at f.kind f.site (views f.parts.items), rest_at f.kind f.phase f.site (views f.parts.items) f.at)
@@ -32,6 +32,7 @@ view_out = fold_out-Frame View view_step
 abbrev pub done_by : Phase → Bool → Bool → Bool → Bool
 done_by phase.Ready l d b = false
 done_by phase.Waiting l d b = l && d
+done_by phase.Resting l d b = false
 done_by (phase.Turning x y) l d b = false
 done_by phase.Together l d b = b
 done_by phase.Chosen l d b = false
@@ -78,6 +79,15 @@ going_done (kind.If bs) i vs at = follow_done (slice_get vs at) no_parts
 going_done (kind.Count v a n) i vs at = refl
 going_done (kind.While b) i vs at = follow_done (slice_get vs 0) (behind (kind.While b) i vs at)
 going_done (kind.Alt gs) i vs at = follow_done (slice_get vs at) no_parts
+
+begun_done : (p : Proc) → is_done (as_begun p) ≡ false
+begun_done (Output i c a) = refl
+begun_done (Input i c v) = refl
+begun_done p = refl
+
+and_no : (b : Bool) → (b && false) ≡ false
+and_no true = refl
+and_no false = refl
 
 -- an ALT that waits for the message of its guard, or none
 pub data IsAwaiting : Rest → Type 0 where
@@ -137,14 +147,30 @@ turning_done (kind.While b) vs x y = refl
 turning_done (kind.Count v a n) vs x y = turns_done v vs x y
 turning_done (kind.Alt gs) vs x y = refl
 
-done_phase : (ph : Phase) (p : Proc) (r w b : Rest) (t : ℤ → ℤ → Rest) (l d : Bool) → is_done r ≡ (l && d) → is_done w ≡ false → ((x y : ℤ) → is_done (t x y) ≡ false) → is_done (so_far ph p r w b t) ≡ done_by ph l d (is_done b)
-done_phase phase.Ready p r w b t l d h k g = refl
-done_phase phase.Waiting p r w b t l d h k g = h
-done_phase (phase.Turning x y) p r w b t l d h k g = g x y
-done_phase phase.Together p r w b t l d h k g = refl
-done_phase phase.Chosen p r w b t l d h k g = k
-done_phase phase.Ended p r w b t l d h k g = refl
-done_phase phase.Stuck p r w b t l d h k g = refl
+-- a part that has begun has not ended, and begins with nothing
+pub resting_done : (k : ℕ) (vs : List View) → part_done (slice_get (resting_at k vs) k) ≡ false
+resting_done k [] = refl
+resting_done zero (v ∷ vs) = begun_done v.0
+resting_done (suc k) (v ∷ vs) = resting_done k vs
+
+rests_done : (k : Kind) (i : ℕ) (vs : List View) (at : ℕ) → is_done (resting k i vs at) ≡ false
+rests_done k i vs at = on (has_parts k)
+  where
+    on : (b : Bool) → is_done (if b then going_at k i (resting_at (place_of k at) vs) at else Stopped) ≡ false
+    on false = refl
+    on true =
+        let ws = resting_at (place_of k at) vs in
+        going_done k i ws at ∙ ap (λ b. is_last k at (length ws) && b) (resting_done (place_of k at) vs) ∙ and_no (is_last k at (length ws))
+
+done_phase : (ph : Phase) (p : Proc) (r z w b : Rest) (t : ℤ → ℤ → Rest) (l d : Bool) → is_done r ≡ (l && d) → is_done z ≡ false → is_done w ≡ false → ((x y : ℤ) → is_done (t x y) ≡ false) → is_done (so_far ph p r z w b t) ≡ done_by ph l d (is_done b)
+done_phase phase.Ready p r z w b t l d h j k g = refl
+done_phase phase.Waiting p r z w b t l d h j k g = h
+done_phase phase.Resting p r z w b t l d h j k g = j
+done_phase (phase.Turning x y) p r z w b t l d h j k g = g x y
+done_phase phase.Together p r z w b t l d h j k g = refl
+done_phase phase.Chosen p r z w b t l d h j k g = k
+done_phase phase.Ended p r z w b t l d h j k g = refl
+done_phase phase.Stuck p r z w b t l d h j k g = refl
 
 pub length-views : (fs : List Frame) → length (views fs) ≡ length fs
 length-views [] = refl
@@ -157,7 +183,7 @@ pub rest_done : (k : Kind) (i : ℕ) (ph q : Phase) (parts : Vec Frame Global) (
 rest_done k i ph q parts at l d b hp hl hd hb =
     let vs = views parts.items in
     let all = is_done (together k vs) in
-    done_phase ph (plan_at k i vs) (going_at k i vs at) (awaiting k i vs at) (together k vs) (turning k vs) _ _ (going_done k i vs at) (awaiting_done (awaiting_is k i vs at)) (turning_done k vs)
+    done_phase ph (plan_at k i vs) (going_at k i vs at) (resting k i vs at) (awaiting k i vs at) (together k vs) (turning k vs) _ _ (going_done k i vs at) (rests_done k i vs at) (awaiting_done (awaiting_is k i vs at)) (turning_done k vs)
     ∙ ap (λ n. done_by ph (is_last k at n) (part_done (slice_get vs (place_of k at))) all) (sym (parts_len parts)) ∙ rw (hp, hl, hd, hb) refl
 
 -- what remains after a part did something: nothing where nothing remains of the part and nothing comes behind it
@@ -511,3 +537,165 @@ count_waits i v a n (w ∷ vs) e h = absurd (omega arith)
 pub count_tests : (i v : ℕ) (a n : Exp) (vs : List View) (e : Store) → (length vs ≡ 0 → ⊥) → own (Fresh (count_of i v a n vs)) e ≡ Quiet i ∷ []
 count_tests i v a n [] e h = absurd (h refl)
 count_tests i v a n (w ∷ vs) e h = refl
+
+begun_own : (p : Proc) (e : Store) → own (as_begun p) e ≡ []
+begun_own (Output i c a) e = refl
+begun_own (Input i c v) e = refl
+begun_own p e = refl
+
+begun_output : (j : ℕ) (p : Proc) (e : Store) → output_at j (as_begun p) e ≡ None
+begun_output j (Output i c a) e = refl
+begun_output j (Input i c v) e = refl
+begun_output j p e = refl
+
+begun_assigned : (j : ℕ) (p : Proc) (e : Store) → assigned_at j (as_begun p) e ≡ None
+begun_assigned j (Output i c a) e = refl
+begun_assigned j (Input i c v) e = refl
+begun_assigned j p e = refl
+
+resting_own : (k : ℕ) (vs : List View) (e : Store) → part_own (slice_get (resting_at k vs) k) e ≡ []
+resting_own k [] e = refl
+resting_own zero (v ∷ vs) e = begun_own v.0 e
+resting_own (suc k) (v ∷ vs) e = resting_own k vs e
+
+resting_output : (j k : ℕ) (vs : List View) (e : Store) → part_output j (slice_get (resting_at k vs) k) e ≡ None
+resting_output j k [] e = refl
+resting_output j zero (v ∷ vs) e = begun_output j v.0 e
+resting_output j (suc k) (v ∷ vs) e = resting_output j k vs e
+
+resting_assigned : (j k : ℕ) (vs : List View) (e : Store) → part_assigned j (slice_get (resting_at k vs) k) e ≡ None
+resting_assigned j k [] e = refl
+resting_assigned j zero (v ∷ vs) e = begun_assigned j v.0 e
+resting_assigned j (suc k) (v ∷ vs) e = resting_assigned j k vs e
+
+-- a process that rests begins with nothing
+rests_own : (k : Kind) (i : ℕ) (vs : List View) (at : ℕ) (e : Store) → own (resting k i vs at) e ≡ []
+rests_own k i vs at e = on (has_parts k) refl
+  where
+    on : (b : Bool) → has_parts k ≡ b → own (if b then going_at k i (resting_at (place_of k at) vs) at else Stopped) e ≡ []
+    on false h = refl
+    on true h =
+        let ws = resting_at (place_of k at) vs in
+        ap (λ (r : Rest). own r e) (going_part k i ws at h) ∙ follow_own (slice_get ws (place_of k at)) (behind k i ws at) e ∙ resting_own (place_of k at) vs e
+
+rests_output : (j : ℕ) (k : Kind) (i : ℕ) (vs : List View) (at : ℕ) (e : Store) → output_at j (resting k i vs at) e ≡ None
+rests_output j k i vs at e = on (has_parts k) refl
+  where
+    on : (b : Bool) → has_parts k ≡ b → output_at j (if b then going_at k i (resting_at (place_of k at) vs) at else Stopped) e ≡ None
+    on false h = refl
+    on true h =
+        let ws = resting_at (place_of k at) vs in
+        ap (λ (r : Rest). output_at j r e) (going_part k i ws at h) ∙ follow_output j (slice_get ws (place_of k at)) (behind k i ws at) e ∙ resting_output j (place_of k at) vs e
+
+rests_assigned : (j : ℕ) (k : Kind) (i : ℕ) (vs : List View) (at : ℕ) (e : Store) → assigned_at j (resting k i vs at) e ≡ None
+rests_assigned j k i vs at e = on (has_parts k) refl
+  where
+    on : (b : Bool) → has_parts k ≡ b → assigned_at j (if b then going_at k i (resting_at (place_of k at) vs) at else Stopped) e ≡ None
+    on false h = refl
+    on true h =
+        let ws = resting_at (place_of k at) vs in
+        ap (λ (r : Rest). assigned_at j r e) (going_part k i ws at h) ∙ follow_assigned j (slice_get ws (place_of k at)) (behind k i ws at) e ∙ resting_assigned j (place_of k at) vs e
+
+pub rest_resting : (f : Frame) → (out-Frame f).phase ≡ phase.Resting → (view f).1 ≡ resting (out-Frame f).kind (out-Frame f).site (views (out-Frame f).parts.items) (out-Frame f).at
+rest_resting f h = rest_by f phase.Resting h
+
+pub resting_nothing : (f : Frame) (e : Store) → (out-Frame f).phase ≡ phase.Resting → own (view f).1 e ≡ []
+resting_nothing f e h =
+    let o = out-Frame f in
+    ap (λ (r : Rest). own r e) (rest_resting f h) ∙ rests_own o.kind o.site (views o.parts.items) o.at e
+
+pub resting_sends : (f : Frame) (j : ℕ) (e : Store) → (out-Frame f).phase ≡ phase.Resting → output_at j (view f).1 e ≡ None
+resting_sends f j e h =
+    let o = out-Frame f in
+    ap (λ (r : Rest). output_at j r e) (rest_resting f h) ∙ rests_output j o.kind o.site (views o.parts.items) o.at e
+
+pub resting_assigns : (f : Frame) (j : ℕ) (e : Store) → (out-Frame f).phase ≡ phase.Resting → assigned_at j (view f).1 e ≡ None
+resting_assigns f j e h =
+    let o = out-Frame f in
+    ap (λ (r : Rest). assigned_at j r e) (rest_resting f h) ∙ rests_assigned j o.kind o.site (views o.parts.items) o.at e
+
+-- a process with parts that rests, and one without
+pub resting_goes : (k : Kind) (i : ℕ) (vs : List View) (at : ℕ) → has_parts k ≡ true → resting k i vs at ≡ going_at k i (resting_at (place_of k at) vs) at
+resting_goes k i vs at h = ap (λ (b : Bool). if b then going_at k i (resting_at (place_of k at) vs) at else Stopped) h
+
+pub resting_stops : (k : Kind) (i : ℕ) (vs : List View) (at : ℕ) → has_parts k ≡ false → resting k i vs at ≡ Stopped
+resting_stops k i vs at h = ap (λ (b : Bool). if b then going_at k i (resting_at (place_of k at) vs) at else Stopped) h
+
+pub resting_waits : (f : Frame) (k : ℕ) → (out-Frame f).phase ≡ phase.Resting → has_parts (out-Frame f).kind ≡ true → k ≡ place_of (out-Frame f).kind (out-Frame f).at →
+    waiting (view f).1 ≡ part_waits (slice_get (resting_at k (views (out-Frame f).parts.items)) k)
+resting_waits f k h p g =
+    let o = out-Frame f in
+    let vs = views o.parts.items in
+    let ws = resting_at (place_of o.kind o.at) vs in
+    ap waiting (rest_resting f h ∙ resting_goes o.kind o.site vs o.at p ∙ going_part o.kind o.site ws o.at p) ∙ follow_waits (slice_get ws (place_of o.kind o.at)) (behind o.kind o.site ws o.at)
+    ∙ ap (λ (n : ℕ). part_waits (slice_get (resting_at n vs) n)) (sym g)
+
+pub resting_stopped : (f : Frame) → (out-Frame f).phase ≡ phase.Resting → has_parts (out-Frame f).kind ≡ false → (view f).1 ≡ Stopped
+resting_stopped f h p =
+    let o = out-Frame f in
+    rest_resting f h ∙ resting_stops o.kind o.site (views o.parts.items) o.at p
+
+pub resting_get : (k : ℕ) (vs : List View) (v : View) → slice_get vs k ≡ Some v → slice_get (resting_at k vs) k ≡ Some (v.0, as_begun v.0)
+resting_get k [] v h = absurd (let e : None ≡ Some v = h in cc)
+resting_get zero (w ∷ vs) v h = let e : w ≡ v = cc in ap (λ (x : View). Some (x.0, as_begun x.0)) e
+resting_get (suc k) (w ∷ vs) v h = resting_get k vs v h
+
+pub resting_none : (k : ℕ) (vs : List View) → slice_get vs k ≡ None → slice_get (resting_at k vs) k ≡ None
+resting_none k [] h = refl
+resting_none zero (w ∷ vs) h = absurd (let e : Some w ≡ None = h in cc)
+resting_none (suc k) (w ∷ vs) h = resting_none k vs h
+
+-- an output or input that goes on has begun; nothing else with no parts goes on
+pub going_begun : (k : Kind) (i : ℕ) (vs : List View) (at : ℕ) → has_parts k ≡ false → going_at k i vs at ≡ as_begun (plan_at k i vs)
+going_begun kind.Skip i vs at h = refl
+going_begun kind.Stop i vs at h = refl
+going_begun (kind.Set v a) i vs at h = refl
+going_begun (kind.Send c a) i vs at h = refl
+going_begun (kind.Receive c v) i vs at h = refl
+going_begun (kind.Stopch c) i vs at h = refl
+going_begun kind.Seq i vs at h = absurd (let e : true ≡ false = h in cc)
+going_begun kind.Par i vs at h = refl
+going_begun (kind.If bs) i vs at h = absurd (let e : true ≡ false = h in cc)
+going_begun (kind.While b) i vs at h = absurd (let e : true ≡ false = h in cc)
+going_begun (kind.Count v a n) i [] at h = refl
+going_begun (kind.Count v a n) i (w ∷ vs) at h = refl
+going_begun (kind.Alt gs) i vs at h = absurd (let e : true ≡ false = h in cc)
+
+pub none_begun : (k : Kind) (i : ℕ) (vs : List View) → has_parts k ≡ true → as_begun (plan_at k i vs) ≡ Stopped
+none_begun kind.Skip i vs h = absurd (let e : false ≡ true = h in cc)
+none_begun kind.Stop i vs h = absurd (let e : false ≡ true = h in cc)
+none_begun (kind.Set v a) i vs h = absurd (let e : false ≡ true = h in cc)
+none_begun (kind.Send c a) i vs h = absurd (let e : false ≡ true = h in cc)
+none_begun (kind.Receive c v) i vs h = absurd (let e : false ≡ true = h in cc)
+none_begun (kind.Stopch c) i vs h = absurd (let e : false ≡ true = h in cc)
+none_begun kind.Seq i vs h = refl
+none_begun kind.Par i vs h = absurd (let e : false ≡ true = h in cc)
+none_begun (kind.If bs) i vs h = refl
+none_begun (kind.While b) i [] h = refl
+none_begun (kind.While b) i (v ∷ vs) h = refl
+none_begun (kind.Count v a n) i vs h = absurd (let e : false ≡ true = h in cc)
+none_begun (kind.Alt gs) i vs h = refl
+
+pub begun_nothing : (k : Kind) (i : ℕ) (vs : List View) → ((c : ℕ) (a : Value) → k ≡ kind.Send c a → ⊥) → ((c v : ℕ) → k ≡ kind.Receive c v → ⊥) → as_begun (plan_at k i vs) ≡ Stopped
+begun_nothing kind.Skip i vs s r = refl
+begun_nothing kind.Stop i vs s r = refl
+begun_nothing (kind.Set v a) i vs s r = refl
+begun_nothing (kind.Send c a) i vs s r = absurd (s c a refl)
+begun_nothing (kind.Receive c v) i vs s r = absurd (r c v refl)
+begun_nothing (kind.Stopch c) i vs s r = refl
+begun_nothing kind.Seq i vs s r = refl
+begun_nothing kind.Par i vs s r = refl
+begun_nothing (kind.If bs) i vs s r = refl
+begun_nothing (kind.While b) i [] s r = refl
+begun_nothing (kind.While b) i (v ∷ vs) s r = refl
+begun_nothing (kind.Count v a n) i [] s r = refl
+begun_nothing (kind.Count v a n) i (w ∷ vs) s r = refl
+begun_nothing (kind.Alt gs) i vs s r = refl
+
+-- where the part has begun, resting changes nothing
+pub resting_same : (k : ℕ) (vs : List View) (v : View) → slice_get vs k ≡ Some v → v.1 ≡ as_begun v.0 → resting_at k vs ≡ vs
+resting_same k [] v h g = refl
+resting_same zero (w ∷ vs) v h g =
+    let e : w ≡ v = cc in
+    ap (λ (x : View). x ∷ vs) (subst (λ (u : View). (u.0, as_begun u.0) ≡ u) (sym e) (ap (λ (r : Rest). (v.0, r)) (sym g)))
+resting_same (suc k) (w ∷ vs) v h g = ap (λ (us : List View). w ∷ us) (resting_same k vs v h g)

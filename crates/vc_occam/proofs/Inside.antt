@@ -1,6 +1,6 @@
 -- What may do something in a frame is one of its process's sites.
-use Rattle.std.proofs.Common.{ℕ, zero, suc, ℤ, sym, subst, List, [], ◌∷◌, map, drop, Option, Some, None}
-use Rattle.std.specs.Prelude.{slice_get}
+use Rattle.std.proofs.Common.{ℕ, zero, suc, ℤ, Bool, true, false, sym, subst, List, [], ◌∷◌, map, drop, Option, Some, None}
+use Rattle.std.specs.Prelude.{slice_get, if◌then◌else◌}
 use Rattle.vc_occam.specs.declared.frame.Frame.{Frame}
 use Rattle.vc_occam.specs.declared.frame.Frame.TheOpen.{Frame-F}
 use Rattle.vc_occam.specs.declared.frame.Frame.TheFolds.{ind-Frame}
@@ -9,14 +9,15 @@ use Rattle.vc_occam.specs.declared.kind.Kind.TheVariants as kind
 use Rattle.vc_occam.specs.declared.phase.Phase.{Phase}
 use Rattle.vc_occam.specs.declared.phase.Phase.TheVariants as phase
 use Rattle.vc_occam.specs.Gates.{Gate, gate}
-use Rattle.vc_occam.specs.Syntax.{Exp, Test, Proc, STOP, Procs, no_parts, part}
-use Rattle.vc_occam.specs.Remains.{Rest, Fresh, and_then}
+use Rattle.vc_occam.specs.Syntax.{Exp, Test, Proc, STOP, Output, Input, Procs, no_parts, part}
+use Rattle.vc_occam.specs.Remains.{Rest, Stopped, Fresh, and_then}
 use Rattle.vc_occam.specs.Terms.{exp, as_test}
 use Rattle.vc_occam.specs.Usage.{Set, just, nothing, ◌∪◌}
 use Rattle.vc_occam.specs.Sites.{sites, sites_all, sites_branches, sites_guards}
-use Rattle.vc_occam.specs.Frames.{View, awaiting, branches_of, chosen_at, count_of, follow, going_at, guards_of, plan_at, plans_of, rest_at, together, turn_of, turning, view, views, while_of}
+use Rattle.vc_occam.specs.Frames.{View, as_begun, awaiting, branches_of, chosen_at, count_of, follow, going_at, guards_of, has_parts, place_of, plan_at, plans_of, rest_at, resting, resting_at, together, turn_of, turning, view, views, while_of}
 use Rattle.vc_occam.proofs.Frames.{view_roll}
 use Rattle.vc_occam.proofs.Places.{AllWithin, besides_sites, doers}
+use Rattle.vc_occam.proofs.Stepping.{resting_plans, same_plan}
 use Rattle.vc_occam.proofs.Sites.{Within, within_left, within_none, within_right}
 
 later : (a b c : Set) → Within a c → Within a (b ∪ c)
@@ -116,6 +117,25 @@ together_inside (kind.While b) i vs w = within_none (sites (while_of i (as_test 
 together_inside (kind.Count v a n) i vs w = within_none (sites (count_of i v (exp a) (exp n) vs))
 together_inside (kind.Alt gs) i vs w = within_none (just i ∪ sites_guards (guards_of (map gate gs.inputs) vs))
 
+begun_inside : (p : Proc) → Within (doers (as_begun p)) (sites p)
+begun_inside (Output i c a) = λ k e. e
+begun_inside (Input i c v) = λ k e. e
+begun_inside p = within_none (sites p)
+
+part_inside : (k : ℕ) (vs : List View) → AllWithin vs → AllWithin (resting_at k vs)
+part_inside k [] w = tt
+part_inside zero (v ∷ vs) w = (begun_inside v.0, w.1)
+part_inside (suc k) (v ∷ vs) w = (w.0, part_inside k vs w.1)
+
+resting_inside : (k : Kind) (i : ℕ) (vs : List View) (at : ℕ) → AllWithin vs → Within (doers (resting k i vs at)) (sites (plan_at k i vs))
+resting_inside k i vs at w = on (has_parts k)
+  where
+    on : (b : Bool) → Within (doers (if b then going_at k i (resting_at (place_of k at) vs) at else Stopped)) (sites (plan_at k i vs))
+    on false = within_none (sites (plan_at k i vs))
+    on true =
+        let n = place_of k at in
+        subst (λ (p : Proc). Within (doers (going_at k i (resting_at n vs) at)) (sites p)) (same_plan k i vs (resting_at n vs) (resting_plans n vs)) (going_inside k i (resting_at n vs) at (part_inside n vs w))
+
 fresh_inside : (p : Proc) → Within (doers (Fresh p)) (sites p)
 fresh_inside (STOP i) = within_none (just i)
 fresh_inside p = λ k e. e
@@ -123,6 +143,7 @@ fresh_inside p = λ k e. e
 phase_inside : (ph : Phase) (k : Kind) (i : ℕ) (vs : List View) (at : ℕ) → AllWithin vs → Within (doers (rest_at k ph i vs at)) (sites (plan_at k i vs))
 phase_inside phase.Ready k i vs at w = fresh_inside (plan_at k i vs)
 phase_inside phase.Waiting k i vs at w = going_inside k i vs at w
+phase_inside phase.Resting k i vs at w = resting_inside k i vs at w
 phase_inside (phase.Turning x y) k i vs at w = turning_inside k i vs x y w
 phase_inside phase.Together k i vs at w = together_inside k i vs w
 phase_inside phase.Chosen k i vs at w = awaiting_inside k i vs at

@@ -24,6 +24,7 @@ pub mod Meets
 pub mod Making
 pub mod Listed
 pub mod Openly
+pub mod Outset
 pub mod Places
 pub mod Preorder
 pub mod Numbers

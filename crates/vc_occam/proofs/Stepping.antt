@@ -15,10 +15,10 @@ use Rattle.vc_occam.specs.Values.{Store}
 use Rattle.vc_occam.specs.Remains.{Rest, Done, Stopped, Fresh, Finishing, Getting, Then, Turns, Beside, and_then, then_on, in_then}
 use Rattle.vc_occam.specs.Gates.{Gate, gate}
 use Rattle.vc_occam.specs.Sites.{InPreorder, PartsInPreorder, BranchesInPreorder, GuardsInPreorder}
-use Rattle.vc_occam.specs.Frames.{Able, Did, HasVariables, PartHasVariables, PartInPreorder, View, assigned_at, begun_at, behind, branches_of, count_of, follow, follow_on, goes_within, gone_on, guards_of, has_parts, is_counted, is_done, is_last, is_par, on_part, part_assigned, part_done, part_rest, place_of, plan_at, plans, plans_of, rest_at, view, views, while_of}
+use Rattle.vc_occam.specs.Frames.{Able, Did, HasVariables, PartHasVariables, PartInPreorder, View, assigned_at, begun_at, behind, branches_of, count_of, follow, follow_on, goes_within, gone_on, guards_of, has_parts, is_counted, is_done, is_last, is_par, on_part, part_assigned, part_done, part_rest, place_of, plan_at, resting_at, plans, plans_of, rest_at, view, views, while_of}
 use Rattle.vc_occam.specs.Nexts.{goes_further, seq_begun, seq_next}
 use Rattle.vc_occam.proofs.Beginning.{begun_plans}
-use Rattle.vc_occam.proofs.Frames.{going_part, follow_assigned, went_done}
+use Rattle.vc_occam.proofs.Frames.{going_part, follow_assigned, resting_goes, resting_stops, went_done}
 use Rattle.vc_occam.proofs.Stores.{or_left, or_right}
 
 then_able : (r : Rest) (ps : Procs) (e : Store) (s : ℕ) (d : Deed) → Able (and_then r ps) e s d → Able r e s d
@@ -232,6 +232,7 @@ goes_undone k i ph vs at p h t g e =
 pub idle : (k : Kind) (ph : Phase) (i : ℕ) (vs : List View) (at : ℕ) (e : Store) (s : ℕ) (d : Deed) → goes_within k ph ≡ false → (ph ≡ phase.Ready → ⊥) → (ph ≡ phase.Waiting → ⊥) → (ph ≡ phase.Chosen → ⊥) → Able (rest_at k ph i vs at) e s d → Did (rest_at k ph i vs at) e s d (rest_at k ph i vs at) e
 idle k phase.Ready i vs at e s d h f g w a = absurd (f refl)
 idle k phase.Waiting i vs at e s d h f g w a = absurd (g refl)
+idle k phase.Resting i vs at e s d h f g w a = absurd (let z : true ≡ false = h in cc)
 idle k (phase.Turning x y) i vs at e s d h f g w a = absurd (let z : true ≡ false = h in cc)
 idle k phase.Together i vs at e s d h f g w a = absurd (let z : true ≡ false = h in cc)
 idle k phase.Chosen i vs at e s d h f g w a = absurd (w refl)
@@ -359,6 +360,11 @@ set_plans [] k f g h e = refl
 set_plans (x ∷ fs) zero f g h e = ap (λ p. p ∷ plans (views fs)) (e ∙ ap (λ (y : Frame). (view y).0) h)
 set_plans (x ∷ fs) (suc k) f g h e = ap (λ ps. (view x).0 ∷ ps) (set_plans fs k f g h e)
 
+pub settled : (fs : List Frame) (k : ℕ) (f g : Frame) → k < length fs → f ≡ get_or fs k f → view g ≡ view f → views (set fs k g) ≡ views fs
+settled [] k f g l h e = refl
+settled (x ∷ fs) zero f g l h e = ap (λ (v : View). v ∷ views fs) (e ∙ ap view h)
+settled (x ∷ fs) (suc k) f g l h e = ap (λ (vs : List View). view x ∷ vs) (settled fs k f g (omega arith) h e)
+
 pub set_changed : (fs : List Frame) (k : ℕ) (g : Frame) → views (set fs k g) ≡ set (views fs) k (view g)
 set_changed [] k g = refl
 set_changed (x ∷ fs) zero g = refl
@@ -420,3 +426,34 @@ seq_plans k vs = on (goes_further k vs)
     on : (b : Bool) → plans (if b then begun_at (suc k) vs else vs) ≡ plans vs
     on true = begun_plans (suc k) vs
     on false = refl
+
+pub resting_plans : (k : ℕ) (vs : List View) → plans (resting_at k vs) ≡ plans vs
+resting_plans k [] = refl
+resting_plans zero (v ∷ vs) = refl
+resting_plans (suc k) (v ∷ vs) = ap (λ (ps : List Proc). v.0 ∷ ps) (resting_plans k vs)
+
+-- the part of a process that rests can do what the process can
+pub resting_able : (k : Kind) (i : ℕ) (ph : Phase) (vs : List View) (at p : ℕ) (e : Store) (s : ℕ) (d : Deed) → ph ≡ phase.Resting → has_parts k ≡ true → p ≡ place_of k at → Able (rest_at k ph i vs at) e s d → Able (part_rest (slice_get (resting_at p vs) p)) e s d
+resting_able k i ph vs at p e s d h t g a =
+    let q = place_of k at in
+    let b = subst (λ (r : Rest). Able r e s d) (ap (λ (x : Phase). rest_at k x i vs at) h ∙ resting_goes k i vs at t) a in
+    subst (λ (n : ℕ). Able (part_rest (slice_get (resting_at n vs) n)) e s d) (sym g) (within_able k i phase.Waiting (resting_at q vs) at q e s d refl t refl b)
+
+pub resting_did : (k : Kind) (i : ℕ) (ph : Phase) (vs ws : List View) (at p : ℕ) (e f : Store) (s : ℕ) (d : Deed) (r : Rest) → ph ≡ phase.Resting → has_parts k ≡ true → p ≡ place_of k at → plans ws ≡ plans vs →
+    r ≡ follow_on (slice_get ws (place_of k at)) (behind k i ws at) → Did (part_rest (slice_get (resting_at p vs) p)) e s d (part_rest (slice_get ws p)) f → Did (rest_at k ph i vs at) e s d r f
+resting_did k i ph vs ws at p e f s d r h t g q z y =
+    let n = place_of k at in
+    let us = resting_at n vs in
+    let st = subst (λ (m : ℕ). Did (part_rest (slice_get (resting_at m vs) m)) e s d (part_rest (slice_get ws m)) f) g y in
+    subst (λ (x : Rest). Did x e s d r f) (sym (ap (λ (x : Phase). rest_at k x i vs at) h ∙ resting_goes k i vs at t))
+    (within_did k i phase.Waiting us ws at n e f s d r refl t refl (q ∙ sym (resting_plans n vs)) z st)
+
+pub resting_never : (k : Kind) (i : ℕ) (ph : Phase) (vs : List View) (at : ℕ) (e : Store) (s : ℕ) (d : Deed) (r : Rest) → ph ≡ phase.Resting → has_parts k ≡ false → Able (rest_at k ph i vs at) e s d → Did (rest_at k ph i vs at) e s d r e
+resting_never k i ph vs at e s d r h t a =
+    never _ r e e s d (subst (λ (x : Rest). Able x e s d) (ap (λ (x : Phase). rest_at k x i vs at) h ∙ resting_stops k i vs at t) a)
+
+stopped_never : (e : Store) (s : ℕ) (d : Deed) → Able Stopped e s d → ⊥
+stopped_never e s d (ks, q, f, st) = elim st [ ]
+
+pub never_able : (r : Rest) (e : Store) (s : ℕ) (d : Deed) → r ≡ Stopped → Able r e s d → ⊥
+never_able r e s d h a = stopped_never e s d (subst (λ (x : Rest). Able x e s d) h a)

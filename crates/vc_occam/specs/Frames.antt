@@ -11,14 +11,17 @@ use Rattle.vc_occam.specs.declared.frame.Frame.TheOpen.{Frame-F}
 use Rattle.vc_occam.specs.declared.frame.Frame.TheFolds.{fold-Frame}
 use Rattle.vc_occam.specs.declared.moves.Move.{Move}
 use Rattle.vc_occam.specs.declared.moves.Move.TheVariants as move
+use Rattle.vc_occam.specs.declared.begins.Begins.{Begins}
+use Rattle.vc_occam.specs.declared.begins.Begins.TheVariants as begins
 use Rattle.vc_occam.specs.declared.datum.Datum.{Datum}
+use Rattle.vc_occam.specs.declared.datum.Datum.TheVariants as datum
 use Rattle.vc_occam.specs.declared.deed.Deed.{Deed}
 use Rattle.vc_occam.specs.declared.waits.Waits.{Waits}
 use Rattle.vc_occam.specs.declared.waits.Waits.TheVariants as waits
-use Rattle.vc_occam.specs.Values.{Store, datum_of, holds}
+use Rattle.vc_occam.specs.Values.{Store, holds, text_of}
 use Rattle.vc_occam.specs.Traces.{Comm}
 use Rattle.vc_occam.specs.Usage.{changes}
-use Rattle.vc_occam.specs.Syntax.{Exp, Test, Constant, Proc, SKIP, STOP, Assign, Output, Input, StopChan, SEQ, PAR, IF, WHILE, COUNT, ALT, Procs, no_parts, part, Branches, no_branches, branch, Guards, no_guards, guard}
+use Rattle.vc_occam.specs.Syntax.{Given, Whole, Bytes, Exp, Test, Constant, Proc, SKIP, STOP, Assign, Output, Input, StopChan, SEQ, PAR, IF, WHILE, COUNT, ALT, Procs, no_parts, part, Branches, no_branches, branch, Guards, no_guards, guard}
 use Rattle.vc_occam.specs.Terms.{exp, given, as_test}
 use Rattle.vc_occam.specs.Remains.{Rest, Done, Stopped, Fresh, Finishing, Getting, Then, Turns, Beside, and_then, then_on, beside_on, begin, Step}
 use Rattle.vc_occam.specs.Sites.{InPreorder, site}
@@ -163,18 +166,35 @@ abbrev pub awaiting : Kind → ℕ → List View → ℕ → Rest
 awaiting (kind.Alt gs) i vs k = chosen_at i (slice_get (map gate gs.inputs) k) (slice_get vs k)
 awaiting p i vs k = Stopped
 
+-- an output or input that has begun and hasn't ended; no other process goes on so
+abbrev pub as_begun : Proc → Rest
+as_begun (Output i c a) = Finishing i c
+as_begun (Input i c v) = Getting i c v
+as_begun p = Stopped
+
+-- the k-th part has begun and hasn't ended
+abbrev pub resting_at : ℕ → List View → List View
+resting_at k [] = []
+resting_at zero (v ∷ vs) = (v.0, as_begun v.0) ∷ vs
+resting_at (suc k) (v ∷ vs) = v ∷ resting_at k vs
+
+-- a process that goes on at such a part
+abbrev pub resting : Kind → ℕ → List View → ℕ → Rest
+resting k i vs at = if has_parts k then going_at k i (resting_at (place_of k at) vs) at else Stopped
+
 -- what remains of a process that is so far
-abbrev pub so_far : Phase → Proc → Rest → Rest → Rest → (ℤ → ℤ → Rest) → Rest
-so_far phase.Ready p r w b t = Fresh p
-so_far phase.Waiting p r w b t = r
-so_far (phase.Turning x y) p r w b t = t x y
-so_far phase.Together p r w b t = b
-so_far phase.Chosen p r w b t = w
-so_far phase.Ended p r w b t = Done
-so_far phase.Stuck p r w b t = Stopped
+abbrev pub so_far : Phase → Proc → Rest → Rest → Rest → Rest → (ℤ → ℤ → Rest) → Rest
+so_far phase.Ready p r z w b t = Fresh p
+so_far phase.Waiting p r z w b t = r
+so_far phase.Resting p r z w b t = z
+so_far (phase.Turning x y) p r z w b t = t x y
+so_far phase.Together p r z w b t = b
+so_far phase.Chosen p r z w b t = w
+so_far phase.Ended p r z w b t = Done
+so_far phase.Stuck p r z w b t = Stopped
 
 abbrev pub rest_at : Kind → Phase → ℕ → List View → ℕ → Rest
-rest_at k ph i vs at = so_far ph (plan_at k i vs) (going_at k i vs at) (awaiting k i vs at) (together k vs) (turning k vs)
+rest_at k ph i vs at = so_far ph (plan_at k i vs) (going_at k i vs at) (resting k i vs at) (awaiting k i vs at) (together k vs) (turning k vs)
 
 -- one frame, with what its parts stand for in their place
 unfoldable pub view_step : Frame-F View → View
@@ -201,9 +221,14 @@ abbrev pub part_done : Option View → Bool
 part_done None = false
 part_done (Some v) = is_done v.1
 
--- the value that the assignment at a site is about to assign
+-- what is assigned, where that is bytes
+abbrev pub assigned_bytes : Given → Store → Option Datum
+assigned_bytes (Whole a) e = None
+assigned_bytes (Bytes a) e = Some (datum.Bytes (text_of a e))
+
+-- the bytes that the assignment at a site is about to assign
 abbrev pub assigned_at : ℕ → Rest → Store → Option Datum
-assigned_at i (Fresh (Assign j v a)) e = if i == j then datum_of a e else None
+assigned_at i (Fresh (Assign j v a)) e = if i == j then assigned_bytes a e else None
 assigned_at i (Then r ps) e = assigned_at i r e
 assigned_at i (Turns r v b n p) e = assigned_at i r e
 assigned_at i (Beside mine r q) e = or_else (assigned_at i r e) (assigned_at i q e)
@@ -229,6 +254,16 @@ part_output i (Some v) e = output_at i v.1 e
 abbrev pub part_assigned : ℕ → Option View → Store → Option Datum
 part_assigned i None e = None
 part_assigned i (Some v) e = assigned_at i v.1 e
+
+-- it begins with this, whatever the variables hold
+abbrev pub BeginsWith : Begins → Rest → Type 0
+BeginsWith begins.Nothing r = (e : Store) → own r e ≡ []
+BeginsWith (begins.Quiet i) r = (e : Store) → (own r e ≡ move.Quiet i ∷ []) × ((j : ℕ) → assigned_at j r e ≡ None)
+BeginsWith begins.Other r = Unit {0}
+
+-- the k-th part is there, and it begins with what this part begins with
+abbrev pub BeginsAs : ℕ → List View → Rest → Type 0
+BeginsAs k vs r = (k < length vs) × ((b : Begins) → BeginsWith b (part_rest (slice_get vs k)) → BeginsWith b r)
 
 abbrev pub listed : Option Move → List Move
 listed None = []
@@ -326,6 +361,7 @@ gone_on k i vs at = follow_on (slice_get vs (place_of k at)) (behind k i vs at)
 -- a process that is so far goes on within a part
 abbrev pub goes_within : Kind → Phase → Bool
 goes_within k phase.Waiting = has_parts k
+goes_within k phase.Resting = true
 goes_within k (phase.Turning x y) = true
 goes_within k phase.Together = true
 goes_within k ph = false

@@ -1,5 +1,6 @@
 //! What expressions and conditions are worth.
 ghost use Rattle.std.specs.Prelude.{◌≡◌, IfOk, is_some};
+ghost use Rattle.vc_occam.specs.Frames.{assigned_bytes};
 ghost use Rattle.vc_occam.specs.Terms.{store, exp, as_test, text, given};
 ghost use Rattle.vc_occam.specs.Values.{whole_of, bytes_of, result as result_of, value_of, compares, holds, text_of, datum_of};
 
@@ -166,6 +167,31 @@ impl Value {
         match self {
             Value::Int(number) => Ok(number.value(vars).map(Datum::Int)),
             Value::Bytes(bytes) => Ok(Some(Datum::Bytes(bytes.bytes(alloc, vars)?))),
+        }
+    }
+
+    /// Its bytes, or None where it is a number.
+    pub(crate) fn assigned_bytes(
+        &self,
+        alloc: Global,
+        vars: &[Datum],
+    ) -> Result<Option<Datum>, Memory>
+        ensures { IfOk result (λ datum. datum ≡ assigned_bytes (given self.now) (store vars.now)) }
+    {
+        match self {
+            Value::Int(_) => Ok(None),
+            Value::Bytes(bytes) => Ok(Some(Datum::Bytes(bytes.bytes(alloc, vars)?))),
+        }
+    }
+
+    /// Its value, or None where it is a fault, where these are its bytes.
+    #[inline(always)]
+    pub(crate) fn assigned(&self, bytes: Option<Datum>, vars: &[Datum]) -> Option<Datum>
+        ensures { bytes ≡ assigned_bytes (given self.now) (store vars.now) → result ≡ datum_of (given self.now) (store vars.now) }
+    {
+        match self {
+            Value::Int(number) => number.value(vars).map(Datum::Int),
+            Value::Bytes(_) => bytes,
         }
     }
 }

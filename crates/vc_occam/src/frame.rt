@@ -102,6 +102,7 @@ pub(crate) fn is_ended(kind: &Kind, phase: Phase, parts: &Vec<Frame>, at: usize)
         Phase::Ended => true,
         Phase::Waiting => kind.is_last(at, parts.len()) && part_ended(parts, kind.place(at)),
         Phase::Ready => false,
+        Phase::Resting => false,
         Phase::Turning { .. } => false,
         Phase::Together => kind.is_par() && all_ended(parts),
         Phase::Chosen => false,

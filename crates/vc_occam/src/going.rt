@@ -1,8 +1,8 @@
 //! How frames go on: one site does something.
-ghost use Rattle.std.specs.Prelude.{◌≡◌, ◌<◌, ◌&&◌, length, map, nat_le, nat_lt, slice_get, suc, false, true, List, [], ℕ, ℤ, ◌^◌};
+ghost use Rattle.std.specs.Prelude.{◌≡◌, ◌<◌, ◌&&◌, IsTrue, length, map, nat_le, nat_lt, slice_get, suc, false, true, List, [], ℕ, ℤ, ◌^◌};
 ghost use Rattle.vc_occam.specs.declared.deed.Deed.TheVariants.{Quiet};
 ghost use Rattle.vc_occam.specs.declared.frame.Frame.TheViews.{out-Frame};
-ghost use Rattle.vc_occam.specs.Frames.{Able, ChangedAt, Did, HasVariables, PartHasVariables, PartInPreorder, View, assigned_at, awaiting, is_choice, is_counted, part_done, goes_within, gone_on, part_assigned, place_of, begun_at, behind, chosen_from, going_at, besides, has_parts, is_done, is_last, part_rest, plan_at, plans, rest_at, together, view, views};
+ghost use Rattle.vc_occam.specs.Frames.{Able, ChangedAt, Did, HasVariables, PartHasVariables, PartInPreorder, View, as_begun, assigned_at, awaiting, is_choice, is_counted, part_done, goes_within, gone_on, part_assigned, place_of, begun_at, behind, chosen_from, going_at, besides, has_parts, is_done, is_last, part_rest, plan_at, plans, rest_at, resting_at, together, view, views};
 ghost use Rattle.vc_occam.specs.Gates.{gate};
 ghost use Rattle.vc_occam.specs.Nexts.{GateHasVariable, branch_next, choice_begun, choice_next, choice_store, count_begun, count_phase, count_store, gate_begun, gate_next, gate_store, seq_begun, seq_next, stuck_next, TurnEnded, turn_begun, turn_next, turn_phase, turn_store, turn_views};
 ghost use Rattle.vc_occam.specs.declared.deed.Deed.{Deed};
@@ -57,7 +57,7 @@ pub(crate) fn begin_alone(
         Kind::Skip => Phase::Ended,
         Kind::Par => Phase::Ended,
         Kind::Stopch { .. } => Phase::Ended,
-        Kind::Set { var, .. } => match doing.assigned.take() {
+        Kind::Set { var, value } => match value.assigned(doing.assigned.take(), vars) {
             Some(datum) => {
                 set_variable(vars, *var, datum);
                 Phase::Ended
@@ -419,7 +419,17 @@ impl Frame {
                 if self.kind.is_par() {
                     let place = part_with(&self.parts, doing.site);
                     let ended = go_within(place, &mut self.parts, doing, vars);
+                    settle_part(place, &mut self.parts);
                     return ended && self.all_parts_ended();
+                }
+                false
+            }
+            Phase::Resting => {
+                if self.kind.has_parts() {
+                    let place = self.kind.place(self.at);
+                    let ended = end_part(place, &mut self.parts, doing, vars);
+                    self.phase = Phase::Waiting;
+                    return ended && self.leave_part();
                 }
                 false
             }
@@ -453,6 +463,48 @@ impl Frame {
         self.phase = went.next.phase;
         self.at = went.next.at;
         went.ended
+    }
+
+    /// An output or input that has begun and hasn't ended goes on; answers whether nothing remains then.
+    fn end_begun(&mut self, doing: &mut SiteDeed, vars: &mut Vec<Datum>) -> bool
+        requires able { Able (as_begun (view self.old).0) (store vars.old.items) doing.old.site doing.old.deed }
+        requires variables { HasVariables (view self.old).0 (length vars.old.items) }
+        ensures did { Did (as_begun (view self.old).0) (store vars.old.items) doing.old.site doing.old.deed (view self.new).1 (store vars.new.items) }
+        ensures plan { (view self.new).0 ≡ (view self.old).0 }
+        ensures ended { result ≡ is_done (view self.new).1 }
+        ensures length { length vars.new.items ≡ length vars.old.items }
+    {
+        if self.kind.has_parts() {
+            return false;
+        }
+        let phase = end_alone(self.site, &self.kind, doing, vars);
+        self.phase = phase;
+        self.ended()
+    }
+
+    /// Where the part that it is at is an output or input that waits, it rests.
+    fn settle(&mut self)
+        ensures { view self.new ≡ view self.old }
+    {
+        if let Phase::Waiting = self.phase {
+            if self.kind.has_parts() && part_has_begun(self.kind.place(self.at), &self.parts) {
+                self.phase = Phase::Resting;
+            }
+        }
+    }
+
+    /// Whether it is an output or input that has begun and hasn't ended.
+    fn has_begun(&self) -> bool
+        ensures { IsTrue result → (view self.now).1 ≡ as_begun (view self.now).0 }
+    {
+        if let Phase::Waiting = self.phase {
+            return match self.kind {
+                Kind::Send { .. } => true,
+                Kind::Receive { .. } => true,
+                _ => false,
+            };
+        }
+        false
     }
 
     /// The part that it is at has ended: a SEQ begins the next one, and a WHILE tests again; answers whether nothing remains then.
@@ -592,6 +644,40 @@ fn go_within(at: usize, parts: &mut Vec<Frame>, doing: &mut SiteDeed, vars: &mut
         return parts[at].go(doing, vars);
     }
     false
+}
+
+/// The part at a place goes on, which is an output or input that has begun.
+fn end_part(at: usize, parts: &mut Vec<Frame>, doing: &mut SiteDeed, vars: &mut Vec<Datum>) -> bool
+    requires able { Able (part_rest (slice_get (resting_at at (views parts.old.items)) at)) (store vars.old.items) doing.old.site doing.old.deed }
+    requires variables { PartHasVariables (slice_get (views parts.old.items) at) (length vars.old.items) }
+    ensures did { Did (part_rest (slice_get (resting_at at (views parts.old.items)) at)) (store vars.old.items) doing.old.site doing.old.deed (part_rest (slice_get (views parts.new.items) at)) (store vars.new.items) }
+    ensures plans { plans (views parts.new.items) ≡ plans (views parts.old.items) }
+    ensures ended { result ≡ part_done (slice_get (views parts.new.items) at) }
+    ensures length { length vars.new.items ≡ length vars.old.items }
+{
+    if at < parts.len() {
+        return parts[at].end_begun(doing, vars);
+    }
+    false
+}
+
+/// Whether the part at a place is an output or input that has begun and hasn't ended.
+fn part_has_begun(at: usize, parts: &Vec<Frame>) -> bool
+    ensures { IsTrue result → resting_at at (views parts.now.items) ≡ views parts.now.items }
+{
+    if at < parts.len() {
+        return parts[at].has_begun();
+    }
+    false
+}
+
+/// Where the part at a place is at an output or input that waits, it rests.
+fn settle_part(at: usize, parts: &mut Vec<Frame>)
+    ensures { views parts.new.items ≡ views parts.old.items }
+{
+    if at < parts.len() {
+        parts[at].settle();
+    }
 }
 
 /// Where the part that a process was at has ended, a SEQ begins the next one, and a WHILE tests again.

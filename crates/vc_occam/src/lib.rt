@@ -8,8 +8,9 @@
 //! The layer above knows of a [`Running`] that [`Running::actions`] are the first moves of what remains, which
 //! [`Running::list_actions`] puts in a list that the caller keeps, [`Running::lists`] is true exactly of them, and
 //! [`Running::act`] and [`Running::resume`] each make exactly one step, whose communications, followed by any trace of what
-//! remains, are a trace of what remained before (`specs/States`). A message of another length than 8 on a channel of whole
-//! numbers is worth the number of its first eight bytes, missing ones being 0 (`specs/Messages`).
+//! remains, are a trace of what remained before (`specs/States`). [`Running::only_step`] names the only move where that is known
+//! to be a step without a communication, and [`Running::act_quietly`] makes one. A message of another length than 8 on a channel
+//! of whole numbers is worth the number of its first eight bytes, missing ones being 0 (`specs/Messages`).
 //!
 //! Laws of the definitions, for every word of the language, stand in `laws.rt`: what a step makes, followed by any trace of what
 //! remains, is a trace of what remained before; no step loses lawful use; each listed move can be made; what waits after whatever a
@@ -22,13 +23,17 @@
 //! what it stands for is said in `specs/Frames`. A part begins, ends and begins again by a change of its frame, without memory; what
 //! a site does is handed down to it by one borrow (`site_deed.rt`), and each frame answers on the way up whether it has ended. The
 //! parts of a PAR all go on, and since sites are in preorder the one that has a site is found by halving. Who waits on a channel is
-//! looked for first at the site that last began on it (`hints.rt`), and parts that wait are passed over where moves are listed. The
-//! invariant of a [`Running`] is that the variables that its process changes are there, that its sites are in preorder, and that parts side by
-//! side have no site in common and use channels and variables lawfully.
+//! looked for first at the site that last began on it (`hints.rt`). A part of a PAR that is at an output or input that waits rests,
+//! and is passed over at once where moves are listed; where all that a process begins with is nothing or one step without a
+//! communication, that is kept and nothing is listed (`begins.rt`). A number is worked out at its assignment, and bytes, which need
+//! memory, before the site is gone to. The invariant of a [`Running`] is that what is kept is what it begins with, that the
+//! variables that its process changes are there, that its sites are in preorder, and that parts side by side have no site in
+//! common and use channels and variables lawfully.
 #![tactic(auto)]
 
 mod answer;
 mod asked;
+mod begins;
 mod bytes_expression;
 mod channel_use;
 mod condition;

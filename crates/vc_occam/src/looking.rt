@@ -1,22 +1,25 @@
 //! What frames may begin with, wait for, output and assign.
-ghost use Rattle.std.specs.Prelude.{◌≡◌, ◌<◌, ◌↔◌, ◌++◌, ◌∷◌, [], IfOk, IsTrue, List, MatchOption, None, OnOk, Option, false, length, map, slice_get};
+ghost use Rattle.std.specs.Prelude.{◌≡◌, ◌<◌, ◌↔◌, ◌++◌, ◌∷◌, [], IfOk, IfSome, IsTrue, List, MatchOption, None, OnOk, Option, false, length, map, slice_get};
 ghost use Rattle.std.specs.List.{Contains};
+ghost use Rattle.vc_occam.specs.declared.begins.Begins.{Begins};
 ghost use Rattle.vc_occam.specs.declared.frame.Frame.TheViews.{out-Frame};
 ghost use Rattle.vc_occam.specs.First.{own};
 ghost use Rattle.vc_occam.specs.Gates.{gate};
-ghost use Rattle.vc_occam.specs.Frames.{BeginsAt, HasSiteIn, MovesAt, View, assigned_at, awaiting, besides, chosen_at, first_waits, is_choice, listed, part_own, part_waits, place_with, plan_at, plans_of, view, views, waits_at};
+ghost use Rattle.vc_occam.specs.Frames.{BeginsAs, BeginsAt, BeginsWith, HasSiteIn, MovesAt, View, as_begun, assigned_at, awaiting, besides, chosen_at, first_waits, is_choice, listed, part_own, part_waits, place_with, plan_at, plans_of, resting_at, view, views, waits_at};
 ghost use Rattle.vc_occam.specs.Remains.{Fresh};
 ghost use Rattle.vc_occam.specs.Sites.{InPreorder, PartsInPreorder};
 ghost use Rattle.vc_occam.specs.States.{Waiting, carried, output_at, waiting};
 ghost use Rattle.vc_occam.specs.Terms.{store};
 ghost use Rattle.vc_occam.specs.Values.{Store};
 
+use crate::begins::Begins;
 use crate::datum::Datum;
 use crate::frame::Frame;
 use crate::guarded::GuardedInput;
 use crate::kind::Kind;
 use crate::moves::{Move, site_of};
 use crate::phase::Phase;
+use crate::value::Value;
 use crate::waits::Waits;
 use sqlite_items::Items;
 use std::alloc::Global;
@@ -48,35 +51,101 @@ impl Frame {
                 }
                 Ok(())
             }
+            Phase::Resting => Ok(()),
             Phase::Chosen => Ok(()),
             Phase::Ended => Ok(()),
             Phase::Stuck => Ok(()),
         }
     }
 
-    /// Whether it begins with nothing, since it waits, has ended or never goes on. Where this is false it may begin.
-    #[cycle(rests)]
-    fn rests(&self) -> bool
-        ensures { IsTrue result → (e : Store) → own (view self.now).1 e ≡ [] }
+    /// What it begins with, whatever the variables hold.
+    #[inline(always)]
+    pub(crate) fn begins(&self) -> Begins
+        ensures { BeginsWith result (view self.now).1 }
+    {
+        self.innermost().begins_itself()
+    }
+
+    /// What the frame's own site begins with, where none of its parts goes on alone.
+    #[inline(always)]
+    fn begins_itself(&self) -> Begins
+        ensures { BeginsWith result (view self.now).1 }
     {
         match self.phase {
-            Phase::Ready => false,
+            Phase::Ready => ready_step(self.site, &self.kind, &self.parts),
             Phase::Waiting => {
                 if self.kind.has_parts() {
-                    return part_rests(&self.parts, self.kind.place(self.at));
+                    return Begins::Other;
                 }
-                true
+                Begins::Nothing
+            }
+            Phase::Resting => Begins::Nothing,
+            Phase::Turning { .. } => Begins::Other,
+            Phase::Together => Begins::Other,
+            Phase::Chosen => Begins::Nothing,
+            Phase::Ended => Begins::Nothing,
+            Phase::Stuck => Begins::Nothing,
+        }
+    }
+
+    /// The frame that goes on alone: this one, or one within it, down the parts that go on; a PAR's parts go on side by side.
+    fn innermost(&self) -> &Frame
+        ensures { (b : Begins) → BeginsWith b (view result.now).1 → BeginsWith b (view self.now).1 }
+    {
+        match self.part_alone() {
+            Some(at) => self.parts[at].innermost(),
+            None => self,
+        }
+    }
+
+    /// The place of the part that goes on alone; None where none does.
+    #[inline(always)]
+    fn part_alone(&self) -> Option<usize>
+        ensures { IfSome result (λ at. BeginsAs at (views (out-Frame self.now).parts.items) (view self.now).1) }
+    {
+        match self.phase {
+            Phase::Waiting => {
+                if self.kind.has_parts() {
+                    return place_among(&self.parts, self.kind.place(self.at));
+                }
+                None
             }
             Phase::Turning { .. } => {
                 if self.kind.is_counted() {
-                    return part_rests(&self.parts, 0);
+                    return place_among(&self.parts, 0);
                 }
-                true
+                None
             }
-            Phase::Together => false,
-            Phase::Chosen => true,
-            Phase::Ended => true,
-            Phase::Stuck => true,
+            Phase::Ready => None,
+            Phase::Resting => None,
+            Phase::Together => None,
+            Phase::Chosen => None,
+            Phase::Ended => None,
+            Phase::Stuck => None,
+        }
+    }
+
+    /// Whether it begins with nothing, whatever the variables hold. Where this is false it may begin.
+    fn rests(&self) -> bool
+        ensures { IsTrue result → (e : Store) → own (view self.now).1 e ≡ [] }
+    {
+        if let Phase::Resting = self.phase {
+            return true;
+        }
+        match self.begins() {
+            Begins::Nothing => true,
+            _ => false,
+        }
+    }
+
+    /// Its site, if it is an output or input that waits for this once it has begun.
+    fn waits_begun(&self, wanted: Waits) -> Option<u16>
+        ensures { result ≡ first_waits wanted (waiting (as_begun (view self.now).0)) }
+    {
+        match self.kind {
+            Kind::Send { chan, .. } => if_waits(self.site, Waits::Output { chan }, wanted),
+            Kind::Receive { chan, .. } => if_waits(self.site, Waits::Input { chan }, wanted),
+            _ => None,
         }
     }
 
@@ -112,6 +181,12 @@ impl Frame {
                     ),
                     _ => None,
                 }
+            }
+            Phase::Resting => {
+                if self.kind.has_parts() {
+                    return part_waits_begun(&self.parts, self.kind.place(self.at), wanted);
+                }
+                None
             }
             Phase::Turning { .. } => {
                 if self.kind.is_counted() {
@@ -170,6 +245,7 @@ impl Frame {
                 None
             }
             Phase::Ready => None,
+            Phase::Resting => None,
             Phase::Chosen => None,
             Phase::Ended => None,
             Phase::Stuck => None,
@@ -193,7 +269,7 @@ impl Frame {
         }
     }
 
-    /// The value that the assignment at a site is about to assign; None where it is a fault, or none begins there.
+    /// The bytes that the assignment at a site is about to assign; None where it assigns a number, or none begins there.
     pub(crate) fn assigned(
         &self,
         alloc: Global,
@@ -293,14 +369,14 @@ fn push_parts(found: &mut Items<Move>, parts: &Vec<Frame>, vars: &[Datum]) -> Re
     Ok(())
 }
 
-#[cycle(rests)]
-fn part_rests(parts: &Vec<Frame>, at: usize) -> bool
-    ensures { IsTrue result → (e : Store) → part_own (slice_get (views parts.now.items) at) e ≡ [] }
+/// The site of the part at a place, if that is an output or input that waits for this once it has begun.
+fn part_waits_begun(parts: &Vec<Frame>, at: usize, wanted: Waits) -> Option<u16>
+    ensures { result ≡ first_waits wanted (part_waits (slice_get (resting_at at (views parts.now.items)) at)) }
 {
     if at < parts.len() {
-        return parts[at].rests();
+        return parts[at].waits_begun(wanted);
     }
-    true
+    None
 }
 
 #[cycle(waits)]
@@ -399,6 +475,24 @@ fn ready_move(site: u16, kind: &Kind, parts: &Vec<Frame>, vars: &[Datum]) -> Opt
     }
 }
 
+/// What a process that hasn't begun begins with, whatever the variables hold.
+fn ready_step(site: u16, kind: &Kind, parts: &Vec<Frame>) -> Begins
+    ensures { BeginsWith result (Fresh (plan_at kind.now site (views parts.now.items))) }
+{
+    match kind {
+        Kind::Skip => Begins::Quiet { site },
+        Kind::Stop => Begins::Nothing,
+        Kind::Set { value, .. } => match value {
+            Value::Int(_) => Begins::Quiet { site },
+            Value::Bytes(_) => Begins::Other,
+        },
+        Kind::If { .. } => Begins::Quiet { site },
+        Kind::While { .. } if !parts.is_empty() => Begins::Quiet { site },
+        Kind::Count { .. } if !parts.is_empty() => Begins::Quiet { site },
+        _ => Begins::Other,
+    }
+}
+
 /// The message of an output that hasn't begun.
 fn ready_message(
     alloc: Global,
@@ -422,7 +516,7 @@ fn ready_message(
     }
 }
 
-/// The value of an assignment that hasn't begun.
+/// The bytes of an assignment that hasn't begun.
 fn ready_assigned(
     alloc: Global,
     own: u16,
@@ -437,7 +531,7 @@ fn ready_assigned(
         return Ok(None);
     }
     match kind {
-        Kind::Set { value, .. } => value.datum(alloc, vars),
+        Kind::Set { value, .. } => value.assigned_bytes(alloc, vars),
         _ => Ok(None),
     }
 }

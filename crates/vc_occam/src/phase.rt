@@ -7,6 +7,8 @@ pub(crate) enum Phase {
     Ready,
     /// Its output or input has begun and hasn't ended, or one of its parts goes on.
     Waiting,
+    /// One of its parts goes on, and that is an output or input that has begun and hasn't ended.
+    Resting,
     /// A turn of a counted SEQ goes on, with this index and the last one.
     Turning { index: i64, last: i64 },
     /// The parts of a PAR go on, side by side.

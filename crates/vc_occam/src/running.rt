@@ -1,15 +1,16 @@
 //! Running processes.
 ghost use Rattle.std.specs.Prelude.{◌≡◌, length};
-ghost use Rattle.vc_occam.specs.Frames.{HasVariables, view};
+ghost use Rattle.vc_occam.specs.Frames.{BeginsWith, HasVariables, view};
 ghost use Rattle.vc_occam.specs.InUse.{UsesLawfully};
 ghost use Rattle.vc_occam.specs.First.{own};
-ghost use Rattle.vc_occam.specs.Moving.{CanBegin, HasMet, at, deed_for as deed_of, deed_on as going_on, site_of as its_site};
-ghost use Rattle.vc_occam.specs.OneProof.{InPreorder-prop, OwnSites-prop, UsesLawfully-prop};
+ghost use Rattle.vc_occam.specs.Moving.{CanBegin, HasMet, at, deed_for as deed_of, deed_on as going_on};
+ghost use Rattle.vc_occam.specs.OneProof.{BeginsWith-prop, InPreorder-prop, OwnSites-prop, UsesLawfully-prop};
 ghost use Rattle.vc_occam.specs.Sites.{InPreorder, OwnSites};
 ghost use Rattle.vc_occam.specs.States.{came, carried, output_at};
 ghost use Rattle.vc_occam.specs.Terms.{store};
 
 use crate::answer::Answer;
+use crate::begins::Begins;
 use crate::datum::Datum;
 use crate::deed::Deed;
 use crate::frame::Frame;
@@ -34,10 +35,12 @@ pub struct Running {
     vars: Vec<Datum>,
     inside: Items<u16>,
     hints: Hints,
+    begins: Begins,
     ghost has_variables: { HasVariables (view frame).0 (length vars.items) },
     ghost in_preorder: { InPreorder (view frame).0 } by { InPreorder-prop (view frame).0 },
     ghost own_sites: { OwnSites (view frame).1 } by { OwnSites-prop (view frame).1 },
     ghost uses_lawfully: { UsesLawfully (view frame).1 } by { UsesLawfully-prop (view frame).1 },
+    ghost begins_so: { BeginsWith begins (view frame).1 } by { BeginsWith-prop begins (view frame).1 },
 }
 
 /// What the move's site does, where the channel gave this answer.
@@ -110,13 +113,12 @@ fn meet(
 }
 
 impl Running {
-    ghost use Rattle.std.specs.Prelude.{◌≡◌, ◌≤◌, ◌↔◌, ◌++◌, [], IsTrue, IfOk, OnOk, OnErr, MatchOption, Some, None, true, ℕ};
+    ghost use Rattle.std.specs.Prelude.{◌≡◌, ◌≤◌, ◌↔◌, ◌++◌, ◌∷◌, [], IsTrue, IfOk, IfSome, OnOk, OnErr, MatchOption, Some, None, true, ℕ};
     ghost use Rattle.std.specs.List.{Contains};
     ghost use Rattle.vc_occam.specs.First.{own};
     ghost use Rattle.vc_occam.specs.Frames.{assigned_at, waits_at};
     ghost use Rattle.vc_occam.specs.Moving.{CanMeet};
-    ghost use Rattle.vc_occam.specs.declared.answer.Answer.{Answer};
-    ghost use Rattle.vc_occam.specs.declared.deed.Deed.TheVariants.{Quiet};
+    ghost use Rattle.vc_occam.specs.declared.moves.Move.TheVariants as Move;
     ghost use Rattle.vc_occam.specs.Terms.{store};
     ghost use Rattle.vc_occam.specs.InOrder.{number};
     ghost use Rattle.vc_occam.specs.Numbering.{written};
@@ -125,7 +127,7 @@ impl Running {
     ghost use Rattle.vc_occam.specs.Remains.{Done};
     ghost use Rattle.vc_occam.specs.Runnings.{inner_channels, moves, state};
     ghost use Rattle.vc_occam.specs.Usage.{among};
-    ghost use Rattle.vc_occam.specs.States.{Acts, FitsMove, IsAwaited, IsQuiet, Resumes, doing, sent_by, waiting, output, input};
+    ghost use Rattle.vc_occam.specs.States.{Acts, FitsMove, IsAwaited, IsQuiet, Rests, Resumes, doing, sent_by, waiting, output, input};
 
     /// A process about to begin, its variables being 0 or without bytes. `inside` are the channels inside its node. At most 65,536
     /// processes are written in it, since a site's number has 16 bits.
@@ -145,12 +147,14 @@ impl Running {
         let vars = empty_variables(alloc, kinds)?;
         let inside = Items::from_slice(alloc, inside)?;
         let frame = begin_frame(alloc, process)?;
+        let begins = frame.begins();
         Ok(Running {
             alloc,
             frame,
             vars,
             inside,
             hints: Hints::new(),
+            begins,
         })
     }
 
@@ -178,9 +182,38 @@ impl Running {
         listed
     }
 
-    /// Puts the moves that it can begin with in an empty list; where no channel is inside the node they are its sites' own.
+    /// Puts the moves that it can begin with in an empty list.
     #[tactic(auto, unfolding(crate::specs::Runnings::state, crate::specs::Runnings::inner_channels))]
     fn push_actions(&self, found: &mut Items<Move>) -> Result<(), Memory>
+        requires { found.old ≡ [] }
+        ensures { OnOk result (found.new ≡ moves self.now) }
+    {
+        match self.begins {
+            Begins::Nothing => Ok(()),
+            Begins::Quiet { site } => {
+                found.push(Move::Quiet { site })?;
+                Ok(())
+            }
+            Begins::Other => self.push_joined(found),
+        }
+    }
+
+    /// The site of its only move, where that is known to be a step without a communication.
+    #[inline(always)]
+    #[tactic(auto, unfolding(crate::specs::Runnings::state, crate::specs::Runnings::inner_channels))]
+    pub fn only_step(&self) -> Option<u16>
+        ensures { IfSome result (λ site. moves self.now ≡ Move.Quiet site ∷ []) }
+    {
+        match self.begins {
+            Begins::Quiet { site } => Some(site),
+            _ => None,
+        }
+    }
+
+    /// Looks for the moves that it can begin with, and puts them in an empty list; where no channel is inside the node they are its
+    /// sites' own.
+    #[tactic(auto, unfolding(crate::specs::Runnings::state, crate::specs::Runnings::inner_channels))]
+    fn push_joined(&self, found: &mut Items<Move>) -> Result<(), Memory>
         requires { found.old ≡ [] }
         ensures { OnOk result (found.new ≡ moves self.now) }
     {
@@ -244,55 +277,79 @@ impl Running {
         ensures unchanged { OnErr result ((self.new ≡ self.old) × IsQuiet made.now) }
         ensures inside { inner_channels self.new ≡ inner_channels self.old }
     {
-        if let Move::Inner {
-            sender,
-            receiver,
-            guard,
-            chan,
-        } = made
-        {
-            let taken = partner(*receiver, *guard, *chan);
-            meet(
-                &mut self.frame,
-                &mut self.vars,
-                *sender,
-                *chan,
-                &taken,
-                answer,
-            );
-            return Ok(());
+        match made {
+            Move::Inner {
+                sender,
+                receiver,
+                guard,
+                chan,
+            } => {
+                let taken = partner(*receiver, *guard, *chan);
+                meet(
+                    &mut self.frame,
+                    &mut self.vars,
+                    *sender,
+                    *chan,
+                    &taken,
+                    answer,
+                );
+                self.begins = self.frame.begins();
+                Ok(())
+            }
+            Move::Quiet { site } => self.act_quietly(*site),
+            _ => {
+                self.act_alone(made, answer);
+                Ok(())
+            }
         }
-        self.act_alone(made, answer)
     }
 
-    /// Makes a move of one site.
+    /// Makes a move of one site, which is no step without a communication.
     #[tactic(auto, unfolding(crate::specs::Runnings::state, crate::specs::Runnings::inner_channels))]
-    fn act_alone(&mut self, made: &Move, answer: Answer) -> Result<(), Memory>
+    fn act_alone(&mut self, made: &Move, answer: Answer)
         requires listed { Contains (own (state self.old).rest (state self.old).store) made.now }
+        requires loud { IsQuiet made.now → ⊥ }
         requires fits { FitsMove made.now (sent_by (state self.old) made.now) answer }
-        ensures made { OnOk result (Acts (state self.old) (doing made.now (sent_by (state self.old) made.now) answer) (state self.new)) }
-        ensures unchanged { OnErr result ((self.new ≡ self.old) × IsQuiet made.now) }
+        ensures made { Acts (state self.old) (doing made.now (sent_by (state self.old) made.now) answer) (state self.new) }
         ensures inside { inner_channels self.new ≡ inner_channels self.old }
     {
-        let assigned = self.assigned_by(made)?;
         let mut doing = SiteDeed {
             site: site_of(made),
             deed: deed_for(made, answer),
+            assigned: None,
+        };
+        self.frame.go(&mut doing, &mut self.vars);
+        self.begins = self.frame.begins();
+        self.hints.note(made);
+    }
+
+    /// Makes a step without a communication. Where it is without memory nothing has changed.
+    #[tactic(auto, unfolding(crate::specs::Runnings::state, crate::specs::Runnings::inner_channels))]
+    pub fn act_quietly(&mut self, site: u16) -> Result<(), Memory>
+        requires listed { Contains (moves self.old) (Move.Quiet site) }
+        ensures made { OnOk result (Acts (state self.old) (Rests site) (state self.new)) }
+        ensures unchanged { OnErr result (self.new ≡ self.old) }
+        ensures inside { inner_channels self.new ≡ inner_channels self.old }
+    {
+        let assigned = self.assigned(site)?;
+        let mut doing = SiteDeed {
+            site,
+            deed: Deed::Quiet,
             assigned,
         };
         self.frame.go(&mut doing, &mut self.vars);
-        self.hints.note(made);
+        self.begins = self.frame.begins();
         Ok(())
     }
 
-    /// The value that the move assigns; None where it assigns none, or its value is a fault.
-    fn assigned_by(&self, made: &Move) -> Result<Option<Datum>, Memory>
-        ensures value { IfOk result (λ value. (answer : Answer) → deed_of made.now answer ≡ Quiet → value ≡ assigned_at (its_site made.now) (view self.now.frame).1 (store self.now.vars.items)) }
-        ensures quiet { OnErr result (IsQuiet made.now) }
+    /// The bytes that the site's step assigns; None where it assigns none.
+    #[inline(always)]
+    fn assigned(&self, site: u16) -> Result<Option<Datum>, Memory>
+        ensures { IfOk result (λ value. value ≡ assigned_at site (view self.now.frame).1 (store self.now.vars.items)) }
     {
-        match made {
-            Move::Quiet { site } => self.frame.assigned(self.alloc, *site, &self.vars),
-            _ => Ok(None),
+        match self.begins {
+            Begins::Quiet { .. } => Ok(None),
+            _ => self.frame.assigned(self.alloc, site, &self.vars),
         }
     }
 
@@ -309,6 +366,7 @@ impl Running {
             assigned: None,
         };
         self.frame.go(&mut doing, &mut self.vars);
+        self.begins = self.frame.begins();
     }
 
     /// A site that waits for this, if one does; it is looked for first at the hint.

@@ -5,7 +5,7 @@ use crate::datum::Datum;
 use crate::deed::Deed;
 use std::mem;
 
-/// What a site does. Where that makes an assignment, its value comes along, or None where it is a fault. The site takes out what it uses.
+/// What a site does. Where that assigns bytes, they come along; a number is worked out at the site. The site takes out what it uses.
 #[derive(Drop)]
 pub(crate) struct SiteDeed {
     pub(crate) site: u16,

@@ -4,8 +4,8 @@ use Rattle.vc_occam.specs.declared.frame.Frame.TheViews.{the_lemmas, out-Frame, 
 use Rattle.vc_occam.specs.declared.frame.Frame.{Frame}
 use Rattle.vc_occam.specs.declared.frame.Frame.TheOpen.{Frame-F}
 use Rattle.vc_occam.specs.declared.phase.Phase.{Phase}
-use Rattle.vc_occam.specs.declared.phase.Phase.TheVariants.{Turning, Ended, Stuck}
-use Rattle.vc_occam.specs.Frames.{Able, Did, HasVariables, View, assigned_at, besides, gone_on, is_done, part_done, part_rest, plan_at, plans, rest_at, view, views}
+use Rattle.vc_occam.specs.declared.phase.Phase.TheVariants.{Turning, Ended, Stuck, Waiting}
+use Rattle.vc_occam.specs.Frames.{Able, Did, HasVariables, View, assigned_at, besides, gone_on, is_done, part_done, part_rest, plan_at, plans, rest_at, resting_at, view, views}
 use Rattle.vc_occam.specs.Nexts.{TurnEnded}
 use Rattle.vc_occam.specs.Remains.{Done, Rest}
 use Rattle.vc_occam.specs.Sites.{InPreorder}
@@ -14,7 +14,7 @@ use Rattle.vc_occam.specs.Terms.{store}
 use Rattle.vc_occam.proofs.Abreast.{beside_rest, none_beside, part_able, part_did, part_preorder, part_value, part_variables}
 use Rattle.vc_occam.proofs.Ending.{able_there, besides_goes, same_length}
 use Rattle.vc_occam.proofs.Frames.{parts_len, view_roll, view_out}
-use Rattle.vc_occam.proofs.Stepping.{body_preorder, get_view, goes_undone, going_on, never, never_done, never_there, none_changed, none_view, par_preorder, phase_able, phase_did, same_plan, set_changed, set_plans, set_view, within_able, within_assigned, within_did, within_preorder, within_variables}
+use Rattle.vc_occam.proofs.Stepping.{body_preorder, get_view, goes_undone, going_on, never, never_done, never_there, none_changed, none_view, par_preorder, phase_able, phase_did, resting_able, resting_did, resting_never, same_plan, set_changed, set_plans, set_view, within_able, within_assigned, within_did, within_preorder, within_variables}
 use Rattle.vc_occam.proofs.Turns.{counted_is, none_turns, turn_goes, turn_gone, turn_undone, turning_able, turning_value, turning_variables}
 use Rattle.vc_occam.proofs.+go.Goals as goal
 
@@ -208,19 +208,25 @@ frame::Frame::go-go_within-ended-requires-then-is_par t c =
 pub frame::Frame::go-returns-then-ended-3-clause-did : goal.frame::Frame::go-returns-then-ended-3-clause-did
 frame::Frame::go-returns-then-ended-3-clause-did t c =
     let o = out-Frame c.args.self.now in
+    let vs = views o.parts.items in
     let h = sym c.is_par.ensures ∙ c.if-is_par.true in
-    simp (the_lemmas, view_roll, view_out)
-    (part_did o.kind o.site o.phase (views o.parts.items) (views c.go_within-ended-then-is_par.new.parts.items) c.part_with-place.result o.at _ _ c.args.doing.now.site c.args.doing.now.deed c.in-Together.is h c.go_within-ended-then-is_par.ensures.plans c.go_within-ended-then-is_par.ensures.others c.go_within-ended-then-is_par.ensures.did)
+    let e = store c.args.vars.now.items in
+    let s = c.args.doing.now.site in
+    let d = c.args.doing.now.deed in
+    let settled : views c.settle_part.new.parts.items ≡ views c.go_within-ended-then-is_par.new.parts.items = c.settle_part.ensures ∙ simp the_lemmas refl in
+    let st = part_did o.kind o.site o.phase vs (views c.go_within-ended-then-is_par.new.parts.items) c.part_with-place.result o.at _ _ s d c.in-Together.is h c.go_within-ended-then-is_par.ensures.plans c.go_within-ended-then-is_par.ensures.others c.go_within-ended-then-is_par.ensures.did in
+    simp (the_lemmas, view_roll, view_out) (subst (λ (ws : List View). Did (rest_at o.kind o.phase o.site vs o.at) e s d (rest_at o.kind o.phase o.site ws o.at) (store c.go_within-ended-then-is_par.new.vars.items)) (sym settled) st)
 
 pub frame::Frame::go-returns-then-ended-3-clause-plan : goal.frame::Frame::go-returns-then-ended-3-clause-plan
 frame::Frame::go-returns-then-ended-3-clause-plan t c =
     let o = out-Frame c.args.self.now in
-    simp (the_lemmas, view_roll, view_out) (same_plan o.kind o.site (views o.parts.items) (views c.go_within-ended-then-is_par.new.parts.items) c.go_within-ended-then-is_par.ensures.plans)
+    let settled : views c.settle_part.new.parts.items ≡ views c.go_within-ended-then-is_par.new.parts.items = c.settle_part.ensures ∙ simp the_lemmas refl in
+    simp (the_lemmas, view_roll, view_out) (same_plan o.kind o.site (views o.parts.items) (views c.settle_part.new.parts.items) (ap plans settled ∙ c.go_within-ended-then-is_par.ensures.plans))
 
 pub frame::Frame::go-returns-then-ended-3-clause-ended : goal.frame::Frame::go-returns-then-ended-3-clause-ended
 frame::Frame::go-returns-then-ended-3-clause-ended t c =
     let o = out-Frame c.args.self.now in
-    let ws = views c.go_within-ended-then-is_par.new.parts.items in
+    let ws = views c.settle_part.new.parts.items in
     let h = sym c.is_par.ensures ∙ c.if-is_par.true in
     let n : c.all_parts_ended.result ≡ is_done (besides ws) = c.all_parts_ended.ensures ∙ simp the_lemmas refl in
     simp (the_lemmas, view_roll, view_out) (n ∙ sym (ap is_done (beside_rest o.kind o.site o.phase ws o.at c.in-Together.is h)))
@@ -228,14 +234,20 @@ frame::Frame::go-returns-then-ended-3-clause-ended t c =
 pub frame::Frame::go-returns-else-ended-3-clause-did : goal.frame::Frame::go-returns-else-ended-3-clause-did
 frame::Frame::go-returns-else-ended-3-clause-did t c =
     let o = out-Frame c.args.self.now in
+    let vs = views o.parts.items in
     let h = sym c.is_par.ensures ∙ c.if-is_par.true in
-    simp (the_lemmas, view_roll, view_out)
-    (part_did o.kind o.site o.phase (views o.parts.items) (views c.go_within-ended-then-is_par.new.parts.items) c.part_with-place.result o.at _ _ c.args.doing.now.site c.args.doing.now.deed c.in-Together.is h c.go_within-ended-then-is_par.ensures.plans c.go_within-ended-then-is_par.ensures.others c.go_within-ended-then-is_par.ensures.did)
+    let e = store c.args.vars.now.items in
+    let s = c.args.doing.now.site in
+    let d = c.args.doing.now.deed in
+    let settled : views c.settle_part.new.parts.items ≡ views c.go_within-ended-then-is_par.new.parts.items = c.settle_part.ensures ∙ simp the_lemmas refl in
+    let st = part_did o.kind o.site o.phase vs (views c.go_within-ended-then-is_par.new.parts.items) c.part_with-place.result o.at _ _ s d c.in-Together.is h c.go_within-ended-then-is_par.ensures.plans c.go_within-ended-then-is_par.ensures.others c.go_within-ended-then-is_par.ensures.did in
+    simp (the_lemmas, view_roll, view_out) (subst (λ (ws : List View). Did (rest_at o.kind o.phase o.site vs o.at) e s d (rest_at o.kind o.phase o.site ws o.at) (store c.go_within-ended-then-is_par.new.vars.items)) (sym settled) st)
 
 pub frame::Frame::go-returns-else-ended-3-clause-plan : goal.frame::Frame::go-returns-else-ended-3-clause-plan
 frame::Frame::go-returns-else-ended-3-clause-plan t c =
     let o = out-Frame c.args.self.now in
-    simp (the_lemmas, view_roll, view_out) (same_plan o.kind o.site (views o.parts.items) (views c.go_within-ended-then-is_par.new.parts.items) c.go_within-ended-then-is_par.ensures.plans)
+    let settled : views c.settle_part.new.parts.items ≡ views c.go_within-ended-then-is_par.new.parts.items = c.settle_part.ensures ∙ simp the_lemmas refl in
+    simp (the_lemmas, view_roll, view_out) (same_plan o.kind o.site (views o.parts.items) (views c.settle_part.new.parts.items) (ap plans settled ∙ c.go_within-ended-then-is_par.ensures.plans))
 
 pub frame::Frame::go-returns-else-ended-3-clause-ended : goal.frame::Frame::go-returns-else-ended-3-clause-ended
 frame::Frame::go-returns-else-ended-3-clause-ended t c =
@@ -244,6 +256,7 @@ frame::Frame::go-returns-else-ended-3-clause-ended t c =
     let fs = o.parts.items in
     let vs = views fs in
     let ws = views c.go_within-ended-then-is_par.new.parts.items in
+    let us = views c.settle_part.new.parts.items in
     let e = store c.args.vars.now.items in
     let s = c.args.doing.now.site in
     let d = c.args.doing.now.deed in
@@ -252,8 +265,100 @@ frame::Frame::go-returns-else-ended-3-clause-ended t c =
     let pre = subst (λ (v : View). InPreorder v.0) is c.requires.in_preorder in
     let able = part_able o.kind o.site o.phase fs o.at p e s c.in-Together.is h pre c.part_with-place.ensures d (subst (λ (v : View). Able v.1 e s d) is c.requires.able) in
     let there = subst (λ (n : ℕ). p < n) (same_length vs ws c.go_within-ended-then-is_par.ensures.plans) (able_there vs p e s d able) in
-    let goes = besides_goes ws p there (sym c.go_within-ended-then-is_par.ensures.ended ∙ c.if-ended-3.false) in
-    simp (the_lemmas, view_roll, view_out) (c.if-ended-3.false ∙ sym goes ∙ sym (ap is_done (beside_rest o.kind o.site o.phase ws o.at c.in-Together.is h)))
+    let settled : us ≡ ws = c.settle_part.ensures ∙ simp the_lemmas refl in
+    let goes = ap (λ (xs : List View). is_done (besides xs)) settled ∙ besides_goes ws p there (sym c.go_within-ended-then-is_par.ensures.ended ∙ c.if-ended-3.false) in
+    simp (the_lemmas, view_roll, view_out) (c.if-ended-3.false ∙ sym goes ∙ sym (ap is_done (beside_rest o.kind o.site o.phase us o.at c.in-Together.is h)))
+
+pub frame::Frame::go-end_part-ended-requires-clause-able : goal.frame::Frame::go-end_part-ended-requires-clause-able
+frame::Frame::go-end_part-ended-requires-clause-able t c =
+    let o = out-Frame c.args.self.now in
+    let e = store c.args.vars.now.items in
+    let s = c.args.doing.now.site in
+    let d = c.args.doing.now.deed in
+    let h = sym c.has_parts-in-Resting.ensures ∙ c.if-has_parts-2.true in
+    let able = subst (λ (v : View). Able v.1 e s d) (view_out c.args.self.now) c.requires.able in
+    simp the_lemmas (resting_able o.kind o.site o.phase (views o.parts.items) o.at c.place-place-then-has_parts-2.result e s d c.in-Resting.is h c.place-place-then-has_parts-2.ensures able)
+
+pub frame::Frame::go-end_part-ended-requires-clause-variables : goal.frame::Frame::go-end_part-ended-requires-clause-variables
+frame::Frame::go-end_part-ended-requires-clause-variables t c =
+    let o = out-Frame c.args.self.now in
+    let h = sym c.has_parts-in-Resting.ensures ∙ c.if-has_parts-2.true in
+    let has = subst (λ (v : View). HasVariables v.0 (length c.args.vars.now.items)) (view_out c.args.self.now) c.requires.variables in
+    simp the_lemmas (within_variables o.kind o.site (views o.parts.items) o.at c.place-place-then-has_parts-2.result _ h c.place-place-then-has_parts-2.ensures has)
+
+pub frame::Frame::go-returns-then-ended-4-clause-did : goal.frame::Frame::go-returns-then-ended-4-clause-did
+frame::Frame::go-returns-then-ended-4-clause-did t c =
+    let o = out-Frame c.args.self.now in
+    let vs = views o.parts.items in
+    let ws = views c.end_part-ended.new.parts.items in
+    let us = views (out-Frame (roll-Frame (record { site = o.site; kind = o.kind; phase = o.phase; at = o.at; parts = o.parts }))).parts.items in
+    let unrolled : us ≡ vs = simp the_lemmas refl in
+    let p = c.place-place-then-has_parts-2.result in
+    let e = store c.args.vars.now.items in
+    let f = store c.end_part-ended.new.vars.items in
+    let s = c.args.doing.now.site in
+    let d = c.args.doing.now.deed in
+    let h = sym c.has_parts-in-Resting.ensures ∙ c.if-has_parts-2.true in
+    let r : (view c.leave_part-then-ended-4.new.self).1 ≡ gone_on o.kind o.site ws o.at = c.leave_part-then-ended-4.ensures.rest ∙ simp the_lemmas refl in
+    let same : plans ws ≡ plans vs = c.end_part-ended.ensures.plans ∙ ap plans unrolled in
+    let st = subst (λ (xs : List View). Did (part_rest (slice_get (resting_at p xs) p)) e s d (part_rest (slice_get ws p)) f) unrolled c.end_part-ended.ensures.did in
+    subst (λ (v : View). Did v.1 e s d (view c.leave_part-then-ended-4.new.self).1 f) (sym (view_out c.args.self.now))
+    (resting_did o.kind o.site o.phase vs ws o.at p _ _ s d (view c.leave_part-then-ended-4.new.self).1 c.in-Resting.is h c.place-place-then-has_parts-2.ensures same r st)
+
+pub frame::Frame::go-returns-then-ended-4-clause-plan : goal.frame::Frame::go-returns-then-ended-4-clause-plan
+frame::Frame::go-returns-then-ended-4-clause-plan t c =
+    let o = out-Frame c.args.self.now in
+    let vs = views o.parts.items in
+    let ws = views c.end_part-ended.new.parts.items in
+    let us = views (out-Frame (roll-Frame (record { site = o.site; kind = o.kind; phase = o.phase; at = o.at; parts = o.parts }))).parts.items in
+    let unrolled : us ≡ vs = simp the_lemmas refl in
+    let same : plans ws ≡ plans vs = c.end_part-ended.ensures.plans ∙ ap plans unrolled in
+    let p : (view c.leave_part-then-ended-4.new.self).0 ≡ plan_at o.kind o.site ws = c.leave_part-then-ended-4.ensures.plan ∙ simp (the_lemmas, view_roll, view_out) refl in
+    p ∙ same_plan o.kind o.site vs ws same ∙ ap (λ (v : View). v.0) (sym (view_out c.args.self.now))
+
+pub frame::Frame::go-returns-else-ended-4-clause-did : goal.frame::Frame::go-returns-else-ended-4-clause-did
+frame::Frame::go-returns-else-ended-4-clause-did t c =
+    let o = out-Frame c.args.self.now in
+    let vs = views o.parts.items in
+    let ws = views c.end_part-ended.new.parts.items in
+    let us = views (out-Frame (roll-Frame (record { site = o.site; kind = o.kind; phase = o.phase; at = o.at; parts = o.parts }))).parts.items in
+    let unrolled : us ≡ vs = simp the_lemmas refl in
+    let p = c.place-place-then-has_parts-2.result in
+    let s = c.args.doing.now.site in
+    let d = c.args.doing.now.deed in
+    let h = sym c.has_parts-in-Resting.ensures ∙ c.if-has_parts-2.true in
+    let same : plans ws ≡ plans vs = c.end_part-ended.ensures.plans ∙ ap plans unrolled in
+    let st = subst (λ (xs : List View). Did (part_rest (slice_get (resting_at p xs) p)) (store c.args.vars.now.items) s d (part_rest (slice_get ws p)) (store c.end_part-ended.new.vars.items)) unrolled c.end_part-ended.ensures.did in
+    let r = going_on o.kind o.site Waiting ws o.at p refl h c.place-place-then-has_parts-2.ensures (sym c.end_part-ended.ensures.ended ∙ c.if-ended-4.false) in
+    simp (the_lemmas, view_roll, view_out) (resting_did o.kind o.site o.phase vs ws o.at p _ _ s d _ c.in-Resting.is h c.place-place-then-has_parts-2.ensures same r st)
+
+pub frame::Frame::go-returns-else-ended-4-clause-plan : goal.frame::Frame::go-returns-else-ended-4-clause-plan
+frame::Frame::go-returns-else-ended-4-clause-plan t c =
+    let o = out-Frame c.args.self.now in
+    let vs = views o.parts.items in
+    let ws = views c.end_part-ended.new.parts.items in
+    let us = views (out-Frame (roll-Frame (record { site = o.site; kind = o.kind; phase = o.phase; at = o.at; parts = o.parts }))).parts.items in
+    let unrolled : us ≡ vs = simp the_lemmas refl in
+    let same : plans ws ≡ plans vs = c.end_part-ended.ensures.plans ∙ ap plans unrolled in
+    simp (the_lemmas, view_roll, view_out) (same_plan o.kind o.site vs ws same)
+
+pub frame::Frame::go-returns-else-ended-4-clause-ended : goal.frame::Frame::go-returns-else-ended-4-clause-ended
+frame::Frame::go-returns-else-ended-4-clause-ended t c =
+    let o = out-Frame c.args.self.now in
+    let ws = views c.end_part-ended.new.parts.items in
+    let h = sym c.has_parts-in-Resting.ensures ∙ c.if-has_parts-2.true in
+    let n = goes_undone o.kind o.site Waiting ws o.at c.place-place-then-has_parts-2.result refl h c.place-place-then-has_parts-2.ensures (sym c.end_part-ended.ensures.ended ∙ c.if-ended-4.false) in
+    simp (the_lemmas, view_roll, view_out) (c.if-ended-4.false ∙ sym n)
+
+pub frame::Frame::go-returns-else-has_parts-2-clause-did : goal.frame::Frame::go-returns-else-has_parts-2-clause-did
+frame::Frame::go-returns-else-has_parts-2-clause-did t c =
+    let o = out-Frame c.args.self.now in
+    let is = view_out c.args.self.now in
+    let e = store c.args.vars.now.items in
+    let h = sym c.has_parts-in-Resting.ensures ∙ c.if-has_parts-2.false in
+    let able = subst (λ (v : View). Able v.1 e c.args.doing.now.site c.args.doing.now.deed) is c.requires.able in
+    subst (λ (v : View). Did v.1 e c.args.doing.now.site c.args.doing.now.deed (view c.args.self.now).1 e) (sym is)
+    (resting_never o.kind o.site o.phase (views o.parts.items) o.at e _ _ _ c.in-Resting.is h able)
 
 pub frame::Frame::go-returns-else-is_counted-clause-did : goal.frame::Frame::go-returns-else-is_counted-clause-did
 frame::Frame::go-returns-else-is_counted-clause-did t c =

@@ -6,7 +6,7 @@ use Rattle.vc_occam.specs.First.{own}
 use Rattle.vc_occam.specs.Frames.{View, behind, part_own, place_of, views}
 use Rattle.vc_occam.specs.Remains.{Rest}
 use Rattle.vc_occam.specs.Terms.{store}
-use Rattle.vc_occam.proofs.Frames.{awaiting_own, is_awaiting, turning_own, turning_none, rest_apart, rest_together, rest_ready, rest_going, rest_idle, rest_ended, rest_stuck, follow_own, idle_own}
+use Rattle.vc_occam.proofs.Frames.{awaiting_own, is_awaiting, turning_own, turning_none, rest_apart, rest_together, rest_ready, rest_going, rest_idle, rest_ended, rest_stuck, resting_nothing, follow_own, idle_own}
 use Rattle.vc_occam.proofs.Besides.{rested}
 use Rattle.vc_occam.proofs.Gates.{pushed_none, pushed_same}
 use Rattle.vc_occam.proofs.Stepping.{none_view}
@@ -77,3 +77,6 @@ looking::push_parts-loop-part-preserved-then-rests t c =
     let l = subst (λ (xs : List Frame). k < length xs) same c.loop-part-test.true in
     let h = subst (λ (xs : List Frame). part ≡ get_or xs k part) same c.part-item.is in
     rested fs k part (store c.args.vars.now) c.loop-part.found _ l h (c.rests.ensures c.if-rests.true (store c.args.vars.now)) c.loop-part.invariant
+
+pub frame::Frame::push_moves-returns-in-Resting : goal.frame::Frame::push_moves-returns-in-Resting
+frame::Frame::push_moves-returns-in-Resting t c = pushed_none _ _ (resting_nothing c.args.self.now (store c.args.vars.now) c.in-Resting.is)

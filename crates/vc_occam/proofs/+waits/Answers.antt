@@ -5,7 +5,7 @@ use Rattle.vc_occam.specs.Frames.{behind, first_waits, part_waits, place_of, vie
 use Rattle.vc_occam.specs.Remains.{Rest}
 use Rattle.vc_occam.specs.States.{waiting}
 use Rattle.vc_occam.proofs.Besides.{waits_found, waits_more}
-use Rattle.vc_occam.proofs.Frames.{rest_apart, rest_chosen, rest_together, turning_waits, turning_none, rest_ready, rest_sending, rest_receiving, rest_going, rest_nothing, rest_ended, rest_stuck, follow_waits}
+use Rattle.vc_occam.proofs.Frames.{rest_apart, rest_chosen, rest_together, turning_waits, turning_none, rest_ready, rest_sending, rest_receiving, rest_going, rest_nothing, rest_ended, rest_stuck, resting_stopped, resting_waits, follow_waits}
 use Rattle.vc_occam.proofs.+waits.Goals as goal
 
 pub frame::Frame::waits_on-returns-in-Ready : goal.frame::Frame::waits_on-returns-in-Ready
@@ -84,3 +84,11 @@ looking::parts_wait_on-loop-place-preserved t c =
     let fs = c.args.parts.now.items in
     let l : c.loop-place.place < length fs = search rules in
     waits_more fs c.loop-place.place c.index.result.now c.args.wanted _ l c.index.ensures (sym c.in_default.is ∙ c.waits_on.ensures) c.loop-place.invariant
+
+pub frame::Frame::waits_on-returns-then-has_parts-2 : goal.frame::Frame::waits_on-returns-then-has_parts-2
+frame::Frame::waits_on-returns-then-has_parts-2 t c =
+    c.part_waits_begun.ensures ∙ sym (ap (first_waits c.args.wanted) (resting_waits c.args.self.now c.place-then-has_parts-2.result c.in-Resting.is (sym c.has_parts-in-Resting.ensures ∙ c.if-has_parts-2.true) c.place-then-has_parts-2.ensures))
+
+pub frame::Frame::waits_on-returns-else-has_parts-2 : goal.frame::Frame::waits_on-returns-else-has_parts-2
+frame::Frame::waits_on-returns-else-has_parts-2 t c =
+    sym (ap (λ (r : Rest). first_waits c.args.wanted (waiting r)) (resting_stopped c.args.self.now c.in-Resting.is (sym c.has_parts-in-Resting.ensures ∙ c.if-has_parts-2.false)))

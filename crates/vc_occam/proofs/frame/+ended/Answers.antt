@@ -1,5 +1,5 @@
 use Rattle.std.proofs.Common.{ℕ, ◌∙◌, ◌<◌, length, arith, sym, ap, refl, true, false}
-use Rattle.vc_occam.specs.declared.phase.Phase.TheVariants.{Ready, Waiting, Turning, Together, Chosen, Ended, Stuck}
+use Rattle.vc_occam.specs.declared.phase.Phase.TheVariants.{Ready, Waiting, Resting, Turning, Together, Chosen, Ended, Stuck}
 use Rattle.std.specs.Prelude.{slice_get}
 use Rattle.vc_occam.specs.declared.frame.Frame.TheViews.{out-Frame}
 use Rattle.vc_occam.specs.Frames.{View, is_done, is_last, part_done, views}
@@ -60,3 +60,6 @@ pub part_ended-returns : goal.part_ended-returns
 part_ended-returns t c =
     let o = c.args.parts.now.ok.0 in
     sym (ap part_done (none_view c.args.parts.now.items c.args.at (omega (arith, c.len.ensures))))
+
+pub is_ended-returns-in-Resting : goal.is_ended-returns-in-Resting
+is_ended-returns-in-Resting t c = λ i. sym (rest_done c.args.kind.now i _ Resting c.args.parts.now c.args.at _ _ _ c.in-Resting.is refl refl refl)

@@ -1,11 +1,13 @@
-use Rattle.std.proofs.Common.{◌∙◌, sym, ap, []}
+use Rattle.std.proofs.Common.{◌≡◌, ◌∙◌, sym, ap, subst, List, []}
+use Rattle.vc_occam.specs.declared.datum.Datum.{Datum}
 use Rattle.vc_occam.specs.declared.kind.Kind.{Kind}
 use Rattle.vc_occam.specs.declared.phase.Phase.TheVariants.{Ended, Stuck}
-use Rattle.vc_occam.specs.Frames.{assigned_at, plan_at}
+use Rattle.vc_occam.specs.Frames.{assigned_at, assigned_bytes, plan_at}
 use Rattle.vc_occam.specs.Remains.{Fresh}
-use Rattle.vc_occam.specs.Terms.{store}
+use Rattle.vc_occam.specs.Terms.{given, store}
+use Rattle.vc_occam.specs.Values.{datum_of}
 use Rattle.vc_occam.proofs.Beginning.{empty_par}
-use Rattle.vc_occam.proofs.Doing.{at_kind, set_did, set_faulted, set_variable_there, input_variable_there, did_store}
+use Rattle.vc_occam.proofs.Doing.{at_kind, at_site, set_did, set_faulted, set_variable_there, input_variable_there, did_store}
 use Rattle.vc_occam.proofs.going.begin_alone.Goals as goal
 
 pub set_variable-requires : goal.set_variable-requires
@@ -17,15 +19,21 @@ put-requires c = input_variable_there c.args.kind.now c.args.own _ _ _ c.in-Rece
 pub returns-in-Some-clause-did : goal.returns-in-Some-clause-did
 returns-in-Some-clause-did c = λ vs at able.
     let e = store c.args.vars.now.items in
+    let s = c.args.doing.now.site in
+    let a = given c.in-Set.value in
     did_store _ _ _ _ _ _ _ c.set_variable.ensures.value
-    (at_kind c.args.own vs at e _ c.args.doing.now.site c.args.doing.now.deed Ended _ _ c.in-Set.is
-    (set_did c.args.own _ _ e c.args.doing.now.site c.args.doing.now.deed _ (λ q. sym c.in-Some.is ∙ c.take.ensures.value ∙ c.requires.assigned q ∙ ap (λ (k : Kind). assigned_at c.args.doing.now.site (Fresh (plan_at k c.args.own [])) e) c.in-Set.is)) able)
+    (at_kind c.args.own vs at e _ s c.args.doing.now.deed Ended _ _ c.in-Set.is
+    (set_did c.args.own _ _ e s c.args.doing.now.deed _ (λ q h. sym c.in-Some.is ∙ subst (λ (xs : List Datum). c.take.result ≡ assigned_bytes a (store xs) → c.assigned.result ≡ datum_of a (store xs)) c.deref.ensures.value c.assigned.ensures
+    (c.take.ensures.value ∙ c.requires.assigned q ∙ ap (λ (k : Kind). assigned_at s (Fresh (plan_at k c.args.own [])) e) c.in-Set.is ∙ at_site s c.args.own (assigned_bytes a e) h))) able)
 
 pub returns-in-Set-clause-did : goal.returns-in-Set-clause-did
 returns-in-Set-clause-did c = λ vs at able.
     let e = store c.args.vars.now.items in
-    at_kind c.args.own vs at e _ c.args.doing.now.site c.args.doing.now.deed Stuck _ _ c.in-Set.is
-    (set_faulted c.args.own _ _ e c.args.doing.now.site c.args.doing.now.deed (λ q. sym c.in-None.is ∙ c.take.ensures.value ∙ c.requires.assigned q ∙ ap (λ (k : Kind). assigned_at c.args.doing.now.site (Fresh (plan_at k c.args.own [])) e) c.in-Set.is)) able
+    let s = c.args.doing.now.site in
+    let a = given c.in-Set.value in
+    at_kind c.args.own vs at e _ s c.args.doing.now.deed Stuck _ _ c.in-Set.is
+    (set_faulted c.args.own _ _ e s c.args.doing.now.deed (λ q h. sym c.in-None.is ∙ subst (λ (xs : List Datum). c.take.result ≡ assigned_bytes a (store xs) → c.assigned.result ≡ datum_of a (store xs)) c.deref.ensures.value c.assigned.ensures
+    (c.take.ensures.value ∙ c.requires.assigned q ∙ ap (λ (k : Kind). assigned_at s (Fresh (plan_at k c.args.own [])) e) c.in-Set.is ∙ at_site s c.args.own (assigned_bytes a e) h))) able
 
 pub returns-in-Par-clause-did : goal.returns-in-Par-clause-did
 returns-in-Par-clause-did c = λ vs at able.

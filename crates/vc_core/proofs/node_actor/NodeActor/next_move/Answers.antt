@@ -1,13 +1,8 @@
-use Rattle.std.proofs.Common.{◌≡◌, ap, ◌∙◌, subst}
+use Rattle.std.proofs.Common.{Some, subst}
 use Rattle.vc_core.specs.OfPlan.{IsNodeOf}
 use Rattle.vc_core.specs.Turns.{FindsMove}
-use Rattle.vc_core.proofs.node_actor.NodeActor.next_move.Goals.{then-not-self+in_ok-list_actions, else-not-self}
 use Rattle.vc_core.proofs.node_actor.NodeActor.next_move.Goals as goal
 
-pub returns-clause-finds : goal.returns-clause-finds
-returns-clause-finds c =
-    let same : c.if-not-self.self-inside.node ≡ c.args.self.now = elim c.if-not-self.branch [
-      | then-not-self+in_ok-list_actions w ↦ ap (λ z. z.node) w.self-inside-is ∙ c.self.view_is
-      | else-not-self w ↦ ap (λ z. z.node) w.self-inside-is ∙ c.self.view_is
-    ] in
-    subst (λ n. (plan : _) (k : _) → IsNodeOf plan k n → FindsMove plan k n c.next_move.result) same c.next_move.ensures.finds
+pub returns-in-Some-clause-finds : goal.returns-in-Some-clause-finds
+returns-in-Some-clause-finds c =
+    subst (λ n. (plan : _) (k : _) → IsNodeOf plan k n → FindsMove plan k n (Some c.in-Some.act)) c.self.view_is c.in-Some.ensures.finds

@@ -5,7 +5,7 @@ use Rattle.vc_occam.specs.Frames.{View, view, views}
 use Rattle.vc_occam.specs.Remains.{Done, Rest, Stopped}
 use Rattle.vc_occam.specs.First.{own}
 use Rattle.vc_occam.specs.Sites.{InPreorder}
-use Rattle.vc_occam.proofs.Frames.{awaiting_assigned, awaiting_output, awaiting_own, idle_assigned, idle_output, idle_own, is_awaiting, rest_apart, rest_ended, rest_idle, rest_stuck, turning_none, view_out}
+use Rattle.vc_occam.proofs.Frames.{awaiting_assigned, awaiting_output, awaiting_own, idle_assigned, idle_output, idle_own, is_awaiting, rest_apart, rest_ended, rest_idle, rest_stuck, resting_assigns, resting_nothing, resting_sends, turning_none, view_out}
 use Rattle.vc_occam.proofs.Found.{going_in, placed, ready_begins, same_nothing, still, together_in, turning_in}
 use Rattle.vc_occam.proofs.Stepping.{body_preorder, par_preorder, parts_preorder, within_preorder}
 use Rattle.vc_occam.proofs.frame.Frame.part_with_site.Goals as goal
@@ -81,3 +81,9 @@ pub returns-in-Stuck : goal.returns-in-Stuck
 returns-in-Stuck c =
     let f = c.args.self.now in
     still f c.args.site (λ q. let z : phase.Stuck ≡ phase.Ready = sym c.in-Stuck.is ∙ q in cc) (same_nothing c.args.site (view f).1 Stopped (rest_stuck f c.in-Stuck.is) (λ e. (refl, refl))) (λ e. ap (λ (r : Rest). own r e) (rest_stuck f c.in-Stuck.is))
+
+pub returns-in-Resting : goal.returns-in-Resting
+returns-in-Resting c =
+    let f = c.args.self.now in
+    let i = c.args.site in
+    still f i (λ q. let z : phase.Resting ≡ phase.Ready = sym c.in-Resting.is ∙ q in cc) (λ e. (resting_sends f i e c.in-Resting.is, resting_assigns f i e c.in-Resting.is)) (λ e. resting_nothing f e c.in-Resting.is)

@@ -20,4 +20,5 @@ invariant_of-result c =
       in_preorder = subst (λ (v : View). InPreorder v.0) is (in_preorder p);
       own_sites = subst (λ (v : View). OwnSites v.1) is (at_first p);
       uses_lawfully = subst (λ (v : View). UsesLawfully v.1) is (begins (written p) c.requires.lawful);
+      begins_so = c.begins-begins.ensures;
     }

@@ -7,7 +7,7 @@ use Rattle.vc_occam.specs.Runnings.{state, inner_channels}
 use Rattle.vc_occam.specs.Terms.{store}
 use Rattle.vc_occam.specs.Usage.{among}
 use Rattle.vc_occam.proofs.Unjoined.{unjoined}
-use Rattle.vc_occam.proofs.running.Running.push_actions.Goals as goal
+use Rattle.vc_occam.proofs.running.Running.push_joined.Goals as goal
 
 pub returns-then-is_empty : goal.returns-then-is_empty
 unfolding state inner_channels

@@ -1,0 +1,74 @@
+-- What a frame begins with, whatever the variables hold.
+use Rattle.std.proofs.Common.{◌≡◌, ◌∙◌, ℕ, ℤ, true, refl, sym, ap, subst, List, [], ◌∷◌, Option, None, Some, length}
+use Rattle.std.specs.Prelude.{◌<◌, IfSome, MatchOption, slice_get}
+use Rattle.vc_occam.specs.declared.begins.Begins.{Begins}
+use Rattle.vc_occam.specs.declared.begins.Begins.TheVariants as begins
+use Rattle.vc_occam.specs.declared.frame.Frame.{Frame}
+use Rattle.vc_occam.specs.declared.frame.Frame.TheViews.{out-Frame}
+use Rattle.vc_occam.specs.declared.phase.Phase.TheVariants as phase
+use Rattle.vc_occam.specs.Frames.{BeginsAs, BeginsWith, View, assigned_at, behind, count_of, has_parts, is_counted, part_assigned, part_own, part_rest, place_of, view, views, while_of}
+use Rattle.vc_occam.specs.First.{own}
+use Rattle.vc_occam.specs.Remains.{Rest, Fresh}
+use Rattle.vc_occam.specs.Syntax.{Exp, Test}
+use Rattle.vc_occam.specs.Values.{Store}
+use Rattle.vc_occam.proofs.Frames.{count_tests, follow_assigned, follow_own, rest_going, turning_assigned, turning_own, while_tests}
+
+-- with the same moves and the same bytes it begins with the same
+alike : (b : Begins) (r q : Rest) → ((e : Store) → own r e ≡ own q e) → ((j : ℕ) (e : Store) → assigned_at j r e ≡ assigned_at j q e) → BeginsWith b q → BeginsWith b r
+alike begins.Nothing r q o a h = λ e. o e ∙ h e
+alike (begins.Quiet i) r q o a h = λ e. (o e ∙ (h e).0, λ j. a j e ∙ (h e).1 j)
+alike begins.Other r q o a h = h
+
+pub same_rest : (b : Begins) (r q : Rest) → r ≡ q → BeginsWith b q → BeginsWith b r
+same_rest b r q s = alike b r q (λ e. ap (λ (x : Rest). own x e) s) (λ j e. ap (λ (x : Rest). assigned_at j x e) s)
+
+own_part : (o : Option View) (e : Store) → part_own o e ≡ own (part_rest o) e
+own_part None e = refl
+own_part (Some v) e = refl
+
+assigned_part : (j : ℕ) (o : Option View) (e : Store) → part_assigned j o e ≡ assigned_at j (part_rest o) e
+assigned_part j None e = refl
+assigned_part j (Some v) e = refl
+
+-- it begins with what the part begins with that goes on
+pub as_part : (b : Begins) (f : Frame) → (out-Frame f).phase ≡ phase.Waiting → has_parts (out-Frame f).kind ≡ true → (k : ℕ) → k ≡ place_of (out-Frame f).kind (out-Frame f).at → BeginsWith b (part_rest (slice_get (views (out-Frame f).parts.items) k)) → BeginsWith b (view f).1
+as_part b f h p k g w =
+    let o = out-Frame f in
+    let vs = views o.parts.items in
+    let v = slice_get vs (place_of o.kind o.at) in
+    let same = ap (λ (n : ℕ). slice_get vs n) (sym g) in
+    let r = rest_going f h p in
+    alike b (view f).1 (part_rest (slice_get vs k))
+    (λ e. ap (λ (x : Rest). own x e) r ∙ follow_own v (behind o.kind o.site vs o.at) e ∙ ap (λ (u : Option View). part_own u e) same ∙ own_part (slice_get vs k) e)
+    (λ j e. ap (λ (x : Rest). assigned_at j x e) r ∙ follow_assigned j v (behind o.kind o.site vs o.at) e ∙ ap (λ (u : Option View). part_assigned j u e) same ∙ assigned_part j (slice_get vs k) e) w
+
+-- a counted SEQ begins with what its turn begins with
+pub as_turn : (b : Begins) (f : Frame) (x y : ℤ) → (out-Frame f).phase ≡ phase.Turning x y → is_counted (out-Frame f).kind ≡ true → BeginsWith b (part_rest (slice_get (views (out-Frame f).parts.items) 0)) → BeginsWith b (view f).1
+as_turn b f x y h k w =
+    let v = slice_get (views (out-Frame f).parts.items) 0 in
+    alike b (view f).1 (part_rest v) (λ e. turning_own f x y e h k ∙ own_part v e) (λ j e. turning_assigned j f x y e h k ∙ assigned_part j v e) w
+
+-- the part that goes on is there, where its place is known
+pub goes_as_part : (f : Frame) (k : ℕ) (p : Option ℕ) → (out-Frame f).phase ≡ phase.Waiting → has_parts (out-Frame f).kind ≡ true → k ≡ place_of (out-Frame f).kind (out-Frame f).at → MatchOption p (slice_get (views (out-Frame f).parts.items) k ≡ None) (λ n. (n ≡ k) × (n < length (views (out-Frame f).parts.items))) → IfSome p (λ n. BeginsAs n (views (out-Frame f).parts.items) (view f).1)
+goes_as_part f k None h q g m = tt
+goes_as_part f k (Some n) h q g m = (m.1, λ b w. as_part b f h q n (m.0 ∙ g) w)
+
+pub goes_as_turn : (f : Frame) (x y : ℤ) (p : Option ℕ) → (out-Frame f).phase ≡ phase.Turning x y → is_counted (out-Frame f).kind ≡ true → MatchOption p (slice_get (views (out-Frame f).parts.items) 0 ≡ None) (λ n. (n ≡ 0) × (n < length (views (out-Frame f).parts.items))) → IfSome p (λ n. BeginsAs n (views (out-Frame f).parts.items) (view f).1)
+goes_as_turn f x y None h q m = tt
+goes_as_turn f x y (Some n) h q m =
+    let vs = views (out-Frame f).parts.items in
+    (m.1, λ b w. as_turn b f x y h q (subst (λ (i : ℕ). BeginsWith b (part_rest (slice_get vs i))) m.0 w))
+
+while_assigned : (j i : ℕ) (b : Test) (vs : List View) (e : Store) → assigned_at j (Fresh (while_of i b vs)) e ≡ None
+while_assigned j i b [] e = refl
+while_assigned j i b (v ∷ vs) e = refl
+
+pub while_begins : (i : ℕ) (b : Test) (vs : List View) → (length vs ≡ 0 → ⊥) → BeginsWith (begins.Quiet i) (Fresh (while_of i b vs))
+while_begins i b vs h = λ e. (while_tests i b vs e h, λ j. while_assigned j i b vs e)
+
+count_assigned : (j i v : ℕ) (a n : Exp) (vs : List View) (e : Store) → assigned_at j (Fresh (count_of i v a n vs)) e ≡ None
+count_assigned j i v a n [] e = refl
+count_assigned j i v a n (w ∷ vs) e = refl
+
+pub count_begins : (i v : ℕ) (a n : Exp) (vs : List View) → (length vs ≡ 0 → ⊥) → BeginsWith (begins.Quiet i) (Fresh (count_of i v a n vs))
+count_begins i v a n vs h = λ e. (count_tests i v a n vs e h, λ j. count_assigned j i v a n vs e)
