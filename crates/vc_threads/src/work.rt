@@ -14,8 +14,8 @@ use std::alloc::Global;
 use std::thread;
 use vc_core::Actor;
 
-/// After so many idle turns one after another a worker leaves the processor to others, and again after as many more.
-const SPINS: u32 = 64;
+/// After so many idle turns one after another a worker leaves the processor to others at each further one.
+const SPINS: u32 = 4;
 
 /// Runs an actor for at most so many turns, as long as the gate lets it. In a turn it takes the item of the first link from which it may and whose
 /// ring has one, or else does what [`Actor::turn`] does. The actor's number is the stream of the generator of its takes' words.
@@ -53,7 +53,7 @@ pub fn worker<G: Gate>(
             gate.ended(id);
             told = true;
         }
-        if desk.idle() % SPINS == SPINS - 1 {
+        if desk.idle() >= SPINS {
             thread::yield_now();
         }
     }
