@@ -1,5 +1,5 @@
 //! What meets inside the node.
-ghost use Rattle.std.specs.Prelude.{◌≡◌, ◌≤◌, ◌++◌, ◌∷◌, [], OnOk, drop, length, take};
+ghost use Rattle.std.specs.Prelude.{◌≡◌, ◌≤◌, ◌-◌, ◌++◌, ◌∷◌, [], OnOk, drop, length, take};
 ghost use Rattle.vc_occam.specs.First.{joined as as_joined, meetings};
 ghost use Rattle.vc_occam.specs.Frames.{is_outside as stays_outside};
 ghost use Rattle.vc_occam.specs.Moving.{partner as its_partner};
@@ -109,14 +109,34 @@ fn push_all_joined(found: &mut Items<Move>, count: usize, inside: &[u16]) -> Res
     Ok(())
 }
 
+/// Moves all but so many moves of the list to its front.
+fn move_front(found: &mut Items<Move>, count: usize)
+    requires { count ≤ length found.old }
+    ensures { (length found.new ≡ length found.old) × (take (length found.old - count) found.new ≡ drop count found.old) }
+{
+    for place in 0..found.len() - count {
+        let made = found.as_slice()[place + count];
+        found.set(place, made);
+    }
+}
+
+/// Takes so many moves out of the end of the list.
+fn drop_end(found: &mut Items<Move>, count: usize)
+    requires { count ≤ length found.old }
+    ensures { found.new ≡ take (length found.old - count) found.old }
+{
+    for _done in 0..count {
+        found.pop();
+    }
+}
+
 /// Takes so many moves out of the front of the list.
 fn drop_front(found: &mut Items<Move>, count: usize)
     requires { count ≤ length found.old }
     ensures { found.new ≡ drop count found.old }
 {
-    for _done in 0..count {
-        found.remove(0);
-    }
+    move_front(found, count);
+    drop_end(found, count);
 }
 
 /// In place of the moves that each site can begin with, puts those that need no channel inside the node, and what meets there. The
