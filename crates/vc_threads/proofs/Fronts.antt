@@ -1,14 +1,124 @@
 -- Where the runs have come, and which of them comes next.
-use Rattle.std.proofs.Common.{◌≡◌, ℕ, zero, suc, ◌+◌, inl, inr, List, [], ◌∷◌, map, drop, slice_get, option_map, Option, Some, None, refl, sym, ap, subst, ◌∙◌, arith}
+use Rattle.std.proofs.Common.{◌≡◌, ◌↔◌, ℕ, zero, suc, ◌+◌, ◌<◌, ◌≤◌, ◌⊎◌, inl, inr, IsTrue, Bool, true, false, List, [], ◌∷◌, length, map, drop, slice_get, option_map, Option, Some, None, MatchOption, refl, sym, ap, subst, ◌∙◌, arith}
 use Rattle.std.specs.List.{AllZip, AllByRecursion}
 use Rattle.std.proofs.Math.ListN.{set}
+use Rattle.std.proofs.lemmas.Bool.{cases_eq, cases_order}
+use Rattle.std.proofs.lemmas.Option.{slice_get_within}
 use Rattle.vc_actors.specs.LocalRun.{Stamped}
 use Rattle.vc_actors.specs.Merge.{Numbered, NotAfter}
 use Rattle.vc_core.specs.declared.act.Act.{Act}
-use Rattle.vc_threads.specs.Merged.{of_pair, numbered, stamp_at, front_of, id_at, IsNext, NotLater}
+use Rattle.vc_threads.specs.Merged.{of_pair, numbered, stamp_at, front_of, id_at, IsNext, NotLater, FindsFirst}
 use Rattle.vc_threads.specs.declared.merging.Front.{Front}
 use Rattle.vc_threads.specs.declared.run.ActorRun.{ActorRun}
 use Rattle.vc_threads.proofs.Weaving.{without}
+
+-- the first of the next acts of the first n runs
+abbrev pub IsFirst : List ActorRun → List Front → ℕ → Option (ℕ × ℕ) → Type 0
+IsFirst rs fs n None = (j at : ℕ) → j < n → IsNext fs j at → ⊥
+IsFirst rs fs n (Some p) = (p.1 < length fs) × IsNext fs p.1 p.0 × ((j later : ℕ) → j < n → IsNext fs j later → NotLater rs p.0 p.1 later j)
+
+one_stamp : (fs : List Front) (k a b : ℕ) → IsNext fs k a → IsNext fs k b → a ≡ b
+one_stamp fs k a b (f, at_f, is_a) (g, at_g, is_b) =
+    let both : Some f ≡ Some g = sym at_f ∙ at_g in
+    let same : f ≡ g = cc in
+    let ab : Some a ≡ Some b = sym is_a ∙ (ap (λ (z : Front). z.at) same ∙ is_b) in
+    cc
+
+module _ (rs : List ActorRun) (fs : List Front) (n : ℕ) (f : Front) (here : slice_get fs n ≡ Some f) where
+  -- the next run has no act
+  no_next : f.at ≡ None → (at : ℕ) → IsNext fs n at → ⊥
+  no_next none at (g, at_g, is) =
+      let both : Some f ≡ Some g = sym here ∙ at_g in
+      let same : f ≡ g = cc in
+      let z : None ≡ Some at = sym none ∙ (ap (λ (y : Front). y.at) same ∙ is) in
+      absurd (cc)
+
+  pub first_same : (first : Option (ℕ × ℕ)) → f.at ≡ None → IsFirst rs fs n first → IsFirst rs fs (n + 1) first
+  first_same None none h = λ j at less next. elim (cases_eq j n) [
+    | inl e ↦ no_next none at (subst (λ k. IsNext fs k at) e next)
+    | inr ne ↦ h j at (omega arith) next
+  ]
+  first_same (Some p) none h = (
+    h.0,
+    h.1,
+    λ j later less next. elim (cases_eq j n) [
+      | inl e ↦ absurd (no_next none later (subst (λ k. IsNext fs k later) e next))
+      | inr ne ↦ h.2 j later (omega arith) next
+    ],
+  )
+
+  -- its act is not before the first
+  pub first_kept : (p : ℕ × ℕ) (at : ℕ) → f.at ≡ Some at → ((at < p.0) ⊎ ((at ≡ p.0) × (id_at rs n < id_at rs p.1)) → ⊥) → IsFirst rs fs n (Some p) → IsFirst rs fs (n + 1) (Some p)
+  first_kept p at is not h = (
+    h.0,
+    h.1,
+    λ j later less next. elim (cases_eq j n) [
+      | inl e ↦
+          let same : at ≡ later = one_stamp fs n at later (f, here, is) (subst (λ k. IsNext fs k later) e next) in
+          subst (λ k. NotLater rs p.0 p.1 later k) (sym e) (subst (λ z. NotLater rs p.0 p.1 z n) same kept)
+      | inr ne ↦ h.2 j later (omega arith) next
+    ],
+  )
+    where
+      kept : NotLater rs p.0 p.1 at n
+      kept = elim (cases_order p.0 at) [
+        | inl e ↦ elim (cases_order (id_at rs p.1) (id_at rs n)) [
+          | inl i ↦ inr (e, omega arith)
+          | inr o ↦ elim o [ inl less ↦ inr (e, omega arith) | inr more ↦ absurd (not (inr (sym e, more))) ]
+        ]
+        | inr o ↦ elim o [ inl less ↦ inl less | inr more ↦ absurd (not (inl more)) ]
+      ]
+
+  -- or it is
+  pub first_now : (first : Option (ℕ × ℕ)) (at : ℕ) → n < length fs → f.at ≡ Some at → MatchOption first (Unit {0}) (λ p. (at < p.0) ⊎ ((at ≡ p.0) × (id_at rs n < id_at rs p.1))) → IsFirst rs fs n first → IsFirst rs fs (n + 1) (Some (at, n))
+  first_now None at within is before h = (
+    within,
+    (f, here, is),
+    λ j later less next. elim (cases_eq j n) [
+      | inl e ↦
+          let same : at ≡ later = one_stamp fs n at later (f, here, is) (subst (λ k. IsNext fs k later) e next) in
+          let ids : id_at rs n ≡ id_at rs j = ap (id_at rs) (sym e) in
+          inr (same, omega arith)
+      | inr ne ↦ absurd (h j later (omega arith) next)
+    ],
+  )
+  first_now (Some p) at within is before h = (
+    within,
+    (f, here, is),
+    λ j later less next. elim (cases_eq j n) [
+      | inl e ↦
+          let same : at ≡ later = one_stamp fs n at later (f, here, is) (subst (λ k. IsNext fs k later) e next) in
+          let ids : id_at rs n ≡ id_at rs j = ap (id_at rs) (sym e) in
+          inr (same, omega arith)
+      | inr ne ↦ joined later j before (h.2 j later (omega arith) next)
+    ],
+  )
+    where
+      joined : (later j : ℕ) → (at < p.0) ⊎ ((at ≡ p.0) × (id_at rs n < id_at rs p.1)) → NotLater rs p.0 p.1 later j → NotLater rs at n later j
+      joined later j (inl a) (inl b) = inl (omega arith)
+      joined later j (inl a) (inr b) = let e = b.0 in inl (omega (arith, e))
+      joined later j (inr a) (inl b) = let e = a.0 in inl (omega (arith, e))
+      joined later j (inr a) (inr b) = let i = a.1 in let k = b.1 in inr (a.0 ∙ b.0, omega (arith, i, k))
+
+pub was_before : (P : ℕ × ℕ → Type 0) (first : Option (ℕ × ℕ)) (b : Bool) → b ≡ true → MatchOption first (IsTrue b) (λ p. IsTrue b ↔ P p) → MatchOption first (Unit {0}) P
+was_before P None b is h = tt
+was_before P (Some p) b is h = h.0 is
+
+pub first_stays : (rs : List ActorRun) (fs : List Front) (n : ℕ) (f : Front) → slice_get fs n ≡ Some f → (first : Option (ℕ × ℕ)) (at : ℕ) → f.at ≡ Some at → (b : Bool) → b ≡ false
+    → MatchOption first (IsTrue b) (λ p. IsTrue b ↔ ((at < p.0) ⊎ ((at ≡ p.0) × (id_at rs n < id_at rs p.1)))) → IsFirst rs fs n first → IsFirst rs fs (n + 1) first
+first_stays rs fs n f here None at is b not h before = absurd (let t : b ≡ true = h in cc)
+first_stays rs fs n f here (Some p) at is b not h before = first_kept rs fs n f here p at is (λ q. let t : b ≡ true = h.1 q in cc) before
+
+pub none_of : (o : Option ℕ) → ((x : ℕ) → o ≡ Some x → ⊥) → o ≡ None
+none_of None h = refl
+none_of (Some x) h = absurd (h x refl)
+
+-- the first of all
+pub found_first : (rs : List ActorRun) (fs : List Front) (n : ℕ) (p : ℕ × ℕ) → length fs ≤ n → IsFirst rs fs n (Some p) → FindsFirst rs fs (Some p.1)
+found_first rs fs n p past h = (p.0, h.1, λ j later next. h.2 j later (let w = slice_get_within fs j next.0 next.1 in omega (arith, w)) next)
+
+pub found_none : (rs : List ActorRun) (fs : List Front) (n : ℕ) → length fs ≤ n → IsFirst rs fs n None → FindsFirst rs fs None
+found_none rs fs n past h k at next = h k at (let w = slice_get_within fs k next.0 next.1 in omega (arith, w)) next
 
 -- the front is that of a place of the run
 abbrev pub StandsAt : ActorRun → Front → Type 0

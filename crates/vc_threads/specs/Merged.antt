@@ -1,19 +1,12 @@
 -- The runs of the code, in the words of merges, and which of them comes next.
-use Rattle.std.specs.Prelude.{◌≡◌, ◌⊎◌, ℕ, ◌<◌, ◌≤◌, List, map, get_or, ◌∷◌, slice_get, nat_eq, Option, Some, None}
-use Rattle.std.specs.Option.{option_map, option_to_list}
-use Rattle.std.specs.BinaryHeap.{IsHeap, IsUpperBound}
-use Rattle.std.specs.List.{All, Contains, IsDistinct}
-use Rattle.std.specs.List.Sorted.{IsPermutation}
-use Rattle.std.specs.Ordering.{nat_cmp, ordering_then}
-use Rattle.std.specs.declared.cmp.Ordering.{Ordering}
+use Rattle.std.specs.Prelude.{◌≡◌, ◌⊎◌, ℕ, ◌<◌, ◌≤◌, List, map, get_or, slice_get, Option, Some, None}
+use Rattle.std.specs.Option.{option_map}
 use Rattle.vc_actors.specs.LocalRun.{Stamped}
 use Rattle.vc_actors.specs.Merge.{Made, Numbered}
 use Rattle.vc_core.specs.declared.act.Act.{Act}
 use Rattle.vc_core.specs.declared.act.Event.{Event}
 use Rattle.vc_threads.specs.declared.run.ActorRun.{ActorRun}
 use Rattle.vc_threads.specs.declared.merging.Front.{Front}
-use Rattle.vc_threads.specs.declared.merging.Next.{Next}
-use Rattle.std.specs.declared.cmp.Reverse.{Reverse}
 
 abbrev pub of_pair : ℕ × Act → Stamped Act
 of_pair p = record { at = p.0; it = p.1 }
@@ -47,26 +40,3 @@ NotLater rs at k later j = (at < later) ⊎ ((at ≡ later) × (id_at rs k ≤ i
 abbrev pub FindsFirst : List ActorRun → List Front → Option ℕ → Type 0
 FindsFirst rs fs None = (k at : ℕ) → IsNext fs k at → ⊥
 FindsFirst rs fs (Some k) = (at : ℕ) × IsNext fs k at × ((j later : ℕ) → IsNext fs j later → NotLater rs at k later j)
-
--- the later of two next acts, by stamp, then actor, then run, is the lesser
-abbrev pub by_next : Reverse Next → Reverse Next → Ordering
-by_next x y = ordering_then (nat_cmp y.0.at x.0.at) (ordering_then (nat_cmp y.0.actor x.0.actor) (nat_cmp y.0.run x.0.run))
-
--- the next act of run k, of this actor
-abbrev pub next_of : ℕ → ℕ → Front → List (Reverse Next)
-next_of actor k f = option_to_list (option_map (λ at. record { 0 = record { at = at; actor = actor; run = k } }) f.at)
-
--- this is the next act of one of the runs
-abbrev pub IsNextOf : List ActorRun → List Front → Reverse Next → Type 0
-IsNextOf rs fs n = IsNext fs n.0.run n.0.at × (n.0.actor ≡ id_at rs n.0.run)
-
--- a heap of the next acts of all runs, each once
-pub record HoldsNexts (rs : List ActorRun) (fs : List Front) (nexts : List (Reverse Next)) : Type 0 where
-  pub ordered : IsHeap by_next nexts
-  pub each : All (IsNextOf rs fs) nexts
-  pub every : (k at : ℕ) → IsNext fs k at → Contains nexts (record { 0 = record { at = at; actor = id_at rs k; run = k } })
-  pub once : IsDistinct nat_eq (map (λ n. n.0.run) nexts)
-
--- the first of the next acts leaves, which is that of run k
-abbrev pub TakesFirst : ℕ → List (Reverse Next) → List (Reverse Next) → Type 0
-TakesFirst k old new = (n : Reverse Next) × (n.0.run ≡ k) × IsPermutation old (n ∷ new) × IsUpperBound by_next n old

@@ -1,16 +1,12 @@
 //! All actors' acts as one list of events.
-ghost use Rattle.std.specs.Prelude.{◌≡◌, ◌++◌, [], List, length, map, IfOk, IfNone, IfSome, OnOk};
-ghost use Rattle.std.specs.BinaryHeap.{heap_items, KeepsHeap, IsHeap};
+ghost use Rattle.std.specs.Prelude.{◌≡◌, ◌⊎◌, ◌↔◌, ◌<◌, List, length, map, IfOk, IfSome, IsTrue, MatchOption};
 ghost use Rattle.std.specs.List.{AllByRecursion};
-ghost use Rattle.std.specs.List.Sorted.{IsPermutation};
 ghost use Rattle.vc_actors.specs.Merge.{Made, IsMerge, AreDistinct, RunRises, run_of};
-ghost use Rattle.vc_threads.specs.Merged.{numbered, event_of, front_of, HoldsNexts, TakesFirst, by_next, next_of};
+ghost use Rattle.vc_threads.specs.Merged.{numbered, event_of, front_of, id_at, FindsFirst};
 ghost use Rattle.vc_core.specs.declared.act.Act.{Act as SpeltAct};
 
 use crate::run::ActorRun;
 use std::alloc::{AllocError, Global};
-use std::cmp::Reverse;
-use std::collections::BinaryHeap;
 use vc_core::Event;
 use vc_packets::Memory;
 
@@ -43,56 +39,34 @@ fn first_fronts(alloc: Global, runs: &[ActorRun]) -> Result<Vec<Front>, AllocErr
     Ok(fronts)
 }
 
-/// A run that has a next act: by that act's stamp, then actor. Each run is of another actor, so its place never decides.
-#[derive(Clone, Copy, PartialEq, Eq, PartialOrd, Ord, Drop)]
-pub(crate) struct Next {
-    at: u64,
-    actor: u8,
-    run: usize,
-}
-
-// Puts the next act of run k, which has come to this front, into the heap, if there is one.
-fn put_next(
-    nexts: &mut BinaryHeap<Reverse<Next>>,
-    run: &ActorRun,
-    k: usize,
-    front: Front,
-) -> Result<(), AllocError>
-    ensures order { OnOk result (KeepsHeap by_next (heap_items nexts.old) (heap_items nexts.new)) }
-    ensures items { OnOk result (IsPermutation (next_of run.now.id k front ++ heap_items nexts.old) (heap_items nexts.new)) }
+// Whether run k's next act, with this stamp, comes before the first that was found.
+fn comes_before(runs: &[ActorRun], k: usize, at: u64, first: Option<(u64, usize)>) -> bool
+    requires within { k < length runs.now }
+    requires first { IfSome first (λ f. f.1 < length runs.now) }
+    ensures { MatchOption first (IsTrue result) (λ f. IsTrue result ↔ ((at < f.0) ⊎ ((at ≡ f.0) × (id_at runs.now k < id_at runs.now f.1)))) }
 {
-    if let Some(at) = front.at {
-        let actor = run.id;
-        nexts.push(Reverse(Next { at, actor, run: k }))?;
+    match first {
+        Some((least, other)) => at < least || at == least && runs[k].id < runs[other].id,
+        None => true,
     }
-    Ok(())
 }
 
-// The next acts of all runs, in a heap with room for one of each run.
-fn first_nexts(
-    alloc: Global,
-    runs: &[ActorRun],
-    fronts: &[Front],
-) -> Result<BinaryHeap<Reverse<Next>>, AllocError>
+// The run whose next act is the first of all, by stamp, then actor.
+fn first_of(runs: &[ActorRun], fronts: &[Front]) -> Option<usize>
     requires { length fronts.now ≡ length runs.now }
-    ensures { IfOk result (λ h. HoldsNexts runs.now fronts.now (heap_items h)) }
+    ensures within { IfSome result (λ k. k < length runs.now) }
+    ensures first { FindsFirst runs.now fronts.now result }
 {
-    let mut nexts = BinaryHeap::with_capacity(alloc, runs.len())?;
+    let mut first = None;
     for k in 0..fronts.len() {
-        put_next(&mut nexts, &runs[k], k, fronts[k])?;
+        if let Some(at) = fronts[k].at {
+            if comes_before(runs, k, at, first) {
+                first = Some((at, k));
+            }
+        }
     }
-    Ok(nexts)
-}
-
-// Takes the first of all next acts, by stamp, then actor, from the heap, and gives its run.
-fn take_first(nexts: &mut BinaryHeap<Reverse<Next>>) -> Option<usize>
-    requires { IsHeap by_next (heap_items nexts.old) }
-    ensures order { IsHeap by_next (heap_items nexts.new) }
-    ensures none { IfNone result (heap_items nexts.old ≡ []) }
-    ensures taken { IfSome result (λ k. TakesFirst k (heap_items nexts.old) (heap_items nexts.new)) }
-{
-    match nexts.pop() {
-        Some(Reverse(next)) => Some(next.run),
+    match first {
+        Some((_, k)) => Some(k),
         None => None,
     }
 }
@@ -106,17 +80,14 @@ pub fn merge(alloc: Global, runs: &[ActorRun]) -> Result<Vec<Event>, Memory>
 {
     let mut events = Vec::new(alloc);
     let mut fronts = first_fronts(alloc, runs)?;
-    let mut nexts = first_nexts(alloc, runs, fronts.as_slice())?;
-    while let Some(k) = take_first(&mut nexts) {
+    while let Some(k) = first_of(runs, fronts.as_slice()) {
         let run = &runs[k];
         let place = fronts[k].place;
         events.push(Event {
             actor: run.id,
             act: run.acts[place].1,
         })?;
-        let front = front_at(run, place + 1);
-        put_next(&mut nexts, run, k, front)?;
-        fronts[k] = front;
+        fronts[k] = front_at(run, place + 1);
     }
     Ok(events)
 }

@@ -1,13 +1,12 @@
-use Rattle.std.proofs.Common.{rules, ◌≡◌, ℕ, ◌+◌, ◌<◌, ◌++◌, [], ◌∷◌, Some, length, map, drop, suc, refl, ap, sym, subst, ◌∙◌, arith, append_assoc, heap_items}
+use Rattle.std.proofs.Common.{◌≡◌, ℕ, ◌+◌, ◌<◌, ◌++◌, [], ◌∷◌, Some, None, length, map, drop, suc, refl, ap, sym, subst, ◌∙◌, arith, append_assoc}
 use Rattle.std.specs.List.{AllByRecursion, AllZip}
 use Rattle.std.proofs.Math.ListN.{set}
 use Rattle.std.proofs.lemmas.List.{append-nil, length-map, length-set}
 use Rattle.std.proofs.lemmas.Option.{slice_get_read, slice_get_within}
 use Rattle.vc_actors.specs.Merge.{IsMerge, AreDistinct, RunRises, run_of}
 use Rattle.vc_core.specs.declared.act.Act.{Act}
-use Rattle.vc_threads.specs.Merged.{of_pair, event_of, front_of, HoldsNexts}
+use Rattle.vc_threads.specs.Merged.{of_pair, event_of, front_of, FindsFirst}
 use Rattle.vc_threads.proofs.Fronts.{StandsAt, left_in, left_of, stand_first, left_first, left_next, stand_next, coming, run_at, not_after, none_left}
-use Rattle.vc_threads.proofs.Nexts.{taken_within, found_first, found_none, others_left, all_again, set_here, set_other, id_is}
 use Rattle.vc_threads.proofs.Weaving.{without, acts_left, distinct_still, rising_still, fewer_left, first_then, nothing_left}
 use Rattle.vc_threads.proofs.merging.merge.Goals as goal
 
@@ -17,38 +16,12 @@ loop-k-init c =
     let is = c.in_ok-fronts.ensures in
     let left = ap (left_of rs) is ∙ left_first rs in
     record {
-      nexts = subst (λ fs. HoldsNexts rs fs (heap_items c.in_ok-nexts.nexts)) c.as_slice.ensures.value c.in_ok-nexts.ensures;
       count = ap length is ∙ length-map rs (λ r. front_of r 0);
       fronts = subst (AllZip StandsAt rs) (sym is) (stand_first rs);
       distinct = subst AreDistinct (sym left) c.requires.distinct;
       rising = subst (AllByRecursion RunRises) (sym left) c.requires.rising;
       woven = λ more m. (more, subst (λ l. IsMerge (run_of l) more) left m, ap (λ es. es ++ map event_of more) c.new-events.ensures.items);
     }
-
--- the run whose next act was taken is one of the runs
-pub offset_bounds-runs-k : goal.offset_bounds-runs-k
-offset_bounds-runs-k c =
-    let count = c.loop-k.invariant.count in
-    let within = taken_within c.args.runs.now c.loop-k.fronts.items c.in-Some.k (heap_items c.loop-k.nexts) (heap_items c.take_first.new.nexts) c.loop-k.invariant.nexts c.in-Some.ensures.taken in
-    search rules
-
-pub bounds-runs-k : goal.bounds-runs-k
-bounds-runs-k c =
-    let count = c.loop-k.invariant.count in
-    let within = taken_within c.args.runs.now c.loop-k.fronts.items c.in-Some.k (heap_items c.loop-k.nexts) (heap_items c.take_first.new.nexts) c.loop-k.invariant.nexts c.in-Some.ensures.taken in
-    omega (arith, count, within)
-
-pub index-requires : goal.index-requires
-index-requires c =
-    let within = taken_within c.args.runs.now c.loop-k.fronts.items c.in-Some.k (heap_items c.loop-k.nexts) (heap_items c.take_first.new.nexts) c.loop-k.invariant.nexts c.in-Some.ensures.taken in
-    let same = c.loop-k.fronts.ok.0 in
-    omega (arith, within, same)
-
-pub index_mut-requires : goal.index_mut-requires
-index_mut-requires c =
-    let within = taken_within c.args.runs.now c.loop-k.fronts.items c.in-Some.k (heap_items c.loop-k.nexts) (heap_items c.take_first.new.nexts) c.loop-k.invariant.nexts c.in-Some.ensures.taken in
-    let same = c.loop-k.fronts.ok.0 in
-    omega (arith, within, same)
 
 pub index-requires-in-Some : goal.index-requires-in-Some
 index-requires-in-Some c =
@@ -58,12 +31,12 @@ index-requires-in-Some c =
     let r = c.index-runs-k.result in
     let f = c.index.result.now in
     let z = c.loop-k.invariant.fronts in
-    let found = found_first rs fs k (heap_items c.loop-k.nexts) (heap_items c.take_first.new.nexts) c.loop-k.invariant.nexts c.in-Some.ensures.taken in
-    let there = slice_get_within fs k found.1.0 found.1.1 in
+    let within = c.in-Some.ensures.within in
     let count = c.loop-k.invariant.count in
-    let within : k < length rs = omega (arith, there, count) in
+    let there : k < length fs = omega (arith, within, count) in
     let run_is = slice_get_read rs (length rs) k r refl within c.index-runs-k.is in
     let front_is = slice_get_read fs (length fs) k f refl there c.index.ensures in
+    let found = subst (λ xs. FindsFirst rs xs (Some k)) c.as_slice.ensures.value c.in-Some.ensures.first in
     let next = coming rs fs k found.0 r f z run_is front_is found.1 in
     let less = slice_get_within r.acts.items f.place next.act next.act_is in
     let same = r.acts.ok.0 in
@@ -77,12 +50,12 @@ overflow_add-place c =
     let r = c.index-runs-k.result in
     let f = c.index.result.now in
     let z = c.loop-k.invariant.fronts in
-    let found = found_first rs fs k (heap_items c.loop-k.nexts) (heap_items c.take_first.new.nexts) c.loop-k.invariant.nexts c.in-Some.ensures.taken in
-    let there = slice_get_within fs k found.1.0 found.1.1 in
+    let within = c.in-Some.ensures.within in
     let count = c.loop-k.invariant.count in
-    let within : k < length rs = omega (arith, there, count) in
+    let there : k < length fs = omega (arith, within, count) in
     let run_is = slice_get_read rs (length rs) k r refl within c.index-runs-k.is in
     let front_is = slice_get_read fs (length fs) k f refl there c.index.ensures in
+    let found = subst (λ xs. FindsFirst rs xs (Some k)) c.as_slice.ensures.value c.in-Some.ensures.first in
     let next = coming rs fs k found.0 r f z run_is front_is found.1 in
     let less = slice_get_within r.acts.items f.place next.act next.act_is in
     let same = r.acts.ok.0 in
@@ -98,15 +71,15 @@ loop-k-smaller c =
     let r = c.index-runs-k.result in
     let f = c.index.result.now in
     let z = c.loop-k.invariant.fronts in
-    let found = found_first rs fs k (heap_items c.loop-k.nexts) (heap_items c.take_first.new.nexts) c.loop-k.invariant.nexts c.in-Some.ensures.taken in
-    let there = slice_get_within fs k found.1.0 found.1.1 in
+    let within = c.in-Some.ensures.within in
     let count = c.loop-k.invariant.count in
-    let within : k < length rs = omega (arith, there, count) in
+    let there : k < length fs = omega (arith, within, count) in
     let run_is = slice_get_read rs (length rs) k r refl within c.index-runs-k.is in
     let front_is = slice_get_read fs (length fs) k f refl there c.index.ensures in
+    let found = subst (λ xs. FindsFirst rs xs (Some k)) c.as_slice.ensures.value c.in-Some.ensures.first in
     let next = coming rs fs k found.0 r f z run_is front_is found.1 in
     let left = left_of rs fs in
-    let is : left_of rs (set fs k c.front_at-front.result) ≡ without left k = ap (λ g. left_of rs (set fs k g)) c.front_at-front.ensures ∙ left_next rs fs k r f run_is front_is in
+    let is : left_of rs (set fs k c.front_at.result) ≡ without left k = ap (λ g. left_of rs (set fs k g)) c.front_at.ensures ∙ left_next rs fs k r f run_is front_is in
     subst (λ l. acts_left l < acts_left left) (sym is) (fewer_left left k (left_in r f.place) (of_pair next.act) (map of_pair (drop (suc f.place) r.acts.items)) next.left (run_at rs fs k found.0 r f next))
 
 pub loop-k-preserved : goal.loop-k-preserved
@@ -117,23 +90,21 @@ loop-k-preserved c =
     let r = c.index-runs-k.result in
     let f = c.index.result.now in
     let z = c.loop-k.invariant.fronts in
-    let found = found_first rs fs k (heap_items c.loop-k.nexts) (heap_items c.take_first.new.nexts) c.loop-k.invariant.nexts c.in-Some.ensures.taken in
-    let there = slice_get_within fs k found.1.0 found.1.1 in
+    let within = c.in-Some.ensures.within in
     let count = c.loop-k.invariant.count in
-    let within : k < length rs = omega (arith, there, count) in
+    let there : k < length fs = omega (arith, within, count) in
     let run_is = slice_get_read rs (length rs) k r refl within c.index-runs-k.is in
     let front_is = slice_get_read fs (length fs) k f refl there c.index.ensures in
+    let found = subst (λ xs. FindsFirst rs xs (Some k)) c.as_slice.ensures.value c.in-Some.ensures.first in
     let next = coming rs fs k found.0 r f z run_is front_is found.1 in
     let left = left_of rs fs in
-    let is : left_of rs (set fs k c.front_at-front.result) ≡ without left k = ap (λ g. left_of rs (set fs k g)) c.front_at-front.ensures ∙ left_next rs fs k r f run_is front_is in
+    let is : left_of rs (set fs k c.front_at.result) ≡ without left k = ap (λ g. left_of rs (set fs k g)) c.front_at.ensures ∙ left_next rs fs k r f run_is front_is in
     let made = c.index-in-Some.result.now in
     let both : Some made ≡ Some next.act = sym (slice_get_read r.acts.items (length r.acts.items) f.place made refl (slice_get_within r.acts.items f.place next.act next.act_is) c.index-in-Some.ensures) ∙ next.act_is in
     let same : made ≡ next.act = cc in
     record {
-      nexts = all_again rs fs (set fs k c.front_at-front.result) k c.front_at-front.result (set_other fs k c.front_at-front.result) (set_here fs k c.front_at-front.result there) r.id (heap_items c.take_first.new.nexts) (heap_items c.put_next.new.nexts)
-          (others_left rs fs k (heap_items c.loop-k.nexts) (heap_items c.take_first.new.nexts) c.loop-k.invariant.nexts c.in-Some.ensures.taken) (id_is rs k r run_is) (c.in_ok-put_next.ensures.order c.in-Some.ensures.order) c.in_ok-put_next.ensures.items;
-      count = length-set fs k c.front_at-front.result ∙ count;
-      fronts = subst (λ g. AllZip StandsAt rs (set fs k g)) (sym c.front_at-front.ensures) (stand_next rs fs k r (f.place + 1) run_is z);
+      count = length-set fs k c.front_at.result ∙ count;
+      fronts = subst (λ g. AllZip StandsAt rs (set fs k g)) (sym c.front_at.ensures) (stand_next rs fs k r (f.place + 1) run_is z);
       distinct = subst AreDistinct (sym is) (distinct_still left k c.loop-k.invariant.distinct);
       rising = subst (AllByRecursion RunRises) (sym is) (rising_still left k c.loop-k.invariant.rising);
       woven = λ more m.
@@ -151,6 +122,6 @@ pub returns : goal.returns
 returns c =
     let rs = c.args.runs.now in
     let fs = c.loop-k.fronts.items in
-    let none = found_none rs fs (heap_items c.loop-k.nexts) c.loop-k.invariant.nexts c.in_default.ensures.none in
+    let none = subst (λ xs. FindsFirst rs xs None) c.as_slice.ensures.value c.in_default.ensures.first in
     let w = c.loop-k.invariant.woven [] (nothing_left (left_of rs fs) (none_left rs fs c.loop-k.invariant.fronts none)) in
     (w.0, w.1, sym (append-nil c.loop-k.events.items) ∙ w.2)

@@ -1,8 +1,8 @@
-use Rattle.std.proofs.Common.{◌≡◌, ◌++◌, List, length, map, heap_items}
+use Rattle.std.proofs.Common.{◌≡◌, ◌++◌, List, length, map}
 use Rattle.std.specs.List.{AllByRecursion, AllZip}
 use Rattle.vc_actors.specs.Merge.{Made, IsMerge, AreDistinct, RunRises, run_of}
 use Rattle.vc_core.specs.declared.act.Act.{Act}
-use Rattle.vc_threads.specs.Merged.{numbered, event_of, HoldsNexts}
+use Rattle.vc_threads.specs.Merged.{numbered, event_of}
 use Rattle.vc_threads.proofs.Fronts.{StandsAt, left_of}
 use Rattle.vc_threads.proofs.Weaving.{acts_left}
 use Rattle.vc_threads.proofs.merging.merge.Given as goal
@@ -10,7 +10,6 @@ use Rattle.vc_threads.proofs.merging.merge.Given as goal
 abbrev pub invariant-loop-k : goal.invariant-loop-k
 invariant-loop-k l = record {
   count : length l.fronts.items ≡ length l.fn.runs;
-  nexts : HoldsNexts l.fn.runs l.fronts.items (heap_items l.nexts);
   fronts : AllZip StandsAt l.fn.runs l.fronts.items;
   distinct : AreDistinct (left_of l.fn.runs l.fronts.items);
   rising : AllByRecursion RunRises (left_of l.fn.runs l.fronts.items);
