@@ -1,6 +1,6 @@
 -- All actors' runs as one list, ordered by stamp, then actor.
 use Rattle.std.specs.Prelude.{◌≡◌, ℕ, ◌+◌, ◌<◌, ◌≤◌, ◌⊎◌, Bool, ◌&&◌, ◌||◌, nat_lt, nat_le, List, [], ◌∷◌, ◌++◌, map, if◌then◌else◌, ◌==◌}
-use Rattle.std.specs.List.{AllByRecursion, flat_map}
+use Rattle.std.specs.List.{AllByRecursion}
 use Rattle.vc_actors.specs.Actors.{Event, Label, Steps, Run, opening}
 use Rattle.vc_actors.specs.LocalRun.{Stamped, Turn, LocalRuns, items, plain, restamped}
 
@@ -79,14 +79,6 @@ run_of (r ∷ rs) actor = if r.actor == actor then r.run else run_of rs actor
 abbrev pub AreDistinct : {A : Type 0} → List (Numbered A) → Type 0
 AreDistinct [] = Unit {0}
 AreDistinct {A} (r ∷ rs) = AllByRecursion (λ (s : Numbered A). r.actor ≡ s.actor → ⊥) rs × AreDistinct rs
-
--- all acts, one run after another
-abbrev pub all_made : {A : Type 0} → List (Numbered A) → List (Made A)
-all_made = flat_map (λ r. map (λ s. record { actor = r.actor; act = s }) r.run)
-
--- by stamp, then actor, and no tie
-abbrev pub precedes : {A : Type 0} → Made A → Made A → Bool
-precedes m n = nat_lt m.act.at n.act.at || ((m.act.at == n.act.at) && nat_lt m.actor n.actor)
 
 -- each stamp is above the one before it
 abbrev pub StampsRise : {A : Type 0} → List (Stamped A) → Type 0

@@ -3,6 +3,5 @@
 //!
 //! The crate is definitions and laws over any actors, acts and items, with no code. The laws are lemmas that the crates above cite at
 //! their own actors, since a clause cannot range over a type: `proofs/Interleaving` that merges of local runs are runs of the
-//! network, `proofs/Stable` that a stable sort by stamp and actor makes the merge, `proofs/Replaying` that a replay of the merge
-//! is never refused and ends where the actors ended.
+//! network, `proofs/Replaying` that a replay of the merge is never refused and ends where the actors ended.
 #![tactic(auto)]
