@@ -1,5 +1,5 @@
 -- What an actor does next is an event that can happen, and where it does nothing none can.
-use Rattle.std.proofs.Common.{◌≡◌, ◌↔◌, ℕ, ◌+◌, ◌*◌, ◌%◌, ◌^◌, ◌≤◌, ◌<◌, max, bit_or, get_or, nat_lt, Bool, true, false, IsTrue, IfSome, Result, Ok, Err, IfOk, inl, inr, List, length, slice_get, Option, Some, None, refl, sym, ap, ◌∙◌, subst, arith, if◌then◌else◌}
+use Rattle.std.proofs.Common.{◌≡◌, ◌↔◌, ℕ, ◌+◌, ◌*◌, ◌%◌, ◌^◌, ◌≤◌, ◌<◌, max, bit_or, get_or, nat_lt, Bool, true, false, IsTrue, IfSome, Result, Ok, Err, IfOk, OnErr, inl, inr, List, length, slice_get, Option, Some, None, refl, sym, ap, ◌∙◌, subst, arith, if◌then◌else◌}
 use Rattle.std.proofs.lemmas.Bool.{cases_lt}
 use Rattle.std.proofs.lemmas.Bool.Decides.{nat_tests}
 use Rattle.std.proofs.lemmas.Nat.Bits.{bit_at_or, bit_at-pow_same, bit_at-pow_other}
@@ -24,10 +24,12 @@ use Rattle.vc_told.specs.Process.{Process}
 use Rattle.vc_core.specs.Replaying.{Replays}
 use Rattle.vc_core.specs.Shown.{Acting, OfNode, OfSwitch, node_of}
 use Rattle.vc_core.specs.State.{State, shown, IsNetworkOf, HasFront, HasWay, WaysLet}
-use Rattle.vc_core.specs.Turns.{RoomLets, IsTurn, FindsAt, FindsRoute, FindsMove, FindsTurn, TakesNone, FindsEvent, FindsFront, FindsTake, Rests, IsAtRest, HaveEnded, IsTold, MakesTurn, actors}
+use Rattle.vc_core.specs.Turns.{RoomLets, IsTurn, FindsAt, FindsRoute, FindsMove, FindsTurn, kind_of, FindsOf, TakesNone, FindsEvent, FindsEventOf, FindsFront, FindsTake, Rests, IsAtRest, HaveEnded, IsTold, MakesTurn, actors}
 use Rattle.vc_core.specs.Wired.{out_at, there}
 use Rattle.vc_core.specs.declared.act.Act.{Act}
 use Rattle.vc_core.specs.declared.act.Act.TheVariants as act
+use Rattle.vc_core.specs.declared.act.ActKind.{ActKind}
+use Rattle.vc_core.specs.declared.act.ActKind.TheVariants as kind
 use Rattle.vc_core.specs.declared.act.Event.{Event}
 use Rattle.vc_core.specs.declared.node.Node.{Node}
 use Rattle.vc_core.specs.declared.turn.Turn.{Turn}
@@ -58,62 +60,126 @@ pub clash : (b : Bool) → b ≡ false → IsTrue b → ⊥
 clash true h t = absurd (cc)
 clash false h t = absurd (cc)
 
+pub sure_err : {X E A : Type 0} (r : Result X E) → A → OnErr r A
+sure_err (Ok x) a = tt
+sure_err (Err e) a = a
+
 pub if_ok : {X E : Type 0} (P Q : X → Type 0) (r : Result X E) → ((x : X) → P x → Q x) → IfOk r P → IfOk r Q
 if_ok P Q (Ok x) f h = f x h
 if_ok P Q (Err e) f h = tt
 
-module _ (plan : network.Plan) (k : ℕ) (n : Node) (room : ℕ) where
-  pub passes : (a : Act) → FindsAt (λ l. act.Pass l) (NodeCan plan k n) (Some a) → IsTurn plan k (OfNode n) room a
-  passes a (l, e, can, least) = subst (IsTurn plan k (OfNode n) room) (sym e) (record { can = can; lets = tt })
+-- What is found of one kind.
 
-  pub at_link : (at : ℕ → Act) (a : Act) → FindsAt at (IsTurn plan k (OfNode n) room) (Some a) → IsTurn plan k (OfNode n) room a
-  at_link at a (l, e, can, least) = subst (IsTurn plan k (OfNode n) room) (sym e) can
-
-  -- or a move, where no link has anything to do
-  pub some_move : (o : Option Act) → (x y z : Option Act) → FindsAt (λ l. act.Pass l) (NodeCan plan k n) x → FindsAt (λ l. act.Put l) (IsTurn plan k (OfNode n) room) y →
-      FindsAt (λ l. act.Fct l) (IsTurn plan k (OfNode n) room) z → x ≡ None → y ≡ None → z ≡ None → FindsMove plan k n o → FindsTurn plan k (OfNode n) room o
-  some_move (Some a) x y z h i j e f g (m, is, can) = subst (IsTurn plan k (OfNode n) room) (sym is) (record { can = can; lets = tt })
-  some_move None None None None h i j e f g none = none_by
+module _ (plan : network.Plan) (k : ℕ) (x : Acting) (room : ℕ) where
+  pub puts : (o : Option Act) → FindsAt (λ l. act.Put l) (IsTurn plan k x room) o → FindsOf kind.Put plan k x room o
+  puts (Some a) (l, e, can, least) = subst (IsTurn plan k x room) (sym e) can
+  puts None none = by_act
     where
-      none_by : (a : Act) → IsTurn plan k (OfNode n) room a → ⊥
-      none_by (act.Proc m) t = none m t.can
-      none_by (act.Pass l) t = h l t.can
-      none_by (act.Put l) t = i l t
-      none_by (act.Fct l) t = j l t
-      none_by (act.Take l w) t = t.lets
-      none_by (act.Route l o) t = t.can
-  some_move None (Some a) y z h i j e f g none = absurd (cc)
-  some_move None None (Some a) z h i j e f g none = absurd (cc)
-  some_move None None None (Some a) h i j e f g none = absurd (cc)
+      by_act : (a : Act) → kind_of a ≡ Some kind.Put → IsTurn plan k x room a → ⊥
+      by_act (act.Proc m) e t = absurd (cc)
+      by_act (act.Pass l) e t = absurd (cc)
+      by_act (act.Put l) e t = none l t
+      by_act (act.Fct l) e t = absurd (cc)
+      by_act (act.Route i o) e t = absurd (cc)
+      by_act (act.Take l w) e t = absurd (cc)
 
--- The same for a switch.
+  pub grants : (o : Option Act) → FindsAt (λ l. act.Fct l) (IsTurn plan k x room) o → FindsOf kind.Fct plan k x room o
+  grants (Some a) (l, e, can, least) = subst (IsTurn plan k x room) (sym e) can
+  grants None none = by_act
+    where
+      by_act : (a : Act) → kind_of a ≡ Some kind.Fct → IsTurn plan k x room a → ⊥
+      by_act (act.Proc m) e t = absurd (cc)
+      by_act (act.Pass l) e t = absurd (cc)
+      by_act (act.Put l) e t = absurd (cc)
+      by_act (act.Fct l) e t = none l t
+      by_act (act.Route i o) e t = absurd (cc)
+      by_act (act.Take l w) e t = absurd (cc)
+
+  -- of all kinds, where nothing is found of the others
+  pub of_all : (o : Option Act) → FindsOf kind.Pass plan k x room None → FindsOf kind.Route plan k x room None → FindsOf kind.Put plan k x room None → FindsOf kind.Fct plan k x room None →
+      FindsOf kind.Proc plan k x room o → FindsTurn plan k x room o
+  of_all (Some a) f g h i j = j
+  of_all None f g h i j = by_act
+    where
+      by_act : (a : Act) → IsTurn plan k x room a → ⊥
+      by_act (act.Proc m) t = j (act.Proc m) refl t
+      by_act (act.Pass l) t = f (act.Pass l) refl t
+      by_act (act.Put l) t = h (act.Put l) refl t
+      by_act (act.Fct l) t = i (act.Fct l) refl t
+      by_act (act.Route i o) t = g (act.Route i o) refl t
+      by_act (act.Take l w) t = t.lets
+
+module _ (plan : network.Plan) (k : ℕ) (n : Node) (room : ℕ) where
+  pub passes : (o : Option Act) → FindsAt (λ l. act.Pass l) (NodeCan plan k n) o → FindsOf kind.Pass plan k (OfNode n) room o
+  passes (Some a) (l, e, can, least) = subst (IsTurn plan k (OfNode n) room) (sym e) (record { can = can; lets = tt })
+  passes None none = by_act
+    where
+      by_act : (a : Act) → kind_of a ≡ Some kind.Pass → IsTurn plan k (OfNode n) room a → ⊥
+      by_act (act.Proc m) e t = absurd (cc)
+      by_act (act.Pass l) e t = none l t.can
+      by_act (act.Put l) e t = absurd (cc)
+      by_act (act.Fct l) e t = absurd (cc)
+      by_act (act.Route i o) e t = absurd (cc)
+      by_act (act.Take l w) e t = absurd (cc)
+
+  pub moves : (o : Option Act) → FindsMove plan k n o → FindsOf kind.Proc plan k (OfNode n) room o
+  moves (Some a) (m, e, can) = subst (IsTurn plan k (OfNode n) room) (sym e) (record { can = can; lets = tt })
+  moves None none = by_act
+    where
+      by_act : (a : Act) → kind_of a ≡ Some kind.Proc → IsTurn plan k (OfNode n) room a → ⊥
+      by_act (act.Proc m) e t = none m t.can
+      by_act (act.Pass l) e t = absurd (cc)
+      by_act (act.Put l) e t = absurd (cc)
+      by_act (act.Fct l) e t = absurd (cc)
+      by_act (act.Route i o) e t = absurd (cc)
+      by_act (act.Take l w) e t = absurd (cc)
+
+  pub no_route : FindsOf kind.Route plan k (OfNode n) room None
+  no_route = by_act
+    where
+      by_act : (a : Act) → kind_of a ≡ Some kind.Route → IsTurn plan k (OfNode n) room a → ⊥
+      by_act (act.Proc m) e t = absurd (cc)
+      by_act (act.Pass l) e t = absurd (cc)
+      by_act (act.Put l) e t = absurd (cc)
+      by_act (act.Fct l) e t = absurd (cc)
+      by_act (act.Route i o) e t = t.can
+      by_act (act.Take l w) e t = absurd (cc)
 
 module _ (plan : network.Plan) (k : ℕ) (s : SwitchState) (room : ℕ) where
-  pub passes_here : (a : Act) → FindsAt (λ l. act.Pass l) (SwitchCan s) (Some a) → IsTurn plan k (OfSwitch s) room a
-  passes_here a (l, e, can, least) = subst (IsTurn plan k (OfSwitch s) room) (sym e) (record { can = can; lets = tt })
-
-  pub routes_here : (a : Act) → FindsRoute s (Some a) → IsTurn plan k (OfSwitch s) room a
-  routes_here a (l, o, e, can, first, least) = subst (IsTurn plan k (OfSwitch s) room) (sym e) (record { can = can; lets = tt })
-
-  pub at_link_here : (at : ℕ → Act) (a : Act) → FindsAt at (IsTurn plan k (OfSwitch s) room) (Some a) → IsTurn plan k (OfSwitch s) room a
-  at_link_here at a (l, e, can, least) = subst (IsTurn plan k (OfSwitch s) room) (sym e) can
-
-  -- or a grant, where nothing else can be done
-  pub some_grant : (x y z o : Option Act) → FindsAt (λ l. act.Pass l) (SwitchCan s) x → FindsRoute s y → FindsAt (λ l. act.Put l) (IsTurn plan k (OfSwitch s) room) z → FindsAt (λ l. act.Fct l) (IsTurn plan k (OfSwitch s) room) o →
-      x ≡ None → y ≡ None → z ≡ None → FindsTurn plan k (OfSwitch s) room o
-  some_grant x y z (Some a) h i j g e f d = at_link_here (λ l. act.Fct l) a g
-  some_grant None None None None h i j g e f d = none_by
+  pub passes_here : (o : Option Act) → FindsAt (λ l. act.Pass l) (SwitchCan s) o → FindsOf kind.Pass plan k (OfSwitch s) room o
+  passes_here (Some a) (l, e, can, least) = subst (IsTurn plan k (OfSwitch s) room) (sym e) (record { can = can; lets = tt })
+  passes_here None none = by_act
     where
-      none_by : (a : Act) → IsTurn plan k (OfSwitch s) room a → ⊥
-      none_by (act.Proc m) t = t.can
-      none_by (act.Pass l) t = h l t.can
-      none_by (act.Put l) t = j l t
-      none_by (act.Fct l) t = g l t
-      none_by (act.Take l w) t = t.lets
-      none_by (act.Route l o) t = i l o t.can
-  some_grant (Some a) y z None h i j g e f d = absurd (cc)
-  some_grant None (Some a) z None h i j g e f d = absurd (cc)
-  some_grant None None (Some a) None h i j g e f d = absurd (cc)
+      by_act : (a : Act) → kind_of a ≡ Some kind.Pass → IsTurn plan k (OfSwitch s) room a → ⊥
+      by_act (act.Proc m) e t = absurd (cc)
+      by_act (act.Pass l) e t = none l t.can
+      by_act (act.Put l) e t = absurd (cc)
+      by_act (act.Fct l) e t = absurd (cc)
+      by_act (act.Route i o) e t = absurd (cc)
+      by_act (act.Take l w) e t = absurd (cc)
+
+  pub routes_here : (o : Option Act) → FindsRoute s o → FindsOf kind.Route plan k (OfSwitch s) room o
+  routes_here (Some a) (l, p, e, can, first, least) = subst (IsTurn plan k (OfSwitch s) room) (sym e) (record { can = can; lets = tt })
+  routes_here None none = by_act
+    where
+      by_act : (a : Act) → kind_of a ≡ Some kind.Route → IsTurn plan k (OfSwitch s) room a → ⊥
+      by_act (act.Proc m) e t = absurd (cc)
+      by_act (act.Pass l) e t = absurd (cc)
+      by_act (act.Put l) e t = absurd (cc)
+      by_act (act.Fct l) e t = absurd (cc)
+      by_act (act.Route i o) e t = none i o t.can
+      by_act (act.Take l w) e t = absurd (cc)
+
+  pub no_move : FindsOf kind.Proc plan k (OfSwitch s) room None
+  no_move = by_act
+    where
+      by_act : (a : Act) → kind_of a ≡ Some kind.Proc → IsTurn plan k (OfSwitch s) room a → ⊥
+      by_act (act.Proc m) e t = t.can
+      by_act (act.Pass l) e t = absurd (cc)
+      by_act (act.Put l) e t = absurd (cc)
+      by_act (act.Fct l) e t = absurd (cc)
+      by_act (act.Route i o) e t = absurd (cc)
+      by_act (act.Take l w) e t = absurd (cc)
 
 -- The network's search.
 
@@ -175,6 +241,38 @@ module _ (p : Plan) (s : State) (k room : ℕ) (bits : (link : ℕ) → link < 3
   no_event a here none b takes can =
       let act = has_act p s (event b) a is here can in
       none b (record { can = act; lets = lets_by b takes (has_ways p s (event b) a is here can) })
+
+  -- of one kind
+
+  takes_of : (z : ActKind) (b : Act) → kind_of b ≡ Some z → TakesNone b
+  takes_of z (act.Take l w) e = absurd (cc)
+  takes_of z (act.Put l) e = tt
+  takes_of z (act.Fct l) e = tt
+  takes_of z (act.Proc m) e = tt
+  takes_of z (act.Pass l) e = tt
+  takes_of z (act.Route l o) e = tt
+
+  pub no_event_of : (z : ActKind) (a : Acting) → slice_get s.actors k ≡ Some a → FindsOf z (network_of p) k a room None → FindsEventOf z p s k None
+  no_event_of z a here none b e can =
+      let act = has_act p s (event b) a is here can in
+      none b e (record { can = act; lets = lets_by b (takes_of z b e) (has_ways p s (event b) a is here can) })
+
+pub no_actor_of : (p : Plan) (s : State) (z : ActKind) (k : ℕ) → IsNetworkOf p s → slice_get s.actors k ≡ None → FindsEventOf z p s k None
+no_actor_of p s z k is none b e can = has_actor p s (record { actor = k; act = b }) is can none
+
+-- of all kinds, where none of the others can happen
+pub events_of_all : (p : Plan) (s : State) (k : ℕ) (o : Option Event) → FindsEventOf kind.Pass p s k None → FindsEventOf kind.Route p s k None → FindsEventOf kind.Put p s k None → FindsEventOf kind.Fct p s k None →
+    FindsEventOf kind.Proc p s k o → FindsEvent p s k o
+events_of_all p s k (Some e) f g h i j = j
+events_of_all p s k None f g h i j = by_act
+  where
+    by_act : (a : Act) → TakesNone a → CanHappen p s (record { actor = k; act = a }) → ⊥
+    by_act (act.Proc m) t can = j (act.Proc m) refl can
+    by_act (act.Pass l) t can = f (act.Pass l) refl can
+    by_act (act.Put l) t can = h (act.Put l) refl can
+    by_act (act.Fct l) t can = i (act.Fct l) refl can
+    by_act (act.Route i o) t can = g (act.Route i o) refl can
+    by_act (act.Take l w) t can = t
 
 pub no_actor : (p : Plan) (s : State) (k : ℕ) → IsNetworkOf p s → slice_get s.actors k ≡ None → FindsEvent p s k None
 no_actor p s k is none b takes can = has_actor p s (record { actor = k; act = b }) is can none

@@ -2,6 +2,7 @@ pub mod Begin
 pub mod Filled
 pub mod Channels
 pub mod Inside
+pub mod Scheduling
 pub mod Shown
 pub mod Parts
 pub mod OfPlan

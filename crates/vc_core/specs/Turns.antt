@@ -18,6 +18,8 @@ use Rattle.vc_core.specs.Shown.{Acting}
 use Rattle.vc_core.specs.State.{State, shown, HasFront}
 use Rattle.vc_core.specs.declared.act.Act.{Act}
 use Rattle.vc_core.specs.declared.act.Act.TheVariants.{Proc, Take, Put, Route, Fct, Pass}
+use Rattle.vc_core.specs.declared.act.ActKind.{ActKind}
+use Rattle.vc_core.specs.declared.act.ActKind.TheVariants as kind
 use Rattle.vc_core.specs.declared.act.Event.{Event}
 use Rattle.vc_core.specs.declared.node.Node.{Node}
 use Rattle.vc_core.specs.declared.turn.Turn.{Turn}
@@ -58,6 +60,20 @@ abbrev pub FindsTurn : Plan → ℕ → Acting → ℕ → Option Act → Type 0
 FindsTurn plan k x room None = (a : Act) → IsTurn plan k x room a → ⊥
 FindsTurn plan k x room (Some a) = IsTurn plan k x room a
 
+-- the kind of an act; none of a take
+abbrev pub kind_of : Act → Option ActKind
+kind_of (Pass link) = Some kind.Pass
+kind_of (Route input output) = Some kind.Route
+kind_of (Put link) = Some kind.Put
+kind_of (Fct link) = Some kind.Fct
+kind_of (Proc made) = Some kind.Proc
+kind_of (Take link word) = None
+
+-- an act of this kind for the actor's turn, or none where it has none
+abbrev pub FindsOf : ActKind → Plan → ℕ → Acting → ℕ → Option Act → Type 0
+FindsOf kind plan k x room None = (a : Act) → kind_of a ≡ Some kind → IsTurn plan k x room a → ⊥
+FindsOf kind plan k x room (Some a) = IsTurn plan k x room a
+
 -- the act takes no token
 abbrev pub TakesNone : Act → Type 0
 TakesNone (Take link word) = ⊥
@@ -67,6 +83,11 @@ TakesNone a = Unit {0}
 abbrev pub FindsEvent : Given → State → ℕ → Option Event → Type 0
 FindsEvent p s k None = (a : Act) → TakesNone a → CanHappen p s (record { actor = k; act = a }) → ⊥
 FindsEvent p s k (Some e) = (e.actor ≡ k) × TakesNone e.act × CanHappen p s e
+
+-- an event of actor k of this kind, or none where none can happen
+abbrev pub FindsEventOf : ActKind → Given → State → ℕ → Option Event → Type 0
+FindsEventOf kind p s k None = (a : Act) → kind_of a ≡ Some kind → CanHappen p s (record { actor = k; act = a }) → ⊥
+FindsEventOf kind p s k (Some e) = (e.actor ≡ k) × TakesNone e.act × CanHappen p s e
 
 -- the least link of actor k by which a token comes, or none where none does
 abbrev pub FindsFront : State → ℕ → Option ℕ → Type 0

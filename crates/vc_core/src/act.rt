@@ -45,3 +45,18 @@ pub struct Event {
     /// What it does.
     pub act: Act,
 }
+
+/// The kinds of acts among which an actor looks for its turn: all but a take.
+#[derive(Clone, Copy, Debug, PartialEq, Eq, Drop)]
+pub(crate) enum ActKind {
+    /// A token passes on.
+    Pass,
+    /// A packet is bound to an output.
+    Route,
+    /// A token is put.
+    Put,
+    /// A flow control token is put.
+    Fct,
+    /// A move of a process.
+    Proc,
+}

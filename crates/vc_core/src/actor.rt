@@ -6,11 +6,11 @@ ghost use Rattle.vc_core.specs.Acting.{HasLink, MayAct, MakesOwn, MakesTake, Mak
 ghost use Rattle.vc_core.specs.OfPlan.{IsActorOf};
 ghost use Rattle.vc_core.specs.Parts.{HasEnded, node_in, switch_in, strays_of, lost_of, faults_of};
 ghost use Rattle.vc_core.specs.Shown.{OfNode, OfSwitch};
-ghost use Rattle.vc_core.specs.Turns.{FindsTurn, IsTold, MakesTurn};
+ghost use Rattle.vc_core.specs.Turns.{FindsOf, FindsTurn, IsTold, MakesTurn};
 ghost use Rattle.vc_network.specs.Plan.{Plan};
 ghost use Rattle.vc_tokens.specs.Spelt.{token};
 
-use crate::act::Act;
+use crate::act::{Act, ActKind};
 use crate::node::Node;
 use crate::node_actor::NodeActor;
 use crate::switch_actor::SwitchActor;
@@ -215,9 +215,31 @@ impl Actor {
         ensures may { IfOk result (λ act. IfSome act (λ a. MayAct self.old a)) }
         ensures finds { (plan : Plan) (k : ℕ) → IsActorOf plan k self.old → IfOk result (FindsTurn plan k self.old room) }
     {
+        if let Some(act) = self.next_of(ActKind::Pass, room)? {
+            return Ok(Some(act));
+        }
+        if let Some(act) = self.next_of(ActKind::Route, room)? {
+            return Ok(Some(act));
+        }
+        if let Some(act) = self.next_of(ActKind::Put, room)? {
+            return Ok(Some(act));
+        }
+        if let Some(act) = self.next_of(ActKind::Fct, room)? {
+            return Ok(Some(act));
+        }
+        self.next_of(ActKind::Proc, room)
+    }
+
+    /// An act of this kind that the actor can make where its links have this room.
+    #[inline(always)]
+    pub(crate) fn next_of(&mut self, kind: ActKind, room: u32) -> Result<Option<Act>, Memory>
+        ensures same { self.new ≡ self.old }
+        ensures may { IfOk result (λ act. IfSome act (λ a. MayAct self.old a)) }
+        ensures finds { (plan : Plan) (k : ℕ) → IsActorOf plan k self.old → IfOk result (FindsOf kind plan k self.old room) }
+    {
         match &mut self.part {
-            Part::Node(node) => node.next(room),
-            Part::Switch(switch) => Ok(switch.next(room)),
+            Part::Node(node) => node.next_of(kind, room),
+            Part::Switch(switch) => Ok(switch.next_of(kind, room)),
         }
     }
 

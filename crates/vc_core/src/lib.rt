@@ -3,7 +3,8 @@
 //! An [`Actor`] is a node with its process, or a switch; a [`Network`] is the actors and the ways between them. A simulator makes events one after
 //! another, and the same actors run in threads. Each event that [`Network::step`] makes is exactly one step of the network of the
 //! plan (`specs/State`, MakesEvent), and what [`replay`] answers keeps the headline, and has one list of all that the nodes
-//! communicated, of which each node's part is a trace of its process (`specs/Replaying`).
+//! communicated, of which each node's part is a trace of its process (`specs/Replaying`). Whoever makes events by a scheduler of their own
+//! has the same by [`events_lead_on`].
 #![tactic(auto)]
 
 mod act;
@@ -16,6 +17,7 @@ mod ends;
 mod filling;
 mod fronts;
 mod inside;
+mod laws;
 mod lines;
 mod network;
 mod node;
@@ -38,6 +40,7 @@ pub use act::{Act, Event};
 pub use actor::Actor;
 pub use building::actors;
 pub use close::Close;
+pub use laws::events_lead_on;
 pub use network::{Network, replay};
 pub use place::Place;
 pub use refused::{ReplayRefused, StepRefused};

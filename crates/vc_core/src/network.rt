@@ -17,12 +17,12 @@ ghost use Rattle.vc_core.specs.Parts.{IsDone, node_at, vcp_in, strays_of, lost_o
 ghost use Rattle.std.specs.List.{sum_by};
 ghost use Rattle.vc_core.specs.OfPlan.{IsActorOf};
 ghost use Rattle.vc_core.specs.Shown.{Acting};
-ghost use Rattle.vc_core.specs.Turns.{FindsFront, FindsTake, FindsEvent, HaveEnded, actors};
+ghost use Rattle.vc_core.specs.Turns.{FindsFront, FindsTake, FindsEvent, FindsEventOf, HaveEnded, actors};
 ghost use Rattle.vc_core.specs.declared.act.Event.{Event as Happening};
 ghost use Rattle.vc_core.specs.State.{shown, state_of, IsNetworkOf, MayHappen, WaysLet, HasFront, HasWay, MakesEvent, MakesOne, MayActAt, Accepts, GrantsBy};
 ghost use Rattle.vc_tokens.specs.Spelt.{token as spelt, tokens as all_spelt};
 
-use crate::act::{Act, Event};
+use crate::act::{Act, ActKind, Event};
 use crate::actor::Actor;
 use crate::building::actors;
 use crate::channels::{ChannelInfo, Ends, channels_of};
@@ -302,11 +302,52 @@ impl Network {
         ensures makes { (p : Plan) → IsNetworkOf p (state_of self.old) → IfOk result (λ made. MakesOne p (state_of self.old) made (state_of self.new)) }
         ensures refused { OnErr result (state_of self.new ≡ state_of self.old) }
     {
-        let Some(event) = self.next(actor)? else {
+        if let Some(event) = self.turn_of(actor, ActKind::Pass)? {
+            return Ok(Some(event));
+        }
+        if let Some(event) = self.turn_of(actor, ActKind::Route)? {
+            return Ok(Some(event));
+        }
+        if let Some(event) = self.turn_of(actor, ActKind::Put)? {
+            return Ok(Some(event));
+        }
+        if let Some(event) = self.turn_of(actor, ActKind::Fct)? {
+            return Ok(Some(event));
+        }
+        self.turn_of(actor, ActKind::Proc)
+    }
+
+    // An actor makes an event of this kind where every way has room; nothing where it has none.
+    #[inline(always)]
+    fn turn_of(&mut self, actor: u8, kind: ActKind) -> Result<Option<Event>, Memory>
+        ensures finds { (p : Plan) → IsNetworkOf p (state_of self.old) → IfOk result (FindsEventOf kind p (state_of self.old) actor) }
+        ensures makes { (p : Plan) → IsNetworkOf p (state_of self.old) → IfOk result (λ made. MakesOne p (state_of self.old) made (state_of self.new)) }
+        ensures none { IfOk result (λ made. made ≡ None → state_of self.new ≡ state_of self.old) }
+        ensures refused { OnErr result (state_of self.new ≡ state_of self.old) }
+    {
+        let Some(event) = self.next_of(actor, kind)? else {
             return Ok(None);
         };
         self.make(&event)?;
         Ok(Some(event))
+    }
+
+    // An event of this kind that an actor can make where every way has room; nothing where it has none.
+    #[inline(always)]
+    fn next_of(&mut self, actor: u8, kind: ActKind) -> Result<Option<Event>, Memory>
+        ensures same { state_of self.new ≡ state_of self.old }
+        ensures may { IfOk result (λ found. IfSome found (λ e. MayActAt (state_of self.old) e.actor e.act)) }
+        ensures finds { (p : Plan) → IsNetworkOf p (state_of self.old) → IfOk result (FindsEventOf kind p (state_of self.old) actor) }
+    {
+        let place = usize::from(actor);
+        if place >= self.actors.len() {
+            return Ok(None);
+        }
+        let room = self.lines.room(actor);
+        match self.actors[place].next_of(kind, room)? {
+            Some(act) => Ok(Some(Event { actor, act })),
+            None => Ok(None),
+        }
     }
 
     /// Whether every process has ended.

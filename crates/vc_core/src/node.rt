@@ -334,22 +334,24 @@ impl Node {
         ensures rests { IfOk result (λ goes_on. goes_on ≡ false → self.new.process ≡ self.old.process) }
         ensures err { OnErr result (self.new ≡ self.old) }
     {
-        let taken = self.vcp.pass(link)?;
-        Ok(go_on(&mut self.process, taken))
+        match self.vcp.pass(link)? {
+            Some(taken) => Ok(go_on(&mut self.process, taken)),
+            None => Ok(false),
+        }
     }
 }
 
 // The process goes on where its message is whole or its output finished. The answer is whether it may have.
-fn go_on(process: &mut Running, taken: Option<Taken>) -> bool
-    ensures goes_on { IsAwaited (process_of process.old) (passed_of taken) → GoesOn does (process_of process.old) (passed_of taken) (process_of process.new) }
+fn go_on(process: &mut Running, taken: Taken) -> bool
+    ensures goes_on { IsAwaited (process_of process.old) (passed_of (Some taken)) → GoesOn does (process_of process.old) (passed_of (Some taken)) (process_of process.new) }
     ensures rests { result ≡ false → process.new ≡ process.old }
 {
     match taken {
-        Some(Taken::Complete { chan, message }) => {
+        Taken::Complete { chan, message } => {
             receive(process, chan, message);
             true
         }
-        Some(Taken::Finished { chan }) => {
+        Taken::Finished { chan } => {
             finish(process, chan);
             true
         }

@@ -4,14 +4,14 @@ ghost use Rattle.vc_core.specs.Acting.{NodeMay, MakesOwn, MakesTake, MakesPut, M
 ghost use Rattle.vc_core.specs.Able.{NodeCan};
 ghost use Rattle.vc_core.specs.OfPlan.{IsNodeOf, IsActorOf};
 ghost use Rattle.vc_core.specs.Shown.{OfNode};
-ghost use Rattle.vc_core.specs.Turns.{FindsMove, FindsTurn};
+ghost use Rattle.vc_core.specs.Turns.{FindsMove, FindsOf};
 ghost use Rattle.vc_occam.specs.Remains.{Done};
 ghost use Rattle.vc_occam.specs.Runnings.{state};
 ghost use Rattle.vc_vcp.specs.Seen.{seen};
 ghost use Rattle.vc_network.specs.Plan.{Plan};
 ghost use Rattle.vc_tokens.specs.Spelt.{token};
 
-use crate::act::Act;
+use crate::act::{Act, ActKind};
 use crate::node::{NODE_LINKS, Node, site_of};
 use sqlite_items::Items;
 use std::marker::Model;
@@ -129,25 +129,21 @@ impl NodeActor {
         self.node.vcp.grant(link);
     }
 
-    /// What the node does next, if it has a step to make where its links have this room: a token passes, by the least link; a token
-    /// is put, by the least link with room; a flow control token is put, by the least link with room; then a move of the process,
+    /// An act of this kind that the node can make where its links have this room: by the least link, or a move of the process,
     /// beginning behind the site that acted last.
     #[inline(always)]
-    pub(crate) fn next(&mut self, room: u32) -> Result<Option<Act>, Memory>
+    pub(crate) fn next_of(&mut self, kind: ActKind, room: u32) -> Result<Option<Act>, Memory>
         ensures same { self.new ≡ self.old }
         ensures may { IfOk result (λ act. IfSome act (λ a. NodeMay self.old a)) }
-        ensures finds { (plan : Plan) (k : ℕ) → IsNodeOf plan k self.old → IfOk result (FindsTurn plan k (OfNode self.old) room) }
+        ensures finds { (plan : Plan) (k : ℕ) → IsNodeOf plan k self.old → IfOk result (FindsOf kind plan k (OfNode self.old) room) }
     {
-        if let Some(act) = self.node.next_pass() {
-            return Ok(Some(act));
+        match kind {
+            ActKind::Pass => Ok(self.node.next_pass()),
+            ActKind::Route => Ok(None),
+            ActKind::Put => Ok(self.node.next_put(room)),
+            ActKind::Fct => Ok(self.node.next_grant(room)),
+            ActKind::Proc => self.next_move(),
         }
-        if let Some(act) = self.node.next_put(room) {
-            return Ok(Some(act));
-        }
-        if let Some(act) = self.node.next_grant(room) {
-            return Ok(Some(act));
-        }
-        self.next_move()
     }
 
     // The next move that the process can make, where the links have nothing to do, going round behind the site that acted last.

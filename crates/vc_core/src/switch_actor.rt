@@ -4,14 +4,14 @@ ghost use Rattle.vc_core.specs.Acting.{SwitchMay, MakesOwn, MakesTake, MakesPut,
 ghost use Rattle.vc_core.specs.Able.{SwitchCan};
 ghost use Rattle.vc_core.specs.OfPlan.{IsActorOf};
 ghost use Rattle.vc_core.specs.Shown.{OfSwitch};
-ghost use Rattle.vc_core.specs.Turns.{IsTurn, FindsAt, FindsRoute, FindsTurn};
+ghost use Rattle.vc_core.specs.Turns.{IsTurn, FindsAt, FindsOf, FindsRoute};
 ghost use Rattle.vc_network.specs.Plan.{Plan};
 ghost use Rattle.vc_switch.specs.Able.{CanLeave};
 ghost use Rattle.vc_switch.specs.Seen.{seen};
 ghost use Rattle.vc_switch.specs.State.{plan_of};
 ghost use Rattle.vc_tokens.specs.Spelt.{token};
 
-use crate::act::Act;
+use crate::act::{Act, ActKind};
 use crate::room::{lowest, without};
 use vc_packets::Memory;
 use vc_switch::{ReadySwitch, Switch};
@@ -111,27 +111,24 @@ impl SwitchActor {
         self.switch.grant(link);
     }
 
-    /// What the switch does next, if it has a step to make where its links have this room: a token passes, by the least link; a
-    /// packet is bound, the least input's to the least output; a token is put, by the least link with room; a flow control token
-    /// is put, by the least link with room.
+    /// An act of this kind that the switch can make where its links have this room: by the least link, or to bind the packet of
+    /// the least input to the least output.
     #[inline(always)]
-    pub(crate) fn next(&self, room: u32) -> Option<Act>
+    pub(crate) fn next_of(&self, kind: ActKind, room: u32) -> Option<Act>
         ensures may { IfSome result (λ a. SwitchMay self.now.switch a) }
-        ensures finds { (plan : Plan) (k : ℕ) → FindsTurn plan k (OfSwitch self.now.switch) room result }
+        ensures finds { (plan : Plan) (k : ℕ) → FindsOf kind plan k (OfSwitch self.now.switch) room result }
     {
-        if let Some(act) = self.next_pass() {
-            return Some(act);
+        match kind {
+            ActKind::Pass => self.next_pass(),
+            ActKind::Route => self.next_route(),
+            ActKind::Put => self.next_put(room),
+            ActKind::Fct => self.next_grant(room),
+            ActKind::Proc => None,
         }
-        if let Some(act) = self.next_route() {
-            return Some(act);
-        }
-        if let Some(act) = self.next_put(room) {
-            return Some(act);
-        }
-        self.next_grant(room)
     }
 
     // The least link whose buffer has a token that may pass.
+    #[inline(always)]
     fn next_pass(&self) -> Option<Act>
         ensures may { IfSome result (λ a. SwitchMay self.now.switch a) }
         ensures finds { FindsAt (λ link. Act.Pass link) (SwitchCan self.now.switch) result }
@@ -141,7 +138,18 @@ impl SwitchActor {
     }
 
     // The least input whose packet may be bound, and the least output to which it may.
+    #[inline(always)]
     fn next_route(&self) -> Option<Act>
+        ensures may { IfSome result (λ a. SwitchMay self.now.switch a) }
+        ensures finds { FindsRoute self.now.switch result }
+    {
+        let _input = lowest(self.switch.routes(), self.switch.switch().links())?;
+        self.first_route()
+    }
+
+    // The least input whose packet may be bound, and the least output to which it may, where some input's may be.
+    #[inline(never)]
+    fn first_route(&self) -> Option<Act>
         ensures may { IfSome result (λ a. SwitchMay self.now.switch a) }
         ensures finds { FindsRoute self.now.switch result }
     {
@@ -186,6 +194,7 @@ impl SwitchActor {
     }
 
     // The least link with room on which a token may be put.
+    #[inline(always)]
     fn next_put(&self, room: u32) -> Option<Act>
         ensures may { IfSome result (λ a. SwitchMay self.now.switch a) }
         ensures finds { (plan : Plan) (k : ℕ) → FindsAt (λ link. Act.Put link) (IsTurn plan k (OfSwitch self.now.switch) room) result }
@@ -203,6 +212,7 @@ impl SwitchActor {
     }
 
     // The least link with room on which a flow control token may be put.
+    #[inline(always)]
     fn next_grant(&self, room: u32) -> Option<Act>
         ensures may { IfSome result (λ a. SwitchMay self.now.switch a) }
         ensures finds { (plan : Plan) (k : ℕ) → FindsAt (λ link. Act.Fct link) (IsTurn plan k (OfSwitch self.now.switch) room) result }

@@ -8,6 +8,7 @@ pub mod Checked
 pub mod Deep
 pub mod Doing
 pub mod Everywhere
+pub mod Judged
 pub mod Fitting
 pub mod Found
 pub mod Frames
@@ -24,6 +25,7 @@ pub mod Meets
 pub mod Making
 pub mod Listed
 pub mod Openly
+pub mod Offered
 pub mod Outset
 pub mod Places
 pub mod Preorder

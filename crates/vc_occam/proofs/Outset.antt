@@ -5,8 +5,9 @@ use Rattle.vc_occam.specs.declared.begins.Begins.{Begins}
 use Rattle.vc_occam.specs.declared.begins.Begins.TheVariants as begins
 use Rattle.vc_occam.specs.declared.frame.Frame.{Frame}
 use Rattle.vc_occam.specs.declared.frame.Frame.TheViews.{out-Frame}
+use Rattle.vc_occam.specs.declared.look.Look.{Look}
 use Rattle.vc_occam.specs.declared.phase.Phase.TheVariants as phase
-use Rattle.vc_occam.specs.Frames.{BeginsAs, BeginsWith, View, assigned_at, behind, count_of, has_parts, is_counted, part_assigned, part_own, part_rest, place_of, view, views, while_of}
+use Rattle.vc_occam.specs.Frames.{BeginsAs, BeginsWith, Tells, View, assigned_at, behind, count_of, has_parts, is_counted, part_assigned, part_own, part_rest, place_of, view, views, while_of}
 use Rattle.vc_occam.specs.First.{own}
 use Rattle.vc_occam.specs.Remains.{Rest, Fresh}
 use Rattle.vc_occam.specs.Syntax.{Exp, Test}
@@ -22,6 +23,9 @@ alike begins.Other r q o a h = h
 pub same_rest : (b : Begins) (r q : Rest) → r ≡ q → BeginsWith b q → BeginsWith b r
 same_rest b r q s = alike b r q (λ e. ap (λ (x : Rest). own x e) s) (λ j e. ap (λ (x : Rest). assigned_at j x e) s)
 
+pub same_told : (l : Look) (r q : Rest) (e : Store) → r ≡ q → Tells l (own q e) → Tells l (own r e)
+same_told l r q e s = subst (λ (x : Rest). Tells l (own x e)) (sym s)
+
 own_part : (o : Option View) (e : Store) → part_own o e ≡ own (part_rest o) e
 own_part None e = refl
 own_part (Some v) e = refl
@@ -29,6 +33,13 @@ own_part (Some v) e = refl
 assigned_part : (j : ℕ) (o : Option View) (e : Store) → part_assigned j o e ≡ assigned_at j (part_rest o) e
 assigned_part j None e = refl
 assigned_part j (Some v) e = refl
+
+-- its moves are those of the part that goes on
+part_moves : (f : Frame) → (out-Frame f).phase ≡ phase.Waiting → has_parts (out-Frame f).kind ≡ true → (k : ℕ) → k ≡ place_of (out-Frame f).kind (out-Frame f).at → (e : Store) → own (view f).1 e ≡ part_own (slice_get (views (out-Frame f).parts.items) k) e
+part_moves f h p k g e =
+    let o = out-Frame f in
+    let vs = views o.parts.items in
+    ap (λ (x : Rest). own x e) (rest_going f h p) ∙ follow_own (slice_get vs (place_of o.kind o.at)) (behind o.kind o.site vs o.at) e ∙ ap (λ (n : ℕ). part_own (slice_get vs n) e) (sym g)
 
 -- it begins with what the part begins with that goes on
 pub as_part : (b : Begins) (f : Frame) → (out-Frame f).phase ≡ phase.Waiting → has_parts (out-Frame f).kind ≡ true → (k : ℕ) → k ≡ place_of (out-Frame f).kind (out-Frame f).at → BeginsWith b (part_rest (slice_get (views (out-Frame f).parts.items) k)) → BeginsWith b (view f).1
@@ -51,13 +62,16 @@ as_turn b f x y h k w =
 -- the part that goes on is there, where its place is known
 pub goes_as_part : (f : Frame) (k : ℕ) (p : Option ℕ) → (out-Frame f).phase ≡ phase.Waiting → has_parts (out-Frame f).kind ≡ true → k ≡ place_of (out-Frame f).kind (out-Frame f).at → MatchOption p (slice_get (views (out-Frame f).parts.items) k ≡ None) (λ n. (n ≡ k) × (n < length (views (out-Frame f).parts.items))) → IfSome p (λ n. BeginsAs n (views (out-Frame f).parts.items) (view f).1)
 goes_as_part f k None h q g m = tt
-goes_as_part f k (Some n) h q g m = (m.1, λ b w. as_part b f h q n (m.0 ∙ g) w)
+goes_as_part f k (Some n) h q g m = (m.1, part_moves f h q n (m.0 ∙ g), λ b w. as_part b f h q n (m.0 ∙ g) w)
 
 pub goes_as_turn : (f : Frame) (x y : ℤ) (p : Option ℕ) → (out-Frame f).phase ≡ phase.Turning x y → is_counted (out-Frame f).kind ≡ true → MatchOption p (slice_get (views (out-Frame f).parts.items) 0 ≡ None) (λ n. (n ≡ 0) × (n < length (views (out-Frame f).parts.items))) → IfSome p (λ n. BeginsAs n (views (out-Frame f).parts.items) (view f).1)
 goes_as_turn f x y None h q m = tt
 goes_as_turn f x y (Some n) h q m =
-    let vs = views (out-Frame f).parts.items in
-    (m.1, λ b w. as_turn b f x y h q (subst (λ (i : ℕ). BeginsWith b (part_rest (slice_get vs i))) m.0 w))
+    let vs = views (out-Frame f).parts.items in (
+      m.1,
+      λ e. turning_own f x y e h q ∙ ap (λ (i : ℕ). part_own (slice_get vs i) e) (sym m.0),
+      λ b w. as_turn b f x y h q (subst (λ (i : ℕ). BeginsWith b (part_rest (slice_get vs i))) m.0 w),
+    )
 
 while_assigned : (j i : ℕ) (b : Test) (vs : List View) (e : Store) → assigned_at j (Fresh (while_of i b vs)) e ≡ None
 while_assigned j i b [] e = refl

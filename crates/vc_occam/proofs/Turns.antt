@@ -22,7 +22,7 @@ use Rattle.vc_occam.proofs.Stores.{or_left, or_right}
 use Rattle.vc_occam.specs.Values.{Store, value_of, within}
 use Rattle.vc_occam.specs.Remains.{Rest, Done, Stopped, Fresh, Finishing, Getting, Then, Turns, Beside, Step, begin, index_on, turns_on, in_turns, does_count, does_count_none, faults_count}
 use Rattle.vc_occam.specs.Frames.{Able, Did, HasVariables, PartHasVariables, View, assigned_at, part_assigned, begun_at, count_of, is_counted, is_done, part_done, part_rest, plan_at, plans, rest_at, so_far, turn_of, turning, turns_left}
-use Rattle.vc_occam.specs.Nexts.{count_begun, count_phase, count_store, last_phase, TurnEnded, turn_phase, turn_store, turn_views}
+use Rattle.vc_occam.specs.Nexts.{count_begun, count_phase, count_store, last_phase, TurnEnded, turn_phase, turn_store, turn_views, over}
 
 pub left_of : (x : ℤ) (m : ℕ) → turns_left x (x +ℤ pos m) ≡ m
 left_of x m = by (int_lt x (x +ℤ pos m)) refl
@@ -231,6 +231,14 @@ pub turn_undone : (k : Kind) (i : ℕ) (ph : Phase) (x y : ℤ) (vs : List View)
 turn_undone k i ph x y vs at h c =
     let is = counted_is k c in
     ap (λ (q : Phase). is_done (rest_at k q i vs at)) h ∙ ap (λ (j : Kind). is_done (turning j vs x y)) is.3 ∙ turn_goes_on is.0 vs x y
+
+-- the turns are over where the last one has ended
+pub turns_over : (k : Kind) (i : ℕ) (q : Phase) (x y : ℤ) (vs : List View) (at : ℕ) → is_counted k ≡ true → q ≡ turn_phase true x y → over q ≡ is_done (rest_at k q i vs at)
+turns_over k i q x y vs at c h = subst (λ (p : Phase). over p ≡ is_done (rest_at k p i vs at)) (sym h) (on (int_lt x y))
+  where
+    on : (b : Bool) → over (if b then phase.Turning (x +ℤ pos 1) y else phase.Ended) ≡ is_done (rest_at k (if b then phase.Turning (x +ℤ pos 1) y else phase.Ended) i vs at)
+    on true = sym (turn_undone k i (phase.Turning (x +ℤ pos 1) y) (x +ℤ pos 1) y vs at refl c)
+    on false = refl
 
 -- a turn goes on
 pub turn_goes : (k : Kind) (i : ℕ) (ph : Phase) (x y : ℤ) (vs ws : List View) (e f : Store) (s : ℕ) (d : Deed) (at : ℕ) → ph ≡ phase.Turning x y → is_counted k ≡ true → plans ws ≡ plans vs → Did (part_rest (slice_get vs 0)) e s d (part_rest (slice_get ws 0)) f → part_done (slice_get ws 0) ≡ false →

@@ -13,6 +13,8 @@ use Rattle.vc_occam.specs.declared.moves.Move.{Move}
 use Rattle.vc_occam.specs.declared.moves.Move.TheVariants as move
 use Rattle.vc_occam.specs.declared.begins.Begins.{Begins}
 use Rattle.vc_occam.specs.declared.begins.Begins.TheVariants as begins
+use Rattle.vc_occam.specs.declared.look.Look.{Look}
+use Rattle.vc_occam.specs.declared.look.Look.TheVariants as look
 use Rattle.vc_occam.specs.declared.datum.Datum.{Datum}
 use Rattle.vc_occam.specs.declared.datum.Datum.TheVariants as datum
 use Rattle.vc_occam.specs.declared.deed.Deed.{Deed}
@@ -261,13 +263,18 @@ BeginsWith begins.Nothing r = (e : Store) → own r e ≡ []
 BeginsWith (begins.Quiet i) r = (e : Store) → (own r e ≡ move.Quiet i ∷ []) × ((j : ℕ) → assigned_at j r e ≡ None)
 BeginsWith begins.Other r = Unit {0}
 
--- the k-th part is there, and it begins with what this part begins with
+-- the k-th part is there, and what goes on begins with what this part begins with
 abbrev pub BeginsAs : ℕ → List View → Rest → Type 0
-BeginsAs k vs r = (k < length vs) × ((b : Begins) → BeginsWith b (part_rest (slice_get vs k)) → BeginsWith b r)
+BeginsAs k vs r = (k < length vs) × ((e : Store) → own r e ≡ part_own (slice_get vs k) e) × ((b : Begins) → BeginsWith b (part_rest (slice_get vs k)) → BeginsWith b r)
 
 abbrev pub listed : Option Move → List Move
 listed None = []
 listed (Some m) = m ∷ []
+
+-- a look tells of these moves that they are at most one
+abbrev pub Tells : Look → List Move → Type 0
+Tells (look.One m) ms = ms ≡ listed m
+Tells look.More ms = Unit {0}
 
 -- it needs no channel inside the node
 abbrev pub is_outside : (ℕ → Bool) → Move → Bool

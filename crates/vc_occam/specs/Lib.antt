@@ -5,6 +5,7 @@ pub mod Frames
 pub mod Gates
 pub mod InOrder
 pub mod UseFaults
+pub mod Judged
 pub mod Usages
 pub mod Lawful
 pub mod Laws

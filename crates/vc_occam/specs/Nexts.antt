@@ -63,6 +63,11 @@ abbrev pub turn_phase : Bool → ℤ → ℤ → Phase
 turn_phase false x y = phase.Turning x y
 turn_phase true x y = if int_lt x y then phase.Turning (x +ℤ pos 1) y else phase.Ended
 
+-- so far, the turns are over
+abbrev pub over : Phase → Bool
+over phase.Ended = true
+over ph = false
+
 abbrev pub turn_views : Bool → ℤ → ℤ → List View → List View
 turn_views false x y vs = vs
 turn_views true x y vs = if int_lt x y then begun_at 0 vs else vs

@@ -13,7 +13,7 @@ use crate::value_kind::ValueKind;
 use sqlite_items::Items;
 
 /// A question.
-#[derive(Clone, Copy, Debug, PartialEq, Eq, Drop)]
+#[derive(Clone, Copy, Drop)]
 pub(crate) enum Asked {
     /// Have its expressions at most this depth?
     Expressions { depth: u32 },

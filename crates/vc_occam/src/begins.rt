@@ -1,7 +1,7 @@
 //! What is known of the moves that a process begins with.
 
 /// What a process begins with, whatever its variables hold.
-#[derive(Clone, Copy, Debug, PartialEq, Eq, Drop)]
+#[derive(Clone, Copy, Drop)]
 pub(crate) enum Begins {
     /// Nothing.
     Nothing,

@@ -7,7 +7,7 @@ use std::alloc::Global;
 use vc_packets::Memory;
 
 /// What a variable holds.
-#[derive(Debug, Drop)]
+#[derive(Drop)]
 pub(crate) enum Datum {
     /// A whole number of 64 bits with sign.
     Int(i64),

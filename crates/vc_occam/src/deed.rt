@@ -2,7 +2,7 @@
 use sqlite_items::Items;
 
 /// What one site does at once.
-#[derive(Debug, Drop)]
+#[derive(Drop)]
 pub(crate) enum Deed {
     /// A step without a communication.
     Quiet,

@@ -4,7 +4,7 @@ ghost use Rattle.vc_occam.specs.declared.deed.Deed.TheVariants.{Quiet};
 ghost use Rattle.vc_occam.specs.declared.frame.Frame.TheViews.{out-Frame};
 ghost use Rattle.vc_occam.specs.Frames.{Able, ChangedAt, Did, HasVariables, PartHasVariables, PartInPreorder, View, as_begun, assigned_at, awaiting, is_choice, is_counted, part_done, goes_within, gone_on, part_assigned, place_of, begun_at, behind, chosen_from, going_at, besides, has_parts, is_done, is_last, part_rest, plan_at, plans, rest_at, resting_at, together, view, views};
 ghost use Rattle.vc_occam.specs.Gates.{gate};
-ghost use Rattle.vc_occam.specs.Nexts.{GateHasVariable, branch_next, choice_begun, choice_next, choice_store, count_begun, count_phase, count_store, gate_begun, gate_next, gate_store, seq_begun, seq_next, stuck_next, TurnEnded, turn_begun, turn_next, turn_phase, turn_store, turn_views};
+ghost use Rattle.vc_occam.specs.Nexts.{GateHasVariable, branch_next, choice_begun, choice_next, choice_store, count_begun, count_phase, count_store, gate_begun, gate_next, gate_store, over, seq_begun, seq_next, stuck_next, TurnEnded, turn_begun, turn_next, turn_phase, turn_store, turn_views};
 ghost use Rattle.vc_occam.specs.declared.deed.Deed.{Deed};
 ghost use Rattle.vc_occam.specs.Remains.{Fresh};
 ghost use Rattle.vc_occam.specs.Sites.{InPreorder};
@@ -26,14 +26,14 @@ use crate::variables::{put, set_variable};
 use sqlite_items::Items;
 
 /// How far a frame is, and at which part.
-#[derive(Clone, Copy, Debug, PartialEq, Eq, Drop)]
+#[derive(Clone, Copy, Drop)]
 pub(crate) struct Next {
     pub(crate) phase: Phase,
     pub(crate) at: usize,
 }
 
 /// How far a frame is after what its site did, and whether nothing remains.
-#[derive(Clone, Copy, Debug, PartialEq, Eq, Drop)]
+#[derive(Clone, Copy, Drop)]
 struct Went {
     next: Next,
     ended: bool,
@@ -160,6 +160,16 @@ fn after_turn(
     Phase::Turning {
         index: index + 1,
         last,
+    }
+}
+
+/// Whether the turns of a counted SEQ are over that is so far.
+fn is_over(phase: Phase) -> bool
+    ensures { result ≡ over phase }
+{
+    match phase {
+        Phase::Ended => true,
+        _ => false,
     }
 }
 
@@ -466,6 +476,7 @@ impl Frame {
     }
 
     /// An output or input that has begun and hasn't ended goes on; answers whether nothing remains then.
+    #[inline(never)]
     fn end_begun(&mut self, doing: &mut SiteDeed, vars: &mut Vec<Datum>) -> bool
         requires able { Able (as_begun (view self.old).0) (store vars.old.items) doing.old.site doing.old.deed }
         requires variables { HasVariables (view self.old).0 (length vars.old.items) }
@@ -536,7 +547,7 @@ impl Frame {
             if let Phase::Turning { index, last } = self.phase {
                 let phase = after_turn(*var, index, last, &mut self.parts, vars);
                 self.phase = phase;
-                return self.ended();
+                return is_over(phase);
             }
         }
         self.ended()

@@ -6,7 +6,7 @@ use crate::moves::Move;
 
 /// The sites that last began an output and an input on each channel. Channels whose numbers agree modulo 256 share a place, and a
 /// site may have gone on since: a hint says where to look first, and no more.
-#[derive(Clone, Copy, Debug, PartialEq, Eq, Drop)]
+#[derive(Clone, Copy, Drop)]
 pub(crate) struct Hints {
     outputs: [u16; 256],
     inputs: [u16; 256],

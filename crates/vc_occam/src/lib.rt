@@ -50,9 +50,11 @@ mod hints;
 mod kind;
 mod laws;
 mod limits;
+mod look;
 mod looking;
 mod meeting;
 mod moves;
+mod offering;
 mod operator;
 mod phase;
 mod process;
@@ -78,7 +80,8 @@ pub use channel_use::ChannelUse;
 pub use condition::Cond;
 pub use expression::Expr;
 pub use laws::{
-    lawful_use_is_kept, listed_moves_can_be_made, sites_are_own, steps_are_traces, waiting_after,
+    a_first_offender_refutes, lawful_use_is_kept, listed_moves_can_be_made, sites_are_own,
+    steps_are_traces, waiting_after,
 };
 pub use moves::Move;
 pub use operator::Op;

@@ -5,7 +5,7 @@ ghost use Rattle.vc_occam.specs.declared.begins.Begins.{Begins};
 ghost use Rattle.vc_occam.specs.declared.frame.Frame.TheViews.{out-Frame};
 ghost use Rattle.vc_occam.specs.First.{own};
 ghost use Rattle.vc_occam.specs.Gates.{gate};
-ghost use Rattle.vc_occam.specs.Frames.{BeginsAs, BeginsAt, BeginsWith, HasSiteIn, MovesAt, View, as_begun, assigned_at, awaiting, besides, chosen_at, first_waits, is_choice, listed, part_own, part_waits, place_with, plan_at, plans_of, resting_at, view, views, waits_at};
+ghost use Rattle.vc_occam.specs.Frames.{BeginsAs, BeginsAt, BeginsWith, HasSiteIn, MovesAt, Tells, View, as_begun, assigned_at, awaiting, besides, chosen_at, first_waits, is_choice, listed, part_own, part_waits, place_with, plan_at, plans_of, resting_at, view, views, waits_at};
 ghost use Rattle.vc_occam.specs.Remains.{Fresh};
 ghost use Rattle.vc_occam.specs.Sites.{InPreorder, PartsInPreorder};
 ghost use Rattle.vc_occam.specs.States.{Waiting, carried, output_at, waiting};
@@ -17,6 +17,7 @@ use crate::datum::Datum;
 use crate::frame::Frame;
 use crate::guarded::GuardedInput;
 use crate::kind::Kind;
+use crate::look::Look;
 use crate::moves::{Move, site_of};
 use crate::phase::Phase;
 use crate::value::Value;
@@ -90,7 +91,8 @@ impl Frame {
 
     /// The frame that goes on alone: this one, or one within it, down the parts that go on; a PAR's parts go on side by side.
     fn innermost(&self) -> &Frame
-        ensures { (b : Begins) → BeginsWith b (view result.now).1 → BeginsWith b (view self.now).1 }
+        ensures begins { (b : Begins) → BeginsWith b (view result.now).1 → BeginsWith b (view self.now).1 }
+        ensures moves { (e : Store) → own (view self.now).1 e ≡ own (view result.now).1 e }
     {
         match self.part_alone() {
             Some(at) => self.parts[at].innermost(),
@@ -125,16 +127,33 @@ impl Frame {
         }
     }
 
-    /// Whether it begins with nothing, whatever the variables hold. Where this is false it may begin.
-    fn rests(&self) -> bool
-        ensures { IsTrue result → (e : Store) → own (view self.now).1 e ≡ [] }
+    /// What one look tells of the moves that it can begin with.
+    #[inline(always)]
+    fn look(&self, vars: &[Datum]) -> Look
+        ensures { Tells result (own (view self.now).1 (store vars.now)) }
     {
-        if let Phase::Resting = self.phase {
-            return true;
-        }
-        match self.begins() {
-            Begins::Nothing => true,
-            _ => false,
+        self.innermost().look_at_itself(vars)
+    }
+
+    /// What a look at the frame's own site tells, where none of its parts goes on alone.
+    #[inline(always)]
+    fn look_at_itself(&self, vars: &[Datum]) -> Look
+        ensures { Tells result (own (view self.now).1 (store vars.now)) }
+    {
+        match self.phase {
+            Phase::Ready => ready_look(self.site, &self.kind, &self.parts, vars),
+            Phase::Waiting => {
+                if self.kind.has_parts() {
+                    return Look::More;
+                }
+                Look::One(None)
+            }
+            Phase::Resting => Look::One(None),
+            Phase::Turning { .. } => Look::More,
+            Phase::Together => Look::More,
+            Phase::Chosen => Look::One(None),
+            Phase::Ended => Look::One(None),
+            Phase::Stuck => Look::One(None),
         }
     }
 
@@ -270,6 +289,7 @@ impl Frame {
     }
 
     /// The bytes that the assignment at a site is about to assign; None where it assigns a number, or none begins there.
+    #[inline(never)]
     pub(crate) fn assigned(
         &self,
         alloc: Global,
@@ -361,7 +381,8 @@ fn push_parts(found: &mut Items<Move>, parts: &Vec<Frame>, vars: &[Datum]) -> Re
     ensures { OnOk result (found.new ≡ found.old ++ own (besides (views parts.now.items)) (store vars.now)) }
 {
     for part in parts.as_slice() {
-        if part.rests() {
+        if let Look::One(made) = part.look(vars) {
+            push_move(found, made)?;
             continue;
         }
         part.push_moves(found, vars)?;
@@ -473,6 +494,16 @@ fn ready_move(site: u16, kind: &Kind, parts: &Vec<Frame>, vars: &[Datum]) -> Opt
         Kind::Count { .. } if parts.is_empty() => None,
         _ => Some(Move::Quiet { site }),
     }
+}
+
+/// What a look at a process that hasn't begun tells of its moves.
+fn ready_look(site: u16, kind: &Kind, parts: &Vec<Frame>, vars: &[Datum]) -> Look
+    ensures { Tells result (own (Fresh (plan_at kind.now site (views parts.now.items))) (store vars.now)) }
+{
+    if kind.is_choice() {
+        return Look::More;
+    }
+    Look::One(ready_move(site, kind, parts, vars))
 }
 
 /// What a process that hasn't begun begins with, whatever the variables hold.

@@ -1,5 +1,6 @@
 //! What meets inside the node.
-ghost use Rattle.std.specs.Prelude.{◌≡◌, ◌≤◌, ◌-◌, ◌++◌, ◌∷◌, [], OnOk, drop, length, take};
+ghost use Rattle.std.specs.Prelude.{◌≡◌, ◌≤◌, ◌-◌, ◌++◌, ◌∷◌, [], IfSome, None, OnOk, drop, length, take, true};
+ghost use Rattle.vc_occam.specs.declared.moves.Move.TheVariants.{Inner};
 ghost use Rattle.vc_occam.specs.First.{joined as as_joined, meetings};
 ghost use Rattle.vc_occam.specs.Frames.{is_outside as stays_outside};
 ghost use Rattle.vc_occam.specs.Moving.{partner as its_partner};
@@ -139,11 +140,58 @@ fn drop_front(found: &mut Items<Move>, count: usize)
     drop_end(found, count);
 }
 
+/// Where an output and an input meet on a channel inside the node, what they come to.
+fn meet_alone(sender: u16, chan: u16, receiver: u16, on: u16, inside: &[u16]) -> Option<Move>
+    ensures { IfSome result (λ met. (chan ≡ on) × (among inside.now chan ≡ true) × (met ≡ Inner sender receiver None chan)) }
+{
+    if chan == on && inside.contains(&chan) {
+        return Some(Move::Inner {
+            sender,
+            receiver,
+            guard: None,
+            chan,
+        });
+    }
+    None
+}
+
+/// The meeting that two moves come to, if one is an output and the other the input that it meets inside the node.
+fn meeting_of(first: &Move, second: &Move, inside: &[u16]) -> Option<Move>
+    ensures { IfSome result (λ met. as_joined (among inside.now) (first.now ∷ second.now ∷ []) (first.now ∷ second.now ∷ []) ≡ met ∷ []) }
+{
+    match *first {
+        Move::Offer { site: sender, chan } => match *second {
+            Move::Want { site, chan: on } => meet_alone(sender, chan, site, on, inside),
+            _ => None,
+        },
+        Move::Want { site, chan: on } => match *second {
+            Move::Offer { site: sender, chan } => meet_alone(sender, chan, site, on, inside),
+            _ => None,
+        },
+        _ => None,
+    }
+}
+
+/// The meeting that the moves come to, if there are two of them, an output and the input that it meets inside the node.
+fn only_meeting(found: &[Move], inside: &[u16]) -> Option<Move>
+    ensures { IfSome result (λ met. as_joined (among inside.now) found.now found.now ≡ met ∷ []) }
+{
+    if found.len() == 2 {
+        return meeting_of(&found[0], &found[1], inside);
+    }
+    None
+}
+
 /// In place of the moves that each site can begin with, puts those that need no channel inside the node, and what meets there. The
 /// list's room serves for both.
 pub(crate) fn join(found: &mut Items<Move>, inside: &[u16]) -> Result<(), Memory>
     ensures { OnOk result (found.new ≡ as_joined (among inside.now) found.old found.old) }
 {
+    if let Some(met) = only_meeting(found.as_slice(), inside) {
+        clear(found);
+        found.push(met)?;
+        return Ok(());
+    }
     let count = found.len();
     push_all_joined(found, count, inside)?;
     drop_front(found, count);

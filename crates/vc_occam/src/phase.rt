@@ -1,7 +1,7 @@
 //! How far a running process is.
 
 /// How far a frame is.
-#[derive(Clone, Copy, Debug, PartialEq, Eq, Drop)]
+#[derive(Clone, Copy, Drop)]
 pub(crate) enum Phase {
     /// It hasn't begun.
     Ready,

@@ -92,12 +92,7 @@ fn meet(
     ensures plan { (view frame.new).0 ≡ (view frame.old).0 }
     ensures length { length vars.new.items ≡ length vars.old.items }
 {
-    let mut offers = SiteDeed {
-        site: sender,
-        deed: Deed::Offer { chan },
-        assigned: None,
-    };
-    frame.go(&mut offers, vars);
+    frame.offer(sender);
     let mut takes = SiteDeed {
         site: site_of(taken),
         deed: deed_for(taken, answer),
@@ -331,7 +326,36 @@ impl Running {
         ensures unchanged { OnErr result (self.new ≡ self.old) }
         ensures inside { inner_channels self.new ≡ inner_channels self.old }
     {
-        let assigned = self.assigned(site)?;
+        if let Begins::Quiet { .. } = self.begins {
+            self.step(site, None);
+            return Ok(());
+        }
+        self.act_assigning(site)
+    }
+
+    /// Makes a step without a communication, which may assign bytes. Where it is without memory nothing has changed.
+    #[inline(never)]
+    #[tactic(auto, unfolding(crate::specs::Runnings::state, crate::specs::Runnings::inner_channels))]
+    fn act_assigning(&mut self, site: u16) -> Result<(), Memory>
+        requires listed { Contains (moves self.old) (Move.Quiet site) }
+        ensures made { OnOk result (Acts (state self.old) (Rests site) (state self.new)) }
+        ensures unchanged { OnErr result (self.new ≡ self.old) }
+        ensures inside { inner_channels self.new ≡ inner_channels self.old }
+    {
+        let assigned = self.frame.assigned(self.alloc, site, &self.vars)?;
+        self.step(site, assigned);
+        Ok(())
+    }
+
+    /// Makes a step without a communication, which assigns these bytes, if any.
+    #[inline(always)]
+    #[tactic(auto, unfolding(crate::specs::Runnings::state, crate::specs::Runnings::inner_channels))]
+    fn step(&mut self, site: u16, assigned: Option<Datum>)
+        requires listed { Contains (moves self.old) (Move.Quiet site) }
+        requires assigned { assigned ≡ assigned_at site (view self.old.frame).1 (store self.old.vars.items) }
+        ensures made { Acts (state self.old) (Rests site) (state self.new) }
+        ensures inside { inner_channels self.new ≡ inner_channels self.old }
+    {
         let mut doing = SiteDeed {
             site,
             deed: Deed::Quiet,
@@ -339,18 +363,6 @@ impl Running {
         };
         self.frame.go(&mut doing, &mut self.vars);
         self.begins = self.frame.begins();
-        Ok(())
-    }
-
-    /// The bytes that the site's step assigns; None where it assigns none.
-    #[inline(always)]
-    fn assigned(&self, site: u16) -> Result<Option<Datum>, Memory>
-        ensures { IfOk result (λ value. value ≡ assigned_at site (view self.now.frame).1 (store self.now.vars.items)) }
-    {
-        match self.begins {
-            Begins::Quiet { .. } => Ok(None),
-            _ => self.frame.assigned(self.alloc, site, &self.vars),
-        }
     }
 
     /// The site goes on: its output was finished, or here is the message for its input.

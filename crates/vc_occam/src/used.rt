@@ -1,7 +1,7 @@
 //! What a process uses, and what parts side by side may not share.
 
 /// What a process uses: a channel that it outputs on, a channel that it inputs on, guards by or stops, or a variable.
-#[derive(Clone, Copy, Debug, PartialEq, Eq, PartialOrd, Ord, Drop)]
+#[derive(Clone, Copy, PartialEq, Eq, PartialOrd, Ord, Drop)]
 pub(crate) enum Used {
     /// The channel is output on.
     Output(u16),
@@ -12,7 +12,7 @@ pub(crate) enum Used {
 }
 
 /// One use by a process.
-#[derive(Clone, Copy, Debug, PartialEq, Eq, Drop)]
+#[derive(Clone, Copy, Drop)]
 pub(crate) struct Usage {
     /// What is used.
     pub(crate) used: Used,
@@ -21,7 +21,7 @@ pub(crate) struct Usage {
 }
 
 /// One use by a part of a PAR.
-#[derive(Clone, Copy, Debug, PartialEq, Eq, PartialOrd, Ord, Drop)]
+#[derive(Clone, Copy, PartialEq, Eq, PartialOrd, Ord, Drop)]
 pub(crate) struct PartUsage {
     /// What is used.
     pub(crate) used: Used,

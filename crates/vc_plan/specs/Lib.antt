@@ -6,6 +6,7 @@ pub mod Hops
 pub mod Labelling
 pub mod Limits
 pub mod Places
+pub mod Refusals
 pub mod Search
 pub mod Versions
 pub mod Wires

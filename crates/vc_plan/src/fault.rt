@@ -1,7 +1,7 @@
 //! What can be wrong at the end of a path.
 
 /// What is wrong at the end of a path.
-#[derive(Clone, Copy, Debug, PartialEq, Eq, Drop)]
+#[derive(Clone, Copy, Drop)]
 pub(crate) enum Fault {
     /// A header in front at a switch is in no interval.
     NoInterval,

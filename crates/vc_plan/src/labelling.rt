@@ -19,7 +19,7 @@ use std::alloc::Global;
 use vc_packets::Memory;
 
 /// A path of a virtual link's packets that ends in a fault, with the fault.
-#[derive(Debug, Drop)]
+#[derive(Drop)]
 pub(crate) struct Astray {
     pub(crate) vlink: u16,
     pub(crate) from_a: bool,

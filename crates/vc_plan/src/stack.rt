@@ -9,7 +9,7 @@ use std::alloc::Global;
 use vc_packets::Memory;
 
 /// What a switch does with a packet.
-#[derive(Debug, Drop)]
+#[derive(Drop)]
 pub(crate) enum Passage {
     /// It leaves by any link from `first` to `last`, with these headers where the link doesn't delete.
     Leaves {

@@ -8,6 +8,8 @@ use Rattle.vc_plan.specs.declared.plan.Plan.{Plan}
 use Rattle.vc_plan.specs.declared.node_plan.NodePlan.{NodePlan}
 use Rattle.vc_plan.specs.declared.node_plan.Variable.{Variable}
 use Rattle.vc_plan.specs.declared.channel.Channel.{Channel}
+use Rattle.vc_plan.specs.declared.switch_plan.SwitchPlan.{SwitchPlan}
+use Rattle.vc_plan.specs.declared.port.Wire.{Wire}
 use Rattle.vc_reader.specs.declared.word.Word.{Word}
 use Rattle.vc_reader.specs.declared.word.Word.TheVariants as word
 use Rattle.vc_reader.specs.declared.path.Step.{Step}
@@ -38,18 +40,34 @@ node_plans (h ∷ hs) (p ∷ ps) = record { name = h.name; vars = h.vars; proces
 abbrev pub network_words : List Word
 network_words = word.Version ∷ word.Nodes ∷ word.Switches ∷ word.Wires ∷ word.Vlinks ∷ word.Channels ∷ []
 
+-- the nodes that have these heads, or their first fault
+abbrev pub nodes_of : List Head → List Channel → Data → Result (List NodePlan) Fault
+nodes_of heads channels d = do
+  processes ← field word.Nodes (list_of (node_process heads channels)) d
+  Ok (node_plans heads processes)
+
+-- the plan of these nodes, switches and wires, or its first fault
+abbrev pub plan_with_wires : List Head → List SwitchPlan → List Wire → Data → Result Plan Fault
+plan_with_wires heads switches wires d = do
+  vlinks ← list_field word.Vlinks (vlink_of heads) d
+  channels ← list_field word.Channels (channel_of heads vlinks) d
+  nodes ← nodes_of heads channels d
+  Ok (record { version = 2; nodes = nodes; switches = switches; wires = wires; vlinks = vlinks; channels = channels })
+
+-- the plan of these nodes, in a file of this version
+abbrev pub plan_with_nodes : ℕ → List Head → Data → Result Plan Fault
+plan_with_nodes version heads d = do
+  switches ← list_field word.Switches (switch_of version heads) d
+  wires ← list_field word.Wires (λ _. wire_of heads switches) d
+  plan_with_wires heads switches wires d
+
 -- the plan that a value means, or its first fault; a file of version 1 is a network of version 2 without portals and random inputs
 abbrev pub plan_of : Data → Result Plan Fault
 plan_of d = do
   _ ← object_of network_words d
   version ← field word.Version (number_of 1 2) d
   heads ← field word.Nodes (list_of head_of) d
-  switches ← list_field word.Switches (switch_of version heads) d
-  wires ← list_field word.Wires (λ _. wire_of heads switches) d
-  vlinks ← list_field word.Vlinks (vlink_of heads) d
-  channels ← list_field word.Channels (channel_of heads vlinks) d
-  processes ← field word.Nodes (list_of (node_process heads channels)) d
-  Ok (record { version = 2; nodes = node_plans heads processes; switches = switches; wires = wires; vlinks = vlinks; channels = channels })
+  plan_with_nodes version heads d
 
 abbrev pub refusal : Why → List Step → ReadRefused
 refusal why.Missing path = Missing path

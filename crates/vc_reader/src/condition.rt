@@ -134,8 +134,6 @@ fn both(alloc: Global, depth: usize, vars: &Register<Variable>, value: &Value) -
     row(alloc, 3, value)?;
     let left = part(alloc, depth, vars, 1, value)?;
     let right = part(alloc, depth, vars, 2, value)?;
-    let left = Boxed::new(alloc, left)?;
-    let right = Boxed::new(alloc, right)?;
     Ok(Cond::And(left, right))
 }
 
@@ -151,8 +149,6 @@ fn either(
     row(alloc, 3, value)?;
     let left = part(alloc, depth, vars, 1, value)?;
     let right = part(alloc, depth, vars, 2, value)?;
-    let left = Boxed::new(alloc, left)?;
-    let right = Boxed::new(alloc, right)?;
     Ok(Cond::Or(left, right))
 }
 
@@ -162,7 +158,6 @@ fn not(alloc: Global, depth: usize, vars: &Register<Variable>, value: &Value) ->
 {
     row(alloc, 2, value)?;
     let cond = part(alloc, depth, vars, 1, value)?;
-    let cond = Boxed::new(alloc, cond)?;
     Ok(Cond::Not(cond))
 }
 
@@ -174,14 +169,15 @@ fn part(
     vars: &Register<Variable>,
     index: usize,
     value: &Value,
-) -> Result<Cond, Stop>
+) -> Result<Boxed<Cond>, Stop>
     ensures { Gives (λ x. x) result (cell_of index (cond_of depth vars.now) (view value.now)) }
 {
     let read = match value.get(index) {
         Some(item) => cond(alloc, depth, vars, item),
         None => Err(wrong(alloc, Why::Missing)),
     };
-    under(Step::Index(index), read)
+    let part = under(Step::Index(index), read)?;
+    Ok(Boxed::new(alloc, part)?)
 }
 
 /// A condition over these variables.

@@ -20,7 +20,7 @@ pub enum Why {
 }
 
 /// A fault, with the path to where it is.
-#[derive(Debug, Drop)]
+#[derive(Drop)]
 pub struct Fault {
     /// What is wrong.
     pub why: Why,
@@ -29,7 +29,7 @@ pub struct Fault {
 }
 
 /// Why a value was not read to its end.
-#[derive(Debug, Drop)]
+#[derive(Drop)]
 pub enum Stop {
     /// There was no memory.
     Memory,

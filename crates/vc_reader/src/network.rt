@@ -6,7 +6,7 @@ ghost use Rattle.serde_json.specs.Read.{read};
 ghost use Rattle.vc_reader.specs.Reading.{Gives, number_of, list_of, field as field_of};
 ghost use Rattle.vc_reader.specs.Network.{head_of};
 ghost use Rattle.vc_reader.specs.Processes.{whole_process};
-ghost use Rattle.vc_reader.specs.NetworkText.{vars_of, node_process, node_plans, plan_of, Reads};
+ghost use Rattle.vc_reader.specs.NetworkText.{vars_of, node_process, node_plans, nodes_of, plan_with_wires, plan_with_nodes, plan_of, Reads};
 ghost use Rattle.vc_reader.specs.declared.refused.ReadRefused.TheVariants.{Memory as OutOfMemory, Json};
 
 use crate::channel::ChannelReader;
@@ -27,7 +27,7 @@ use sqlite_items::Items;
 use std::alloc::Global;
 use vc_occam::Process;
 use vc_packets::Memory;
-use vc_plan::{Channel, NodePlan, Plan};
+use vc_plan::{Channel, NodePlan, Plan, SwitchPlan, Wire};
 
 #[derive(Drop)]
 struct Version;
@@ -163,6 +163,72 @@ fn joined(
     Ok(nodes)
 }
 
+/// The nodes that have these heads.
+fn nodes(
+    alloc: Global,
+    heads: Register<Head>,
+    channels: &Register<Channel>,
+    value: &Value,
+) -> Result<Items<NodePlan>, Stop>
+    ensures { Gives (λ x. x) result (nodes_of heads channels.now (view value.now)) }
+{
+    let processes = Processes {
+        heads: &heads,
+        channels,
+    };
+    let processes = field(alloc, Word::Nodes, &processes, value)?;
+    Ok(joined(alloc, heads.into_items(), processes)?)
+}
+
+/// The plan of these nodes, switches and wires.
+fn plan_with_wires(
+    alloc: Global,
+    heads: Register<Head>,
+    switches: Items<SwitchPlan>,
+    wires: Items<Wire>,
+    value: &Value,
+) -> Result<Plan, Stop>
+    ensures { Gives (λ x. x) result (plan_with_wires heads switches wires (view value.now)) }
+{
+    let vlinks = register_field(alloc, Word::Vlinks, &VlinkReader(&heads), value)?;
+    let channel = ChannelReader {
+        nodes: &heads,
+        vlinks: &vlinks,
+    };
+    let channels = register_field(alloc, Word::Channels, &channel, value)?;
+    let nodes = nodes(alloc, heads, &channels, value)?;
+    Ok(Plan {
+        version: 2,
+        nodes,
+        switches,
+        wires,
+        vlinks: vlinks.into_items(),
+        channels: channels.into_items(),
+    })
+}
+
+/// The plan of these nodes, in a file of this version.
+fn plan_with_nodes(
+    alloc: Global,
+    version: u8,
+    heads: Register<Head>,
+    value: &Value,
+) -> Result<Plan, Stop>
+    ensures { Gives (λ x. x) result (plan_with_nodes version heads (view value.now)) }
+{
+    let switch = SwitchReader {
+        version,
+        nodes: &heads,
+    };
+    let switches = register_field(alloc, Word::Switches, &switch, value)?;
+    let wire = WireReader {
+        nodes: &heads,
+        switches: &switches,
+    };
+    let wires = list_field(alloc, Word::Wires, &wire, value)?;
+    plan_with_wires(alloc, heads, switches.into_items(), wires, value)
+}
+
 /// The plan that a value means.
 fn plan(alloc: Global, value: &Value) -> Result<Plan, Stop>
     ensures { Gives (λ x. x) result (plan_of (view value.now)) }
@@ -178,36 +244,7 @@ fn plan(alloc: Global, value: &Value) -> Result<Plan, Stop>
     object(alloc, &fields, value)?;
     let version = field(alloc, Word::Version, &Version, value)?;
     let heads = field(alloc, Word::Nodes, &Heads, value)?;
-    let switch = SwitchReader {
-        version,
-        nodes: &heads,
-    };
-    let switches = register_field(alloc, Word::Switches, &switch, value)?;
-    let wire = WireReader {
-        nodes: &heads,
-        switches: &switches,
-    };
-    let wires = list_field(alloc, Word::Wires, &wire, value)?;
-    let vlinks = register_field(alloc, Word::Vlinks, &VlinkReader(&heads), value)?;
-    let channel = ChannelReader {
-        nodes: &heads,
-        vlinks: &vlinks,
-    };
-    let channels = register_field(alloc, Word::Channels, &channel, value)?;
-    let processes = Processes {
-        heads: &heads,
-        channels: &channels,
-    };
-    let processes = field(alloc, Word::Nodes, &processes, value)?;
-    let nodes = joined(alloc, heads.into_items(), processes)?;
-    Ok(Plan {
-        version: 2,
-        nodes,
-        switches: switches.into_items(),
-        wires,
-        vlinks: vlinks.into_items(),
-        channels: channels.into_items(),
-    })
+    plan_with_nodes(alloc, version, heads, value)
 }
 
 /// The JSON value of a text.

@@ -6,7 +6,7 @@ ghost use Rattle.vc_switch.specs.Front.{front_of, behind_portal, start_of, HasFr
 use vc_labels::{Action, Table};
 
 /// A front header that has a group.
-#[derive(Clone, Copy, Debug, PartialEq, Eq, Drop)]
+#[derive(Clone, Copy, Drop)]
 pub(crate) struct Front {
     /// At which byte of the body it begins, behind the portals.
     pub(crate) at: usize,

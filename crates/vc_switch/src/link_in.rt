@@ -19,7 +19,7 @@ use vc_packets::{Mark, Memory};
 use vc_tokens::{Assembler, Token};
 
 /// By which output an input's packet leaves, and how much of it has.
-#[derive(Clone, Copy, Debug, PartialEq, Eq, Drop)]
+#[derive(Clone, Copy, Drop)]
 pub(crate) struct Bound {
     /// The output link.
     pub(crate) output: u8,

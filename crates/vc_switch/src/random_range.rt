@@ -4,7 +4,7 @@ ghost use Rattle.vc_switch.specs.State.{interval_of, IsRange};
 ghost use Rattle.vc_switch.specs.Switch.{drawn};
 
 /// The random headers of an input link.
-#[derive(Clone, Copy, Debug, PartialEq, Eq, Drop)]
+#[derive(Clone, Copy, Drop)]
 pub(crate) struct RandomRange {
     /// The least header.
     pub(crate) lower: u32,

@@ -24,7 +24,7 @@ use vc_packets::Memory;
 use vc_tokens::Token;
 
 /// A bit for each link at which there is something to do, by what it is.
-#[derive(Clone, Copy, Debug, PartialEq, Eq, Drop)]
+#[derive(Clone, Copy, Drop)]
 pub(crate) struct Ready {
     /// The inputs from whose buffer a token may pass.
     pub(crate) passes: u32,

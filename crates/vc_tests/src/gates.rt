@@ -3,7 +3,7 @@ use std::alloc::Global;
 use std::sync::Wait;
 use std::sync::atomic::{AtomicU64, Ordering};
 use std::test::Fail;
-use std::thread::Threads;
+use std::thread::{self, Threads};
 use vc_core::{Close, Event, Network, replay};
 use vc_plan::{Accepted, check};
 use vc_reader::read_network;
@@ -13,15 +13,16 @@ use vc_threads::{Gate, Report, run_threads};
 const HELLO: &str =
     r#"{"version":1,"nodes":[{"name":"a","process":{"out":["c",{"text":"hello"}]}},{"name":"b","vars":[["m","bytes"]],"process":{"in":["c","m"]}}],"wires":[["a",0,"b",0]],"vlinks":[{"name":"v","a":["a",0,1,[1]],"b":["b",0,1,[1]]}],"channels":[{"name":"c","kind":"bytes","vlink":"v","way":"ab"}]}"#;
 
-/// A thread that is held looks so often, and then ends.
-const LOOKS: u32 = 10_000_000;
+/// A thread that is held looks so often, and then ends: a bound that only threads that never start reach.
+const LOOKS: u32 = 100_000_000;
 
-/// Looks until the flags are all there; not, where they never are.
+/// Looks until the flags are all there, and leaves the processor to the others between its looks; not, where they never are.
 fn wait_for(flags: &AtomicU64, wanted: u64) -> bool {
     for _ in 0..LOOKS {
         if flags.load(Ordering::SeqCst) == wanted {
             return true;
         }
+        thread::yield_now();
     }
     false
 }

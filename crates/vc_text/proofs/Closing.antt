@@ -34,6 +34,14 @@ grown true had first old new least some grows more e = let s = some refl in omeg
 grown false true first old new least some grows more e = let m = more refl in omega arith
 grown false false first old new least some grows more e = absurd (cc)
 
+pub or_true : (a b : Bool) → b ≡ true → (a || b) ≡ true
+or_true true b e = refl
+or_true false b e = e
+
+pub or_false : (a b : Bool) → b ≡ false → (a || b) ≡ a
+or_false true b e = refl
+or_false false b e = e
+
 pub neither : (a b : Bool) → (a || b) ≡ false → (a ≡ false) × (b ≡ false)
 neither true b e = absurd (cc)
 neither false b e = (refl, e)

@@ -7,7 +7,8 @@ use Rattle.std.proofs.lemmas.Nat.{pow-add}
 use Rattle.std.specs.Int.{bit_at, trailing_zeros, w64}
 use Rattle.vc_plan.specs.declared.plan.Plan.{Plan}
 use Rattle.vc_core.specs.State.{State, IsNetworkOf, HasFront, MakesEvent}
-use Rattle.vc_core.specs.Turns.{FindsEvent, Rests}
+use Rattle.vc_core.specs.Enabled.{CanHappen}
+use Rattle.vc_core.specs.Turns.{TakesNone, FindsEvent, Rests}
 use Rattle.vc_core.specs.declared.act.Event.{Event}
 use Rattle.vc_core.proofs.Quiet.{quiet_after}
 use Rattle.vc_core.proofs.Turning.{takes}
@@ -32,6 +33,14 @@ one_acts p s t e a b actor own made others it old = λ k low q.
     elim (cases_eq k actor) [
       | inl same ↦ absurd (let one = it (subst (λ z. z < 64) same low) in let none = subst (λ z. active_at b z ≡ 0) same q in omega (arith, one, none))
       | inr ne ↦ quiet_after p s t e k (λ same. ne (same ∙ own)) made (old k low (sym (others k ne) ∙ q))
+    ]
+
+-- one acts that was not quiet, since it has an event
+pub acts_quiet : (p : Plan) (s t : State) (e : Event) (a : Seats) (actor : ℕ) → e.actor ≡ actor → TakesNone e.act → CanHappen p s e → MakesEvent p s e t → AreQuiet p s a → AreQuiet p t a
+acts_quiet p s t e a actor own none can made old = λ k low q.
+    elim (cases_eq k actor) [
+      | inl same ↦ absurd (subst (λ z. FindsEvent p s z None) (same ∙ sym own) (old k low q) e.act none can)
+      | inr ne ↦ quiet_after p s t e k (λ same. ne (same ∙ own)) made (old k low q)
     ]
 
 -- at first nothing is known

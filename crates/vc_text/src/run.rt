@@ -1,5 +1,5 @@
 //! Running a network event by event.
-ghost use Rattle.std.specs.Prelude.{◌≡◌, ◌⊎◌, ◌<◌, ◌≤◌, ◌+◌, ℕ, true, false, length, map, slice_get, Some, None, Ok, IfOk, OnOk};
+ghost use Rattle.std.specs.Prelude.{◌≡◌, ◌⊎◌, ◌<◌, ◌≤◌, ◌+◌, [], ◌∷◌, ◌++◌, ℕ, true, false, length, map, slice_get, Some, None, Ok, IfOk, OnOk};
 ghost use Rattle.vc_plan.specs.declared.plan.Plan.{Plan};
 ghost use Rattle.vc_core.specs.State.{state_of, IsNetworkOf};
 ghost use Rattle.vc_core.specs.Replaying.{Reached, Replays};
@@ -24,9 +24,6 @@ use std::io::{Read, Write};
 use vc_core::{Act, Close, Event, Network};
 use vc_packets::Memory;
 use vc_plan::Accepted;
-
-/// The most actors that an accepted plan has: 32 nodes and 32 switches.
-const ACTORS: u8 = 64;
 
 /// What a run made, and how it ended.
 #[derive(Debug, Drop)]
@@ -96,9 +93,33 @@ fn turn(
         seats.rest(actor);
         return Ok(false);
     };
-    seats.wake(actor);
-    events.push(event)?;
+    join(events, event)?;
     Ok(true)
+}
+
+/// An event joins those made. What is done at a link joins in a branch of its own: the few parts that it has are then written as
+/// they are, and not carried here together with those of a move.
+#[inline(always)]
+fn join(events: &mut Items<Event>, event: Event) -> Result<(), Memory>
+    ensures { OnOk result (events.new ≡ events.old ++ event ∷ []) }
+{
+    let actor = event.actor;
+    match event.act {
+        Act::Pass { link } => join_act(events, actor, Act::Pass { link }),
+        Act::Put { link } => join_act(events, actor, Act::Put { link }),
+        Act::Fct { link } => join_act(events, actor, Act::Fct { link }),
+        Act::Route { input, output } => join_act(events, actor, Act::Route { input, output }),
+        act => join_act(events, actor, act),
+    }
+}
+
+/// An act joins the events made.
+#[inline(always)]
+fn join_act(events: &mut Items<Event>, actor: u8, act: Act) -> Result<(), Memory>
+    ensures { OnOk result (events.new ≡ events.old ++ record { actor = actor; act = act } ∷ []) }
+{
+    events.push(Event { actor, act })?;
+    Ok(())
 }
 
 /// An actor makes the event that it makes next, if it has one, and the event joins those made: a take from the least link that has
@@ -126,8 +147,7 @@ fn act(
         return Ok(false);
     }
     seats.wake(actor);
-    let act = Act::Take { link, word };
-    events.push(Event { actor, act })?;
+    join_act(events, actor, Act::Take { link, word })?;
     Ok(true)
 }
 
@@ -182,14 +202,13 @@ fn round(
 {
     let mut moved = false;
     let mut from = 0u8;
-    for _ in 0..ACTORS {
+    while let Some(actor) = seats.next_of(network.awake(), from) {
         if events.len() as u64 >= limit {
             return Ok(true);
         }
-        let Some(actor) = seats.next_of(network.awake(), from) else {
-            return Ok(moved);
-        };
-        moved |= act(network, seats, events, actor)?;
+        if act(network, seats, events, actor)? {
+            moved = true;
+        }
         from = actor + 1;
     }
     Ok(moved)

@@ -1,13 +1,11 @@
-use Rattle.std.proofs.Common.{◌≡◌, ◌∙◌, ◌<◌, ℕ, List, get_or, length, subst, sym, ap, arith, Option}
+use Rattle.std.proofs.Common.{◌∙◌, ℕ, sym, ap, arith, Option}
 use Rattle.std.specs.Prelude.{slice_get}
-use Rattle.vc_occam.specs.declared.frame.Frame.{Frame}
 use Rattle.vc_occam.specs.declared.frame.Frame.TheViews.{out-Frame}
 use Rattle.vc_occam.specs.First.{own}
 use Rattle.vc_occam.specs.Frames.{View, behind, part_own, place_of, views}
 use Rattle.vc_occam.specs.Remains.{Rest}
 use Rattle.vc_occam.specs.Terms.{store}
 use Rattle.vc_occam.proofs.Frames.{awaiting_own, is_awaiting, turning_own, turning_none, rest_apart, rest_together, rest_ready, rest_going, rest_idle, rest_ended, rest_stuck, resting_nothing, follow_own, idle_own}
-use Rattle.vc_occam.proofs.Besides.{rested}
 use Rattle.vc_occam.proofs.Gates.{pushed_none, pushed_same}
 use Rattle.vc_occam.proofs.Stepping.{none_view}
 use Rattle.vc_occam.proofs.+moves.Goals as goal
@@ -67,16 +65,6 @@ pub frame::Frame::push_moves-returns-else-is_par : goal.frame::Frame::push_moves
 frame::Frame::push_moves-returns-else-is_par t c =
     let F = λ (r : Rest). own r (store c.args.vars.now) in
     pushed_none _ _ (ap F (rest_apart c.args.self.now c.in-Together.is (sym c.is_par.ensures ∙ c.if-is_par.false)))
-
-pub looking::push_parts-loop-part-preserved-then-rests : goal.looking::push_parts-loop-part-preserved-then-rests
-looking::push_parts-loop-part-preserved-then-rests t c =
-    let fs = c.args.parts.now.items in
-    let k = c.loop-part.part-index in
-    let part = c.part-item.result in
-    let same = c.as_slice-part-items.ensures.value in
-    let l = subst (λ (xs : List Frame). k < length xs) same c.loop-part-test.true in
-    let h = subst (λ (xs : List Frame). part ≡ get_or xs k part) same c.part-item.is in
-    rested fs k part (store c.args.vars.now) c.loop-part.found _ l h (c.rests.ensures c.if-rests.true (store c.args.vars.now)) c.loop-part.invariant
 
 pub frame::Frame::push_moves-returns-in-Resting : goal.frame::Frame::push_moves-returns-in-Resting
 frame::Frame::push_moves-returns-in-Resting t c = pushed_none _ _ (resting_nothing c.args.self.now (store c.args.vars.now) c.in-Resting.is)

@@ -15,47 +15,40 @@ pub go-requires-clause-able : goal.go-requires-clause-able
 go-requires-clause-able c =
     let r = (view c.args.frame.now).1 in
     let e = store c.args.vars.now.items in
+    let q = (view c.offer.new.self).1 in
     let p = as_partner (own r e) c.args.sender c.args.chan c.args.taken.now c.requires.meets in
-    able r e (Offer c.args.sender c.args.chan) Nothing p.3
+    let st = c.offer.ensures.did e c.args.chan (able r e (Offer c.args.sender c.args.chan) Nothing p.3) in
+    subst (λ (l : ℕ). Able q e l c.deed_for.result) (sym c.site_of.ensures)
+    (subst (λ (d : Deed). Able q e (site_of c.args.taken.now) d) (sym c.deed_for.ensures)
+    (subst (λ (m : Move). Able q e (site_of m) (deed_for m c.args.answer)) (sym p.2) (able_taking p.0 p.1 c.args.answer st.1 p.4)))
 
 pub go-requires-2-clause-able : goal.go-requires-2-clause-able
 go-requires-2-clause-able c =
     let r = (view c.args.frame.now).1 in
     let e = store c.args.vars.now.items in
-    let q = (view c.go.new.self).1 in
-    let f = store c.go.new.vars.items in
+    let q = (view c.offer.new.self).1 in
+    let s = (view c.go.new.self).1 in
+    let g = store c.go.new.vars.items in
     let p = as_partner (own r e) c.args.sender c.args.chan c.args.taken.now c.requires.meets in
-    subst (λ (l : ℕ). Able q f l c.deed_for.result) (sym c.site_of.ensures)
-    (subst (λ (d : Deed). Able q f (site_of c.args.taken.now) d) (sym c.deed_for.ensures)
-    (subst (λ (m : Move). Able q f (site_of m) (deed_for m c.args.answer)) (sym p.2) (able_taking p.0 p.1 c.args.answer c.go.ensures.did.1 p.4)))
-
-pub go-requires-3-clause-able : goal.go-requires-3-clause-able
-go-requires-3-clause-able c =
-    let r = (view c.args.frame.now).1 in
-    let e = store c.args.vars.now.items in
-    let q = (view c.go.new.self).1 in
-    let f = store c.go.new.vars.items in
-    let s = (view c.go-2.new.self).1 in
-    let g = store c.go-2.new.vars.items in
-    let p = as_partner (own r e) c.args.sender c.args.chan c.args.taken.now c.requires.meets in
-    let tk = subst (λ (m : Move). Did q f (site_of m) (deed_for m c.args.answer) s g) p.2
-    (subst (λ (l : ℕ). Did q f l (deed_for c.args.taken.now c.args.answer) s g) c.site_of.ensures
-    (subst (λ (d : Deed). Did q f c.site_of.result d s g) c.deed_for.ensures c.go-2.ensures.did)) in
-    able_finish c.args.sender p.0 p.1 c.args.chan c.args.answer c.requires.own_sites c.requires.fits c.go.ensures.did tk
+    let st = c.offer.ensures.did e c.args.chan (able r e (Offer c.args.sender c.args.chan) Nothing p.3) in
+    let tk = subst (λ (m : Move). Did q e (site_of m) (deed_for m c.args.answer) s g) p.2
+    (subst (λ (l : ℕ). Did q e l (deed_for c.args.taken.now c.args.answer) s g) c.site_of.ensures
+    (subst (λ (d : Deed). Did q e c.site_of.result d s g) c.deed_for.ensures c.go.ensures.did)) in
+    able_finish c.args.sender p.0 p.1 c.args.chan c.args.answer c.requires.own_sites c.requires.fits st tk
 
 pub returns-clause-met : goal.returns-clause-met
 returns-clause-met c =
     let r = (view c.args.frame.now).1 in
     let e = store c.args.vars.now.items in
-    let q = (view c.go.new.self).1 in
-    let f = store c.go.new.vars.items in
-    let s = (view c.go-2.new.self).1 in
-    let g = store c.go-2.new.vars.items in
-    let t = (view c.go-3.new.self).1 in
-    let h = store c.go-3.new.vars.items in
+    let q = (view c.offer.new.self).1 in
+    let s = (view c.go.new.self).1 in
+    let g = store c.go.new.vars.items in
+    let t = (view c.go-2.new.self).1 in
+    let h = store c.go-2.new.vars.items in
     let p = as_partner (own r e) c.args.sender c.args.chan c.args.taken.now c.requires.meets in
-    let tk = subst (λ (m : Move). Did q f (site_of m) (deed_for m c.args.answer) s g) p.2
-    (subst (λ (l : ℕ). Did q f l (deed_for c.args.taken.now c.args.answer) s g) c.site_of.ensures
-    (subst (λ (d : Deed). Did q f c.site_of.result d s g) c.deed_for.ensures c.go-2.ensures.did)) in
+    let st = c.offer.ensures.did e c.args.chan (able r e (Offer c.args.sender c.args.chan) Nothing p.3) in
+    let tk = subst (λ (m : Move). Did q e (site_of m) (deed_for m c.args.answer) s g) p.2
+    (subst (λ (l : ℕ). Did q e l (deed_for c.args.taken.now c.args.answer) s g) c.site_of.ensures
+    (subst (λ (d : Deed). Did q e c.site_of.result d s g) c.deed_for.ensures c.go.ensures.did)) in
     subst (λ (m : Move). HasMet (at r e) c.args.sender c.args.chan m c.args.answer (at t h)) (sym p.2)
-    (met_partner (at r e) (at t h) c.args.sender p.0 p.1 c.args.chan c.args.answer (has_met c.args.sender p.0 p.1 c.args.chan c.args.answer c.requires.own_sites c.requires.fits c.go.ensures.did tk c.go-3.ensures.did))
+    (met_partner (at r e) (at t h) c.args.sender p.0 p.1 c.args.chan c.args.answer (has_met c.args.sender p.0 p.1 c.args.chan c.args.answer c.requires.own_sites c.requires.fits st tk c.go-2.ensures.did))

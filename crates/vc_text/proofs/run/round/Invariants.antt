@@ -1,4 +1,4 @@
-use Rattle.std.proofs.Common.{◌≡◌, ◌<◌, ◌≤◌, ℕ, true, false, length}
+use Rattle.std.proofs.Common.{◌≡◌, ◌<◌, ◌≤◌, ◌-◌, ℕ, true, false, length}
 use Rattle.vc_plan.specs.declared.plan.Plan.{Plan}
 use Rattle.vc_core.specs.Replaying.{Reached}
 use Rattle.vc_core.specs.State.{state_of}
@@ -6,11 +6,10 @@ use Rattle.vc_core.specs.Turns.{Rests, actors}
 use Rattle.vc_text.specs.Quiet.{AreQuiet}
 use Rattle.vc_text.proofs.run.round.Given as goal
 
-abbrev pub invariant-loop : goal.invariant-loop
-invariant-loop l = record {
+abbrev pub invariant-loop-actor : goal.invariant-loop-actor
+invariant-loop-actor l = record {
   few : length l.events ≤ l.limit;
   low : l.from ≤ 64;
-  far : l.counter ≤ l.from;
   reached : (p : Plan) → Reached p l.fn.events (state_of l.fn.network) → Reached p l.events (state_of l.network);
   some : length l.fn.events ≤ length l.events;
   more : l.moved ≡ true → length l.fn.events < length l.events;
@@ -18,3 +17,6 @@ invariant-loop l = record {
   quiet : (p : Plan) → Reached p l.fn.events (state_of l.fn.network) → AreQuiet p (state_of l.fn.network) l.fn.seats → AreQuiet p (state_of l.network) l.seats;
   rests : (p : Plan) → Reached p l.fn.events (state_of l.fn.network) → AreQuiet p (state_of l.fn.network) l.fn.seats → l.moved ≡ false → (k : ℕ) → k < l.from → k < actors p → Rests p (state_of l.fn.network) k;
 }
+
+abbrev pub decreases-loop-actor : goal.decreases-loop-actor
+decreases-loop-actor l = 64 - l.from

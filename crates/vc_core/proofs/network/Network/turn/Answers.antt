@@ -1,15 +1,94 @@
-use Rattle.std.proofs.Common.{IfSome, sym, subst}
-use Rattle.vc_core.specs.State.{state_of, IsNetworkOf, MayActAt, WaysLet, MakesEvent}
-use Rattle.vc_core.specs.Turns.{FindsEvent}
-use Rattle.vc_core.proofs.Taking.{ways_of}
+use Rattle.std.proofs.Common.{◌≡◌, sym, ◌∙◌, subst}
+use Rattle.vc_core.specs.State.{state_of, IsNetworkOf, MakesOne}
+use Rattle.vc_core.specs.Turns.{FindsEventOf}
+use Rattle.vc_core.specs.declared.act.ActKind.TheVariants as kind
+use Rattle.vc_core.proofs.Happening.{on_err}
+use Rattle.vc_core.proofs.Turning.{events_of_all, if_ok, sure_err}
 use Rattle.vc_core.proofs.network.Network.turn.Goals as goal
+
+pub returns-in_err-event-2-clause-refused : goal.returns-in_err-event-2-clause-refused
+returns-in_err-event-2-clause-refused c =
+    let same1 : state_of c.turn_of.new.self ≡ state_of c.args.self.now = c.in_ok-event.ensures.none c.in_default.is in
+    sure_err c.from_residual-in_err-event-2.result (c.in_err-event-2.ensures.refused ∙ same1)
+
+pub returns-in_err-event-3-clause-refused : goal.returns-in_err-event-3-clause-refused
+returns-in_err-event-3-clause-refused c =
+    let same1 : state_of c.turn_of.new.self ≡ state_of c.args.self.now = c.in_ok-event.ensures.none c.in_default.is in
+    let same2 : state_of c.turn_of-2.new.self ≡ state_of c.args.self.now = c.in_ok-event-2.ensures.none c.in_default-2.is ∙ same1 in
+    sure_err c.from_residual-in_err-event-3.result (c.in_err-event-3.ensures.refused ∙ same2)
+
+pub returns-in_err-event-4-clause-refused : goal.returns-in_err-event-4-clause-refused
+returns-in_err-event-4-clause-refused c =
+    let same1 : state_of c.turn_of.new.self ≡ state_of c.args.self.now = c.in_ok-event.ensures.none c.in_default.is in
+    let same2 : state_of c.turn_of-2.new.self ≡ state_of c.args.self.now = c.in_ok-event-2.ensures.none c.in_default-2.is ∙ same1 in
+    let same3 : state_of c.turn_of-3.new.self ≡ state_of c.args.self.now = c.in_ok-event-3.ensures.none c.in_default-3.is ∙ same2 in
+    sure_err c.from_residual-in_err-event-4.result (c.in_err-event-4.ensures.refused ∙ same3)
+
+pub returns-in-Some-2-clause-finds : goal.returns-in-Some-2-clause-finds
+returns-in-Some-2-clause-finds c = λ p is.
+    let same1 : state_of c.turn_of.new.self ≡ state_of c.args.self.now = c.in_ok-event.ensures.none c.in_default.is in
+    subst (FindsEventOf kind.Route p (state_of c.args.self.now) c.args.actor) c.in-Some-2.is (subst (λ z. FindsEventOf kind.Route p z c.args.actor c.in_ok-event-2.field-0) same1 (c.in_ok-event-2.ensures.finds p (subst (IsNetworkOf p) (sym same1) is)))
+
+pub returns-in-Some-2-clause-makes : goal.returns-in-Some-2-clause-makes
+returns-in-Some-2-clause-makes c = λ p is.
+    let same1 : state_of c.turn_of.new.self ≡ state_of c.args.self.now = c.in_ok-event.ensures.none c.in_default.is in
+    let t = state_of c.turn_of-2.new.self in
+    subst (λ o. MakesOne p (state_of c.args.self.now) o t) c.in-Some-2.is (subst (λ z. MakesOne p z c.in_ok-event-2.field-0 t) same1 (c.in_ok-event-2.ensures.makes p (subst (IsNetworkOf p) (sym same1) is)))
+
+pub returns-in-Some-3-clause-finds : goal.returns-in-Some-3-clause-finds
+returns-in-Some-3-clause-finds c = λ p is.
+    let same1 : state_of c.turn_of.new.self ≡ state_of c.args.self.now = c.in_ok-event.ensures.none c.in_default.is in
+    let same2 : state_of c.turn_of-2.new.self ≡ state_of c.args.self.now = c.in_ok-event-2.ensures.none c.in_default-2.is ∙ same1 in
+    subst (FindsEventOf kind.Put p (state_of c.args.self.now) c.args.actor) c.in-Some-3.is (subst (λ z. FindsEventOf kind.Put p z c.args.actor c.in_ok-event-3.field-0) same2 (c.in_ok-event-3.ensures.finds p (subst (IsNetworkOf p) (sym same2) is)))
+
+pub returns-in-Some-3-clause-makes : goal.returns-in-Some-3-clause-makes
+returns-in-Some-3-clause-makes c = λ p is.
+    let same1 : state_of c.turn_of.new.self ≡ state_of c.args.self.now = c.in_ok-event.ensures.none c.in_default.is in
+    let same2 : state_of c.turn_of-2.new.self ≡ state_of c.args.self.now = c.in_ok-event-2.ensures.none c.in_default-2.is ∙ same1 in
+    let t = state_of c.turn_of-3.new.self in
+    subst (λ o. MakesOne p (state_of c.args.self.now) o t) c.in-Some-3.is (subst (λ z. MakesOne p z c.in_ok-event-3.field-0 t) same2 (c.in_ok-event-3.ensures.makes p (subst (IsNetworkOf p) (sym same2) is)))
+
+pub returns-in-Some-4-clause-finds : goal.returns-in-Some-4-clause-finds
+returns-in-Some-4-clause-finds c = λ p is.
+    let same1 : state_of c.turn_of.new.self ≡ state_of c.args.self.now = c.in_ok-event.ensures.none c.in_default.is in
+    let same2 : state_of c.turn_of-2.new.self ≡ state_of c.args.self.now = c.in_ok-event-2.ensures.none c.in_default-2.is ∙ same1 in
+    let same3 : state_of c.turn_of-3.new.self ≡ state_of c.args.self.now = c.in_ok-event-3.ensures.none c.in_default-3.is ∙ same2 in
+    subst (FindsEventOf kind.Fct p (state_of c.args.self.now) c.args.actor) c.in-Some-4.is (subst (λ z. FindsEventOf kind.Fct p z c.args.actor c.in_ok-event-4.field-0) same3 (c.in_ok-event-4.ensures.finds p (subst (IsNetworkOf p) (sym same3) is)))
+
+pub returns-in-Some-4-clause-makes : goal.returns-in-Some-4-clause-makes
+returns-in-Some-4-clause-makes c = λ p is.
+    let same1 : state_of c.turn_of.new.self ≡ state_of c.args.self.now = c.in_ok-event.ensures.none c.in_default.is in
+    let same2 : state_of c.turn_of-2.new.self ≡ state_of c.args.self.now = c.in_ok-event-2.ensures.none c.in_default-2.is ∙ same1 in
+    let same3 : state_of c.turn_of-3.new.self ≡ state_of c.args.self.now = c.in_ok-event-3.ensures.none c.in_default-3.is ∙ same2 in
+    let t = state_of c.turn_of-4.new.self in
+    subst (λ o. MakesOne p (state_of c.args.self.now) o t) c.in-Some-4.is (subst (λ z. MakesOne p z c.in_ok-event-4.field-0 t) same3 (c.in_ok-event-4.ensures.makes p (subst (IsNetworkOf p) (sym same3) is)))
+
+pub returns-clause-refused : goal.returns-clause-refused
+returns-clause-refused c =
+    let same1 : state_of c.turn_of.new.self ≡ state_of c.args.self.now = c.in_ok-event.ensures.none c.in_default.is in
+    let same2 : state_of c.turn_of-2.new.self ≡ state_of c.args.self.now = c.in_ok-event-2.ensures.none c.in_default-2.is ∙ same1 in
+    let same3 : state_of c.turn_of-3.new.self ≡ state_of c.args.self.now = c.in_ok-event-3.ensures.none c.in_default-3.is ∙ same2 in
+    let same4 : state_of c.turn_of-4.new.self ≡ state_of c.args.self.now = c.in_ok-event-4.ensures.none c.in_default-4.is ∙ same3 in
+    on_err c.turn_of-5.result (λ same. same ∙ same4) c.turn_of-5.ensures.refused
 
 pub returns-clause-makes : goal.returns-clause-makes
 returns-clause-makes c = λ p is.
+    let same1 : state_of c.turn_of.new.self ≡ state_of c.args.self.now = c.in_ok-event.ensures.none c.in_default.is in
+    let same2 : state_of c.turn_of-2.new.self ≡ state_of c.args.self.now = c.in_ok-event-2.ensures.none c.in_default-2.is ∙ same1 in
+    let same3 : state_of c.turn_of-3.new.self ≡ state_of c.args.self.now = c.in_ok-event-3.ensures.none c.in_default-3.is ∙ same2 in
+    let same4 : state_of c.turn_of-4.new.self ≡ state_of c.args.self.now = c.in_ok-event-4.ensures.none c.in_default-4.is ∙ same3 in
+    if_ok _ _ c.turn_of-5.result (λ o made. subst (λ z. MakesOne p z o (state_of c.turn_of-5.new.self)) same4 made) (c.turn_of-5.ensures.makes p (subst (IsNetworkOf p) (sym same4) is))
+
+pub returns-clause-finds : goal.returns-clause-finds
+returns-clause-finds c = λ p is.
     let s = state_of c.args.self.now in
-    let e = c.in-Some.event in
-    let same = c.in_ok-event.ensures.same in
-    let found = subst (FindsEvent p s c.args.actor) c.in-Some.is (c.in_ok-event.ensures.finds p is) in
-    let may = subst (λ o. IfSome o (λ e. MayActAt s e.actor e.act)) c.in-Some.is c.in_ok-event.ensures.may in
-    subst (λ z. MakesEvent p z e (state_of c.make.new.self)) same
-    (c.in_ok-make.ensures.makes p (subst (IsNetworkOf p) (sym same) is) (subst (λ z. WaysLet z e.actor e.act) (sym same) (ways_of p s e may is found.2)))
+    let k = c.args.actor in
+    let same1 : state_of c.turn_of.new.self ≡ state_of c.args.self.now = c.in_ok-event.ensures.none c.in_default.is in
+    let same2 : state_of c.turn_of-2.new.self ≡ state_of c.args.self.now = c.in_ok-event-2.ensures.none c.in_default-2.is ∙ same1 in
+    let same3 : state_of c.turn_of-3.new.self ≡ state_of c.args.self.now = c.in_ok-event-3.ensures.none c.in_default-3.is ∙ same2 in
+    let same4 : state_of c.turn_of-4.new.self ≡ state_of c.args.self.now = c.in_ok-event-4.ensures.none c.in_default-4.is ∙ same3 in
+    let one = subst (FindsEventOf kind.Pass p s k) c.in_default.is (c.in_ok-event.ensures.finds p is) in
+    let two = subst (FindsEventOf kind.Route p s k) c.in_default-2.is (subst (λ z. FindsEventOf kind.Route p z k c.in_ok-event-2.field-0) same1 (c.in_ok-event-2.ensures.finds p (subst (IsNetworkOf p) (sym same1) is))) in
+    let three = subst (FindsEventOf kind.Put p s k) c.in_default-3.is (subst (λ z. FindsEventOf kind.Put p z k c.in_ok-event-3.field-0) same2 (c.in_ok-event-3.ensures.finds p (subst (IsNetworkOf p) (sym same2) is))) in
+    let four = subst (FindsEventOf kind.Fct p s k) c.in_default-4.is (subst (λ z. FindsEventOf kind.Fct p z k c.in_ok-event-4.field-0) same3 (c.in_ok-event-4.ensures.finds p (subst (IsNetworkOf p) (sym same3) is))) in
+    if_ok _ _ c.turn_of-5.result (λ o found. events_of_all p s k o one two three four (subst (λ z. FindsEventOf kind.Proc p z k o) same4 found)) (c.turn_of-5.ensures.finds p (subst (IsNetworkOf p) (sym same4) is))

@@ -3,11 +3,11 @@ use Rattle.std.specs.Int.{w64}
 use Rattle.std.proofs.lemmas.Int.{to_z-of_z}
 use mir.Val.{SFits, to_z, of_z}
 use Rattle.vc_occam.specs.declared.frame.Frame.TheViews.{the_lemmas, out-Frame, roll-Frame}
-use Rattle.vc_occam.specs.Frames.{HasVariables, View, plans, views}
+use Rattle.vc_occam.specs.Frames.{HasVariables, View, is_counted, plans, views}
 use Rattle.vc_occam.specs.Nexts.{turn_views}
 use Rattle.vc_occam.proofs.Frames.{view_roll, view_out}
 use Rattle.vc_occam.proofs.Stepping.{same_plan}
-use Rattle.vc_occam.proofs.Turns.{count_done_variable, turned_plans, turned}
+use Rattle.vc_occam.proofs.Turns.{count_done_variable, turned_plans, turned, turns_over}
 use Rattle.vc_occam.proofs.frame.Frame.leave_turn.Goals as goal
 
 pub after_turn-phase-requires : goal.after_turn-phase-requires
@@ -43,3 +43,11 @@ returns-in-Turning-clause-plan c =
     let w : views c.after_turn-phase.new.parts.items ≡ turn_views true x' y' vs = c.after_turn-phase.ensures.parts ∙ ap (λ (ws : List View). turn_views true x' y' ws) unrolled in
     let same : plans ws ≡ plans vs = ap plans w ∙ turned_plans true x' y' vs in
     simp (the_lemmas, view_roll, view_out) (same_plan o.kind o.site vs ws same)
+
+pub returns-in-Turning-clause-ended : goal.returns-in-Turning-clause-ended
+returns-in-Turning-clause-ended c =
+    let o = out-Frame c.args.self.now in
+    let x = to_z w64 (of_z w64 c.in-Turning.index) in
+    let y = to_z w64 (of_z w64 c.in-Turning.last) in
+    let is = ap is_counted c.in-Count.is in
+    simp (the_lemmas, view_roll, view_out) (c.is_over.ensures ∙ turns_over o.kind o.site c.after_turn-phase.result x y (views c.after_turn-phase.new.parts.items) o.at is c.after_turn-phase.ensures.phase)

@@ -1,0 +1,14 @@
+-- What a scheduler rests on: a list of events grows by one that was made, and the headline holds wherever it leads.
+use Rattle.std.specs.Prelude.{List, [], ◌∷◌, ◌++◌}
+use Rattle.vc_plan.specs.declared.plan.Plan.{Plan}
+use Rattle.vc_core.specs.Replaying.{IsOpening, Reached, Replays}
+use Rattle.vc_core.specs.State.{State, MakesEvent}
+use Rattle.vc_core.specs.declared.act.Event.{Event}
+
+pub record EventsLeadOn : Type 0 where
+  -- no event leads to the opening state
+  pub first : (p : Plan) (s : State) → IsOpening p s → Reached p [] s
+  -- an event that is made joins those made before it
+  pub next : (p : Plan) (made : List Event) (e : Event) (s t : State) → Reached p made s → MakesEvent p s e t → Reached p (made ++ e ∷ []) t
+  -- the headline holds there, and one list tells all that the nodes communicated
+  pub headline : (p : Plan) (made : List Event) (s : State) → Reached p made s → Replays p made s

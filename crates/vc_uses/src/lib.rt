@@ -1,0 +1,14 @@
+//! Uses of the libraries, as a client writes them, each proved by their contracts alone. docs/CALLING.md goes through them.
+#![tactic(auto)]
+
+mod labelling;
+mod line;
+mod scheduler;
+mod threads;
+mod traffic;
+
+pub use labelling::is_well_labelled;
+pub use line::over_a_line;
+pub use scheduler::try_event;
+pub use threads::left_by_threads;
+pub use traffic::{to_come, under_way};
