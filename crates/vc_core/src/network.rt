@@ -42,7 +42,6 @@ use vc_tokens::Token;
 const LINKS: u8 = 32;
 
 /// A network: its actors, and the tokens on the ways that join them.
-#[derive(Drop)]
 pub struct Network {
     pub(crate) actors: Vec<Actor>,
     /// How many of the actors are nodes.
@@ -50,6 +49,19 @@ pub struct Network {
     pub(crate) lines: Lines,
     pub(crate) wires: Items<Wire>,
     channels: Vec<ChannelInfo>,
+}
+
+impl Drop for Network {
+    // written, so that the crates above need not prove again how all that it holds is dropped
+    fn drop(self) {
+        let Network {
+            actors: _,
+            nodes: _,
+            lines: _,
+            wires: _,
+            channels: _,
+        } = self;
+    }
 }
 
 impl Network {

@@ -28,7 +28,6 @@ use std::alloc::Global;
 use vc_packets::Memory;
 
 /// A process that runs on a node, with its variables: what remains of it, move by move.
-#[derive(Drop)]
 pub struct Running {
     alloc: Global,
     frame: Frame,
@@ -41,6 +40,20 @@ pub struct Running {
     ghost own_sites: { OwnSites (view frame).1 } by { OwnSites-prop (view frame).1 },
     ghost uses_lawfully: { UsesLawfully (view frame).1 } by { UsesLawfully-prop (view frame).1 },
     ghost begins_so: { BeginsWith begins (view frame).1 } by { BeginsWith-prop begins (view frame).1 },
+}
+
+impl Drop for Running {
+    // written, so that the crates above need not prove again how all that it holds is dropped
+    fn drop(self) {
+        let Running {
+            alloc: _,
+            frame: _,
+            vars: _,
+            inside: _,
+            hints: _,
+            begins: _,
+        } = self;
+    }
 }
 
 /// What the move's site does, where the channel gave this answer.

@@ -36,7 +36,6 @@ use vc_packets::{Kind, Mark, Memory, Packet, front_header, kind_of};
 use vc_tokens::Token;
 
 /// The virtual channel processor of a node: the halves of its virtual links, and the two ends of its four links.
-#[derive(Drop)]
 pub struct Vcp {
     alloc: Global,
     outputs: Vec<Output>,
@@ -44,6 +43,20 @@ pub struct Vcp {
     outs: Vec<LinkOut>,
     ins: Vec<LinkIn>,
     strays: u64,
+}
+
+impl Drop for Vcp {
+    // written, so that the crates above need not prove again how all that it holds is dropped
+    fn drop(self) {
+        let Vcp {
+            alloc: _,
+            outputs: _,
+            inputs: _,
+            outs: _,
+            ins: _,
+            strays: _,
+        } = self;
+    }
 }
 
 impl Model for Vcp {
