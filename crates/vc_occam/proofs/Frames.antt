@@ -261,7 +261,7 @@ pub rest_turning : (f : Frame) (x y : ℤ) → (out-Frame f).phase ≡ phase.Tur
 rest_turning f x y h = rest_by f (phase.Turning x y) h
 
 -- a counted SEQ in a turn, as its body; no other kind is in a turn
-turn_own : (v : ℕ) (vs : List View) (x y : ℤ) (e : Store) → own (turn_of v vs x y) e ≡ part_own (slice_get vs 0) e
+pub turn_own : (v : ℕ) (vs : List View) (x y : ℤ) (e : Store) → own (turn_of v vs x y) e ≡ part_own (slice_get vs 0) e
 turn_own v [] x y e = refl
 turn_own v (w ∷ vs) x y e = refl
 
@@ -273,7 +273,7 @@ turn_output : (i v : ℕ) (vs : List View) (x y : ℤ) (e : Store) → output_at
 turn_output i v [] x y e = refl
 turn_output i v (w ∷ vs) x y e = refl
 
-turn_assigned : (i v : ℕ) (vs : List View) (x y : ℤ) (e : Store) → assigned_at i (turn_of v vs x y) e ≡ part_assigned i (slice_get vs 0) e
+pub turn_assigned : (i v : ℕ) (vs : List View) (x y : ℤ) (e : Store) → assigned_at i (turn_of v vs x y) e ≡ part_assigned i (slice_get vs 0) e
 turn_assigned i v [] x y e = refl
 turn_assigned i v (w ∷ vs) x y e = refl
 

@@ -6,13 +6,15 @@ use Rattle.vc_occam.specs.declared.begins.Begins.TheVariants as begins
 use Rattle.vc_occam.specs.declared.frame.Frame.{Frame}
 use Rattle.vc_occam.specs.declared.frame.Frame.TheViews.{out-Frame}
 use Rattle.vc_occam.specs.declared.look.Look.{Look}
+use Rattle.vc_occam.specs.declared.kind.Kind.{Kind}
+use Rattle.vc_occam.specs.declared.phase.Phase.{Phase}
 use Rattle.vc_occam.specs.declared.phase.Phase.TheVariants as phase
-use Rattle.vc_occam.specs.Frames.{BeginsAs, BeginsWith, Tells, View, assigned_at, behind, count_of, has_parts, is_counted, part_assigned, part_own, part_rest, place_of, view, views, while_of}
+use Rattle.vc_occam.specs.Frames.{BeginsAs, BeginsWith, Tells, View, assigned_at, behind, count_of, has_parts, is_counted, part_assigned, part_own, part_rest, place_of, rest_at, view, views, while_of}
 use Rattle.vc_occam.specs.First.{own}
 use Rattle.vc_occam.specs.Remains.{Rest, Fresh}
 use Rattle.vc_occam.specs.Syntax.{Exp, Test}
 use Rattle.vc_occam.specs.Values.{Store}
-use Rattle.vc_occam.proofs.Frames.{count_tests, follow_assigned, follow_own, rest_going, turning_assigned, turning_own, while_tests}
+use Rattle.vc_occam.proofs.Frames.{count_tests, follow_assigned, follow_own, going_part, rest_going, turn_assigned, turn_own, turning_is, turning_own, view_out, while_tests}
 
 -- with the same moves and the same bytes it begins with the same
 alike : (b : Begins) (r q : Rest) → ((e : Store) → own r e ≡ own q e) → ((j : ℕ) (e : Store) → assigned_at j r e ≡ assigned_at j q e) → BeginsWith b q → BeginsWith b r
@@ -42,22 +44,33 @@ part_moves f h p k g e =
     ap (λ (x : Rest). own x e) (rest_going f h p) ∙ follow_own (slice_get vs (place_of o.kind o.at)) (behind o.kind o.site vs o.at) e ∙ ap (λ (n : ℕ). part_own (slice_get vs n) e) (sym g)
 
 -- it begins with what the part begins with that goes on
+pub part_begins : (b : Begins) (k : Kind) (i : ℕ) (ph : Phase) (vs : List View) (at n : ℕ) → ph ≡ phase.Waiting → has_parts k ≡ true → n ≡ place_of k at → BeginsWith b (part_rest (slice_get vs n)) → BeginsWith b (rest_at k ph i vs at)
+part_begins b k i ph vs at n h p g w =
+    let v = slice_get vs (place_of k at) in
+    let same = ap (λ (m : ℕ). slice_get vs m) (sym g) in
+    let r = ap (λ (q : Phase). rest_at k q i vs at) h ∙ going_part k i vs at p in
+    alike b (rest_at k ph i vs at) (part_rest (slice_get vs n))
+    (λ e. ap (λ (x : Rest). own x e) r ∙ follow_own v (behind k i vs at) e ∙ ap (λ (u : Option View). part_own u e) same ∙ own_part (slice_get vs n) e)
+    (λ j e. ap (λ (x : Rest). assigned_at j x e) r ∙ follow_assigned j v (behind k i vs at) e ∙ ap (λ (u : Option View). part_assigned j u e) same ∙ assigned_part j (slice_get vs n) e) w
+
 pub as_part : (b : Begins) (f : Frame) → (out-Frame f).phase ≡ phase.Waiting → has_parts (out-Frame f).kind ≡ true → (k : ℕ) → k ≡ place_of (out-Frame f).kind (out-Frame f).at → BeginsWith b (part_rest (slice_get (views (out-Frame f).parts.items) k)) → BeginsWith b (view f).1
 as_part b f h p k g w =
     let o = out-Frame f in
-    let vs = views o.parts.items in
-    let v = slice_get vs (place_of o.kind o.at) in
-    let same = ap (λ (n : ℕ). slice_get vs n) (sym g) in
-    let r = rest_going f h p in
-    alike b (view f).1 (part_rest (slice_get vs k))
-    (λ e. ap (λ (x : Rest). own x e) r ∙ follow_own v (behind o.kind o.site vs o.at) e ∙ ap (λ (u : Option View). part_own u e) same ∙ own_part (slice_get vs k) e)
-    (λ j e. ap (λ (x : Rest). assigned_at j x e) r ∙ follow_assigned j v (behind o.kind o.site vs o.at) e ∙ ap (λ (u : Option View). part_assigned j u e) same ∙ assigned_part j (slice_get vs k) e) w
+    subst (λ (v : View). BeginsWith b v.1) (sym (view_out f)) (part_begins b o.kind o.site o.phase (views o.parts.items) o.at k h p g w)
 
 -- a counted SEQ begins with what its turn begins with
+pub turn_begins : (b : Begins) (k : Kind) (i : ℕ) (ph : Phase) (x y : ℤ) (vs : List View) (at : ℕ) → ph ≡ phase.Turning x y → is_counted k ≡ true → BeginsWith b (part_rest (slice_get vs 0)) → BeginsWith b (rest_at k ph i vs at)
+turn_begins b k i ph x y vs at h c w =
+    let v = slice_get vs 0 in
+    let t = turning_is k vs x y c in
+    let r = ap (λ (q : Phase). rest_at k q i vs at) h ∙ t.1 in
+    alike b (rest_at k ph i vs at) (part_rest v)
+    (λ e. ap (λ (z : Rest). own z e) r ∙ turn_own t.0 vs x y e ∙ own_part v e) (λ j e. ap (λ (z : Rest). assigned_at j z e) r ∙ turn_assigned j t.0 vs x y e ∙ assigned_part j v e) w
+
 pub as_turn : (b : Begins) (f : Frame) (x y : ℤ) → (out-Frame f).phase ≡ phase.Turning x y → is_counted (out-Frame f).kind ≡ true → BeginsWith b (part_rest (slice_get (views (out-Frame f).parts.items) 0)) → BeginsWith b (view f).1
 as_turn b f x y h k w =
-    let v = slice_get (views (out-Frame f).parts.items) 0 in
-    alike b (view f).1 (part_rest v) (λ e. turning_own f x y e h k ∙ own_part v e) (λ j e. turning_assigned j f x y e h k ∙ assigned_part j v e) w
+    let o = out-Frame f in
+    subst (λ (v : View). BeginsWith b v.1) (sym (view_out f)) (turn_begins b o.kind o.site o.phase x y (views o.parts.items) o.at h k w)
 
 -- the part that goes on is there, where its place is known
 pub goes_as_part : (f : Frame) (k : ℕ) (p : Option ℕ) → (out-Frame f).phase ≡ phase.Waiting → has_parts (out-Frame f).kind ≡ true → k ≡ place_of (out-Frame f).kind (out-Frame f).at → MatchOption p (slice_get (views (out-Frame f).parts.items) k ≡ None) (λ n. (n ≡ k) × (n < length (views (out-Frame f).parts.items))) → IfSome p (λ n. BeginsAs n (views (out-Frame f).parts.items) (view f).1)

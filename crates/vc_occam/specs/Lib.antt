@@ -27,6 +27,7 @@ pub mod Terms
 pub mod Traces
 pub mod Usage
 pub mod Values
+pub mod Went
 pub mod Wholes
 pub mod InUse
 pub mod NodeTraces

@@ -31,34 +31,44 @@ pub enum Cond {
 
 impl Cond {
     /// An equal condition.
+    #[cycle(copy)]
     pub fn copy(&self, alloc: Global) -> Result<Cond, Memory>
         ensures { IfOk result (λ copy. copy ≡ self.now) }
     {
         match self {
             Cond::Always(is_true) => Ok(Cond::Always(*is_true)),
-            Cond::Cmp { rel, left, right } => {
-                let left = left.copy(alloc)?;
-                let right = right.copy(alloc)?;
-                Ok(Cond::Cmp {
-                    rel: *rel,
-                    left,
-                    right,
-                })
-            }
+            Cond::Cmp { rel, left, right } => copy_comparison(alloc, *rel, left, right),
             Cond::And(left, right) => {
-                let left = Boxed::new(alloc, left.get().copy(alloc)?)?;
-                let right = Boxed::new(alloc, right.get().copy(alloc)?)?;
+                let left = copy_boxed(alloc, left)?;
+                let right = copy_boxed(alloc, right)?;
                 Ok(Cond::And(left, right))
             }
             Cond::Or(left, right) => {
-                let left = Boxed::new(alloc, left.get().copy(alloc)?)?;
-                let right = Boxed::new(alloc, right.get().copy(alloc)?)?;
+                let left = copy_boxed(alloc, left)?;
+                let right = copy_boxed(alloc, right)?;
                 Ok(Cond::Or(left, right))
             }
             Cond::Not(cond) => {
-                let cond = Boxed::new(alloc, cond.get().copy(alloc)?)?;
+                let cond = copy_boxed(alloc, cond)?;
                 Ok(Cond::Not(cond))
             }
         }
     }
+}
+
+/// An equal comparison.
+fn copy_comparison(alloc: Global, rel: Rel, left: &Expr, right: &Expr) -> Result<Cond, Memory>
+    ensures { IfOk result (λ copy. copy ≡ Cond.Cmp rel left.now right.now) }
+{
+    let left = left.copy(alloc)?;
+    let right = right.copy(alloc)?;
+    Ok(Cond::Cmp { rel, left, right })
+}
+
+/// An equal condition in a box of its own.
+#[cycle(copy)]
+fn copy_boxed(alloc: Global, cond: &Boxed<Cond>) -> Result<Boxed<Cond>, Memory>
+    ensures { IfOk result (λ copy. copy ≡ cond.now) }
+{
+    Ok(Boxed::new(alloc, cond.get().copy(alloc)?)?)
 }

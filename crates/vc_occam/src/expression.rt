@@ -28,6 +28,7 @@ pub enum Expr {
 
 impl Expr {
     /// An equal expression.
+    #[cycle(copy)]
     pub fn copy(&self, alloc: Global) -> Result<Expr, Memory>
         ensures { IfOk result (λ copy. copy ≡ self.now) }
     {
@@ -35,8 +36,8 @@ impl Expr {
             Expr::Num(number) => Ok(Expr::Num(*number)),
             Expr::Var(var) => Ok(Expr::Var(*var)),
             Expr::Bin { op, left, right } => {
-                let left = Boxed::new(alloc, left.get().copy(alloc)?)?;
-                let right = Boxed::new(alloc, right.get().copy(alloc)?)?;
+                let left = copy_boxed(alloc, left)?;
+                let right = copy_boxed(alloc, right)?;
                 Ok(Expr::Bin {
                     op: *op,
                     left,
@@ -46,4 +47,12 @@ impl Expr {
             Expr::Size(var) => Ok(Expr::Size(*var)),
         }
     }
+}
+
+/// An equal expression in a box of its own.
+#[cycle(copy)]
+fn copy_boxed(alloc: Global, expr: &Boxed<Expr>) -> Result<Boxed<Expr>, Memory>
+    ensures { IfOk result (λ copy. copy ≡ expr.now) }
+{
+    Ok(Boxed::new(alloc, expr.get().copy(alloc)?)?)
 }

@@ -1,8 +1,9 @@
 //! How frames go on: one site does something.
 ghost use Rattle.std.specs.Prelude.{◌≡◌, ◌<◌, ◌&&◌, IsTrue, length, map, nat_le, nat_lt, slice_get, suc, false, true, List, [], ℕ, ℤ, ◌^◌};
+ghost use Rattle.vc_occam.specs.declared.begins.Begins.TheVariants.{Other};
 ghost use Rattle.vc_occam.specs.declared.deed.Deed.TheVariants.{Quiet};
 ghost use Rattle.vc_occam.specs.declared.frame.Frame.TheViews.{out-Frame};
-ghost use Rattle.vc_occam.specs.Frames.{Able, ChangedAt, Did, HasVariables, PartHasVariables, PartInPreorder, View, as_begun, assigned_at, awaiting, is_choice, is_counted, part_done, goes_within, gone_on, part_assigned, place_of, begun_at, behind, chosen_from, going_at, besides, has_parts, is_done, is_last, part_rest, plan_at, plans, rest_at, resting_at, together, view, views};
+ghost use Rattle.vc_occam.specs.Frames.{Able, ChangedAt, Did, HasVariables, PartHasVariables, PartInPreorder, View, as_begun, assigned_at, awaiting, is_choice, is_counted, part_done, goes_within, gone_on, part_assigned, place_of, begun_at, BeginsWith, behind, chosen_from, going_at, besides, has_parts, is_done, is_last, part_rest, plan_at, plans, rest_at, resting_at, together, view, views};
 ghost use Rattle.vc_occam.specs.Gates.{gate};
 ghost use Rattle.vc_occam.specs.Nexts.{GateHasVariable, branch_next, choice_begun, choice_next, choice_store, count_begun, count_phase, count_store, gate_begun, gate_next, gate_store, over, seq_begun, seq_next, stuck_next, TurnEnded, turn_begun, turn_next, turn_phase, turn_store, turn_views};
 ghost use Rattle.vc_occam.specs.declared.deed.Deed.{Deed};
@@ -10,6 +11,7 @@ ghost use Rattle.vc_occam.specs.Remains.{Fresh};
 ghost use Rattle.vc_occam.specs.Sites.{InPreorder};
 ghost use Rattle.vc_occam.specs.Terms.{exp, store, as_test};
 ghost use Rattle.vc_occam.specs.Values.{value_of};
+ghost use Rattle.vc_occam.specs.Went.{has_ended, then_begins};
 ghost use lib.Signed.{mag};
 
 use crate::condition::Cond;
@@ -23,6 +25,7 @@ use crate::looking::part_with;
 use crate::phase::Phase;
 use crate::site_deed::SiteDeed;
 use crate::variables::{put, set_variable};
+use crate::went::Went;
 use sqlite_items::Items;
 
 /// How far a frame is, and at which part.
@@ -34,7 +37,7 @@ pub(crate) struct Next {
 
 /// How far a frame is after what its site did, and whether nothing remains.
 #[derive(Clone, Copy, Drop)]
-struct Went {
+struct Progress {
     next: Next,
     ended: bool,
 }
@@ -396,16 +399,17 @@ fn take_input(
 }
 
 impl Frame {
-    /// A site does something; answers whether nothing remains then.
+    /// A site does something; answers whether nothing remains then, and what it begins with.
     #[cycle(go)]
-    pub(crate) fn go(&mut self, doing: &mut SiteDeed, vars: &mut Vec<Datum>) -> bool
+    pub(crate) fn go(&mut self, doing: &mut SiteDeed, vars: &mut Vec<Datum>) -> Went
         requires able { Able (view self.old).1 (store vars.old.items) doing.old.site doing.old.deed }
         requires assigned { doing.old.deed ≡ Quiet → doing.old.assigned ≡ assigned_at doing.old.site (view self.old).1 (store vars.old.items) }
         requires variables { HasVariables (view self.old).0 (length vars.old.items) }
         requires in_preorder { InPreorder (view self.old).0 }
         ensures did { Did (view self.old).1 (store vars.old.items) doing.old.site doing.old.deed (view self.new).1 (store vars.new.items) }
         ensures plan { (view self.new).0 ≡ (view self.old).0 }
-        ensures ended { result ≡ is_done (view self.new).1 }
+        ensures ended { has_ended result ≡ is_done (view self.new).1 }
+        ensures begins { BeginsWith (then_begins result) (view self.new).1 }
         ensures length { length vars.new.items ≡ length vars.old.items }
     {
         match self.phase {
@@ -413,55 +417,68 @@ impl Frame {
             Phase::Waiting => {
                 if self.kind.has_parts() {
                     let place = self.kind.place(self.at);
-                    let ended = go_within(place, &mut self.parts, doing, vars);
-                    return ended && self.leave_part();
+                    let went = go_within(place, &mut self.parts, doing, vars);
+                    if went.has_ended() {
+                        return self.leave_part();
+                    }
+                    return went;
                 }
                 self.go_itself(doing, vars)
             }
             Phase::Turning { .. } => {
                 if self.kind.is_counted() {
-                    let ended = go_within(0, &mut self.parts, doing, vars);
-                    return ended && self.leave_turn(vars);
+                    let went = go_within(0, &mut self.parts, doing, vars);
+                    if went.has_ended() {
+                        return self.leave_turn(vars);
+                    }
+                    return went;
                 }
-                false
+                Went::Other
             }
             Phase::Together => {
                 if self.kind.is_par() {
                     let place = part_with(&self.parts, doing.site);
-                    let ended = go_within(place, &mut self.parts, doing, vars);
+                    let went = go_within(place, &mut self.parts, doing, vars);
                     settle_part(place, &mut self.parts);
-                    return ended && self.all_parts_ended();
+                    if went.has_ended() {
+                        return self.went_beside();
+                    }
+                    return Went::Other;
                 }
-                false
+                Went::Other
             }
             Phase::Resting => {
                 if self.kind.has_parts() {
                     let place = self.kind.place(self.at);
                     let ended = end_part(place, &mut self.parts, doing, vars);
                     self.phase = Phase::Waiting;
-                    return ended && self.leave_part();
+                    if ended {
+                        return self.leave_part();
+                    }
+                    return Went::Other;
                 }
-                false
+                Went::Other
             }
             Phase::Chosen => self.go_itself(doing, vars),
-            Phase::Ended => true,
-            Phase::Stuck => false,
+            Phase::Ended => Went::Ended,
+            Phase::Stuck => Went::Other,
         }
     }
 
-    /// The frame's own site does something; answers whether nothing remains then.
+    /// The frame's own site does something; answers whether nothing remains then, and what it begins with.
     #[inline(never)]
-    fn go_itself(&mut self, doing: &mut SiteDeed, vars: &mut Vec<Datum>) -> bool
+    fn go_itself(&mut self, doing: &mut SiteDeed, vars: &mut Vec<Datum>) -> Went
         requires itself { goes_within (out-Frame self.old).kind (out-Frame self.old).phase ≡ false }
         requires able { Able (view self.old).1 (store vars.old.items) doing.old.site doing.old.deed }
         requires assigned { doing.old.deed ≡ Quiet → doing.old.assigned ≡ assigned_at doing.old.site (view self.old).1 (store vars.old.items) }
         requires variables { HasVariables (view self.old).0 (length vars.old.items) }
         ensures did { Did (view self.old).1 (store vars.old.items) doing.old.site doing.old.deed (view self.new).1 (store vars.new.items) }
         ensures plan { (view self.new).0 ≡ (view self.old).0 }
-        ensures ended { result ≡ is_done (view self.new).1 }
+        ensures ended { has_ended result ≡ is_done (view self.new).1 }
+        ensures begins { BeginsWith (then_begins result) (view self.new).1 }
         ensures length { length vars.new.items ≡ length vars.old.items }
     {
-        let went = go_on(
+        let progress = go_on(
             self.site,
             &self.kind,
             self.phase,
@@ -470,9 +487,21 @@ impl Frame {
             doing,
             vars,
         );
-        self.phase = went.next.phase;
-        self.at = went.next.at;
-        went.ended
+        self.phase = progress.next.phase;
+        self.at = progress.next.at;
+        self.went(progress.ended)
+    }
+
+    /// What it begins with, where it is known whether nothing remains.
+    #[inline(always)]
+    fn went(&self, ended: bool) -> Went
+        ensures ended { has_ended result ≡ ended }
+        ensures begins { BeginsWith (then_begins result) (view self.now).1 }
+    {
+        if ended {
+            return Went::Ended;
+        }
+        Went::on(self.begins())
     }
 
     /// An output or input that has begun and hasn't ended goes on; answers whether nothing remains then.
@@ -520,45 +549,51 @@ impl Frame {
 
     /// The part that it is at has ended: a SEQ begins the next one, and a WHILE tests again; answers whether nothing remains then.
     #[inline(never)]
-    fn leave_part(&mut self) -> bool
+    fn leave_part(&mut self) -> Went
         requires composed { has_parts (out-Frame self.old).kind ≡ true }
         requires ended { part_done (slice_get (views (out-Frame self.old).parts.items) (place_of (out-Frame self.old).kind (out-Frame self.old).at)) ≡ true }
         ensures rest { (view self.new).1 ≡ gone_on (out-Frame self.old).kind (out-Frame self.old).site (views (out-Frame self.old).parts.items) (out-Frame self.old).at }
         ensures plan { (view self.new).0 ≡ (view self.old).0 }
-        ensures ended { result ≡ is_done (view self.new).1 }
+        ensures ended { has_ended result ≡ is_done (view self.new).1 }
+        ensures begins { BeginsWith (then_begins result) (view self.new).1 }
     {
-        let went = after_part(&self.kind, self.at, &mut self.parts);
-        self.phase = went.next.phase;
-        self.at = went.next.at;
-        went.ended
+        let progress = after_part(&self.kind, self.at, &mut self.parts);
+        self.phase = progress.next.phase;
+        self.at = progress.next.at;
+        self.went(progress.ended)
     }
 
     /// A turn of a counted SEQ has ended: the next one begins, if there is one; answers whether nothing remains then.
     #[inline(never)]
-    fn leave_turn(&mut self, vars: &mut Vec<Datum>) -> bool
+    fn leave_turn(&mut self, vars: &mut Vec<Datum>) -> Went
         requires variables { HasVariables (view self.old).0 (length vars.old.items) }
         requires ended { part_done (slice_get (views (out-Frame self.old).parts.items) 0) ≡ true }
         ensures turned { TurnEnded (out-Frame self.old).kind (out-Frame self.old).phase (out-Frame self.old).site (views (out-Frame self.old).parts.items) (store vars.old.items) (view self.new).1 (store vars.new.items) }
         ensures plan { (view self.new).0 ≡ (view self.old).0 }
-        ensures ended { result ≡ is_done (view self.new).1 }
+        ensures ended { has_ended result ≡ is_done (view self.new).1 }
+        ensures begins { BeginsWith (then_begins result) (view self.new).1 }
         ensures length { length vars.new.items ≡ length vars.old.items }
     {
         if let Kind::Count { var, .. } = &self.kind {
             if let Phase::Turning { index, last } = self.phase {
                 let phase = after_turn(*var, index, last, &mut self.parts, vars);
                 self.phase = phase;
-                return is_over(phase);
+                return self.went(is_over(phase));
             }
         }
-        self.ended()
+        self.went(self.ended())
     }
 
-    /// Whether nothing remains of any part.
+    /// What a PAR comes to, one of whose parts has ended: it ends when all have.
     #[inline(never)]
-    fn all_parts_ended(&self) -> bool
-        ensures { result ≡ is_done (besides (views (out-Frame self.now).parts.items)) }
+    fn went_beside(&self) -> Went
+        ensures ended { has_ended result ≡ is_done (besides (views (out-Frame self.now).parts.items)) }
+        ensures begins { then_begins result ≡ Other }
     {
-        all_ended(&self.parts)
+        if all_ended(&self.parts) {
+            return Went::Ended;
+        }
+        Went::Other
     }
 }
 
@@ -601,7 +636,7 @@ fn go_on(
     parts: &mut Vec<Frame>,
     doing: &mut SiteDeed,
     vars: &mut Vec<Datum>,
-) -> Went
+) -> Progress
     requires itself { goes_within kind.now phase ≡ false }
     requires able { Able (rest_at kind.now phase own (views parts.old.items) at) (store vars.old.items) doing.old.site doing.old.deed }
     requires assigned { doing.old.deed ≡ Quiet → doing.old.assigned ≡ assigned_at doing.old.site (rest_at kind.now phase own (views parts.old.items) at) (store vars.old.items) }
@@ -629,18 +664,18 @@ fn go_on(
 }
 
 /// How far a frame is, and whether nothing remains then.
-fn reached(kind: &Kind, next: Next, parts: &Vec<Frame>) -> Went
+fn reached(kind: &Kind, next: Next, parts: &Vec<Frame>) -> Progress
     ensures next { result.next ≡ next }
     ensures ended { (own : ℕ) → result.ended ≡ is_done (rest_at kind.now next.phase own (views parts.now.items) next.at) }
 {
     let ended = is_ended(kind, next.phase, parts, next.at);
-    Went { next, ended }
+    Progress { next, ended }
 }
 
 /// What a site of the part at a place does.
 #[cycle(go)]
 #[inline(always)]
-fn go_within(at: usize, parts: &mut Vec<Frame>, doing: &mut SiteDeed, vars: &mut Vec<Datum>) -> bool
+fn go_within(at: usize, parts: &mut Vec<Frame>, doing: &mut SiteDeed, vars: &mut Vec<Datum>) -> Went
     requires able { Able (part_rest (slice_get (views parts.old.items) at)) (store vars.old.items) doing.old.site doing.old.deed }
     requires assigned { doing.old.deed ≡ Quiet → doing.old.assigned ≡ part_assigned doing.old.site (slice_get (views parts.old.items) at) (store vars.old.items) }
     requires variables { PartHasVariables (slice_get (views parts.old.items) at) (length vars.old.items) }
@@ -648,13 +683,14 @@ fn go_within(at: usize, parts: &mut Vec<Frame>, doing: &mut SiteDeed, vars: &mut
     ensures did { Did (part_rest (slice_get (views parts.old.items) at)) (store vars.old.items) doing.old.site doing.old.deed (part_rest (slice_get (views parts.new.items) at)) (store vars.new.items) }
     ensures plans { plans (views parts.new.items) ≡ plans (views parts.old.items) }
     ensures others { ChangedAt at (views parts.old.items) (views parts.new.items) }
-    ensures ended { result ≡ part_done (slice_get (views parts.new.items) at) }
+    ensures ended { has_ended result ≡ part_done (slice_get (views parts.new.items) at) }
+    ensures begins { BeginsWith (then_begins result) (part_rest (slice_get (views parts.new.items) at)) }
     ensures length { length vars.new.items ≡ length vars.old.items }
 {
     if at < parts.len() {
         return parts[at].go(doing, vars);
     }
-    false
+    Went::Other
 }
 
 /// The part at a place goes on, which is an output or input that has begun.
@@ -692,7 +728,7 @@ fn settle_part(at: usize, parts: &mut Vec<Frame>)
 }
 
 /// Where the part that a process was at has ended, a SEQ begins the next one, and a WHILE tests again.
-fn after_part(kind: &Kind, at: usize, parts: &mut Vec<Frame>) -> Went
+fn after_part(kind: &Kind, at: usize, parts: &mut Vec<Frame>) -> Progress
     requires composed { has_parts kind.now ≡ true }
     requires ended { part_done (slice_get (views parts.old.items) (place_of kind.now at)) ≡ true }
     ensures rest { (own : ℕ) → rest_at kind.now result.next.phase own (views parts.new.items) result.next.at ≡ gone_on kind.now own (views parts.old.items) at }
@@ -701,14 +737,14 @@ fn after_part(kind: &Kind, at: usize, parts: &mut Vec<Frame>) -> Went
 {
     match kind {
         Kind::Seq => next_part(at, parts),
-        Kind::While { .. } => Went {
+        Kind::While { .. } => Progress {
             next: Next {
                 phase: Phase::Ready,
                 at: 0,
             },
             ended: false,
         },
-        _ => Went {
+        _ => Progress {
             next: Next {
                 phase: Phase::Waiting,
                 at,
@@ -719,7 +755,7 @@ fn after_part(kind: &Kind, at: usize, parts: &mut Vec<Frame>) -> Went
 }
 
 /// Where the part that a SEQ is at has ended, the next one begins, if there is one.
-fn next_part(at: usize, parts: &mut Vec<Frame>) -> Went
+fn next_part(at: usize, parts: &mut Vec<Frame>) -> Progress
     requires { part_done (slice_get (views parts.old.items) at) ≡ true }
     ensures parts { views parts.new.items ≡ seq_begun at (views parts.old.items) }
     ensures next { result.next ≡ seq_next at (views parts.old.items) }
@@ -727,7 +763,7 @@ fn next_part(at: usize, parts: &mut Vec<Frame>) -> Went
 {
     if at < parts.len() && parts.len() - at > 1 {
         start_at(parts, at + 1);
-        return Went {
+        return Progress {
             next: Next {
                 phase: Phase::Waiting,
                 at: at + 1,
@@ -735,7 +771,7 @@ fn next_part(at: usize, parts: &mut Vec<Frame>) -> Went
             ended: false,
         };
     }
-    Went {
+    Progress {
         next: Next {
             phase: Phase::Waiting,
             at,

@@ -132,6 +132,9 @@ impl Frame {
     fn look(&self, vars: &[Datum]) -> Look
         ensures { Tells result (own (view self.now).1 (store vars.now)) }
     {
+        if let Phase::Resting = self.phase {
+            return Look::One(None);
+        }
         self.innermost().look_at_itself(vars)
     }
 

@@ -119,9 +119,8 @@ fn copy_process(alloc: Global, process: &Process) -> Result<Process, Memory>
         Process::Par(parts) => Ok(Process::Par(copy_parts(alloc, parts)?)),
         Process::If(branches) => Ok(Process::If(copy_branches(alloc, branches)?)),
         Process::While { cond, body } => {
-            let cond = cond.copy(alloc)?;
             let body = copy_body(alloc, body)?;
-            Ok(Process::While { cond, body })
+            repeated(alloc, cond, body)
         }
         Process::Count {
             var,
@@ -129,18 +128,39 @@ fn copy_process(alloc: Global, process: &Process) -> Result<Process, Memory>
             count,
             body,
         } => {
-            let base = base.copy(alloc)?;
-            let count = count.copy(alloc)?;
             let body = copy_body(alloc, body)?;
-            Ok(Process::Count {
-                var: *var,
-                base,
-                count,
-                body,
-            })
+            counted(alloc, *var, base, count, body)
         }
         Process::Alt(guards) => Ok(Process::Alt(copy_guards(alloc, guards)?)),
     }
+}
+
+/// A WHILE with an equal condition.
+fn repeated(alloc: Global, cond: &Cond, body: Boxed<Process>) -> Result<Process, Memory>
+    ensures { IfOk result (λ copy. copy ≡ Process.While cond.now body) }
+{
+    let cond = cond.copy(alloc)?;
+    Ok(Process::While { cond, body })
+}
+
+/// A counted SEQ with an equal base and count.
+fn counted(
+    alloc: Global,
+    var: u8,
+    base: &Expr,
+    count: &Expr,
+    body: Boxed<Process>,
+) -> Result<Process, Memory>
+    ensures { IfOk result (λ copy. copy ≡ Process.Count var base.now count.now body) }
+{
+    let base = base.copy(alloc)?;
+    let count = count.copy(alloc)?;
+    Ok(Process::Count {
+        var,
+        base,
+        count,
+        body,
+    })
 }
 
 #[cycle(copy)]

@@ -95,7 +95,7 @@ fn meet(
     chan: u16,
     taken: &Move,
     answer: Answer,
-)
+) -> Begins
     requires meets { CanBegin (own (view frame.old).1 (store vars.old.items)) sender chan taken.now }
     requires fits { came answer ≡ carried (output_at sender (view frame.old).1 (store vars.old.items)) }
     requires variables { HasVariables (view frame.old).0 (length vars.old.items) }
@@ -104,6 +104,7 @@ fn meet(
     ensures met { HasMet (at (view frame.old).1 (store vars.old.items)) sender chan taken.now answer (at (view frame.new).1 (store vars.new.items)) }
     ensures plan { (view frame.new).0 ≡ (view frame.old).0 }
     ensures length { length vars.new.items ≡ length vars.old.items }
+    ensures begins { BeginsWith result (view frame.new).1 }
 {
     frame.offer(sender);
     let mut takes = SiteDeed {
@@ -117,7 +118,7 @@ fn meet(
         deed: Deed::Finish,
         assigned: None,
     };
-    frame.go(&mut finishes, vars);
+    frame.go(&mut finishes, vars).begins()
 }
 
 impl Running {
@@ -293,7 +294,7 @@ impl Running {
                 chan,
             } => {
                 let taken = partner(*receiver, *guard, *chan);
-                meet(
+                self.begins = meet(
                     &mut self.frame,
                     &mut self.vars,
                     *sender,
@@ -301,7 +302,6 @@ impl Running {
                     &taken,
                     answer,
                 );
-                self.begins = self.frame.begins();
                 Ok(())
             }
             Move::Quiet { site } => self.act_quietly(*site),
@@ -326,8 +326,8 @@ impl Running {
             deed: deed_for(made, answer),
             assigned: None,
         };
-        self.frame.go(&mut doing, &mut self.vars);
-        self.begins = self.frame.begins();
+        let went = self.frame.go(&mut doing, &mut self.vars);
+        self.begins = went.begins();
         self.hints.note(made);
     }
 
@@ -374,8 +374,8 @@ impl Running {
             deed: Deed::Quiet,
             assigned,
         };
-        self.frame.go(&mut doing, &mut self.vars);
-        self.begins = self.frame.begins();
+        let went = self.frame.go(&mut doing, &mut self.vars);
+        self.begins = went.begins();
     }
 
     /// The site goes on: its output was finished, or here is the message for its input.
@@ -390,8 +390,8 @@ impl Running {
             deed: deed_on(message),
             assigned: None,
         };
-        self.frame.go(&mut doing, &mut self.vars);
-        self.begins = self.frame.begins();
+        let went = self.frame.go(&mut doing, &mut self.vars);
+        self.begins = went.begins();
     }
 
     /// A site that waits for this, if one does; it is looked for first at the hint.

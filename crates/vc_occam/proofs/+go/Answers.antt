@@ -1,25 +1,27 @@
-use Rattle.std.proofs.Common.{◌≡◌, ◌∙◌, ℕ, List, refl, sym, ap, subst, rules, arith, ◌<◌, length, set}
+use Rattle.std.proofs.Common.{◌≡◌, ◌∙◌, ℕ, List, Option, refl, sym, ap, subst, rules, arith, ◌<◌, length, set}
 use Rattle.std.specs.Prelude.{slice_get}
 use Rattle.vc_occam.specs.declared.frame.Frame.TheViews.{the_lemmas, out-Frame, roll-Frame}
 use Rattle.vc_occam.specs.declared.frame.Frame.{Frame}
 use Rattle.vc_occam.specs.declared.frame.Frame.TheOpen.{Frame-F}
 use Rattle.vc_occam.specs.declared.phase.Phase.{Phase}
 use Rattle.vc_occam.specs.declared.phase.Phase.TheVariants.{Turning, Ended, Stuck, Waiting}
-use Rattle.vc_occam.specs.Frames.{Able, Did, HasVariables, View, assigned_at, besides, gone_on, is_done, part_done, part_rest, plan_at, plans, rest_at, resting_at, view, views}
+use Rattle.vc_occam.specs.Frames.{Able, BeginsWith, Did, HasVariables, View, assigned_at, besides, gone_on, is_done, part_done, part_rest, plan_at, plans, rest_at, resting_at, view, views}
 use Rattle.vc_occam.specs.Nexts.{TurnEnded}
 use Rattle.vc_occam.specs.Remains.{Done, Rest}
 use Rattle.vc_occam.specs.Sites.{InPreorder}
 use Rattle.vc_occam.specs.Syntax.{Proc, STOP}
 use Rattle.vc_occam.specs.Terms.{store}
+use Rattle.vc_occam.specs.Went.{has_ended, then_begins}
 use Rattle.vc_occam.proofs.Abreast.{beside_rest, none_beside, part_able, part_did, part_preorder, part_value, part_variables}
 use Rattle.vc_occam.proofs.Ending.{able_there, besides_goes, same_length}
 use Rattle.vc_occam.proofs.Frames.{parts_len, view_roll, view_out}
+use Rattle.vc_occam.proofs.Outset.{part_begins, turn_begins}
 use Rattle.vc_occam.proofs.Stepping.{body_preorder, get_view, goes_undone, going_on, never, never_done, never_there, none_changed, none_view, par_preorder, phase_able, phase_did, resting_able, resting_did, resting_never, same_plan, set_changed, set_plans, set_view, within_able, within_assigned, within_did, within_preorder, within_variables}
 use Rattle.vc_occam.proofs.Turns.{counted_is, none_turns, turn_goes, turn_gone, turn_undone, turning_able, turning_value, turning_variables}
 use Rattle.vc_occam.proofs.+go.Goals as goal
 
-pub frame::Frame::go-go_within-ended-requires : goal.frame::Frame::go-go_within-ended-requires
-frame::Frame::go-go_within-ended-requires t c =
+pub frame::Frame::go-go_within-went-requires : goal.frame::Frame::go-go_within-went-requires
+frame::Frame::go-go_within-went-requires t c =
     let o = out-Frame c.args.self.now in
     let is = view_out c.args.self.now in
     let vs = views o.parts.items in
@@ -40,68 +42,74 @@ frame::Frame::go-go_within-ended-requires t c =
       ),
     )
 
-pub frame::Frame::go-returns-then-ended-clause-did : goal.frame::Frame::go-returns-then-ended-clause-did
-frame::Frame::go-returns-then-ended-clause-did t c =
+pub frame::Frame::go-returns-then-has_ended-clause-did : goal.frame::Frame::go-returns-then-has_ended-clause-did
+frame::Frame::go-returns-then-has_ended-clause-did t c =
     let o = out-Frame c.args.self.now in
     let vs = views o.parts.items in
-    let ws = views c.go_within-ended.new.parts.items in
+    let ws = views c.go_within-went.new.parts.items in
     let us = views (out-Frame (roll-Frame (record { site = o.site; kind = o.kind; phase = o.phase; at = o.at; parts = o.parts }))).parts.items in
     let unrolled : us ≡ vs = simp the_lemmas refl in
     let s = c.args.doing.now.site in
     let d = c.args.doing.now.deed in
     let h = sym c.has_parts.ensures ∙ c.if-has_parts.true in
     let r : (view c.leave_part.new.self).1 ≡ gone_on o.kind o.site ws o.at = c.leave_part.ensures.rest ∙ simp the_lemmas refl in
-    let same : plans ws ≡ plans vs = c.go_within-ended.ensures.plans ∙ ap plans unrolled in
-    let st = subst (λ (xs : List View). Did (part_rest (slice_get xs c.place-place.result)) (store c.args.vars.now.items) s d (part_rest (slice_get ws c.place-place.result)) (store c.go_within-ended.new.vars.items)) unrolled c.go_within-ended.ensures.did in
-    subst (λ (v : View). Did v.1 (store c.args.vars.now.items) s d (view c.leave_part.new.self).1 (store c.go_within-ended.new.vars.items)) (sym (view_out c.args.self.now))
+    let same : plans ws ≡ plans vs = c.go_within-went.ensures.plans ∙ ap plans unrolled in
+    let st = subst (λ (xs : List View). Did (part_rest (slice_get xs c.place-place.result)) (store c.args.vars.now.items) s d (part_rest (slice_get ws c.place-place.result)) (store c.go_within-went.new.vars.items)) unrolled c.go_within-went.ensures.did in
+    subst (λ (v : View). Did v.1 (store c.args.vars.now.items) s d (view c.leave_part.new.self).1 (store c.go_within-went.new.vars.items)) (sym (view_out c.args.self.now))
     (within_did o.kind o.site o.phase vs ws o.at c.place-place.result _ _ s d (view c.leave_part.new.self).1 c.in-Waiting.is h c.place-place.ensures same r st)
 
-pub frame::Frame::go-returns-then-ended-clause-plan : goal.frame::Frame::go-returns-then-ended-clause-plan
-frame::Frame::go-returns-then-ended-clause-plan t c =
+pub frame::Frame::go-returns-then-has_ended-clause-plan : goal.frame::Frame::go-returns-then-has_ended-clause-plan
+frame::Frame::go-returns-then-has_ended-clause-plan t c =
     let o = out-Frame c.args.self.now in
     let vs = views o.parts.items in
-    let ws = views c.go_within-ended.new.parts.items in
+    let ws = views c.go_within-went.new.parts.items in
     let us = views (out-Frame (roll-Frame (record { site = o.site; kind = o.kind; phase = o.phase; at = o.at; parts = o.parts }))).parts.items in
     let unrolled : us ≡ vs = simp the_lemmas refl in
-    let same : plans ws ≡ plans vs = c.go_within-ended.ensures.plans ∙ ap plans unrolled in
+    let same : plans ws ≡ plans vs = c.go_within-went.ensures.plans ∙ ap plans unrolled in
     let p : (view c.leave_part.new.self).0 ≡ plan_at o.kind o.site ws = c.leave_part.ensures.plan ∙ simp (the_lemmas, view_roll, view_out) refl in
     p ∙ same_plan o.kind o.site vs ws same ∙ ap (λ (v : View). v.0) (sym (view_out c.args.self.now))
 
-pub frame::Frame::go-returns-else-ended-clause-did : goal.frame::Frame::go-returns-else-ended-clause-did
-frame::Frame::go-returns-else-ended-clause-did t c =
+pub frame::Frame::go-returns-then-has_parts-clause-did : goal.frame::Frame::go-returns-then-has_parts-clause-did
+frame::Frame::go-returns-then-has_parts-clause-did t c =
     let o = out-Frame c.args.self.now in
     let vs = views o.parts.items in
-    let ws = views c.go_within-ended.new.parts.items in
+    let ws = views c.go_within-went.new.parts.items in
     let us = views (out-Frame (roll-Frame (record { site = o.site; kind = o.kind; phase = o.phase; at = o.at; parts = o.parts }))).parts.items in
     let unrolled : us ≡ vs = simp the_lemmas refl in
     let s = c.args.doing.now.site in
     let d = c.args.doing.now.deed in
     let h = sym c.has_parts.ensures ∙ c.if-has_parts.true in
-    let same : plans ws ≡ plans vs = c.go_within-ended.ensures.plans ∙ ap plans unrolled in
-    let st = subst (λ (xs : List View). Did (part_rest (slice_get xs c.place-place.result)) (store c.args.vars.now.items) s d (part_rest (slice_get ws c.place-place.result)) (store c.go_within-ended.new.vars.items)) unrolled c.go_within-ended.ensures.did in
-    let r = going_on o.kind o.site o.phase ws o.at c.place-place.result c.in-Waiting.is h c.place-place.ensures (sym c.go_within-ended.ensures.ended ∙ c.if-ended.false) in
+    let same : plans ws ≡ plans vs = c.go_within-went.ensures.plans ∙ ap plans unrolled in
+    let st = subst (λ (xs : List View). Did (part_rest (slice_get xs c.place-place.result)) (store c.args.vars.now.items) s d (part_rest (slice_get ws c.place-place.result)) (store c.go_within-went.new.vars.items)) unrolled c.go_within-went.ensures.did in
+    let r = going_on o.kind o.site o.phase ws o.at c.place-place.result c.in-Waiting.is h c.place-place.ensures (sym c.go_within-went.ensures.ended ∙ sym c.has_ended.ensures ∙ c.if-has_ended.false) in
     simp (the_lemmas, view_roll, view_out) (within_did o.kind o.site o.phase vs ws o.at c.place-place.result _ _ s d _ c.in-Waiting.is h c.place-place.ensures same r st)
 
-pub frame::Frame::go-returns-else-ended-clause-plan : goal.frame::Frame::go-returns-else-ended-clause-plan
-frame::Frame::go-returns-else-ended-clause-plan t c =
+pub frame::Frame::go-returns-then-has_parts-clause-plan : goal.frame::Frame::go-returns-then-has_parts-clause-plan
+frame::Frame::go-returns-then-has_parts-clause-plan t c =
     let o = out-Frame c.args.self.now in
     let vs = views o.parts.items in
-    let ws = views c.go_within-ended.new.parts.items in
+    let ws = views c.go_within-went.new.parts.items in
     let us = views (out-Frame (roll-Frame (record { site = o.site; kind = o.kind; phase = o.phase; at = o.at; parts = o.parts }))).parts.items in
     let unrolled : us ≡ vs = simp the_lemmas refl in
-    let same : plans ws ≡ plans vs = c.go_within-ended.ensures.plans ∙ ap plans unrolled in
+    let same : plans ws ≡ plans vs = c.go_within-went.ensures.plans ∙ ap plans unrolled in
     simp (the_lemmas, view_roll, view_out) (same_plan o.kind o.site vs ws same)
 
-pub frame::Frame::go-returns-else-ended-clause-ended : goal.frame::Frame::go-returns-else-ended-clause-ended
-frame::Frame::go-returns-else-ended-clause-ended t c =
+pub frame::Frame::go-returns-then-has_parts-clause-ended : goal.frame::Frame::go-returns-then-has_parts-clause-ended
+frame::Frame::go-returns-then-has_parts-clause-ended t c =
     let o = out-Frame c.args.self.now in
-    let ws = views c.go_within-ended.new.parts.items in
+    let ws = views c.go_within-went.new.parts.items in
     let h = sym c.has_parts.ensures ∙ c.if-has_parts.true in
-    let n = goes_undone o.kind o.site o.phase ws o.at c.place-place.result c.in-Waiting.is h c.place-place.ensures (sym c.go_within-ended.ensures.ended ∙ c.if-ended.false) in
-    simp (the_lemmas, view_roll, view_out) (c.if-ended.false ∙ sym n)
+    let n = goes_undone o.kind o.site o.phase ws o.at c.place-place.result c.in-Waiting.is h c.place-place.ensures (sym c.go_within-went.ensures.ended ∙ sym c.has_ended.ensures ∙ c.if-has_ended.false) in
+    simp (the_lemmas, view_roll, view_out) (sym c.has_ended.ensures ∙ c.if-has_ended.false ∙ sym n)
 
-pub frame::Frame::go-go_within-ended-requires-then-is_counted : goal.frame::Frame::go-go_within-ended-requires-then-is_counted
-frame::Frame::go-go_within-ended-requires-then-is_counted t c =
+pub frame::Frame::go-returns-then-has_parts-clause-begins : goal.frame::Frame::go-returns-then-has_parts-clause-begins
+frame::Frame::go-returns-then-has_parts-clause-begins t c =
+    let o = out-Frame c.args.self.now in
+    let h = sym c.has_parts.ensures ∙ c.if-has_parts.true in
+    simp (the_lemmas, view_roll, view_out) (part_begins _ o.kind o.site o.phase (views c.go_within-went.new.parts.items) o.at c.place-place.result c.in-Waiting.is h c.place-place.ensures c.go_within-went.ensures.begins)
+
+pub frame::Frame::go-go_within-went-requires-then-is_counted : goal.frame::Frame::go-go_within-went-requires-then-is_counted
+frame::Frame::go-go_within-went-requires-then-is_counted t c =
     let o = out-Frame c.args.self.now in
     let is = view_out c.args.self.now in
     let vs = views o.parts.items in
@@ -129,54 +137,60 @@ pub frame::Frame::go-leave_turn-requires-clause-variables : goal.frame::Frame::g
 frame::Frame::go-leave_turn-requires-clause-variables t c =
     let o = out-Frame c.args.self.now in
     let vs = views o.parts.items in
-    let ws = views c.go_within-ended-then-is_counted.new.parts.items in
+    let ws = views c.go_within-went-then-is_counted.new.parts.items in
     let has = subst (λ (v : View). HasVariables v.0 (length c.args.vars.now.items)) (view_out c.args.self.now) c.requires.variables in
-    let p = subst (λ (m : ℕ). HasVariables (plan_at o.kind o.site vs) m) (sym c.go_within-ended-then-is_counted.ensures.length) has in
-    let w = subst (λ (p : Proc). HasVariables p (length c.go_within-ended-then-is_counted.new.vars.items)) (sym (same_plan o.kind o.site vs ws c.go_within-ended-then-is_counted.ensures.plans)) p in
+    let p = subst (λ (m : ℕ). HasVariables (plan_at o.kind o.site vs) m) (sym c.go_within-went-then-is_counted.ensures.length) has in
+    let w = subst (λ (p : Proc). HasVariables p (length c.go_within-went-then-is_counted.new.vars.items)) (sym (same_plan o.kind o.site vs ws c.go_within-went-then-is_counted.ensures.plans)) p in
     simp (the_lemmas, view_roll, view_out) w
 
-pub frame::Frame::go-returns-then-ended-2-clause-did : goal.frame::Frame::go-returns-then-ended-2-clause-did
-frame::Frame::go-returns-then-ended-2-clause-did t c =
+pub frame::Frame::go-returns-then-has_ended-2-clause-did : goal.frame::Frame::go-returns-then-has_ended-2-clause-did
+frame::Frame::go-returns-then-has_ended-2-clause-did t c =
     let o = out-Frame c.args.self.now in
     let vs = views o.parts.items in
-    let ws = views c.go_within-ended-then-is_counted.new.parts.items in
+    let ws = views c.go_within-went-then-is_counted.new.parts.items in
     let s = c.args.doing.now.site in
     let d = c.args.doing.now.deed in
     let h = sym c.is_counted.ensures ∙ c.if-is_counted.true in
-    let g : Frame-F Frame = record { site = o.site; kind = o.kind; phase = o.phase; at = o.at; parts = c.go_within-ended-then-is_counted.new.parts } in
+    let g : Frame-F Frame = record { site = o.site; kind = o.kind; phase = o.phase; at = o.at; parts = c.go_within-went-then-is_counted.new.parts } in
     let unrolled : out-Frame (roll-Frame g) ≡ g = simp the_lemmas refl in
-    let n = subst (λ (m : Frame-F Frame). TurnEnded m.kind m.phase m.site (views m.parts.items) (store c.go_within-ended-then-is_counted.new.vars.items) (view c.leave_turn.new.self).1 (store c.leave_turn.new.vars.items)) unrolled c.leave_turn.ensures.turned in
+    let n = subst (λ (m : Frame-F Frame). TurnEnded m.kind m.phase m.site (views m.parts.items) (store c.go_within-went-then-is_counted.new.vars.items) (view c.leave_turn.new.self).1 (store c.leave_turn.new.vars.items)) unrolled c.leave_turn.ensures.turned in
     subst (λ (v : View). Did v.1 (store c.args.vars.now.items) s d (view c.leave_turn.new.self).1 (store c.leave_turn.new.vars.items)) (sym (view_out c.args.self.now))
-    (turn_gone o.kind o.site o.phase c.in-Turning.index c.in-Turning.last vs ws _ _ _ s d o.at _ c.in-Turning.is h c.go_within-ended-then-is_counted.ensures.plans c.go_within-ended-then-is_counted.ensures.did (sym c.go_within-ended-then-is_counted.ensures.ended ∙ c.if-ended-2.true) n)
+    (turn_gone o.kind o.site o.phase c.in-Turning.index c.in-Turning.last vs ws _ _ _ s d o.at _ c.in-Turning.is h c.go_within-went-then-is_counted.ensures.plans c.go_within-went-then-is_counted.ensures.did (sym c.go_within-went-then-is_counted.ensures.ended ∙ sym c.has_ended-then-is_counted.ensures ∙ c.if-has_ended-2.true) n)
 
-pub frame::Frame::go-returns-then-ended-2-clause-plan : goal.frame::Frame::go-returns-then-ended-2-clause-plan
-frame::Frame::go-returns-then-ended-2-clause-plan t c =
+pub frame::Frame::go-returns-then-has_ended-2-clause-plan : goal.frame::Frame::go-returns-then-has_ended-2-clause-plan
+frame::Frame::go-returns-then-has_ended-2-clause-plan t c =
     let o = out-Frame c.args.self.now in
     let vs = views o.parts.items in
-    let ws = views c.go_within-ended-then-is_counted.new.parts.items in
+    let ws = views c.go_within-went-then-is_counted.new.parts.items in
     let p : (view c.leave_turn.new.self).0 ≡ plan_at o.kind o.site ws = c.leave_turn.ensures.plan ∙ simp (the_lemmas, view_roll, view_out) refl in
-    p ∙ same_plan o.kind o.site vs ws c.go_within-ended-then-is_counted.ensures.plans ∙ ap (λ (v : View). v.0) (sym (view_out c.args.self.now))
+    p ∙ same_plan o.kind o.site vs ws c.go_within-went-then-is_counted.ensures.plans ∙ ap (λ (v : View). v.0) (sym (view_out c.args.self.now))
 
-pub frame::Frame::go-returns-else-ended-2-clause-did : goal.frame::Frame::go-returns-else-ended-2-clause-did
-frame::Frame::go-returns-else-ended-2-clause-did t c =
+pub frame::Frame::go-returns-then-is_counted-clause-did : goal.frame::Frame::go-returns-then-is_counted-clause-did
+frame::Frame::go-returns-then-is_counted-clause-did t c =
     let o = out-Frame c.args.self.now in
     let vs = views o.parts.items in
-    let ws = views c.go_within-ended-then-is_counted.new.parts.items in
+    let ws = views c.go_within-went-then-is_counted.new.parts.items in
     let h = sym c.is_counted.ensures ∙ c.if-is_counted.true in
     simp (the_lemmas, view_roll, view_out)
-    (turn_goes o.kind o.site o.phase c.in-Turning.index c.in-Turning.last vs ws _ _ c.args.doing.now.site c.args.doing.now.deed o.at c.in-Turning.is h c.go_within-ended-then-is_counted.ensures.plans c.go_within-ended-then-is_counted.ensures.did (sym c.go_within-ended-then-is_counted.ensures.ended ∙ c.if-ended-2.false))
+    (turn_goes o.kind o.site o.phase c.in-Turning.index c.in-Turning.last vs ws _ _ c.args.doing.now.site c.args.doing.now.deed o.at c.in-Turning.is h c.go_within-went-then-is_counted.ensures.plans c.go_within-went-then-is_counted.ensures.did (sym c.go_within-went-then-is_counted.ensures.ended ∙ sym c.has_ended-then-is_counted.ensures ∙ c.if-has_ended-2.false))
 
-pub frame::Frame::go-returns-else-ended-2-clause-plan : goal.frame::Frame::go-returns-else-ended-2-clause-plan
-frame::Frame::go-returns-else-ended-2-clause-plan t c =
+pub frame::Frame::go-returns-then-is_counted-clause-plan : goal.frame::Frame::go-returns-then-is_counted-clause-plan
+frame::Frame::go-returns-then-is_counted-clause-plan t c =
     let o = out-Frame c.args.self.now in
-    simp (the_lemmas, view_roll, view_out) (same_plan o.kind o.site (views o.parts.items) (views c.go_within-ended-then-is_counted.new.parts.items) c.go_within-ended-then-is_counted.ensures.plans)
+    simp (the_lemmas, view_roll, view_out) (same_plan o.kind o.site (views o.parts.items) (views c.go_within-went-then-is_counted.new.parts.items) c.go_within-went-then-is_counted.ensures.plans)
 
-pub frame::Frame::go-returns-else-ended-2-clause-ended : goal.frame::Frame::go-returns-else-ended-2-clause-ended
-frame::Frame::go-returns-else-ended-2-clause-ended t c =
+pub frame::Frame::go-returns-then-is_counted-clause-ended : goal.frame::Frame::go-returns-then-is_counted-clause-ended
+frame::Frame::go-returns-then-is_counted-clause-ended t c =
     let o = out-Frame c.args.self.now in
-    let ws = views c.go_within-ended-then-is_counted.new.parts.items in
+    let ws = views c.go_within-went-then-is_counted.new.parts.items in
     let h = sym c.is_counted.ensures ∙ c.if-is_counted.true in
-    simp (the_lemmas, view_roll, view_out) (c.if-ended-2.false ∙ sym (turn_undone o.kind o.site o.phase c.in-Turning.index c.in-Turning.last ws o.at c.in-Turning.is h))
+    simp (the_lemmas, view_roll, view_out) (sym c.has_ended-then-is_counted.ensures ∙ c.if-has_ended-2.false ∙ sym (turn_undone o.kind o.site o.phase c.in-Turning.index c.in-Turning.last ws o.at c.in-Turning.is h))
+
+pub frame::Frame::go-returns-then-is_counted-clause-begins : goal.frame::Frame::go-returns-then-is_counted-clause-begins
+frame::Frame::go-returns-then-is_counted-clause-begins t c =
+    let o = out-Frame c.args.self.now in
+    let h = sym c.is_counted.ensures ∙ c.if-is_counted.true in
+    simp (the_lemmas, view_roll, view_out) (turn_begins _ o.kind o.site o.phase c.in-Turning.index c.in-Turning.last (views c.go_within-went-then-is_counted.new.parts.items) o.at c.in-Turning.is h c.go_within-went-then-is_counted.ensures.begins)
 
 pub frame::Frame::go-part_with-place-requires : goal.frame::Frame::go-part_with-place-requires
 frame::Frame::go-part_with-place-requires t c =
@@ -184,8 +198,8 @@ frame::Frame::go-part_with-place-requires t c =
     let h = sym c.is_par.ensures ∙ c.if-is_par.true in
     par_preorder o.kind o.site (views o.parts.items) h (subst (λ (v : View). InPreorder v.0) (view_out c.args.self.now) c.requires.in_preorder)
 
-pub frame::Frame::go-go_within-ended-requires-then-is_par : goal.frame::Frame::go-go_within-ended-requires-then-is_par
-frame::Frame::go-go_within-ended-requires-then-is_par t c =
+pub frame::Frame::go-go_within-went-requires-then-is_par : goal.frame::Frame::go-go_within-went-requires-then-is_par
+frame::Frame::go-go_within-went-requires-then-is_par t c =
     let o = out-Frame c.args.self.now in
     let is = view_out c.args.self.now in
     let fs = o.parts.items in
@@ -205,57 +219,57 @@ frame::Frame::go-go_within-ended-requires-then-is_par t c =
       ),
     )
 
-pub frame::Frame::go-returns-then-ended-3-clause-did : goal.frame::Frame::go-returns-then-ended-3-clause-did
-frame::Frame::go-returns-then-ended-3-clause-did t c =
+pub frame::Frame::go-returns-then-has_ended-3-clause-did : goal.frame::Frame::go-returns-then-has_ended-3-clause-did
+frame::Frame::go-returns-then-has_ended-3-clause-did t c =
     let o = out-Frame c.args.self.now in
     let vs = views o.parts.items in
     let h = sym c.is_par.ensures ∙ c.if-is_par.true in
     let e = store c.args.vars.now.items in
     let s = c.args.doing.now.site in
     let d = c.args.doing.now.deed in
-    let settled : views c.settle_part.new.parts.items ≡ views c.go_within-ended-then-is_par.new.parts.items = c.settle_part.ensures ∙ simp the_lemmas refl in
-    let st = part_did o.kind o.site o.phase vs (views c.go_within-ended-then-is_par.new.parts.items) c.part_with-place.result o.at _ _ s d c.in-Together.is h c.go_within-ended-then-is_par.ensures.plans c.go_within-ended-then-is_par.ensures.others c.go_within-ended-then-is_par.ensures.did in
-    simp (the_lemmas, view_roll, view_out) (subst (λ (ws : List View). Did (rest_at o.kind o.phase o.site vs o.at) e s d (rest_at o.kind o.phase o.site ws o.at) (store c.go_within-ended-then-is_par.new.vars.items)) (sym settled) st)
+    let settled : views c.settle_part.new.parts.items ≡ views c.go_within-went-then-is_par.new.parts.items = c.settle_part.ensures ∙ simp the_lemmas refl in
+    let st = part_did o.kind o.site o.phase vs (views c.go_within-went-then-is_par.new.parts.items) c.part_with-place.result o.at _ _ s d c.in-Together.is h c.go_within-went-then-is_par.ensures.plans c.go_within-went-then-is_par.ensures.others c.go_within-went-then-is_par.ensures.did in
+    simp (the_lemmas, view_roll, view_out) (subst (λ (ws : List View). Did (rest_at o.kind o.phase o.site vs o.at) e s d (rest_at o.kind o.phase o.site ws o.at) (store c.go_within-went-then-is_par.new.vars.items)) (sym settled) st)
 
-pub frame::Frame::go-returns-then-ended-3-clause-plan : goal.frame::Frame::go-returns-then-ended-3-clause-plan
-frame::Frame::go-returns-then-ended-3-clause-plan t c =
+pub frame::Frame::go-returns-then-has_ended-3-clause-plan : goal.frame::Frame::go-returns-then-has_ended-3-clause-plan
+frame::Frame::go-returns-then-has_ended-3-clause-plan t c =
     let o = out-Frame c.args.self.now in
-    let settled : views c.settle_part.new.parts.items ≡ views c.go_within-ended-then-is_par.new.parts.items = c.settle_part.ensures ∙ simp the_lemmas refl in
-    simp (the_lemmas, view_roll, view_out) (same_plan o.kind o.site (views o.parts.items) (views c.settle_part.new.parts.items) (ap plans settled ∙ c.go_within-ended-then-is_par.ensures.plans))
+    let settled : views c.settle_part.new.parts.items ≡ views c.go_within-went-then-is_par.new.parts.items = c.settle_part.ensures ∙ simp the_lemmas refl in
+    simp (the_lemmas, view_roll, view_out) (same_plan o.kind o.site (views o.parts.items) (views c.settle_part.new.parts.items) (ap plans settled ∙ c.go_within-went-then-is_par.ensures.plans))
 
-pub frame::Frame::go-returns-then-ended-3-clause-ended : goal.frame::Frame::go-returns-then-ended-3-clause-ended
-frame::Frame::go-returns-then-ended-3-clause-ended t c =
+pub frame::Frame::go-returns-then-has_ended-3-clause-ended : goal.frame::Frame::go-returns-then-has_ended-3-clause-ended
+frame::Frame::go-returns-then-has_ended-3-clause-ended t c =
     let o = out-Frame c.args.self.now in
     let ws = views c.settle_part.new.parts.items in
     let h = sym c.is_par.ensures ∙ c.if-is_par.true in
-    let n : c.all_parts_ended.result ≡ is_done (besides ws) = c.all_parts_ended.ensures ∙ simp the_lemmas refl in
+    let n : has_ended c.went_beside.result ≡ is_done (besides ws) = c.went_beside.ensures.ended ∙ simp the_lemmas refl in
     simp (the_lemmas, view_roll, view_out) (n ∙ sym (ap is_done (beside_rest o.kind o.site o.phase ws o.at c.in-Together.is h)))
 
-pub frame::Frame::go-returns-else-ended-3-clause-did : goal.frame::Frame::go-returns-else-ended-3-clause-did
-frame::Frame::go-returns-else-ended-3-clause-did t c =
+pub frame::Frame::go-returns-then-is_par-clause-did : goal.frame::Frame::go-returns-then-is_par-clause-did
+frame::Frame::go-returns-then-is_par-clause-did t c =
     let o = out-Frame c.args.self.now in
     let vs = views o.parts.items in
     let h = sym c.is_par.ensures ∙ c.if-is_par.true in
     let e = store c.args.vars.now.items in
     let s = c.args.doing.now.site in
     let d = c.args.doing.now.deed in
-    let settled : views c.settle_part.new.parts.items ≡ views c.go_within-ended-then-is_par.new.parts.items = c.settle_part.ensures ∙ simp the_lemmas refl in
-    let st = part_did o.kind o.site o.phase vs (views c.go_within-ended-then-is_par.new.parts.items) c.part_with-place.result o.at _ _ s d c.in-Together.is h c.go_within-ended-then-is_par.ensures.plans c.go_within-ended-then-is_par.ensures.others c.go_within-ended-then-is_par.ensures.did in
-    simp (the_lemmas, view_roll, view_out) (subst (λ (ws : List View). Did (rest_at o.kind o.phase o.site vs o.at) e s d (rest_at o.kind o.phase o.site ws o.at) (store c.go_within-ended-then-is_par.new.vars.items)) (sym settled) st)
+    let settled : views c.settle_part.new.parts.items ≡ views c.go_within-went-then-is_par.new.parts.items = c.settle_part.ensures ∙ simp the_lemmas refl in
+    let st = part_did o.kind o.site o.phase vs (views c.go_within-went-then-is_par.new.parts.items) c.part_with-place.result o.at _ _ s d c.in-Together.is h c.go_within-went-then-is_par.ensures.plans c.go_within-went-then-is_par.ensures.others c.go_within-went-then-is_par.ensures.did in
+    simp (the_lemmas, view_roll, view_out) (subst (λ (ws : List View). Did (rest_at o.kind o.phase o.site vs o.at) e s d (rest_at o.kind o.phase o.site ws o.at) (store c.go_within-went-then-is_par.new.vars.items)) (sym settled) st)
 
-pub frame::Frame::go-returns-else-ended-3-clause-plan : goal.frame::Frame::go-returns-else-ended-3-clause-plan
-frame::Frame::go-returns-else-ended-3-clause-plan t c =
+pub frame::Frame::go-returns-then-is_par-clause-plan : goal.frame::Frame::go-returns-then-is_par-clause-plan
+frame::Frame::go-returns-then-is_par-clause-plan t c =
     let o = out-Frame c.args.self.now in
-    let settled : views c.settle_part.new.parts.items ≡ views c.go_within-ended-then-is_par.new.parts.items = c.settle_part.ensures ∙ simp the_lemmas refl in
-    simp (the_lemmas, view_roll, view_out) (same_plan o.kind o.site (views o.parts.items) (views c.settle_part.new.parts.items) (ap plans settled ∙ c.go_within-ended-then-is_par.ensures.plans))
+    let settled : views c.settle_part.new.parts.items ≡ views c.go_within-went-then-is_par.new.parts.items = c.settle_part.ensures ∙ simp the_lemmas refl in
+    simp (the_lemmas, view_roll, view_out) (same_plan o.kind o.site (views o.parts.items) (views c.settle_part.new.parts.items) (ap plans settled ∙ c.go_within-went-then-is_par.ensures.plans))
 
-pub frame::Frame::go-returns-else-ended-3-clause-ended : goal.frame::Frame::go-returns-else-ended-3-clause-ended
-frame::Frame::go-returns-else-ended-3-clause-ended t c =
+pub frame::Frame::go-returns-then-is_par-clause-ended : goal.frame::Frame::go-returns-then-is_par-clause-ended
+frame::Frame::go-returns-then-is_par-clause-ended t c =
     let o = out-Frame c.args.self.now in
     let is = view_out c.args.self.now in
     let fs = o.parts.items in
     let vs = views fs in
-    let ws = views c.go_within-ended-then-is_par.new.parts.items in
+    let ws = views c.go_within-went-then-is_par.new.parts.items in
     let us = views c.settle_part.new.parts.items in
     let e = store c.args.vars.now.items in
     let s = c.args.doing.now.site in
@@ -264,10 +278,10 @@ frame::Frame::go-returns-else-ended-3-clause-ended t c =
     let h = sym c.is_par.ensures ∙ c.if-is_par.true in
     let pre = subst (λ (v : View). InPreorder v.0) is c.requires.in_preorder in
     let able = part_able o.kind o.site o.phase fs o.at p e s c.in-Together.is h pre c.part_with-place.ensures d (subst (λ (v : View). Able v.1 e s d) is c.requires.able) in
-    let there = subst (λ (n : ℕ). p < n) (same_length vs ws c.go_within-ended-then-is_par.ensures.plans) (able_there vs p e s d able) in
+    let there = subst (λ (n : ℕ). p < n) (same_length vs ws c.go_within-went-then-is_par.ensures.plans) (able_there vs p e s d able) in
     let settled : us ≡ ws = c.settle_part.ensures ∙ simp the_lemmas refl in
-    let goes = ap (λ (xs : List View). is_done (besides xs)) settled ∙ besides_goes ws p there (sym c.go_within-ended-then-is_par.ensures.ended ∙ c.if-ended-3.false) in
-    simp (the_lemmas, view_roll, view_out) (c.if-ended-3.false ∙ sym goes ∙ sym (ap is_done (beside_rest o.kind o.site o.phase us o.at c.in-Together.is h)))
+    let goes = ap (λ (xs : List View). is_done (besides xs)) settled ∙ besides_goes ws p there (sym c.go_within-went-then-is_par.ensures.ended ∙ sym c.has_ended-then-is_par.ensures ∙ c.if-has_ended-3.false) in
+    simp (the_lemmas, view_roll, view_out) (sym goes ∙ sym (ap is_done (beside_rest o.kind o.site o.phase us o.at c.in-Together.is h)))
 
 pub frame::Frame::go-end_part-ended-requires-clause-able : goal.frame::Frame::go-end_part-ended-requires-clause-able
 frame::Frame::go-end_part-ended-requires-clause-able t c =
@@ -286,8 +300,8 @@ frame::Frame::go-end_part-ended-requires-clause-variables t c =
     let has = subst (λ (v : View). HasVariables v.0 (length c.args.vars.now.items)) (view_out c.args.self.now) c.requires.variables in
     simp the_lemmas (within_variables o.kind o.site (views o.parts.items) o.at c.place-place-then-has_parts-2.result _ h c.place-place-then-has_parts-2.ensures has)
 
-pub frame::Frame::go-returns-then-ended-4-clause-did : goal.frame::Frame::go-returns-then-ended-4-clause-did
-frame::Frame::go-returns-then-ended-4-clause-did t c =
+pub frame::Frame::go-returns-then-ended-clause-did : goal.frame::Frame::go-returns-then-ended-clause-did
+frame::Frame::go-returns-then-ended-clause-did t c =
     let o = out-Frame c.args.self.now in
     let vs = views o.parts.items in
     let ws = views c.end_part-ended.new.parts.items in
@@ -299,25 +313,25 @@ frame::Frame::go-returns-then-ended-4-clause-did t c =
     let s = c.args.doing.now.site in
     let d = c.args.doing.now.deed in
     let h = sym c.has_parts-in-Resting.ensures ∙ c.if-has_parts-2.true in
-    let r : (view c.leave_part-then-ended-4.new.self).1 ≡ gone_on o.kind o.site ws o.at = c.leave_part-then-ended-4.ensures.rest ∙ simp the_lemmas refl in
+    let r : (view c.leave_part-then-ended.new.self).1 ≡ gone_on o.kind o.site ws o.at = c.leave_part-then-ended.ensures.rest ∙ simp the_lemmas refl in
     let same : plans ws ≡ plans vs = c.end_part-ended.ensures.plans ∙ ap plans unrolled in
     let st = subst (λ (xs : List View). Did (part_rest (slice_get (resting_at p xs) p)) e s d (part_rest (slice_get ws p)) f) unrolled c.end_part-ended.ensures.did in
-    subst (λ (v : View). Did v.1 e s d (view c.leave_part-then-ended-4.new.self).1 f) (sym (view_out c.args.self.now))
-    (resting_did o.kind o.site o.phase vs ws o.at p _ _ s d (view c.leave_part-then-ended-4.new.self).1 c.in-Resting.is h c.place-place-then-has_parts-2.ensures same r st)
+    subst (λ (v : View). Did v.1 e s d (view c.leave_part-then-ended.new.self).1 f) (sym (view_out c.args.self.now))
+    (resting_did o.kind o.site o.phase vs ws o.at p _ _ s d (view c.leave_part-then-ended.new.self).1 c.in-Resting.is h c.place-place-then-has_parts-2.ensures same r st)
 
-pub frame::Frame::go-returns-then-ended-4-clause-plan : goal.frame::Frame::go-returns-then-ended-4-clause-plan
-frame::Frame::go-returns-then-ended-4-clause-plan t c =
+pub frame::Frame::go-returns-then-ended-clause-plan : goal.frame::Frame::go-returns-then-ended-clause-plan
+frame::Frame::go-returns-then-ended-clause-plan t c =
     let o = out-Frame c.args.self.now in
     let vs = views o.parts.items in
     let ws = views c.end_part-ended.new.parts.items in
     let us = views (out-Frame (roll-Frame (record { site = o.site; kind = o.kind; phase = o.phase; at = o.at; parts = o.parts }))).parts.items in
     let unrolled : us ≡ vs = simp the_lemmas refl in
     let same : plans ws ≡ plans vs = c.end_part-ended.ensures.plans ∙ ap plans unrolled in
-    let p : (view c.leave_part-then-ended-4.new.self).0 ≡ plan_at o.kind o.site ws = c.leave_part-then-ended-4.ensures.plan ∙ simp (the_lemmas, view_roll, view_out) refl in
+    let p : (view c.leave_part-then-ended.new.self).0 ≡ plan_at o.kind o.site ws = c.leave_part-then-ended.ensures.plan ∙ simp (the_lemmas, view_roll, view_out) refl in
     p ∙ same_plan o.kind o.site vs ws same ∙ ap (λ (v : View). v.0) (sym (view_out c.args.self.now))
 
-pub frame::Frame::go-returns-else-ended-4-clause-did : goal.frame::Frame::go-returns-else-ended-4-clause-did
-frame::Frame::go-returns-else-ended-4-clause-did t c =
+pub frame::Frame::go-returns-then-has_parts-2-clause-did : goal.frame::Frame::go-returns-then-has_parts-2-clause-did
+frame::Frame::go-returns-then-has_parts-2-clause-did t c =
     let o = out-Frame c.args.self.now in
     let vs = views o.parts.items in
     let ws = views c.end_part-ended.new.parts.items in
@@ -329,11 +343,11 @@ frame::Frame::go-returns-else-ended-4-clause-did t c =
     let h = sym c.has_parts-in-Resting.ensures ∙ c.if-has_parts-2.true in
     let same : plans ws ≡ plans vs = c.end_part-ended.ensures.plans ∙ ap plans unrolled in
     let st = subst (λ (xs : List View). Did (part_rest (slice_get (resting_at p xs) p)) (store c.args.vars.now.items) s d (part_rest (slice_get ws p)) (store c.end_part-ended.new.vars.items)) unrolled c.end_part-ended.ensures.did in
-    let r = going_on o.kind o.site Waiting ws o.at p refl h c.place-place-then-has_parts-2.ensures (sym c.end_part-ended.ensures.ended ∙ c.if-ended-4.false) in
+    let r = going_on o.kind o.site Waiting ws o.at p refl h c.place-place-then-has_parts-2.ensures (sym c.end_part-ended.ensures.ended ∙ c.if-ended.false) in
     simp (the_lemmas, view_roll, view_out) (resting_did o.kind o.site o.phase vs ws o.at p _ _ s d _ c.in-Resting.is h c.place-place-then-has_parts-2.ensures same r st)
 
-pub frame::Frame::go-returns-else-ended-4-clause-plan : goal.frame::Frame::go-returns-else-ended-4-clause-plan
-frame::Frame::go-returns-else-ended-4-clause-plan t c =
+pub frame::Frame::go-returns-then-has_parts-2-clause-plan : goal.frame::Frame::go-returns-then-has_parts-2-clause-plan
+frame::Frame::go-returns-then-has_parts-2-clause-plan t c =
     let o = out-Frame c.args.self.now in
     let vs = views o.parts.items in
     let ws = views c.end_part-ended.new.parts.items in
@@ -342,13 +356,13 @@ frame::Frame::go-returns-else-ended-4-clause-plan t c =
     let same : plans ws ≡ plans vs = c.end_part-ended.ensures.plans ∙ ap plans unrolled in
     simp (the_lemmas, view_roll, view_out) (same_plan o.kind o.site vs ws same)
 
-pub frame::Frame::go-returns-else-ended-4-clause-ended : goal.frame::Frame::go-returns-else-ended-4-clause-ended
-frame::Frame::go-returns-else-ended-4-clause-ended t c =
+pub frame::Frame::go-returns-then-has_parts-2-clause-ended : goal.frame::Frame::go-returns-then-has_parts-2-clause-ended
+frame::Frame::go-returns-then-has_parts-2-clause-ended t c =
     let o = out-Frame c.args.self.now in
     let ws = views c.end_part-ended.new.parts.items in
     let h = sym c.has_parts-in-Resting.ensures ∙ c.if-has_parts-2.true in
-    let n = goes_undone o.kind o.site Waiting ws o.at c.place-place-then-has_parts-2.result refl h c.place-place-then-has_parts-2.ensures (sym c.end_part-ended.ensures.ended ∙ c.if-ended-4.false) in
-    simp (the_lemmas, view_roll, view_out) (c.if-ended-4.false ∙ sym n)
+    let n = goes_undone o.kind o.site Waiting ws o.at c.place-place-then-has_parts-2.result refl h c.place-place-then-has_parts-2.ensures (sym c.end_part-ended.ensures.ended ∙ c.if-ended.false) in
+    simp (the_lemmas, view_roll, view_out) (sym n)
 
 pub frame::Frame::go-returns-else-has_parts-2-clause-did : goal.frame::Frame::go-returns-else-has_parts-2-clause-did
 frame::Frame::go-returns-else-has_parts-2-clause-did t c =
@@ -443,3 +457,10 @@ pub going::go_within-returns-clause-ended : goal.going::go_within-returns-clause
 going::go_within-returns-clause-ended t c =
     let o = c.args.parts.now.ok.0 in
     sym (ap part_done (none_view c.args.parts.now.items c.args.at (omega (arith, c.len.ensures))))
+
+pub going::go_within-returns-then-at-len-clause-begins : goal.going::go_within-returns-then-at-len-clause-begins
+going::go_within-returns-then-at-len-clause-begins t c =
+    let fs = c.args.parts.now.items in
+    let o = c.args.parts.now.ok.0 in
+    let l : c.args.at < length fs = omega (arith, c.len.ensures) in
+    subst (λ (v : Option View). BeginsWith (then_begins c.go.result) (part_rest v)) (sym (set_view fs c.args.at c.go.new.self l)) c.go.ensures.begins

@@ -6,25 +6,25 @@ use Rattle.vc_occam.proofs.Frames.{view_roll, view_out}
 use Rattle.vc_occam.proofs.Stepping.{same_plan}
 use Rattle.vc_occam.proofs.frame.Frame.go_itself.Goals as goal
 
-pub go_on-went-requires-clause-able : goal.go_on-went-requires-clause-able
-go_on-went-requires-clause-able c =
+pub go_on-progress-requires-clause-able : goal.go_on-progress-requires-clause-able
+go_on-progress-requires-clause-able c =
     subst (λ (v : View). Able v.1 (store c.args.vars.now.items) c.args.doing.now.site c.args.doing.now.deed) (view_out c.args.self.now) c.requires.able
 
-pub go_on-went-requires-clause-assigned : goal.go_on-went-requires-clause-assigned
-go_on-went-requires-clause-assigned c = λ q.
+pub go_on-progress-requires-clause-assigned : goal.go_on-progress-requires-clause-assigned
+go_on-progress-requires-clause-assigned c = λ q.
     c.requires.assigned q ∙ ap (λ (v : View). assigned_at c.args.doing.now.site v.1 (store c.args.vars.now.items)) (view_out c.args.self.now)
 
-pub go_on-went-requires-clause-variables : goal.go_on-went-requires-clause-variables
-go_on-went-requires-clause-variables c =
+pub go_on-progress-requires-clause-variables : goal.go_on-progress-requires-clause-variables
+go_on-progress-requires-clause-variables c =
     subst (λ (v : View). HasVariables v.0 (length c.args.vars.now.items)) (view_out c.args.self.now) c.requires.variables
 
 pub returns-clause-did : goal.returns-clause-did
-returns-clause-did c = simp (the_lemmas, view_roll, view_out) c.go_on-went.ensures.did
+returns-clause-did c = simp (the_lemmas, view_roll, view_out) c.go_on-progress.ensures.did
 
 pub returns-clause-plan : goal.returns-clause-plan
 returns-clause-plan c =
     let o = out-Frame c.args.self.now in
-    simp (the_lemmas, view_roll, view_out) (same_plan o.kind o.site (views o.parts.items) (views c.go_on-went.new.parts.items) c.go_on-went.ensures.plans)
+    simp (the_lemmas, view_roll, view_out) (same_plan o.kind o.site (views o.parts.items) (views c.go_on-progress.new.parts.items) c.go_on-progress.ensures.plans)
 
 pub returns-clause-ended : goal.returns-clause-ended
-returns-clause-ended c = simp (the_lemmas, view_roll, view_out) c.go_on-went.ensures.ended
+returns-clause-ended c = simp (the_lemmas, view_roll, view_out) (c.went.ensures.ended ∙ c.go_on-progress.ensures.ended)

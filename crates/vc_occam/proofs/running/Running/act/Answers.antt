@@ -11,9 +11,9 @@ use Rattle.vc_occam.specs.Usage.{among}
 use Rattle.vc_occam.proofs.Meets.{acts_met, can_begin, meeting_listed, other_listed, met_sites, met_use}
 use Rattle.vc_occam.proofs.running.Running.act.Goals as goal
 
-pub meet-requires-clause-meets : goal.meet-requires-clause-meets
+pub meet-self-requires-clause-meets : goal.meet-self-requires-clause-meets
 unfolding state inner_channels
-meet-requires-clause-meets c =
+meet-self-requires-clause-meets c =
     let self = c.args.self.now in
     let ins = among self.inside in
     let r = (view self.frame).1 in
@@ -29,33 +29,33 @@ pub invariant_of-self-clause-own_sites : goal.invariant_of-self-clause-own_sites
 invariant_of-self-clause-own_sites c =
     let self = c.args.self.now in
     let before = at (view self.frame).1 (store self.vars.items) in
-    let after = at (view c.meet.new.frame).1 (store c.meet.new.vars.items) in
+    let after = at (view c.meet-self.new.frame).1 (store c.meet-self.new.vars.items) in
     let i = c.in-Inner.sender in
     let d = c.in-Inner.chan in
-    met_sites before after i c.in-Inner.receiver c.in-Inner.guard d c.args.answer self.own_sites (subst (λ (m : Move). HasMet before i d m c.args.answer after) c.partner-taken.ensures c.meet.ensures.met)
+    met_sites before after i c.in-Inner.receiver c.in-Inner.guard d c.args.answer self.own_sites (subst (λ (m : Move). HasMet before i d m c.args.answer after) c.partner-taken.ensures c.meet-self.ensures.met)
 
 pub invariant_of-self-clause-uses_lawfully : goal.invariant_of-self-clause-uses_lawfully
 invariant_of-self-clause-uses_lawfully c =
     let self = c.args.self.now in
     let before = at (view self.frame).1 (store self.vars.items) in
-    let after = at (view c.meet.new.frame).1 (store c.meet.new.vars.items) in
+    let after = at (view c.meet-self.new.frame).1 (store c.meet-self.new.vars.items) in
     let i = c.in-Inner.sender in
     let d = c.in-Inner.chan in
-    met_use before after i c.in-Inner.receiver c.in-Inner.guard d c.args.answer self.uses_lawfully (subst (λ (m : Move). HasMet before i d m c.args.answer after) c.partner-taken.ensures c.meet.ensures.met)
+    met_use before after i c.in-Inner.receiver c.in-Inner.guard d c.args.answer self.uses_lawfully (subst (λ (m : Move). HasMet before i d m c.args.answer after) c.partner-taken.ensures c.meet-self.ensures.met)
 
 pub returns-in-Inner-clause-made : goal.returns-in-Inner-clause-made
 unfolding state inner_channels
 returns-in-Inner-clause-made c =
     let self = c.args.self.now in
     let before = at (view self.frame).1 (store self.vars.items) in
-    let after = at (view c.meet.new.frame).1 (store c.meet.new.vars.items) in
+    let after = at (view c.meet-self.new.frame).1 (store c.meet-self.new.vars.items) in
     let i = c.in-Inner.sender in
     let j = c.in-Inner.receiver in
     let k = c.in-Inner.guard in
     let d = c.in-Inner.chan in
     let fits = subst (λ (m : Move). FitsMove m (sent_by before m) c.args.answer) c.in-Inner.is c.requires.fits in
     subst (λ (m : Move). Acts before (doing m (sent_by before m) c.args.answer) after) (sym c.in-Inner.is)
-    (acts_met before after i j k d c.args.answer self.uses_lawfully fits (subst (λ (m : Move). HasMet before i d m c.args.answer after) c.partner-taken.ensures c.meet.ensures.met))
+    (acts_met before after i j k d c.args.answer self.uses_lawfully fits (subst (λ (m : Move). HasMet before i d m c.args.answer after) c.partner-taken.ensures c.meet-self.ensures.met))
 
 pub act_alone-requires-clause-listed : goal.act_alone-requires-clause-listed
 unfolding state inner_channels

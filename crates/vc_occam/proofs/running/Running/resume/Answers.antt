@@ -10,9 +10,9 @@ use Rattle.vc_occam.proofs.Made.{able_on}
 use Rattle.vc_occam.proofs.Sites.{step_keeps}
 use Rattle.vc_occam.proofs.running.Running.resume.Goals as goal
 
-pub go-requires-clause-able : goal.go-requires-clause-able
+pub go-went-requires-clause-able : goal.go-went-requires-clause-able
 unfolding state
-go-requires-clause-able c =
+go-went-requires-clause-able c =
     let self = c.args.self.now in
     let r = (view self.frame).1 in
     let e = store self.vars.items in
@@ -24,15 +24,15 @@ returns-clause-resumed c =
     let self = c.args.self.now in
     let r = (view self.frame).1 in
     let e = store self.vars.items in
-    let q = (view c.go.new.self).1 in
-    let f = store c.go.new.vars.items in
+    let q = (view c.go-went.new.self).1 in
+    let f = store c.go-went.new.vars.items in
     let before : State = record { rest = r; store = e } in
     let after : State = record { rest = q; store = f } in
     resumes before after c.args.site c.args.message self.own_sites self.uses_lawfully
-    (subst (λ (d : Deed). Did r e c.args.site d q f) c.deed_on.ensures c.go.ensures.did)
+    (subst (λ (d : Deed). Did r e c.args.site d q f) c.deed_on.ensures c.go-went.ensures.did)
 
 pub invariant_of-self-clause-own_sites : goal.invariant_of-self-clause-own_sites
-invariant_of-self-clause-own_sites c = (step_keeps c.go.ensures.did.1 c.args.self.now.own_sites).1
+invariant_of-self-clause-own_sites c = (step_keeps c.go-went.ensures.did.1 c.args.self.now.own_sites).1
 
 pub invariant_of-self-clause-uses_lawfully : goal.invariant_of-self-clause-uses_lawfully
-invariant_of-self-clause-uses_lawfully c = step_uses c.go.ensures.did.1 c.args.self.now.uses_lawfully
+invariant_of-self-clause-uses_lawfully c = step_uses c.go-went.ensures.did.1 c.args.self.now.uses_lawfully
