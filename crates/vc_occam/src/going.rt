@@ -547,7 +547,8 @@ impl Frame {
         false
     }
 
-    /// The part that it is at has ended: a SEQ begins the next one, and a WHILE tests again; answers whether nothing remains then.
+    /// The part that it is at has ended: a SEQ begins the next one, and a WHILE tests again; answers whether nothing remains then, and
+    /// what it begins with.
     #[inline(never)]
     fn leave_part(&mut self) -> Went
         requires composed { has_parts (out-Frame self.old).kind ≡ true }
@@ -563,7 +564,8 @@ impl Frame {
         self.went(progress.ended)
     }
 
-    /// A turn of a counted SEQ has ended: the next one begins, if there is one; answers whether nothing remains then.
+    /// A turn of a counted SEQ has ended: the next one begins, if there is one; answers whether nothing remains then, and what it
+    /// begins with.
     #[inline(never)]
     fn leave_turn(&mut self, vars: &mut Vec<Datum>) -> Went
         requires variables { HasVariables (view self.old).0 (length vars.old.items) }

@@ -87,7 +87,8 @@ fn deed_on(message: Option<Items<u8>>) -> Deed
     }
 }
 
-/// An output meets an input or guard inside the node: it begins, its message is taken, and it is finished.
+/// An output meets an input or guard inside the node: it begins, its message is taken, and it is finished; answers what the process
+/// begins with then.
 fn meet(
     frame: &mut Frame,
     vars: &mut Vec<Datum>,
