@@ -11,6 +11,3 @@ mod out_half;
 
 pub use in_half::{Arrival, InHalf, Want};
 pub use out_half::{Advance, OutHalf};
-
-#[cfg(test)]
-mod tests;

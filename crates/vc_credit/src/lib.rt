@@ -14,6 +14,3 @@ mod sender;
 pub use laws::credit_is_kept;
 pub use receiver::Receiver;
 pub use sender::Sender;
-
-#[cfg(test)]
-mod tests;

@@ -10,8 +10,6 @@ mod action;
 mod fault;
 mod row;
 mod table;
-#[cfg(test)]
-mod tests;
 
 pub use action::Action;
 pub use fault::{TableFault, fault_of_rows};

@@ -21,6 +21,3 @@ pub use mark::Mark;
 pub use memory::Memory;
 pub use message::{ack, piece, pieces};
 pub use packet::Packet;
-
-#[cfg(test)]
-mod tests;

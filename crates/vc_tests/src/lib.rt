@@ -18,4 +18,6 @@ mod text;
 #[cfg(test)]
 mod vcp;
 #[cfg(test)]
+mod words;
+#[cfg(test)]
 mod workers;

@@ -20,6 +20,3 @@ pub use encoder::{Encoder, encode};
 pub use laws::{breaks_are_one, cuttings_agree, readings_are_one};
 pub use refused::{Refused, Why};
 pub use token::Token;
-
-#[cfg(test)]
-mod tests;

@@ -1,18 +1,13 @@
 //! The program `vcnet`: it checks and runs a network that is written as JSON on standard input.
 #![tactic(auto)]
 
-mod command;
-#[cfg(test)]
-mod tests;
-mod words;
-
 use std::alloc::{AllocError, Global};
 use std::io;
 use std::io::{Read, Write};
 use std::process::ExitCode;
 use std::sync::Wait;
 use std::thread::Threads;
-use words::{run_words, tell_memory, tell_no_text};
+use vc_words::{run_words, tell_memory, tell_no_text};
 
 /// The words of the command line.
 fn words_of(rt: &HostRuntime, alloc: Global) -> io::Result<Vec<String>> {

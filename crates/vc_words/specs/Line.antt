@@ -1,9 +1,9 @@
 -- What a command line may ask for.
 use Rattle.std.specs.Prelude.{◌≡◌, ◌⊎◌, ◌≤◌, ⊤}
-use Rattle.vcnet.specs.declared.command.Line.{Line}
-use Rattle.vcnet.specs.declared.command.Line.TheVariants.{Check, Step, Run}
-use Rattle.vcnet.specs.declared.command.LineFault.{LineFault}
-use Rattle.vcnet.specs.declared.command.LineFault.TheVariants.{Bad, Memory}
+use Rattle.vc_words.specs.declared.command.Line.{Line}
+use Rattle.vc_words.specs.declared.command.Line.TheVariants.{Check, Step, Run}
+use Rattle.vc_words.specs.declared.command.LineFault.{LineFault}
+use Rattle.vc_words.specs.declared.command.LineFault.TheVariants.{Bad, Memory}
 
 -- the numbers of a line are in their ranges
 abbrev pub IsInRange : Line → Type 0

@@ -1,8 +1,8 @@
 //! A table of three rows.
-use crate::{Action, Row, Table, TableFault};
 use sqlite_items::Items;
 use std::alloc::Global;
 use std::test::Fail;
+use vc_labels::{Action, Row, Table, TableFault};
 
 fn out(lower: u32, limit: u32, first: u8, last: u8) -> Row {
     Row {

@@ -1,9 +1,9 @@
 //! From the words of the command line to the program's status.
 ghost use Rattle.std.specs.Prelude.{◌≡◌, ℕ, List};
 ghost use Rattle.vc_text.specs.declared.fault.RunFault.TheVariants.{Memory as OutOfMemory};
-ghost use Rattle.vcnet.specs.Line.{IsLineFault};
-ghost use Rattle.vcnet.specs.Program.{ChecksNetwork, Runs, RunsNetwork, StepsNetwork, Tells, TellsFault, TellsLine};
-ghost use Rattle.vcnet.specs.Status.{status_of_check as status_for_check, status_of_text as status_for_text, status_of_fault, status_of_end};
+ghost use Rattle.vc_words.specs.Line.{IsLineFault};
+ghost use Rattle.vc_words.specs.Program.{ChecksNetwork, Runs, RunsNetwork, StepsNetwork, Tells, TellsFault, TellsLine};
+ghost use Rattle.vc_words.specs.Status.{status_of_check as status_for_check, status_of_text as status_for_text, status_of_fault, status_of_end};
 
 use crate::command::{Line, LineFault, command};
 use std::alloc::Global;

@@ -1,7 +1,7 @@
 //! The command line.
 ghost use Rattle.std.specs.Prelude.{◌≡◌, ◌≤◌, MatchResult};
-ghost use Rattle.vcnet.specs.Line.{IsInRange, IsLineFault};
-ghost use Rattle.vcnet.specs.declared.command.LineFault.TheVariants.{Memory as OutOfMemory};
+ghost use Rattle.vc_words.specs.Line.{IsInRange, IsLineFault};
+ghost use Rattle.vc_words.specs.declared.command.LineFault.TheVariants.{Memory as OutOfMemory};
 
 use clap::error::ErrorKind;
 use clap::{Arg, ArgMatches, Command, Error, value_parser};

@@ -1,5 +1,5 @@
-use super::*;
 use std::test::Fail;
+use vc_packets::{Kind, Mark, ack, front_header, kind_of, piece, pieces};
 
 #[test]
 fn a_message_has_a_piece_for_each_32_bytes_begun(rt: HostRuntime) {

@@ -9,7 +9,7 @@ use Rattle.vc_threads.specs.declared.report.Report.{Report}
 use Rattle.vc_text.specs.declared.fault.RunFault.{RunFault}
 use Rattle.vc_text.specs.declared.fault.RunFault.TheVariants.{Memory}
 use Rattle.vc_text.specs.declared.run.StepReport.{StepReport}
-use Rattle.vcnet.specs.Status.{status_of_fault, status_of_end}
+use Rattle.vc_words.specs.Status.{status_of_fault, status_of_end}
 
 -- the status that was wanted, or that of a fault in writing
 abbrev pub status_after : ℕ → Result ⊤ RunFault → ℕ

@@ -1,7 +1,7 @@
-use super::*;
 use std::alloc::Global;
 use std::test::Fail;
 use vc_packets::{Mark, Memory, Packet, ack};
+use vc_tokens::{Assembler, Decoder, Encoder, Refused, Token, Why, encode};
 
 /// A stream of two packets: an acknowledge and a one-byte message.
 const STREAM: [Token; 7] = [

@@ -1,5 +1,5 @@
-use super::*;
 use std::test::Fail;
+use vc_credit::{Receiver, Sender};
 use vc_tokens::Token;
 
 #[test]

@@ -1,9 +1,10 @@
-use super::words::run_words;
+//! What the words of the command line ask for: what is written, and the status.
 use std::alloc::{AllocError, Global};
 use std::io::{Read, Write};
 use std::sync::Wait;
 use std::test::Fail;
 use std::thread::Threads;
+use vc_words::run_words;
 
 /// Fails at the read of that number.
 #[derive(Drop)]

@@ -1,6 +1,6 @@
 use Rattle.std.proofs.Common.{inl, subst}
 use Rattle.vc_text.specs.Threading.{RunsInThreads}
-use Rattle.vcnet.proofs.words.run_by.Goals as goal
+use Rattle.vc_words.proofs.words.run_by.Goals as goal
 
 pub returns-in-Ok : goal.returns-in-Ok
 returns-in-Ok g c =

@@ -1,6 +1,6 @@
 use Rattle.std.proofs.Common.{rules, ◌≤◌}
-use Rattle.vcnet.specs.Program.{steps, runs}
-use Rattle.vcnet.proofs.words.run_words.Goals as goal
+use Rattle.vc_words.specs.Program.{steps, runs}
+use Rattle.vc_words.proofs.words.run_words.Goals as goal
 
 -- src/words.rt:110:1
 pub returns-in-Ok-Step : goal.returns-in-Ok-Step

@@ -1,10 +1,10 @@
 ghost use Rattle.std.specs.Prelude.{◌≡◌, ◌≤◌, length, IfOk};
 ghost use Rattle.vc_blocks.specs.Halves.{IsPiece};
 
-use super::*;
 use sqlite_items::Items;
 use std::alloc::Global;
 use std::test::Fail;
+use vc_blocks::{Advance, Arrival, InHalf, OutHalf, Want};
 use vc_packets::{Mark, Memory, Packet};
 
 /// A message of this many bytes, all 7.
