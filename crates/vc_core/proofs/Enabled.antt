@@ -35,24 +35,24 @@ use Rattle.vc_tokens.specs.Tokens as tokens
 use Rattle.vc_vcp.specs.Keyed.{shown_or}
 use Rattle.vc_vcp.specs.Seen.{seen}
 use Rattle.vc_vcp.proofs.Arriving.{comes_always}
-use Rattle.vc_core.specs.Able.{NodeCan, SwitchCan, CanAct}
-use Rattle.vc_core.specs.Acting.{port}
+use Rattle.vc_actor.specs.Able.{NodeCan, SwitchCan, CanAct}
+use Rattle.vc_actor.specs.Acting.{port}
 use Rattle.vc_core.specs.Enabled.{CanHappen}
-use Rattle.vc_core.specs.OfPlan.{IsSwitchOf, IsActorOf}
+use Rattle.vc_actor.specs.OfPlan.{IsSwitchOf, IsActorOf}
 use Rattle.vc_told.specs.Process.{Process, does}
-use Rattle.vc_core.specs.Shown.{Acting, OfNode, OfSwitch, actor_of, node_of, process_of, views_of, act_of}
+use Rattle.vc_actor.specs.Shown.{Acting, OfNode, OfSwitch, actor_of, node_of, process_of, views_of, act_of}
 use Rattle.vc_core.specs.State.{State, shown, IsNetworkOf, HasFront, HasWay, WaysLet}
-use Rattle.vc_core.specs.Turns.{actors}
-use Rattle.vc_core.specs.declared.act.Act.{Act}
-use Rattle.vc_core.specs.declared.act.Act.TheVariants as act
-use Rattle.vc_core.specs.declared.act.Event.{Event}
-use Rattle.vc_core.specs.declared.node.Node.{Node}
+use Rattle.vc_actor.specs.Turns.{actors}
+use Rattle.vc_actor.specs.declared.act.Act.{Act}
+use Rattle.vc_actor.specs.declared.act.Act.TheVariants as act
+use Rattle.vc_core.specs.declared.event.Event.{Event}
+use Rattle.vc_actor.specs.declared.node.Node.{Node}
 use Rattle.vc_core.proofs.GoingOn.{goes_on}
 use Rattle.vc_core.proofs.Happening.{none_past, state_at, way_at, into, out_of}
-use Rattle.vc_core.proofs.Linking as node
-use Rattle.vc_core.proofs.Passing.{awaited}
-use Rattle.vc_core.proofs.Switching.{none_passes, none_leaves}
-use Rattle.vc_core.proofs.Switching as switching
+use Rattle.vc_actor.proofs.Linking as node
+use Rattle.vc_actor.proofs.Passing.{awaited}
+use Rattle.vc_actor.proofs.Switching.{none_passes, none_leaves}
+use Rattle.vc_actor.proofs.Switching as switching
 
 abbrev Enabled : Plan → State → ℕ → Act → Type 0
 Enabled p s k a = IsEnabled (network_of p) Wormhole does (shown s) (record { actor = k; act = act_of a })

@@ -10,7 +10,7 @@ use Rattle.vc_machine.specs.Places.{Place, Queue, OnWire, Inside, Held, at_place
 use Rattle.vc_network.specs.Network.{Actor}
 use Rattle.vc_network.specs.Plan.{Plan, ways, near, far, home}
 use Rattle.vc_network.specs.Views.{vcps, switches, sink_node, queue_at, arrived, on_wire, inside, in_ways, in_halves, everywhere}
-use Rattle.vc_occam.proofs.Lists.{none, at_front, behind, front_or}
+use Rattle.vc_process.proofs.Lists.{none, at_front, behind, front_or}
 use Rattle.vc_core.specs.Placed.{IsAt, packets_at}
 use Rattle.vc_core.specs.Sought.{Has}
 

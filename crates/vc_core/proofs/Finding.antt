@@ -15,10 +15,10 @@ use Rattle.vc_machine.specs.Seen.{read}
 use Rattle.vc_network.specs.Plan.{body_limit, net_of}
 use Rattle.vc_plan.specs.declared.plan.Plan.{Plan}
 use Rattle.vc_accepted.specs.NetworkOf.{network_of}
-use Rattle.vc_occam.proofs.Lists.{at_front, behind}
+use Rattle.vc_process.proofs.Lists.{at_front, behind}
 use Rattle.vc_core.specs.Sought.{Has, IsOwned, HasRead, left}
 use Rattle.vc_core.specs.declared.reader.Reader.{Reader}
-use Rattle.vc_core.proofs.Turning.{clash}
+use Rattle.vc_actor.proofs.Turning.{clash}
 
 pub has_at : {X : Type 0} (B : X → Type 0) (xs : List X) (i : ℕ) (x : X) → slice_get xs i ≡ Some x → B x → Has B xs
 has_at B [] i x e b = absurd (cc)

@@ -20,15 +20,15 @@ use Rattle.vc_tokens.specs.Tokens.{Token}
 use Rattle.vc_tokens.specs.Tokens as tokens
 use Rattle.vc_vcp.specs.Keyed.{shown_or}
 use Rattle.vc_vcp.proofs.Placed.{place-set_same, place-set_other, by_place-set}
-use Rattle.vc_core.specs.Acting.{port, MakesOwn, MakesTake, MakesPut, MakesGrant}
-use Rattle.vc_core.specs.OfPlan.{IsActorOf}
+use Rattle.vc_actor.specs.Acting.{port, MakesOwn, MakesTake, MakesPut, MakesGrant}
+use Rattle.vc_actor.specs.OfPlan.{IsActorOf}
 use Rattle.vc_told.specs.Process.{does}
-use Rattle.vc_core.specs.Shown.{Acting, actor_of, act_of}
+use Rattle.vc_actor.specs.Shown.{Acting, actor_of, act_of}
 use Rattle.vc_core.specs.State.{State, shown, IsNetworkOf, HasFront, HasWay, MakesEvent, Accepts, GrantsBy, with_actor, with_line}
-use Rattle.vc_core.specs.Turns.{actors}
+use Rattle.vc_actor.specs.Turns.{actors}
 use Rattle.vc_core.specs.Wired.{out_at}
-use Rattle.vc_core.specs.declared.act.Act.TheVariants as act
-use Rattle.vc_core.specs.declared.act.Event.{Event}
+use Rattle.vc_actor.specs.declared.act.Act.TheVariants as act
+use Rattle.vc_core.specs.declared.event.Event.{Event}
 
 pub on_err : {X E A B : Type 0} (r : Result X E) → (A → B) → OnErr r A → OnErr r B
 on_err (Ok x) f h = h

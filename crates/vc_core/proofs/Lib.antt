@@ -1,17 +1,4 @@
-pub mod WithinLimits
-pub mod Carrying
-pub mod Beginning
 pub mod Leaving
-pub mod Sending
-pub mod Halved
-pub mod Moving
-pub mod Passing
-pub mod Insides
-pub mod Linking
-pub mod Switching
-pub mod Masks
-pub mod SwitchGiven
-pub mod Parting
 pub mod Happening
 pub mod Replayed
 pub mod Viewing
@@ -25,7 +12,6 @@ pub mod Everywhere
 pub mod Ways
 pub mod Standing
 pub mod GoingOn
-pub mod AbleMoves
 pub mod Enabled
 pub mod Turning
 pub mod Quiet
@@ -34,4 +20,3 @@ pub mod Leading
 pub mod Bits
 pub mod Lined
 pub mod Laying
-pub mod Listing

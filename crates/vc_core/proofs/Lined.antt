@@ -20,7 +20,7 @@ use Rattle.vc_core.specs.Wired.{out_at, in_at, AreWaysAt, IsWired, Comes, Goes}
 use Rattle.vc_core.specs.State.{State, HasFront}
 use Rattle.vc_core.specs.Turns.{FindsFront}
 use Rattle.vc_core.proofs.Enabled.{has}
-use Rattle.vc_core.proofs.Masks.{not_both}
+use Rattle.vc_actor.proofs.Masks.{not_both}
 use Rattle.vc_core.proofs.Replayed.{no_token}
 use Rattle.vc_core.proofs.Leading.{out_within, in_out}
 use Rattle.vc_core.proofs.Turning.{few_at}

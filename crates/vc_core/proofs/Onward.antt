@@ -15,13 +15,13 @@ use Rattle.vc_accepted.proofs.Limited.{kept}
 use Rattle.vc_accepted.proofs.Wired.{outgoing_is}
 use Rattle.vc_switch.specs.State.{State as SwitchState, plan_of}
 use Rattle.vc_switch.specs.Switch as switch
-use Rattle.vc_core.specs.Acting.{port}
-use Rattle.vc_core.specs.Parts.{switch_at}
+use Rattle.vc_actor.specs.Acting.{port}
+use Rattle.vc_actor.specs.Parts.{switch_at}
 use Rattle.vc_core.specs.State.{State, IsNetworkOf}
 use Rattle.vc_core.specs.Wired.{out_at}
 use Rattle.vc_core.proofs.Enabled.{real_out}
 use Rattle.vc_core.proofs.Placing.{switch_plan_is, no_switch_there, no_switch_plan}
-use Rattle.vc_core.proofs.Switching.{port_is}
+use Rattle.vc_actor.proofs.Switching.{port_is}
 
 -- nothing leaves a switch that is not there
 pub no_way : (p : Plan) (s : State) (k : ℕ) (b : List ℕ) → IsNetworkOf p s → switch_at (slice_get s.actors (s.nodes + k)) ≡ None → (out : ℕ) (left : List ℕ) → BodyLeaves (net_of (network_of p)) k b out left → ⊥

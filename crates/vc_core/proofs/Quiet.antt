@@ -12,12 +12,13 @@ use Rattle.vc_switch.specs.Switch.{Switch}
 use Rattle.vc_switch.specs.Waiting.{Wormhole}
 use Rattle.vc_told.specs.Process.{Process, does}
 use Rattle.vc_tokens.specs.Tokens.{Token}
-use Rattle.vc_core.specs.Shown.{act_of}
+use Rattle.vc_actor.specs.Shown.{act_of}
 use Rattle.vc_core.specs.State.{State, shown, MakesEvent}
-use Rattle.vc_core.specs.Turns.{TakesNone, FindsEvent}
-use Rattle.vc_core.specs.declared.act.Act.{Act}
-use Rattle.vc_core.specs.declared.act.Act.TheVariants as act
-use Rattle.vc_core.specs.declared.act.Event.{Event}
+use Rattle.vc_actor.specs.Turns.{TakesNone}
+use Rattle.vc_core.specs.Turns.{FindsEvent}
+use Rattle.vc_actor.specs.declared.act.Act.{Act}
+use Rattle.vc_actor.specs.declared.act.Act.TheVariants as act
+use Rattle.vc_core.specs.declared.event.Event.{Event}
 
 -- what takes a token is a take
 abbrev IsTake : net.Act → Type 0

@@ -21,17 +21,17 @@ use Rattle.vc_tokens.specs.Tokens.{Token}
 use Rattle.vc_vcp.specs.Keyed.{shown_or}
 use Rattle.vc_vcp.specs.Links.{new_vcp}
 use Rattle.vc_machine.specs.Rendezvous.{nothing_yet}
-use Rattle.vc_core.specs.Begin.{AreFirst}
+use Rattle.vc_actor.specs.Begin.{AreFirst}
 use Rattle.vc_told.proofs.Main.{all_told}
 use Rattle.vc_told.specs.Begin.{begin_of}
 use Rattle.vc_core.specs.Channels.{AreChannelsOf}
 use Rattle.vc_told.specs.Process.{Process, does}
 use Rattle.vc_core.specs.Replaying.{IsOpening, Replays, Reached}
-use Rattle.vc_core.specs.Shown.{Acting, actor_of}
+use Rattle.vc_actor.specs.Shown.{Acting, actor_of}
 use Rattle.vc_core.specs.State.{State, shown, event_of, MakesEvent}
-use Rattle.vc_core.specs.Turns.{actors}
+use Rattle.vc_actor.specs.Turns.{actors}
 use Rattle.vc_core.specs.Wired.{out_at}
-use Rattle.vc_core.specs.declared.act.Event.{Event}
+use Rattle.vc_core.specs.declared.event.Event.{Event}
 use Rattle.vc_core.proofs.Happening.{none_past}
 
 not_less : (m n : ℕ) → n ≤ m → nat_lt m n ≡ false

@@ -27,11 +27,11 @@ use Rattle.vc_vcp.specs.Keyed.{named, shown_or}
 use Rattle.vc_core.specs.Channels.{ends_at, block_of}
 use Rattle.vc_core.specs.Placed.{AreOwned, FindsPlace, FindsOn, IsAt, IsUnfinished, packets_at}
 use Rattle.vc_core.specs.Replaying.{Reached, Replays}
-use Rattle.vc_core.specs.Shown.{Acting, OfNode, OfSwitch, actor_of, view_of}
+use Rattle.vc_actor.specs.Shown.{Acting, OfNode, OfSwitch, actor_of, view_of}
 use Rattle.vc_core.specs.State.{State, shown, event_of, IsNetworkOf}
-use Rattle.vc_core.specs.declared.act.Event.{Event}
+use Rattle.vc_core.specs.declared.event.Event.{Event}
 use Rattle.vc_core.specs.declared.channels.Ends.{Ends}
-use Rattle.vc_core.specs.declared.inside.Internal.{Internal}
+use Rattle.vc_actor.specs.declared.inside.Internal.{Internal}
 use Rattle.vc_core.specs.declared.place.Place.{Place}
 use Rattle.vc_core.specs.declared.place.Place.TheVariants as name
 use Rattle.vc_core.proofs.Everywhere.{IsThere, waits, goes, stays, rests, where_it_is, goes_there, rests_there, number_has, number_none, has_in, in_has}

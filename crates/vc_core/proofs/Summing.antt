@@ -3,7 +3,7 @@ use Rattle.std.proofs.Common.{◌≡◌, ℕ, ◌+◌, List, take, min, get_or, 
 use Rattle.std.specs.List.{sum_by}
 use Rattle.std.proofs.lemmas.List.Sums.{sum_by_more}
 use Rattle.std.proofs.lemmas.Option.{slice_get-get_or, slice_get_within}
-use Rattle.vc_core.specs.Parts.{saturated}
+use Rattle.vc_actor.specs.Parts.{saturated}
 use Rattle.vc_core.proofs.Turning.{same_some}
 
 -- one more is counted

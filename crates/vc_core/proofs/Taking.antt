@@ -3,13 +3,13 @@ use Rattle.std.proofs.Common.{◌≡◌, ℕ, Option, Some, None, slice_get, ref
 use Rattle.vc_plan.specs.declared.plan.Plan.{Plan}
 use Rattle.vc_accepted.specs.NetworkOf.{network_of}
 use Rattle.vc_network.specs.Plan as network
-use Rattle.vc_core.specs.Able.{CanAct}
-use Rattle.vc_core.specs.Acting.{HasLink, MayAct}
+use Rattle.vc_actor.specs.Able.{CanAct}
+use Rattle.vc_actor.specs.Acting.{HasLink, MayAct}
 use Rattle.vc_core.specs.Enabled.{CanHappen}
-use Rattle.vc_core.specs.Shown.{Acting, OfNode, OfSwitch}
+use Rattle.vc_actor.specs.Shown.{Acting, OfNode, OfSwitch}
 use Rattle.vc_core.specs.State.{State, IsNetworkOf, MayActAt, MayHappen, WaysLet}
-use Rattle.vc_core.specs.declared.act.Act.TheVariants as act
-use Rattle.vc_core.specs.declared.act.Event.{Event}
+use Rattle.vc_actor.specs.declared.act.Act.TheVariants as act
+use Rattle.vc_core.specs.declared.event.Event.{Event}
 use Rattle.vc_core.proofs.Enabled.{happens, has_act, has_ways, has_actor, can_take}
 
 may_of : (plan : network.Plan) (k : ℕ) (a : Acting) (l w : ℕ) → CanAct plan k a (act.Take l w) → MayAct a (act.Take l w)

@@ -1,49 +1,35 @@
 -- What an actor does next is an event that can happen, and where it does nothing none can.
-use Rattle.std.proofs.Common.{◌≡◌, ◌↔◌, ℕ, ◌+◌, ◌*◌, ◌%◌, ◌^◌, ◌≤◌, ◌<◌, max, bit_or, get_or, nat_lt, Bool, true, false, IsTrue, IfSome, Result, Ok, Err, IfOk, OnErr, inl, inr, List, length, slice_get, Option, Some, None, refl, sym, ap, ◌∙◌, subst, arith, if◌then◌else◌}
+use Rattle.std.proofs.Common.{◌≡◌, ◌↔◌, ℕ, ◌+◌, ◌*◌, ◌%◌, ◌^◌, ◌≤◌, ◌<◌, max, bit_or, nat_lt, Bool, true, false, Result, Ok, Err, OnErr, inl, inr, List, length, slice_get, Option, Some, None, refl, sym, ap, ◌∙◌, subst, arith, if◌then◌else◌}
 use Rattle.std.proofs.lemmas.Bool.{cases_lt}
 use Rattle.std.proofs.lemmas.Bool.Decides.{nat_tests}
 use Rattle.std.proofs.lemmas.Nat.Bits.{bit_at_or, bit_at-pow_same, bit_at-pow_other}
-use Rattle.std.proofs.lemmas.Option.{slice_get-get_or, slice_get_past}
+use Rattle.std.proofs.lemmas.Option.{slice_get_past}
 use Rattle.std.proofs.Math.Pow.{pow-lt}
 use Rattle.std.specs.Int.{bit_at}
 use Rattle.vc_accepted.specs.NetworkOf.{network_of}
 use Rattle.vc_network.specs.Network as net
-use Rattle.vc_network.specs.Plan as network
-use Rattle.vc_network.specs.Plan.{back}
 use Rattle.vc_network.specs.Views.{vcp_of, switch_of}
-use Rattle.vc_occam.specs.declared.moves.Move.{Move}
 use Rattle.vc_occam.specs.Remains.{Done}
 use Rattle.vc_plan.specs.declared.plan.Plan.{Plan}
-use Rattle.vc_switch.specs.State.{State as SwitchState}
-use Rattle.vc_core.specs.Able.{NodeCan, SwitchCan, CanMove}
-use Rattle.vc_core.specs.Acting.{MayAct}
+use Rattle.vc_actor.specs.Acting.{MayAct}
 use Rattle.vc_core.specs.Enabled.{CanHappen}
-use Rattle.vc_core.specs.OfPlan.{IsActorOf}
-use Rattle.vc_core.specs.Parts.{IsDone, strays_of, lost_of}
+use Rattle.vc_actor.specs.OfPlan.{IsActorOf}
+use Rattle.vc_actor.specs.Parts.{IsDone, strays_of, lost_of}
 use Rattle.vc_told.specs.Process.{Process}
 use Rattle.vc_core.specs.Replaying.{Replays}
-use Rattle.vc_core.specs.Shown.{Acting, OfNode, OfSwitch, node_of}
+use Rattle.vc_actor.specs.Shown.{Acting, OfNode, OfSwitch, node_of}
 use Rattle.vc_core.specs.State.{State, shown, IsNetworkOf, HasFront, HasWay, WaysLet}
-use Rattle.vc_core.specs.Turns.{RoomLets, IsTurn, FindsAt, FindsRoute, FindsMove, FindsTurn, kind_of, FindsOf, TakesNone, FindsEvent, FindsEventOf, FindsFront, FindsTake, Rests, IsAtRest, HaveEnded, IsTold, MakesTurn, actors}
+use Rattle.vc_actor.specs.Turns.{RoomLets, IsTurn, FindsTurn, kind_of, FindsOf, TakesNone, actors}
+use Rattle.vc_core.specs.Turns.{FindsEvent, FindsEventOf, FindsFront, FindsTake, Rests, IsAtRest, HaveEnded}
 use Rattle.vc_core.specs.Wired.{out_at, there}
-use Rattle.vc_core.specs.declared.act.Act.{Act}
-use Rattle.vc_core.specs.declared.act.Act.TheVariants as act
-use Rattle.vc_core.specs.declared.act.ActKind.{ActKind}
-use Rattle.vc_core.specs.declared.act.ActKind.TheVariants as kind
-use Rattle.vc_core.specs.declared.act.Event.{Event}
-use Rattle.vc_core.specs.declared.node.Node.{Node}
-use Rattle.vc_core.specs.declared.turn.Turn.{Turn}
-use Rattle.vc_core.specs.declared.turn.Turn.TheVariants as turn
+use Rattle.vc_actor.specs.declared.act.Act.{Act}
+use Rattle.vc_actor.specs.declared.act.Act.TheVariants as act
+use Rattle.vc_actor.specs.declared.act.ActKind.{ActKind}
+use Rattle.vc_actor.specs.declared.act.ActKind.TheVariants as kind
+use Rattle.vc_core.specs.declared.event.Event.{Event}
+use Rattle.vc_actor.specs.declared.node.Node.{Node}
 use Rattle.vc_core.proofs.Happening.{state_at}
 use Rattle.vc_core.proofs.Enabled.{happens, has_act, has_ways, has_actor, has, can_take}
-
--- An actor's own search.
-
-pub none_more : (Can : Act → Type 0) (at : ℕ → Act) (i : ℕ) → ((j : ℕ) → j < i → Can (at j) → ⊥) → (Can (at i) → ⊥) → (j : ℕ) → j < i + 1 → Can (at j) → ⊥
-none_more Can at i before now j less can = elim (cases_lt j i) [
-  | inl sooner ↦ before j sooner can
-  | inr later ↦ (let same : j ≡ i = omega arith in now (subst (λ z. Can (at z)) same can))
-]
 
 -- the table of ways has 32 places an actor
 pub few_at : (out : List (Option ℕ)) (k l w : ℕ) → out_at out k l ≡ Some w → l < 32
@@ -56,130 +42,9 @@ few_at out k l w e = by_test (nat_lt l 32) refl e
 way_few : (s : State) (k l : ℕ) → HasWay s k l → l < 32
 way_few s k l f = few_at s.wiring k l f.way f.out
 
-pub clash : (b : Bool) → b ≡ false → IsTrue b → ⊥
-clash true h t = absurd (cc)
-clash false h t = absurd (cc)
-
 pub sure_err : {X E A : Type 0} (r : Result X E) → A → OnErr r A
 sure_err (Ok x) a = tt
 sure_err (Err e) a = a
-
-pub if_ok : {X E : Type 0} (P Q : X → Type 0) (r : Result X E) → ((x : X) → P x → Q x) → IfOk r P → IfOk r Q
-if_ok P Q (Ok x) f h = f x h
-if_ok P Q (Err e) f h = tt
-
--- What is found of one kind.
-
-module _ (plan : network.Plan) (k : ℕ) (x : Acting) (room : ℕ) where
-  pub puts : (o : Option Act) → FindsAt (λ l. act.Put l) (IsTurn plan k x room) o → FindsOf kind.Put plan k x room o
-  puts (Some a) (l, e, can, least) = subst (IsTurn plan k x room) (sym e) can
-  puts None none = by_act
-    where
-      by_act : (a : Act) → kind_of a ≡ Some kind.Put → IsTurn plan k x room a → ⊥
-      by_act (act.Proc m) e t = absurd (cc)
-      by_act (act.Pass l) e t = absurd (cc)
-      by_act (act.Put l) e t = none l t
-      by_act (act.Fct l) e t = absurd (cc)
-      by_act (act.Route i o) e t = absurd (cc)
-      by_act (act.Take l w) e t = absurd (cc)
-
-  pub grants : (o : Option Act) → FindsAt (λ l. act.Fct l) (IsTurn plan k x room) o → FindsOf kind.Fct plan k x room o
-  grants (Some a) (l, e, can, least) = subst (IsTurn plan k x room) (sym e) can
-  grants None none = by_act
-    where
-      by_act : (a : Act) → kind_of a ≡ Some kind.Fct → IsTurn plan k x room a → ⊥
-      by_act (act.Proc m) e t = absurd (cc)
-      by_act (act.Pass l) e t = absurd (cc)
-      by_act (act.Put l) e t = absurd (cc)
-      by_act (act.Fct l) e t = none l t
-      by_act (act.Route i o) e t = absurd (cc)
-      by_act (act.Take l w) e t = absurd (cc)
-
-  -- of all kinds, where nothing is found of the others
-  pub of_all : (o : Option Act) → FindsOf kind.Pass plan k x room None → FindsOf kind.Route plan k x room None → FindsOf kind.Put plan k x room None → FindsOf kind.Fct plan k x room None →
-      FindsOf kind.Proc plan k x room o → FindsTurn plan k x room o
-  of_all (Some a) f g h i j = j
-  of_all None f g h i j = by_act
-    where
-      by_act : (a : Act) → IsTurn plan k x room a → ⊥
-      by_act (act.Proc m) t = j (act.Proc m) refl t
-      by_act (act.Pass l) t = f (act.Pass l) refl t
-      by_act (act.Put l) t = h (act.Put l) refl t
-      by_act (act.Fct l) t = i (act.Fct l) refl t
-      by_act (act.Route i o) t = g (act.Route i o) refl t
-      by_act (act.Take l w) t = t.lets
-
-module _ (plan : network.Plan) (k : ℕ) (n : Node) (room : ℕ) where
-  pub passes : (o : Option Act) → FindsAt (λ l. act.Pass l) (NodeCan plan k n) o → FindsOf kind.Pass plan k (OfNode n) room o
-  passes (Some a) (l, e, can, least) = subst (IsTurn plan k (OfNode n) room) (sym e) (record { can = can; lets = tt })
-  passes None none = by_act
-    where
-      by_act : (a : Act) → kind_of a ≡ Some kind.Pass → IsTurn plan k (OfNode n) room a → ⊥
-      by_act (act.Proc m) e t = absurd (cc)
-      by_act (act.Pass l) e t = none l t.can
-      by_act (act.Put l) e t = absurd (cc)
-      by_act (act.Fct l) e t = absurd (cc)
-      by_act (act.Route i o) e t = absurd (cc)
-      by_act (act.Take l w) e t = absurd (cc)
-
-  pub moves : (o : Option Act) → FindsMove plan k n o → FindsOf kind.Proc plan k (OfNode n) room o
-  moves (Some a) (m, e, can) = subst (IsTurn plan k (OfNode n) room) (sym e) (record { can = can; lets = tt })
-  moves None none = by_act
-    where
-      by_act : (a : Act) → kind_of a ≡ Some kind.Proc → IsTurn plan k (OfNode n) room a → ⊥
-      by_act (act.Proc m) e t = none m t.can
-      by_act (act.Pass l) e t = absurd (cc)
-      by_act (act.Put l) e t = absurd (cc)
-      by_act (act.Fct l) e t = absurd (cc)
-      by_act (act.Route i o) e t = absurd (cc)
-      by_act (act.Take l w) e t = absurd (cc)
-
-  pub no_route : FindsOf kind.Route plan k (OfNode n) room None
-  no_route = by_act
-    where
-      by_act : (a : Act) → kind_of a ≡ Some kind.Route → IsTurn plan k (OfNode n) room a → ⊥
-      by_act (act.Proc m) e t = absurd (cc)
-      by_act (act.Pass l) e t = absurd (cc)
-      by_act (act.Put l) e t = absurd (cc)
-      by_act (act.Fct l) e t = absurd (cc)
-      by_act (act.Route i o) e t = t.can
-      by_act (act.Take l w) e t = absurd (cc)
-
-module _ (plan : network.Plan) (k : ℕ) (s : SwitchState) (room : ℕ) where
-  pub passes_here : (o : Option Act) → FindsAt (λ l. act.Pass l) (SwitchCan s) o → FindsOf kind.Pass plan k (OfSwitch s) room o
-  passes_here (Some a) (l, e, can, least) = subst (IsTurn plan k (OfSwitch s) room) (sym e) (record { can = can; lets = tt })
-  passes_here None none = by_act
-    where
-      by_act : (a : Act) → kind_of a ≡ Some kind.Pass → IsTurn plan k (OfSwitch s) room a → ⊥
-      by_act (act.Proc m) e t = absurd (cc)
-      by_act (act.Pass l) e t = none l t.can
-      by_act (act.Put l) e t = absurd (cc)
-      by_act (act.Fct l) e t = absurd (cc)
-      by_act (act.Route i o) e t = absurd (cc)
-      by_act (act.Take l w) e t = absurd (cc)
-
-  pub routes_here : (o : Option Act) → FindsRoute s o → FindsOf kind.Route plan k (OfSwitch s) room o
-  routes_here (Some a) (l, p, e, can, first, least) = subst (IsTurn plan k (OfSwitch s) room) (sym e) (record { can = can; lets = tt })
-  routes_here None none = by_act
-    where
-      by_act : (a : Act) → kind_of a ≡ Some kind.Route → IsTurn plan k (OfSwitch s) room a → ⊥
-      by_act (act.Proc m) e t = absurd (cc)
-      by_act (act.Pass l) e t = absurd (cc)
-      by_act (act.Put l) e t = absurd (cc)
-      by_act (act.Fct l) e t = absurd (cc)
-      by_act (act.Route i o) e t = none i o t.can
-      by_act (act.Take l w) e t = absurd (cc)
-
-  pub no_move : FindsOf kind.Proc plan k (OfSwitch s) room None
-  no_move = by_act
-    where
-      by_act : (a : Act) → kind_of a ≡ Some kind.Proc → IsTurn plan k (OfSwitch s) room a → ⊥
-      by_act (act.Proc m) e t = t.can
-      by_act (act.Pass l) e t = absurd (cc)
-      by_act (act.Put l) e t = absurd (cc)
-      by_act (act.Fct l) e t = absurd (cc)
-      by_act (act.Route i o) e t = absurd (cc)
-      by_act (act.Take l w) e t = absurd (cc)
 
 -- The network's search.
 
@@ -346,21 +211,6 @@ none_lost p events s k (OfSwitch x) r here =
     let (i, at, of) = r.is.actors k (OfSwitch x) here in
     ap (λ (z : net.Actor Process). (switch_of z).lost) (sym (state_at s k (OfSwitch x) here)) ∙ ap (λ z. (switch_of ((shown s).state z)).lost) at ∙ r.headline.none_lost i
 
--- A turn.
-
-turn_takes_none : (plan : network.Plan) (k : ℕ) (x : Acting) (room : ℕ) (b : Act) → IsTurn plan k x room b → TakesNone b
-turn_takes_none plan k x room (act.Put l) t = tt
-turn_takes_none plan k x room (act.Fct l) t = tt
-turn_takes_none plan k x room (act.Proc m) t = tt
-turn_takes_none plan k x room (act.Pass l) t = tt
-turn_takes_none plan k x room (act.Take l w) t = t.lets
-turn_takes_none plan k x room (act.Route l o) t = tt
-
-pub turned : (plan : network.Plan) (k : ℕ) (x y : Acting) (room : ℕ) (b : Act) (t : Turn) → IsTurn plan k x room b → IsTold plan k x b t y → MakesTurn plan k x room t y
-turned plan k x y room b turn.Idle is told = absurd (told (turn_takes_none plan k x room b is))
-turned plan k x y room b (turn.Local a) is (same, made) = (subst (IsTurn plan k x room) (sym same) is, made)
-turned plan k x y room b (turn.Put l a item) is (same, put) = (subst (IsTurn plan k x room) (sym same) is, put)
-
 -- Bits of room.
 
 whole : (n : ℕ) → n < 4294967296 → 1 * n % 4294967296 ≡ n
@@ -407,17 +257,6 @@ module _ (Has : ℕ → Type 0) (room new i : ℕ) (small : i < 32) (before : (j
             let zero_bit : bit_at new j ≡ 0 = ap (λ z. bit_at z j) is ∙ rest j later in
             ((λ t. absurd (let q : 0 ≡ 1 = sym zero_bit ∙ t in omega arith)), (λ h. absurd (none (subst Has same h)))))
       ]
-
--- what a list has at a place does not depend on what would stand past it
-pub same_there : {X : Type 0} (xs : List X) (i : ℕ) (d x : X) → i < length xs → get_or xs i x ≡ x → get_or xs i d ≡ x
-same_there xs i d x less e =
-    let q : Some (get_or xs i d) ≡ Some (get_or xs i x) = sym (slice_get-get_or xs i d less) ∙ slice_get-get_or xs i x less in
-    let r : get_or xs i d ≡ get_or xs i x = cc in
-    r ∙ e
-
-pub found_move : (plan : network.Plan) (k : ℕ) (n : Node) (o : Option Act) → IfSome o (λ a. FindsMove plan k n (Some a)) → (o ≡ None → (m : Move) → CanMove plan k n m → ⊥) → FindsMove plan k n o
-found_move plan k n (Some a) some none = some
-found_move plan k n None some none = none refl
 
 pub same_some : {X : Type 0} (o : Option X) (x y : X) → o ≡ Some x → o ≡ Some y → x ≡ y
 same_some o x y e f = let g : Some x ≡ Some y = sym e ∙ f in cc

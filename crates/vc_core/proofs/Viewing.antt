@@ -12,13 +12,13 @@ use Rattle.vc_accepted.specs.NetworkOf.{network_of}
 use Rattle.vc_switch.specs.Switch.{new_switch}
 use Rattle.vc_vcp.specs.Keyed.{named, shown_or}
 use Rattle.vc_vcp.specs.Seen.{seen}
-use Rattle.vc_core.specs.OfPlan.{AreInside}
-use Rattle.vc_core.specs.Shown.{Acting, OfNode, OfSwitch, actor_of, view_of, views_of}
+use Rattle.vc_actor.specs.OfPlan.{AreInside}
+use Rattle.vc_actor.specs.Shown.{Acting, OfNode, OfSwitch, actor_of, view_of, views_of}
 use Rattle.vc_core.specs.State.{State, shown, IsNetworkOf}
-use Rattle.vc_core.specs.Parts.{node_at}
-use Rattle.vc_core.specs.Viewed.{by_inside, node_view, view_at_node}
-use Rattle.vc_core.specs.declared.inside.Internal.{Internal}
-use Rattle.vc_core.specs.declared.node.Node.{Node}
+use Rattle.vc_actor.specs.Parts.{node_at}
+use Rattle.vc_actor.specs.Viewed.{by_inside, node_view, view_at_node}
+use Rattle.vc_actor.specs.declared.inside.Internal.{Internal}
+use Rattle.vc_actor.specs.declared.node.Node.{Node}
 
 -- a channel inside the node
 there : (o : Option Internal) (v : View) → is_some o ≡ true → shown_or nothing_yet view_of o ≡ by_inside o v

@@ -10,7 +10,7 @@ use Rattle.vc_network.specs.Plan.{ways, near, far, net_of}
 use Rattle.vc_network.specs.Views.{vcps, switches, queue_at, arrived, inside, marked}
 use Rattle.vc_plan.specs.declared.plan.Plan.{Plan}
 use Rattle.vc_accepted.specs.NetworkOf.{network_of}
-use Rattle.vc_occam.proofs.Lists.{at_front}
+use Rattle.vc_process.proofs.Lists.{at_front}
 use Rattle.vc_switch.specs.Switch.{Switch}
 use Rattle.vc_core.specs.Placed.{AreOwned, FindsAt, HasIts, packets_at}
 use Rattle.vc_core.specs.Sought.{Has, HasRead, IsOwned, left}

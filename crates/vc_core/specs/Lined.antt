@@ -4,7 +4,7 @@ use Rattle.vc_tokens.specs.Spelt.{token}
 use Rattle.vc_tokens.specs.Tokens.{Token}
 use Rattle.vc_tokens.specs.declared.token.Token.{Token as Made}
 use Rattle.vc_core.specs.Fronts.{bit_of, Marked}
-use Rattle.vc_core.specs.Shown.{Acting}
+use Rattle.vc_actor.specs.Shown.{Acting}
 use Rattle.vc_core.specs.Ways.{PutsAt}
 use Rattle.vc_core.specs.Wired.{out_at, in_at, Comes}
 

@@ -11,7 +11,7 @@ use Rattle.vc_told.specs.OneList.{IsTold}
 use Rattle.vc_core.specs.Enabled.{CanHappen}
 use Rattle.vc_told.specs.Process.{does}
 use Rattle.vc_core.specs.State.{State, shown, event_of, state_of, IsNetworkOf}
-use Rattle.vc_core.specs.declared.act.Event.{Event}
+use Rattle.vc_core.specs.declared.event.Event.{Event}
 use Rattle.vc_core.specs.declared.network.Network.{Network}
 use Rattle.vc_core.specs.declared.refused.ReplayRefused.{ReplayRefused}
 use Rattle.vc_core.specs.declared.refused.StepRefused.{StepRefused}

@@ -3,7 +3,7 @@ use Rattle.std.specs.Prelude.{List, [], ◌∷◌, ◌++◌}
 use Rattle.vc_plan.specs.declared.plan.Plan.{Plan}
 use Rattle.vc_core.specs.Replaying.{IsOpening, Reached, Replays}
 use Rattle.vc_core.specs.State.{State, MakesEvent}
-use Rattle.vc_core.specs.declared.act.Event.{Event}
+use Rattle.vc_core.specs.declared.event.Event.{Event}
 
 pub record EventsLeadOn : Type 0 where
   -- no event leads to the opening state

@@ -14,14 +14,14 @@ use Rattle.vc_switch.specs.Waiting.{Wormhole}
 use Rattle.vc_tokens.specs.Tokens.{Token}
 use Rattle.vc_vcp.specs.Keyed.{shown_or}
 use Rattle.vc_core.specs.Channels.{AreChannelsOf}
-use Rattle.vc_core.specs.Acting.{MayAct, MakesTake, MakesGrant}
-use Rattle.vc_core.specs.OfPlan.{IsActorOf}
+use Rattle.vc_actor.specs.Acting.{MayAct, MakesTake, MakesGrant}
+use Rattle.vc_actor.specs.OfPlan.{IsActorOf}
 use Rattle.vc_told.specs.Process.{Process, does}
-use Rattle.vc_core.specs.Shown.{Acting, actor_of, act_of}
+use Rattle.vc_actor.specs.Shown.{Acting, actor_of, act_of}
 use Rattle.vc_core.specs.Wired.{AreWaysAt, Comes, Goes}
-use Rattle.vc_core.specs.declared.act.Act.{Act}
-use Rattle.vc_core.specs.declared.act.Act.TheVariants.{Proc, Take, Put, Route, Fct, Pass}
-use Rattle.vc_core.specs.declared.act.Event.{Event}
+use Rattle.vc_actor.specs.declared.act.Act.{Act}
+use Rattle.vc_actor.specs.declared.act.Act.TheVariants.{Proc, Take, Put, Route, Fct, Pass}
+use Rattle.vc_core.specs.declared.event.Event.{Event}
 use Rattle.vc_core.specs.declared.channels.ChannelInfo.{ChannelInfo}
 use Rattle.vc_core.specs.declared.network.Network.{Network}
 

@@ -1,83 +1,17 @@
--- What an actor does next, where some of its links have room; and when no event can happen at all.
-use Rattle.std.specs.Prelude.{◌≡◌, ℕ, ◌+◌, ◌<◌, length, Bool, true, false, Option, Some, None}
-use Rattle.std.specs.Int.{bit_at}
+-- What an actor's turn is to the network; and when no event can happen at all.
+use Rattle.std.specs.Prelude.{◌≡◌, ℕ, ◌<◌, length, Bool, true, false, Option, Some, None}
 use Rattle.vc_network.specs.Network as net
-use Rattle.vc_network.specs.Plan.{Plan}
-use Rattle.vc_occam.specs.declared.moves.Move.{Move}
 use Rattle.vc_occam.specs.Remains.{Done}
 use Rattle.vc_plan.specs.declared.plan.Plan.{Plan as Given}
-use Rattle.vc_tokens.specs.Spelt.{token}
-use Rattle.vc_tokens.specs.Tokens as tokens
-use Rattle.vc_tokens.specs.declared.token.Token.{Token}
-use Rattle.vc_switch.specs.State.{State as SwitchState}
-use Rattle.vc_core.specs.Able.{CanMove, SwitchCan, CanAct}
-use Rattle.vc_core.specs.Acting.{MakesOwn, MakesPut, MakesGrant}
 use Rattle.vc_core.specs.Enabled.{CanHappen}
 use Rattle.vc_told.specs.Process.{Process}
-use Rattle.vc_core.specs.Shown.{Acting}
 use Rattle.vc_core.specs.State.{State, shown, HasFront}
-use Rattle.vc_core.specs.declared.act.Act.{Act}
-use Rattle.vc_core.specs.declared.act.Act.TheVariants.{Proc, Take, Put, Route, Fct, Pass}
-use Rattle.vc_core.specs.declared.act.ActKind.{ActKind}
-use Rattle.vc_core.specs.declared.act.ActKind.TheVariants as kind
-use Rattle.vc_core.specs.declared.act.Event.{Event}
-use Rattle.vc_core.specs.declared.node.Node.{Node}
-use Rattle.vc_core.specs.declared.turn.Turn.{Turn}
-use Rattle.vc_core.specs.declared.turn.Turn.TheVariants as turn
-
--- room has a bit for each link by which a token can be put; a turn takes no token
-abbrev pub RoomLets : ℕ → Act → Type 0
-RoomLets room (Put link) = bit_at room link ≡ 1
-RoomLets room (Fct link) = bit_at room link ≡ 1
-RoomLets room (Take link word) = ⊥
-RoomLets room (Proc made) = Unit {0}
-RoomLets room (Pass link) = Unit {0}
-RoomLets room (Route input output) = Unit {0}
-
--- the actor can have the act for its turn
-pub record IsTurn (plan : Plan) (k : ℕ) (x : Acting) (room : ℕ) (a : Act) : Type 0 where
-  pub can : CanAct plan k x a
-  pub lets : RoomLets room a
-
--- what is found among the acts at an actor's links: the one at the least link, or none where none can be made
-abbrev pub FindsAt : (ℕ → Act) → (Act → Type 0) → Option Act → Type 0
-FindsAt at Can None = (link : ℕ) → Can (at link) → ⊥
-FindsAt at Can (Some a) = (link : ℕ) × (a ≡ at link) × Can (at link) × ((l : ℕ) → l < link → Can (at l) → ⊥)
-
--- a packet at an input that can be bound to an output, the least input's and to the least output; or none where none can
-abbrev pub FindsRoute : SwitchState → Option Act → Type 0
-FindsRoute s None = (input output : ℕ) → SwitchCan s (Route input output) → ⊥
-FindsRoute s (Some a) = (input output : ℕ) × (a ≡ Route input output) × SwitchCan s (Route input output)
-    × ((i o : ℕ) → i < input → SwitchCan s (Route i o) → ⊥) × ((o : ℕ) → o < output → SwitchCan s (Route input o) → ⊥)
-
--- a move that can be made, or none where none can
-abbrev pub FindsMove : Plan → ℕ → Node → Option Act → Type 0
-FindsMove plan k n None = (m : Move) → CanMove plan k n m → ⊥
-FindsMove plan k n (Some a) = (m : Move) × (a ≡ Proc m) × CanMove plan k n m
-
--- an act for the actor's turn, or none where it has none
-abbrev pub FindsTurn : Plan → ℕ → Acting → ℕ → Option Act → Type 0
-FindsTurn plan k x room None = (a : Act) → IsTurn plan k x room a → ⊥
-FindsTurn plan k x room (Some a) = IsTurn plan k x room a
-
--- the kind of an act; none of a take
-abbrev pub kind_of : Act → Option ActKind
-kind_of (Pass link) = Some kind.Pass
-kind_of (Route input output) = Some kind.Route
-kind_of (Put link) = Some kind.Put
-kind_of (Fct link) = Some kind.Fct
-kind_of (Proc made) = Some kind.Proc
-kind_of (Take link word) = None
-
--- an act of this kind for the actor's turn, or none where it has none
-abbrev pub FindsOf : ActKind → Plan → ℕ → Acting → ℕ → Option Act → Type 0
-FindsOf kind plan k x room None = (a : Act) → kind_of a ≡ Some kind → IsTurn plan k x room a → ⊥
-FindsOf kind plan k x room (Some a) = IsTurn plan k x room a
-
--- the act takes no token
-abbrev pub TakesNone : Act → Type 0
-TakesNone (Take link word) = ⊥
-TakesNone a = Unit {0}
+use Rattle.vc_actor.specs.Turns.{kind_of}
+use Rattle.vc_actor.specs.declared.act.Act.{Act}
+use Rattle.vc_actor.specs.declared.act.Act.TheVariants.{Take}
+use Rattle.vc_actor.specs.declared.act.ActKind.{ActKind}
+use Rattle.vc_core.specs.declared.event.Event.{Event}
+pub use Rattle.vc_actor.specs.Turns.{RoomLets, IsTurn, FindsTurn, TakesNone, actors, IsPut, MakesTurn}
 
 -- an event of actor k that takes no token, or none where none can happen
 abbrev pub FindsEvent : Given → State → ℕ → Option Event → Type 0
@@ -93,10 +27,6 @@ FindsEventOf kind p s k (Some e) = (e.actor ≡ k) × TakesNone e.act × CanHapp
 abbrev pub FindsFront : State → ℕ → Option ℕ → Type 0
 FindsFront s k None = (link : ℕ) → HasFront s k link → ⊥
 FindsFront s k (Some link) = HasFront s k link × ((l : ℕ) → l < link → HasFront s k l → ⊥)
-
--- how many actors there are
-abbrev pub actors : Given → ℕ
-actors p = length p.nodes + length p.switches
 
 -- a link by which actor k can take a token, or none where it can take none
 abbrev pub FindsTake : Given → State → ℕ → Option ℕ → Type 0
@@ -120,21 +50,3 @@ GoesOn p s false = IsAtRest p s
 -- nothing remains of any node's process
 abbrev pub HaveEnded : Given → State → Type 0
 HaveEnded p s = (k : ℕ) → k < length p.nodes → (n : net.Node Process) × ((shown s).state k ≡ net.IsNode n) × (n.process.state.rest ≡ Done)
-
--- the act puts this token on the link
-abbrev pub IsPut : Plan → ℕ → Acting → ℕ → Act → Token → Acting → Type 0
-IsPut plan k old link (Put l) item new = (link ≡ l) × MakesPut plan k old l (token item) new
-IsPut plan k old link (Fct l) item new = (link ≡ l) × (token item ≡ tokens.Fct) × MakesGrant plan k old l new
-IsPut plan k old link a item new = ⊥
-
--- the act was made, unless it takes a token, and this is told of it
-abbrev pub IsTold : Plan → ℕ → Acting → Act → Turn → Acting → Type 0
-IsTold plan k old a turn.Idle new = TakesNone a → ⊥
-IsTold plan k old a (turn.Local told) new = (told ≡ a) × MakesOwn plan k old told new
-IsTold plan k old a (turn.Put link told item) new = (told ≡ a) × IsPut plan k old link told item new
-
--- a turn of the actor: one act that it can have, or none where it can have none
-abbrev pub MakesTurn : Plan → ℕ → Acting → ℕ → Turn → Acting → Type 0
-MakesTurn plan k old room turn.Idle new = (new ≡ old) × FindsTurn plan k old room None
-MakesTurn plan k old room (turn.Local a) new = IsTurn plan k old room a × MakesOwn plan k old a new
-MakesTurn plan k old room (turn.Put link a item) new = IsTurn plan k old room a × IsPut plan k old link a item new

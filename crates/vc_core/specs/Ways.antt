@@ -2,9 +2,9 @@
 use Rattle.std.specs.Prelude.{◌≡◌, ℕ, List, [], ◌∷◌, ◌++◌}
 use Rattle.vc_network.specs.Plan.{Plan}
 use Rattle.vc_tokens.specs.Tokens.{Token}
-use Rattle.vc_core.specs.Acting.{MakesPut}
-use Rattle.vc_core.specs.OfPlan.{IsActorOf}
-use Rattle.vc_core.specs.Shown.{Acting}
+use Rattle.vc_actor.specs.Acting.{MakesPut}
+use Rattle.vc_actor.specs.OfPlan.{IsActorOf}
+use Rattle.vc_actor.specs.Shown.{Acting}
 
 pub record PutsAt (before : Acting) (link : ℕ) (old : List Token) (after : Acting) (new : List Token) : Type 0 where
   pub token : Token

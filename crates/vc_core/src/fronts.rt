@@ -3,9 +3,9 @@ ghost use Rattle.std.specs.Prelude.{◌≡◌, ◌<◌, ℕ, IfOk, length, get_o
 ghost use Rattle.std.specs.Int.{bit_at};
 ghost use Rattle.vc_core.specs.Fronts.{HasBit, Marked};
 
-use crate::room::without;
 use std::alloc::Global;
 use std::marker::Model;
+use vc_actor::without;
 use vc_packets::Memory;
 
 /// For each actor a bit for each link by which a token comes.

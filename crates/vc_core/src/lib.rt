@@ -7,41 +7,30 @@
 //! has the same by [`events_lead_on`].
 #![tactic(auto)]
 
-mod act;
-mod actor;
-mod building;
 mod channels;
 mod close;
 mod coming;
 mod ends;
+mod event;
 mod filling;
 mod fronts;
-mod inside;
 mod laws;
 mod lines;
 mod network;
-mod node;
-mod node_actor;
 mod place;
 mod reader;
 mod refused;
-mod room;
 mod rooms;
 mod search;
 mod sought;
-mod switch_actor;
-mod switch_building;
-mod turn;
 mod way;
 mod whose;
 mod wiring;
 
-pub use act::{Act, Event};
-pub use actor::Actor;
-pub use building::actors;
 pub use close::Close;
+pub use event::Event;
 pub use laws::events_lead_on;
 pub use network::{Network, replay};
 pub use place::Place;
 pub use refused::{ReplayRefused, StepRefused};
-pub use turn::Turn;
+pub use vc_actor::{Act, Actor, Turn, actors};

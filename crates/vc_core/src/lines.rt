@@ -3,19 +3,19 @@ ghost use Rattle.std.specs.Prelude.{◌≡◌, ◌↔◌, ◌+◌, ◌*◌, ◌<
 ghost use Rattle.std.specs.Int.{bit_at};
 ghost use Rattle.std.specs.List.{AllByRecursion};
 ghost use Rattle.vc_plan.specs.Accepted.{IsAccepted};
-ghost use Rattle.vc_core.specs.Acting.{MayAct};
+ghost use Rattle.vc_actor.specs.Acting.{MayAct};
 ghost use Rattle.vc_core.specs.Lined.{TakesOff, PutsOnWay, Wakes, with_way};
 ghost use Rattle.vc_core.specs.Wired.{out_at, in_at, AreWaysAt, Comes, Goes};
-ghost use Rattle.vc_core.specs.declared.act.Act.TheVariants as act;
+ghost use Rattle.vc_actor.specs.declared.act.Act.TheVariants as act;
 ghost use Rattle.vc_tokens.specs.Tokens.{Token as SpeltToken};
 ghost use Rattle.vc_tokens.specs.Spelt.{token as spelt, tokens as all_spelt};
 
-use crate::actor::Actor;
 use crate::fronts::Fronts;
 use crate::way::Way;
 use crate::wiring::Wiring;
 use std::alloc::Global;
 use std::marker::Model;
+use vc_actor::Actor;
 use vc_packets::Memory;
 use vc_plan::Plan;
 use vc_tokens::Token;

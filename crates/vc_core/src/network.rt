@@ -2,7 +2,7 @@
 ghost use Rattle.std.specs.Prelude.{◌≡◌, ◌≢◌, ◌+◌, ◌*◌, ◌<◌, ◌↔◌, ℕ, true, false, List, length, map, slice_get, Some, None, IsTrue, IsSome, IfOk, IfErr, IfSome, OnOk, OnErr, MatchResult};
 ghost use Rattle.vc_core.specs.Replaying.{IsOpening, Reached, Replays, RefusedAt};
 ghost use Rattle.vc_plan.specs.declared.plan.Plan.{Plan};
-ghost use Rattle.vc_core.specs.Acting.{IsOwn};
+ghost use Rattle.vc_actor.specs.Acting.{IsOwn};
 ghost use Rattle.std.specs.Option.{option_copied};
 ghost use Rattle.vc_plan.specs.Accepted.{port_of as side_of};
 ghost use Rattle.vc_plan.specs.declared.channel.Channel.{Channel};
@@ -13,26 +13,24 @@ ghost use Rattle.vc_core.specs.Placed.{AreOwned, FindsPlace, IsUnfinished};
 ghost use Rattle.vc_core.specs.Channels.{ends_at};
 ghost use Rattle.vc_core.specs.Enabled.{CanHappen};
 ghost use Rattle.std.specs.Int.{bit_at};
-ghost use Rattle.vc_core.specs.Parts.{IsDone, node_at, vcp_in, strays_of, lost_of, saturated};
+ghost use Rattle.vc_actor.specs.Parts.{IsDone, node_at, vcp_in, strays_of, lost_of, saturated};
 ghost use Rattle.std.specs.List.{sum_by};
-ghost use Rattle.vc_core.specs.OfPlan.{IsActorOf};
-ghost use Rattle.vc_core.specs.Shown.{Acting};
-ghost use Rattle.vc_core.specs.Turns.{FindsFront, FindsTake, FindsEvent, FindsEventOf, HaveEnded, actors};
-ghost use Rattle.vc_core.specs.declared.act.Event.{Event as Happening};
+ghost use Rattle.vc_actor.specs.OfPlan.{IsActorOf};
+ghost use Rattle.vc_actor.specs.Shown.{Acting};
+ghost use Rattle.vc_actor.specs.Turns.{actors};
+ghost use Rattle.vc_core.specs.Turns.{FindsFront, FindsTake, FindsEvent, FindsEventOf, HaveEnded};
+ghost use Rattle.vc_core.specs.declared.event.Event.{Event as Happening};
 ghost use Rattle.vc_core.specs.State.{shown, state_of, IsNetworkOf, MayHappen, WaysLet, HasFront, HasWay, MakesEvent, MakesOne, MayActAt, Accepts, GrantsBy};
 ghost use Rattle.vc_tokens.specs.Spelt.{token as spelt, tokens as all_spelt};
 
-use crate::act::{Act, ActKind, Event};
-use crate::actor::Actor;
-use crate::building::actors;
 use crate::channels::{ChannelInfo, Ends, channels_of};
+use crate::event::Event;
 use crate::lines::Lines;
-use crate::node::Node;
 use crate::place::Place;
 use crate::refused::{ReplayRefused, StepRefused};
-use crate::room::{has_room, lowest};
 use sqlite_items::{Items, at};
 use std::alloc::Global;
+use vc_actor::{Act, ActKind, Actor, Node, actors, has_room, lowest};
 use vc_occam::ValueKind;
 use vc_packets::Memory;
 use vc_plan::{Accepted, Port, Wire};
@@ -490,7 +488,7 @@ impl Network {
         ensures { IsTrue result ↔ ((vcps (shown (state_of self.now)) node).carrier.into chan).held ≢ None }
     {
         match self.node(node) {
-            Some(node) => node.vcp.holds(chan),
+            Some(node) => node.holds(chan),
             None => false,
         }
     }
@@ -561,7 +559,7 @@ fn is_done(actor: &Actor) -> bool
     ensures { IsTrue result ↔ IsDone actor.now }
 {
     match actor.node() {
-        Some(node) => node.process.ended(),
+        Some(node) => node.ended(),
         None => true,
     }
 }

@@ -1,8 +1,8 @@
 //! Ways: each is one direction of a wire.
-use crate::actor::Actor;
 use std::alloc::Global;
 use std::collections::VecDeque;
 use std::marker::Model;
+use vc_actor::Actor;
 use vc_packets::Memory;
 use vc_tokens::Token;
 
@@ -26,9 +26,9 @@ impl Way {
     ghost use Rattle.std.specs.Prelude.{◌≡◌, ◌↔◌, [], ◌∷◌, ◌++◌, List, IsTrue, OnOk, OnErr, MatchOption};
     ghost use Rattle.vc_tokens.specs.Tokens.{Token};
     ghost use Rattle.vc_tokens.specs.Spelt.{token, tokens};
-    ghost use Rattle.vc_core.specs.Acting.{MayAct};
+    ghost use Rattle.vc_actor.specs.Acting.{MayAct};
     ghost use Rattle.vc_core.specs.Ways.{PutsAt};
-    ghost use Rattle.vc_core.specs.declared.act.Act.TheVariants as act;
+    ghost use Rattle.vc_actor.specs.declared.act.Act.TheVariants as act;
 
     /// A way with no token on it.
     pub(crate) fn new(alloc: Global) -> Way

@@ -8,7 +8,7 @@ ghost use Rattle.std.specs.List.{Contains};
 ghost use Rattle.std.specs.Option.{option_copied};
 ghost use Rattle.vc_accepted.specs.NetworkOf.{network_of};
 ghost use Rattle.vc_core.specs.Channels.{ends_at};
-ghost use Rattle.vc_core.specs.Parts.{switch_at};
+ghost use Rattle.vc_actor.specs.Parts.{switch_at};
 ghost use Rattle.vc_core.specs.Sought.{ComesTo, Has, IsOwned, IsSoughtAt};
 ghost use Rattle.vc_core.specs.State.{state_of, IsNetworkOf};
 ghost use Rattle.vc_core.specs.Wired.{out_at};

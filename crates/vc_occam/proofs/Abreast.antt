@@ -7,7 +7,7 @@ use Rattle.vc_occam.specs.declared.kind.Kind.{Kind}
 use Rattle.vc_occam.specs.declared.kind.Kind.TheVariants as kind
 use Rattle.vc_occam.specs.declared.phase.Phase.{Phase}
 use Rattle.vc_occam.specs.declared.phase.Phase.TheVariants as phase
-use Rattle.vc_occam.specs.Values.{Store}
+use Rattle.vc_process.specs.Values.{Store}
 use Rattle.vc_occam.specs.Remains.{Rest, Stopped}
 use Rattle.vc_occam.specs.Sites.{InPreorder}
 use Rattle.vc_occam.specs.Frames.{Able, ChangedAt, Did, HasVariables, PartHasVariables, PartInPreorder, View, assigned_at, besides, is_par, part_assigned, part_rest, place_with, plan_at, plans, rest_at, together, views}

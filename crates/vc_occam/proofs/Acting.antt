@@ -5,16 +5,16 @@ use Rattle.std.proofs.lemmas.List.Elements.{Contains-append_cases}
 use Rattle.std.specs.Prelude.{◌==◌, if◌then◌else◌, MatchOption}
 use Rattle.std.specs.List.{Contains}
 use Rattle.vc_occam.specs.declared.answer.Answer.{Answer}
-use Rattle.vc_occam.specs.declared.datum.Datum.{Datum}
+use Rattle.vc_process.specs.declared.datum.Datum.{Datum}
 use Rattle.vc_occam.specs.declared.deed.Deed.{Deed}
 use Rattle.vc_occam.specs.declared.deed.Deed.TheVariants as deed
 use Rattle.vc_occam.specs.declared.moves.Move.{Move}
 use Rattle.vc_occam.specs.declared.moves.Move.TheVariants.{Offer, Want, Choose, Stopch, Inner, Quiet}
-use Rattle.vc_occam.specs.Syntax.{Proc, STOP}
-use Rattle.vc_occam.specs.Messages.{message}
+use Rattle.vc_process.specs.Syntax.{Proc, STOP}
+use Rattle.vc_process.specs.Messages.{message}
 use Rattle.vc_occam.specs.Traces.{Comm, Out, Fin, In, Stp}
-use Rattle.vc_occam.specs.Values.{Store}
-use Rattle.vc_occam.specs.Usage.{just, nothing}
+use Rattle.vc_process.specs.Values.{Store}
+use Rattle.vc_process.specs.Usage.{just, nothing}
 use Rattle.vc_occam.specs.First.{own}
 use Rattle.vc_occam.specs.InUse.{UsesLawfully}
 use Rattle.vc_occam.specs.Remains.{Rest, Done, Stopped, Fresh, Finishing, Getting, Then, Turns, Beside, Step, does_skip, does_empty_seq, does_empty_par, does_assign, faults_assign, faults_out, does_if, does_turn, does_leave, faults_while, does_count, does_count_none, faults_count, does_offer, does_finish, does_input, waits_input, gets, does_stop, does_choose, waits_choose, in_then, in_turns, in_left, in_right}
@@ -26,7 +26,7 @@ use Rattle.vc_occam.specs.Sites.{sites, sites_all, sites_rest, OwnSites}
 use Rattle.vc_occam.specs.States.{State, Acts, Wants, Chooses, IsTraced, Resumes, StepsTo, bytes_or_none, came, carried, doing, or_else, output_at, sent_by, Waiting, output, input, waiting}
 use Rattle.vc_occam.proofs.Keeping.{lawful}
 use Rattle.vc_occam.proofs.Law.{law}
-use Rattle.vc_occam.proofs.Lists.{at_front, behind, front_or, only, none, is_inserted}
+use Rattle.vc_process.proofs.Lists.{at_front, behind, front_or, only, none, is_inserted}
 use Rattle.vc_occam.proofs.Made.{no_meeting, not_there}
 use Rattle.vc_occam.proofs.Places.{doers, itself, step_site}
 use Rattle.vc_occam.proofs.Sites.{Within, clash, either, not_true, within_none}

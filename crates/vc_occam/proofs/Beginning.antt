@@ -2,7 +2,7 @@
 use Rattle.std.proofs.Common.{◌≡◌, ℕ, zero, suc, ◌+◌, ◌≤◌, ◌<◌, Bool, true, false, refl, ap, sym, ◌∙◌, subst, List, [], ◌∷◌, map, length, get_or, set, drop, arith, Option, Some, None}
 use Rattle.std.proofs.lemmas.Bool.Decides.{nat_tests}
 use Rattle.std.specs.Prelude.{slice_get, nat_lt}
-use Rattle.vc_occam.specs.declared.condition.Cond.{Cond}
+use Rattle.vc_process.specs.declared.condition.Cond.{Cond}
 use Rattle.vc_occam.specs.declared.deed.Deed.{Deed}
 use Rattle.vc_occam.specs.declared.frame.Frame.{Frame}
 use Rattle.vc_occam.specs.declared.going.Next.{Next}
@@ -10,9 +10,9 @@ use Rattle.vc_occam.specs.declared.kind.Kind.{Kind}
 use Rattle.vc_occam.specs.declared.kind.Kind.TheVariants as kind
 use Rattle.vc_occam.specs.declared.phase.Phase.{Phase}
 use Rattle.vc_occam.specs.declared.phase.Phase.TheVariants as phase
-use Rattle.vc_occam.specs.Syntax.{Test, SEQ, PAR, IF, no_parts}
-use Rattle.vc_occam.specs.Terms.{as_test}
-use Rattle.vc_occam.specs.Values.{Store, holds}
+use Rattle.vc_process.specs.Syntax.{Test, SEQ, PAR, IF, no_parts}
+use Rattle.vc_process.specs.Terms.{as_test}
+use Rattle.vc_process.specs.Values.{Store, holds}
 use Rattle.vc_occam.specs.Remains.{Rest, Done, Stopped, Fresh, begin, branch_on, chosen, does_empty_seq, does_empty_par, does_if, does_turn, does_leave, faults_while}
 use Rattle.vc_occam.specs.Frames.{Able, Did, View, begun_at, branches_of, chosen_from, follow, has_parts, is_choice, plan_at, plans, plans_of, place_on, rest_at, view, views}
 use Rattle.vc_occam.specs.Nexts.{branch_next, turn_begun, turn_next}

@@ -5,15 +5,15 @@ use Rattle.vc_occam.specs.declared.deed.Deed.{Deed}
 use Rattle.vc_occam.specs.declared.frame.Frame.{Frame}
 use Rattle.vc_occam.specs.declared.moves.Move.{Move}
 use Rattle.vc_occam.specs.declared.waits.Waits.{Waits}
-use Rattle.vc_occam.specs.Syntax.{Proc, SKIP, STOP, Assign, Output, Input, StopChan, SEQ, PAR, IF, WHILE, COUNT, ALT, Procs, no_parts, part}
-use Rattle.vc_occam.specs.Values.{Store}
-use Rattle.vc_occam.specs.Usage.{Set, changes}
+use Rattle.vc_process.specs.Syntax.{Proc, SKIP, STOP, Assign, Output, Input, StopChan, SEQ, PAR, IF, WHILE, COUNT, ALT, Procs, no_parts, part}
+use Rattle.vc_process.specs.Values.{Store}
+use Rattle.vc_process.specs.Usage.{Set, changes}
 use Rattle.vc_occam.specs.Remains.{Rest, Done, Beside, and_then, begin, begin_seq, begin_par, begin_all, beside_on, in_left, in_right}
 use Rattle.vc_occam.specs.First.{own}
 use Rattle.vc_occam.specs.States.{Waiting, or_else, output_at, waiting}
 use Rattle.vc_occam.specs.Frames.{Able, Did, View, all_begun, assigned_at, begun_at, begun_to, besides, first_waits, is_done, part_rest, plans, plans_of, view, views, waits_there}
-use Rattle.vc_occam.proofs.Lists.{none}
-use Rattle.vc_occam.proofs.Reaching.{drop_at, drop_all}
+use Rattle.vc_process.proofs.Lists.{none}
+use Rattle.vc_process.proofs.Reaching.{drop_at, drop_all}
 
 -- it goes on unless both have ended
 pub beside_is : (mine : Set) (r q : Rest) → (beside_on mine r q ≡ Beside mine r q) ⊎ ((r ≡ Done) × (q ≡ Done))

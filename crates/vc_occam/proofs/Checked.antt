@@ -1,15 +1,15 @@
 -- What is asked of a process says that its values are of their kinds.
 use Rattle.std.proofs.Common.{◌≡◌, ℕ, zero, suc, ◌<◌, Bool, true, false, ◌&&◌, refl, ap, ◌∙◌, List, [], ◌∷◌, ◌++◌, length, map, slice_get, Option, Some, None, nat_lt, arith}
 use Rattle.std.proofs.lemmas.Bool.Decides.{nat_tests}
-use Rattle.vc_occam.specs.declared.channel_use.ChannelUse.{ChannelUse}
-use Rattle.vc_occam.specs.declared.value_kind.ValueKind.{ValueKind}
-use Rattle.vc_occam.specs.declared.value_kind.ValueKind.TheVariants as kind
-use Rattle.vc_occam.specs.ChannelUses.{guard_uses, channel_uses, uses_of_all, uses_of_branches, uses_of_bodies}
-use Rattle.vc_occam.specs.Limits.{same_kind, is_kind, holds_kind, exp_fits, given_fits, given_kind}
+use Rattle.vc_process.specs.declared.channel_use.ChannelUse.{ChannelUse}
+use Rattle.vc_process.specs.declared.value_kind.ValueKind.{ValueKind}
+use Rattle.vc_process.specs.declared.value_kind.ValueKind.TheVariants as kind
+use Rattle.vc_process.specs.ChannelUses.{guard_uses, channel_uses, uses_of_all, uses_of_branches, uses_of_bodies}
+use Rattle.vc_process.specs.Limits.{same_kind, is_kind, holds_kind, exp_fits, given_fits, given_kind}
 use Rattle.vc_occam.specs.Opening.{empty_of}
-use Rattle.vc_occam.specs.ProcessLimits.{test_fits, names_fit, parts_names_fit, branches_names_fit, guards_names_fit}
-use Rattle.vc_occam.specs.Syntax.{Proc, SKIP, STOP, Assign, Output, Input, StopChan, SEQ, PAR, IF, WHILE, COUNT, ALT, Procs, no_parts, part, Branches, no_branches, branch, Guards, no_guards, guard}
-use Rattle.vc_occam.specs.Terms.{store}
+use Rattle.vc_process.specs.ProcessLimits.{test_fits, names_fit, parts_names_fit, branches_names_fit, guards_names_fit}
+use Rattle.vc_process.specs.Syntax.{Proc, SKIP, STOP, Assign, Output, Input, StopChan, SEQ, PAR, IF, WHILE, COUNT, ALT, Procs, no_parts, part, Branches, no_branches, branch, Guards, no_guards, guard}
+use Rattle.vc_process.specs.Terms.{store}
 use Rattle.vc_occam.proofs.Kinded.{kind_of, HasKind, StoreHasKinds, Kinded, AllKinded, BranchesKinded, GuardsKinded}
 
 both : (a b : Bool) → (a && b) ≡ true → (a ≡ true) × (b ≡ true)

@@ -1,20 +1,20 @@
 -- Where parts side by side have sites of their own and use is lawful, what a process does leads to one state.
 use Rattle.std.proofs.Common.{◌≡◌, ℕ, suc, ℤ, pos, ◌+ℤ◌, true, false, refl, sym, ap, subst, ◌∙◌, List, [], ◌∷◌, Option, Some, None, eq-eqb}
 use Rattle.std.proofs.lemmas.Option.{same_Some}
-use Rattle.vc_occam.specs.declared.datum.Datum.{Datum}
-use Rattle.vc_occam.specs.declared.datum.Datum.TheVariants as datum
+use Rattle.vc_process.specs.declared.datum.Datum.{Datum}
+use Rattle.vc_process.specs.declared.datum.Datum.TheVariants as datum
 use Rattle.vc_occam.specs.declared.deed.Deed.{Deed}
 use Rattle.vc_occam.specs.declared.deed.Deed.TheVariants.{Quiet, Offer, Finish, Want, Choose, Message, StopChannel}
 use Rattle.vc_occam.specs.InUse.{UsesLawfully, outputs_rest, inputs_rest}
-use Rattle.vc_occam.specs.Lawful.{outputs_all, inputs_all, outputs, inputs}
-use Rattle.vc_occam.specs.Messages.{message, received}
+use Rattle.vc_process.specs.Lawful.{outputs_all, inputs_all, outputs, inputs}
+use Rattle.vc_process.specs.Messages.{message, received}
 use Rattle.vc_occam.specs.Remains.{Rest, Done, Finishing, Getting, Then, Turns, begin, then_on, turns_on, index_on, beside_on, GuardAt, first, later, Step, does_skip, does_empty_seq, does_empty_par, does_assign, faults_assign, faults_out, does_if, does_turn, does_leave, faults_while, does_count, does_count_none, faults_count, does_offer, does_finish, does_input, waits_input, gets, does_stop, does_choose, waits_choose, in_then, in_turns, in_left, in_right}
 use Rattle.vc_occam.specs.Sites.{sites, sites_all, sites_guards, sites_branches, sites_rest, OwnSites}
 use Rattle.vc_occam.specs.States.{State, StepsTo, Doing, Offers, Wants, Chooses, Stops, Meets, Rests, Finishes, Receives, Does, meeting}
-use Rattle.vc_occam.specs.Syntax.{Test, Proc, Guards, no_parts, part}
+use Rattle.vc_process.specs.Syntax.{Test, Proc, Guards, no_parts, part}
 use Rattle.vc_occam.specs.Traces.{Comm, Out, Fin, In, set, Counts}
-use Rattle.vc_occam.specs.Usage.{just}
-use Rattle.vc_occam.specs.Values.{Store}
+use Rattle.vc_process.specs.Usage.{just}
+use Rattle.vc_process.specs.Values.{Store}
 use Rattle.vc_occam.proofs.Sites.{clash, step_keeps}
 use Rattle.vc_occam.proofs.Stores.{or_left, or_right}
 

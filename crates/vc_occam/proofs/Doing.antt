@@ -2,17 +2,17 @@
 use Rattle.std.proofs.Common.{◌≡◌, ℕ, true, refl, sym, subst, List, [], arith, Option, Some, None, ◌<◌}
 use Rattle.std.specs.Prelude.{◌==◌, if◌then◌else◌}
 use Rattle.std.proofs.lemmas.Bool.Decides.{nat_tests}
-use Rattle.vc_occam.specs.declared.datum.Datum.{Datum}
+use Rattle.vc_process.specs.declared.datum.Datum.{Datum}
 use Rattle.vc_occam.specs.declared.deed.Deed.{Deed}
 use Rattle.vc_occam.specs.declared.deed.Deed.TheVariants as deed
 use Rattle.vc_occam.specs.declared.kind.Kind.{Kind}
 use Rattle.vc_occam.specs.declared.kind.Kind.TheVariants as kind
 use Rattle.vc_occam.specs.declared.phase.Phase.{Phase}
-use Rattle.vc_occam.specs.declared.value.Value.{Value}
-use Rattle.vc_occam.specs.Syntax.{Given, Assign}
+use Rattle.vc_process.specs.declared.value.Value.{Value}
+use Rattle.vc_process.specs.Syntax.{Given, Assign}
 use Rattle.vc_occam.specs.Traces.{set}
-use Rattle.vc_occam.specs.Usage.{just}
-use Rattle.vc_occam.specs.Values.{Store, datum_of}
+use Rattle.vc_process.specs.Usage.{just}
+use Rattle.vc_process.specs.Values.{Store, datum_of}
 use Rattle.vc_occam.specs.Remains.{Rest, Done, Stopped, Fresh, does_assign, faults_assign}
 use Rattle.vc_occam.specs.Frames.{Able, Did, HasVariables, View, plan_at, rest_at}
 

@@ -3,8 +3,8 @@ use Rattle.std.proofs.Common.{◌≡◌, ℕ, zero, suc, ◌<◌, Bool, true, fa
 use Rattle.std.specs.Prelude.{slice_get}
 use Rattle.vc_occam.specs.declared.deed.Deed.{Deed}
 use Rattle.vc_occam.specs.Frames.{Able, View, besides, is_done, part_done, part_rest, plans}
-use Rattle.vc_occam.specs.Usage.{changes}
-use Rattle.vc_occam.specs.Values.{Store}
+use Rattle.vc_process.specs.Usage.{changes}
+use Rattle.vc_process.specs.Values.{Store}
 use Rattle.vc_occam.proofs.Besides.{beside_done}
 
 and_no : (b : Bool) → (b && false) ≡ false

@@ -2,19 +2,16 @@
 use Rattle.std.proofs.Common.{◌≡◌, ℕ, suc, ◌<◌, Bool, true, false, ◌&&◌, ◌||◌, List, [], ◌∷◌, length, map, refl, ap, ◌∙◌, arith, inl, inr}
 use Rattle.std.proofs.lemmas.Bool.Decides.{nat_tests}
 use Rattle.std.specs.Prelude.{nat_lt}
-use Rattle.vc_occam.specs.declared.process.Process.{Process}
-use Rattle.vc_occam.specs.declared.value_kind.ValueKind.{ValueKind}
-use Rattle.vc_occam.specs.declared.value_kind.ValueKind.TheVariants as of
-use Rattle.vc_occam.specs.declared.datum.Datum.{Datum}
-use Rattle.vc_occam.specs.InOrder.{number}
+use Rattle.vc_process.specs.declared.value_kind.ValueKind.{ValueKind}
+use Rattle.vc_process.specs.declared.value_kind.ValueKind.TheVariants as of
+use Rattle.vc_process.specs.declared.datum.Datum.{Datum}
 use Rattle.vc_occam.specs.Opening.{empty_of}
-use Rattle.vc_occam.specs.Limits.{exp_fits, given_fits, given_kind, holds_kind}
-use Rattle.vc_occam.specs.Numbering.{written}
-use Rattle.vc_occam.specs.ProcessLimits.{names_fit, parts_names_fit, branches_names_fit, guards_names_fit, test_fits}
-use Rattle.vc_occam.specs.Syntax.{Proc, SKIP, STOP, Assign, Output, Input, StopChan, SEQ, PAR, IF, WHILE, COUNT, ALT, Procs, no_parts, part, Branches, no_branches, branch, Guards, no_guards, guard}
-use Rattle.vc_occam.specs.Usage.{just, changes, changes_all, changes_branches, changes_guards}
+use Rattle.vc_process.specs.Limits.{exp_fits, given_fits, given_kind, holds_kind}
+use Rattle.vc_process.specs.ProcessLimits.{names_fit, parts_names_fit, branches_names_fit, guards_names_fit, test_fits}
+use Rattle.vc_process.specs.Syntax.{Proc, SKIP, STOP, Assign, Output, Input, StopChan, SEQ, PAR, IF, WHILE, COUNT, ALT, Procs, no_parts, part, Branches, no_branches, branch, Guards, no_guards, guard}
+use Rattle.vc_process.specs.Usage.{just, changes, changes_all, changes_branches, changes_guards}
 use Rattle.vc_occam.specs.Frames.{HasVariables}
-use Rattle.vc_occam.proofs.Held.{held_there}
+use Rattle.vc_process.proofs.Held.{held_there}
 use Rattle.vc_occam.proofs.Sites.{either}
 use Rattle.vc_occam.proofs.Doing.{just_is}
 
@@ -73,10 +70,6 @@ mutual
         | inl e ↦ elim (either (just w v) (changes p v) e) [ inl f ↦ at v w (length kinds) (below w (length kinds) z.1) f | inr f ↦ fits_variables p kinds n y.1 v f ]
         | inr e ↦ guards_variables gs kinds n x.1 v e
       ]
-
-pub written_is : (p : Process) → written p ≡ (number p).tree 0
-unfolding written number
-written_is p = refl
 
 map_length : (kinds : List ValueKind) → length (map empty_of kinds) ≡ length kinds
 map_length [] = refl

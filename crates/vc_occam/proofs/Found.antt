@@ -10,9 +10,9 @@ use Rattle.vc_occam.specs.declared.frame.Frame.TheViews.{out-Frame}
 use Rattle.vc_occam.specs.declared.moves.Move.{Move}
 use Rattle.vc_occam.specs.declared.phase.Phase.{Phase}
 use Rattle.vc_occam.specs.declared.phase.Phase.TheVariants as phase
-use Rattle.vc_occam.specs.Syntax.{Proc}
-use Rattle.vc_occam.specs.Values.{Store}
-use Rattle.vc_occam.specs.Usage.{changes}
+use Rattle.vc_process.specs.Syntax.{Proc}
+use Rattle.vc_process.specs.Values.{Store}
+use Rattle.vc_process.specs.Usage.{changes}
 use Rattle.vc_occam.specs.Remains.{Rest, Done, Fresh}
 use Rattle.vc_occam.specs.First.{own}
 use Rattle.vc_occam.specs.Moving.{deed_for, site_of}
@@ -22,7 +22,7 @@ use Rattle.vc_occam.specs.Frames.{BeginsAt, GoesOnIn, HasSiteIn, MovesAt, PartIn
 use Rattle.vc_occam.proofs.Besides.{beside_own, beside_waits}
 use Rattle.vc_occam.proofs.Frames.{follow_assigned, follow_output, follow_own, follow_waits, length-views, rest_going, rest_ready, rest_together, turning_assigned, turning_output, turning_own, turning_waits, view_out}
 use Rattle.vc_occam.proofs.Inside.{frames_inside}
-use Rattle.vc_occam.proofs.Lists.{none}
+use Rattle.vc_process.proofs.Lists.{none}
 use Rattle.vc_occam.proofs.Made.{able}
 use Rattle.vc_occam.proofs.Places.{AllWithin, able_site, besides_sites, doers, found_assigned, found_output, not_before, not_behind}
 use Rattle.vc_occam.proofs.Sites.{clash}

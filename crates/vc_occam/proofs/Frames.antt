@@ -2,7 +2,7 @@
 use Rattle.std.proofs.Common.{◌≡◌, ℕ, ℤ, zero, suc, Bool, true, false, ◌&&◌, refl, ap, sym, ◌∙◌, subst, List, [], ◌∷◌, length, map, arith, Option, Some, None, Vec, Global, drop, Result, Ok, Err}
 use Rattle.std.proofs.lemmas.Bool.Decides.{nat_tests}
 use Rattle.std.specs.Prelude.{slice_get, vec_len, nat_le, IfOk, ◌==◌, if◌then◌else◌}
-use Rattle.vc_occam.specs.Syntax.{Exp, Test, Proc, Output, Input, SEQ, PAR, Procs, no_parts, part}
+use Rattle.vc_process.specs.Syntax.{Exp, Test, Proc, Output, Input, SEQ, PAR, Procs, no_parts, part}
 use Rattle.vc_occam.specs.Remains.{Rest, Done, Stopped, Fresh, Finishing, Getting, Then, Turns, Beside, and_then, then_on, begin}
 use Rattle.vc_occam.specs.declared.kind.Kind.{Kind}
 use Rattle.vc_occam.specs.declared.kind.Kind.TheVariants as kind
@@ -12,8 +12,8 @@ use Rattle.vc_occam.specs.declared.frame.Frame.{Frame}
 use Rattle.vc_occam.specs.declared.frame.Frame.TheOpen.{Frame-F}
 use Rattle.vc_occam.specs.declared.frame.Frame.TheViews.{out-Frame, roll-Frame}
 use Rattle.vc_occam.specs.declared.frame.Frame.TheFolds.{fold-roll-Frame, fold_out-Frame}
-use Rattle.vc_occam.specs.declared.value.Value.{Value}
-use Rattle.vc_occam.specs.Values.{Store}
+use Rattle.vc_process.specs.declared.value.Value.{Value}
+use Rattle.vc_process.specs.Values.{Store}
 use Rattle.vc_occam.specs.First.{own}
 use Rattle.vc_occam.specs.declared.moves.Move.TheVariants.{Quiet}
 use Rattle.vc_occam.specs.States.{waiting, output_at}

@@ -14,15 +14,15 @@ use Rattle.vc_occam.specs.declared.moves.Move.{Move}
 use Rattle.vc_occam.specs.First.{all_decided, choices, own}
 use Rattle.vc_occam.specs.Frames.{Able, Did, HasVariables, View, awaiting, begun_at, chosen_at, follow, guards_of, part_plan, plan_at, plans, rest_at}
 use Rattle.vc_occam.specs.Gates.{Gate, are_decided, choices_at, gate, open_from, open_one}
-use Rattle.vc_occam.specs.Messages.{received}
+use Rattle.vc_process.specs.Messages.{received}
 use Rattle.vc_occam.specs.Nexts.{GateHasVariable, gate_begun, gate_next, gate_store}
 use Rattle.vc_occam.specs.Remains.{Rest, Fresh, Getting, GuardAt, Then, begin, does_choose, first, gets, in_then, later, waits_choose}
-use Rattle.vc_occam.specs.Syntax.{ALT, Guards, Proc, Test, no_parts, part}
+use Rattle.vc_process.specs.Syntax.{ALT, Guards, Proc, Test, no_parts, part}
 use Rattle.vc_occam.specs.Traces.{Decided, In, set}
-use Rattle.vc_occam.specs.Usage.{changes, changes_guards, just}
-use Rattle.vc_occam.specs.Values.{Store, holds}
+use Rattle.vc_process.specs.Usage.{changes, changes_guards, just}
+use Rattle.vc_process.specs.Values.{Store, holds}
 use Rattle.vc_occam.proofs.Beginning.{begun_plans}
-use Rattle.vc_occam.proofs.Reaching.{drop_at}
+use Rattle.vc_process.proofs.Reaching.{drop_at}
 use Rattle.vc_occam.proofs.Stepping.{never}
 use Rattle.vc_occam.proofs.Stores.{or_left, or_right}
 

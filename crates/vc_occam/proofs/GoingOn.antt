@@ -2,14 +2,14 @@
 use Rattle.std.proofs.Common.{◌≡◌, ℕ, List, [], ◌∷◌, refl, subst, inl, inr}
 use Rattle.std.specs.List.{Contains}
 use Rattle.std.proofs.lemmas.List.Elements.{Contains-append_cases}
-use Rattle.vc_occam.specs.declared.datum.Datum.{Datum}
+use Rattle.vc_process.specs.declared.datum.Datum.{Datum}
 use Rattle.vc_occam.specs.declared.deed.Deed.TheVariants as deed
-use Rattle.vc_occam.specs.Messages.{received}
+use Rattle.vc_process.specs.Messages.{received}
 use Rattle.vc_occam.specs.Remains.{Rest, Done, Stopped, Fresh, Finishing, Getting, Then, Turns, Beside, then_on, turns_on, index_on, beside_on, Step, does_finish, gets, in_then, in_turns, in_left, in_right}
 use Rattle.vc_occam.specs.States.{State, Finishes, Receives, Does, output, input, waiting}
 use Rattle.vc_occam.specs.Traces.{Comm, Fin, In, set}
-use Rattle.vc_occam.specs.Values.{Store}
-use Rattle.vc_occam.proofs.Lists.{none, only}
+use Rattle.vc_process.specs.Values.{Store}
+use Rattle.vc_process.proofs.Lists.{none, only}
 
 -- the site's output on the channel can be finished
 abbrev CanFinish : Rest → Store → ℕ → ℕ → Type 0

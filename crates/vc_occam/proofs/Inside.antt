@@ -9,10 +9,10 @@ use Rattle.vc_occam.specs.declared.kind.Kind.TheVariants as kind
 use Rattle.vc_occam.specs.declared.phase.Phase.{Phase}
 use Rattle.vc_occam.specs.declared.phase.Phase.TheVariants as phase
 use Rattle.vc_occam.specs.Gates.{Gate, gate}
-use Rattle.vc_occam.specs.Syntax.{Exp, Test, Proc, STOP, Output, Input, Procs, no_parts, part}
+use Rattle.vc_process.specs.Syntax.{Exp, Test, Proc, STOP, Output, Input, Procs, no_parts, part}
 use Rattle.vc_occam.specs.Remains.{Rest, Stopped, Fresh, and_then}
-use Rattle.vc_occam.specs.Terms.{exp, as_test}
-use Rattle.vc_occam.specs.Usage.{Set, just, nothing, ◌∪◌}
+use Rattle.vc_process.specs.Terms.{exp, as_test}
+use Rattle.vc_process.specs.Usage.{Set, just, nothing, ◌∪◌}
 use Rattle.vc_occam.specs.Sites.{sites, sites_all, sites_branches, sites_guards}
 use Rattle.vc_occam.specs.Frames.{View, as_begun, awaiting, branches_of, chosen_at, count_of, follow, going_at, guards_of, has_parts, place_of, plan_at, plans_of, rest_at, resting, resting_at, together, turn_of, turning, view, views, while_of}
 use Rattle.vc_occam.proofs.Frames.{view_roll}

@@ -1,10 +1,10 @@
 -- No step loses lawful use.
 use Rattle.std.proofs.Common.{◌≡◌, ℕ, zero, suc, ℤ, Bool, true, false, sym, subst, List, ◌∷◌, ◌++◌, Option, Some, None, ◌⊎◌, inl, inr, ◌||◌, ◌&&◌}
 use Rattle.vc_occam.specs.declared.deed.Deed.{Deed}
-use Rattle.vc_occam.specs.Syntax.{Test, Proc, SKIP, STOP, Assign, Output, Input, StopChan, SEQ, PAR, IF, WHILE, COUNT, ALT, Procs, no_parts, part, Branches, no_branches, branch, Guards, no_guards, guard}
-use Rattle.vc_occam.specs.Values.{Store, holds}
-use Rattle.vc_occam.specs.Usage.{Set, just, ◌∪◌, in_exp, in_test, in_given, changes, changes_all, changes_branches, changes_guards, uses, uses_all, uses_branches, uses_guards}
-use Rattle.vc_occam.specs.Lawful.{outputs, outputs_all, inputs, inputs_all, With, SideBySide, Lawfully, LawfullyAll, LawfullyBranches, LawfullyGuards}
+use Rattle.vc_process.specs.Syntax.{Test, Proc, SKIP, STOP, Assign, Output, Input, StopChan, SEQ, PAR, IF, WHILE, COUNT, ALT, Procs, no_parts, part, Branches, no_branches, branch, Guards, no_guards, guard}
+use Rattle.vc_process.specs.Values.{Store, holds}
+use Rattle.vc_process.specs.Usage.{Set, just, ◌∪◌, in_exp, in_test, in_given, changes, changes_all, changes_branches, changes_guards, uses, uses_all, uses_branches, uses_guards}
+use Rattle.vc_process.specs.Lawful.{outputs, outputs_all, inputs, inputs_all, With, SideBySide, Lawfully, LawfullyAll, LawfullyBranches, LawfullyGuards}
 use Rattle.vc_occam.specs.Traces.{Comm, Fin, In, End}
 use Rattle.vc_occam.specs.Remains.{Rest, Done, Stopped, Fresh, Finishing, Getting, Then, Turns, Beside, and_then, begin, begin_seq, begin_par, begin_all, then_on, turns_on, beside_on, branch_on, chosen, GuardAt, first, later, Step, does_skip, does_empty_seq, does_empty_par, does_assign, faults_assign, faults_out, does_if, does_turn, does_leave, faults_while, does_count, does_count_none, faults_count, does_offer, does_finish, does_input, waits_input, gets, does_stop, does_choose, waits_choose, in_then, in_turns, in_left, in_right, changes_rest, uses_rest, Apart, Lawful, TraceRest}
 use Rattle.vc_occam.specs.Sites.{Disjoint}

@@ -2,20 +2,20 @@
 use Rattle.std.proofs.Common.{◌≡◌, ℕ, zero, suc, ℤ, Bool, true, false, refl, sym, ap, subst, ◌∙◌, List, [], ◌∷◌, slice_get, Option, Some, None, ◌⊎◌, inl, inr, eqb, arith, if◌then◌else◌}
 use Rattle.std.proofs.lemmas.Bool.Decides.{nat_tests}
 use Rattle.std.specs.Prelude.{option_and_then}
-use Rattle.vc_occam.specs.declared.datum.Datum.{Datum}
-use Rattle.vc_occam.specs.declared.datum.Datum.TheVariants as datum
+use Rattle.vc_process.specs.declared.datum.Datum.{Datum}
+use Rattle.vc_process.specs.declared.datum.Datum.TheVariants as datum
 use Rattle.vc_occam.specs.declared.deed.Deed.{Deed}
 use Rattle.vc_occam.specs.declared.deed.Deed.TheVariants as deed
-use Rattle.vc_occam.specs.declared.value_kind.ValueKind.{ValueKind}
-use Rattle.vc_occam.specs.declared.value_kind.ValueKind.TheVariants as kind
-use Rattle.vc_occam.specs.Limits.{given_kind}
-use Rattle.vc_occam.specs.Messages.{message, received, number_of}
-use Rattle.vc_occam.specs.Syntax.{Test, Given, Whole, Bytes, Proc, SKIP, STOP, Assign, Output, Input, StopChan, SEQ, PAR, IF, WHILE, COUNT, ALT, Procs, no_parts, part, Branches, no_branches, branch, Guards, no_guards, guard}
-use Rattle.vc_occam.specs.Values.{Store, value_of, holds, text_of, datum_of}
+use Rattle.vc_process.specs.declared.value_kind.ValueKind.{ValueKind}
+use Rattle.vc_process.specs.declared.value_kind.ValueKind.TheVariants as kind
+use Rattle.vc_process.specs.Limits.{given_kind}
+use Rattle.vc_process.specs.Messages.{message, received, number_of}
+use Rattle.vc_process.specs.Syntax.{Test, Given, Whole, Bytes, Proc, SKIP, STOP, Assign, Output, Input, StopChan, SEQ, PAR, IF, WHILE, COUNT, ALT, Procs, no_parts, part, Branches, no_branches, branch, Guards, no_guards, guard}
+use Rattle.vc_process.specs.Values.{Store, value_of, holds, text_of, datum_of}
 use Rattle.vc_occam.specs.Traces.{Comm, Out, In, Fin, Stp, set}
 use Rattle.vc_occam.specs.Remains.{Rest, Done, Stopped, Fresh, Finishing, Getting, Then, Turns, Beside, and_then, begin, begin_seq, begin_par, begin_all, then_on, turns_on, index_on, beside_on, branch_on, chosen, GuardAt, first, later, Step, does_skip, does_empty_seq, does_empty_par, does_assign, faults_assign, faults_out, does_if, does_turn, does_leave, faults_while, does_count, does_count_none, faults_count, does_offer, does_finish, does_input, waits_input, gets, does_stop, does_choose, waits_choose, in_then, in_turns, in_left, in_right}
 use Rattle.vc_occam.specs.States.{State, StepsTo, meeting, Doing, Offers, Wants, Chooses, Stops, Meets, Rests, Finishes, Receives, Does}
-use Rattle.vc_occam.proofs.Bytes.{number_again}
+use Rattle.vc_process.proofs.Bytes.{number_again}
 
 abbrev pub kind_of : Datum → ValueKind
 kind_of (datum.Int z) = kind.Int

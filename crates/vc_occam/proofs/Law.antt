@@ -1,13 +1,13 @@
 -- A step, followed by any trace of what remains, is a trace of what remained before.
 use Rattle.std.proofs.Common.{◌≡◌, ℕ, zero, suc, ℤ, Bool, true, false, eqb, refl, sym, ap, ◌∙◌, arith, subst, List, [], ◌∷◌, ◌++◌, append_assoc, Option, Some, None, pos, ◌+ℤ◌}
 use Rattle.std.specs.Prelude.{if◌then◌else◌}
-use Rattle.vc_occam.specs.declared.datum.Datum.{Datum}
-use Rattle.vc_occam.specs.declared.datum.Datum.TheVariants as datum
+use Rattle.vc_process.specs.declared.datum.Datum.{Datum}
+use Rattle.vc_process.specs.declared.datum.Datum.TheVariants as datum
 use Rattle.vc_occam.specs.declared.deed.Deed.{Deed}
-use Rattle.vc_occam.specs.Syntax.{Exp, Test, Proc, IF, WHILE, COUNT, Procs, no_parts, part, Branches, no_branches, branch, Guards}
-use Rattle.vc_occam.specs.Values.{Store, value_of, holds}
-use Rattle.vc_occam.specs.Messages.{received}
-use Rattle.vc_occam.specs.Usage.{Set, ◌∪◌, just, changes, changes_guards, changes_all}
+use Rattle.vc_process.specs.Syntax.{Exp, Test, Proc, IF, WHILE, COUNT, Procs, no_parts, part, Branches, no_branches, branch, Guards}
+use Rattle.vc_process.specs.Values.{Store, value_of, holds}
+use Rattle.vc_process.specs.Messages.{received}
+use Rattle.vc_process.specs.Usage.{Set, ◌∪◌, just, changes, changes_guards, changes_all}
 use Rattle.vc_occam.specs.Traces.{Comm, In, End, Open, Ended, set, SameKind, both_ended, Counts, Trace, cut, skip, assign, begin_out, out, input, stop_chan, seq, par, choose, leave, last_turn, turn, count, select, TraceSeq, seq_end, seq_open, seq_next, par_end, here, further, counted, count_open, count_turn, TraceAlt, this, that}
 use Rattle.vc_occam.specs.Remains.{Rest, Done, Then, Turns, Beside, begin, TraceRest, done, stopped, fresh, finishing_cut, finishing, getting_cut, getting, then_open, then_next, turns_open, turns_next, beside, index_on, branch_on, chosen, GuardAt, first, later, Step, does_skip, does_empty_seq, does_empty_par, does_assign, faults_assign, faults_out, does_if, does_turn, does_leave, faults_while, does_count, does_count_none, faults_count, does_offer, does_finish, does_input, waits_input, gets, does_stop, does_choose, waits_choose, in_then, in_turns, in_left, in_right, changes_rest, uses_rest, Apart, Lawful, StepsAreTraces}
 use Rattle.vc_occam.proofs.Stores.{or_left, or_right, same_store, set_end}

@@ -6,15 +6,15 @@ use borrow.Author.Count.{below_more}
 use Rattle.std.specs.Prelude.{is_some, ◌+ℤ◌, ◌==◌}
 use Rattle.std.specs.List.{Contains}
 use Rattle.vc_occam.specs.declared.answer.Answer.{Answer}
-use Rattle.vc_occam.specs.declared.datum.Datum.{Datum}
+use Rattle.vc_process.specs.declared.datum.Datum.{Datum}
 use Rattle.vc_occam.specs.declared.deed.Deed.{Deed}
 use Rattle.vc_occam.specs.declared.deed.Deed.TheVariants as deed
 use Rattle.vc_occam.specs.declared.moves.Move.{Move}
 use Rattle.vc_occam.specs.declared.moves.Move.TheVariants.{Offer, Want, Choose, Stopch, Inner, Quiet}
-use Rattle.vc_occam.specs.Syntax.{Exp, Test, Given, Proc, SKIP, STOP, Assign, Output, Input, StopChan, SEQ, PAR, IF, WHILE, COUNT, ALT, Procs, no_parts, part, Guards, no_guards, guard}
-use Rattle.vc_occam.specs.Values.{Store, value_of, holds, datum_of, within}
-use Rattle.vc_occam.specs.Usage.{Set}
-use Rattle.vc_occam.specs.Messages.{message, received}
+use Rattle.vc_process.specs.Syntax.{Exp, Test, Given, Proc, SKIP, STOP, Assign, Output, Input, StopChan, SEQ, PAR, IF, WHILE, COUNT, ALT, Procs, no_parts, part, Guards, no_guards, guard}
+use Rattle.vc_process.specs.Values.{Store, value_of, holds, datum_of, within}
+use Rattle.vc_process.specs.Usage.{Set}
+use Rattle.vc_process.specs.Messages.{message, received}
 use Rattle.vc_occam.specs.Traces.{set, Comm, Out, Fin, In, Stp, Decided}
 use Rattle.vc_occam.specs.Remains.{Rest, Done, Stopped, Fresh, Finishing, Getting, Then, Turns, Beside, then_on, turns_on, index_on, beside_on, GuardAt, first, later, Step, does_skip, does_empty_seq, does_empty_par, does_assign, faults_assign, faults_out, does_if, does_turn, does_leave, faults_while, does_count, does_count_none, faults_count, does_offer, does_finish, does_input, waits_input, gets, does_stop, does_choose, waits_choose, in_then, in_turns, in_left, in_right}
 use Rattle.vc_occam.specs.First.{all_decided, choices, own, meetings, joined}
@@ -23,7 +23,7 @@ use Rattle.vc_occam.specs.Moving.{site_of, deed_for, deed_on, partner}
 use Rattle.vc_occam.specs.Laws.{ListedMovesCanBeMade}
 use Rattle.vc_occam.specs.Sites.{sites, sites_all, sites_rest, OwnSites}
 use Rattle.vc_occam.specs.States.{IsAwaited, State, Wants, Chooses, Does, meeting, or_else, output_at, carried, sent_by, bytes_or_none, came, doing, output, input, waiting}
-use Rattle.vc_occam.proofs.Lists.{only, none, at_front, behind, front_or, is_inserted}
+use Rattle.vc_process.proofs.Lists.{only, none, at_front, behind, front_or, is_inserted}
 use Rattle.vc_occam.proofs.Sites.{not_true, clash}
 use Rattle.vc_occam.proofs.Stores.{or_left, or_right, or_false}
 use Rattle.vc_occam.proofs.Waiting.{step_waits}

@@ -1,26 +1,26 @@
 -- How frames are made of a process.
 use Rattle.std.proofs.Common.{◌≡◌, ℕ, append_assoc, ◌≤◌, ◌<◌, subst, suc, ◌+◌, refl, ap, sym, ◌∙◌, List, [], ◌∷◌, ◌++◌, map, length, arith, add-one}
-use Rattle.vc_occam.specs.declared.condition.Cond.{Cond}
-use Rattle.vc_occam.specs.declared.expression.Expr.{Expr}
+use Rattle.vc_process.specs.declared.condition.Cond.{Cond}
+use Rattle.vc_process.specs.declared.expression.Expr.{Expr}
 use Rattle.vc_occam.specs.declared.frame.Frame.{Frame}
 use Rattle.vc_occam.specs.declared.guarded.GuardedInput.{GuardedInput}
 use Rattle.vc_occam.specs.declared.guarded.GuardedInputs.{GuardedInputs}
-use Rattle.vc_occam.specs.declared.process.Branch.{Branch}
-use Rattle.vc_occam.specs.declared.process.Guard.{Guard}
-use Rattle.vc_occam.specs.declared.process.Process.{Process}
-use Rattle.vc_occam.specs.declared.process.Process.TheVariants as process
-use Rattle.vc_occam.specs.declared.process.Process.TheOpen as layer
-use Rattle.vc_occam.specs.declared.process.Process.TheFolds.{fold_out-Process, fold-roll-Process}
-use Rattle.vc_occam.specs.declared.process.Process.TheViews.{out-Guard}
+use Rattle.vc_process.specs.declared.process.Branch.{Branch}
+use Rattle.vc_process.specs.declared.process.Guard.{Guard}
+use Rattle.vc_process.specs.declared.process.Process.{Process}
+use Rattle.vc_process.specs.declared.process.Process.TheVariants as process
+use Rattle.vc_process.specs.declared.process.Process.TheOpen as layer
+use Rattle.vc_process.specs.declared.process.Process.TheFolds.{fold_out-Process, fold-roll-Process}
+use Rattle.vc_process.specs.declared.process.Process.TheViews.{out-Guard}
 use Rattle.vc_occam.specs.Frames.{View, branches_of, count_of, guards_of, plans_of, view, views, while_of}
 use Rattle.vc_occam.specs.Gates.{gate}
-use Rattle.vc_occam.specs.InOrder.{branch_layer, guard_layer, number, number_branch, number_guard}
-use Rattle.vc_occam.specs.Numbering.{Numbered, NumberedBranch, NumberedGuard, branch_sites, branches_from, guard_sites, guards_from, numbered, part_sites, parts_from}
+use Rattle.vc_process.specs.InOrder.{branch_layer, guard_layer, number, number_branch, number_guard}
+use Rattle.vc_process.specs.Numbering.{Numbered, NumberedBranch, NumberedGuard, branch_sites, branches_from, guard_sites, guards_from, numbered, part_sites, parts_from}
 use Rattle.vc_occam.specs.Remains.{Fresh}
-use Rattle.vc_occam.specs.Syntax.{Branches, Guards, Proc, Procs, ALT, COUNT, IF, PAR, SEQ, WHILE, branch, guard, part}
-use Rattle.vc_occam.specs.Terms.{exp, as_test}
+use Rattle.vc_process.specs.Syntax.{Branches, Guards, Proc, Procs, ALT, COUNT, IF, PAR, SEQ, WHILE, branch, guard, part}
+use Rattle.vc_process.specs.Terms.{exp, as_test}
 use Rattle.vc_occam.specs.Wholes.{branch_wholes_from, gates, guard_wholes_from, tests, whole_from, wholes_from}
-use Rattle.vc_occam.proofs.Numbers.{number_alt, number_guard_out, number_if, number_par, number_seq}
+use Rattle.vc_process.proofs.Numbers.{number_alt, number_guard_out, number_if, number_par, number_seq}
 
 pub plans_wholes : (i : ℕ) (ns : List Numbered) → plans_of (wholes_from i ns) ≡ parts_from i ns
 plans_wholes i [] = refl

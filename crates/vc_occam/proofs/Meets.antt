@@ -5,7 +5,7 @@ use Rattle.std.proofs.lemmas.List.Elements.{Contains-append_left, Contains-appen
 use Rattle.std.specs.Prelude.{◌==◌, if◌then◌else◌, not}
 use Rattle.std.specs.List.{Contains}
 use Rattle.vc_occam.specs.declared.answer.Answer.{Answer}
-use Rattle.vc_occam.specs.declared.datum.Datum.{Datum}
+use Rattle.vc_process.specs.declared.datum.Datum.{Datum}
 use Rattle.vc_occam.specs.declared.deed.Deed.{Deed}
 use Rattle.vc_occam.specs.declared.deed.Deed.TheVariants as deed
 use Rattle.vc_occam.specs.declared.moves.Move.{Move}
@@ -13,17 +13,17 @@ use Rattle.vc_occam.specs.declared.moves.Move.TheVariants.{Offer, Want, Choose, 
 use Rattle.vc_occam.specs.First.{own, first_moves, joined, meetings}
 use Rattle.vc_occam.specs.Frames.{Able, Did, is_outside}
 use Rattle.vc_occam.specs.InUse.{UsesLawfully}
-use Rattle.vc_occam.specs.Messages.{message}
+use Rattle.vc_process.specs.Messages.{message}
 use Rattle.vc_occam.specs.Moving.{CanBegin, CanMeet, HasMet, at, deed_for, partner, site_of}
 use Rattle.vc_occam.specs.Remains.{Rest, Step}
 use Rattle.vc_occam.specs.Sites.{OwnSites}
 use Rattle.vc_occam.specs.States.{State, Acts, Does, FitsMove, doing, sent_by, Meets, bytes_or_none, came, carried, meeting, output_at, output, waiting}
 use Rattle.vc_occam.specs.Traces.{Comm, Out, Fin, In}
-use Rattle.vc_occam.specs.Usage.{Set}
-use Rattle.vc_occam.specs.Values.{Store}
+use Rattle.vc_process.specs.Usage.{Set}
+use Rattle.vc_process.specs.Values.{Store}
 use Rattle.vc_occam.proofs.Acting.{one_waits, says, sends, waits_site}
 use Rattle.vc_occam.proofs.Keeping.{doing_is_traced, doing_keeps_use}
-use Rattle.vc_occam.proofs.Lists.{at_front, behind, front_or, is_inserted, none, only}
+use Rattle.vc_process.proofs.Lists.{at_front, behind, front_or, is_inserted, none, only}
 use Rattle.vc_occam.proofs.Made.{able, able_on, began, met, no_meeting, taking_partner}
 use Rattle.vc_occam.proofs.Sites.{doing_keeps, step_keeps}
 use Rattle.vc_occam.proofs.Waiting.{step_waits}

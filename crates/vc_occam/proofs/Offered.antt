@@ -15,13 +15,13 @@ use Rattle.vc_occam.specs.First.{own}
 use Rattle.vc_occam.specs.Frames.{Able, ChangedAt, Did, View, branches_of, guards_of, has_parts, is_counted, is_done, is_par, part_done, part_rest, place_of, place_with, plan_at, plans, plans_of, rest_at, views}
 use Rattle.vc_occam.specs.Remains.{Rest, Done, Stopped, Fresh, Finishing, Getting, Then, Turns, Beside, Step, does_offer, in_then, in_turns, in_left, in_right}
 use Rattle.vc_occam.specs.Sites.{InPreorder}
-use Rattle.vc_occam.specs.Syntax.{Procs, Branches, Guards, SEQ, PAR, IF, ALT}
-use Rattle.vc_occam.specs.Terms.{as_test}
+use Rattle.vc_process.specs.Syntax.{Procs, Branches, Guards, SEQ, PAR, IF, ALT}
+use Rattle.vc_process.specs.Terms.{as_test}
 use Rattle.vc_occam.specs.Gates.{gate}
 use Rattle.vc_occam.specs.Traces.{Comm}
-use Rattle.vc_occam.specs.Values.{Store}
+use Rattle.vc_process.specs.Values.{Store}
 use Rattle.vc_occam.proofs.Abreast.{part_able, part_did}
-use Rattle.vc_occam.proofs.Lists.{at_front, none}
+use Rattle.vc_process.proofs.Lists.{at_front, none}
 use Rattle.vc_occam.proofs.Made.{began}
 use Rattle.vc_occam.proofs.Stepping.{going_on, phase_able, within_able, within_did}
 use Rattle.vc_occam.proofs.Turns.{counted_is, turn_goes, turning_able}

@@ -6,9 +6,9 @@ use Rattle.vc_occam.specs.declared.moves.Move.{Move}
 use Rattle.vc_occam.specs.declared.moves.Move.TheVariants.{Offer, Want, Choose, Stopch, Inner, Quiet}
 use Rattle.vc_occam.specs.First.{own, meetings, joined, first_moves}
 use Rattle.vc_occam.specs.Remains.{Rest}
-use Rattle.vc_occam.specs.Usage.{Set}
-use Rattle.vc_occam.specs.Values.{Store}
-use Rattle.vc_occam.proofs.Lists.{none, front_or}
+use Rattle.vc_process.specs.Usage.{Set}
+use Rattle.vc_process.specs.Values.{Store}
+use Rattle.vc_process.proofs.Lists.{none, front_or}
 
 -- where an output meets inputs it is no move alone
 met_by : (i c j d : ℕ) (k : Option ℕ) (e : ℕ) (b : Bool) (ms : List Move) → (Contains ms (Offer i c) → ⊥) → Contains ((if b then (Inner j d k e ∷ []) else []) ++ ms) (Offer i c) → ⊥

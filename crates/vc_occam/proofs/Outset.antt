@@ -12,8 +12,8 @@ use Rattle.vc_occam.specs.declared.phase.Phase.TheVariants as phase
 use Rattle.vc_occam.specs.Frames.{BeginsAs, BeginsWith, Tells, View, assigned_at, behind, count_of, has_parts, is_counted, part_assigned, part_own, part_rest, place_of, rest_at, view, views, while_of}
 use Rattle.vc_occam.specs.First.{own}
 use Rattle.vc_occam.specs.Remains.{Rest, Fresh}
-use Rattle.vc_occam.specs.Syntax.{Exp, Test}
-use Rattle.vc_occam.specs.Values.{Store}
+use Rattle.vc_process.specs.Syntax.{Exp, Test}
+use Rattle.vc_process.specs.Values.{Store}
 use Rattle.vc_occam.proofs.Frames.{count_tests, follow_assigned, follow_own, going_part, rest_going, turn_assigned, turn_own, turning_is, turning_own, view_out, while_tests}
 
 -- with the same moves and the same bytes it begins with the same

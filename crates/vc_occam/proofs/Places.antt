@@ -9,11 +9,11 @@ use Rattle.vc_occam.specs.declared.frame.Frame.TheViews.{out-Frame}
 use Rattle.vc_occam.specs.declared.kind.Kind.{Kind}
 use Rattle.vc_occam.specs.declared.kind.Kind.TheVariants as kind
 use Rattle.vc_occam.specs.declared.phase.Phase.TheVariants as phase
-use Rattle.vc_occam.specs.Syntax.{Exp, Test, Proc, SKIP, STOP, Assign, Output, Input, StopChan, SEQ, PAR, IF, WHILE, COUNT, ALT, no_parts}
-use Rattle.vc_occam.specs.Terms.{exp, as_test}
+use Rattle.vc_process.specs.Syntax.{Exp, Test, Proc, SKIP, STOP, Assign, Output, Input, StopChan, SEQ, PAR, IF, WHILE, COUNT, ALT, no_parts}
+use Rattle.vc_process.specs.Terms.{exp, as_test}
 use Rattle.vc_occam.specs.Traces.{Comm}
-use Rattle.vc_occam.specs.Values.{Store}
-use Rattle.vc_occam.specs.Usage.{Set, changes, just, nothing, ◌∪◌}
+use Rattle.vc_process.specs.Values.{Store}
+use Rattle.vc_process.specs.Usage.{Set, changes, just, nothing, ◌∪◌}
 use Rattle.vc_occam.specs.Remains.{Rest, Done, Stopped, Fresh, Finishing, Getting, Then, Turns, Beside, beside_on, Step, does_skip, does_empty_seq, does_empty_par, does_assign, faults_assign, faults_out, does_if, does_turn, does_leave, faults_while, does_count, does_count_none, faults_count, does_offer, does_finish, does_input, waits_input, gets, does_stop, does_choose, waits_choose, in_then, in_turns, in_left, in_right}
 use Rattle.vc_occam.specs.Sites.{sites, sites_all, sites_branches, sites_guards, site, Precedes, InPreorder, PartsInPreorder}
 use Rattle.vc_occam.specs.States.{or_else, output_at}

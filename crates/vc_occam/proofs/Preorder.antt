@@ -1,14 +1,14 @@
 -- Sites in preorder: each process has those from its own on.
 use Rattle.std.proofs.Common.{◌≡◌, ℕ, suc, true, false, ◌+◌, ◌≤◌, ◌<◌, sym, subst, List, [], ◌∷◌, inl, inr, arith, map}
 use Rattle.std.proofs.lemmas.Bool.Decides.{nat_tests}
-use Rattle.vc_occam.specs.declared.process.Process.{Process}
-use Rattle.vc_occam.specs.declared.process.Branch.{Branch}
-use Rattle.vc_occam.specs.declared.process.Guard.{Guard}
-use Rattle.vc_occam.specs.declared.process.Process.TheOpen as layer
-use Rattle.vc_occam.specs.declared.process.Process.TheFolds.{ind-Process, fold-Process, fold-Branch, fold-Guard, fold-roll-Process, fold-roll-Branch, fold-roll-Guard, map-Process}
-use Rattle.vc_occam.specs.Terms.{as_test}
-use Rattle.vc_occam.specs.Numbering.{Numbered, NumberedBranch, NumberedGuard, parts_from, branches_from, guards_from, part_sites, branch_sites, guard_sites, numbered, written}
-use Rattle.vc_occam.specs.Usage.{Set, just, ◌∪◌}
+use Rattle.vc_process.specs.declared.process.Process.{Process}
+use Rattle.vc_process.specs.declared.process.Branch.{Branch}
+use Rattle.vc_process.specs.declared.process.Guard.{Guard}
+use Rattle.vc_process.specs.declared.process.Process.TheOpen as layer
+use Rattle.vc_process.specs.declared.process.Process.TheFolds.{ind-Process, fold-Process, fold-Branch, fold-Guard, fold-roll-Process, fold-roll-Branch, fold-roll-Guard, map-Process}
+use Rattle.vc_process.specs.Terms.{as_test}
+use Rattle.vc_process.specs.Numbering.{Numbered, NumberedBranch, NumberedGuard, parts_from, branches_from, guards_from, part_sites, branch_sites, guard_sites, numbered, written}
+use Rattle.vc_process.specs.Usage.{Set, just, ◌∪◌}
 use Rattle.vc_occam.specs.Remains.{begin}
 use Rattle.vc_occam.specs.Sites.{sites, sites_all, sites_branches, sites_guards, HasOwnSites, AllHaveOwnSites, PartsHaveOwnSites, BranchesHaveOwnSites, GuardsHaveOwnSites, OwnSites, Precedes, InPreorder, PartsInPreorder, BranchesInPreorder, GuardsInPreorder}
 use Rattle.vc_occam.proofs.Sites.{either, not_true, begin_own}

@@ -1,9 +1,9 @@
 -- Parts side by side keep sites of their own.
 use Rattle.std.proofs.Common.{◌≡◌, ℕ, zero, suc, ℤ, Bool, true, false, refl, sym, ◌∙◌, List, Option, Some, None, ◌⊎◌, inl, inr, ◌||◌}
 use Rattle.vc_occam.specs.declared.deed.Deed.{Deed}
-use Rattle.vc_occam.specs.Syntax.{Test, Proc, SKIP, STOP, Assign, Output, Input, StopChan, SEQ, PAR, IF, WHILE, COUNT, ALT, Procs, no_parts, part, Branches, no_branches, branch, Guards}
-use Rattle.vc_occam.specs.Values.{Store, holds}
-use Rattle.vc_occam.specs.Usage.{Set, nothing, just, ◌∪◌}
+use Rattle.vc_process.specs.Syntax.{Test, Proc, SKIP, STOP, Assign, Output, Input, StopChan, SEQ, PAR, IF, WHILE, COUNT, ALT, Procs, no_parts, part, Branches, no_branches, branch, Guards}
+use Rattle.vc_process.specs.Values.{Store, holds}
+use Rattle.vc_process.specs.Usage.{Set, nothing, just, ◌∪◌}
 use Rattle.vc_occam.specs.Traces.{Comm}
 use Rattle.vc_occam.specs.Remains.{Rest, Done, Stopped, Fresh, Finishing, Getting, Then, Turns, Beside, and_then, begin, begin_seq, begin_par, begin_all, then_on, turns_on, beside_on, branch_on, chosen, GuardAt, first, later, Step, does_skip, does_empty_seq, does_empty_par, does_assign, faults_assign, faults_out, does_if, does_turn, does_leave, faults_while, does_count, does_count_none, faults_count, does_offer, does_finish, does_input, waits_input, gets, does_stop, does_choose, waits_choose, in_then, in_turns, in_left, in_right}
 use Rattle.vc_occam.specs.Sites.{sites, sites_all, sites_branches, sites_guards, Disjoint, HasOwnSites, AllHaveOwnSites, PartsHaveOwnSites, BranchesHaveOwnSites, GuardsHaveOwnSites, sites_rest, OwnSites}

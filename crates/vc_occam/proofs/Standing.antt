@@ -1,11 +1,11 @@
 -- How a trace stands: a process that has come so far has made a trace that has ended, or that is cut off here.
 use Rattle.std.proofs.Common.{◌≡◌, refl, ap, subst, ◌∙◌, List, [], inl, inr, ◌⊎◌}
-use Rattle.vc_occam.specs.Values.{Store}
-use Rattle.vc_occam.specs.Usage.{Set}
+use Rattle.vc_process.specs.Values.{Store}
+use Rattle.vc_process.specs.Usage.{Set}
 use Rattle.vc_occam.specs.Traces.{End, Open, Ended, both_ended, neither, cut}
 use Rattle.vc_occam.specs.Remains.{Rest, Done, Stopped, Fresh, Finishing, Getting, Then, Turns, Beside, TraceRest, done, stopped, fresh, finishing_cut, getting_cut, then_open, turns_open, beside}
 use Rattle.vc_occam.specs.NodeTraces.{so_far}
-use Rattle.vc_occam.specs.declared.value_kind.ValueKind.{ValueKind}
+use Rattle.vc_process.specs.declared.value_kind.ValueKind.{ValueKind}
 use Rattle.std.specs.Prelude.{ℕ}
 use Rattle.vc_occam.proofs.Kinded.{Remains, Sound}
 

@@ -8,10 +8,10 @@ use Rattle.vc_occam.specs.declared.kind.Kind.{Kind}
 use Rattle.vc_occam.specs.declared.kind.Kind.TheVariants as kind
 use Rattle.vc_occam.specs.declared.phase.Phase.{Phase}
 use Rattle.vc_occam.specs.declared.phase.Phase.TheVariants as phase
-use Rattle.vc_occam.specs.Syntax.{Exp, Test, Proc, STOP, SEQ, PAR, IF, WHILE, COUNT, ALT, Procs, no_parts, part, Branches, no_branches, branch, Guards, no_guards, guard, Constant}
-use Rattle.vc_occam.specs.Terms.{exp, as_test}
-use Rattle.vc_occam.specs.Usage.{changes, changes_all, changes_branches, changes_guards, just}
-use Rattle.vc_occam.specs.Values.{Store}
+use Rattle.vc_process.specs.Syntax.{Exp, Test, Proc, STOP, SEQ, PAR, IF, WHILE, COUNT, ALT, Procs, no_parts, part, Branches, no_branches, branch, Guards, no_guards, guard, Constant}
+use Rattle.vc_process.specs.Terms.{exp, as_test}
+use Rattle.vc_process.specs.Usage.{changes, changes_all, changes_branches, changes_guards, just}
+use Rattle.vc_process.specs.Values.{Store}
 use Rattle.vc_occam.specs.Remains.{Rest, Done, Stopped, Fresh, Finishing, Getting, Then, Turns, Beside, and_then, then_on, in_then}
 use Rattle.vc_occam.specs.Gates.{Gate, gate}
 use Rattle.vc_occam.specs.Sites.{InPreorder, PartsInPreorder, BranchesInPreorder, GuardsInPreorder}

@@ -4,22 +4,22 @@ use Rattle.std.specs.Prelude.{pos, negsuc, ◌+ℤ◌, ◌-ℤ◌, int_lt, nat_l
 use Rattle.std.proofs.lemmas.Bool.Decides.{nat_tests}
 use Rattle.std.proofs.lemmas.Int.{ints}
 use lib.Signed.{mag}
-use Rattle.vc_occam.specs.declared.datum.Datum.TheVariants as datum
+use Rattle.vc_process.specs.declared.datum.Datum.TheVariants as datum
 use Rattle.vc_occam.specs.declared.deed.Deed.{Deed}
 use Rattle.vc_occam.specs.declared.deed.Deed.TheVariants as deed
-use Rattle.vc_occam.specs.declared.expression.Expr.{Expr}
+use Rattle.vc_process.specs.declared.expression.Expr.{Expr}
 use Rattle.vc_occam.specs.declared.kind.Kind.{Kind}
 use Rattle.vc_occam.specs.declared.kind.Kind.TheVariants as kind
 use Rattle.vc_occam.specs.declared.phase.Phase.{Phase}
 use Rattle.vc_occam.specs.declared.phase.Phase.TheVariants as phase
-use Rattle.vc_occam.specs.Syntax.{Exp, Proc, COUNT}
-use Rattle.vc_occam.specs.Terms.{exp}
+use Rattle.vc_process.specs.Syntax.{Exp, Proc, COUNT}
+use Rattle.vc_process.specs.Terms.{exp}
 use Rattle.vc_occam.specs.Traces.{Counts, set}
-use Rattle.vc_occam.specs.Usage.{changes, just}
+use Rattle.vc_process.specs.Usage.{changes, just}
 use Rattle.vc_occam.proofs.Beginning.{begun_plans}
 use Rattle.vc_occam.proofs.Stepping.{never}
 use Rattle.vc_occam.proofs.Stores.{or_left, or_right}
-use Rattle.vc_occam.specs.Values.{Store, value_of, within}
+use Rattle.vc_process.specs.Values.{Store, value_of, within}
 use Rattle.vc_occam.specs.Remains.{Rest, Done, Stopped, Fresh, Finishing, Getting, Then, Turns, Beside, Step, begin, index_on, turns_on, in_turns, does_count, does_count_none, faults_count}
 use Rattle.vc_occam.specs.Frames.{Able, Did, HasVariables, PartHasVariables, View, assigned_at, part_assigned, begun_at, count_of, is_counted, is_done, part_done, part_rest, plan_at, plans, rest_at, so_far, turn_of, turning, turns_left}
 use Rattle.vc_occam.specs.Nexts.{count_begun, count_phase, count_store, last_phase, TurnEnded, turn_phase, turn_store, turn_views, over}

@@ -3,7 +3,7 @@ use Rattle.std.proofs.Common.{◌≡◌, refl, ap, List, [], ◌∷◌}
 use Rattle.vc_occam.specs.declared.moves.Move.{Move}
 use Rattle.vc_occam.specs.declared.moves.Move.TheVariants.{Offer, Want, Choose, Stopch, Inner, Quiet}
 use Rattle.vc_occam.specs.First.{joined}
-use Rattle.vc_occam.specs.Usage.{among}
+use Rattle.vc_process.specs.Usage.{among}
 
 pub unjoined : (all ms : List Move) → joined (among []) all ms ≡ ms
 unjoined all [] = refl

@@ -1,17 +1,17 @@
 -- What waits after a step.
 use Rattle.std.proofs.Common.{◌≡◌, ℕ, zero, suc, ℤ, Bool, true, false, refl, sym, ap, ◌∙◌, subst, List, [], ◌∷◌, ◌++◌, Option, Some, None, inl, inr}
 use Rattle.std.specs.List.{Contains}
-use Rattle.vc_occam.specs.declared.datum.Datum.{Datum}
+use Rattle.vc_process.specs.declared.datum.Datum.{Datum}
 use Rattle.vc_occam.specs.declared.deed.Deed.{Deed}
 use Rattle.vc_occam.specs.declared.deed.Deed.TheVariants as deed
-use Rattle.vc_occam.specs.Syntax.{Proc, SKIP, STOP, Assign, Output, Input, StopChan, SEQ, PAR, IF, WHILE, COUNT, ALT, Procs, no_parts, part, Branches, no_branches, branch}
-use Rattle.vc_occam.specs.Values.{Store, holds}
-use Rattle.vc_occam.specs.Usage.{Set}
+use Rattle.vc_process.specs.Syntax.{Proc, SKIP, STOP, Assign, Output, Input, StopChan, SEQ, PAR, IF, WHILE, COUNT, ALT, Procs, no_parts, part, Branches, no_branches, branch}
+use Rattle.vc_process.specs.Values.{Store, holds}
+use Rattle.vc_process.specs.Usage.{Set}
 use Rattle.vc_occam.specs.Traces.{Comm, Fin, In}
 use Rattle.vc_occam.specs.Remains.{and_then, Rest, Done, begin, begin_seq, begin_par, begin_all, then_on, turns_on, beside_on, branch_on, chosen, Step, does_skip, does_empty_seq, does_empty_par, does_assign, faults_assign, faults_out, does_if, does_turn, does_leave, faults_while, does_count, does_count_none, faults_count, does_offer, does_finish, does_input, waits_input, gets, does_stop, does_choose, waits_choose, in_then, in_turns, in_left, in_right}
 use Rattle.vc_occam.specs.States.{State, Doing, Offers, Wants, Chooses, Stops, Meets, Rests, Finishes, Receives, Does, meeting, Waiting, output, input, waiting}
 use Rattle.vc_occam.specs.Laws.{IsAdded, IsKept, IsRemoved, IsOutputOn, IsInputOn, WaitsAfter}
-use Rattle.vc_occam.proofs.Lists.{Inserted, inserted_here, inserted_left, inserted_right, is_inserted, inserted_keeps, inserted_or, same_without}
+use Rattle.vc_process.proofs.Lists.{Inserted, inserted_here, inserted_left, inserted_right, is_inserted, inserted_keeps, inserted_or, same_without}
 
 both_wait : {xs ys : List Waiting} → xs ≡ [] → ys ≡ [] → xs ++ ys ≡ []
 both_wait {xs} {ys} h k = ap (λ zs. zs ++ ys) h ∙ k

@@ -15,16 +15,15 @@ use Rattle.vc_occam.specs.declared.begins.Begins.{Begins}
 use Rattle.vc_occam.specs.declared.begins.Begins.TheVariants as begins
 use Rattle.vc_occam.specs.declared.look.Look.{Look}
 use Rattle.vc_occam.specs.declared.look.Look.TheVariants as look
-use Rattle.vc_occam.specs.declared.datum.Datum.{Datum}
-use Rattle.vc_occam.specs.declared.datum.Datum.TheVariants as datum
+use Rattle.vc_process.specs.declared.datum.Datum.{Datum}
 use Rattle.vc_occam.specs.declared.deed.Deed.{Deed}
 use Rattle.vc_occam.specs.declared.waits.Waits.{Waits}
 use Rattle.vc_occam.specs.declared.waits.Waits.TheVariants as waits
-use Rattle.vc_occam.specs.Values.{Store, holds, text_of}
+use Rattle.vc_process.specs.Values.{Store, assigned_bytes, holds}
 use Rattle.vc_occam.specs.Traces.{Comm}
-use Rattle.vc_occam.specs.Usage.{changes}
-use Rattle.vc_occam.specs.Syntax.{Given, Whole, Bytes, Exp, Test, Constant, Proc, SKIP, STOP, Assign, Output, Input, StopChan, SEQ, PAR, IF, WHILE, COUNT, ALT, Procs, no_parts, part, Branches, no_branches, branch, Guards, no_guards, guard}
-use Rattle.vc_occam.specs.Terms.{exp, given, as_test}
+use Rattle.vc_process.specs.Usage.{changes}
+use Rattle.vc_process.specs.Syntax.{Exp, Test, Constant, Proc, SKIP, STOP, Assign, Output, Input, StopChan, SEQ, PAR, IF, WHILE, COUNT, ALT, Procs, no_parts, part, Branches, no_branches, branch, Guards, no_guards, guard}
+use Rattle.vc_process.specs.Terms.{exp, given, as_test}
 use Rattle.vc_occam.specs.Remains.{Rest, Done, Stopped, Fresh, Finishing, Getting, Then, Turns, Beside, and_then, then_on, beside_on, begin, Step}
 use Rattle.vc_occam.specs.Sites.{InPreorder, site}
 use Rattle.vc_occam.specs.States.{Waiting, output, input, waiting, output_at, or_else}
@@ -222,11 +221,6 @@ is_done r = false
 abbrev pub part_done : Option View → Bool
 part_done None = false
 part_done (Some v) = is_done v.1
-
--- what is assigned, where that is bytes
-abbrev pub assigned_bytes : Given → Store → Option Datum
-assigned_bytes (Whole a) e = None
-assigned_bytes (Bytes a) e = Some (datum.Bytes (text_of a e))
 
 -- the bytes that the assignment at a site is about to assign
 abbrev pub assigned_at : ℕ → Rest → Store → Option Datum

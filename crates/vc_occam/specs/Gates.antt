@@ -4,9 +4,9 @@ use Rattle.vc_occam.specs.declared.guarded.GuardedInput.{GuardedInput}
 use Rattle.vc_occam.specs.declared.moves.Move.{Move}
 use Rattle.vc_occam.specs.declared.moves.Move.TheVariants.{Choose}
 use Rattle.vc_occam.specs.First.{is_true}
-use Rattle.vc_occam.specs.Syntax.{Test}
-use Rattle.vc_occam.specs.Terms.{as_test}
-use Rattle.vc_occam.specs.Values.{Store, holds}
+use Rattle.vc_process.specs.Syntax.{Test}
+use Rattle.vc_process.specs.Terms.{as_test}
+use Rattle.vc_process.specs.Values.{Store, holds}
 
 -- what a guard tests, its channel and its variable
 pub record Gate : Type 0 where

@@ -1,13 +1,13 @@
 -- Lawful use of what remains of a process: no step loses it.
 use Rattle.std.specs.Prelude.{◌≡◌, ℕ, false, List}
 use Rattle.vc_occam.specs.declared.deed.Deed.{Deed}
-use Rattle.vc_occam.specs.Lawful.{outputs, outputs_all, inputs, inputs_all, Lawfully, LawfullyAll}
+use Rattle.vc_process.specs.Lawful.{outputs, outputs_all, inputs, inputs_all, Lawfully, LawfullyAll}
 use Rattle.vc_occam.specs.Remains.{Rest, Done, Stopped, Fresh, Finishing, Getting, Then, Turns, Beside, begin, changes_rest, Apart}
 use Rattle.vc_occam.specs.Sites.{Disjoint}
 use Rattle.vc_occam.specs.States.{State, StepsTo, Doing, Does, IsTraced}
-use Rattle.vc_occam.specs.Syntax.{Proc}
+use Rattle.vc_process.specs.Syntax.{Proc}
 use Rattle.vc_occam.specs.Traces.{Comm}
-use Rattle.vc_occam.specs.Usage.{Set, nothing, just, ◌∪◌, changes}
+use Rattle.vc_process.specs.Usage.{Set, nothing, just, ◌∪◌, changes}
 
 -- the channels on which what remains outputs, and those on which it inputs, has a guard or stops
 abbrev pub outputs_rest : Rest → Set

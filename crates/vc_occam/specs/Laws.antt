@@ -4,9 +4,9 @@ use Rattle.std.specs.List.{Contains}
 use Rattle.vc_occam.specs.declared.answer.Answer.{Answer}
 use Rattle.vc_occam.specs.declared.deed.Deed.{Deed}
 use Rattle.vc_occam.specs.declared.moves.Move.{Move}
-use Rattle.vc_occam.specs.declared.process.Process.{Process}
-use Rattle.vc_occam.specs.Numbering.{written}
-use Rattle.vc_occam.specs.Usage.{Set}
+use Rattle.vc_process.specs.declared.process.Process.{Process}
+use Rattle.vc_process.specs.Numbering.{written}
+use Rattle.vc_process.specs.Usage.{Set}
 use Rattle.vc_occam.specs.Traces.{Comm}
 use Rattle.vc_occam.specs.Remains.{begin}
 use Rattle.vc_occam.specs.First.{first_moves}

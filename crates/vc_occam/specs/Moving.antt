@@ -9,8 +9,8 @@ use Rattle.vc_occam.specs.declared.moves.Move.TheVariants.{Offer, Want, Choose, 
 use Rattle.vc_occam.specs.Remains.{Rest}
 use Rattle.vc_occam.specs.States.{State, Does, Meets, bytes_or_none, came}
 use Rattle.vc_occam.specs.Traces.{Comm}
-use Rattle.vc_occam.specs.Usage.{Set}
-use Rattle.vc_occam.specs.Values.{Store}
+use Rattle.vc_process.specs.Usage.{Set}
+use Rattle.vc_process.specs.Values.{Store}
 
 -- the site of a move; of a meeting, the output's
 abbrev pub site_of : Move → ℕ

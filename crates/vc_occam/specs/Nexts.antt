@@ -1,6 +1,6 @@
 -- How far a frame is after what its site did.
 use Rattle.std.specs.Prelude.{◌≡◌, ℕ, zero, suc, ℤ, pos, negsuc, ◌+ℤ◌, int_lt, ◌<◌, Bool, true, false, ◌&&◌, List, length, nat_lt, slice_get, Option, Some, None, if◌then◌else◌}
-use Rattle.vc_occam.specs.declared.datum.Datum.TheVariants as datum
+use Rattle.vc_process.specs.declared.datum.Datum.TheVariants as datum
 use Rattle.vc_occam.specs.declared.phase.Phase.{Phase}
 use Rattle.vc_occam.specs.declared.phase.Phase.TheVariants as phase
 use Rattle.vc_occam.specs.declared.going.Next.{Next}
@@ -9,9 +9,9 @@ use Rattle.vc_occam.specs.declared.kind.Kind.TheVariants as kind
 use Rattle.vc_occam.specs.Frames.{View, begun_at, part_done, rest_at}
 use Rattle.vc_occam.specs.Remains.{Rest}
 use Rattle.vc_occam.specs.Gates.{Gate}
-use Rattle.vc_occam.specs.Messages.{received}
+use Rattle.vc_process.specs.Messages.{received}
 use Rattle.vc_occam.specs.Traces.{set}
-use Rattle.vc_occam.specs.Values.{Store, within}
+use Rattle.vc_process.specs.Values.{Store, within}
 
 -- an IF goes on at its branch, if it has one
 abbrev pub branch_next : ℕ → Bool → Next

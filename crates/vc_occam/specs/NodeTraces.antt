@@ -1,11 +1,11 @@
 -- The communications of a node: those that its process may make, where channels inside the node join two of its parts.
 use Rattle.std.specs.Prelude.{◌≡◌, true, false, List, [], ◌∷◌}
-use Rattle.vc_occam.specs.Messages.{message}
+use Rattle.vc_process.specs.Messages.{message}
 use Rattle.vc_occam.specs.Remains.{Rest, Done}
-use Rattle.vc_occam.specs.Syntax.{Proc}
+use Rattle.vc_process.specs.Syntax.{Proc}
 use Rattle.vc_occam.specs.Traces.{Comm, Out, Fin, In, Stp, End, Open, Ended, Trace}
-use Rattle.vc_occam.specs.Usage.{Set}
-use Rattle.vc_occam.specs.Values.{Store}
+use Rattle.vc_process.specs.Usage.{Set}
+use Rattle.vc_process.specs.Values.{Store}
 
 -- on a channel inside the node each output is directly followed by the input that gets its message, and is finished then
 abbrev pub Meets : Set → List Comm → Type 0

@@ -1,13 +1,13 @@
 -- How a process begins: whole, with its variables empty.
 use Rattle.std.specs.Prelude.{◌≡◌, ℕ, true, List, [], pos, map}
-use Rattle.vc_occam.specs.declared.value_kind.ValueKind.{ValueKind}
-use Rattle.vc_occam.specs.declared.value_kind.ValueKind.TheVariants.{Int, Bytes}
-use Rattle.vc_occam.specs.declared.datum.Datum.{Datum}
-use Rattle.vc_occam.specs.declared.datum.Datum.TheVariants as datum
-use Rattle.vc_occam.specs.declared.process.Process.{Process}
-use Rattle.vc_occam.specs.ProcessLimits.{names_fit}
-use Rattle.vc_occam.specs.Terms.{store}
-use Rattle.vc_occam.specs.Numbering.{written}
+use Rattle.vc_process.specs.declared.value_kind.ValueKind.{ValueKind}
+use Rattle.vc_process.specs.declared.value_kind.ValueKind.TheVariants.{Int, Bytes}
+use Rattle.vc_process.specs.declared.datum.Datum.{Datum}
+use Rattle.vc_process.specs.declared.datum.Datum.TheVariants as datum
+use Rattle.vc_process.specs.declared.process.Process.{Process}
+use Rattle.vc_process.specs.ProcessLimits.{names_fit}
+use Rattle.vc_process.specs.Terms.{store}
+use Rattle.vc_process.specs.Numbering.{written}
 use Rattle.vc_occam.specs.Remains.{begin}
 use Rattle.vc_occam.specs.States.{State}
 

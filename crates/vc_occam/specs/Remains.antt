@@ -1,13 +1,13 @@
 -- What remains of a process that runs, what it may begin with, and its steps.
 use Rattle.std.specs.Prelude.{◌≡◌, ℕ, zero, suc, ℤ, pos, ◌+ℤ◌, Bool, true, false, List, [], ◌∷◌, ◌++◌, Option, Some, None}
-use Rattle.vc_occam.specs.declared.datum.Datum.{Datum}
-use Rattle.vc_occam.specs.declared.datum.Datum.TheVariants as datum
+use Rattle.vc_process.specs.declared.datum.Datum.{Datum}
+use Rattle.vc_process.specs.declared.datum.Datum.TheVariants as datum
 use Rattle.vc_occam.specs.declared.deed.Deed.{Deed}
 use Rattle.vc_occam.specs.declared.deed.Deed.TheVariants.{Quiet, Offer, Finish, Want, Choose, Message, StopChannel}
-use Rattle.vc_occam.specs.Syntax.{Exp, Test, Given, Proc, SKIP, Assign, Output, Input, StopChan, SEQ, PAR, IF, WHILE, COUNT, ALT, Procs, no_parts, part, Branches, no_branches, branch, Guards, guard}
-use Rattle.vc_occam.specs.Values.{Store, value_of, holds, datum_of}
-use Rattle.vc_occam.specs.Messages.{received}
-use Rattle.vc_occam.specs.Usage.{Set, changes, changes_all, uses, uses_all, ◌∪◌, nothing, just}
+use Rattle.vc_process.specs.Syntax.{Exp, Test, Given, Proc, SKIP, Assign, Output, Input, StopChan, SEQ, PAR, IF, WHILE, COUNT, ALT, Procs, no_parts, part, Branches, no_branches, branch, Guards, guard}
+use Rattle.vc_process.specs.Values.{Store, value_of, holds, datum_of}
+use Rattle.vc_process.specs.Messages.{received}
+use Rattle.vc_process.specs.Usage.{Set, changes, changes_all, uses, uses_all, ◌∪◌, nothing, just}
 use Rattle.vc_occam.specs.Traces.{Comm, Out, Fin, In, Stp, End, Open, Ended, set, SameKind, Merge, both_ended, Counts, Decided, Trace, TraceSeq, TraceCount}
 
 -- what remains of a process

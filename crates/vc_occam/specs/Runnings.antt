@@ -4,8 +4,8 @@ use Rattle.vc_occam.specs.declared.running.Running.{Running}
 use Rattle.vc_occam.specs.declared.moves.Move.{Move}
 use Rattle.vc_occam.specs.Frames.{view}
 use Rattle.vc_occam.specs.First.{first_moves}
-use Rattle.vc_occam.specs.Terms.{store}
-use Rattle.vc_occam.specs.Usage.{Set, among}
+use Rattle.vc_process.specs.Terms.{store}
+use Rattle.vc_process.specs.Usage.{Set, among}
 use Rattle.vc_occam.specs.States.{State}
 
 -- what remains of it, and what its variables hold

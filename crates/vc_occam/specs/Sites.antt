@@ -1,7 +1,7 @@
 -- The sites of a process, and of what remains of it: those of parts side by side differ.
 use Rattle.std.specs.Prelude.{◌≡◌, ◌<◌, ℕ, true, false}
-use Rattle.vc_occam.specs.Syntax.{Proc, SKIP, STOP, Assign, Output, Input, StopChan, SEQ, PAR, IF, WHILE, COUNT, ALT, Procs, no_parts, part, Branches, no_branches, branch, Guards, no_guards, guard}
-use Rattle.vc_occam.specs.Usage.{Set, nothing, just, ◌∪◌}
+use Rattle.vc_process.specs.Syntax.{Proc, SKIP, STOP, Assign, Output, Input, StopChan, SEQ, PAR, IF, WHILE, COUNT, ALT, Procs, no_parts, part, Branches, no_branches, branch, Guards, no_guards, guard}
+use Rattle.vc_process.specs.Usage.{Set, nothing, just, ◌∪◌}
 use Rattle.vc_occam.specs.Remains.{Rest, Done, Stopped, Fresh, Finishing, Getting, Then, Turns, Beside}
 
 -- the sites of a process and of those within it

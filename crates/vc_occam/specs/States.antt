@@ -1,16 +1,16 @@
 -- The state of a running process, and what it does at once.
 use Rattle.std.specs.Prelude.{◌≡◌, ◌≢◌, ℕ, ◌==◌, if◌then◌else◌, List, [], ◌∷◌, ◌++◌, Option, Some, None}
 use Rattle.std.specs.List.{Contains}
-use Rattle.vc_occam.specs.declared.datum.Datum.{Datum}
+use Rattle.vc_process.specs.declared.datum.Datum.{Datum}
 use Rattle.vc_occam.specs.declared.deed.Deed.{Deed}
 use Rattle.vc_occam.specs.declared.deed.Deed.TheVariants as deed
 use Rattle.vc_occam.specs.declared.moves.Move.{Move}
 use Rattle.vc_occam.specs.declared.moves.Move.TheVariants as move
 use Rattle.vc_occam.specs.declared.answer.Answer.{Answer}
 use Rattle.vc_occam.specs.declared.answer.Answer.TheVariants.{Nothing, Waits, Got}
-use Rattle.vc_occam.specs.Values.{Store, datum_of}
-use Rattle.vc_occam.specs.Syntax.{Output}
-use Rattle.vc_occam.specs.Messages.{message}
+use Rattle.vc_process.specs.Values.{Store, datum_of}
+use Rattle.vc_process.specs.Syntax.{Output}
+use Rattle.vc_process.specs.Messages.{message}
 use Rattle.vc_occam.specs.Traces.{Comm, Out, Fin, In, Stp, End}
 use Rattle.vc_occam.specs.Remains.{Rest, Fresh, Finishing, Getting, Then, Turns, Beside, Step, TraceRest}
 

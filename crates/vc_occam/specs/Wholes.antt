@@ -1,8 +1,8 @@
 -- The frames of a process that hasn't begun.
 use Rattle.std.specs.Prelude.{ℕ, ◌+◌, List, [], ◌∷◌}
 use Rattle.vc_occam.specs.Gates.{Gate}
-use Rattle.vc_occam.specs.Numbering.{Numbered, NumberedBranch, NumberedGuard}
-use Rattle.vc_occam.specs.Syntax.{Test}
+use Rattle.vc_process.specs.Numbering.{Numbered, NumberedBranch, NumberedGuard}
+use Rattle.vc_process.specs.Syntax.{Test}
 use Rattle.vc_occam.specs.Remains.{Fresh}
 use Rattle.vc_occam.specs.Frames.{View}
 

@@ -4,19 +4,18 @@ ghost use Rattle.vc_occam.specs.Frames.{plan_at, view, views};
 ghost use Rattle.vc_occam.specs.Remains.{Fresh, begin};
 ghost use Rattle.vc_occam.specs.Wholes.{branch_wholes_from, gates, guard_wholes_from, tests, whole_from, wholes_from};
 ghost use Rattle.vc_occam.specs.Gates.{gate};
-ghost use Rattle.vc_occam.specs.InOrder.{number, number_branch, number_guard};
-ghost use Rattle.vc_occam.specs.Numbering.{branch_sites, guard_sites, part_sites, written};
-ghost use Rattle.vc_occam.specs.Terms.{as_test};
+ghost use Rattle.vc_process.specs.InOrder.{number, number_branch, number_guard};
+ghost use Rattle.vc_process.specs.Numbering.{branch_sites, guard_sites, part_sites, written};
+ghost use Rattle.vc_process.specs.Terms.{as_test};
 
-use crate::condition::Cond;
 use crate::frame::Frame;
 use crate::guarded::{GuardedInput, GuardedInputs};
 use crate::kind::Kind;
 use crate::phase::Phase;
-use crate::process::{Branch, Guard, Process};
 use sqlite_items::Items;
 use std::alloc::Global;
 use vc_packets::Memory;
+use vc_process::{Branch, Cond, Guard, Process};
 
 /// A frame, and the first site behind its own.
 #[derive(Drop)]
@@ -52,7 +51,7 @@ fn with_parts(site: u32, kind: Kind, parts: Vec<Frame>, next: u32) -> Framed
 
 /// The frame of a process that is about to begin, its sites being numbered from this one on.
 #[cycle(framing)]
-#[tactic(auto, unfolding(crate::specs::InOrder::number, crate::specs::InOrder::number_branch, crate::specs::InOrder::number_guard))]
+#[tactic(auto, unfolding(vc_process::specs::InOrder::number, vc_process::specs::InOrder::number_branch, vc_process::specs::InOrder::number_guard))]
 pub(crate) fn frame_of(alloc: Global, process: &Process, site: u32) -> Result<Framed, Memory>
     requires sites { site + (number process.now).sites ≤ 65536 }
     ensures frame { IfOk result (λ made. view made.frame ≡ whole_from site (number process.now)) }
@@ -142,7 +141,7 @@ pub(crate) fn frame_of(alloc: Global, process: &Process, site: u32) -> Result<Fr
 }
 
 /// The conditions of branches.
-#[tactic(auto, unfolding(crate::specs::InOrder::number, crate::specs::InOrder::number_branch))]
+#[tactic(auto, unfolding(vc_process::specs::InOrder::number, vc_process::specs::InOrder::number_branch))]
 fn conds_of(alloc: Global, branches: &Items<Branch>) -> Result<Items<Cond>, Memory>
     ensures { IfOk result (λ conds. map as_test conds ≡ tests (map number_branch branches.now)) }
 {
@@ -154,7 +153,7 @@ fn conds_of(alloc: Global, branches: &Items<Branch>) -> Result<Items<Cond>, Memo
 }
 
 /// What guards test and input.
-#[tactic(auto, unfolding(crate::specs::InOrder::number, crate::specs::InOrder::number_guard))]
+#[tactic(auto, unfolding(vc_process::specs::InOrder::number, vc_process::specs::InOrder::number_guard))]
 fn inputs_of(alloc: Global, guards: &Items<Guard>) -> Result<Items<GuardedInput>, Memory>
     ensures { IfOk result (λ inputs. map gate inputs ≡ gates (map number_guard guards.now)) }
 {
@@ -172,7 +171,7 @@ fn inputs_of(alloc: Global, guards: &Items<Guard>) -> Result<Items<GuardedInput>
 
 /// The frames of guards' bodies that are about to begin.
 #[cycle(framing)]
-#[tactic(auto, unfolding(crate::specs::InOrder::number, crate::specs::InOrder::number_guard))]
+#[tactic(auto, unfolding(vc_process::specs::InOrder::number, vc_process::specs::InOrder::number_guard))]
 fn frames_of_guards(alloc: Global, guards: &Items<Guard>, site: u32) -> Result<FramedParts, Memory>
     requires sites { site + guard_sites (map number_guard guards.now) ≤ 65536 }
     ensures parts { IfOk result (λ made. views made.parts.items ≡ guard_wholes_from site (map number_guard guards.now)) }
@@ -193,7 +192,7 @@ fn frames_of_guards(alloc: Global, guards: &Items<Guard>, site: u32) -> Result<F
 
 /// The frames of branches that are about to begin.
 #[cycle(framing)]
-#[tactic(auto, unfolding(crate::specs::InOrder::number, crate::specs::InOrder::number_branch))]
+#[tactic(auto, unfolding(vc_process::specs::InOrder::number, vc_process::specs::InOrder::number_branch))]
 fn frames_of_branches(
     alloc: Global,
     branches: &Items<Branch>,

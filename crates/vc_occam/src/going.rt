@@ -9,15 +9,12 @@ ghost use Rattle.vc_occam.specs.Nexts.{GateHasVariable, branch_next, choice_begu
 ghost use Rattle.vc_occam.specs.declared.deed.Deed.{Deed};
 ghost use Rattle.vc_occam.specs.Remains.{Fresh};
 ghost use Rattle.vc_occam.specs.Sites.{InPreorder};
-ghost use Rattle.vc_occam.specs.Terms.{exp, store, as_test};
-ghost use Rattle.vc_occam.specs.Values.{value_of};
+ghost use Rattle.vc_process.specs.Terms.{exp, store, as_test};
+ghost use Rattle.vc_process.specs.Values.{value_of};
 ghost use Rattle.vc_occam.specs.Went.{has_ended, then_begins};
 ghost use lib.Signed.{mag};
 
-use crate::condition::Cond;
-use crate::datum::Datum;
 use crate::deed::Deed;
-use crate::expression::Expr;
 use crate::frame::{Frame, all_ended, is_ended};
 use crate::guarded::GuardedInput;
 use crate::kind::Kind;
@@ -27,6 +24,7 @@ use crate::site_deed::SiteDeed;
 use crate::variables::{put, set_variable};
 use crate::went::Went;
 use sqlite_items::Items;
+use vc_process::{Cond, Datum, Expr};
 
 /// How far a frame is, and at which part.
 #[derive(Clone, Copy, Drop)]

@@ -3,14 +3,13 @@ ghost use Rattle.std.specs.Prelude.{◌≡◌, ◌<◌, ◌++◌, ◌↔◌, IsT
 ghost use Rattle.std.specs.List.{Contains};
 ghost use Rattle.vc_occam.specs.Gates.{are_decided as all_decided, choices_at, gate, open_from, open_one};
 ghost use Rattle.vc_occam.specs.First.{is_true};
-ghost use Rattle.vc_occam.specs.Terms.{store, as_test};
-ghost use Rattle.vc_occam.specs.Values.{holds};
+ghost use Rattle.vc_process.specs.Terms.{store, as_test};
+ghost use Rattle.vc_process.specs.Values.{holds};
 
-use crate::condition::Cond;
-use crate::datum::Datum;
 use crate::moves::Move;
 use sqlite_items::Items;
 use vc_packets::Memory;
+use vc_process::{Cond, Datum};
 
 /// What a guard of an ALT tests and inputs.
 #[derive(Drop)]

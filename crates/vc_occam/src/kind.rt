@@ -1,9 +1,7 @@
 //! What a frame of a running process is.
-use crate::condition::Cond;
-use crate::expression::Expr;
 use crate::guarded::GuardedInputs;
-use crate::value::Value;
 use sqlite_items::Items;
+use vc_process::{Cond, Expr, Value};
 
 /// A process as it is written, without its parts.
 #[derive(Drop)]

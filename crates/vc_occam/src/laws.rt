@@ -1,6 +1,5 @@
 //! Laws of running processes. A law is a function that does nothing, whose contract is the law.
 ghost use Rattle.vc_occam.specs.InUse.{LawfulAtFirst, StepsKeepUse, DoingKeepsUse, DoingIsTraced};
-ghost use Rattle.vc_occam.specs.Judged.{OffendersAreUnlawful, OneOffenderIsFirst};
 ghost use Rattle.vc_occam.specs.Laws.{SitesAreOwnAtFirst, StepsKeepSites, DoingKeepsSites, ListedMovesCanBeMade, WaitingAfter};
 ghost use Rattle.vc_occam.specs.Remains.{StepsAreTraces};
 
@@ -34,11 +33,4 @@ pub fn listed_moves_can_be_made()
 /// What waits after whatever the process does.
 pub fn waiting_after()
     ensures { WaitingAfter }
-{}
-
-/// What `check_use` says against a process is right, and there is nothing else to say: a process with a first offender does not use its
-/// channels and variables lawfully, and it has only one.
-pub fn a_first_offender_refutes()
-    ensures unlawful { OffendersAreUnlawful }
-    ensures one { OneOffenderIsFirst }
 {}

@@ -1,23 +1,18 @@
-//! Processes of occam 2.1 on one node: their syntax, their meaning, and their running.
+//! Processes of occam 2.1 on one node: their meaning, and their running.
 //!
-//! A [`Process`] is written over channels and variables by their numbers; its sites are numbered in preorder
-//! (`specs/Numbering`). What expressions are worth, which communications a process may make, what remains of it and what it may
-//! begin with are definitions over plain trees (`specs/Values`, `specs/Traces`, `specs/Remains`, `specs/First`), for every word of
-//! the language; so are lawful use in parallel and the uses of channels (`specs/Lawful`, `specs/ChannelUses`).
+//! A [`Process`], as it is written, and what is asked of it stand below, in vc_process, and are handed on here. Which communications
+//! a process may make, what remains of it and what it may begin with are definitions over plain trees (`specs/Traces`,
+//! `specs/Remains`, `specs/First`), for every word of the language.
 //!
 //! The layer above knows of a [`Running`] that [`Running::actions`] are the first moves of what remains, which
 //! [`Running::list_actions`] puts in a list that the caller keeps, [`Running::lists`] is true exactly of them, and
 //! [`Running::act`] and [`Running::resume`] each make exactly one step, whose communications, followed by any trace of what
 //! remains, are a trace of what remained before (`specs/States`). [`Running::only_step`] names the only move where that is known
-//! to be a step without a communication, and [`Running::act_quietly`] makes one. A message of another length than 8 on a channel
-//! of whole numbers is worth the number of its first eight bytes, missing ones being 0 (`specs/Messages`).
+//! to be a step without a communication, and [`Running::act_quietly`] makes one.
 //!
 //! Laws of the definitions, for every word of the language, stand in `laws.rt`: what a step makes, followed by any trace of what
 //! remains, is a trace of what remained before; no step loses lawful use; each listed move can be made; what waits after whatever a
 //! process does.
-//!
-//! [`check_use`] accepts exactly the processes that use channels and variables lawfully, and else tells the first offender. Of each
-//! PAR it lists what its parts use, puts that in order, and compares all uses of one thing with the first of them (`sharing.rt`).
 //!
 //! A process runs as a tree of frames (`frame.rt`), one for each process that is written, with how far it is and at which part;
 //! what it stands for is said in `specs/Frames`. A part begins, ends and begins again by a change of its frame, without memory;
@@ -32,16 +27,8 @@
 #![tactic(auto)]
 
 mod answer;
-mod asked;
 mod begins;
-mod bytes_expression;
-mod channel_use;
-mod condition;
-mod datum;
 mod deed;
-mod depth;
-mod evaluation;
-mod expression;
 mod frame;
 mod framing;
 mod going;
@@ -49,47 +36,25 @@ mod guarded;
 mod hints;
 mod kind;
 mod laws;
-mod limits;
 mod look;
 mod looking;
 mod meeting;
 mod moves;
 mod offering;
-mod operator;
 mod phase;
-mod process;
-mod process_limits;
-mod relation;
 mod running;
-mod sharing;
 mod site_deed;
-mod usages;
-mod use_check;
-mod use_fault;
-mod used;
-mod uses;
-mod value;
-mod value_kind;
 mod variables;
 mod waits;
 mod went;
-mod written;
 
 pub use answer::Answer;
-pub use bytes_expression::BytesExpr;
-pub use channel_use::ChannelUse;
-pub use condition::Cond;
-pub use expression::Expr;
 pub use laws::{
-    a_first_offender_refutes, lawful_use_is_kept, listed_moves_can_be_made, sites_are_own,
-    steps_are_traces, waiting_after,
+    lawful_use_is_kept, listed_moves_can_be_made, sites_are_own, steps_are_traces, waiting_after,
 };
 pub use moves::Move;
-pub use operator::Op;
-pub use process::{Branch, Guard, Process};
-pub use relation::Rel;
 pub use running::Running;
-pub use use_check::check_use;
-pub use use_fault::UseFault;
-pub use value::Value;
-pub use value_kind::ValueKind;
+pub use vc_process::{
+    Branch, BytesExpr, ChannelUse, Cond, Datum, Expr, Guard, Op, Process, Rel, UseFault, Value,
+    ValueKind, a_first_offender_refutes, check_use,
+};

@@ -9,22 +9,21 @@ ghost use Rattle.vc_occam.specs.Frames.{BeginsAs, BeginsAt, BeginsWith, HasSiteI
 ghost use Rattle.vc_occam.specs.Remains.{Fresh};
 ghost use Rattle.vc_occam.specs.Sites.{InPreorder, PartsInPreorder};
 ghost use Rattle.vc_occam.specs.States.{Waiting, carried, output_at, waiting};
-ghost use Rattle.vc_occam.specs.Terms.{store};
-ghost use Rattle.vc_occam.specs.Values.{Store};
+ghost use Rattle.vc_process.specs.Terms.{store};
+ghost use Rattle.vc_process.specs.Values.{Store};
 
 use crate::begins::Begins;
-use crate::datum::Datum;
 use crate::frame::Frame;
 use crate::guarded::GuardedInput;
 use crate::kind::Kind;
 use crate::look::Look;
 use crate::moves::{Move, site_of};
 use crate::phase::Phase;
-use crate::value::Value;
 use crate::waits::Waits;
 use sqlite_items::Items;
 use std::alloc::Global;
 use vc_packets::Memory;
+use vc_process::{Datum, Value};
 
 impl Frame {
     /// Adds the moves that it can begin with, in order of guard.

@@ -4,7 +4,7 @@ ghost use Rattle.vc_occam.specs.declared.moves.Move.TheVariants.{Inner};
 ghost use Rattle.vc_occam.specs.First.{joined as as_joined, meetings};
 ghost use Rattle.vc_occam.specs.Frames.{is_outside as stays_outside};
 ghost use Rattle.vc_occam.specs.Moving.{partner as its_partner};
-ghost use Rattle.vc_occam.specs.Usage.{among};
+ghost use Rattle.vc_process.specs.Usage.{among};
 
 use crate::moves::Move;
 use sqlite_items::Items;

@@ -3,7 +3,7 @@ ghost use Rattle.std.specs.Prelude.{◌≡◌, ℕ, slice_get};
 ghost use Rattle.vc_occam.specs.declared.deed.Deed.TheVariants.{Offer};
 ghost use Rattle.vc_occam.specs.Frames.{Able, ChangedAt, Did, PartInPreorder, part_rest, plans, view, views};
 ghost use Rattle.vc_occam.specs.Sites.{InPreorder};
-ghost use Rattle.vc_occam.specs.Values.{Store};
+ghost use Rattle.vc_process.specs.Values.{Store};
 
 use crate::frame::Frame;
 use crate::looking::part_with;

@@ -7,25 +7,23 @@ ghost use Rattle.vc_occam.specs.Moving.{CanBegin, HasMet, at, deed_for as deed_o
 ghost use Rattle.vc_occam.specs.OneProof.{BeginsWith-prop, InPreorder-prop, OwnSites-prop, UsesLawfully-prop};
 ghost use Rattle.vc_occam.specs.Sites.{InPreorder, OwnSites};
 ghost use Rattle.vc_occam.specs.States.{came, carried, output_at};
-ghost use Rattle.vc_occam.specs.Terms.{store};
+ghost use Rattle.vc_process.specs.Terms.{store};
 
 use crate::answer::Answer;
 use crate::begins::Begins;
-use crate::datum::Datum;
 use crate::deed::Deed;
 use crate::frame::Frame;
 use crate::framing::begin_frame;
 use crate::hints::Hints;
 use crate::meeting::{clear, is_outside, join, partner};
 use crate::moves::{Move, site_of};
-use crate::process::Process;
 use crate::site_deed::SiteDeed;
-use crate::value_kind::ValueKind;
 use crate::variables::empty_variables;
 use crate::waits::Waits;
 use sqlite_items::Items;
 use std::alloc::Global;
 use vc_packets::Memory;
+use vc_process::{Datum, Process, ValueKind};
 
 /// A process that runs on a node, with its variables: what remains of it, move by move.
 pub struct Running {
@@ -129,14 +127,14 @@ impl Running {
     ghost use Rattle.vc_occam.specs.Frames.{assigned_at, waits_at};
     ghost use Rattle.vc_occam.specs.Moving.{CanMeet};
     ghost use Rattle.vc_occam.specs.declared.moves.Move.TheVariants as Move;
-    ghost use Rattle.vc_occam.specs.Terms.{store};
-    ghost use Rattle.vc_occam.specs.InOrder.{number};
-    ghost use Rattle.vc_occam.specs.Numbering.{written};
+    ghost use Rattle.vc_process.specs.Terms.{store};
+    ghost use Rattle.vc_process.specs.InOrder.{number};
+    ghost use Rattle.vc_process.specs.Numbering.{written};
     ghost use Rattle.vc_occam.specs.Opening.{Fits, opening};
-    ghost use Rattle.vc_occam.specs.Lawful.{Lawfully};
+    ghost use Rattle.vc_process.specs.Lawful.{Lawfully};
     ghost use Rattle.vc_occam.specs.Remains.{Done};
     ghost use Rattle.vc_occam.specs.Runnings.{inner_channels, moves, state};
-    ghost use Rattle.vc_occam.specs.Usage.{among};
+    ghost use Rattle.vc_process.specs.Usage.{among};
     ghost use Rattle.vc_occam.specs.States.{Acts, FitsMove, IsAwaited, IsQuiet, Rests, Resumes, doing, sent_by, waiting, output, input};
 
     /// A process about to begin, its variables being 0 or without bytes. `inside` are the channels inside its node. At most 65,536

@@ -1,9 +1,9 @@
 //! What one site of a running process does, on its way to the site.
 ghost use Rattle.std.specs.Prelude.{◌≡◌};
 
-use crate::datum::Datum;
 use crate::deed::Deed;
 use std::mem;
+use vc_process::Datum;
 
 /// What a site does. Where that assigns bytes, they come along; a number is worked out at the site. The site takes out what it uses.
 #[derive(Drop)]

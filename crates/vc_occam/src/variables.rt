@@ -1,15 +1,14 @@
 //! Variables of a running process, and how they change.
 ghost use Rattle.std.specs.Prelude.{◌≡◌, ◌<◌, IfOk, length, map};
-ghost use Rattle.vc_occam.specs.Messages.{received};
+ghost use Rattle.vc_process.specs.Messages.{received};
 ghost use Rattle.vc_occam.specs.Opening.{empty_of};
-ghost use Rattle.vc_occam.specs.Terms.{store};
+ghost use Rattle.vc_process.specs.Terms.{store};
 ghost use Rattle.vc_occam.specs.Traces.{set};
 
-use crate::datum::Datum;
-use crate::value_kind::ValueKind;
 use sqlite_items::Items;
 use std::alloc::Global;
 use vc_packets::Memory;
+use vc_process::{Datum, ValueKind};
 
 /// Variables of these kinds, which are 0 or without bytes.
 pub(crate) fn empty_variables(alloc: Global, kinds: &[ValueKind]) -> Result<Vec<Datum>, Memory>

@@ -3,7 +3,7 @@ use Rattle.std.proofs.Common.{◌≡◌, ℕ, zero, suc, ◌<◌, ◌+◌, Bool,
 use Rattle.std.proofs.lemmas.Bool.Decides.{nat_tests}
 use Rattle.std.specs.Prelude.{slice_get, IsSome, is_some}
 use Rattle.std.specs.List.{list_any}
-use Rattle.vc_occam.specs.declared.channel_use.ChannelUse.{ChannelUse}
+use Rattle.vc_process.specs.declared.channel_use.ChannelUse.{ChannelUse}
 use Rattle.vc_plan.specs.declared.plan.Plan.{Plan}
 use Rattle.vc_plan.specs.declared.port.Port.{Port}
 use Rattle.vc_plan.specs.declared.port.Spot.{Spot}

@@ -4,13 +4,13 @@ use Rattle.std.proofs.lemmas.Bool.{ltb-true}
 use Rattle.std.proofs.lemmas.Bool.Decides.{nat_tests}
 use Rattle.std.proofs.lemmas.Option.{slice_get_within}
 use Rattle.std.specs.Prelude.{nat_lt, slice_get}
-use Rattle.vc_occam.specs.declared.value_kind.ValueKind.{ValueKind}
-use Rattle.vc_occam.specs.declared.value_kind.ValueKind.TheVariants as of
-use Rattle.vc_occam.specs.Lawful.{outputs, outputs_all, outputs_branches, outputs_guards, inputs, inputs_all, inputs_branches, inputs_guards, With, Shared, Offence, channel, variable, Offends, by_output, by_input, by_variable, FirstOffence, in_seq, at_par, in_par, in_if, in_while, at_count, in_count, in_alt, FirstOfAll, this_part, later_part, FirstOfBranches, this_branch, later_branch, FirstOfGuards, this_guard, later_guard}
-use Rattle.vc_occam.specs.Limits.{exp_fits, given_fits, given_kind, holds_kind, is_kind}
-use Rattle.vc_occam.specs.ProcessLimits.{names_fit, parts_names_fit, branches_names_fit, guards_names_fit, test_fits}
-use Rattle.vc_occam.specs.Syntax.{Proc, SKIP, STOP, Assign, Output, Input, StopChan, SEQ, PAR, IF, WHILE, COUNT, ALT, Procs, no_parts, part, Branches, no_branches, branch, Guards, no_guards, guard}
-use Rattle.vc_occam.specs.Usage.{Set, nothing, just, ◌∪◌, changes, changes_all, changes_branches, changes_guards, uses}
+use Rattle.vc_process.specs.declared.value_kind.ValueKind.{ValueKind}
+use Rattle.vc_process.specs.declared.value_kind.ValueKind.TheVariants as of
+use Rattle.vc_process.specs.Lawful.{outputs, outputs_all, outputs_branches, outputs_guards, inputs, inputs_all, inputs_branches, inputs_guards, With, Shared, Offence, channel, variable, Offends, by_output, by_input, by_variable, FirstOffence, in_seq, at_par, in_par, in_if, in_while, at_count, in_count, in_alt, FirstOfAll, this_part, later_part, FirstOfBranches, this_branch, later_branch, FirstOfGuards, this_guard, later_guard}
+use Rattle.vc_process.specs.Limits.{exp_fits, given_fits, given_kind, holds_kind, is_kind}
+use Rattle.vc_process.specs.ProcessLimits.{names_fit, parts_names_fit, branches_names_fit, guards_names_fit, test_fits}
+use Rattle.vc_process.specs.Syntax.{Proc, SKIP, STOP, Assign, Output, Input, StopChan, SEQ, PAR, IF, WHILE, COUNT, ALT, Procs, no_parts, part, Branches, no_branches, branch, Guards, no_guards, guard}
+use Rattle.vc_process.specs.Usage.{Set, nothing, just, ◌∪◌, changes, changes_all, changes_branches, changes_guards, uses}
 use Rattle.vc_plan.proofs.Limited.{both}
 
 -- each number of the set is less than m

@@ -19,7 +19,7 @@ use Rattle.vc_plan.specs.Labelling.{IsFaultOfWay, IsFaultOfLink, IsFirstFault}
 use Rattle.vc_plan.specs.Refusals.{RefusalsAreRight}
 use Rattle.vc_plan.proofs.Least.{faulty-stops}
 use Rattle.vc_plan.proofs.Order.{ValueBefore-trans, Before-trans}
-use Rattle.vc_occam.proofs.Judged.{unlawful}
+use Rattle.vc_process.proofs.Judged.{unlawful}
 
 way-stops : (net : Plan) (from to : End) (f : Astray) → IsFaultOfWay net from to f → DeliversTo net from to → ⊥
 way-stops net from to f is well =

@@ -4,7 +4,7 @@ use Rattle.std.proofs.Common.{◌≡◌, ℕ, zero, suc, ◌+◌, Bool, true, fa
 use Rattle.std.specs.List.{list_all}
 use Rattle.vc_labels.specs.declared.action.Action.{Action}
 use Rattle.vc_labels.specs.declared.action.Action.TheVariants.{Out, Portal}
-use Rattle.vc_occam.specs.declared.channel_use.ChannelUse.{ChannelUse}
+use Rattle.vc_process.specs.declared.channel_use.ChannelUse.{ChannelUse}
 use Rattle.vc_plan.specs.declared.channel.Channel.{Channel}
 use Rattle.vc_plan.specs.declared.channel.Home.{Home}
 use Rattle.vc_plan.specs.declared.channel.Home.TheVariants.{Way, Inside}

@@ -1,6 +1,6 @@
 -- An accepted plan, in words that the layers above use.
 use Rattle.std.specs.Prelude.{◌≡◌, ℕ, Bool, true, false, Some, slice_get, IsSome}
-use Rattle.vc_occam.specs.declared.channel_use.ChannelUse.{ChannelUse}
+use Rattle.vc_process.specs.declared.channel_use.ChannelUse.{ChannelUse}
 use Rattle.vc_plan.specs.declared.plan.Plan.{Plan}
 use Rattle.vc_plan.specs.declared.port.Port.{Port}
 use Rattle.vc_plan.specs.declared.port.Wire.{Wire}

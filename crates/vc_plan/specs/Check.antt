@@ -5,12 +5,12 @@ use Rattle.vc_labels.specs.declared.row.Row.{Row}
 use Rattle.vc_labels.specs.declared.fault.TableFault.{TableFault}
 use Rattle.vc_labels.specs.declared.fault.TableFault.TheVariants.{BadLink}
 use Rattle.vc_labels.specs.Fault.{table_fault}
-use Rattle.vc_occam.specs.declared.value_kind.ValueKind.{ValueKind}
-use Rattle.vc_occam.specs.declared.channel_use.ChannelUse.{ChannelUse}
-use Rattle.vc_occam.specs.ChannelUses.{channel_uses}
-use Rattle.vc_occam.specs.Lawful.{Lawfully, Offence, channel, variable, FirstOffence}
-use Rattle.vc_occam.specs.Limits.{same_kind}
-use Rattle.vc_occam.specs.Numbering.{written}
+use Rattle.vc_process.specs.declared.value_kind.ValueKind.{ValueKind}
+use Rattle.vc_process.specs.declared.channel_use.ChannelUse.{ChannelUse}
+use Rattle.vc_process.specs.ChannelUses.{channel_uses}
+use Rattle.vc_process.specs.Lawful.{Lawfully, Offence, channel, variable, FirstOffence}
+use Rattle.vc_process.specs.Limits.{same_kind}
+use Rattle.vc_process.specs.Numbering.{written}
 use Rattle.vc_plan.specs.declared.plan.Plan.{Plan}
 use Rattle.vc_plan.specs.declared.port.Port.{Port}
 use Rattle.vc_plan.specs.declared.port.Wire.{Wire}

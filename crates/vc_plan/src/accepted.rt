@@ -10,7 +10,7 @@ pub struct Accepted {
 
 impl Model for Accepted {
     ghost use Rattle.std.specs.Coded.{codes};
-    ghost use Rattle.vc_occam.specs.contracts.process.Process as process;
+    ghost use Rattle.vc_process.specs.contracts.process.Process as process;
     ghost use Rattle.vc_plan.specs.Accepted.{IsAccepted};
     ghost use Rattle.vc_plan.specs.declared.plan.Plan.{Plan};
 

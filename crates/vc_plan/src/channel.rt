@@ -1,6 +1,6 @@
 //! Channels.
 use crate::name::Name;
-use vc_occam::ValueKind;
+use vc_process::ValueKind;
 
 /// What carries a channel.
 #[derive(Clone, Copy, Debug, PartialEq, Eq, Drop)]

@@ -24,8 +24,8 @@ use crate::vlink::{End, Vlink};
 use sqlite_items::Items;
 use std::alloc::Global;
 use vc_labels::{TableFault, fault_of_rows};
-use vc_occam::{ChannelUse, ValueKind};
 use vc_packets::Memory;
+use vc_process::{ChannelUse, ValueKind};
 
 fn has_port(ports: &[Port], port: Port) -> bool
     ensures { result ≡ list_any (same_port port) ports.now }

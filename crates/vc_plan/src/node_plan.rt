@@ -1,7 +1,7 @@
 //! Nodes.
 use crate::name::Name;
 use sqlite_items::Items;
-use vc_occam::{Process, ValueKind};
+use vc_process::{Process, ValueKind};
 
 /// A variable of a node.
 #[derive(Debug, Drop)]

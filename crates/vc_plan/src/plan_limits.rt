@@ -19,8 +19,8 @@ use crate::vlink::{End, Vlink};
 use sqlite_items::Items;
 use std::alloc::Global;
 use vc_labels::{Action, Row};
-use vc_occam::ValueKind;
 use vc_packets::Memory;
+use vc_process::ValueKind;
 
 fn has_no_portal(rows: &[Row]) -> bool
     ensures { result ≡ list_all (λ row. not (is_portal row.action)) rows.now }

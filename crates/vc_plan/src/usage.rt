@@ -1,9 +1,9 @@
 //! Whether processes use their channels and variables lawfully.
 ghost use Rattle.std.specs.Prelude.{◌≡◌, ◌<◌, IfNone, IfOk, IfSome, Some, length, slice_get, true};
 ghost use Rattle.std.specs.List.{list_all};
-ghost use Rattle.vc_occam.specs.Lawful.{Lawfully};
-ghost use Rattle.vc_occam.specs.Numbering.{written};
-ghost use Rattle.vc_occam.specs.UseFaults.{IsUseFault};
+ghost use Rattle.vc_process.specs.Lawful.{Lawfully};
+ghost use Rattle.vc_process.specs.Numbering.{written};
+ghost use Rattle.vc_process.specs.UseFaults.{IsUseFault};
 ghost use Rattle.vc_plan.specs.Check.{AreLawful, IsFirstUsage, IsUsage, channel_name, variable_name};
 ghost use Rattle.vc_plan.specs.Limits.{process_names};
 
@@ -13,8 +13,8 @@ use crate::node_plan::{NodePlan, Variable};
 use crate::plan::Plan;
 use sqlite_items::Items;
 use std::alloc::Global;
-use vc_occam::{UseFault, check_use};
 use vc_packets::Memory;
+use vc_process::{UseFault, check_use};
 
 fn name_of_channel(alloc: Global, channels: &[Channel], chan: u16) -> Result<Name, Memory>
     requires { chan < length channels.now }

@@ -2,10 +2,10 @@
 use Rattle.std.specs.Prelude.{ℕ, ◌+◌, ◌-◌, ◌*◌, min, List, [], ◌∷◌, length, Bool, true, false, nat_le, ◌&&◌, if◌then◌else◌, codes, Result, Ok}
 use Rattle.std.specs.Str.{bytes_eq}
 use Rattle.serde_json.specs.Data.{Data, string}
-use Rattle.vc_occam.specs.declared.value_kind.ValueKind.{ValueKind}
-use Rattle.vc_occam.specs.declared.value_kind.ValueKind.TheVariants.{Int, Bytes}
-use Rattle.vc_occam.specs.declared.bytes_expression.BytesExpr.{BytesExpr}
-use Rattle.vc_occam.specs.declared.bytes_expression.BytesExpr.TheVariants.{Lit, Var, Fill}
+use Rattle.vc_process.specs.declared.value_kind.ValueKind.{ValueKind}
+use Rattle.vc_process.specs.declared.value_kind.ValueKind.TheVariants.{Int, Bytes}
+use Rattle.vc_process.specs.declared.bytes_expression.BytesExpr.{BytesExpr}
+use Rattle.vc_process.specs.declared.bytes_expression.BytesExpr.TheVariants.{Lit, Var, Fill}
 use Rattle.vc_plan.specs.declared.node_plan.Variable.{Variable}
 use Rattle.vc_reader.specs.declared.path.Step.TheVariants.{Field}
 use Rattle.vc_reader.specs.declared.word.Word.TheVariants as word

@@ -2,10 +2,10 @@
 use Rattle.std.specs.Prelude.{ℕ, zero, suc, List, if◌then◌else◌, codes, Result, Ok}
 use Rattle.std.specs.Str.{bytes_eq}
 use Rattle.serde_json.specs.Data.{Data, boolean, array}
-use Rattle.vc_occam.specs.declared.relation.Rel.{Rel}
-use Rattle.vc_occam.specs.declared.relation.Rel.TheVariants.{Eq, Ne, Lt, Gt, Le, Ge}
-use Rattle.vc_occam.specs.declared.condition.Cond.{Cond}
-use Rattle.vc_occam.specs.declared.condition.Cond.TheVariants.{Always, Cmp, And, Or, Not}
+use Rattle.vc_process.specs.declared.relation.Rel.{Rel}
+use Rattle.vc_process.specs.declared.relation.Rel.TheVariants.{Eq, Ne, Lt, Gt, Le, Ge}
+use Rattle.vc_process.specs.declared.condition.Cond.{Cond}
+use Rattle.vc_process.specs.declared.condition.Cond.TheVariants.{Always, Cmp, And, Or, Not}
 use Rattle.vc_plan.specs.declared.node_plan.Variable.{Variable}
 use Rattle.vc_reader.specs.declared.condition.CondWord.{CondWord}
 use Rattle.vc_reader.specs.declared.condition.CondWord.TheVariants as word

@@ -2,11 +2,11 @@
 use Rattle.std.specs.Prelude.{ℕ, zero, suc, ◌^◌, ℤ, pos, List, nat_lt, ◌==◌, if◌then◌else◌, codes, Result, Ok}
 use Rattle.std.specs.Str.{bytes_eq}
 use Rattle.serde_json.specs.Data.{Data, number, string, array, unsigned, negative}
-use Rattle.vc_occam.specs.declared.operator.Op.{Op}
-use Rattle.vc_occam.specs.declared.operator.Op.TheVariants.{Add, Sub, Mul, Div, Rem}
-use Rattle.vc_occam.specs.declared.expression.Expr.{Expr}
-use Rattle.vc_occam.specs.declared.expression.Expr.TheVariants.{Num, Var, Bin, Size}
-use Rattle.vc_occam.specs.declared.value_kind.ValueKind.TheVariants.{Int, Bytes}
+use Rattle.vc_process.specs.declared.operator.Op.{Op}
+use Rattle.vc_process.specs.declared.operator.Op.TheVariants.{Add, Sub, Mul, Div, Rem}
+use Rattle.vc_process.specs.declared.expression.Expr.{Expr}
+use Rattle.vc_process.specs.declared.expression.Expr.TheVariants.{Num, Var, Bin, Size}
+use Rattle.vc_process.specs.declared.value_kind.ValueKind.TheVariants.{Int, Bytes}
 use Rattle.vc_plan.specs.declared.node_plan.Variable.{Variable}
 use Rattle.vc_reader.specs.declared.expression.ExprWord.{ExprWord}
 use Rattle.vc_reader.specs.declared.expression.ExprWord.TheVariants.{SizeOf, Operator}

@@ -2,8 +2,8 @@
 use Rattle.std.specs.Prelude.{ℕ, min, List, [], ◌∷◌, Bool, true, false, ◌&&◌, ◌||◌, ◌==◌, if◌then◌else◌, codes, Option, option_map, Result, Ok, ⊤}
 use Rattle.std.specs.Str.{bytes_eq}
 use Rattle.serde_json.specs.Data.{Data}
-use Rattle.vc_occam.specs.declared.value_kind.ValueKind.{ValueKind}
-use Rattle.vc_occam.specs.declared.value_kind.ValueKind.TheVariants.{Int, Bytes}
+use Rattle.vc_process.specs.declared.value_kind.ValueKind.{ValueKind}
+use Rattle.vc_process.specs.declared.value_kind.ValueKind.TheVariants.{Int, Bytes}
 use Rattle.vc_labels.specs.declared.action.Action.TheVariants.{Out, Portal}
 use Rattle.vc_labels.specs.declared.row.Row.{Row}
 use Rattle.vc_plan.specs.declared.node_plan.Variable.{Variable}

@@ -2,14 +2,14 @@
 use Rattle.std.specs.Prelude.{ℕ, zero, suc, min, List, if◌then◌else◌, codes, Result, Ok}
 use Rattle.std.specs.Str.{bytes_eq}
 use Rattle.serde_json.specs.Data.{Data, string}
-use Rattle.vc_occam.specs.declared.value_kind.ValueKind.{ValueKind}
-use Rattle.vc_occam.specs.declared.value_kind.ValueKind.TheVariants as kind
-use Rattle.vc_occam.specs.declared.value.Value.{Value}
-use Rattle.vc_occam.specs.declared.value.Value.TheVariants.{Int, Bytes}
-use Rattle.vc_occam.specs.declared.process.Process.{Process}
-use Rattle.vc_occam.specs.declared.process.Process.TheVariants.{Skip, Stop, Set, Send, Receive, Stopch, Seq, Par, If, While, Count, Alt}
-use Rattle.vc_occam.specs.declared.process.Branch.{Branch}
-use Rattle.vc_occam.specs.declared.process.Guard.{Guard}
+use Rattle.vc_process.specs.declared.value_kind.ValueKind.{ValueKind}
+use Rattle.vc_process.specs.declared.value_kind.ValueKind.TheVariants as kind
+use Rattle.vc_process.specs.declared.value.Value.{Value}
+use Rattle.vc_process.specs.declared.value.Value.TheVariants.{Int, Bytes}
+use Rattle.vc_process.specs.declared.process.Process.{Process}
+use Rattle.vc_process.specs.declared.process.Process.TheVariants.{Skip, Stop, Set, Send, Receive, Stopch, Seq, Par, If, While, Count, Alt}
+use Rattle.vc_process.specs.declared.process.Branch.{Branch}
+use Rattle.vc_process.specs.declared.process.Guard.{Guard}
 use Rattle.vc_plan.specs.declared.channel.Channel.{Channel}
 use Rattle.vc_plan.specs.declared.node_plan.Variable.{Variable}
 use Rattle.vc_reader.specs.declared.process.ProcessWord.{ProcessWord}

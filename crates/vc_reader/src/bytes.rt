@@ -14,8 +14,8 @@ use crate::word::Word;
 use serde_json::Value;
 use sqlite_items::Items;
 use std::alloc::Global;
-use vc_occam::{BytesExpr, ValueKind};
 use vc_plan::Variable;
+use vc_process::{BytesExpr, ValueKind};
 
 fn same_kind(one: ValueKind, two: ValueKind) -> bool
     ensures { result ≡ is_same one two }

@@ -12,8 +12,8 @@ use crate::register::Register;
 use serde_json::Value;
 use sqlite_items::Boxed;
 use std::alloc::Global;
-use vc_occam::{Cond, Rel};
 use vc_plan::Variable;
+use vc_process::{Cond, Rel};
 
 /// The word at the head of a list that is a condition.
 #[derive(Clone, Copy, Drop)]

@@ -13,8 +13,8 @@ use crate::register::Register;
 use serde_json::Value;
 use sqlite_items::Boxed;
 use std::alloc::Global;
-use vc_occam::{Expr, Op, ValueKind};
 use vc_plan::Variable;
+use vc_process::{Expr, Op, ValueKind};
 
 /// A whole number of 64 bits with sign.
 fn int(alloc: Global, value: &Value) -> Result<i64, Stop>

@@ -25,9 +25,9 @@ use crate::word::Word;
 use serde_json::Value;
 use sqlite_items::Items;
 use std::alloc::Global;
-use vc_occam::Process;
 use vc_packets::Memory;
 use vc_plan::{Channel, NodePlan, Plan, SwitchPlan, Wire};
+use vc_process::Process;
 
 #[derive(Drop)]
 struct Version;

@@ -16,8 +16,8 @@ use crate::word::Word;
 use serde_json::Value as Json;
 use sqlite_items::{Boxed, Items};
 use std::alloc::Global;
-use vc_occam::{Branch, Guard, Process, Value, ValueKind};
 use vc_plan::{Channel, Variable};
+use vc_process::{Branch, Guard, Process, Value, ValueKind};
 
 /// The word of a process that is an object.
 #[derive(Clone, Copy, Drop)]

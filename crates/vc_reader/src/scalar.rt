@@ -8,7 +8,7 @@ use crate::fault::{Stop, Why};
 use crate::reader::{ItemReader, Reader, number, text, wrong};
 use serde_json::Value;
 use std::alloc::Global;
-use vc_occam::ValueKind;
+use vc_process::ValueKind;
 
 /// The reader of each item of a list, whatever stood before it.
 #[derive(Drop)]

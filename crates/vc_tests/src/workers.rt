@@ -1,6 +1,6 @@
 //! A worker by itself, its stamps, its gate, and the merge of what workers did.
 ghost use Rattle.std.specs.Prelude.{◌≡◌, ℕ, ◌∷◌, [], IfOk};
-ghost use Rattle.vc_core.specs.declared.act.Act.{Act as SpeltAct};
+ghost use Rattle.vc_actor.specs.declared.act.Act.{Act as SpeltAct};
 ghost use Rattle.vc_threads.specs.Works.{IsOfSomePlan};
 
 use rtrb::RingBuffer;

@@ -3,8 +3,8 @@ use Rattle.std.proofs.Common.{◌≡◌, ℕ, ◌<◌, ◌≤◌, length, Option
 use Rattle.vc_plan.specs.declared.plan.Plan.{Plan}
 use Rattle.vc_core.specs.State.{State, IsNetworkOf}
 use Rattle.vc_core.specs.Turns.{Rests, IsAtRest, FindsTake, FindsEvent, actors}
-use Rattle.vc_core.specs.declared.act.Act.TheVariants.{Take}
-use Rattle.vc_core.specs.declared.act.Event.{Event}
+use Rattle.vc_actor.specs.declared.act.Act.TheVariants.{Take}
+use Rattle.vc_core.specs.declared.event.Event.{Event}
 use Rattle.vc_core.proofs.Turning.{at_rest}
 use Rattle.vc_text.specs.Closing.{HasEvent}
 

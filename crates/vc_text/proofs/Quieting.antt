@@ -9,7 +9,7 @@ use Rattle.vc_plan.specs.declared.plan.Plan.{Plan}
 use Rattle.vc_core.specs.State.{State, IsNetworkOf, HasFront, MakesEvent}
 use Rattle.vc_core.specs.Enabled.{CanHappen}
 use Rattle.vc_core.specs.Turns.{TakesNone, FindsEvent, Rests}
-use Rattle.vc_core.specs.declared.act.Event.{Event}
+use Rattle.vc_core.specs.declared.event.Event.{Event}
 use Rattle.vc_core.proofs.Quiet.{quiet_after}
 use Rattle.vc_core.proofs.Turning.{takes}
 use Rattle.vc_text.specs.Quiet.{active_at, AreQuiet, IsIdle}

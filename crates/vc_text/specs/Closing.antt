@@ -4,7 +4,7 @@ use Rattle.vc_plan.specs.declared.plan.Plan.{Plan}
 use Rattle.vc_core.specs.Enabled.{CanHappen}
 use Rattle.vc_core.specs.State.{State}
 use Rattle.vc_core.specs.Turns.{Rests, IsAtRest, HaveEnded}
-use Rattle.vc_core.specs.declared.act.Event.{Event}
+use Rattle.vc_core.specs.declared.event.Event.{Event}
 use Rattle.vc_core.specs.declared.close.Close.{Close}
 use Rattle.vc_core.specs.declared.close.Close.TheVariants.{Done, Quiet, Limit}
 

@@ -4,7 +4,7 @@ use Rattle.std.specs.Io.KnownBytes.{Appends}
 use Rattle.vc_core.specs.declared.close.Close.{Close}
 use Rattle.vc_core.specs.Replaying.{Replays}
 use Rattle.vc_core.specs.State.{State}
-use Rattle.vc_core.specs.declared.act.Event.{Event}
+use Rattle.vc_core.specs.declared.event.Event.{Event}
 use Rattle.vc_text.specs.Shown.{channels_of}
 use Rattle.vc_plan.specs.declared.plan.Plan.{Plan as Network}
 use Rattle.vc_text.specs.declared.fault.RunFault.{RunFault}

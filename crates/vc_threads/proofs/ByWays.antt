@@ -12,8 +12,8 @@ use Rattle.vc_actors.specs.Actors.Label.{Own, Takes, Puts}
 use Rattle.vc_actors.specs.LocalRun.{Stamped, Turn, LocalRun, CarriesStamp, next_stamp, plain, all_put, all_taken, restamped}
 use Rattle.vc_core.specs.Shown.{Acting, actor_of, act_of}
 use Rattle.vc_core.specs.Turns.{IsPut}
-use Rattle.vc_core.specs.declared.act.Act.{Act}
-use Rattle.vc_core.specs.declared.act.Act.TheVariants.{Proc, Take, Put, Route, Fct, Pass}
+use Rattle.vc_actor.specs.declared.act.Act.{Act}
+use Rattle.vc_actor.specs.declared.act.Act.TheVariants.{Proc, Take, Put, Route, Fct, Pass}
 use Rattle.vc_machine.specs.Paths.{Port, AtNode, AtSwitch}
 use Rattle.vc_network.specs.Network.{Local}
 use Rattle.vc_network.specs.Network as net

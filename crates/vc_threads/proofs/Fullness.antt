@@ -17,7 +17,7 @@ use Rattle.vc_actors.specs.LocalRun.{Turn, LocalRun, CarriesStamp, all_put, cloc
 use Rattle.vc_core.specs.Begin.{AreFirst}
 use Rattle.vc_core.specs.Shown.{Acting}
 use Rattle.vc_core.specs.Turns.{actors}
-use Rattle.vc_core.specs.declared.act.Act.{Act}
+use Rattle.vc_actor.specs.declared.act.Act.{Act}
 use Rattle.vc_plan.specs.Accepted.{port_of}
 use Rattle.vc_plan.specs.declared.plan.Plan.{Plan}
 use Rattle.vc_plan.specs.declared.port.Wire.{Wire}

@@ -10,8 +10,8 @@ use Rattle.vc_core.specs.Replaying.{Replays}
 use Rattle.vc_core.specs.Shown.{actor_of}
 use Rattle.vc_core.specs.State.{state_of, shown, IsNetworkOf}
 use Rattle.vc_core.specs.Turns.{HaveEnded, actors}
-use Rattle.vc_core.specs.declared.act.Act.{Act}
-use Rattle.vc_core.specs.declared.act.Event.{Event}
+use Rattle.vc_actor.specs.declared.act.Act.{Act}
+use Rattle.vc_core.specs.declared.event.Event.{Event}
 use Rattle.vc_core.specs.declared.close.Close.TheVariants.{Done}
 use Rattle.vc_network.specs.Network.{IsSwitch}
 use Rattle.vc_network.specs.Plan.{ways}

@@ -14,7 +14,7 @@ use Rattle.vc_actors.specs.LocalRun.{Turn, LocalRun, CarriesStamp, next_stamp, p
 use Rattle.vc_network.specs.Plan.{Plan}
 use Rattle.vc_tokens.specs.declared.token.Token.{Token}
 use Rattle.vc_core.specs.OfPlan.{IsActorOf}
-use Rattle.vc_core.specs.declared.act.Act.{Act}
+use Rattle.vc_actor.specs.declared.act.Act.{Act}
 use Rattle.vc_core.specs.Shown.{Acting}
 use Rattle.vc_threads.specs.declared.desk.Desk.{Desk}
 use Rattle.vc_threads.specs.declared.link.Ends.{Ends}

@@ -4,7 +4,7 @@ use Rattle.std.specs.List.{AllByRecursion, Contains}
 use Rattle.vc_actors.specs.Actors.{Label}
 use Rattle.vc_actors.specs.Actors.Label.{Own, Takes, Puts}
 use Rattle.vc_actors.specs.LocalRun.{Stamped, Turn}
-use Rattle.vc_core.specs.declared.act.Act.{Act}
+use Rattle.vc_actor.specs.declared.act.Act.{Act}
 use Rattle.vc_plan.specs.declared.plan.Plan.{Plan}
 use Rattle.vc_tokens.specs.declared.token.Token.{Token}
 use Rattle.vc_threads.specs.Order.{HasEnd}

@@ -16,7 +16,7 @@ use Rattle.vc_core.specs.Begin.{AreFirst, BeginsAs}
 use Rattle.vc_core.specs.OfPlan.{IsActorOf}
 use Rattle.vc_core.specs.Shown.{Acting, actor_of}
 use Rattle.vc_core.specs.Turns.{actors}
-use Rattle.vc_core.specs.declared.act.Act.{Act}
+use Rattle.vc_actor.specs.declared.act.Act.{Act}
 use Rattle.vc_machine.specs.Rendezvous.{nothing_yet}
 use Rattle.vc_network.specs.Network.{Actor, IsNode, IsSwitch, first as begun}
 use Rattle.vc_plan.specs.declared.plan.Plan.{Plan}

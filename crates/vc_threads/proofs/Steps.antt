@@ -10,8 +10,8 @@ use Rattle.vc_network.specs.Plan.{Plan}
 use Rattle.vc_tokens.specs.declared.token.Token.{Token}
 use Rattle.vc_core.specs.OfPlan.{IsActorOf}
 use Rattle.vc_core.specs.Turns.{FindsTurn, IsPut, RoomLets}
-use Rattle.vc_core.specs.declared.act.Act.{Act}
-use Rattle.vc_core.specs.declared.act.Act.TheVariants.{Proc, Take, Put, Route, Fct, Pass}
+use Rattle.vc_actor.specs.declared.act.Act.{Act}
+use Rattle.vc_actor.specs.declared.act.Act.TheVariants.{Proc, Take, Put, Route, Fct, Pass}
 use Rattle.vc_core.specs.Shown.{Acting}
 use Rattle.vc_threads.specs.Runs.{StepsByLink, IsQuiet, Used, Draws, words_of, word_of}
 use Rattle.std.specs.Int.{bit_at}

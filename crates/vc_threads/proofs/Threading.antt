@@ -23,8 +23,8 @@ use Rattle.vc_core.specs.State.{State, shown, IsNetworkOf}
 use Rattle.vc_core.specs.State as core
 use Rattle.vc_core.proofs.Replayed.{replays}
 use Rattle.vc_core.specs.Turns.{actors}
-use Rattle.vc_core.specs.declared.act.Act.{Act}
-use Rattle.vc_core.specs.declared.act.Event.{Event}
+use Rattle.vc_actor.specs.declared.act.Act.{Act}
+use Rattle.vc_core.specs.declared.event.Event.{Event}
 use Rattle.vc_network.specs.Network.{Actor, Local, first, begins, actor_at}
 use Rattle.vc_network.specs.Network as net
 use Rattle.vc_network.specs.Plan.{ways, near, far, IsOutOf, IsInto}

@@ -12,8 +12,8 @@ use Rattle.rand_pcg.specs.Pcg.{pcg32}
 use Rattle.vc_core.specs.Able.{CanAct}
 use Rattle.vc_core.specs.Acting.{MakesOwn, MakesTake, IsOwn}
 use Rattle.vc_core.specs.Turns.{IsPut}
-use Rattle.vc_core.specs.declared.act.Act.{Act}
-use Rattle.vc_core.specs.declared.act.Act.TheVariants.{Take}
+use Rattle.vc_actor.specs.declared.act.Act.{Act}
+use Rattle.vc_actor.specs.declared.act.Act.TheVariants.{Take}
 use Rattle.vc_core.specs.Shown.{Acting}
 
 -- The steps of actor k of the plan: of its own, the take of a token from a link, or the put of one on a link.

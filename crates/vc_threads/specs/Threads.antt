@@ -14,7 +14,7 @@ use Rattle.vc_core.specs.Replaying.{Replays}
 use Rattle.vc_core.specs.Shown.{Acting, actor_of}
 use Rattle.vc_core.specs.State.{state_of, shown}
 use Rattle.vc_core.specs.Turns.{HaveEnded, actors}
-use Rattle.vc_core.specs.declared.act.Act.{Act}
+use Rattle.vc_actor.specs.declared.act.Act.{Act}
 use Rattle.vc_core.specs.declared.close.Close.TheVariants.{Done}
 use Rattle.vc_network.specs.Network as net
 use Rattle.vc_plan.specs.declared.plan.Plan.{Plan}

@@ -3,7 +3,7 @@ ghost use Rattle.std.specs.Prelude.{◌≡◌, ◌⊎◌, ◌↔◌, ◌<◌, Li
 ghost use Rattle.std.specs.List.{AllByRecursion};
 ghost use Rattle.vc_actors.specs.Merge.{Made, IsMerge, AreDistinct, RunRises, run_of};
 ghost use Rattle.vc_threads.specs.Merged.{numbered, event_of, front_of, id_at, FindsFirst};
-ghost use Rattle.vc_core.specs.declared.act.Act.{Act as SpeltAct};
+ghost use Rattle.vc_actor.specs.declared.act.Act.{Act as SpeltAct};
 
 use crate::run::ActorRun;
 use std::alloc::{AllocError, Global};

@@ -3,7 +3,7 @@ use Rattle.std.proofs.Common.{◌≡◌, ℕ, ◌==◌, refl, sym, ap, subst, �
 use Rattle.std.proofs.lemmas.Bool.{cases_eq}
 use Rattle.vc_machine.specs.Rendezvous as rendezvous
 use Rattle.vc_network.specs.Views.{Said, said_by}
-use Rattle.vc_occam.specs.declared.value_kind.ValueKind.{ValueKind}
+use Rattle.vc_process.specs.declared.value_kind.ValueKind.{ValueKind}
 use Rattle.vc_occam.specs.Traces.{Comm}
 use Rattle.vc_told.specs.OneList.{by}
 use Rattle.vc_told.proofs.Stepped.{IsSaid, AreSaid}

@@ -1,9 +1,9 @@
 -- The processes of an accepted plan begin well: they use their channels and variables lawfully, and keep to kinds.
 use Rattle.std.proofs.Common.{◌≡◌, ℕ, zero, suc, ◌<◌, true, false, ◌&&◌, refl, sym, ◌∙◌, List, [], ◌∷◌, length, get_or, slice_get, Option, Some, None, arith}
 use Rattle.std.specs.List.{list_all}
-use Rattle.vc_occam.specs.declared.channel_use.ChannelUse.{ChannelUse}
-use Rattle.vc_occam.specs.declared.value_kind.ValueKind.{ValueKind}
-use Rattle.vc_occam.specs.declared.value_kind.ValueKind.TheVariants as kind
+use Rattle.vc_process.specs.declared.channel_use.ChannelUse.{ChannelUse}
+use Rattle.vc_process.specs.declared.value_kind.ValueKind.{ValueKind}
+use Rattle.vc_process.specs.declared.value_kind.ValueKind.TheVariants as kind
 use Rattle.vc_occam.specs.Numbering.{written}
 use Rattle.vc_occam.specs.ProcessLimits.{names_fit}
 use Rattle.vc_occam.proofs.Checked.{kinds_same, IsKinded, AreKinded, kinded, empty_kinded}

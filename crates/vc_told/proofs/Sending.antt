@@ -6,7 +6,7 @@ use Rattle.vc_machine.specs.Rendezvous as rendezvous
 use Rattle.vc_machine.specs.Rendezvous.{View, Does, DoesAll, nothing_yet}
 use Rattle.vc_occam.specs.Messages.{message}
 use Rattle.vc_occam.specs.Traces.{Comm, Out, In, Fin, Stp}
-use Rattle.vc_occam.proofs.Lists.{at_front, behind}
+use Rattle.vc_process.proofs.Lists.{at_front, behind}
 use Rattle.vc_told.specs.OneList.{to_channel, on}
 use Rattle.vc_told.specs.Sent.{IsSent, NothingIsGotUnsent}
 

@@ -5,7 +5,7 @@ use Rattle.vc_network.specs.Processes.{Deed, Offers, Wants, Chooses, Stops, Meet
 use Rattle.std.specs.List.{Contains}
 use Rattle.vc_occam.specs.declared.moves.Move.{Move}
 use Rattle.vc_occam.specs.declared.moves.Move.TheVariants as move
-use Rattle.vc_occam.specs.declared.value_kind.ValueKind.{ValueKind}
+use Rattle.vc_process.specs.declared.value_kind.ValueKind.{ValueKind}
 use Rattle.vc_occam.specs.InUse.{UsesLawfully}
 use Rattle.vc_occam.specs.Messages.{message}
 use Rattle.vc_occam.specs.NodeTraces as node
@@ -21,7 +21,7 @@ use Rattle.vc_occam.proofs.Keeping.{doing_keeps_use, doing_is_traced}
 use Rattle.vc_occam.proofs.Kinded.{kind_of, value_as, carries, StoreHasKinds, Sound, Tells, doing_tells, doing_stays}
 use Rattle.vc_occam.proofs.Openly.{offers_outside}
 use Rattle.vc_occam.proofs.Sites.{clash}
-use Rattle.vc_occam.proofs.Lists.{none as empty}
+use Rattle.vc_process.proofs.Lists.{none as empty}
 use Rattle.vc_told.specs.Process.{Process, Goes, does}
 
 -- a communication that carries this value, as its node makes it: an input's value is what the message is worth on the channel

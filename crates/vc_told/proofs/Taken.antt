@@ -4,7 +4,7 @@ use Rattle.std.proofs.lemmas.Bool.{cases_eq}
 use Rattle.vc_machine.specs.Rendezvous as rendezvous
 use Rattle.vc_machine.specs.Rendezvous.{View, Does, DoesAll, part}
 use Rattle.vc_network.specs.Views.{Said, all_said}
-use Rattle.vc_occam.specs.declared.value_kind.ValueKind.{ValueKind}
+use Rattle.vc_process.specs.declared.value_kind.ValueKind.{ValueKind}
 use Rattle.vc_occam.specs.Messages.{message}
 use Rattle.vc_occam.specs.Traces.{Comm, Out, In, Fin, Stp}
 use Rattle.vc_occam.proofs.Kinded.{value_as, carries}

@@ -2,7 +2,7 @@
 use Rattle.std.specs.Prelude.{ℕ, suc, Bool, false, ◌==◌, List, [], ◌∷◌, ◌++◌, get_or, if◌then◌else◌}
 use Rattle.vc_occam.specs.Opening.{opening}
 use Rattle.vc_occam.specs.Usage.{among}
-use Rattle.vc_occam.specs.declared.process.Process.TheVariants.{Skip}
+use Rattle.vc_process.specs.declared.process.Process.TheVariants.{Skip}
 use Rattle.vc_plan.specs.declared.channel.Channel.{Channel}
 use Rattle.vc_plan.specs.declared.channel.Home.{Home}
 use Rattle.vc_plan.specs.declared.channel.Home.TheVariants.{Way, Inside}

@@ -4,7 +4,7 @@ ghost use Rattle.std.specs.Prelude.{◌≡◌, ◌-◌, ◌≤◌, ◌<◌, ◌+
 ghost use Rattle.vc_accepted.specs.NetworkOf.{network_of};
 ghost use Rattle.vc_core.specs.Replaying.{Replays};
 ghost use Rattle.vc_core.specs.State.{shown, state_of};
-ghost use Rattle.vc_core.specs.declared.act.Event.{Event};
+ghost use Rattle.vc_core.specs.declared.event.Event.{Event};
 ghost use Rattle.vc_network.specs.Views.{view};
 ghost use Rattle.vc_plan.specs.declared.plan.Plan.{Plan};
 

@@ -9,8 +9,8 @@ use Rattle.vc_occam.specs.Frames.{Able, BeginsWith, Did, HasVariables, View, ass
 use Rattle.vc_occam.specs.Nexts.{TurnEnded}
 use Rattle.vc_occam.specs.Remains.{Done, Rest}
 use Rattle.vc_occam.specs.Sites.{InPreorder}
-use Rattle.vc_occam.specs.Syntax.{Proc, STOP}
-use Rattle.vc_occam.specs.Terms.{store}
+use Rattle.vc_process.specs.Syntax.{Proc, STOP}
+use Rattle.vc_process.specs.Terms.{store}
 use Rattle.vc_occam.specs.Went.{has_ended, then_begins}
 use Rattle.vc_occam.proofs.Abreast.{beside_rest, none_beside, part_able, part_did, part_preorder, part_value, part_variables}
 use Rattle.vc_occam.proofs.Ending.{able_there, besides_goes, same_length}

@@ -7,7 +7,7 @@ use Rattle.vc_occam.specs.First.{own}
 use Rattle.vc_occam.specs.Frames.{Able, Did, View, part_rest, plans, view, views}
 use Rattle.vc_occam.specs.Remains.{Done, Rest}
 use Rattle.vc_occam.specs.Sites.{InPreorder}
-use Rattle.vc_occam.specs.Syntax.{STOP}
+use Rattle.vc_process.specs.Syntax.{STOP}
 use Rattle.vc_occam.proofs.Abreast.{none_beside, part_preorder}
 use Rattle.vc_occam.proofs.Frames.{awaiting_own, idle_own, is_awaiting, parts_len, rest_ended, rest_idle, rest_stuck, resting_nothing, view_roll, view_out}
 use Rattle.vc_occam.proofs.Offered.{Offers, never_offers, offer_itself, offers_abreast, offers_turning, offers_within}

@@ -1,7 +1,7 @@
 use Rattle.std.proofs.Common.{◌≡◌, ◌+◌, suc, sym, subst, get_or, take, arith}
 use Rattle.vc_occam.specs.declared.moves.Move.TheVariants.{Offer}
-use Rattle.vc_core.specs.declared.act.Act.TheVariants.{Proc}
-use Rattle.vc_core.specs.declared.act.Event.{Event}
+use Rattle.vc_actor.specs.declared.act.Act.TheVariants.{Proc}
+use Rattle.vc_core.specs.declared.event.Event.{Event}
 use Rattle.std.proofs.lemmas.Option.{slice_get-get_or}
 use Rattle.vc_core.specs.Replaying.{Reached, Replays, IsCause}
 use Rattle.vc_core.specs.State.{state_of}

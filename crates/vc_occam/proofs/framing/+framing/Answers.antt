@@ -1,11 +1,11 @@
 use Rattle.std.proofs.Common.{◌∙◌, ◌+◌, ◌++◌, [], ◌∷◌, map, drop, sym, ap}
-use Rattle.vc_occam.specs.InOrder.{number, number_branch, number_guard}
+use Rattle.vc_process.specs.InOrder.{number, number_branch, number_guard}
 use Rattle.vc_occam.specs.Frames.{View, views}
-use Rattle.vc_occam.specs.Numbering.{NumberedBranch, NumberedGuard}
+use Rattle.vc_process.specs.Numbering.{NumberedBranch, NumberedGuard}
 use Rattle.vc_occam.specs.Wholes.{whole_from}
 use Rattle.vc_occam.proofs.Making.{alt_whole, branch_made, few_inputs, guard_made, if_whole, par_whole, part_made, seq_whole, views_push}
-use Rattle.vc_occam.proofs.Numbers.{number_branch_out, number_guard_out}
-use Rattle.vc_occam.proofs.Reaching.{drop_at}
+use Rattle.vc_process.proofs.Numbers.{number_branch_out, number_guard_out}
+use Rattle.vc_process.proofs.Reaching.{drop_at}
 use Rattle.vc_occam.proofs.framing.+framing.Goals as goal
 
 pub frame_of-returns-in_ok-made-in-Seq-clause-frame : goal.frame_of-returns-in_ok-made-in-Seq-clause-frame

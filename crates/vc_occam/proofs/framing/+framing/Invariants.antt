@@ -1,7 +1,7 @@
 use Rattle.std.proofs.Common.{◌≡◌, ◌+◌, ◌++◌, drop, map}
 use Rattle.vc_occam.specs.Frames.{views}
-use Rattle.vc_occam.specs.InOrder.{number, number_branch, number_guard}
-use Rattle.vc_occam.specs.Numbering.{branch_sites, guard_sites, part_sites}
+use Rattle.vc_process.specs.InOrder.{number, number_branch, number_guard}
+use Rattle.vc_process.specs.Numbering.{branch_sites, guard_sites, part_sites}
 use Rattle.vc_occam.specs.Wholes.{branch_wholes_from, guard_wholes_from, wholes_from}
 use Rattle.vc_occam.proofs.framing.+framing.Given as goal
 

@@ -1,8 +1,8 @@
 use Rattle.std.proofs.Common.{◌∙◌, sym, ap}
 use Rattle.vc_occam.specs.Frames.{View}
 use Rattle.vc_occam.specs.Remains.{begin}
-use Rattle.vc_occam.specs.Syntax.{Proc}
-use Rattle.vc_occam.proofs.Fitting.{written_is}
+use Rattle.vc_process.specs.Syntax.{Proc}
+use Rattle.vc_process.proofs.Numbers.{written_is}
 use Rattle.vc_occam.proofs.framing.begin_frame.Goals as goal
 
 pub returns : goal.returns

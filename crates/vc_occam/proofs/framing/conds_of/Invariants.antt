@@ -1,6 +1,6 @@
 use Rattle.std.proofs.Common.{◌≡◌, ◌++◌, drop, map}
-use Rattle.vc_occam.specs.InOrder.{number_branch}
-use Rattle.vc_occam.specs.Terms.{as_test}
+use Rattle.vc_process.specs.InOrder.{number_branch}
+use Rattle.vc_process.specs.Terms.{as_test}
 use Rattle.vc_occam.specs.Wholes.{tests}
 use Rattle.vc_occam.proofs.framing.conds_of.Given as goal
 

@@ -1,6 +1,6 @@
 use Rattle.std.proofs.Common.{◌≡◌, ◌++◌, drop, map}
 use Rattle.vc_occam.specs.Gates.{gate}
-use Rattle.vc_occam.specs.InOrder.{number_guard}
+use Rattle.vc_process.specs.InOrder.{number_guard}
 use Rattle.vc_occam.specs.Wholes.{gates}
 use Rattle.vc_occam.proofs.framing.inputs_of.Given as goal
 

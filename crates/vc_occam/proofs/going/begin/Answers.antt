@@ -1,8 +1,8 @@
 use Rattle.std.proofs.Common.{List, sym, subst}
-use Rattle.vc_occam.specs.declared.datum.Datum.{Datum}
+use Rattle.vc_process.specs.declared.datum.Datum.{Datum}
 use Rattle.vc_occam.specs.Frames.{Able, Did, plan_at, rest_at, views}
 use Rattle.vc_occam.specs.Remains.{Fresh}
-use Rattle.vc_occam.specs.Terms.{store}
+use Rattle.vc_process.specs.Terms.{store}
 use Rattle.vc_occam.proofs.going.begin.Goals as goal
 
 pub returns-then-has_parts-clause-did : goal.returns-then-has_parts-clause-did

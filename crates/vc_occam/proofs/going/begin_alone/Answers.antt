@@ -1,11 +1,11 @@
 use Rattle.std.proofs.Common.{◌≡◌, ◌∙◌, sym, ap, subst, List, []}
-use Rattle.vc_occam.specs.declared.datum.Datum.{Datum}
+use Rattle.vc_process.specs.declared.datum.Datum.{Datum}
 use Rattle.vc_occam.specs.declared.kind.Kind.{Kind}
 use Rattle.vc_occam.specs.declared.phase.Phase.TheVariants.{Ended, Stuck}
-use Rattle.vc_occam.specs.Frames.{assigned_at, assigned_bytes, plan_at}
+use Rattle.vc_occam.specs.Frames.{assigned_at, plan_at}
 use Rattle.vc_occam.specs.Remains.{Fresh}
-use Rattle.vc_occam.specs.Terms.{given, store}
-use Rattle.vc_occam.specs.Values.{datum_of}
+use Rattle.vc_process.specs.Terms.{given, store}
+use Rattle.vc_process.specs.Values.{assigned_bytes, datum_of}
 use Rattle.vc_occam.proofs.Beginning.{empty_par}
 use Rattle.vc_occam.proofs.Doing.{at_kind, at_site, set_did, set_faulted, set_variable_there, input_variable_there, did_store}
 use Rattle.vc_occam.proofs.going.begin_alone.Goals as goal

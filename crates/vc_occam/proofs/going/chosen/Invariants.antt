@@ -1,6 +1,6 @@
 use Rattle.std.proofs.Common.{◌≡◌, map, drop}
 use Rattle.vc_occam.specs.Frames.{chosen_from}
-use Rattle.vc_occam.specs.Terms.{store, as_test}
+use Rattle.vc_process.specs.Terms.{store, as_test}
 use Rattle.vc_occam.proofs.going.chosen.Given as goal
 
 abbrev pub invariant-loop-place : goal.invariant-loop-place

@@ -2,7 +2,7 @@ use Rattle.std.proofs.Common.{◌∙◌, ◌<◌, Option, ap, arith, length, set
 use Rattle.std.specs.Prelude.{slice_get}
 use Rattle.vc_occam.specs.Frames.{Able, Did, PartHasVariables, View, as_begun, part_done, part_rest, view, views}
 use Rattle.vc_occam.specs.Remains.{Rest}
-use Rattle.vc_occam.specs.Terms.{store}
+use Rattle.vc_process.specs.Terms.{store}
 use Rattle.vc_occam.proofs.Frames.{resting_get, resting_none}
 use Rattle.vc_occam.proofs.Stepping.{get_view, never_there, none_view, set_plans, set_view}
 use Rattle.vc_occam.proofs.going.end_part.Goals as goal

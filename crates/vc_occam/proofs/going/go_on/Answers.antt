@@ -2,7 +2,7 @@ use Rattle.std.proofs.Common.{sym, subst}
 use Rattle.vc_occam.specs.declared.going.Next.{Next}
 use Rattle.vc_occam.specs.declared.phase.Phase.TheVariants.{Waiting, Chosen}
 use Rattle.vc_occam.specs.Frames.{Did, rest_at, views}
-use Rattle.vc_occam.specs.Terms.{store}
+use Rattle.vc_process.specs.Terms.{store}
 use Rattle.vc_occam.proofs.Stepping.{phase_able, phase_did}
 use Rattle.vc_occam.proofs.going.go_on.Goals as goal
 

@@ -1,5 +1,5 @@
 use Rattle.vc_occam.specs.Frames.{views}
-use Rattle.vc_occam.specs.Terms.{store}
+use Rattle.vc_process.specs.Terms.{store}
 use Rattle.vc_occam.proofs.Gates.{gates_own, pushed_same}
 use Rattle.vc_occam.proofs.looking.push_ready.Goals as goal
 

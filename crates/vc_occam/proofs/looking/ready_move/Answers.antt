@@ -4,7 +4,7 @@ use Rattle.vc_occam.specs.declared.kind.Kind.{Kind}
 use Rattle.vc_occam.specs.First.{own}
 use Rattle.vc_occam.specs.Frames.{plan_at, views}
 use Rattle.vc_occam.specs.Remains.{Fresh}
-use Rattle.vc_occam.specs.Terms.{store}
+use Rattle.vc_process.specs.Terms.{store}
 use Rattle.vc_occam.proofs.Frames.{par_waits, seq_waits, some_left}
 use Rattle.vc_occam.proofs.looking.ready_move.Goals as goal
 

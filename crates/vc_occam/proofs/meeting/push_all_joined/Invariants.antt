@@ -1,6 +1,6 @@
 use Rattle.std.proofs.Common.{◌≡◌, ◌≤◌, ◌++◌, drop, length, take}
 use Rattle.vc_occam.specs.First.{joined}
-use Rattle.vc_occam.specs.Usage.{among}
+use Rattle.vc_process.specs.Usage.{among}
 use Rattle.vc_occam.proofs.meeting.push_all_joined.Given as goal
 
 abbrev pub invariant-loop-place : goal.invariant-loop-place

@@ -6,7 +6,7 @@ use Rattle.vc_occam.specs.declared.answer.Answer.TheVariants.{Nothing}
 use Rattle.vc_occam.specs.First.{own}
 use Rattle.vc_occam.specs.Frames.{Able, Did, view}
 use Rattle.vc_occam.specs.Moving.{HasMet, at, deed_for, site_of}
-use Rattle.vc_occam.specs.Terms.{store}
+use Rattle.vc_process.specs.Terms.{store}
 use Rattle.vc_occam.proofs.Made.{able}
 use Rattle.vc_occam.proofs.Meets.{able_finish, able_taking, as_partner, has_met, met_partner}
 use Rattle.vc_occam.proofs.running.meet.Goals as goal

@@ -1,6 +1,6 @@
 use Rattle.std.proofs.Common.{◌≡◌, ◌<◌, ℕ, true, length, get_or, arith, ap}
-use Rattle.vc_occam.specs.Lawful.{Lawfully}
-use Rattle.vc_occam.specs.Numbering.{written}
+use Rattle.vc_process.specs.Lawful.{Lawfully}
+use Rattle.vc_process.specs.Numbering.{written}
 use Rattle.vc_plan.specs.declared.node_plan.NodePlan.{NodePlan}
 use Rattle.vc_plan.specs.Limits.{process_names}
 use Rattle.vc_plan.proofs.Indexed.{there-at, each-more, each-all}

@@ -1,7 +1,7 @@
 use Rattle.std.proofs.Common.{◌≡◌, ℕ, ◌<◌, Some}
 use Rattle.std.specs.Prelude.{slice_get}
-use Rattle.vc_occam.specs.Lawful.{Lawfully}
-use Rattle.vc_occam.specs.Numbering.{written}
+use Rattle.vc_process.specs.Lawful.{Lawfully}
+use Rattle.vc_process.specs.Numbering.{written}
 use Rattle.vc_plan.specs.declared.node_plan.NodePlan.{NodePlan}
 use Rattle.vc_plan.proofs.usage.find_usage.Given as goal
 

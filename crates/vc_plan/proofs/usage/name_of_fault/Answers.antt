@@ -1,8 +1,8 @@
 use Rattle.std.proofs.Common.{◌∙◌, ◌<◌, arith, ap, length, subst, sym}
 use Rattle.std.proofs.lemmas.List.{length-map}
-use Rattle.vc_occam.specs.declared.use_fault.UseFault.{UseFault}
-use Rattle.vc_occam.specs.UseFaults.{IsUseFault}
-use Rattle.vc_occam.specs.Numbering.{written}
+use Rattle.vc_process.specs.declared.use_fault.UseFault.{UseFault}
+use Rattle.vc_process.specs.UseFaults.{IsUseFault}
+use Rattle.vc_process.specs.Numbering.{written}
 use Rattle.vc_plan.specs.declared.node_plan.Variable.{Variable}
 use Rattle.vc_plan.specs.Limits.{kinds_of}
 use Rattle.vc_plan.proofs.Named.{offence_there}

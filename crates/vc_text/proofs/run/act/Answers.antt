@@ -2,9 +2,9 @@ use Rattle.std.proofs.Common.{refl, subst, sym}
 use Rattle.vc_core.specs.Replaying.{Reached}
 use Rattle.vc_core.specs.State.{state_of}
 use Rattle.vc_core.specs.Turns.{FindsTake}
-use Rattle.vc_core.specs.declared.act.Act.TheVariants.{Take}
+use Rattle.vc_actor.specs.declared.act.Act.TheVariants.{Take}
 use Rattle.vc_core.proofs.Replayed.{reached_next}
-use Rattle.vc_core.proofs.Turning.{clash}
+use Rattle.vc_actor.proofs.Turning.{clash}
 use Rattle.vc_text.specs.Quiet.{AreQuiet}
 use Rattle.vc_text.proofs.Quieting.{one_acts, same_quiet}
 use Rattle.vc_text.proofs.run.act.Goals as goal

@@ -5,7 +5,7 @@ use Rattle.vc_core.specs.Lined.{Lined, TakesOff, with_way}
 use Rattle.vc_core.specs.Wired.{in_at, Comes}
 use Rattle.vc_core.proofs.Happening.{written_back}
 use Rattle.vc_core.proofs.Lined.{comes_no_more, comes_yet, none_comes, not_empty}
-use Rattle.vc_core.proofs.Turning.{clash}
+use Rattle.vc_actor.proofs.Turning.{clash}
 use Rattle.vc_core.proofs.lines.Lines.take.Goals as goal
 
 pub returns-in_err-token : goal.returns-in_err-token

@@ -1,5 +1,5 @@
 use Rattle.std.proofs.Common.{subst}
-use Rattle.vc_core.specs.Acting.{MayAct}
+use Rattle.vc_actor.specs.Acting.{MayAct}
 use Rattle.vc_core.specs.State.{state_of}
 use Rattle.vc_core.proofs.Happening.{granted, way_is, way_found}
 use Rattle.vc_core.proofs.network.Network.grant.Goals as goal

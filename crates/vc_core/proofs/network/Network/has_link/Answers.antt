@@ -1,5 +1,5 @@
 use Rattle.std.proofs.Common.{◌≡◌, slice_get, Some, None, sym, ◌∙◌, subst}
-use Rattle.vc_core.specs.Acting.{HasLink}
+use Rattle.vc_actor.specs.Acting.{HasLink}
 use Rattle.vc_core.proofs.Taking.{by_link, link_of}
 use Rattle.vc_core.proofs.network.Network.has_link.Goals as goal
 

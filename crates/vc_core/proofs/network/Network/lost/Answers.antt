@@ -2,7 +2,7 @@ use Rattle.std.proofs.Common.{rules, ◌≡◌, length, slice_get, Some, refl, s
 use Rattle.std.specs.List.{sum_by}
 use Rattle.std.proofs.lemmas.List.{take_all}
 use Rattle.std.proofs.lemmas.Option.{slice_get_read}
-use Rattle.vc_core.specs.Parts.{lost_of, saturated}
+use Rattle.vc_actor.specs.Parts.{lost_of, saturated}
 use Rattle.vc_core.specs.State.{state_of}
 use Rattle.vc_core.proofs.Summing.{sum_next}
 use Rattle.vc_core.proofs.Turning.{none_lost}

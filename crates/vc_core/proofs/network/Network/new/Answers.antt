@@ -1,9 +1,9 @@
 use Rattle.std.proofs.Common.{sym, ◌∙◌, subst}
 use Rattle.vc_plan.specs.Accepted.{IsAccepted}
-use Rattle.vc_core.specs.Begin.{AreFirst}
+use Rattle.vc_actor.specs.Begin.{AreFirst}
 use Rattle.vc_core.specs.Replaying.{IsOpening}
 use Rattle.vc_core.specs.State.{State}
-use Rattle.vc_core.specs.Turns.{actors}
+use Rattle.vc_actor.specs.Turns.{actors}
 use Rattle.vc_core.proofs.Replayed.{opened}
 use Rattle.vc_core.proofs.network.Network.new.Goals as goal
 

@@ -1,8 +1,8 @@
 use Rattle.std.proofs.Common.{◌≡◌, ◌<◌, ◌≤◌, length, slice_get, Some, IfSome, refl, ◌∙◌, subst}
 use Rattle.std.proofs.lemmas.Option.{slice_get_read, slice_get_past}
-use Rattle.vc_core.specs.Acting.{MayAct}
+use Rattle.vc_actor.specs.Acting.{MayAct}
 use Rattle.vc_core.specs.State.{state_of}
-use Rattle.vc_core.specs.Turns.{FindsTurn}
+use Rattle.vc_actor.specs.Turns.{FindsTurn}
 use Rattle.vc_core.proofs.Turning.{some_event, no_event, no_actor, few_links}
 use Rattle.vc_core.proofs.network.Network.next.Goals as goal
 

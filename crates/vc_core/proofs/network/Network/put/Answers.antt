@@ -1,10 +1,10 @@
 use Rattle.std.proofs.Common.{◌≡◌, ◌<◌, length, slice_get, slice_set, Some, refl, sym, ap, ◌∙◌, subst}
 use Rattle.std.proofs.lemmas.Option.{slice_get_read, slice_get_within}
 use Rattle.vc_vcp.proofs.Placed.{on_ok}
-use Rattle.vc_core.specs.Acting.{MayAct}
+use Rattle.vc_actor.specs.Acting.{MayAct}
 use Rattle.vc_core.specs.Lined.{with_way}
 use Rattle.vc_core.specs.State.{state_of, HasWay}
-use Rattle.vc_core.specs.declared.act.Act.TheVariants as act
+use Rattle.vc_actor.specs.declared.act.Act.TheVariants as act
 use Rattle.vc_core.proofs.Happening.{on_err, placed, written_back}
 use Rattle.vc_core.proofs.network.Network.put.Goals as goal
 

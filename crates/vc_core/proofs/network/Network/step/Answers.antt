@@ -1,7 +1,7 @@
 use Rattle.std.proofs.Common.{◌≡◌, ◌↔◌, MatchResult, refl, sym, subst}
 use Rattle.vc_core.specs.Enabled.{CanHappen}
 use Rattle.vc_core.specs.State.{state_of}
-use Rattle.vc_core.specs.declared.act.Act.{Act}
+use Rattle.vc_actor.specs.declared.act.Act.{Act}
 use Rattle.vc_core.specs.declared.refused.StepRefused.TheVariants as refused
 use Rattle.vc_core.proofs.network.Network.step.Goals as goal
 

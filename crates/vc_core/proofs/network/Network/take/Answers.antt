@@ -1,10 +1,10 @@
 use Rattle.std.proofs.Common.{◌≡◌, slice_set, refl}
 use Rattle.vc_tokens.specs.Spelt.{token as spelt}
 use Rattle.vc_core.specs.State.{state_of}
-use Rattle.vc_core.specs.declared.act.Act.TheVariants as act
+use Rattle.vc_actor.specs.declared.act.Act.TheVariants as act
 use Rattle.vc_core.proofs.Happening.{taken}
 use Rattle.vc_core.proofs.Taking.{may_at, can_at}
-use Rattle.vc_core.proofs.Turning.{clash}
+use Rattle.vc_actor.proofs.Turning.{clash}
 use Rattle.vc_core.proofs.network.Network.take.Goals as goal
 
 pub accept-requires : goal.accept-requires

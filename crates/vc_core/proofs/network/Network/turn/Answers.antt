@@ -1,9 +1,10 @@
 use Rattle.std.proofs.Common.{◌≡◌, sym, ◌∙◌, subst}
 use Rattle.vc_core.specs.State.{state_of, IsNetworkOf, MakesOne}
 use Rattle.vc_core.specs.Turns.{FindsEventOf}
-use Rattle.vc_core.specs.declared.act.ActKind.TheVariants as kind
+use Rattle.vc_actor.specs.declared.act.ActKind.TheVariants as kind
 use Rattle.vc_core.proofs.Happening.{on_err}
-use Rattle.vc_core.proofs.Turning.{events_of_all, if_ok, sure_err}
+use Rattle.vc_actor.proofs.Turning.{if_ok}
+use Rattle.vc_core.proofs.Turning.{events_of_all, sure_err}
 use Rattle.vc_core.proofs.network.Network.turn.Goals as goal
 
 pub returns-in_err-event-2-clause-refused : goal.returns-in_err-event-2-clause-refused

@@ -1,6 +1,6 @@
 use Rattle.std.proofs.Common.{sym}
 use Rattle.vc_occam.specs.Frames.{view}
-use Rattle.vc_occam.specs.Terms.{store}
+use Rattle.vc_process.specs.Terms.{store}
 use Rattle.vc_occam.proofs.Frames.{on_ok}
 use Rattle.vc_occam.proofs.Found.{begins_ready}
 use Rattle.vc_occam.proofs.frame.Frame.assigned.Goals as goal

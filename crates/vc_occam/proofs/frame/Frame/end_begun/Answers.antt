@@ -2,7 +2,7 @@ use Rattle.std.proofs.Common.{◌∙◌, ap, length, refl, subst, sym}
 use Rattle.vc_occam.specs.declared.frame.Frame.TheViews.{the_lemmas, out-Frame}
 use Rattle.vc_occam.specs.Frames.{Able, Did, HasVariables, View, as_begun, plan_at, rest_at, views}
 use Rattle.vc_occam.specs.Remains.{Rest}
-use Rattle.vc_occam.specs.Terms.{store}
+use Rattle.vc_process.specs.Terms.{store}
 use Rattle.vc_occam.proofs.Frames.{going_begun, none_begun, view_out, view_roll}
 use Rattle.vc_occam.proofs.Stepping.{alone_variables, never_able}
 use Rattle.vc_occam.proofs.frame.Frame.end_begun.Goals as goal

@@ -1,4 +1,4 @@
-use Rattle.vc_occam.specs.Terms.{store}
+use Rattle.vc_process.specs.Terms.{store}
 use Rattle.vc_occam.proofs.Frames.{resting_nothing}
 use Rattle.vc_occam.proofs.frame.Frame.look.Goals as goal
 

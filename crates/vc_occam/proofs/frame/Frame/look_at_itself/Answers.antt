@@ -1,7 +1,7 @@
 use Rattle.std.proofs.Common.{◌∙◌, sym, ap}
 use Rattle.vc_occam.specs.First.{own}
 use Rattle.vc_occam.specs.Remains.{Rest}
-use Rattle.vc_occam.specs.Terms.{store}
+use Rattle.vc_process.specs.Terms.{store}
 use Rattle.vc_occam.proofs.Frames.{awaiting_own, idle_own, is_awaiting, rest_ended, rest_idle, rest_ready, rest_stuck, resting_nothing}
 use Rattle.vc_occam.proofs.Outset.{same_told}
 use Rattle.vc_occam.proofs.frame.Frame.look_at_itself.Goals as goal

@@ -1,7 +1,7 @@
 use Rattle.std.proofs.Common.{sym, ap}
 use Rattle.vc_occam.specs.Frames.{view}
 use Rattle.vc_occam.specs.States.{carried}
-use Rattle.vc_occam.specs.Terms.{store}
+use Rattle.vc_process.specs.Terms.{store}
 use Rattle.vc_occam.proofs.Frames.{on_ok}
 use Rattle.vc_occam.proofs.Found.{begins_ready}
 use Rattle.vc_occam.proofs.frame.Frame.message.Goals as goal

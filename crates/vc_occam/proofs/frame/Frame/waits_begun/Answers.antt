@@ -2,7 +2,7 @@ use Rattle.std.proofs.Common.{◌∙◌, sym, ap}
 use Rattle.vc_occam.specs.declared.frame.Frame.TheViews.{out-Frame}
 use Rattle.vc_occam.specs.declared.kind.Kind.{Kind}
 use Rattle.vc_occam.specs.Frames.{View, as_begun, first_waits, plan_at, views}
-use Rattle.vc_occam.specs.Syntax.{Proc}
+use Rattle.vc_process.specs.Syntax.{Proc}
 use Rattle.vc_occam.specs.Remains.{Rest}
 use Rattle.vc_occam.specs.States.{waiting}
 use Rattle.vc_occam.proofs.Frames.{begun_nothing, view_out}

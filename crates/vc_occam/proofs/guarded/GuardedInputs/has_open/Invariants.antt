@@ -1,7 +1,7 @@
 use Rattle.std.proofs.Common.{◌↔◌, map, drop}
 use Rattle.std.specs.List.{Contains}
 use Rattle.vc_occam.specs.Gates.{gate, open_from}
-use Rattle.vc_occam.specs.Terms.{store}
+use Rattle.vc_process.specs.Terms.{store}
 use Rattle.vc_occam.proofs.guarded.GuardedInputs.has_open.Given as goal
 
 abbrev pub invariant-loop-place : goal.invariant-loop-place

@@ -1,6 +1,6 @@
 use Rattle.std.proofs.Common.{◌≡◌, ◌++◌, map, drop}
 use Rattle.vc_occam.specs.Gates.{gate, open_from}
-use Rattle.vc_occam.specs.Terms.{store}
+use Rattle.vc_process.specs.Terms.{store}
 use Rattle.vc_occam.proofs.guarded.GuardedInputs.push_open.Given as goal
 
 abbrev pub invariant-loop-place : goal.invariant-loop-place

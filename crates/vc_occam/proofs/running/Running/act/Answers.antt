@@ -6,8 +6,8 @@ use Rattle.vc_occam.specs.Frames.{view}
 use Rattle.vc_occam.specs.Moving.{CanBegin, HasMet, at}
 use Rattle.vc_occam.specs.Runnings.{state, inner_channels}
 use Rattle.vc_occam.specs.States.{Acts, FitsMove, doing, sent_by}
-use Rattle.vc_occam.specs.Terms.{store}
-use Rattle.vc_occam.specs.Usage.{among}
+use Rattle.vc_process.specs.Terms.{store}
+use Rattle.vc_process.specs.Usage.{among}
 use Rattle.vc_occam.proofs.Meets.{acts_met, can_begin, meeting_listed, other_listed, met_sites, met_use}
 use Rattle.vc_occam.proofs.running.Running.act.Goals as goal
 

@@ -4,7 +4,7 @@ use Rattle.vc_occam.specs.Frames.{Able, Did, view}
 use Rattle.vc_occam.specs.Moving.{site_of, deed_for}
 use Rattle.vc_occam.specs.Runnings.{state, inner_channels}
 use Rattle.vc_occam.specs.States.{State}
-use Rattle.vc_occam.specs.Terms.{store}
+use Rattle.vc_process.specs.Terms.{store}
 use Rattle.vc_occam.proofs.Acting.{acts, own_alone}
 use Rattle.vc_occam.proofs.Keeping.{step_uses}
 use Rattle.vc_occam.proofs.Made.{able}

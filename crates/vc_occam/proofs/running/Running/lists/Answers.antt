@@ -1,12 +1,12 @@
 use Rattle.std.proofs.Common.{◌≡◌, true, false, sym, ◌∙◌, ap, subst, List, ℕ}
 use Rattle.std.specs.List.{Contains}
-use Rattle.vc_occam.specs.declared.datum.Datum.{Datum}
+use Rattle.vc_process.specs.declared.datum.Datum.{Datum}
 use Rattle.vc_occam.specs.declared.moves.Move.{Move}
 use Rattle.vc_occam.specs.First.{own, first_moves}
 use Rattle.vc_occam.specs.Frames.{is_outside, view}
 use Rattle.vc_occam.specs.Runnings.{state, inner_channels}
-use Rattle.vc_occam.specs.Terms.{store}
-use Rattle.vc_occam.specs.Usage.{among}
+use Rattle.vc_process.specs.Terms.{store}
+use Rattle.vc_process.specs.Usage.{among}
 use Rattle.vc_occam.proofs.Meets.{meeting_listed, lists_meeting, other_listed, lists_other}
 use Rattle.vc_occam.proofs.running.Running.lists.Goals as goal
 

@@ -1,6 +1,6 @@
 use Rattle.std.proofs.Common.{sym, subst, ℕ, length}
 use Rattle.vc_occam.specs.Frames.{HasVariables, View}
-use Rattle.vc_occam.specs.Numbering.{written}
+use Rattle.vc_process.specs.Numbering.{written}
 use Rattle.vc_occam.specs.InUse.{UsesLawfully}
 use Rattle.vc_occam.specs.Sites.{InPreorder, OwnSites}
 use Rattle.vc_occam.proofs.Keeping.{begins}

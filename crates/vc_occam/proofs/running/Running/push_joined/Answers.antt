@@ -1,11 +1,11 @@
 use Rattle.std.proofs.Common.{◌≡◌, ◌∙◌, ◌++◌, ap, sym, List, ℕ}
-use Rattle.vc_occam.specs.declared.datum.Datum.{Datum}
+use Rattle.vc_process.specs.declared.datum.Datum.{Datum}
 use Rattle.vc_occam.specs.declared.moves.Move.{Move}
 use Rattle.vc_occam.specs.First.{joined, own}
 use Rattle.vc_occam.specs.Frames.{view}
 use Rattle.vc_occam.specs.Runnings.{state, inner_channels}
-use Rattle.vc_occam.specs.Terms.{store}
-use Rattle.vc_occam.specs.Usage.{among}
+use Rattle.vc_process.specs.Terms.{store}
+use Rattle.vc_process.specs.Usage.{among}
 use Rattle.vc_occam.proofs.Unjoined.{unjoined}
 use Rattle.vc_occam.proofs.running.Running.push_joined.Goals as goal
 

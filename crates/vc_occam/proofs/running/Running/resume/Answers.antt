@@ -3,7 +3,7 @@ use Rattle.vc_occam.specs.declared.deed.Deed.{Deed}
 use Rattle.vc_occam.specs.Frames.{Able, Did, view}
 use Rattle.vc_occam.specs.Runnings.{state}
 use Rattle.vc_occam.specs.States.{State}
-use Rattle.vc_occam.specs.Terms.{store}
+use Rattle.vc_process.specs.Terms.{store}
 use Rattle.vc_occam.proofs.Acting.{resumes}
 use Rattle.vc_occam.proofs.Keeping.{step_uses}
 use Rattle.vc_occam.proofs.Made.{able_on}

@@ -3,8 +3,8 @@ use Rattle.vc_occam.specs.declared.moves.Move.TheVariants as move
 use Rattle.vc_occam.specs.Frames.{view}
 use Rattle.vc_occam.specs.Runnings.{state, inner_channels}
 use Rattle.vc_occam.specs.States.{State}
-use Rattle.vc_occam.specs.Terms.{store}
-use Rattle.vc_occam.specs.Usage.{among}
+use Rattle.vc_process.specs.Terms.{store}
+use Rattle.vc_process.specs.Usage.{among}
 use Rattle.vc_occam.proofs.Acting.{acts}
 use Rattle.vc_occam.proofs.Keeping.{step_uses}
 use Rattle.vc_occam.proofs.Made.{able}

@@ -3,7 +3,7 @@ use Rattle.std.proofs.Math.ListN.{set}
 use Rattle.vc_actors.specs.Actors.Label.{Own, Puts}
 use Rattle.vc_actors.specs.LocalRun.{Turn}
 use Rattle.vc_core.specs.Turns.{MakesTurn, IsPut}
-use Rattle.vc_core.specs.declared.act.Act.{Act}
+use Rattle.vc_actor.specs.declared.act.Act.{Act}
 use Rattle.vc_tokens.specs.declared.token.Token.{Token}
 use Rattle.vc_threads.specs.declared.link.Stamped.{Stamped}
 use Rattle.vc_threads.specs.Stamps.{stamped}

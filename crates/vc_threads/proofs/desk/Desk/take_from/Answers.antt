@@ -2,7 +2,7 @@ use Rattle.rand_pcg.specs.Lcg.{Lcg}
 use Rattle.vc_actors.specs.Actors.Label.{Takes}
 use Rattle.vc_threads.specs.Stamps.{stamped}
 use Rattle.vc_threads.specs.Runs.{Draws, word_of}
-use Rattle.vc_core.specs.declared.act.Act.{Act}
+use Rattle.vc_actor.specs.declared.act.Act.{Act}
 use Rattle.std.proofs.Common.{ℕ, inl, inr, refl, subst, sym, get_or, ap, ◌∙◌, ◌++◌, ◌∷◌, []}
 use Rattle.std.proofs.Math.ListN.{set}
 use Rattle.vc_threads.specs.Wires.{OutLooked, InLooked}

@@ -1,0 +1,16 @@
+pub mod WithinLimits
+pub mod Carrying
+pub mod Beginning
+pub mod Sending
+pub mod Halved
+pub mod Moving
+pub mod Passing
+pub mod Insides
+pub mod Linking
+pub mod Switching
+pub mod Masks
+pub mod SwitchGiven
+pub mod Parting
+pub mod AbleMoves
+pub mod Turning
+pub mod Listing

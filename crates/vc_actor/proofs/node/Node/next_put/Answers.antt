@@ -1,0 +1,28 @@
+use Rattle.std.proofs.Common.{◌<◌, refl, arith}
+use Rattle.vc_actor.specs.Shown.{OfNode}
+use Rattle.vc_actor.specs.Turns.{IsTurn}
+use Rattle.vc_actor.specs.declared.act.Act.TheVariants.{Put}
+use Rattle.vc_actor.proofs.Turning.{none_more, clash}
+use Rattle.vc_actor.proofs.node.Node.next_put.Goals.{else-has_room-via-then-has_room+else-may_put, else-has_room-via-else-has_room}
+use Rattle.vc_actor.proofs.node.Node.next_put.Goals as goal
+
+pub returns-then-may_put-clause-finds : goal.returns-then-may_put-clause-finds
+returns-then-may_put-clause-finds c = λ plan k is.
+    let t = c.loop-link-test.true in
+    let few : c.loop-link.link < 4 = omega arith in
+    (c.loop-link.link, refl, record { can = (few, c.if-may_put.ensures.can.0 refl); lets = c.if-has_room.ensures.0 refl }, c.loop-link.invariant plan k is)
+
+pub loop-link-preserved : goal.loop-link-preserved
+loop-link-preserved c = λ plan k is.
+    none_more (IsTurn plan k (OfNode c.args.self.now) c.args.room) (λ l. Put l) c.loop-link.link (c.loop-link.invariant plan k is)
+    (elim c.else-has_room.branch [
+      | else-has_room-via-then-has_room+else-may_put w ↦ (λ turn. clash w.may_put.result w.if-may_put.false (w.may_put.ensures.can.1 turn.can.1))
+      | else-has_room-via-else-has_room w ↦ (λ turn. clash c.has_room.result w.if-has_room.false (c.has_room.ensures.1 turn.lets))
+    ])
+
+pub returns-clause-finds : goal.returns-clause-finds
+returns-clause-finds c = λ plan k is link turn.
+    let past = c.loop-link-test.false in
+    let few = turn.can.0 in
+    let less : link < c.loop-link.link = omega arith in
+    c.loop-link.invariant plan k is link less turn

@@ -1,0 +1,12 @@
+pub mod Begin
+pub mod Inside
+pub mod Shown
+pub mod Parts
+pub mod OfPlan
+pub mod MayMove
+pub mod Passing
+pub mod Acting
+pub mod Listed
+pub mod Viewed
+pub mod Able
+pub mod Turns

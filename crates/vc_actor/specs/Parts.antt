@@ -1,0 +1,66 @@
+-- What an actor of the code is in itself.
+use Rattle.std.specs.Prelude.{◌≡◌, ℕ, min, Option, Some, None}
+use Rattle.vc_occam.specs.Remains.{Done}
+use Rattle.vc_occam.specs.Runnings.{state}
+use Rattle.vc_switch.specs.Seen.{seen as seen_switch}
+use Rattle.vc_switch.specs.State.{State as SwitchState}
+use Rattle.vc_vcp.specs.Links.{Vcp, new_vcp}
+use Rattle.vc_vcp.specs.Seen.{seen}
+use Rattle.vc_actor.specs.Shown.{Acting, OfNode, OfSwitch}
+use Rattle.vc_actor.specs.declared.actor.Part.{Part}
+use Rattle.vc_actor.specs.declared.actor.Part.TheVariants as part
+use Rattle.vc_actor.specs.declared.node.Node.{Node}
+
+abbrev pub acting : Part → Acting
+acting (part.Node x) = OfNode x
+acting (part.Switch x) = OfSwitch x.switch
+
+-- the node, if the actor is one
+abbrev pub node_in : Acting → Option Node
+node_in (OfNode n) = Some n
+node_in (OfSwitch s) = None
+
+abbrev pub node_at : Option Acting → Option Node
+node_at None = None
+node_at (Some a) = node_in a
+
+-- the switch, if the actor is one
+abbrev pub switch_in : Acting → Option SwitchState
+switch_in (OfNode n) = None
+switch_in (OfSwitch s) = Some s
+
+abbrev pub switch_at : Option Acting → Option SwitchState
+switch_at None = None
+switch_at (Some a) = switch_in a
+
+-- what the node shows; nothing where there is none
+abbrev pub vcp_in : Option Node → Vcp
+vcp_in None = new_vcp
+vcp_in (Some n) = seen n.vcp
+
+-- nothing remains of its process, if it is a node
+abbrev pub IsDone : Acting → Type 0
+IsDone (OfNode n) = (state n.process).rest ≡ Done
+IsDone (OfSwitch s) = Unit {0}
+
+-- it is a node, of whose process nothing remains
+abbrev pub HasEnded : Acting → Type 0
+HasEnded (OfNode n) = (state n.process).rest ≡ Done
+HasEnded (OfSwitch s) = ⊥
+
+-- how many packets and tokens a node dropped, and how many a switch
+abbrev pub strays_of : Acting → ℕ
+strays_of (OfNode n) = (seen n.vcp).carrier.strays
+strays_of (OfSwitch s) = 0
+
+abbrev pub lost_of : Acting → ℕ
+lost_of (OfNode n) = 0
+lost_of (OfSwitch s) = (seen_switch s).lost
+
+abbrev pub faults_of : Acting → ℕ
+faults_of (OfNode n) = (seen n.vcp).carrier.strays
+faults_of (OfSwitch s) = (seen_switch s).lost
+
+-- a count of 64 bits stays at its greatest
+abbrev pub saturated : ℕ → ℕ
+saturated n = min n 18446744073709551615

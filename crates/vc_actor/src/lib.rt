@@ -1,0 +1,25 @@
+//! One actor of a network, a node or a switch: what it can do, and each step that it makes by itself.
+//!
+//! An [`Actor`] is a node with its process, or a switch. What it is told of the ways at its links is a token that comes, and by which
+//! links there is room. Each step that it makes is exactly one step of its actor in the network of the plan (`specs/Acting`, MakesOwn,
+//! MakesTake, MakesPut, MakesGrant), and its next step is one that it can make, or it has none (`specs/Turns`, MakesTurn). [`actors`]
+//! builds those of an accepted plan.
+#![tactic(auto)]
+
+mod act;
+mod actor;
+mod building;
+mod inside;
+mod node;
+mod node_actor;
+mod room;
+mod switch_actor;
+mod switch_building;
+mod turn;
+
+pub use act::{Act, ActKind};
+pub use actor::Actor;
+pub use building::actors;
+pub use node::Node;
+pub use room::{has_room, lowest, without};
+pub use turn::Turn;

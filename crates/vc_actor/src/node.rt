@@ -1,0 +1,428 @@
+//! A node: its process, and the virtual channel processor that carries its channels.
+ghost use Rattle.std.specs.Prelude.{◌≡◌, ◌≢◌, ◌<◌, ◌≤◌, ◌↔◌, ◌++◌, ℕ, [], length, false, Option, Some, None, IsTrue, IfOk, IfSome, OnOk, OnErr};
+ghost use Rattle.std.specs.List.{Contains};
+ghost use Rattle.vc_occam.specs.Remains.{Done};
+ghost use Rattle.vc_occam.specs.Runnings.{moves as moves_of, state};
+ghost use Rattle.vc_occam.specs.declared.moves.Move.{Move as SpeltMove};
+ghost use Rattle.vc_actor.specs.Acting.{NodeMay};
+ghost use Rattle.vc_actor.specs.Turns.{IsTurn, FindsAt, FindsMove};
+ghost use Rattle.vc_occam.specs.States.{came};
+ghost use Rattle.vc_vcp.specs.Seen.{seen, answered, passed_of};
+ghost use Rattle.vc_vcp.specs.Steps.{Complete, Finished};
+ghost use Rattle.vc_network.specs.Network.{GoesOn};
+ghost use Rattle.vc_told.specs.Process.{does};
+ghost use Rattle.vc_actor.specs.Shown.{process_of, OfNode};
+ghost use Rattle.vc_actor.specs.Passing.{IsAwaited, MakesPass};
+ghost use Rattle.vc_actor.specs.Viewed.{node_view};
+ghost use Rattle.vc_network.specs.Plan.{Plan};
+ghost use Rattle.vc_actor.specs.OfPlan.{IsNodeOf};
+ghost use Rattle.vc_actor.specs.MayMove.{MayMove, AnswersMove, MakesMove};
+ghost use Rattle.vc_actor.specs.Able.{HalfCan, NodeCan, CanMove};
+ghost use Rattle.vc_tokens.specs.Spelt.{tokens};
+
+use crate::act::Act;
+use crate::inside::Inside;
+use crate::room::has_room;
+use sqlite_items::Items;
+use std::alloc::Global;
+use vc_occam::{Answer, Move, Running};
+use vc_packets::{Memory, Packet};
+use vc_tokens::Token;
+use vc_vcp::{Taken, Vcp, Want};
+
+/// The links of a node.
+pub(crate) const NODE_LINKS: u8 = 4;
+
+/// A node: its process, the virtual channel processor that carries its channels, and the channels inside it.
+#[derive(Drop)]
+pub struct Node {
+    pub(crate) alloc: Global,
+    pub(crate) vcp: Vcp,
+    pub(crate) process: Running,
+    pub(crate) inside: Inside,
+}
+
+impl Node {
+    /// A node of these parts.
+    pub(crate) fn new(alloc: Global, vcp: Vcp, process: Running, inside: Inside) -> Node
+        ensures { (result.vcp ≡ vcp) × (result.process ≡ process) × (result.inside ≡ inside) }
+    {
+        Node {
+            alloc,
+            vcp,
+            process,
+            inside,
+        }
+    }
+
+    /// Whether a move is one that the process can make now.
+    pub(crate) fn can_move(&self, made: &Move) -> bool
+        ensures may { IsTrue result ↔ MayMove self.now made.now }
+        ensures can { (plan : Plan) (k : ℕ) → IsNodeOf plan k self.now → IsTrue result ↔ CanMove plan k self.now made.now }
+    {
+        self.process.lists(made) && self.channel_lets(made)
+    }
+
+    // Whether the move's channel lets it be made.
+    fn channel_lets(&self, made: &Move) -> bool
+        ensures lets { IsTrue result ↔ AnswersMove self.now made.now }
+        ensures can { IsTrue result ↔ HalfCan self.now made.now }
+    {
+        match *made {
+            Move::Offer { chan, .. } => self.vcp.may_offer(chan),
+            Move::Want { chan, .. } => self.vcp.may_want(chan),
+            Move::Choose { chan, .. } => self.vcp.may_want(chan) && self.vcp.ready(chan),
+            Move::Stopch { chan, .. } => self.vcp.may_stop(chan) || self.inside.has(chan),
+            Move::Inner { chan, .. } => self.inside.is_open(chan),
+            Move::Quiet { .. } => true,
+        }
+    }
+
+    /// The least link whose buffer has a token.
+    #[inline(always)]
+    pub(crate) fn next_pass(&self) -> Option<Act>
+        ensures may { IfSome result (λ a. NodeMay self.now a) }
+        ensures finds { (plan : Plan) (k : ℕ) → IsNodeOf plan k self.now → FindsAt (λ link. Act.Pass link) (NodeCan plan k self.now) result }
+    {
+        prove!(self.vcp.links() == NODE_LINKS);
+        for link in 0..NODE_LINKS {
+            if self.vcp.may_pass(link) {
+                return Some(Act::Pass { link });
+            }
+        }
+        None
+    }
+
+    /// The least link with room on which a token may be put.
+    #[inline(always)]
+    pub(crate) fn next_put(&self, room: u32) -> Option<Act>
+        ensures may { IfSome result (λ a. NodeMay self.now a) }
+        ensures finds { (plan : Plan) (k : ℕ) → IsNodeOf plan k self.now → FindsAt (λ link. Act.Put link) (IsTurn plan k (OfNode self.now) room) result }
+    {
+        for link in 0..NODE_LINKS {
+            if has_room(room, link) && self.vcp.may_put(link) {
+                return Some(Act::Put { link });
+            }
+        }
+        None
+    }
+
+    /// The least link with room on which a flow control token may be put.
+    #[inline(always)]
+    pub(crate) fn next_grant(&self, room: u32) -> Option<Act>
+        ensures may { IfSome result (λ a. NodeMay self.now a) }
+        ensures finds { (plan : Plan) (k : ℕ) → IsNodeOf plan k self.now → FindsAt (λ link. Act.Fct link) (IsTurn plan k (OfNode self.now) room) result }
+    {
+        for link in 0..NODE_LINKS {
+            if has_room(room, link) && self.vcp.may_grant(link) {
+                return Some(Act::Fct { link });
+            }
+        }
+        None
+    }
+
+    /// The process's only move, where that is known to be a step without a communication.
+    #[inline(always)]
+    pub(crate) fn only_step(&self) -> Option<Act>
+        ensures may { IfSome result (λ a. NodeMay self.now a) }
+        ensures finds { (plan : Plan) (k : ℕ) → IsNodeOf plan k self.now → IfSome result (λ a. FindsMove plan k self.now (Some a)) }
+    {
+        let site = self.process.only_step()?;
+        Some(Act::Proc(Move::Quiet { site }))
+    }
+
+    /// The next of the process's moves that can be made, going round from this site on.
+    pub(crate) fn next_move(&self, moves: &[Move], site: u16) -> Option<Act>
+        requires { moves.now ≡ moves_of self.now.process }
+        ensures may { IfSome result (λ a. NodeMay self.now a) }
+        ensures finds { (plan : Plan) (k : ℕ) → IsNodeOf plan k self.now → FindsMove plan k self.now result }
+    {
+        let (before, rest) = moves.split_at(first_from(moves, site));
+        match self.first_let(rest) {
+            Some(act) => Some(act),
+            None => self.first_let(before),
+        }
+    }
+
+    // The first of these moves of the process that its channel lets be made.
+    fn first_let(&self, moves: &[Move]) -> Option<Act>
+        requires { (m : SpeltMove) → Contains moves.now m → Contains (moves_of self.now.process) m }
+        ensures may { IfSome result (λ a. NodeMay self.now a) }
+        ensures some { (plan : Plan) (k : ℕ) → IsNodeOf plan k self.now → IfSome result (λ a. FindsMove plan k self.now (Some a)) }
+        ensures none { (plan : Plan) (k : ℕ) (m : SpeltMove) → IsNodeOf plan k self.now → result ≡ None → Contains moves.now m → CanMove plan k self.now m → ⊥ }
+    {
+        for made in moves {
+            if self.channel_lets(made) {
+                return Some(Act::Proc(*made));
+            }
+        }
+        None
+    }
+
+    /// The messages offered on a channel here, the first one first.
+    pub fn offered(&self, chan: u16) -> &[Items<u8>]
+        ensures { result.now ≡ (node_view self.now chan).offered }
+    {
+        if self.inside.has(chan) {
+            self.inside.messages(chan)
+        } else {
+            self.vcp.offered(chan)
+        }
+    }
+
+    /// The messages taken on a channel here, the first one first.
+    pub fn taken(&self, chan: u16) -> &[Items<u8>]
+        ensures { result.now ≡ (node_view self.now chan).taken }
+    {
+        if self.inside.has(chan) {
+            self.inside.messages(chan)
+        } else {
+            self.vcp.taken(chan)
+        }
+    }
+
+    /// How many outputs on a channel are finished here.
+    pub fn finished(&self, chan: u16) -> u64
+        ensures { result ≡ (node_view self.now chan).finished }
+    {
+        if self.inside.has(chan) {
+            self.inside.messages(chan).len() as u64
+        } else {
+            self.vcp.finished(chan)
+        }
+    }
+
+    /// Whether a channel was stopped here.
+    pub fn stopped(&self, chan: u16) -> bool
+        ensures { result ≡ (node_view self.now chan).stopped }
+    {
+        if self.inside.has(chan) {
+            self.inside.is_stopped(chan)
+        } else {
+            self.vcp.stopped(chan)
+        }
+    }
+
+    /// The packets that wait at a link, in two parts: those of the first go out before those of the second.
+    pub fn packets_at(&self, link: u8) -> (&[Packet], &[Packet])
+        ensures { result.0.now ++ result.1.now ≡ (seen self.now.vcp).carrier.queue link }
+    {
+        if link >= self.vcp.links() {
+            return (&[], &[]);
+        }
+        self.vcp.sending(link).packets()
+    }
+
+    /// The tokens that wait in a link's buffer, in two parts: those of the first came before those of the second.
+    pub fn tokens_at(&self, link: u8) -> (&[Token], &[Token])
+        ensures { tokens (result.0.now ++ result.1.now) ≡ ((seen self.now.vcp).link link).receiver.buffer }
+    {
+        if link >= self.vcp.links() {
+            return (&[], &[]);
+        }
+        self.vcp.receiving(link).tokens()
+    }
+
+    /// The bytes that have passed at a link of a packet whose mark has not.
+    pub fn passed_at(&self, link: u8) -> &[u8]
+        ensures { result.now ≡ ((seen self.now.vcp).link link).passed }
+    {
+        if link >= self.vcp.links() {
+            return &[];
+        }
+        self.vcp.receiving(link).passed()
+    }
+
+    /// Whether a piece is held on a channel here.
+    pub fn holds(&self, chan: u16) -> bool
+        ensures { IsTrue result ↔ (((seen self.now.vcp).carrier.into chan).held ≢ None) }
+    {
+        self.vcp.holds(chan)
+    }
+
+    /// Whether the process has ended: nothing remains of it.
+    pub fn ended(&self) -> bool
+        ensures { IsTrue result ↔ ((state self.now.process).rest ≡ Done) }
+    {
+        self.process.ended()
+    }
+
+    /// Makes a move.
+    pub(crate) fn make(&mut self, made: &Move) -> Result<(), Memory>
+        requires { MayMove self.old made.now }
+        ensures ok { (plan : Plan) (k : ℕ) → IsNodeOf plan k self.old → OnOk result (MakesMove plan k self.old made.now self.new) }
+        ensures err { OnErr result (self.new ≡ self.old) }
+    {
+        match *made {
+            Move::Offer { chan, .. } => self.offer(made, chan),
+            Move::Want { chan, .. } => self.want(made, chan),
+            Move::Choose { chan, .. } => self.choose(made, chan),
+            Move::Stopch { chan, .. } => self.stopch(made, chan),
+            Move::Inner { chan, .. } => self.meet(made, chan),
+            Move::Quiet { site } => self.rest(site),
+        }
+    }
+
+    // An output begins, with its message.
+    fn offer(&mut self, made: &Move, chan: u16) -> Result<(), Memory>
+        requires may { MayMove self.old made.now }
+        requires is { (site : ℕ) × (made.now ≡ Move.Offer site chan) }
+        ensures ok { (plan : Plan) (k : ℕ) → IsNodeOf plan k self.old → OnOk result (MakesMove plan k self.old made.now self.new) }
+        ensures err { OnErr result (self.new ≡ self.old) }
+    {
+        let Some(message) = self.process.value(made)? else {
+            unreachable!();
+        };
+        self.vcp.offer(chan, message.as_slice())?;
+        self.process.act(made, Answer::Nothing)
+    }
+
+    // An input begins: it has its message, or waits.
+    fn want(&mut self, made: &Move, chan: u16) -> Result<(), Memory>
+        requires may { MayMove self.old made.now }
+        requires is { (site : ℕ) × (made.now ≡ Move.Want site chan) }
+        ensures ok { (plan : Plan) (k : ℕ) → IsNodeOf plan k self.old → OnOk result (MakesMove plan k self.old made.now self.new) }
+        ensures err { OnErr result (self.new ≡ self.old) }
+    {
+        let answer = answer_of(self.vcp.want(chan)?);
+        self.process.act(made, answer)
+    }
+
+    // An ALT takes the guard whose piece is there.
+    fn choose(&mut self, made: &Move, chan: u16) -> Result<(), Memory>
+        requires may { MayMove self.old made.now }
+        requires is { (site : ℕ) × (guard : ℕ) × (made.now ≡ Move.Choose site guard chan) }
+        ensures ok { (plan : Plan) (k : ℕ) → IsNodeOf plan k self.old → OnOk result (MakesMove plan k self.old made.now self.new) }
+        ensures err { OnErr result (self.new ≡ self.old) }
+    {
+        let answer = answer_of(self.vcp.want(chan)?);
+        self.process.act(made, answer)
+    }
+
+    // A channel is stopped.
+    fn stopch(&mut self, made: &Move, chan: u16) -> Result<(), Memory>
+        requires may { MayMove self.old made.now }
+        requires is { (site : ℕ) × (made.now ≡ Move.Stopch site chan) }
+        ensures ok { (plan : Plan) (k : ℕ) → IsNodeOf plan k self.old → OnOk result (MakesMove plan k self.old made.now self.new) }
+        ensures err { OnErr result (self.new ≡ self.old) }
+    {
+        self.process.act(made, Answer::Nothing)?;
+        if self.inside.has(chan) {
+            self.inside.stop(chan);
+        } else {
+            self.vcp.stopch(chan);
+        }
+        Ok(())
+    }
+
+    // An output meets an input, or a guard, on a channel inside the node.
+    fn meet(&mut self, made: &Move, chan: u16) -> Result<(), Memory>
+        requires may { MayMove self.old made.now }
+        requires is { (sender : ℕ) × (receiver : ℕ) × (guard : Option ℕ) × (made.now ≡ Move.Inner sender receiver guard chan) }
+        ensures ok { (plan : Plan) (k : ℕ) → IsNodeOf plan k self.old → OnOk result (MakesMove plan k self.old made.now self.new) }
+        ensures err { OnErr result (self.new ≡ self.old) }
+    {
+        let Some(message) = self.process.value(made)? else {
+            unreachable!();
+        };
+        let copy = Items::from_slice(self.alloc, message.as_slice())?;
+        self.inside.exchange(chan, copy)?;
+        self.process.act(made, Answer::Got(message))
+    }
+
+    // A step without a communication.
+    fn rest(&mut self, site: u16) -> Result<(), Memory>
+        requires may { MayMove self.old (Move.Quiet site) }
+        ensures ok { (plan : Plan) (k : ℕ) → IsNodeOf plan k self.old → OnOk result (MakesMove plan k self.old (Move.Quiet site) self.new) }
+        ensures err { OnErr result (self.new ≡ self.old) }
+    {
+        self.process.act_quietly(site)
+    }
+
+    /// A token passes from a link's buffer; where a message is whole or an output finished the process goes on, and the answer is
+    /// whether it may have.
+    #[inline(always)]
+    pub(crate) fn pass(&mut self, link: u8) -> Result<bool, Memory>
+        requires link { link < 4 }
+        requires waits { ((seen self.old.vcp).link link).receiver.buffer ≢ [] }
+        ensures ok { (plan : Plan) (k : ℕ) → IsNodeOf plan k self.old → OnOk result (MakesPass plan k self.old link self.new) }
+        ensures rests { IfOk result (λ goes_on. goes_on ≡ false → self.new.process ≡ self.old.process) }
+        ensures err { OnErr result (self.new ≡ self.old) }
+    {
+        match self.vcp.pass(link)? {
+            Some(taken) => Ok(go_on(&mut self.process, taken)),
+            None => Ok(false),
+        }
+    }
+}
+
+// The process goes on where its message is whole or its output finished. The answer is whether it may have.
+fn go_on(process: &mut Running, taken: Taken) -> bool
+    ensures goes_on { IsAwaited (process_of process.old) (passed_of (Some taken)) → GoesOn does (process_of process.old) (passed_of (Some taken)) (process_of process.new) }
+    ensures rests { result ≡ false → process.new ≡ process.old }
+{
+    match taken {
+        Taken::Complete { chan, message } => {
+            receive(process, chan, message);
+            true
+        }
+        Taken::Finished { chan } => {
+            finish(process, chan);
+            true
+        }
+        _ => false,
+    }
+}
+
+// The input on a channel, if there is one, has its message.
+fn receive(process: &mut Running, chan: u16, message: Items<u8>)
+    ensures { IsAwaited (process_of process.old) (Some (Complete chan message)) → GoesOn does (process_of process.old) (Some (Complete chan message)) (process_of process.new) }
+{
+    if let Some(site) = process.input_on(chan) {
+        process.resume(site, Some(message));
+    }
+}
+
+// The output on a channel, if there is one, is finished.
+fn finish(process: &mut Running, chan: u16)
+    ensures { IsAwaited (process_of process.old) (Some (Finished chan)) → GoesOn does (process_of process.old) (Some (Finished chan)) (process_of process.new) }
+{
+    if let Some(site) = process.output_on(chan) {
+        process.resume(site, None);
+    }
+}
+
+/// What an input's process is told.
+fn answer_of(want: Want) -> Answer
+    ensures came { came result ≡ answered want }
+    ensures some { result ≢ Answer.Nothing }
+{
+    match want {
+        Want::Waits | Want::Stored => Answer::Waits,
+        Want::Complete(message) => Answer::Got(message),
+    }
+}
+
+// The place of the first move by a site from this one on; the first place where there is none.
+fn first_from(moves: &[Move], site: u16) -> usize
+    ensures { result ≤ length moves.now }
+{
+    for (place, made) in moves.iter().enumerate() {
+        if site_of(made) >= site {
+            return place;
+        }
+    }
+    0
+}
+
+/// The site that makes a move; that of the output where two sites meet.
+pub(crate) fn site_of(made: &Move) -> u16 {
+    match *made {
+        Move::Offer { site, .. }
+        | Move::Want { site, .. }
+        | Move::Choose { site, .. }
+        | Move::Stopch { site, .. }
+        | Move::Quiet { site } => site,
+        Move::Inner { sender, .. } => sender,
+    }
+}

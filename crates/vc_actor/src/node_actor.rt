@@ -1,0 +1,189 @@
+//! A node as an actor.
+ghost use Rattle.std.specs.Prelude.{◌≡◌, ◌<◌, ◌↔◌, ℕ, IsTrue, IfOk, IfSome, OnOk, OnErr};
+ghost use Rattle.vc_actor.specs.Acting.{NodeMay, MakesOwn, MakesTake, MakesPut, MakesGrant, IsOwn};
+ghost use Rattle.vc_actor.specs.Able.{NodeCan};
+ghost use Rattle.vc_actor.specs.OfPlan.{IsNodeOf, IsActorOf};
+ghost use Rattle.vc_actor.specs.Shown.{OfNode};
+ghost use Rattle.vc_actor.specs.Turns.{FindsMove, FindsOf};
+ghost use Rattle.vc_occam.specs.Remains.{Done};
+ghost use Rattle.vc_occam.specs.Runnings.{state};
+ghost use Rattle.vc_vcp.specs.Seen.{seen};
+ghost use Rattle.vc_network.specs.Plan.{Plan};
+ghost use Rattle.vc_tokens.specs.Spelt.{token};
+
+use crate::act::{Act, ActKind};
+use crate::node::{NODE_LINKS, Node, site_of};
+use sqlite_items::Items;
+use std::marker::Model;
+use vc_occam::Move;
+use vc_packets::Memory;
+use vc_tokens::Token;
+
+/// A node with its process, its moves as they were listed last, and the site from which they are looked at next.
+#[derive(Drop)]
+pub(crate) struct NodeActor {
+    node: Node,
+    moves: Items<Move>,
+    // whether the process has not changed since they were listed
+    is_listed: bool,
+    next_site: u16,
+}
+
+impl Model for NodeActor {
+    ghost use Rattle.std.specs.Coded.{codes};
+    ghost use Rattle.vc_actor.specs.Listed.{AreListed};
+    ghost use Rattle.vc_actor.specs.declared.node.Node.{Node};
+    ghost use Rattle.vc_actor.specs.contracts.node.Node as its_node;
+
+    ghost Value = { Node };
+
+    ghost coded = { Prim.hlevel (codes, its_node.the_row.coded) };
+
+    ghost view = { λ x. x.node };
+
+    ghost invariant = { λ x. AreListed x.is_listed x.moves x.node.process };
+}
+
+impl NodeActor {
+    pub(crate) fn new(node: Node) -> NodeActor
+        ensures { result ≡ node }
+    {
+        NodeActor {
+            moves: Items::new(node.alloc),
+            node,
+            is_listed: false,
+            next_site: 0,
+        }
+    }
+
+    pub(crate) fn node(&self) -> &Node
+        ensures { result.now ≡ self.now }
+    {
+        &self.node
+    }
+
+    /// Whether an act is one that the node can make now, whatever stands on its ways.
+    pub(crate) fn can(&self, act: &Act) -> bool
+        ensures may { IsTrue result ↔ NodeMay self.now act.now }
+        ensures can { (plan : Plan) (k : ℕ) → IsNodeOf plan k self.now → IsTrue result ↔ NodeCan plan k self.now act.now }
+    {
+        match act {
+            Act::Proc(made) => self.node.can_move(made),
+            Act::Take { link, .. } => *link < NODE_LINKS,
+            Act::Put { link } => *link < NODE_LINKS && self.node.vcp.may_put(*link),
+            Act::Fct { link } => *link < NODE_LINKS && self.node.vcp.may_grant(*link),
+            Act::Pass { link } => *link < self.node.vcp.links() && self.node.vcp.may_pass(*link),
+            Act::Route { .. } => false,
+        }
+    }
+
+    /// A token comes over a link.
+    #[inline(always)]
+    pub(crate) fn accept(&mut self, link: u8, came: Token)
+        requires { link < 4 }
+        ensures { (plan : Plan) (k word : ℕ) → IsActorOf plan k (OfNode self.old) → MakesTake plan k (OfNode self.old) link word (token came) (OfNode self.new) }
+    {
+        self.node.vcp.accept(link, came);
+    }
+
+    /// Makes a step of its own: a move of the process, or a token that passes.
+    #[inline(always)]
+    pub(crate) fn make(&mut self, act: &Act) -> Result<(), Memory>
+        requires may { NodeMay self.old act.now }
+        requires own { IsOwn act.now }
+        ensures ok { (plan : Plan) (k : ℕ) → IsActorOf plan k (OfNode self.old) → OnOk result (MakesOwn plan k (OfNode self.old) act.now (OfNode self.new)) }
+        ensures err { OnErr result (self.new ≡ self.old) }
+    {
+        match *act {
+            Act::Proc(made) => {
+                self.node.make(&made)?;
+                self.is_listed = false;
+                self.next_site = site_of(&made).saturating_add(1);
+                Ok(())
+            }
+            Act::Pass { link } => {
+                if self.node.pass(link)? {
+                    self.is_listed = false;
+                }
+                Ok(())
+            }
+            _ => unreachable!(),
+        }
+    }
+
+    /// Puts the next token on a link.
+    #[inline(always)]
+    pub(crate) fn put(&mut self, link: u8) -> Token
+        requires { NodeMay self.old (Act.Put link) }
+        ensures { (plan : Plan) (k : ℕ) → IsActorOf plan k (OfNode self.old) → MakesPut plan k (OfNode self.old) link (token result) (OfNode self.new) }
+    {
+        self.node.vcp.put(link)
+    }
+
+    /// Grants eight places of a link's buffer.
+    #[inline(always)]
+    pub(crate) fn grant(&mut self, link: u8)
+        requires { NodeMay self.old (Act.Fct link) }
+        ensures { (plan : Plan) (k : ℕ) → IsActorOf plan k (OfNode self.old) → MakesGrant plan k (OfNode self.old) link (OfNode self.new) }
+    {
+        self.node.vcp.grant(link);
+    }
+
+    /// An act of this kind that the node can make where its links have this room: by the least link, or a move of the process,
+    /// beginning behind the site that acted last.
+    #[inline(always)]
+    pub(crate) fn next_of(&mut self, kind: ActKind, room: u32) -> Result<Option<Act>, Memory>
+        ensures same { self.new ≡ self.old }
+        ensures may { IfOk result (λ act. IfSome act (λ a. NodeMay self.old a)) }
+        ensures finds { (plan : Plan) (k : ℕ) → IsNodeOf plan k self.old → IfOk result (FindsOf kind plan k (OfNode self.old) room) }
+    {
+        match kind {
+            ActKind::Pass => Ok(self.node.next_pass()),
+            ActKind::Route => Ok(None),
+            ActKind::Put => Ok(self.node.next_put(room)),
+            ActKind::Fct => Ok(self.node.next_grant(room)),
+            ActKind::Proc => self.next_move(),
+        }
+    }
+
+    // The next move that the process can make, where the links have nothing to do, going round behind the site that acted last.
+    #[inline(always)]
+    fn next_move(&mut self) -> Result<Option<Act>, Memory>
+        ensures same { self.new ≡ self.old }
+        ensures may { IfOk result (λ act. IfSome act (λ a. NodeMay self.old a)) }
+        ensures finds { (plan : Plan) (k : ℕ) → IsNodeOf plan k self.old → IfOk result (FindsMove plan k self.old) }
+    {
+        if let Some(act) = self.node.only_step() {
+            return Ok(Some(act));
+        }
+        self.next_listed()
+    }
+
+    // The next of the process's moves that can be made, which are listed where the process has changed.
+    #[inline(never)]
+    fn next_listed(&mut self) -> Result<Option<Act>, Memory>
+        ensures same { self.new ≡ self.old }
+        ensures may { IfOk result (λ act. IfSome act (λ a. NodeMay self.old a)) }
+        ensures finds { (plan : Plan) (k : ℕ) → IsNodeOf plan k self.old → IfOk result (FindsMove plan k self.old) }
+    {
+        if !self.is_listed {
+            self.node.process.list_actions(&mut self.moves)?;
+            self.is_listed = true;
+        }
+        Ok(self.node.next_move(self.moves.as_slice(), self.next_site))
+    }
+
+    /// Whether the process has ended: nothing remains of it.
+    pub(crate) fn ended(&self) -> bool
+        ensures { IsTrue result ↔ ((state self.now.process).rest ≡ Done) }
+    {
+        self.node.ended()
+    }
+
+    /// How many packets and tokens were dropped.
+    pub(crate) fn strays(&self) -> u64
+        ensures { result ≡ (seen self.now.vcp).carrier.strays }
+    {
+        self.node.vcp.strays()
+    }
+}

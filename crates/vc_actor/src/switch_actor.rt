@@ -1,0 +1,230 @@
+//! A switch as an actor.
+ghost use Rattle.std.specs.Prelude.{◌≡◌, ◌<◌, ◌≤◌, ◌↔◌, ℕ, IsTrue, IsOk, IfSome};
+ghost use Rattle.vc_actor.specs.Acting.{SwitchMay, MakesOwn, MakesTake, MakesPut, MakesGrant, IsOwn};
+ghost use Rattle.vc_actor.specs.Able.{SwitchCan};
+ghost use Rattle.vc_actor.specs.OfPlan.{IsActorOf};
+ghost use Rattle.vc_actor.specs.Shown.{OfSwitch};
+ghost use Rattle.vc_actor.specs.Turns.{IsTurn, FindsAt, FindsOf, FindsRoute};
+ghost use Rattle.vc_network.specs.Plan.{Plan};
+ghost use Rattle.vc_switch.specs.Able.{CanLeave};
+ghost use Rattle.vc_switch.specs.Seen.{seen};
+ghost use Rattle.vc_switch.specs.State.{plan_of};
+ghost use Rattle.vc_tokens.specs.Spelt.{token};
+
+use crate::act::{Act, ActKind};
+use crate::room::{lowest, without};
+use vc_packets::Memory;
+use vc_switch::{ReadySwitch, Switch};
+use vc_tokens::Token;
+
+/// A switch, which makes its steps by itself.
+#[derive(Drop)]
+pub(crate) struct SwitchActor {
+    switch: ReadySwitch,
+}
+
+impl SwitchActor {
+    pub(crate) fn new(switch: ReadySwitch) -> SwitchActor
+        ensures { result.switch ≡ switch }
+    {
+        SwitchActor { switch }
+    }
+
+    pub(crate) fn switch(&self) -> &Switch
+        ensures { result.now ≡ self.now.switch }
+    {
+        self.switch.switch()
+    }
+
+    /// Whether an act is one that the switch can make now, whatever stands on its ways.
+    pub(crate) fn can(&self, act: &Act) -> bool
+        ensures may { IsTrue result ↔ SwitchMay self.now.switch act.now }
+        ensures can { IsTrue result ↔ SwitchCan self.now.switch act.now }
+    {
+        let switch = self.switch.switch();
+        let links = switch.links();
+        match *act {
+            Act::Proc(_) => false,
+            Act::Take { link, .. } => link < links,
+            Act::Put { link } => link < links && switch.may_put(link),
+            Act::Fct { link } => link < links && switch.may_grant(link),
+            Act::Pass { link } => link < links && switch.may_pass(link),
+            Act::Route { input, output } => self.can_route(input, output),
+        }
+    }
+
+    // Whether the packet at an input can be bound to an output.
+    fn can_route(&self, input: u8, output: u8) -> bool
+        ensures may { IsTrue result ↔ SwitchMay self.now.switch (Act.Route input output) }
+        ensures can { IsTrue result ↔ SwitchCan self.now.switch (Act.Route input output) }
+    {
+        let switch = self.switch.switch();
+        let links = switch.links();
+        if input >= links || output >= links {
+            return false;
+        }
+        switch.may_route(input, output)
+    }
+
+    /// A token comes over a link, with a word for a random header.
+    #[inline(always)]
+    pub(crate) fn accept(&mut self, link: u8, came: Token, word: u32)
+        requires { link < 32 }
+        ensures { (plan : Plan) (k : ℕ) → IsActorOf plan k (OfSwitch self.old.switch) → MakesTake plan k (OfSwitch self.old.switch) link word (token came) (OfSwitch self.new.switch) }
+    {
+        let _taken = self.switch.take(link, came, word);
+    }
+
+    /// Makes a step of its own: a token passes, or a packet is bound to an output. It takes no memory, so the answer is `Ok`.
+    #[inline(always)]
+    pub(crate) fn make(&mut self, act: &Act) -> Result<(), Memory>
+        requires may { SwitchMay self.old.switch act.now }
+        requires own { IsOwn act.now }
+        ensures makes { (plan : Plan) (k : ℕ) → IsActorOf plan k (OfSwitch self.old.switch) → MakesOwn plan k (OfSwitch self.old.switch) act.now (OfSwitch self.new.switch) }
+        ensures ok { IsOk result }
+    {
+        match *act {
+            Act::Pass { link } => self.switch.pass(link),
+            Act::Route { input, output } => {
+                self.switch.route(input, output);
+                Ok(())
+            }
+            _ => unreachable!(),
+        }
+    }
+
+    /// Puts the next token of the packet that is bound to an output.
+    #[inline(always)]
+    pub(crate) fn put(&mut self, link: u8) -> Token
+        requires { SwitchMay self.old.switch (Act.Put link) }
+        ensures { (plan : Plan) (k : ℕ) → IsActorOf plan k (OfSwitch self.old.switch) → MakesPut plan k (OfSwitch self.old.switch) link (token result) (OfSwitch self.new.switch) }
+    {
+        self.switch.put(link)
+    }
+
+    /// Grants eight places of a link's buffer.
+    #[inline(always)]
+    pub(crate) fn grant(&mut self, link: u8)
+        requires { SwitchMay self.old.switch (Act.Fct link) }
+        ensures { (plan : Plan) (k : ℕ) → IsActorOf plan k (OfSwitch self.old.switch) → MakesGrant plan k (OfSwitch self.old.switch) link (OfSwitch self.new.switch) }
+    {
+        self.switch.grant(link);
+    }
+
+    /// An act of this kind that the switch can make where its links have this room: by the least link, or to bind the packet of
+    /// the least input to the least output.
+    #[inline(always)]
+    pub(crate) fn next_of(&self, kind: ActKind, room: u32) -> Option<Act>
+        ensures may { IfSome result (λ a. SwitchMay self.now.switch a) }
+        ensures finds { (plan : Plan) (k : ℕ) → FindsOf kind plan k (OfSwitch self.now.switch) room result }
+    {
+        match kind {
+            ActKind::Pass => self.next_pass(),
+            ActKind::Route => self.next_route(),
+            ActKind::Put => self.next_put(room),
+            ActKind::Fct => self.next_grant(room),
+            ActKind::Proc => None,
+        }
+    }
+
+    // The least link whose buffer has a token that may pass.
+    #[inline(always)]
+    fn next_pass(&self) -> Option<Act>
+        ensures may { IfSome result (λ a. SwitchMay self.now.switch a) }
+        ensures finds { FindsAt (λ link. Act.Pass link) (SwitchCan self.now.switch) result }
+    {
+        let link = lowest(self.switch.passes(), self.switch.switch().links())?;
+        Some(Act::Pass { link })
+    }
+
+    // The least input whose packet may be bound, and the least output to which it may.
+    #[inline(always)]
+    fn next_route(&self) -> Option<Act>
+        ensures may { IfSome result (λ a. SwitchMay self.now.switch a) }
+        ensures finds { FindsRoute self.now.switch result }
+    {
+        let _input = lowest(self.switch.routes(), self.switch.switch().links())?;
+        self.first_route()
+    }
+
+    // The least input whose packet may be bound, and the least output to which it may, where some input's may be.
+    #[inline(never)]
+    fn first_route(&self) -> Option<Act>
+        ensures may { IfSome result (λ a. SwitchMay self.now.switch a) }
+        ensures finds { FindsRoute self.now.switch result }
+    {
+        let links = self.switch.switch().links();
+        let mut left = self.switch.routes();
+        for _ in 0..links {
+            let input = lowest(left, links)?;
+            if let Some(act) = self.route_of(input) {
+                return Some(act);
+            }
+            left = without(left, input);
+        }
+        None
+    }
+
+    // The least output to which the packet at an input may be bound.
+    fn route_of(&self, input: u8) -> Option<Act>
+        requires { input < 32 }
+        ensures may { IfSome result (λ a. SwitchMay self.now.switch a) }
+        ensures finds { FindsAt (λ output. Act.Route input output) (SwitchCan self.now.switch) result }
+    {
+        match self.switch.switch().choices(input) {
+            None => None,
+            Some((first, last)) => self.route_within(input, first, last),
+        }
+    }
+
+    // The least free output of the group by which the packet at an input may leave.
+    fn route_within(&self, input: u8, first: u8, last: u8) -> Option<Act>
+        requires input { input < 32 }
+        requires few { last < 32 }
+        requires group { (output : ℕ) → CanLeave (plan_of self.now.switch) (seen self.now.switch) input output ↔ ((first ≤ output) × (output ≤ last)) }
+        ensures may { IfSome result (λ a. SwitchMay self.now.switch a) }
+        ensures finds { FindsAt (λ output. Act.Route input output) (SwitchCan self.now.switch) result }
+    {
+        for output in first..last + 1 {
+            if self.switch.switch().free(output) {
+                return Some(Act::Route { input, output });
+            }
+        }
+        None
+    }
+
+    // The least link with room on which a token may be put.
+    #[inline(always)]
+    fn next_put(&self, room: u32) -> Option<Act>
+        ensures may { IfSome result (λ a. SwitchMay self.now.switch a) }
+        ensures finds { (plan : Plan) (k : ℕ) → FindsAt (λ link. Act.Put link) (IsTurn plan k (OfSwitch self.now.switch) room) result }
+    {
+        let links = self.switch.switch().links();
+        let mut left = self.switch.puts() & room;
+        for _ in 0..links {
+            let link = lowest(left, links)?;
+            if self.switch.switch().may_put(link) {
+                return Some(Act::Put { link });
+            }
+            left = without(left, link);
+        }
+        None
+    }
+
+    // The least link with room on which a flow control token may be put.
+    #[inline(always)]
+    fn next_grant(&self, room: u32) -> Option<Act>
+        ensures may { IfSome result (λ a. SwitchMay self.now.switch a) }
+        ensures finds { (plan : Plan) (k : ℕ) → FindsAt (λ link. Act.Fct link) (IsTurn plan k (OfSwitch self.now.switch) room) result }
+    {
+        let link = lowest(self.switch.grants() & room, self.switch.switch().links())?;
+        Some(Act::Fct { link })
+    }
+
+    /// How many packets and tokens were dropped.
+    pub(crate) fn lost(&self) -> u64
+        ensures { result ≡ (seen self.now.switch).lost }
+    {
+        self.switch.switch().lost()
+    }
+}

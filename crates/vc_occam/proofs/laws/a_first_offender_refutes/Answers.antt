@@ -1,8 +1,0 @@
-use Rattle.vc_occam.proofs.Judged.{unlawful, only}
-use Rattle.vc_occam.proofs.laws.a_first_offender_refutes.Goals as goal
-
-pub returns-clause-unlawful : goal.returns-clause-unlawful
-returns-clause-unlawful c = unlawful
-
-pub returns-clause-one : goal.returns-clause-one
-returns-clause-one c = only

@@ -1,7 +1,0 @@
-use Rattle.vc_occam.specs.InOrder.{number_guard}
-use Rattle.vc_occam.proofs.Using.{all_inputs}
-use Rattle.vc_occam.proofs.Reaching.{Adds}
-use Rattle.vc_occam.proofs.uses.push_guards.Given as goal
-
-abbrev pub invariant-loop-guard : goal.invariant-loop-guard
-invariant-loop-guard l = Adds number_guard (all_inputs l.kinds) l.guard-items l.initial.uses l.guard-index l.uses

@@ -1,0 +1,17 @@
+pub mod Answered
+pub mod Bytes
+pub mod Deep
+pub mod Everywhere
+pub mod Judged
+pub mod Held
+pub mod Lists
+pub mod Listed
+pub mod Numbers
+pub mod Reaching
+pub mod Using
+pub mod Clashing
+pub mod Ranks
+pub mod Shares
+pub mod Judging
+pub mod Parted
+pub mod Placed

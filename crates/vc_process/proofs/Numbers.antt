@@ -1,0 +1,51 @@
+-- Processes, branches and guards, as they are numbered.
+use Rattle.std.proofs.Common.{◌≡◌, ℕ, refl, ap, sym, ◌∙◌, List, map}
+use Rattle.vc_process.specs.declared.condition.Cond.{Cond}
+use Rattle.vc_process.specs.declared.expression.Expr.{Expr}
+use Rattle.vc_process.specs.declared.process.Process.{Process}
+use Rattle.vc_process.specs.declared.process.Branch.{Branch}
+use Rattle.vc_process.specs.declared.process.Guard.{Guard}
+use Rattle.vc_process.specs.declared.process.Process.TheVariants as process
+use Rattle.vc_process.specs.declared.process.Process.TheViews.{out-Branch, out-Guard}
+use Rattle.vc_process.specs.declared.process.Process.TheOpen as layer
+use Rattle.vc_process.specs.declared.process.Process.TheFolds.{fold-roll-Process, fold_out-Branch, fold_out-Guard}
+use Rattle.vc_process.specs.InOrder.{branch_layer, guard_layer, number, number_branch, number_guard}
+use Rattle.vc_process.specs.Numbering.{Numbered, NumberedBranch, NumberedGuard, numbered, written}
+use Rattle.vc_process.specs.Terms.{as_test}
+
+-- a process that is written begins with site 0
+pub written_is : (p : Process) → written p ≡ (number p).tree 0
+unfolding written number
+written_is p = refl
+
+pub number_seq : (p : Process) (ps : List Process) → p ≡ process.Seq ps → number p ≡ numbered (layer.Seq (map number ps))
+unfolding number
+number_seq p ps h = ap number (h ∙ sym (process.rolls-Seq ps)) ∙ fold-roll-Process Numbered NumberedBranch NumberedGuard numbered branch_layer guard_layer (layer.Seq ps)
+
+pub number_par : (p : Process) (ps : List Process) → p ≡ process.Par ps → number p ≡ numbered (layer.Par (map number ps))
+unfolding number
+number_par p ps h = ap number (h ∙ sym (process.rolls-Par ps)) ∙ fold-roll-Process Numbered NumberedBranch NumberedGuard numbered branch_layer guard_layer (layer.Par ps)
+
+pub number_if : (p : Process) (bs : List Branch) → p ≡ process.If bs → number p ≡ numbered (layer.If (map number_branch bs))
+unfolding number number_branch
+number_if p bs h = ap number (h ∙ sym (process.rolls-If bs)) ∙ fold-roll-Process Numbered NumberedBranch NumberedGuard numbered branch_layer guard_layer (layer.If bs)
+
+pub number_while : (p : Process) (b : Cond) (q : Process) → p ≡ process.While b q → number p ≡ numbered (layer.While b (number q))
+unfolding number
+number_while p b q h = ap number (h ∙ sym (process.rolls-While b q)) ∙ fold-roll-Process Numbered NumberedBranch NumberedGuard numbered branch_layer guard_layer (layer.While b q)
+
+pub number_count : (p : Process) (v : ℕ) (a n : Expr) (q : Process) → p ≡ process.Count v a n q → number p ≡ numbered (layer.Count v a n (number q))
+unfolding number
+number_count p v a n q h = ap number (h ∙ sym (process.rolls-Count v a n q)) ∙ fold-roll-Process Numbered NumberedBranch NumberedGuard numbered branch_layer guard_layer (layer.Count v a n q)
+
+pub number_alt : (p : Process) (gs : List Guard) → p ≡ process.Alt gs → number p ≡ numbered (layer.Alt (map number_guard gs))
+unfolding number number_guard
+number_alt p gs h = ap number (h ∙ sym (process.rolls-Alt gs)) ∙ fold-roll-Process Numbered NumberedBranch NumberedGuard numbered branch_layer guard_layer (layer.Alt gs)
+
+pub number_branch_out : (b : Branch) → number_branch b ≡ record { when = as_test (out-Branch b).cond; then_do = number (out-Branch b).body }
+unfolding number number_branch
+number_branch_out = fold_out-Branch Numbered NumberedBranch NumberedGuard numbered branch_layer guard_layer
+
+pub number_guard_out : (g : Guard) → number_guard g ≡ record { when = as_test (out-Guard g).cond; chan = (out-Guard g).chan; var = (out-Guard g).var; then_do = number (out-Guard g).body }
+unfolding number number_guard
+number_guard_out = fold_out-Guard Numbered NumberedBranch NumberedGuard numbered branch_layer guard_layer

@@ -1,0 +1,25 @@
+use Rattle.std.proofs.Common.{◌++◌, ◌∙◌, sym, ap, map, List}
+use Rattle.vc_process.specs.declared.process.Process.{Process}
+use Rattle.vc_process.specs.declared.used.PartUsage.{PartUsage}
+use Rattle.vc_process.specs.declared.used.Usage.{Usage}
+use Rattle.vc_process.specs.InOrder.{number}
+use Rattle.vc_process.specs.Numbering.{parts_from}
+use Rattle.vc_process.specs.Usages.{by_part, part_usages, usages}
+use Rattle.vc_process.proofs.Placed.{placed_next, placed_end}
+use Rattle.vc_process.proofs.sharing.uses_of.Goals as goal
+
+pub loop-place-init : goal.loop-place-init
+loop-place-init c = λ site. (site, ap (λ (us : List PartUsage). us ++ part_usages 0 (parts_from site (map number c.as_slice-parts.result.now))) (sym c.new-uses.ensures.items))
+
+pub loop-place-preserved : goal.loop-place-preserved
+loop-place-preserved c =
+    let k = c.loop-place.place in
+    let before = c.loop-place.uses.items in
+    placed_next c.as_slice-parts.result.now k before _ c.index-parts-place.result c.loop-place-test.true c.index-parts-place.is
+    (λ s. c.in_ok-push_part.ensures ∙ ap (λ (us : List Usage). before ++ map (by_part k) us) (c.as_slice.ensures ∙ c.in_ok-push_usages.ensures s ∙ ap (λ (us : List Usage). us ++ usages ((number c.index-parts-place.result).tree s)) c.new-own.ensures))
+    c.loop-place.invariant
+
+pub returns : goal.returns
+returns c =
+    let r = placed_end c.as_slice-parts.result.now c.loop-place.place c.loop-place.uses.items c.loop-place-test.false c.loop-place.invariant in
+    λ site. r site ∙ ap (λ (ys : List Process). part_usages 0 (parts_from site (map number ys))) c.as_slice-parts.ensures

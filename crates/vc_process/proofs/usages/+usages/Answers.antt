@@ -1,0 +1,44 @@
+use Rattle.std.proofs.Common.{◌∙◌, ◌++◌, map, ap, refl}
+use Rattle.vc_process.specs.InOrder.{number, number_branch, number_guard}
+use Rattle.vc_process.proofs.Listed.{all_parts, one_part, behind_part, parts_join, all_branches, one_branch, behind_branch, branches_join, all_guards, one_guard, behind_guard, guards_join}
+use Rattle.vc_process.proofs.Reaching.{adds_next, adds_end}
+use Rattle.vc_process.proofs.usages.+usages.Goals as goal
+
+pub push_parts-loop-part-init : goal.push_parts-loop-part-init
+push_parts-loop-part-init t c = λ site. (site, refl)
+
+pub push_parts-loop-part-preserved : goal.push_parts-loop-part-preserved
+push_parts-loop-part-preserved t c =
+    adds_next number all_parts one_part behind_part c.as_slice-part-items.result.now _ c.loop-part.part-index c.loop-part.uses _ c.part-item.result parts_join c.loop-part-test.true c.part-item.is
+    (λ s. c.in_ok-push_usages.ensures s) c.loop-part.invariant
+
+pub push_parts-returns : goal.push_parts-returns
+push_parts-returns t c =
+    let r = adds_end number all_parts c.as_slice-part-items.result.now _ c.loop-part.part-index c.loop-part.uses (λ s. refl) c.loop-part-test.false c.loop-part.invariant in
+    λ site. r site ∙ ap (λ ys. c.args.uses.now ++ all_parts (map number ys) site) c.as_slice-part-items.ensures
+
+pub push_branches-loop-branch-init : goal.push_branches-loop-branch-init
+push_branches-loop-branch-init t c = λ site. (site, refl)
+
+pub push_branches-loop-branch-preserved : goal.push_branches-loop-branch-preserved
+push_branches-loop-branch-preserved t c =
+    adds_next number_branch all_branches one_branch behind_branch c.as_slice-branch-items.result.now _ c.loop-branch.branch-index c.loop-branch.uses _ c.branch-item.result branches_join c.loop-branch-test.true c.branch-item.is
+    (λ s. c.in_ok-push_branch.ensures s) c.loop-branch.invariant
+
+pub push_branches-returns : goal.push_branches-returns
+push_branches-returns t c =
+    let r = adds_end number_branch all_branches c.as_slice-branch-items.result.now _ c.loop-branch.branch-index c.loop-branch.uses (λ s. refl) c.loop-branch-test.false c.loop-branch.invariant in
+    λ site. r site ∙ ap (λ ys. c.args.uses.now ++ all_branches (map number_branch ys) site) c.as_slice-branch-items.ensures
+
+pub push_guards-loop-guard-init : goal.push_guards-loop-guard-init
+push_guards-loop-guard-init t c = λ site. (site, refl)
+
+pub push_guards-loop-guard-preserved : goal.push_guards-loop-guard-preserved
+push_guards-loop-guard-preserved t c =
+    adds_next number_guard all_guards one_guard behind_guard c.as_slice-guard-items.result.now _ c.loop-guard.guard-index c.loop-guard.uses _ c.guard-item.result guards_join c.loop-guard-test.true c.guard-item.is
+    (λ s. c.in_ok-push_guarded.ensures s) c.loop-guard.invariant
+
+pub push_guards-returns : goal.push_guards-returns
+push_guards-returns t c =
+    let r = adds_end number_guard all_guards c.as_slice-guard-items.result.now _ c.loop-guard.guard-index c.loop-guard.uses (λ s. refl) c.loop-guard-test.false c.loop-guard.invariant in
+    λ site. r site ∙ ap (λ ys. c.args.uses.now ++ all_guards (map number_guard ys) site) c.as_slice-guard-items.ensures

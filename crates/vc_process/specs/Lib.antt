@@ -1,0 +1,16 @@
+pub mod Asking
+pub mod ChannelUses
+pub mod InOrder
+pub mod UseFaults
+pub mod Judged
+pub mod Usages
+pub mod Lawful
+pub mod Limits
+pub mod Messages
+pub mod Numbering
+pub mod ProcessLimits
+pub mod Sharing
+pub mod Syntax
+pub mod Terms
+pub mod Usage
+pub mod Values

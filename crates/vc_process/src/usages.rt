@@ -1,0 +1,199 @@
+//! What processes use, one use after another.
+ghost use Rattle.std.specs.Prelude.{◌≡◌, ◌++◌, ◌∷◌, ℕ, OnOk, map};
+ghost use Rattle.vc_process.specs.declared.used.Used.TheVariants as of;
+ghost use Rattle.vc_process.specs.InOrder.{number, number_branch, number_guard};
+ghost use Rattle.vc_process.specs.Numbering.{branches_from, guards_from, parts_from};
+ghost use Rattle.vc_process.specs.Terms.{exp, given, as_test};
+ghost use Rattle.vc_process.specs.Usages.{changing as as_changing, exp_usages, given_usages, input_usages, reading as as_reading, test_usages, usages, usages_of_branches, usages_of_guards, usages_of_parts};
+
+use crate::bytes_expression::BytesExpr;
+use crate::condition::Cond;
+use crate::expression::Expr;
+use crate::process::{Branch, Guard, Process};
+use crate::used::{Usage, Used};
+use crate::value::Value;
+use sqlite_items::Items;
+use vc_packets::Memory;
+
+/// Something is communicated on the channel, or the variable is changed.
+fn changing(used: Used) -> Usage
+    ensures { result ≡ as_changing used }
+{
+    Usage { used, reads: false }
+}
+
+/// The variable stands in an expression.
+fn reading(var: u8) -> Usage
+    ensures { result ≡ as_reading var }
+{
+    Usage {
+        used: Used::Variable(var),
+        reads: true,
+    }
+}
+
+/// Adds the uses of an expression.
+#[tactic(auto, unfolding(crate::specs::Terms::exp))]
+fn push_expression(uses: &mut Items<Usage>, expression: &Expr) -> Result<(), Memory>
+    ensures { OnOk result (uses.new ≡ uses.old ++ exp_usages (exp expression.now)) }
+{
+    match expression {
+        Expr::Num(_) => {}
+        Expr::Var(var) => uses.push(reading(*var))?,
+        Expr::Size(var) => uses.push(reading(*var))?,
+        Expr::Bin { left, right, .. } => {
+            push_expression(uses, left.get())?;
+            push_expression(uses, right.get())?;
+        }
+    }
+    Ok(())
+}
+
+/// Adds the uses of a condition.
+#[tactic(auto, unfolding(crate::specs::Terms::as_test))]
+fn push_condition(uses: &mut Items<Usage>, cond: &Cond) -> Result<(), Memory>
+    ensures { OnOk result (uses.new ≡ uses.old ++ test_usages (as_test cond.now)) }
+{
+    match cond {
+        Cond::Always(_) => {}
+        Cond::Cmp { left, right, .. } => {
+            push_expression(uses, left)?;
+            push_expression(uses, right)?;
+        }
+        Cond::And(left, right) => {
+            push_condition(uses, left.get())?;
+            push_condition(uses, right.get())?;
+        }
+        Cond::Or(left, right) => {
+            push_condition(uses, left.get())?;
+            push_condition(uses, right.get())?;
+        }
+        Cond::Not(cond) => push_condition(uses, cond.get())?,
+    }
+    Ok(())
+}
+
+/// Adds the uses of what is assigned or output.
+fn push_value(uses: &mut Items<Usage>, value: &Value) -> Result<(), Memory>
+    ensures { OnOk result (uses.new ≡ uses.old ++ given_usages (given value.now)) }
+{
+    match value {
+        Value::Int(number) => push_expression(uses, number)?,
+        Value::Bytes(BytesExpr::Lit(_)) => {}
+        Value::Bytes(BytesExpr::Var(var)) => uses.push(reading(*var))?,
+        Value::Bytes(BytesExpr::Fill { .. }) => {}
+    }
+    Ok(())
+}
+
+/// Adds the uses of an assignment or an output.
+fn push_given(uses: &mut Items<Usage>, used: Used, value: &Value) -> Result<(), Memory>
+    ensures { OnOk result (uses.new ≡ uses.old ++ (as_changing used ∷ given_usages (given value.now))) }
+{
+    uses.push(changing(used))?;
+    push_value(uses, value)?;
+    Ok(())
+}
+
+/// Adds the uses of an input.
+fn push_input(uses: &mut Items<Usage>, chan: u16, var: u8) -> Result<(), Memory>
+    ensures { OnOk result (uses.new ≡ uses.old ++ input_usages chan var) }
+{
+    uses.push(changing(Used::Input(chan)))?;
+    uses.push(changing(Used::Variable(var)))?;
+    Ok(())
+}
+
+/// Adds the uses of a counted SEQ, apart from its body.
+fn push_count(uses: &mut Items<Usage>, var: u8, base: &Expr, count: &Expr) -> Result<(), Memory>
+    ensures { OnOk result (uses.new ≡ uses.old ++ (as_changing (of.Variable var) ∷ exp_usages (exp base.now) ++ exp_usages (exp count.now))) }
+{
+    uses.push(changing(Used::Variable(var)))?;
+    push_expression(uses, base)?;
+    push_expression(uses, count)?;
+    Ok(())
+}
+
+/// Adds the uses of a process and of its parts, in order of site.
+#[cycle(usages)]
+#[tactic(auto, unfolding(crate::specs::InOrder::number, crate::specs::InOrder::number_branch, crate::specs::InOrder::number_guard))]
+pub(crate) fn push_usages(uses: &mut Items<Usage>, process: &Process) -> Result<(), Memory>
+    ensures { OnOk result ((site : ℕ) → uses.new ≡ uses.old ++ usages ((number process.now).tree site)) }
+{
+    match process {
+        Process::Set { var, value } => push_given(uses, Used::Variable(*var), value)?,
+        Process::Send { chan, value } => push_given(uses, Used::Output(*chan), value)?,
+        Process::Receive { chan, var } => push_input(uses, *chan, *var)?,
+        Process::Stopch { chan } => uses.push(changing(Used::Input(*chan)))?,
+        Process::Seq(parts) => push_parts(uses, parts)?,
+        Process::Par(parts) => push_parts(uses, parts)?,
+        Process::If(branches) => push_branches(uses, branches)?,
+        Process::While { cond, body } => {
+            push_condition(uses, cond)?;
+            push_usages(uses, body.get())?;
+        }
+        Process::Count {
+            var,
+            base,
+            count,
+            body,
+        } => {
+            push_count(uses, *var, base, count)?;
+            push_usages(uses, body.get())?;
+        }
+        Process::Alt(guards) => push_guards(uses, guards)?,
+        _ => {}
+    }
+    Ok(())
+}
+
+#[cycle(usages)]
+fn push_parts(uses: &mut Items<Usage>, parts: &Items<Process>) -> Result<(), Memory>
+    ensures { OnOk result ((site : ℕ) → uses.new ≡ uses.old ++ usages_of_parts (parts_from site (map number parts.now))) }
+{
+    for part in parts.as_slice() {
+        push_usages(uses, part)?;
+    }
+    Ok(())
+}
+
+#[cycle(usages)]
+fn push_branches(uses: &mut Items<Usage>, branches: &Items<Branch>) -> Result<(), Memory>
+    ensures { OnOk result ((site : ℕ) → uses.new ≡ uses.old ++ usages_of_branches (branches_from site (map number_branch branches.now))) }
+{
+    for branch in branches.as_slice() {
+        push_branch(uses, branch)?;
+    }
+    Ok(())
+}
+
+#[cycle(usages)]
+#[tactic(auto, unfolding(crate::specs::InOrder::number, crate::specs::InOrder::number_branch, crate::specs::InOrder::number_guard))]
+fn push_branch(uses: &mut Items<Usage>, branch: &Branch) -> Result<(), Memory>
+    ensures { OnOk result ((site : ℕ) → uses.new ≡ uses.old ++ (test_usages (number_branch branch.now).when ++ usages ((number_branch branch.now).then_do.tree site))) }
+{
+    push_condition(uses, &branch.cond)?;
+    push_usages(uses, &branch.body)?;
+    Ok(())
+}
+
+#[cycle(usages)]
+fn push_guards(uses: &mut Items<Usage>, guards: &Items<Guard>) -> Result<(), Memory>
+    ensures { OnOk result ((site : ℕ) → uses.new ≡ uses.old ++ usages_of_guards (guards_from site (map number_guard guards.now))) }
+{
+    for guard in guards.as_slice() {
+        push_guarded(uses, guard)?;
+    }
+    Ok(())
+}
+
+#[cycle(usages)]
+#[tactic(auto, unfolding(crate::specs::InOrder::number, crate::specs::InOrder::number_branch, crate::specs::InOrder::number_guard))]
+fn push_guarded(uses: &mut Items<Usage>, guard: &Guard) -> Result<(), Memory>
+    ensures { OnOk result ((site : ℕ) → uses.new ≡ uses.old ++ ((input_usages (number_guard guard.now).chan (number_guard guard.now).var ++ test_usages (number_guard guard.now).when) ++ usages ((number_guard guard.now).then_do.tree site))) }
+{
+    push_input(uses, guard.chan, guard.var)?;
+    push_condition(uses, &guard.cond)?;
+    push_usages(uses, &guard.body)?;
+    Ok(())
+}

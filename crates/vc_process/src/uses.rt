@@ -1,0 +1,121 @@
+//! How a process uses channels.
+ghost use Rattle.std.specs.Prelude.{◌≡◌, ◌++◌, ℕ, OnOk, map};
+ghost use Rattle.vc_process.specs.ChannelUses.{channel_uses, guard_uses, uses_of_all, uses_of_bodies, uses_of_branches};
+ghost use Rattle.vc_process.specs.InOrder.{number, number_branch, number_guard};
+ghost use Rattle.vc_process.specs.Numbering.{branches_from, guards_from, parts_from};
+
+use crate::channel_use::ChannelUse;
+use crate::limits::kind_at;
+use crate::process::{Branch, Guard, Process};
+use crate::value_kind::ValueKind;
+use sqlite_items::Items;
+use vc_packets::Memory;
+
+/// Adds the uses of a process whose node has variables of these kinds, in order of site.
+#[cycle(uses)]
+#[tactic(auto, unfolding(crate::specs::InOrder::number, crate::specs::InOrder::number_branch, crate::specs::InOrder::number_guard))]
+pub(crate) fn push_uses(
+    uses: &mut Items<ChannelUse>,
+    process: &Process,
+    kinds: &[ValueKind],
+) -> Result<(), Memory>
+    ensures { OnOk result ((site : ℕ) → uses.new ≡ uses.old ++ channel_uses kinds.now ((number process.now).tree site)) }
+{
+    match process {
+        Process::Send { chan, value } => {
+            uses.push(ChannelUse {
+                chan: *chan,
+                is_output: true,
+                kind: Some(value.kind()),
+            })?;
+        }
+        Process::Receive { chan, var } => {
+            uses.push(ChannelUse {
+                chan: *chan,
+                is_output: false,
+                kind: kind_at(kinds, *var),
+            })?;
+        }
+        Process::Stopch { chan } => {
+            uses.push(ChannelUse {
+                chan: *chan,
+                is_output: false,
+                kind: None,
+            })?;
+        }
+        Process::Seq(parts) => push_parts(uses, parts, kinds)?,
+        Process::Par(parts) => push_parts(uses, parts, kinds)?,
+        Process::If(branches) => push_branches(uses, branches, kinds)?,
+        Process::While { body, .. } => push_uses(uses, body.get(), kinds)?,
+        Process::Count { body, .. } => push_uses(uses, body.get(), kinds)?,
+        Process::Alt(guards) => {
+            push_guards(uses, guards, kinds)?;
+            push_bodies(uses, guards, kinds)?;
+        }
+        _ => {}
+    }
+    Ok(())
+}
+
+#[cycle(uses)]
+#[tactic(auto, unfolding(crate::specs::InOrder::number, crate::specs::InOrder::number_branch, crate::specs::InOrder::number_guard))]
+fn push_parts(
+    uses: &mut Items<ChannelUse>,
+    parts: &Items<Process>,
+    kinds: &[ValueKind],
+) -> Result<(), Memory>
+    ensures { OnOk result ((site : ℕ) → uses.new ≡ uses.old ++ uses_of_all kinds.now (parts_from site (map number parts.now))) }
+{
+    for part in parts.as_slice() {
+        push_uses(uses, part, kinds)?;
+    }
+    Ok(())
+}
+
+#[cycle(uses)]
+#[tactic(auto, unfolding(crate::specs::InOrder::number, crate::specs::InOrder::number_branch, crate::specs::InOrder::number_guard))]
+fn push_branches(
+    uses: &mut Items<ChannelUse>,
+    branches: &Items<Branch>,
+    kinds: &[ValueKind],
+) -> Result<(), Memory>
+    ensures { OnOk result ((site : ℕ) → uses.new ≡ uses.old ++ uses_of_branches kinds.now (branches_from site (map number_branch branches.now))) }
+{
+    for branch in branches.as_slice() {
+        push_uses(uses, &branch.body, kinds)?;
+    }
+    Ok(())
+}
+
+#[cycle(uses)]
+#[tactic(auto, unfolding(crate::specs::InOrder::number, crate::specs::InOrder::number_branch, crate::specs::InOrder::number_guard))]
+fn push_bodies(
+    uses: &mut Items<ChannelUse>,
+    guards: &Items<Guard>,
+    kinds: &[ValueKind],
+) -> Result<(), Memory>
+    ensures { OnOk result ((site : ℕ) → uses.new ≡ uses.old ++ uses_of_bodies kinds.now (guards_from site (map number_guard guards.now))) }
+{
+    for guard in guards.as_slice() {
+        push_uses(uses, &guard.body, kinds)?;
+    }
+    Ok(())
+}
+
+/// The guards of an ALT belong to its own site.
+fn push_guards(
+    uses: &mut Items<ChannelUse>,
+    guards: &Items<Guard>,
+    kinds: &[ValueKind],
+) -> Result<(), Memory>
+    ensures { OnOk result ((site : ℕ) → uses.new ≡ uses.old ++ guard_uses kinds.now (guards_from site (map number_guard guards.now))) }
+{
+    for guard in guards.as_slice() {
+        uses.push(ChannelUse {
+            chan: guard.chan,
+            is_output: false,
+            kind: kind_at(kinds, guard.var),
+        })?;
+    }
+    Ok(())
+}

@@ -1,0 +1,65 @@
+//! How many processes are written in a process.
+ghost use Rattle.std.specs.Prelude.{◌≡◌, ◌≤◌, ◌<◌, MatchOption, map};
+ghost use Rattle.vc_process.specs.InOrder.{number, number_branch, number_guard};
+ghost use Rattle.vc_process.specs.Numbering.{branch_sites, guard_sites, part_sites};
+
+use crate::process::{Branch, Guard, Process};
+use sqlite_items::Items;
+
+impl Process {
+    /// How many sites it has, itself and those within it; None where these are more than so many.
+    #[cycle(sites)]
+    #[tactic(auto, unfolding(crate::specs::InOrder::number, crate::specs::InOrder::number_branch, crate::specs::InOrder::number_guard))]
+    pub fn sites(&self, most: u32) -> Option<u32>
+        ensures { MatchOption result (most < (number self.now).sites) (λ n. (n ≡ (number self.now).sites) × (n ≤ most)) }
+    {
+        if most == 0 {
+            return None;
+        }
+        match self {
+            Process::Seq(parts) => Some(sites_of(parts, most - 1)? + 1),
+            Process::Par(parts) => Some(sites_of(parts, most - 1)? + 1),
+            Process::If(branches) => Some(sites_of_branches(branches, most - 1)? + 1),
+            Process::While { body, .. } => Some(body.get().sites(most - 1)? + 1),
+            Process::Count { body, .. } => Some(body.get().sites(most - 1)? + 1),
+            Process::Alt(guards) => Some(sites_of_guards(guards, most - 1)? + 1),
+            _ => Some(1),
+        }
+    }
+}
+
+#[cycle(sites)]
+#[tactic(auto, unfolding(crate::specs::InOrder::number, crate::specs::InOrder::number_branch, crate::specs::InOrder::number_guard))]
+fn sites_of(parts: &Items<Process>, most: u32) -> Option<u32>
+    ensures { MatchOption result (most < part_sites (map number parts.now)) (λ n. (n ≡ part_sites (map number parts.now)) × (n ≤ most)) }
+{
+    let mut found = 0;
+    for part in parts.as_slice() {
+        found += part.sites(most - found)?;
+    }
+    Some(found)
+}
+
+#[cycle(sites)]
+#[tactic(auto, unfolding(crate::specs::InOrder::number, crate::specs::InOrder::number_branch, crate::specs::InOrder::number_guard))]
+fn sites_of_branches(branches: &Items<Branch>, most: u32) -> Option<u32>
+    ensures { MatchOption result (most < branch_sites (map number_branch branches.now)) (λ n. (n ≡ branch_sites (map number_branch branches.now)) × (n ≤ most)) }
+{
+    let mut found = 0;
+    for branch in branches.as_slice() {
+        found += branch.body.sites(most - found)?;
+    }
+    Some(found)
+}
+
+#[cycle(sites)]
+#[tactic(auto, unfolding(crate::specs::InOrder::number, crate::specs::InOrder::number_branch, crate::specs::InOrder::number_guard))]
+fn sites_of_guards(guards: &Items<Guard>, most: u32) -> Option<u32>
+    ensures { MatchOption result (most < guard_sites (map number_guard guards.now)) (λ n. (n ≡ guard_sites (map number_guard guards.now)) × (n ≤ most)) }
+{
+    let mut found = 0;
+    for guard in guards.as_slice() {
+        found += guard.body.sites(most - found)?;
+    }
+    Some(found)
+}
