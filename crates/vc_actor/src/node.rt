@@ -131,6 +131,22 @@ impl Node {
         Some(Act::Proc(Move::Quiet { site }))
     }
 
+    /// The next of the process's moves, going round from this site on, where it is found without a list and its channel lets it be
+    /// made.
+    pub(crate) fn found_move(&self, site: u16) -> Option<Act>
+        ensures may { IfSome result (λ a. NodeMay self.now a) }
+        ensures finds { (plan : Plan) (k : ℕ) → IsNodeOf plan k self.now → IfSome result (λ a. FindsMove plan k self.now (Some a)) }
+    {
+        let made = match self.process.first_from(site) {
+            Some(made) => made,
+            None => self.process.first_from(0)?,
+        };
+        if self.channel_lets(&made) {
+            return Some(Act::Proc(made));
+        }
+        None
+    }
+
     /// The next of the process's moves that can be made, going round from this site on.
     pub(crate) fn next_move(&self, moves: &[Move], site: u16) -> Option<Act>
         requires { moves.now ≡ moves_of self.now.process }

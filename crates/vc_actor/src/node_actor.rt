@@ -19,6 +19,9 @@ use vc_occam::Move;
 use vc_packets::Memory;
 use vc_tokens::Token;
 
+/// So many moves are listed about as fast as the first of them is found.
+const FEW: usize = 8;
+
 /// A node with its process, its moves as they were listed last, and the site from which they are looked at next.
 #[derive(Drop)]
 pub(crate) struct NodeActor {
@@ -159,7 +162,8 @@ impl NodeActor {
         self.next_listed()
     }
 
-    // The next of the process's moves that can be made, which are listed where the process has changed.
+    // The next of the process's moves that can be made. They are listed where the process has changed; but where they were many when
+    // they were listed last, one that is found without a list comes first.
     #[inline(never)]
     fn next_listed(&mut self) -> Result<Option<Act>, Memory>
         ensures same { self.new ≡ self.old }
@@ -167,6 +171,11 @@ impl NodeActor {
         ensures finds { (plan : Plan) (k : ℕ) → IsNodeOf plan k self.old → IfOk result (FindsMove plan k self.old) }
     {
         if !self.is_listed {
+            if self.moves.len() > FEW {
+                if let Some(act) = self.node.found_move(self.next_site) {
+                    return Ok(Some(act));
+                }
+            }
             self.node.process.list_actions(&mut self.moves)?;
             self.is_listed = true;
         }

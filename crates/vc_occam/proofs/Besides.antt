@@ -149,10 +149,10 @@ besides_did (v ∷ vs) zero w e f i d h a =
 besides_did (v ∷ vs) (suc k) w e f i d h a = right_did (changes v.0) v.1 (besides vs) (besides (set vs k w)) e f i d (besides_did vs k w e f i d (tails v.0 v.0 (plans (set vs k w)) (plans vs) h) a)
 
 -- parts gone through from the first on
-drop_view : (k : ℕ) (fs : List Frame) (f : Frame) → k < length fs → f ≡ get_or fs k f → besides (views (drop k fs)) ≡ beside_on (changes (view f).0) (view f).1 (besides (views (drop (k + 1) fs)))
+pub drop_view : (k : ℕ) (fs : List Frame) (f : Frame) → k < length fs → f ≡ get_or fs k f → besides (views (drop k fs)) ≡ beside_on (changes (view f).0) (view f).1 (besides (views (drop (k + 1) fs)))
 drop_view k fs f l h = ap besides (drop_at view k fs f l h)
 
-drop_none : (k : ℕ) (fs : List Frame) → length fs ≤ k → besides (views (drop k fs)) ≡ Done
+pub drop_none : (k : ℕ) (fs : List Frame) → length fs ≤ k → besides (views (drop k fs)) ≡ Done
 drop_none k fs l = ap besides (drop_all view k fs l)
 
 pub pushed_more : (fs : List Frame) (k : ℕ) (f : Frame) (e : Store) (now later top : List Move) → k < length fs → f ≡ get_or fs k f → later ≡ now ++ own (view f).1 e → now ++ own (besides (views (drop k fs))) e ≡ top → later ++ own (besides (views (drop (k + 1) fs))) e ≡ top

@@ -118,7 +118,7 @@ besides_own (v ∷ vs) zero e m c = subst (λ (ms : List Move). Contains ms m) (
 besides_own (v ∷ vs) (suc k) e m c = subst (λ (ms : List Move). Contains ms m) (sym (beside_own (changes v.0) v.1 (besides vs) e)) (Contains-append_right (own v.1 e) (own (besides vs) e) m (besides_own vs k e m c))
 
 -- the site of a move is one that may do something
-mover : (r : Rest) (e : Store) (m : Move) (i : ℕ) → site_of m ≡ i → Contains (own r e) m → doers r i ≡ true
+pub mover : (r : Rest) (e : Store) (m : Move) (i : ℕ) → site_of m ≡ i → Contains (own r e) m → doers r i ≡ true
 mover r e m i s c = subst (λ (j : ℕ). doers r j ≡ true) s (able_site r e (site_of m) (deed_for m Nothing) (able r e m Nothing c))
 
 -- a move of a site is found in the part at its place

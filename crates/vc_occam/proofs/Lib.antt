@@ -22,6 +22,7 @@ pub mod Outset
 pub mod Places
 pub mod Preorder
 pub mod Rests
+pub mod Sought
 pub mod Shrinking
 pub mod Sites
 pub mod Standing

@@ -1,5 +1,5 @@
 -- What a site does where a move is made, or where it goes on.
-use Rattle.std.specs.Prelude.{◌≡◌, ℕ, true, List, Option, Some, None}
+use Rattle.std.specs.Prelude.{◌≡◌, ℕ, true, nat_le, List, [], ◌∷◌, Option, Some, None, if◌then◌else◌}
 use Rattle.std.specs.List.{Contains}
 use Rattle.vc_occam.specs.declared.answer.Answer.{Answer}
 use Rattle.vc_occam.specs.declared.deed.Deed.{Deed}
@@ -20,6 +20,11 @@ site_of (Choose i k c) = i
 site_of (Stopch i c) = i
 site_of (Inner i j k c) = i
 site_of (Quiet i) = i
+
+-- the first of these moves at a site from the i-th on
+abbrev pub from_site : ℕ → List Move → Option Move
+from_site i [] = None
+from_site i (m ∷ ms) = if nat_le i (site_of m) then Some m else from_site i ms
 
 -- what its site does, where the channel gave this answer
 abbrev pub deed_for : Move → Answer → Deed

@@ -1,8 +1,9 @@
 //! The guards of an ALT that runs, without their bodies.
-ghost use Rattle.std.specs.Prelude.{◌≡◌, ◌<◌, ◌++◌, ◌↔◌, IsTrue, OnOk, length, map};
+ghost use Rattle.std.specs.Prelude.{◌≡◌, ◌<◌, ◌≤◌, ◌++◌, ◌↔◌, IsTrue, OnOk, length, map};
 ghost use Rattle.std.specs.List.{Contains};
 ghost use Rattle.vc_occam.specs.Gates.{are_decided as all_decided, choices_at, gate, open_from, open_one};
 ghost use Rattle.vc_occam.specs.First.{is_true};
+ghost use Rattle.vc_occam.specs.Moving.{from_site};
 ghost use Rattle.vc_process.specs.Terms.{store, as_test};
 ghost use Rattle.vc_process.specs.Values.{holds};
 
@@ -115,6 +116,37 @@ impl GuardedInputs {
             inputs[place].push_open(found, site, place as u16, vars)?;
         }
         Ok(())
+    }
+
+    /// The first move that takes one whose condition is true, where no condition is a fault, if their ALT's site is not before `from`.
+    pub(crate) fn first_choice(&self, from: u16, site: u16, vars: &[Datum]) -> Option<Move>
+        ensures { result ≡ from_site from (choices_at site (map gate self.now.inputs) (store vars.now)) }
+    {
+        if site < from {
+            return None;
+        }
+        if !self.are_decided(vars) {
+            return None;
+        }
+        self.first_open(from, site, vars)
+    }
+
+    /// The first move that takes one whose condition is true.
+    fn first_open(&self, from: u16, site: u16, vars: &[Datum]) -> Option<Move>
+        requires { from ≤ site }
+        ensures { result ≡ from_site from (open_from site 0 (map gate self.now.inputs) (store vars.now)) }
+    {
+        let inputs = self.inputs.as_slice();
+        for place in 0..inputs.len() {
+            if inputs[place].is_open(vars) {
+                return Some(Move::Choose {
+                    site,
+                    guard: place as u16,
+                    chan: inputs[place].chan,
+                });
+            }
+        }
+        None
     }
 
     /// Whether the move takes one whose condition is true, where no condition is a fault.

@@ -43,6 +43,7 @@ mod moves;
 mod offering;
 mod phase;
 mod running;
+mod seeking;
 mod site_deed;
 mod variables;
 mod waits;

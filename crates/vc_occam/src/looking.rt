@@ -478,7 +478,7 @@ fn is_listed(made: &Move, one: Option<Move>) -> bool
 }
 
 /// The move of a process that hasn't begun and is no ALT.
-fn ready_move(site: u16, kind: &Kind, parts: &Vec<Frame>, vars: &[Datum]) -> Option<Move>
+pub(crate) fn ready_move(site: u16, kind: &Kind, parts: &Vec<Frame>, vars: &[Datum]) -> Option<Move>
     requires { is_choice kind.now ≡ false }
     ensures { own (Fresh (plan_at kind.now site (views parts.now.items))) (store vars.now) ≡ listed result }
 {

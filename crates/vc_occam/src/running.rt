@@ -121,11 +121,11 @@ fn meet(
 }
 
 impl Running {
-    ghost use Rattle.std.specs.Prelude.{◌≡◌, ◌≤◌, ◌↔◌, ◌++◌, ◌∷◌, [], IsTrue, IfOk, IfSome, OnOk, OnErr, MatchOption, Some, None, true, ℕ};
+    ghost use Rattle.std.specs.Prelude.{◌≡◌, ◌≤◌, ◌↔◌, ◌++◌, ◌∷◌, [], IsTrue, IfOk, IfSome, OnOk, OnErr, MatchOption, Some, None, true, false, ℕ};
     ghost use Rattle.std.specs.List.{Contains};
     ghost use Rattle.vc_occam.specs.First.{own};
     ghost use Rattle.vc_occam.specs.Frames.{assigned_at, waits_at};
-    ghost use Rattle.vc_occam.specs.Moving.{CanMeet};
+    ghost use Rattle.vc_occam.specs.Moving.{CanMeet, from_site};
     ghost use Rattle.vc_occam.specs.declared.moves.Move.TheVariants as Move;
     ghost use Rattle.vc_process.specs.Terms.{store};
     ghost use Rattle.vc_process.specs.InOrder.{number};
@@ -216,6 +216,19 @@ impl Running {
             Begins::Quiet { site } => Some(site),
             _ => None,
         }
+    }
+
+    /// The first move at a site from this one on, found without a list. Where a channel is inside the node none is looked for, since
+    /// an output and an input meet there that may stand anywhere.
+    #[tactic(auto, unfolding(crate::specs::Runnings::state, crate::specs::Runnings::inner_channels))]
+    pub fn first_from(&self, site: u16) -> Option<Move>
+        ensures listed { IfSome result (λ made. Contains (moves self.now) made) }
+        ensures first { ((c : ℕ) → inner_channels self.now c ≡ false) → result ≡ from_site site (moves self.now) }
+    {
+        if !self.inside.is_empty() {
+            return None;
+        }
+        self.frame.first_from(site, &self.vars)
     }
 
     /// Looks for the moves that it can begin with, and puts them in an empty list; where no channel is inside the node they are its
