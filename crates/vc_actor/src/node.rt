@@ -137,14 +137,21 @@ impl Node {
         ensures may { IfSome result (λ a. NodeMay self.now a) }
         ensures finds { (plan : Plan) (k : ℕ) → IsNodeOf plan k self.now → IfSome result (λ a. FindsMove plan k self.now (Some a)) }
     {
-        let made = match self.process.first_from(site) {
-            Some(made) => made,
-            None => self.process.first_from(0)?,
-        };
+        let made = self.first_round(site)?;
         if self.channel_lets(&made) {
             return Some(Act::Proc(made));
         }
         None
+    }
+
+    // The first of the process's moves from this site on, or else of all, where it is found without a list.
+    fn first_round(&self, site: u16) -> Option<Move>
+        ensures { IfSome result (λ made. Contains (moves_of self.now.process) made) }
+    {
+        match self.process.first_from(site) {
+            Some(made) => Some(made),
+            None => self.process.first_from(0),
+        }
     }
 
     /// The next of the process's moves that can be made, going round from this site on.

@@ -1,5 +1,5 @@
 //! A node as an actor.
-ghost use Rattle.std.specs.Prelude.{◌≡◌, ◌<◌, ◌↔◌, ℕ, IsTrue, IfOk, IfSome, OnOk, OnErr};
+ghost use Rattle.std.specs.Prelude.{◌≡◌, ◌<◌, ◌↔◌, ℕ, Some, IsTrue, IfOk, IfSome, OnOk, OnErr};
 ghost use Rattle.vc_actor.specs.Acting.{NodeMay, MakesOwn, MakesTake, MakesPut, MakesGrant, IsOwn};
 ghost use Rattle.vc_actor.specs.Able.{NodeCan};
 ghost use Rattle.vc_actor.specs.OfPlan.{IsNodeOf, IsActorOf};
@@ -20,7 +20,7 @@ use vc_packets::Memory;
 use vc_tokens::Token;
 
 /// So many moves are listed about as fast as the first of them is found.
-const FEW: usize = 8;
+const FEW: usize = 2;
 
 /// A node with its process, its moves as they were listed last, and the site from which they are looked at next.
 #[derive(Drop)]
@@ -159,11 +159,25 @@ impl NodeActor {
         if let Some(act) = self.node.only_step() {
             return Ok(Some(act));
         }
+        if let Some(act) = self.found_move() {
+            return Ok(Some(act));
+        }
         self.next_listed()
     }
 
-    // The next of the process's moves that can be made. They are listed where the process has changed; but where they were many when
-    // they were listed last, one that is found without a list comes first.
+    // The next move, found without a list, where the process has changed and its moves were many when they were listed last.
+    #[inline(never)]
+    fn found_move(&self) -> Option<Act>
+        ensures may { IfSome result (λ a. NodeMay self.now a) }
+        ensures finds { (plan : Plan) (k : ℕ) → IsNodeOf plan k self.now → IfSome result (λ a. FindsMove plan k self.now (Some a)) }
+    {
+        if self.is_listed || self.moves.len() <= FEW {
+            return None;
+        }
+        self.node.found_move(self.next_site)
+    }
+
+    // The next of the process's moves that can be made, which are listed where the process has changed.
     #[inline(never)]
     fn next_listed(&mut self) -> Result<Option<Act>, Memory>
         ensures same { self.new ≡ self.old }
@@ -171,11 +185,6 @@ impl NodeActor {
         ensures finds { (plan : Plan) (k : ℕ) → IsNodeOf plan k self.old → IfOk result (FindsMove plan k self.old) }
     {
         if !self.is_listed {
-            if self.moves.len() > FEW {
-                if let Some(act) = self.node.found_move(self.next_site) {
-                    return Ok(Some(act));
-                }
-            }
             self.node.process.list_actions(&mut self.moves)?;
             self.is_listed = true;
         }
