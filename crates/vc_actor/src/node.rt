@@ -271,6 +271,7 @@ impl Node {
     }
 
     /// Makes a move.
+    #[inline(always)]
     pub(crate) fn make(&mut self, made: &Move) -> Result<(), Memory>
         requires { MayMove self.old made.now }
         ensures ok { (plan : Plan) (k : ℕ) → IsNodeOf plan k self.old → OnOk result (MakesMove plan k self.old made.now self.new) }
@@ -354,6 +355,7 @@ impl Node {
     }
 
     // A step without a communication.
+    #[inline(always)]
     fn rest(&mut self, site: u16) -> Result<(), Memory>
         requires may { MayMove self.old (Move.Quiet site) }
         ensures ok { (plan : Plan) (k : ℕ) → IsNodeOf plan k self.old → OnOk result (MakesMove plan k self.old (Move.Quiet site) self.new) }

@@ -94,6 +94,7 @@ impl Frame {
 }
 
 /// Whether nothing remains of a process that is so far.
+#[inline(always)]
 #[cycle(ended)]
 pub(crate) fn is_ended(kind: &Kind, phase: Phase, parts: &Vec<Frame>, at: usize) -> bool
     ensures { (own : ℕ) → result ≡ is_done (rest_at kind.now phase own (views parts.now.items) at) }

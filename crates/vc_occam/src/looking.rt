@@ -451,6 +451,7 @@ fn push_ready(
 }
 
 /// Adds a move, if there is one.
+#[inline(always)]
 fn push_move(found: &mut Items<Move>, made: Option<Move>) -> Result<(), Memory>
     ensures { OnOk result (found.new ≡ found.old ++ listed made) }
 {
@@ -509,6 +510,7 @@ fn ready_look(site: u16, kind: &Kind, parts: &Vec<Frame>, vars: &[Datum]) -> Loo
 }
 
 /// What a process that hasn't begun begins with, whatever the variables hold.
+#[inline(always)]
 fn ready_step(site: u16, kind: &Kind, parts: &Vec<Frame>) -> Begins
     ensures { BeginsWith result (Fresh (plan_at kind.now site (views parts.now.items))) }
 {

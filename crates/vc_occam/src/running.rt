@@ -290,6 +290,7 @@ impl Running {
     /// Makes the move, to which its channel gave this answer; where an output meets an input, that is the output's message, and the
     /// output begins, the input has it, and the output is finished. Only a move without a communication can be without memory,
     /// and then nothing has changed.
+    #[inline(always)]
     #[tactic(auto, unfolding(crate::specs::Runnings::state, crate::specs::Runnings::inner_channels))]
     pub fn act(&mut self, made: &Move, answer: Answer) -> Result<(), Memory>
         requires listed { Contains (moves self.old) made.now }
@@ -344,6 +345,7 @@ impl Running {
     }
 
     /// Makes a step without a communication. Where it is without memory nothing has changed.
+    #[inline(always)]
     #[tactic(auto, unfolding(crate::specs::Runnings::state, crate::specs::Runnings::inner_channels))]
     pub fn act_quietly(&mut self, site: u16) -> Result<(), Memory>
         requires listed { Contains (moves self.old) (Move.Quiet site) }

@@ -25,6 +25,7 @@ pub(crate) fn empty_variables(alloc: Global, kinds: &[ValueKind]) -> Result<Vec<
 }
 
 /// A variable is changed.
+#[inline(always)]
 pub(crate) fn set_variable(vars: &mut Vec<Datum>, var: u8, datum: Datum)
     requires { var < length vars.old.items }
     ensures value { store vars.new.items ≡ set (store vars.old.items) var datum }
@@ -34,6 +35,7 @@ pub(crate) fn set_variable(vars: &mut Vec<Datum>, var: u8, datum: Datum)
 }
 
 /// A variable takes a message of its kind.
+#[inline(always)]
 pub(crate) fn put(vars: &mut Vec<Datum>, var: u8, message: Items<u8>)
     requires { var < length vars.old.items }
     ensures value { store vars.new.items ≡ set (store vars.old.items) var (received (store vars.old.items var) message) }
