@@ -97,6 +97,10 @@ module _ (plan : network.Plan) (k : ℕ) (n : Node) (room : ℕ) where
       by_act (act.Route i o) e t = absurd (cc)
       by_act (act.Take l w) e t = absurd (cc)
 
+  pub only_moves : (o : Option Act) → IfSome o (λ a. FindsMove plan k n (Some a)) → IfSome o (λ a. IsTurn plan k (OfNode n) room a)
+  only_moves (Some a) found = moves (Some a) found
+  only_moves None found = tt
+
   pub no_route : FindsOf kind.Route plan k (OfNode n) room None
   no_route = by_act
     where

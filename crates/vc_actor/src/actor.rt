@@ -6,7 +6,7 @@ ghost use Rattle.vc_actor.specs.Acting.{HasLink, MayAct, MakesOwn, MakesTake, Ma
 ghost use Rattle.vc_actor.specs.OfPlan.{IsActorOf};
 ghost use Rattle.vc_actor.specs.Parts.{HasEnded, node_in, switch_in, strays_of, lost_of, faults_of};
 ghost use Rattle.vc_actor.specs.Shown.{OfNode, OfSwitch};
-ghost use Rattle.vc_actor.specs.Turns.{FindsOf, FindsTurn, IsTold, MakesTurn};
+ghost use Rattle.vc_actor.specs.Turns.{FindsOf, FindsTurn, IsQuiet, IsTold, IsTurn, MakesTurn};
 ghost use Rattle.vc_network.specs.Plan.{Plan};
 ghost use Rattle.vc_tokens.specs.Spelt.{token};
 
@@ -246,6 +246,19 @@ impl Actor {
         match &mut self.part {
             Part::Node(node) => node.next_of(kind, room),
             Part::Switch(switch) => Ok(switch.next_of(kind, room)),
+        }
+    }
+
+    /// The only move of a node's process, where that is known to be a step without a communication. Room has no part in it.
+    #[inline(always)]
+    pub fn only_step(&self) -> Option<Act>
+        ensures may { IfSome result (λ a. MayAct self.now a) }
+        ensures quiet { IfSome result IsQuiet }
+        ensures finds { (plan : Plan) (k room : ℕ) → IsActorOf plan k self.now → IfSome result (λ a. IsTurn plan k self.now room a) }
+    {
+        match &self.part {
+            Part::Node(node) => node.only_step(),
+            Part::Switch(_) => None,
         }
     }
 

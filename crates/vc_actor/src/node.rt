@@ -5,7 +5,7 @@ ghost use Rattle.vc_occam.specs.Remains.{Done};
 ghost use Rattle.vc_occam.specs.Runnings.{moves as moves_of, state};
 ghost use Rattle.vc_occam.specs.declared.moves.Move.{Move as SpeltMove};
 ghost use Rattle.vc_actor.specs.Acting.{NodeMay};
-ghost use Rattle.vc_actor.specs.Turns.{IsTurn, FindsAt, FindsMove};
+ghost use Rattle.vc_actor.specs.Turns.{IsTurn, IsQuiet, FindsAt, FindsMove};
 ghost use Rattle.vc_occam.specs.States.{came};
 ghost use Rattle.vc_vcp.specs.Seen.{seen, answered, passed_of};
 ghost use Rattle.vc_vcp.specs.Steps.{Complete, Finished};
@@ -125,6 +125,7 @@ impl Node {
     #[inline(always)]
     pub(crate) fn only_step(&self) -> Option<Act>
         ensures may { IfSome result (λ a. NodeMay self.now a) }
+        ensures quiet { IfSome result IsQuiet }
         ensures finds { (plan : Plan) (k : ℕ) → IsNodeOf plan k self.now → IfSome result (λ a. FindsMove plan k self.now (Some a)) }
     {
         let site = self.process.only_step()?;
@@ -365,9 +366,36 @@ impl Node {
     }
 
     /// A token passes from a link's buffer; where a message is whole or an output finished the process goes on, and the answer is
-    /// whether it may have.
+    /// whether it may have. Most tokens are bytes, with which no packet comes: for them this is a way of its own.
     #[inline(always)]
     pub(crate) fn pass(&mut self, link: u8) -> Result<bool, Memory>
+        requires link { link < 4 }
+        requires waits { ((seen self.old.vcp).link link).receiver.buffer ≢ [] }
+        ensures ok { (plan : Plan) (k : ℕ) → IsNodeOf plan k self.old → OnOk result (MakesPass plan k self.old link self.new) }
+        ensures rests { IfOk result (λ goes_on. goes_on ≡ false → self.new.process ≡ self.old.process) }
+        ensures err { OnErr result (self.new ≡ self.old) }
+    {
+        match self.vcp.receiving(link).front() {
+            Some(Token::Byte(_)) => self.pass_token(link),
+            _ => self.pass_mark(link),
+        }
+    }
+
+    // A mark passes, or any token.
+    #[inline(never)]
+    fn pass_mark(&mut self, link: u8) -> Result<bool, Memory>
+        requires link { link < 4 }
+        requires waits { ((seen self.old.vcp).link link).receiver.buffer ≢ [] }
+        ensures ok { (plan : Plan) (k : ℕ) → IsNodeOf plan k self.old → OnOk result (MakesPass plan k self.old link self.new) }
+        ensures rests { IfOk result (λ goes_on. goes_on ≡ false → self.new.process ≡ self.old.process) }
+        ensures err { OnErr result (self.new ≡ self.old) }
+    {
+        self.pass_token(link)
+    }
+
+    // A token passes, of whatever kind.
+    #[inline(always)]
+    fn pass_token(&mut self, link: u8) -> Result<bool, Memory>
         requires link { link < 4 }
         requires waits { ((seen self.old.vcp).link link).receiver.buffer ≢ [] }
         ensures ok { (plan : Plan) (k : ℕ) → IsNodeOf plan k self.old → OnOk result (MakesPass plan k self.old link self.new) }

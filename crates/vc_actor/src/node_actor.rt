@@ -4,7 +4,7 @@ ghost use Rattle.vc_actor.specs.Acting.{NodeMay, MakesOwn, MakesTake, MakesPut, 
 ghost use Rattle.vc_actor.specs.Able.{NodeCan};
 ghost use Rattle.vc_actor.specs.OfPlan.{IsNodeOf, IsActorOf};
 ghost use Rattle.vc_actor.specs.Shown.{OfNode};
-ghost use Rattle.vc_actor.specs.Turns.{FindsMove, FindsOf};
+ghost use Rattle.vc_actor.specs.Turns.{FindsMove, FindsOf, IsQuiet};
 ghost use Rattle.vc_occam.specs.Remains.{Done};
 ghost use Rattle.vc_occam.specs.Runnings.{state};
 ghost use Rattle.vc_vcp.specs.Seen.{seen};
@@ -149,6 +149,16 @@ impl NodeActor {
         }
     }
 
+    /// The process's only move, where that is known to be a step without a communication.
+    #[inline(always)]
+    pub(crate) fn only_step(&self) -> Option<Act>
+        ensures may { IfSome result (λ a. NodeMay self.now a) }
+        ensures quiet { IfSome result IsQuiet }
+        ensures finds { (plan : Plan) (k : ℕ) → IsNodeOf plan k self.now → IfSome result (λ a. FindsMove plan k self.now (Some a)) }
+    {
+        self.node.only_step()
+    }
+
     // The next move that the process can make, where the links have nothing to do, going round behind the site that acted last.
     #[inline(always)]
     fn next_move(&mut self) -> Result<Option<Act>, Memory>
@@ -156,7 +166,7 @@ impl NodeActor {
         ensures may { IfOk result (λ act. IfSome act (λ a. NodeMay self.old a)) }
         ensures finds { (plan : Plan) (k : ℕ) → IsNodeOf plan k self.old → IfOk result (FindsMove plan k self.old) }
     {
-        if let Some(act) = self.node.only_step() {
+        if let Some(act) = self.only_step() {
             return Ok(Some(act));
         }
         if let Some(act) = self.found_move() {

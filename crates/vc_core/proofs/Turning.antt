@@ -19,7 +19,7 @@ use Rattle.vc_told.specs.Process.{Process}
 use Rattle.vc_core.specs.Replaying.{Replays}
 use Rattle.vc_actor.specs.Shown.{Acting, OfNode, OfSwitch, node_of}
 use Rattle.vc_core.specs.State.{State, shown, IsNetworkOf, HasFront, HasWay, WaysLet}
-use Rattle.vc_actor.specs.Turns.{RoomLets, IsTurn, FindsTurn, kind_of, FindsOf, TakesNone, actors}
+use Rattle.vc_actor.specs.Turns.{RoomLets, IsTurn, IsQuiet, FindsTurn, kind_of, FindsOf, TakesNone, actors}
 use Rattle.vc_core.specs.Turns.{FindsEvent, FindsEventOf, FindsFront, FindsTake, Rests, IsAtRest, HaveEnded}
 use Rattle.vc_core.specs.Wired.{out_at, there}
 use Rattle.vc_actor.specs.declared.act.Act.{Act}
@@ -121,6 +121,10 @@ module _ (p : Plan) (s : State) (k room : ℕ) (bits : (link : ℕ) → link < 3
   no_event_of z a here none b e can =
       let act = has_act p s (event b) a is here can in
       none b e (record { can = act; lets = lets_by b (takes_of z b e) (has_ways p s (event b) a is here can) })
+
+-- a step without a communication, whatever has room
+pub quiet_event : (p : Plan) (s : State) (k : ℕ) (a : Acting) → IsNetworkOf p s → slice_get s.actors k ≡ Some a → (b : Act) → IsQuiet b → IsTurn (network_of p) k a 0 b → FindsEvent p s k (Some (record { actor = k; act = b }))
+quiet_event p s k a is here b (site, e) t = (refl, subst TakesNone (sym e) tt, happens p s (record { actor = k; act = b }) a is here t.can (subst (WaysLet s k) (sym e) tt))
 
 pub no_actor_of : (p : Plan) (s : State) (z : ActKind) (k : ℕ) → IsNetworkOf p s → slice_get s.actors k ≡ None → FindsEventOf z p s k None
 no_actor_of p s z k is none b e can = has_actor p s (record { actor = k; act = b }) is can none

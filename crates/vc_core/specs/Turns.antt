@@ -1,17 +1,22 @@
 -- What an actor's turn is to the network; and when no event can happen at all.
-use Rattle.std.specs.Prelude.{◌≡◌, ℕ, ◌<◌, length, Bool, true, false, Option, Some, None}
+use Rattle.std.specs.Prelude.{◌≡◌, ◌↔◌, ℕ, ◌<◌, length, Bool, true, false, Option, Some, None}
 use Rattle.vc_network.specs.Network as net
 use Rattle.vc_occam.specs.Remains.{Done}
 use Rattle.vc_plan.specs.declared.plan.Plan.{Plan as Given}
 use Rattle.vc_core.specs.Enabled.{CanHappen}
 use Rattle.vc_told.specs.Process.{Process}
-use Rattle.vc_core.specs.State.{State, shown, HasFront}
+use Rattle.std.specs.Int.{bit_at}
+use Rattle.vc_core.specs.State.{State, shown, HasFront, HasWay}
 use Rattle.vc_actor.specs.Turns.{kind_of}
 use Rattle.vc_actor.specs.declared.act.Act.{Act}
 use Rattle.vc_actor.specs.declared.act.Act.TheVariants.{Take}
 use Rattle.vc_actor.specs.declared.act.ActKind.{ActKind}
 use Rattle.vc_core.specs.declared.event.Event.{Event}
 pub use Rattle.vc_actor.specs.Turns.{RoomLets, IsTurn, FindsTurn, TakesNone, actors, IsPut, MakesTurn}
+
+-- room has a bit for each link by which a way goes out
+abbrev pub IsRoom : State → ℕ → ℕ → Type 0
+IsRoom s k room = (link : ℕ) → link < 32 → (bit_at room link ≡ 1) ↔ HasWay s k link
 
 -- an event of actor k that takes no token, or none where none can happen
 abbrev pub FindsEvent : Given → State → ℕ → Option Event → Type 0

@@ -18,7 +18,7 @@ ghost use Rattle.std.specs.List.{sum_by};
 ghost use Rattle.vc_actor.specs.OfPlan.{IsActorOf};
 ghost use Rattle.vc_actor.specs.Shown.{Acting};
 ghost use Rattle.vc_actor.specs.Turns.{actors};
-ghost use Rattle.vc_core.specs.Turns.{FindsFront, FindsTake, FindsEvent, FindsEventOf, HaveEnded};
+ghost use Rattle.vc_core.specs.Turns.{FindsFront, FindsTake, FindsEvent, FindsEventOf, HaveEnded, IsRoom};
 ghost use Rattle.vc_core.specs.declared.event.Event.{Event as Happening};
 ghost use Rattle.vc_core.specs.State.{shown, state_of, IsNetworkOf, MayHappen, WaysLet, HasFront, HasWay, MakesEvent, MakesOne, MayActAt, Accepts, GrantsBy};
 ghost use Rattle.vc_tokens.specs.Spelt.{token as spelt, tokens as all_spelt};
@@ -312,30 +312,41 @@ impl Network {
         ensures makes { (p : Plan) → IsNetworkOf p (state_of self.old) → IfOk result (λ made. MakesOne p (state_of self.old) made (state_of self.new)) }
         ensures refused { OnErr result (state_of self.new ≡ state_of self.old) }
     {
-        if let Some(event) = self.turn_of(actor, ActKind::Pass)? {
+        let place = usize::from(actor);
+        if place >= self.actors.len() {
+            return Ok(None);
+        }
+        let room = self.lines.room(actor);
+        if let Some(event) = self.turn_of(actor, ActKind::Pass, room)? {
             return Ok(Some(event));
         }
-        if let Some(event) = self.turn_of(actor, ActKind::Route)? {
+        if let Some(event) = self.turn_of(actor, ActKind::Route, room)? {
             return Ok(Some(event));
         }
-        if let Some(event) = self.turn_of(actor, ActKind::Put)? {
+        if let Some(event) = self.turn_of(actor, ActKind::Put, room)? {
             return Ok(Some(event));
         }
-        if let Some(event) = self.turn_of(actor, ActKind::Fct)? {
+        if let Some(event) = self.turn_of(actor, ActKind::Fct, room)? {
             return Ok(Some(event));
         }
-        self.turn_of(actor, ActKind::Proc)
+        if let Some(event) = self.only_turn(actor)? {
+            return Ok(Some(event));
+        }
+        self.turn_of(actor, ActKind::Proc, room)
     }
 
-    // An actor makes an event of this kind where every way has room; nothing where it has none.
+    // An actor makes an event of this kind where every way has room; nothing where it has none. `room` has a bit for each of its
+    // links by which a way goes out.
     #[inline(always)]
-    fn turn_of(&mut self, actor: u8, kind: ActKind) -> Result<Option<Event>, Memory>
+    fn turn_of(&mut self, actor: u8, kind: ActKind, room: u32) -> Result<Option<Event>, Memory>
+        requires here { actor < length (state_of self.old).actors }
+        requires room { IsRoom (state_of self.old) actor room }
         ensures finds { (p : Plan) → IsNetworkOf p (state_of self.old) → IfOk result (FindsEventOf kind p (state_of self.old) actor) }
         ensures makes { (p : Plan) → IsNetworkOf p (state_of self.old) → IfOk result (λ made. MakesOne p (state_of self.old) made (state_of self.new)) }
         ensures none { IfOk result (λ made. made ≡ None → state_of self.new ≡ state_of self.old) }
         ensures refused { OnErr result (state_of self.new ≡ state_of self.old) }
     {
-        let Some(event) = self.next_of(actor, kind)? else {
+        let Some(event) = self.next_of(actor, kind, room)? else {
             return Ok(None);
         };
         self.make(&event)?;
@@ -344,20 +355,44 @@ impl Network {
 
     // An event of this kind that an actor can make where every way has room; nothing where it has none.
     #[inline(always)]
-    fn next_of(&mut self, actor: u8, kind: ActKind) -> Result<Option<Event>, Memory>
+    fn next_of(&mut self, actor: u8, kind: ActKind, room: u32) -> Result<Option<Event>, Memory>
+        requires here { actor < length (state_of self.old).actors }
+        requires room { IsRoom (state_of self.old) actor room }
         ensures same { state_of self.new ≡ state_of self.old }
         ensures may { IfOk result (λ found. IfSome found (λ e. MayActAt (state_of self.old) e.actor e.act)) }
         ensures finds { (p : Plan) → IsNetworkOf p (state_of self.old) → IfOk result (FindsEventOf kind p (state_of self.old) actor) }
     {
-        let place = usize::from(actor);
-        if place >= self.actors.len() {
-            return Ok(None);
-        }
-        let room = self.lines.room(actor);
-        match self.actors[place].next_of(kind, room)? {
+        match self.actors[usize::from(actor)].next_of(kind, room)? {
             Some(act) => Ok(Some(Event { actor, act })),
             None => Ok(None),
         }
+    }
+
+    // An actor makes the only move of its process, where that is known to be a step without a communication.
+    #[inline(always)]
+    fn only_turn(&mut self, actor: u8) -> Result<Option<Event>, Memory>
+        requires { actor < length (state_of self.old).actors }
+        ensures finds { (p : Plan) → IsNetworkOf p (state_of self.old) → IfOk result (λ made. IfSome made (λ e. FindsEvent p (state_of self.old) actor (Some e))) }
+        ensures makes { (p : Plan) → IsNetworkOf p (state_of self.old) → IfOk result (λ made. MakesOne p (state_of self.old) made (state_of self.new)) }
+        ensures none { IfOk result (λ made. made ≡ None → state_of self.new ≡ state_of self.old) }
+        ensures refused { OnErr result (state_of self.new ≡ state_of self.old) }
+    {
+        if let Some(event) = self.only_step(actor) {
+            self.make(&event)?;
+            return Ok(Some(event));
+        }
+        Ok(None)
+    }
+
+    // The only move of an actor's process, where that is known to be a step without a communication.
+    #[inline(always)]
+    fn only_step(&self, actor: u8) -> Option<Event>
+        requires { actor < length (state_of self.now).actors }
+        ensures may { IfSome result (λ e. MayActAt (state_of self.now) e.actor e.act) }
+        ensures finds { (p : Plan) → IsNetworkOf p (state_of self.now) → IfSome result (λ e. FindsEvent p (state_of self.now) actor (Some e)) }
+    {
+        let act = self.actors[usize::from(actor)].only_step()?;
+        Some(Event { actor, act })
     }
 
     /// Whether every process has ended.

@@ -104,5 +104,5 @@ fn back(way: usize) -> usize
     requires { way < 65536 }
     ensures { result ≡ other_way way }
 {
-    if way % 2 == 0 { way + 1 } else { way - 1 }
+    way ^ 1
 }

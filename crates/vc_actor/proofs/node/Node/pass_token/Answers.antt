@@ -3,7 +3,7 @@ use Rattle.vc_vcp.specs.Links.{Passes}
 use Rattle.vc_vcp.specs.Seen.{seen, ends_of, passed_of}
 use Rattle.vc_vcp.specs.State.{limit_of}
 use Rattle.vc_actor.proofs.Passing.{makes_pass}
-use Rattle.vc_actor.proofs.node.Node.pass.Goals as goal
+use Rattle.vc_actor.proofs.node.Node.pass_token.Goals as goal
 
 pub returns-in-Some-clause-ok : goal.returns-in-Some-clause-ok
 returns-in-Some-clause-ok c = λ plan k is.
