@@ -8,7 +8,8 @@
 //! [`Running::list_actions`] puts in a list that the caller keeps, [`Running::lists`] is true exactly of them, and
 //! [`Running::act`] and [`Running::resume`] each make exactly one step, whose communications, followed by any trace of what
 //! remains, are a trace of what remained before (`specs/States`). [`Running::only_step`] names the only move where that is known
-//! to be a step without a communication, and [`Running::act_quietly`] makes one.
+//! to be a step without a communication, and [`Running::act_quietly`] makes one; [`Running::first_from`] finds the first move at a
+//! site from one on, without a list.
 //!
 //! Laws of the definitions, for every word of the language, stand in `laws.rt`: what a step makes, followed by any trace of what
 //! remains, is a trace of what remained before; no step loses lawful use; each listed move can be made; what waits after whatever a
