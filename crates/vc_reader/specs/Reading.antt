@@ -69,6 +69,10 @@ abbrev pub each : {A : Type 0} → (List A → Data → Result A Fault) → List
 each read before no_items = Ok before
 each read before (item d ds) = under (Index (length before)) (read before d) >>= λ x. each read (before ++ x ∷ []) ds
 
+-- what was read before, and the item behind it
+abbrev pub joins : {A : Type 0} → List A → Result A Fault → Result (List A) Fault
+joins before read = under (Index (length before)) read >>= λ x. Ok (before ++ x ∷ [])
+
 abbrev pub list_of : {A : Type 0} → (List A → Data → Result A Fault) → Data → Result (List A) Fault
 list_of read (array ds) = each read [] ds
 list_of read _ = wrong Kind

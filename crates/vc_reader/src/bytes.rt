@@ -125,14 +125,11 @@ fn fill(alloc: Global, value: &Value) -> Result<BytesExpr, Stop>
 fn formed_bytes(alloc: Global, form: &str, value: &Value) -> Result<BytesExpr, Stop>
     ensures { Gives (λ x. x) result (formed form.now (view value.now)) }
 {
-    if form == "hex" {
-        under(Step::Field(Word::Hex), hex(alloc, value))
-    } else if form == "text" {
-        under(Step::Field(Word::Text), literal(alloc, value))
-    } else if form == "fill" {
-        under(Step::Field(Word::Fill), fill(alloc, value))
-    } else {
-        Err(wrong(alloc, Why::Unknown))
+    match form {
+        "hex" => under(Step::Field(Word::Hex), hex(alloc, value)),
+        "text" => under(Step::Field(Word::Text), literal(alloc, value)),
+        "fill" => under(Step::Field(Word::Fill), fill(alloc, value)),
+        _ => Err(wrong(alloc, Why::Unknown)),
     }
 }
 

@@ -33,27 +33,17 @@ impl Reader for CondWordReader {
     ghost meaning = { λ _. cond_word };
 
     fn read(&self, alloc: Global, value: &Value) -> Result<CondWord, Stop> {
-        let text = text(alloc, value)?;
-        if text == "=" {
-            Ok(CondWord::Compare(Rel::Eq))
-        } else if text == "<>" {
-            Ok(CondWord::Compare(Rel::Ne))
-        } else if text == "<" {
-            Ok(CondWord::Compare(Rel::Lt))
-        } else if text == ">" {
-            Ok(CondWord::Compare(Rel::Gt))
-        } else if text == "<=" {
-            Ok(CondWord::Compare(Rel::Le))
-        } else if text == ">=" {
-            Ok(CondWord::Compare(Rel::Ge))
-        } else if text == "and" {
-            Ok(CondWord::Both)
-        } else if text == "or" {
-            Ok(CondWord::Either)
-        } else if text == "not" {
-            Ok(CondWord::Neither)
-        } else {
-            Err(wrong(alloc, Why::Kind))
+        match text(alloc, value)? {
+            "=" => Ok(CondWord::Compare(Rel::Eq)),
+            "<>" => Ok(CondWord::Compare(Rel::Ne)),
+            "<" => Ok(CondWord::Compare(Rel::Lt)),
+            ">" => Ok(CondWord::Compare(Rel::Gt)),
+            "<=" => Ok(CondWord::Compare(Rel::Le)),
+            ">=" => Ok(CondWord::Compare(Rel::Ge)),
+            "and" => Ok(CondWord::Both),
+            "or" => Ok(CondWord::Either),
+            "not" => Ok(CondWord::Neither),
+            _ => Err(wrong(alloc, Why::Kind)),
         }
     }
 }

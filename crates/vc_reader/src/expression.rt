@@ -49,21 +49,14 @@ impl Reader for ExprWordReader {
     ghost meaning = { λ _. expr_word };
 
     fn read(&self, alloc: Global, value: &Value) -> Result<ExprWord, Stop> {
-        let text = text(alloc, value)?;
-        if text == "size" {
-            Ok(ExprWord::SizeOf)
-        } else if text == "+" {
-            Ok(ExprWord::Operator(Op::Add))
-        } else if text == "-" {
-            Ok(ExprWord::Operator(Op::Sub))
-        } else if text == "*" {
-            Ok(ExprWord::Operator(Op::Mul))
-        } else if text == "/" {
-            Ok(ExprWord::Operator(Op::Div))
-        } else if text == "\\" {
-            Ok(ExprWord::Operator(Op::Rem))
-        } else {
-            Err(wrong(alloc, Why::Kind))
+        match text(alloc, value)? {
+            "size" => Ok(ExprWord::SizeOf),
+            "+" => Ok(ExprWord::Operator(Op::Add)),
+            "-" => Ok(ExprWord::Operator(Op::Sub)),
+            "*" => Ok(ExprWord::Operator(Op::Mul)),
+            "/" => Ok(ExprWord::Operator(Op::Div)),
+            "\\" => Ok(ExprWord::Operator(Op::Rem)),
+            _ => Err(wrong(alloc, Why::Kind)),
         }
     }
 }

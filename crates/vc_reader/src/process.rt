@@ -10,7 +10,7 @@ use crate::expression::WholeExpr;
 use crate::fault::{Stop, Why};
 use crate::name::one_of;
 use crate::path::Step;
-use crate::reader::{Reader, cell, only, row, text, under, wrong};
+use crate::reader::{Reader, cell, only, row, text, under, with_item, wrong};
 use crate::register::Register;
 use crate::word::Word;
 use serde_json::Value as Json;
@@ -57,28 +57,18 @@ impl ProcessWord {
 fn process_word(alloc: Global, text: &str) -> Result<ProcessWord, Stop>
     ensures { Gives (λ x. x) result (process_word_of text.now) }
 {
-    if text == "set" {
-        Ok(ProcessWord::Set)
-    } else if text == "out" {
-        Ok(ProcessWord::Send)
-    } else if text == "in" {
-        Ok(ProcessWord::Receive)
-    } else if text == "stopch" {
-        Ok(ProcessWord::Stopch)
-    } else if text == "seq" {
-        Ok(ProcessWord::Seq)
-    } else if text == "par" {
-        Ok(ProcessWord::Par)
-    } else if text == "if" {
-        Ok(ProcessWord::If)
-    } else if text == "while" {
-        Ok(ProcessWord::While)
-    } else if text == "for" {
-        Ok(ProcessWord::Count)
-    } else if text == "alt" {
-        Ok(ProcessWord::Alt)
-    } else {
-        Err(wrong(alloc, Why::Unknown))
+    match text {
+        "set" => Ok(ProcessWord::Set),
+        "out" => Ok(ProcessWord::Send),
+        "in" => Ok(ProcessWord::Receive),
+        "stopch" => Ok(ProcessWord::Stopch),
+        "seq" => Ok(ProcessWord::Seq),
+        "par" => Ok(ProcessWord::Par),
+        "if" => Ok(ProcessWord::If),
+        "while" => Ok(ProcessWord::While),
+        "for" => Ok(ProcessWord::Count),
+        "alt" => Ok(ProcessWord::Alt),
+        _ => Err(wrong(alloc, Why::Unknown)),
     }
 }
 
@@ -290,8 +280,10 @@ fn parts(
     let mut read = Items::new(alloc);
     for item in items {
         let one = process(alloc, depth, vars, channels, item);
-        let one = under(Step::Index(read.len()), one)?;
-        read.push(one)?;
+        match with_item(read, one) {
+            Ok(more) => read = more,
+            Err(stop) => return Err(stop),
+        }
     }
     Ok(read)
 }
@@ -313,8 +305,10 @@ fn branches(
     let mut read = Items::new(alloc);
     for item in items {
         let one = branch(alloc, depth, vars, channels, item);
-        let one = under(Step::Index(read.len()), one)?;
-        read.push(one)?;
+        match with_item(read, one) {
+            Ok(more) => read = more,
+            Err(stop) => return Err(stop),
+        }
     }
     Ok(read)
 }
@@ -349,8 +343,7 @@ fn repeated(
 {
     row(alloc, 2, value)?;
     let cond = cell(alloc, 0, &WholeCond(vars), value)?;
-    let body = part(alloc, depth, vars, channels, 1, value)?;
-    let body = Boxed::new(alloc, body)?;
+    let body = boxed_part(alloc, depth, vars, channels, 1, value)?;
     Ok(Process::While { cond, body })
 }
 
@@ -373,8 +366,7 @@ fn counted(
     let var = cell(alloc, 0, &index, value)?;
     let base = cell(alloc, 1, &WholeExpr(vars), value)?;
     let count = cell(alloc, 2, &WholeExpr(vars), value)?;
-    let body = part(alloc, depth, vars, channels, 3, value)?;
-    let body = Boxed::new(alloc, body)?;
+    let body = boxed_part(alloc, depth, vars, channels, 3, value)?;
     Ok(Process::Count {
         var,
         base,
@@ -400,8 +392,10 @@ fn guards(
     let mut read = Items::new(alloc);
     for item in items {
         let one = guard(alloc, depth, vars, channels, item);
-        let one = under(Step::Index(read.len()), one)?;
-        read.push(one)?;
+        match with_item(read, one) {
+            Ok(more) => read = more,
+            Err(stop) => return Err(stop),
+        }
     }
     Ok(read)
 }
@@ -447,6 +441,22 @@ fn part(
         None => Err(wrong(alloc, Why::Missing)),
     };
     under(Step::Index(index), read)
+}
+
+/// A part of a process, in a box of its own.
+#[cycle(process)]
+fn boxed_part(
+    alloc: Global,
+    depth: usize,
+    vars: &Register<Variable>,
+    channels: &Register<Channel>,
+    index: usize,
+    value: &Json,
+) -> Result<Boxed<Process>, Stop>
+    ensures { Gives (λ x. x) result (cell_of index (process_of depth vars.now channels.now) (view value.now)) }
+{
+    let part = part(alloc, depth, vars, channels, index, value)?;
+    Ok(Boxed::new(alloc, part)?)
 }
 
 /// A process over these variables and channels.

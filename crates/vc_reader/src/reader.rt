@@ -3,7 +3,7 @@ ghost use Rattle.std.specs.Prelude.{◌≡◌, ◌≤◌, List, Result, Some, If
 ghost use Rattle.serde_json.specs.Data.{Data};
 ghost use Rattle.serde_json.specs.View.{view, items_view, members_view};
 ghost use Rattle.vc_reader.specs.declared.fault.Fault.{Fault as FaultData};
-ghost use Rattle.vc_reader.specs.Reading.{Gives, wrong as wrong_here, under as under_step, field as field_of, cell as cell_of, text_of, number_of, list_of, list_field as list_field_of, count as count_of, items_in as items_in_list, row as row_of, is_word as is_word_of, has_only as has_only_words, object_of, has_field as has_field_of, only as only_field};
+ghost use Rattle.vc_reader.specs.Reading.{Gives, joins, wrong as wrong_here, under as under_step, field as field_of, cell as cell_of, text_of, number_of, list_of, list_field as list_field_of, count as count_of, items_in as items_in_list, row as row_of, is_word as is_word_of, has_only as has_only_words, object_of, has_field as has_field_of, only as only_field};
 
 use crate::fault::{Fault, Stop, Why};
 use crate::path::{Path, Step};
@@ -137,6 +137,16 @@ pub(crate) fn number(alloc: Global, least: u64, most: u64, value: &Value) -> Res
     }
 }
 
+/// What was read of a list, with the item that was read behind it.
+pub(crate) fn with_item<T: Drop>(before: Items<T>, item: Result<T, Stop>) -> Result<Items<T>, Stop>
+    ensures { (meant : Result T FaultData) → Gives (λ x. x) item meant → Gives (λ x. x) result (joins before meant) }
+{
+    let item = under(Step::Index(before.len()), item)?;
+    let mut read = before;
+    read.push(item)?;
+    Ok(read)
+}
+
 /// A list.
 pub(crate) fn list<R: ItemReader>(
     alloc: Global,
@@ -151,8 +161,10 @@ pub(crate) fn list<R: ItemReader>(
     let mut read = Items::new(alloc);
     for item in items {
         let one = reader.read(alloc, read.as_slice(), item);
-        let one = under(Step::Index(read.len()), one)?;
-        read.push(one)?;
+        match with_item(read, one) {
+            Ok(more) => read = more,
+            Err(stop) => return Err(stop),
+        }
     }
     Ok(read)
 }
@@ -173,6 +185,18 @@ pub(crate) fn list_field<R: ItemReader>(
     under(Step::Field(word), read)
 }
 
+/// What was read of a list of named things, with the one that was read behind it.
+fn with_named<T: Named + Drop>(
+    alloc: Global,
+    before: Register<T>,
+    item: Result<T, Stop>,
+) -> Result<Register<T>, Stop>
+    ensures { (meant : Result T FaultData) → Gives (λ x. x) item meant → Gives (λ x. x) result (joins before meant) }
+{
+    let item = under(Step::Index(before.len()), item)?;
+    Ok(before.with(alloc, item)?)
+}
+
 /// A list of named things.
 pub(crate) fn register<R: NamedReader>(
     alloc: Global,
@@ -187,8 +211,10 @@ pub(crate) fn register<R: NamedReader>(
     let mut read = Register::new(alloc);
     for item in items {
         let one = reader.read(alloc, &read, item);
-        let one = under(Step::Index(read.len()), one)?;
-        read = read.with(alloc, one)?;
+        match with_named(alloc, read, one) {
+            Ok(more) => read = more,
+            Err(stop) => return Err(stop),
+        }
     }
     Ok(read)
 }

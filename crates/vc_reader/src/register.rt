@@ -19,11 +19,20 @@ pub(crate) trait Named {
 }
 
 /// Named things in order. Contracts see the list of them. To find one by its name takes time logarithmic in their number.
-#[derive(Drop)]
 pub(crate) struct Register<T: Named> {
     items: Items<T>,
     // by each name the number of the first that has it
     numbers: Numbers,
+}
+
+impl<T: Named + Drop> Drop for Register<T> {
+    // written, so that the readers need not prove again how all that it holds is dropped
+    fn drop(self) {
+        let Register {
+            items: _,
+            numbers: _,
+        } = self;
+    }
 }
 
 type Numbers = BTreeMap<Vec<u8>, usize>;

@@ -10,6 +10,9 @@ decreases-process l = 7 * l.depth
 abbrev pub decreases-part : goal.decreases-part
 decreases-part l = 7 * l.depth + 1
 
+abbrev pub decreases-boxed_part : goal.decreases-boxed_part
+decreases-boxed_part l = 7 * l.depth + 2
+
 abbrev pub decreases-branch : goal.decreases-branch
 decreases-branch l = 7 * l.depth + 2
 
@@ -17,10 +20,10 @@ abbrev pub decreases-guard : goal.decreases-guard
 decreases-guard l = 7 * l.depth + 2
 
 abbrev pub decreases-repeated : goal.decreases-repeated
-decreases-repeated l = 7 * l.depth + 2
+decreases-repeated l = 7 * l.depth + 3
 
 abbrev pub decreases-counted : goal.decreases-counted
-decreases-counted l = 7 * l.depth + 2
+decreases-counted l = 7 * l.depth + 3
 
 abbrev pub decreases-parts : goal.decreases-parts
 decreases-parts l = 7 * l.depth + 3

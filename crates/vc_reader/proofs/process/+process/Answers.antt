@@ -1,0 +1,52 @@
+use Rattle.std.proofs.Common.{◌∙◌, sym}
+use Rattle.vc_reader.specs.Processes.{process_of, branch_of, guard_of}
+use Rattle.vc_reader.proofs.Parts.{list_is, list_next, list_stops, list_ends}
+use Rattle.vc_reader.proofs.process.+process.Goals as goal
+
+pub parts-loop-item-preserved : goal.parts-loop-item-preserved
+parts-loop-item-preserved t c =
+    list_next (λ _. process_of c.args.depth c.args.vars.now c.args.channels.now) c.loop-item.read _ c.loop-item.item-index _ c.item-item.result _ c.loop-item-test.true c.item-item.is
+    (c.in-Ok.ensures _ c.process-one.ensures) c.loop-item.invariant
+
+pub parts-returns-in-Err : goal.parts-returns-in-Err
+parts-returns-in-Err t c =
+    list_stops (λ _. process_of c.args.depth c.args.vars.now c.args.channels.now) c.loop-item.read c.loop-item.item-index _ c.item-item.result _ c.in-Err.stop c.loop-item-test.true c.item-item.is
+    (c.in-Err.ensures _ c.process-one.ensures)
+    (c.loop-item.invariant ∙ sym (list_is (λ _. process_of c.args.depth c.args.vars.now c.args.channels.now) _ _ _ c.in-Array.is c.deref-item-items.ensures.value))
+
+pub parts-returns : goal.parts-returns
+parts-returns t c =
+    list_ends (λ _. process_of c.args.depth c.args.vars.now c.args.channels.now) c.loop-item.read c.loop-item.item-index _ _ c.loop-item-test.false
+    (c.loop-item.invariant ∙ sym (list_is (λ _. process_of c.args.depth c.args.vars.now c.args.channels.now) _ _ _ c.in-Array.is c.deref-item-items.ensures.value))
+
+pub branches-loop-item-preserved : goal.branches-loop-item-preserved
+branches-loop-item-preserved t c =
+    list_next (λ _. branch_of (process_of c.args.depth c.args.vars.now c.args.channels.now) c.args.vars.now) c.loop-item.read _ c.loop-item.item-index _ c.item-item.result _ c.loop-item-test.true c.item-item.is
+    (c.in-Ok.ensures _ c.branch-one.ensures) c.loop-item.invariant
+
+pub branches-returns-in-Err : goal.branches-returns-in-Err
+branches-returns-in-Err t c =
+    list_stops (λ _. branch_of (process_of c.args.depth c.args.vars.now c.args.channels.now) c.args.vars.now) c.loop-item.read c.loop-item.item-index _ c.item-item.result _ c.in-Err.stop c.loop-item-test.true c.item-item.is
+    (c.in-Err.ensures _ c.branch-one.ensures)
+    (c.loop-item.invariant ∙ sym (list_is (λ _. branch_of (process_of c.args.depth c.args.vars.now c.args.channels.now) c.args.vars.now) _ _ _ c.in-Array.is c.deref-item-items.ensures.value))
+
+pub branches-returns : goal.branches-returns
+branches-returns t c =
+    list_ends (λ _. branch_of (process_of c.args.depth c.args.vars.now c.args.channels.now) c.args.vars.now) c.loop-item.read c.loop-item.item-index _ _ c.loop-item-test.false
+    (c.loop-item.invariant ∙ sym (list_is (λ _. branch_of (process_of c.args.depth c.args.vars.now c.args.channels.now) c.args.vars.now) _ _ _ c.in-Array.is c.deref-item-items.ensures.value))
+
+pub guards-loop-item-preserved : goal.guards-loop-item-preserved
+guards-loop-item-preserved t c =
+    list_next (λ _. guard_of (process_of c.args.depth c.args.vars.now c.args.channels.now) c.args.vars.now c.args.channels.now) c.loop-item.read _ c.loop-item.item-index _ c.item-item.result _ c.loop-item-test.true c.item-item.is
+    (c.in-Ok.ensures _ c.guard-one.ensures) c.loop-item.invariant
+
+pub guards-returns-in-Err : goal.guards-returns-in-Err
+guards-returns-in-Err t c =
+    list_stops (λ _. guard_of (process_of c.args.depth c.args.vars.now c.args.channels.now) c.args.vars.now c.args.channels.now) c.loop-item.read c.loop-item.item-index _ c.item-item.result _ c.in-Err.stop c.loop-item-test.true c.item-item.is
+    (c.in-Err.ensures _ c.guard-one.ensures)
+    (c.loop-item.invariant ∙ sym (list_is (λ _. guard_of (process_of c.args.depth c.args.vars.now c.args.channels.now) c.args.vars.now c.args.channels.now) _ _ _ c.in-Array.is c.deref-item-items.ensures.value))
+
+pub guards-returns : goal.guards-returns
+guards-returns t c =
+    list_ends (λ _. guard_of (process_of c.args.depth c.args.vars.now c.args.channels.now) c.args.vars.now c.args.channels.now) c.loop-item.read c.loop-item.item-index _ _ c.loop-item-test.false
+    (c.loop-item.invariant ∙ sym (list_is (λ _. guard_of (process_of c.args.depth c.args.vars.now c.args.channels.now) c.args.vars.now c.args.channels.now) _ _ _ c.in-Array.is c.deref-item-items.ensures.value))
