@@ -1,15 +1,16 @@
 -- What is known of quiet actors stays so.
-use Rattle.std.proofs.Common.{◌≡◌, ◌≢◌, ◌<◌, ◌≤◌, ◌+◌, ◌-◌, ◌/◌, ◌%◌, ◌^◌, ℕ, zero, suc, bit_or, MatchOption, Option, Some, None, inl, inr, sym, ap, ◌∙◌, subst, arith}
+use Rattle.std.proofs.Common.{◌≡◌, ◌≢◌, ◌<◌, ◌≤◌, ◌+◌, ◌-◌, ◌^◌, ℕ, bit_and, bit_or, MatchOption, Option, Some, None, inl, inr, sym, ◌∙◌, subst, arith}
 use Rattle.std.proofs.lemmas.Bool.{cases_eq, cases_lt}
-use Rattle.std.proofs.lemmas.Nat.Bits.{bit_at-zero, bit_at-trailing_zeros, bit_at_or}
-use Rattle.std.proofs.Math.Nat.{div-div-eq-div-mul, div-eq_of_lt, pow-le-pow_right}
-use Rattle.std.proofs.lemmas.Nat.{pow-add}
-use Rattle.std.specs.Int.{bit_at, trailing_zeros, w64}
+use Rattle.std.proofs.lemmas.Nat.Bits.{bit_at-lt, bit_at_and, bit_at_or, bit_at_mask_below, bit_at_mask_inside}
+use Rattle.std.proofs.Math.Nat.{pow-le-pow_right}
+use Rattle.std.proofs.Math.Pow.{pow-lt}
+use Rattle.std.specs.Int.{bit_at}
 use Rattle.vc_plan.specs.declared.plan.Plan.{Plan}
 use Rattle.vc_core.specs.State.{State, IsNetworkOf, HasFront, MakesEvent}
 use Rattle.vc_core.specs.Enabled.{CanHappen}
 use Rattle.vc_core.specs.Turns.{TakesNone, FindsEvent, Rests}
 use Rattle.vc_core.specs.declared.event.Event.{Event}
+use Rattle.vc_actor.proofs.Masks.{bits_both}
 use Rattle.vc_core.proofs.Quiet.{quiet_after}
 use Rattle.vc_core.proofs.Turning.{takes}
 use Rattle.vc_text.specs.Quiet.{active_at, AreQuiet, IsIdle}
@@ -58,45 +59,35 @@ idle_rests p s a awake k is quiet front low idle = record {
 neither_bit : (a b k : ℕ) → bit_at (bit_or a b) k ≡ 0 → (bit_at b k ≡ 0) × (bit_at a k ≡ 0)
 neither_bit a b k none = let e = bit_at_or a b k in (omega (arith, e, none), omega (arith, e, none))
 
--- those below the least that may have an event are idle
-pub idle_among : (awake active from : ℕ) (o : Option ℕ) →
-    MatchOption o ((k : ℕ) → from ≤ k → k < 64 → bit_at (bit_or awake active) k ≡ 0) (λ next. (from ≤ next) × (next < 64) × ((k : ℕ) → from ≤ k → k < next → bit_at (bit_or awake active) k ≡ 0)) →
-    MatchOption o ((k : ℕ) → from ≤ k → k < 64 → (bit_at active k ≡ 0) × (bit_at awake k ≡ 0)) (λ next. (from ≤ next) × (next < 64) × ((k : ℕ) → from ≤ k → k < next → (bit_at active k ≡ 0) × (bit_at awake k ≡ 0)))
-idle_among awake active from None none = λ k past low. neither_bit awake active k (none k past low)
-idle_among awake active from (Some next) (past, low, none) = (past, low, (λ k more less. neither_bit awake active k (none k more less)))
+-- no bit of both, and one of the second
+no_bit : (x among k : ℕ) → bit_at (bit_and x among) k ≡ 0 → bit_at among k ≡ 1 → bit_at x k ≡ 0
+no_bit x among k none has = let e = bit_at_and x among k in let few = bit_at-lt x k in omega (arith, e, none, has, few)
 
--- Bits from one on.
+-- those among them below the least that may have an event are idle
+pub idle_among : (awake active among : ℕ) (o : Option ℕ) →
+    MatchOption o ((k : ℕ) → k < 64 → bit_at (bit_and (bit_or awake active) among) k ≡ 0)
+    (λ next. (next < 64) × (bit_at (bit_and (bit_or awake active) among) next ≡ 1) × ((k : ℕ) → k < next → bit_at (bit_and (bit_or awake active) among) k ≡ 0)) →
+    MatchOption o ((k : ℕ) → k < 64 → bit_at among k ≡ 1 → (bit_at active k ≡ 0) × (bit_at awake k ≡ 0))
+    (λ next. (next < 64) × (bit_at among next ≡ 1) × ((k : ℕ) → k < next → bit_at among k ≡ 1 → (bit_at active k ≡ 0) × (bit_at awake k ≡ 0)))
+idle_among awake active among None none = λ k low has. neither_bit awake active k (no_bit (bit_or awake active) among k (none k low) has)
+idle_among awake active among (Some next) (low, is, none) =
+    (low, (bits_both (bit_or awake active) among next is).1, (λ k less has. neither_bit awake active k (no_bit (bit_or awake active) among k (none k less) has)))
 
--- below the lowest set bit none is set
-low_zero : (x i : ℕ) → x < 2 ^ 64 → i < trailing_zeros w64 x → bit_at x i ≡ 0
-low_zero zero i fits less = bit_at-zero i
-low_zero (suc x) i fits less = (bit_at-trailing_zeros w64 (suc x) (omega arith) fits).2 i less
+-- Masks of the actors from one on.
 
-shifted : (mask from k : ℕ) → from ≤ k → bit_at (mask / 2 ^ from) (k - from) ≡ bit_at mask k
-shifted mask from k past =
-    let whole : from + (k - from) ≡ k = omega arith in
-    ap (λ z. z % 2) (div-div-eq-div-mul mask (2 ^ from) (2 ^ (k - from)) ∙ ap (λ z. mask / z) (sym (pow-add 2 from (k - from)) ∙ ap (λ z. 2 ^ z) whole))
+-- one comes after another where its bit is there
+pub bit_after : (actor k : ℕ) → k < 64 → actor < k → bit_at (2 ^ 64 - 2 ^ (actor + 1)) k ≡ 1
+bit_after actor k low past = bit_at_mask_inside (actor + 1) 64 k (omega arith) low
 
-pub none_from : (mask from k : ℕ) → mask / 2 ^ from < 2 ^ 64 → from ≤ k → k < from + trailing_zeros w64 (mask / 2 ^ from) → bit_at mask k ≡ 0
-none_from mask from k fits past less = sym (shifted mask from k past) ∙ low_zero (mask / 2 ^ from) (k - from) fits (omega arith)
+pub not_after : (from k : ℕ) → bit_at (2 ^ 64 - 2 ^ from) k ≡ 1 → from ≤ k
+not_after from k is = elim (cases_lt k from) [
+  | inl sooner ↦ absurd (let none = bit_at_mask_below from 64 k sooner in omega (arith, is, none))
+  | inr later ↦ omega arith
+]
 
--- behind the highest set bit none is set
-pub none_past : (mask from k : ℕ) → mask / 2 ^ from ≡ 0 → from ≤ k → bit_at mask k ≡ 0
-none_past mask from k none past = sym (shifted mask from k past) ∙ ap (λ x. bit_at x (k - from)) none ∙ bit_at-zero (k - from)
-
--- no bit stands past the width
-past_width : (mask k : ℕ) → mask < 2 ^ 64 → 64 ≤ k → bit_at mask k ≡ 0
-past_width mask k fits past = ap (λ x. x % 2) (div-eq_of_lt (let more = pow-le-pow_right {n = 2} (omega arith) {i = 64} {j = k} past in omega (arith, fits, more)))
-
-behind : (a b : ℕ) → a + b - a ≡ b
-behind a b = omega arith
-
--- the least set bit from one on is one of the 64
-pub low_place : (mask from : ℕ) → mask / 2 ^ from < 2 ^ 64 → mask < 2 ^ 64 → (mask / 2 ^ from ≡ 0 → ⊥) → from + trailing_zeros w64 (mask / 2 ^ from) < 64
-low_place mask from small fits some =
-    let t : ℕ = trailing_zeros w64 (mask / 2 ^ from) in
-    let set = (bit_at-trailing_zeros w64 (mask / 2 ^ from) (omega (arith, some)) small).1 in
-    elim (cases_lt (from + t) 64) [
-      | inl less ↦ less
-      | inr past ↦ absurd (let none = sym (ap (λ x. bit_at (mask / 2 ^ from) x) (behind from t)) ∙ shifted mask from (from + t) (omega arith) ∙ past_width mask (from + t) fits past in omega (arith, set, none))
-    ]
+-- behind one of them there are fewer
+pub fewer_after : (from actor : ℕ) → from ≤ actor → actor < 64 → 2 ^ 64 - 2 ^ (actor + 1) < 2 ^ 64 - 2 ^ from
+fewer_after from actor past low =
+    let grows : 2 ^ from < 2 ^ (actor + 1) = pow-lt {i = from} {j = actor + 1} (omega arith) in
+    let most : 2 ^ (actor + 1) ≤ 2 ^ 64 = pow-le-pow_right {n = 2} (omega arith) {i = actor + 1} {j = 64} (omega arith) in
+    omega (arith, grows, most)

@@ -16,12 +16,13 @@ ghost use Rattle.vc_text.specs.Views.{shown as traffic_of};
 
 use crate::check::read_accepted;
 use crate::fault::RunFault;
-use crate::seats::Seats;
+use crate::seats::{Seats, after};
 use crate::traffic::{ChannelView, write_channels};
 use sqlite_items::Items;
 use std::alloc::Global;
 use std::io::{Read, Write};
 use vc_core::{Act, Close, Event, Network};
+use vc_occam::Move;
 use vc_packets::Memory;
 use vc_plan::Accepted;
 
@@ -97,8 +98,8 @@ fn turn(
     Ok(true)
 }
 
-/// An event joins those made. What is done at a link joins in a branch of its own: the few parts that it has are then written as
-/// they are, and not carried here together with those of a move.
+/// An event joins those made. What is done at a link, and a step without a communication, join in branches of their own: the few
+/// parts that they have are then written as they are, and not carried here together with those of any move.
 #[inline(always)]
 fn join(events: &mut Items<Event>, event: Event) -> Result<(), Memory>
     ensures { OnOk result (events.new ≡ events.old ++ event ∷ []) }
@@ -109,6 +110,7 @@ fn join(events: &mut Items<Event>, event: Event) -> Result<(), Memory>
         Act::Put { link } => join_act(events, actor, Act::Put { link }),
         Act::Fct { link } => join_act(events, actor, Act::Fct { link }),
         Act::Route { input, output } => join_act(events, actor, Act::Route { input, output }),
+        Act::Proc(Move::Quiet { site }) => join_act(events, actor, Act::Proc(Move::Quiet { site })),
         act => join_act(events, actor, act),
     }
 }
@@ -201,15 +203,15 @@ fn round(
     ensures quiet { (p : Plan) → Reached p events.old (state_of network.old) → AreQuiet p (state_of network.old) seats.old → IfOk result (λ had. AreQuiet p (state_of network.new) seats.new) }
 {
     let mut moved = false;
-    let mut from = 0u8;
-    while let Some(actor) = seats.next_of(network.awake(), from) {
+    let mut left = u64::MAX;
+    while let Some(actor) = seats.next_of(network.awake(), left) {
         if events.len() as u64 >= limit {
             return Ok(true);
         }
         if act(network, seats, events, actor)? {
             moved = true;
         }
-        from = actor + 1;
+        left = after(actor);
     }
     Ok(moved)
 }

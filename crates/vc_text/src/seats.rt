@@ -1,5 +1,5 @@
 //! What a run keeps of each actor.
-ghost use Rattle.std.specs.Prelude.{◌≡◌, ◌≢◌, ◌≤◌, ◌<◌, ℕ, IfOk, MatchOption};
+ghost use Rattle.std.specs.Prelude.{◌≡◌, ◌≢◌, ◌<◌, ◌+◌, ◌-◌, ◌^◌, ℕ, IfOk, MatchOption};
 ghost use Rattle.std.specs.Int.{bit_at};
 ghost use Rattle.vc_text.specs.Quiet.{active_at, IsIdle};
 
@@ -29,12 +29,11 @@ impl Seats {
         Ok(Seats { words, active })
     }
 
-    /// The least actor from one on that may have an event, where these are awake.
-    pub(crate) fn next_of(&self, awake: u64, from: u8) -> Option<u8>
-        requires { from ≤ 64 }
-        ensures { MatchOption result ((k : ℕ) → from ≤ k → k < 64 → IsIdle self.now awake k) (λ next. (from ≤ next) × (next < 64) × ((k : ℕ) → from ≤ k → k < next → IsIdle self.now awake k)) }
+    /// The least of some actors that may have an event, where these are awake. `among` has a bit for each of them.
+    pub(crate) fn next_of(&self, awake: u64, among: u64) -> Option<u8>
+        ensures { MatchOption result ((k : ℕ) → k < 64 → bit_at among k ≡ 1 → IsIdle self.now awake k) (λ next. (next < 64) × (bit_at among next ≡ 1) × ((k : ℕ) → k < next → bit_at among k ≡ 1 → IsIdle self.now awake k)) }
     {
-        lowest_from(awake | self.active, from)
+        lowest((awake | self.active) & among)
     }
 
     /// From now on an actor is known to have no event but takes.
@@ -66,17 +65,20 @@ impl Seats {
     }
 }
 
-// The least bit of a mask from one on.
-fn lowest_from(mask: u64, from: u8) -> Option<u8>
-    requires { from ≤ 64 }
-    ensures { MatchOption result ((k : ℕ) → from ≤ k → k < 64 → bit_at mask k ≡ 0) (λ next. (from ≤ next) × (next < 64) × ((k : ℕ) → from ≤ k → k < next → bit_at mask k ≡ 0)) }
+/// A bit for each of the first 64 actors that come after one.
+pub(crate) fn after(actor: u8) -> u64
+    requires { actor < 64 }
+    ensures { result ≡ 2 ^ 64 - 2 ^ (actor + 1) }
 {
-    if from == 64 {
+    u64::MAX << actor << 1
+}
+
+// The least bit of a mask.
+fn lowest(mask: u64) -> Option<u8>
+    ensures { MatchOption result ((k : ℕ) → k < 64 → bit_at mask k ≡ 0) (λ least. (least < 64) × (bit_at mask least ≡ 1) × ((k : ℕ) → k < least → bit_at mask k ≡ 0)) }
+{
+    if mask == 0 {
         return None;
     }
-    let left = mask >> from;
-    if left == 0 {
-        return None;
-    }
-    Some(from + left.trailing_zeros() as u8)
+    Some(mask.trailing_zeros() as u8)
 }
