@@ -1,6 +1,6 @@
 use Rattle.std.proofs.Common.{◌∙◌, sym}
 use Rattle.vc_reader.specs.Processes.{process_of, branch_of, guard_of}
-use Rattle.vc_reader.proofs.Parts.{list_is, list_next, list_stops, list_ends}
+use Rattle.vc_reader.proofs.Listed.{list_is, list_next, list_stops, list_ends}
 use Rattle.vc_reader.proofs.process.+process.Goals as goal
 
 pub parts-loop-item-preserved : goal.parts-loop-item-preserved

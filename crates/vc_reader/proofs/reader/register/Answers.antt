@@ -1,5 +1,5 @@
 use Rattle.std.proofs.Common.{◌∙◌, sym}
-use Rattle.vc_reader.proofs.Parts.{list_is, list_next, list_stops, list_ends}
+use Rattle.vc_reader.proofs.Listed.{list_is, list_next, list_stops, list_ends}
 use Rattle.vc_reader.proofs.reader.register.Goals as goal
 
 pub loop-item-preserved : goal.loop-item-preserved
