@@ -1,81 +1,78 @@
 //! IF and ALT, as they run.
-use crate::play::{Step, wrong_step};
-use crate::write::{
-    alt, always, branch, choice, compare, fault_cond, guard, number, skip, stop, variable,
-};
+use crate::play::{Row, Step, first_wrong_row};
 use std::test::Fail;
-use vc_occam::{Move, Rel};
+use vc_occam::Move;
+
+/// The first guard of an ALT at site 0, on channel 1.
+const FIRST: Move = Move::Choose {
+    site: 0,
+    guard: 0,
+    chan: 1,
+};
+
+/// The second guard of an ALT at site 0, on channel 3.
+const SECOND: Move = Move::Choose {
+    site: 0,
+    guard: 1,
+    chan: 3,
+};
+
+const ROWS: [Row; 9] = [
+    Row {
+        shows: "IF passes a branch whose condition is false",
+        process: r#"{"if":[[["<","x",0],"stop"],[true,"skip"]]}"#,
+        steps: &[Step::Quietly(&[0, 2]), Step::Ends],
+    },
+    Row {
+        shows: "IF takes the first of the branches whose conditions are true",
+        process: r#"{"if":[[true,"skip"],[true,"stop"]]}"#,
+        steps: &[Step::Quietly(&[0, 1]), Step::Ends],
+    },
+    Row {
+        shows: "IF stops without a true condition",
+        process: r#"{"if":[[false,"skip"],[false,"skip"]]}"#,
+        steps: &[Step::Quietly(&[0]), Step::Lists(&[])],
+    },
+    Row {
+        shows: "IF stops at a fault",
+        process: r#"{"if":[[["=",["/",1,0],0],"skip"],[true,"skip"]]}"#,
+        steps: &[Step::Quietly(&[0]), Step::Lists(&[])],
+    },
+    Row {
+        shows: "ALT may take each guard whose condition is true",
+        process: r#"{"alt":[[true,"c1","x","skip"],[true,"c3","s","skip"]]}"#,
+        steps: &[Step::Lists(&[FIRST, SECOND])],
+    },
+    Row {
+        shows: "ALT may take no guard whose condition is false",
+        process: r#"{"alt":[[false,"c1","x","skip"],[true,"c3","s","skip"]]}"#,
+        steps: &[Step::Lists(&[SECOND])],
+    },
+    Row {
+        shows: "ALT stops without a true condition",
+        process: r#"{"alt":[[false,"c1","x","skip"],[false,"c1","x","skip"]]}"#,
+        steps: &[Step::Lists(&[])],
+    },
+    Row {
+        shows: "ALT stops at a fault",
+        process: r#"{"alt":[[["=",["/",1,0],0],"c1","x","skip"],[true,"c1","x","skip"]]}"#,
+        steps: &[Step::Lists(&[])],
+    },
+    Row {
+        shows: "ALT waits for the message of its guard",
+        process: r#"{"alt":[[true,"c1","x","stop"],[true,"c3","s","skip"]]}"#,
+        steps: &[
+            Step::Makes(SECOND),
+            Step::Lists(&[]),
+            Step::Gets(3, b"x"),
+            Step::Quietly(&[2]),
+            Step::Ends,
+        ],
+    },
+];
 
 #[test]
-fn if_takes_the_first_branch_whose_condition_is_true(rt: HostRuntime) -> Result<(), Fail> {
-    let is_less = compare(Rel::Lt, variable(0), number(0));
-    let second = branch(always(true), skip());
-    let process = choice(rt.alloc(), branch(is_less, stop()), second);
-    let steps = [Step::Quietly(&[0, 2]), Step::Ends];
-    assert_eq!(rt; wrong_step(rt.alloc(), process, &steps)?, None);
-    let second = branch(always(true), stop());
-    let process = choice(rt.alloc(), branch(always(true), skip()), second);
-    let steps = [Step::Quietly(&[0, 1]), Step::Ends];
-    assert_eq!(rt; wrong_step(rt.alloc(), process, &steps)?, None);
-    Ok(())
-}
-
-#[test]
-fn if_stops_without_a_true_condition_and_at_a_fault(rt: HostRuntime) -> Result<(), Fail> {
-    let steps = [Step::Quietly(&[0]), Step::Lists(&[])];
-    let second = branch(always(false), skip());
-    let process = choice(rt.alloc(), branch(always(false), skip()), second);
-    assert_eq!(rt; wrong_step(rt.alloc(), process, &steps)?, None);
-    let first = branch(fault_cond(rt.alloc()), skip());
-    let process = choice(rt.alloc(), first, branch(always(true), skip()));
-    assert_eq!(rt; wrong_step(rt.alloc(), process, &steps)?, None);
-    Ok(())
-}
-
-/// A guard of an ALT at site 0.
-fn choose(guard: u16, chan: u16) -> Move {
-    Move::Choose {
-        site: 0,
-        guard,
-        chan,
-    }
-}
-
-#[test]
-fn alt_may_take_each_guard_whose_condition_is_true(rt: HostRuntime) -> Result<(), Fail> {
-    let second = guard(always(true), 3, skip());
-    let process = alt(rt.alloc(), guard(always(true), 1, skip()), second);
-    let steps = [Step::Lists(&[choose(0, 1), choose(1, 3)])];
-    assert_eq!(rt; wrong_step(rt.alloc(), process, &steps)?, None);
-    let second = guard(always(true), 3, skip());
-    let process = alt(rt.alloc(), guard(always(false), 1, skip()), second);
-    let steps = [Step::Lists(&[choose(1, 3)])];
-    assert_eq!(rt; wrong_step(rt.alloc(), process, &steps)?, None);
-    Ok(())
-}
-
-#[test]
-fn alt_stops_without_a_true_condition_and_at_a_fault(rt: HostRuntime) -> Result<(), Fail> {
-    let second = guard(always(false), 1, skip());
-    let process = alt(rt.alloc(), guard(always(false), 1, skip()), second);
-    assert_eq!(rt; wrong_step(rt.alloc(), process, &[Step::Lists(&[])])?, None);
-    let first = guard(fault_cond(rt.alloc()), 1, skip());
-    let process = alt(rt.alloc(), first, guard(always(true), 1, skip()));
-    assert_eq!(rt; wrong_step(rt.alloc(), process, &[Step::Lists(&[])])?, None);
-    Ok(())
-}
-
-#[test]
-fn alt_waits_for_the_message_of_its_guard(rt: HostRuntime) -> Result<(), Fail> {
-    let second = guard(always(true), 3, skip());
-    let process = alt(rt.alloc(), guard(always(true), 1, stop()), second);
-    let steps = [
-        Step::Makes(choose(1, 3)),
-        Step::Lists(&[]),
-        Step::Gets(3, b"x"),
-        Step::Quietly(&[2]),
-        Step::Ends,
-    ];
-    assert_eq!(rt; wrong_step(rt.alloc(), process, &steps)?, None);
+fn choices_run(rt: HostRuntime) -> Result<(), Fail> {
+    assert_eq!(rt; first_wrong_row(rt.alloc(), &ROWS)?, None);
     Ok(())
 }

@@ -1,109 +1,180 @@
 //! What expressions and conditions are worth, as an output or a WHILE shows it.
-use crate::play::{Step, wrong_step};
-use crate::write::{
-    always, binary, both, compare, either, fault_cond, fill, not, number, output, repeat, seq,
-    size, skip,
-};
-use std::alloc::Global;
+use crate::play::{Row, Step, first_wrong_row};
 use std::test::Fail;
-use vc_occam::{Cond, Op, Process, Rel};
-use vc_packets::Memory;
+use vc_occam::Move;
 
-/// An output of an operator's result.
-fn output_of(alloc: Global, op: Op, left: i64, right: i64) -> Result<Process, Memory> {
-    output(0, binary(alloc, op, number(left), number(right)))
-}
+const RESULTS: [Row; 8] = [
+    Row {
+        shows: "2 + -5",
+        process: r#"{"out":["c0",["+",2,-5]]}"#,
+        steps: &[Step::SendsNumber(0, 0, -3)],
+    },
+    Row {
+        shows: "2 - 5",
+        process: r#"{"out":["c0",["-",2,5]]}"#,
+        steps: &[Step::SendsNumber(0, 0, -3)],
+    },
+    Row {
+        shows: "-3 * 5",
+        process: r#"{"out":["c0",["*",-3,5]]}"#,
+        steps: &[Step::SendsNumber(0, 0, -15)],
+    },
+    Row {
+        shows: "-7 / 2 is cut toward zero",
+        process: r#"{"out":["c0",["/",-7,2]]}"#,
+        steps: &[Step::SendsNumber(0, 0, -3)],
+    },
+    Row {
+        shows: "7 / -2 is cut toward zero",
+        process: r#"{"out":["c0",["/",7,-2]]}"#,
+        steps: &[Step::SendsNumber(0, 0, -3)],
+    },
+    Row {
+        shows: "the remainder of -7 by 2 has the left sign",
+        process: r#"{"out":["c0",["\\",-7,2]]}"#,
+        steps: &[Step::SendsNumber(0, 0, -1)],
+    },
+    Row {
+        shows: "the remainder of 7 by -2 has the left sign",
+        process: r#"{"out":["c0",["\\",7,-2]]}"#,
+        steps: &[Step::SendsNumber(0, 0, 1)],
+    },
+    Row {
+        shows: "bytes have a size, and are none at first",
+        process: r#"{"seq":[{"set":["s",{"fill":[7,3]}]},{"out":["c0",["-",["size","s"],["size","t"]]]}]}"#,
+        steps: &[Step::Quietly(&[1]), Step::SendsNumber(2, 0, 3)],
+    },
+];
+
+/// A process that is one output, or one WHILE, stops at once.
+const STOPS: &[Step] = &[Step::Quietly(&[0]), Step::Lists(&[])];
+
+const FAULTS: [Row; 7] = [
+    Row {
+        shows: "a sum past the greatest number",
+        process: r#"{"out":["c0",["+",9223372036854775807,1]]}"#,
+        steps: STOPS,
+    },
+    Row {
+        shows: "a difference below the least number",
+        process: r#"{"out":["c0",["-",-9223372036854775808,1]]}"#,
+        steps: STOPS,
+    },
+    Row {
+        shows: "a product past the greatest number",
+        process: r#"{"out":["c0",["*",4294967296,2147483648]]}"#,
+        steps: STOPS,
+    },
+    Row {
+        shows: "a quotient by zero",
+        process: r#"{"out":["c0",["/",1,0]]}"#,
+        steps: STOPS,
+    },
+    Row {
+        shows: "a quotient past the greatest number",
+        process: r#"{"out":["c0",["/",-9223372036854775808,-1]]}"#,
+        steps: STOPS,
+    },
+    Row {
+        shows: "a remainder by zero",
+        process: r#"{"out":["c0",["\\",1,0]]}"#,
+        steps: STOPS,
+    },
+    Row {
+        shows: "a remainder whose quotient is past the greatest number",
+        process: r#"{"out":["c0",["\\",-9223372036854775808,-1]]}"#,
+        steps: STOPS,
+    },
+];
+
+/// A WHILE takes a turn: its body may begin.
+const TURNS: &[Step] = &[Step::Quietly(&[0]), Step::Lists(&[Move::Quiet { site: 1 }])];
+
+/// A WHILE ends without a turn.
+const ENDS: &[Step] = &[Step::Quietly(&[0]), Step::Ends];
+
+const CONDITIONS: [Row; 15] = [
+    Row {
+        shows: "0 = 0",
+        process: r#"{"while":[["=",0,0],"skip"]}"#,
+        steps: TURNS,
+    },
+    Row {
+        shows: "not 1 = 0",
+        process: r#"{"while":[["=",1,0],"skip"]}"#,
+        steps: ENDS,
+    },
+    Row {
+        shows: "1 <> 0",
+        process: r#"{"while":[["<>",1,0],"skip"]}"#,
+        steps: TURNS,
+    },
+    Row {
+        shows: "not 0 <> 0",
+        process: r#"{"while":[["<>",0,0],"skip"]}"#,
+        steps: ENDS,
+    },
+    Row {
+        shows: "-1 < 0",
+        process: r#"{"while":[["<",-1,0],"skip"]}"#,
+        steps: TURNS,
+    },
+    Row {
+        shows: "not 0 < 0",
+        process: r#"{"while":[["<",0,0],"skip"]}"#,
+        steps: ENDS,
+    },
+    Row {
+        shows: "1 > 0",
+        process: r#"{"while":[[">",1,0],"skip"]}"#,
+        steps: TURNS,
+    },
+    Row {
+        shows: "not 0 > 0",
+        process: r#"{"while":[[">",0,0],"skip"]}"#,
+        steps: ENDS,
+    },
+    Row {
+        shows: "0 <= 0",
+        process: r#"{"while":[["<=",0,0],"skip"]}"#,
+        steps: TURNS,
+    },
+    Row {
+        shows: "not 1 <= 0",
+        process: r#"{"while":[["<=",1,0],"skip"]}"#,
+        steps: ENDS,
+    },
+    Row {
+        shows: "0 >= 0",
+        process: r#"{"while":[[">=",0,0],"skip"]}"#,
+        steps: TURNS,
+    },
+    Row {
+        shows: "not -1 >= 0",
+        process: r#"{"while":[[">=",-1,0],"skip"]}"#,
+        steps: ENDS,
+    },
+    Row {
+        shows: "a false left side of AND leaves a fault alone",
+        process: r#"{"while":[["and",false,["=",["/",1,0],0]],"skip"]}"#,
+        steps: ENDS,
+    },
+    Row {
+        shows: "a true left side of OR leaves a fault alone",
+        process: r#"{"while":[["or",true,["=",["/",1,0],0]],"skip"]}"#,
+        steps: TURNS,
+    },
+    Row {
+        shows: "AND of a true left side is its right side, and NOT turns it",
+        process: r#"{"while":[["and",true,["not",false]],"skip"]}"#,
+        steps: TURNS,
+    },
+];
 
 #[test]
-fn quotients_are_cut_toward_zero_and_remainders_have_the_left_sign(
-    rt: HostRuntime,
-) -> Result<(), Fail> {
-    let results = [
-        (Op::Add, 2, -5, -3),
-        (Op::Sub, 2, 5, -3),
-        (Op::Mul, -3, 5, -15),
-        (Op::Div, -7, 2, -3),
-        (Op::Div, 7, -2, -3),
-        (Op::Rem, -7, 2, -1),
-        (Op::Rem, 7, -2, 1),
-    ];
-    for (op, left, right, result) in results {
-        let process = output_of(rt.alloc(), op, left, right);
-        let steps = [Step::SendsNumber(0, 0, result)];
-        assert_eq!(rt;
-            wrong_step(rt.alloc(), process, &steps)?,
-            None,
-            "{left} and {right}"
-        );
-    }
-    Ok(())
-}
-
-#[test]
-fn what_has_no_result_is_a_fault(rt: HostRuntime) -> Result<(), Fail> {
-    let faults = [
-        (Op::Add, i64::MAX, 1),
-        (Op::Sub, i64::MIN, 1),
-        (Op::Mul, 4294967296, 2147483648),
-        (Op::Div, 1, 0),
-        (Op::Div, i64::MIN, -1),
-        (Op::Rem, 1, 0),
-        (Op::Rem, i64::MIN, -1),
-    ];
-    for (op, left, right) in faults {
-        let process = output_of(rt.alloc(), op, left, right);
-        let steps = [Step::Quietly(&[0]), Step::Lists(&[])];
-        assert_eq!(rt;
-            wrong_step(rt.alloc(), process, &steps)?,
-            None,
-            "{left} and {right}"
-        );
-    }
-    Ok(())
-}
-
-/// Whether a WHILE with this condition goes on, or ends.
-fn goes_on(alloc: Global, cond: Result<Cond, Memory>) -> Result<bool, Fail> {
-    let steps = [Step::Quietly(&[0]), Step::Ends];
-    let wrong = wrong_step(alloc, repeat(alloc, cond, skip()), &steps)?;
-    Ok(wrong == Some(1))
-}
-
-#[test]
-fn comparisons_are_those_of_whole_numbers(rt: HostRuntime) -> Result<(), Fail> {
-    let comparisons = [
-        (Rel::Eq, 0, 1),
-        (Rel::Ne, 1, 0),
-        (Rel::Lt, -1, 0),
-        (Rel::Gt, 1, 0),
-        (Rel::Le, 0, 1),
-        (Rel::Ge, 0, -1),
-    ];
-    for (rel, yes, no) in comparisons {
-        let holds = compare(rel, number(yes), number(0));
-        assert!(rt; goes_on(rt.alloc(), holds)?, "{yes} beside 0");
-        let fails = compare(rel, number(no), number(0));
-        assert!(rt; !goes_on(rt.alloc(), fails)?, "{no} beside 0");
-    }
-    Ok(())
-}
-
-#[test]
-fn what_the_left_side_decides_leaves_the_right_one_alone(rt: HostRuntime) -> Result<(), Fail> {
-    let no = both(rt.alloc(), always(false), fault_cond(rt.alloc()));
-    assert!(rt; !goes_on(rt.alloc(), no)?);
-    let yes = either(rt.alloc(), always(true), fault_cond(rt.alloc()));
-    assert!(rt; goes_on(rt.alloc(), yes)?);
-    let yes = both(rt.alloc(), always(true), not(rt.alloc(), always(false)));
-    assert!(rt; goes_on(rt.alloc(), yes)?);
-    Ok(())
-}
-
-#[test]
-fn bytes_have_a_size_and_are_none_at_first(rt: HostRuntime) -> Result<(), Fail> {
-    let sizes = binary(rt.alloc(), Op::Sub, size(2), size(3));
-    let process = seq(rt.alloc(), fill(2, 7, 3), output(0, sizes));
-    let steps = [Step::Quietly(&[1]), Step::SendsNumber(2, 0, 3)];
-    assert_eq!(rt; wrong_step(rt.alloc(), process, &steps)?, None);
+fn expressions_have_results_or_faults(rt: HostRuntime) -> Result<(), Fail> {
+    assert_eq!(rt; first_wrong_row(rt.alloc(), &RESULTS)?, None);
+    assert_eq!(rt; first_wrong_row(rt.alloc(), &FAULTS)?, None);
+    assert_eq!(rt; first_wrong_row(rt.alloc(), &CONDITIONS)?, None);
     Ok(())
 }

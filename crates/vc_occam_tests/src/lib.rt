@@ -1,5 +1,6 @@
 //! Tests of the processes of vc_occam, over its public calls: an example for each word and each fault as it runs, what meets inside
-//! a node, and which use is lawful.
+//! a node, and which use is lawful. The processes are written as in a network file, and each is a row of a table, so that the prover
+//! sees a few functions and not one for each example.
 #![tactic(auto)]
 
 #[cfg(test)]
@@ -17,8 +18,8 @@ mod play;
 #[cfg(test)]
 mod questions;
 #[cfg(test)]
+mod read;
+#[cfg(test)]
 mod usage;
 #[cfg(test)]
 mod words;
-#[cfg(test)]
-mod write;

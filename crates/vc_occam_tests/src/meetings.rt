@@ -1,71 +1,71 @@
 //! What meets on a channel inside a node.
-use crate::play::{Step, wrong_step};
-use crate::write::{
-    alt, always, guard, input, number, output, par, seq, skip, stop_channel, variable,
-};
+use crate::play::{Row, Step, first_wrong_row};
 use std::test::Fail;
 use vc_occam::Move;
 
-/// The output at site 1 meets an input or guard on channel 8.
-fn meeting(receiver: u16, guard: Option<u16>) -> Move {
-    Move::Inner {
-        sender: 1,
-        receiver,
-        guard,
-        chan: 8,
-    }
-}
+/// The output at site 1 meets the input at site 3 on channel 8.
+const WITH_INPUT: Move = Move::Inner {
+    sender: 1,
+    receiver: 3,
+    guard: None,
+    chan: 8,
+};
+
+/// The output at site 1 meets the second guard of the ALT at site 2 on channel 8.
+const WITH_GUARD: Move = Move::Inner {
+    sender: 1,
+    receiver: 2,
+    guard: Some(1),
+    chan: 8,
+};
+
+const ROWS: [Row; 5] = [
+    Row {
+        shows: "an output meets an input in one step",
+        process: r#"{"par":[{"out":["c8",7]},{"seq":[{"in":["c8","x"]},{"out":["c0","x"]}]}]}"#,
+        steps: &[
+            Step::Lists(&[WITH_INPUT]),
+            Step::Makes(WITH_INPUT),
+            Step::Lists(&[Move::Offer { site: 4, chan: 0 }]),
+            Step::SendsNumber(4, 0, 7),
+        ],
+    },
+    Row {
+        shows: "an output meets a guard whose condition is true",
+        process: r#"{"par":[{"out":["c8",7]},{"alt":[[false,"c8","x","skip"],[true,"c8","x","skip"]]}]}"#,
+        steps: &[
+            Step::Lists(&[WITH_GUARD]),
+            Step::Makes(WITH_GUARD),
+            Step::Quietly(&[4]),
+            Step::Ends,
+        ],
+    },
+    Row {
+        shows: "an output inside its node waits for its input",
+        process: r#"{"out":["c8",5]}"#,
+        steps: &[Step::Lists(&[])],
+    },
+    Row {
+        shows: "an output inside its node does not meet a stop of its channel",
+        process: r#"{"par":[{"out":["c8",5]},{"stopch":"c8"}]}"#,
+        steps: &[
+            Step::Lists(&[Move::Stopch { site: 2, chan: 8 }]),
+            Step::Makes(Move::Stopch { site: 2, chan: 8 }),
+            Step::Lists(&[]),
+        ],
+    },
+    Row {
+        shows: "on a channel outside both are moves",
+        process: r#"{"par":[{"out":["c5",7]},{"in":["c5","x"]}]}"#,
+        steps: &[Step::Lists(&[
+            Move::Offer { site: 1, chan: 5 },
+            Move::Want { site: 2, chan: 5 },
+        ])],
+    },
+];
 
 #[test]
-fn an_output_meets_an_input_in_one_step(rt: HostRuntime) -> Result<(), Fail> {
-    let taker = seq(rt.alloc(), input(8, 0), output(0, variable(0)));
-    let process = par(rt.alloc(), output(8, number(7)), taker);
-    let steps = [
-        Step::Lists(&[meeting(3, None)]),
-        Step::Makes(meeting(3, None)),
-        Step::Lists(&[Move::Offer { site: 4, chan: 0 }]),
-        Step::SendsNumber(4, 0, 7),
-    ];
-    assert_eq!(rt; wrong_step(rt.alloc(), process, &steps)?, None);
-    Ok(())
-}
-
-#[test]
-fn an_output_meets_a_guard_whose_condition_is_true(rt: HostRuntime) -> Result<(), Fail> {
-    let second = guard(always(true), 8, skip());
-    let chooser = alt(rt.alloc(), guard(always(false), 8, skip()), second);
-    let process = par(rt.alloc(), output(8, number(7)), chooser);
-    let steps = [
-        Step::Lists(&[meeting(2, Some(1))]),
-        Step::Makes(meeting(2, Some(1))),
-        Step::Quietly(&[4]),
-        Step::Ends,
-    ];
-    assert_eq!(rt; wrong_step(rt.alloc(), process, &steps)?, None);
-    Ok(())
-}
-
-#[test]
-fn an_output_inside_its_node_waits_for_its_input(rt: HostRuntime) -> Result<(), Fail> {
-    let alone = output(8, number(5));
-    assert_eq!(rt; wrong_step(rt.alloc(), alone, &[Step::Lists(&[])])?, None);
-    let process = par(rt.alloc(), output(8, number(5)), stop_channel(8));
-    let stopped = Move::Stopch { site: 2, chan: 8 };
-    let steps = [
-        Step::Lists(&[stopped]),
-        Step::Makes(stopped),
-        Step::Lists(&[]),
-    ];
-    assert_eq!(rt; wrong_step(rt.alloc(), process, &steps)?, None);
-    Ok(())
-}
-
-#[test]
-fn on_a_channel_outside_both_are_moves(rt: HostRuntime) -> Result<(), Fail> {
-    let process = par(rt.alloc(), output(5, number(7)), input(5, 0));
-    let offer = Move::Offer { site: 1, chan: 5 };
-    let want = Move::Want { site: 2, chan: 5 };
-    let steps = [Step::Lists(&[offer, want])];
-    assert_eq!(rt; wrong_step(rt.alloc(), process, &steps)?, None);
+fn meetings_run(rt: HostRuntime) -> Result<(), Fail> {
+    assert_eq!(rt; first_wrong_row(rt.alloc(), &ROWS)?, None);
     Ok(())
 }

@@ -1,85 +1,69 @@
 //! Which use of channels and variables is lawful.
-use crate::write::{
-    alt, always, assign, count, guard, input, number, output, par, seq, skip, stop_channel,
-    variable,
-};
+use crate::read::read;
 use std::alloc::Global;
 use std::test::Fail;
-use vc_occam::{Process, UseFault, check_use};
-use vc_packets::Memory;
+use vc_occam::{UseFault, check_use};
 
-/// What the check of use answers.
-fn used(alloc: Global, process: Result<Process, Memory>) -> Result<Result<(), UseFault>, Fail> {
-    Ok(check_use(alloc, &process?))
-}
+/// What each row shows, a process, and what the check of its use answers.
+const ROWS: [(&str, &str, Result<(), UseFault>); 9] = [
+    (
+        "the least channel is told",
+        r#"{"par":[{"seq":[{"out":["c9",1]},{"out":["c4",1]}]},{"seq":[{"out":["c4",1]},{"out":["c9",1]}]}]}"#,
+        Err(UseFault::Chan(4)),
+    ),
+    (
+        "outputs come before inputs",
+        r#"{"par":[{"seq":[{"in":["c1","x"]},{"out":["c7",1]}]},{"seq":[{"out":["c7",1]},{"in":["c1","x"]}]}]}"#,
+        Err(UseFault::Chan(7)),
+    ),
+    (
+        "inputs come before variables",
+        r#"{"par":[{"in":["c1","x"]},{"in":["c1","x"]}]}"#,
+        Err(UseFault::Chan(1)),
+    ),
+    (
+        "a stop is an input",
+        r#"{"par":[{"alt":[[true,"c2","x","skip"],[true,"c6","x","skip"]]},{"stopch":"c6"}]}"#,
+        Err(UseFault::Chan(6)),
+    ),
+    (
+        "a variable that one part changes is used by no other",
+        r#"{"par":[{"out":["c0","y"]},{"in":["c1","y"]}]}"#,
+        Err(UseFault::Var(1)),
+    ),
+    (
+        "both parts may use a variable that none changes",
+        r#"{"par":[{"out":["c0","y"]},{"out":["c1","y"]}]}"#,
+        Ok(()),
+    ),
+    (
+        "one part may output where another inputs",
+        r#"{"par":[{"out":["c2",1]},{"in":["c2","x"]}]}"#,
+        Ok(()),
+    ),
+    (
+        "a body may not change its index",
+        r#"{"for":["x",0,2,{"set":["x",5]}]}"#,
+        Err(UseFault::Var(0)),
+    ),
+    (
+        "the first offender by site is told",
+        r#"{"seq":[{"for":["x",0,3,{"par":[{"in":["c5","x"]},{"in":["c6","y"]}]}]},{"par":[{"in":["c5","x"]},{"in":["c5","y"]}]}]}"#,
+        Err(UseFault::Var(0)),
+    ),
+];
 
-/// Two outputs in order.
-fn outputs(alloc: Global, first: u16, second: u16) -> Result<Process, Memory> {
-    seq(alloc, output(first, number(1)), output(second, number(1)))
-}
-
-#[test]
-fn the_least_channel_is_told(rt: HostRuntime) -> Result<(), Fail> {
-    let process = par(
-        rt.alloc(),
-        outputs(rt.alloc(), 9, 3),
-        outputs(rt.alloc(), 3, 9),
-    );
-    assert_eq!(rt; used(rt.alloc(), process)?, Err(UseFault::Chan(3)));
-    Ok(())
-}
-
-#[test]
-fn outputs_come_before_inputs_and_inputs_before_variables(rt: HostRuntime) -> Result<(), Fail> {
-    let first = seq(rt.alloc(), input(1, 0), output(7, number(1)));
-    let second = seq(rt.alloc(), output(7, number(1)), input(1, 0));
-    assert_eq!(rt;
-        used(rt.alloc(), par(rt.alloc(), first, second))?,
-        Err(UseFault::Chan(7))
-    );
-    let process = par(rt.alloc(), input(1, 0), input(1, 0));
-    assert_eq!(rt; used(rt.alloc(), process)?, Err(UseFault::Chan(1)));
-    Ok(())
-}
-
-#[test]
-fn a_stop_is_an_input(rt: HostRuntime) -> Result<(), Fail> {
-    let chooser = alt(
-        rt.alloc(),
-        guard(always(true), 2, skip()),
-        guard(always(true), 6, skip()),
-    );
-    let process = par(rt.alloc(), chooser, stop_channel(6));
-    assert_eq!(rt; used(rt.alloc(), process)?, Err(UseFault::Chan(6)));
-    Ok(())
-}
-
-#[test]
-fn a_variable_is_changed_by_no_other_part(rt: HostRuntime) -> Result<(), Fail> {
-    let process = par(rt.alloc(), output(0, variable(4)), input(1, 4));
-    assert_eq!(rt; used(rt.alloc(), process)?, Err(UseFault::Var(4)));
-    let process = par(rt.alloc(), output(0, variable(4)), output(1, variable(4)));
-    assert_eq!(rt; used(rt.alloc(), process)?, Ok(()));
-    let process = par(rt.alloc(), output(2, number(1)), input(2, 0));
-    assert_eq!(rt; used(rt.alloc(), process)?, Ok(()));
-    Ok(())
-}
-
-#[test]
-fn a_body_may_not_change_its_index(rt: HostRuntime) -> Result<(), Fail> {
-    let process = count(rt.alloc(), number(0), number(2), assign(0, number(5)));
-    assert_eq!(rt; used(rt.alloc(), process)?, Err(UseFault::Var(0)));
-    Ok(())
+/// What the check of a process's use answers.
+fn used(alloc: Global, process: &str) -> Result<Result<(), UseFault>, Fail> {
+    let plan = read(alloc, process)?;
+    let node = plan.nodes.get(0).ok_or("a node")?;
+    Ok(check_use(alloc, &node.process))
 }
 
 #[test]
-fn the_first_offender_by_site_is_told(rt: HostRuntime) -> Result<(), Fail> {
-    let both = par(rt.alloc(), input(5, 0), input(6, 1));
-    let first = count(rt.alloc(), number(0), number(3), both);
-    let second = par(rt.alloc(), input(5, 2), input(5, 3));
-    assert_eq!(rt;
-        used(rt.alloc(), seq(rt.alloc(), first, second))?,
-        Err(UseFault::Var(0))
-    );
+fn the_first_offender_is_told(rt: HostRuntime) -> Result<(), Fail> {
+    for (shows, process, answer) in ROWS {
+        assert_eq!(rt; used(rt.alloc(), process)?, answer, "{shows}");
+    }
     Ok(())
 }

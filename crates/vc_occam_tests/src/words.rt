@@ -1,101 +1,85 @@
 //! The words without parts, and SEQ, as they run.
-use crate::play::{Step, wrong_step};
-use crate::write::{
-    assign, binary, fault, input, none, number, output, output_bytes, seq, skip, stop,
-    stop_channel, variable,
-};
+use crate::play::{Row, Step, first_wrong_row};
 use std::test::Fail;
-use vc_occam::{Move, Op, Process};
+use vc_occam::Move;
+
+const ROWS: [Row; 11] = [
+    Row {
+        shows: "SKIP ends",
+        process: r#""skip""#,
+        steps: &[Step::Quietly(&[0]), Step::Ends],
+    },
+    Row {
+        shows: "STOP never goes on",
+        process: r#""stop""#,
+        steps: &[Step::Lists(&[])],
+    },
+    Row {
+        shows: "an output is finished behind its offer",
+        process: r#"{"out":["c3",{"text":"hello"}]}"#,
+        steps: &[
+            Step::Lists(&[Move::Offer { site: 0, chan: 3 }]),
+            Step::Sends(0, 3, b"hello"),
+            Step::Makes(Move::Offer { site: 0, chan: 3 }),
+            Step::Lists(&[]),
+            Step::Finishes(3),
+            Step::Ends,
+        ],
+    },
+    Row {
+        shows: "a number travels in eight bytes, the low one first",
+        process: r#"{"out":["c0",["*",-3,85]]}"#,
+        steps: &[Step::Sends(0, 0, &[1, 255, 255, 255, 255, 255, 255, 255])],
+    },
+    Row {
+        shows: "an output stops at a fault",
+        process: r#"{"out":["c0",["/",1,0]]}"#,
+        steps: &[Step::Quietly(&[0]), Step::Lists(&[])],
+    },
+    Row {
+        shows: "an assignment stops at a fault",
+        process: r#"{"set":["x",["/",1,0]]}"#,
+        steps: &[Step::Quietly(&[0]), Step::Lists(&[])],
+    },
+    Row {
+        shows: "an assignment ends",
+        process: r#"{"seq":[{"set":["x",3]},{"out":["c0","x"]}]}"#,
+        steps: &[Step::Quietly(&[1]), Step::SendsNumber(2, 0, 3)],
+    },
+    Row {
+        shows: "an input waits for its message",
+        process: r#"{"seq":[{"in":["c1","x"]},{"out":["c0","x"]}]}"#,
+        steps: &[
+            Step::Lists(&[Move::Want { site: 1, chan: 1 }]),
+            Step::Makes(Move::Want { site: 1, chan: 1 }),
+            Step::Lists(&[]),
+            Step::Gets(1, &[254, 255, 255, 255, 255, 255, 255, 255]),
+            Step::SendsNumber(2, 0, -2),
+        ],
+    },
+    Row {
+        shows: "a stopped channel is told before what follows",
+        process: r#"{"seq":[{"stopch":"c4"},{"in":["c4","x"]}]}"#,
+        steps: &[
+            Step::Lists(&[Move::Stopch { site: 1, chan: 4 }]),
+            Step::Makes(Move::Stopch { site: 1, chan: 4 }),
+            Step::Lists(&[Move::Want { site: 2, chan: 4 }]),
+        ],
+    },
+    Row {
+        shows: "an empty SEQ is SKIP",
+        process: r#"{"seq":[]}"#,
+        steps: &[Step::Quietly(&[0]), Step::Ends],
+    },
+    Row {
+        shows: "an empty PAR is SKIP",
+        process: r#"{"par":[]}"#,
+        steps: &[Step::Quietly(&[0]), Step::Ends],
+    },
+];
 
 #[test]
-fn skip_ends(rt: HostRuntime) -> Result<(), Fail> {
-    let steps = [Step::Quietly(&[0]), Step::Ends];
-    assert_eq!(rt; wrong_step(rt.alloc(), skip(), &steps)?, None);
-    Ok(())
-}
-
-#[test]
-fn stop_never_goes_on(rt: HostRuntime) -> Result<(), Fail> {
-    assert_eq!(rt; wrong_step(rt.alloc(), stop(), &[Step::Lists(&[])])?, None);
-    Ok(())
-}
-
-#[test]
-fn an_output_is_finished_behind_its_offer(rt: HostRuntime) -> Result<(), Fail> {
-    let process = output_bytes(rt.alloc(), 3, b"hello");
-    let offer = Move::Offer { site: 0, chan: 3 };
-    let steps = [
-        Step::Lists(&[offer]),
-        Step::Sends(0, 3, b"hello"),
-        Step::Makes(offer),
-        Step::Lists(&[]),
-        Step::Finishes(3),
-        Step::Ends,
-    ];
-    assert_eq!(rt; wrong_step(rt.alloc(), process, &steps)?, None);
-    Ok(())
-}
-
-#[test]
-fn a_number_travels_in_eight_bytes_low_byte_first(rt: HostRuntime) -> Result<(), Fail> {
-    let product = binary(rt.alloc(), Op::Mul, number(-3), number(85));
-    let steps = [Step::Sends(0, 0, &[1, 255, 255, 255, 255, 255, 255, 255])];
-    assert_eq!(rt; wrong_step(rt.alloc(), output(0, product), &steps)?, None);
-    Ok(())
-}
-
-#[test]
-fn an_output_and_an_assignment_stop_at_a_fault(rt: HostRuntime) -> Result<(), Fail> {
-    let steps = [Step::Quietly(&[0]), Step::Lists(&[])];
-    let process = output(0, fault(rt.alloc()));
-    assert_eq!(rt; wrong_step(rt.alloc(), process, &steps)?, None);
-    let process = assign(0, fault(rt.alloc()));
-    assert_eq!(rt; wrong_step(rt.alloc(), process, &steps)?, None);
-    Ok(())
-}
-
-#[test]
-fn an_assignment_ends(rt: HostRuntime) -> Result<(), Fail> {
-    let process = seq(rt.alloc(), assign(0, number(3)), output(0, variable(0)));
-    let steps = [Step::Quietly(&[1]), Step::SendsNumber(2, 0, 3)];
-    assert_eq!(rt; wrong_step(rt.alloc(), process, &steps)?, None);
-    Ok(())
-}
-
-#[test]
-fn an_input_waits_for_its_message(rt: HostRuntime) -> Result<(), Fail> {
-    let process = seq(rt.alloc(), input(1, 0), output(0, variable(0)));
-    let want = Move::Want { site: 1, chan: 1 };
-    let steps = [
-        Step::Lists(&[want]),
-        Step::Makes(want),
-        Step::Lists(&[]),
-        Step::Gets(1, &[254, 255, 255, 255, 255, 255, 255, 255]),
-        Step::SendsNumber(2, 0, -2),
-    ];
-    assert_eq!(rt; wrong_step(rt.alloc(), process, &steps)?, None);
-    Ok(())
-}
-
-#[test]
-fn a_stopped_channel_is_told_before_what_follows(rt: HostRuntime) -> Result<(), Fail> {
-    let process = seq(rt.alloc(), stop_channel(4), input(4, 0));
-    let stopped = Move::Stopch { site: 1, chan: 4 };
-    let steps = [
-        Step::Lists(&[stopped]),
-        Step::Makes(stopped),
-        Step::Lists(&[Move::Want { site: 2, chan: 4 }]),
-    ];
-    assert_eq!(rt; wrong_step(rt.alloc(), process, &steps)?, None);
-    Ok(())
-}
-
-#[test]
-fn an_empty_seq_and_an_empty_par_are_skip(rt: HostRuntime) -> Result<(), Fail> {
-    let steps = [Step::Quietly(&[0]), Step::Ends];
-    let process = Ok(Process::Seq(none(rt.alloc())));
-    assert_eq!(rt; wrong_step(rt.alloc(), process, &steps)?, None);
-    let process = Ok(Process::Par(none(rt.alloc())));
-    assert_eq!(rt; wrong_step(rt.alloc(), process, &steps)?, None);
+fn words_run(rt: HostRuntime) -> Result<(), Fail> {
+    assert_eq!(rt; first_wrong_row(rt.alloc(), &ROWS)?, None);
     Ok(())
 }
