@@ -55,7 +55,7 @@ pub(crate) fn first_wrong_row<'a>(
 }
 
 /// Whether the process takes these steps.
-fn takes_all(alloc: Global, process: &str, steps: &[Step]) -> Result<bool, Fail> {
+pub(crate) fn takes_all(alloc: Global, process: &str, steps: &[Step]) -> Result<bool, Fail> {
     let plan = read(alloc, process)?;
     let node = plan.nodes.get(0).ok_or("a node")?;
     let mut running = begin(alloc, &node.process)?;
