@@ -1,17 +1,13 @@
 //! Runs in threads whose gates show who makes the turns.
+use crate::networks::{HELLO, accept, replayed};
 use std::alloc::Global;
 use std::sync::Wait;
 use std::sync::atomic::{AtomicU64, Ordering};
 use std::test::Fail;
 use std::thread::{self, Threads};
-use vc_core::{Close, Event, Network, replay};
-use vc_plan::{Accepted, check};
-use vc_reader::read_network;
+use vc_core::{Close, Event, Network};
+use vc_plan::Accepted;
 use vc_threads::{Gate, Report, run_threads};
-
-/// Two nodes on one wire.
-const HELLO: &str =
-    r#"{"version":1,"nodes":[{"name":"a","process":{"out":["c",{"text":"hello"}]}},{"name":"b","vars":[["m","bytes"]],"process":{"in":["c","m"]}}],"wires":[["a",0,"b",0]],"vlinks":[{"name":"v","a":["a",0,1,[1]],"b":["b",0,1,[1]]}],"channels":[{"name":"c","kind":"bytes","vlink":"v","way":"ab"}]}"#;
 
 /// A thread that is held looks so often, and then ends: a bound that only threads that never start reach.
 const LOOKS: u32 = 100_000_000;
@@ -27,26 +23,6 @@ fn wait_for(flags: &AtomicU64, wanted: u64) -> bool {
     false
 }
 
-fn accept(alloc: Global) -> Result<Accepted, Fail> {
-    let plan = read_network(alloc, HELLO.as_bytes())?;
-    let accepted = check(alloc, plan).ok().ok_or("an accepted network")?;
-    Ok(accepted)
-}
-
-/// The report of a run with this gate.
-fn run<R: Threads + Wait, G: Gate>(
-    rt: &R,
-    alloc: Global,
-    accepted: &Accepted,
-    gate: &G,
-    turns: u64,
-) -> Result<Report, Fail> {
-    let report = run_threads(rt, alloc, accepted, gate, turns, 0)
-        .ok()
-        .ok_or("a report")?;
-    Ok(report)
-}
-
 /// How many of these events are the actor's.
 fn count(events: &[Event], actor: u8) -> usize {
     events.iter().filter(|event| event.actor == actor).count()
@@ -58,6 +34,46 @@ fn show_the_same(one: &Network, other: &Network) -> bool {
         && one.taken(0).len() == other.taken(0).len()
         && one.finished(0) == other.finished(0)
         && one.place(0) == other.place(0)
+}
+
+/// How a run closed, how many steps each node made, how many messages were offered and taken, and whether a replay of the steps
+/// shows the same of the channel.
+#[derive(Clone, Copy)]
+struct Seen {
+    close: Close,
+    steps: (usize, usize),
+    offered: usize,
+    taken: usize,
+    replays: bool,
+}
+
+/// What is seen of a report.
+fn see(alloc: Global, accepted: &Accepted, report: &Report) -> Result<Seen, Fail> {
+    let again = replayed(alloc, accepted, report.steps.as_slice())?;
+    Ok(Seen {
+        close: report.close,
+        steps: (
+            count(report.steps.as_slice(), 0),
+            count(report.steps.as_slice(), 1),
+        ),
+        offered: report.state.offered(0).len(),
+        taken: report.state.taken(0).len(),
+        replays: show_the_same(&again, &report.state),
+    })
+}
+
+/// What is seen of a run of the hello network with this gate, of at most so many turns.
+fn run<R: Threads + Wait, G: Gate>(
+    rt: &R,
+    alloc: Global,
+    gate: &G,
+    turns: u64,
+) -> Result<Seen, Fail> {
+    let accepted = accept(alloc, HELLO)?;
+    match run_threads(rt, alloc, &accepted, gate, turns, 0) {
+        Ok(report) => see(alloc, &accepted, &report),
+        Err(_) => Err(Fail::from("a report")),
+    }
 }
 
 /// Holds the first turns of both nodes until both stand there.
@@ -80,12 +96,11 @@ impl Gate for Together {
 
 #[test]
 fn the_nodes_stand_at_their_first_turns_together(rt: HostRuntime) -> Result<(), Fail> {
-    let accepted = accept(rt.alloc())?;
     let gate = Together {
         here: AtomicU64::new(0),
     };
-    let report = run(&rt, rt.alloc(), &accepted, &gate, 100_000)?;
-    assert!(rt; report.close != Close::GateClosed);
+    let seen = run(&rt, rt.alloc(), &gate, 100_000)?;
+    assert!(rt; seen.close != Close::GateClosed);
     Ok(())
 }
 
@@ -105,16 +120,13 @@ impl Gate for Refuses {
 
 #[test]
 fn a_worker_ends_at_the_turn_that_it_is_refused(rt: HostRuntime) -> Result<(), Fail> {
-    let alloc = rt.alloc();
-    let accepted = accept(alloc)?;
     for turn in 0..41 {
-        let report = run(&rt, alloc, &accepted, &Refuses { turn }, 100_000)?;
-        assert!(rt; matches!(report.close, Close::GateClosed | Close::Done));
-        assert!(rt; count(report.steps.as_slice(), 0) as u64 <= turn);
-        let replayed = replay(alloc, &accepted, report.steps.as_slice())
-            .ok()
-            .ok_or("a replay")?;
-        assert!(rt; show_the_same(&replayed, &report.state));
+        let seen = run(&rt, rt.alloc(), &Refuses { turn }, 100_000)?;
+        assert!(rt;
+            matches!(seen.close, Close::GateClosed | Close::Done),
+            "turn {turn}"
+        );
+        assert!(rt; seen.steps.0 as u64 <= turn && seen.replays, "turn {turn}");
     }
     Ok(())
 }
@@ -142,15 +154,12 @@ impl Gate for HoldsTheSecond {
 
 #[test]
 fn a_node_that_is_held_makes_no_step(rt: HostRuntime) -> Result<(), Fail> {
-    let accepted = accept(rt.alloc())?;
     let gate = HoldsTheSecond {
         asked: AtomicU64::new(0),
     };
-    let report = run(&rt, rt.alloc(), &accepted, &gate, 1_000)?;
-    assert!(rt; report.close == Close::GateClosed);
-    assert_eq!(rt; count(report.steps.as_slice(), 0), 3);
-    assert_eq!(rt; count(report.steps.as_slice(), 1), 5);
-    assert_eq!(rt; report.state.offered(0).len(), 1);
-    assert_eq!(rt; report.state.taken(0).len(), 0);
+    let seen = run(&rt, rt.alloc(), &gate, 1_000)?;
+    assert!(rt; seen.close == Close::GateClosed);
+    assert_eq!(rt; seen.steps, (3, 5));
+    assert_eq!(rt; (seen.offered, seen.taken), (1, 0));
     Ok(())
 }

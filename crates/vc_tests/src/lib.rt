@@ -6,11 +6,15 @@ mod gates;
 #[cfg(test)]
 mod network;
 #[cfg(test)]
+mod networks;
+#[cfg(test)]
 mod overtaking;
 #[cfg(test)]
 mod plan;
 #[cfg(test)]
 mod reader;
+#[cfg(test)]
+mod streams;
 #[cfg(test)]
 mod switch;
 #[cfg(test)]

@@ -1,10 +1,10 @@
 //! An acknowledge that overtakes a piece by another link of its group.
+use crate::networks::{accept, replayed};
 use std::alloc::Global;
 use std::test::Fail;
-use vc_core::{Act, Event, Network, replay};
+use vc_core::{Act, Event, Network};
 use vc_occam::Move;
-use vc_plan::{Accepted, check};
-use vc_reader::read_network;
+use vc_plan::Accepted;
 
 /// Two nodes that output to each other, each by a switch of its own, and four wires between the switches.
 const SQUARES: &str =
@@ -103,39 +103,44 @@ impl Play {
     }
 }
 
-/// The events in which a's piece of c leaves s by link 4 and stays on the wire, while a's acknowledge for d goes by link 5.
-fn overtake(alloc: Global, accepted: &Accepted) -> Result<Vec<Event>, Fail> {
-    let mut play = Play::begin(alloc, accepted)?;
+/// Whether b's output is finished before a's is taken, where a's piece of c leaves s by link 4 and stays on the wire, while a's
+/// acknowledge for d goes by link 5. Then all goes on to its end.
+fn overtakes(play: &mut Play) -> Result<bool, Fail> {
     play.settle()?;
     for output in [4, 5] {
         if !play.make(S, Act::Route { input: 0, output })? {
-            return Err(Fail::from("a packet that is not at the switch"));
+            return Ok(false);
         }
         play.settle()?;
     }
     let is_overtaken = play.network.finished(1) == 1 && play.network.taken(0).is_empty();
     play.holds = false;
     play.settle()?;
-    if is_overtaken {
+    Ok(is_overtaken)
+}
+
+/// The events in which the acknowledge overtakes the piece.
+fn overtake(alloc: Global, accepted: &Accepted) -> Result<Vec<Event>, Fail> {
+    let mut play = Play::begin(alloc, accepted)?;
+    if overtakes(&mut play)? {
         Ok(play.events)
     } else {
         Err(Fail::from("an acknowledge that did not overtake"))
     }
 }
 
+/// Whether all has ended, with one message taken and one output finished on each channel.
+fn is_complete(network: &Network) -> bool {
+    network.ended()
+        && (network.taken(0).len(), network.taken(1).len()) == (1, 1)
+        && (network.finished(0), network.finished(1)) == (1, 1)
+}
+
 #[test]
 fn an_acknowledge_overtakes_a_piece(rt: HostRuntime) -> Result<(), Fail> {
-    let alloc = rt.alloc();
-    let plan = read_network(alloc, SQUARES.as_bytes())?;
-    let accepted = check(alloc, plan).ok().ok_or("an accepted network")?;
-    let events = overtake(alloc, &accepted)?;
-    let network = replay(alloc, &accepted, events.as_slice())
-        .ok()
-        .ok_or("events that replay")?;
-    assert!(rt; network.ended());
-    assert_eq!(rt; network.taken(0).len(), 1);
-    assert_eq!(rt; network.taken(1).len(), 1);
-    assert_eq!(rt; network.finished(0), 1);
-    assert_eq!(rt; network.finished(1), 1);
+    let accepted = accept(rt.alloc(), SQUARES)?;
+    let events = overtake(rt.alloc(), &accepted)?;
+    let network = replayed(rt.alloc(), &accepted, events.as_slice())?;
+    assert!(rt; is_complete(&network));
     Ok(())
 }

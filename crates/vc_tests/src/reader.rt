@@ -1,63 +1,69 @@
 //! Network files that are read, or refused for their first fault.
+use crate::networks::HELLO;
 use std::alloc::Global;
 use std::test::Fail;
 use vc_occam::{BytesExpr, Process, Value};
+use vc_plan::Plan;
 use vc_reader::{ReadRefused, Step, Why, Word, read_network};
 
-const HELLO: &str =
-    "{\"version\":1,\"nodes\":[{\"name\":\"a\",\"process\":{\"out\":[\"c\",{\"text\":\"hello\"}]}},{\"name\":\"b\",\"vars\":[[\"m\",\"bytes\"]],\"process\":{\"in\":[\"c\",\"m\"]}}],\"wires\":[[\"a\",0,\"b\",0]],\"vlinks\":[{\"name\":\"v\",\"a\":[\"a\",0,1,[1]],\"b\":[\"b\",0,1,[1]]}],\"channels\":[{\"name\":\"c\",\"kind\":\"bytes\",\"vlink\":\"v\",\"way\":\"ab\"}]}";
-
-/// The bytes that a process outputs, where it is one output of a literal.
-fn sent(process: &Process) -> Option<&[u8]> {
+/// Whether a process is an output of this literal.
+fn sends(process: &Process, text: &[u8]) -> bool {
     match process {
         Process::Send {
             value: Value::Bytes(BytesExpr::Lit(bytes)),
             ..
-        } => Some(bytes.as_slice()),
-        _ => None,
+        } => bytes.as_slice() == text,
+        _ => false,
+    }
+}
+
+/// How many nodes, switches, wires, virtual links and channels there are.
+fn counts(plan: &Plan) -> [usize; 5] {
+    [
+        plan.nodes.len(),
+        plan.switches.len(),
+        plan.wires.len(),
+        plan.vlinks.len(),
+        plan.channels.len(),
+    ]
+}
+
+/// Whether the nodes are `a`, which outputs hello, and one that inputs.
+fn has_hello_nodes(plan: &Plan) -> bool {
+    match plan.nodes.as_slice() {
+        [first, second] => {
+            first.name.as_slice() == b"a".as_slice()
+                && sends(&first.process, b"hello")
+                && matches!(&second.process, Process::Receive { chan: 0, var: 0 })
+        }
+        _ => false,
     }
 }
 
 #[test]
 fn reads_the_hello_network(rt: HostRuntime) -> Result<(), Fail> {
     let plan = read_network(rt.alloc(), HELLO.as_bytes())?;
-    assert_eq!(rt; plan.version, 2);
-    assert_eq!(rt; plan.nodes.len(), 2);
-    assert_eq!(rt; plan.switches.len(), 0);
-    assert_eq!(rt; plan.wires.len(), 1);
-    assert_eq!(rt; plan.vlinks.len(), 1);
-    assert_eq!(rt; plan.channels.len(), 1);
-    let node = plan.nodes.get(0).ok_or("there is a node")?;
-    assert_eq!(rt; node.name.as_slice(), b"a".as_slice());
-    assert_eq!(rt;
-        sent(&node.process).ok_or("it outputs")?,
-        b"hello".as_slice()
-    );
-    let node = plan.nodes.get(1).ok_or("there are two nodes")?;
-    assert!(rt; matches!(&node.process, Process::Receive { chan: 0, var: 0 }));
+    assert_eq!(rt; (plan.version, counts(&plan)), (2, [2, 0, 1, 1, 1]));
+    assert!(rt; has_hello_nodes(&plan));
     Ok(())
 }
 
+/// Whether a text is refused as no JSON.
+fn is_no_json(alloc: Global, text: &[u8]) -> bool {
+    matches!(read_network(alloc, text), Err(ReadRefused::Json))
+}
+
 #[test]
-fn each_proper_prefix_is_no_json(rt: HostRuntime) -> Result<(), Fail> {
-    let text = HELLO.as_bytes();
-    for n in 0..text.len() {
-        let read = read_network(rt.alloc(), &text[..n]);
-        assert!(rt; matches!(read, Err(ReadRefused::Json)));
+fn what_is_no_json_is_refused(rt: HostRuntime) {
+    for n in 0..HELLO.len() {
+        let front = HELLO.as_bytes().get(..n).unwrap_or(HELLO.as_bytes());
+        assert!(rt; is_no_json(rt.alloc(), front), "the first {n} bytes");
     }
-    Ok(())
-}
-
-#[test]
-fn bytes_that_are_no_text_are_no_json(rt: HostRuntime) -> Result<(), Fail> {
-    assert!(rt; matches!(read_network(rt.alloc(), &[255]), Err(ReadRefused::Json)));
+    assert!(rt; is_no_json(rt.alloc(), &[255]), "no text");
     assert!(rt;
-        matches!(
-            read_network(rt.alloc(), &[b'['; 200]),
-            Err(ReadRefused::Json)
-        )
+        is_no_json(rt.alloc(), &[b'['; 200]),
+        "200 lists in one another"
     );
-    Ok(())
 }
 
 /// Whether the refusal is of that kind, at the end of these steps.
@@ -87,28 +93,25 @@ fn refused_at(alloc: Global, text: &str, why: Why, steps: &[Step]) -> bool {
     }
 }
 
+const NOWHERE: &[Step] = &[];
+
+const VERSION: &[Step] = &[Step::Field(Word::Version)];
+
+const NODES: &[Step] = &[Step::Field(Word::Nodes)];
+
 #[test]
-fn names_the_first_fault(rt: HostRuntime) -> Result<(), Fail> {
-    let alloc = rt.alloc();
-    let version = [Step::Field(Word::Version)];
-    assert!(rt; refused_at(alloc, "[]", Why::Kind, &[]));
-    assert!(rt;
-        refused_at(
-            alloc,
-            "{\"version\":1,\"nodes\":[],\"extra\":0}",
+fn names_the_first_fault(rt: HostRuntime) {
+    for (text, why, steps) in [
+        ("[]", Why::Kind, NOWHERE),
+        (
+            r#"{"version":1,"nodes":[],"extra":0}"#,
             Why::Unknown,
-            &[]
-        )
-    );
-    assert!(rt; refused_at(alloc, "{\"version\":3,\"nodes\":[]}", Why::Range, &version));
-    assert!(rt; refused_at(alloc, "{\"version\":1.5,\"nodes\":[]}", Why::Kind, &version));
-    assert!(rt;
-        refused_at(
-            alloc,
-            "{\"version\":1}",
-            Why::Missing,
-            &[Step::Field(Word::Nodes)]
-        )
-    );
-    Ok(())
+            NOWHERE,
+        ),
+        (r#"{"version":3,"nodes":[]}"#, Why::Range, VERSION),
+        (r#"{"version":1.5,"nodes":[]}"#, Why::Kind, VERSION),
+        (r#"{"version":1}"#, Why::Missing, NODES),
+    ] {
+        assert!(rt; refused_at(rt.alloc(), text, why, steps), "{text}");
+    }
 }

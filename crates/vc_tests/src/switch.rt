@@ -91,24 +91,96 @@ fn put(switch: &mut Switch, output: u8) -> Option<Token>
     }
 }
 
+/// What happens at a switch, or what it shows. The first number is a link.
+#[derive(Clone, Copy)]
+enum Step<'a> {
+    /// These bytes come, each with this word, and pass.
+    Bytes(u8, &'a [u8], u32),
+    /// This token comes and passes.
+    Comes(u8, Token),
+    /// This token comes, and none passes.
+    Takes(u8, Token),
+    /// The packet that came here may leave by a link from the first to the second, or by none.
+    Chooses(u8, Option<(u8, u8)>),
+    /// The packet that came here is bound to the second link, or may not be.
+    Binds(u8, u8, bool),
+    /// This token leaves here, or none.
+    Puts(u8, Option<Token>),
+    /// No packet is bound to this link.
+    Free(u8),
+    /// So many tokens and packets were dropped.
+    Lost(u64),
+}
+
+/// Whether the switch takes this step.
+fn takes(s: &mut Switch, step: Step) -> Result<bool, Memory> {
+    match step {
+        Step::Bytes(link, came, word) if link < 32 => {
+            bytes(s, link, came, word)?;
+            Ok(true)
+        }
+        Step::Comes(link, token) if link < 32 => {
+            come(s, link, token, 0)?;
+            Ok(true)
+        }
+        Step::Takes(link, token) if link < 32 => {
+            let may = s.may_take(link);
+            s.take(link, token, 0)?;
+            Ok(may && !s.may_pass(link))
+        }
+        Step::Chooses(link, group) if link < 32 => Ok(s.choices(link) == group),
+        Step::Binds(input, output, may) if input < 32 && output < 32 => {
+            Ok(route(s, input, output) == may)
+        }
+        Step::Puts(link, token) if link < 32 => Ok(put(s, link) == token),
+        Step::Free(link) if link < 32 => Ok(s.free(link)),
+        Step::Lost(count) => Ok(s.lost() == count),
+        _ => Ok(false),
+    }
+}
+
+/// The place of the first step that the switch does not take.
+fn wrong_step(switch: Result<Switch, Fail>, steps: &[Step]) -> Result<Option<usize>, Fail> {
+    let mut switch = switch?;
+    for (place, step) in steps.iter().enumerate() {
+        if !takes(&mut switch, *step)? {
+            return Ok(Some(place));
+        }
+    }
+    Ok(None)
+}
+
+const DELETES: &[Step] = &[
+    Step::Bytes(4, &[0, 1, 0, 9, 104], 0),
+    Step::Chooses(4, Some((0, 0))),
+    Step::Binds(4, 0, true),
+    Step::Puts(0, None),
+    Step::Takes(0, Token::Fct),
+    Step::Puts(0, Some(Token::Byte(0))),
+    Step::Puts(0, Some(Token::Byte(9))),
+    Step::Puts(0, Some(Token::Byte(104))),
+    Step::Puts(0, None),
+    Step::Comes(4, Token::Eom),
+    Step::Puts(0, Some(Token::Eom)),
+    Step::Free(0),
+    Step::Lost(0),
+];
+
 #[test]
 fn a_link_deletes_the_front_header(rt: HostRuntime) -> Result<(), Fail> {
-    let mut s = switch(rt.alloc(), &[0], &[])?;
-    bytes(&mut s, 4, &[0, 1, 0, 9, 104], 0)?;
-    assert_eq!(rt; s.choices(4), Some((0, 0)));
-    assert!(rt; route(&mut s, 4, 0));
-    assert_eq!(rt; put(&mut s, 0), None);
-    s.take(0, Token::Fct, 0)?;
-    assert_eq!(rt; put(&mut s, 0), Some(Token::Byte(0)));
-    assert_eq!(rt; put(&mut s, 0), Some(Token::Byte(9)));
-    assert_eq!(rt; put(&mut s, 0), Some(Token::Byte(104)));
-    assert_eq!(rt; put(&mut s, 0), None);
-    come(&mut s, 4, Token::Eom, 0)?;
-    assert_eq!(rt; put(&mut s, 0), Some(Token::Eom));
-    assert!(rt; s.free(0));
-    assert_eq!(rt; s.lost(), 0);
+    let s = switch(rt.alloc(), &[0], &[]);
+    assert_eq!(rt; wrong_step(s, DELETES)?, None);
     Ok(())
 }
+
+const FALLS_AWAY: &[Step] = &[
+    Step::Bytes(0, &[0, 50], 7),
+    Step::Chooses(0, Some((8, 8))),
+    Step::Binds(0, 8, true),
+    Step::Takes(8, Token::Fct),
+    Step::Puts(8, Some(Token::Byte(0))),
+    Step::Puts(8, Some(Token::Byte(50))),
+];
 
 #[test]
 fn a_random_header_goes_in_front_and_falls_away(rt: HostRuntime) -> Result<(), Fail> {
@@ -117,15 +189,20 @@ fn a_random_header_goes_in_front_and_falls_away(rt: HostRuntime) -> Result<(), F
         lower: 100,
         limit: 104,
     };
-    let mut s = switch(rt.alloc(), &[], &[drawn])?;
-    bytes(&mut s, 0, &[0, 50], 7)?;
-    assert_eq!(rt; s.choices(0), Some((8, 8)));
-    assert!(rt; route(&mut s, 0, 8));
-    s.take(8, Token::Fct, 0)?;
-    assert_eq!(rt; put(&mut s, 8), Some(Token::Byte(0)));
-    assert_eq!(rt; put(&mut s, 8), Some(Token::Byte(50)));
+    let s = switch(rt.alloc(), &[], &[drawn]);
+    assert_eq!(rt; wrong_step(s, FALLS_AWAY)?, None);
     Ok(())
 }
+
+const IS_DRAWN: &[Step] = &[
+    Step::Bytes(3, &[7], 5),
+    Step::Chooses(3, Some((4, 7))),
+    Step::Binds(3, 6, true),
+    Step::Takes(6, Token::Fct),
+    Step::Puts(6, Some(Token::Byte(0))),
+    Step::Puts(6, Some(Token::Byte(10))),
+    Step::Puts(6, Some(Token::Byte(7))),
+];
 
 #[test]
 fn a_random_header_is_drawn_by_the_word(rt: HostRuntime) -> Result<(), Fail> {
@@ -134,67 +211,72 @@ fn a_random_header_is_drawn_by_the_word(rt: HostRuntime) -> Result<(), Fail> {
         lower: 8,
         limit: 11,
     };
-    let mut s = switch(rt.alloc(), &[], &[drawn])?;
-    bytes(&mut s, 3, &[7], 5)?;
-    assert_eq!(rt; s.choices(3), Some((4, 7)));
-    assert!(rt; route(&mut s, 3, 6));
-    s.take(6, Token::Fct, 0)?;
-    assert_eq!(rt; put(&mut s, 6), Some(Token::Byte(0)));
-    assert_eq!(rt; put(&mut s, 6), Some(Token::Byte(10)));
-    assert_eq!(rt; put(&mut s, 6), Some(Token::Byte(7)));
+    let s = switch(rt.alloc(), &[], &[drawn]);
+    assert_eq!(rt; wrong_step(s, IS_DRAWN)?, None);
     Ok(())
 }
+
+const GROUP: &[Step] = &[
+    Step::Bytes(0, &[0, 10], 0),
+    Step::Bytes(1, &[0, 11], 0),
+    Step::Binds(0, 4, true),
+    Step::Chooses(0, None),
+    Step::Chooses(1, Some((4, 7))),
+    Step::Binds(1, 4, false),
+    Step::Binds(1, 8, false),
+    Step::Binds(1, 5, true),
+    Step::Takes(5, Token::Fct),
+    Step::Puts(4, None),
+    Step::Puts(5, Some(Token::Byte(0))),
+    Step::Puts(5, Some(Token::Byte(11))),
+];
 
 #[test]
 fn a_group_has_a_second_link(rt: HostRuntime) -> Result<(), Fail> {
-    let mut s = switch(rt.alloc(), &[], &[])?;
-    bytes(&mut s, 0, &[0, 10], 0)?;
-    bytes(&mut s, 1, &[0, 11], 0)?;
-    assert!(rt; route(&mut s, 0, 4));
-    assert_eq!(rt; s.choices(0), None);
-    assert_eq!(rt; s.choices(1), Some((4, 7)));
-    assert!(rt; !s.free(4) && !route(&mut s, 1, 4));
-    assert!(rt; !route(&mut s, 1, 8));
-    assert!(rt; route(&mut s, 1, 5));
-    s.take(5, Token::Fct, 0)?;
-    assert_eq!(rt; put(&mut s, 4), None);
-    assert_eq!(rt; put(&mut s, 5), Some(Token::Byte(0)));
-    assert_eq!(rt; put(&mut s, 5), Some(Token::Byte(11)));
+    let s = switch(rt.alloc(), &[], &[]);
+    assert_eq!(rt; wrong_step(s, GROUP)?, None);
     Ok(())
 }
+
+const BUSY: &[Step] = &[
+    Step::Bytes(4, &[0, 1], 0),
+    Step::Comes(4, Token::Eop),
+    Step::Bytes(5, &[0, 2], 0),
+    Step::Comes(5, Token::Eop),
+    Step::Binds(4, 0, true),
+    Step::Binds(5, 0, false),
+    Step::Takes(0, Token::Fct),
+    Step::Puts(0, Some(Token::Byte(0))),
+    Step::Puts(0, Some(Token::Byte(1))),
+    Step::Binds(5, 0, false),
+    Step::Puts(0, Some(Token::Eop)),
+    Step::Binds(5, 0, true),
+    Step::Puts(0, Some(Token::Byte(0))),
+    Step::Puts(0, Some(Token::Byte(2))),
+    Step::Lost(0),
+];
 
 #[test]
 fn a_packet_waits_for_a_busy_link(rt: HostRuntime) -> Result<(), Fail> {
-    let mut s = switch(rt.alloc(), &[], &[])?;
-    bytes(&mut s, 4, &[0, 1], 0)?;
-    come(&mut s, 4, Token::Eop, 0)?;
-    bytes(&mut s, 5, &[0, 2], 0)?;
-    come(&mut s, 5, Token::Eop, 0)?;
-    assert!(rt; route(&mut s, 4, 0) && !route(&mut s, 5, 0));
-    s.take(0, Token::Fct, 0)?;
-    assert_eq!(rt; put(&mut s, 0), Some(Token::Byte(0)));
-    assert_eq!(rt; put(&mut s, 0), Some(Token::Byte(1)));
-    assert!(rt; !route(&mut s, 5, 0));
-    assert_eq!(rt; put(&mut s, 0), Some(Token::Eop));
-    assert!(rt; route(&mut s, 5, 0));
-    assert_eq!(rt; put(&mut s, 0), Some(Token::Byte(0)));
-    assert_eq!(rt; put(&mut s, 0), Some(Token::Byte(2)));
-    assert_eq!(rt; s.lost(), 0);
+    let s = switch(rt.alloc(), &[], &[]);
+    assert_eq!(rt; wrong_step(s, BUSY)?, None);
     Ok(())
 }
 
+const DROPS: &[Step] = &[
+    Step::Takes(0, Token::Byte(7)),
+    Step::Lost(1),
+    Step::Bytes(0, &[1, 0, 7], 0),
+    Step::Chooses(0, None),
+    Step::Comes(0, Token::Eom),
+    Step::Lost(2),
+    Step::Bytes(0, &[0, 1], 0),
+    Step::Chooses(0, Some((0, 0))),
+];
+
 #[test]
 fn what_is_not_due_or_has_no_group_is_dropped(rt: HostRuntime) -> Result<(), Fail> {
-    let mut s = switch(rt.alloc(), &[], &[])?;
-    assert!(rt; s.may_take(0));
-    s.take(0, Token::Byte(7), 0)?;
-    assert!(rt; !s.may_pass(0));
-    assert_eq!(rt; s.lost(), 1);
-    bytes(&mut s, 0, &[1, 0, 7], 0)?;
-    assert_eq!(rt; s.choices(0), None);
-    come(&mut s, 0, Token::Eom, 0)?;
-    assert_eq!(rt; s.lost(), 2);
-    bytes(&mut s, 0, &[0, 1], 0)?;
-    assert_eq!(rt; s.choices(0), Some((0, 0)));
+    let s = switch(rt.alloc(), &[], &[]);
+    assert_eq!(rt; wrong_step(s, DROPS)?, None);
     Ok(())
 }

@@ -69,22 +69,53 @@ fn carry(from: &mut Vcp, to: &mut Vcp) -> Result<Option<Taken>, Memory> {
     Ok(None)
 }
 
+/// What came with a packet.
+#[derive(Clone, Copy, PartialEq, Eq)]
+enum Came {
+    Nothing,
+    Held,
+    Stored,
+    Complete,
+    More,
+    Finished,
+    Stray,
+}
+
+/// What came, on channel 0.
+fn kind_of(taken: Option<Taken>) -> Came {
+    match taken {
+        None => Came::Nothing,
+        Some(Taken::Held { chan: 0 }) => Came::Held,
+        Some(Taken::Stored { chan: 0 }) => Came::Stored,
+        Some(Taken::Complete { chan: 0, .. }) => Came::Complete,
+        Some(Taken::More { chan: 0 }) => Came::More,
+        Some(Taken::Finished { chan: 0 }) => Came::Finished,
+        Some(_) => Came::Stray,
+    }
+}
+
+/// Outputs a message of two pieces from a to b, which inputs it; what came with each packet, in order.
+fn exchange(a: &mut Vcp, b: &mut Vcp) -> Result<[Came; 4], Memory> {
+    Ok([
+        kind_of(carry(a, b)?),
+        kind_of(carry(b, a)?),
+        kind_of(carry(a, b)?),
+        kind_of(carry(b, a)?),
+    ])
+}
+
+/// Whether the input begins and waits, and then the output begins.
+fn begin(a: &mut Vcp, b: &mut Vcp) -> Result<bool, Memory> {
+    Ok(matches!(want(b)?, Some(Want::Waits)) && offer(a, &[7; 33])?)
+}
+
 #[test]
 fn a_message_of_two_pieces_is_exchanged(rt: HostRuntime) -> Result<(), Fail> {
-    let alloc = rt.alloc();
-    let mut a = node(alloc, Some(0), None)?;
-    let mut b = node(alloc, None, Some(0))?;
-    assert!(rt; matches!(want(&mut b)?, Some(Want::Waits)));
-    assert!(rt; offer(&mut a, &[7; 33])?);
-    assert!(rt; matches!(carry(&mut a, &mut b)?, Some(Taken::Stored { chan: 0 })));
-    assert!(rt; matches!(carry(&mut b, &mut a)?, Some(Taken::More { chan: 0 })));
-    assert!(rt;
-        matches!(
-            carry(&mut a, &mut b)?,
-            Some(Taken::Complete { chan: 0, .. })
-        )
-    );
-    assert!(rt; matches!(carry(&mut b, &mut a)?, Some(Taken::Finished { chan: 0 })));
+    let mut a = node(rt.alloc(), Some(0), None)?;
+    let mut b = node(rt.alloc(), None, Some(0))?;
+    assert!(rt; begin(&mut a, &mut b)?);
+    let wanted = [Came::Stored, Came::More, Came::Complete, Came::Finished];
+    assert!(rt; exchange(&mut a, &mut b)? == wanted);
     assert_eq!(rt; (a.finished(0), b.taken(0).len()), (1, 1));
     Ok(())
 }
@@ -93,32 +124,46 @@ fn a_message_of_two_pieces_is_exchanged(rt: HostRuntime) -> Result<(), Fail> {
 fn a_token_that_is_not_due_is_dropped(rt: HostRuntime) -> Result<(), Fail> {
     let mut a = node(rt.alloc(), None, None)?;
     a.accept(0, Token::Byte(7));
-    assert!(rt; !a.may_pass(0));
-    assert_eq!(rt; a.strays(), 1);
+    assert!(rt; !a.may_pass(0) && a.strays() == 1);
     Ok(())
+}
+
+/// What comes with a packet of these bytes.
+fn take(alloc: Global, vcp: &mut Vcp, bytes: &[u8], mark: Mark) -> Result<Came, Memory> {
+    let packet = packet(alloc, bytes, mark)?;
+    Ok(kind_of(Some(vcp.take(&packet)?)))
 }
 
 #[test]
 fn a_packet_for_no_half_is_dropped(rt: HostRuntime) -> Result<(), Fail> {
-    let alloc = rt.alloc();
-    let mut a = node(alloc, Some(0), Some(0))?;
-    let idle = packet(alloc, &[0, 1], Mark::Eop)?;
-    assert!(rt; matches!(a.take(&idle)?, Taken::Stray));
-    let elsewhere = packet(alloc, &[0, 9, 7], Mark::Eom)?;
-    assert!(rt; matches!(a.take(&elsewhere)?, Taken::Stray));
+    let mut a = node(rt.alloc(), Some(0), Some(0))?;
+    assert!(rt;
+        take(rt.alloc(), &mut a, &[0, 1], Mark::Eop)? == Came::Stray,
+        "an acknowledge"
+    );
+    assert!(rt;
+        take(rt.alloc(), &mut a, &[0, 9, 7], Mark::Eom)? == Came::Stray,
+        "another block"
+    );
     assert_eq!(rt; a.strays(), 2);
     Ok(())
 }
 
+/// Whether a packet is ready for an input, and none waits to leave.
+fn holds(vcp: &Vcp) -> bool {
+    vcp.ready(0) && vcp.next_out(0).is_none()
+}
+
+/// Whether an input completes at once, and then a packet waits to leave.
+fn completes(vcp: &mut Vcp) -> Result<bool, Memory> {
+    Ok(matches!(want(vcp)?, Some(Want::Complete(_))) && vcp.next_out(0).is_some())
+}
+
 #[test]
 fn a_held_piece_waits_for_its_input(rt: HostRuntime) -> Result<(), Fail> {
-    let alloc = rt.alloc();
-    let mut b = node(alloc, None, Some(0))?;
-    let piece = packet(alloc, &[0, 1, 7], Mark::Eom)?;
-    assert!(rt; matches!(b.take(&piece)?, Taken::Held { chan: 0 }));
-    assert!(rt; b.ready(0) && b.next_out(0).is_none());
-    assert!(rt; matches!(want(&mut b)?, Some(Want::Complete(_))));
-    assert!(rt; b.next_out(0).is_some());
+    let mut b = node(rt.alloc(), None, Some(0))?;
+    assert!(rt; take(rt.alloc(), &mut b, &[0, 1, 7], Mark::Eom)? == Came::Held && holds(&b));
+    assert!(rt; completes(&mut b)?);
     Ok(())
 }
 

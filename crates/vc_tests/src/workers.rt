@@ -4,13 +4,12 @@ ghost use Rattle.vc_actor.specs.declared.act.Act.{Act as SpeltAct};
 ghost use Rattle.vc_threads.specs.Works.{IsOfSomePlan};
 
 use rtrb::RingBuffer;
-use sqlite_items::Items;
 use std::alloc::Global;
 use std::process::Abort;
 use std::test::Fail;
 use vc_core::{Act, Actor, actors};
-use vc_occam::Process;
-use vc_plan::{NodePlan, Plan, check};
+use vc_plan::{Plan, check};
+use vc_reader::read_network;
 use vc_threads::{
     ActorRun, EndGate, Ends, Gate, LinkRule, Stamped, Stop, merge, next_stamp, worker,
 };
@@ -41,20 +40,10 @@ fn the_gate_closes_after_every_node(rt: HostRuntime) -> Result<(), Fail> {
 
 /// A node by itself, whose process is a SKIP.
 fn plan(alloc: Global) -> Result<Plan, Fail> {
-    let mut nodes = Items::new(alloc);
-    nodes.push(NodePlan {
-        name: Items::from_slice(alloc, b"a")?,
-        vars: Items::new(alloc),
-        process: Process::Skip,
-    })?;
-    Ok(Plan {
-        version: 1,
-        nodes,
-        switches: Items::new(alloc),
-        wires: Items::new(alloc),
-        vlinks: Items::new(alloc),
-        channels: Items::new(alloc),
-    })
+    Ok(read_network(
+        alloc,
+        br#"{"version":1,"nodes":[{"name":"a","process":"skip"}]}"#,
+    )?)
 }
 
 /// The actor of that node.

@@ -3,11 +3,11 @@
 ghost use Rattle.vc_occam.specs.Lawful.{Lawfully};
 ghost use Rattle.vc_occam.specs.Numbering.{written};
 
+use crate::read::read;
 use sqlite_items::Items;
 use std::alloc::Global;
 use std::test::Fail;
 use vc_occam::{Answer, Move, Process, Running, ValueKind, check_use};
-use vc_packets::Memory;
 
 /// What happens next to a process, or what it shows.
 #[derive(Clone, Copy)]
@@ -30,28 +30,41 @@ pub(crate) enum Step<'a> {
     Ends,
 }
 
-/// The place of the first step that the process does not take.
-pub(crate) fn wrong_step(
-    alloc: Global,
-    process: Result<Process, Memory>,
-    steps: &[Step],
-) -> Result<Option<usize>, Fail> {
-    let process = process?;
-    let mut running = begin(alloc, &process)?;
-    first_wrong(&mut running, alloc, steps)
+/// A process, as a network file writes it, and what happens as it runs.
+#[derive(Clone, Copy)]
+pub(crate) struct Row<'a> {
+    /// What the row shows.
+    pub(crate) shows: &'a str,
+    /// The process.
+    pub(crate) process: &'a str,
+    /// What happens, in order.
+    pub(crate) steps: &'a [Step<'a>],
 }
 
-fn first_wrong(
-    running: &mut Running,
+/// What the first row shows whose process does not take its steps.
+pub(crate) fn first_wrong_row<'a>(
     alloc: Global,
-    steps: &[Step],
-) -> Result<Option<usize>, Fail> {
-    for (place, step) in steps.iter().enumerate() {
-        if !takes(running, alloc, *step)? {
-            return Ok(Some(place));
+    rows: &[Row<'a>],
+) -> Result<Option<&'a str>, Fail> {
+    for row in rows {
+        if !takes_all(alloc, row.process, row.steps)? {
+            return Ok(Some(row.shows));
         }
     }
     Ok(None)
+}
+
+/// Whether the process takes these steps.
+pub(crate) fn takes_all(alloc: Global, process: &str, steps: &[Step]) -> Result<bool, Fail> {
+    let plan = read(alloc, process)?;
+    let node = plan.nodes.get(0).ok_or("a node")?;
+    let mut running = begin(alloc, &node.process)?;
+    for step in steps {
+        if !takes(&mut running, alloc, *step)? {
+            return Ok(false);
+        }
+    }
+    Ok(true)
 }
 
 /// The process at its beginning, once it is seen that it can run.
