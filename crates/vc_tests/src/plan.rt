@@ -68,7 +68,7 @@ fn networks_are_refused_for_their_cause(rt: HostRuntime) -> Result<(), Fail> {
         (
             "a header outside the table has no interval",
             switched!("[20,1]"),
-            "NoInterval(PathFault { vlink: 0, from_a: true, start: Port { spot: Node(0), link: 0 }, hops: Items { items: [] }, last: Switch(0), value: Some(20) })",
+            "NoInterval(PathFault { vlink: 0, from_a: true, start: Port { spot: Node(0), link: 0 }, hops: Items { items: [] }, last: Switch(0), value: None })",
         ),
         (
             "a block is of one end",
