@@ -6,7 +6,7 @@ use std::alloc::Global;
 use vc_packets::Memory;
 
 /// An expression that is worth bytes, at most 65,535 of them; it is never a fault.
-#[derive(Drop)]
+#[derive(Debug, Drop)]
 pub enum BytesExpr {
     /// The bytes themselves.
     Lit(Items<u8>),

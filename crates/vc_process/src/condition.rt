@@ -8,7 +8,7 @@ use std::alloc::Global;
 use vc_packets::Memory;
 
 /// A condition, which is true, false or a fault.
-#[derive(Drop)]
+#[derive(Debug, Drop)]
 pub enum Cond {
     /// TRUE or FALSE.
     Always(bool),

@@ -7,7 +7,7 @@ use std::alloc::Global;
 use vc_packets::Memory;
 
 /// An expression that is worth a whole number of 64 bits with sign, or is a fault.
-#[derive(Drop)]
+#[derive(Debug, Drop)]
 pub enum Expr {
     /// The number itself.
     Num(i64),

@@ -1,5 +1,5 @@
 //! Processes, as they are written.
-ghost use Rattle.std.specs.Prelude.{◌≡◌, ◌++◌, ◌∷◌, [], IfOk};
+ghost use Rattle.std.specs.Prelude.{◌≡◌, IfOk};
 
 use crate::condition::Cond;
 use crate::expression::Expr;
@@ -135,15 +135,6 @@ fn copy_process(alloc: Global, process: &Process) -> Result<Process, Memory>
     }
 }
 
-/// The list with one more at its end.
-fn with_one<T: Drop>(items: Items<T>, one: T) -> Result<Items<T>, Memory>
-    ensures { IfOk result (λ more. more ≡ items ++ one ∷ []) }
-{
-    let mut more = items;
-    more.push(one)?;
-    Ok(more)
-}
-
 /// A WHILE with an equal condition.
 fn repeated(alloc: Global, cond: &Cond, body: Boxed<Process>) -> Result<Process, Memory>
     ensures { IfOk result (λ copy. copy ≡ Process.While cond.now body) }
@@ -185,10 +176,7 @@ fn copy_parts(alloc: Global, parts: &Items<Process>) -> Result<Items<Process>, M
 {
     let mut copies = Items::new(alloc);
     for part in parts.as_slice() {
-        let Ok(copy) = copy_process(alloc, part) else {
-            return Err(Memory);
-        };
-        copies = with_one(copies, copy)?;
+        copies.push(copy_process(alloc, part)?)?;
     }
     Ok(copies)
 }
@@ -199,25 +187,11 @@ fn copy_branches(alloc: Global, branches: &Items<Branch>) -> Result<Items<Branch
 {
     let mut copies = Items::new(alloc);
     for branch in branches.as_slice() {
-        let Ok(copy) = copy_branch(alloc, branch) else {
-            return Err(Memory);
-        };
-        copies = with_one(copies, copy)?;
+        let cond = branch.cond.copy(alloc)?;
+        let body = copy_process(alloc, &branch.body)?;
+        copies.push(Branch { cond, body })?;
     }
     Ok(copies)
-}
-
-#[cycle(copy)]
-fn copy_branch(alloc: Global, branch: &Branch) -> Result<Branch, Memory>
-    ensures { IfOk result (λ copy. copy ≡ branch.now) }
-{
-    let Ok(cond) = branch.cond.copy(alloc) else {
-        return Err(Memory);
-    };
-    let Ok(body) = copy_process(alloc, &branch.body) else {
-        return Err(Memory);
-    };
-    Ok(Branch { cond, body })
 }
 
 #[cycle(copy)]
@@ -226,30 +200,16 @@ fn copy_guards(alloc: Global, guards: &Items<Guard>) -> Result<Items<Guard>, Mem
 {
     let mut copies = Items::new(alloc);
     for guard in guards.as_slice() {
-        let Ok(copy) = copy_guard(alloc, guard) else {
-            return Err(Memory);
-        };
-        copies = with_one(copies, copy)?;
+        let cond = guard.cond.copy(alloc)?;
+        let body = copy_process(alloc, &guard.body)?;
+        copies.push(Guard {
+            cond,
+            chan: guard.chan,
+            var: guard.var,
+            body,
+        })?;
     }
     Ok(copies)
-}
-
-#[cycle(copy)]
-fn copy_guard(alloc: Global, guard: &Guard) -> Result<Guard, Memory>
-    ensures { IfOk result (λ copy. copy ≡ guard.now) }
-{
-    let Ok(cond) = guard.cond.copy(alloc) else {
-        return Err(Memory);
-    };
-    let Ok(body) = copy_process(alloc, &guard.body) else {
-        return Err(Memory);
-    };
-    Ok(Guard {
-        cond,
-        chan: guard.chan,
-        var: guard.var,
-        body,
-    })
 }
 
 impl Process {

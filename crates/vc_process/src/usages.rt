@@ -1,5 +1,5 @@
 //! What processes use, one use after another.
-ghost use Rattle.std.specs.Prelude.{◌≡◌, ◌++◌, ◌∷◌, [], ℕ, OnOk, map};
+ghost use Rattle.std.specs.Prelude.{◌≡◌, ◌++◌, ◌∷◌, ℕ, OnOk, map};
 ghost use Rattle.vc_process.specs.declared.used.Used.TheVariants as of;
 ghost use Rattle.vc_process.specs.InOrder.{number, number_branch, number_guard};
 ghost use Rattle.vc_process.specs.Numbering.{branches_from, guards_from, parts_from};
@@ -32,27 +32,21 @@ fn reading(var: u8) -> Usage
     }
 }
 
-/// Adds a use.
-fn push_use(uses: &mut Items<Usage>, usage: Usage) -> Result<(), Memory>
-    ensures { OnOk result (uses.new ≡ uses.old ++ usage ∷ []) }
-{
-    Ok(uses.push(usage)?)
-}
-
 /// Adds the uses of an expression.
 #[tactic(auto, unfolding(crate::specs::Terms::exp))]
 fn push_expression(uses: &mut Items<Usage>, expression: &Expr) -> Result<(), Memory>
     ensures { OnOk result (uses.new ≡ uses.old ++ exp_usages (exp expression.now)) }
 {
     match expression {
-        Expr::Num(_) => Ok(()),
-        Expr::Var(var) => push_use(uses, reading(*var)),
-        Expr::Size(var) => push_use(uses, reading(*var)),
+        Expr::Num(_) => {}
+        Expr::Var(var) => uses.push(reading(*var))?,
+        Expr::Size(var) => uses.push(reading(*var))?,
         Expr::Bin { left, right, .. } => {
             push_expression(uses, left.get())?;
-            push_expression(uses, right.get())
+            push_expression(uses, right.get())?;
         }
     }
+    Ok(())
 }
 
 /// Adds the uses of a condition.
@@ -61,21 +55,22 @@ fn push_condition(uses: &mut Items<Usage>, cond: &Cond) -> Result<(), Memory>
     ensures { OnOk result (uses.new ≡ uses.old ++ test_usages (as_test cond.now)) }
 {
     match cond {
-        Cond::Always(_) => Ok(()),
+        Cond::Always(_) => {}
         Cond::Cmp { left, right, .. } => {
             push_expression(uses, left)?;
-            push_expression(uses, right)
+            push_expression(uses, right)?;
         }
         Cond::And(left, right) => {
             push_condition(uses, left.get())?;
-            push_condition(uses, right.get())
+            push_condition(uses, right.get())?;
         }
         Cond::Or(left, right) => {
             push_condition(uses, left.get())?;
-            push_condition(uses, right.get())
+            push_condition(uses, right.get())?;
         }
-        Cond::Not(cond) => push_condition(uses, cond.get()),
+        Cond::Not(cond) => push_condition(uses, cond.get())?,
     }
+    Ok(())
 }
 
 /// Adds the uses of what is assigned or output.
@@ -83,36 +78,40 @@ fn push_value(uses: &mut Items<Usage>, value: &Value) -> Result<(), Memory>
     ensures { OnOk result (uses.new ≡ uses.old ++ given_usages (given value.now)) }
 {
     match value {
-        Value::Int(number) => push_expression(uses, number),
-        Value::Bytes(BytesExpr::Lit(_)) => Ok(()),
-        Value::Bytes(BytesExpr::Var(var)) => push_use(uses, reading(*var)),
-        Value::Bytes(BytesExpr::Fill { .. }) => Ok(()),
+        Value::Int(number) => push_expression(uses, number)?,
+        Value::Bytes(BytesExpr::Lit(_)) => {}
+        Value::Bytes(BytesExpr::Var(var)) => uses.push(reading(*var))?,
+        Value::Bytes(BytesExpr::Fill { .. }) => {}
     }
+    Ok(())
 }
 
 /// Adds the uses of an assignment or an output.
 fn push_given(uses: &mut Items<Usage>, used: Used, value: &Value) -> Result<(), Memory>
     ensures { OnOk result (uses.new ≡ uses.old ++ (as_changing used ∷ given_usages (given value.now))) }
 {
-    push_use(uses, changing(used))?;
-    push_value(uses, value)
+    uses.push(changing(used))?;
+    push_value(uses, value)?;
+    Ok(())
 }
 
 /// Adds the uses of an input.
 fn push_input(uses: &mut Items<Usage>, chan: u16, var: u8) -> Result<(), Memory>
     ensures { OnOk result (uses.new ≡ uses.old ++ input_usages chan var) }
 {
-    push_use(uses, changing(Used::Input(chan)))?;
-    push_use(uses, changing(Used::Variable(var)))
+    uses.push(changing(Used::Input(chan)))?;
+    uses.push(changing(Used::Variable(var)))?;
+    Ok(())
 }
 
 /// Adds the uses of a counted SEQ, apart from its body.
 fn push_count(uses: &mut Items<Usage>, var: u8, base: &Expr, count: &Expr) -> Result<(), Memory>
     ensures { OnOk result (uses.new ≡ uses.old ++ (as_changing (of.Variable var) ∷ exp_usages (exp base.now) ++ exp_usages (exp count.now))) }
 {
-    push_use(uses, changing(Used::Variable(var)))?;
+    uses.push(changing(Used::Variable(var)))?;
     push_expression(uses, base)?;
-    push_expression(uses, count)
+    push_expression(uses, count)?;
+    Ok(())
 }
 
 /// Adds the uses of a process and of its parts, in order of site.
@@ -125,7 +124,7 @@ pub(crate) fn push_usages(uses: &mut Items<Usage>, process: &Process) -> Result<
         Process::Set { var, value } => push_given(uses, Used::Variable(*var), value)?,
         Process::Send { chan, value } => push_given(uses, Used::Output(*chan), value)?,
         Process::Receive { chan, var } => push_input(uses, *chan, *var)?,
-        Process::Stopch { chan } => push_use(uses, changing(Used::Input(*chan)))?,
+        Process::Stopch { chan } => uses.push(changing(Used::Input(*chan)))?,
         Process::Seq(parts) => push_parts(uses, parts)?,
         Process::Par(parts) => push_parts(uses, parts)?,
         Process::If(branches) => push_branches(uses, branches)?,
@@ -174,7 +173,8 @@ fn push_branch(uses: &mut Items<Usage>, branch: &Branch) -> Result<(), Memory>
     ensures { OnOk result ((site : ℕ) → uses.new ≡ uses.old ++ (test_usages (number_branch branch.now).when ++ usages ((number_branch branch.now).then_do.tree site))) }
 {
     push_condition(uses, &branch.cond)?;
-    push_usages(uses, &branch.body)
+    push_usages(uses, &branch.body)?;
+    Ok(())
 }
 
 #[cycle(usages)]
@@ -194,5 +194,6 @@ fn push_guarded(uses: &mut Items<Usage>, guard: &Guard) -> Result<(), Memory>
 {
     push_input(uses, guard.chan, guard.var)?;
     push_condition(uses, &guard.cond)?;
-    push_usages(uses, &guard.body)
+    push_usages(uses, &guard.body)?;
+    Ok(())
 }

@@ -1,5 +1,5 @@
 //! How a process uses channels.
-ghost use Rattle.std.specs.Prelude.{◌≡◌, ◌++◌, ◌∷◌, [], ℕ, OnOk, map};
+ghost use Rattle.std.specs.Prelude.{◌≡◌, ◌++◌, ℕ, OnOk, map};
 ghost use Rattle.vc_process.specs.ChannelUses.{channel_uses, guard_uses, uses_of_all, uses_of_bodies, uses_of_branches};
 ghost use Rattle.vc_process.specs.InOrder.{number, number_branch, number_guard};
 ghost use Rattle.vc_process.specs.Numbering.{branches_from, guards_from, parts_from};
@@ -10,22 +10,6 @@ use crate::process::{Branch, Guard, Process};
 use crate::value_kind::ValueKind;
 use sqlite_items::Items;
 use vc_packets::Memory;
-
-/// Adds a use.
-fn push_use(
-    uses: &mut Items<ChannelUse>,
-    chan: u16,
-    is_output: bool,
-    kind: Option<ValueKind>,
-) -> Result<(), Memory>
-    ensures { OnOk result (uses.new ≡ uses.old ++ record { chan = chan; is_output = is_output; kind = kind } ∷ []) }
-{
-    Ok(uses.push(ChannelUse {
-        chan,
-        is_output,
-        kind,
-    })?)
-}
 
 /// Adds the uses of a process whose node has variables of these kinds, in order of site.
 #[cycle(uses)]
@@ -38,9 +22,27 @@ pub(crate) fn push_uses(
     ensures { OnOk result ((site : ℕ) → uses.new ≡ uses.old ++ channel_uses kinds.now ((number process.now).tree site)) }
 {
     match process {
-        Process::Send { chan, value } => push_use(uses, *chan, true, Some(value.kind()))?,
-        Process::Receive { chan, var } => push_use(uses, *chan, false, kind_at(kinds, *var))?,
-        Process::Stopch { chan } => push_use(uses, *chan, false, None)?,
+        Process::Send { chan, value } => {
+            uses.push(ChannelUse {
+                chan: *chan,
+                is_output: true,
+                kind: Some(value.kind()),
+            })?;
+        }
+        Process::Receive { chan, var } => {
+            uses.push(ChannelUse {
+                chan: *chan,
+                is_output: false,
+                kind: kind_at(kinds, *var),
+            })?;
+        }
+        Process::Stopch { chan } => {
+            uses.push(ChannelUse {
+                chan: *chan,
+                is_output: false,
+                kind: None,
+            })?;
+        }
         Process::Seq(parts) => push_parts(uses, parts, kinds)?,
         Process::Par(parts) => push_parts(uses, parts, kinds)?,
         Process::If(branches) => push_branches(uses, branches, kinds)?,
@@ -109,7 +111,11 @@ fn push_guards(
     ensures { OnOk result ((site : ℕ) → uses.new ≡ uses.old ++ guard_uses kinds.now (guards_from site (map number_guard guards.now))) }
 {
     for guard in guards.as_slice() {
-        push_use(uses, guard.chan, false, kind_at(kinds, guard.var))?;
+        uses.push(ChannelUse {
+            chan: guard.chan,
+            is_output: false,
+            kind: kind_at(kinds, guard.var),
+        })?;
     }
     Ok(())
 }

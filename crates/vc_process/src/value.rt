@@ -7,7 +7,7 @@ use std::alloc::Global;
 use vc_packets::Memory;
 
 /// What is assigned to a variable or output on a channel.
-#[derive(Drop)]
+#[derive(Debug, Drop)]
 pub enum Value {
     /// A whole number.
     Int(Expr),
