@@ -1,14 +1,16 @@
 //! Streams that fail, and the lines of faults.
-use crate::networks::{HELLO, HELLO_TRAFFIC};
+use crate::networks::{CHOICE, HELLO, HELLO_TRAFFIC, accept, replayed};
 use crate::streams::{Endless, Failing, Stubborn};
 use sqlite_items::Items;
 use std::alloc::{AllocError, Global};
 use std::io::{Read, Write};
 use std::test::Fail;
-use vc_core::Close;
+use vc_core::{Close, Event};
 use vc_occam::ValueKind;
 use vc_reader::read_network;
-use vc_text::{ChannelView, RunFault, run_check, run_step, write_channels, write_fault};
+use vc_text::{
+    ChannelView, RunFault, run_check, run_step, write_channels, write_fault, write_traffic,
+};
 
 /// Checks the network of a reader, and writes to memory.
 fn check<R: Read>(alloc: Global, reader: &mut R) -> Result<(), RunFault> {
@@ -147,5 +149,46 @@ fn the_longest_messages_cross(rt: HostRuntime) -> Result<(), Fail> {
     let mut out: Vec<u8> = Vec::new(rt.alloc());
     assert!(rt; run_step(rt.alloc(), &mut reader, &mut out, 10_000_000).is_ok());
     assert!(rt; out.as_slice() == wanted.as_slice());
+    Ok(())
+}
+
+/// The traffic of a network after these events.
+fn traffic_after(
+    alloc: Global,
+    text: &str,
+    events: &[Event],
+    close: Close,
+) -> Result<Vec<u8>, Fail> {
+    let accepted = accept(alloc, text)?;
+    let network = replayed(alloc, &accepted, events)?;
+    let mut out = Vec::new(alloc);
+    write_traffic(alloc, &network, close, &mut out)
+        .ok()
+        .ok_or("a traffic")?;
+    Ok(out)
+}
+
+/// Whether the events that a run reports lead to the traffic that it wrote.
+fn reports_its_traffic(alloc: Global, text: &str, limit: u64) -> Result<bool, Fail> {
+    let mut reader = text.as_bytes();
+    let mut out: Vec<u8> = Vec::new(alloc);
+    let report = run_step(alloc, &mut reader, &mut out, limit)
+        .ok()
+        .ok_or("a run")?;
+    let events = report.events.to_vec(alloc)?;
+    let traffic = traffic_after(alloc, text, events.as_slice(), report.close)?;
+    Ok(traffic.as_slice() == out.as_slice() && events.len() == report.events.len())
+}
+
+#[test]
+fn a_report_leads_to_what_was_written(rt: HostRuntime) -> Result<(), Fail> {
+    for text in [HELLO, CHOICE, CROSSING] {
+        for limit in [0, 1, 20, 3000] {
+            assert!(rt;
+                reports_its_traffic(rt.alloc(), text, limit)?,
+                "{limit} events"
+            );
+        }
+    }
     Ok(())
 }

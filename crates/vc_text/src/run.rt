@@ -18,11 +18,10 @@ use crate::check::read_accepted;
 use crate::fault::RunFault;
 use crate::seats::{Seats, after};
 use crate::traffic::{ChannelView, write_channels};
-use sqlite_items::Items;
 use std::alloc::Global;
 use std::io::{Read, Write};
 use vc_core::{Act, Close, Event, Network};
-use vc_occam::Move;
+use vc_log::EventLog;
 use vc_packets::Memory;
 use vc_plan::Accepted;
 
@@ -30,7 +29,7 @@ use vc_plan::Accepted;
 #[derive(Debug, Drop)]
 pub struct StepReport {
     /// The events, in order.
-    pub events: Items<Event>,
+    pub events: EventLog,
     /// How the run ended.
     pub close: Close,
 }
@@ -78,7 +77,7 @@ pub fn write_traffic<W: Write>(
 fn turn(
     network: &mut Network,
     seats: &mut Seats,
-    events: &mut Items<Event>,
+    events: &mut EventLog,
     actor: u8,
 ) -> Result<bool, Memory>
     requires { actor < 64 }
@@ -94,34 +93,8 @@ fn turn(
         seats.rest(actor);
         return Ok(false);
     };
-    join(events, event)?;
+    events.push(event)?;
     Ok(true)
-}
-
-/// An event joins those made. What is done at a link, and a step without a communication, join in branches of their own: the few
-/// parts that they have are then written as they are, and not carried here together with those of any move.
-#[inline(always)]
-fn join(events: &mut Items<Event>, event: Event) -> Result<(), Memory>
-    ensures { OnOk result (events.new ≡ events.old ++ event ∷ []) }
-{
-    let actor = event.actor;
-    match event.act {
-        Act::Pass { link } => join_act(events, actor, Act::Pass { link }),
-        Act::Put { link } => join_act(events, actor, Act::Put { link }),
-        Act::Fct { link } => join_act(events, actor, Act::Fct { link }),
-        Act::Route { input, output } => join_act(events, actor, Act::Route { input, output }),
-        Act::Proc(Move::Quiet { site }) => join_act(events, actor, Act::Proc(Move::Quiet { site })),
-        act => join_act(events, actor, act),
-    }
-}
-
-/// An act joins the events made.
-#[inline(always)]
-fn join_act(events: &mut Items<Event>, actor: u8, act: Act) -> Result<(), Memory>
-    ensures { OnOk result (events.new ≡ events.old ++ record { actor = actor; act = act } ∷ []) }
-{
-    events.push(Event { actor, act })?;
-    Ok(())
 }
 
 /// An actor makes the event that it makes next, if it has one, and the event joins those made: a take from the least link that has
@@ -129,7 +102,7 @@ fn join_act(events: &mut Items<Event>, actor: u8, act: Act) -> Result<(), Memory
 fn act(
     network: &mut Network,
     seats: &mut Seats,
-    events: &mut Items<Event>,
+    events: &mut EventLog,
     actor: u8,
 ) -> Result<bool, Memory>
     requires { actor < 64 }
@@ -149,7 +122,8 @@ fn act(
         return Ok(false);
     }
     seats.wake(actor);
-    join_act(events, actor, Act::Take { link, word })?;
+    let act = Act::Take { link, word };
+    events.push(Event { actor, act })?;
     Ok(true)
 }
 
@@ -192,7 +166,7 @@ fn resting(network: &Network) -> Close
 fn round(
     network: &mut Network,
     seats: &mut Seats,
-    events: &mut Items<Event>,
+    events: &mut EventLog,
     limit: u64,
 ) -> Result<bool, Memory>
     requires { length events.old ≤ limit }
@@ -220,7 +194,7 @@ fn round(
 fn run_rounds(
     network: &mut Network,
     seats: &mut Seats,
-    events: &mut Items<Event>,
+    events: &mut EventLog,
     limit: u64,
 ) -> Result<(), Memory>
     requires { length events.old ≤ limit }
@@ -260,7 +234,7 @@ fn run(alloc: Global, accepted: &Accepted, limit: u64) -> Result<(Network, StepR
 {
     let mut network = Network::new(alloc, accepted)?;
     let mut seats = Seats::new(alloc, network.actors())?;
-    let mut events = Items::new(alloc);
+    let mut events = EventLog::new(alloc);
     run_rounds(&mut network, &mut seats, &mut events, limit)?;
     let close = close_of(&mut network, events.len(), limit)?;
     Ok((network, StepReport { events, close }))

@@ -30,7 +30,7 @@ pub returns-clause-reached : goal.returns-clause-reached
 returns-clause-reached c = λ p r.
     let s = state_of c.args.network.now in
     let t = state_of c.take.new.self in
-    subst (λ es. Reached p es t) (sym c.in_ok-join_act.ensures)
+    subst (λ es. Reached p es t) (sym c.in_ok-push.ensures.ok)
     (reached_next p c.args.events.now (record { actor = c.args.actor; act = Take c.in-Some.link c.next_word-word.result }) s t r (c.take.ensures.makes p r.is c.if-not-take.false))
 
 pub returns-clause-quiet : goal.returns-clause-quiet

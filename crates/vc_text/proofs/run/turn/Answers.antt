@@ -11,7 +11,7 @@ pub returns-clause-reached : goal.returns-clause-reached
 returns-clause-reached c = λ p r.
     let s = state_of c.args.network.now in
     let t = state_of c.turn.new.self in
-    subst (λ es. Reached p es t) (sym c.in_ok-join.ensures)
+    subst (λ es. Reached p es t) (sym c.in_ok-push.ensures.ok)
     (reached_next p c.args.events.now c.in-Some.event s t r (subst (λ m. MakesOne p s m t) c.in-Some.is (c.in_ok-event.ensures.makes p r.is)))
 
 pub returns-clause-quiet : goal.returns-clause-quiet
