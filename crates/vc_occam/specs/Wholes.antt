@@ -1,10 +1,28 @@
 -- The frames of a process that hasn't begun.
-use Rattle.std.specs.Prelude.{ℕ, ◌+◌, List, [], ◌∷◌}
+use Rattle.std.specs.Prelude.{ℕ, ◌+◌, Bool, true, false, List, [], ◌∷◌}
 use Rattle.vc_occam.specs.Gates.{Gate}
 use Rattle.vc_process.specs.Numbering.{Numbered, NumberedBranch, NumberedGuard}
 use Rattle.vc_process.specs.Syntax.{Test}
+use Rattle.vc_process.specs.declared.process.Process.{Process}
+use Rattle.vc_process.specs.declared.process.Process.TheOpen as layer
+use Rattle.vc_process.specs.declared.process.Process.TheViews.{out-Process}
+use Rattle.vc_process.specs.declared.process.Branch.{Branch}
+use Rattle.vc_process.specs.declared.process.Guard.{Guard}
 use Rattle.vc_occam.specs.Remains.{Fresh}
 use Rattle.vc_occam.specs.Frames.{View}
+
+-- whether a process is no SEQ, PAR, IF, WHILE, counted SEQ or ALT
+abbrev pub stands_alone : layer.Process-F Process Branch Guard → Bool
+stands_alone (layer.Seq parts) = false
+stands_alone (layer.Par parts) = false
+stands_alone (layer.If branches) = false
+stands_alone (layer.While cond body) = false
+stands_alone (layer.Count var base count body) = false
+stands_alone (layer.Alt guards) = false
+stands_alone _ = true
+
+abbrev pub is_alone : Process → Bool
+is_alone p = stands_alone (out-Process p)
 
 -- a process whose sites are numbered from i on
 abbrev pub whole_from : ℕ → Numbered → View

@@ -1,8 +1,9 @@
 //! How a tree of frames is made of a process.
-ghost use Rattle.std.specs.Prelude.{◌≡◌, ◌+◌, ◌≤◌, ◌<◌, IfOk, map};
-ghost use Rattle.vc_occam.specs.Frames.{plan_at, view, views};
+ghost use Rattle.std.specs.Prelude.{◌≡◌, ◌+◌, ◌≤◌, ◌<◌, [], ◌∷◌, ℕ, List, true, IfOk, map};
+ghost use Rattle.vc_occam.specs.Frames.{View, plan_at, view, views};
+ghost use Rattle.vc_occam.specs.declared.kind.Kind.TheVariants as Kind;
 ghost use Rattle.vc_occam.specs.Remains.{Fresh, begin};
-ghost use Rattle.vc_occam.specs.Wholes.{branch_wholes_from, gates, guard_wholes_from, tests, whole_from, wholes_from};
+ghost use Rattle.vc_occam.specs.Wholes.{branch_wholes_from, gates, guard_wholes_from, is_alone, tests, whole_from, wholes_from};
 ghost use Rattle.vc_occam.specs.Gates.{gate};
 ghost use Rattle.vc_process.specs.InOrder.{number, number_branch, number_guard};
 ghost use Rattle.vc_process.specs.Numbering.{branch_sites, guard_sites, part_sites, written};
@@ -15,7 +16,7 @@ use crate::phase::Phase;
 use sqlite_items::Items;
 use std::alloc::Global;
 use vc_packets::Memory;
-use vc_process::{Branch, Cond, Guard, Process};
+use vc_process::{Branch, Cond, Expr, Guard, Process};
 
 /// A frame, and the first site behind its own.
 #[derive(Drop)]
@@ -49,6 +50,59 @@ fn with_parts(site: u32, kind: Kind, parts: Vec<Frame>, next: u32) -> Framed
     }
 }
 
+/// A frame of a process without parts, about to begin.
+fn without_parts(alloc: Global, site: u32, kind: Kind) -> Framed
+    requires { site < 65536 }
+    ensures frame { view result.frame ≡ (plan_at kind site [], Fresh (plan_at kind site [])) }
+    ensures next { result.next ≡ site + 1 }
+{
+    with_parts(site, kind, Vec::new(alloc), site + 1)
+}
+
+/// A frame with this body, about to begin.
+fn with_body(alloc: Global, site: u32, kind: Kind, body: Framed) -> Result<Framed, Memory>
+    requires { site < 65536 }
+    ensures frame { IfOk result (λ made. view made.frame ≡ (plan_at kind site (view body.frame ∷ []), Fresh (plan_at kind site (view body.frame ∷ [])))) }
+    ensures next { IfOk result (λ made. made.next ≡ body.next) }
+{
+    let mut parts = Vec::new(alloc);
+    parts.push(body.frame)?;
+    Ok(with_parts(site, kind, parts, body.next))
+}
+
+/// The frame of a process without parts that is about to begin.
+#[tactic(auto, unfolding(vc_process::specs::InOrder::number))]
+fn frame_alone(alloc: Global, process: &Process, site: u32) -> Result<Framed, Memory>
+    requires alone { is_alone process.now ≡ true }
+    requires sites { site < 65536 }
+    ensures frame { IfOk result (λ made. view made.frame ≡ whole_from site (number process.now)) }
+    ensures next { IfOk result (λ made. made.next ≡ site + (number process.now).sites) }
+{
+    match process {
+        Process::Skip => Ok(without_parts(alloc, site, Kind::Skip)),
+        Process::Stop => Ok(without_parts(alloc, site, Kind::Stop)),
+        Process::Set { var, value } => {
+            let value = value.copy(alloc)?;
+            Ok(without_parts(alloc, site, Kind::Set { var: *var, value }))
+        }
+        Process::Send { chan, value } => {
+            let value = value.copy(alloc)?;
+            Ok(without_parts(alloc, site, Kind::Send { chan: *chan, value }))
+        }
+        Process::Receive { chan, var } => {
+            let (chan, var) = (*chan, *var);
+            Ok(without_parts(alloc, site, Kind::Receive { chan, var }))
+        }
+        Process::Stopch { chan } => Ok(without_parts(alloc, site, Kind::Stopch { chan: *chan })),
+        Process::Seq(_) => unreachable!(),
+        Process::Par(_) => unreachable!(),
+        Process::If(_) => unreachable!(),
+        Process::While { .. } => unreachable!(),
+        Process::Count { .. } => unreachable!(),
+        Process::Alt(_) => unreachable!(),
+    }
+}
+
 /// The frame of a process that is about to begin, its sites being numbered from this one on.
 #[cycle(framing)]
 #[tactic(auto, unfolding(vc_process::specs::InOrder::number, vc_process::specs::InOrder::number_branch, vc_process::specs::InOrder::number_guard))]
@@ -58,45 +112,6 @@ pub(crate) fn frame_of(alloc: Global, process: &Process, site: u32) -> Result<Fr
     ensures next { IfOk result (λ made. made.next ≡ site + (number process.now).sites) }
 {
     match process {
-        Process::Skip => Ok(with_parts(site, Kind::Skip, Vec::new(alloc), site + 1)),
-        Process::Stop => Ok(with_parts(site, Kind::Stop, Vec::new(alloc), site + 1)),
-        Process::Set { var, value } => {
-            let value = value.copy(alloc)?;
-            Ok(with_parts(
-                site,
-                Kind::Set { var: *var, value },
-                Vec::new(alloc),
-                site + 1,
-            ))
-        }
-        Process::Send { chan, value } => {
-            let value = value.copy(alloc)?;
-            Ok(with_parts(
-                site,
-                Kind::Send { chan: *chan, value },
-                Vec::new(alloc),
-                site + 1,
-            ))
-        }
-        Process::Receive { chan, var } => {
-            Ok(with_parts(
-                site,
-                Kind::Receive {
-                    chan: *chan,
-                    var: *var,
-                },
-                Vec::new(alloc),
-                site + 1,
-            ))
-        }
-        Process::Stopch { chan } => {
-            Ok(with_parts(
-                site,
-                Kind::Stopch { chan: *chan },
-                Vec::new(alloc),
-                site + 1,
-            ))
-        }
         Process::Seq(parts) => {
             let made = frames_of(alloc, parts, site + 1)?;
             Ok(with_parts(site, Kind::Seq, made.parts, made.next))
@@ -113,9 +128,7 @@ pub(crate) fn frame_of(alloc: Global, process: &Process, site: u32) -> Result<Fr
         Process::While { cond, body } => {
             let cond = cond.copy(alloc)?;
             let made = frame_of(alloc, body.get(), site + 1)?;
-            let mut parts = Vec::new(alloc);
-            parts.push(made.frame)?;
-            Ok(with_parts(site, Kind::While { cond }, parts, made.next))
+            with_body(alloc, site, Kind::While { cond }, made)
         }
         Process::Count {
             var,
@@ -124,12 +137,8 @@ pub(crate) fn frame_of(alloc: Global, process: &Process, site: u32) -> Result<Fr
             body,
         } => {
             let made = frame_of(alloc, body.get(), site + 1)?;
-            let mut parts = Vec::new(alloc);
-            parts.push(made.frame)?;
-            let var = *var;
-            let base = base.copy(alloc)?;
-            let count = count.copy(alloc)?;
-            Ok(with_parts(site, Kind::Count { var, base, count }, parts, made.next))
+            let kind = count_kind(alloc, *var, base, count)?;
+            with_body(alloc, site, kind, made)
         }
         Process::Alt(guards) => {
             let inputs = inputs_of(alloc, guards)?;
@@ -137,7 +146,17 @@ pub(crate) fn frame_of(alloc: Global, process: &Process, site: u32) -> Result<Fr
             let guards = GuardedInputs::new(inputs);
             Ok(with_parts(site, Kind::Alt { guards }, made.parts, made.next))
         }
+        _ => frame_alone(alloc, process, site),
     }
+}
+
+/// What a counted SEQ is, without its body.
+fn count_kind(alloc: Global, var: u8, base: &Expr, count: &Expr) -> Result<Kind, Memory>
+    ensures { IfOk result (λ kind. (site : ℕ) (vs : List View) → plan_at kind site vs ≡ plan_at (Kind.Count var base.now count.now) site vs) }
+{
+    let base = base.copy(alloc)?;
+    let count = count.copy(alloc)?;
+    Ok(Kind::Count { var, base, count })
 }
 
 /// The conditions of branches.

@@ -3,6 +3,7 @@ ghost use Rattle.std.specs.Prelude.{◌≡◌, ◌<◌, ◌&&◌, IsTrue, length
 ghost use Rattle.vc_occam.specs.declared.begins.Begins.TheVariants.{Other};
 ghost use Rattle.vc_occam.specs.declared.deed.Deed.TheVariants.{Quiet};
 ghost use Rattle.vc_occam.specs.declared.frame.Frame.TheViews.{out-Frame};
+ghost use Rattle.vc_occam.specs.declared.phase.Phase.TheVariants.{Resting};
 ghost use Rattle.vc_occam.specs.Frames.{Able, ChangedAt, Did, HasVariables, PartHasVariables, PartInPreorder, View, as_begun, assigned_at, awaiting, is_choice, is_counted, part_done, goes_within, gone_on, part_assigned, place_of, begun_at, BeginsWith, behind, chosen_from, going_at, besides, has_parts, is_done, is_last, part_rest, plan_at, plans, rest_at, resting_at, together, view, views};
 ghost use Rattle.vc_occam.specs.Gates.{gate};
 ghost use Rattle.vc_occam.specs.Nexts.{GateHasVariable, branch_next, choice_begun, choice_next, choice_store, count_begun, count_phase, count_store, gate_begun, gate_next, gate_store, over, seq_begun, seq_next, stuck_next, TurnEnded, turn_begun, turn_next, turn_phase, turn_store, turn_views};
@@ -411,7 +412,7 @@ impl Frame {
         ensures length { length vars.new.items ≡ length vars.old.items }
     {
         match self.phase {
-            Phase::Ready => self.go_itself(doing, vars),
+            Phase::Ready | Phase::Chosen => self.go_itself(doing, vars),
             Phase::Waiting => {
                 if self.kind.has_parts() {
                     let place = self.kind.place(self.at);
@@ -445,22 +446,34 @@ impl Frame {
                 }
                 Went::Other
             }
-            Phase::Resting => {
-                if self.kind.has_parts() {
-                    let place = self.kind.place(self.at);
-                    let ended = end_part(place, &mut self.parts, doing, vars);
-                    self.phase = Phase::Waiting;
-                    if ended {
-                        return self.leave_part();
-                    }
-                    return Went::Other;
-                }
-                Went::Other
-            }
-            Phase::Chosen => self.go_itself(doing, vars),
+            Phase::Resting => self.go_resting(doing, vars),
             Phase::Ended => Went::Ended,
             Phase::Stuck => Went::Other,
         }
+    }
+
+    /// The output or input that rests goes on; answers whether nothing remains then, and what is begun with.
+    #[inline(always)]
+    fn go_resting(&mut self, doing: &mut SiteDeed, vars: &mut Vec<Datum>) -> Went
+        requires resting { (out-Frame self.old).phase ≡ Resting }
+        requires able { Able (view self.old).1 (store vars.old.items) doing.old.site doing.old.deed }
+        requires variables { HasVariables (view self.old).0 (length vars.old.items) }
+        ensures did { Did (view self.old).1 (store vars.old.items) doing.old.site doing.old.deed (view self.new).1 (store vars.new.items) }
+        ensures plan { (view self.new).0 ≡ (view self.old).0 }
+        ensures ended { has_ended result ≡ is_done (view self.new).1 }
+        ensures begins { BeginsWith (then_begins result) (view self.new).1 }
+        ensures length { length vars.new.items ≡ length vars.old.items }
+    {
+        if !self.kind.has_parts() {
+            return Went::Other;
+        }
+        let place = self.kind.place(self.at);
+        let ended = end_part(place, &mut self.parts, doing, vars);
+        self.phase = Phase::Waiting;
+        if ended {
+            return self.leave_part();
+        }
+        Went::Other
     }
 
     /// The frame's own site does something; answers whether nothing remains then, and what it begins with.

@@ -1,0 +1,112 @@
+use Rattle.std.proofs.Common.{◌≡◌, ◌∙◌, ℕ, List, Option, refl, sym, ap, subst, rules, arith, ◌<◌, length, set}
+use Rattle.std.specs.Prelude.{slice_get}
+use Rattle.vc_occam.specs.declared.frame.Frame.TheViews.{the_lemmas, out-Frame, roll-Frame}
+use Rattle.vc_occam.specs.declared.frame.Frame.{Frame}
+use Rattle.vc_occam.specs.declared.frame.Frame.TheOpen.{Frame-F}
+use Rattle.vc_occam.specs.declared.phase.Phase.{Phase}
+use Rattle.vc_occam.specs.declared.phase.Phase.TheVariants.{Turning, Ended, Stuck, Waiting}
+use Rattle.vc_occam.specs.Frames.{Able, BeginsWith, Did, HasVariables, View, assigned_at, besides, gone_on, is_done, part_done, part_rest, plan_at, plans, rest_at, resting_at, view, views}
+use Rattle.vc_occam.specs.Nexts.{TurnEnded}
+use Rattle.vc_occam.specs.Remains.{Done, Rest}
+use Rattle.vc_occam.specs.Sites.{InPreorder}
+use Rattle.vc_process.specs.Syntax.{Proc, STOP}
+use Rattle.vc_process.specs.Terms.{store}
+use Rattle.vc_occam.specs.Went.{has_ended, then_begins}
+use Rattle.vc_occam.proofs.Abreast.{beside_rest, none_beside, part_able, part_did, part_preorder, part_value, part_variables}
+use Rattle.vc_occam.proofs.Ending.{able_there, besides_goes, same_length}
+use Rattle.vc_occam.proofs.Frames.{parts_len, view_roll, view_out}
+use Rattle.vc_occam.proofs.Outset.{part_begins, turn_begins}
+use Rattle.vc_occam.proofs.Stepping.{body_preorder, get_view, goes_undone, going_on, never, never_done, never_there, none_changed, none_view, par_preorder, phase_able, phase_did, resting_able, resting_did, resting_never, same_plan, set_changed, set_plans, set_view, within_able, within_assigned, within_did, within_preorder, within_variables}
+use Rattle.vc_occam.proofs.Turns.{counted_is, none_turns, turn_goes, turn_gone, turn_undone, turning_able, turning_value, turning_variables}
+use Rattle.vc_occam.proofs.frame.Frame.go_resting.Goals as goal
+
+pub end_part-ended-requires-clause-able : goal.end_part-ended-requires-clause-able
+end_part-ended-requires-clause-able c =
+    let o = out-Frame c.args.self.now in
+    let e = store c.args.vars.now.items in
+    let s = c.args.doing.now.site in
+    let d = c.args.doing.now.deed in
+    let h = sym c.has_parts.ensures ∙ c.if-not-has_parts.false in
+    let able = subst (λ (v : View). Able v.1 e s d) (view_out c.args.self.now) c.requires.able in
+    simp the_lemmas (resting_able o.kind o.site o.phase (views o.parts.items) o.at c.place-place.result e s d c.requires.resting h c.place-place.ensures able)
+
+pub end_part-ended-requires-clause-variables : goal.end_part-ended-requires-clause-variables
+end_part-ended-requires-clause-variables c =
+    let o = out-Frame c.args.self.now in
+    let h = sym c.has_parts.ensures ∙ c.if-not-has_parts.false in
+    let has = subst (λ (v : View). HasVariables v.0 (length c.args.vars.now.items)) (view_out c.args.self.now) c.requires.variables in
+    simp the_lemmas (within_variables o.kind o.site (views o.parts.items) o.at c.place-place.result _ h c.place-place.ensures has)
+
+pub returns-then-ended-clause-did : goal.returns-then-ended-clause-did
+returns-then-ended-clause-did c =
+    let o = out-Frame c.args.self.now in
+    let vs = views o.parts.items in
+    let ws = views c.end_part-ended.new.parts.items in
+    let us = views (out-Frame (roll-Frame (record { site = o.site; kind = o.kind; phase = o.phase; at = o.at; parts = o.parts }))).parts.items in
+    let unrolled : us ≡ vs = simp the_lemmas refl in
+    let p = c.place-place.result in
+    let e = store c.args.vars.now.items in
+    let f = store c.end_part-ended.new.vars.items in
+    let s = c.args.doing.now.site in
+    let d = c.args.doing.now.deed in
+    let h = sym c.has_parts.ensures ∙ c.if-not-has_parts.false in
+    let r : (view c.leave_part.new.self).1 ≡ gone_on o.kind o.site ws o.at = c.leave_part.ensures.rest ∙ simp the_lemmas refl in
+    let same : plans ws ≡ plans vs = c.end_part-ended.ensures.plans ∙ ap plans unrolled in
+    let st = subst (λ (xs : List View). Did (part_rest (slice_get (resting_at p xs) p)) e s d (part_rest (slice_get ws p)) f) unrolled c.end_part-ended.ensures.did in
+    subst (λ (v : View). Did v.1 e s d (view c.leave_part.new.self).1 f) (sym (view_out c.args.self.now))
+    (resting_did o.kind o.site o.phase vs ws o.at p _ _ s d (view c.leave_part.new.self).1 c.requires.resting h c.place-place.ensures same r st)
+
+pub returns-then-ended-clause-plan : goal.returns-then-ended-clause-plan
+returns-then-ended-clause-plan c =
+    let o = out-Frame c.args.self.now in
+    let vs = views o.parts.items in
+    let ws = views c.end_part-ended.new.parts.items in
+    let us = views (out-Frame (roll-Frame (record { site = o.site; kind = o.kind; phase = o.phase; at = o.at; parts = o.parts }))).parts.items in
+    let unrolled : us ≡ vs = simp the_lemmas refl in
+    let same : plans ws ≡ plans vs = c.end_part-ended.ensures.plans ∙ ap plans unrolled in
+    let p : (view c.leave_part.new.self).0 ≡ plan_at o.kind o.site ws = c.leave_part.ensures.plan ∙ simp (the_lemmas, view_roll, view_out) refl in
+    p ∙ same_plan o.kind o.site vs ws same ∙ ap (λ (v : View). v.0) (sym (view_out c.args.self.now))
+
+pub returns-clause-did : goal.returns-clause-did
+returns-clause-did c =
+    let o = out-Frame c.args.self.now in
+    let vs = views o.parts.items in
+    let ws = views c.end_part-ended.new.parts.items in
+    let us = views (out-Frame (roll-Frame (record { site = o.site; kind = o.kind; phase = o.phase; at = o.at; parts = o.parts }))).parts.items in
+    let unrolled : us ≡ vs = simp the_lemmas refl in
+    let p = c.place-place.result in
+    let s = c.args.doing.now.site in
+    let d = c.args.doing.now.deed in
+    let h = sym c.has_parts.ensures ∙ c.if-not-has_parts.false in
+    let same : plans ws ≡ plans vs = c.end_part-ended.ensures.plans ∙ ap plans unrolled in
+    let st = subst (λ (xs : List View). Did (part_rest (slice_get (resting_at p xs) p)) (store c.args.vars.now.items) s d (part_rest (slice_get ws p)) (store c.end_part-ended.new.vars.items)) unrolled c.end_part-ended.ensures.did in
+    let r = going_on o.kind o.site Waiting ws o.at p refl h c.place-place.ensures (sym c.end_part-ended.ensures.ended ∙ c.if-ended.false) in
+    simp (the_lemmas, view_roll, view_out) (resting_did o.kind o.site o.phase vs ws o.at p _ _ s d _ c.requires.resting h c.place-place.ensures same r st)
+
+pub returns-clause-plan : goal.returns-clause-plan
+returns-clause-plan c =
+    let o = out-Frame c.args.self.now in
+    let vs = views o.parts.items in
+    let ws = views c.end_part-ended.new.parts.items in
+    let us = views (out-Frame (roll-Frame (record { site = o.site; kind = o.kind; phase = o.phase; at = o.at; parts = o.parts }))).parts.items in
+    let unrolled : us ≡ vs = simp the_lemmas refl in
+    let same : plans ws ≡ plans vs = c.end_part-ended.ensures.plans ∙ ap plans unrolled in
+    simp (the_lemmas, view_roll, view_out) (same_plan o.kind o.site vs ws same)
+
+pub returns-clause-ended : goal.returns-clause-ended
+returns-clause-ended c =
+    let o = out-Frame c.args.self.now in
+    let ws = views c.end_part-ended.new.parts.items in
+    let h = sym c.has_parts.ensures ∙ c.if-not-has_parts.false in
+    let n = goes_undone o.kind o.site Waiting ws o.at c.place-place.result refl h c.place-place.ensures (sym c.end_part-ended.ensures.ended ∙ c.if-ended.false) in
+    simp (the_lemmas, view_roll, view_out) (sym n)
+
+pub returns-then-not-has_parts-clause-did : goal.returns-then-not-has_parts-clause-did
+returns-then-not-has_parts-clause-did c =
+    let o = out-Frame c.args.self.now in
+    let is = view_out c.args.self.now in
+    let e = store c.args.vars.now.items in
+    let h = sym c.has_parts.ensures ∙ c.if-not-has_parts.true in
+    let able = subst (λ (v : View). Able v.1 e c.args.doing.now.site c.args.doing.now.deed) is c.requires.able in
+    subst (λ (v : View). Did v.1 e c.args.doing.now.site c.args.doing.now.deed (view c.args.self.now).1 e) (sym is)
+    (resting_never o.kind o.site o.phase (views o.parts.items) o.at e _ _ _ c.requires.resting h able)
