@@ -22,9 +22,9 @@ use Rattle.vc_vcp.specs.declared.end.End.{End as Given}
 use Rattle.vc_vcp.specs.Carrier.{Carrier}
 use Rattle.vc_vcp.specs.Keyed.{named, shown_or}
 use Rattle.vc_vcp.specs.Links.{Vcp, new_vcp}
-use Rattle.vc_vcp.specs.Opening.{ends_given, AreDistinct}
+use Rattle.vc_vcp.specs.Opening.{ends_given}
 use Rattle.vc_vcp.specs.Seen.{seen, ends_of}
-use Rattle.vc_vcp.specs.State.{HaveOwnNames, limit_of}
+use Rattle.vc_vcp.specs.State.{limit_of}
 use Rattle.vc_network.specs.Network.{IsNode, IsSwitch, first}
 use Rattle.vc_switch.specs.Switch.{new_switch}
 use Rattle.vc_network.specs.Plan as network
@@ -32,7 +32,7 @@ use Rattle.vc_accepted.specs.Given.{ends_of_node}
 use Rattle.vc_accepted.specs.NetworkOf.{network_of, switch_of, home_of, home_in}
 use Rattle.vc_plan.specs.declared.switch_plan.SwitchPlan.{SwitchPlan}
 use Rattle.vc_switch.specs.State.{State as SwitchState}
-use Rattle.vc_accepted.proofs.Giving.{given_ends, given_distinct}
+use Rattle.vc_accepted.proofs.Giving.{given_ends}
 use Rattle.vc_accepted.proofs.Listed.{made, made_or, made_at}
 use Rattle.vc_actor.specs.Begin.{BeginsAs, AreFirst, IsBuilt}
 use Rattle.vc_told.specs.Begin.{begin_of, is_inside, no_node, node_plan, numbers_inside}
@@ -155,7 +155,6 @@ pub record IsMade (p : Plan) (k : ℕ) (node : NodePlan) (es : List Given) (n : 
   pub given : es ≡ ends_of_node p k
   pub shows : seen n.vcp ≡ new_vcp
   pub ends : ends_of n.vcp ≡ ends_given es
-  pub names : AreDistinct es → HaveOwnNames n.vcp.outputs n.vcp.inputs
   pub limit : limit_of n.vcp.ins ≡ network.body_limit (network_of p)
   pub starts : state n.process ≡ opening (kinds_of node.vars) node.process
   pub channels : inner_channels n.process ≡ among (numbers_inside k 0 p.channels)
@@ -167,7 +166,6 @@ begins p acc k node there es n m = record {
     less,
     record {
       ends = m.ends ∙ ap ends_given m.given ∙ given_ends p acc k;
-      names = m.names (subst AreDistinct (sym m.given) (given_distinct p acc k));
       limit = m.limit;
       inside = subst (AreInside (network_of p) k) (sym m.inside) (inside_is p k less);
       in_step = rests (seen n.vcp).carrier (process_of n.process) (ap (λ (z : Vcp). z.carrier) m.shows);

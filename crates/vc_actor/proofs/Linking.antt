@@ -43,7 +43,6 @@ sent old new l k s =
 stays : (plan : Plan) (k : ℕ) (n u : Node) → IsNodeOf plan k n → IsKept n.vcp u.vcp → SameHalves (seen n.vcp).carrier (seen u.vcp).carrier → u.process ≡ n.process → u.inside ≡ n.inside → IsNodeOf plan k u
 stays plan k n u is kept same process inside = record {
   ends = kept.ends ∙ is.ends;
-  names = kept.names is.names;
   limit = kept.limit ∙ is.limit;
   inside = subst (AreInside plan k) (sym inside) is.inside;
   in_step = unmoved (seen n.vcp).carrier (seen u.vcp).carrier (process_of n.process) (process_of u.process) same.into same.out (ap process_of process) is.in_step;

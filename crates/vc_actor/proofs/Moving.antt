@@ -20,7 +20,7 @@ use Rattle.vc_vcp.specs.Carrier.{Carrier, End}
 use Rattle.vc_vcp.specs.Keyed.{named, shown_or}
 use Rattle.vc_vcp.specs.Seen.{seen, ends_of, Inputs, IsKept, answered}
 use Rattle.vc_vcp.specs.Steps.{Offers, Stops, Wants, Fetches, fetches, waits, IsOpen}
-use Rattle.vc_vcp.specs.State.{HaveOwnNames, limit_of}
+use Rattle.vc_vcp.specs.State.{limit_of}
 use Rattle.vc_network.specs.Plan.{Plan}
 use Rattle.vc_actor.proofs.Halved as halved
 use Rattle.vc_actor.specs.MayMove.{MakesMove}
@@ -39,7 +39,7 @@ went n u d acts same = record { comms = acts.0; does = acts.1; inside = same }
 -- the node stays one of the plan
 stays : (plan : Plan) (k : ℕ) (n u : Node) (d : occam.Doing) → IsNodeOf plan k n → Acts (state n.process) d (state u.process) → IsKept n.vcp u.vcp → AreInside plan k u.inside → InStep (seen u.vcp).carrier (process_of u.process) → IsNodeOf plan k u
 stays plan k n u d is acts kept inside step =
-    record { ends = kept.ends ∙ is.ends; names = kept.names is.names; limit = kept.limit ∙ is.limit; inside = inside; in_step = step; own = doing_keeps (state n.process) (state u.process) d acts.0 acts.1 is.own }
+    record { ends = kept.ends ∙ is.ends; limit = kept.limit ∙ is.limit; inside = inside; in_step = step; own = doing_keeps (state n.process) (state u.process) d acts.0 acts.1 is.own }
 
 pub offered : (plan : Plan) (k : ℕ) (n u : Node) (i c : ℕ) (m : List ℕ) → IsNodeOf plan k n → Contains (moves n.process) (move.Offer i c) →
     Offers (ends_of n.vcp) (seen n.vcp).carrier c m (seen u.vcp).carrier → (seen u.vcp).link ≡ (seen n.vcp).link → IsKept n.vcp u.vcp → u.inside ≡ n.inside →
@@ -66,7 +66,6 @@ rested plan k n u i is listed vcp inside acts same =
       moves = ((listed, went n u (occam.Rests i) acts same), ap seen vcp, ap views_of inside);
       kept = record {
         ends = ap ends_of vcp ∙ is.ends;
-        names = subst (λ z. HaveOwnNames z.outputs z.inputs) (sym vcp) is.names;
         limit = ap (λ z. limit_of z.ins) vcp ∙ is.limit;
         inside = subst (AreInside plan k) (sym inside) is.inside;
         own = doing_keeps (state n.process) (state u.process) (occam.Rests i) acts.0 acts.1 is.own;
@@ -87,11 +86,11 @@ pub rests : (plan : Plan) (k : ℕ) (n u : Node) (m : Move) (i : ℕ) → m ≡ 
 rests plan k n u m i e is listed vcp inside acts same = is_named plan k n u m (move.Quiet i) Nothing e listed acts (λ l a. rested plan k n u i is l vcp inside a same)
 
 pub offers : (plan : Plan) (k : ℕ) (n u : Node) (m : Move) (i c : ℕ) (message : List ℕ) → m ≡ move.Offer i c → Some message ≡ sent_by (state n.process) m → IsNodeOf plan k n → Contains (moves n.process) m →
-    (HaveOwnNames n.vcp.outputs n.vcp.inputs → Offers (ends_of n.vcp) (seen n.vcp).carrier c message (seen u.vcp).carrier) → (seen u.vcp).link ≡ (seen n.vcp).link → (HaveOwnNames n.vcp.outputs n.vcp.inputs → IsKept n.vcp u.vcp) → u.inside ≡ n.inside →
+    Offers (ends_of n.vcp) (seen n.vcp).carrier c message (seen u.vcp).carrier → (seen u.vcp).link ≡ (seen n.vcp).link → IsKept n.vcp u.vcp → u.inside ≡ n.inside →
     Acts (state n.process) (doing m (sent_by (state n.process) m) Nothing) (state u.process) → inner_channels u.process ≡ inner_channels n.process → MakesMove plan k n m u
 offers plan k n u m i c message e sent is listed begins links kept inside acts same =
     is_named plan k n u m (move.Offer i c) Nothing e listed acts (λ l a.
-    offered plan k n u i c message is l (begins is.names) links (kept is.names) inside
+    offered plan k n u i c message is l begins links kept inside
     (subst (λ z. Acts (state n.process) (occam.Offers i c (bytes_or_none z)) (state u.process)) (sym (sent ∙ ap (sent_by (state n.process)) e)) a) same)
 
 pub inputs : (plan : Plan) (k : ℕ) (n u : Node) (i c : ℕ) (w : Want) → IsNodeOf plan k n → Contains (moves n.process) (move.Want i c) →
@@ -108,11 +107,11 @@ inputs plan k n u i c w is listed takes links kept inside acts same =
     }
 
 pub wants : (plan : Plan) (k : ℕ) (n u : Node) (m : Move) (i c : ℕ) (w : Want) (a : Answer) → m ≡ move.Want i c → came a ≡ answered w → IsNodeOf plan k n → Contains (moves n.process) m →
-    (HaveOwnNames n.vcp.outputs n.vcp.inputs → Inputs (ends_of n.vcp) (seen n.vcp).carrier c w (seen u.vcp).carrier) → (seen u.vcp).link ≡ (seen n.vcp).link → (HaveOwnNames n.vcp.outputs n.vcp.inputs → IsKept n.vcp u.vcp) → u.inside ≡ n.inside →
+    Inputs (ends_of n.vcp) (seen n.vcp).carrier c w (seen u.vcp).carrier → (seen u.vcp).link ≡ (seen n.vcp).link → IsKept n.vcp u.vcp → u.inside ≡ n.inside →
     Acts (state n.process) (doing m (sent_by (state n.process) m) a) (state u.process) → inner_channels u.process ≡ inner_channels n.process → MakesMove plan k n m u
 wants plan k n u m i c w a e told is listed takes links kept inside acts same =
     is_named plan k n u m (move.Want i c) a e listed acts (λ l b.
-    inputs plan k n u i c w is l (takes is.names) links (kept is.names) inside (subst (λ z. Acts (state n.process) (occam.Wants i c z) (state u.process)) told b) same)
+    inputs plan k n u i c w is l takes links kept inside (subst (λ z. Acts (state n.process) (occam.Wants i c z) (state u.process)) told b) same)
 
 -- a guard whose piece is there is taken with it
 held_is : (a b : Carrier) (c : ℕ) (end : End) (answer : Option (List ℕ)) → (a.into c).held ≢ None → Wants a c end answer b → Fetches a c end answer b
@@ -134,11 +133,11 @@ guarded plan k n u i g c w is listed held takes links kept inside acts same =
     }
 
 pub chooses : (plan : Plan) (k : ℕ) (n u : Node) (m : Move) (i g c : ℕ) (w : Want) (a : Answer) → m ≡ move.Choose i g c → came a ≡ answered w → IsNodeOf plan k n → Contains (moves n.process) m → ((seen n.vcp).carrier.into c).held ≢ None →
-    (HaveOwnNames n.vcp.outputs n.vcp.inputs → Inputs (ends_of n.vcp) (seen n.vcp).carrier c w (seen u.vcp).carrier) → (seen u.vcp).link ≡ (seen n.vcp).link → (HaveOwnNames n.vcp.outputs n.vcp.inputs → IsKept n.vcp u.vcp) → u.inside ≡ n.inside →
+    Inputs (ends_of n.vcp) (seen n.vcp).carrier c w (seen u.vcp).carrier → (seen u.vcp).link ≡ (seen n.vcp).link → IsKept n.vcp u.vcp → u.inside ≡ n.inside →
     Acts (state n.process) (doing m (sent_by (state n.process) m) a) (state u.process) → inner_channels u.process ≡ inner_channels n.process → MakesMove plan k n m u
 chooses plan k n u m i g c w a e told is listed held takes links kept inside acts same =
     is_named plan k n u m (move.Choose i g c) a e listed acts (λ l b.
-    guarded plan k n u i g c w is l held (takes is.names) links (kept is.names) inside (subst (λ z. Acts (state n.process) (occam.Chooses i g c z) (state u.process)) told b) same)
+    guarded plan k n u i g c w is l held takes links kept inside (subst (λ z. Acts (state n.process) (occam.Chooses i g c z) (state u.process)) told b) same)
 
 -- the process goes on, and nothing of its channels' halves changes
 pub in_step_same : (n u : Node) (d : occam.Doing) → InStep (seen n.vcp).carrier (process_of n.process) → (seen u.vcp).carrier.out ≡ (seen n.vcp).carrier.out →
@@ -159,7 +158,7 @@ stopped plan k n u i c is listed stops inside kept out into acts same =
     }
 
 same_kept : (n u : Node) → u.vcp ≡ n.vcp → IsKept n.vcp u.vcp
-same_kept n u e = record { ends = ap ends_of e; names = λ h. subst (λ z. HaveOwnNames z.outputs z.inputs) (sym e) h; limit = ap (λ z. limit_of z.ins) e }
+same_kept n u e = record { ends = ap ends_of e; limit = ap (λ z. limit_of z.ins) e }
 
 -- the same channels are inside
 same_inside : (plan : Plan) (k : ℕ) (xs ys : List Internal) → AreInside plan k xs → ((c : ℕ) → IsSome (named (λ x. x.chan) c ys) ↔ IsSome (named (λ x. x.chan) c xs)) → AreInside plan k ys
@@ -173,13 +172,12 @@ wants_put a b c d e = elim (cases_eq d c) [
 
 -- a channel on a virtual link is stopped
 pub stops_link : (plan : Plan) (k : ℕ) (n u : Node) (m : Move) (i c : ℕ) → m ≡ move.Stopch i c → IsNodeOf plan k n → Contains (moves n.process) m →
-    (HaveOwnNames n.vcp.outputs n.vcp.inputs → Stops (ends_of n.vcp) (seen n.vcp).carrier c (seen u.vcp).carrier) → (seen u.vcp).link ≡ (seen n.vcp).link → (HaveOwnNames n.vcp.outputs n.vcp.inputs → IsKept n.vcp u.vcp) → u.inside ≡ n.inside →
+    Stops (ends_of n.vcp) (seen n.vcp).carrier c (seen u.vcp).carrier → (seen u.vcp).link ≡ (seen n.vcp).link → IsKept n.vcp u.vcp → u.inside ≡ n.inside →
     Acts (state n.process) (doing m (sent_by (state n.process) m) Nothing) (state u.process) → inner_channels u.process ≡ inner_channels n.process → MakesMove plan k n m u
 stops_link plan k n u m i c e is listed stops links kept inside acts same =
     is_named plan k n u m (move.Stopch i c) Nothing e listed acts (λ l a.
-    let s = stops is.names in
-    stopped plan k n u i c is l (inl (subst (λ z. Stops z (seen n.vcp).carrier c (seen u.vcp).carrier) is.ends s, record { link = links; inner = ap views_of inside })) (subst (AreInside plan k) (sym inside) is.inside) (kept is.names)
-    (ap (λ z. z.out) s.after) (λ d. wants_put (seen n.vcp).carrier (seen u.vcp).carrier c d (ap (λ z. z.into) s.after)) a same)
+    stopped plan k n u i c is l (inl (subst (λ z. Stops z (seen n.vcp).carrier c (seen u.vcp).carrier) is.ends stops, record { link = links; inner = ap views_of inside })) (subst (AreInside plan k) (sym inside) is.inside) kept
+    (ap (λ z. z.out) stops.after) (λ d. wants_put (seen n.vcp).carrier (seen u.vcp).carrier c d (ap (λ z. z.into) stops.after)) a same)
 
 -- a channel inside the node is stopped
 pub stops_inside : (plan : Plan) (k : ℕ) (n u : Node) (m : Move) (i c : ℕ) → m ≡ move.Stopch i c → IsNodeOf plan k n → Contains (moves n.process) m → IsSome (named (λ x. x.chan) c n.inside) → u.vcp ≡ n.vcp →

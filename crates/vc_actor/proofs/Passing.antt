@@ -13,7 +13,7 @@ use Rattle.vc_vcp.specs.Links.{Vcp, Passes, passes_byte, drops_byte, passes_mark
 use Rattle.vc_vcp.specs.Steps.{Taken, Held, Stored, Complete, More, Finished, Stray, Arrives, takes, stray, stores, holds, advances, store, message, taken_by, acked_by, advance}
 use Rattle.vc_packets.specs.Functions.{put}
 use Rattle.vc_vcp.specs.Seen.{seen, ends_of, IsKept}
-use Rattle.vc_vcp.specs.State.{HaveOwnNames, limit_of}
+use Rattle.vc_vcp.specs.State.{limit_of}
 use Rattle.vc_network.specs.Plan.{Plan, ends}
 use Rattle.vc_network.specs.Network.{GoesOn}
 use Rattle.vc_actor.proofs.Halved.{Has, Wants, Sends, has_same, has_put, others}
@@ -135,20 +135,17 @@ own_after p q (Some Stray) goes own = subst (λ z. OwnSites z.state.rest) (sym g
 own_after p q None goes own = subst (λ z. OwnSites z.state.rest) (sym goes) own
 
 -- the node's step, and that it stays one of the plan
-pub makes_pass : (plan : Plan) (k : ℕ) (n u : Node) (l : ℕ) (taken : Option Taken) → IsNodeOf plan k n → (HaveOwnNames n.vcp.outputs n.vcp.inputs → Passes (limit_of n.vcp.ins) (ends_of n.vcp) (seen n.vcp) l taken (seen u.vcp)) →
-    (HaveOwnNames n.vcp.outputs n.vcp.inputs → IsKept n.vcp u.vcp) → u.inside ≡ n.inside → (IsAwaited (process_of n.process) taken → GoesOn does (process_of n.process) taken (process_of u.process)) → MakesPass plan k n l u
+pub makes_pass : (plan : Plan) (k : ℕ) (n u : Node) (l : ℕ) (taken : Option Taken) → IsNodeOf plan k n → Passes (limit_of n.vcp.ins) (ends_of n.vcp) (seen n.vcp) l taken (seen u.vcp) →
+    IsKept n.vcp u.vcp → u.inside ≡ n.inside → (IsAwaited (process_of n.process) taken → GoesOn does (process_of n.process) taken (process_of u.process)) → MakesPass plan k n l u
 makes_pass plan k n u l taken is passes kept inside goes =
-    let ps = passes is.names in
-    let go = goes (awaited (limit_of n.vcp.ins) (ends_of n.vcp) (seen n.vcp) (seen u.vcp) l taken (process_of n.process) ps is.in_step) in
-    let ks = kept is.names in
+    let go = goes (awaited (limit_of n.vcp.ins) (ends_of n.vcp) (seen n.vcp) (seen u.vcp) l taken (process_of n.process) passes is.in_step) in
     record {
-      step = (taken, subst (λ z. Passes z (ends plan k) (seen n.vcp) l taken (seen u.vcp)) is.limit (subst (λ z. Passes (limit_of n.vcp.ins) z (seen n.vcp) l taken (seen u.vcp)) is.ends ps), go, ap views_of inside);
+      step = (taken, subst (λ z. Passes z (ends plan k) (seen n.vcp) l taken (seen u.vcp)) is.limit (subst (λ z. Passes (limit_of n.vcp.ins) z (seen n.vcp) l taken (seen u.vcp)) is.ends passes), go, ap views_of inside);
       kept = record {
-        ends = ks.ends ∙ is.ends;
-        names = ks.names is.names;
-        limit = ks.limit ∙ is.limit;
+        ends = kept.ends ∙ is.ends;
+        limit = kept.limit ∙ is.limit;
         inside = subst (AreInside plan k) (sym inside) is.inside;
         own = own_after (process_of n.process) (process_of u.process) taken go is.own;
-        in_step = passed (limit_of n.vcp.ins) (ends_of n.vcp) (seen n.vcp) (seen u.vcp) l taken (process_of n.process) (process_of u.process) ps go is.in_step;
+        in_step = passed (limit_of n.vcp.ins) (ends_of n.vcp) (seen n.vcp) (seen u.vcp) l taken (process_of n.process) (process_of u.process) passes go is.in_step;
       };
     }

@@ -5,7 +5,7 @@ use Rattle.vc_network.specs.Network.{IsInside}
 use Rattle.vc_vcp.specs.Carrier.{Carrier}
 use Rattle.vc_vcp.specs.Keyed.{named}
 use Rattle.vc_vcp.specs.Seen.{seen, ends_of}
-use Rattle.vc_vcp.specs.State.{HaveOwnNames, limit_of}
+use Rattle.vc_vcp.specs.State.{limit_of}
 use Rattle.vc_switch.specs.State.{State as SwitchState, plan_of as plan_of_switch, limit_of as limit_of_switch}
 use Rattle.vc_occam.specs.Runnings.{state}
 use Rattle.vc_occam.specs.Sites.{OwnSites}
@@ -27,7 +27,6 @@ AreInside plan k xs = (c : ℕ) → IsSome (named (λ x. x.chan) c xs) ↔ IsIns
 -- the code's node is node k of the plan
 pub record IsNodeOf (plan : Plan) (k : ℕ) (n : Node) : Type 0 where
   pub ends : ends_of n.vcp ≡ ends plan k
-  pub names : HaveOwnNames n.vcp.outputs n.vcp.inputs
   pub limit : limit_of n.vcp.ins ≡ body_limit plan
   pub inside : AreInside plan k n.inside
   pub in_step : InStep (seen n.vcp).carrier (process_of n.process)

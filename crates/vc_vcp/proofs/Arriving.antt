@@ -150,9 +150,9 @@ waits_for old l most ends t new (passes_byte b rest here taken room after) none 
 waits_for old l most ends t new (drops_byte b rest here taken full after) none = let e : Byte b ∷ rest ≡ [] = sym here ∙ none in absurd (cc)
 waits_for old l most ends t new (passes_mark m rest what carrier here taken arrives after) none = let e : EndMark m ∷ rest ≡ [] = sym here ∙ none in absurd (cc)
 
-pub pass_iff : (s : State) (l : ℕ) (x : Receiving) (b : Bool) → HaveOwnNames s.outputs s.inputs → IsWired s → slice_get s.ins l ≡ Some x → (IsTrue b ↔ ((link_of s l).receiver.buffer ≢ [])) → IsTrue b ↔ CanPass (limit_of s.ins) (ends_of s) (seen s) l
-pass_iff s l x b own wired here iff = (
-  λ t. can_pass_with s l (limit_of s.ins) (link_of s l).receiver.buffer own wired.inputs refl
+pub pass_iff : (s : State) (l : ℕ) (x : Receiving) (b : Bool) → IsWired s → slice_get s.ins l ≡ Some x → (IsTrue b ↔ ((link_of s l).receiver.buffer ≢ [])) → IsTrue b ↔ CanPass (limit_of s.ins) (ends_of s) (seen s) l
+pass_iff s l x b wired here iff = (
+  λ t. can_pass_with s l (limit_of s.ins) (link_of s l).receiver.buffer wired.names wired.inputs refl
       (subst (λ r. AllByRecursion (λ k. k ≢ Fct) r.buffer) (sym (receiver_at s l x here)) (all-at (IsLinkIn (limit_of s.ins)) s.ins l x wired.ins here).no_fct) (iff.0 t),
   λ can. iff.1 (waits_for (seen s) l (limit_of s.ins) (ends_of s) can.taken can.new can.passes),
 )

@@ -14,7 +14,6 @@ use Rattle.vc_vcp.specs.Seen.{seen, ends_of, IsKept, carrier_of, in_half, in_end
 use Rattle.vc_vcp.specs.State.{State, HaveOwnNames, IsPieceOf, HoldsFor}
 use Rattle.vc_vcp.specs.Steps.{store, accept, message, IsPieceFor, IsOpen, fetches, waits}
 use Rattle.vc_vcp.proofs.KeyedLemmas.{by_name-kept}
-use Rattle.vc_vcp.proofs.Wired.{own-input}
 use Rattle.vc_vcp.proofs.Placed.{put_back}
 use Rattle.vc_vcp.proofs.Stepping.{with_input, seen-input, in_at, end_in, queue_at}
 
@@ -134,6 +133,5 @@ kept-input s i k x y q w here stays = record {
     input = by_name-kept (λ x. x.chan) (λ x. Some (in_end x)) None s.inputs i x y w.in_chans here stays.chan
         (λ j. Some (record { link = stays.link j; block = stays.block j; route = stays.route j })) t;
   });
-  names = λ h. own-input s.outputs s.inputs i x y h here stays;
   limit = refl;
 }

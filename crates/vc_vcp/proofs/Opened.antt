@@ -153,19 +153,20 @@ begun_ends es limit = λ i. record {
 link_in : (limit : ℕ) → IsLinkIn limit (new_in limit)
 link_in limit = record { no_fct = tt; limit = refl }
 
-pub begun_wired : (es : List Given) (limit : ℕ) → AllByRecursion (λ e. e.link < 4) es → IsWired (begun es limit)
-begun_wired es limit links = record {
-  four_out = refl;
-  four_in = refl;
-  outputs = all_opened (λ e. e.output) opened_output IsOutput (λ e c less. record { link = less; offered = λ h. refl }) es links;
-  inputs = all_opened (λ e. e.input) opened_input IsInput (λ e c less. record { link = less; held = tt; empty = λ h. refl }) es links;
-  ins = (link_in limit, (link_in limit, (link_in limit, (link_in limit, tt))));
-}
-
 pub begun_names : (es : List Given) → AreDistinct es → HaveOwnNames (opened_outputs es) (opened_inputs es)
 begun_names es h = record {
   out_chans = chans (λ e. e.output) opened_output (λ x. x.chan) (λ e c. refl) es h.outputs;
   in_chans = chans (λ e. e.input) opened_input (λ x. x.chan) (λ e c. refl) es h.inputs;
   out_blocks = blocks (λ e. e.output) opened_output (λ x. x.block) (λ e c. refl) es h.blocks;
   in_blocks = blocks (λ e. e.input) opened_input (λ x. x.block) (λ e c. refl) es h.blocks;
+}
+
+pub begun_wired : (es : List Given) (limit : ℕ) → AllByRecursion (λ e. e.link < 4) es → AreDistinct es → IsWired (begun es limit)
+begun_wired es limit links distinct = record {
+  four_out = refl;
+  four_in = refl;
+  outputs = all_opened (λ e. e.output) opened_output IsOutput (λ e c less. record { link = less; offered = λ h. refl }) es links;
+  inputs = all_opened (λ e. e.input) opened_input IsInput (λ e c less. record { link = less; held = tt; empty = λ h. refl }) es links;
+  ins = (link_in limit, (link_in limit, (link_in limit, (link_in limit, tt))));
+  names = begun_names es distinct;
 }

@@ -71,10 +71,10 @@ limit_stays (z ∷ xs) zero x y here same = let q : z ≡ x = cc in same ∙ sym
 limit_stays (z ∷ xs) (suc l) x y here same = refl
 
 pub kept_in : (s : State) (l n : ℕ) (x y : Receiving) → slice_get s.ins l ≡ Some x → y.limit ≡ x.limit → IsKept s (record s { ins = slice_set s.ins l y; strays = n })
-kept_in s l n x y here same = record { ends = refl; names = λ h. h; limit = limit_stays s.ins l x y here same }
+kept_in s l n x y here same = record { ends = refl; limit = limit_stays s.ins l x y here same }
 
 pub kept_then : (a b c : State) → IsKept a b → IsKept b c → IsKept a c
-kept_then a b c h k = record { ends = k.ends ∙ h.ends; names = λ w. k.names (h.names w); limit = k.limit ∙ h.limit }
+kept_then a b c h k = record { ends = k.ends ∙ h.ends; limit = k.limit ∙ h.limit }
 
 -- what is wired stays so where a token passes
 pub wired_passing : (s : State) (l : ℕ) (x y : Receiving) (k : Token) → IsWired s → slice_get s.ins l ≡ Some x → PassesOn x.receiver k y.receiver → y.limit ≡ x.limit → IsWired (record s { ins = slice_set s.ins l y })
@@ -86,6 +86,7 @@ wired_passing s l x y k w here h same =
       four_in = length-set s.ins l y ∙ w.four_in;
       outputs = w.outputs;
       inputs = w.inputs;
+      names = w.names;
       ins = subst (λ m. AllByRecursion (IsLinkIn m) (slice_set s.ins l y)) (sym (limit_stays s.ins l x y here same)) (all-set (IsLinkIn (limit_of s.ins)) s.ins l y w.ins is);
     }
 

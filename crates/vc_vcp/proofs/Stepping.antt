@@ -16,7 +16,6 @@ use Rattle.vc_vcp.specs.State.{State, HaveOwnNames}
 use Rattle.vc_vcp.specs.Steps.{Offers}
 use Rattle.vc_vcp.proofs.KeyedLemmas.{by_name-set, by_name-kept, by_name-at}
 use Rattle.vc_vcp.proofs.Placed.{put_back, by_place-set}
-use Rattle.vc_vcp.proofs.Wired.{own-output}
 use Rattle.vc_vcp.proofs.Showing.{link-out}
 
 abbrev pub with_output : State → ℕ → Output → ℕ → Sending → State
@@ -57,7 +56,6 @@ kept-output s i k x y q w here stays = record {
     output = by_name-kept (λ x. x.chan) (λ x. Some (out_end x)) None s.outputs i x y w.out_chans here stays.chan
         (λ j. Some (record { link = stays.link j; block = stays.block j; route = stays.route j })) t;
   });
-  names = λ h. own-output s.outputs s.inputs i x y h here stays;
   limit = refl;
 }
 

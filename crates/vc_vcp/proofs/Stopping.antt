@@ -7,7 +7,6 @@ use Rattle.vc_vcp.specs.Seen.{seen, ends_of, IsKept, carrier_of, in_half, no_inp
 use Rattle.vc_vcp.specs.State.{State, HaveOwnNames}
 use Rattle.vc_vcp.specs.Steps.{Stops}
 use Rattle.vc_vcp.proofs.KeyedLemmas.{by_name-set, by_name-kept}
-use Rattle.vc_vcp.proofs.Wired.{own-input}
 use Rattle.vc_vcp.proofs.Stepping.{in_at, end_in}
 
 -- nothing more is taken on a channel
@@ -29,6 +28,5 @@ kept-stop s i x y w here stays = record {
     input = by_name-kept (λ x. x.chan) (λ x. Some (in_end x)) None s.inputs i x y w.in_chans here stays.chan
         (λ j. Some (record { link = stays.link j; block = stays.block j; route = stays.route j })) t;
   });
-  names = λ h. own-input s.outputs s.inputs i x y h here stays;
   limit = refl;
 }

@@ -42,37 +42,6 @@ all-at P [] i x h e = absurd (cc)
 all-at P (y ∷ xs) zero x h e = let q : y ≡ x = cc in subst P q h.0
 all-at P (y ∷ xs) (suc i) x h e = all-at P xs i x h.1 e
 
-pub wired-output : (s : State) (i l : ℕ) (x y : Output) (q : Sending) → IsWired s → slice_get s.outputs i ≡ Some x → StaysOutput x y → IsOutput y → IsWired (record s { outputs = slice_set s.outputs i y; outs = slice_set s.outs l q })
-wired-output s i l x y q w here stays is = record {
-  four_out = length-set s.outs l q ∙ w.four_out;
-  four_in = w.four_in;
-  outputs = all-set IsOutput s.outputs i y w.outputs is;
-  inputs = w.inputs;
-  ins = w.ins;
-}
-
-pub wired-input : (s : State) (i : ℕ) (x y : Input) → IsWired s → slice_get s.inputs i ≡ Some x → StaysInput x y → IsInput y → IsWired (record s { inputs = slice_set s.inputs i y })
-wired-input s i x y w here stays is = record {
-  four_out = w.four_out;
-  four_in = w.four_in;
-  outputs = w.outputs;
-  inputs = all-set IsInput s.inputs i y w.inputs is;
-  ins = w.ins;
-}
-
-pub wired-outs : (s : State) (l : ℕ) (q : Sending) → IsWired s → IsWired (record s { outs = slice_set s.outs l q })
-wired-outs s l q w = record {
-  four_out = length-set s.outs l q ∙ w.four_out;
-  four_in = w.four_in;
-  outputs = w.outputs;
-  inputs = w.inputs;
-  ins = w.ins;
-}
-
-pub stopped_input : (x : Input) (h : Incoming) → h ≡ record x.half { stopped = true } → IsInput x → IsInput (record x { half = h })
-stopped_input x h e is =
-    subst (λ z. IsInput (record x { half = z })) (sym e) (record { link = is.link; held = is.held; empty = is.empty })
-
 pub own-output : (os : List Output) (is : List Input) (i : ℕ) (x y : Output) → HaveOwnNames os is → slice_get os i ≡ Some x → StaysOutput x y → HaveOwnNames (slice_set os i y) is
 own-output os is i x y w here stays = record {
   out_chans = differ-set (λ x. x.chan) os i x y here stays.chan w.out_chans;
@@ -88,3 +57,37 @@ own-input os is i x y w here stays = record {
   out_blocks = w.out_blocks;
   in_blocks = differ-set (λ x. x.block) is i x y here stays.block w.in_blocks;
 }
+
+pub wired-output : (s : State) (i l : ℕ) (x y : Output) (q : Sending) → IsWired s → slice_get s.outputs i ≡ Some x → StaysOutput x y → IsOutput y → IsWired (record s { outputs = slice_set s.outputs i y; outs = slice_set s.outs l q })
+wired-output s i l x y q w here stays is = record {
+  four_out = length-set s.outs l q ∙ w.four_out;
+  four_in = w.four_in;
+  outputs = all-set IsOutput s.outputs i y w.outputs is;
+  inputs = w.inputs;
+  ins = w.ins;
+  names = own-output s.outputs s.inputs i x y w.names here stays;
+}
+
+pub wired-input : (s : State) (i : ℕ) (x y : Input) → IsWired s → slice_get s.inputs i ≡ Some x → StaysInput x y → IsInput y → IsWired (record s { inputs = slice_set s.inputs i y })
+wired-input s i x y w here stays is = record {
+  four_out = w.four_out;
+  four_in = w.four_in;
+  outputs = w.outputs;
+  inputs = all-set IsInput s.inputs i y w.inputs is;
+  ins = w.ins;
+  names = own-input s.outputs s.inputs i x y w.names here stays;
+}
+
+pub wired-outs : (s : State) (l : ℕ) (q : Sending) → IsWired s → IsWired (record s { outs = slice_set s.outs l q })
+wired-outs s l q w = record {
+  four_out = length-set s.outs l q ∙ w.four_out;
+  four_in = w.four_in;
+  outputs = w.outputs;
+  inputs = w.inputs;
+  ins = w.ins;
+  names = w.names;
+}
+
+pub stopped_input : (x : Input) (h : Incoming) → h ≡ record x.half { stopped = true } → IsInput x → IsInput (record x { half = h })
+stopped_input x h e is =
+    subst (λ z. IsInput (record x { half = z })) (sym e) (record { link = is.link; held = is.held; empty = is.empty })

@@ -10,7 +10,7 @@ use Rattle.vc_packets.specs.declared.packet.Packet.{Packet}
 use Rattle.vc_blocks.specs.declared.in_half.Want.{Want}
 use Rattle.vc_blocks.specs.declared.in_half.Want.TheVariants as want
 use Rattle.vc_vcp.specs.Steps.{IsOpen, Wants, Arrives, Taken, Held, Stored, Complete, More, Finished, Stray}
-use Rattle.vc_vcp.specs.State.{State, HaveOwnNames, IsAckOf, limit_of}
+use Rattle.vc_vcp.specs.State.{State, IsAckOf, limit_of}
 use Rattle.vc_vcp.specs.declared.taken.Taken.{Taken as CodeTaken}
 use Rattle.vc_vcp.specs.declared.taken.Taken.TheVariants as code
 use Rattle.vc_blocks.specs.declared.out_half.Advance.{Advance}
@@ -66,10 +66,9 @@ link_of s link = record {
 abbrev pub seen : State → Vcp
 seen s = record { carrier = carrier_of s; link = link_of s }
 
--- the ends, their names and the limit never change
+-- the ends and the limit never change
 pub record IsKept (old new : State) : Type 0 where
   pub ends : ends_of new ≡ ends_of old
-  pub names : HaveOwnNames old.outputs old.inputs → HaveOwnNames new.outputs new.inputs
   pub limit : limit_of new.ins ≡ limit_of old.ins
 
 -- the message that an input found whole

@@ -56,20 +56,21 @@ abbrev pub limit_of : List Receiving → ℕ
 limit_of [] = 0
 limit_of (x ∷ xs) = x.limit
 
--- There are four links.
-pub record IsWired (s : State) : Type 0 where
-  pub four_out : length s.outs ≡ 4
-  pub four_in : length s.ins ≡ 4
-  pub outputs : AllByRecursion IsOutput s.outputs
-  pub inputs : AllByRecursion IsInput s.inputs
-  pub ins : AllByRecursion (IsLinkIn (limit_of s.ins)) s.ins
-
 -- no channel goes out twice or comes in twice, and each output and each input has a block of its own
 pub record HaveOwnNames (outputs : List Output) (inputs : List Input) : Type 0 where
   pub out_chans : NamesDiffer (λ x. x.chan) outputs
   pub in_chans : NamesDiffer (λ x. x.chan) inputs
   pub out_blocks : NamesDiffer (λ x. x.block) outputs
   pub in_blocks : NamesDiffer (λ x. x.block) inputs
+
+-- There are four links, and each output and each input has names of its own.
+pub record IsWired (s : State) : Type 0 where
+  pub four_out : length s.outs ≡ 4
+  pub four_in : length s.ins ≡ 4
+  pub outputs : AllByRecursion IsOutput s.outputs
+  pub inputs : AllByRecursion IsInput s.inputs
+  pub ins : AllByRecursion (IsLinkIn (limit_of s.ins)) s.ins
+  pub names : HaveOwnNames s.outputs s.inputs
 
 -- the node outputs on the channel, and nothing is under way
 pub record IsIdle (s : State) (chan : ℕ) : Type 0 where

@@ -6,7 +6,7 @@ ghost use Rattle.std.specs.Prelude.{◌≡◌, ◌≢◌, ◌<◌, None, Ok, ℕ
 ghost use Rattle.vc_vcp.specs.Keyed.{by_name};
 ghost use Rattle.std.specs.List.{AllByRecursion};
 ghost use Rattle.vc_blocks.specs.Halves.{IsPiece};
-ghost use Rattle.vc_vcp.specs.State.{IsIdle, IsUnwanted, IsOpen, MayPut, MayGrant, IsPieceOf, HaveOwnNames, limit_of};
+ghost use Rattle.vc_vcp.specs.State.{IsIdle, IsUnwanted, IsOpen, MayPut, MayGrant, IsPieceOf, limit_of};
 ghost use Rattle.vc_vcp.specs.Seen.{ends_of, seen, Inputs, IsKept, taken_of, passed_of, Acks};
 ghost use Rattle.vc_vcp.specs.Links.{new_vcp, Comes, Passes, Sends, SendsFct};
 ghost use Rattle.vc_credit.specs.Ends.{IsFront};
@@ -73,13 +73,13 @@ impl Model for Vcp {
 }
 
 impl Vcp {
-    /// A node's virtual channel processor with these ends and nothing on its links, for packets whose headers and data have at
-    /// most `body_limit` bytes. Where each end has a block and channels of its own, so has each output and each input.
+    /// A node's virtual channel processor with these ends, each with a block and channels of its own, and nothing on its links, for
+    /// packets whose headers and data have at most `body_limit` bytes.
     pub fn new(alloc: Global, ends: &[End], body_limit: usize) -> Result<Vcp, Memory>
-        requires { AllByRecursion (λ e. e.link < 4) ends.now }
+        requires links { AllByRecursion (λ e. e.link < 4) ends.now }
+        requires distinct { AreDistinct ends.now }
         ensures seen { IfOk result (λ vcp. seen vcp ≡ new_vcp) }
         ensures ends { IfOk result (λ vcp. ends_of vcp ≡ ends_given ends.now) }
-        ensures names { AreDistinct ends.now → IfOk result (λ vcp. HaveOwnNames vcp.outputs vcp.inputs) }
         ensures limit { IfOk result (λ vcp. limit_of vcp.ins ≡ body_limit) }
     {
         Ok(Vcp {
@@ -95,9 +95,9 @@ impl Vcp {
     /// A message is offered on a channel that the node outputs on and on which nothing is under way: its first piece is queued.
     pub fn offer(&mut self, chan: u16, message: &[u8]) -> Result<(), Memory>
         requires { IsIdle self.old chan }
-        ensures offers { HaveOwnNames self.old.outputs self.old.inputs → OnOk result (Offers (ends_of self.old) (seen self.old).carrier chan message.now (seen self.new).carrier) }
+        ensures offers { OnOk result (Offers (ends_of self.old) (seen self.old).carrier chan message.now (seen self.new).carrier) }
         ensures links { (seen self.new).link ≡ (seen self.old).link }
-        ensures kept { HaveOwnNames self.old.outputs self.old.inputs → IsKept self.old self.new }
+        ensures kept { IsKept self.old self.new }
         ensures err { OnErr result (self.new ≡ self.old) }
     {
         match output_on(&self.outputs, chan) {
@@ -113,9 +113,9 @@ impl Vcp {
     /// queued, or waits.
     pub fn want(&mut self, chan: u16) -> Result<Want, Memory>
         requires { IsOpen self.old chan }
-        ensures inputs { HaveOwnNames self.old.outputs self.old.inputs → IfOk result (λ w. Inputs (ends_of self.old) (seen self.old).carrier chan w (seen self.new).carrier) }
+        ensures inputs { IfOk result (λ w. Inputs (ends_of self.old) (seen self.old).carrier chan w (seen self.new).carrier) }
         ensures links { (seen self.new).link ≡ (seen self.old).link }
-        ensures kept { HaveOwnNames self.old.outputs self.old.inputs → IsKept self.old self.new }
+        ensures kept { IsKept self.old self.new }
         ensures err { OnErr result (self.new ≡ self.old) }
     {
         match input_on(&self.inputs, chan) {
@@ -166,9 +166,9 @@ impl Vcp {
     /// A channel is stopped: nothing more is taken on it.
     pub fn stopch(&mut self, chan: u16)
         requires { IsUnwanted self.old chan }
-        ensures stops { HaveOwnNames self.old.outputs self.old.inputs → Stops (ends_of self.old) (seen self.old).carrier chan (seen self.new).carrier }
+        ensures stops { Stops (ends_of self.old) (seen self.old).carrier chan (seen self.new).carrier }
         ensures links { (seen self.new).link ≡ (seen self.old).link }
-        ensures kept { HaveOwnNames self.old.outputs self.old.inputs → IsKept self.old self.new }
+        ensures kept { IsKept self.old self.new }
     {
         match input_on(&self.inputs, chan) {
             Some(at) => self.inputs[at].half.stop(),
@@ -257,7 +257,7 @@ impl Vcp {
     pub fn may_pass(&self, link: u8) -> bool
         requires { link < 4 }
         ensures waits { IsTrue result ↔ (((seen self.now).link link).receiver.buffer ≢ []) }
-        ensures can { HaveOwnNames self.now.outputs self.now.inputs → IsTrue result ↔ CanPass (limit_of self.now.ins) (ends_of self.now) (seen self.now) link }
+        ensures can { IsTrue result ↔ CanPass (limit_of self.now.ins) (ends_of self.now) (seen self.now) link }
     {
         !self.ins[usize::from(link)].is_empty()
     }
@@ -354,10 +354,10 @@ impl Vcp {
     #[inline(always)]
     pub fn pass(&mut self, link: u8) -> Result<Option<Taken>, Memory>
         requires { link < 4 }
-        ensures passes { HaveOwnNames self.old.outputs self.old.inputs → ((seen self.old).link link).receiver.buffer ≢ [] → IfOk result (λ t. Passes (limit_of self.old.ins) (ends_of self.old) (seen self.old) link (passed_of t) (seen self.new)) }
+        ensures passes { ((seen self.old).link link).receiver.buffer ≢ [] → IfOk result (λ t. Passes (limit_of self.old.ins) (ends_of self.old) (seen self.old) link (passed_of t) (seen self.new)) }
         ensures bytes { (byte : ℕ) → IsFront ((seen self.old).link link).receiver (Byte byte) → IsOk result }
         ensures quiet { ((seen self.old).link link).receiver.buffer ≡ [] → (result ≡ Ok None) × (self.new ≡ self.old) }
-        ensures kept { HaveOwnNames self.old.outputs self.old.inputs → IsKept self.old self.new }
+        ensures kept { IsKept self.old self.new }
         ensures err { OnErr result (self.new ≡ self.old) }
     {
         match self.ins[usize::from(link)].front() {
@@ -389,8 +389,8 @@ impl Vcp {
     fn pass_mark(&mut self, link: u8, mark: Mark) -> Result<Option<Taken>, Memory>
         requires link { link < 4 }
         requires front { IsFront ((seen self.old).link link).receiver (EndMark mark) }
-        ensures passes { HaveOwnNames self.old.outputs self.old.inputs → IfOk result (λ t. Passes (limit_of self.old.ins) (ends_of self.old) (seen self.old) link (passed_of t) (seen self.new)) }
-        ensures kept { HaveOwnNames self.old.outputs self.old.inputs → IsKept self.old self.new }
+        ensures passes { IfOk result (λ t. Passes (limit_of self.old.ins) (ends_of self.old) (seen self.old) link (passed_of t) (seen self.new)) }
+        ensures kept { IsKept self.old self.new }
         ensures err { OnErr result (self.new ≡ self.old) }
     {
         let at = usize::from(link);
@@ -404,9 +404,9 @@ impl Vcp {
     /// acknowledge has the next piece queued, or finishes the output. What no half may take is dropped and counted: a packet of
     /// no block here, a malformed one, an acknowledge for an idle half, a piece for a full one.
     pub fn take(&mut self, packet: &Packet) -> Result<Taken, Memory>
-        ensures arrives { HaveOwnNames self.old.outputs self.old.inputs → IfOk result (λ t. Arrives (ends_of self.old) (seen self.old).carrier packet.now (taken_of t) (seen self.new).carrier) }
+        ensures arrives { IfOk result (λ t. Arrives (ends_of self.old) (seen self.old).carrier packet.now (taken_of t) (seen self.new).carrier) }
         ensures links { (seen self.new).link ≡ (seen self.old).link }
-        ensures kept { HaveOwnNames self.old.outputs self.old.inputs → IsKept self.old self.new }
+        ensures kept { IsKept self.old self.new }
         ensures err { OnErr result (self.new ≡ self.old) }
     {
         let Some(block) = front_header(packet) else {
@@ -421,9 +421,9 @@ impl Vcp {
 
     // An acknowledge comes to a block.
     fn acked(&mut self, block: u16) -> Result<Taken, Memory>
-        ensures arrives { HaveOwnNames self.old.outputs self.old.inputs → IfOk result (λ t. Acks self.old block (taken_of t) self.new) }
+        ensures arrives { IfOk result (λ t. Acks self.old block (taken_of t) self.new) }
         ensures links { (seen self.new).link ≡ (seen self.old).link }
-        ensures kept { HaveOwnNames self.old.outputs self.old.inputs → IsKept self.old self.new }
+        ensures kept { IsKept self.old self.new }
         ensures err { OnErr result (self.new ≡ self.old) }
     {
         let Some(at) = output_of(&self.outputs, block) else {
@@ -442,9 +442,9 @@ impl Vcp {
     fn arrive(&mut self, block: u16, packet: &Packet) -> Result<Taken, Memory>
         requires piece { IsPiece packet.now }
         requires begins { IsPieceOf block packet.now }
-        ensures arrives { HaveOwnNames self.old.outputs self.old.inputs → IfOk result (λ t. Arrives (ends_of self.old) (seen self.old).carrier packet.now (taken_of t) (seen self.new).carrier) }
+        ensures arrives { IfOk result (λ t. Arrives (ends_of self.old) (seen self.old).carrier packet.now (taken_of t) (seen self.new).carrier) }
         ensures links { (seen self.new).link ≡ (seen self.old).link }
-        ensures kept { HaveOwnNames self.old.outputs self.old.inputs → IsKept self.old self.new }
+        ensures kept { IsKept self.old self.new }
         ensures err { OnErr result (self.new ≡ self.old) }
     {
         let Some(at) = input_of(&self.inputs, block) else {

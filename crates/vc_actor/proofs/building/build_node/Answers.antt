@@ -5,10 +5,11 @@ use Rattle.vc_occam.specs.Runnings.{state, inner_channels}
 use Rattle.vc_occam.specs.Usage.{among}
 use Rattle.vc_plan.specs.Limits.{kinds_of}
 use Rattle.vc_vcp.specs.declared.end.End.{End as Given}
+use Rattle.vc_vcp.specs.Opening.{AreDistinct}
 use Rattle.vc_vcp.specs.Seen.{seen, ends_of}
-use Rattle.vc_vcp.specs.State.{State, HaveOwnNames, limit_of}
+use Rattle.vc_vcp.specs.State.{State, limit_of}
 use Rattle.vc_accepted.specs.Given.{ends_of_node}
-use Rattle.vc_accepted.proofs.Giving.{given_small}
+use Rattle.vc_accepted.proofs.Giving.{given_small, given_distinct}
 use Rattle.vc_told.specs.Begin.{numbers_inside}
 use Rattle.vc_actor.specs.Inside.{opened_inside}
 use Rattle.vc_actor.proofs.Beginning.{begins}
@@ -16,11 +17,17 @@ use Rattle.vc_actor.proofs.Carrying.{ends_are, few_channels}
 use Rattle.vc_actor.proofs.WithinLimits.{node_runs}
 use Rattle.vc_actor.proofs.building.build_node.Goals as goal
 
-pub new-requires : goal.new-requires
-new-requires c =
+pub new-requires-clause-links : goal.new-requires-clause-links
+new-requires-clause-links c =
     let given : c.deref.result.now ≡ ends_of_node c.args.plan.now c.args.number =
     c.deref.ensures.value ∙ c.in_ok-ends.ensures ∙ ends_are c.args.plan.now c.args.ways.now c.requires.ways c.args.number in
     subst (λ es. AllByRecursion (λ (e : Given). e.link < 4) es) (sym given) (given_small c.args.plan.now c.requires.accepted c.args.number)
+
+pub new-requires-clause-distinct : goal.new-requires-clause-distinct
+new-requires-clause-distinct c =
+    let given : c.deref.result.now ≡ ends_of_node c.args.plan.now c.args.number =
+    c.deref.ensures.value ∙ c.in_ok-ends.ensures ∙ ends_are c.args.plan.now c.args.ways.now c.requires.ways c.args.number in
+    subst AreDistinct (sym given) (given_distinct c.args.plan.now c.requires.accepted c.args.number)
 
 pub inside_of-requires : goal.inside_of-requires
 inside_of-requires c =
@@ -66,7 +73,6 @@ returns c =
       given = given;
       shows = ap seen vcp ∙ c.in_ok-vcp.ensures.seen;
       ends = ap ends_of vcp ∙ c.in_ok-vcp.ensures.ends;
-      names = λ h. subst (λ (z : State). HaveOwnNames z.outputs z.inputs) (sym vcp) (c.in_ok-vcp.ensures.names h);
       limit = ap (λ (z : State). limit_of z.ins) vcp ∙ limit ∙ c.body_limit.ensures;
       starts = ap state runs ∙ starts ∙ ap (λ ks. opening ks c.args.node.now.process) kinds;
       channels = ap inner_channels runs ∙ channels ∙ ap among chans;

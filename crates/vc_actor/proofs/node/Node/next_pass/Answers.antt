@@ -10,7 +10,7 @@ use Rattle.vc_actor.proofs.node.Node.next_pass.Goals as goal
 pub returns-then-may_pass-clause-finds : goal.returns-then-may_pass-clause-finds
 returns-then-may_pass-clause-finds c = λ plan k is.
     let v = c.args.self.now.vcp in
-    let can = (c.if-may_pass.ensures.can is.names).0 refl in
+    let can = c.if-may_pass.ensures.can.0 refl in
     (c.loop-link.link, refl, subst (λ m. CanPass m (ends plan k) (seen v) c.loop-link.link) is.limit (subst (λ es. CanPass (limit_of v.ins) es (seen v) c.loop-link.link) is.ends can), c.loop-link.invariant plan k is)
 
 pub returns-clause-finds : goal.returns-clause-finds

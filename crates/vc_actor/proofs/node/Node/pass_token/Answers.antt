@@ -9,12 +9,12 @@ pub returns-in-Some-clause-ok : goal.returns-in-Some-clause-ok
 returns-in-Some-clause-ok c = λ plan k is.
     let v = c.args.self.now.vcp in
     makes_pass plan k c.args.self.now _ c.args.link (passed_of (Some c.in-Some.taken)) is
-    (λ names. subst (λ o. Passes (limit_of v.ins) (ends_of v) (seen v) c.args.link (passed_of o) (seen c.pass.new.self)) c.in-Some.is (c.in_ok-taken.ensures.passes names c.requires.waits))
+    (subst (λ o. Passes (limit_of v.ins) (ends_of v) (seen v) c.args.link (passed_of o) (seen c.pass.new.self)) c.in-Some.is (c.in_ok-taken.ensures.passes c.requires.waits))
     c.in_ok-taken.ensures.kept refl c.go_on.ensures.goes_on
 
 pub returns-in-None-clause-ok : goal.returns-in-None-clause-ok
 returns-in-None-clause-ok c = λ plan k is.
     let v = c.args.self.now.vcp in
     makes_pass plan k c.args.self.now _ c.args.link None is
-    (λ names. subst (λ o. Passes (limit_of v.ins) (ends_of v) (seen v) c.args.link (passed_of o) (seen c.pass.new.self)) c.in-None.is (c.in_ok-taken.ensures.passes names c.requires.waits))
+    (subst (λ o. Passes (limit_of v.ins) (ends_of v) (seen v) c.args.link (passed_of o) (seen c.pass.new.self)) c.in-None.is (c.in_ok-taken.ensures.passes c.requires.waits))
     c.in_ok-taken.ensures.kept refl (λ w. refl)

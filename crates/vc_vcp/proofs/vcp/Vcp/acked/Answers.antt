@@ -12,15 +12,17 @@ use Rattle.vc_vcp.proofs.Wired.{wired-output, all-at}
 use Rattle.vc_vcp.proofs.vcp.Vcp.acked.Goals as goal
 
 pub returns-in_default-clause-arrives : goal.returns-in_default-clause-arrives
-returns-in_default-clause-arrives c = λ names.
+returns-in_default-clause-arrives c =
+    let own = subst (λ z. HaveOwnNames z.outputs z.inputs) c.self.view_is c.self.invariant.names in
     let x = c.self.inside in
     let s = c.args.self.now in
     let none = subst (λ z. named (λ x. x.block) c.args.block z.outputs ≡ None) c.self.view_is
     (subst (λ z. named (λ x. x.block) c.args.block z ≡ None) c.deref.ensures.value c.in_default.ensures.found) in
-    ack_strays s c.stray.new.self c.args.block (taken_of c.stray.result) names (idle_none s c.args.block none) c.stray.ensures.stray c.stray.ensures.counted
+    ack_strays s c.stray.new.self c.args.block (taken_of c.stray.result) own (idle_none s c.args.block none) c.stray.ensures.stray c.stray.ensures.counted
 
 pub returns-then-is_idle-clause-arrives : goal.returns-then-is_idle-clause-arrives
-returns-then-is_idle-clause-arrives c = λ names.
+returns-then-is_idle-clause-arrives c =
+    let own = subst (λ z. HaveOwnNames z.outputs z.inputs) c.self.view_is c.self.invariant.names in
     let x = c.self.inside in
     let s = c.args.self.now in
     let i = c.in-Some.at in
@@ -29,7 +31,7 @@ returns-then-is_idle-clause-arrives c = λ names.
     let here = slice_get_read x.outputs.items (length x.outputs.items) i a refl within c.index.ensures in
     let found : slice_get x.outputs.items i ≡ named (λ x. x.block) c.args.block x.outputs.items = subst (λ z. slice_get z i ≡ named (λ x. x.block) c.args.block z) c.deref.ensures.value c.in-Some.ensures.found in
     let some = subst (λ z. named (λ x. x.block) c.args.block z.outputs ≡ Some a) c.self.view_is (sym found ∙ here) in
-    ack_strays s c.stray-then-is_idle.new.self c.args.block (taken_of c.stray-then-is_idle.result) names
+    ack_strays s c.stray-then-is_idle.new.self c.args.block (taken_of c.stray-then-is_idle.result) own
     (idle_some s c.args.block a some (c.is_idle.ensures.0 c.if-is_idle.true)) c.stray-then-is_idle.ensures.stray c.stray-then-is_idle.ensures.counted
 
 pub invariant_of-self : goal.invariant_of-self
@@ -41,11 +43,20 @@ invariant_of-self c =
     let here = slice_get_read x.outputs.items (length x.outputs.items) i a refl (subst (λ z. i < length z) c.deref.ensures.value c.in-Some.ensures.within) c.index_mut.ensures.value in
     wired-output o i c.from-link.result a c.acked.new.self c.acked.new.queue c.self.invariant here c.acked.ensures.stays (c.acked.ensures.is (all-at IsOutput x.outputs.items i a c.self.invariant.outputs here))
 
-pub returns-clause-arrives : goal.returns-clause-arrives
-returns-clause-arrives c = λ names.
+pub invariant_of-self-2 : goal.invariant_of-self-2
+invariant_of-self-2 c =
     let x = c.self.inside in
     let o : State = record { outputs = x.outputs.items; inputs = x.inputs.items; outs = x.outs.items; ins = x.ins.items; strays = x.strays } in
-    let own = subst (λ z. HaveOwnNames z.outputs z.inputs) (sym c.self.view_is) names in
+    let i = c.in-Some.at in
+    let a = c.index_mut.result.now in
+    let here = slice_get_read x.outputs.items (length x.outputs.items) i a refl (subst (λ z. i < length z) c.deref.ensures.value c.in-Some.ensures.within) c.index_mut.ensures.value in
+    wired-output o i c.from-link.result a c.acked.new.self c.acked.new.queue c.self.invariant here c.acked.ensures.stays (c.acked.ensures.is (all-at IsOutput x.outputs.items i a c.self.invariant.outputs here))
+
+pub returns-clause-arrives : goal.returns-clause-arrives
+returns-clause-arrives c =
+    let x = c.self.inside in
+    let o : State = record { outputs = x.outputs.items; inputs = x.inputs.items; outs = x.outs.items; ins = x.ins.items; strays = x.strays } in
+    let own = c.self.invariant.names in
     let i = c.in-Some.at in
     let k = c.from-link.result in
     let a = c.index_mut.result.now in
@@ -82,10 +93,10 @@ returns-clause-links c =
     (links-output o i k c.acked.new.self q c.acked.new.queue out c.acked.ensures.sender)
 
 pub returns-clause-kept : goal.returns-clause-kept
-returns-clause-kept c = λ names.
+returns-clause-kept c =
     let x = c.self.inside in
     let o : State = record { outputs = x.outputs.items; inputs = x.inputs.items; outs = x.outs.items; ins = x.ins.items; strays = x.strays } in
-    let own = subst (λ z. HaveOwnNames z.outputs z.inputs) (sym c.self.view_is) names in
+    let own = c.self.invariant.names in
     let i = c.in-Some.at in
     let a = c.index_mut.result.now in
     let here = slice_get_read x.outputs.items (length x.outputs.items) i a refl (subst (λ z. i < length z) c.deref.ensures.value c.in-Some.ensures.within) c.index_mut.ensures.value in

@@ -15,15 +15,17 @@ use Rattle.vc_vcp.proofs.Wired.{wired-input, wired-outs, all-at}
 use Rattle.vc_vcp.proofs.vcp.Vcp.arrive.Goals as goal
 
 pub returns-in_default-clause-arrives : goal.returns-in_default-clause-arrives
-returns-in_default-clause-arrives c = λ names.
+returns-in_default-clause-arrives c =
+    let own = subst (λ z. HaveOwnNames z.outputs z.inputs) c.self.view_is c.self.invariant.names in
     let s = c.args.self.now in
     let w = subst (λ z. AllByRecursion IsInput z.inputs) c.self.view_is c.self.invariant.inputs in
     let none = subst (λ z. named (λ x. x.block) c.args.block z.inputs ≡ None) c.self.view_is
     (subst (λ z. named (λ x. x.block) c.args.block z ≡ None) c.deref.ensures.value c.in_default.ensures.found) in
-    piece_strays s c.stray.new.self c.args.packet.now c.args.block (taken_of c.stray.result) names w c.requires.begins (full_none s c.args.block none) c.stray.ensures.stray c.stray.ensures.counted
+    piece_strays s c.stray.new.self c.args.packet.now c.args.block (taken_of c.stray.result) own w c.requires.begins (full_none s c.args.block none) c.stray.ensures.stray c.stray.ensures.counted
 
 pub returns-then-not-may_arrive-clause-arrives : goal.returns-then-not-may_arrive-clause-arrives
-returns-then-not-may_arrive-clause-arrives c = λ names.
+returns-then-not-may_arrive-clause-arrives c =
+    let own = subst (λ z. HaveOwnNames z.outputs z.inputs) c.self.view_is c.self.invariant.names in
     let x = c.self.inside in
     let s = c.args.self.now in
     let i = c.in-Some.at in
@@ -34,7 +36,7 @@ returns-then-not-may_arrive-clause-arrives c = λ names.
     let found : slice_get x.inputs.items i ≡ named (λ x. x.block) c.args.block x.inputs.items = subst (λ z. slice_get z i ≡ named (λ x. x.block) c.args.block z) c.deref.ensures.value c.in-Some.ensures.found in
     let some = subst (λ z. named (λ x. x.block) c.args.block z.inputs ≡ Some a) c.self.view_is (sym found ∙ here) in
     let full = λ (none : a.half.held ≡ None). (let t : c.may_arrive.result ≡ true = c.may_arrive.ensures.1 none in let f : c.may_arrive.result ≡ false = c.if-not-may_arrive.true in absurd (cc)) in
-    piece_strays s c.stray-then-not-may_arrive.new.self c.args.packet.now c.args.block (taken_of c.stray-then-not-may_arrive.result) names w c.requires.begins
+    piece_strays s c.stray-then-not-may_arrive.new.self c.args.packet.now c.args.block (taken_of c.stray-then-not-may_arrive.result) own w c.requires.begins
     (full_some s c.args.block a some full) c.stray-then-not-may_arrive.ensures.stray c.stray-then-not-may_arrive.ensures.counted
 
 pub invariant_of-self-2 : goal.invariant_of-self-2
@@ -51,10 +53,10 @@ invariant_of-self-2 c =
     (c.arrive.ensures.is (all-at IsInput x.inputs.items i a c.self.invariant.inputs here) (subst (λ z. IsPieceOf z c.args.packet.now) (sym block) c.requires.begins)))
 
 pub returns-clause-arrives : goal.returns-clause-arrives
-returns-clause-arrives c = λ names.
+returns-clause-arrives c =
     let x = c.self.inside in
     let o : State = record { outputs = x.outputs.items; inputs = x.inputs.items; outs = x.outs.items; ins = x.ins.items; strays = x.strays } in
-    let own = subst (λ z. HaveOwnNames z.outputs z.inputs) (sym c.self.view_is) names in
+    let own = c.self.invariant.names in
     let i = c.in-Some.at in
     let k = c.from-link.result in
     let a = c.index_mut.result.now in
@@ -92,10 +94,10 @@ returns-clause-links c =
     (links-input o i k c.arrive.new.self q c.arrive.new.queue out c.arrive.ensures.sender)
 
 pub returns-clause-kept : goal.returns-clause-kept
-returns-clause-kept c = λ names.
+returns-clause-kept c =
     let x = c.self.inside in
     let o : State = record { outputs = x.outputs.items; inputs = x.inputs.items; outs = x.outs.items; ins = x.ins.items; strays = x.strays } in
-    let own = subst (λ z. HaveOwnNames z.outputs z.inputs) (sym c.self.view_is) names in
+    let own = c.self.invariant.names in
     let i = c.in-Some.at in
     let a = c.index_mut.result.now in
     let here = slice_get_read x.inputs.items (length x.inputs.items) i a refl (subst (λ z. i < length z) c.deref.ensures.value c.in-Some.ensures.within) c.index_mut.ensures.value in

@@ -1,16 +1,14 @@
 use Rattle.std.proofs.Common.{◌≡◌, subst, sym, ◌∙◌}
 use Rattle.vc_vcp.specs.State.{IsWired}
 use Rattle.vc_vcp.specs.Seen.{seen, ends_of}
-use Rattle.vc_vcp.specs.State.{HaveOwnNames}
-use Rattle.vc_vcp.specs.Opening.{opened_outputs}
-use Rattle.vc_vcp.proofs.Opened.{begun, begun_wired, begun_seen, begun_ends, begun_names}
+use Rattle.vc_vcp.proofs.Opened.{begun, begun_wired, begun_seen, begun_ends}
 use Rattle.vc_vcp.proofs.vcp.Vcp.new.Goals as goal
 
 pub invariant_of-result : goal.invariant_of-result
 invariant_of-result c =
     let is : begun c.args.ends.now c.args.body_limit ≡ record { outputs = c.in_ok-outputs.field-0.items; inputs = c.in_ok-inputs.field-0.items; outs = c.in_ok-outs.field-0.items; ins = c.in_ok-ins.field-0.items; strays = 0 } =
     (λ i. record { outputs = sym c.in_ok-outputs.ensures i; inputs = sym c.in_ok-inputs.ensures i; outs = sym c.in_ok-outs.ensures i; ins = sym c.in_ok-ins.ensures i; strays = 0 }) in
-    subst IsWired is (begun_wired c.args.ends.now c.args.body_limit c.requires)
+    subst IsWired is (begun_wired c.args.ends.now c.args.body_limit c.requires.links c.requires.distinct)
 
 pub returns-clause-seen : goal.returns-clause-seen
 returns-clause-seen c =
@@ -19,6 +17,3 @@ returns-clause-seen c =
 pub returns-clause-ends : goal.returns-clause-ends
 returns-clause-ends c =
     (λ i. ends_of (record { outputs = c.in_ok-outputs.ensures i; inputs = c.in_ok-inputs.ensures i; outs = c.in_ok-outs.ensures i; ins = c.in_ok-ins.ensures i; strays = 0 })) ∙ begun_ends c.args.ends.now c.args.body_limit
-
-pub returns-clause-names : goal.returns-clause-names
-returns-clause-names c = λ h. subst (λ os. HaveOwnNames os c.in_ok-inputs.field-0.items) (sym c.in_ok-outputs.ensures) (subst (λ is. HaveOwnNames (opened_outputs c.args.ends.now) is) (sym c.in_ok-inputs.ensures) (begun_names c.args.ends.now h))

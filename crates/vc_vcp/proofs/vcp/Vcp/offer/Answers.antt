@@ -1,6 +1,6 @@
 use Rattle.std.proofs.Common.{◌≡◌, ◌<◌, refl, sym, ◌∙◌, subst, ap, length, slice_get, Some, [], OnOk}
 use Rattle.std.proofs.lemmas.Option.{slice_get_read}
-use Rattle.vc_vcp.specs.State.{State, HaveOwnNames, IsOutput}
+use Rattle.vc_vcp.specs.State.{State, IsOutput}
 use Rattle.vc_vcp.proofs.Wired.{wired-output, all-at}
 use Rattle.vc_vcp.specs.Keyed.{named}
 use Rattle.vc_vcp.specs.Seen.{seen, ends_of, carrier_of, IsKept}
@@ -20,10 +20,10 @@ invariant_of-self c =
     wired-output o i c.from-link.result a c.offer.new.self c.offer.new.queue c.self.invariant here c.offer.ensures.stays (c.offer.ensures.is (all-at IsOutput x.outputs.items i a c.self.invariant.outputs here))
 
 pub returns-clause-offers : goal.returns-clause-offers
-returns-clause-offers c = λ names.
+returns-clause-offers c =
     let x = c.self.inside in
     let o : State = record { outputs = x.outputs.items; inputs = x.inputs.items; outs = x.outs.items; ins = x.ins.items; strays = x.strays } in
-    let own = subst (λ z. HaveOwnNames z.outputs z.inputs) (sym c.self.view_is) names in
+    let own = c.self.invariant.names in
     let i = c.in-Some.at in
     let k = c.from-link.result in
     let a = c.index_mut.result.now in
@@ -45,10 +45,10 @@ returns-clause-offers c = λ names.
     c.offer.ensures.ok)
 
 pub returns-clause-kept : goal.returns-clause-kept
-returns-clause-kept c = λ names.
+returns-clause-kept c =
     let x = c.self.inside in
     let o : State = record { outputs = x.outputs.items; inputs = x.inputs.items; outs = x.outs.items; ins = x.ins.items; strays = x.strays } in
-    let own = subst (λ z. HaveOwnNames z.outputs z.inputs) (sym c.self.view_is) names in
+    let own = c.self.invariant.names in
     let i = c.in-Some.at in
     let a = c.index_mut.result.now in
     let here = slice_get_read x.outputs.items (length x.outputs.items) i a refl (subst (λ z. i < length z) c.deref.ensures.value c.in-Some.ensures.within) c.index_mut.ensures.value in

@@ -23,7 +23,7 @@ invariant_of-self c =
     wired_passing n k z c.pass_mark.new.self (EndMark c.args.mark) c.self-2.invariant there (c.pass_mark.ensures.front c.args.mark front) (ap (λ a. a.limit) c.pass_mark.ensures.after)
 
 pub returns-clause-passes : goal.returns-clause-passes
-returns-clause-passes c = λ names.
+returns-clause-passes c =
     let s = c.args.self.now in
     let x = c.self.inside in
     let y = c.self-2.inside in
@@ -36,7 +36,7 @@ returns-clause-passes c = λ names.
     let there = slice_get_read y.ins.items 4 k z (sym c.self-2.invariant.four_in) within c.index_mut.ensures.value in
     let links = subst (λ a. link_of a ≡ link_of s) (sym c.self-2.view_is) c.take.ensures.links in
     let front = front_at s n k z (EndMark c.args.mark) links there (subst (λ j. IsFront (link_of s j).receiver (EndMark c.args.mark)) (sym c.from-at.ensures) c.requires.front) in
-    let arrives = subst (λ a. Arrives (ends_of s) (carrier_of s) c.in_ok-packet.packet (taken_of c.in_ok-taken.taken) (carrier_of a)) (sym c.self-2.view_is) (c.in_ok-taken.ensures.arrives names) in
+    let arrives = subst (λ a. Arrives (ends_of s) (carrier_of s) c.in_ok-packet.packet (taken_of c.in_ok-taken.taken) (carrier_of a)) (sym c.self-2.view_is) c.in_ok-taken.ensures.arrives in
     subst (λ j. Passes (limit_of s.ins) (ends_of s) (seen s) j (Some (taken_of c.in_ok-taken.taken)) (seen (record n { ins = slice_set y.ins.items k c.pass_mark.new.self }))) c.from-at.ensures
     (mark_passes s n k (limit_of s.ins) c.index.result.now z c.pass_mark.new.self c.args.mark c.in_ok-packet.packet (taken_of c.in_ok-taken.taken) here c.in_ok-packet.ensures arrives links there
     (c.pass_mark.ensures.front c.args.mark front) c.pass_mark.ensures.after)

@@ -4,7 +4,7 @@ use Rattle.vc_vcp.specs.declared.input.Input.{Input}
 use Rattle.vc_vcp.specs.Keyed.{named}
 use Rattle.vc_vcp.specs.Seen.{seen, ends_of, carrier_of, IsKept}
 use Rattle.vc_vcp.specs.Steps.{Stops}
-use Rattle.vc_vcp.specs.State.{State, HaveOwnNames, IsInput}
+use Rattle.vc_vcp.specs.State.{State, IsInput}
 use Rattle.vc_vcp.proofs.KeyedLemmas.{named_has}
 use Rattle.vc_vcp.proofs.Placed.{same_read}
 use Rattle.vc_vcp.proofs.Stopping.{stops, kept-stop}
@@ -22,10 +22,10 @@ invariant_of-self c =
     (stopped_input a c.stop.new.self c.stop.ensures (all-at IsInput x.inputs.items i a c.self.invariant.inputs here))
 
 pub returns-clause-stops : goal.returns-clause-stops
-returns-clause-stops c = λ names.
+returns-clause-stops c =
     let x = c.self.inside in
     let o : State = record { outputs = x.outputs.items; inputs = x.inputs.items; outs = x.outs.items; ins = x.ins.items; strays = x.strays } in
-    let own = subst (λ z. HaveOwnNames z.outputs z.inputs) (sym c.self.view_is) names in
+    let own = c.self.invariant.names in
     let i = c.in-Some.at in
     let a = c.index_mut.result.now in
     let new : Input = record a { half = c.stop.new.self } in
@@ -37,10 +37,10 @@ returns-clause-stops c = λ names.
     (stops o i c.args.chan a new own here (named_has (λ x. x.chan) c.args.chan x.inputs.items a (sym found ∙ here)) idle (λ t. record a { half = c.stop.ensures t }))
 
 pub returns-clause-kept : goal.returns-clause-kept
-returns-clause-kept c = λ names.
+returns-clause-kept c =
     let x = c.self.inside in
     let o : State = record { outputs = x.outputs.items; inputs = x.inputs.items; outs = x.outs.items; ins = x.ins.items; strays = x.strays } in
-    let own = subst (λ z. HaveOwnNames z.outputs z.inputs) (sym c.self.view_is) names in
+    let own = c.self.invariant.names in
     let i = c.in-Some.at in
     let a = c.index_mut.result.now in
     let new : Input = record a { half = c.stop.new.self } in

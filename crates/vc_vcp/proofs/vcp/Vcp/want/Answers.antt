@@ -2,7 +2,7 @@ use Rattle.std.proofs.Common.{◌≡◌, ◌<◌, false, Some, IfOk, slice_get, 
 use Rattle.std.proofs.lemmas.Option.{slice_get_read}
 use Rattle.vc_vcp.specs.Keyed.{named}
 use Rattle.vc_vcp.specs.Seen.{seen, ends_of, carrier_of, Inputs, IsKept}
-use Rattle.vc_vcp.specs.State.{State, HaveOwnNames, IsInput}
+use Rattle.vc_vcp.specs.State.{State, IsInput}
 use Rattle.vc_vcp.proofs.Inputting.{inputs_ok, kept-input}
 use Rattle.vc_vcp.proofs.KeyedLemmas.{named_has}
 use Rattle.vc_vcp.proofs.Placed.{same_read}
@@ -21,10 +21,10 @@ invariant_of-self c =
     (wired-input o i a c.want.new.self c.self.invariant here c.want.ensures.stays (c.want.ensures.is (all-at IsInput x.inputs.items i a c.self.invariant.inputs here)))
 
 pub returns-clause-inputs : goal.returns-clause-inputs
-returns-clause-inputs c = λ names.
+returns-clause-inputs c =
     let x = c.self.inside in
     let o : State = record { outputs = x.outputs.items; inputs = x.inputs.items; outs = x.outs.items; ins = x.ins.items; strays = x.strays } in
-    let own = subst (λ z. HaveOwnNames z.outputs z.inputs) (sym c.self.view_is) names in
+    let own = c.self.invariant.names in
     let i = c.in-Some.at in
     let k = c.from-link.result in
     let a = c.index_mut.result.now in
@@ -44,10 +44,10 @@ returns-clause-inputs c = λ names.
     (inputs_ok o i k c.args.chan a c.want.new.self q c.want.new.queue c.want.result own here (named_has (λ x. x.chan) c.args.chan x.inputs.items a (sym found ∙ here)) along out idle going is.held c.want.ensures.want c.want.ensures.input c.want.ensures.queue)
 
 pub returns-clause-kept : goal.returns-clause-kept
-returns-clause-kept c = λ names.
+returns-clause-kept c =
     let x = c.self.inside in
     let o : State = record { outputs = x.outputs.items; inputs = x.inputs.items; outs = x.outs.items; ins = x.ins.items; strays = x.strays } in
-    let own = subst (λ z. HaveOwnNames z.outputs z.inputs) (sym c.self.view_is) names in
+    let own = c.self.invariant.names in
     let i = c.in-Some.at in
     let k = c.from-link.result in
     let a = c.index_mut.result.now in
