@@ -73,6 +73,12 @@ found_at name k xs i x less is e passed =
     ∙ ap (named name k) (sym (drop-cons xs i x less))
     ∙ passed
 
+-- an element of the name, wherever it stands, is the one that is found
+pub likely_at : {X : Type 0} (name : X → ℕ) (k : ℕ) (xs : List X) (i : ℕ) (x : X) → NamesDiffer name xs → i < length xs → name (get_or xs i x) ≡ k → slice_get xs i ≡ named name k xs
+likely_at name k xs i x differ less e =
+    let there = slice_get-get_or xs i x less in
+    there ∙ sym (named_at name xs i (get_or xs i x) differ there) ∙ ap (λ m. named name m xs) e
+
 -- what a name finds has that name
 pub named_has : {X : Type 0} (name : X → ℕ) (k : ℕ) (xs : List X) (x : X) → named name k xs ≡ Some x → name x ≡ k
 named_has name k [] x e = absurd (cc)

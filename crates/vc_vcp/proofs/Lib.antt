@@ -13,3 +13,4 @@ pub mod Taking
 pub mod Passing
 pub mod Enabling
 pub mod Arriving
+pub mod Hinting

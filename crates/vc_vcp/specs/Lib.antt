@@ -9,3 +9,4 @@ pub mod Queued
 pub mod State
 pub mod Seen
 pub mod Opening
+pub mod Hinted

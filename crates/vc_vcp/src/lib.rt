@@ -15,6 +15,7 @@
 #![tactic(auto)]
 
 mod end;
+mod hints;
 mod input;
 mod laws;
 mod link_in;

@@ -21,6 +21,7 @@ ghost use Rattle.vc_tokens.specs.Tokens.{Byte, Fct, EndMark};
 ghost use Rattle.vc_credit.specs.Laws.{NeedsPlace};
 
 use crate::end::End;
+use crate::hints::Hints;
 use crate::input::Input;
 use crate::link_in::LinkIn;
 use crate::link_out::LinkOut;
@@ -43,6 +44,8 @@ pub struct Vcp {
     outs: Vec<LinkOut>,
     ins: Vec<LinkIn>,
     strays: u64,
+    output_hints: Hints,
+    input_hints: Hints,
 }
 
 impl Drop for Vcp {
@@ -55,6 +58,8 @@ impl Drop for Vcp {
             outs: _,
             ins: _,
             strays: _,
+            output_hints: _,
+            input_hints: _,
         } = self;
     }
 }
@@ -82,13 +87,19 @@ impl Vcp {
         ensures ends { IfOk result (λ vcp. ends_of vcp ≡ ends_given ends.now) }
         ensures limit { IfOk result (λ vcp. limit_of vcp.ins ≡ body_limit) }
     {
+        let outputs = opening::outputs(alloc, ends)?;
+        let inputs = opening::inputs(alloc, ends)?;
+        let output_hints = Hints::of_outputs(&outputs);
+        let input_hints = Hints::of_inputs(&inputs);
         Ok(Vcp {
             alloc,
-            outputs: opening::outputs(alloc, ends)?,
-            inputs: opening::inputs(alloc, ends)?,
+            outputs,
+            inputs,
             outs: opening::outs(alloc)?,
             ins: opening::ins(alloc, body_limit)?,
             strays: 0,
+            output_hints,
+            input_hints,
         })
     }
 
@@ -100,7 +111,7 @@ impl Vcp {
         ensures kept { IsKept self.old self.new }
         ensures err { OnErr result (self.new ≡ self.old) }
     {
-        match output_on(&self.outputs, chan) {
+        match output_on(&self.outputs, self.output_hints.on_chan(chan), chan) {
             Some(at) => {
                 let link = usize::from(self.outputs[at].link);
                 self.outputs[at].offer(&mut self.outs[link], self.alloc, message)
@@ -118,7 +129,7 @@ impl Vcp {
         ensures kept { IsKept self.old self.new }
         ensures err { OnErr result (self.new ≡ self.old) }
     {
-        match input_on(&self.inputs, chan) {
+        match input_on(&self.inputs, self.input_hints.on_chan(chan), chan) {
             Some(at) => {
                 let link = usize::from(self.inputs[at].link);
                 self.inputs[at].want(&mut self.outs[link], self.alloc)
@@ -132,7 +143,7 @@ impl Vcp {
         ensures idle { IsTrue result ↔ IsIdle self.now chan }
         ensures can { (m : List ℕ) → IsTrue result ↔ CanOffer (ends_of self.now) (seen self.now).carrier chan m }
     {
-        match output_on(&self.outputs, chan) {
+        match output_on(&self.outputs, self.output_hints.on_chan(chan), chan) {
             Some(at) => self.outputs[at].half.is_idle(),
             None => false,
         }
@@ -143,7 +154,7 @@ impl Vcp {
         ensures open { IsTrue result ↔ IsOpen self.now chan }
         ensures can { IsTrue result ↔ CanWant (ends_of self.now) (seen self.now).carrier chan }
     {
-        match input_on(&self.inputs, chan) {
+        match input_on(&self.inputs, self.input_hints.on_chan(chan), chan) {
             Some(at) => {
                 let half = &self.inputs[at].half;
                 !half.wants() && !half.is_stopped()
@@ -157,7 +168,7 @@ impl Vcp {
         ensures ready { IsTrue result ↔ IsReady ((seen self.now).carrier.into chan) }
         ensures can { IsOpen self.now chan → IsTrue result ↔ CanFetch (ends_of self.now) (seen self.now).carrier chan }
     {
-        match input_on(&self.inputs, chan) {
+        match input_on(&self.inputs, self.input_hints.on_chan(chan), chan) {
             Some(at) => self.inputs[at].half.ready(),
             None => false,
         }
@@ -170,7 +181,7 @@ impl Vcp {
         ensures links { (seen self.new).link ≡ (seen self.old).link }
         ensures kept { IsKept self.old self.new }
     {
-        match input_on(&self.inputs, chan) {
+        match input_on(&self.inputs, self.input_hints.on_chan(chan), chan) {
             Some(at) => self.inputs[at].half.stop(),
             None => unreachable!(),
         }
@@ -181,7 +192,7 @@ impl Vcp {
         ensures unwanted { IsTrue result ↔ IsUnwanted self.now chan }
         ensures can { IsTrue result ↔ CanStop (ends_of self.now) (seen self.now).carrier chan }
     {
-        match input_on(&self.inputs, chan) {
+        match input_on(&self.inputs, self.input_hints.on_chan(chan), chan) {
             Some(at) => !self.inputs[at].half.wants(),
             None => false,
         }
@@ -191,7 +202,7 @@ impl Vcp {
     pub fn offered(&self, chan: u16) -> &[Items<u8>]
         ensures { result.now ≡ ((seen self.now).carrier.out chan).offered }
     {
-        match output_on(&self.outputs, chan) {
+        match output_on(&self.outputs, self.output_hints.on_chan(chan), chan) {
             Some(at) => self.outputs[at].offered.as_slice(),
             None => &[],
         }
@@ -201,7 +212,7 @@ impl Vcp {
     pub fn finished(&self, chan: u16) -> u64
         ensures { result ≡ ((seen self.now).carrier.out chan).finished }
     {
-        match output_on(&self.outputs, chan) {
+        match output_on(&self.outputs, self.output_hints.on_chan(chan), chan) {
             Some(at) => self.outputs[at].finished(),
             None => 0,
         }
@@ -211,7 +222,7 @@ impl Vcp {
     pub fn taken(&self, chan: u16) -> &[Items<u8>]
         ensures { result.now ≡ ((seen self.now).carrier.into chan).taken }
     {
-        match input_on(&self.inputs, chan) {
+        match input_on(&self.inputs, self.input_hints.on_chan(chan), chan) {
             Some(at) => self.inputs[at].taken.as_slice(),
             None => &[],
         }
@@ -221,7 +232,7 @@ impl Vcp {
     pub fn stopped(&self, chan: u16) -> bool
         ensures { result ≡ ((seen self.now).carrier.into chan).stopped }
     {
-        match input_on(&self.inputs, chan) {
+        match input_on(&self.inputs, self.input_hints.on_chan(chan), chan) {
             Some(at) => self.inputs[at].half.is_stopped(),
             None => false,
         }
@@ -231,7 +242,7 @@ impl Vcp {
     pub fn holds(&self, chan: u16) -> bool
         ensures { IsTrue result ↔ (((seen self.now).carrier.into chan).held ≢ None) }
     {
-        match input_on(&self.inputs, chan) {
+        match input_on(&self.inputs, self.input_hints.on_chan(chan), chan) {
             Some(at) => self.inputs[at].half.held().is_some(),
             None => false,
         }
@@ -426,7 +437,7 @@ impl Vcp {
         ensures kept { IsKept self.old self.new }
         ensures err { OnErr result (self.new ≡ self.old) }
     {
-        let Some(at) = output_of(&self.outputs, block) else {
+        let Some(at) = output_of(&self.outputs, self.output_hints.of_block(block), block) else {
             return Ok(self.stray());
         };
         if self.outputs[at].half.is_idle() {
@@ -447,7 +458,7 @@ impl Vcp {
         ensures kept { IsKept self.old self.new }
         ensures err { OnErr result (self.new ≡ self.old) }
     {
-        let Some(at) = input_of(&self.inputs, block) else {
+        let Some(at) = input_of(&self.inputs, self.input_hints.of_block(block), block) else {
             return Ok(self.stray());
         };
         if !self.inputs[at].half.may_arrive() {

@@ -1,7 +1,6 @@
-use Rattle.vc_vcp.proofs.KeyedLemmas.{found_at}
+use Rattle.vc_vcp.proofs.KeyedLemmas.{likely_at}
 use Rattle.vc_vcp.proofs.places.output_on.Goals as goal
 
-pub returns-then-output-chan-clause-found : goal.returns-then-output-chan-clause-found
-returns-then-output-chan-clause-found c =
-    let x = c.index-outputs-i in
-    found_at (λ x. x.chan) c.args.chan c.args.outputs.now c.loop-i.i x.result c.loop-i-test.true x.is c.if-output-chan.true c.loop-i.invariant
+pub returns-then-outputs-hint-clause-found : goal.returns-then-outputs-hint-clause-found
+returns-then-outputs-hint-clause-found c =
+    likely_at (λ x. x.chan) c.args.chan c.args.outputs.now c.args.hint c.index-outputs-hint.result c.requires c.if-hint-outputs.true c.if-outputs-hint.true

@@ -6,7 +6,7 @@ use Rattle.vc_vcp.proofs.vcp.Vcp.new.Goals as goal
 
 pub invariant_of-result : goal.invariant_of-result
 invariant_of-result c =
-    let is : begun c.args.ends.now c.args.body_limit ≡ record { outputs = c.in_ok-outputs.field-0.items; inputs = c.in_ok-inputs.field-0.items; outs = c.in_ok-outs.field-0.items; ins = c.in_ok-ins.field-0.items; strays = 0 } =
+    let is : begun c.args.ends.now c.args.body_limit ≡ record { outputs = c.in_ok-outputs.outputs.items; inputs = c.in_ok-inputs.inputs.items; outs = c.in_ok-outs.field-0.items; ins = c.in_ok-ins.field-0.items; strays = 0 } =
     (λ i. record { outputs = sym c.in_ok-outputs.ensures i; inputs = sym c.in_ok-inputs.ensures i; outs = sym c.in_ok-outs.ensures i; ins = sym c.in_ok-ins.ensures i; strays = 0 }) in
     subst IsWired is (begun_wired c.args.ends.now c.args.body_limit c.requires.links c.requires.distinct)
 
