@@ -3,6 +3,7 @@ use Rattle.std.proofs.Common.{◌≡◌, ℕ, zero, suc, length, Bool, true, fal
 use Rattle.std.specs.List.Sorted.{IsNonDecreasingBy, IsPartitionPoint}
 use Rattle.std.specs.Prelude.{slice_get, slice_index_or, nat_le, if◌then◌else◌, ◌==◌, ◌-◌}
 use Rattle.std.proofs.lemmas.Bool.Decides.{nat_tests}
+use lib.ListN.{get_or}
 use Rattle.vc_occam.specs.declared.deed.Deed.{Deed}
 use Rattle.vc_occam.specs.declared.frame.Frame.{Frame}
 use Rattle.vc_occam.specs.declared.frame.Frame.TheViews.{out-Frame}
@@ -323,3 +324,38 @@ together_did k i vs ws p at e f s d h q c a =
     subst (λ (j : Kind). Did (together j vs) e s d (together j ws) f) (sym h)
     (subst (λ us. Did (besides vs) e s d (besides us) f) (sym c.1)
     (besides_did vs p c.0 e f s d (ap plans (sym c.1) ∙ q) (subst (λ us. Did (part_rest (slice_get vs p)) e s d (part_rest (slice_get us p)) f) c.1 a)))
+
+-- a part begins at the site of the first one or behind it
+rises : (x : Frame) (fs : List Frame) (k : ℕ) (f : Frame) → PartsInPreorder (plans_of (views (x ∷ fs))) → k < length (x ∷ fs) → f ≡ get_or (x ∷ fs) k f → site (view x).0 ≤ site (view f).0
+rises x fs zero f h l e = let z = ap (λ (g : Frame). site (view g).0) e in omega arith
+rises x fs (suc k) f h l e =
+    let a = subst (λ (g : Frame). sites_all (plans_of (views fs)) (site (view g).0) ≡ true) (sym e) (has_site fs k f (omega arith)) in
+    let z = h.0 (site (view x).0) (site (view f).0) (own_site (view x).0) a in
+    omega arith
+
+-- a part that begins at a site or before it has the site, where none stands behind it
+pub last_has : (fs : List Frame) (k i : ℕ) (f : Frame) → PartsInPreorder (plans_of (views fs)) → suc k ≡ length fs → f ≡ get_or fs k f → (out-Frame f).site ≤ i → k ≡ place_with i (views fs)
+last_has [] k i f h l e le = absurd (omega arith)
+last_has (x ∷ []) zero i f h l e le = refl
+last_has (x ∷ []) (suc k) i f h l e le = absurd (omega arith)
+last_has (x ∷ y ∷ fs) zero i f h l e le = absurd (omega arith)
+last_has (x ∷ y ∷ fs) (suc k) i f h l e le =
+    let z = frame_site f in
+    let r = rises y fs k f h.2 (omega arith) e in
+    let t : nat_le (site (view y).0) i ≡ true = let a : site (view y).0 ≤ i = omega arith in grind (arith, nat_tests) in
+    rw t (ap suc (last_has (y ∷ fs) k i f h.2 (omega arith) e le))
+
+-- and where the next one begins later
+pub next_later : (fs : List Frame) (k i : ℕ) (f g : Frame) → PartsInPreorder (plans_of (views fs)) → suc k < length fs → f ≡ get_or fs k f → g ≡ get_or fs (suc k) g → (out-Frame f).site ≤ i → i < (out-Frame g).site → k ≡ place_with i (views fs)
+next_later [] k i f g h l e d le lt = absurd (omega arith)
+next_later (x ∷ []) k i f g h l e d le lt = absurd (omega arith)
+next_later (x ∷ y ∷ fs) zero i f g h l e d le lt =
+    let z = frame_site g in
+    let w = ap (λ (o : Frame). site (view o).0) d in
+    let t : nat_le (site (view y).0) i ≡ false = let a : i < site (view y).0 = omega arith in grind (arith, nat_tests) in
+    rw t refl
+next_later (x ∷ y ∷ fs) (suc k) i f g h l e d le lt =
+    let z = frame_site f in
+    let r = rises y fs k f h.2 (omega arith) e in
+    let t : nat_le (site (view y).0) i ≡ true = let a : site (view y).0 ≤ i = omega arith in grind (arith, nat_tests) in
+    rw t (ap suc (next_later (y ∷ fs) k i f g h.2 (omega arith) e d le lt))

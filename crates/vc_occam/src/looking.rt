@@ -425,8 +425,45 @@ fn parts_wait_on(parts: &Vec<Frame>, wanted: Waits) -> Option<u16>
     None
 }
 
-/// The place of the part that has a site: the last that begins at this site or before it, by halving.
+/// The place of the part that has a site: the last that begins at this site or before it. It is looked for first where it stands
+/// if all parts are as long as the first one, and else by halving.
 pub(crate) fn part_with(parts: &Vec<Frame>, site: u16) -> usize
+    requires { PartsInPreorder (plans_of (views parts.now.items)) }
+    ensures { result ≡ place_with site (views parts.now.items) }
+{
+    let guess = place_by_length(parts, site);
+    if begins_last(guess, parts, site) {
+        return guess;
+    }
+    place_by_halving(parts, site)
+}
+
+/// The place of the part that has a site, if all parts are as long as the first one.
+fn place_by_length(parts: &Vec<Frame>, site: u16) -> usize {
+    if parts.len() < 2 {
+        return 0;
+    }
+    let first = parts[0].site;
+    let length = parts[1].site.saturating_sub(first);
+    match site.saturating_sub(first).checked_div(length) {
+        Some(place) => usize::from(place),
+        None => 0,
+    }
+}
+
+/// Whether the part at a place is the last that begins at a site or before it.
+fn begins_last(at: usize, parts: &Vec<Frame>, site: u16) -> bool
+    requires { PartsInPreorder (plans_of (views parts.now.items)) }
+    ensures { IsTrue result → at ≡ place_with site (views parts.now.items) }
+{
+    if at >= parts.len() || parts[at].site > site {
+        return false;
+    }
+    parts.len() - at == 1 || parts[at + 1].site > site
+}
+
+/// The place of the part that has a site, by halving.
+fn place_by_halving(parts: &Vec<Frame>, site: u16) -> usize
     requires { PartsInPreorder (plans_of (views parts.now.items)) }
     ensures { result ≡ place_with site (views parts.now.items) }
 {

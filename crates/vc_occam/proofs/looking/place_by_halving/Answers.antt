@@ -5,7 +5,7 @@ use Rattle.vc_occam.specs.declared.frame.Frame.{Frame}
 use Rattle.vc_occam.specs.Frames.{place_with, plans_of, view, views}
 use Rattle.vc_occam.specs.Sites.{PartsInPreorder, site}
 use Rattle.vc_occam.proofs.Places.{frame_site, halved, sites_rise}
-use Rattle.vc_occam.proofs.looking.part_with.Goals as goal
+use Rattle.vc_occam.proofs.looking.place_by_halving.Goals as goal
 
 pub returns : goal.returns
 returns c =
