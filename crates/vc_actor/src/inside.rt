@@ -7,14 +7,14 @@ ghost use Rattle.vc_vcp.specs.Keyed.{named, NamesDiffer};
 use sqlite_items::Items;
 use std::alloc::Global;
 use std::marker::Model;
-use vc_packets::Memory;
+use vc_packets::{Bytes, Memory};
 use vc_plan::{Channel, Home};
 
 /// A channel inside a node: the messages that went over it, and whether it is stopped.
 #[derive(Drop)]
 pub(crate) struct Internal {
     pub(crate) chan: u16,
-    pub(crate) messages: Items<Items<u8>>,
+    pub(crate) messages: Items<Bytes>,
     pub(crate) stopped: bool,
 }
 
@@ -85,7 +85,7 @@ impl Inside {
     }
 
     /// A message is offered, taken and finished at once.
-    pub(crate) fn exchange(&mut self, chan: u16, message: Items<u8>) -> Result<(), Memory>
+    pub(crate) fn exchange(&mut self, chan: u16, message: Bytes) -> Result<(), Memory>
         requires { IsOpen self.old chan }
         ensures ok { OnOk result (views_of self.new ≡ exchanged_on (views_of self.old) chan message) }
         ensures err { OnErr result (self.new ≡ self.old) }
@@ -113,7 +113,7 @@ impl Inside {
     }
 
     /// The messages that went over a channel, the first one first; none where the node does not have it.
-    pub(crate) fn messages(&self, chan: u16) -> &[Items<u8>]
+    pub(crate) fn messages(&self, chan: u16) -> &[Bytes]
         ensures { result.now ≡ (views_of self.now chan).taken }
     {
         match self.place(chan) {

@@ -23,10 +23,9 @@ ghost use Rattle.vc_tokens.specs.Spelt.{tokens};
 use crate::act::Act;
 use crate::inside::Inside;
 use crate::room::has_room;
-use sqlite_items::Items;
 use std::alloc::Global;
 use vc_occam::{Answer, Move, Running};
-use vc_packets::{Memory, Packet};
+use vc_packets::{Bytes, Memory, Packet};
 use vc_tokens::Token;
 use vc_vcp::{Taken, Vcp, Want};
 
@@ -184,7 +183,7 @@ impl Node {
     }
 
     /// The messages offered on a channel here, the first one first.
-    pub fn offered(&self, chan: u16) -> &[Items<u8>]
+    pub fn offered(&self, chan: u16) -> &[Bytes]
         ensures { result.now ≡ (node_view self.now chan).offered }
     {
         if self.inside.has(chan) {
@@ -195,7 +194,7 @@ impl Node {
     }
 
     /// The messages taken on a channel here, the first one first.
-    pub fn taken(&self, chan: u16) -> &[Items<u8>]
+    pub fn taken(&self, chan: u16) -> &[Bytes]
         ensures { result.now ≡ (node_view self.now chan).taken }
     {
         if self.inside.has(chan) {
@@ -350,7 +349,7 @@ impl Node {
         let Some(message) = self.process.value(made)? else {
             unreachable!();
         };
-        let copy = Items::from_slice(self.alloc, message.as_slice())?;
+        let copy = Bytes::from_slice(self.alloc, message.as_slice())?;
         self.inside.exchange(chan, copy)?;
         self.process.act(made, Answer::Got(message))
     }
@@ -428,7 +427,7 @@ fn go_on(process: &mut Running, taken: Taken) -> bool
 }
 
 // The input on a channel, if there is one, has its message.
-fn receive(process: &mut Running, chan: u16, message: Items<u8>)
+fn receive(process: &mut Running, chan: u16, message: Bytes)
     ensures { IsAwaited (process_of process.old) (Some (Complete chan message)) → GoesOn does (process_of process.old) (Some (Complete chan message)) (process_of process.new) }
 {
     if let Some(site) = process.input_on(chan) {

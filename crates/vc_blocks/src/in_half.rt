@@ -4,11 +4,10 @@ ghost use Rattle.std.specs.Option.{option_copied};
 ghost use Rattle.vc_blocks.specs.Halves.{IsPiece, load_of};
 ghost use Rattle.vc_blocks.specs.Arriving.{after_arrival, arrival_of, after_want, want_of};
 
-use sqlite_items::Items;
 use std::alloc::Global;
 use std::marker::Model;
 use std::mem;
-use vc_packets::{Mark, Memory, Packet};
+use vc_packets::{Bytes, Mark, Memory, Packet};
 
 /// The half of a virtual link's end that inputs. It holds one packet at most.
 #[derive(Drop)]
@@ -17,7 +16,7 @@ pub struct InHalf {
     wants: bool,
     stopped: bool,
     held: Option<Packet>,
-    stored: Vec<u8>,
+    stored: Bytes,
 }
 
 /// What became of a piece that arrived.
@@ -28,7 +27,7 @@ pub enum Arrival {
     /// It was stored, and more pieces follow.
     Stored,
     /// It was stored, and the message is whole.
-    Complete(Items<u8>),
+    Complete(Bytes),
 }
 
 /// What an input finds.
@@ -39,7 +38,7 @@ pub enum Want {
     /// The held piece was stored, and more pieces follow.
     Stored,
     /// The held piece was stored, and the message is whole.
-    Complete(Items<u8>),
+    Complete(Bytes),
 }
 
 impl Model for InHalf {
@@ -47,7 +46,7 @@ impl Model for InHalf {
 
     ghost Value = { Incoming };
 
-    ghost view = { λ half. record { wants = half.wants; stopped = half.stopped; held = half.held; stored = half.stored.items } };
+    ghost view = { λ half. record { wants = half.wants; stopped = half.stopped; held = half.held; stored = half.stored } };
 
     ghost invariant = { λ half. HoldsPiece half.held };
 }
@@ -62,7 +61,7 @@ impl InHalf {
             wants: false,
             stopped: false,
             held: None,
-            stored: Vec::new(alloc),
+            stored: Bytes::new(alloc),
         }
     }
 
@@ -111,16 +110,16 @@ impl InHalf {
     }
 
     /// The bytes stored of the message that is arriving, with those of this piece behind them.
-    pub fn with_piece(&self, packet: &Packet) -> Result<Items<u8>, Memory>
+    pub fn with_piece(&self, packet: &Packet) -> Result<Bytes, Memory>
         requires { IsPiece packet.now }
         ensures { IfOk result (λ message. message ≡ self.now.stored ++ load_of packet.now) }
     {
         let load = &packet.body.as_slice()[2..];
         let room = self.stored.len().saturating_add(load.len());
-        let mut message = Vec::with_capacity(self.alloc, room)?;
-        message.extend_from_slice(&self.stored)?;
+        let mut message = Bytes::with_capacity(self.alloc, room)?;
+        message.extend_from_slice(self.stored.as_slice())?;
         message.extend_from_slice(load)?;
-        Ok(Items::from_vec(message))
+        Ok(message)
     }
 
     /// A piece arrives: it is stored where a process inputs, and else held.
@@ -132,7 +131,7 @@ impl InHalf {
         ensures err { OnErr result (self.new ≡ self.old) }
     {
         if !self.wants {
-            let body = Items::from_slice(self.alloc, packet.body.as_slice())?;
+            let body = Bytes::from_slice(self.alloc, packet.body.as_slice())?;
             self.held = Some(Packet {
                 body,
                 mark: packet.mark,
@@ -175,22 +174,21 @@ impl InHalf {
     }
 
     // The message is whole, and no process inputs any more.
-    fn complete(&mut self) -> Items<u8>
+    fn complete(&mut self) -> Bytes
         requires { self.old.held ≡ None }
         ensures after { self.new ≡ record self.old { wants = false; stored = [] } }
         ensures message { result ≡ self.old.stored }
     {
         self.wants = false;
-        let message = mem::replace(&mut self.stored, Vec::new(self.alloc));
-        Items::from_vec(message)
+        mem::replace(&mut self.stored, Bytes::new(self.alloc))
     }
 }
 
 // A piece's data goes to the end of the message that is arriving.
-fn store(stored: &mut Vec<u8>, packet: &Packet) -> Result<(), Memory>
+fn store(stored: &mut Bytes, packet: &Packet) -> Result<(), Memory>
     requires { IsPiece packet.now }
-    ensures ok { OnOk result (stored.new.items ≡ stored.old.items ++ load_of packet.now) }
-    ensures err { OnErr result (stored.new.items ≡ stored.old.items) }
+    ensures ok { OnOk result (stored.new ≡ stored.old ++ load_of packet.now) }
+    ensures err { OnErr result (stored.new ≡ stored.old) }
 {
     stored.extend_from_slice(&packet.body.as_slice()[2..])?;
     Ok(())

@@ -7,13 +7,13 @@ ghost use Rattle.vc_blocks.specs.Advancing.{later_than, advanced};
 use sqlite_items::Items;
 use std::alloc::Global;
 use std::marker::Model;
-use vc_packets::{Memory, Packet, piece, pieces};
+use vc_packets::{Bytes, Memory, Packet, piece, pieces};
 
 /// The half of a virtual link's end that outputs. One piece at most is unacknowledged.
 #[derive(Drop)]
 pub struct OutHalf {
     route: Items<u16>,
-    message: Items<u8>,
+    message: Bytes,
     count: usize,
     piece: usize,
     busy: bool,
@@ -46,7 +46,7 @@ impl OutHalf {
     {
         Ok(OutHalf {
             route: Items::from_slice(alloc, route)?,
-            message: Items::new(alloc),
+            message: Bytes::new(alloc),
             count: 0,
             piece: 0,
             busy: false,
@@ -68,7 +68,7 @@ impl OutHalf {
     }
 
     /// The message goes under way: its first piece is unacknowledged.
-    pub fn offer(&mut self, msg: Items<u8>)
+    pub fn offer(&mut self, msg: Bytes)
         requires { self.old.unacked ≡ [] }
         ensures route { self.new.route ≡ self.old.route }
         ensures pieces { Pieces msg self.new.unacked }

@@ -32,7 +32,7 @@ use sqlite_items::{Items, at};
 use std::alloc::Global;
 use vc_actor::{Act, ActKind, Actor, Node, actors, has_room, lowest};
 use vc_occam::ValueKind;
-use vc_packets::Memory;
+use vc_packets::{Bytes, Memory};
 use vc_plan::{Accepted, Port, Wire};
 use vc_tokens::Token;
 
@@ -442,7 +442,7 @@ impl Network {
     }
 
     /// The messages offered on a channel, the first one first.
-    pub fn offered(&self, chan: u16) -> &[Items<u8>]
+    pub fn offered(&self, chan: u16) -> &[Bytes]
         ensures { (p : Plan) → IsNetworkOf p (state_of self.now) → chan < length p.channels → result.now ≡ (view (network_of p) (shown (state_of self.now)) chan).offered }
     {
         match self.source(chan) {
@@ -452,7 +452,7 @@ impl Network {
     }
 
     /// The messages taken on a channel, the first one first.
-    pub fn taken(&self, chan: u16) -> &[Items<u8>]
+    pub fn taken(&self, chan: u16) -> &[Bytes]
         ensures { (p : Plan) → IsNetworkOf p (state_of self.now) → chan < length p.channels → result.now ≡ (view (network_of p) (shown (state_of self.now)) chan).taken }
     {
         match self.sink(chan) {

@@ -2,7 +2,7 @@
 ghost use Rattle.std.specs.Prelude.{◌≡◌};
 ghost use Rattle.vc_occam.specs.States.{came};
 
-use sqlite_items::Items;
+use vc_packets::Bytes;
 
 /// What came of a move on its channel.
 #[derive(Debug, Drop)]
@@ -12,12 +12,12 @@ pub enum Answer {
     /// The input waits for its message.
     Waits,
     /// The input has this message.
-    Got(Items<u8>),
+    Got(Bytes),
 }
 
 impl Answer {
     /// The message that came, if one came.
-    pub(crate) fn message(self) -> Option<Items<u8>>
+    pub(crate) fn message(self) -> Option<Bytes>
         ensures { result ≡ came self }
     {
         match self {

@@ -1,5 +1,5 @@
 //! What one site of a running process does.
-use sqlite_items::Items;
+use vc_packets::Bytes;
 
 /// What one site does at once.
 #[derive(Drop)]
@@ -15,16 +15,16 @@ pub(crate) enum Deed {
     /// An input has its message, or waits where there is none.
     Want {
         chan: u16,
-        message: Option<Items<u8>>,
+        message: Option<Bytes>,
     },
     /// The guard at a place of an ALT has its message, or waits where there is none.
     Choose {
         place: u16,
         chan: u16,
-        message: Option<Items<u8>>,
+        message: Option<Bytes>,
     },
     /// The message comes that an input or guard waits for.
-    Message(Items<u8>),
+    Message(Bytes),
     /// A channel is stopped.
     StopChannel {
         chan: u16,

@@ -24,7 +24,7 @@ use crate::phase::Phase;
 use crate::site_deed::SiteDeed;
 use crate::variables::{put, set_variable};
 use crate::went::Went;
-use sqlite_items::Items;
+use vc_packets::Bytes;
 use vc_process::{Cond, Datum, Expr};
 
 /// How far a frame is, and at which part.
@@ -351,7 +351,7 @@ fn stuck() -> Next
 fn take_guard(
     inputs: &[GuardedInput],
     place: usize,
-    message: Option<Items<u8>>,
+    message: Option<Bytes>,
     parts: &mut Vec<Frame>,
     vars: &mut Vec<Datum>,
 ) -> Next
@@ -371,7 +371,7 @@ fn take_guard(
 fn take_input(
     var: u8,
     place: usize,
-    message: Option<Items<u8>>,
+    message: Option<Bytes>,
     parts: &mut Vec<Frame>,
     vars: &mut Vec<Datum>,
 ) -> Next

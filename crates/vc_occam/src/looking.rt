@@ -22,7 +22,7 @@ use crate::phase::Phase;
 use crate::waits::Waits;
 use sqlite_items::Items;
 use std::alloc::Global;
-use vc_packets::Memory;
+use vc_packets::{Bytes, Memory};
 use vc_process::{Datum, Value};
 
 impl Frame {
@@ -279,7 +279,7 @@ impl Frame {
         alloc: Global,
         site: u16,
         vars: &[Datum],
-    ) -> Result<Option<Items<u8>>, Memory>
+    ) -> Result<Option<Bytes>, Memory>
         requires { InPreorder (view self.now).0 }
         ensures { IfOk result (λ sent. sent ≡ carried (output_at site (view self.now).1 (store vars.now))) }
     {
@@ -573,7 +573,7 @@ fn ready_message(
     parts: &Vec<Frame>,
     site: u16,
     vars: &[Datum],
-) -> Result<Option<Items<u8>>, Memory>
+) -> Result<Option<Bytes>, Memory>
     ensures { IfOk result (λ sent. sent ≡ carried (output_at site (Fresh (plan_at kind.now own (views parts.now.items))) (store vars.now))) }
 {
     if site != own {

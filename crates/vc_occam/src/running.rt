@@ -22,7 +22,7 @@ use crate::variables::empty_variables;
 use crate::waits::Waits;
 use sqlite_items::Items;
 use std::alloc::Global;
-use vc_packets::Memory;
+use vc_packets::{Bytes, Memory};
 use vc_process::{Datum, Process, ValueKind};
 
 /// A process that runs on a node, with its variables: what remains of it, move by move.
@@ -76,7 +76,7 @@ fn deed_for(made: &Move, answer: Answer) -> Deed
 }
 
 /// An output is finished, or a message comes.
-fn deed_on(message: Option<Items<u8>>) -> Deed
+fn deed_on(message: Option<Bytes>) -> Deed
     ensures { result ≡ going_on message }
 {
     match message {
@@ -276,7 +276,7 @@ impl Running {
 
     /// The message that the move's output sends; None where the move has no output.
     #[tactic(auto, unfolding(crate::specs::Runnings::state, crate::specs::Runnings::inner_channels))]
-    pub fn value(&self, made: &Move) -> Result<Option<Items<u8>>, Memory>
+    pub fn value(&self, made: &Move) -> Result<Option<Bytes>, Memory>
         requires { Contains (moves self.now) made.now }
         ensures { IfOk result (λ sent. sent ≡ sent_by (state self.now) made.now) }
     {
@@ -394,7 +394,7 @@ impl Running {
 
     /// The site goes on: its output was finished, or here is the message for its input.
     #[tactic(auto, unfolding(crate::specs::Runnings::state, crate::specs::Runnings::inner_channels))]
-    pub fn resume(&mut self, site: u16, message: Option<Items<u8>>)
+    pub fn resume(&mut self, site: u16, message: Option<Bytes>)
         requires { IsAwaited (state self.old).rest site message }
         ensures resumed { Resumes (state self.old) site message (state self.new) }
         ensures inside { inner_channels self.new ≡ inner_channels self.old }

@@ -5,9 +5,8 @@ ghost use Rattle.vc_occam.specs.Opening.{empty_of};
 ghost use Rattle.vc_process.specs.Terms.{store};
 ghost use Rattle.vc_occam.specs.Traces.{set};
 
-use sqlite_items::Items;
 use std::alloc::Global;
-use vc_packets::Memory;
+use vc_packets::{Bytes, Memory};
 use vc_process::{Datum, ValueKind};
 
 /// Variables of these kinds, which are 0 or without bytes.
@@ -18,7 +17,7 @@ pub(crate) fn empty_variables(alloc: Global, kinds: &[ValueKind]) -> Result<Vec<
     for kind in kinds {
         vars.push(match kind {
             ValueKind::Int => Datum::Int(0),
-            ValueKind::Bytes => Datum::Bytes(Items::new(alloc)),
+            ValueKind::Bytes => Datum::Bytes(Bytes::new(alloc)),
         })?;
     }
     Ok(vars)
@@ -36,7 +35,7 @@ pub(crate) fn set_variable(vars: &mut Vec<Datum>, var: u8, datum: Datum)
 
 /// A variable takes a message of its kind.
 #[inline(always)]
-pub(crate) fn put(vars: &mut Vec<Datum>, var: u8, message: Items<u8>)
+pub(crate) fn put(vars: &mut Vec<Datum>, var: u8, message: Bytes)
     requires { var < length vars.old.items }
     ensures value { store vars.new.items ≡ set (store vars.old.items) var (received (store vars.old.items var) message) }
     ensures length { length vars.new.items ≡ length vars.old.items }

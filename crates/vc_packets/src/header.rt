@@ -2,6 +2,7 @@
 ghost use Rattle.std.specs.Prelude.{◌≡◌, ◌++◌, [], ◌∷◌, drop, IfOk, IfSome};
 ghost use Rattle.vc_packets.specs.Headers.{spelled, front_header_of};
 
+use crate::bytes::Bytes;
 use crate::memory::Memory;
 use crate::packet::Packet;
 use std::alloc::Global;
@@ -18,11 +19,11 @@ pub fn front_header(packet: &Packet) -> Option<u16>
 }
 
 /// A body of a route's headers and then this load.
-pub(crate) fn routed(alloc: Global, route: &[u16], load: &[u8]) -> Result<Vec<u8>, Memory>
-    ensures { IfOk result (λ body. body.items ≡ spelled route.now ++ load.now) }
+pub(crate) fn routed(alloc: Global, route: &[u16], load: &[u8]) -> Result<Bytes, Memory>
+    ensures { IfOk result (λ body. body ≡ spelled route.now ++ load.now) }
 {
     let room = route.len().saturating_mul(2).saturating_add(load.len());
-    let mut body = Vec::with_capacity(alloc, room)?;
+    let mut body = Bytes::with_capacity(alloc, room)?;
     for header in route {
         body.extend_from_slice(&header.to_be_bytes())?;
     }

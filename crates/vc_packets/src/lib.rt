@@ -6,6 +6,7 @@
 //! it reaches (`specs/Kind`). A packet is plain data: there is no invariant but in what these functions answer.
 #![tactic(auto)]
 
+mod bytes;
 mod header;
 mod kind;
 mod laws;
@@ -14,6 +15,7 @@ mod memory;
 mod message;
 mod packet;
 
+pub use bytes::Bytes;
 pub use header::front_header;
 pub use kind::{Kind, kind_of};
 pub use laws::{a_message_has_pieces, packets_tell_the_message, the_pieces_are_one};

@@ -7,7 +7,6 @@ use crate::header::routed;
 use crate::mark::Mark;
 use crate::memory::Memory;
 use crate::packet::Packet;
-use sqlite_items::Items;
 use std::alloc::Global;
 
 /// The data bytes of each packet of a message but its last ("Networks, Routers and Transputers", chapter 2).
@@ -30,7 +29,7 @@ pub fn piece(alloc: Global, route: &[u16], msg: &[u8], k: usize) -> Result<Packe
     let is_last = rest.len() <= FULL;
     let mark = if is_last { Mark::Eom } else { Mark::Eop };
     let now = &rest[..rest.len().min(FULL)];
-    let body = Items::from_vec(routed(alloc, route, now)?);
+    let body = routed(alloc, route, now)?;
     Ok(Packet { body, mark })
 }
 
@@ -38,7 +37,7 @@ pub fn piece(alloc: Global, route: &[u16], msg: &[u8], k: usize) -> Result<Packe
 pub fn ack(alloc: Global, route: &[u16]) -> Result<Packet, Memory>
     ensures { IfOk result (λ packet. packet ≡ ack_packet route.now) }
 {
-    let body = Items::from_vec(routed(alloc, route, &[])?);
+    let body = routed(alloc, route, &[])?;
     Ok(Packet {
         body,
         mark: Mark::Eop,

@@ -1,15 +1,14 @@
 ghost use Rattle.std.specs.Prelude.{◌≡◌, ◌≤◌, length, IfOk};
 ghost use Rattle.vc_blocks.specs.Halves.{IsPiece};
 
-use sqlite_items::Items;
 use std::alloc::Global;
 use std::test::Fail;
 use vc_blocks::{Advance, Arrival, InHalf, OutHalf, Want};
-use vc_packets::{Mark, Memory, Packet};
+use vc_packets::{Bytes, Mark, Memory, Packet};
 
 /// A message of this many bytes, all 7.
-fn sevens(alloc: Global, len: usize) -> Result<Items<u8>, Memory> {
-    Ok(Items::from_vec(vec![in alloc; 7; len]?))
+fn sevens(alloc: Global, len: usize) -> Result<Bytes, Memory> {
+    Ok(Bytes::from_vec(vec![in alloc; 7; len]?))
 }
 
 #[test]
@@ -51,7 +50,7 @@ fn last_piece(alloc: Global, load: &[u8]) -> Result<Packet, Memory>
     let mut body = Vec::from_slice(alloc, &[0, 1])?;
     body.extend_from_slice(load)?;
     Ok(Packet {
-        body: Items::from_vec(body),
+        body: Bytes::from_vec(body),
         mark: Mark::Eom,
     })
 }
@@ -64,13 +63,13 @@ fn full_piece(alloc: Global, load: &[u8]) -> Result<Packet, Memory>
     let mut body = Vec::from_slice(alloc, &[0, 1])?;
     body.extend_from_slice(load)?;
     Ok(Packet {
-        body: Items::from_vec(body),
+        body: Bytes::from_vec(body),
         mark: Mark::Eop,
     })
 }
 
 /// The bytes of the message that is whole, if one is.
-fn whole(arrival: Arrival) -> Option<Items<u8>> {
+fn whole(arrival: Arrival) -> Option<Bytes> {
     match arrival {
         Arrival::Held | Arrival::Stored => None,
         Arrival::Complete(message) => Some(message),

@@ -4,10 +4,10 @@ ghost use Rattle.vc_occam.specs.Lawful.{Lawfully};
 ghost use Rattle.vc_occam.specs.Numbering.{written};
 
 use crate::read::read;
-use sqlite_items::Items;
 use std::alloc::Global;
 use std::test::Fail;
 use vc_occam::{Answer, Move, Process, Running, ValueKind, check_use};
+use vc_packets::Bytes;
 
 /// What happens next to a process, or what it shows.
 #[derive(Clone, Copy)]
@@ -104,7 +104,7 @@ fn takes(running: &mut Running, alloc: Global, step: Step) -> Result<bool, Fail>
         }
         Step::Makes(made) => makes(running, made),
         Step::Finishes(chan) => Ok(finishes(running, chan)),
-        Step::Gets(chan, message) => { Ok(gets(running, chan, Items::from_slice(alloc, message)?)) }
+        Step::Gets(chan, message) => { Ok(gets(running, chan, Bytes::from_slice(alloc, message)?)) }
         Step::Ends => Ok(running.ended()),
     }
 }
@@ -159,7 +159,7 @@ fn finishes(running: &mut Running, chan: u16) -> bool {
     }
 }
 
-fn gets(running: &mut Running, chan: u16, message: Items<u8>) -> bool {
+fn gets(running: &mut Running, chan: u16, message: Bytes) -> bool {
     match running.input_on(chan) {
         Some(site) => {
             running.resume(site, Some(message));

@@ -2,9 +2,8 @@
 ghost use Rattle.std.specs.Prelude.{◌≡◌, IfOk, slice_index};
 ghost use Rattle.vc_process.specs.Messages.{message as message_of, received, number_of};
 
-use sqlite_items::Items;
 use std::alloc::Global;
-use vc_packets::Memory;
+use vc_packets::{Bytes, Memory};
 
 /// What a variable holds.
 #[derive(Drop)]
@@ -12,7 +11,7 @@ pub enum Datum {
     /// A whole number of 64 bits with sign.
     Int(i64),
     /// Bytes, at most 65,535.
-    Bytes(Items<u8>),
+    Bytes(Bytes),
 }
 
 /// The byte at a place of a message, 0 where it has none.
@@ -56,17 +55,17 @@ fn number_in(message: &[u8]) -> i64
 impl Datum {
     /// The message that carries the value.
     #[tactic(auto, unfolding(crate::specs::Messages::number_bytes))]
-    pub fn into_message(self, alloc: Global) -> Result<Items<u8>, Memory>
+    pub fn into_message(self, alloc: Global) -> Result<Bytes, Memory>
         ensures { IfOk result (λ message. message ≡ message_of self) }
     {
         match self {
-            Datum::Int(number) => Ok(Items::from_slice(alloc, &number.to_le_bytes())?),
+            Datum::Int(number) => Ok(Bytes::from_slice(alloc, &number.to_le_bytes())?),
             Datum::Bytes(bytes) => Ok(bytes),
         }
     }
 
     /// What a message is worth for a variable of this kind.
-    pub fn receive(&self, message: Items<u8>) -> Datum
+    pub fn receive(&self, message: Bytes) -> Datum
         ensures { result ≡ received self.now message }
     {
         match self {

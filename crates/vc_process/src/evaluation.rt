@@ -10,9 +10,8 @@ use crate::expression::Expr;
 use crate::operator::Op;
 use crate::relation::Rel;
 use crate::value::Value;
-use sqlite_items::Items;
 use std::alloc::Global;
-use vc_packets::Memory;
+use vc_packets::{Bytes, Memory};
 
 /// The whole number of a variable, or 0 where it holds none.
 fn whole_at(vars: &[Datum], var: u8) -> i64
@@ -134,15 +133,15 @@ impl Cond {
 
 impl BytesExpr {
     /// The bytes of the expression.
-    fn bytes(&self, alloc: Global, vars: &[Datum]) -> Result<Items<u8>, Memory>
+    fn bytes(&self, alloc: Global, vars: &[Datum]) -> Result<Bytes, Memory>
         ensures { IfOk result (λ bytes. bytes ≡ text_of (text self.now) (store vars.now)) }
     {
         match self {
-            BytesExpr::Lit(bytes) => Ok(Items::from_slice(alloc, bytes.as_slice())?),
-            BytesExpr::Var(var) => Ok(Items::from_slice(alloc, bytes_at(vars, *var))?),
+            BytesExpr::Lit(bytes) => Ok(Bytes::from_slice(alloc, bytes.as_slice())?),
+            BytesExpr::Var(var) => Ok(Bytes::from_slice(alloc, bytes_at(vars, *var))?),
             BytesExpr::Fill { byte, count } => {
                 let count = *count as usize;
-                Ok(Items::from_vec(vec![in alloc; *byte; count]?))
+                Ok(Bytes::from_vec(vec![in alloc; *byte; count]?))
             }
         }
     }

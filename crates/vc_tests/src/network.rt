@@ -1,10 +1,10 @@
 //! Networks whose events are made one by one.
 use crate::networks::{CHOICE, accept, replayed};
-use sqlite_items::Items;
 use std::alloc::Global;
 use std::test::Fail;
 use vc_core::{Act, Event, Network};
 use vc_occam::Move;
+use vc_packets::Bytes;
 use vc_plan::Accepted;
 
 /// Makes an event where it is enabled, and keeps it.
@@ -74,7 +74,7 @@ fn play(alloc: Global, accepted: &Accepted, first: u16, second: u16) -> Result<V
 }
 
 /// Each message is there, in order.
-fn same_messages(left: &[Items<u8>], right: &[Items<u8>]) -> bool {
+fn same_messages(left: &[Bytes], right: &[Bytes]) -> bool {
     left.len() == right.len()
         && left
             .iter()

@@ -1,12 +1,12 @@
 //! Streams that fail, and the lines of faults.
 use crate::networks::{CHOICE, HELLO, HELLO_TRAFFIC, accept, replayed};
 use crate::streams::{Endless, Failing, Stubborn};
-use sqlite_items::Items;
 use std::alloc::{AllocError, Global};
 use std::io::{Read, Write};
 use std::test::Fail;
 use vc_core::{Close, Event};
 use vc_occam::ValueKind;
+use vc_packets::Bytes;
 use vc_reader::read_network;
 use vc_text::{
     ChannelView, RunFault, run_check, run_step, write_channels, write_fault, write_traffic,
@@ -39,7 +39,7 @@ fn a_reader_that_fails_or_has_no_end_is_told(rt: HostRuntime) {
 /// The traffic of the hello network.
 fn write_hello<W: Write>(alloc: Global, writer: &mut W) -> Result<(), RunFault> {
     let mut taken = Vec::new(alloc);
-    taken.push(Items::from_slice(alloc, b"hello")?)?;
+    taken.push(Bytes::from_slice(alloc, b"hello")?)?;
     let view = ChannelView {
         name: b"c",
         kind: ValueKind::Bytes,

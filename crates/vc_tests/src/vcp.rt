@@ -2,7 +2,7 @@
 use sqlite_items::Items;
 use std::alloc::Global;
 use std::test::Fail;
-use vc_packets::{Mark, Memory, Packet};
+use vc_packets::{Bytes, Mark, Memory, Packet};
 use vc_tokens::Token;
 use vc_vcp::{End, Taken, Vcp, Want};
 
@@ -20,7 +20,7 @@ fn node(alloc: Global, output: Option<u16>, input: Option<u16>) -> Result<Vcp, M
 
 /// A packet of these bytes.
 fn packet(alloc: Global, bytes: &[u8], mark: Mark) -> Result<Packet, Memory> {
-    let body = Items::from_slice(alloc, bytes)?;
+    let body = Bytes::from_slice(alloc, bytes)?;
     Ok(Packet { body, mark })
 }
 

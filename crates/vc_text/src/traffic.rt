@@ -9,12 +9,11 @@ use crate::fault::RunFault;
 use crate::number::push_number;
 use crate::streams::write_text;
 use itoa::Buffer;
-use sqlite_items::Items;
 use std::alloc::Global;
 use std::io::Write;
 use vc_core::Close;
 use vc_occam::ValueKind;
-use vc_packets::Memory;
+use vc_packets::{Bytes, Memory};
 
 /// What a channel is and has done.
 #[derive(Clone, Copy, Drop)]
@@ -26,7 +25,7 @@ pub struct ChannelView<'a> {
     /// How many messages were offered.
     pub offered: usize,
     /// The messages that were taken, in order.
-    pub taken: &'a [Items<u8>],
+    pub taken: &'a [Bytes],
     /// How many outputs were finished.
     pub finished: u64,
     /// Whether the channel was stopped.
@@ -113,7 +112,7 @@ fn push_messages(
     alloc: Global,
     out: &mut Vec<u8>,
     kind: ValueKind,
-    messages: &[Items<u8>],
+    messages: &[Bytes],
 ) -> Result<(), Memory>
     ensures { OnOk result (out.new.items ≡ out.old.items ++ message_lines kind 0 messages.now) }
 {

@@ -1,9 +1,8 @@
 //! Packets put together byte by byte.
 
-use sqlite_items::Items;
 use std::alloc::Global;
 use std::marker::Model;
-use vc_packets::{Mark, Memory, Packet};
+use vc_packets::{Bytes, Mark, Memory, Packet};
 
 /// The bytes of a packet whose mark hasn't come. There is room for as many as a packet may have.
 #[derive(Drop)]
@@ -96,7 +95,7 @@ impl Assembler {
         ensures begun { OnOk result (self.new ≡ record self.old { passed = [] }) }
         ensures err { OnErr result (self.new ≡ self.old) }
     {
-        let body = Items::from_slice(self.alloc, &self.passed)?;
+        let body = Bytes::from_slice(self.alloc, &self.passed)?;
         self.passed.clear();
         Ok(Packet { body, mark })
     }

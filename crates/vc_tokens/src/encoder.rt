@@ -4,10 +4,9 @@ ghost use Rattle.vc_tokens.specs.Tokens.{spelling};
 ghost use Rattle.vc_tokens.specs.Spelt.{tokens};
 
 use crate::token::Token;
-use sqlite_items::Items;
 use std::alloc::Global;
 use std::marker::Model;
-use vc_packets::{Mark, Memory, Packet};
+use vc_packets::{Bytes, Mark, Memory, Packet};
 
 /// The spelling of a packet.
 pub fn encode(alloc: Global, packet: &Packet) -> Result<Vec<Token>, Memory>
@@ -25,7 +24,7 @@ pub fn encode(alloc: Global, packet: &Packet) -> Result<Vec<Token>, Memory>
 /// Gives a packet's spelling token by token. Contracts see the tokens that are left.
 #[derive(Drop)]
 pub struct Encoder {
-    body: Items<u8>,
+    body: Bytes,
     given: usize,
     mark: Option<Mark>,
 }

@@ -8,8 +8,8 @@ ghost use Rattle.vc_core.specs.declared.event.Event.{Event};
 ghost use Rattle.vc_network.specs.Views.{view};
 ghost use Rattle.vc_plan.specs.declared.plan.Plan.{Plan};
 
-use sqlite_items::Items;
 use vc_core::Network;
+use vc_packets::Bytes;
 
 /// How many outputs on a channel are not finished: none or one. No test is needed before the subtraction.
 pub fn under_way(network: &Network, chan: u16) -> u64
@@ -22,7 +22,7 @@ pub fn under_way(network: &Network, chan: u16) -> u64
 
 /// The messages that were offered on a channel and have not been taken: they stand behind those that have, so no test is needed
 /// before the slice is cut.
-pub fn to_come(network: &Network, chan: u16) -> &[Items<u8>]
+pub fn to_come(network: &Network, chan: u16) -> &[Bytes]
     requires { (p : Plan) × (events : List Event) × Replays p events (state_of network.now) × (chan < length p.channels) }
     ensures { (p : Plan) (events : List Event) → Replays p events (state_of network.now) → chan < length p.channels → (view (network_of p) (shown (state_of network.now)) chan).offered ≡ (view (network_of p) (shown (state_of network.now)) chan).taken ++ result.now }
 {

@@ -15,7 +15,7 @@ use crate::link_out::LinkOut;
 use sqlite_items::Items;
 use std::alloc::Global;
 use vc_blocks::{Arrival, InHalf, Want};
-use vc_packets::{Mark, Memory, Packet, ack};
+use vc_packets::{Bytes, Mark, Memory, Packet, ack};
 
 /// A channel that the node inputs on: the end of its virtual link, the half, and the messages taken.
 #[derive(Drop)]
@@ -25,7 +25,7 @@ pub(crate) struct Input {
     pub(crate) block: u16,
     pub(crate) route: Items<u16>,
     pub(crate) half: InHalf,
-    pub(crate) taken: Items<Items<u8>>,
+    pub(crate) taken: Items<Bytes>,
 }
 
 impl Input {
@@ -91,7 +91,7 @@ impl Input {
         &mut self,
         queue: &mut LinkOut,
         alloc: Global,
-        message: Option<Items<u8>>,
+        message: Option<Bytes>,
     ) -> Result<(), Memory>
         ensures input { OnOk result (self.new ≡ record self.old { taken = self.old.taken ++ option_to_list message }) }
         ensures queue { OnOk result (queue.new ≡ queued queue.old (ack_packet self.old.route)) }
@@ -123,7 +123,7 @@ impl Input {
 }
 
 // The message that the piece completes, where it is a message's last.
-fn whole(half: &InHalf, packet: &Packet) -> Result<Option<Items<u8>>, Memory>
+fn whole(half: &InHalf, packet: &Packet) -> Result<Option<Bytes>, Memory>
     requires { IsPiece packet.now }
     ensures { IfOk result (λ message. message ≡ completed half.now.stored packet.now) }
 {

@@ -1,11 +1,10 @@
 //! The receiving end of a node's link: tokens wait in its buffer under credit, and pass on to the packet that is arriving.
 //!
 //! An FCT that is sent promises eight places of the buffer, and only a promised place takes a token.
-use sqlite_items::Items;
 use std::alloc::Global;
 use std::marker::Model;
 use vc_credit::Receiver;
-use vc_packets::{Mark, Memory, Packet};
+use vc_packets::{Bytes, Mark, Memory, Packet};
 use vc_tokens::{Assembler, Token};
 
 /// The receiving end of a node's link: the buffer under credit, and the packet that is being put together.
@@ -119,7 +118,7 @@ impl LinkIn {
     pub fn packet(&self, alloc: Global, mark: Mark) -> Result<Packet, Memory>
         ensures { IfOk result (λ packet. packet ≡ record { body = self.now.passed; mark = mark }) }
     {
-        let body = Items::from_slice(alloc, self.packet.bytes())?;
+        let body = Bytes::from_slice(alloc, self.packet.bytes())?;
         Ok(Packet { body, mark })
     }
 

@@ -12,7 +12,7 @@ use crate::link_out::LinkOut;
 use sqlite_items::Items;
 use std::alloc::Global;
 use vc_blocks::{Advance, OutHalf};
-use vc_packets::{Memory, piece};
+use vc_packets::{Bytes, Memory, piece};
 
 /// A channel that the node outputs on: the end of its virtual link, the half, and the messages offered.
 #[derive(Drop)]
@@ -21,7 +21,7 @@ pub(crate) struct Output {
     pub(crate) link: u8,
     pub(crate) block: u16,
     pub(crate) half: OutHalf,
-    pub(crate) offered: Items<Items<u8>>,
+    pub(crate) offered: Items<Bytes>,
 }
 
 impl Output {
@@ -40,8 +40,8 @@ impl Output {
         ensures err { OnErr result (self.new ≡ self.old) }
         ensures err_queue { OnErr result (queue.new ≡ queue.old) }
     {
-        let copy = Items::from_slice(alloc, message)?;
-        let whole = Items::from_slice(alloc, message)?;
+        let copy = Bytes::from_slice(alloc, message)?;
+        let whole = Bytes::from_slice(alloc, message)?;
         let first = piece(alloc, self.half.route(), message, 0)?;
         queue.enqueue(first)?;
         if self.offered.push(copy).is_err() {

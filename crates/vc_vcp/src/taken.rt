@@ -2,8 +2,8 @@
 ghost use Rattle.std.specs.Prelude.{◌≡◌};
 ghost use Rattle.vc_vcp.specs.Seen.{taken_of, advance_told, arrival_told};
 
-use sqlite_items::Items;
 use vc_blocks::{Advance, Arrival};
+use vc_packets::Bytes;
 
 /// What became of a packet that reached a node, with its channel.
 #[derive(Debug, Drop)]
@@ -23,7 +23,7 @@ pub enum Taken {
         /// The channel.
         chan: u16,
         /// The message.
-        message: Items<u8>,
+        message: Bytes,
     },
     /// An acknowledge: the next piece was queued.
     More {

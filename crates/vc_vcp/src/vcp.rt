@@ -29,11 +29,10 @@ use crate::opening;
 use crate::output::Output;
 use crate::places::{input_of, input_on, output_of, output_on};
 use crate::taken::{self, Taken};
-use sqlite_items::Items;
 use std::alloc::Global;
 use std::marker::Model;
 use vc_blocks::Want;
-use vc_packets::{Kind, Mark, Memory, Packet, front_header, kind_of};
+use vc_packets::{Bytes, Kind, Mark, Memory, Packet, front_header, kind_of};
 use vc_tokens::Token;
 
 /// The virtual channel processor of a node: the halves of its virtual links, and the two ends of its four links.
@@ -199,7 +198,7 @@ impl Vcp {
     }
 
     /// The messages offered on a channel, the first one first; none where the node does not output on it.
-    pub fn offered(&self, chan: u16) -> &[Items<u8>]
+    pub fn offered(&self, chan: u16) -> &[Bytes]
         ensures { result.now ≡ ((seen self.now).carrier.out chan).offered }
     {
         match output_on(&self.outputs, self.output_hints.on_chan(chan), chan) {
@@ -219,7 +218,7 @@ impl Vcp {
     }
 
     /// The messages taken on a channel, the first one first; none where the node does not input on it.
-    pub fn taken(&self, chan: u16) -> &[Items<u8>]
+    pub fn taken(&self, chan: u16) -> &[Bytes]
         ensures { result.now ≡ ((seen self.now).carrier.into chan).taken }
     {
         match input_on(&self.inputs, self.input_hints.on_chan(chan), chan) {

@@ -3,4 +3,4 @@ use Rattle.vc_packets.specs.Headers.{spelled}
 use Rattle.vc_packets.proofs.header.routed.Given as goal
 
 abbrev pub invariant-loop-header : goal.invariant-loop-header
-invariant-loop-header l = l.body.items ≡ spelled (take l.header-index l.route)
+invariant-loop-header l = l.body ≡ spelled (take l.header-index l.route)
