@@ -127,8 +127,8 @@ fn part_ended(parts: &Vec<Frame>, at: usize) -> bool
 pub(crate) fn all_ended(parts: &Vec<Frame>) -> bool
     ensures { result ≡ is_done (besides (views parts.now.items)) }
 {
-    for place in 0..parts.len() {
-        if !parts[place].ended() {
+    for behind in 0..parts.len() {
+        if !parts[parts.len() - 1 - behind].ended() {
             return false;
         }
     }

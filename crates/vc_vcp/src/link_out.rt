@@ -112,6 +112,7 @@ impl LinkOut {
     }
 
     /// Puts the next token of the packet at the front: its next byte, or its mark, with which it leaves the queue.
+    #[inline(always)]
     pub fn put(&mut self) -> Token
         requires credit { 0 < self.old.sender.credit }
         requires packet { self.old.queue ≢ [] }
