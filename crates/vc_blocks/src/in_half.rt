@@ -1,5 +1,5 @@
 //! The half that inputs.
-ghost use Rattle.std.specs.Prelude.{◌≡◌, ◌≢◌, false, true, None, [], ◌++◌, ◌↔◌, IsTrue, IsSome, IsNone, IfOk, IfSome, OnOk, OnErr};
+ghost use Rattle.std.specs.Prelude.{◌≡◌, ◌≢◌, ◌≤◌, length, drop, false, true, None, [], ◌++◌, ◌↔◌, IsTrue, IsSome, IsNone, IfOk, IfSome, OnOk, OnErr};
 ghost use Rattle.std.specs.Option.{option_copied};
 ghost use Rattle.vc_blocks.specs.Halves.{IsPiece, load_of};
 ghost use Rattle.vc_blocks.specs.Arriving.{after_arrival, arrival_of, after_want, want_of};
@@ -114,7 +114,15 @@ impl InHalf {
         requires { IsPiece packet.now }
         ensures { IfOk result (λ message. message ≡ self.now.stored ++ load_of packet.now) }
     {
-        let load = &packet.body.as_slice()[2..];
+        self.with_body(packet.body.as_slice())
+    }
+
+    /// The bytes stored of the message that is arriving, with those of a piece behind them that has these headers and data.
+    pub fn with_body(&self, body: &[u8]) -> Result<Bytes, Memory>
+        requires { 2 ≤ length body.now }
+        ensures { IfOk result (λ message. message ≡ self.now.stored ++ drop 2 body.now) }
+    {
+        let load = &body[2..];
         let room = self.stored.len().saturating_add(load.len());
         let mut message = Bytes::with_capacity(self.alloc, room)?;
         message.extend_from_slice(self.stored.as_slice())?;
@@ -130,16 +138,24 @@ impl InHalf {
         ensures arrival { IfOk result (λ a. a ≡ arrival_of self.old packet.now self.old.wants) }
         ensures err { OnErr result (self.new ≡ self.old) }
     {
+        self.arrive_body(packet.body.as_slice(), packet.mark)
+    }
+
+    /// A piece of these headers and data, with this mark, arrives: it is stored where a process inputs, and else held.
+    pub fn arrive_body(&mut self, body: &[u8], mark: Mark) -> Result<Arrival, Memory>
+        requires empty { self.old.held ≡ None }
+        requires piece { IsPiece (record { body = body.now; mark = mark }) }
+        ensures ok { OnOk result (self.new ≡ after_arrival self.old (record { body = body.now; mark = mark }) self.old.wants) }
+        ensures arrival { IfOk result (λ a. a ≡ arrival_of self.old (record { body = body.now; mark = mark }) self.old.wants) }
+        ensures err { OnErr result (self.new ≡ self.old) }
+    {
         if !self.wants {
-            let body = Bytes::from_slice(self.alloc, packet.body.as_slice())?;
-            self.held = Some(Packet {
-                body,
-                mark: packet.mark,
-            });
+            let body = Bytes::from_slice(self.alloc, body)?;
+            self.held = Some(Packet { body, mark });
             return Ok(Arrival::Held);
         }
-        store(&mut self.stored, packet)?;
-        match packet.mark {
+        store(&mut self.stored, body)?;
+        match mark {
             Mark::Eop => Ok(Arrival::Stored),
             Mark::Eom => Ok(Arrival::Complete(self.complete())),
         }
@@ -159,7 +175,7 @@ impl InHalf {
                 return Ok(Want::Waits);
             }
             Some(packet) => {
-                store(&mut self.stored, packet)?;
+                store(&mut self.stored, packet.body.as_slice())?;
                 packet.mark
             }
         };
@@ -185,11 +201,11 @@ impl InHalf {
 }
 
 // A piece's data goes to the end of the message that is arriving.
-fn store(stored: &mut Bytes, packet: &Packet) -> Result<(), Memory>
-    requires { IsPiece packet.now }
-    ensures ok { OnOk result (stored.new ≡ stored.old ++ load_of packet.now) }
+fn store(stored: &mut Bytes, body: &[u8]) -> Result<(), Memory>
+    requires { 2 ≤ length body.now }
+    ensures ok { OnOk result (stored.new ≡ stored.old ++ drop 2 body.now) }
     ensures err { OnErr result (stored.new ≡ stored.old) }
 {
-    stored.extend_from_slice(&packet.body.as_slice()[2..])?;
+    stored.extend_from_slice(&body[2..])?;
     Ok(())
 }

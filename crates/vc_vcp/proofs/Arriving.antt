@@ -13,6 +13,7 @@ use Rattle.vc_vcp.specs.declared.output.Output.{Output}
 use Rattle.vc_vcp.specs.declared.input.Input.{Input}
 use Rattle.vc_tokens.specs.Tokens.{Token, Byte, Fct, EndMark}
 use Rattle.vc_vcp.specs.Able.{CanPass, EachTokenComes}
+use Rattle.vc_vcp.specs.Bound.{IsStray}
 use Rattle.vc_vcp.specs.Carrier.{Carrier, Ends, set_in}
 use Rattle.vc_vcp.specs.LinkIn.{Receiving}
 use Rattle.vc_vcp.specs.Links.{Vcp, Passes, passes_byte, drops_byte, passes_mark, passing, set_link, with_token, due, not_due}
@@ -23,7 +24,7 @@ use Rattle.vc_vcp.specs.Seen.{seen, ends_of, carrier_of, link_of, in_half, no_in
 use Rattle.vc_vcp.specs.State.{State, HaveOwnNames, IsWired, IsInput, IsLinkIn, IsAckOf, limit_of}
 use Rattle.vc_vcp.specs.Steps.{Taken, Held, Stray, taken_by, acked_by, message, accept, advance, Arrives, takes, stray, stores, holds, advances}
 use Rattle.vc_vcp.proofs.KeyedLemmas.{named_has}
-use Rattle.vc_vcp.proofs.Straying.{NoneTakes, none_takes, none_has_room, by_other, idle_none, idle_some, full_none, full_some, no_ack_idle, no_room_full, no_ack_piece, no_piece_ack, no_ack_malformed, no_piece_malformed, no_ack_header, no_piece_header, ack_is, NoAck, NoPiece}
+use Rattle.vc_vcp.proofs.Straying.{none_takes, none_has_room, by_other, idle_none, idle_some, full_none, full_some, no_ack_idle, no_room_full, no_ack_piece, no_piece_ack, no_ack_malformed, no_piece_malformed, no_ack_header, no_piece_header, ack_is, NoAck, NoPiece}
 
 -- what becomes of a packet
 pub record SomeArrival (s : State) (p : Packet) : Type 0 where
@@ -31,7 +32,7 @@ pub record SomeArrival (s : State) (p : Packet) : Type 0 where
   pub new : Carrier
   pub arrives : Arrives (ends_of s) (carrier_of s) p taken new
 
-strays : (s : State) (p : Packet) → NoneTakes s p → SomeArrival s p
+strays : (s : State) (p : Packet) → IsStray s p → SomeArrival s p
 strays s p none = record { taken = Stray; new = record (carrier_of s) { strays = one_more s.strays }; arrives = stray none refl refl }
 
 ack_at : (s : State) (p : Packet) (block : ℕ) (x : Output) (u : List (List ℕ)) → HaveOwnNames s.outputs s.inputs → IsAckOf block p → named (λ x. x.block) block s.outputs ≡ Some x → x.block ≡ block → x.half.unacked ≡ u → SomeArrival s p

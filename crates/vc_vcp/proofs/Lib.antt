@@ -10,6 +10,7 @@ pub mod Stopping
 pub mod Inputting
 pub mod Straying
 pub mod Taking
+pub mod Changing
 pub mod Passing
 pub mod Enabling
 pub mod Arriving

@@ -1,12 +1,11 @@
 -- What a token that passes is to a node's steps.
-use Rattle.std.proofs.Common.{◌≡◌, ◌≢◌, ℕ, zero, suc, ◌<◌, ◌≤◌, List, [], ◌∷◌, ◌++◌, length, refl, sym, ap, ◌∙◌, subst, arith, slice_get, slice_set, Some, None}
-use Rattle.std.proofs.lemmas.Option.{slice_get_within}
+use Rattle.std.proofs.Common.{◌≡◌, ◌≢◌, ℕ, zero, suc, ◌<◌, ◌≤◌, List, [], ◌∷◌, ◌++◌, length, refl, sym, ap, ◌∙◌, subst, arith, slice_get, slice_set, get_or, Some, None}
+use Rattle.std.proofs.lemmas.Option.{slice_get_within, slice_get_read}
 use Rattle.std.proofs.lemmas.List.{length-set}
 use Rattle.std.specs.List.{AllByRecursion}
 use Rattle.vc_packets.specs.Counting.{one_more}
 use Rattle.vc_packets.specs.Functions.{put}
 use Rattle.vc_packets.specs.declared.mark.Mark.{Mark}
-use Rattle.vc_packets.specs.declared.packet.Packet.{Packet}
 use Rattle.vc_tokens.specs.Tokens.{Token, Byte, Fct, EndMark}
 use Rattle.vc_credit.specs.Ends.{Receiver, IsFront, new_receiver}
 use Rattle.vc_credit.specs.Ends.{Passes as PassesOn}
@@ -53,14 +52,18 @@ byte_drops s l b most x y here limit h full after =
     (ap (λ (z : Vcp). record z { carrier = record (carrier_of s) { strays = one_more s.strays } })
     (seen-in s l y (slice_get_within s.ins l x here) ∙ ap (set_link (seen s) l) (passing_is (link_of s l) x.receiver y (Byte b) (link_of s l).passed r h (ap (λ z. z.passed) after ∙ sym p))))
 
+-- the bytes that are read at a link
+pub passed_read : (s t : State) (l : ℕ) (x : Receiving) (body : List ℕ) → t ≡ s → length t.ins ≡ 4 → l < 4 → x ≡ get_or t.ins l x → body ≡ x.passed → body ≡ (link_of s l).passed
+passed_read s t l x body same four within read is =
+    is ∙ sym (passed_at t l x (slice_get_read t.ins 4 l x (sym four) within read)) ∙ ap (λ z. (link_of z l).passed) same
+
 -- with its mark the packet arrives
-pub mark_passes : (s n : State) (l most : ℕ) (x z y : Receiving) (m : Mark) (p : Packet) (t : Taken) → slice_get s.ins l ≡ Some x → p ≡ record { body = x.passed; mark = m } → Arrives (ends_of s) (carrier_of s) p t (carrier_of n) →
+pub mark_passes : (s n : State) (l most : ℕ) (z y : Receiving) (m : Mark) (t : Taken) → Arrives (ends_of s) (carrier_of s) (record { body = (link_of s l).passed; mark = m }) t (carrier_of n) →
     link_of n ≡ link_of s → slice_get n.ins l ≡ Some z → PassesOn z.receiver (EndMark m) y.receiver → y ≡ record z { receiver = y.receiver; passed = [] } →
     Passes most (ends_of s) (seen s) l (Some t) (seen (record n { ins = slice_set n.ins l y }))
-mark_passes s n l most x z y m p t here packet arrives links there h after =
+mark_passes s n l most z y m t arrives links there h after =
     let r : (link_of s l).receiver ≡ z.receiver = sym (ap (λ k. (k l).receiver) links) ∙ receiver_at n l z there in
-    let body : p ≡ record { body = (link_of s l).passed; mark = m } = packet ∙ (λ j. record { body = sym (passed_at s l x here) j; mark = m }) in
-    passes_mark m y.receiver.buffer t (carrier_of n) (ap (λ z. z.buffer) r ∙ h.front) refl (subst (λ q. Arrives (ends_of s) (carrier_of s) q t (carrier_of n)) body arrives)
+    passes_mark m y.receiver.buffer t (carrier_of n) (ap (λ z. z.buffer) r ∙ h.front) refl arrives
     (seen-in n l y (slice_get_within n.ins l z there)
     ∙ (λ j. record { carrier = carrier_of n; link = put (links j) l (record (links j l) { receiver = y.receiver; passed = y.passed }) })
     ∙ (λ j. record { carrier = carrier_of n; link = put (link_of s) l (passing_is (link_of s l) z.receiver y (EndMark m) [] r h (ap (λ z. z.passed) after) j) }))

@@ -1,12 +1,10 @@
 -- Packets that no half may take.
-use Rattle.std.proofs.Common.{◌≡◌, ℕ, zero, suc, ◌-◌, ◌/◌, ◌%◌, Bool, if◌then◌else◌, nat_eq, nat_le, take, length, true, false, List, [], ◌∷◌, ◌++◌, refl, sym, ap, ◌∙◌, subst, arith, drop, slice_get, Option, Some, None, inl, inr, eq-eqb}
+use Rattle.std.proofs.Common.{◌≡◌, ℕ, zero, suc, ◌/◌, ◌%◌, Bool, if◌then◌else◌, nat_eq, nat_le, length, true, false, List, [], ◌∷◌, ◌++◌, refl, sym, ap, ◌∙◌, subst, arith, drop, slice_get, Option, Some, None, inl, inr, eq-eqb}
 use Rattle.std.proofs.lemmas.Bool.{cases_eq, ne_eqb}
-use Rattle.std.proofs.lemmas.List.{take_rest}
 use Rattle.std.specs.List.{AllByRecursion}
 use Rattle.vc_packets.specs.declared.packet.Packet.{Packet}
 use Rattle.vc_packets.specs.declared.mark.Mark.{Mark}
 use Rattle.vc_packets.specs.declared.mark.Mark.TheVariants.{Eop, Eom}
-use Rattle.vc_packets.specs.declared.kind.Kind.{Kind}
 use Rattle.vc_packets.specs.declared.kind.Kind.TheVariants.{Ack, Piece, Malformed}
 use Rattle.vc_packets.specs.Counting.{one_more}
 use Rattle.vc_packets.specs.Headers.{spelled, front_header_of}
@@ -14,11 +12,12 @@ use Rattle.vc_packets.specs.Kind.{kind}
 use Rattle.vc_blocks.specs.Halves.{load_of, ends_message}
 use Rattle.vc_vcp.specs.declared.output.Output.{Output}
 use Rattle.vc_vcp.specs.declared.input.Input.{Input}
-use Rattle.vc_vcp.specs.Carrier.{Carrier, End}
+use Rattle.vc_vcp.specs.Bound.{IsStray}
+use Rattle.vc_vcp.specs.Carrier.{End}
 use Rattle.vc_vcp.specs.Keyed.{named, NamesDiffer, shown_or}
 use Rattle.vc_vcp.specs.Seen.{ends_of, carrier_of, in_half, no_input, out_end, in_end, out_half, no_output, Acks}
 use Rattle.vc_vcp.specs.State.{State, HaveOwnNames, IsInput, IsPieceOf, IsAckOf}
-use Rattle.vc_vcp.specs.Steps.{IsPieceFor, IsAckFor, IsTaken, stores, holds, advances, Taken, Arrives, stray, Stray}
+use Rattle.vc_vcp.specs.Steps.{IsPieceFor, IsAckFor, stores, holds, advances, Taken, Arrives, stray, Stray}
 use Rattle.vc_vcp.proofs.KeyedLemmas.{named_at, named_by}
 use Rattle.vc_vcp.proofs.Wired.{all-at}
 
@@ -71,19 +70,16 @@ NoPiece s p = (c : ℕ) (end : End) (load : List ℕ) (last : Bool) → (ends_of
 abbrev pub NoRoom : State → Packet → Type 0
 NoRoom s p = (c : ℕ) (end : End) (load : List ℕ) (last : Bool) → (ends_of s).input c ≡ Some end → IsPieceFor end p load last → ((carrier_of s).into c).held ≡ None → ⊥
 
-abbrev pub NoneTakes : State → Packet → Type 0
-NoneTakes s p = (t : Taken) (new : Carrier) → IsTaken (ends_of s) (carrier_of s) p t new → ⊥
-
 empty_of : (s : State) (c : ℕ) (o : Option Input) → named (λ x. x.chan) c s.inputs ≡ o → AllByRecursion IsInput s.inputs → (shown_or no_input in_half o).wants ≡ true → (shown_or no_input in_half o).held ≡ None
 empty_of s c None e w wants = refl
 empty_of s c (Some x) e w wants = let p = place_of (λ x. x.chan) c s.inputs x e in (all-at IsInput s.inputs p.place x w p.there).empty wants
 
-pub none_takes : (s : State) (p : Packet) → NoAck s p → NoPiece s p → NoneTakes s p
+pub none_takes : (s : State) (p : Packet) → NoAck s p → NoPiece s p → IsStray s p
 none_takes s p ack piece t new (stores c end load last here is wants taken after) = piece c end load last here is
 none_takes s p ack piece t new (holds c end load last here is idle held taken after) = piece c end load last here is
 none_takes s p ack piece t new (advances c end now later here is busy taken after) = ack c end now later here is busy
 
-pub none_has_room : (s : State) (p : Packet) → AllByRecursion IsInput s.inputs → NoAck s p → NoRoom s p → NoneTakes s p
+pub none_has_room : (s : State) (p : Packet) → AllByRecursion IsInput s.inputs → NoAck s p → NoRoom s p → IsStray s p
 none_has_room s p w ack piece t new (stores c end load last here is wants taken after) = piece c end load last here is (empty_of s c (named (λ x. x.chan) c s.inputs) refl w wants)
 none_has_room s p w ack piece t new (holds c end load last here is idle held taken after) = piece c end load last here is held
 none_has_room s p w ack piece t new (advances c end now later here is busy taken after) = ack c end now later here is busy
@@ -140,7 +136,7 @@ no_room_full s p block own body full c end load last here is empty =
     full f.shown found (sym (ap (λ o. (shown_or no_input in_half o).held) f.is) ∙ empty)
 
 -- it is dropped and counted
-pub stray_is : (s new : State) (p : Packet) (t : Taken) → NoneTakes s p → t ≡ Stray → new ≡ record s { strays = one_more s.strays } → Arrives (ends_of s) (carrier_of s) p t (carrier_of new)
+pub stray_is : (s new : State) (p : Packet) (t : Taken) → IsStray s p → t ≡ Stray → new ≡ record s { strays = one_more s.strays } → Arrives (ends_of s) (carrier_of s) p t (carrier_of new)
 stray_is s new p t none is after = stray none is (ap carrier_of after)
 
 pub idle_none : (s : State) (block : ℕ) → named (λ x. x.block) block s.outputs ≡ None → IsIdleAt s block
@@ -161,18 +157,8 @@ ack_strays s new block t own idle is after p ack =
     stray_is s new p t (none_takes s p (no_ack_idle s p block own ack.body idle) (no_piece_ack s p (ap (λ z. kind (drop 2 z) p.mark) ack.body ∙ ack.kind))) is after
 
 -- a piece that no input has room for
-pub piece_strays : (s new : State) (p : Packet) (block : ℕ) (t : Taken) → HaveOwnNames s.outputs s.inputs → AllByRecursion IsInput s.inputs → IsPieceOf block p → IsFullAt s block → t ≡ Stray → new ≡ record s { strays = one_more s.strays } →
-    Arrives (ends_of s) (carrier_of s) p t (carrier_of new)
-piece_strays s new p block t own w piece full is after =
-    stray_is s new p t (none_has_room s p w (no_ack_piece s p (ends_message p.mark) piece.piece.kind) (no_room_full s p block own piece.body full)) is after
-
--- no packet that a virtual link sends
-pub malformed_strays : (s new : State) (p : Packet) (t : Taken) → kind (load_of p) p.mark ≡ Malformed → t ≡ Stray → new ≡ record s { strays = one_more s.strays } → Arrives (ends_of s) (carrier_of s) p t (carrier_of new)
-malformed_strays s new p t bad is after = stray_is s new p t (none_takes s p (no_ack_malformed s p bad) (no_piece_malformed s p bad)) is after
-
--- a packet with no header
-pub short_strays : (s new : State) (p : Packet) (t : Taken) → front_header_of p.body ≡ None → t ≡ Stray → new ≡ record s { strays = one_more s.strays } → Arrives (ends_of s) (carrier_of s) p t (carrier_of new)
-short_strays s new p t bad is after = stray_is s new p t (none_takes s p (no_ack_header s p bad) (no_piece_header s p bad)) is after
+pub piece_strays : (s : State) (p : Packet) (block : ℕ) → HaveOwnNames s.outputs s.inputs → AllByRecursion IsInput s.inputs → IsPieceOf block p → IsFullAt s block → IsStray s p
+piece_strays s p block own w piece full = none_has_room s p w (no_ack_piece s p (ends_message p.mark) piece.piece.kind) (no_room_full s p block own piece.body full)
 
 long_load : (t : Bool) → (if t then Piece false else Malformed) ≡ Ack → ⊥
 long_load true is = absurd (cc)
@@ -195,7 +181,3 @@ pub ack_is : (p : Packet) (block : ℕ) → p.body ≡ spelled (block ∷ []) ++
 ack_is p block body is =
     let none = no_load (load_of p) p.mark is in
     record { body = body ∙ ap (λ z. spelled (block ∷ []) ++ z) none; kind = sym (ap (λ z. kind z p.mark) none) ∙ is }
-
--- the kind that the code reads
-pub kind_told : (p : Packet) (xs : List ℕ) (k l : Kind) → xs ≡ p.body → k ≡ kind (take (length xs - 2) (drop 2 xs)) p.mark → k ≡ l → kind (load_of p) p.mark ≡ l
-kind_told p xs k l same read is = sym (ap (λ z. kind (drop 2 z) p.mark) same) ∙ sym (ap (λ z. kind z p.mark) (take_rest xs 2)) ∙ sym read ∙ is

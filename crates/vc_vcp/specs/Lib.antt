@@ -8,5 +8,6 @@ pub mod Keyed
 pub mod Queued
 pub mod State
 pub mod Seen
+pub mod Bound
 pub mod Opening
 pub mod Hinted

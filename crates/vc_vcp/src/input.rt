@@ -2,20 +2,24 @@
 //!
 //! A stored piece is acknowledged, a held one is not. The acknowledge is queued and a whole message logged before the half
 //! changes, and both are taken back where the half finds no memory, so that the input and the queue are then as they were.
-ghost use Rattle.std.specs.Prelude.{◌≡◌, [], ◌++◌, ℕ, List, length, Some, None, false, if◌then◌else◌, IfOk, OnOk, OnErr};
+ghost use Rattle.std.specs.Prelude.{◌≡◌, ◌≤◌, [], ◌++◌, ℕ, List, length, Some, None, false, if◌then◌else◌, IfOk, OnOk, OnErr};
 ghost use Rattle.vc_blocks.specs.Halves.{IsPiece};
 ghost use Rattle.vc_blocks.specs.Arriving.{after_arrival, arrival_of, after_want, want_of};
 ghost use Rattle.std.specs.Option.{option_to_list};
 ghost use Rattle.vc_packets.specs.Spellings.{ack_packet};
 ghost use Rattle.vc_vcp.specs.State.{IsInput, IsPieceOf};
+ghost use Rattle.vc_vcp.specs.Bound.{MayTake, StaysWith, ArrivesWith};
+ghost use Rattle.vc_vcp.specs.Seen.{taken_of};
+ghost use Rattle.std.specs.List.{AllByRecursion};
 ghost use Rattle.vc_vcp.specs.LinkOut.{Unqueues};
 ghost use Rattle.vc_vcp.specs.Queued.{StaysInput, completed, queued, logged, acknowledged, logged_by, acknowledged_by};
 
 use crate::link_out::LinkOut;
+use crate::taken::{self, Taken};
 use sqlite_items::Items;
 use std::alloc::Global;
 use vc_blocks::{Arrival, InHalf, Want};
-use vc_packets::{Bytes, Mark, Memory, Packet, ack};
+use vc_packets::{Bytes, Mark, Memory, ack};
 
 /// A channel that the node inputs on: the end of its virtual link, the half, and the messages taken.
 #[derive(Drop)]
@@ -34,26 +38,27 @@ impl Input {
         &mut self,
         queue: &mut LinkOut,
         alloc: Global,
-        packet: &Packet,
+        body: &[u8],
+        mark: Mark,
     ) -> Result<Arrival, Memory>
         requires empty { self.old.half.held ≡ None }
-        requires piece { IsPiece packet.now }
+        requires piece { IsPiece (record { body = body.now; mark = mark }) }
         ensures sender { queue.new.sender ≡ queue.old.sender }
         ensures stays { StaysInput self.old self.new }
-        ensures is { IsInput self.old → IsPieceOf self.old.block packet.now → IsInput self.new }
-        ensures arrival { IfOk result (λ a. a ≡ arrival_of self.old.half packet.now self.old.half.wants) }
-        ensures input { IfOk result (λ a. self.new ≡ record self.old { half = after_arrival self.old.half packet.now self.old.half.wants; taken = logged self.old.taken a }) }
+        ensures is { IsInput self.old → IsPieceOf self.old.block (record { body = body.now; mark = mark }) → IsInput self.new }
+        ensures arrival { IfOk result (λ a. a ≡ arrival_of self.old.half (record { body = body.now; mark = mark }) self.old.half.wants) }
+        ensures input { IfOk result (λ a. self.new ≡ record self.old { half = after_arrival self.old.half (record { body = body.now; mark = mark }) self.old.half.wants; taken = logged self.old.taken a }) }
         ensures queue { IfOk result (λ a. queue.new ≡ acknowledged queue.old self.old.route a) }
         ensures err { OnErr result (self.new ≡ self.old) }
         ensures err_queue { OnErr result (queue.new ≡ queue.old) }
     {
         if !self.half.wants() {
-            return self.half.arrive(packet);
+            return self.half.arrive_body(body, mark);
         }
-        let copy = whole(&self.half, packet)?;
+        let copy = whole(&self.half, body, mark)?;
         let is_whole = copy.is_some();
         self.prepare(queue, alloc, copy)?;
-        let arrived = self.half.arrive(packet);
+        let arrived = self.half.arrive_body(body, mark);
         if arrived.is_err() {
             self.undo(queue, is_whole);
         }
@@ -75,7 +80,7 @@ impl Input {
     {
         let copy = match self.half.held() {
             None => return self.half.want(),
-            Some(packet) => whole(&self.half, packet)?,
+            Some(packet) => whole(&self.half, packet.body.as_slice(), packet.mark)?,
         };
         let is_whole = copy.is_some();
         self.prepare(queue, alloc, copy)?;
@@ -122,13 +127,36 @@ impl Input {
     }
 }
 
-// The message that the piece completes, where it is a message's last.
-fn whole(half: &InHalf, packet: &Packet) -> Result<Option<Bytes>, Memory>
-    requires { IsPiece packet.now }
-    ensures { IfOk result (λ message. message ≡ completed half.now.stored packet.now) }
+/// A piece reaches the input at a place, which holds nothing: it is held, or stored and its acknowledge queued.
+pub(crate) fn arrive(
+    inputs: &mut [Input],
+    at: usize,
+    outs: &mut [LinkOut],
+    alloc: Global,
+    body: &[u8],
+    mark: Mark,
+) -> Result<Taken, Memory>
+    requires may { MayTake inputs.old at (record { body = body.now; mark = mark }) }
+    requires inputs { AllByRecursion IsInput inputs.old }
+    requires four { length outs.old ≡ 4 }
+    ensures stays { StaysWith inputs.old outs.old inputs.new outs.new }
+    ensures arrives { IfOk result (λ t. ArrivesWith inputs.old outs.old (record { body = body.now; mark = mark }) (taken_of t) inputs.new outs.new) }
+    ensures err { OnErr result (inputs.new ≡ inputs.old) }
+    ensures err_outs { OnErr result (outs.new ≡ outs.old) }
 {
-    match packet.mark {
+    let input = &mut inputs[at];
+    let queue = &mut outs[usize::from(input.link)];
+    let arrival = input.arrive(queue, alloc, body, mark)?;
+    Ok(taken::of_arrival(input.chan, arrival))
+}
+
+// The message that the piece completes, where it is a message's last.
+fn whole(half: &InHalf, body: &[u8], mark: Mark) -> Result<Option<Bytes>, Memory>
+    requires { 2 ≤ length body.now }
+    ensures { IfOk result (λ message. message ≡ completed half.now.stored (record { body = body.now; mark = mark })) }
+{
+    match mark {
         Mark::Eop => Ok(None),
-        Mark::Eom => Ok(Some(half.with_piece(packet)?)),
+        Mark::Eom => Ok(Some(half.with_body(body)?)),
     }
 }

@@ -14,6 +14,7 @@
 //! block, and nothing where a process inputs; no flow control token waits in a buffer; each link has the same limit.
 #![tactic(auto)]
 
+mod bound;
 mod end;
 mod hints;
 mod input;

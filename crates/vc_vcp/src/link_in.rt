@@ -4,7 +4,7 @@
 use std::alloc::Global;
 use std::marker::Model;
 use vc_credit::Receiver;
-use vc_packets::{Bytes, Mark, Memory, Packet};
+use vc_packets::Memory;
 use vc_tokens::{Assembler, Token};
 
 /// The receiving end of a node's link: the buffer under credit, and the packet that is being put together.
@@ -112,14 +112,6 @@ impl LinkIn {
         ensures dropped { OnFalse result (self.new ≡ self.old) }
     {
         self.packet.push(byte)
-    }
-
-    /// The packet of the bytes that have passed, with its mark.
-    pub fn packet(&self, alloc: Global, mark: Mark) -> Result<Packet, Memory>
-        ensures { IfOk result (λ packet. packet ≡ record { body = self.now.passed; mark = mark }) }
-    {
-        let body = Bytes::from_slice(alloc, self.packet.bytes())?;
-        Ok(Packet { body, mark })
     }
 
     /// The next packet begins.

@@ -5,7 +5,8 @@
 ghost use Rattle.std.specs.Prelude.{◌≡◌, ◌≢◌, ◌<◌, None, Ok, ℕ, List, length, slice_get, ◌↔◌, [], false, Some, IsTrue, IsOk, IfOk, OnOk, OnErr};
 ghost use Rattle.vc_vcp.specs.Keyed.{by_name};
 ghost use Rattle.std.specs.List.{AllByRecursion};
-ghost use Rattle.vc_blocks.specs.Halves.{IsPiece};
+ghost use Rattle.vc_packets.specs.declared.packet.Packet.{Packet};
+ghost use Rattle.vc_vcp.specs.Bound.{IsBound};
 ghost use Rattle.vc_vcp.specs.State.{IsIdle, IsUnwanted, IsOpen, MayPut, MayGrant, IsPieceOf, limit_of};
 ghost use Rattle.vc_vcp.specs.Seen.{ends_of, seen, Inputs, IsKept, taken_of, passed_of, Acks};
 ghost use Rattle.vc_vcp.specs.Links.{new_vcp, Comes, Passes, Sends, SendsFct};
@@ -20,9 +21,10 @@ ghost use Rattle.vc_tokens.specs.Spelt.{token};
 ghost use Rattle.vc_tokens.specs.Tokens.{Byte, Fct, EndMark};
 ghost use Rattle.vc_credit.specs.Laws.{NeedsPlace};
 
+use crate::bound::Bound;
 use crate::end::End;
 use crate::hints::Hints;
-use crate::input::Input;
+use crate::input::{self, Input};
 use crate::link_in::LinkIn;
 use crate::link_out::LinkOut;
 use crate::opening;
@@ -32,7 +34,7 @@ use crate::taken::{self, Taken};
 use std::alloc::Global;
 use std::marker::Model;
 use vc_blocks::Want;
-use vc_packets::{Bytes, Kind, Mark, Memory, Packet, front_header, kind_of};
+use vc_packets::{Bytes, Kind, Mark, Memory, Packet, kind_of};
 use vc_tokens::Token;
 
 /// The virtual channel processor of a node: the halves of its virtual links, and the two ends of its four links.
@@ -404,10 +406,27 @@ impl Vcp {
         ensures err { OnErr result (self.new ≡ self.old) }
     {
         let at = usize::from(link);
-        let packet = self.ins[at].packet(self.alloc, mark)?;
-        let taken = self.take(&packet)?;
+        let taken = self.take_passed(at, mark)?;
         self.ins[at].pass_mark();
         Ok(Some(taken))
+    }
+
+    // The packet whose bytes have passed at a link reaches, with its mark, the half that it is bound for.
+    fn take_passed(&mut self, at: usize, mark: Mark) -> Result<Taken, Memory>
+        requires { at < 4 }
+        ensures arrives { IfOk result (λ t. Arrives (ends_of self.old) (seen self.old).carrier (record { body = ((seen self.old).link at).passed; mark = mark }) (taken_of t) (seen self.new).carrier) }
+        ensures links { (seen self.new).link ≡ (seen self.old).link }
+        ensures kept { IsKept self.old self.new }
+        ensures err { OnErr result (self.new ≡ self.old) }
+    {
+        match self.bound_for(self.ins[at].passed(), mark) {
+            Bound::Output { block } => self.acked(block),
+            Bound::Input { at: to } => {
+                let body = self.ins[at].passed();
+                input::arrive(&mut self.inputs, to, &mut self.outs, self.alloc, body, mark)
+            }
+            Bound::Nowhere => Ok(self.stray()),
+        }
     }
 
     /// A packet reaches the half that its block and its kind name: a piece is held, or stored and its acknowledge queued; an
@@ -419,13 +438,33 @@ impl Vcp {
         ensures kept { IsKept self.old self.new }
         ensures err { OnErr result (self.new ≡ self.old) }
     {
-        let Some(block) = front_header(packet) else {
-            return Ok(self.stray());
+        let body = packet.body.as_slice();
+        match self.bound_for(body, packet.mark) {
+            Bound::Output { block } => self.acked(block),
+            Bound::Input { at } => input::arrive(
+                &mut self.inputs,
+                at,
+                &mut self.outs,
+                self.alloc,
+                body,
+                packet.mark,
+            ),
+            Bound::Nowhere => Ok(self.stray()),
+        }
+    }
+
+    // Where a packet of these bytes and this mark is bound for.
+    fn bound_for(&self, body: &[u8], mark: Mark) -> Bound
+        ensures { IsBound self.now (record { body = body.now; mark = mark }) result }
+    {
+        let [high, low, load @ ..] = body else {
+            return Bound::Nowhere;
         };
-        match kind_of(&packet.body.as_slice()[2..], packet.mark) {
-            Kind::Ack => self.acked(block),
-            Kind::Piece { .. } => self.arrive(block, packet),
-            Kind::Malformed => Ok(self.stray()),
+        let block = u16::from_be_bytes([*high, *low]);
+        match kind_of(load, mark) {
+            Kind::Ack => Bound::Output { block },
+            Kind::Piece { .. } => self.empty_input(block),
+            Kind::Malformed => Bound::Nowhere,
         }
     }
 
@@ -448,25 +487,18 @@ impl Vcp {
         Ok(taken::of_advance(chan, advance))
     }
 
-    // A piece comes to a block.
-    fn arrive(&mut self, block: u16, packet: &Packet) -> Result<Taken, Memory>
-        requires piece { IsPiece packet.now }
-        requires begins { IsPieceOf block packet.now }
-        ensures arrives { IfOk result (λ t. Arrives (ends_of self.old) (seen self.old).carrier packet.now (taken_of t) (seen self.new).carrier) }
-        ensures links { (seen self.new).link ≡ (seen self.old).link }
-        ensures kept { IsKept self.old self.new }
-        ensures err { OnErr result (self.new ≡ self.old) }
+    // Where a piece for a block is bound for: the input of the block, where there is one that holds nothing.
+    fn empty_input(&self, block: u16) -> Bound
+        ensures { (p : Packet) → IsPieceOf block p → IsBound self.now p result }
     {
         let Some(at) = input_of(&self.inputs, self.input_hints.of_block(block), block) else {
-            return Ok(self.stray());
+            return Bound::Nowhere;
         };
-        if !self.inputs[at].half.may_arrive() {
-            return Ok(self.stray());
+        if self.inputs[at].half.may_arrive() {
+            Bound::Input { at }
+        } else {
+            Bound::Nowhere
         }
-        let link = usize::from(self.inputs[at].link);
-        let chan = self.inputs[at].chan;
-        let arrival = self.inputs[at].arrive(&mut self.outs[link], self.alloc, packet)?;
-        Ok(taken::of_arrival(chan, arrival))
     }
 
     // No half may take a packet.

@@ -1,4 +1,4 @@
-use Rattle.std.proofs.Common.{◌≡◌, ◌<◌, Some, sym, ap, subst, arith, slice_get, slice_set}
+use Rattle.std.proofs.Common.{◌≡◌, ◌<◌, Some, sym, ap, subst, arith, slice_set}
 use Rattle.std.proofs.lemmas.Option.{slice_get_read}
 use Rattle.vc_credit.specs.Ends.{IsFront}
 use Rattle.vc_tokens.specs.Tokens.{EndMark}
@@ -12,31 +12,27 @@ use Rattle.vc_vcp.proofs.vcp.Vcp.pass_mark.Goals as goal
 pub invariant_of-self : goal.invariant_of-self
 invariant_of-self c =
     let s = c.args.self.now in
-    let y = c.self-2.inside in
+    let y = c.self.inside in
     let k = c.from-at.result in
     let within : k < 4 = omega arith in
     let n : State = record { outputs = y.outputs.items; inputs = y.inputs.items; outs = y.outs.items; ins = y.ins.items; strays = y.strays } in
     let z = c.index_mut.result.now in
-    let there = slice_get_read y.ins.items 4 k z (sym c.self-2.invariant.four_in) within c.index_mut.ensures.value in
-    let links = subst (λ a. link_of a ≡ link_of s) (sym c.self-2.view_is) c.take.ensures.links in
+    let there = slice_get_read y.ins.items 4 k z (sym c.self.invariant.four_in) within c.index_mut.ensures.value in
+    let links = subst (λ a. link_of a ≡ link_of s) (sym c.self.view_is) c.take_passed.ensures.links in
     let front = front_at s n k z (EndMark c.args.mark) links there (subst (λ j. IsFront (link_of s j).receiver (EndMark c.args.mark)) (sym c.from-at.ensures) c.requires.front) in
-    wired_passing n k z c.pass_mark.new.self (EndMark c.args.mark) c.self-2.invariant there (c.pass_mark.ensures.front c.args.mark front) (ap (λ a. a.limit) c.pass_mark.ensures.after)
+    wired_passing n k z c.pass_mark.new.self (EndMark c.args.mark) c.self.invariant there (c.pass_mark.ensures.front c.args.mark front) (ap (λ a. a.limit) c.pass_mark.ensures.after)
 
 pub returns-clause-passes : goal.returns-clause-passes
 returns-clause-passes c =
     let s = c.args.self.now in
-    let x = c.self.inside in
-    let y = c.self-2.inside in
+    let y = c.self.inside in
     let k = c.from-at.result in
     let within : k < 4 = omega arith in
     let n : State = record { outputs = y.outputs.items; inputs = y.inputs.items; outs = y.outs.items; ins = y.ins.items; strays = y.strays } in
-    let read = slice_get_read x.ins.items 4 k c.index.result.now (sym c.self.invariant.four_in) within c.index.ensures in
-    let here : slice_get s.ins k ≡ Some c.index.result.now = subst (λ z. slice_get z.ins k ≡ Some c.index.result.now) c.self.view_is read in
     let z = c.index_mut.result.now in
-    let there = slice_get_read y.ins.items 4 k z (sym c.self-2.invariant.four_in) within c.index_mut.ensures.value in
-    let links = subst (λ a. link_of a ≡ link_of s) (sym c.self-2.view_is) c.take.ensures.links in
+    let there = slice_get_read y.ins.items 4 k z (sym c.self.invariant.four_in) within c.index_mut.ensures.value in
+    let links = subst (λ a. link_of a ≡ link_of s) (sym c.self.view_is) c.take_passed.ensures.links in
     let front = front_at s n k z (EndMark c.args.mark) links there (subst (λ j. IsFront (link_of s j).receiver (EndMark c.args.mark)) (sym c.from-at.ensures) c.requires.front) in
-    let arrives = subst (λ a. Arrives (ends_of s) (carrier_of s) c.in_ok-packet.packet (taken_of c.in_ok-taken.taken) (carrier_of a)) (sym c.self-2.view_is) c.in_ok-taken.ensures.arrives in
+    let arrives = subst (λ a. Arrives (ends_of s) (carrier_of s) (record { body = (link_of s k).passed; mark = c.args.mark }) (taken_of c.in_ok-taken.taken) (carrier_of a)) (sym c.self.view_is) c.in_ok-taken.ensures.arrives in
     subst (λ j. Passes (limit_of s.ins) (ends_of s) (seen s) j (Some (taken_of c.in_ok-taken.taken)) (seen (record n { ins = slice_set y.ins.items k c.pass_mark.new.self }))) c.from-at.ensures
-    (mark_passes s n k (limit_of s.ins) c.index.result.now z c.pass_mark.new.self c.args.mark c.in_ok-packet.packet (taken_of c.in_ok-taken.taken) here c.in_ok-packet.ensures arrives links there
-    (c.pass_mark.ensures.front c.args.mark front) c.pass_mark.ensures.after)
+    (mark_passes s n k (limit_of s.ins) z c.pass_mark.new.self c.args.mark (taken_of c.in_ok-taken.taken) arrives links there (c.pass_mark.ensures.front c.args.mark front) c.pass_mark.ensures.after)
