@@ -1,9 +1,10 @@
-use Rattle.std.proofs.Common.{ℕ, ◌∙◌, ◌<◌, length, arith, sym, ap, refl, true, false}
+use Rattle.std.proofs.Common.{◌≡◌, ℕ, ◌∙◌, ◌<◌, ◌-◌, length, arith, rules, sym, subst, ap, refl, true, false}
 use Rattle.vc_occam.specs.declared.phase.Phase.TheVariants.{Ready, Waiting, Resting, Turning, Together, Chosen, Ended, Stuck}
 use Rattle.std.specs.Prelude.{slice_get}
 use Rattle.vc_occam.specs.declared.frame.Frame.TheViews.{out-Frame}
 use Rattle.vc_occam.specs.Frames.{View, is_done, is_last, part_done, views}
-use Rattle.vc_occam.proofs.Frames.{rest_done, together_is, together_not, view_out}
+use Rattle.vc_occam.proofs.Ending.{besides_goes}
+use Rattle.vc_occam.proofs.Frames.{length-views, rest_done, together_is, together_not, view_out}
 use Rattle.vc_occam.proofs.Stepping.{get_view, none_view}
 use Rattle.vc_occam.proofs.frame.+ended.Goals as goal
 
@@ -63,3 +64,12 @@ part_ended-returns t c =
 
 pub is_ended-returns-in-Resting : goal.is_ended-returns-in-Resting
 is_ended-returns-in-Resting t c = λ i. sym (rest_done c.args.kind.now i _ Resting c.args.parts.now c.args.at _ _ _ c.in-Resting.is refl refl refl)
+
+pub all_ended-returns-then-not-ended : goal.all_ended-returns-then-not-ended
+all_ended-returns-then-not-ended t c =
+    let fs = c.args.parts.now.items in
+    let f = c.index.result.now in
+    let k = c.len.result - 1 - c.loop-behind.behind in
+    let l : k < length fs = search rules in
+    let goes : c.ended.result ≡ false = search rules in
+    sym (besides_goes (views fs) k (subst (λ n. k < n) (sym (length-views fs)) l) (ap part_done (get_view fs k f l c.index.ensures) ∙ sym c.ended.ensures ∙ goes))

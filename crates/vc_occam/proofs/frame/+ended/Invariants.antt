@@ -1,9 +1,9 @@
-use Rattle.std.proofs.Common.{◌≡◌, ◌+◌, ◌*◌, drop}
+use Rattle.std.proofs.Common.{◌≡◌, ◌+◌, ◌-◌, ◌*◌, drop, length, true}
 use Rattle.vc_occam.specs.Frames.{besides, is_done, views}
 use Rattle.vc_occam.proofs.frame.+ended.Given as goal
 
-abbrev pub invariant-all_ended-loop-place : goal.invariant-all_ended-loop-place
-invariant-all_ended-loop-place l = is_done (besides (views (drop l.place l.parts.items))) ≡ is_done (besides (views l.parts.items))
+abbrev pub invariant-all_ended-loop-behind : goal.invariant-all_ended-loop-behind
+invariant-all_ended-loop-behind l = is_done (besides (views (drop (length l.parts.items - l.behind) l.parts.items))) ≡ true
 
 abbrev pub decreases-Frame::ended : goal.decreases-Frame::ended
 decreases-Frame::ended l = 3 * goal.size-Frame::ended l
