@@ -10,6 +10,7 @@ pub mod Numbers
 pub mod Reaching
 pub mod Using
 pub mod Clashing
+pub mod Counted
 pub mod Ranks
 pub mod Shares
 pub mod Judging

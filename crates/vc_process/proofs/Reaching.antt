@@ -1,5 +1,5 @@
 -- Parts, branches and guards, gone through from the first on.
-use Rattle.std.proofs.Common.{◌≡◌, ℕ, zero, suc, ◌+◌, ◌<◌, ◌≤◌, Bool, true, false, ◌&&◌, refl, ap, sym, ◌∙◌, List, [], ◌∷◌, ◌++◌, map, length, get_or, drop, arith, add-one, append_assoc, append-nil}
+use Rattle.std.proofs.Common.{◌≡◌, ℕ, zero, suc, ◌+◌, ◌<◌, ◌≤◌, Bool, true, false, ◌&&◌, refl, ap, sym, ◌∙◌, List, [], ◌∷◌, ◌++◌, map, length, get_or, drop, arith, add-one, append_assoc, append-nil, Result, Ok, Err, OnOk}
 
 -- one of them, and those behind it
 pub drop_at : {X N : Type 0} (num : X → N) (k : ℕ) (xs : List X) (x : X) → k < length xs → x ≡ get_or xs k x → map num (drop k xs) ≡ num x ∷ map num (drop (k + 1) xs)
@@ -64,3 +64,13 @@ pub adds_end : {X N A : Type 0} (num : X → N) (all : List N → ℕ → List A
 adds_end num all xs before k now empty l r = λ site.
     let e = r site in
     sym (e.1 ∙ ap (λ ns. now ++ all ns e.0) (drop_all num k xs l) ∙ ap (λ ys. now ++ ys) (empty e.0) ∙ append-nil now)
+
+-- what a call adds is what is to be added
+pub adds_as : {A E : Type 0} (r : Result (Unit {0}) E) (before now : List A) (xs ys : ℕ → List A) (f : ℕ → ℕ) → ((s : ℕ) → ys s ≡ xs (f s)) → OnOk r ((s : ℕ) → now ≡ before ++ xs s) → OnOk r ((s : ℕ) → now ≡ before ++ ys s)
+adds_as (Ok u) before now xs ys f same h = λ s. h (f s) ∙ ap (λ zs. before ++ zs) (sym (same s))
+adds_as (Err e) before now xs ys f same h = h
+
+-- one after another
+pub adds_both : {A E : Type 0} (r : Result (Unit {0}) E) (before mid now : List A) (xs : List A) (ys zs : ℕ → List A) (f : ℕ → ℕ) → mid ≡ before ++ xs → ((s : ℕ) → zs s ≡ xs ++ ys (f s)) → OnOk r ((s : ℕ) → now ≡ mid ++ ys s) → OnOk r ((s : ℕ) → now ≡ before ++ zs s)
+adds_both (Ok u) before mid now xs ys zs f first same h = λ s. h (f s) ∙ ap (λ ws. ws ++ ys (f s)) first ∙ append_assoc before xs (ys (f s)) ∙ ap (λ ws. before ++ ws) (sym (same s))
+adds_both (Err e) before mid now xs ys zs f first same h = h

@@ -1,5 +1,5 @@
 -- The uses of channels by parts, branches and guards.
-use Rattle.std.proofs.Common.{ℕ, ◌+◌, refl, List, [], ◌∷◌}
+use Rattle.std.proofs.Common.{ℕ, ◌+◌, refl, List, [], ◌∷◌, ◌++◌}
 use Rattle.std.specs.Prelude.{slice_get}
 use Rattle.vc_process.specs.declared.channel_use.ChannelUse.{ChannelUse}
 use Rattle.vc_process.specs.declared.value_kind.ValueKind.{ValueKind}
@@ -55,3 +55,6 @@ module _ (kinds : List ValueKind) where
 
   pub guards_join : Joins all_guards one_guard behind_guard
   guards_join g ns s = refl
+
+  abbrev pub all_alternatives : List NumberedGuard → ℕ → List ChannelUse
+  all_alternatives ns s = all_inputs ns s ++ all_guards ns s

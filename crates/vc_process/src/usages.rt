@@ -1,5 +1,5 @@
 //! What processes use, one use after another.
-ghost use Rattle.std.specs.Prelude.{◌≡◌, ◌++◌, ◌∷◌, ℕ, OnOk, map};
+ghost use Rattle.std.specs.Prelude.{◌≡◌, [], ◌∷◌, ◌++◌, ℕ, OnOk, map};
 ghost use Rattle.vc_process.specs.declared.used.Used.TheVariants as of;
 ghost use Rattle.vc_process.specs.InOrder.{number, number_branch, number_guard};
 ghost use Rattle.vc_process.specs.Numbering.{branches_from, guards_from, parts_from};
@@ -15,21 +15,23 @@ use crate::value::Value;
 use sqlite_items::Items;
 use vc_packets::Memory;
 
-/// Something is communicated on the channel, or the variable is changed.
-fn changing(used: Used) -> Usage
-    ensures { result ≡ as_changing used }
+/// Adds that something is communicated on the channel, or that the variable is changed.
+fn push_changing(uses: &mut Items<Usage>, used: Used) -> Result<(), Memory>
+    ensures { OnOk result (uses.new ≡ uses.old ++ as_changing used ∷ []) }
 {
-    Usage { used, reads: false }
+    uses.push(Usage { used, reads: false })?;
+    Ok(())
 }
 
-/// The variable stands in an expression.
-fn reading(var: u8) -> Usage
-    ensures { result ≡ as_reading var }
+/// Adds that the variable stands in an expression.
+fn push_reading(uses: &mut Items<Usage>, var: u8) -> Result<(), Memory>
+    ensures { OnOk result (uses.new ≡ uses.old ++ as_reading var ∷ []) }
 {
-    Usage {
+    uses.push(Usage {
         used: Used::Variable(var),
         reads: true,
-    }
+    })?;
+    Ok(())
 }
 
 /// Adds the uses of an expression.
@@ -38,15 +40,14 @@ fn push_expression(uses: &mut Items<Usage>, expression: &Expr) -> Result<(), Mem
     ensures { OnOk result (uses.new ≡ uses.old ++ exp_usages (exp expression.now)) }
 {
     match expression {
-        Expr::Num(_) => {}
-        Expr::Var(var) => uses.push(reading(*var))?,
-        Expr::Size(var) => uses.push(reading(*var))?,
+        Expr::Num(_) => Ok(()),
+        Expr::Var(var) => push_reading(uses, *var),
+        Expr::Size(var) => push_reading(uses, *var),
         Expr::Bin { left, right, .. } => {
             push_expression(uses, left.get())?;
-            push_expression(uses, right.get())?;
+            push_expression(uses, right.get())
         }
     }
-    Ok(())
 }
 
 /// Adds the uses of a condition.
@@ -55,22 +56,21 @@ fn push_condition(uses: &mut Items<Usage>, cond: &Cond) -> Result<(), Memory>
     ensures { OnOk result (uses.new ≡ uses.old ++ test_usages (as_test cond.now)) }
 {
     match cond {
-        Cond::Always(_) => {}
+        Cond::Always(_) => Ok(()),
         Cond::Cmp { left, right, .. } => {
             push_expression(uses, left)?;
-            push_expression(uses, right)?;
+            push_expression(uses, right)
         }
         Cond::And(left, right) => {
             push_condition(uses, left.get())?;
-            push_condition(uses, right.get())?;
+            push_condition(uses, right.get())
         }
         Cond::Or(left, right) => {
             push_condition(uses, left.get())?;
-            push_condition(uses, right.get())?;
+            push_condition(uses, right.get())
         }
-        Cond::Not(cond) => push_condition(uses, cond.get())?,
+        Cond::Not(cond) => push_condition(uses, cond.get()),
     }
-    Ok(())
 }
 
 /// Adds the uses of what is assigned or output.
@@ -78,40 +78,36 @@ fn push_value(uses: &mut Items<Usage>, value: &Value) -> Result<(), Memory>
     ensures { OnOk result (uses.new ≡ uses.old ++ given_usages (given value.now)) }
 {
     match value {
-        Value::Int(number) => push_expression(uses, number)?,
-        Value::Bytes(BytesExpr::Lit(_)) => {}
-        Value::Bytes(BytesExpr::Var(var)) => uses.push(reading(*var))?,
-        Value::Bytes(BytesExpr::Fill { .. }) => {}
+        Value::Int(number) => push_expression(uses, number),
+        Value::Bytes(BytesExpr::Lit(_)) => Ok(()),
+        Value::Bytes(BytesExpr::Var(var)) => push_reading(uses, *var),
+        Value::Bytes(BytesExpr::Fill { .. }) => Ok(()),
     }
-    Ok(())
 }
 
 /// Adds the uses of an assignment or an output.
 fn push_given(uses: &mut Items<Usage>, used: Used, value: &Value) -> Result<(), Memory>
     ensures { OnOk result (uses.new ≡ uses.old ++ (as_changing used ∷ given_usages (given value.now))) }
 {
-    uses.push(changing(used))?;
-    push_value(uses, value)?;
-    Ok(())
+    push_changing(uses, used)?;
+    push_value(uses, value)
 }
 
 /// Adds the uses of an input.
 fn push_input(uses: &mut Items<Usage>, chan: u16, var: u8) -> Result<(), Memory>
     ensures { OnOk result (uses.new ≡ uses.old ++ input_usages chan var) }
 {
-    uses.push(changing(Used::Input(chan)))?;
-    uses.push(changing(Used::Variable(var)))?;
-    Ok(())
+    push_changing(uses, Used::Input(chan))?;
+    push_changing(uses, Used::Variable(var))
 }
 
 /// Adds the uses of a counted SEQ, apart from its body.
 fn push_count(uses: &mut Items<Usage>, var: u8, base: &Expr, count: &Expr) -> Result<(), Memory>
     ensures { OnOk result (uses.new ≡ uses.old ++ (as_changing (of.Variable var) ∷ exp_usages (exp base.now) ++ exp_usages (exp count.now))) }
 {
-    uses.push(changing(Used::Variable(var)))?;
+    push_changing(uses, Used::Variable(var))?;
     push_expression(uses, base)?;
-    push_expression(uses, count)?;
-    Ok(())
+    push_expression(uses, count)
 }
 
 /// Adds the uses of a process and of its parts, in order of site.
@@ -121,16 +117,16 @@ pub(crate) fn push_usages(uses: &mut Items<Usage>, process: &Process) -> Result<
     ensures { OnOk result ((site : ℕ) → uses.new ≡ uses.old ++ usages ((number process.now).tree site)) }
 {
     match process {
-        Process::Set { var, value } => push_given(uses, Used::Variable(*var), value)?,
-        Process::Send { chan, value } => push_given(uses, Used::Output(*chan), value)?,
-        Process::Receive { chan, var } => push_input(uses, *chan, *var)?,
-        Process::Stopch { chan } => uses.push(changing(Used::Input(*chan)))?,
-        Process::Seq(parts) => push_parts(uses, parts)?,
-        Process::Par(parts) => push_parts(uses, parts)?,
-        Process::If(branches) => push_branches(uses, branches)?,
+        Process::Set { var, value } => push_given(uses, Used::Variable(*var), value),
+        Process::Send { chan, value } => push_given(uses, Used::Output(*chan), value),
+        Process::Receive { chan, var } => push_input(uses, *chan, *var),
+        Process::Stopch { chan } => push_changing(uses, Used::Input(*chan)),
+        Process::Seq(parts) => push_parts(uses, parts),
+        Process::Par(parts) => push_parts(uses, parts),
+        Process::If(branches) => push_branches(uses, branches),
         Process::While { cond, body } => {
             push_condition(uses, cond)?;
-            push_usages(uses, body.get())?;
+            push_usages(uses, body.get())
         }
         Process::Count {
             var,
@@ -139,12 +135,11 @@ pub(crate) fn push_usages(uses: &mut Items<Usage>, process: &Process) -> Result<
             body,
         } => {
             push_count(uses, *var, base, count)?;
-            push_usages(uses, body.get())?;
+            push_usages(uses, body.get())
         }
-        Process::Alt(guards) => push_guards(uses, guards)?,
-        _ => {}
+        Process::Alt(guards) => push_guards(uses, guards),
+        _ => Ok(()),
     }
-    Ok(())
 }
 
 #[cycle(usages)]
@@ -173,8 +168,7 @@ fn push_branch(uses: &mut Items<Usage>, branch: &Branch) -> Result<(), Memory>
     ensures { OnOk result ((site : ℕ) → uses.new ≡ uses.old ++ (test_usages (number_branch branch.now).when ++ usages ((number_branch branch.now).then_do.tree site))) }
 {
     push_condition(uses, &branch.cond)?;
-    push_usages(uses, &branch.body)?;
-    Ok(())
+    push_usages(uses, &branch.body)
 }
 
 #[cycle(usages)]
@@ -194,6 +188,5 @@ fn push_guarded(uses: &mut Items<Usage>, guard: &Guard) -> Result<(), Memory>
 {
     push_input(uses, guard.chan, guard.var)?;
     push_condition(uses, &guard.cond)?;
-    push_usages(uses, &guard.body)?;
-    Ok(())
+    push_usages(uses, &guard.body)
 }

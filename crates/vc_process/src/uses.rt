@@ -1,5 +1,5 @@
 //! How a process uses channels.
-ghost use Rattle.std.specs.Prelude.{◌≡◌, ◌++◌, ℕ, OnOk, map};
+ghost use Rattle.std.specs.Prelude.{◌≡◌, [], ◌∷◌, ◌++◌, ℕ, OnOk, map};
 ghost use Rattle.vc_process.specs.ChannelUses.{channel_uses, guard_uses, uses_of_all, uses_of_bodies, uses_of_branches};
 ghost use Rattle.vc_process.specs.InOrder.{number, number_branch, number_guard};
 ghost use Rattle.vc_process.specs.Numbering.{branches_from, guards_from, parts_from};
@@ -22,38 +22,45 @@ pub(crate) fn push_uses(
     ensures { OnOk result ((site : ℕ) → uses.new ≡ uses.old ++ channel_uses kinds.now ((number process.now).tree site)) }
 {
     match process {
-        Process::Send { chan, value } => {
-            uses.push(ChannelUse {
+        Process::Send { chan, value } => push_use(
+            uses,
+            ChannelUse {
                 chan: *chan,
                 is_output: true,
                 kind: Some(value.kind()),
-            })?;
-        }
-        Process::Receive { chan, var } => {
-            uses.push(ChannelUse {
+            },
+        ),
+        Process::Receive { chan, var } => push_use(
+            uses,
+            ChannelUse {
                 chan: *chan,
                 is_output: false,
                 kind: kind_at(kinds, *var),
-            })?;
-        }
-        Process::Stopch { chan } => {
-            uses.push(ChannelUse {
+            },
+        ),
+        Process::Stopch { chan } => push_use(
+            uses,
+            ChannelUse {
                 chan: *chan,
                 is_output: false,
                 kind: None,
-            })?;
-        }
-        Process::Seq(parts) => push_parts(uses, parts, kinds)?,
-        Process::Par(parts) => push_parts(uses, parts, kinds)?,
-        Process::If(branches) => push_branches(uses, branches, kinds)?,
-        Process::While { body, .. } => push_uses(uses, body.get(), kinds)?,
-        Process::Count { body, .. } => push_uses(uses, body.get(), kinds)?,
-        Process::Alt(guards) => {
-            push_guards(uses, guards, kinds)?;
-            push_bodies(uses, guards, kinds)?;
-        }
-        _ => {}
+            },
+        ),
+        Process::Seq(parts) => push_parts(uses, parts, kinds),
+        Process::Par(parts) => push_parts(uses, parts, kinds),
+        Process::If(branches) => push_branches(uses, branches, kinds),
+        Process::While { body, .. } => push_uses(uses, body.get(), kinds),
+        Process::Count { body, .. } => push_uses(uses, body.get(), kinds),
+        Process::Alt(guards) => push_alternatives(uses, guards, kinds),
+        _ => Ok(()),
     }
+}
+
+/// Adds one use.
+fn push_use(uses: &mut Items<ChannelUse>, one: ChannelUse) -> Result<(), Memory>
+    ensures { OnOk result (uses.new ≡ uses.old ++ one ∷ []) }
+{
+    uses.push(one)?;
     Ok(())
 }
 
@@ -100,6 +107,19 @@ fn push_bodies(
         push_uses(uses, &guard.body, kinds)?;
     }
     Ok(())
+}
+
+/// Adds the uses of an ALT: those of its guards, which belong to its own site, and those of their bodies.
+#[cycle(uses)]
+fn push_alternatives(
+    uses: &mut Items<ChannelUse>,
+    guards: &Items<Guard>,
+    kinds: &[ValueKind],
+) -> Result<(), Memory>
+    ensures { OnOk result ((site : ℕ) → uses.new ≡ uses.old ++ (guard_uses kinds.now (guards_from site (map number_guard guards.now)) ++ uses_of_bodies kinds.now (guards_from site (map number_guard guards.now)))) }
+{
+    push_guards(uses, guards, kinds)?;
+    push_bodies(uses, guards, kinds)
 }
 
 /// The guards of an ALT belong to its own site.

@@ -1,5 +1,5 @@
 //! How many processes are written in a process.
-ghost use Rattle.std.specs.Prelude.{◌≡◌, ◌≤◌, ◌<◌, MatchOption, map};
+ghost use Rattle.std.specs.Prelude.{◌≡◌, ◌+◌, ◌≤◌, ◌<◌, MatchOption, map};
 ghost use Rattle.vc_process.specs.InOrder.{number, number_branch, number_guard};
 ghost use Rattle.vc_process.specs.Numbering.{branch_sites, guard_sites, part_sites};
 
@@ -9,21 +9,30 @@ use sqlite_items::Items;
 impl Process {
     /// How many sites it has, itself and those within it; None where these are more than so many.
     #[cycle(sites)]
-    #[tactic(auto, unfolding(crate::specs::InOrder::number, crate::specs::InOrder::number_branch, crate::specs::InOrder::number_guard))]
     pub fn sites(&self, most: u32) -> Option<u32>
         ensures { MatchOption result (most < (number self.now).sites) (λ n. (n ≡ (number self.now).sites) × (n ≤ most)) }
     {
         if most == 0 {
             return None;
         }
+        let within = self.sites_within(most - 1)?;
+        Some(within + 1)
+    }
+
+    /// How many sites those within it have; None where these are more than so many.
+    #[cycle(sites)]
+    #[tactic(auto, unfolding(crate::specs::InOrder::number, crate::specs::InOrder::number_branch, crate::specs::InOrder::number_guard))]
+    fn sites_within(&self, most: u32) -> Option<u32>
+        ensures { MatchOption result (most + 1 < (number self.now).sites) (λ n. (n + 1 ≡ (number self.now).sites) × (n ≤ most)) }
+    {
         match self {
-            Process::Seq(parts) => Some(sites_of(parts, most - 1)? + 1),
-            Process::Par(parts) => Some(sites_of(parts, most - 1)? + 1),
-            Process::If(branches) => Some(sites_of_branches(branches, most - 1)? + 1),
-            Process::While { body, .. } => Some(body.get().sites(most - 1)? + 1),
-            Process::Count { body, .. } => Some(body.get().sites(most - 1)? + 1),
-            Process::Alt(guards) => Some(sites_of_guards(guards, most - 1)? + 1),
-            _ => Some(1),
+            Process::Seq(parts) => sites_of(parts, most),
+            Process::Par(parts) => sites_of(parts, most),
+            Process::If(branches) => sites_of_branches(branches, most),
+            Process::While { body, .. } => body.get().sites(most),
+            Process::Count { body, .. } => body.get().sites(most),
+            Process::Alt(guards) => sites_of_guards(guards, most),
+            _ => Some(0),
         }
     }
 }

@@ -1,16 +1,14 @@
-use Rattle.std.proofs.Common.{◌≡◌, ◌≤◌, ◌+◌, drop, map}
+use Rattle.std.proofs.Common.{◌*◌, ◌+◌}
 use Rattle.vc_process.specs.InOrder.{number, number_branch, number_guard}
 use Rattle.vc_process.specs.Numbering.{branch_sites, guard_sites, part_sites}
+use Rattle.vc_process.proofs.Counted.{Found}
 use Rattle.vc_process.proofs.+sites.Given as goal
 
 abbrev pub invariant-written::sites_of-loop-part : goal.invariant-written::sites_of-loop-part
-invariant-written::sites_of-loop-part l =
-    (l.found ≤ l.most) × (l.found + part_sites (map number (drop l.part-index l.part-items)) ≡ part_sites (map number l.part-items))
+invariant-written::sites_of-loop-part l = Found number part_sites l.part-items l.most l.part-index l.found
 
 abbrev pub invariant-written::sites_of_branches-loop-branch : goal.invariant-written::sites_of_branches-loop-branch
-invariant-written::sites_of_branches-loop-branch l =
-    (l.found ≤ l.most) × (l.found + branch_sites (map number_branch (drop l.branch-index l.branch-items)) ≡ branch_sites (map number_branch l.branch-items))
+invariant-written::sites_of_branches-loop-branch l = Found number_branch branch_sites l.branch-items l.most l.branch-index l.found
 
 abbrev pub invariant-written::sites_of_guards-loop-guard : goal.invariant-written::sites_of_guards-loop-guard
-invariant-written::sites_of_guards-loop-guard l =
-    (l.found ≤ l.most) × (l.found + guard_sites (map number_guard (drop l.guard-index l.guard-items)) ≡ guard_sites (map number_guard l.guard-items))
+invariant-written::sites_of_guards-loop-guard l = Found number_guard guard_sites l.guard-items l.most l.guard-index l.found

@@ -1,8 +1,40 @@
-use Rattle.std.proofs.Common.{◌∙◌, ◌++◌, map, ap, refl}
+use Rattle.std.proofs.Common.{suc, ◌∷◌, ◌∙◌, sym, ◌++◌, map, ap, refl}
 use Rattle.vc_process.specs.InOrder.{number, number_branch, number_guard}
+use Rattle.vc_process.specs.Numbering.{Numbered}
+use Rattle.vc_process.specs.Terms.{exp, as_test}
+use Rattle.vc_process.specs.Usages.{exp_usages, test_usages, changing}
+use Rattle.vc_process.specs.declared.used.Used.TheVariants as of
+use Rattle.vc_process.proofs.Numbers.{number_seq, number_par, number_if, number_while, number_count, number_alt}
 use Rattle.vc_process.proofs.Listed.{all_parts, one_part, behind_part, parts_join, all_branches, one_branch, behind_branch, branches_join, all_guards, one_guard, behind_guard, guards_join}
-use Rattle.vc_process.proofs.Reaching.{adds_next, adds_end}
+use Rattle.vc_process.proofs.Reaching.{adds_as, adds_both, adds_next, adds_end}
 use Rattle.vc_process.proofs.usages.+usages.Goals as goal
+
+pub push_usages-returns-in-Seq : goal.push_usages-returns-in-Seq
+push_usages-returns-in-Seq t c =
+    adds_as _ _ _ (all_parts (map number c.in-Seq.parts)) _ suc (λ s. ap (λ (n : Numbered). one_part n s) (number_seq _ _ c.in-Seq.is)) c.push_parts.ensures
+
+pub push_usages-returns-in-Par : goal.push_usages-returns-in-Par
+push_usages-returns-in-Par t c =
+    adds_as _ _ _ (all_parts (map number c.in-Par.parts)) _ suc (λ s. ap (λ (n : Numbered). one_part n s) (number_par _ _ c.in-Par.is)) c.push_parts-in-Par.ensures
+
+pub push_usages-returns-in-If : goal.push_usages-returns-in-If
+push_usages-returns-in-If t c =
+    adds_as _ _ _ (all_branches (map number_branch c.in-If.branches)) _ suc (λ s. ap (λ (n : Numbered). one_part n s) (number_if _ _ c.in-If.is)) c.push_branches.ensures
+
+pub push_usages-returns-in-Alt : goal.push_usages-returns-in-Alt
+push_usages-returns-in-Alt t c =
+    adds_as _ _ _ (all_guards (map number_guard c.in-Alt.guards)) _ suc (λ s. ap (λ (n : Numbered). one_part n s) (number_alt _ _ c.in-Alt.is)) c.push_guards.ensures
+
+pub push_usages-returns-in_ok-push_condition-in-While : goal.push_usages-returns-in_ok-push_condition-in-While
+push_usages-returns-in_ok-push_condition-in-While t c =
+    adds_both _ _ _ _ (test_usages (as_test c.in-While.cond)) (one_part (number c.get.result.now)) _ suc c.in_ok-push_condition-in-While.ensures
+    (λ s. ap (λ (n : Numbered). one_part n s) (number_while _ _ _ c.in-While.is) ∙ ap (λ q. test_usages (as_test c.in-While.cond) ++ one_part (number q) (suc s)) (sym c.get.ensures)) c.push_usages.ensures
+
+pub push_usages-returns-in_ok-push_count-in-Count : goal.push_usages-returns-in_ok-push_count-in-Count
+push_usages-returns-in_ok-push_count-in-Count t c =
+    let counts = changing (of.Variable c.in-Count.var) ∷ exp_usages (exp c.in-Count.base) ++ exp_usages (exp c.in-Count.count) in
+    adds_both _ _ _ _ counts (one_part (number c.get-in-Count.result.now)) _ suc c.in_ok-push_count-in-Count.ensures
+    (λ s. ap (λ (n : Numbered). one_part n s) (number_count _ _ _ _ _ c.in-Count.is) ∙ ap (λ q. counts ++ one_part (number q) (suc s)) (sym c.get-in-Count.ensures)) c.push_usages-in-Count.ensures
 
 pub push_parts-loop-part-init : goal.push_parts-loop-part-init
 push_parts-loop-part-init t c = λ site. (site, refl)

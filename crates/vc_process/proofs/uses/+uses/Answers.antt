@@ -1,11 +1,41 @@
-use Rattle.std.proofs.Common.{◌∙◌, ◌++◌, map, sym, ap, refl}
+use Rattle.std.proofs.Common.{suc, ◌∙◌, ◌++◌, map, sym, ap, refl}
 use Rattle.vc_process.specs.ChannelUses.{channel_uses}
 use Rattle.vc_process.specs.InOrder.{number, number_branch, number_guard}
-use Rattle.vc_process.specs.Numbering.{NumberedBranch, NumberedGuard}
-use Rattle.vc_process.proofs.Using.{all_parts, one_part, behind_part, parts_join, all_branches, one_branch, behind_branch, branches_join, all_guards, one_guard, behind_guard, guards_join}
-use Rattle.vc_process.proofs.Numbers.{number_branch_out, number_guard_out}
-use Rattle.vc_process.proofs.Reaching.{adds_next, adds_end}
+use Rattle.vc_process.specs.Numbering.{Numbered, NumberedBranch, NumberedGuard}
+use Rattle.vc_process.proofs.Using.{all_parts, one_part, behind_part, parts_join, all_branches, one_branch, behind_branch, branches_join, all_guards, one_guard, behind_guard, guards_join, all_alternatives}
+use Rattle.vc_process.proofs.Numbers.{number_seq, number_par, number_if, number_while, number_count, number_alt, number_branch_out, number_guard_out}
+use Rattle.vc_process.proofs.Reaching.{adds_as, adds_next, adds_end}
 use Rattle.vc_process.proofs.uses.+uses.Goals as goal
+
+pub push_uses-returns-in-Seq : goal.push_uses-returns-in-Seq
+push_uses-returns-in-Seq t c =
+    let k = c.args.kinds.now in
+    adds_as _ _ _ (all_parts k (map number c.in-Seq.parts)) _ suc (λ s. ap (λ (n : Numbered). one_part k n s) (number_seq _ _ c.in-Seq.is)) c.push_parts.ensures
+
+pub push_uses-returns-in-Par : goal.push_uses-returns-in-Par
+push_uses-returns-in-Par t c =
+    let k = c.args.kinds.now in
+    adds_as _ _ _ (all_parts k (map number c.in-Par.parts)) _ suc (λ s. ap (λ (n : Numbered). one_part k n s) (number_par _ _ c.in-Par.is)) c.push_parts-in-Par.ensures
+
+pub push_uses-returns-in-If : goal.push_uses-returns-in-If
+push_uses-returns-in-If t c =
+    let k = c.args.kinds.now in
+    adds_as _ _ _ (all_branches k (map number_branch c.in-If.branches)) _ suc (λ s. ap (λ (n : Numbered). one_part k n s) (number_if _ _ c.in-If.is)) c.push_branches.ensures
+
+pub push_uses-returns-in-While : goal.push_uses-returns-in-While
+push_uses-returns-in-While t c =
+    let k = c.args.kinds.now in
+    adds_as _ _ _ (one_part k (number c.get.result.now)) _ suc (λ s. ap (λ (n : Numbered). one_part k n s) (number_while _ _ _ c.in-While.is) ∙ ap (λ q. one_part k (number q) (suc s)) (sym c.get.ensures)) c.push_uses.ensures
+
+pub push_uses-returns-in-Count : goal.push_uses-returns-in-Count
+push_uses-returns-in-Count t c =
+    let k = c.args.kinds.now in
+    adds_as _ _ _ (one_part k (number c.get-in-Count.result.now)) _ suc (λ s. ap (λ (n : Numbered). one_part k n s) (number_count _ _ _ _ _ c.in-Count.is) ∙ ap (λ q. one_part k (number q) (suc s)) (sym c.get-in-Count.ensures)) c.push_uses-in-Count.ensures
+
+pub push_uses-returns-in-Alt : goal.push_uses-returns-in-Alt
+push_uses-returns-in-Alt t c =
+    let k = c.args.kinds.now in
+    adds_as _ _ _ (all_alternatives k (map number_guard c.in-Alt.guards)) _ suc (λ s. ap (λ (n : Numbered). one_part k n s) (number_alt _ _ c.in-Alt.is)) c.push_alternatives.ensures
 
 pub push_parts-loop-part-init : goal.push_parts-loop-part-init
 push_parts-loop-part-init t c = λ site. (site, refl)
