@@ -20,7 +20,7 @@ impl Model for Bytes {
 }
 
 impl Bytes {
-    ghost use Rattle.std.specs.Prelude.{◌≡◌, ◌<◌, [], ◌++◌, length, slice_get, IfOk, OnOk, OnErr, OnSome};
+    ghost use Rattle.std.specs.Prelude.{◌≡◌, ◌<◌, ◌≤◌, [], ◌++◌, length, slice_get, IfOk, IsOk, OnOk, OnErr, OnSome};
     ghost use Rattle.std.specs.Option.{option_copied};
 
     /// No bytes.
@@ -49,9 +49,10 @@ impl Bytes {
         }
     }
 
-    /// A copy of these bytes.
+    /// A copy of these bytes, which takes no memory of its own where there are at most 16.
     pub fn from_slice(alloc: Global, bytes: &[u8]) -> Result<Bytes, AllocError>
-        ensures { IfOk result (λ it. it ≡ bytes.now) }
+        ensures copy { IfOk result (λ it. it ≡ bytes.now) }
+        ensures short { length bytes.now ≤ 16 → IsOk result }
     {
         let bytes = SmallVec::from_slice(alloc, bytes)?;
         Ok(Bytes { bytes })
@@ -79,7 +80,7 @@ impl Bytes {
         ensures value { option_copied result ≡ slice_get self.now at }
         ensures within { OnSome result (at < length self.now) }
     {
-        self.bytes.as_slice().get(at)
+        self.as_slice().get(at)
     }
 
     /// Adds these bytes at the end. For want of memory nothing changes.
