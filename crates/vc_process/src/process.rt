@@ -1,5 +1,5 @@
 //! Processes, as they are written.
-ghost use Rattle.std.specs.Prelude.{◌≡◌, IfOk};
+ghost use Rattle.std.specs.Prelude.{◌≡◌, IfOk, Ok};
 
 use crate::condition::Cond;
 use crate::expression::Expr;
@@ -102,22 +102,16 @@ fn copy_process(alloc: Global, process: &Process) -> Result<Process, Memory>
     match process {
         Process::Skip => Ok(Process::Skip),
         Process::Stop => Ok(Process::Stop),
-        Process::Set { var, value } => Ok(Process::Set {
-            var: *var,
-            value: value.copy(alloc)?,
-        }),
-        Process::Send { chan, value } => Ok(Process::Send {
-            chan: *chan,
-            value: value.copy(alloc)?,
-        }),
+        Process::Set { var, value } => assigned(alloc, *var, value),
+        Process::Send { chan, value } => sent(alloc, *chan, value),
         Process::Receive { chan, var } => Ok(Process::Receive {
             chan: *chan,
             var: *var,
         }),
         Process::Stopch { chan } => Ok(Process::Stopch { chan: *chan }),
-        Process::Seq(parts) => Ok(Process::Seq(copy_parts(alloc, parts)?)),
-        Process::Par(parts) => Ok(Process::Par(copy_parts(alloc, parts)?)),
-        Process::If(branches) => Ok(Process::If(copy_branches(alloc, branches)?)),
+        Process::Seq(parts) => copy_parts(alloc, parts).map(Process::Seq),
+        Process::Par(parts) => copy_parts(alloc, parts).map(Process::Par),
+        Process::If(branches) => copy_branches(alloc, branches).map(Process::If),
         Process::While { cond, body } => {
             let body = copy_body(alloc, body)?;
             repeated(alloc, cond, body)
@@ -131,8 +125,24 @@ fn copy_process(alloc: Global, process: &Process) -> Result<Process, Memory>
             let body = copy_body(alloc, body)?;
             counted(alloc, *var, base, count, body)
         }
-        Process::Alt(guards) => Ok(Process::Alt(copy_guards(alloc, guards)?)),
+        Process::Alt(guards) => copy_guards(alloc, guards).map(Process::Alt),
     }
+}
+
+/// An assignment of an equal value.
+fn assigned(alloc: Global, var: u8, value: &Value) -> Result<Process, Memory>
+    ensures { IfOk result (λ copy. copy ≡ Process.Set var value.now) }
+{
+    let value = value.copy(alloc)?;
+    Ok(Process::Set { var, value })
+}
+
+/// An output of an equal value.
+fn sent(alloc: Global, chan: u16, value: &Value) -> Result<Process, Memory>
+    ensures { IfOk result (λ copy. copy ≡ Process.Send chan value.now) }
+{
+    let value = value.copy(alloc)?;
+    Ok(Process::Send { chan, value })
 }
 
 /// A WHILE with an equal condition.
@@ -187,11 +197,25 @@ fn copy_branches(alloc: Global, branches: &Items<Branch>) -> Result<Items<Branch
 {
     let mut copies = Items::new(alloc);
     for branch in branches.as_slice() {
-        let cond = branch.cond.copy(alloc)?;
-        let body = copy_process(alloc, &branch.body)?;
-        copies.push(Branch { cond, body })?;
+        copies.push(copy_branch(alloc, branch)?)?;
     }
     Ok(copies)
+}
+
+#[cycle(copy)]
+fn copy_branch(alloc: Global, branch: &Branch) -> Result<Branch, Memory>
+    ensures { IfOk result (λ copy. copy ≡ branch.now) }
+{
+    let cond = branch.cond.copy(alloc)?;
+    with_condition(cond, copy_process(alloc, &branch.body))
+}
+
+/// What is done under the condition, unless its copy failed.
+fn with_condition(cond: Cond, body: Result<Process, Memory>) -> Result<Branch, Memory>
+    ensures { IfOk result (λ copy. (copy.cond ≡ cond) × (body ≡ Ok copy.body)) }
+{
+    let body = body?;
+    Ok(Branch { cond, body })
 }
 
 #[cycle(copy)]
@@ -200,16 +224,23 @@ fn copy_guards(alloc: Global, guards: &Items<Guard>) -> Result<Items<Guard>, Mem
 {
     let mut copies = Items::new(alloc);
     for guard in guards.as_slice() {
-        let cond = guard.cond.copy(alloc)?;
-        let body = copy_process(alloc, &guard.body)?;
-        copies.push(Guard {
-            cond,
-            chan: guard.chan,
-            var: guard.var,
-            body,
-        })?;
+        copies.push(copy_guard(alloc, guard)?)?;
     }
     Ok(copies)
+}
+
+#[cycle(copy)]
+fn copy_guard(alloc: Global, guard: &Guard) -> Result<Guard, Memory>
+    ensures { IfOk result (λ copy. copy ≡ guard.now) }
+{
+    let cond = guard.cond.copy(alloc)?;
+    let Branch { cond, body } = with_condition(cond, copy_process(alloc, &guard.body))?;
+    Ok(Guard {
+        cond,
+        chan: guard.chan,
+        var: guard.var,
+        body,
+    })
 }
 
 impl Process {

@@ -24,3 +24,9 @@ decreases-copy_process l = 2 * goal.size-copy_process l
 
 abbrev pub decreases-copy_branches : goal.decreases-copy_branches
 decreases-copy_branches l = 2 * goal.size-copy_branches l + 1
+
+abbrev pub decreases-copy_branch : goal.decreases-copy_branch
+decreases-copy_branch l = 2 * goal.size-copy_branch l
+
+abbrev pub decreases-copy_guard : goal.decreases-copy_guard
+decreases-copy_guard l = 2 * goal.size-copy_guard l
