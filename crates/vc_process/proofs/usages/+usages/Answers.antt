@@ -1,10 +1,10 @@
-use Rattle.std.proofs.Common.{suc, ◌∷◌, ◌∙◌, sym, ◌++◌, map, ap, refl}
+use Rattle.std.proofs.Common.{append_assoc, suc, ◌∷◌, ◌∙◌, sym, ◌++◌, map, ap, refl}
 use Rattle.vc_process.specs.InOrder.{number, number_branch, number_guard}
-use Rattle.vc_process.specs.Numbering.{Numbered}
+use Rattle.vc_process.specs.Numbering.{Numbered, NumberedBranch, NumberedGuard}
 use Rattle.vc_process.specs.Terms.{exp, as_test}
-use Rattle.vc_process.specs.Usages.{exp_usages, test_usages, changing}
+use Rattle.vc_process.specs.Usages.{exp_usages, input_usages, test_usages, changing}
 use Rattle.vc_process.specs.declared.used.Used.TheVariants as of
-use Rattle.vc_process.proofs.Numbers.{number_seq, number_par, number_if, number_while, number_count, number_alt}
+use Rattle.vc_process.proofs.Numbers.{number_seq, number_par, number_if, number_while, number_count, number_alt, number_branch_out, number_guard_out}
 use Rattle.vc_process.proofs.Listed.{all_parts, one_part, behind_part, parts_join, all_branches, one_branch, behind_branch, branches_join, all_guards, one_guard, behind_guard, guards_join}
 use Rattle.vc_process.proofs.Reaching.{adds_as, adds_both, adds_next, adds_end}
 use Rattle.vc_process.proofs.usages.+usages.Goals as goal
@@ -74,3 +74,17 @@ pub push_guards-returns : goal.push_guards-returns
 push_guards-returns t c =
     let r = adds_end number_guard all_guards c.as_slice-guard-items.result.now _ c.loop-guard.guard-index c.loop-guard.uses (λ s. refl) c.loop-guard-test.false c.loop-guard.invariant in
     λ site. r site ∙ ap (λ ys. c.args.uses.now ++ all_guards (map number_guard ys) site) c.as_slice-guard-items.ensures
+
+pub push_branch-returns : goal.push_branch-returns
+push_branch-returns t c =
+    let b = c.args.branch.now in
+    adds_both _ _ _ _ (test_usages (as_test b.cond)) (one_part (number b.body)) _ (λ s. s) c.in_ok-push_condition.ensures
+    (λ s. ap (λ (n : NumberedBranch). one_branch n s) (number_branch_out b)) c.push_usages.ensures
+
+pub push_guarded-returns : goal.push_guarded-returns
+push_guarded-returns t c =
+    let g = c.args.guard.now in
+    let inputs = input_usages g.chan g.var in
+    let tests = test_usages (as_test g.cond) in
+    let first = c.in_ok-push_condition.ensures ∙ ap (λ us. us ++ tests) c.in_ok-push_input.ensures ∙ append_assoc c.args.uses.now inputs tests in
+    adds_both _ _ _ _ (inputs ++ tests) (one_part (number g.body)) _ (λ s. s) first (λ s. ap (λ (n : NumberedGuard). one_guard n s) (number_guard_out g)) c.push_usages.ensures
