@@ -1,9 +1,9 @@
 -- How many sites are found, of parts, branches and guards that are gone through from the first on.
-use Rattle.std.proofs.Common.{◌≡◌, refl, ℕ, suc, ◌+◌, ◌-◌, ◌<◌, ◌≤◌, Option, Some, None, MatchOption, ap, sym, ◌∙◌, List, [], ◌∷◌, map, length, get_or, drop, arith}
+use Rattle.std.proofs.Common.{◌≡◌, refl, ℕ, suc, ◌+◌, ◌-◌, ◌<◌, ◌≤◌, Option, Some, None, MatchOption, ap, ◌∙◌, List, [], ◌∷◌, map, length, get_or, drop, arith}
 use Rattle.vc_process.specs.declared.process.Process.{Process}
 use Rattle.vc_process.specs.declared.process.Process.TheOpen as layer
 use Rattle.vc_process.specs.declared.process.Process.TheFolds.{fold_out-Process}
-use Rattle.vc_process.specs.InOrder.{branch_layer, guard_layer, number, number_branch, number_guard}
+use Rattle.vc_process.specs.InOrder.{branch_layer, guard_layer, number}
 use Rattle.vc_process.specs.Numbering.{Numbered, NumberedBranch, NumberedGuard, numbered, branch_sites, guard_sites, part_sites}
 use Rattle.vc_process.proofs.Reaching.{drop_at, drop_all}
 

@@ -1,6 +1,6 @@
 -- The first offender refutes lawful use, and is one.
 use Rattle.std.proofs.Common.{◌≡◌, ℕ, ◌<◌, ◌⊎◌, true, false, refl, ap, inl, inr, arith}
-use Rattle.vc_process.specs.Syntax.{Proc, SEQ, PAR, IF, WHILE, COUNT, ALT, Procs, part, Branches, branch, Guards, guard}
+use Rattle.vc_process.specs.Syntax.{Proc, Procs, Branches, Guards}
 use Rattle.vc_process.specs.Lawful.{outputs, inputs, Shared, Lawfully, LawfullyAll, LawfullyBranches, LawfullyGuards, SideBySide, Least, Offence, channel, variable, Offends, by_output, by_input, by_variable, FirstOffence, FirstOfAll, FirstOfBranches, FirstOfGuards, in_seq, at_par, in_par, in_if, in_while, at_count, in_count, in_alt, this_part, later_part, this_branch, later_branch, this_guard, later_guard}
 use Rattle.vc_process.specs.Usage.{changes, uses}
 use Rattle.vc_process.specs.Judged.{OffendersAreUnlawful, OneOffenderIsFirst}

@@ -1,4 +1,3 @@
-use Rattle.std.proofs.Common.{◌*◌, ◌+◌}
 use Rattle.vc_process.specs.InOrder.{number, number_branch, number_guard}
 use Rattle.vc_process.specs.Numbering.{branch_sites, guard_sites, part_sites}
 use Rattle.vc_process.proofs.Counted.{Found}

@@ -1,15 +1,28 @@
 use Rattle.std.proofs.Common.{◌∙◌, ◌&&◌, Bool, true, map, sym, ap, refl}
 use Rattle.vc_process.specs.Asking.{asking, everywhere}
+use Rattle.vc_process.specs.declared.process.Process.TheOpen as layer
 use Rattle.vc_process.specs.InOrder.{number, number_branch, number_guard}
-use Rattle.vc_process.specs.Numbering.{NumberedBranch, NumberedGuard}
-use Rattle.vc_process.proofs.Everywhere.{of_seq, of_if, of_alt, all_parts, one_part, behind_part, parts_split, all_branches, one_branch, behind_branch, branches_split, all_guards, one_guard, behind_guard, guards_split}
-use Rattle.vc_process.proofs.Numbers.{number_seq, number_if, number_alt, number_branch_out, number_guard_out}
+use Rattle.vc_process.specs.Numbering.{numbered, NumberedBranch, NumberedGuard}
+use Rattle.vc_process.proofs.Everywhere.{of_seq, of_par, of_if, of_while, of_count, of_alt, all_parts, one_part, behind_part, parts_split, all_branches, one_branch, behind_branch, branches_split, all_guards, one_guard, behind_guard, guards_split}
+use Rattle.vc_process.proofs.Numbers.{number_seq, number_par, number_while, number_count, number_if, number_alt, number_branch_out, number_guard_out}
 use Rattle.vc_process.proofs.Reaching.{reaches_next, reaches_false, reaches_end}
 use Rattle.vc_process.proofs.asked.Asked.+everywhere.Goals as goal
 
 pub everywhere-returns-in-Seq : goal.everywhere-returns-in-Seq
 everywhere-returns-in-Seq t c = λ site.
     of_seq (asking c.args.self c.args.kinds.now) (number c.args.process.now) (map number c.in-Seq.parts) site _ (number_seq c.args.process.now c.in-Seq.parts c.in-Seq.is) c.in_parts.ensures (sym c.if-not-itself.false ∙ c.itself.ensures site)
+
+pub everywhere-returns-in-Par : goal.everywhere-returns-in-Par
+everywhere-returns-in-Par t c = λ site.
+    of_par (asking c.args.self c.args.kinds.now) (number c.args.process.now) (map number c.in-Par.parts) site _ (number_par c.args.process.now c.in-Par.parts c.in-Par.is) c.in_parts-in-Par.ensures (sym c.if-not-itself.false ∙ c.itself.ensures site)
+
+pub everywhere-returns-in-While : goal.everywhere-returns-in-While
+everywhere-returns-in-While t c = λ site.
+    of_while (asking c.args.self c.args.kinds.now) (number c.args.process.now) c.in-While.cond (number c.get.result.now) site _ (number_while _ _ _ c.in-While.is ∙ ap (λ q. numbered (layer.While c.in-While.cond (number q))) (sym c.get.ensures)) c.everywhere.ensures (sym c.if-not-itself.false ∙ c.itself.ensures site)
+
+pub everywhere-returns-in-Count : goal.everywhere-returns-in-Count
+everywhere-returns-in-Count t c = λ site.
+    of_count (asking c.args.self c.args.kinds.now) (number c.args.process.now) c.in-Count.var c.in-Count.base c.in-Count.count (number c.get-in-Count.result.now) site _ (number_count _ _ _ _ _ c.in-Count.is ∙ ap (λ q. numbered (layer.Count c.in-Count.var c.in-Count.base c.in-Count.count (number q))) (sym c.get-in-Count.ensures)) c.everywhere-in-Count.ensures (sym c.if-not-itself.false ∙ c.itself.ensures site)
 
 pub everywhere-returns-in-If : goal.everywhere-returns-in-If
 everywhere-returns-in-If t c = λ site.
