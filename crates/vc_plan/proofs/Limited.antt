@@ -5,7 +5,6 @@ use Rattle.std.specs.Prelude.{slice_get}
 use Rattle.std.specs.List.{list_all}
 use Rattle.vc_plan.specs.declared.plan.Plan.{Plan}
 use Rattle.vc_plan.specs.declared.channel.Channel.{Channel}
-use Rattle.vc_plan.specs.declared.node_plan.NodePlan.{NodePlan}
 use Rattle.vc_plan.specs.declared.switch_plan.RandomInput.{RandomInput}
 use Rattle.vc_plan.specs.declared.limit_word.LimitWord.{LimitWord}
 use Rattle.vc_plan.specs.declared.limit_word.LimitWord.TheVariants as word

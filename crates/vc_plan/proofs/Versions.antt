@@ -1,6 +1,6 @@
 -- Nothing but one limit asks for a plan's version.
 use mathlib.Core.Path.{fun_ext}
-use Rattle.std.proofs.Common.{◌≡◌, ℕ, zero, suc, ◌+◌, Bool, true, false, ◌&&◌, ◌||◌, ◌==◌, List, [], ◌∷◌, length, Option, Some, None, refl, sym, ap, ap₂, subst, ◌∙◌, if◌then◌else◌, nat_le, slice_get}
+use Rattle.std.proofs.Common.{◌≡◌, ℕ, zero, suc, Bool, true, false, ◌&&◌, ◌||◌, ◌==◌, List, [], ◌∷◌, length, Option, Some, None, refl, sym, ap, ap₂, subst, ◌∙◌, if◌then◌else◌, nat_le, slice_get}
 use Rattle.std.specs.List.{list_all}
 use Rattle.vc_labels.specs.declared.action.Action.{Action}
 use Rattle.vc_labels.specs.declared.action.Action.TheVariants.{Out, Portal}
@@ -17,14 +17,12 @@ use Rattle.vc_plan.specs.declared.port.Port.{Port}
 use Rattle.vc_plan.specs.declared.port.Spot.{Spot}
 use Rattle.vc_plan.specs.declared.port.Spot.TheVariants.{Node, Switch}
 use Rattle.vc_plan.specs.declared.port.Wire.{Wire}
-use Rattle.vc_plan.specs.declared.switch_plan.SwitchPlan.{SwitchPlan}
 use Rattle.vc_plan.specs.declared.vlink.End.{End}
-use Rattle.vc_plan.specs.declared.vlink.Vlink.{Vlink}
 use Rattle.vc_plan.specs.Accepted.{IsAccepted}
-use Rattle.vc_plan.specs.Check.{HasLawfulTables, IsLawfulSwitch, PassesUse, channel_fault, channel_used, first_of, has_end, kind_fits, misused_from, use_ok, uses_of, way_twice, wrong_use}
-use Rattle.vc_plan.specs.Delivery.{Delivers, DeliversTo, IsLabelled, IsLabelledLink, IsWellAt}
-use Rattle.vc_plan.specs.Hops.{IsHop, SomeHop}
-use Rattle.vc_plan.specs.Limits.{depth_ok, ends_there, home_there, limit_broken, links_ok, message_ok, names_ok, number_broken, number_ok, part_broken, parts_ok, process_broken, process_names, random_ok, routes_ok, rows_ok, spot_there, switch_in_version_one, unless_ok, vars_ok, version_ok, wire_there}
+use Rattle.vc_plan.specs.Check.{HasLawfulTables, PassesUse, channel_fault, channel_used, first_of, has_end, kind_fits, misused_from, use_ok, uses_of, way_twice, wrong_use}
+use Rattle.vc_plan.specs.Delivery.{Delivers, IsLabelled, IsWellAt}
+use Rattle.vc_plan.specs.Hops.{IsHop}
+use Rattle.vc_plan.specs.Limits.{depth_ok, ends_there, home_there, limit_broken, links_ok, message_ok, names_ok, number_broken, number_ok, part_broken, parts_ok, process_broken, process_names, random_ok, routes_ok, rows_ok, spot_there, unless_ok, vars_ok, version_ok}
 use Rattle.vc_plan.specs.Versions.{IsVersionOne, version_two, VersionsAgree}
 use Rattle.vc_plan.specs.Wires.{IsWiredAction}
 

@@ -1,6 +1,5 @@
-use Rattle.std.proofs.Common.{◌∙◌, ◌<◌, arith, ap, length, subst, sym}
+use Rattle.std.proofs.Common.{arith, ap, length, subst}
 use Rattle.std.proofs.lemmas.List.{length-map}
-use Rattle.vc_process.specs.declared.use_fault.UseFault.{UseFault}
 use Rattle.vc_process.specs.UseFaults.{IsUseFault}
 use Rattle.vc_process.specs.Numbering.{written}
 use Rattle.vc_plan.specs.declared.node_plan.Variable.{Variable}
