@@ -111,8 +111,14 @@ fn pieces_are_put_together_for_a_process_that_inputs(rt: HostRuntime) -> Result<
     assert!(rt; matches!(stored, Arrival::Stored));
     assert!(rt; half.wants());
     assert!(rt; half.may_arrive());
+    let front = half.with_body(&[0, 1, 7])?;
+    assert_eq!(rt; front.len(), 33);
     let message = whole(half.arrive(&last_piece(alloc, &[7])?)?);
     assert_eq!(rt; message.map(|message| message.len()), Some(33));
     assert!(rt; !half.wants());
+    assert!(rt; half.may_arrive());
+    let held = half.arrive_body(&[0, 1, 7], Mark::Eom)?;
+    assert!(rt; matches!(held, Arrival::Held));
+    assert!(rt; half.ready());
     Ok(())
 }
