@@ -1,6 +1,6 @@
 //! How a process uses channels.
-ghost use Rattle.std.specs.Prelude.{◌≡◌, [], ◌∷◌, ◌++◌, ℕ, OnOk, map};
-ghost use Rattle.vc_process.specs.ChannelUses.{channel_uses, guard_uses, uses_of_all, uses_of_bodies, uses_of_branches};
+ghost use Rattle.std.specs.Prelude.{◌≡◌, [], ◌∷◌, ◌++◌, ℕ, true, Some, OnOk, map};
+ghost use Rattle.vc_process.specs.ChannelUses.{channel_uses, guard_uses, inputs_on, uses_of_all, uses_of_bodies, uses_of_branches};
 ghost use Rattle.vc_process.specs.InOrder.{number, number_branch, number_guard};
 ghost use Rattle.vc_process.specs.Numbering.{branches_from, guards_from, parts_from};
 
@@ -22,30 +22,9 @@ pub(crate) fn push_uses(
     ensures { OnOk result ((site : ℕ) → uses.new ≡ uses.old ++ channel_uses kinds.now ((number process.now).tree site)) }
 {
     match process {
-        Process::Send { chan, value } => push_use(
-            uses,
-            ChannelUse {
-                chan: *chan,
-                is_output: true,
-                kind: Some(value.kind()),
-            },
-        ),
-        Process::Receive { chan, var } => push_use(
-            uses,
-            ChannelUse {
-                chan: *chan,
-                is_output: false,
-                kind: kind_at(kinds, *var),
-            },
-        ),
-        Process::Stopch { chan } => push_use(
-            uses,
-            ChannelUse {
-                chan: *chan,
-                is_output: false,
-                kind: None,
-            },
-        ),
+        Process::Send { chan, value } => push_output(uses, *chan, value.kind()),
+        Process::Receive { chan, var } => push_input(uses, *chan, kind_at(kinds, *var)),
+        Process::Stopch { chan } => push_input(uses, *chan, None),
         Process::Seq(parts) => push_parts(uses, parts, kinds),
         Process::Par(parts) => push_parts(uses, parts, kinds),
         Process::If(branches) => push_branches(uses, branches, kinds),
@@ -56,11 +35,31 @@ pub(crate) fn push_uses(
     }
 }
 
-/// Adds one use.
-fn push_use(uses: &mut Items<ChannelUse>, one: ChannelUse) -> Result<(), Memory>
-    ensures { OnOk result (uses.new ≡ uses.old ++ one ∷ []) }
+/// Adds an output.
+fn push_output(uses: &mut Items<ChannelUse>, chan: u16, kind: ValueKind) -> Result<(), Memory>
+    ensures { OnOk result (uses.new ≡ uses.old ++ record { chan = chan; is_output = true; kind = Some kind } ∷ []) }
 {
-    uses.push(one)?;
+    uses.push(ChannelUse {
+        chan,
+        is_output: true,
+        kind: Some(kind),
+    })?;
+    Ok(())
+}
+
+/// Adds an input, a guard or a stop of a channel.
+fn push_input(
+    uses: &mut Items<ChannelUse>,
+    chan: u16,
+    kind: Option<ValueKind>,
+) -> Result<(), Memory>
+    ensures { OnOk result (uses.new ≡ uses.old ++ inputs_on chan kind ∷ []) }
+{
+    uses.push(ChannelUse {
+        chan,
+        is_output: false,
+        kind,
+    })?;
     Ok(())
 }
 
@@ -131,11 +130,7 @@ fn push_guards(
     ensures { OnOk result ((site : ℕ) → uses.new ≡ uses.old ++ guard_uses kinds.now (guards_from site (map number_guard guards.now))) }
 {
     for guard in guards.as_slice() {
-        uses.push(ChannelUse {
-            chan: guard.chan,
-            is_output: false,
-            kind: kind_at(kinds, guard.var),
-        })?;
+        push_input(uses, guard.chan, kind_at(kinds, guard.var))?;
     }
     Ok(())
 }

@@ -3,7 +3,7 @@ use Rattle.vc_process.specs.ChannelUses.{channel_uses}
 use Rattle.vc_process.specs.InOrder.{number, number_branch, number_guard}
 use Rattle.vc_process.specs.Numbering.{Numbered, NumberedBranch, NumberedGuard}
 use Rattle.vc_process.proofs.Using.{all_parts, one_part, behind_part, parts_join, all_branches, one_branch, behind_branch, branches_join, all_guards, one_guard, behind_guard, guards_join, all_alternatives}
-use Rattle.vc_process.proofs.Numbers.{number_seq, number_par, number_if, number_while, number_count, number_alt, number_branch_out, number_guard_out}
+use Rattle.vc_process.proofs.Numbers.{number_seq, number_par, number_if, number_count, number_alt, number_branch_out, number_guard_out}
 use Rattle.vc_process.proofs.Reaching.{adds_as, adds_next, adds_end}
 use Rattle.vc_process.proofs.uses.+uses.Goals as goal
 
@@ -21,11 +21,6 @@ pub push_uses-returns-in-If : goal.push_uses-returns-in-If
 push_uses-returns-in-If t c =
     let k = c.args.kinds.now in
     adds_as _ _ _ (all_branches k (map number_branch c.in-If.branches)) _ suc (λ s. ap (λ (n : Numbered). one_part k n s) (number_if _ _ c.in-If.is)) c.push_branches.ensures
-
-pub push_uses-returns-in-While : goal.push_uses-returns-in-While
-push_uses-returns-in-While t c =
-    let k = c.args.kinds.now in
-    adds_as _ _ _ (one_part k (number c.get.result.now)) _ suc (λ s. ap (λ (n : Numbered). one_part k n s) (number_while _ _ _ c.in-While.is) ∙ ap (λ q. one_part k (number q) (suc s)) (sym c.get.ensures)) c.push_uses.ensures
 
 pub push_uses-returns-in-Count : goal.push_uses-returns-in-Count
 push_uses-returns-in-Count t c =
