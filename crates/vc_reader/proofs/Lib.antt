@@ -1,3 +1,4 @@
+pub mod Beside
 pub mod Numbers
 pub mod Listed
 pub mod Parts

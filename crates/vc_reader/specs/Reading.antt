@@ -32,6 +32,10 @@ abbrev pub Gives : {X Y : Type 0} → (X → Y) → Result X Stop → Result Y F
 Gives view (Ok x) read = read ≡ Ok (view x)
 Gives view (Err e) read = Fails e read
 
+-- what was read before, beside what is read next
+abbrev pub beside : {A B : Type 0} → A → Result B Fault → Result (A × B) Fault
+beside a read = read >>= λ b. Ok (a, b)
+
 -- the value where one stands is at fault
 abbrev pub wrong : {A : Type 0} → Why → Result A Fault
 wrong w = Err (record { why = w; path = [] })

@@ -2,7 +2,7 @@
 ghost use Rattle.std.specs.Prelude.{◌≡◌};
 ghost use Rattle.serde_json.specs.View.{view};
 ghost use Rattle.vc_reader.specs.Reading.{Gives, cell as cell_of, list_of};
-ghost use Rattle.vc_reader.specs.Processes.{channel_named, variable_named, value_of, set_of, send_of, receive_of, stopch_of, plain_of, branch_of, while_of, count_of, guard_of, process_word as process_word_of, field_word, worded_process, named_process, process_step, process_of, whole_process};
+ghost use Rattle.vc_reader.specs.Processes.{channel_named, variable_named, value_of, set_of, send_of, receive_of, stopch_of, plain_of, branch_of, while_of, count_of, guard_of, cond_first as cond_first_of, input_of, guard_head as guard_head_of, process_word as process_word_of, field_word, worded_process, named_process, process_step, process_of, whole_process};
 
 use crate::bytes::{VariableOf, bytes};
 use crate::condition::WholeCond;
@@ -10,14 +10,14 @@ use crate::expression::WholeExpr;
 use crate::fault::{Stop, Why};
 use crate::name::one_of;
 use crate::path::Step;
-use crate::reader::{Reader, cell, only, row, text, under, with_item, wrong};
+use crate::reader::{Reader, beside, cell, only, row, text, under, with_item, wrong};
 use crate::register::Register;
 use crate::word::Word;
 use serde_json::Value as Json;
 use sqlite_items::{Boxed, Items};
 use std::alloc::Global;
 use vc_plan::{Channel, Variable};
-use vc_process::{Branch, Guard, Process, Value, ValueKind};
+use vc_process::{Branch, Cond, Guard, Process, Value, ValueKind};
 
 /// The word of a process that is an object.
 #[derive(Clone, Copy, Drop)]
@@ -183,6 +183,46 @@ fn plain(alloc: Global, word: &str) -> Result<Process, Stop>
     }
 }
 
+/// The condition at the head of a list of so many items.
+fn cond_first(
+    alloc: Global,
+    wanted: usize,
+    vars: &Register<Variable>,
+    value: &Json,
+) -> Result<Cond, Stop>
+    ensures { Gives (λ x. x) result (cond_first_of wanted vars.now (view value.now)) }
+{
+    row(alloc, wanted, value)?;
+    cell(alloc, 0, &WholeCond(vars), value)
+}
+
+/// The channel of a guard's input, and the variable that takes what comes.
+fn input(
+    alloc: Global,
+    vars: &Register<Variable>,
+    channels: &Register<Channel>,
+    value: &Json,
+) -> Result<(u16, u8), Stop>
+    ensures { Gives (λ x. x) result (input_of vars.now channels.now (view value.now)) }
+{
+    let (chan, kind) = cell(alloc, 1, &ChannelOf(channels), value)?;
+    let var = cell(alloc, 2, &VariableOf { kind, vars }, value)?;
+    Ok((chan, var))
+}
+
+/// What a guard has before its body: its condition, and its input.
+fn guard_head(
+    alloc: Global,
+    vars: &Register<Variable>,
+    channels: &Register<Channel>,
+    value: &Json,
+) -> Result<(Cond, (u16, u8)), Stop>
+    ensures { Gives (λ x. x) result (guard_head_of vars.now channels.now (view value.now)) }
+{
+    let cond = cond_first(alloc, 4, vars, value)?;
+    beside(cond, input(alloc, vars, channels, value))
+}
+
 /// A process that nests no deeper than so many parts in one another.
 #[cycle(process)]
 fn process(
@@ -324,10 +364,12 @@ fn branch(
 ) -> Result<Branch, Stop>
     ensures { Gives (λ x. x) result (branch_of (process_of depth vars.now channels.now) vars.now (view value.now)) }
 {
-    row(alloc, 2, value)?;
-    let cond = cell(alloc, 0, &WholeCond(vars), value)?;
-    let body = part(alloc, depth, vars, channels, 1, value)?;
-    Ok(Branch { cond, body })
+    let cond = cond_first(alloc, 2, vars, value)?;
+    let body = part(alloc, depth, vars, channels, 1, value);
+    match beside(cond, body) {
+        Ok((cond, body)) => Ok(Branch { cond, body }),
+        Err(stop) => Err(stop),
+    }
 }
 
 /// A WHILE.
@@ -341,10 +383,12 @@ fn repeated(
 ) -> Result<Process, Stop>
     ensures { Gives (λ x. x) result (while_of (process_of depth vars.now channels.now) vars.now (view value.now)) }
 {
-    row(alloc, 2, value)?;
-    let cond = cell(alloc, 0, &WholeCond(vars), value)?;
-    let body = boxed_part(alloc, depth, vars, channels, 1, value)?;
-    Ok(Process::While { cond, body })
+    let cond = cond_first(alloc, 2, vars, value)?;
+    let body = boxed_part(alloc, depth, vars, channels, 1, value);
+    match beside(cond, body) {
+        Ok((cond, body)) => Ok(Process::While { cond, body }),
+        Err(stop) => Err(stop),
+    }
 }
 
 /// A replicated SEQ.
@@ -411,17 +455,20 @@ fn guard(
 ) -> Result<Guard, Stop>
     ensures { Gives (λ x. x) result (guard_of (process_of depth vars.now channels.now) vars.now channels.now (view value.now)) }
 {
-    row(alloc, 4, value)?;
-    let cond = cell(alloc, 0, &WholeCond(vars), value)?;
-    let (chan, kind) = cell(alloc, 1, &ChannelOf(channels), value)?;
-    let var = cell(alloc, 2, &VariableOf { kind, vars }, value)?;
-    let body = part(alloc, depth, vars, channels, 3, value)?;
-    Ok(Guard {
-        cond,
-        chan,
-        var,
-        body,
-    })
+    let head = guard_head(alloc, vars, channels, value)?;
+    let body = part(alloc, depth, vars, channels, 3, value);
+    match beside(head, body) {
+        Ok((head, body)) => {
+            let (cond, (chan, var)) = head;
+            Ok(Guard {
+                cond,
+                chan,
+                var,
+                body,
+            })
+        }
+        Err(stop) => Err(stop),
+    }
 }
 
 /// A part of a process.

@@ -3,7 +3,7 @@ ghost use Rattle.std.specs.Prelude.{◌≡◌, ◌≤◌, List, Result, Some, If
 ghost use Rattle.serde_json.specs.Data.{Data};
 ghost use Rattle.serde_json.specs.View.{view, items_view, members_view};
 ghost use Rattle.vc_reader.specs.declared.fault.Fault.{Fault as FaultData};
-ghost use Rattle.vc_reader.specs.Reading.{Gives, joins, wrong as wrong_here, under as under_step, field as field_of, cell as cell_of, text_of, number_of, list_of, list_field as list_field_of, count as count_of, items_in as items_in_list, row as row_of, is_word as is_word_of, has_only as has_only_words, object_of, has_field as has_field_of, only as only_field};
+ghost use Rattle.vc_reader.specs.Reading.{Gives, joins, beside as put_beside, wrong as wrong_here, under as under_step, field as field_of, cell as cell_of, text_of, number_of, list_of, list_field as list_field_of, count as count_of, items_in as items_in_list, row as row_of, is_word as is_word_of, has_only as has_only_words, object_of, has_field as has_field_of, only as only_field};
 
 use crate::fault::{Fault, Stop, Why};
 use crate::path::{Path, Step};
@@ -70,6 +70,16 @@ pub(crate) fn under<T: Drop>(step: Step, read: Result<T, Stop>) -> Result<T, Sto
             let path = path.under(step)?;
             Err(Stop::Fault(Fault { why, path }))
         }
+    }
+}
+
+/// What was read before, beside what was read next.
+pub(crate) fn beside<A: Drop, B: Drop>(before: A, next: Result<B, Stop>) -> Result<(A, B), Stop>
+    ensures { (meant : Result B FaultData) → Gives (λ x. x) next meant → Gives (λ x. x) result (put_beside before meant) }
+{
+    match next {
+        Ok(next) => Ok((before, next)),
+        Err(stop) => Err(stop),
     }
 }
 
