@@ -1,12 +1,9 @@
 -- What was read before, beside what is read next.
-use Rattle.std.proofs.Common.{◌≡◌, ◌∙◌, ℕ, List, refl, sym, ap, Result, Ok, Err}
+use Rattle.std.proofs.Common.{◌≡◌, ◌∙◌, ℕ, List, refl, ap, Result, Ok, Err}
 use Rattle.serde_json.specs.Data.{Data}
 use Rattle.vc_process.specs.declared.condition.Cond.{Cond}
-use Rattle.vc_process.specs.declared.value_kind.ValueKind.{ValueKind}
 use Rattle.vc_process.specs.declared.process.Process.{Process}
 use Rattle.vc_process.specs.declared.process.Process.TheVariants.{While}
-use Rattle.vc_process.specs.declared.process.Branch.{Branch}
-use Rattle.vc_process.specs.declared.process.Guard.{Guard}
 use Rattle.vc_plan.specs.declared.channel.Channel.{Channel}
 use Rattle.vc_plan.specs.declared.node_plan.Variable.{Variable}
 use Rattle.vc_reader.specs.Reading.{◌>>=◌, beside, cell, row, Fails}

@@ -1,8 +1,9 @@
 //! Readers of variables and of expressions of bytes.
-ghost use Rattle.std.specs.Prelude.{◌≡◌, ◌<◌, IfOk};
+ghost use Rattle.std.specs.Prelude.{◌≡◌, ℕ, ◌<◌, IfOk, Result};
 ghost use Rattle.serde_json.specs.View.{view};
+ghost use Rattle.vc_reader.specs.declared.fault.Fault.{Fault as FaultData};
 ghost use Rattle.vc_reader.specs.Reading.{Gives};
-ghost use Rattle.vc_reader.specs.Bytes.{same_kind as is_same, of_kind as number_of_kind, variable_of, no_longer as no_longer_than, hex_digit as hex_digit_of, hex_bytes as hex_bytes_of, hex_of, literal_of, fill_of, formed_bytes as formed, bytes_of};
+ghost use Rattle.vc_reader.specs.Bytes.{same_kind as is_same, of_kind as number_of_kind, variable_of, no_longer as no_longer_than, hex_digit as hex_digit_of, hex_pair as hex_pair_of, pushed, hex_bytes as hex_bytes_of, hex_of, literal_of, fill_of, formed_bytes as formed, bytes_of};
 
 use crate::fault::{Stop, Why};
 use crate::name::one_of;
@@ -77,7 +78,26 @@ fn hex_digit(alloc: Global, c: u8) -> Result<u8, Stop>
     }
 }
 
-#[tactic(auto, using(crate::proofs::Parts::with_front_none, crate::proofs::Parts::with_front_one))]
+/// The byte of two digits.
+fn hex_pair(alloc: Global, a: u8, b: u8) -> Result<u8, Stop>
+    ensures { Gives (λ x. x) result (hex_pair_of a b) }
+{
+    let high = hex_digit(alloc, a)?;
+    let low = hex_digit(alloc, b)?;
+    Ok(16 * high + low)
+}
+
+/// The bytes before, with the one that was read behind them.
+fn with_byte(before: Items<u8>, byte: Result<u8, Stop>) -> Result<Items<u8>, Stop>
+    ensures { (meant : Result ℕ FaultData) → Gives (λ x. x) byte meant → Gives (λ x. x) result (pushed before meant) }
+{
+    let byte = byte?;
+    let mut bytes = before;
+    bytes.push(byte)?;
+    Ok(bytes)
+}
+
+#[tactic(auto, using(crate::proofs::Parts::with_front_none))]
 fn hex_bytes(alloc: Global, text: &[u8]) -> Result<Items<u8>, Stop>
     ensures { Gives (λ x. x) result (hex_bytes_of text.now) }
 {
@@ -87,9 +107,10 @@ fn hex_bytes(alloc: Global, text: &[u8]) -> Result<Items<u8>, Stop>
         let Some((b, more)) = tail.split_first() else {
             return Err(wrong(alloc, Why::Kind));
         };
-        let high = hex_digit(alloc, *a)?;
-        let low = hex_digit(alloc, *b)?;
-        bytes.push(16 * high + low)?;
+        match with_byte(bytes, hex_pair(alloc, *a, *b)) {
+            Ok(longer) => bytes = longer,
+            Err(stop) => return Err(stop),
+        }
         rest = more;
     }
     Ok(bytes)
