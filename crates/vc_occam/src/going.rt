@@ -59,7 +59,7 @@ pub(crate) fn begin_alone(
         Kind::Skip => Phase::Ended,
         Kind::Par => Phase::Ended,
         Kind::Stopch { .. } => Phase::Ended,
-        Kind::Set { var, value } => match value.assigned(doing.assigned.take(), vars) {
+        Kind::Set { var, value } => match value.assigned(&mut doing.assigned, vars) {
             Some(datum) => {
                 set_variable(vars, *var, datum);
                 Phase::Ended

@@ -23,8 +23,8 @@ returns-in-Some-clause-did c = λ vs at able.
     let a = given c.in-Set.value in
     did_store _ _ _ _ _ _ _ c.set_variable.ensures.value
     (at_kind c.args.own vs at e _ s c.args.doing.now.deed Ended _ _ c.in-Set.is
-    (set_did c.args.own _ _ e s c.args.doing.now.deed _ (λ q h. sym c.in-Some.is ∙ subst (λ (xs : List Datum). c.take.result ≡ assigned_bytes a (store xs) → c.assigned.result ≡ datum_of a (store xs)) c.deref.ensures.value c.assigned.ensures
-    (c.take.ensures.value ∙ c.requires.assigned q ∙ ap (λ (k : Kind). assigned_at s (Fresh (plan_at k c.args.own [])) e) c.in-Set.is ∙ at_site s c.args.own (assigned_bytes a e) h))) able)
+    (set_did c.args.own _ _ e s c.args.doing.now.deed _ (λ q h. sym c.in-Some.is ∙ subst (λ (xs : List Datum). c.args.doing.now.assigned ≡ assigned_bytes a (store xs) → c.assigned.result ≡ datum_of a (store xs)) c.deref.ensures.value c.assigned.ensures
+    (c.requires.assigned q ∙ ap (λ (k : Kind). assigned_at s (Fresh (plan_at k c.args.own [])) e) c.in-Set.is ∙ at_site s c.args.own (assigned_bytes a e) h))) able)
 
 pub returns-in-Set-clause-did : goal.returns-in-Set-clause-did
 returns-in-Set-clause-did c = λ vs at able.
@@ -32,8 +32,8 @@ returns-in-Set-clause-did c = λ vs at able.
     let s = c.args.doing.now.site in
     let a = given c.in-Set.value in
     at_kind c.args.own vs at e _ s c.args.doing.now.deed Stuck _ _ c.in-Set.is
-    (set_faulted c.args.own _ _ e s c.args.doing.now.deed (λ q h. sym c.in-None.is ∙ subst (λ (xs : List Datum). c.take.result ≡ assigned_bytes a (store xs) → c.assigned.result ≡ datum_of a (store xs)) c.deref.ensures.value c.assigned.ensures
-    (c.take.ensures.value ∙ c.requires.assigned q ∙ ap (λ (k : Kind). assigned_at s (Fresh (plan_at k c.args.own [])) e) c.in-Set.is ∙ at_site s c.args.own (assigned_bytes a e) h))) able
+    (set_faulted c.args.own _ _ e s c.args.doing.now.deed (λ q h. sym c.in-None.is ∙ subst (λ (xs : List Datum). c.args.doing.now.assigned ≡ assigned_bytes a (store xs) → c.assigned.result ≡ datum_of a (store xs)) c.deref.ensures.value c.assigned.ensures
+    (c.requires.assigned q ∙ ap (λ (k : Kind). assigned_at s (Fresh (plan_at k c.args.own [])) e) c.in-Set.is ∙ at_site s c.args.own (assigned_bytes a e) h))) able
 
 pub returns-in-Par-clause-did : goal.returns-in-Par-clause-did
 returns-in-Par-clause-did c = λ vs at able.
