@@ -231,6 +231,14 @@ impl Running {
         self.frame.first_from(site, &self.vars)
     }
 
+    /// Whether no channel is inside the node: then `first_from` looks for moves, and where it has none there is none.
+    #[tactic(auto, unfolding(crate::specs::Runnings::state, crate::specs::Runnings::inner_channels))]
+    pub fn is_unjoined(&self) -> bool
+        ensures { IsTrue result ↔ ((c : ℕ) → inner_channels self.now c ≡ false) }
+    {
+        self.inside.is_empty()
+    }
+
     /// Looks for the moves that it can begin with, and puts them in an empty list; where no channel is inside the node they are its
     /// sites' own.
     #[tactic(auto, unfolding(crate::specs::Runnings::state, crate::specs::Runnings::inner_channels))]
