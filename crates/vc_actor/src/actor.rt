@@ -262,6 +262,31 @@ impl Actor {
         }
     }
 
+    /// The same, where a node's links are known to have nothing to do, so that it is what the node does next.
+    #[inline(always)]
+    pub fn still_step(&self) -> Option<Act>
+        ensures may { IfSome result (λ a. MayAct self.now a) }
+        ensures quiet { IfSome result IsQuiet }
+        ensures finds { (plan : Plan) (k room : ℕ) → IsActorOf plan k self.now → IfSome result (λ a. IsTurn plan k self.now room a) }
+    {
+        match &self.part {
+            Part::Node(node) => node.still_step(),
+            Part::Switch(_) => None,
+        }
+    }
+
+    /// Says that a node's links have nothing to do where every way has room, and that its process has made a step without a
+    /// communication since. It is known of them until a token comes, or the process makes another move.
+    #[inline(always)]
+    pub fn settle(&mut self)
+        ensures { self.new ≡ self.old }
+    {
+        match &mut self.part {
+            Part::Node(node) => node.settle(),
+            Part::Switch(_) => {}
+        }
+    }
+
     /// Whether the process of a node has ended: nothing remains of it. A switch never ends.
     pub fn ended(&self) -> bool
         ensures { IsTrue result ↔ HasEnded self.now }

@@ -2,7 +2,7 @@
 ghost use Rattle.std.specs.Prelude.{◌≡◌, ◌≢◌, ◌<◌, ◌≤◌, ◌↔◌, ◌++◌, ℕ, [], length, false, Option, Some, None, IsTrue, IfOk, IfSome, OnOk, OnErr};
 ghost use Rattle.std.specs.List.{Contains};
 ghost use Rattle.vc_occam.specs.Remains.{Done};
-ghost use Rattle.vc_occam.specs.Runnings.{moves as moves_of, state};
+ghost use Rattle.vc_occam.specs.Runnings.{inner_channels, moves as moves_of, state};
 ghost use Rattle.vc_occam.specs.declared.moves.Move.{Move as SpeltMove};
 ghost use Rattle.vc_actor.specs.Acting.{NodeMay};
 ghost use Rattle.vc_actor.specs.Turns.{IsTurn, IsQuiet, FindsAt, FindsMove};
@@ -131,27 +131,28 @@ impl Node {
         Some(Act::Proc(Move::Quiet { site }))
     }
 
-    /// The next of the process's moves, going round from this site on, where it is found without a list and its channel lets it be
-    /// made.
-    pub(crate) fn found_move(&self, site: u16) -> Option<Act>
-        ensures may { IfSome result (λ a. NodeMay self.now a) }
-        ensures finds { (plan : Plan) (k : ℕ) → IsNodeOf plan k self.now → IfSome result (λ a. FindsMove plan k self.now (Some a)) }
-    {
-        let made = self.first_round(site)?;
-        if self.channel_lets(&made) {
-            return Some(Act::Proc(made));
-        }
-        None
-    }
-
-    // The first of the process's moves from this site on, or else of all, where it is found without a list.
-    fn first_round(&self, site: u16) -> Option<Move>
-        ensures { IfSome result (λ made. Contains (moves_of self.now.process) made) }
+    /// The first of the process's moves from this site on, or else of all, where it is found without a list: where no channel is
+    /// inside the node, it is found if there is one.
+    pub(crate) fn first_round(&self, site: u16) -> Option<Move>
+        ensures listed { IfSome result (λ made. Contains (moves_of self.now.process) made) }
+        ensures none { ((c : ℕ) → inner_channels self.now.process c ≡ false) → result ≡ None → moves_of self.now.process ≡ [] }
     {
         match self.process.first_from(site) {
             Some(made) => Some(made),
             None => self.process.first_from(0),
         }
+    }
+
+    /// The move of the process, if its channel lets it be made.
+    pub(crate) fn let_move(&self, made: Move) -> Option<Act>
+        requires { Contains (moves_of self.now.process) made }
+        ensures may { IfSome result (λ a. NodeMay self.now a) }
+        ensures finds { (plan : Plan) (k : ℕ) → IsNodeOf plan k self.now → IfSome result (λ a. FindsMove plan k self.now (Some a)) }
+    {
+        if self.channel_lets(&made) {
+            return Some(Act::Proc(made));
+        }
+        None
     }
 
     /// The next of the process's moves that can be made, going round from this site on.

@@ -1,12 +1,12 @@
 //! A node as an actor.
-ghost use Rattle.std.specs.Prelude.{◌≡◌, ◌<◌, ◌↔◌, ℕ, Some, IsTrue, IfOk, IfSome, OnOk, OnErr};
+ghost use Rattle.std.specs.Prelude.{◌≡◌, ◌<◌, ◌↔◌, ℕ, [], false, Some, IsTrue, IfOk, IfSome, OnOk, OnErr};
 ghost use Rattle.vc_actor.specs.Acting.{NodeMay, MakesOwn, MakesTake, MakesPut, MakesGrant, IsOwn};
 ghost use Rattle.vc_actor.specs.Able.{NodeCan};
 ghost use Rattle.vc_actor.specs.OfPlan.{IsNodeOf, IsActorOf};
 ghost use Rattle.vc_actor.specs.Shown.{OfNode};
 ghost use Rattle.vc_actor.specs.Turns.{FindsMove, FindsOf, IsQuiet};
 ghost use Rattle.vc_occam.specs.Remains.{Done};
-ghost use Rattle.vc_occam.specs.Runnings.{state};
+ghost use Rattle.vc_occam.specs.Runnings.{inner_channels, moves as moves_of, state};
 ghost use Rattle.vc_vcp.specs.Seen.{seen};
 ghost use Rattle.vc_network.specs.Plan.{Plan};
 ghost use Rattle.vc_tokens.specs.Spelt.{token};
@@ -29,6 +29,10 @@ pub(crate) struct NodeActor {
     moves: Items<Move>,
     // whether the process has not changed since they were listed
     is_listed: bool,
+    // whether they were many when they were listed last
+    are_many: bool,
+    // whether the links are known to have nothing to do where every way has room
+    is_still: bool,
     next_site: u16,
 }
 
@@ -55,6 +59,8 @@ impl NodeActor {
             moves: Items::new(node.alloc),
             node,
             is_listed: false,
+            are_many: false,
+            is_still: false,
             next_site: 0,
         }
     }
@@ -87,6 +93,7 @@ impl NodeActor {
         ensures { (plan : Plan) (k word : ℕ) → IsActorOf plan k (OfNode self.old) → MakesTake plan k (OfNode self.old) link word (token came) (OfNode self.new) }
     {
         self.node.vcp.accept(link, came);
+        self.is_still = false;
     }
 
     /// Makes a step of its own: a move of the process, or a token that passes.
@@ -101,6 +108,7 @@ impl NodeActor {
             Act::Proc(made) => {
                 self.node.make(&made)?;
                 self.is_listed = false;
+                self.is_still = false;
                 self.next_site = site_of(&made).saturating_add(1);
                 Ok(())
             }
@@ -159,6 +167,27 @@ impl NodeActor {
         self.node.only_step()
     }
 
+    /// The same, where the links are known to have nothing to do.
+    #[inline(always)]
+    pub(crate) fn still_step(&self) -> Option<Act>
+        ensures may { IfSome result (λ a. NodeMay self.now a) }
+        ensures quiet { IfSome result IsQuiet }
+        ensures finds { (plan : Plan) (k : ℕ) → IsNodeOf plan k self.now → IfSome result (λ a. FindsMove plan k self.now (Some a)) }
+    {
+        if !self.is_still {
+            return None;
+        }
+        self.only_step()
+    }
+
+    /// Until a token comes, or another move is made, the links are known to have nothing to do.
+    #[inline(always)]
+    pub(crate) fn settle(&mut self)
+        ensures { self.new ≡ self.old }
+    {
+        self.is_still = true;
+    }
+
     // The next move that the process can make, where the links have nothing to do, going round behind the site that acted last.
     #[inline(always)]
     fn next_move(&mut self) -> Result<Option<Act>, Memory>
@@ -177,14 +206,32 @@ impl NodeActor {
 
     // The next move, found without a list, where the process has changed and its moves were many when they were listed last.
     #[inline(never)]
-    fn found_move(&self) -> Option<Act>
-        ensures may { IfSome result (λ a. NodeMay self.now a) }
-        ensures finds { (plan : Plan) (k : ℕ) → IsNodeOf plan k self.now → IfSome result (λ a. FindsMove plan k self.now (Some a)) }
+    fn found_move(&mut self) -> Option<Act>
+        ensures same { self.new ≡ self.old }
+        ensures may { IfSome result (λ a. NodeMay self.old a) }
+        ensures finds { (plan : Plan) (k : ℕ) → IsNodeOf plan k self.old → IfSome result (λ a. FindsMove plan k self.old (Some a)) }
     {
-        if self.is_listed || self.moves.len() <= FEW {
+        if self.is_listed || !self.are_many {
             return None;
         }
-        self.node.found_move(self.next_site)
+        match self.node.first_round(self.next_site) {
+            Some(made) => self.node.let_move(made),
+            None => {
+                self.list_none();
+                None
+            }
+        }
+    }
+
+    // Where no channel is inside the node, the process has no move.
+    fn list_none(&mut self)
+        requires { ((c : ℕ) → inner_channels self.old.process c ≡ false) → moves_of self.old.process ≡ [] }
+        ensures { self.new ≡ self.old }
+    {
+        if self.node.process.is_unjoined() {
+            self.moves = Items::new(self.node.alloc);
+            self.is_listed = true;
+        }
     }
 
     // The next of the process's moves that can be made, which are listed where the process has changed.
@@ -197,6 +244,7 @@ impl NodeActor {
         if !self.is_listed {
             self.node.process.list_actions(&mut self.moves)?;
             self.is_listed = true;
+            self.are_many = self.moves.len() > FEW;
         }
         Ok(self.node.next_move(self.moves.as_slice(), self.next_site))
     }

@@ -1,0 +1,8 @@
+use Rattle.std.proofs.Common.{IfOk, subst}
+use Rattle.vc_actor.specs.OfPlan.{IsNodeOf}
+use Rattle.vc_actor.specs.Turns.{FindsMove}
+use Rattle.vc_actor.proofs.node_actor.NodeActor.next_move.Goals as goal
+
+pub returns-clause-finds : goal.returns-clause-finds
+returns-clause-finds c =
+    subst (λ n. (plan : _) (k : _) → IsNodeOf plan k n → IfOk c.next_listed.result (FindsMove plan k n)) c.found_move.ensures.same c.next_listed.ensures.finds
