@@ -312,6 +312,73 @@ impl Network {
         ensures makes { (p : Plan) → IsNetworkOf p (state_of self.old) → IfOk result (λ made. MakesOne p (state_of self.old) made (state_of self.new)) }
         ensures refused { OnErr result (state_of self.new ≡ state_of self.old) }
     {
+        if let Some(event) = self.still_turn(actor)? {
+            return Ok(Some(event));
+        }
+        self.whole_turn(actor)
+    }
+
+    // An actor makes the only move of its process, where that is known to be a step without a communication, and its links are known to
+    // have nothing to do.
+    #[inline(always)]
+    fn still_turn(&mut self, actor: u8) -> Result<Option<Event>, Memory>
+        ensures finds { (p : Plan) → IsNetworkOf p (state_of self.old) → IfOk result (λ made. IfSome made (λ e. FindsEvent p (state_of self.old) actor (Some e))) }
+        ensures makes { (p : Plan) → IsNetworkOf p (state_of self.old) → IfOk result (λ made. MakesOne p (state_of self.old) made (state_of self.new)) }
+        ensures none { IfOk result (λ made. made ≡ None → state_of self.new ≡ state_of self.old) }
+        ensures refused { OnErr result (state_of self.new ≡ state_of self.old) }
+    {
+        if let Some(event) = self.still_step(actor) {
+            self.make_quietly(&event)?;
+            return Ok(Some(event));
+        }
+        Ok(None)
+    }
+
+    // The only move of an actor's process, where that is known to be a step without a communication, and its links are known to have
+    // nothing to do.
+    #[inline(always)]
+    fn still_step(&self, actor: u8) -> Option<Event>
+        ensures may { IfSome result (λ e. MayActAt (state_of self.now) e.actor e.act) }
+        ensures finds { (p : Plan) → IsNetworkOf p (state_of self.now) → IfSome result (λ e. FindsEvent p (state_of self.now) actor (Some e)) }
+    {
+        let place = usize::from(actor);
+        if place >= self.actors.len() {
+            return None;
+        }
+        let act = self.actors[place].still_step()?;
+        Some(Event { actor, act })
+    }
+
+    // Makes a step without a communication, where the actor's links have nothing to do.
+    #[inline(always)]
+    fn make_quietly(&mut self, event: &Event) -> Result<(), Memory>
+        requires { MayActAt (state_of self.old) event.now.actor event.now.act }
+        ensures makes { (p : Plan) → IsNetworkOf p (state_of self.old) → WaysLet (state_of self.old) event.now.actor event.now.act → OnOk result (MakesEvent p (state_of self.old) event.now (state_of self.new)) }
+        ensures refused { OnErr result (state_of self.new ≡ state_of self.old) }
+    {
+        self.make(event)?;
+        self.settle(event.actor);
+        Ok(())
+    }
+
+    // An actor's links are known to have nothing to do.
+    #[inline(always)]
+    fn settle(&mut self, actor: u8)
+        ensures { state_of self.new ≡ state_of self.old }
+    {
+        let place = usize::from(actor);
+        if place < self.actors.len() {
+            self.actors[place].settle();
+        }
+    }
+
+    // The same, where its links may have something to do.
+    #[inline(always)]
+    fn whole_turn(&mut self, actor: u8) -> Result<Option<Event>, Memory>
+        ensures finds { (p : Plan) → IsNetworkOf p (state_of self.old) → IfOk result (FindsEvent p (state_of self.old) actor) }
+        ensures makes { (p : Plan) → IsNetworkOf p (state_of self.old) → IfOk result (λ made. MakesOne p (state_of self.old) made (state_of self.new)) }
+        ensures refused { OnErr result (state_of self.new ≡ state_of self.old) }
+    {
         let place = usize::from(actor);
         if place >= self.actors.len() {
             return Ok(None);
@@ -378,7 +445,7 @@ impl Network {
         ensures refused { OnErr result (state_of self.new ≡ state_of self.old) }
     {
         if let Some(event) = self.only_step(actor) {
-            self.make(&event)?;
+            self.make_quietly(&event)?;
             return Ok(Some(event));
         }
         Ok(None)
