@@ -186,6 +186,17 @@ rest_done k i ph q parts at l d b hp hl hd hb =
     done_phase ph (plan_at k i vs) (going_at k i vs at) (resting k i vs at) (awaiting k i vs at) (together k vs) (turning k vs) _ _ (going_done k i vs at) (rests_done k i vs at) (awaiting_done (awaiting_is k i vs at)) (turning_done k vs)
     ∙ ap (λ n. done_by ph (is_last k at n) (part_done (slice_get vs (place_of k at))) all) (sym (parts_len parts)) ∙ rw (hp, hl, hd, hb) refl
 
+-- a process that hasn't ended, and goes on neither at a part nor side by side, remains
+pub goes_else : (k : Kind) (i : ℕ) (ph : Phase) (parts : Vec Frame Global) (at : ℕ) → (ph ≡ phase.Ended → ⊥) → (ph ≡ phase.Waiting → ⊥) → (ph ≡ phase.Together → ⊥) → is_done (rest_at k ph i (views parts.items) at) ≡ false
+goes_else k i phase.Ready parts at e w t = rest_done k i _ phase.Ready parts at _ _ _ refl refl refl refl
+goes_else k i phase.Waiting parts at e w t = absurd (w refl)
+goes_else k i phase.Resting parts at e w t = rest_done k i _ phase.Resting parts at _ _ _ refl refl refl refl
+goes_else k i (phase.Turning x y) parts at e w t = rest_done k i _ (phase.Turning x y) parts at _ _ _ refl refl refl refl
+goes_else k i phase.Together parts at e w t = absurd (t refl)
+goes_else k i phase.Chosen parts at e w t = rest_done k i _ phase.Chosen parts at _ _ _ refl refl refl refl
+goes_else k i phase.Ended parts at e w t = absurd (e refl)
+goes_else k i phase.Stuck parts at e w t = rest_done k i _ phase.Stuck parts at _ _ _ refl refl refl refl
+
 -- what remains after a part did something: nothing where nothing remains of the part and nothing comes behind it
 then_goes : (r : Rest) (p : Proc) (ps : Procs) → is_done (then_on r (part p ps)) ≡ false
 then_goes Done p ps = goes_then (begin p) ps (begin_goes p)

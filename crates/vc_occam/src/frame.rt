@@ -99,16 +99,16 @@ impl Frame {
 pub(crate) fn is_ended(kind: &Kind, phase: Phase, parts: &Vec<Frame>, at: usize) -> bool
     ensures { (own : ℕ) → result ≡ is_done (rest_at kind.now phase own (views parts.now.items) at) }
 {
-    match phase {
-        Phase::Ended => true,
-        Phase::Waiting => kind.is_last(at, parts.len()) && part_ended(parts, kind.place(at)),
-        Phase::Ready => false,
-        Phase::Resting => false,
-        Phase::Turning { .. } => false,
-        Phase::Together => kind.is_par() && all_ended(parts),
-        Phase::Chosen => false,
-        Phase::Stuck => false,
+    if let Phase::Ended = phase {
+        return true;
     }
+    if let Phase::Waiting = phase {
+        return kind.is_last(at, parts.len()) && part_ended(parts, kind.place(at));
+    }
+    if let Phase::Together = phase {
+        return kind.is_par() && all_ended(parts);
+    }
+    false
 }
 
 /// Whether nothing remains of the part at a place.

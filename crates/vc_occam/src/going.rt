@@ -3,7 +3,7 @@ ghost use Rattle.std.specs.Prelude.{◌≡◌, ◌<◌, ◌&&◌, IsTrue, length
 ghost use Rattle.vc_occam.specs.declared.begins.Begins.TheVariants.{Other};
 ghost use Rattle.vc_occam.specs.declared.deed.Deed.TheVariants.{Quiet};
 ghost use Rattle.vc_occam.specs.declared.frame.Frame.TheViews.{out-Frame};
-ghost use Rattle.vc_occam.specs.declared.phase.Phase.TheVariants.{Resting};
+ghost use Rattle.vc_occam.specs.declared.phase.Phase.TheVariants.{Ready, Resting, Waiting};
 ghost use Rattle.vc_occam.specs.Frames.{Able, ChangedAt, Did, HasVariables, PartHasVariables, PartInPreorder, View, as_begun, assigned_at, awaiting, is_choice, is_counted, part_done, goes_within, gone_on, part_assigned, place_of, begun_at, BeginsWith, behind, chosen_from, going_at, besides, has_parts, is_done, is_last, part_rest, plan_at, plans, rest_at, resting_at, together, view, views};
 ghost use Rattle.vc_occam.specs.Gates.{gate};
 ghost use Rattle.vc_occam.specs.Nexts.{GateHasVariable, branch_next, choice_begun, choice_next, choice_store, count_begun, count_phase, count_store, gate_begun, gate_next, gate_store, over, seq_begun, seq_next, stuck_next, TurnEnded, turn_begun, turn_next, turn_phase, turn_store, turn_views};
@@ -42,6 +42,7 @@ struct Progress {
 }
 
 /// A process without parts begins with what its site does.
+#[inline(always)]
 pub(crate) fn begin_alone(
     own: u16,
     kind: &Kind,
@@ -411,19 +412,39 @@ impl Frame {
         ensures begins { BeginsWith (then_begins result) (view self.new).1 }
         ensures length { length vars.new.items ≡ length vars.old.items }
     {
-        match self.phase {
-            Phase::Ready | Phase::Chosen => self.go_itself(doing, vars),
-            Phase::Waiting => {
-                if self.kind.has_parts() {
-                    let place = self.kind.place(self.at);
-                    let went = go_within(place, &mut self.parts, doing, vars);
-                    if went.has_ended() {
-                        return self.leave_part();
-                    }
-                    return went;
+        if let Phase::Ready = self.phase {
+            return self.begin_itself(doing, vars);
+        }
+        if let Phase::Waiting = self.phase {
+            if self.kind.has_parts() {
+                let place = self.kind.place(self.at);
+                let went = go_within(place, &mut self.parts, doing, vars);
+                if went.has_ended() {
+                    return self.leave_part();
                 }
-                self.go_itself(doing, vars)
+                return went;
             }
+        }
+        self.go_apart(doing, vars)
+    }
+
+    /// The same, where it is at no part alone: its own site goes on, or a turn, or a PAR's parts.
+    #[cycle(go)]
+    #[inline(never)]
+    fn go_apart(&mut self, doing: &mut SiteDeed, vars: &mut Vec<Datum>) -> Went
+        requires apart { (out-Frame self.old).phase ≡ Waiting → has_parts (out-Frame self.old).kind ≡ false }
+        requires able { Able (view self.old).1 (store vars.old.items) doing.old.site doing.old.deed }
+        requires assigned { doing.old.deed ≡ Quiet → doing.old.assigned ≡ assigned_at doing.old.site (view self.old).1 (store vars.old.items) }
+        requires variables { HasVariables (view self.old).0 (length vars.old.items) }
+        requires in_preorder { InPreorder (view self.old).0 }
+        ensures did { Did (view self.old).1 (store vars.old.items) doing.old.site doing.old.deed (view self.new).1 (store vars.new.items) }
+        ensures plan { (view self.new).0 ≡ (view self.old).0 }
+        ensures ended { has_ended result ≡ is_done (view self.new).1 }
+        ensures begins { BeginsWith (then_begins result) (view self.new).1 }
+        ensures length { length vars.new.items ≡ length vars.old.items }
+    {
+        match self.phase {
+            Phase::Ready | Phase::Waiting | Phase::Chosen => self.go_itself(doing, vars),
             Phase::Turning { .. } => {
                 if self.kind.is_counted() {
                     let went = go_within(0, &mut self.parts, doing, vars);
@@ -474,6 +495,26 @@ impl Frame {
             return self.leave_part();
         }
         Went::Other
+    }
+
+    /// A frame that hasn't begun begins with what its site does; answers whether nothing remains then, and what it begins with.
+    #[inline(never)]
+    fn begin_itself(&mut self, doing: &mut SiteDeed, vars: &mut Vec<Datum>) -> Went
+        requires ready { (out-Frame self.old).phase ≡ Ready }
+        requires able { Able (view self.old).1 (store vars.old.items) doing.old.site doing.old.deed }
+        requires assigned { doing.old.deed ≡ Quiet → doing.old.assigned ≡ assigned_at doing.old.site (view self.old).1 (store vars.old.items) }
+        requires variables { HasVariables (view self.old).0 (length vars.old.items) }
+        ensures did { Did (view self.old).1 (store vars.old.items) doing.old.site doing.old.deed (view self.new).1 (store vars.new.items) }
+        ensures plan { (view self.new).0 ≡ (view self.old).0 }
+        ensures ended { has_ended result ≡ is_done (view self.new).1 }
+        ensures begins { BeginsWith (then_begins result) (view self.new).1 }
+        ensures length { length vars.new.items ≡ length vars.old.items }
+    {
+        let next = begin(self.site, &self.kind, self.at, &mut self.parts, doing, vars);
+        let progress = reached(&self.kind, next, &self.parts);
+        self.phase = progress.next.phase;
+        self.at = progress.next.at;
+        self.went(progress.ended)
     }
 
     /// The frame's own site does something; answers whether nothing remains then, and what it begins with.
@@ -612,6 +653,7 @@ impl Frame {
 
 /// A process begins with what a site does: an ALT takes a guard, an IF a branch, a WHILE or a counted SEQ a turn, and a process without
 /// parts does what it is.
+#[inline(always)]
 fn begin(
     own: u16,
     kind: &Kind,

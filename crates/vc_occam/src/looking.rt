@@ -71,8 +71,11 @@ impl Frame {
     fn begins_itself(&self) -> Begins
         ensures { BeginsWith result (view self.now).1 }
     {
+        if let Phase::Ready = self.phase {
+            return ready_step(self.site, &self.kind, &self.parts);
+        }
         match self.phase {
-            Phase::Ready => ready_step(self.site, &self.kind, &self.parts),
+            Phase::Ready => Begins::Other,
             Phase::Waiting => {
                 if self.kind.has_parts() {
                     return Begins::Other;
@@ -104,26 +107,17 @@ impl Frame {
     fn part_alone(&self) -> Option<usize>
         ensures { IfSome result (λ at. BeginsAs at (views (out-Frame self.now).parts.items) (view self.now).1) }
     {
-        match self.phase {
-            Phase::Waiting => {
-                if self.kind.has_parts() {
-                    return place_among(&self.parts, self.kind.place(self.at));
-                }
-                None
+        if let Phase::Waiting = self.phase {
+            if self.kind.has_parts() {
+                return place_among(&self.parts, self.kind.place(self.at));
             }
-            Phase::Turning { .. } => {
-                if self.kind.is_counted() {
-                    return place_among(&self.parts, 0);
-                }
-                None
-            }
-            Phase::Ready => None,
-            Phase::Resting => None,
-            Phase::Together => None,
-            Phase::Chosen => None,
-            Phase::Ended => None,
-            Phase::Stuck => None,
         }
+        if let Phase::Turning { .. } = self.phase {
+            if self.kind.is_counted() {
+                return place_among(&self.parts, 0);
+            }
+        }
+        None
     }
 
     /// What one look tells of the moves that it can begin with.

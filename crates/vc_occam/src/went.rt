@@ -23,11 +23,13 @@ impl Went {
         ensures ended { has_ended result ≡ false }
         ensures begins { then_begins result ≡ begins }
     {
-        match begins {
-            Begins::Nothing => Went::Nothing,
-            Begins::Quiet { site } => Went::Quiet { site },
-            Begins::Other => Went::Other,
+        if let Begins::Quiet { site } = begins {
+            return Went::Quiet { site };
         }
+        if let Begins::Nothing = begins {
+            return Went::Nothing;
+        }
+        Went::Other
     }
 
     /// Whether nothing remains.
@@ -41,10 +43,12 @@ impl Went {
     pub(crate) fn begins(&self) -> Begins
         ensures { result ≡ then_begins self.now }
     {
-        match self {
-            Went::Nothing => Begins::Nothing,
-            Went::Quiet { site } => Begins::Quiet { site: *site },
-            _ => Begins::Other,
+        if let Went::Quiet { site } = self {
+            return Begins::Quiet { site: *site };
         }
+        if let Went::Nothing = self {
+            return Begins::Nothing;
+        }
+        Begins::Other
     }
 }

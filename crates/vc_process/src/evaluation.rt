@@ -86,14 +86,15 @@ impl Expr {
     fn computed(&self, vars: &[Datum]) -> Option<i64>
         ensures { result ≡ value_of (exp self.now) (store vars.now) }
     {
+        if let Expr::Bin { op, left, right } = self {
+            let left = left.get().value(vars)?;
+            let right = right.get().value(vars)?;
+            return op.apply(left, right);
+        }
         match self {
             Expr::Num(number) => Some(*number),
             Expr::Var(var) => Some(whole_at(vars, *var)),
-            Expr::Bin { op, left, right } => {
-                let left = left.get().value(vars)?;
-                let right = right.get().value(vars)?;
-                op.apply(left, right)
-            }
+            Expr::Bin { .. } => unreachable!(),
             Expr::Size(var) => i64::try_from(bytes_at(vars, *var).len()).ok(),
         }
     }

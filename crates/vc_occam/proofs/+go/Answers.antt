@@ -108,8 +108,8 @@ frame::Frame::go-returns-then-has_parts-clause-begins t c =
     let h = sym c.has_parts.ensures ∙ c.if-has_parts.true in
     simp (the_lemmas, view_roll, view_out) (part_begins _ o.kind o.site o.phase (views c.go_within-went.new.parts.items) o.at c.place-place.result c.in-Waiting.is h c.place-place.ensures c.go_within-went.ensures.begins)
 
-pub frame::Frame::go-go_within-went-requires-then-is_counted : goal.frame::Frame::go-go_within-went-requires-then-is_counted
-frame::Frame::go-go_within-went-requires-then-is_counted t c =
+pub frame::Frame::go_apart-go_within-went-requires : goal.frame::Frame::go_apart-go_within-went-requires
+frame::Frame::go_apart-go_within-went-requires t c =
     let o = out-Frame c.args.self.now in
     let is = view_out c.args.self.now in
     let vs = views o.parts.items in
@@ -133,73 +133,73 @@ frame::Frame::go-go_within-went-requires-then-is_counted t c =
       ),
     )
 
-pub frame::Frame::go-leave_turn-requires-clause-variables : goal.frame::Frame::go-leave_turn-requires-clause-variables
-frame::Frame::go-leave_turn-requires-clause-variables t c =
+pub frame::Frame::go_apart-leave_turn-requires-clause-variables : goal.frame::Frame::go_apart-leave_turn-requires-clause-variables
+frame::Frame::go_apart-leave_turn-requires-clause-variables t c =
     let o = out-Frame c.args.self.now in
     let vs = views o.parts.items in
-    let ws = views c.go_within-went-then-is_counted.new.parts.items in
+    let ws = views c.go_within-went.new.parts.items in
     let has = subst (λ (v : View). HasVariables v.0 (length c.args.vars.now.items)) (view_out c.args.self.now) c.requires.variables in
-    let p = subst (λ (m : ℕ). HasVariables (plan_at o.kind o.site vs) m) (sym c.go_within-went-then-is_counted.ensures.length) has in
-    let w = subst (λ (p : Proc). HasVariables p (length c.go_within-went-then-is_counted.new.vars.items)) (sym (same_plan o.kind o.site vs ws c.go_within-went-then-is_counted.ensures.plans)) p in
+    let p = subst (λ (m : ℕ). HasVariables (plan_at o.kind o.site vs) m) (sym c.go_within-went.ensures.length) has in
+    let w = subst (λ (p : Proc). HasVariables p (length c.go_within-went.new.vars.items)) (sym (same_plan o.kind o.site vs ws c.go_within-went.ensures.plans)) p in
     simp (the_lemmas, view_roll, view_out) w
 
-pub frame::Frame::go-returns-then-has_ended-2-clause-did : goal.frame::Frame::go-returns-then-has_ended-2-clause-did
-frame::Frame::go-returns-then-has_ended-2-clause-did t c =
+pub frame::Frame::go_apart-returns-then-has_ended-clause-did : goal.frame::Frame::go_apart-returns-then-has_ended-clause-did
+frame::Frame::go_apart-returns-then-has_ended-clause-did t c =
     let o = out-Frame c.args.self.now in
     let vs = views o.parts.items in
-    let ws = views c.go_within-went-then-is_counted.new.parts.items in
+    let ws = views c.go_within-went.new.parts.items in
     let s = c.args.doing.now.site in
     let d = c.args.doing.now.deed in
     let h = sym c.is_counted.ensures ∙ c.if-is_counted.true in
-    let g : Frame-F Frame = record { site = o.site; kind = o.kind; phase = o.phase; at = o.at; parts = c.go_within-went-then-is_counted.new.parts } in
+    let g : Frame-F Frame = record { site = o.site; kind = o.kind; phase = o.phase; at = o.at; parts = c.go_within-went.new.parts } in
     let unrolled : out-Frame (roll-Frame g) ≡ g = simp the_lemmas refl in
-    let n = subst (λ (m : Frame-F Frame). TurnEnded m.kind m.phase m.site (views m.parts.items) (store c.go_within-went-then-is_counted.new.vars.items) (view c.leave_turn.new.self).1 (store c.leave_turn.new.vars.items)) unrolled c.leave_turn.ensures.turned in
+    let n = subst (λ (m : Frame-F Frame). TurnEnded m.kind m.phase m.site (views m.parts.items) (store c.go_within-went.new.vars.items) (view c.leave_turn.new.self).1 (store c.leave_turn.new.vars.items)) unrolled c.leave_turn.ensures.turned in
     subst (λ (v : View). Did v.1 (store c.args.vars.now.items) s d (view c.leave_turn.new.self).1 (store c.leave_turn.new.vars.items)) (sym (view_out c.args.self.now))
-    (turn_gone o.kind o.site o.phase c.in-Turning.index c.in-Turning.last vs ws _ _ _ s d o.at _ c.in-Turning.is h c.go_within-went-then-is_counted.ensures.plans c.go_within-went-then-is_counted.ensures.did (sym c.go_within-went-then-is_counted.ensures.ended ∙ sym c.has_ended-then-is_counted.ensures ∙ c.if-has_ended-2.true) n)
+    (turn_gone o.kind o.site o.phase c.in-Turning.index c.in-Turning.last vs ws _ _ _ s d o.at _ c.in-Turning.is h c.go_within-went.ensures.plans c.go_within-went.ensures.did (sym c.go_within-went.ensures.ended ∙ sym c.has_ended.ensures ∙ c.if-has_ended.true) n)
 
-pub frame::Frame::go-returns-then-has_ended-2-clause-plan : goal.frame::Frame::go-returns-then-has_ended-2-clause-plan
-frame::Frame::go-returns-then-has_ended-2-clause-plan t c =
+pub frame::Frame::go_apart-returns-then-has_ended-clause-plan : goal.frame::Frame::go_apart-returns-then-has_ended-clause-plan
+frame::Frame::go_apart-returns-then-has_ended-clause-plan t c =
     let o = out-Frame c.args.self.now in
     let vs = views o.parts.items in
-    let ws = views c.go_within-went-then-is_counted.new.parts.items in
+    let ws = views c.go_within-went.new.parts.items in
     let p : (view c.leave_turn.new.self).0 ≡ plan_at o.kind o.site ws = c.leave_turn.ensures.plan ∙ simp (the_lemmas, view_roll, view_out) refl in
-    p ∙ same_plan o.kind o.site vs ws c.go_within-went-then-is_counted.ensures.plans ∙ ap (λ (v : View). v.0) (sym (view_out c.args.self.now))
+    p ∙ same_plan o.kind o.site vs ws c.go_within-went.ensures.plans ∙ ap (λ (v : View). v.0) (sym (view_out c.args.self.now))
 
-pub frame::Frame::go-returns-then-is_counted-clause-did : goal.frame::Frame::go-returns-then-is_counted-clause-did
-frame::Frame::go-returns-then-is_counted-clause-did t c =
+pub frame::Frame::go_apart-returns-then-is_counted-clause-did : goal.frame::Frame::go_apart-returns-then-is_counted-clause-did
+frame::Frame::go_apart-returns-then-is_counted-clause-did t c =
     let o = out-Frame c.args.self.now in
     let vs = views o.parts.items in
-    let ws = views c.go_within-went-then-is_counted.new.parts.items in
+    let ws = views c.go_within-went.new.parts.items in
     let h = sym c.is_counted.ensures ∙ c.if-is_counted.true in
     simp (the_lemmas, view_roll, view_out)
-    (turn_goes o.kind o.site o.phase c.in-Turning.index c.in-Turning.last vs ws _ _ c.args.doing.now.site c.args.doing.now.deed o.at c.in-Turning.is h c.go_within-went-then-is_counted.ensures.plans c.go_within-went-then-is_counted.ensures.did (sym c.go_within-went-then-is_counted.ensures.ended ∙ sym c.has_ended-then-is_counted.ensures ∙ c.if-has_ended-2.false))
+    (turn_goes o.kind o.site o.phase c.in-Turning.index c.in-Turning.last vs ws _ _ c.args.doing.now.site c.args.doing.now.deed o.at c.in-Turning.is h c.go_within-went.ensures.plans c.go_within-went.ensures.did (sym c.go_within-went.ensures.ended ∙ sym c.has_ended.ensures ∙ c.if-has_ended.false))
 
-pub frame::Frame::go-returns-then-is_counted-clause-plan : goal.frame::Frame::go-returns-then-is_counted-clause-plan
-frame::Frame::go-returns-then-is_counted-clause-plan t c =
+pub frame::Frame::go_apart-returns-then-is_counted-clause-plan : goal.frame::Frame::go_apart-returns-then-is_counted-clause-plan
+frame::Frame::go_apart-returns-then-is_counted-clause-plan t c =
     let o = out-Frame c.args.self.now in
-    simp (the_lemmas, view_roll, view_out) (same_plan o.kind o.site (views o.parts.items) (views c.go_within-went-then-is_counted.new.parts.items) c.go_within-went-then-is_counted.ensures.plans)
+    simp (the_lemmas, view_roll, view_out) (same_plan o.kind o.site (views o.parts.items) (views c.go_within-went.new.parts.items) c.go_within-went.ensures.plans)
 
-pub frame::Frame::go-returns-then-is_counted-clause-ended : goal.frame::Frame::go-returns-then-is_counted-clause-ended
-frame::Frame::go-returns-then-is_counted-clause-ended t c =
+pub frame::Frame::go_apart-returns-then-is_counted-clause-ended : goal.frame::Frame::go_apart-returns-then-is_counted-clause-ended
+frame::Frame::go_apart-returns-then-is_counted-clause-ended t c =
     let o = out-Frame c.args.self.now in
-    let ws = views c.go_within-went-then-is_counted.new.parts.items in
+    let ws = views c.go_within-went.new.parts.items in
     let h = sym c.is_counted.ensures ∙ c.if-is_counted.true in
-    simp (the_lemmas, view_roll, view_out) (sym c.has_ended-then-is_counted.ensures ∙ c.if-has_ended-2.false ∙ sym (turn_undone o.kind o.site o.phase c.in-Turning.index c.in-Turning.last ws o.at c.in-Turning.is h))
+    simp (the_lemmas, view_roll, view_out) (sym c.has_ended.ensures ∙ c.if-has_ended.false ∙ sym (turn_undone o.kind o.site o.phase c.in-Turning.index c.in-Turning.last ws o.at c.in-Turning.is h))
 
-pub frame::Frame::go-returns-then-is_counted-clause-begins : goal.frame::Frame::go-returns-then-is_counted-clause-begins
-frame::Frame::go-returns-then-is_counted-clause-begins t c =
+pub frame::Frame::go_apart-returns-then-is_counted-clause-begins : goal.frame::Frame::go_apart-returns-then-is_counted-clause-begins
+frame::Frame::go_apart-returns-then-is_counted-clause-begins t c =
     let o = out-Frame c.args.self.now in
     let h = sym c.is_counted.ensures ∙ c.if-is_counted.true in
-    simp (the_lemmas, view_roll, view_out) (turn_begins _ o.kind o.site o.phase c.in-Turning.index c.in-Turning.last (views c.go_within-went-then-is_counted.new.parts.items) o.at c.in-Turning.is h c.go_within-went-then-is_counted.ensures.begins)
+    simp (the_lemmas, view_roll, view_out) (turn_begins _ o.kind o.site o.phase c.in-Turning.index c.in-Turning.last (views c.go_within-went.new.parts.items) o.at c.in-Turning.is h c.go_within-went.ensures.begins)
 
-pub frame::Frame::go-part_with-place-requires : goal.frame::Frame::go-part_with-place-requires
-frame::Frame::go-part_with-place-requires t c =
+pub frame::Frame::go_apart-part_with-place-requires : goal.frame::Frame::go_apart-part_with-place-requires
+frame::Frame::go_apart-part_with-place-requires t c =
     let o = out-Frame c.args.self.now in
     let h = sym c.is_par.ensures ∙ c.if-is_par.true in
     par_preorder o.kind o.site (views o.parts.items) h (subst (λ (v : View). InPreorder v.0) (view_out c.args.self.now) c.requires.in_preorder)
 
-pub frame::Frame::go-go_within-went-requires-then-is_par : goal.frame::Frame::go-go_within-went-requires-then-is_par
-frame::Frame::go-go_within-went-requires-then-is_par t c =
+pub frame::Frame::go_apart-go_within-went-requires-then-is_par : goal.frame::Frame::go_apart-go_within-went-requires-then-is_par
+frame::Frame::go_apart-go_within-went-requires-then-is_par t c =
     let o = out-Frame c.args.self.now in
     let is = view_out c.args.self.now in
     let fs = o.parts.items in
@@ -219,8 +219,8 @@ frame::Frame::go-go_within-went-requires-then-is_par t c =
       ),
     )
 
-pub frame::Frame::go-returns-then-has_ended-3-clause-did : goal.frame::Frame::go-returns-then-has_ended-3-clause-did
-frame::Frame::go-returns-then-has_ended-3-clause-did t c =
+pub frame::Frame::go_apart-returns-then-has_ended-2-clause-did : goal.frame::Frame::go_apart-returns-then-has_ended-2-clause-did
+frame::Frame::go_apart-returns-then-has_ended-2-clause-did t c =
     let o = out-Frame c.args.self.now in
     let vs = views o.parts.items in
     let h = sym c.is_par.ensures ∙ c.if-is_par.true in
@@ -231,22 +231,22 @@ frame::Frame::go-returns-then-has_ended-3-clause-did t c =
     let st = part_did o.kind o.site o.phase vs (views c.go_within-went-then-is_par.new.parts.items) c.part_with-place.result o.at _ _ s d c.in-Together.is h c.go_within-went-then-is_par.ensures.plans c.go_within-went-then-is_par.ensures.others c.go_within-went-then-is_par.ensures.did in
     simp (the_lemmas, view_roll, view_out) (subst (λ (ws : List View). Did (rest_at o.kind o.phase o.site vs o.at) e s d (rest_at o.kind o.phase o.site ws o.at) (store c.go_within-went-then-is_par.new.vars.items)) (sym settled) st)
 
-pub frame::Frame::go-returns-then-has_ended-3-clause-plan : goal.frame::Frame::go-returns-then-has_ended-3-clause-plan
-frame::Frame::go-returns-then-has_ended-3-clause-plan t c =
+pub frame::Frame::go_apart-returns-then-has_ended-2-clause-plan : goal.frame::Frame::go_apart-returns-then-has_ended-2-clause-plan
+frame::Frame::go_apart-returns-then-has_ended-2-clause-plan t c =
     let o = out-Frame c.args.self.now in
     let settled : views c.settle_part.new.parts.items ≡ views c.go_within-went-then-is_par.new.parts.items = c.settle_part.ensures ∙ simp the_lemmas refl in
     simp (the_lemmas, view_roll, view_out) (same_plan o.kind o.site (views o.parts.items) (views c.settle_part.new.parts.items) (ap plans settled ∙ c.go_within-went-then-is_par.ensures.plans))
 
-pub frame::Frame::go-returns-then-has_ended-3-clause-ended : goal.frame::Frame::go-returns-then-has_ended-3-clause-ended
-frame::Frame::go-returns-then-has_ended-3-clause-ended t c =
+pub frame::Frame::go_apart-returns-then-has_ended-2-clause-ended : goal.frame::Frame::go_apart-returns-then-has_ended-2-clause-ended
+frame::Frame::go_apart-returns-then-has_ended-2-clause-ended t c =
     let o = out-Frame c.args.self.now in
     let ws = views c.settle_part.new.parts.items in
     let h = sym c.is_par.ensures ∙ c.if-is_par.true in
     let n : has_ended c.went_beside.result ≡ is_done (besides ws) = c.went_beside.ensures.ended ∙ simp the_lemmas refl in
     simp (the_lemmas, view_roll, view_out) (n ∙ sym (ap is_done (beside_rest o.kind o.site o.phase ws o.at c.in-Together.is h)))
 
-pub frame::Frame::go-returns-then-is_par-clause-did : goal.frame::Frame::go-returns-then-is_par-clause-did
-frame::Frame::go-returns-then-is_par-clause-did t c =
+pub frame::Frame::go_apart-returns-then-is_par-clause-did : goal.frame::Frame::go_apart-returns-then-is_par-clause-did
+frame::Frame::go_apart-returns-then-is_par-clause-did t c =
     let o = out-Frame c.args.self.now in
     let vs = views o.parts.items in
     let h = sym c.is_par.ensures ∙ c.if-is_par.true in
@@ -257,14 +257,14 @@ frame::Frame::go-returns-then-is_par-clause-did t c =
     let st = part_did o.kind o.site o.phase vs (views c.go_within-went-then-is_par.new.parts.items) c.part_with-place.result o.at _ _ s d c.in-Together.is h c.go_within-went-then-is_par.ensures.plans c.go_within-went-then-is_par.ensures.others c.go_within-went-then-is_par.ensures.did in
     simp (the_lemmas, view_roll, view_out) (subst (λ (ws : List View). Did (rest_at o.kind o.phase o.site vs o.at) e s d (rest_at o.kind o.phase o.site ws o.at) (store c.go_within-went-then-is_par.new.vars.items)) (sym settled) st)
 
-pub frame::Frame::go-returns-then-is_par-clause-plan : goal.frame::Frame::go-returns-then-is_par-clause-plan
-frame::Frame::go-returns-then-is_par-clause-plan t c =
+pub frame::Frame::go_apart-returns-then-is_par-clause-plan : goal.frame::Frame::go_apart-returns-then-is_par-clause-plan
+frame::Frame::go_apart-returns-then-is_par-clause-plan t c =
     let o = out-Frame c.args.self.now in
     let settled : views c.settle_part.new.parts.items ≡ views c.go_within-went-then-is_par.new.parts.items = c.settle_part.ensures ∙ simp the_lemmas refl in
     simp (the_lemmas, view_roll, view_out) (same_plan o.kind o.site (views o.parts.items) (views c.settle_part.new.parts.items) (ap plans settled ∙ c.go_within-went-then-is_par.ensures.plans))
 
-pub frame::Frame::go-returns-then-is_par-clause-ended : goal.frame::Frame::go-returns-then-is_par-clause-ended
-frame::Frame::go-returns-then-is_par-clause-ended t c =
+pub frame::Frame::go_apart-returns-then-is_par-clause-ended : goal.frame::Frame::go_apart-returns-then-is_par-clause-ended
+frame::Frame::go_apart-returns-then-is_par-clause-ended t c =
     let o = out-Frame c.args.self.now in
     let is = view_out c.args.self.now in
     let fs = o.parts.items in
@@ -280,14 +280,14 @@ frame::Frame::go-returns-then-is_par-clause-ended t c =
     let able = part_able o.kind o.site o.phase fs o.at p e s c.in-Together.is h pre c.part_with-place.ensures d (subst (λ (v : View). Able v.1 e s d) is c.requires.able) in
     let there = subst (λ (n : ℕ). p < n) (same_length vs ws c.go_within-went-then-is_par.ensures.plans) (able_there vs p e s d able) in
     let settled : us ≡ ws = c.settle_part.ensures ∙ simp the_lemmas refl in
-    let goes = ap (λ (xs : List View). is_done (besides xs)) settled ∙ besides_goes ws p there (sym c.go_within-went-then-is_par.ensures.ended ∙ sym c.has_ended-then-is_par.ensures ∙ c.if-has_ended-3.false) in
+    let goes = ap (λ (xs : List View). is_done (besides xs)) settled ∙ besides_goes ws p there (sym c.go_within-went-then-is_par.ensures.ended ∙ sym c.has_ended-then-is_par.ensures ∙ c.if-has_ended-2.false) in
     simp (the_lemmas, view_roll, view_out) (sym goes ∙ sym (ap is_done (beside_rest o.kind o.site o.phase us o.at c.in-Together.is h)))
 
-pub frame::Frame::go-go_resting-requires-clause-resting : goal.frame::Frame::go-go_resting-requires-clause-resting
-frame::Frame::go-go_resting-requires-clause-resting t c = c.in-Resting.is
+pub frame::Frame::go_apart-go_resting-requires-clause-resting : goal.frame::Frame::go_apart-go_resting-requires-clause-resting
+frame::Frame::go_apart-go_resting-requires-clause-resting t c = c.in-Resting.is
 
-pub frame::Frame::go-returns-else-is_counted-clause-did : goal.frame::Frame::go-returns-else-is_counted-clause-did
-frame::Frame::go-returns-else-is_counted-clause-did t c =
+pub frame::Frame::go_apart-returns-else-is_counted-clause-did : goal.frame::Frame::go_apart-returns-else-is_counted-clause-did
+frame::Frame::go_apart-returns-else-is_counted-clause-did t c =
     let o = out-Frame c.args.self.now in
     let is = view_out c.args.self.now in
     let e = store c.args.vars.now.items in
@@ -296,8 +296,8 @@ frame::Frame::go-returns-else-is_counted-clause-did t c =
     subst (λ (v : View). Did v.1 e c.args.doing.now.site c.args.doing.now.deed (view c.args.self.now).1 e) (sym is)
     (none_turns o.kind o.site o.phase c.in-Turning.index c.in-Turning.last (views o.parts.items) o.at e _ _ _ c.in-Turning.is h able)
 
-pub frame::Frame::go-returns-else-is_par-clause-did : goal.frame::Frame::go-returns-else-is_par-clause-did
-frame::Frame::go-returns-else-is_par-clause-did t c =
+pub frame::Frame::go_apart-returns-else-is_par-clause-did : goal.frame::Frame::go_apart-returns-else-is_par-clause-did
+frame::Frame::go_apart-returns-else-is_par-clause-did t c =
     let o = out-Frame c.args.self.now in
     let is = view_out c.args.self.now in
     let e = store c.args.vars.now.items in
@@ -306,8 +306,8 @@ frame::Frame::go-returns-else-is_par-clause-did t c =
     subst (λ (v : View). Did v.1 e c.args.doing.now.site c.args.doing.now.deed (view c.args.self.now).1 e) (sym is)
     (none_beside o.kind o.site o.phase (views o.parts.items) o.at e _ _ _ c.in-Together.is h able)
 
-pub frame::Frame::go-returns-in-Ended-clause-did : goal.frame::Frame::go-returns-in-Ended-clause-did
-frame::Frame::go-returns-in-Ended-clause-did t c =
+pub frame::Frame::go_apart-returns-in-Ended-clause-did : goal.frame::Frame::go_apart-returns-in-Ended-clause-did
+frame::Frame::go_apart-returns-in-Ended-clause-did t c =
     let o = out-Frame c.args.self.now in
     let is = view_out c.args.self.now in
     let vs = views o.parts.items in
@@ -316,13 +316,13 @@ frame::Frame::go-returns-in-Ended-clause-did t c =
     subst (λ (v : View). Did v.1 e c.args.doing.now.site c.args.doing.now.deed (view c.args.self.now).1 e) (sym is)
     (phase_did o.kind o.site _ Ended vs o.at e e _ _ _ c.in-Ended.is (never_done _ _ e e _ _ (phase_able o.kind o.site _ Ended vs o.at e _ _ c.in-Ended.is able)))
 
-pub frame::Frame::go-returns-in-Ended-clause-ended : goal.frame::Frame::go-returns-in-Ended-clause-ended
-frame::Frame::go-returns-in-Ended-clause-ended t c =
+pub frame::Frame::go_apart-returns-in-Ended-clause-ended : goal.frame::Frame::go_apart-returns-in-Ended-clause-ended
+frame::Frame::go_apart-returns-in-Ended-clause-ended t c =
     let o = out-Frame c.args.self.now in
     sym (ap (λ (v : View). is_done v.1) (view_out c.args.self.now) ∙ ap (λ (p : Phase). is_done (rest_at o.kind p o.site (views o.parts.items) o.at)) c.in-Ended.is)
 
-pub frame::Frame::go-returns-in-Stuck-clause-did : goal.frame::Frame::go-returns-in-Stuck-clause-did
-frame::Frame::go-returns-in-Stuck-clause-did t c =
+pub frame::Frame::go_apart-returns-in-Stuck-clause-did : goal.frame::Frame::go_apart-returns-in-Stuck-clause-did
+frame::Frame::go_apart-returns-in-Stuck-clause-did t c =
     let o = out-Frame c.args.self.now in
     let is = view_out c.args.self.now in
     let vs = views o.parts.items in

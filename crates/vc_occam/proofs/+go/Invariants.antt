@@ -2,7 +2,10 @@ use Rattle.std.proofs.Common.{◌+◌, ◌*◌}
 use Rattle.vc_occam.proofs.+go.Given as goal
 
 abbrev pub decreases-frame::Frame::go : goal.decreases-frame::Frame::go
-decreases-frame::Frame::go l = 2 * goal.size-frame::Frame::go l
+decreases-frame::Frame::go l = 3 * goal.size-frame::Frame::go l + 1
+
+abbrev pub decreases-frame::Frame::go_apart : goal.decreases-frame::Frame::go_apart
+decreases-frame::Frame::go_apart l = 3 * goal.size-frame::Frame::go_apart l
 
 abbrev pub decreases-going::go_within : goal.decreases-going::go_within
-decreases-going::go_within l = 2 * goal.size-going::go_within l + 1
+decreases-going::go_within l = 3 * goal.size-going::go_within l + 2

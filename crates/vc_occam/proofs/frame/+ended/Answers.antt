@@ -1,10 +1,10 @@
 use Rattle.std.proofs.Common.{◌≡◌, ℕ, ◌∙◌, ◌<◌, ◌-◌, length, arith, rules, sym, subst, ap, refl, true, false}
-use Rattle.vc_occam.specs.declared.phase.Phase.TheVariants.{Ready, Waiting, Resting, Turning, Together, Chosen, Ended, Stuck}
+use Rattle.vc_occam.specs.declared.phase.Phase.TheVariants.{Waiting, Together, Ended}
 use Rattle.std.specs.Prelude.{slice_get}
 use Rattle.vc_occam.specs.declared.frame.Frame.TheViews.{out-Frame}
 use Rattle.vc_occam.specs.Frames.{View, is_done, is_last, part_done, views}
 use Rattle.vc_occam.proofs.Ending.{besides_goes}
-use Rattle.vc_occam.proofs.Frames.{length-views, rest_done, together_is, together_not, view_out}
+use Rattle.vc_occam.proofs.Frames.{goes_else, length-views, rest_done, together_is, together_not, view_out}
 use Rattle.vc_occam.proofs.Stepping.{get_view, none_view}
 use Rattle.vc_occam.proofs.frame.+ended.Goals as goal
 
@@ -17,11 +17,8 @@ Frame::ended-returns t c =
 pub is_ended-returns-in-Ended : goal.is_ended-returns-in-Ended
 is_ended-returns-in-Ended t c = λ i. sym (rest_done c.args.kind.now i _ Ended c.args.parts.now c.args.at _ _ _ c.in-Ended.is refl refl refl)
 
-pub is_ended-returns-in-Ready : goal.is_ended-returns-in-Ready
-is_ended-returns-in-Ready t c = λ i. sym (rest_done c.args.kind.now i _ Ready c.args.parts.now c.args.at _ _ _ c.in-Ready.is refl refl refl)
-
-pub is_ended-returns-in-Stuck : goal.is_ended-returns-in-Stuck
-is_ended-returns-in-Stuck t c = λ i. sym (rest_done c.args.kind.now i _ Stuck c.args.parts.now c.args.at _ _ _ c.in-Stuck.is refl refl refl)
+pub is_ended-returns : goal.is_ended-returns
+is_ended-returns t c = λ i. sym (goes_else c.args.kind.now i c.args.phase c.args.parts.now c.args.at c.in_default.not-Ended c.in_default-phase.not-Waiting c.in_default-phase-2.not-Together)
 
 pub is_ended-returns-then-is_last : goal.is_ended-returns-then-is_last
 is_ended-returns-then-is_last t c = λ i.
@@ -31,12 +28,6 @@ is_ended-returns-then-is_last t c = λ i.
 pub is_ended-returns-else-is_last : goal.is_ended-returns-else-is_last
 is_ended-returns-else-is_last t c = λ i.
     c.if-is_last.false ∙ sym (rest_done c.args.kind.now i _ Waiting c.args.parts.now c.args.at false _ _ c.in-Waiting.is (ap (is_last _ _) (sym c.len.ensures) ∙ sym c.is_last.ensures ∙ c.if-is_last.false) refl refl)
-
-pub is_ended-returns-in-Turning : goal.is_ended-returns-in-Turning
-is_ended-returns-in-Turning t c = λ i. sym (rest_done c.args.kind.now i _ (Turning c.in-Turning.index c.in-Turning.last) c.args.parts.now c.args.at _ _ _ c.in-Turning.is refl refl refl)
-
-pub is_ended-returns-in-Chosen : goal.is_ended-returns-in-Chosen
-is_ended-returns-in-Chosen t c = λ i. sym (rest_done c.args.kind.now i _ Chosen c.args.parts.now c.args.at _ _ _ c.in-Chosen.is refl refl refl)
 
 pub is_ended-returns-then-is_par : goal.is_ended-returns-then-is_par
 is_ended-returns-then-is_par t c = λ i.
@@ -61,9 +52,6 @@ pub part_ended-returns : goal.part_ended-returns
 part_ended-returns t c =
     let o = c.args.parts.now.ok.0 in
     sym (ap part_done (none_view c.args.parts.now.items c.args.at (omega (arith, c.len.ensures))))
-
-pub is_ended-returns-in-Resting : goal.is_ended-returns-in-Resting
-is_ended-returns-in-Resting t c = λ i. sym (rest_done c.args.kind.now i _ Resting c.args.parts.now c.args.at _ _ _ c.in-Resting.is refl refl refl)
 
 pub all_ended-returns-then-not-ended : goal.all_ended-returns-then-not-ended
 all_ended-returns-then-not-ended t c =
