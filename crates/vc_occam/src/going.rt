@@ -432,6 +432,7 @@ impl Frame {
     #[cycle(go)]
     #[inline(never)]
     fn go_apart(&mut self, doing: &mut SiteDeed, vars: &mut Vec<Datum>) -> Went
+        requires begun { (out-Frame self.old).phase ≡ Ready → ⊥ }
         requires apart { (out-Frame self.old).phase ≡ Waiting → has_parts (out-Frame self.old).kind ≡ false }
         requires able { Able (view self.old).1 (store vars.old.items) doing.old.site doing.old.deed }
         requires assigned { doing.old.deed ≡ Quiet → doing.old.assigned ≡ assigned_at doing.old.site (view self.old).1 (store vars.old.items) }
@@ -444,7 +445,8 @@ impl Frame {
         ensures length { length vars.new.items ≡ length vars.old.items }
     {
         match self.phase {
-            Phase::Ready | Phase::Waiting | Phase::Chosen => self.go_itself(doing, vars),
+            Phase::Ready => unreachable!(),
+            Phase::Waiting | Phase::Chosen => self.go_itself(doing, vars),
             Phase::Turning { .. } => {
                 if self.kind.is_counted() {
                     let went = go_within(0, &mut self.parts, doing, vars);
@@ -517,12 +519,12 @@ impl Frame {
         self.went(progress.ended)
     }
 
-    /// The frame's own site does something; answers whether nothing remains then, and what it begins with.
+    /// The frame's own site, which has begun, goes on; answers whether nothing remains then, and what it begins with.
     #[inline(never)]
     fn go_itself(&mut self, doing: &mut SiteDeed, vars: &mut Vec<Datum>) -> Went
+        requires begun { (out-Frame self.old).phase ≡ Ready → ⊥ }
         requires itself { goes_within (out-Frame self.old).kind (out-Frame self.old).phase ≡ false }
         requires able { Able (view self.old).1 (store vars.old.items) doing.old.site doing.old.deed }
-        requires assigned { doing.old.deed ≡ Quiet → doing.old.assigned ≡ assigned_at doing.old.site (view self.old).1 (store vars.old.items) }
         requires variables { HasVariables (view self.old).0 (length vars.old.items) }
         ensures did { Did (view self.old).1 (store vars.old.items) doing.old.site doing.old.deed (view self.new).1 (store vars.new.items) }
         ensures plan { (view self.new).0 ≡ (view self.old).0 }
@@ -682,7 +684,7 @@ fn begin(
     Next { phase, at }
 }
 
-/// What the frame's own site does, and how far the frame is then.
+/// What the frame's own site does, which has begun, and how far the frame is then.
 fn go_on(
     own: u16,
     kind: &Kind,
@@ -692,9 +694,9 @@ fn go_on(
     doing: &mut SiteDeed,
     vars: &mut Vec<Datum>,
 ) -> Progress
+    requires begun { phase ≡ Ready → ⊥ }
     requires itself { goes_within kind.now phase ≡ false }
     requires able { Able (rest_at kind.now phase own (views parts.old.items) at) (store vars.old.items) doing.old.site doing.old.deed }
-    requires assigned { doing.old.deed ≡ Quiet → doing.old.assigned ≡ assigned_at doing.old.site (rest_at kind.now phase own (views parts.old.items) at) (store vars.old.items) }
     requires variables { HasVariables (plan_at kind.now own (views parts.old.items)) (length vars.old.items) }
     ensures did { Did (rest_at kind.now phase own (views parts.old.items) at) (store vars.old.items) doing.old.site doing.old.deed (rest_at kind.now result.next.phase own (views parts.new.items) result.next.at) (store vars.new.items) }
     ensures plans { plans (views parts.new.items) ≡ plans (views parts.old.items) }
@@ -702,10 +704,6 @@ fn go_on(
     ensures length { length vars.new.items ≡ length vars.old.items }
 {
     match phase {
-        Phase::Ready => {
-            let next = begin(own, kind, at, parts, doing, vars);
-            reached(kind, next, parts)
-        }
         Phase::Waiting => {
             let phase = end_alone(own, kind, doing, vars);
             reached(kind, Next { phase, at }, parts)

@@ -14,7 +14,7 @@ returns-in-Waiting-clause-did c =
     let f = store c.end_alone-phase.new.vars.items in
     let s = c.args.doing.now.site in
     let d = c.args.doing.now.deed in
-    subst (λ (n : Next). Did (rest_at k c.args.phase c.args.own vs c.args.at) e s d (rest_at k n.phase c.args.own vs n.at) f) (sym c.reached-in-Waiting.ensures.next)
+    subst (λ (n : Next). Did (rest_at k c.args.phase c.args.own vs c.args.at) e s d (rest_at k n.phase c.args.own vs n.at) f) (sym c.reached.ensures.next)
     (phase_did k c.args.own _ Waiting vs c.args.at e f s d _ c.in-Waiting.is
     (c.end_alone-phase.ensures.did vs c.args.at (phase_able k c.args.own _ Waiting vs c.args.at e s d c.in-Waiting.is c.requires.able)))
 

@@ -1,6 +1,6 @@
-use Rattle.std.proofs.Common.{◌∙◌, ap, subst, length}
+use Rattle.std.proofs.Common.{◌∙◌, subst, length}
 use Rattle.vc_occam.specs.declared.frame.Frame.TheViews.{the_lemmas, out-Frame}
-use Rattle.vc_occam.specs.Frames.{Able, HasVariables, View, assigned_at, views}
+use Rattle.vc_occam.specs.Frames.{Able, HasVariables, View, views}
 use Rattle.vc_process.specs.Terms.{store}
 use Rattle.vc_occam.proofs.Frames.{view_roll, view_out}
 use Rattle.vc_occam.proofs.Stepping.{same_plan}
@@ -9,10 +9,6 @@ use Rattle.vc_occam.proofs.frame.Frame.go_itself.Goals as goal
 pub go_on-progress-requires-clause-able : goal.go_on-progress-requires-clause-able
 go_on-progress-requires-clause-able c =
     subst (λ (v : View). Able v.1 (store c.args.vars.now.items) c.args.doing.now.site c.args.doing.now.deed) (view_out c.args.self.now) c.requires.able
-
-pub go_on-progress-requires-clause-assigned : goal.go_on-progress-requires-clause-assigned
-go_on-progress-requires-clause-assigned c = λ q.
-    c.requires.assigned q ∙ ap (λ (v : View). assigned_at c.args.doing.now.site v.1 (store c.args.vars.now.items)) (view_out c.args.self.now)
 
 pub go_on-progress-requires-clause-variables : goal.go_on-progress-requires-clause-variables
 go_on-progress-requires-clause-variables c =
