@@ -12,6 +12,9 @@ use std::alloc::Global;
 use vc_blocks::{InHalf, OutHalf};
 use vc_packets::Memory;
 
+/// How many links a node has.
+const LINKS: usize = 4;
+
 /// The outputs of these ends, in their order.
 pub(crate) fn outputs(alloc: Global, ends: &[End]) -> Result<Vec<Output>, Memory>
     ensures { IfOk result (λ outputs. outputs.items ≡ opened_outputs ends.now) }
@@ -55,12 +58,10 @@ pub(crate) fn outs(alloc: Global) -> Result<Vec<LinkOut>, Memory>
 pub(crate) fn ins(alloc: Global, limit: usize) -> Result<Vec<LinkIn>, Memory>
     ensures { IfOk result (λ ins. ins.items ≡ four (new_in limit)) }
 {
-    let ins = vec![in alloc;
-        LinkIn::new(alloc, limit)?,
-        LinkIn::new(alloc, limit)?,
-        LinkIn::new(alloc, limit)?,
-        LinkIn::new(alloc, limit)?,
-    ]?;
+    let mut ins = Vec::with_capacity(alloc, LINKS)?;
+    for _ in 0..LINKS {
+        ins.push(LinkIn::new(alloc, limit)?)?;
+    }
     Ok(ins)
 }
 

@@ -2,9 +2,11 @@
 //!
 //! A call queues and logs first and changes the half last, so that where it finds no memory the output and the queue are as
 //! they were.
-ghost use Rattle.std.specs.Prelude.{◌≡◌, ◌≢◌, [], IfOk, OnOk, OnErr};
+ghost use Rattle.std.specs.Prelude.{◌≡◌, ◌≢◌, ℕ, List, [], ◌∷◌, ◌++◌, IfOk, OnOk, OnErr};
 ghost use Rattle.vc_blocks.specs.Advancing.{later_than, advanced};
-ghost use Rattle.vc_vcp.specs.Queued.{Begins, StaysOutput, queued_next};
+ghost use Rattle.vc_packets.specs.Pieces.{Pieces};
+ghost use Rattle.vc_packets.specs.Spellings.{piece_packet};
+ghost use Rattle.vc_vcp.specs.Queued.{Begins, StaysOutput, queued, queued_next};
 ghost use Rattle.vc_vcp.specs.Seen.{finished_of};
 ghost use Rattle.vc_vcp.specs.State.{IsOutput};
 
@@ -40,14 +42,8 @@ impl Output {
         ensures err { OnErr result (self.new ≡ self.old) }
         ensures err_queue { OnErr result (queue.new ≡ queue.old) }
     {
-        let copy = Bytes::from_slice(alloc, message)?;
         let whole = Bytes::from_slice(alloc, message)?;
-        let first = piece(alloc, self.half.route(), message, 0)?;
-        queue.enqueue(first)?;
-        if self.offered.push(copy).is_err() {
-            queue.unqueue();
-            return Err(Memory);
-        }
+        self.prepare(queue, alloc, message)?;
         self.half.offer(whole);
         Ok(())
     }
@@ -81,5 +77,22 @@ impl Output {
         } else {
             offered.saturating_sub(1)
         }
+    }
+
+    // A message's first piece is queued, and the message logged.
+    fn prepare(&mut self, queue: &mut LinkOut, alloc: Global, message: &[u8]) -> Result<(), Memory>
+        ensures output { OnOk result (self.new ≡ record self.old { offered = self.old.offered ++ message.now ∷ [] }) }
+        ensures queue { OnOk result ((cs : List (List ℕ)) → Pieces message.now cs → queue.new ≡ queued queue.old (piece_packet self.old.half.route cs)) }
+        ensures err { OnErr result (self.new ≡ self.old) }
+        ensures err_queue { OnErr result (queue.new ≡ queue.old) }
+    {
+        let copy = Bytes::from_slice(alloc, message)?;
+        let first = piece(alloc, self.half.route(), message, 0)?;
+        queue.enqueue(first)?;
+        if self.offered.push(copy).is_err() {
+            queue.unqueue();
+            return Err(Memory);
+        }
+        Ok(())
     }
 }
