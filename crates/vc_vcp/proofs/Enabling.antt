@@ -1,8 +1,8 @@
 -- A node's steps exist exactly where its calls may be made.
-use Rattle.std.proofs.Common.{◌≡◌, ◌≢◌, ℕ, ◌+◌, ◌<◌, Bool, true, false, List, [], ◌∷◌, ◌++◌, refl, sym, ap, ◌∙◌, subst, slice_get, slice_set, IsTrue, ◌↔◌, Option, Some, None}
-use Rattle.std.specs.List.{AllByRecursion}
+use Rattle.std.proofs.Common.{◌≡◌, ◌≢◌, ℕ, ◌+◌, ◌<◌, Bool, true, false, List, [], ◌∷◌, ◌++◌, refl, sym, ap, ◌∙◌, subst, slice_get, slice_set, IsTrue, ◌↔◌, Option, Some, None, Bor}
 use mathlib.Core.Bool.{not}
 use Rattle.std.specs.Bool.{OnTrue}
+use Rattle.std.specs.Option.{is_some, option_copied}
 use Rattle.vc_packets.specs.declared.packet.Packet.{Packet}
 use Rattle.vc_packets.specs.Pieces.{Pieces}
 use Rattle.vc_packets.specs.Spellings.{piece_packet}
@@ -13,7 +13,7 @@ use Rattle.vc_packets.specs.declared.mark.Mark.{Mark}
 use Rattle.vc_blocks.specs.Halves.{load_of, ends_message}
 use Rattle.vc_vcp.specs.declared.output.Output.{Output}
 use Rattle.vc_vcp.specs.declared.input.Input.{Input}
-use Rattle.vc_vcp.specs.Able.{CanOffer, CanWant, CanFetch, CanStop, CanPut, CanGrant}
+use Rattle.vc_vcp.specs.Able.{CanOffer, CanWant, CanFetch, CanStop, CanPut, CanGrant, IsReady}
 use Rattle.vc_vcp.specs.Carrier.{Carrier, set_in, set_out, enqueue}
 use Rattle.vc_vcp.specs.Keyed.{named, shown_or}
 use Rattle.vc_vcp.specs.LinkIn.{Receiving}
@@ -26,8 +26,7 @@ use Rattle.vc_vcp.specs.Steps.{IsOpen as IsOpenChannel}
 use Rattle.vc_vcp.proofs.Inputting.{for_end}
 use Rattle.vc_vcp.proofs.Passing.{receiver_at}
 use Rattle.vc_vcp.proofs.Showing.{sends_token}
-use Rattle.vc_vcp.proofs.Straying.{place_of, shown_some}
-use Rattle.vc_vcp.proofs.Wired.{all-at}
+use Rattle.vc_vcp.proofs.Straying.{shown_some}
 
 -- what a channel's name shows of an output or an input
 end_shown : (s : State) (c : ℕ) (x : Output) → named (λ x. x.chan) c s.outputs ≡ Some x → (ends_of s).output c ≡ Some (out_end x)
@@ -101,10 +100,8 @@ want_with s c is (Some p) held piece = record {
   });
 }
 
-pub can_want : (s : State) (c : ℕ) → AllByRecursion IsInput s.inputs → IsOpen s c → CanWant (ends_of s) (carrier_of s) c
-can_want s c w is =
-    let p = place_of (λ x. x.chan) c s.inputs is.input is.here in
-    want_with s c is is.input.half.held refl (all-at IsInput s.inputs p.place is.input w p.there).held
+pub can_want : (s : State) (c : ℕ) (is : IsOpen s c) → IsInput is.input → CanWant (ends_of s) (carrier_of s) c
+can_want s c is w = want_with s c is is.input.half.held refl w.held
 
 pub wants_open : (s : State) (c : ℕ) → CanWant (ends_of s) (carrier_of s) c → IsOpen s c
 wants_open s c can =
@@ -132,10 +129,8 @@ fetch_with s c is (Some p) held piece some = record {
   };
 }
 
-can_fetch : (s : State) (c : ℕ) → AllByRecursion IsInput s.inputs → (is : IsOpen s c) → is.input.half.held ≢ None → CanFetch (ends_of s) (carrier_of s) c
-can_fetch s c w is some =
-    let p = place_of (λ x. x.chan) c s.inputs is.input is.here in
-    fetch_with s c is is.input.half.held refl (all-at IsInput s.inputs p.place is.input w p.there).held some
+can_fetch : (s : State) (c : ℕ) (is : IsOpen s c) → IsInput is.input → is.input.half.held ≢ None → CanFetch (ends_of s) (carrier_of s) c
+can_fetch s c is w some = fetch_with s c is is.input.half.held refl w.held some
 
 fetches_held : (s : State) (c : ℕ) (a : Input) → named (λ x. x.chan) c s.inputs ≡ Some a → CanFetch (ends_of s) (carrier_of s) c → a.half.held ≢ None
 fetches_held s c a here can none = let e : Some can.fetches.packet ≡ None = sym can.fetches.held ∙ ap (λ z. z.held) (into_half_shown s c a here) ∙ none in absurd (cc)
@@ -210,10 +205,10 @@ pub offer_iff : (s : State) (c : ℕ) (m : List ℕ) (a : Output) (b : Bool) →
 offer_iff s c m a b here iff =
     (λ t. can_offer s c m (record { output = a; here = here; idle = iff.0 t }), λ can. (let i = offers_idle s c m can in iff.1 (subst (λ z. z.half.unacked ≡ []) (same_some (named (λ x. x.chan) c s.outputs) i.output a i.here here) i.idle)))
 
-pub want_iff : (s : State) (c : ℕ) (a : Input) (b : Bool) → AllByRecursion IsInput s.inputs → named (λ x. x.chan) c s.inputs ≡ Some a → (IsTrue b ↔ ((a.half.wants ≡ false) × (a.half.stopped ≡ false))) →
+pub want_iff : (s : State) (c : ℕ) (a : Input) (b : Bool) → IsInput a → named (λ x. x.chan) c s.inputs ≡ Some a → (IsTrue b ↔ ((a.half.wants ≡ false) × (a.half.stopped ≡ false))) →
     IsTrue b ↔ CanWant (ends_of s) (carrier_of s) c
 want_iff s c a b w here iff = (
-  λ t. can_want s c w (record { input = a; here = here; idle = (iff.0 t).0; not_stopped = (iff.0 t).1 }),
+  λ t. can_want s c (record { input = a; here = here; idle = (iff.0 t).0; not_stopped = (iff.0 t).1 }) w,
   λ can. (let i = wants_open s c can in
       let same = same_some (named (λ x. x.chan) c s.inputs) i.input a i.here here in iff.1 (subst (λ z. z.half.wants ≡ false) same i.idle, subst (λ z. z.half.stopped ≡ false) same i.not_stopped)),
 )
@@ -222,11 +217,11 @@ pub open_iff : (s : State) (c : ℕ) (a : Input) (b : Bool) → named (λ x. x.c
 open_iff s c a b here iff =
     (λ t. record { input = a; here = here; idle = (iff.0 t).0; not_stopped = (iff.0 t).1 }, λ i. (let same = same_some (named (λ x. x.chan) c s.inputs) i.input a i.here here in iff.1 (subst (λ z. z.half.wants ≡ false) same i.idle, subst (λ z. z.half.stopped ≡ false) same i.not_stopped)))
 
-pub fetch_iff : (s : State) (c : ℕ) (a : Input) (b : Bool) → AllByRecursion IsInput s.inputs → named (λ x. x.chan) c s.inputs ≡ Some a → (IsTrue b ↔ ((a.half.held ≢ None) × (a.half.stopped ≡ false))) → IsOpen s c →
+pub fetch_iff : (s : State) (c : ℕ) (a : Input) (b : Bool) → IsInput a → named (λ x. x.chan) c s.inputs ≡ Some a → (IsTrue b ↔ ((a.half.held ≢ None) × (a.half.stopped ≡ false))) → IsOpen s c →
     IsTrue b ↔ CanFetch (ends_of s) (carrier_of s) c
 fetch_iff s c a b w here iff is =
     let same = same_some (named (λ x. x.chan) c s.inputs) is.input a is.here here in
-    (λ t. can_fetch s c w is (subst (λ z. z.half.held ≢ None) (sym same) (iff.0 t).0), λ can. iff.1 (fetches_held s c a here can, subst (λ z. z.half.stopped ≡ false) same is.not_stopped))
+    (λ t. can_fetch s c is (subst IsInput (sym same) w) (subst (λ z. z.half.held ≢ None) (sym same) (iff.0 t).0), λ can. iff.1 (fetches_held s c a here can, subst (λ z. z.half.stopped ≡ false) same is.not_stopped))
 
 pub stop_iff : (s : State) (c : ℕ) (a : Input) (b : Bool) → named (λ x. x.chan) c s.inputs ≡ Some a → (IsTrue b ↔ (a.half.wants ≡ false)) → IsTrue b ↔ CanStop (ends_of s) (carrier_of s) c
 stop_iff s c a b here iff =
@@ -240,3 +235,55 @@ put_iff s l x false here iff can =
 pub grant_iff : (s : State) (l : ℕ) (x : Receiving) (b : Bool) → slice_get s.ins l ≡ Some x → (IsTrue b ↔ HasRoom x.receiver) → IsTrue b ↔ CanGrant (seen s) l
 grant_iff s l x b here iff =
     (λ t. can_grant s l (record { into = x; here = here; room = iff.0 t }), λ can. (let m = grants_may s l x here can in iff.1 (subst (λ z. HasRoom z.receiver) (same_some (slice_get s.ins l) m.into x m.here here) m.room)))
+
+pub idle_iff : (s : State) (c : ℕ) (a : Output) (b : Bool) → named (λ x. x.chan) c s.outputs ≡ Some a → (IsTrue b ↔ (a.half.unacked ≡ [])) → IsTrue b ↔ IsIdle s c
+idle_iff s c a b here iff =
+    (λ t. record { output = a; here = here; idle = iff.0 t }, λ i. iff.1 (subst (λ z. z.half.unacked ≡ []) (same_some (named (λ x. x.chan) c s.outputs) i.output a i.here here) i.idle))
+
+pub unwanted_iff : (s : State) (c : ℕ) (a : Input) (b : Bool) → named (λ x. x.chan) c s.inputs ≡ Some a → (IsTrue b ↔ (a.half.wants ≡ false)) → IsTrue b ↔ IsUnwanted s c
+unwanted_iff s c a b here iff =
+    (λ t. record { input = a; here = here; idle = iff.0 t }, λ i. iff.1 (subst (λ z. z.half.wants ≡ false) (same_some (named (λ x. x.chan) c s.inputs) i.input a i.here here) i.idle))
+
+pub ready_iff : (s : State) (c : ℕ) (a : Input) (b : Bool) → named (λ x. x.chan) c s.inputs ≡ Some a → (IsTrue b ↔ ((a.half.held ≢ None) × (a.half.stopped ≡ false))) → IsTrue b ↔ IsReady ((carrier_of s).into c)
+ready_iff s c a b here iff =
+    subst (λ z. IsTrue b ↔ IsReady (shown_or no_input in_half z)) (sym here)
+    (λ t. record { held = (iff.0 t).0; not_stopped = (iff.0 t).1 }, λ r. iff.1 (r.held, r.not_stopped))
+
+pub holds_iff : (o : Option (Bor Packet)) (b : Bool) (h : Option Packet) → b ≡ is_some o → option_copied o ≡ h → IsTrue b ↔ (h ≢ None)
+holds_iff None b h is held = (λ t. (let e : false ≡ true = sym is ∙ t in absurd (cc)), λ some. absurd (some (sym held)))
+holds_iff (Some p) b h is held = (λ t none. (let e : Some p.now ≡ None = held ∙ none in absurd (cc)), λ some. is)
+
+-- Where nothing has the name nothing may be done.
+
+never_iff : {P : Type 0} → (P → ⊥) → IsTrue false ↔ P
+never_iff never = (λ t. absurd (let e : false ≡ true = t in cc), λ p. absurd (never p))
+
+not_none : {X : Type 0} (o : Option X) (x : X) → o ≡ None → o ≡ Some x → ⊥
+not_none o x none some = let e : None ≡ Some x = sym none ∙ some in cc
+
+pub idle_none : (s : State) (c : ℕ) → named (λ x. x.chan) c s.outputs ≡ None → IsTrue false ↔ IsIdle s c
+idle_none s c none = never_iff (λ (i : IsIdle s c). not_none (named (λ x. x.chan) c s.outputs) i.output none i.here)
+
+pub offer_none : (s : State) (c : ℕ) (m : List ℕ) → named (λ x. x.chan) c s.outputs ≡ None → IsTrue false ↔ CanOffer (ends_of s) (carrier_of s) c m
+offer_none s c m none = never_iff (λ (can : CanOffer (ends_of s) (carrier_of s) c m). (let i = offers_idle s c m can in not_none (named (λ x. x.chan) c s.outputs) i.output none i.here))
+
+pub open_none : (s : State) (c : ℕ) → named (λ x. x.chan) c s.inputs ≡ None → IsTrue false ↔ IsOpen s c
+open_none s c none = never_iff (λ (i : IsOpen s c). not_none (named (λ x. x.chan) c s.inputs) i.input none i.here)
+
+pub want_none : (s : State) (c : ℕ) → named (λ x. x.chan) c s.inputs ≡ None → IsTrue false ↔ CanWant (ends_of s) (carrier_of s) c
+want_none s c none = never_iff (λ (can : CanWant (ends_of s) (carrier_of s) c). (let i = wants_open s c can in not_none (named (λ x. x.chan) c s.inputs) i.input none i.here))
+
+pub unwanted_none : (s : State) (c : ℕ) → named (λ x. x.chan) c s.inputs ≡ None → IsTrue false ↔ IsUnwanted s c
+unwanted_none s c none = never_iff (λ (i : IsUnwanted s c). not_none (named (λ x. x.chan) c s.inputs) i.input none i.here)
+
+pub stop_none : (s : State) (c : ℕ) → named (λ x. x.chan) c s.inputs ≡ None → IsTrue false ↔ CanStop (ends_of s) (carrier_of s) c
+stop_none s c none = never_iff (λ (can : CanStop (ends_of s) (carrier_of s) c). (let i = stops_unwanted s c can in not_none (named (λ x. x.chan) c s.inputs) i.input none i.here))
+
+pub ready_none : (s : State) (c : ℕ) → named (λ x. x.chan) c s.inputs ≡ None → IsTrue false ↔ IsReady ((carrier_of s).into c)
+ready_none s c none = subst (λ z. IsTrue false ↔ IsReady (shown_or no_input in_half z)) (sym none) (never_iff (λ (r : IsReady no_input). r.held refl))
+
+pub fetch_none : (s : State) (c : ℕ) → named (λ x. x.chan) c s.inputs ≡ None → IsOpen s c → IsTrue false ↔ CanFetch (ends_of s) (carrier_of s) c
+fetch_none s c none is = absurd (not_none (named (λ x. x.chan) c s.inputs) is.input none is.here)
+
+pub holds_none : IsTrue false ↔ (no_input.held ≢ None)
+holds_none = never_iff (λ (some : no_input.held ≢ None). some refl)

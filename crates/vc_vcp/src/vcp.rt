@@ -2,12 +2,12 @@
 //!
 //! A channel is named by its number in the network, a link by its number at the node, 0 to 3. A call that finds no memory
 //! answers `Memory`, and has changed nothing.
-ghost use Rattle.std.specs.Prelude.{◌≡◌, ◌≢◌, ◌<◌, None, Ok, ℕ, List, length, slice_get, ◌↔◌, [], false, Some, IsTrue, IsOk, IfOk, OnOk, OnErr};
-ghost use Rattle.vc_vcp.specs.Keyed.{by_name};
+ghost use Rattle.std.specs.Prelude.{◌≡◌, ◌≢◌, ◌<◌, None, Ok, ℕ, List, length, slice_get, ◌↔◌, [], false, Some, IsTrue, IsOk, IfOk, IfSome, OnOk, OnErr};
+ghost use Rattle.vc_vcp.specs.Keyed.{by_name, named};
 ghost use Rattle.std.specs.List.{AllByRecursion};
 ghost use Rattle.vc_packets.specs.declared.packet.Packet.{Packet};
 ghost use Rattle.vc_vcp.specs.Bound.{IsBound};
-ghost use Rattle.vc_vcp.specs.State.{IsIdle, IsUnwanted, IsOpen, MayPut, MayGrant, IsPieceOf, limit_of};
+ghost use Rattle.vc_vcp.specs.State.{IsInput, IsIdle, IsUnwanted, IsOpen, MayPut, MayGrant, IsPieceOf, limit_of};
 ghost use Rattle.vc_vcp.specs.Seen.{ends_of, seen, Inputs, IsKept, taken_of, passed_of, Acks};
 ghost use Rattle.vc_vcp.specs.Links.{new_vcp, Comes, Passes, Sends, SendsFct};
 ghost use Rattle.vc_credit.specs.Ends.{IsFront};
@@ -144,8 +144,8 @@ impl Vcp {
         ensures idle { IsTrue result ↔ IsIdle self.now chan }
         ensures can { (m : List ℕ) → IsTrue result ↔ CanOffer (ends_of self.now) (seen self.now).carrier chan m }
     {
-        match output_on(&self.outputs, self.output_hints.on_chan(chan), chan) {
-            Some(at) => self.outputs[at].half.is_idle(),
+        match self.output(chan) {
+            Some(output) => output.half.is_idle(),
             None => false,
         }
     }
@@ -155,11 +155,8 @@ impl Vcp {
         ensures open { IsTrue result ↔ IsOpen self.now chan }
         ensures can { IsTrue result ↔ CanWant (ends_of self.now) (seen self.now).carrier chan }
     {
-        match input_on(&self.inputs, self.input_hints.on_chan(chan), chan) {
-            Some(at) => {
-                let half = &self.inputs[at].half;
-                !half.wants() && !half.is_stopped()
-            }
+        match self.input(chan) {
+            Some(input) => !input.half.wants() && !input.half.is_stopped(),
             None => false,
         }
     }
@@ -169,8 +166,8 @@ impl Vcp {
         ensures ready { IsTrue result ↔ IsReady ((seen self.now).carrier.into chan) }
         ensures can { IsOpen self.now chan → IsTrue result ↔ CanFetch (ends_of self.now) (seen self.now).carrier chan }
     {
-        match input_on(&self.inputs, self.input_hints.on_chan(chan), chan) {
-            Some(at) => self.inputs[at].half.ready(),
+        match self.input(chan) {
+            Some(input) => input.half.ready(),
             None => false,
         }
     }
@@ -193,8 +190,8 @@ impl Vcp {
         ensures unwanted { IsTrue result ↔ IsUnwanted self.now chan }
         ensures can { IsTrue result ↔ CanStop (ends_of self.now) (seen self.now).carrier chan }
     {
-        match input_on(&self.inputs, self.input_hints.on_chan(chan), chan) {
-            Some(at) => !self.inputs[at].half.wants(),
+        match self.input(chan) {
+            Some(input) => !input.half.wants(),
             None => false,
         }
     }
@@ -203,8 +200,8 @@ impl Vcp {
     pub fn offered(&self, chan: u16) -> &[Bytes]
         ensures { result.now ≡ ((seen self.now).carrier.out chan).offered }
     {
-        match output_on(&self.outputs, self.output_hints.on_chan(chan), chan) {
-            Some(at) => self.outputs[at].offered.as_slice(),
+        match self.output(chan) {
+            Some(output) => output.offered.as_slice(),
             None => &[],
         }
     }
@@ -213,8 +210,8 @@ impl Vcp {
     pub fn finished(&self, chan: u16) -> u64
         ensures { result ≡ ((seen self.now).carrier.out chan).finished }
     {
-        match output_on(&self.outputs, self.output_hints.on_chan(chan), chan) {
-            Some(at) => self.outputs[at].finished(),
+        match self.output(chan) {
+            Some(output) => output.finished(),
             None => 0,
         }
     }
@@ -223,8 +220,8 @@ impl Vcp {
     pub fn taken(&self, chan: u16) -> &[Bytes]
         ensures { result.now ≡ ((seen self.now).carrier.into chan).taken }
     {
-        match input_on(&self.inputs, self.input_hints.on_chan(chan), chan) {
-            Some(at) => self.inputs[at].taken.as_slice(),
+        match self.input(chan) {
+            Some(input) => input.taken.as_slice(),
             None => &[],
         }
     }
@@ -233,8 +230,8 @@ impl Vcp {
     pub fn stopped(&self, chan: u16) -> bool
         ensures { result ≡ ((seen self.now).carrier.into chan).stopped }
     {
-        match input_on(&self.inputs, self.input_hints.on_chan(chan), chan) {
-            Some(at) => self.inputs[at].half.is_stopped(),
+        match self.input(chan) {
+            Some(input) => input.half.is_stopped(),
             None => false,
         }
     }
@@ -243,10 +240,29 @@ impl Vcp {
     pub fn holds(&self, chan: u16) -> bool
         ensures { IsTrue result ↔ (((seen self.now).carrier.into chan).held ≢ None) }
     {
-        match input_on(&self.inputs, self.input_hints.on_chan(chan), chan) {
-            Some(at) => self.inputs[at].half.held().is_some(),
+        match self.input(chan) {
+            Some(input) => input.half.held().is_some(),
             None => false,
         }
+    }
+
+    // The output on a channel, where the node outputs on it.
+    #[inline(always)]
+    fn output(&self, chan: u16) -> Option<&Output>
+        ensures { option_copied result ≡ named (λ x. x.chan) chan self.now.outputs }
+    {
+        let at = output_on(&self.outputs, self.output_hints.on_chan(chan), chan)?;
+        Some(&self.outputs[at])
+    }
+
+    // The input on a channel, where the node inputs on it.
+    #[inline(always)]
+    fn input(&self, chan: u16) -> Option<&Input>
+        ensures named { option_copied result ≡ named (λ x. x.chan) chan self.now.inputs }
+        ensures is { IfSome result (λ input. IsInput input.now) }
+    {
+        let at = input_on(&self.inputs, self.input_hints.on_chan(chan), chan)?;
+        Some(&self.inputs[at])
     }
 
     /// The sending end of a link.

@@ -1,16 +1,19 @@
-use Rattle.std.proofs.Common.{◌≡◌, ◌<◌, ◌∙◌, Some, slice_get, sym, refl, subst, length}
-use Rattle.std.proofs.lemmas.Option.{slice_get_read}
-use Rattle.vc_vcp.specs.Keyed.{named}
-use Rattle.vc_vcp.proofs.Enabling.{stop_iff, not_iff}
+use Rattle.std.proofs.Common.{sym}
+use Rattle.vc_vcp.proofs.Enabling.{unwanted_iff, stop_iff, not_iff, unwanted_none, stop_none}
 use Rattle.vc_vcp.proofs.vcp.Vcp.may_stop.Goals as goal
+
+pub returns-in-Some-clause-unwanted : goal.returns-in-Some-clause-unwanted
+returns-in-Some-clause-unwanted c =
+    let a = c.in-Some.input.now in
+    unwanted_iff c.args.self.now c.args.chan a _ (sym c.in-Some.ensures.named) (not_iff c.wants.result a.half.wants c.wants.ensures)
 
 pub returns-in-Some-clause-can : goal.returns-in-Some-clause-can
 returns-in-Some-clause-can c =
-    let x = c.self.inside in
-    let i = c.in-Some.at in
-    let a = c.index.result.now in
-    let within : i < length x.inputs.items = subst (λ z. i < length z) c.deref.ensures.value c.in-Some.ensures.within in
-    let here = slice_get_read x.inputs.items (length x.inputs.items) i a refl within c.index.ensures in
-    let found : slice_get x.inputs.items i ≡ named (λ x. x.chan) c.args.chan x.inputs.items = subst (λ z. slice_get z i ≡ named (λ x. x.chan) c.args.chan z) c.deref.ensures.value c.in-Some.ensures.found in
-    let some = subst (λ z. named (λ x. x.chan) c.args.chan z.inputs ≡ Some a) c.self.view_is (sym found ∙ here) in
-    stop_iff c.args.self.now c.args.chan a _ some (not_iff c.wants.result a.half.wants c.wants.ensures)
+    let a = c.in-Some.input.now in
+    stop_iff c.args.self.now c.args.chan a _ (sym c.in-Some.ensures.named) (not_iff c.wants.result a.half.wants c.wants.ensures)
+
+pub returns-in-None-clause-unwanted : goal.returns-in-None-clause-unwanted
+returns-in-None-clause-unwanted c = unwanted_none c.args.self.now c.args.chan (sym c.in-None.ensures.named)
+
+pub returns-in-None-clause-can : goal.returns-in-None-clause-can
+returns-in-None-clause-can c = stop_none c.args.self.now c.args.chan (sym c.in-None.ensures.named)

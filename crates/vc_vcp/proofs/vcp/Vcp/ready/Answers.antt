@@ -1,19 +1,16 @@
-use Rattle.std.proofs.Common.{◌≡◌, ◌<◌, ◌∙◌, Some, slice_get, sym, refl, subst, length}
-use Rattle.std.specs.List.{AllByRecursion}
-use Rattle.std.proofs.lemmas.Option.{slice_get_read}
-use Rattle.vc_vcp.specs.Keyed.{named}
-use Rattle.vc_vcp.specs.State.{IsInput}
-use Rattle.vc_vcp.proofs.Enabling.{fetch_iff}
+use Rattle.std.proofs.Common.{sym}
+use Rattle.vc_vcp.proofs.Enabling.{ready_iff, fetch_iff, ready_none, fetch_none}
 use Rattle.vc_vcp.proofs.vcp.Vcp.ready.Goals as goal
+
+pub returns-in-Some-clause-ready : goal.returns-in-Some-clause-ready
+returns-in-Some-clause-ready c = ready_iff c.args.self.now c.args.chan c.in-Some.input.now c.ready.result (sym c.in-Some.ensures.named) c.ready.ensures
 
 pub returns-in-Some-clause-can : goal.returns-in-Some-clause-can
 returns-in-Some-clause-can c =
-    let x = c.self.inside in
-    let i = c.in-Some.at in
-    let a = c.index.result.now in
-    let w = subst (λ z. AllByRecursion IsInput z.inputs) c.self.view_is c.self.invariant.inputs in
-    let within : i < length x.inputs.items = subst (λ z. i < length z) c.deref.ensures.value c.in-Some.ensures.within in
-    let here = slice_get_read x.inputs.items (length x.inputs.items) i a refl within c.index.ensures in
-    let found : slice_get x.inputs.items i ≡ named (λ x. x.chan) c.args.chan x.inputs.items = subst (λ z. slice_get z i ≡ named (λ x. x.chan) c.args.chan z) c.deref.ensures.value c.in-Some.ensures.found in
-    let some = subst (λ z. named (λ x. x.chan) c.args.chan z.inputs ≡ Some a) c.self.view_is (sym found ∙ here) in
-    fetch_iff c.args.self.now c.args.chan a c.ready.result w some c.ready.ensures
+    fetch_iff c.args.self.now c.args.chan c.in-Some.input.now c.ready.result c.in-Some.ensures.is (sym c.in-Some.ensures.named) c.ready.ensures
+
+pub returns-in-None-clause-ready : goal.returns-in-None-clause-ready
+returns-in-None-clause-ready c = ready_none c.args.self.now c.args.chan (sym c.in-None.ensures.named)
+
+pub returns-in-None-clause-can : goal.returns-in-None-clause-can
+returns-in-None-clause-can c = fetch_none c.args.self.now c.args.chan (sym c.in-None.ensures.named)
