@@ -15,7 +15,7 @@ use Rattle.vc_vcp.specs.Seen.{seen, ends_of, IsKept, link_of, carrier_of, out_ha
 use Rattle.vc_vcp.specs.State.{State, HaveOwnNames}
 use Rattle.vc_vcp.specs.Steps.{Offers}
 use Rattle.vc_vcp.proofs.KeyedLemmas.{by_name-set, by_name-kept, by_name-at}
-use Rattle.vc_vcp.proofs.Placed.{put_back, by_place-set}
+use Rattle.vc_vcp.proofs.Placed.{put_back, set_back, by_place-set}
 use Rattle.vc_vcp.proofs.Showing.{link-out}
 
 abbrev pub with_output : State → ℕ → Output → ℕ → Sending → State
@@ -117,3 +117,10 @@ links-output s i k y o q out same = links_stay s k o q out same
 
 pub links-input : (s : State) (i k : ℕ) (y : Input) (o q : Sending) → slice_get s.outs k ≡ Some o → q.sender ≡ o.sender → (seen (with_input s i y k q)).link ≡ (seen s).link
 links-input s i k y o q out same = links_stay s k o q out same
+
+-- the output or the input, and the queue, as they were
+pub output_back : (s : State) (i k : ℕ) (x y : Output) (o q : Sending) → slice_get s.outputs i ≡ Some x → slice_get s.outs k ≡ Some o → y ≡ x → q ≡ o → with_output s i y k q ≡ s
+output_back s i k x y o q here out same queue = λ t. record s { outputs = set_back s.outputs i x y here same t; outs = set_back s.outs k o q out queue t }
+
+pub input_back : (s : State) (i k : ℕ) (x y : Input) (o q : Sending) → slice_get s.inputs i ≡ Some x → slice_get s.outs k ≡ Some o → y ≡ x → q ≡ o → with_input s i y k q ≡ s
+input_back s i k x y o q here out same queue = λ t. record s { inputs = set_back s.inputs i x y here same t; outs = set_back s.outs k o q out queue t }
