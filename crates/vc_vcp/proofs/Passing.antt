@@ -96,3 +96,21 @@ wired_passing s l x y k w here h same =
 -- what passes is the front
 pub front_at : (s n : State) (l : ℕ) (z : Receiving) (k : Token) → link_of n ≡ link_of s → slice_get n.ins l ≡ Some z → IsFront (link_of s l).receiver k → IsFront z.receiver k
 front_at s n l z k links there front = subst (λ r. IsFront r k) (sym (ap (λ f. (f l).receiver) links) ∙ receiver_at n l z there) front
+
+-- a link's receiving end, read of the state that is seen
+pub ins_read : (s t : State) (j l : ℕ) (x : Receiving) → t ≡ s → j ≡ l → length t.ins ≡ 4 → l < 4 → x ≡ get_or t.ins j x → slice_get s.ins l ≡ Some x
+ins_read s t j l x same along four within read =
+    subst (λ z. slice_get z.ins l ≡ Some x) same (subst (λ i. slice_get t.ins i ≡ Some x) along (slice_get_read t.ins 4 j x (sym four) (subst (λ i. i < 4) (sym along) within) read))
+
+pub front_seen : (s : State) (l : ℕ) (x : Receiving) (k : Token) → slice_get s.ins l ≡ Some x → IsFront x.receiver k → IsFront (link_of s l).receiver k
+front_seen s l x k here front = (front.0, ap (λ z. z.buffer) (receiver_at s l x here) ∙ front.1)
+
+pub never_empty : (r : Receiver) (k : Token) → IsFront r k → r.buffer ≡ [] → ⊥
+never_empty r k front none = let e : k ∷ front.0 ≡ [] = sym front.1 ∙ none in cc
+
+pub mark_or_byte : (r : Receiver) (m : Mark) (b : ℕ) → IsFront r (EndMark m) → IsFront r (Byte b) → ⊥
+mark_or_byte r m b mark byte = let e : EndMark m ∷ mark.0 ≡ Byte b ∷ byte.0 = sym mark.1 ∙ byte.1 in cc
+
+-- no flow control token is at the front
+pub fct_never : (most : ℕ) (x : Receiving) → IsLinkIn most x → IsFront x.receiver Fct → ⊥
+fct_never most x is front = (subst (AllByRecursion (λ k. k ≢ Fct)) front.1 is.no_fct).0 refl

@@ -11,9 +11,10 @@ pub loop-i-preserved : goal.loop-i-preserved
 loop-i-preserved c =
     let xs = c.args.inputs.now in
     let x = c.index-inputs-i in
-    let here = slice_get_read xs (length xs) c.loop-i.i x.result refl c.loop-i-test.true x.is in
-    (hinted-more (λ x. x.chan) xs c.loop-i.i x.result c.loop-i.hints.chans c.note.new.self.chans c.loop-i.invariant.0 here c.note.ensures.chans,
-    hinted-more (λ x. x.block) xs c.loop-i.i x.result c.loop-i.hints.blocks c.note.new.self.blocks c.loop-i.invariant.1 here c.note.ensures.blocks)
+    let here = slice_get_read xs (length xs) c.loop-i.i x.result refl c.loop-i-test.true x.is in (
+      hinted-more (λ x. x.chan) xs c.loop-i.i x.result c.loop-i.hints.chans c.note.new.self.chans c.loop-i.invariant.0 here c.note.ensures.chans,
+      hinted-more (λ x. x.block) xs c.loop-i.i x.result c.loop-i.hints.blocks c.note.new.self.blocks c.loop-i.invariant.1 here c.note.ensures.blocks,
+    )
 
 pub returns-clause-chans : goal.returns-clause-chans
 returns-clause-chans c = hinted-all (λ x. x.chan) c.args.inputs.now c.loop-i.i c.loop-i.hints.chans c.loop-i.invariant.0 (omega arith)
