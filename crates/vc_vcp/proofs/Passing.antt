@@ -11,6 +11,7 @@ use Rattle.vc_credit.specs.Ends.{Receiver, IsFront, new_receiver}
 use Rattle.vc_credit.specs.Ends.{Passes as PassesOn}
 use Rattle.vc_vcp.specs.Keyed.{shown_or}
 use Rattle.vc_vcp.specs.LinkIn.{Receiving}
+use Rattle.vc_vcp.specs.LinkOut.{Sending}
 use Rattle.vc_vcp.specs.Links.{Link, Vcp, set_link, passing, Passes, passes_byte, drops_byte, passes_mark}
 use Rattle.vc_vcp.specs.Seen.{seen, ends_of, carrier_of, link_of, IsKept}
 use Rattle.vc_vcp.specs.State.{State, IsWired, IsLinkIn, limit_of}
@@ -114,3 +115,8 @@ mark_or_byte r m b mark byte = let e : EndMark m ∷ mark.0 ≡ Byte b ∷ byte.
 -- no flow control token is at the front
 pub fct_never : (most : ℕ) (x : Receiving) → IsLinkIn most x → IsFront x.receiver Fct → ⊥
 fct_never most x is front = (subst (AllByRecursion (λ k. k ≢ Fct)) front.1 is.no_fct).0 refl
+
+-- a link's sending end, likewise
+pub outs_read : (s t : State) (j l : ℕ) (x : Sending) → t ≡ s → j ≡ l → length t.outs ≡ 4 → l < 4 → x ≡ get_or t.outs j x → slice_get s.outs l ≡ Some x
+outs_read s t j l x same along four within read =
+    subst (λ z. slice_get z.outs l ≡ Some x) same (subst (λ i. slice_get t.outs i ≡ Some x) along (slice_get_read t.outs 4 j x (sym four) (subst (λ i. i < 4) (sym along) within) read))

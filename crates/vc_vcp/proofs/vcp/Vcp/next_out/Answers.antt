@@ -1,0 +1,12 @@
+use Rattle.std.proofs.Common.{[], slice_get, sym, ap, ◌∙◌}
+use Rattle.vc_vcp.specs.Keyed.{shown_or}
+use Rattle.vc_vcp.specs.State.{State}
+use Rattle.vc_vcp.proofs.Passing.{outs_read}
+use Rattle.vc_vcp.proofs.vcp.Vcp.next_out.Goals as goal
+
+pub returns : goal.returns
+returns c =
+    let x = c.self.inside in
+    let o : State = record { outputs = x.outputs.items; inputs = x.inputs.items; outs = x.outs.items; ins = x.ins.items; strays = x.strays } in
+    let here = outs_read c.args.self.now o c.from.result c.args.link c.index.result.now c.self.view_is c.from.ensures c.self.invariant.four_out c.requires c.index.ensures in
+    c.front.ensures ∙ ap (λ z. slice_get (shown_or [] (λ x. x.queue) z) 0) (sym here)
