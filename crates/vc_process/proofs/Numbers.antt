@@ -5,6 +5,7 @@ use Rattle.vc_process.specs.declared.expression.Expr.{Expr}
 use Rattle.vc_process.specs.declared.process.Process.{Process}
 use Rattle.vc_process.specs.declared.process.Branch.{Branch}
 use Rattle.vc_process.specs.declared.process.Guard.{Guard}
+use Rattle.vc_process.specs.declared.value.Value.{Value}
 use Rattle.vc_process.specs.declared.process.Process.TheVariants as process
 use Rattle.vc_process.specs.declared.process.Process.TheViews.{out-Branch, out-Guard}
 use Rattle.vc_process.specs.declared.process.Process.TheOpen as layer
@@ -17,6 +18,22 @@ use Rattle.vc_process.specs.Terms.{as_test}
 pub written_is : (p : Process) → written p ≡ (number p).tree 0
 unfolding written number
 written_is p = refl
+
+pub number_set : (p : Process) (v : ℕ) (a : Value) → p ≡ process.Set v a → number p ≡ numbered (layer.Set v a)
+unfolding number
+number_set p v a h = ap number (h ∙ sym (process.rolls-Set v a)) ∙ fold-roll-Process Numbered NumberedBranch NumberedGuard numbered branch_layer guard_layer (layer.Set v a)
+
+pub number_send : (p : Process) (c : ℕ) (a : Value) → p ≡ process.Send c a → number p ≡ numbered (layer.Send c a)
+unfolding number
+number_send p c a h = ap number (h ∙ sym (process.rolls-Send c a)) ∙ fold-roll-Process Numbered NumberedBranch NumberedGuard numbered branch_layer guard_layer (layer.Send c a)
+
+pub number_receive : (p : Process) (c v : ℕ) → p ≡ process.Receive c v → number p ≡ numbered (layer.Receive c v)
+unfolding number
+number_receive p c v h = ap number (h ∙ sym (process.rolls-Receive c v)) ∙ fold-roll-Process Numbered NumberedBranch NumberedGuard numbered branch_layer guard_layer (layer.Receive c v)
+
+pub number_stopch : (p : Process) (c : ℕ) → p ≡ process.Stopch c → number p ≡ numbered (layer.Stopch c)
+unfolding number
+number_stopch p c h = ap number (h ∙ sym (process.rolls-Stopch c)) ∙ fold-roll-Process Numbered NumberedBranch NumberedGuard numbered branch_layer guard_layer (layer.Stopch c)
 
 pub number_seq : (p : Process) (ps : List Process) → p ≡ process.Seq ps → number p ≡ numbered (layer.Seq (map number ps))
 unfolding number

@@ -8,7 +8,7 @@ use std::alloc::Global;
 use vc_packets::Memory;
 
 /// A condition, which is true, false or a fault.
-#[derive(Debug, Drop)]
+#[derive(Debug)]
 pub enum Cond {
     /// TRUE or FALSE.
     Always(bool),
@@ -27,6 +27,32 @@ pub enum Cond {
     Or(Boxed<Cond>, Boxed<Cond>),
     /// NOT.
     Not(Boxed<Cond>),
+}
+
+impl Drop for Cond {
+    // written, so that what holds one need not prove again how it is dropped
+    #[cycle(drop)]
+    fn drop(self) {
+        match self {
+            Cond::Always(_) => {}
+            Cond::Cmp {
+                rel: _,
+                left: _,
+                right: _,
+            } => {}
+            Cond::And(left, right) => {
+                left.into_inner();
+                right.into_inner();
+            }
+            Cond::Or(left, right) => {
+                left.into_inner();
+                right.into_inner();
+            }
+            Cond::Not(cond) => {
+                cond.into_inner();
+            }
+        }
+    }
 }
 
 impl Cond {

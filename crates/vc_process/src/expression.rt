@@ -7,7 +7,7 @@ use std::alloc::Global;
 use vc_packets::Memory;
 
 /// An expression that is worth a whole number of 64 bits with sign, or is a fault.
-#[derive(Debug, Drop)]
+#[derive(Debug)]
 pub enum Expr {
     /// The number itself.
     Num(i64),
@@ -24,6 +24,22 @@ pub enum Expr {
     },
     /// How many bytes the variable of this number holds.
     Size(u8),
+}
+
+impl Drop for Expr {
+    // written, so that what holds one need not prove again how it is dropped
+    #[cycle(drop)]
+    fn drop(self) {
+        match self {
+            Expr::Num(_) => {}
+            Expr::Var(_) => {}
+            Expr::Bin { op: _, left, right } => {
+                left.into_inner();
+                right.into_inner();
+            }
+            Expr::Size(_) => {}
+        }
+    }
 }
 
 impl Expr {

@@ -1,5 +1,6 @@
 //! Processes, as they are written.
-ghost use Rattle.std.specs.Prelude.{◌≡◌, IfOk, Ok};
+ghost use Rattle.std.specs.Prelude.{◌≡◌, [], ◌∷◌, ◌++◌, IfOk, Ok, OnOk};
+ghost use Rattle.std.specs.Result.{IsOkAnd};
 
 use crate::condition::Cond;
 use crate::expression::Expr;
@@ -180,13 +181,21 @@ fn copy_body(alloc: Global, body: &Boxed<Process>) -> Result<Boxed<Process>, Mem
     Ok(Boxed::new(alloc, copy_process(alloc, body.get())?)?)
 }
 
+/// Adds what was copied, unless its copy failed.
+fn push_copied<T: Drop>(copies: &mut Items<T>, copied: Result<T, Memory>) -> Result<(), Memory>
+    ensures { OnOk result (IsOkAnd copied (λ copy. copies.new ≡ copies.old ++ copy ∷ [])) }
+{
+    copies.push(copied?)?;
+    Ok(())
+}
+
 #[cycle(copy)]
 fn copy_parts(alloc: Global, parts: &Items<Process>) -> Result<Items<Process>, Memory>
     ensures { IfOk result (λ copies. copies ≡ parts.now) }
 {
     let mut copies = Items::new(alloc);
     for part in parts.as_slice() {
-        copies.push(copy_process(alloc, part)?)?;
+        push_copied(&mut copies, copy_process(alloc, part))?;
     }
     Ok(copies)
 }
@@ -197,17 +206,21 @@ fn copy_branches(alloc: Global, branches: &Items<Branch>) -> Result<Items<Branch
 {
     let mut copies = Items::new(alloc);
     for branch in branches.as_slice() {
-        copies.push(copy_branch(alloc, branch)?)?;
+        push_copied(
+            &mut copies,
+            copy_conditional(alloc, &branch.cond, &branch.body),
+        )?;
     }
     Ok(copies)
 }
 
+/// What is done under a condition.
 #[cycle(copy)]
-fn copy_branch(alloc: Global, branch: &Branch) -> Result<Branch, Memory>
-    ensures { IfOk result (λ copy. copy ≡ branch.now) }
+fn copy_conditional(alloc: Global, cond: &Cond, body: &Process) -> Result<Branch, Memory>
+    ensures { IfOk result (λ copy. (copy.cond ≡ cond.now) × (copy.body ≡ body.now)) }
 {
-    let cond = branch.cond.copy(alloc)?;
-    with_condition(cond, copy_process(alloc, &branch.body))
+    let cond = cond.copy(alloc)?;
+    with_condition(cond, copy_process(alloc, body))
 }
 
 /// What is done under the condition, unless its copy failed.
@@ -224,7 +237,7 @@ fn copy_guards(alloc: Global, guards: &Items<Guard>) -> Result<Items<Guard>, Mem
 {
     let mut copies = Items::new(alloc);
     for guard in guards.as_slice() {
-        copies.push(copy_guard(alloc, guard)?)?;
+        push_copied(&mut copies, copy_guard(alloc, guard))?;
     }
     Ok(copies)
 }
@@ -233,8 +246,7 @@ fn copy_guards(alloc: Global, guards: &Items<Guard>) -> Result<Items<Guard>, Mem
 fn copy_guard(alloc: Global, guard: &Guard) -> Result<Guard, Memory>
     ensures { IfOk result (λ copy. copy ≡ guard.now) }
 {
-    let cond = guard.cond.copy(alloc)?;
-    let Branch { cond, body } = with_condition(cond, copy_process(alloc, &guard.body))?;
+    let Branch { cond, body } = copy_conditional(alloc, &guard.cond, &guard.body)?;
     Ok(Guard {
         cond,
         chan: guard.chan,

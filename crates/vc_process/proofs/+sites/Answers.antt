@@ -8,6 +8,9 @@ use Rattle.vc_process.proofs.+sites.Goals as goal
 pub process::Process::sites-returns-then-most-eq0 : goal.process::Process::sites-returns-then-most-eq0
 process::Process::sites-returns-then-most-eq0 t c = omega (arith, has_a_site c.args.self.now)
 
+pub process::Process::sites-returns : goal.process::Process::sites-returns
+process::Process::sites-returns t c = (omega arith, omega arith)
+
 pub process::Process::sites_within-returns-in-Seq : goal.process::Process::sites_within-returns-in-Seq
 process::Process::sites_within-returns-in-Seq t c = with_itself _ _ _ _ (ap (λ (n : Numbered). n.sites) (number_seq _ _ c.in-Seq.is)) c.sites_of.ensures
 

@@ -1,4 +1,5 @@
 use Rattle.std.proofs.Common.{◌≡◌, ◌+◌, ◌*◌, take}
+use Rattle.vc_process.proofs.process.Process.TheLaws.{the_size}
 use Rattle.vc_process.proofs.process.+copy.Given as goal
 
 abbrev pub invariant-copy_parts-loop-part : goal.invariant-copy_parts-loop-part
@@ -25,8 +26,8 @@ decreases-copy_process l = 2 * goal.size-copy_process l
 abbrev pub decreases-copy_branches : goal.decreases-copy_branches
 decreases-copy_branches l = 2 * goal.size-copy_branches l + 1
 
-abbrev pub decreases-copy_branch : goal.decreases-copy_branch
-decreases-copy_branch l = 2 * goal.size-copy_branch l
+abbrev pub decreases-copy_conditional : goal.decreases-copy_conditional
+decreases-copy_conditional l = 2 * the_size l.body.now + 1
 
 abbrev pub decreases-copy_guard : goal.decreases-copy_guard
 decreases-copy_guard l = 2 * goal.size-copy_guard l

@@ -1,0 +1,101 @@
+use Rattle.std.proofs.Common.{ap, sym, ◌∙◌}
+use Rattle.std.proofs.lemmas.Result.{IfOk-from_err}
+use Rattle.vc_process.specs.declared.process.Process.{Process}
+use Rattle.vc_process.specs.declared.process.Process.TheVariants as process
+use Rattle.vc_process.proofs.Copied.{copied_as, copied_next, copied_all, copied_branch, copied_conditional, copied_guard}
+use Rattle.vc_process.proofs.process.+copy.Goals as goal
+
+pub copy_body-returns-in_err-copy_process : goal.copy_body-returns-in_err-copy_process
+copy_body-returns-in_err-copy_process t c = IfOk-from_err _ _ c.from_residual.ensures.0
+
+pub copy_body-returns-in_err-new : goal.copy_body-returns-in_err-new
+copy_body-returns-in_err-new t c = IfOk-from_err _ _ c.from_residual-in_err-new.ensures.0
+
+pub copy_body-returns : goal.copy_body-returns
+copy_body-returns t c = c.in_ok-new.ensures ∙ c.in_ok-copy_process.ensures ∙ c.get.ensures
+
+pub copy_parts-loop-part-init : goal.copy_parts-loop-part-init
+copy_parts-loop-part-init t c = c.new-copies.ensures
+
+pub copy_parts-returns-in_err-push_copied : goal.copy_parts-returns-in_err-push_copied
+copy_parts-returns-in_err-push_copied t c = IfOk-from_err _ _ c.from_residual.ensures.0
+
+pub copy_parts-loop-part-preserved : goal.copy_parts-loop-part-preserved
+copy_parts-loop-part-preserved t c =
+    copied_next c.as_slice-part-items.result.now c.loop-part.part-index c.part-item.result c.loop-part.copies c.push_copied.new.copies c.copy_process.result c.loop-part-test.true c.part-item.is
+    c.copy_process.ensures c.in_ok-push_copied.ensures c.loop-part.invariant
+
+pub copy_parts-returns : goal.copy_parts-returns
+copy_parts-returns t c = copied_all c.as_slice-part-items.result.now _ c.loop-part.part-index _ c.loop-part-test.false c.loop-part.invariant c.as_slice-part-items.ensures
+
+pub copy_branches-loop-branch-init : goal.copy_branches-loop-branch-init
+copy_branches-loop-branch-init t c = c.new-copies.ensures
+
+pub copy_branches-returns-in_err-push_copied : goal.copy_branches-returns-in_err-push_copied
+copy_branches-returns-in_err-push_copied t c = IfOk-from_err _ _ c.from_residual.ensures.0
+
+pub copy_branches-loop-branch-preserved : goal.copy_branches-loop-branch-preserved
+copy_branches-loop-branch-preserved t c =
+    copied_next c.as_slice-branch-items.result.now c.loop-branch.branch-index c.branch-item.result c.loop-branch.copies c.push_copied.new.copies c.copy_conditional.result c.loop-branch-test.true c.branch-item.is
+    (copied_branch c.copy_conditional.result c.branch-item.result c.copy_conditional.ensures) c.in_ok-push_copied.ensures c.loop-branch.invariant
+
+pub copy_branches-returns : goal.copy_branches-returns
+copy_branches-returns t c = copied_all c.as_slice-branch-items.result.now _ c.loop-branch.branch-index _ c.loop-branch-test.false c.loop-branch.invariant c.as_slice-branch-items.ensures
+
+pub copy_conditional-returns-in_err-cond : goal.copy_conditional-returns-in_err-cond
+copy_conditional-returns-in_err-cond t c = IfOk-from_err _ _ c.from_residual.ensures.0
+
+pub copy_conditional-returns : goal.copy_conditional-returns
+copy_conditional-returns t c = copied_conditional c.with_condition.result c.copy_process.result _ _ _ c.in_ok-cond.ensures c.copy_process.ensures c.with_condition.ensures
+
+pub copy_guards-loop-guard-init : goal.copy_guards-loop-guard-init
+copy_guards-loop-guard-init t c = c.new-copies.ensures
+
+pub copy_guards-returns-in_err-push_copied : goal.copy_guards-returns-in_err-push_copied
+copy_guards-returns-in_err-push_copied t c = IfOk-from_err _ _ c.from_residual.ensures.0
+
+pub copy_guards-loop-guard-preserved : goal.copy_guards-loop-guard-preserved
+copy_guards-loop-guard-preserved t c =
+    copied_next c.as_slice-guard-items.result.now c.loop-guard.guard-index c.guard-item.result c.loop-guard.copies c.push_copied.new.copies c.copy_guard.result c.loop-guard-test.true c.guard-item.is
+    c.copy_guard.ensures c.in_ok-push_copied.ensures c.loop-guard.invariant
+
+pub copy_guards-returns : goal.copy_guards-returns
+copy_guards-returns t c = copied_all c.as_slice-guard-items.result.now _ c.loop-guard.guard-index _ c.loop-guard-test.false c.loop-guard.invariant c.as_slice-guard-items.ensures
+
+pub copy_guard-returns-in_err-cond : goal.copy_guard-returns-in_err-cond
+copy_guard-returns-in_err-cond t c = IfOk-from_err _ _ c.from_residual.ensures.0
+
+pub copy_guard-returns : goal.copy_guard-returns
+copy_guard-returns t c = copied_guard _ _ _ c.in_ok-cond.ensures.0 c.in_ok-cond.ensures.1
+
+pub copy_process-returns-in_err-body-in-While : goal.copy_process-returns-in_err-body-in-While
+copy_process-returns-in_err-body-in-While t c = IfOk-from_err _ _ c.from_residual.ensures.0
+
+pub copy_process-returns-in_err-body-in-Count : goal.copy_process-returns-in_err-body-in-Count
+copy_process-returns-in_err-body-in-Count t c = IfOk-from_err _ _ c.from_residual-in_err-body-in-Count.ensures.0
+
+pub copy_process-returns-in-Skip : goal.copy_process-returns-in-Skip
+copy_process-returns-in-Skip t c = sym c.in-Skip.is
+
+pub copy_process-returns-in-Stop : goal.copy_process-returns-in-Stop
+copy_process-returns-in-Stop t c = sym c.in-Stop.is
+
+pub copy_process-returns-in-Set : goal.copy_process-returns-in-Set
+copy_process-returns-in-Set t c = copied_as c.assigned.result _ _ (sym c.in-Set.is) c.assigned.ensures
+
+pub copy_process-returns-in-Send : goal.copy_process-returns-in-Send
+copy_process-returns-in-Send t c = copied_as c.sent.result _ _ (sym c.in-Send.is) c.sent.ensures
+
+pub copy_process-returns-in-Receive : goal.copy_process-returns-in-Receive
+copy_process-returns-in-Receive t c = sym c.in-Receive.is
+
+pub copy_process-returns-in-Stopch : goal.copy_process-returns-in-Stopch
+copy_process-returns-in-Stopch t c = sym c.in-Stopch.is
+
+pub copy_process-returns-in_ok-body-in-While : goal.copy_process-returns-in_ok-body-in-While
+copy_process-returns-in_ok-body-in-While t c =
+    copied_as c.repeated.result _ _ (ap (λ (b : Process). process.While c.in-While.cond b) c.in_ok-body-in-While.ensures ∙ sym c.in-While.is) c.repeated.ensures
+
+pub copy_process-returns-in_ok-body-in-Count : goal.copy_process-returns-in_ok-body-in-Count
+copy_process-returns-in_ok-body-in-Count t c =
+    copied_as c.counted.result _ _ (ap (λ (b : Process). process.Count c.in-Count.var c.in-Count.base c.in-Count.count b) c.in_ok-body-in-Count.ensures ∙ sym c.in-Count.is) c.counted.ensures
