@@ -1,16 +1,20 @@
 -- How deep parts, branches and guards are.
-use Rattle.std.proofs.Common.{◌≡◌, ℕ, zero, suc, ◌+◌, Bool, ◌&&◌, nat_lt, refl, sym, ◌∙◌, List, arith}
+use Rattle.std.proofs.Common.{◌≡◌, ℕ, zero, suc, ◌+◌, Bool, true, ◌&&◌, nat_lt, refl, sym, ◌∙◌, List, arith}
 use Rattle.vc_process.specs.Numbering.{Numbered, NumberedBranch, NumberedGuard, branches_from, guards_from, parts_from}
 use Rattle.vc_process.specs.ProcessLimits.{branches_depth_within, depth_within, guards_depth_within, parts_depth_within}
 use Rattle.vc_process.proofs.Reaching.{Splits}
 
-some_depth : (d : ℕ) (b : Bool) → (d ≡ 0 → ⊥) → (nat_lt 0 d && b) ≡ b
-some_depth zero b some = absurd (some refl)
-some_depth (suc d) b some = grind arith
+more_depth : (d : ℕ) (b : Bool) → (d ≡ 0 → ⊥) → (nat_lt 0 d && b) ≡ b
+more_depth zero b some = absurd (some refl)
+more_depth (suc d) b some = grind arith
+
+pub some_depth : (d : ℕ) → (d ≡ 0 → ⊥) → true ≡ nat_lt 0 d
+some_depth zero some = absurd (some refl)
+some_depth (suc d) some = grind arith
 
 -- a process is one deeper than what is within it
 pub deeper : (d : ℕ) (r : Bool) (within whole : ℕ → Bool) → (d ≡ 0 → ⊥) → ((s : ℕ) → whole s ≡ (nat_lt 0 d && within (suc s))) → ((s : ℕ) → r ≡ within s) → (s : ℕ) → r ≡ whole s
-deeper d r within whole some same h = λ s. h (suc s) ∙ sym (same s ∙ some_depth d (within (suc s)) some)
+deeper d r within whole some same h = λ s. h (suc s) ∙ sym (same s ∙ more_depth d (within (suc s)) some)
 
 module _ (d : ℕ) where
   abbrev pub all_parts : List Numbered → ℕ → Bool

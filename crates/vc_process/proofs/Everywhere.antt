@@ -1,17 +1,31 @@
 -- What is asked everywhere is asked of a process apart from its parts, and then of its parts.
-use Rattle.std.proofs.Common.{◌≡◌, ℕ, suc, ◌+◌, Bool, true, ◌&&◌, refl, ap, sym, ◌∙◌, List}
+use Rattle.std.proofs.Common.{◌≡◌, ℕ, suc, ◌+◌, Bool, true, false, ◌&&◌, refl, ap, sym, ◌∙◌, List}
 use Rattle.vc_process.specs.declared.condition.Cond.{Cond}
 use Rattle.vc_process.specs.declared.expression.Expr.{Expr}
 use Rattle.vc_process.specs.declared.process.Process.TheOpen as layer
 use Rattle.vc_process.specs.Asking.{Asking, everywhere, in_branches, in_guards, in_parts}
 use Rattle.vc_process.specs.Numbering.{Numbered, NumberedBranch, NumberedGuard, branches_from, guards_from, numbered, parts_from}
-use Rattle.vc_process.specs.Syntax.{SEQ, PAR, IF, WHILE, COUNT, ALT}
+use Rattle.vc_process.specs.Syntax.{Proc, SKIP, STOP, Assign, Output, Input, StopChan, SEQ, PAR, IF, WHILE, COUNT, ALT}
 use Rattle.vc_process.specs.Terms.{exp, as_test}
 use Rattle.vc_process.proofs.Reaching.{Splits}
 
 module _ (a : Asking) where
   abbrev Asked : Numbered → ℕ → Bool → Type 0
   Asked n site r = true ≡ a.itself (n.tree site) → r ≡ everywhere a (n.tree site)
+
+  pub not_itself : (p : Proc) → false ≡ a.itself p → false ≡ everywhere a p
+  not_itself (SKIP i) h = h
+  not_itself (STOP i) h = h
+  not_itself (Assign i v x) h = h
+  not_itself (Output i c x) h = h
+  not_itself (Input i c v) h = h
+  not_itself (StopChan i c) h = h
+  not_itself (SEQ i ps) h = ap (λ b. b && in_parts a ps) h
+  not_itself (PAR i ps) h = ap (λ b. b && in_parts a ps) h
+  not_itself (IF i bs) h = ap (λ b. b && in_branches a bs) h
+  not_itself (WHILE i t p) h = ap (λ b. b && everywhere a p) h
+  not_itself (COUNT i v x n p) h = ap (λ b. b && everywhere a p) h
+  not_itself (ALT i gs) h = ap (λ b. b && in_guards a gs) h
 
   pub of_seq : (n : Numbered) (ns : List Numbered) (site : ℕ) (r : Bool) → n ≡ numbered (layer.Seq ns) → ((s : ℕ) → r ≡ in_parts a (parts_from s ns)) → Asked n site r
   of_seq n ns site r h f k =

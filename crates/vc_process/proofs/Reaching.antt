@@ -77,6 +77,16 @@ pub adds_both : {A E : Type 0} (r : Result (Unit {0}) E) (before mid now : List 
 adds_both (Ok u) before mid now xs ys zs f first same h = λ s. h (f s) ∙ ap (λ ws. ws ++ ys (f s)) first ∙ append_assoc before xs (ys (f s)) ∙ ap (λ ws. before ++ ws) (sym (same s))
 adds_both (Err e) before mid now xs ys zs f first same h = h
 
+-- what is added at every site alike
+pub adds_sited : {A E : Type 0} (r : Result (Unit {0}) E) (before now xs : List A) (ys : ℕ → List A) → ((s : ℕ) → ys s ≡ xs) → OnOk r (now ≡ before ++ xs) → OnOk r ((s : ℕ) → now ≡ before ++ ys s)
+adds_sited (Ok u) before now xs ys same h = λ s. h ∙ ap (λ zs. before ++ zs) (sym (same s))
+adds_sited (Err e) before now xs ys same h = h
+
+-- first these and then those
+pub adds_along : {A E : Type 0} (r : Result (Unit {0}) E) (before mid now : List A) (xs ys : ℕ → List A) → ((s : ℕ) → mid ≡ before ++ xs s) → OnOk r ((s : ℕ) → now ≡ mid ++ ys s) → OnOk r ((s : ℕ) → now ≡ before ++ (xs s ++ ys s))
+adds_along (Ok u) before mid now xs ys first h = λ s. h s ∙ ap (λ ws. ws ++ ys s) (first s) ∙ append_assoc before (xs s) (ys s)
+adds_along (Err e) before mid now xs ys first h = h
+
 -- the same, where no site is asked for
 pub adds_same : {A E : Type 0} (r : Result (Unit {0}) E) (before now xs ys : List A) → ys ≡ xs → OnOk r (now ≡ before ++ xs) → OnOk r (now ≡ before ++ ys)
 adds_same (Ok u) before now xs ys same h = h ∙ ap (λ zs. before ++ zs) (sym same)

@@ -1,11 +1,17 @@
 -- The uses of channels by parts, branches and guards.
-use Rattle.std.proofs.Common.{ℕ, ◌+◌, refl, List, [], ◌∷◌, ◌++◌}
+use Rattle.std.proofs.Common.{ℕ, ◌+◌, true, refl, List, [], ◌∷◌, ◌++◌, Option, Some}
 use Rattle.std.specs.Prelude.{slice_get}
 use Rattle.vc_process.specs.declared.channel_use.ChannelUse.{ChannelUse}
 use Rattle.vc_process.specs.declared.value_kind.ValueKind.{ValueKind}
 use Rattle.vc_process.specs.ChannelUses.{channel_uses, guard_uses, inputs_on, uses_of_all, uses_of_bodies, uses_of_branches}
 use Rattle.vc_process.specs.Numbering.{Numbered, NumberedBranch, NumberedGuard, branches_from, guards_from, parts_from}
 use Rattle.vc_process.proofs.Reaching.{Joins}
+
+abbrev pub output_of : ℕ → ValueKind → List ChannelUse
+output_of c k = record { chan = c; is_output = true; kind = Some k } ∷ []
+
+abbrev pub input_of : ℕ → Option ValueKind → List ChannelUse
+input_of c k = inputs_on c k ∷ []
 
 module _ (kinds : List ValueKind) where
   abbrev pub all_inputs : List NumberedGuard → ℕ → List ChannelUse

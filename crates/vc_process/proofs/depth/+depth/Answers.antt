@@ -1,9 +1,9 @@
-use Rattle.std.proofs.Common.{suc, ◌-◌, nat_lt, ◌&&◌, ◌∙◌, true, map, sym, ap, refl}
+use Rattle.std.proofs.Common.{◌≡◌, suc, ◌-◌, nat_lt, ◌&&◌, ◌∙◌, true, map, sym, ap, refl}
 use Rattle.vc_process.specs.InOrder.{number, number_branch, number_guard}
 use Rattle.vc_process.specs.Numbering.{Numbered, NumberedBranch, NumberedGuard}
 use Rattle.vc_process.specs.ProcessLimits.{depth_within}
-use Rattle.vc_process.proofs.Deep.{deeper, all_parts, one_part, behind_part, parts_split, all_branches, one_branch, behind_branch, branches_split, all_guards, one_guard, behind_guard, guards_split}
-use Rattle.vc_process.proofs.Numbers.{number_seq, number_par, number_if, number_while, number_count, number_alt, number_branch_out, number_guard_out}
+use Rattle.vc_process.proofs.Deep.{deeper, some_depth, all_parts, one_part, behind_part, parts_split, all_branches, one_branch, behind_branch, branches_split, all_guards, one_guard, behind_guard, guards_split}
+use Rattle.vc_process.proofs.Numbers.{number_seq, number_par, number_if, number_while, number_count, number_alt, otherwise, number_branch_out, number_guard_out}
 use Rattle.vc_process.proofs.Reaching.{reaches_next, reaches_false, reaches_end}
 use Rattle.vc_process.proofs.depth.+depth.Goals as goal
 
@@ -108,3 +108,9 @@ depth_within-returns-in-Alt t c =
     let d = c.args.depth in
     let e = d - 1 in
     deeper d _ (all_guards e (map number_guard c.in-Alt.guards)) _ c.if-depth-eq0.false (λ s. ap (λ (n : Numbered). one_part d n s) (number_alt _ _ c.in-Alt.is)) c.guards_within.ensures
+
+pub depth_within-returns-in_default : goal.depth_within-returns-in_default
+depth_within-returns-in_default t c = λ site.
+    let d = c.args.depth in
+    let h = some_depth d c.if-depth-eq0.false in
+    otherwise (λ (n : Numbered). true ≡ one_part d n site) c.args.process.now c.in_default.not-Seq c.in_default.not-Par c.in_default.not-If c.in_default.not-While c.in_default.not-Count c.in_default.not-Alt h h (λ v a e. h) (λ k a e. h) (λ k v e. h) (λ k e. h)

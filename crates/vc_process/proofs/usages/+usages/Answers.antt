@@ -1,13 +1,30 @@
-use Rattle.std.proofs.Common.{append_assoc, suc, ◌∷◌, ◌∙◌, sym, ◌++◌, map, ap, refl}
+use Rattle.std.proofs.Common.{◌≡◌, [], append_assoc, suc, ◌∷◌, ◌∙◌, sym, ◌++◌, map, ap, refl}
 use Rattle.vc_process.specs.InOrder.{number, number_branch, number_guard}
 use Rattle.vc_process.specs.Numbering.{Numbered, NumberedBranch, NumberedGuard}
 use Rattle.vc_process.specs.Terms.{exp, as_test}
 use Rattle.vc_process.specs.Usages.{exp_usages, input_usages, test_usages, changing}
 use Rattle.vc_process.specs.declared.used.Used.TheVariants as of
-use Rattle.vc_process.proofs.Numbers.{number_seq, number_par, number_if, number_while, number_count, number_alt, number_branch_out, number_guard_out}
+use Rattle.vc_process.proofs.Numbers.{number_seq, number_par, number_if, number_while, number_count, number_alt, number_set, number_send, number_receive, number_stopch, otherwise, number_branch_out, number_guard_out}
 use Rattle.vc_process.proofs.Listed.{all_parts, one_part, behind_part, parts_join, all_branches, one_branch, behind_branch, branches_join, all_guards, one_guard, behind_guard, guards_join}
-use Rattle.vc_process.proofs.Reaching.{adds_as, adds_both, adds_next, adds_end}
+use Rattle.vc_process.proofs.Reaching.{adds_as, adds_both, adds_next, adds_end, adds_none, adds_sited, not_added}
 use Rattle.vc_process.proofs.usages.+usages.Goals as goal
+
+pub push_usages-returns-in-Set : goal.push_usages-returns-in-Set
+push_usages-returns-in-Set t c = adds_sited c.push_given.result _ _ _ _ (λ s. ap (λ (n : Numbered). one_part n s) (number_set _ _ _ c.in-Set.is)) c.push_given.ensures
+
+pub push_usages-returns-in-Send : goal.push_usages-returns-in-Send
+push_usages-returns-in-Send t c = adds_sited c.push_given-in-Send.result _ _ _ _ (λ s. ap (λ (n : Numbered). one_part n s) (number_send _ _ _ c.in-Send.is)) c.push_given-in-Send.ensures
+
+pub push_usages-returns-in-Receive : goal.push_usages-returns-in-Receive
+push_usages-returns-in-Receive t c = adds_sited c.push_input.result _ _ _ _ (λ s. ap (λ (n : Numbered). one_part n s) (number_receive _ _ _ c.in-Receive.is)) c.push_input.ensures
+
+pub push_usages-returns-in-Stopch : goal.push_usages-returns-in-Stopch
+push_usages-returns-in-Stopch t c = adds_sited c.push_changing.result _ _ _ _ (λ s. ap (λ (n : Numbered). one_part n s) (number_stopch _ _ c.in-Stopch.is)) c.push_changing.ensures
+
+pub push_usages-returns-in_default : goal.push_usages-returns-in_default
+push_usages-returns-in_default t c = λ site.
+    adds_none _ _ (otherwise (λ (n : Numbered). one_part n site ≡ []) c.args.process.now c.in_default.not-Seq c.in_default.not-Par c.in_default.not-If c.in_default.not-While c.in_default.not-Count c.in_default.not-Alt
+    refl refl (λ v a h. absurd (c.in_default.not-Set v a h)) (λ d a h. absurd (c.in_default.not-Send d a h)) (λ d v h. absurd (c.in_default.not-Receive d v h)) (λ d h. absurd (c.in_default.not-Stopch d h)))
 
 pub push_usages-returns-in-Seq : goal.push_usages-returns-in-Seq
 push_usages-returns-in-Seq t c =
@@ -88,3 +105,21 @@ push_guarded-returns t c =
     let tests = test_usages (as_test g.cond) in
     let first = c.in_ok-push_condition.ensures ∙ ap (λ us. us ++ tests) c.in_ok-push_input.ensures ∙ append_assoc c.args.uses.now inputs tests in
     adds_both _ _ _ _ (inputs ++ tests) (one_part (number g.body)) _ (λ s. s) first (λ s. ap (λ (n : NumberedGuard). one_guard n s) (number_guard_out g)) c.push_usages.ensures
+
+pub push_branch-returns-in_err-push_condition : goal.push_branch-returns-in_err-push_condition
+push_branch-returns-in_err-push_condition t c = not_added _ _ c.from_residual.ensures.0
+
+pub push_branches-returns-in_err-push_branch : goal.push_branches-returns-in_err-push_branch
+push_branches-returns-in_err-push_branch t c = not_added _ _ c.from_residual.ensures.0
+
+pub push_guarded-returns-in_err-push_input : goal.push_guarded-returns-in_err-push_input
+push_guarded-returns-in_err-push_input t c = not_added _ _ c.from_residual.ensures.0
+
+pub push_guarded-returns-in_err-push_condition : goal.push_guarded-returns-in_err-push_condition
+push_guarded-returns-in_err-push_condition t c = not_added _ _ c.from_residual-in_err-push_condition.ensures.0
+
+pub push_guards-returns-in_err-push_guarded : goal.push_guards-returns-in_err-push_guarded
+push_guards-returns-in_err-push_guarded t c = not_added _ _ c.from_residual.ensures.0
+
+pub push_parts-returns-in_err-push_usages : goal.push_parts-returns-in_err-push_usages
+push_parts-returns-in_err-push_usages t c = not_added _ _ c.from_residual.ensures.0
