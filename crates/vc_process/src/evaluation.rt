@@ -132,14 +132,21 @@ impl Cond {
     }
 }
 
+/// The same bytes in memory of their own.
+fn bytes_from(alloc: Global, bytes: &[u8]) -> Result<Bytes, Memory>
+    ensures { IfOk result (λ copy. copy ≡ bytes.now) }
+{
+    Ok(Bytes::from_slice(alloc, bytes)?)
+}
+
 impl BytesExpr {
     /// The bytes of the expression.
     fn bytes(&self, alloc: Global, vars: &[Datum]) -> Result<Bytes, Memory>
         ensures { IfOk result (λ bytes. bytes ≡ text_of (text self.now) (store vars.now)) }
     {
         match self {
-            BytesExpr::Lit(bytes) => Ok(Bytes::from_slice(alloc, bytes.as_slice())?),
-            BytesExpr::Var(var) => Ok(Bytes::from_slice(alloc, bytes_at(vars, *var))?),
+            BytesExpr::Lit(bytes) => bytes_from(alloc, bytes.as_slice()),
+            BytesExpr::Var(var) => bytes_from(alloc, bytes_at(vars, *var)),
             BytesExpr::Fill { byte, count } => {
                 let count = *count as usize;
                 Ok(Bytes::from_vec(vec![in alloc; *byte; count]?))

@@ -195,7 +195,9 @@ fn copy_parts(alloc: Global, parts: &Items<Process>) -> Result<Items<Process>, M
 {
     let mut copies = Items::new(alloc);
     for part in parts.as_slice() {
-        push_copied(&mut copies, copy_process(alloc, part))?;
+        if let Err(memory) = push_copied(&mut copies, copy_process(alloc, part)) {
+            return Err(memory);
+        }
     }
     Ok(copies)
 }
@@ -206,10 +208,10 @@ fn copy_branches(alloc: Global, branches: &Items<Branch>) -> Result<Items<Branch
 {
     let mut copies = Items::new(alloc);
     for branch in branches.as_slice() {
-        push_copied(
-            &mut copies,
-            copy_conditional(alloc, &branch.cond, &branch.body),
-        )?;
+        let copied = copy_conditional(alloc, &branch.cond, &branch.body);
+        if let Err(memory) = push_copied(&mut copies, copied) {
+            return Err(memory);
+        }
     }
     Ok(copies)
 }
@@ -237,7 +239,9 @@ fn copy_guards(alloc: Global, guards: &Items<Guard>) -> Result<Items<Guard>, Mem
 {
     let mut copies = Items::new(alloc);
     for guard in guards.as_slice() {
-        push_copied(&mut copies, copy_guard(alloc, guard))?;
+        if let Err(memory) = push_copied(&mut copies, copy_guard(alloc, guard)) {
+            return Err(memory);
+        }
     }
     Ok(copies)
 }

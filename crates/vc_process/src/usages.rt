@@ -124,10 +124,7 @@ pub(crate) fn push_usages(uses: &mut Items<Usage>, process: &Process) -> Result<
         Process::Seq(parts) => push_parts(uses, parts),
         Process::Par(parts) => push_parts(uses, parts),
         Process::If(branches) => push_branches(uses, branches),
-        Process::While { cond, body } => {
-            push_condition(uses, cond)?;
-            push_usages(uses, body.get())
-        }
+        Process::While { cond, body } => push_conditional(uses, cond, body.get()),
         Process::Count {
             var,
             base,
@@ -147,7 +144,9 @@ fn push_parts(uses: &mut Items<Usage>, parts: &Items<Process>) -> Result<(), Mem
     ensures { OnOk result ((site : ℕ) → uses.new ≡ uses.old ++ usages_of_parts (parts_from site (map number parts.now))) }
 {
     for part in parts.as_slice() {
-        push_usages(uses, part)?;
+        if let Err(memory) = push_usages(uses, part) {
+            return Err(memory);
+        }
     }
     Ok(())
 }
@@ -157,18 +156,20 @@ fn push_branches(uses: &mut Items<Usage>, branches: &Items<Branch>) -> Result<()
     ensures { OnOk result ((site : ℕ) → uses.new ≡ uses.old ++ usages_of_branches (branches_from site (map number_branch branches.now))) }
 {
     for branch in branches.as_slice() {
-        push_branch(uses, branch)?;
+        if let Err(memory) = push_conditional(uses, &branch.cond, &branch.body) {
+            return Err(memory);
+        }
     }
     Ok(())
 }
 
+/// Adds the uses of a condition and of what is done under it.
 #[cycle(usages)]
-#[tactic(auto, unfolding(crate::specs::InOrder::number, crate::specs::InOrder::number_branch, crate::specs::InOrder::number_guard))]
-fn push_branch(uses: &mut Items<Usage>, branch: &Branch) -> Result<(), Memory>
-    ensures { OnOk result ((site : ℕ) → uses.new ≡ uses.old ++ (test_usages (number_branch branch.now).when ++ usages ((number_branch branch.now).then_do.tree site))) }
+fn push_conditional(uses: &mut Items<Usage>, cond: &Cond, body: &Process) -> Result<(), Memory>
+    ensures { OnOk result ((site : ℕ) → uses.new ≡ uses.old ++ (test_usages (as_test cond.now) ++ usages ((number body.now).tree site))) }
 {
-    push_condition(uses, &branch.cond)?;
-    push_usages(uses, &branch.body)
+    push_condition(uses, cond)?;
+    push_usages(uses, body)
 }
 
 #[cycle(usages)]
@@ -176,7 +177,9 @@ fn push_guards(uses: &mut Items<Usage>, guards: &Items<Guard>) -> Result<(), Mem
     ensures { OnOk result ((site : ℕ) → uses.new ≡ uses.old ++ usages_of_guards (guards_from site (map number_guard guards.now))) }
 {
     for guard in guards.as_slice() {
-        push_guarded(uses, guard)?;
+        if let Err(memory) = push_guarded(uses, guard) {
+            return Err(memory);
+        }
     }
     Ok(())
 }
@@ -187,6 +190,5 @@ fn push_guarded(uses: &mut Items<Usage>, guard: &Guard) -> Result<(), Memory>
     ensures { OnOk result ((site : ℕ) → uses.new ≡ uses.old ++ ((input_usages (number_guard guard.now).chan (number_guard guard.now).var ++ test_usages (number_guard guard.now).when) ++ usages ((number_guard guard.now).then_do.tree site))) }
 {
     push_input(uses, guard.chan, guard.var)?;
-    push_condition(uses, &guard.cond)?;
-    push_usages(uses, &guard.body)
+    push_conditional(uses, &guard.cond, &guard.body)
 }

@@ -73,7 +73,9 @@ fn push_parts(
     ensures { OnOk result ((site : ℕ) → uses.new ≡ uses.old ++ uses_of_all kinds.now (parts_from site (map number parts.now))) }
 {
     for part in parts.as_slice() {
-        push_uses(uses, part, kinds)?;
+        if let Err(memory) = push_uses(uses, part, kinds) {
+            return Err(memory);
+        }
     }
     Ok(())
 }
@@ -88,7 +90,9 @@ fn push_branches(
     ensures { OnOk result ((site : ℕ) → uses.new ≡ uses.old ++ uses_of_branches kinds.now (branches_from site (map number_branch branches.now))) }
 {
     for branch in branches.as_slice() {
-        push_uses(uses, &branch.body, kinds)?;
+        if let Err(memory) = push_uses(uses, &branch.body, kinds) {
+            return Err(memory);
+        }
     }
     Ok(())
 }
@@ -103,7 +107,9 @@ fn push_bodies(
     ensures { OnOk result ((site : ℕ) → uses.new ≡ uses.old ++ uses_of_bodies kinds.now (guards_from site (map number_guard guards.now))) }
 {
     for guard in guards.as_slice() {
-        push_uses(uses, &guard.body, kinds)?;
+        if let Err(memory) = push_uses(uses, &guard.body, kinds) {
+            return Err(memory);
+        }
     }
     Ok(())
 }
@@ -130,7 +136,9 @@ fn push_guards(
     ensures { OnOk result ((site : ℕ) → uses.new ≡ uses.old ++ guard_uses kinds.now (guards_from site (map number_guard guards.now))) }
 {
     for guard in guards.as_slice() {
-        push_input(uses, guard.chan, kind_at(kinds, guard.var))?;
+        if let Err(memory) = push_input(uses, guard.chan, kind_at(kinds, guard.var)) {
+            return Err(memory);
+        }
     }
     Ok(())
 }

@@ -17,13 +17,10 @@ copy_body-returns t c = c.in_ok-new.ensures ∙ c.in_ok-copy_process.ensures ∙
 pub copy_parts-loop-part-init : goal.copy_parts-loop-part-init
 copy_parts-loop-part-init t c = c.new-copies.ensures
 
-pub copy_parts-returns-in_err-push_copied : goal.copy_parts-returns-in_err-push_copied
-copy_parts-returns-in_err-push_copied t c = IfOk-from_err _ _ c.from_residual.ensures.0
-
 pub copy_parts-loop-part-preserved : goal.copy_parts-loop-part-preserved
 copy_parts-loop-part-preserved t c =
     copied_next c.as_slice-part-items.result.now c.loop-part.part-index c.part-item.result c.loop-part.copies c.push_copied.new.copies c.copy_process.result c.loop-part-test.true c.part-item.is
-    c.copy_process.ensures c.in_ok-push_copied.ensures c.loop-part.invariant
+    c.copy_process.ensures c.in_default.ensures c.loop-part.invariant
 
 pub copy_parts-returns : goal.copy_parts-returns
 copy_parts-returns t c = copied_all c.as_slice-part-items.result.now _ c.loop-part.part-index _ c.loop-part-test.false c.loop-part.invariant c.as_slice-part-items.ensures
@@ -31,13 +28,10 @@ copy_parts-returns t c = copied_all c.as_slice-part-items.result.now _ c.loop-pa
 pub copy_branches-loop-branch-init : goal.copy_branches-loop-branch-init
 copy_branches-loop-branch-init t c = c.new-copies.ensures
 
-pub copy_branches-returns-in_err-push_copied : goal.copy_branches-returns-in_err-push_copied
-copy_branches-returns-in_err-push_copied t c = IfOk-from_err _ _ c.from_residual.ensures.0
-
 pub copy_branches-loop-branch-preserved : goal.copy_branches-loop-branch-preserved
 copy_branches-loop-branch-preserved t c =
-    copied_next c.as_slice-branch-items.result.now c.loop-branch.branch-index c.branch-item.result c.loop-branch.copies c.push_copied.new.copies c.copy_conditional.result c.loop-branch-test.true c.branch-item.is
-    (copied_branch c.copy_conditional.result c.branch-item.result c.copy_conditional.ensures) c.in_ok-push_copied.ensures c.loop-branch.invariant
+    copied_next c.as_slice-branch-items.result.now c.loop-branch.branch-index c.branch-item.result c.loop-branch.copies c.push_copied.new.copies c.copy_conditional-copied.result c.loop-branch-test.true c.branch-item.is
+    (copied_branch c.copy_conditional-copied.result c.branch-item.result c.copy_conditional-copied.ensures) c.in_default.ensures c.loop-branch.invariant
 
 pub copy_branches-returns : goal.copy_branches-returns
 copy_branches-returns t c = copied_all c.as_slice-branch-items.result.now _ c.loop-branch.branch-index _ c.loop-branch-test.false c.loop-branch.invariant c.as_slice-branch-items.ensures
@@ -51,13 +45,10 @@ copy_conditional-returns t c = copied_conditional c.with_condition.result c.copy
 pub copy_guards-loop-guard-init : goal.copy_guards-loop-guard-init
 copy_guards-loop-guard-init t c = c.new-copies.ensures
 
-pub copy_guards-returns-in_err-push_copied : goal.copy_guards-returns-in_err-push_copied
-copy_guards-returns-in_err-push_copied t c = IfOk-from_err _ _ c.from_residual.ensures.0
-
 pub copy_guards-loop-guard-preserved : goal.copy_guards-loop-guard-preserved
 copy_guards-loop-guard-preserved t c =
     copied_next c.as_slice-guard-items.result.now c.loop-guard.guard-index c.guard-item.result c.loop-guard.copies c.push_copied.new.copies c.copy_guard.result c.loop-guard-test.true c.guard-item.is
-    c.copy_guard.ensures c.in_ok-push_copied.ensures c.loop-guard.invariant
+    c.copy_guard.ensures c.in_default.ensures c.loop-guard.invariant
 
 pub copy_guards-returns : goal.copy_guards-returns
 copy_guards-returns t c = copied_all c.as_slice-guard-items.result.now _ c.loop-guard.guard-index _ c.loop-guard-test.false c.loop-guard.invariant c.as_slice-guard-items.ensures

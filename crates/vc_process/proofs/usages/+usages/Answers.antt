@@ -42,16 +42,16 @@ pub push_usages-returns-in-Alt : goal.push_usages-returns-in-Alt
 push_usages-returns-in-Alt t c =
     adds_as _ _ _ (all_guards (map number_guard c.in-Alt.guards)) _ suc (λ s. ap (λ (n : Numbered). one_part n s) (number_alt _ _ c.in-Alt.is)) c.push_guards.ensures
 
-pub push_usages-returns-in_ok-push_condition-in-While : goal.push_usages-returns-in_ok-push_condition-in-While
-push_usages-returns-in_ok-push_condition-in-While t c =
-    adds_both _ _ _ _ (test_usages (as_test c.in-While.cond)) (one_part (number c.get.result.now)) _ suc c.in_ok-push_condition-in-While.ensures
-    (λ s. ap (λ (n : Numbered). one_part n s) (number_while _ _ _ c.in-While.is) ∙ ap (λ q. test_usages (as_test c.in-While.cond) ++ one_part (number q) (suc s)) (sym c.get.ensures)) c.push_usages.ensures
+pub push_usages-returns-in-While : goal.push_usages-returns-in-While
+push_usages-returns-in-While t c =
+    let tests = test_usages (as_test c.in-While.cond) in
+    adds_as _ _ _ (λ s. tests ++ one_part (number c.get.result.now) s) _ suc (λ s. ap (λ (n : Numbered). one_part n s) (number_while _ _ _ c.in-While.is) ∙ ap (λ q. tests ++ one_part (number q) (suc s)) (sym c.get.ensures)) c.push_conditional.ensures
 
 pub push_usages-returns-in_ok-push_count-in-Count : goal.push_usages-returns-in_ok-push_count-in-Count
 push_usages-returns-in_ok-push_count-in-Count t c =
     let counts = changing (of.Variable c.in-Count.var) ∷ exp_usages (exp c.in-Count.base) ++ exp_usages (exp c.in-Count.count) in
     adds_both _ _ _ _ counts (one_part (number c.get-in-Count.result.now)) _ suc c.in_ok-push_count-in-Count.ensures
-    (λ s. ap (λ (n : Numbered). one_part n s) (number_count _ _ _ _ _ c.in-Count.is) ∙ ap (λ q. counts ++ one_part (number q) (suc s)) (sym c.get-in-Count.ensures)) c.push_usages-in-Count.ensures
+    (λ s. ap (λ (n : Numbered). one_part n s) (number_count _ _ _ _ _ c.in-Count.is) ∙ ap (λ q. counts ++ one_part (number q) (suc s)) (sym c.get-in-Count.ensures)) c.push_usages.ensures
 
 pub push_parts-loop-part-init : goal.push_parts-loop-part-init
 push_parts-loop-part-init t c = λ site. (site, refl)
@@ -59,7 +59,7 @@ push_parts-loop-part-init t c = λ site. (site, refl)
 pub push_parts-loop-part-preserved : goal.push_parts-loop-part-preserved
 push_parts-loop-part-preserved t c =
     adds_next number all_parts one_part behind_part c.as_slice-part-items.result.now _ c.loop-part.part-index c.loop-part.uses _ c.part-item.result parts_join c.loop-part-test.true c.part-item.is
-    (λ s. c.in_ok-push_usages.ensures s) c.loop-part.invariant
+    (λ s. c.in_default.ensures s) c.loop-part.invariant
 
 pub push_parts-returns : goal.push_parts-returns
 push_parts-returns t c =
@@ -72,7 +72,7 @@ push_branches-loop-branch-init t c = λ site. (site, refl)
 pub push_branches-loop-branch-preserved : goal.push_branches-loop-branch-preserved
 push_branches-loop-branch-preserved t c =
     adds_next number_branch all_branches one_branch behind_branch c.as_slice-branch-items.result.now _ c.loop-branch.branch-index c.loop-branch.uses _ c.branch-item.result branches_join c.loop-branch-test.true c.branch-item.is
-    (λ s. c.in_ok-push_branch.ensures s) c.loop-branch.invariant
+    (λ s. c.in_default.ensures s ∙ ap (λ (n : NumberedBranch). c.loop-branch.uses ++ one_branch n s) (sym (number_branch_out c.branch-item.result))) c.loop-branch.invariant
 
 pub push_branches-returns : goal.push_branches-returns
 push_branches-returns t c =
@@ -85,41 +85,29 @@ push_guards-loop-guard-init t c = λ site. (site, refl)
 pub push_guards-loop-guard-preserved : goal.push_guards-loop-guard-preserved
 push_guards-loop-guard-preserved t c =
     adds_next number_guard all_guards one_guard behind_guard c.as_slice-guard-items.result.now _ c.loop-guard.guard-index c.loop-guard.uses _ c.guard-item.result guards_join c.loop-guard-test.true c.guard-item.is
-    (λ s. c.in_ok-push_guarded.ensures s) c.loop-guard.invariant
+    (λ s. c.in_default.ensures s) c.loop-guard.invariant
 
 pub push_guards-returns : goal.push_guards-returns
 push_guards-returns t c =
     let r = adds_end number_guard all_guards c.as_slice-guard-items.result.now _ c.loop-guard.guard-index c.loop-guard.uses (λ s. refl) c.loop-guard-test.false c.loop-guard.invariant in
     λ site. r site ∙ ap (λ ys. c.args.uses.now ++ all_guards (map number_guard ys) site) c.as_slice-guard-items.ensures
 
-pub push_branch-returns : goal.push_branch-returns
-push_branch-returns t c =
-    let b = c.args.branch.now in
-    adds_both _ _ _ _ (test_usages (as_test b.cond)) (one_part (number b.body)) _ (λ s. s) c.in_ok-push_condition.ensures
-    (λ s. ap (λ (n : NumberedBranch). one_branch n s) (number_branch_out b)) c.push_usages.ensures
+pub push_conditional-returns : goal.push_conditional-returns
+push_conditional-returns t c =
+    let tests = test_usages (as_test c.args.cond.now) in
+    let body = one_part (number c.args.body.now) in
+    adds_both _ _ _ _ tests body (λ s. tests ++ body s) (λ s. s) c.in_ok-push_condition.ensures (λ s. refl) c.push_usages.ensures
 
 pub push_guarded-returns : goal.push_guarded-returns
 push_guarded-returns t c =
     let g = c.args.guard.now in
     let inputs = input_usages g.chan g.var in
     let tests = test_usages (as_test g.cond) in
-    let first = c.in_ok-push_condition.ensures ∙ ap (λ us. us ++ tests) c.in_ok-push_input.ensures ∙ append_assoc c.args.uses.now inputs tests in
-    adds_both _ _ _ _ (inputs ++ tests) (one_part (number g.body)) _ (λ s. s) first (λ s. ap (λ (n : NumberedGuard). one_guard n s) (number_guard_out g)) c.push_usages.ensures
+    let body = one_part (number g.body) in
+    adds_both _ _ _ _ inputs (λ s. tests ++ body s) _ (λ s. s) c.in_ok-push_input.ensures (λ s. ap (λ (n : NumberedGuard). one_guard n s) (number_guard_out g) ∙ append_assoc inputs tests (body s)) c.push_conditional.ensures
 
-pub push_branch-returns-in_err-push_condition : goal.push_branch-returns-in_err-push_condition
-push_branch-returns-in_err-push_condition t c = not_added _ _ c.from_residual.ensures.0
-
-pub push_branches-returns-in_err-push_branch : goal.push_branches-returns-in_err-push_branch
-push_branches-returns-in_err-push_branch t c = not_added _ _ c.from_residual.ensures.0
+pub push_conditional-returns-in_err-push_condition : goal.push_conditional-returns-in_err-push_condition
+push_conditional-returns-in_err-push_condition t c = not_added _ _ c.from_residual.ensures.0
 
 pub push_guarded-returns-in_err-push_input : goal.push_guarded-returns-in_err-push_input
 push_guarded-returns-in_err-push_input t c = not_added _ _ c.from_residual.ensures.0
-
-pub push_guarded-returns-in_err-push_condition : goal.push_guarded-returns-in_err-push_condition
-push_guarded-returns-in_err-push_condition t c = not_added _ _ c.from_residual-in_err-push_condition.ensures.0
-
-pub push_guards-returns-in_err-push_guarded : goal.push_guards-returns-in_err-push_guarded
-push_guards-returns-in_err-push_guarded t c = not_added _ _ c.from_residual.ensures.0
-
-pub push_parts-returns-in_err-push_usages : goal.push_parts-returns-in_err-push_usages
-push_parts-returns-in_err-push_usages t c = not_added _ _ c.from_residual.ensures.0
