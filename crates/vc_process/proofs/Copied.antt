@@ -13,6 +13,11 @@ pub copied_as : {A E : Type 0} (r : Result A E) (x y : A) → x ≡ y → IfOk r
 copied_as (Ok z) x y e h = h ∙ e
 copied_as (Err m) x y e h = h
 
+-- a copy in a box
+pub copied_boxed : {A E : Type 0} (r copied : Result A E) (x y : A) → x ≡ y → IfOk copied (λ z. z ≡ x) → IfOk r (λ z. copied ≡ Ok z) → IfOk r (λ z. z ≡ y)
+copied_boxed (Ok z) copied x y e h i = subst (λ q. IfOk q (λ w. w ≡ x)) i h ∙ e
+copied_boxed (Err m) copied x y e h i = i
+
 -- the first k are copied, and then one more
 pub copied_next : {A E : Type 0} (xs : List A) (k : ℕ) (x : A) (now later : List A) (r : Result A E) → k < length xs → x ≡ get_or xs k x → IfOk r (λ y. y ≡ x) → IsOkAnd r (λ y. later ≡ now ++ y ∷ []) → now ≡ take k xs → later ≡ take (k + 1) xs
 copied_next xs k x now later (Ok y) l h e p i = p ∙ ap (λ ys. ys ++ y ∷ []) i ∙ ap (λ z. take k xs ++ z ∷ []) (e ∙ h) ∙ sym (take-suc xs k x l) ∙ ap (λ j. take j xs) (sym (add-one k))

@@ -1,6 +1,7 @@
 //! Conditions.
 ghost use Rattle.std.specs.Prelude.{◌≡◌, IfOk};
 
+use crate::copies::boxed;
 use crate::expression::Expr;
 use crate::relation::Rel;
 use sqlite_items::Boxed;
@@ -65,13 +66,11 @@ impl Cond {
             Cond::Always(is_true) => Ok(Cond::Always(*is_true)),
             Cond::Cmp { rel, left, right } => copy_comparison(alloc, *rel, left, right),
             Cond::And(left, right) => {
-                let left = copy_boxed(alloc, left)?;
-                let right = copy_boxed(alloc, right)?;
+                let (left, right) = copy_both(alloc, left, right)?;
                 Ok(Cond::And(left, right))
             }
             Cond::Or(left, right) => {
-                let left = copy_boxed(alloc, left)?;
-                let right = copy_boxed(alloc, right)?;
+                let (left, right) = copy_both(alloc, left, right)?;
                 Ok(Cond::Or(left, right))
             }
             Cond::Not(cond) => {
@@ -91,10 +90,24 @@ fn copy_comparison(alloc: Global, rel: Rel, left: &Expr, right: &Expr) -> Result
     Ok(Cond::Cmp { rel, left, right })
 }
 
+/// Two equal conditions in boxes of their own.
+#[cycle(copy)]
+fn copy_both(
+    alloc: Global,
+    left: &Boxed<Cond>,
+    right: &Boxed<Cond>,
+) -> Result<(Boxed<Cond>, Boxed<Cond>), Memory>
+    ensures { IfOk result (λ copy. (copy.0 ≡ left.now) × (copy.1 ≡ right.now)) }
+{
+    let left = copy_boxed(alloc, left)?;
+    let right = copy_boxed(alloc, right)?;
+    Ok((left, right))
+}
+
 /// An equal condition in a box of its own.
 #[cycle(copy)]
 fn copy_boxed(alloc: Global, cond: &Boxed<Cond>) -> Result<Boxed<Cond>, Memory>
     ensures { IfOk result (λ copy. copy ≡ cond.now) }
 {
-    Ok(Boxed::new(alloc, cond.get().copy(alloc)?)?)
+    boxed(alloc, cond.get().copy(alloc))
 }

@@ -113,20 +113,16 @@ impl Cond {
                 let right = right.value(vars)?;
                 Some(rel.compare(left, right))
             }
-            Cond::And(left, right) => {
-                if left.get().holds(vars)? {
-                    right.get().holds(vars)
-                } else {
-                    Some(false)
-                }
-            }
-            Cond::Or(left, right) => {
-                if left.get().holds(vars)? {
-                    Some(true)
-                } else {
-                    right.get().holds(vars)
-                }
-            }
+            Cond::And(left, right) => match left.get().holds(vars) {
+                Some(true) => right.get().holds(vars),
+                Some(false) => Some(false),
+                None => None,
+            },
+            Cond::Or(left, right) => match left.get().holds(vars) {
+                Some(true) => Some(true),
+                Some(false) => right.get().holds(vars),
+                None => None,
+            },
             Cond::Not(cond) => Some(!cond.get().holds(vars)?),
         }
     }

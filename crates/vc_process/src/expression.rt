@@ -1,6 +1,7 @@
 //! Expressions of whole numbers.
 ghost use Rattle.std.specs.Prelude.{◌≡◌, IfOk};
 
+use crate::copies::boxed;
 use crate::operator::Op;
 use sqlite_items::Boxed;
 use std::alloc::Global;
@@ -70,5 +71,5 @@ impl Expr {
 fn copy_boxed(alloc: Global, expr: &Boxed<Expr>) -> Result<Boxed<Expr>, Memory>
     ensures { IfOk result (λ copy. copy ≡ expr.now) }
 {
-    Ok(Boxed::new(alloc, expr.get().copy(alloc)?)?)
+    boxed(alloc, expr.get().copy(alloc))
 }

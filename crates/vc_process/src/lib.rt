@@ -18,6 +18,7 @@ mod asked;
 mod bytes_expression;
 mod channel_use;
 mod condition;
+mod copies;
 mod datum;
 mod depth;
 mod evaluation;

@@ -1,8 +1,8 @@
 //! Processes, as they are written.
-ghost use Rattle.std.specs.Prelude.{◌≡◌, [], ◌∷◌, ◌++◌, IfOk, Ok, OnOk};
-ghost use Rattle.std.specs.Result.{IsOkAnd};
+ghost use Rattle.std.specs.Prelude.{◌≡◌, IfOk, Ok};
 
 use crate::condition::Cond;
+use crate::copies::{boxed, push_copied};
 use crate::expression::Expr;
 use crate::value::Value;
 use sqlite_items::{Boxed, Items};
@@ -178,15 +178,7 @@ fn counted(
 fn copy_body(alloc: Global, body: &Boxed<Process>) -> Result<Boxed<Process>, Memory>
     ensures { IfOk result (λ copy. copy ≡ body.now) }
 {
-    Ok(Boxed::new(alloc, copy_process(alloc, body.get())?)?)
-}
-
-/// Adds what was copied, unless its copy failed.
-fn push_copied<T: Drop>(copies: &mut Items<T>, copied: Result<T, Memory>) -> Result<(), Memory>
-    ensures { OnOk result (IsOkAnd copied (λ copy. copies.new ≡ copies.old ++ copy ∷ [])) }
-{
-    copies.push(copied?)?;
-    Ok(())
+    boxed(alloc, copy_process(alloc, body.get()))
 }
 
 #[cycle(copy)]

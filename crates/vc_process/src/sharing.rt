@@ -5,7 +5,7 @@ ghost use Rattle.vc_process.specs.InOrder.{number};
 ghost use Rattle.vc_process.specs.Lawful.{Offends, SideBySide};
 ghost use Rattle.vc_process.specs.Numbering.{parts_from};
 ghost use Rattle.vc_process.specs.Sharing.{Ascending, Clashes, IsFirstClash, Judges, fault_of};
-ghost use Rattle.vc_process.specs.Usages.{by_part, part_usages};
+ghost use Rattle.vc_process.specs.Usages.{by_part, part_usages, usages};
 
 use crate::process::Process;
 use crate::usages::push_usages;
@@ -29,6 +29,20 @@ fn push_part(uses: &mut Vec<PartUsage>, own: &[Usage], part: usize) -> Result<()
     Ok(())
 }
 
+/// Adds the uses of this process, which is the part at this place.
+fn push_uses_of(
+    alloc: Global,
+    uses: &mut Vec<PartUsage>,
+    process: &Process,
+    part: usize,
+) -> Result<(), Memory>
+    ensures { OnOk result ((site : ℕ) → uses.new.items ≡ uses.old.items ++ map (by_part part) (usages ((number process.now).tree site))) }
+{
+    let mut own = Items::new(alloc);
+    push_usages(&mut own, process)?;
+    push_part(uses, own.as_slice(), part)
+}
+
 /// The uses of all parts.
 fn uses_of(alloc: Global, parts: &Items<Process>) -> Result<Vec<PartUsage>, Memory>
     ensures { IfOk result (λ uses. (site : ℕ) → uses.items ≡ part_usages 0 (parts_from site (map number parts.now))) }
@@ -36,9 +50,9 @@ fn uses_of(alloc: Global, parts: &Items<Process>) -> Result<Vec<PartUsage>, Memo
     let mut uses = Vec::new(alloc);
     let parts = parts.as_slice();
     for place in 0..parts.len() {
-        let mut own = Items::new(alloc);
-        push_usages(&mut own, &parts[place])?;
-        push_part(&mut uses, own.as_slice(), place)?;
+        if let Err(memory) = push_uses_of(alloc, &mut uses, &parts[place], place) {
+            return Err(memory);
+        }
     }
     Ok(uses)
 }

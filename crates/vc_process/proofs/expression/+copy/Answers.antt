@@ -2,6 +2,7 @@ use Rattle.std.proofs.Common.{ap, sym, ◌∙◌}
 use Rattle.std.proofs.lemmas.Result.{IfOk-from_err}
 use Rattle.vc_process.specs.declared.expression.Expr.{Expr}
 use Rattle.vc_process.specs.declared.expression.Expr.TheVariants as expr
+use Rattle.vc_process.proofs.Copied.{copied_boxed}
 use Rattle.vc_process.proofs.expression.+copy.Goals as goal
 
 pub Expr::copy-returns-in_err-left-in-Bin : goal.Expr::copy-returns-in_err-left-in-Bin
@@ -20,11 +21,5 @@ Expr::copy-returns-in_ok-right-in-Bin t c =
 pub Expr::copy-returns-in-Size : goal.Expr::copy-returns-in-Size
 Expr::copy-returns-in-Size t c = sym c.in-Size.is
 
-pub copy_boxed-returns-in_err-copy : goal.copy_boxed-returns-in_err-copy
-copy_boxed-returns-in_err-copy t c = IfOk-from_err _ _ c.from_residual.ensures.0
-
-pub copy_boxed-returns-in_err-new : goal.copy_boxed-returns-in_err-new
-copy_boxed-returns-in_err-new t c = IfOk-from_err _ _ c.from_residual-in_err-new.ensures.0
-
 pub copy_boxed-returns : goal.copy_boxed-returns
-copy_boxed-returns t c = c.in_ok-new.ensures ∙ c.in_ok-copy.ensures ∙ c.get.ensures
+copy_boxed-returns t c = copied_boxed c.boxed.result c.copy.result _ _ c.get.ensures c.copy.ensures c.boxed.ensures

@@ -2,17 +2,11 @@ use Rattle.std.proofs.Common.{ap, sym, ◌∙◌}
 use Rattle.std.proofs.lemmas.Result.{IfOk-from_err}
 use Rattle.vc_process.specs.declared.process.Process.{Process}
 use Rattle.vc_process.specs.declared.process.Process.TheVariants as process
-use Rattle.vc_process.proofs.Copied.{copied_as, copied_next, copied_all, copied_branch, copied_conditional, copied_guard}
+use Rattle.vc_process.proofs.Copied.{copied_as, copied_boxed, copied_next, copied_all, copied_branch, copied_conditional, copied_guard}
 use Rattle.vc_process.proofs.process.+copy.Goals as goal
 
-pub copy_body-returns-in_err-copy_process : goal.copy_body-returns-in_err-copy_process
-copy_body-returns-in_err-copy_process t c = IfOk-from_err _ _ c.from_residual.ensures.0
-
-pub copy_body-returns-in_err-new : goal.copy_body-returns-in_err-new
-copy_body-returns-in_err-new t c = IfOk-from_err _ _ c.from_residual-in_err-new.ensures.0
-
 pub copy_body-returns : goal.copy_body-returns
-copy_body-returns t c = c.in_ok-new.ensures ∙ c.in_ok-copy_process.ensures ∙ c.get.ensures
+copy_body-returns t c = copied_boxed c.boxed.result c.copy_process.result _ _ c.get.ensures c.copy_process.ensures c.boxed.ensures
 
 pub copy_parts-loop-part-init : goal.copy_parts-loop-part-init
 copy_parts-loop-part-init t c = c.new-copies.ensures

@@ -1,10 +1,9 @@
 use Rattle.std.proofs.Common.{◌++◌, ◌∙◌, sym, ap, map, List}
 use Rattle.vc_process.specs.declared.process.Process.{Process}
 use Rattle.vc_process.specs.declared.used.PartUsage.{PartUsage}
-use Rattle.vc_process.specs.declared.used.Usage.{Usage}
 use Rattle.vc_process.specs.InOrder.{number}
 use Rattle.vc_process.specs.Numbering.{parts_from}
-use Rattle.vc_process.specs.Usages.{by_part, part_usages, usages}
+use Rattle.vc_process.specs.Usages.{part_usages}
 use Rattle.vc_process.proofs.Placed.{placed_next, placed_end}
 use Rattle.vc_process.proofs.sharing.uses_of.Goals as goal
 
@@ -13,11 +12,8 @@ loop-place-init c = λ site. (site, ap (λ (us : List PartUsage). us ++ part_usa
 
 pub loop-place-preserved : goal.loop-place-preserved
 loop-place-preserved c =
-    let k = c.loop-place.place in
-    let before = c.loop-place.uses.items in
-    placed_next c.as_slice-parts.result.now k before _ c.index-parts-place.result c.loop-place-test.true c.index-parts-place.is
-    (λ s. c.in_ok-push_part.ensures ∙ ap (λ (us : List Usage). before ++ map (by_part k) us) (c.as_slice.ensures ∙ c.in_ok-push_usages.ensures s ∙ ap (λ (us : List Usage). us ++ usages ((number c.index-parts-place.result).tree s)) c.new-own.ensures))
-    c.loop-place.invariant
+    placed_next c.as_slice-parts.result.now c.loop-place.place c.loop-place.uses.items _ c.index-parts-place.result c.loop-place-test.true c.index-parts-place.is
+    (λ s. c.in_default.ensures s) c.loop-place.invariant
 
 pub returns : goal.returns
 returns c =
