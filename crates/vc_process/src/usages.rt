@@ -50,6 +50,14 @@ fn push_expression(uses: &mut Items<Usage>, expression: &Expr) -> Result<(), Mem
     }
 }
 
+/// Adds the uses of two expressions.
+fn push_expressions(uses: &mut Items<Usage>, left: &Expr, right: &Expr) -> Result<(), Memory>
+    ensures { OnOk result (uses.new ≡ uses.old ++ (exp_usages (exp left.now) ++ exp_usages (exp right.now))) }
+{
+    push_expression(uses, left)?;
+    push_expression(uses, right)
+}
+
 /// Adds the uses of a condition.
 #[tactic(auto, unfolding(crate::specs::Terms::as_test))]
 fn push_condition(uses: &mut Items<Usage>, cond: &Cond) -> Result<(), Memory>
@@ -57,10 +65,7 @@ fn push_condition(uses: &mut Items<Usage>, cond: &Cond) -> Result<(), Memory>
 {
     match cond {
         Cond::Always(_) => Ok(()),
-        Cond::Cmp { left, right, .. } => {
-            push_expression(uses, left)?;
-            push_expression(uses, right)
-        }
+        Cond::Cmp { left, right, .. } => push_expressions(uses, left, right),
         Cond::And(left, right) => {
             push_condition(uses, left.get())?;
             push_condition(uses, right.get())
@@ -106,8 +111,7 @@ fn push_count(uses: &mut Items<Usage>, var: u8, base: &Expr, count: &Expr) -> Re
     ensures { OnOk result (uses.new ≡ uses.old ++ (as_changing (of.Variable var) ∷ exp_usages (exp base.now) ++ exp_usages (exp count.now))) }
 {
     push_changing(uses, Used::Variable(var))?;
-    push_expression(uses, base)?;
-    push_expression(uses, count)
+    push_expressions(uses, base, count)
 }
 
 /// Adds the uses of a process and of its parts, in order of site.

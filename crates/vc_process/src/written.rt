@@ -44,7 +44,10 @@ fn sites_of(parts: &Items<Process>, most: u32) -> Option<u32>
 {
     let mut found = 0;
     for part in parts.as_slice() {
-        found += part.sites(most - found)?;
+        match part.sites(most - found) {
+            Some(more) => found += more,
+            None => return None,
+        }
     }
     Some(found)
 }
@@ -56,7 +59,10 @@ fn sites_of_branches(branches: &Items<Branch>, most: u32) -> Option<u32>
 {
     let mut found = 0;
     for branch in branches.as_slice() {
-        found += branch.body.sites(most - found)?;
+        match branch.body.sites(most - found) {
+            Some(more) => found += more,
+            None => return None,
+        }
     }
     Some(found)
 }
@@ -68,7 +74,10 @@ fn sites_of_guards(guards: &Items<Guard>, most: u32) -> Option<u32>
 {
     let mut found = 0;
     for guard in guards.as_slice() {
-        found += guard.body.sites(most - found)?;
+        match guard.body.sites(most - found) {
+            Some(more) => found += more,
+            None => return None,
+        }
     }
     Some(found)
 }

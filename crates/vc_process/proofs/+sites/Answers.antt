@@ -32,14 +32,14 @@ process::Process::sites_within-returns-in-Alt t c = with_itself _ _ _ _ (ap (λ 
 pub written::sites_of-loop-part-init : goal.written::sites_of-loop-part-init
 written::sites_of-loop-part-init t c = (omega arith, omega arith)
 
-pub written::sites_of-returns-in_err-found : goal.written::sites_of-returns-in_err-found
-written::sites_of-returns-in_err-found t c =
-    let h = found_over number part_sites (λ (n : Numbered). n.sites) _ _ _ _ _ part_sum c.loop-part-test.true c.part-item.is c.in_err-found.ensures c.loop-part.invariant in
-    rw c.from_residual.ensures (rw (sym c.as_slice-part-items.ensures) h)
+pub written::sites_of-returns-in-None : goal.written::sites_of-returns-in-None
+written::sites_of-returns-in-None t c =
+    let h = found_over number part_sites (λ (n : Numbered). n.sites) _ _ _ _ _ part_sum c.loop-part-test.true c.part-item.is c.in-None.ensures c.loop-part.invariant in
+    rw (sym c.as_slice-part-items.ensures) h
 
 pub written::sites_of-loop-part-preserved : goal.written::sites_of-loop-part-preserved
 written::sites_of-loop-part-preserved t c =
-    found_next number part_sites (λ (n : Numbered). n.sites) _ _ _ _ _ _ part_sum c.loop-part-test.true c.part-item.is c.in_ok-found.ensures c.loop-part.invariant
+    found_next number part_sites (λ (n : Numbered). n.sites) _ _ _ _ _ _ part_sum c.loop-part-test.true c.part-item.is c.in-Some.ensures c.loop-part.invariant
 
 pub written::sites_of-returns : goal.written::sites_of-returns
 written::sites_of-returns t c = let r = found_all number part_sites _ _ _ _ refl c.loop-part-test.false c.loop-part.invariant in (r.0 ∙ ap (λ ys. part_sites (map number ys)) c.as_slice-part-items.ensures, r.1)
@@ -47,10 +47,10 @@ written::sites_of-returns t c = let r = found_all number part_sites _ _ _ _ refl
 pub written::sites_of_branches-loop-branch-init : goal.written::sites_of_branches-loop-branch-init
 written::sites_of_branches-loop-branch-init t c = (omega arith, omega arith)
 
-pub written::sites_of_branches-returns-in_err-found : goal.written::sites_of_branches-returns-in_err-found
-written::sites_of_branches-returns-in_err-found t c =
-    let e = ap (λ (n : NumberedBranch). n.then_do.sites) (number_branch_out c.branch-item.result) in let h = found_over number_branch branch_sites (λ (b : NumberedBranch). b.then_do.sites) _ _ _ _ _ branch_sum c.loop-branch-test.true c.branch-item.is (rw e c.in_err-found.ensures) c.loop-branch.invariant in
-    rw c.from_residual.ensures (rw (sym c.as_slice-branch-items.ensures) h)
+pub written::sites_of_branches-returns-in-None : goal.written::sites_of_branches-returns-in-None
+written::sites_of_branches-returns-in-None t c =
+    let e = ap (λ (n : NumberedBranch). n.then_do.sites) (number_branch_out c.branch-item.result) in let h = found_over number_branch branch_sites (λ (b : NumberedBranch). b.then_do.sites) _ _ _ _ _ branch_sum c.loop-branch-test.true c.branch-item.is (rw e c.in-None.ensures) c.loop-branch.invariant in
+    rw (sym c.as_slice-branch-items.ensures) h
 
 pub written::sites_of_branches-loop-branch-preserved : goal.written::sites_of_branches-loop-branch-preserved
 written::sites_of_branches-loop-branch-preserved t c =
@@ -62,10 +62,10 @@ written::sites_of_branches-returns t c = let r = found_all number_branch branch_
 pub written::sites_of_guards-loop-guard-init : goal.written::sites_of_guards-loop-guard-init
 written::sites_of_guards-loop-guard-init t c = (omega arith, omega arith)
 
-pub written::sites_of_guards-returns-in_err-found : goal.written::sites_of_guards-returns-in_err-found
-written::sites_of_guards-returns-in_err-found t c =
-    let e = ap (λ (n : NumberedGuard). n.then_do.sites) (number_guard_out c.guard-item.result) in let h = found_over number_guard guard_sites (λ (g : NumberedGuard). g.then_do.sites) _ _ _ _ _ guard_sum c.loop-guard-test.true c.guard-item.is (rw e c.in_err-found.ensures) c.loop-guard.invariant in
-    rw c.from_residual.ensures (rw (sym c.as_slice-guard-items.ensures) h)
+pub written::sites_of_guards-returns-in-None : goal.written::sites_of_guards-returns-in-None
+written::sites_of_guards-returns-in-None t c =
+    let e = ap (λ (n : NumberedGuard). n.then_do.sites) (number_guard_out c.guard-item.result) in let h = found_over number_guard guard_sites (λ (g : NumberedGuard). g.then_do.sites) _ _ _ _ _ guard_sum c.loop-guard-test.true c.guard-item.is (rw e c.in-None.ensures) c.loop-guard.invariant in
+    rw (sym c.as_slice-guard-items.ensures) h
 
 pub written::sites_of_guards-loop-guard-preserved : goal.written::sites_of_guards-loop-guard-preserved
 written::sites_of_guards-loop-guard-preserved t c =

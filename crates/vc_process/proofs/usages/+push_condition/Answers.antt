@@ -1,15 +1,12 @@
 use Rattle.std.proofs.Common.{◌∙◌, ◌++◌, ap, sym}
-use Rattle.vc_process.specs.Terms.{as_test, exp}
-use Rattle.vc_process.specs.Usages.{exp_usages, test_usages}
+use Rattle.vc_process.specs.Terms.{as_test}
+use Rattle.vc_process.specs.Usages.{test_usages}
 use Rattle.vc_process.proofs.Reaching.{adds_more, adds_none, adds_same, not_added}
 use Rattle.vc_process.proofs.Trees.{test_always, test_and, test_cmp, test_not, test_or}
 use Rattle.vc_process.proofs.usages.+push_condition.Goals as goal
 
-pub returns-in_err-push_expression-in-Cmp : goal.returns-in_err-push_expression-in-Cmp
-returns-in_err-push_expression-in-Cmp t c = not_added _ _ c.from_residual.ensures.0
-
 pub returns-in_err-push_condition-in-And : goal.returns-in_err-push_condition-in-And
-returns-in_err-push_condition-in-And t c = not_added _ _ c.from_residual-in_err-push_condition-in-And.ensures.0
+returns-in_err-push_condition-in-And t c = not_added _ _ c.from_residual.ensures.0
 
 pub returns-in_err-push_condition-in-Or : goal.returns-in_err-push_condition-in-Or
 returns-in_err-push_condition-in-Or t c = not_added _ _ c.from_residual-in_err-push_condition-in-Or.ensures.0
@@ -17,10 +14,8 @@ returns-in_err-push_condition-in-Or t c = not_added _ _ c.from_residual-in_err-p
 pub returns-in-Always : goal.returns-in-Always
 returns-in-Always t c = adds_none _ _ (ap test_usages (test_always _ _ c.in-Always.is))
 
-pub returns-in_ok-push_expression-in-Cmp : goal.returns-in_ok-push_expression-in-Cmp
-returns-in_ok-push_expression-in-Cmp t c =
-    adds_more c.push_expression-in-Cmp.result _ _ _ (exp_usages (exp c.in-Cmp.left)) (exp_usages (exp c.in-Cmp.right)) _ c.in_ok-push_expression-in-Cmp.ensures
-    (ap test_usages (test_cmp _ _ _ _ c.in-Cmp.is)) c.push_expression-in-Cmp.ensures
+pub returns-in-Cmp : goal.returns-in-Cmp
+returns-in-Cmp t c = adds_same c.push_expressions.result _ _ _ _ (ap test_usages (test_cmp _ _ _ _ c.in-Cmp.is)) c.push_expressions.ensures
 
 pub returns-in_ok-push_condition-in-And : goal.returns-in_ok-push_condition-in-And
 returns-in_ok-push_condition-in-And t c =
