@@ -1,4 +1,4 @@
-use Rattle.std.proofs.Common.{◌<◌, sym, ap, ◌∙◌, refl, subst}
+use Rattle.std.proofs.Common.{rules, ◌<◌, sym, ap, ◌∙◌, refl, subst}
 use Rattle.std.proofs.lemmas.Option.{slice_get_read}
 use Rattle.vc_packets.specs.declared.mark.Mark.TheVariants.{Eop, Eom}
 use Rattle.vc_tokens.specs.Spelt.{token}
@@ -9,18 +9,6 @@ use Rattle.vc_vcp.specs.State.{State, IsLinkIn, limit_of}
 use Rattle.vc_vcp.proofs.Passing.{ins_read, receiver_at, front_seen, never_empty, mark_or_byte, fct_never}
 use Rattle.vc_vcp.proofs.Wired.{all-at}
 use Rattle.vc_vcp.proofs.vcp.Vcp.pass.Goals as goal
-
-pub pass_byte-requires-clause-link : goal.pass_byte-requires-clause-link
-pass_byte-requires-clause-link c = c.requires
-
-pub pass_byte-requires-clause-front : goal.pass_byte-requires-clause-front
-pass_byte-requires-clause-front c =
-    let x = c.self.inside in
-    let s = c.args.self.now in
-    let a = c.index.result.now in
-    let o : State = record { outputs = x.outputs.items; inputs = x.inputs.items; outs = x.outs.items; ins = x.ins.items; strays = x.strays } in
-    let here = ins_read s o c.from.result c.args.link a c.self.view_is c.from.ensures c.self.invariant.four_in c.requires c.index.ensures in
-    front_seen s c.args.link a (Byte c.in-Some-Byte.byte) here (subst (λ t. IsFront a.receiver (token t)) c.in-Some-Byte.field-0-is c.in-Some-Byte.ensures)
 
 pub pass_mark-requires-clause-link : goal.pass_mark-requires-clause-link
 pass_mark-requires-clause-link c = c.requires
@@ -55,7 +43,7 @@ unreachable-requires c =
     fct_never (limit_of x.ins.items) a (all-at (IsLinkIn (limit_of x.ins.items)) x.ins.items c.from.result a c.self.invariant.ins read) (subst (λ t. IsFront a.receiver (token t)) c.in-Some-Fct.field-0-is c.in-Some-Fct.ensures)
 
 pub returns-in-Some-Byte-clause-passes : goal.returns-in-Some-Byte-clause-passes
-returns-in-Some-Byte-clause-passes c = λ some. c.pass_byte.ensures.passes
+returns-in-Some-Byte-clause-passes c = search rules
 
 pub returns-in-Some-Byte-clause-bytes : goal.returns-in-Some-Byte-clause-bytes
 returns-in-Some-Byte-clause-bytes c = λ byte front. refl
@@ -70,7 +58,7 @@ returns-in-Some-Byte-clause-quiet c =
     λ none. absurd (never_empty (link_of s c.args.link).receiver (Byte c.in-Some-Byte.byte) (front_seen s c.args.link a (Byte c.in-Some-Byte.byte) here (subst (λ t. IsFront a.receiver (token t)) c.in-Some-Byte.field-0-is c.in-Some-Byte.ensures)) none)
 
 pub returns-in-Some-Byte-clause-kept : goal.returns-in-Some-Byte-clause-kept
-returns-in-Some-Byte-clause-kept c = c.pass_byte.ensures.kept
+returns-in-Some-Byte-clause-kept c = search rules
 
 pub returns-in-Some-Eop-clause-passes : goal.returns-in-Some-Eop-clause-passes
 returns-in-Some-Eop-clause-passes c = λ some. c.pass_mark.ensures.passes
