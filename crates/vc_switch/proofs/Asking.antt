@@ -1,9 +1,9 @@
 -- What the packets at a switch's inputs ask for after a step, and which of them can be bound.
-use Rattle.std.proofs.Common.{◌≡◌, ◌≢◌, ◌+◌, ◌-◌, ◌*◌, ◌%◌, ◌<◌, ◌≤◌, ◌^◌, ℕ, zero, suc, Bool, true, false, IsTrue, List, [], ◌∷◌, ◌++◌, append-nil, length, get_or, replicate, slice_get, refl, sym, ap, ◌∙◌, subst, arith, Option, Some, None, inl, inr, bit_and}
+use Rattle.std.proofs.Common.{◌≡◌, ◌≢◌, ◌+◌, ◌-◌, ◌*◌, ◌%◌, ◌<◌, ◌^◌, ℕ, zero, suc, Bool, IsTrue, List, [], ◌∷◌, ◌++◌, append-nil, length, get_or, replicate, slice_get, refl, sym, ap, ◌∙◌, subst, arith, Option, Some, None, inl, inr}
 use Rattle.std.proofs.lemmas.Bool.{cases_eq, cases_lt}
 use Rattle.std.proofs.lemmas.List.{get_or-replicate, length-replicate}
-use Rattle.std.proofs.lemmas.Nat.{pow_below, pow_pos}
-use Rattle.std.proofs.lemmas.Nat.Bits.{bit_at-zero, bit_at-lt, bit_at_and, bit_at_above, bit_at_mask_inside}
+use Rattle.std.proofs.lemmas.Nat.{pow_below}
+use Rattle.std.proofs.lemmas.Nat.Bits.{bit_at-lt, bit_at_above, bit_at_mask_inside}
 use Rattle.std.proofs.Math.ListN.{get_or-eq_default}
 use Rattle.std.proofs.Math.Nat.{mod-eq_of_lt}
 use Rattle.std.specs.Int.{bit_at}
@@ -11,17 +11,16 @@ use Rattle.vc_labels.specs.declared.action.Action.{Action}
 use Rattle.vc_labels.specs.declared.action.Action.TheVariants.{Out, Portal}
 use Rattle.vc_labels.specs.declared.row.Row.{Row}
 use Rattle.vc_labels.specs.Interval.{action_for}
-use Rattle.vc_packets.specs.Functions.{put}
 use Rattle.vc_packets.specs.declared.mark.Mark.{Mark}
-use Rattle.vc_tokens.specs.Tokens.{Token, Byte, Fct, EndMark}
-use Rattle.vc_switch.specs.Able.{CanLeave, CanRoute, IsFree}
+use Rattle.vc_tokens.specs.Tokens.{Token, EndMark}
+use Rattle.vc_switch.specs.Able.{CanRoute}
 use Rattle.vc_switch.specs.Asking.{links_of, AreAsked, AreRouted}
 use Rattle.vc_switch.specs.Forward.{SwitchPlan}
 use Rattle.vc_switch.specs.Front.{front_of, front_by, behind_portal}
 use Rattle.vc_switch.specs.Ready.{Tells, Waits, IsReady}
 use Rattle.vc_switch.specs.Seen.{seen, IsKept}
 use Rattle.vc_switch.specs.State.{State, plan_of, limit_of}
-use Rattle.vc_switch.specs.Switch.{Switch, Input, new_switch, BodyLeaves, headed, with_header, Comes, due, not_due, Passes, passes_byte, drops_byte, passes_mark, loses, Routes, Sends, SendsFct}
+use Rattle.vc_switch.specs.Switch.{Switch, new_switch, BodyLeaves, headed, Comes, Passes, passes_byte, drops_byte, passes_mark, loses, Routes, Sends, SendsFct}
 use Rattle.vc_switch.specs.Waiting.{Wormhole}
 use Rattle.vc_switch.specs.declared.front.Front.{Front}
 use Rattle.vc_switch.specs.declared.ready_switch.Ready.{Ready}

@@ -1,7 +1,5 @@
-use Rattle.std.proofs.Common.{◌≡◌, sym, subst, refl, true, false, IsTrue}
 use Rattle.std.proofs.lemmas.Nat.Bits.{bit_at_set_same, bit_at_set_other, bit_at_clear_same, bit_at_clear_other}
 use Rattle.std.specs.Int.{w32}
-use Rattle.vc_switch.specs.Ready.{Tells}
 use Rattle.vc_switch.proofs.bits.told.Goals as goal
 
 pub returns-then-is : goal.returns-then-is

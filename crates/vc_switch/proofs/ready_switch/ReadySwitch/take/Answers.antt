@@ -1,4 +1,7 @@
-use Rattle.vc_switch.specs.Seen.{seen}
+use Rattle.std.proofs.Common.{subst}
+use Rattle.vc_tokens.specs.Spelt.{token}
+use Rattle.vc_switch.specs.Switch.{Comes}
+use Rattle.vc_switch.specs.Seen.{seen, IsKept}
 use Rattle.vc_switch.proofs.Asking.{came_same, asked_same, routed_same}
 use Rattle.vc_switch.proofs.Readying.{ready_came, comes_else, told_is}
 use Rattle.vc_switch.proofs.ready_switch.ReadySwitch.take.Goals as goal
@@ -14,3 +17,9 @@ invariant_of-self c =
       asked = asked_same s t c.self.inside.asks c.take-taken.ensures.kept same c.self.invariant.asked;
       routed = routed_same s t c.self.inside.routes c.take-taken.ensures.kept same c.self.invariant.routed;
     }
+
+pub returns-clause-comes : goal.returns-clause-comes
+returns-clause-comes c = subst (λ z. Comes (seen z) c.args.link c.args.word (token c.args.came) (seen c.take-taken.new.self)) c.self.view_is c.take-taken.ensures.comes
+
+pub returns-clause-kept : goal.returns-clause-kept
+returns-clause-kept c = subst (λ z. IsKept z c.take-taken.new.self) c.self.view_is c.take-taken.ensures.kept

@@ -1,7 +1,7 @@
 use Rattle.std.proofs.Common.{◌≡◌, ◌<◌, sym, ap, ◌∙◌, subst, arith, slice_get, Some, None, refl}
 use Rattle.std.proofs.lemmas.Option.{slice_get_read}
 use Rattle.vc_labels.specs.Lawful.{starts_at}
-use Rattle.vc_switch.specs.Front.{front_of, HasFront}
+use Rattle.vc_switch.specs.Front.{front_of}
 use Rattle.vc_switch.proofs.Asking.{asks_at}
 use Rattle.vc_switch.proofs.Routing.{links}
 use Rattle.vc_switch.proofs.switch.Switch.asks.Goals as goal
