@@ -58,7 +58,8 @@ impl Reader for VariableOf<'_> {
 fn no_longer(alloc: Global, bytes: Items<u8>) -> Result<Items<u8>, Stop>
     ensures { Gives (λ x. x) result (no_longer_than bytes) }
 {
-    if bytes.len() <= 65535 {
+    let fits = bytes.len() <= 65535;
+    if fits {
         Ok(bytes)
     } else {
         Err(wrong(alloc, Why::Range))

@@ -1,8 +1,9 @@
 //! Readers, and what they have in common.
-ghost use Rattle.std.specs.Prelude.{◌≡◌, ◌≤◌, List, Result, Some, IfOk, [], option_map};
+ghost use Rattle.std.specs.Prelude.{◌≡◌, ◌≤◌, ◌⊎◌, List, Result, Some, IfOk, [], option_map};
 ghost use Rattle.serde_json.specs.Data.{Data};
 ghost use Rattle.serde_json.specs.View.{view, items_view, members_view};
 ghost use Rattle.vc_reader.specs.declared.fault.Fault.{Fault as FaultData};
+ghost use Rattle.vc_reader.specs.declared.path.Step.{Step as StepData};
 ghost use Rattle.vc_reader.specs.Reading.{Gives, joins, beside as put_beside, wrong as wrong_here, under as under_step, field as field_of, cell as cell_of, text_of, number_of, list_of, list_field as list_field_of, count as count_of, items_in as items_in_list, row as row_of, is_word as is_word_of, has_only as has_only_words, object_of, has_field as has_field_of, only as only_field};
 
 use crate::fault::{Fault, Stop, Why};
@@ -12,6 +13,7 @@ use crate::word::Word;
 use serde_json::{Map, Value};
 use sqlite_items::Items;
 use std::alloc::Global;
+use vc_packets::Memory;
 
 /// A reader has a meaning: what each value means to it, or the value's first fault.
 pub(crate) trait Reader {
@@ -58,6 +60,16 @@ pub(crate) fn wrong(alloc: Global, why: Why) -> Stop
     })
 }
 
+/// What is wrong at a path, or want of memory for the path.
+fn fault_at(why: Why, path: Result<Path, Memory>) -> Stop
+    ensures { (p : List StepData) → IfOk path (λ q. q ≡ p) → (result ≡ Stop.Memory) ⊎ (result ≡ Stop.Fault (record { why = why; path = p })) }
+{
+    match path {
+        Ok(path) => Stop::Fault(Fault { why, path }),
+        Err(Memory) => Stop::Memory,
+    }
+}
+
 /// The same answer, seen from one step further up.
 pub(crate) fn under<T: Drop>(step: Step, read: Result<T, Stop>) -> Result<T, Stop>
     ensures { (meant : Result T FaultData) → Gives (λ x. x) read meant → Gives (λ x. x) result (under_step step meant) }
@@ -67,8 +79,7 @@ pub(crate) fn under<T: Drop>(step: Step, read: Result<T, Stop>) -> Result<T, Sto
         Err(Stop::Memory) => Err(Stop::Memory),
         Err(Stop::Fault(fault)) => {
             let Fault { why, path } = fault;
-            let path = path.under(step)?;
-            Err(Stop::Fault(Fault { why, path }))
+            Err(fault_at(why, path.under(step)))
         }
     }
 }
