@@ -7,7 +7,7 @@ ghost use Rattle.vc_reader.specs.Conditions.{cond_word, plain_cond, comparison_o
 use crate::expression::{WholeExpr, head};
 use crate::fault::{Stop, Why};
 use crate::path::Step;
-use crate::reader::{Reader, cell, row, text, under, wrong};
+use crate::reader::{Reader, boxed, cell, row, text, under, wrong};
 use crate::register::Register;
 use serde_json::Value;
 use sqlite_items::Boxed;
@@ -166,8 +166,7 @@ fn part(
         Some(item) => cond(alloc, depth, vars, item),
         None => Err(wrong(alloc, Why::Missing)),
     };
-    let part = under(Step::Index(index), read)?;
-    Ok(Boxed::new(alloc, part)?)
+    boxed(alloc, under(Step::Index(index), read))
 }
 
 /// A condition over these variables.

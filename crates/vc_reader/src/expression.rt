@@ -8,7 +8,7 @@ ghost use Rattle.vc_reader.specs.Expressions.{int_of, leaf_of, expr_word, head a
 use crate::bytes::VariableOf;
 use crate::fault::{Stop, Why};
 use crate::path::Step;
-use crate::reader::{Reader, cell, items_in, row, text, under, wrong};
+use crate::reader::{Reader, boxed, cell, items_in, row, text, under, wrong};
 use crate::register::Register;
 use serde_json::Value;
 use sqlite_items::Boxed;
@@ -160,8 +160,6 @@ fn operation(
     row(alloc, 3, value)?;
     let left = part(alloc, depth, vars, 1, value)?;
     let right = part(alloc, depth, vars, 2, value)?;
-    let left = Boxed::new(alloc, left)?;
-    let right = Boxed::new(alloc, right)?;
     Ok(Expr::Bin { op, left, right })
 }
 
@@ -173,14 +171,14 @@ fn part(
     vars: &Register<Variable>,
     index: usize,
     value: &Value,
-) -> Result<Expr, Stop>
+) -> Result<Boxed<Expr>, Stop>
     ensures { Gives (λ x. x) result (cell_of index (expr_of depth vars.now) (view value.now)) }
 {
     let read = match value.get(index) {
         Some(item) => expr(alloc, depth, vars, item),
         None => Err(wrong(alloc, Why::Missing)),
     };
-    under(Step::Index(index), read)
+    boxed(alloc, under(Step::Index(index), read))
 }
 
 /// An expression over these variables.

@@ -10,7 +10,7 @@ use crate::expression::WholeExpr;
 use crate::fault::{Stop, Why};
 use crate::name::one_of;
 use crate::path::Step;
-use crate::reader::{Reader, beside, cell, only, row, text, under, with_item, wrong};
+use crate::reader::{Reader, beside, boxed, cell, only, row, text, under, with_item, wrong};
 use crate::register::Register;
 use crate::word::Word;
 use serde_json::Value as Json;
@@ -502,8 +502,7 @@ fn boxed_part(
 ) -> Result<Boxed<Process>, Stop>
     ensures { Gives (λ x. x) result (cell_of index (process_of depth vars.now channels.now) (view value.now)) }
 {
-    let part = part(alloc, depth, vars, channels, index, value)?;
-    Ok(Boxed::new(alloc, part)?)
+    boxed(alloc, part(alloc, depth, vars, channels, index, value))
 }
 
 /// A process over these variables and channels.

@@ -11,7 +11,7 @@ use crate::path::{Path, Step};
 use crate::register::{Named, Register};
 use crate::word::Word;
 use serde_json::{Map, Value};
-use sqlite_items::Items;
+use sqlite_items::{Boxed, Items};
 use std::alloc::Global;
 use vc_packets::Memory;
 
@@ -90,6 +90,16 @@ pub(crate) fn beside<A: Drop, B: Drop>(before: A, next: Result<B, Stop>) -> Resu
 {
     match next {
         Ok(next) => Ok((before, next)),
+        Err(stop) => Err(stop),
+    }
+}
+
+/// What was read, in a box of its own.
+pub(crate) fn boxed<T: Drop>(alloc: Global, read: Result<T, Stop>) -> Result<Boxed<T>, Stop>
+    ensures { (meant : Result T FaultData) → Gives (λ x. x) read meant → Gives (λ x. x) result meant }
+{
+    match read {
+        Ok(x) => Ok(Boxed::new(alloc, x)?),
         Err(stop) => Err(stop),
     }
 }
