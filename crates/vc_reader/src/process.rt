@@ -174,12 +174,10 @@ fn stopch(alloc: Global, channels: &Register<Channel>, value: &Json) -> Result<P
 fn plain(alloc: Global, word: &str) -> Result<Process, Stop>
     ensures { Gives (λ x. x) result (plain_of word.now) }
 {
-    if word == "skip" {
-        Ok(Process::Skip)
-    } else if word == "stop" {
-        Ok(Process::Stop)
-    } else {
-        Err(wrong(alloc, Why::Kind))
+    match word {
+        "skip" => Ok(Process::Skip),
+        "stop" => Ok(Process::Stop),
+        _ => Err(wrong(alloc, Why::Kind)),
     }
 }
 

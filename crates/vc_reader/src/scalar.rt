@@ -34,13 +34,10 @@ impl Reader for Kind {
     ghost meaning = { λ _. kind_of };
 
     fn read(&self, alloc: Global, value: &Value) -> Result<ValueKind, Stop> {
-        let text = text(alloc, value)?;
-        if text == "int" {
-            Ok(ValueKind::Int)
-        } else if text == "bytes" {
-            Ok(ValueKind::Bytes)
-        } else {
-            Err(wrong(alloc, Why::Kind))
+        match text(alloc, value)? {
+            "int" => Ok(ValueKind::Int),
+            "bytes" => Ok(ValueKind::Bytes),
+            _ => Err(wrong(alloc, Why::Kind)),
         }
     }
 }
@@ -55,13 +52,10 @@ impl Reader for FromA {
     ghost meaning = { λ _. way_of };
 
     fn read(&self, alloc: Global, value: &Value) -> Result<bool, Stop> {
-        let text = text(alloc, value)?;
-        if text == "ab" {
-            Ok(true)
-        } else if text == "ba" {
-            Ok(false)
-        } else {
-            Err(wrong(alloc, Why::Kind))
+        match text(alloc, value)? {
+            "ab" => Ok(true),
+            "ba" => Ok(false),
+            _ => Err(wrong(alloc, Why::Kind)),
         }
     }
 }
