@@ -1,9 +1,9 @@
-use Rattle.std.proofs.Common.{sym}
-use Rattle.vc_vcp.proofs.Enabling.{idle_iff, offer_iff, idle_none, offer_none}
+use Rattle.std.proofs.Common.{rules, sym}
+use Rattle.vc_vcp.proofs.Enabling.{offer_iff, idle_none, offer_none}
 use Rattle.vc_vcp.proofs.vcp.Vcp.may_offer.Goals as goal
 
 pub returns-in-Some-clause-idle : goal.returns-in-Some-clause-idle
-returns-in-Some-clause-idle c = idle_iff c.args.self.now c.args.chan c.in-Some.output.now c.is_idle.result (sym c.in-Some.ensures) c.is_idle.ensures
+returns-in-Some-clause-idle c = search rules
 
 pub returns-in-Some-clause-can : goal.returns-in-Some-clause-can
 returns-in-Some-clause-can c = λ m. offer_iff c.args.self.now c.args.chan m c.in-Some.output.now c.is_idle.result (sym c.in-Some.ensures) c.is_idle.ensures

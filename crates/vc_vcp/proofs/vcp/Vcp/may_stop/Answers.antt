@@ -1,11 +1,9 @@
-use Rattle.std.proofs.Common.{sym}
-use Rattle.vc_vcp.proofs.Enabling.{unwanted_iff, stop_iff, not_iff, unwanted_none, stop_none}
+use Rattle.std.proofs.Common.{rules, sym}
+use Rattle.vc_vcp.proofs.Enabling.{stop_iff, not_iff, unwanted_none, stop_none}
 use Rattle.vc_vcp.proofs.vcp.Vcp.may_stop.Goals as goal
 
 pub returns-in-Some-clause-unwanted : goal.returns-in-Some-clause-unwanted
-returns-in-Some-clause-unwanted c =
-    let a = c.in-Some.input.now in
-    unwanted_iff c.args.self.now c.args.chan a _ (sym c.in-Some.ensures.named) (not_iff c.wants.result a.half.wants c.wants.ensures)
+returns-in-Some-clause-unwanted c = search rules
 
 pub returns-in-Some-clause-can : goal.returns-in-Some-clause-can
 returns-in-Some-clause-can c =

@@ -1,9 +1,9 @@
-use Rattle.std.proofs.Common.{sym}
-use Rattle.vc_vcp.proofs.Enabling.{ready_iff, fetch_iff, ready_none, fetch_none}
+use Rattle.std.proofs.Common.{rules, sym}
+use Rattle.vc_vcp.proofs.Enabling.{fetch_iff, ready_none, fetch_none}
 use Rattle.vc_vcp.proofs.vcp.Vcp.ready.Goals as goal
 
 pub returns-in-Some-clause-ready : goal.returns-in-Some-clause-ready
-returns-in-Some-clause-ready c = ready_iff c.args.self.now c.args.chan c.in-Some.input.now c.ready.result (sym c.in-Some.ensures.named) c.ready.ensures
+returns-in-Some-clause-ready c = search rules
 
 pub returns-in-Some-clause-can : goal.returns-in-Some-clause-can
 returns-in-Some-clause-can c =
