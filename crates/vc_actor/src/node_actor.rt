@@ -231,6 +231,7 @@ impl NodeActor {
         if self.node.process.is_unjoined() {
             self.moves = Items::new(self.node.alloc);
             self.is_listed = true;
+            self.are_many = false;
         }
     }
 
