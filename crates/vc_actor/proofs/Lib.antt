@@ -14,3 +14,4 @@ pub mod Parting
 pub mod AbleMoves
 pub mod Turning
 pub mod Listing
+pub mod Leaving

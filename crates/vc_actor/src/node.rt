@@ -1,11 +1,12 @@
 //! A node: its process, and the virtual channel processor that carries its channels.
-ghost use Rattle.std.specs.Prelude.{◌≡◌, ◌≢◌, ◌<◌, ◌≤◌, ◌↔◌, ◌++◌, ℕ, [], length, false, Option, Some, None, IsTrue, IfOk, IfSome, OnOk, OnErr};
+ghost use Rattle.std.specs.Prelude.{◌≡◌, ◌≢◌, ◌<◌, ◌≤◌, ◌↔◌, ◌++◌, ℕ, [], length, true, false, Option, Some, None, IsTrue, IfOk, IfSome, OnOk, OnErr};
 ghost use Rattle.std.specs.List.{Contains};
 ghost use Rattle.vc_occam.specs.Remains.{Done};
 ghost use Rattle.vc_occam.specs.Runnings.{inner_channels, moves as moves_of, state};
 ghost use Rattle.vc_occam.specs.declared.moves.Move.{Move as SpeltMove};
 ghost use Rattle.vc_actor.specs.Acting.{NodeMay};
 ghost use Rattle.vc_actor.specs.Turns.{IsTurn, IsQuiet, FindsAt, FindsMove};
+ghost use Rattle.vc_occam.specs.Moving.{site_of as its_site, without};
 ghost use Rattle.vc_occam.specs.States.{came};
 ghost use Rattle.vc_vcp.specs.Seen.{seen, answered, passed_of};
 ghost use Rattle.vc_vcp.specs.Steps.{Complete, Finished};
@@ -271,46 +272,65 @@ impl Node {
         self.process.ended()
     }
 
-    /// Makes a move.
+    /// Makes a move. The answer is whether its site is known to wait then, and the others' moves to be what they were.
     #[inline(always)]
-    pub(crate) fn make(&mut self, made: &Move) -> Result<(), Memory>
+    pub(crate) fn make(&mut self, made: &Move) -> Result<bool, Memory>
         requires { MayMove self.old made.now }
         ensures ok { (plan : Plan) (k : ℕ) → IsNodeOf plan k self.old → OnOk result (MakesMove plan k self.old made.now self.new) }
+        ensures waits { IfOk result (λ waits. waits ≡ true → moves_of self.new.process ≡ without (its_site made.now) (moves_of self.old.process)) }
         ensures err { OnErr result (self.new ≡ self.old) }
     {
         match *made {
             Move::Offer { chan, .. } => self.offer(made, chan),
             Move::Want { chan, .. } => self.want(made, chan),
-            Move::Choose { chan, .. } => self.choose(made, chan),
-            Move::Stopch { chan, .. } => self.stopch(made, chan),
-            Move::Inner { chan, .. } => self.meet(made, chan),
-            Move::Quiet { site } => self.rest(site),
+            Move::Choose { chan, .. } => {
+                self.choose(made, chan)?;
+                Ok(false)
+            }
+            Move::Stopch { chan, .. } => {
+                self.stopch(made, chan)?;
+                Ok(false)
+            }
+            Move::Inner { chan, .. } => {
+                self.meet(made, chan)?;
+                Ok(false)
+            }
+            Move::Quiet { site } => {
+                self.rest(site)?;
+                Ok(false)
+            }
         }
     }
 
     // An output begins, with its message.
-    fn offer(&mut self, made: &Move, chan: u16) -> Result<(), Memory>
+    fn offer(&mut self, made: &Move, chan: u16) -> Result<bool, Memory>
         requires may { MayMove self.old made.now }
         requires is { (site : ℕ) × (made.now ≡ Move.Offer site chan) }
         ensures ok { (plan : Plan) (k : ℕ) → IsNodeOf plan k self.old → OnOk result (MakesMove plan k self.old made.now self.new) }
+        ensures waits { IfOk result (λ waits. waits ≡ true → moves_of self.new.process ≡ without (its_site made.now) (moves_of self.old.process)) }
         ensures err { OnErr result (self.new ≡ self.old) }
     {
         let Some(message) = self.process.value(made)? else {
             unreachable!();
         };
         self.vcp.offer(chan, message.as_slice())?;
-        self.process.act(made, Answer::Nothing)
+        let is_unjoined = self.process.is_unjoined();
+        self.process.act(made, Answer::Nothing)?;
+        Ok(is_unjoined)
     }
 
     // An input begins: it has its message, or waits.
-    fn want(&mut self, made: &Move, chan: u16) -> Result<(), Memory>
+    fn want(&mut self, made: &Move, chan: u16) -> Result<bool, Memory>
         requires may { MayMove self.old made.now }
         requires is { (site : ℕ) × (made.now ≡ Move.Want site chan) }
         ensures ok { (plan : Plan) (k : ℕ) → IsNodeOf plan k self.old → OnOk result (MakesMove plan k self.old made.now self.new) }
+        ensures waits { IfOk result (λ waits. waits ≡ true → moves_of self.new.process ≡ without (its_site made.now) (moves_of self.old.process)) }
         ensures err { OnErr result (self.new ≡ self.old) }
     {
         let answer = answer_of(self.vcp.want(chan)?);
-        self.process.act(made, answer)
+        let waits = matches!(answer, Answer::Waits) && self.process.is_unjoined();
+        self.process.act(made, answer)?;
+        Ok(waits)
     }
 
     // An ALT takes the guard whose piece is there.
@@ -469,7 +489,9 @@ fn first_from(moves: &[Move], site: u16) -> usize
 }
 
 /// The site that makes a move; that of the output where two sites meet.
-pub(crate) fn site_of(made: &Move) -> u16 {
+pub(crate) fn site_of(made: &Move) -> u16
+    ensures { result ≡ its_site made.now }
+{
     match *made {
         Move::Offer { site, .. }
         | Move::Want { site, .. }

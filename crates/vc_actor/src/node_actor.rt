@@ -1,10 +1,11 @@
 //! A node as an actor.
-ghost use Rattle.std.specs.Prelude.{◌≡◌, ◌<◌, ◌↔◌, ℕ, [], false, Some, IsTrue, IfOk, IfSome, OnOk, OnErr};
+ghost use Rattle.std.specs.Prelude.{◌≡◌, ◌<◌, ◌↔◌, ℕ, [], true, false, Some, IsTrue, IfOk, IfSome, OnOk, OnErr};
 ghost use Rattle.vc_actor.specs.Acting.{NodeMay, MakesOwn, MakesTake, MakesPut, MakesGrant, IsOwn};
 ghost use Rattle.vc_actor.specs.Able.{NodeCan};
 ghost use Rattle.vc_actor.specs.OfPlan.{IsNodeOf, IsActorOf};
 ghost use Rattle.vc_actor.specs.Shown.{OfNode};
 ghost use Rattle.vc_actor.specs.Turns.{FindsMove, FindsOf, IsQuiet};
+ghost use Rattle.vc_occam.specs.Moving.{without};
 ghost use Rattle.vc_occam.specs.Remains.{Done};
 ghost use Rattle.vc_occam.specs.Runnings.{inner_channels, moves as moves_of, state};
 ghost use Rattle.vc_vcp.specs.Seen.{seen};
@@ -106,15 +107,21 @@ impl NodeActor {
     {
         match *act {
             Act::Proc(made) => {
-                self.node.make(&made)?;
-                self.is_listed = false;
+                let waits = self.node.make(&made)?;
                 self.is_still = false;
                 self.next_site = site_of(&made).saturating_add(1);
+                self.is_listed = stay_listed(
+                    &mut self.moves,
+                    self.is_listed,
+                    waits,
+                    site_of(&made),
+                );
                 Ok(())
             }
             Act::Pass { link } => {
                 if self.node.pass(link)? {
                     self.is_listed = false;
+                    self.are_many = false;
                 }
                 Ok(())
             }
@@ -262,5 +269,29 @@ impl NodeActor {
         ensures { result ≡ (seen self.now.vcp).carrier.strays }
     {
         self.node.vcp.strays()
+    }
+}
+
+// Where moves are listed and the site that made one waits, the others stay listed; answers whether that is so.
+#[inline(always)]
+fn stay_listed(moves: &mut Items<Move>, are_listed: bool, waits: bool, site: u16) -> bool
+    ensures { result ≡ true → (are_listed ≡ true) × (waits ≡ true) × (moves.new ≡ without site moves.old) }
+{
+    if !are_listed || !waits {
+        return false;
+    }
+    leave_out(moves, site);
+    true
+}
+
+// Takes the first move at a site out of a list.
+fn leave_out(moves: &mut Items<Move>, site: u16)
+    ensures { moves.new ≡ without site moves.old }
+{
+    for place in 0..moves.len() {
+        if site_of(&moves.as_slice()[place]) == site {
+            moves.remove(place);
+            return;
+        }
     }
 }

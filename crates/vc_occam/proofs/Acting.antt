@@ -38,7 +38,7 @@ fresh_doers : (p : Proc) → Within (doers (Fresh p)) (sites p)
 fresh_doers (STOP i) = within_none (just i)
 fresh_doers p = λ k e. e
 
-doers_rest : (r : Rest) → Within (doers r) (sites_rest r)
+pub doers_rest : (r : Rest) → Within (doers r) (sites_rest r)
 doers_rest Done = within_none nothing
 doers_rest Stopped = within_none nothing
 doers_rest (Fresh p) = fresh_doers p

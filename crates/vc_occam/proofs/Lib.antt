@@ -33,5 +33,6 @@ pub mod Unused
 pub mod Waiting
 pub mod Determinate
 pub mod Unjoined
+pub mod Waited
 pub mod Ending
 pub mod Finding

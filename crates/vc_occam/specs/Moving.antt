@@ -1,5 +1,5 @@
 -- What a site does where a move is made, or where it goes on.
-use Rattle.std.specs.Prelude.{◌≡◌, ℕ, true, nat_le, List, [], ◌∷◌, Option, Some, None, if◌then◌else◌}
+use Rattle.std.specs.Prelude.{◌≡◌, ◌==◌, ℕ, true, nat_le, List, [], ◌∷◌, Option, Some, None, if◌then◌else◌}
 use Rattle.std.specs.List.{Contains}
 use Rattle.vc_occam.specs.declared.answer.Answer.{Answer}
 use Rattle.vc_occam.specs.declared.deed.Deed.{Deed}
@@ -25,6 +25,17 @@ site_of (Quiet i) = i
 abbrev pub from_site : ℕ → List Move → Option Move
 from_site i [] = None
 from_site i (m ∷ ms) = if nat_le i (site_of m) then Some m else from_site i ms
+
+-- these moves without the first one at the i-th site
+abbrev pub without : ℕ → List Move → List Move
+without i [] = []
+without i (m ∷ ms) = if site_of m == i then ms else m ∷ without i ms
+
+-- an output begins, or an input that finds no message: its site waits then, and no other has done anything
+abbrev pub BeginsToWait : Move → Answer → Type 0
+BeginsToWait (Offer i c) a = Unit {0}
+BeginsToWait (Want i c) a = came a ≡ None
+BeginsToWait m a = ⊥
 
 -- what its site does, where the channel gave this answer
 abbrev pub deed_for : Move → Answer → Deed

@@ -125,7 +125,7 @@ impl Running {
     ghost use Rattle.std.specs.List.{Contains};
     ghost use Rattle.vc_occam.specs.First.{own};
     ghost use Rattle.vc_occam.specs.Frames.{assigned_at, waits_at};
-    ghost use Rattle.vc_occam.specs.Moving.{CanMeet, from_site};
+    ghost use Rattle.vc_occam.specs.Moving.{BeginsToWait, CanMeet, from_site, site_of, without};
     ghost use Rattle.vc_occam.specs.declared.moves.Move.TheVariants as Move;
     ghost use Rattle.vc_process.specs.Terms.{store};
     ghost use Rattle.vc_process.specs.InOrder.{number};
@@ -297,7 +297,7 @@ impl Running {
 
     /// Makes the move, to which its channel gave this answer; where an output meets an input, that is the output's message, and the
     /// output begins, the input has it, and the output is finished. Only a move without a communication can be without memory,
-    /// and then nothing has changed.
+    /// and then nothing has changed. Where the site waits then and no channel is inside the node, the other moves are what they were.
     #[inline(always)]
     #[tactic(auto, unfolding(crate::specs::Runnings::state, crate::specs::Runnings::inner_channels))]
     pub fn act(&mut self, made: &Move, answer: Answer) -> Result<(), Memory>
@@ -306,6 +306,7 @@ impl Running {
         ensures made { OnOk result (Acts (state self.old) (doing made.now (sent_by (state self.old) made.now) answer) (state self.new)) }
         ensures unchanged { OnErr result ((self.new ≡ self.old) × IsQuiet made.now) }
         ensures inside { inner_channels self.new ≡ inner_channels self.old }
+        ensures waits { OnOk result (BeginsToWait made.now answer → ((c : ℕ) → inner_channels self.old c ≡ false) → moves self.new ≡ without (site_of made.now) (moves self.old)) }
     {
         match made {
             Move::Inner {

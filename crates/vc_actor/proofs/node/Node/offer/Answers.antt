@@ -1,6 +1,5 @@
 use Rattle.std.proofs.Common.{refl, sym, ap, ◌∙◌, subst, Some}
 use Rattle.std.specs.List.{Contains}
-use Rattle.vc_vcp.proofs.Placed.{on_ok}
 use Rattle.vc_occam.specs.Runnings.{state, moves, inner_channels}
 use Rattle.vc_occam.specs.States.{sent_by}
 use Rattle.vc_actor.proofs.Moving.{offers}
@@ -16,6 +15,5 @@ unreachable-requires c =
 
 pub returns-clause-ok : goal.returns-clause-ok
 returns-clause-ok c = λ plan k is.
-    on_ok c.act.result (λ acts.
     offers plan k c.args.self.now _ c.args.made.now c.requires.is.0 c.args.chan c.as_slice.result.now c.requires.is.1 (ap Some c.as_slice.ensures ∙ sym c.in-Some.is ∙ c.in_ok-message.ensures) is c.requires.may.listed
-    c.in_ok-offer.ensures.offers c.in_ok-offer.ensures.links c.in_ok-offer.ensures.kept refl acts c.act.ensures.inside) c.act.ensures.made
+    c.in_ok-offer.ensures.offers c.in_ok-offer.ensures.links c.in_ok-offer.ensures.kept refl c.in_ok-act.ensures.made c.act.ensures.inside

@@ -6,10 +6,10 @@ use Rattle.vc_actor.proofs.Linking.{moved, passed}
 use Rattle.vc_actor.proofs.Parting.{alike}
 use Rattle.vc_actor.proofs.node_actor.NodeActor.make.Goals as goal
 
-pub returns-in_ok-make-in-Proc-clause-ok : goal.returns-in_ok-make-in-Proc-clause-ok
-returns-in_ok-make-in-Proc-clause-ok c =
+pub returns-in_ok-waits-in-Proc-clause-ok : goal.returns-in_ok-waits-in-Proc-clause-ok
+returns-in_ok-waits-in-Proc-clause-ok c =
     alike (λ x y. (plan : _) (k : _) → IsActorOf plan k x → MakesOwn plan k x c.args.act.now y) (OfNode c.self.inside.node) (OfNode c.args.self.now) _ _ (ap OfNode c.self.view_is) refl
-    (λ plan k is. moved plan k c.self.inside.node _ c.in-Proc.made c.args.act.now is.0 c.in-Proc.is (c.in_ok-make-in-Proc.ensures.ok plan k is.1))
+    (λ plan k is. moved plan k c.self.inside.node _ c.in-Proc.made c.args.act.now is.0 c.in-Proc.is (c.in_ok-waits-in-Proc.ensures.ok plan k is.1))
 
 pub returns-then-branch-clause-ok : goal.returns-then-branch-clause-ok
 returns-then-branch-clause-ok c =

@@ -1,14 +1,16 @@
-use Rattle.std.proofs.Common.{sym, subst}
+use Rattle.std.proofs.Common.{◌≡◌, ◌∙◌, ap, sym, subst}
 use Rattle.std.specs.List.{Contains}
 use Rattle.vc_occam.specs.declared.moves.Move.{Move}
 use Rattle.vc_occam.specs.First.{own, first_moves}
 use Rattle.vc_occam.specs.Frames.{view}
-use Rattle.vc_occam.specs.Moving.{CanBegin, HasMet, at}
+use Rattle.vc_occam.specs.Moving.{CanBegin, HasMet, at, site_of, without}
 use Rattle.vc_occam.specs.Runnings.{state, inner_channels}
 use Rattle.vc_occam.specs.States.{Acts, FitsMove, doing, sent_by}
 use Rattle.vc_process.specs.Terms.{store}
 use Rattle.vc_process.specs.Usage.{among}
 use Rattle.vc_occam.proofs.Meets.{acts_met, can_begin, meeting_listed, other_listed, met_sites, met_use}
+use Rattle.vc_occam.proofs.Unjoined.{apart}
+use Rattle.vc_occam.proofs.Waited.{stays}
 use Rattle.vc_occam.proofs.running.Running.act.Goals as goal
 
 pub meet-self-requires-clause-meets : goal.meet-self-requires-clause-meets
@@ -62,3 +64,14 @@ unfolding state inner_channels
 act_alone-requires-clause-listed c =
     let self = c.args.self.now in
     (other_listed (among self.inside) (view self.frame).1 (store self.vars.items) c.args.made.now c.in_default.not-Inner c.requires.listed).1
+
+pub returns-in_default-clause-waits : goal.returns-in_default-clause-waits
+unfolding state inner_channels
+returns-in_default-clause-waits c = λ waits none.
+    let self = c.args.self.now in
+    let next = c.act_alone.new.self in
+    let i = site_of c.args.made.now in
+    let ms = own (view self.frame).1 (store self.vars.items) in
+    let ns = own (view next.frame).1 (store next.vars.items) in
+    let kept : ns ≡ without i ms = stays (state self) (state next) c.args.made.now (sent_by (state self) c.args.made.now) c.args.answer self.own_sites c.act_alone.ensures.made waits in
+    apart (inner_channels next) (λ d. ap (λ s. s d) c.act_alone.ensures.inside ∙ none d) ns ns ∙ kept ∙ ap (without i) (sym (apart (inner_channels self) none ms ms))
