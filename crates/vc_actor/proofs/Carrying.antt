@@ -61,6 +61,9 @@ next_tells p acc ws new k x there is long before v f =
 pub few_channels : (p : Plan) → IsAccepted p → length p.channels ≤ 512
 few_channels p acc = let h = (kept p acc).channels in grind (arith, nat_tests)
 
+pub few_nodes : (p : Plan) → IsAccepted p → length p.nodes ≤ 32
+few_nodes p acc = let h = (kept p acc).nodes in grind (arith, nat_tests)
+
 -- a node's ends by such a table are those of the plan
 pub ends_are : (p : Plan) (ws : List Ways) → AreWaysOf p ws → (n : ℕ) → ends_among (on_link ws) n 0 p.vlinks ≡ ends_of_node p n
 ends_are p ws is n = ap (λ on. ends_among on n 0 p.vlinks) (fun_ext (λ v. fun_ext (λ f. is.tells v f)))

@@ -1,14 +1,18 @@
 -- What a change of one channel inside a node is to what the channels show.
-use Rattle.std.proofs.Common.{◌≡◌, ◌↔◌, ℕ, suc, List, [], ◌∷◌, ◌++◌, length, refl, sym, ap, ◌∙◌, subst, inl, inr, slice_get, slice_set, get_or, ◌<◌, Some, true, IsSome}
-use Rattle.std.proofs.lemmas.Bool.{cases_eq}
+use Rattle.std.proofs.Common.{◌≡◌, ◌↔◌, ℕ, suc, List, [], ◌∷◌, ◌++◌, length, refl, sym, ap, ◌∙◌, subst, inl, inr, slice_get, slice_set, get_or, ◌<◌, Some, None, Option, Bool, true, false, IsTrue, IsSome}
+use Rattle.std.proofs.lemmas.Bool.{cases_eq, false≢true}
 use Rattle.std.proofs.lemmas.Option.{slice_get-get_or}
 use Rattle.vc_machine.specs.Rendezvous.{View, nothing_yet}
 use Rattle.vc_packets.specs.Functions.{put}
+use Rattle.vc_network.specs.Views.{halves_view}
 use Rattle.vc_vcp.specs.Keyed.{named, NamesDiffer, shown_or}
+use Rattle.vc_vcp.specs.Seen.{seen}
 use Rattle.vc_vcp.proofs.KeyedLemmas.{by_name-set, named_has, named_at, named-set_same, named-set_other}
 use Rattle.vc_actor.specs.Inside.{exchanged_on, stopped_on}
 use Rattle.vc_actor.specs.Shown.{view_of, views_of}
+use Rattle.vc_actor.specs.Viewed.{by_inside, node_view}
 use Rattle.vc_actor.specs.declared.inside.Internal.{Internal}
+use Rattle.vc_actor.specs.declared.node.Node.{Node}
 
 abbrev pub name : Internal → ℕ
 name x = x.chan
@@ -72,3 +76,12 @@ exchanges_at xs now c i x m same at = exchanges xs c i x m at.differ at.found at
 pub keeps_names : (xs now : List Internal) (c i : ℕ) (x y : Internal) → xs ≡ now → At xs now c i x → y.chan ≡ x.chan →
     (k : ℕ) → IsSome (named name k (slice_set xs i y)) ↔ IsSome (named name k now)
 keeps_names xs now c i x y same at is k = subst (λ z. IsSome (named name k (slice_set xs i y)) ↔ IsSome (named name k z)) same (same_names xs i x y at.differ at.here is k)
+
+-- a channel that is not inside a node shows what the halves of it there do
+by_halves : (x : Option Internal) (v : View) (b : Bool) → IsTrue b ↔ IsSome x → b ≡ false → by_inside x v ≡ v
+by_halves None v b is not = refl
+by_halves (Some x) v b is not = absurd (false≢true (sym not ∙ is.1 refl))
+
+pub no_inside : (n : Node) (c : ℕ) (b : Bool) → IsTrue b ↔ IsSome (named name c n.inside) → b ≡ false →
+    node_view n c ≡ halves_view ((seen n.vcp).carrier.out c) ((seen n.vcp).carrier.into c)
+no_inside n c b is not = by_halves (named name c n.inside) (halves_view ((seen n.vcp).carrier.out c) ((seen n.vcp).carrier.into c)) b is not

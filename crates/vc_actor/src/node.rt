@@ -8,7 +8,9 @@ ghost use Rattle.vc_actor.specs.Acting.{NodeMay};
 ghost use Rattle.vc_actor.specs.Turns.{IsTurn, IsQuiet, FindsAt, FindsMove};
 ghost use Rattle.vc_occam.specs.Moving.{site_of as its_site, without};
 ghost use Rattle.vc_occam.specs.States.{came};
-ghost use Rattle.vc_vcp.specs.Seen.{seen, answered, passed_of};
+ghost use Rattle.vc_vcp.specs.Able.{CanFetch};
+ghost use Rattle.vc_vcp.specs.Seen.{seen, answered, ends_of, passed_of};
+ghost use Rattle.vc_vcp.specs.State.{IsOpen};
 ghost use Rattle.vc_vcp.specs.Steps.{Complete, Finished};
 ghost use Rattle.vc_network.specs.Network.{GoesOn};
 ghost use Rattle.vc_told.specs.Process.{does};
@@ -71,11 +73,20 @@ impl Node {
         match *made {
             Move::Offer { chan, .. } => self.vcp.may_offer(chan),
             Move::Want { chan, .. } => self.vcp.may_want(chan),
-            Move::Choose { chan, .. } => self.vcp.may_want(chan) && self.vcp.ready(chan),
+            Move::Choose { chan, .. } => self.may_choose(chan),
             Move::Stopch { chan, .. } => self.vcp.may_stop(chan) || self.inside.has(chan),
             Move::Inner { chan, .. } => self.inside.is_open(chan),
             Move::Quiet { .. } => true,
         }
+    }
+
+    // Whether a guard's piece is there, and no input waits on its channel.
+    #[inline]
+    fn may_choose(&self, chan: u16) -> bool
+        ensures lets { IsTrue result ↔ (IsOpen self.now.vcp chan × (((seen self.now.vcp).carrier.into chan).held ≢ None)) }
+        ensures can { IsTrue result ↔ CanFetch (ends_of self.now.vcp) (seen self.now.vcp).carrier chan }
+    {
+        self.vcp.may_want(chan) && self.vcp.ready(chan)
     }
 
     /// The least link whose buffer has a token.

@@ -1,10 +1,26 @@
-use Rattle.std.proofs.Common.{sym, subst}
+use Rattle.std.proofs.Common.{◌≡◌, length, slice_get, Some, refl, sym, ap, ◌∙◌, subst, arith}
+use Rattle.std.proofs.lemmas.Option.{slice_get_read}
 use Rattle.vc_actor.specs.Begin.{BeginsAs}
 use Rattle.vc_actor.proofs.Beginning.{none_yet, first_more}
+use Rattle.vc_actor.proofs.Carrying.{few_nodes}
 use Rattle.vc_actor.proofs.building.add_nodes.Goals as goal
 
 pub loop-i-init : goal.loop-i-init
 loop-i-init c = none_yet c.args.plan.now c.args.actors.now.items c.requires.none
+
+pub overflow_cast-i : goal.overflow_cast-i
+overflow_cast-i c =
+    let few = few_nodes c.args.plan.now c.requires.accepted in
+    let same = ap length c.as_slice-node-items.ensures in
+    let less = c.loop-i-test.true in
+    omega arith
+
+pub build_node-requires-clause-node : goal.build_node-requires-clause-node
+build_node-requires-clause-node c =
+    let xs = c.as_slice-node-items.result.now in
+    let k = c.loop-i.i in
+    let there : slice_get xs k ≡ Some c.node-item.result = slice_get_read xs (length xs) k c.node-item.result refl c.loop-i-test.true c.node-item.is in
+    sym (ap (λ z. slice_get z k) c.as_slice-node-items.ensures) ∙ there
 
 pub loop-i-preserved : goal.loop-i-preserved
 loop-i-preserved c =

@@ -1,8 +1,15 @@
-use Rattle.std.proofs.Common.{◌≡◌, length, take, slice_get, Some, refl, sym, ap, ◌∙◌, add-one}
+use Rattle.std.proofs.Common.{◌≡◌, length, take, slice_get, Some, refl, sym, ap, ◌∙◌, add-one, arith}
 use Rattle.std.proofs.lemmas.Option.{slice_get_read}
 use Rattle.vc_accepted.specs.Given.{first_on}
-use Rattle.vc_actor.proofs.Carrying.{next_long, next_tells}
+use Rattle.vc_actor.proofs.Carrying.{few_channels, next_long, next_tells}
 use Rattle.vc_actor.proofs.building.ways_of.Goals as goal
+
+pub overflow_cast-chan : goal.overflow_cast-chan
+overflow_cast-chan c =
+    let few = few_channels c.args.plan.now c.requires in
+    let same = ap length c.as_slice-channel-items.ensures in
+    let less = c.loop-chan-test.true in
+    omega arith
 
 pub loop-chan-preserved : goal.loop-chan-preserved
 loop-chan-preserved c =

@@ -14,3 +14,9 @@ returns-clause-finds c = λ plan k is.
     let all : moves n.process ≡ made ∷ [] = c.in_ok-site.ensures in
     let there : Contains (made ∷ []) made = Contains-get_or (made ∷ []) 0 made (omega arith) in
     (made, refl, half_can plan k n made is (subst (λ (ms : List Move). Contains ms made) (sym all) there) tt)
+
+pub returns-clause-may : goal.returns-clause-may
+returns-clause-may c =
+    let made = Quiet c.in_ok-site.site in
+    let there : Contains (made ∷ []) made = Contains-get_or (made ∷ []) 0 made (omega arith) in
+    record { listed = subst (λ (ms : List Move). Contains ms made) (sym c.in_ok-site.ensures) there; answers = tt }

@@ -1,5 +1,7 @@
-use Rattle.std.proofs.Common.{subst, arith}
-use Rattle.vc_switch.specs.State.{IsSwitch}
+use Rattle.std.proofs.Common.{◌↔◌, IsTrue, subst, arith, rules}
+use Rattle.vc_switch.specs.Able.{CanRoute}
+use Rattle.vc_switch.specs.Seen.{seen}
+use Rattle.vc_switch.specs.State.{IsSwitch, plan_of}
 use Rattle.vc_actor.specs.declared.act.Act.TheVariants.{Route}
 use Rattle.vc_actor.proofs.Switching.{within}
 use Rattle.vc_actor.proofs.switch_actor.SwitchActor.can_route.Goals.{then-input-links-via-then-input-links, then-input-links-via-else-input-links+then-output-links}
@@ -18,3 +20,12 @@ returns-then-input-links-clause-can c = (
         | then-input-links-via-else-input-links+then-output-links w ↦ (let far = w.if-output-links.true in absurd (omega arith))
       ]),
 )
+
+pub returns-clause-can : goal.returns-clause-can
+returns-clause-can c =
+    subst (λ s. IsTrue c.may_route.result ↔ CanRoute (plan_of s) (seen s) c.args.input c.args.output) c.switch-switch.ensures c.may_route.ensures
+
+pub returns-clause-may : goal.returns-clause-may
+returns-clause-may c =
+    let can = subst (λ s. IsTrue c.may_route.result ↔ CanRoute (plan_of s) (seen s) c.args.input c.args.output) c.switch-switch.ensures c.may_route.ensures in
+    (λ t. record { links = search rules; can = can.0 t }, λ may. can.1 may.can)
