@@ -1,8 +1,7 @@
 -- A node's steps exist exactly where its calls may be made.
-use Rattle.std.proofs.Common.{◌≡◌, ◌≢◌, ℕ, ◌+◌, ◌<◌, Bool, true, false, List, [], ◌∷◌, ◌++◌, refl, sym, ap, ◌∙◌, subst, slice_get, slice_set, IsTrue, ◌↔◌, Option, Some, None, Bor}
+use Rattle.std.proofs.Common.{◌≡◌, ◌≢◌, ℕ, ◌+◌, ◌<◌, Bool, true, false, List, [], ◌∷◌, ◌++◌, refl, sym, ap, ◌∙◌, subst, slice_get, slice_set, IsTrue, ◌↔◌, Option, Some, None}
 use mathlib.Core.Bool.{not}
 use Rattle.std.specs.Bool.{OnTrue}
-use Rattle.std.specs.Option.{is_some, option_copied}
 use Rattle.vc_packets.specs.declared.packet.Packet.{Packet}
 use Rattle.vc_packets.specs.Pieces.{Pieces}
 use Rattle.vc_packets.specs.Spellings.{piece_packet}
@@ -235,23 +234,6 @@ put_iff s l x false here iff can =
 pub grant_iff : (s : State) (l : ℕ) (x : Receiving) (b : Bool) → slice_get s.ins l ≡ Some x → (IsTrue b ↔ HasRoom x.receiver) → IsTrue b ↔ CanGrant (seen s) l
 grant_iff s l x b here iff =
     (λ t. can_grant s l (record { into = x; here = here; room = iff.0 t }), λ can. (let m = grants_may s l x here can in iff.1 (subst (λ z. HasRoom z.receiver) (same_some (slice_get s.ins l) m.into x m.here here) m.room)))
-
-pub idle_iff : (s : State) (c : ℕ) (a : Output) (b : Bool) → named (λ x. x.chan) c s.outputs ≡ Some a → (IsTrue b ↔ (a.half.unacked ≡ [])) → IsTrue b ↔ IsIdle s c
-idle_iff s c a b here iff =
-    (λ t. record { output = a; here = here; idle = iff.0 t }, λ i. iff.1 (subst (λ z. z.half.unacked ≡ []) (same_some (named (λ x. x.chan) c s.outputs) i.output a i.here here) i.idle))
-
-pub unwanted_iff : (s : State) (c : ℕ) (a : Input) (b : Bool) → named (λ x. x.chan) c s.inputs ≡ Some a → (IsTrue b ↔ (a.half.wants ≡ false)) → IsTrue b ↔ IsUnwanted s c
-unwanted_iff s c a b here iff =
-    (λ t. record { input = a; here = here; idle = iff.0 t }, λ i. iff.1 (subst (λ z. z.half.wants ≡ false) (same_some (named (λ x. x.chan) c s.inputs) i.input a i.here here) i.idle))
-
-pub ready_iff : (s : State) (c : ℕ) (a : Input) (b : Bool) → named (λ x. x.chan) c s.inputs ≡ Some a → (IsTrue b ↔ ((a.half.held ≢ None) × (a.half.stopped ≡ false))) → IsTrue b ↔ IsReady ((carrier_of s).into c)
-ready_iff s c a b here iff =
-    subst (λ z. IsTrue b ↔ IsReady (shown_or no_input in_half z)) (sym here)
-    (λ t. record { held = (iff.0 t).0; not_stopped = (iff.0 t).1 }, λ r. iff.1 (r.held, r.not_stopped))
-
-pub holds_iff : (o : Option (Bor Packet)) (b : Bool) (h : Option Packet) → b ≡ is_some o → option_copied o ≡ h → IsTrue b ↔ (h ≢ None)
-holds_iff None b h is held = (λ t. (let e : false ≡ true = sym is ∙ t in absurd (cc)), λ some. absurd (some (sym held)))
-holds_iff (Some p) b h is held = (λ t none. (let e : Some p.now ≡ None = held ∙ none in absurd (cc)), λ some. is)
 
 -- Where nothing has the name nothing may be done.
 

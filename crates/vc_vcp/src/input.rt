@@ -2,7 +2,7 @@
 //!
 //! A stored piece is acknowledged, a held one is not. The acknowledge is queued and a whole message logged before the half
 //! changes, and both are taken back where the half finds no memory, so that the input and the queue are then as they were.
-ghost use Rattle.std.specs.Prelude.{◌≡◌, ◌≤◌, [], ◌++◌, ℕ, List, length, Some, None, false, if◌then◌else◌, IfOk, OnOk, OnErr};
+ghost use Rattle.std.specs.Prelude.{◌≡◌, ◌≤◌, [], ◌++◌, ℕ, List, length, Some, None, false, true, if◌then◌else◌, IfOk, OnOk, OnErr};
 ghost use Rattle.vc_blocks.specs.Halves.{IsPiece};
 ghost use Rattle.vc_blocks.specs.Arriving.{after_arrival, arrival_of, after_want, want_of};
 ghost use Rattle.std.specs.Option.{option_to_list};
@@ -55,14 +55,7 @@ impl Input {
         if !self.half.wants() {
             return self.half.arrive_body(body, mark);
         }
-        let copy = whole(&self.half, body, mark)?;
-        let is_whole = copy.is_some();
-        self.prepare(queue, alloc, copy)?;
-        let arrived = self.half.arrive_body(body, mark);
-        if arrived.is_err() {
-            self.undo(queue, is_whole);
-        }
-        arrived
+        self.store(queue, alloc, body, mark)
     }
 
     /// A process inputs: the held piece is stored and its acknowledge queued, or the input waits.
@@ -89,6 +82,36 @@ impl Input {
             self.undo(queue, is_whole);
         }
         wanted
+    }
+
+    // A piece arrives for a process that inputs: it is stored, and its acknowledge queued.
+    fn store(
+        &mut self,
+        queue: &mut LinkOut,
+        alloc: Global,
+        body: &[u8],
+        mark: Mark,
+    ) -> Result<Arrival, Memory>
+        requires wanted { self.old.half.wants ≡ true }
+        requires empty { self.old.half.held ≡ None }
+        requires piece { IsPiece (record { body = body.now; mark = mark }) }
+        ensures sender { queue.new.sender ≡ queue.old.sender }
+        ensures stays { StaysInput self.old self.new }
+        ensures is { IsInput self.old → IsInput self.new }
+        ensures arrival { IfOk result (λ a. a ≡ arrival_of self.old.half (record { body = body.now; mark = mark }) true) }
+        ensures input { IfOk result (λ a. self.new ≡ record self.old { half = after_arrival self.old.half (record { body = body.now; mark = mark }) true; taken = logged self.old.taken a }) }
+        ensures queue { IfOk result (λ a. queue.new ≡ acknowledged queue.old self.old.route a) }
+        ensures err { OnErr result (self.new ≡ self.old) }
+        ensures err_queue { OnErr result (queue.new ≡ queue.old) }
+    {
+        let copy = whole(&self.half, body, mark)?;
+        let is_whole = copy.is_some();
+        self.prepare(queue, alloc, copy)?;
+        let arrived = self.half.arrive_body(body, mark);
+        if arrived.is_err() {
+            self.undo(queue, is_whole);
+        }
+        arrived
     }
 
     // An acknowledge is queued, and the message logged where it is whole.
