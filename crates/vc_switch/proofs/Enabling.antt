@@ -1,6 +1,7 @@
 -- Where a switch has a step.
-use Rattle.std.proofs.Common.{◌≡◌, ◌≢◌, ℕ, ◌+◌, Bool, IsTrue, ◌↔◌, List, [], ◌∷◌, ◌++◌, length, refl, sym, ap, ◌∙◌, subst, slice_get, Option, Some, None, ◌⊎◌, inl, inr}
+use Rattle.std.proofs.Common.{◌≡◌, ◌≢◌, ◌<◌, ℕ, ◌+◌, Bool, IsTrue, ◌↔◌, List, [], ◌∷◌, ◌++◌, length, refl, sym, ap, ◌∙◌, subst, slice_get, get_or, Option, Some, None, ◌⊎◌, inl, inr}
 use Rattle.std.proofs.lemmas.Bool.{cases_lt}
+use Rattle.std.proofs.lemmas.Option.{slice_get_read}
 use Rattle.std.specs.List.{AllByRecursion}
 use Rattle.vc_packets.specs.Counting.{one_more}
 use Rattle.vc_packets.specs.declared.mark.Mark.{Mark}
@@ -10,7 +11,7 @@ use Rattle.vc_switch.specs.Forward.{SwitchPlan}
 use Rattle.vc_switch.specs.Switch.{Switch, set_input, with_header, passing, Passes, passes_byte, drops_byte, passes_mark, loses, HasGroup}
 use Rattle.vc_switch.specs.Able.{CanPass, CanGrant, IsFree}
 use Rattle.vc_switch.specs.State.{State, IsSwitch, shown_or, plan_of, limit_of}
-use Rattle.vc_switch.specs.Seen.{seen}
+use Rattle.vc_switch.specs.Seen.{seen, input_of}
 use Rattle.vc_switch.specs.declared.link_in.LinkIn.{LinkIn}
 use Rattle.vc_switch.specs.declared.link_out.LinkOut.{LinkOut}
 use Rattle.vc_switch.proofs.Fronts.{either_group}
@@ -59,7 +60,7 @@ can_by limit plan s l (Fct ∷ ks) going front all some = absurd (all.0 refl)
 can_by limit plan s l (Byte b ∷ ks) going front all some = byte_can limit plan s l b ks going front
 can_by limit plan s l (EndMark m ∷ ks) going front all some = mark_by limit plan s l m ks going front (either_group plan (with_header plan l (s.input l)))
 
-waits_by : (limit : ℕ) (plan : SwitchPlan) (s new : Switch) (l : ℕ) → Passes limit plan s l new → ((s.input l).mark ≡ None) × ((s.input l).receiver.buffer ≢ [])
+pub waits_by : (limit : ℕ) (plan : SwitchPlan) (s new : Switch) (l : ℕ) → Passes limit plan s l new → ((s.input l).mark ≡ None) × ((s.input l).receiver.buffer ≢ [])
 waits_by limit plan s new l (passes_byte b rest going front room after) = (going, λ e. (let q : Byte b ∷ rest ≡ [] = sym front ∙ e in absurd (cc)))
 waits_by limit plan s new l (drops_byte b rest going front full after) = (going, λ e. (let q : Byte b ∷ rest ≡ [] = sym front ∙ e in absurd (cc)))
 waits_by limit plan s new l (passes_mark m rest going front group after) = (going, λ e. (let q : EndMark m ∷ rest ≡ [] = sym front ∙ e in absurd (cc)))
@@ -73,3 +74,12 @@ pass_iff s l x b w here is =
       λ can. is.1 (let waits = waits_by (limit_of s.inputs) (plan_of s) (seen s) can.0 l can.1 in
           (sym (ap (λ z. z.mark) at) ∙ waits.0, λ e. waits.1 (ap (λ z. z.receiver.buffer) at ∙ e))),
     )
+
+-- A token passes.
+
+-- what indexing reads of the inputs is the input of this link
+pub input_read : (o s : State) (k l : ℕ) (a : LinkIn) → o ≡ s → k ≡ l → length o.inputs ≡ 32 → l < 32 → a ≡ get_or o.inputs k a → (slice_get s.inputs l ≡ Some a) × ((seen s).input l ≡ input_of a)
+input_read o s k l a shows same long less is =
+    let read = slice_get_read o.inputs 32 k a (sym long) (subst (λ z. z < 32) (sym same) less) is in
+    let here = subst (λ z. slice_get z.inputs l ≡ Some a) shows (subst (λ j. slice_get o.inputs j ≡ Some a) same read) in
+    (here, input_at s l a here)

@@ -6,17 +6,40 @@ use crate::link_in::LinkIn;
 use crate::link_out::LinkOut;
 use crate::random_range::RandomRange;
 use crate::switch_plan::RandomInput;
+use sqlite_items::Items;
 use std::alloc::Global;
 use vc_packets::Memory;
 
 /// How many links a switch has.
 const LINKS: u8 = 32;
 
-/// The random range of each input link.
-pub(crate) fn ranges(
+/// What the links do with headers: the random range of each input link, and whether each output link deletes the front header.
+pub(crate) fn headers(
+    alloc: Global,
+    random: Items<RandomInput>,
+    delete: Items<u8>,
+) -> Result<(Vec<Option<RandomRange>>, Vec<bool>), Memory>
+    ensures ranges { IfOk result (λ all. all.0.items ≡ listed (range_given random) link_count) }
+    ensures deletions { IfOk result (λ all. all.1.items ≡ listed (deletes delete) link_count) }
+{
+    headers_by(alloc, random.as_slice(), delete.as_slice())
+}
+
+// What the links do with headers, by these lists.
+fn headers_by(
     alloc: Global,
     random: &[RandomInput],
-) -> Result<Vec<Option<RandomRange>>, Memory>
+    delete: &[u8],
+) -> Result<(Vec<Option<RandomRange>>, Vec<bool>), Memory>
+    ensures ranges { IfOk result (λ all. all.0.items ≡ listed (range_given random.now) link_count) }
+    ensures deletions { IfOk result (λ all. all.1.items ≡ listed (deletes delete.now) link_count) }
+{
+    let ranges = ranges(alloc, random)?;
+    Ok((ranges, deletions(alloc, delete)?))
+}
+
+// The random range of each input link.
+fn ranges(alloc: Global, random: &[RandomInput]) -> Result<Vec<Option<RandomRange>>, Memory>
     ensures { IfOk result (λ ranges. ranges.items ≡ listed (range_given random.now) link_count) }
 {
     let mut ranges = Vec::new(alloc);
@@ -41,8 +64,8 @@ fn range_of(random: &[RandomInput], link: u8) -> Option<RandomRange>
     None
 }
 
-/// Whether each output link deletes the front header.
-pub(crate) fn deletions(alloc: Global, delete: &[u8]) -> Result<Vec<bool>, Memory>
+// Whether each output link deletes the front header.
+fn deletions(alloc: Global, delete: &[u8]) -> Result<Vec<bool>, Memory>
     ensures { IfOk result (λ all. all.items ≡ listed (deletes delete.now) link_count) }
 {
     let mut all = Vec::new(alloc);
@@ -64,8 +87,17 @@ fn does_delete(delete: &[u8], link: u8) -> bool
     false
 }
 
-/// The receiving ends of the links, for packets of at most `limit` bytes.
-pub(crate) fn inputs(alloc: Global, limit: usize) -> Result<Vec<LinkIn>, Memory>
+/// The two ends of each link, for packets of at most `limit` bytes.
+pub(crate) fn links(alloc: Global, limit: usize) -> Result<(Vec<LinkIn>, Vec<LinkOut>), Memory>
+    ensures inputs { IfOk result (λ all. all.0.items ≡ listed (λ link. new_link_in limit) link_count) }
+    ensures outputs { IfOk result (λ all. all.1.items ≡ listed (λ link. new_link_out) link_count) }
+{
+    let outputs = outputs(alloc)?;
+    Ok((inputs(alloc, limit)?, outputs))
+}
+
+// The receiving ends of the links, for packets of at most `limit` bytes.
+fn inputs(alloc: Global, limit: usize) -> Result<Vec<LinkIn>, Memory>
     ensures { IfOk result (λ inputs. inputs.items ≡ listed (λ link. new_link_in limit) link_count) }
 {
     let mut inputs = Vec::new(alloc);
@@ -75,8 +107,8 @@ pub(crate) fn inputs(alloc: Global, limit: usize) -> Result<Vec<LinkIn>, Memory>
     Ok(inputs)
 }
 
-/// The sending ends of the links.
-pub(crate) fn outputs(alloc: Global) -> Result<Vec<LinkOut>, Memory>
+// The sending ends of the links.
+fn outputs(alloc: Global) -> Result<Vec<LinkOut>, Memory>
     ensures { IfOk result (λ outputs. outputs.items ≡ listed (λ link. new_link_out) link_count) }
 {
     let mut outputs = Vec::new(alloc);

@@ -64,12 +64,19 @@ impl Switch {
         ensures plan { IfOk result (λ switch. plan_of switch ≡ plan_given plan) }
         ensures limit { IfOk result (λ switch. limit_of switch.inputs ≡ body_limit) }
     {
+        let SwitchPlan {
+            table,
+            delete,
+            random,
+        } = plan;
+        let (ranges, deletes) = opening::headers(alloc, random, delete)?;
+        let (inputs, outputs) = opening::links(alloc, body_limit)?;
         Ok(Switch {
-            ranges: opening::ranges(alloc, plan.random.as_slice())?,
-            deletes: opening::deletions(alloc, plan.delete.as_slice())?,
-            inputs: opening::inputs(alloc, body_limit)?,
-            outputs: opening::outputs(alloc)?,
-            table: plan.table,
+            table,
+            ranges,
+            deletes,
+            inputs,
+            outputs,
             lost: 0,
         })
     }

@@ -1,5 +1,4 @@
 use Rattle.std.proofs.Common.{◌≡◌, subst, sym, ap, ◌∙◌}
-use Rattle.vc_switch.specs.Opening.{listed, link_count, range_given, deletes}
 use Rattle.vc_switch.specs.State.{State, IsSwitch, plan_of, limit_of}
 use Rattle.vc_switch.specs.Seen.{seen}
 use Rattle.vc_switch.proofs.Opened.{begun, begun_switch, begun_seen, begun_plan, begun_limit}
@@ -7,36 +6,36 @@ use Rattle.vc_switch.proofs.switch.Switch.new.Goals as goal
 
 pub invariant_of-result : goal.invariant_of-result
 invariant_of-result c =
-    let ranges = c.in_ok-ranges.ensures ∙ ap (λ z. listed (range_given z) link_count) c.as_slice.ensures in
-    let all = c.in_ok-deletions.ensures ∙ ap (λ z. listed (deletes z) link_count) c.as_slice-2.ensures in
-    let n : State = record { table = c.args.plan.table; ranges = c.in_ok-ranges.field-0.items; deletes = c.in_ok-deletions.field-0.items; inputs = c.in_ok-inputs.field-0.items; outputs = c.in_ok-outputs.field-0.items; lost = 0 } in
+    let ranges = c.in_ok-ranges.ensures.ranges in
+    let all = c.in_ok-ranges.ensures.deletions in
+    let n : State = record { table = c.args.plan.table; ranges = c.in_ok-ranges.ranges.items; deletes = c.in_ok-ranges.deletes.items; inputs = c.in_ok-inputs.inputs.items; outputs = c.in_ok-inputs.outputs.items; lost = 0 } in
     let is : n ≡ begun c.args.plan c.args.body_limit =
-    (λ i. record { table = c.args.plan.table; ranges = ranges i; deletes = all i; inputs = c.in_ok-inputs.ensures i; outputs = c.in_ok-outputs.ensures i; lost = 0 }) in
+    (λ i. record { table = c.args.plan.table; ranges = ranges i; deletes = all i; inputs = c.in_ok-inputs.ensures.inputs i; outputs = c.in_ok-inputs.ensures.outputs i; lost = 0 }) in
     subst IsSwitch (sym is) (begun_switch c.args.plan c.args.body_limit c.requires.table c.requires.limit c.requires.random)
 
 pub returns-clause-seen : goal.returns-clause-seen
 returns-clause-seen c =
-    let ranges = c.in_ok-ranges.ensures ∙ ap (λ z. listed (range_given z) link_count) c.as_slice.ensures in
-    let all = c.in_ok-deletions.ensures ∙ ap (λ z. listed (deletes z) link_count) c.as_slice-2.ensures in
-    let n : State = record { table = c.args.plan.table; ranges = c.in_ok-ranges.field-0.items; deletes = c.in_ok-deletions.field-0.items; inputs = c.in_ok-inputs.field-0.items; outputs = c.in_ok-outputs.field-0.items; lost = 0 } in
+    let ranges = c.in_ok-ranges.ensures.ranges in
+    let all = c.in_ok-ranges.ensures.deletions in
+    let n : State = record { table = c.args.plan.table; ranges = c.in_ok-ranges.ranges.items; deletes = c.in_ok-ranges.deletes.items; inputs = c.in_ok-inputs.inputs.items; outputs = c.in_ok-inputs.outputs.items; lost = 0 } in
     let is : n ≡ begun c.args.plan c.args.body_limit =
-    (λ i. record { table = c.args.plan.table; ranges = ranges i; deletes = all i; inputs = c.in_ok-inputs.ensures i; outputs = c.in_ok-outputs.ensures i; lost = 0 }) in
+    (λ i. record { table = c.args.plan.table; ranges = ranges i; deletes = all i; inputs = c.in_ok-inputs.ensures.inputs i; outputs = c.in_ok-inputs.ensures.outputs i; lost = 0 }) in
     ap seen is ∙ begun_seen c.args.plan c.args.body_limit
 
 pub returns-clause-plan : goal.returns-clause-plan
 returns-clause-plan c =
-    let ranges = c.in_ok-ranges.ensures ∙ ap (λ z. listed (range_given z) link_count) c.as_slice.ensures in
-    let all = c.in_ok-deletions.ensures ∙ ap (λ z. listed (deletes z) link_count) c.as_slice-2.ensures in
-    let n : State = record { table = c.args.plan.table; ranges = c.in_ok-ranges.field-0.items; deletes = c.in_ok-deletions.field-0.items; inputs = c.in_ok-inputs.field-0.items; outputs = c.in_ok-outputs.field-0.items; lost = 0 } in
+    let ranges = c.in_ok-ranges.ensures.ranges in
+    let all = c.in_ok-ranges.ensures.deletions in
+    let n : State = record { table = c.args.plan.table; ranges = c.in_ok-ranges.ranges.items; deletes = c.in_ok-ranges.deletes.items; inputs = c.in_ok-inputs.inputs.items; outputs = c.in_ok-inputs.outputs.items; lost = 0 } in
     let is : n ≡ begun c.args.plan c.args.body_limit =
-    (λ i. record { table = c.args.plan.table; ranges = ranges i; deletes = all i; inputs = c.in_ok-inputs.ensures i; outputs = c.in_ok-outputs.ensures i; lost = 0 }) in
+    (λ i. record { table = c.args.plan.table; ranges = ranges i; deletes = all i; inputs = c.in_ok-inputs.ensures.inputs i; outputs = c.in_ok-inputs.ensures.outputs i; lost = 0 }) in
     ap plan_of is ∙ begun_plan c.args.plan c.args.body_limit c.requires.delete c.requires.random
 
 pub returns-clause-limit : goal.returns-clause-limit
 returns-clause-limit c =
-    let ranges = c.in_ok-ranges.ensures ∙ ap (λ z. listed (range_given z) link_count) c.as_slice.ensures in
-    let all = c.in_ok-deletions.ensures ∙ ap (λ z. listed (deletes z) link_count) c.as_slice-2.ensures in
-    let n : State = record { table = c.args.plan.table; ranges = c.in_ok-ranges.field-0.items; deletes = c.in_ok-deletions.field-0.items; inputs = c.in_ok-inputs.field-0.items; outputs = c.in_ok-outputs.field-0.items; lost = 0 } in
+    let ranges = c.in_ok-ranges.ensures.ranges in
+    let all = c.in_ok-ranges.ensures.deletions in
+    let n : State = record { table = c.args.plan.table; ranges = c.in_ok-ranges.ranges.items; deletes = c.in_ok-ranges.deletes.items; inputs = c.in_ok-inputs.inputs.items; outputs = c.in_ok-inputs.outputs.items; lost = 0 } in
     let is : n ≡ begun c.args.plan c.args.body_limit =
-    (λ i. record { table = c.args.plan.table; ranges = ranges i; deletes = all i; inputs = c.in_ok-inputs.ensures i; outputs = c.in_ok-outputs.ensures i; lost = 0 }) in
+    (λ i. record { table = c.args.plan.table; ranges = ranges i; deletes = all i; inputs = c.in_ok-inputs.ensures.inputs i; outputs = c.in_ok-inputs.ensures.outputs i; lost = 0 }) in
     ap (λ z. limit_of z.inputs) is ∙ begun_limit c.args.plan c.args.body_limit
