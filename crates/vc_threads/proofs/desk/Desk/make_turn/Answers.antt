@@ -116,3 +116,6 @@ returns-in-Ok-Put-clause-done c = λ plan n of.
     (looked_sends (t ∷ []) a.ends.outs.items mid (set mid k c.put_item.new.end) outs'
     (sends_one mid k r c.put_item.new.end c.in-Some.stamp act x links within c.index_mut.ensures.value c.put_item.ensures.link c.put_item.ensures.ring c.put_item.ensures.sent))
     (receives_quiet (t ∷ []) (λ l. refl) a.ends.ins.items a.ends.ins.items (zip_same InLooked in_looked_same a.ends.ins.items)))
+
+pub returns-then-is_same-clause-full : goal.returns-then-is_same-clause-full
+returns-then-is_same-clause-full c = tt
