@@ -1,5 +1,5 @@
 -- A table of outgoing ways that is filled wire by wire.
-use Rattle.std.proofs.Common.{◌≡◌, ℕ, zero, suc, ◌+◌, ◌*◌, ◌<◌, ◌≤◌, Bool, true, false, ◌&&◌, ◌==◌, List, length, take, slice_get, slice_set, Option, Some, None, refl, sym, ap, ◌∙◌, arith, if◌then◌else◌, nat_lt, eqb-true}
+use Rattle.std.proofs.Common.{◌≡◌, ℕ, zero, suc, ◌+◌, ◌*◌, ◌<◌, ◌≤◌, Bool, true, false, ◌&&◌, ◌==◌, List, length, take, slice_get, slice_set, Option, Some, None, refl, sym, ap, ◌∙◌, arith, if◌then◌else◌, nat_lt, nat_le, eqb-true}
 use Rattle.std.proofs.lemmas.Bool.Decides.{nat_tests}
 use Rattle.std.proofs.lemmas.List.{length-set}
 use Rattle.std.proofs.Math.ListN.{replicate}
@@ -20,6 +20,18 @@ use Rattle.vc_accepted.proofs.Listed.{both}
 use Rattle.vc_accepted.proofs.Wired.{wired}
 use Rattle.vc_core.specs.Filled.{left}
 use Rattle.vc_core.specs.Wired.{there, out_at}
+
+-- how many there are at most
+pub record AreFew (p : Plan) : Type 0 where
+  pub nodes : length p.nodes ≤ 32
+  pub switches : length p.switches ≤ 32
+  pub wires : length p.wires ≤ 256
+
+at_most : (a b : ℕ) → nat_le a b ≡ true → a ≤ b
+at_most a b h = grind (arith, nat_tests)
+
+pub are_few : (p : Plan) → IsAccepted p → AreFew p
+are_few p acc = let k = kept p acc in record { nodes = at_most _ _ k.nodes; switches = at_most _ _ k.switches; wires = at_most _ _ k.wires }
 
 -- nothing leaves at first
 nothing : (n i : ℕ) → there (slice_get (replicate n None) i) ≡ None

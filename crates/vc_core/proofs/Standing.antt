@@ -1,7 +1,7 @@
 -- What the code finds of a channel's packets is where they stand.
 use Rattle.std.proofs.Common.{◌≡◌, ◌≢◌, ◌⊎◌, ◌↔◌, ℕ, suc, ◌<◌, ◌≤◌, Bool, true, false, not, List, length, map, Option, Some, None, IsSome, slice_get, refl, sym, ap, ◌∙◌, subst, inl, inr, arith}
 use Rattle.std.specs.List.{Contains}
-use Rattle.std.proofs.lemmas.Bool.{cases_eq, cases_lt}
+use Rattle.std.proofs.lemmas.Bool.{cases_eq, cases_lt, false≢true}
 use Rattle.std.proofs.lemmas.List.{length-append, length-map}
 use Rattle.std.proofs.lemmas.Option.{slice_get_past}
 use Rattle.vc_packets.specs.declared.packet.Packet.{Packet}
@@ -10,7 +10,7 @@ use Rattle.vc_machine.specs.Places as places
 use Rattle.vc_machine.specs.Rendezvous.{nothing_yet}
 use Rattle.vc_network.specs.Headline.{IsFaithful}
 use Rattle.vc_network.specs.Network as net
-use Rattle.vc_network.specs.Plan.{Home, Way, end_of, virtual_link, ways, home, is_virtual, net_of}
+use Rattle.vc_network.specs.Plan.{Home, Way, Inside, end_of, virtual_link, ways, home, is_virtual, net_of}
 use Rattle.vc_network.specs.Plan as network
 use Rattle.vc_network.specs.Views.{vcps, sink_node, everywhere, view, view_at, inner_of}
 use Rattle.vc_network.proofs.Owned.{each_owned, packets_are_short}
@@ -147,6 +147,14 @@ finished_or plan s c f =
       | inl e ↦ inr e
       | inr ne ↦ inl (elim (cases_lt v.finished (length v.offered)) [ inl less ↦ omega arith | inr past ↦ absurd (ne (omega arith)) ])
     ]
+
+-- on a channel inside a node no packet stands
+no_link : (plan : network.Plan) (h : Home) → ends_at plan h ≡ None → is_virtual h ≡ false
+no_link plan (Way v ab) none = absurd (cc)
+no_link plan (Inside n) none = refl
+
+pub none_stands : (p : Plan) (s : State) (c : ℕ) → ends_at (network_of p) (home (network_of p) c) ≡ None → FindsPlace p s c None
+none_stands p s c none = λ place stands. false≢true (sym (no_link (network_of p) (home (network_of p) c) none) ∙ stands.on_link)
 
 -- a packet is found exactly where an output is not finished
 pub unfinished : (p : Plan) (events : List Event) (s : State) (c : ℕ) (r : Option Place) → Replays p events s → c < length p.channels → FindsPlace p s c r → IsSome r ↔ IsUnfinished p s c

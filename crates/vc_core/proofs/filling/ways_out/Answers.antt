@@ -1,15 +1,66 @@
-use Rattle.std.proofs.Common.{◌≡◌, ◌+◌, ◌*◌, length, take, get_or, slice_get, Some, sym, ap, ◌∙◌, add-one}
+use Rattle.std.proofs.Common.{◌≡◌, ◌+◌, ◌*◌, length, take, get_or, slice_get, Some, sym, ap, ◌∙◌, add-one, arith}
 use Rattle.std.proofs.lemmas.Option.{slice_get-get_or}
 use Rattle.vc_plan.specs.declared.port.Wire.{Wire}
 use Rattle.vc_plan.specs.declared.port.Spot.TheVariants.{Node}
 use Rattle.vc_accepted.specs.Outgoing.{way_out}
 use Rattle.vc_core.specs.Filled.{left}
-use Rattle.vc_core.proofs.Leaving.{next_long, next_tells}
+use Rattle.vc_core.proofs.Leaving.{are_few, next_long, next_tells}
 use Rattle.vc_core.proofs.filling.ways_out.Goals as goal
 
 -- what is read past the wires
 none : Wire
 none = record { one = record { spot = Node 0; link = 0 }; two = record { spot = Node 0; link = 0 } }
+
+pub overflow_add-actors : goal.overflow_add-actors
+overflow_add-actors c =
+    let few = are_few c.args.plan.now c.requires in
+    let nodes = few.nodes in
+    let switches = few.switches in
+    let counted = c.len-nodes.ensures in
+    let counts = c.len.ensures in
+    omega arith
+
+pub overflow_mul-actors : goal.overflow_mul-actors
+overflow_mul-actors c =
+    let few = are_few c.args.plan.now c.requires in
+    let nodes = few.nodes in
+    let switches = few.switches in
+    let counted = c.len-nodes.ensures in
+    let counts = c.len.ensures in
+    omega arith
+
+pub overflow_cast-way : goal.overflow_cast-way
+overflow_cast-way c =
+    let few = (are_few c.args.plan.now c.requires).wires in
+    let same = ap length c.as_slice-wire-items.ensures in
+    let less = c.loop-i-test.true in
+    omega arith
+
+pub overflow_mul-way : goal.overflow_mul-way
+overflow_mul-way c =
+    let few = (are_few c.args.plan.now c.requires).wires in
+    let same = ap length c.as_slice-wire-items.ensures in
+    let less = c.loop-i-test.true in
+    omega arith
+
+pub overflow_add-way : goal.overflow_add-way
+overflow_add-way c =
+    let few = (are_few c.args.plan.now c.requires).wires in
+    let same = ap length c.as_slice-wire-items.ensures in
+    let less = c.loop-i-test.true in
+    omega arith
+
+pub leave-requires : goal.leave-requires
+leave-requires c =
+    let few = (are_few c.args.plan.now c.requires).nodes in
+    let counted = c.len-nodes.ensures in
+    omega arith
+
+pub leave-requires-in-loop-i : goal.leave-requires-in-loop-i
+leave-requires-in-loop-i c =
+    let few = (are_few c.args.plan.now c.requires).nodes in
+    let counted = c.len-nodes.ensures in
+    omega arith
 
 pub loop-i-preserved : goal.loop-i-preserved
 unfolding none
