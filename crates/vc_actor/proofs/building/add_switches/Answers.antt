@@ -21,6 +21,17 @@ build_switch-requires-clause-ranges c =
     let there : slice_get xs k ≡ Some c.switch-item.result = slice_get_read xs (length xs) k c.switch-item.result refl c.loop-switch-test.true c.switch-item.is in
     given_ranges p c.requires.accepted k c.switch-item.result (sym (ap (λ z. slice_get z k) c.as_slice-switch-items.ensures) ∙ there)
 
+pub build_switch-requires-clause-room : goal.build_switch-requires-clause-room
+build_switch-requires-clause-room c =
+    let is = c.body_limit-body_limit.ensures in
+    omega arith
+
+pub loop-switch-init : goal.loop-switch-init
+loop-switch-init c =
+    let p = c.args.plan.now in
+    let same : length p.nodes ≡ length p.nodes + 0 = omega arith in
+    subst (λ n. AreFirst p n c.args.actors.now.items) same c.requires.nodes
+
 pub loop-switch-preserved : goal.loop-switch-preserved
 loop-switch-preserved c =
     let xs = c.as_slice-switch-items.result.now in
