@@ -1,0 +1,8 @@
+use Rattle.std.proofs.Common.{arith}
+use Rattle.vc_actor.proofs.inside.Inside.new.Goals as goal
+
+pub overflow_cast-chan : goal.overflow_cast-chan
+overflow_cast-chan c =
+    let few = c.requires in
+    let less = c.loop-chan-test.true in
+    omega arith
