@@ -147,8 +147,7 @@ fn not(alloc: Global, depth: usize, vars: &Register<Variable>, value: &Value) ->
     ensures { Gives (λ x. x) result (not_of (cond_of depth vars.now) (view value.now)) }
 {
     row(alloc, 2, value)?;
-    let cond = part(alloc, depth, vars, 1, value)?;
-    Ok(Cond::Not(cond))
+    part(alloc, depth, vars, 1, value).map(Cond::Not)
 }
 
 /// A part of a condition.

@@ -87,8 +87,8 @@ fn leaf(alloc: Global, vars: &Register<Variable>, value: &Value) -> Result<Expr,
     ensures { Gives (λ x. x) result (leaf_of vars.now (view value.now)) }
 {
     match value {
-        Value::Number(_) => Ok(Expr::Num(int(alloc, value)?)),
-        Value::String(_) => Ok(Expr::Var(variable(alloc, vars, value)?)),
+        Value::Number(_) => int(alloc, value).map(Expr::Num),
+        Value::String(_) => variable(alloc, vars, value).map(Expr::Var),
         _ => Err(wrong(alloc, Why::Kind)),
     }
 }
@@ -101,7 +101,7 @@ fn size(alloc: Global, vars: &Register<Variable>, value: &Value) -> Result<Expr,
         vars,
     };
     row(alloc, 2, value)?;
-    Ok(Expr::Size(cell(alloc, 1, &variable, value)?))
+    cell(alloc, 1, &variable, value).map(Expr::Size)
 }
 
 /// An expression that nests no deeper than so many parts in one another.

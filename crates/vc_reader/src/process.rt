@@ -116,8 +116,8 @@ impl Reader for ValueOf<'_> {
 
     fn read(&self, alloc: Global, value: &Json) -> Result<Value, Stop> {
         match self.kind {
-            ValueKind::Int => Ok(Value::Int(WholeExpr(self.vars).read(alloc, value)?)),
-            ValueKind::Bytes => Ok(Value::Bytes(bytes(alloc, self.vars, value)?)),
+            ValueKind::Int => WholeExpr(self.vars).read(alloc, value).map(Value::Int),
+            ValueKind::Bytes => bytes(alloc, self.vars, value).map(Value::Bytes),
         }
     }
 }
@@ -292,12 +292,12 @@ fn worded(
         ProcessWord::Send => send(alloc, vars, channels, value),
         ProcessWord::Receive => receive(alloc, vars, channels, value),
         ProcessWord::Stopch => stopch(alloc, channels, value),
-        ProcessWord::Seq => Ok(Process::Seq(parts(alloc, depth, vars, channels, value)?)),
-        ProcessWord::Par => Ok(Process::Par(parts(alloc, depth, vars, channels, value)?)),
-        ProcessWord::If => Ok(Process::If(branches(alloc, depth, vars, channels, value)?)),
+        ProcessWord::Seq => parts(alloc, depth, vars, channels, value).map(Process::Seq),
+        ProcessWord::Par => parts(alloc, depth, vars, channels, value).map(Process::Par),
+        ProcessWord::If => branches(alloc, depth, vars, channels, value).map(Process::If),
         ProcessWord::While => repeated(alloc, depth, vars, channels, value),
         ProcessWord::Count => counted(alloc, depth, vars, channels, value),
-        ProcessWord::Alt => Ok(Process::Alt(guards(alloc, depth, vars, channels, value)?)),
+        ProcessWord::Alt => guards(alloc, depth, vars, channels, value).map(Process::Alt),
     }
 }
 
