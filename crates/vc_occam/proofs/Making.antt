@@ -1,5 +1,6 @@
 -- How frames are made of a process.
-use Rattle.std.proofs.Common.{◌≡◌, ℕ, append_assoc, ◌≤◌, ◌<◌, subst, suc, ◌+◌, refl, ap, sym, ◌∙◌, List, [], ◌∷◌, ◌++◌, map, length, arith, add-one}
+use Rattle.std.proofs.Common.{◌≡◌, ℕ, append_assoc, append-nil, drop, ◌≤◌, ◌<◌, subst, suc, ◌+◌, refl, ap, sym, ◌∙◌, List, [], ◌∷◌, ◌++◌, map, length, arith, add-one}
+use Rattle.std.proofs.lemmas.List.{at_drop_all}
 use Rattle.vc_process.specs.declared.condition.Cond.{Cond}
 use Rattle.vc_process.specs.declared.expression.Expr.{Expr}
 use Rattle.vc_occam.specs.declared.frame.Frame.{Frame}
@@ -156,3 +157,74 @@ guard_made next later top n ns rest vs ws whole h e f (b, c) =
       (ap (λ us. us ++ guard_wholes_from later rest) f ∙ append_assoc vs (whole_from next p ∷ []) (guard_wholes_from later rest) ∙ ap (λ k. vs ++ whole_from next p ∷ guard_wholes_from k rest) e
           ∙ ap (λ xs. vs ++ guard_wholes_from next xs) (sym h) ∙ c),
     )
+
+-- the first of the parts that are left has sites among theirs
+pub part_fits : (next top limit : ℕ) (n : Numbered) (ns rest : List Numbered) → ns ≡ n ∷ rest → next + part_sites ns ≡ top → top ≤ limit → next + n.sites ≤ limit
+part_fits next top limit n ns rest h b l =
+    let m : next + (n.sites + part_sites rest) ≡ top = ap (λ xs. next + part_sites xs) (sym h) ∙ b in omega arith
+
+pub branch_fits : (next top limit : ℕ) (n : NumberedBranch) (ns rest : List NumberedBranch) → ns ≡ n ∷ rest → next + branch_sites ns ≡ top → top ≤ limit → next + n.then_do.sites ≤ limit
+branch_fits next top limit n ns rest h b l =
+    let p = n.then_do in
+    let m : next + (p.sites + branch_sites rest) ≡ top = ap (λ xs. next + branch_sites xs) (sym h) ∙ b in omega arith
+
+pub guard_fits : (next top limit : ℕ) (n : NumberedGuard) (ns rest : List NumberedGuard) → ns ≡ n ∷ rest → next + guard_sites ns ≡ top → top ≤ limit → next + n.then_do.sites ≤ limit
+guard_fits next top limit n ns rest h b l =
+    let p = n.then_do in
+    let m : next + (p.sites + guard_sites rest) ≡ top = ap (λ xs. next + guard_sites xs) (sym h) ∙ b in omega arith
+
+-- no part is left
+pub parts_end : (next site k : ℕ) (xs ps : List Process) (vs : List View) → xs ≡ ps → length xs ≤ k →
+    (next + part_sites (map number (drop k xs)) ≡ site + part_sites (map number xs)) × (vs ++ wholes_from next (map number (drop k xs)) ≡ wholes_from site (map number xs)) →
+    (next ≡ site + part_sites (map number ps)) × (vs ≡ wholes_from site (map number ps))
+parts_end next site k xs ps vs e l (b, c) =
+    let none : next + part_sites (map number (drop k xs)) ≡ next + 0 = at_drop_all (λ ys. next + part_sites (map number ys)) xs k l in
+    let all : site + part_sites (map number xs) ≡ site + part_sites (map number ps) = ap (λ ys. site + part_sites (map number ys)) e in (
+      omega arith,
+      (sym (append-nil vs) ∙ sym (at_drop_all (λ ys. vs ++ wholes_from next (map number ys)) xs k l) ∙ c ∙ ap (λ ys. wholes_from site (map number ys)) e),
+    )
+
+pub branches_end : (next site k : ℕ) (xs bs : List Branch) (vs : List View) → xs ≡ bs → length xs ≤ k →
+    (next + branch_sites (map number_branch (drop k xs)) ≡ site + branch_sites (map number_branch xs)) × (vs ++ branch_wholes_from next (map number_branch (drop k xs)) ≡ branch_wholes_from site (map number_branch xs)) →
+    (next ≡ site + branch_sites (map number_branch bs)) × (vs ≡ branch_wholes_from site (map number_branch bs))
+branches_end next site k xs bs vs e l (b, c) =
+    let none : next + branch_sites (map number_branch (drop k xs)) ≡ next + 0 = at_drop_all (λ ys. next + branch_sites (map number_branch ys)) xs k l in
+    let all : site + branch_sites (map number_branch xs) ≡ site + branch_sites (map number_branch bs) = ap (λ ys. site + branch_sites (map number_branch ys)) e in (
+      omega arith,
+      (sym (append-nil vs) ∙ sym (at_drop_all (λ ys. vs ++ branch_wholes_from next (map number_branch ys)) xs k l) ∙ c ∙ ap (λ ys. branch_wholes_from site (map number_branch ys)) e),
+    )
+
+pub guards_end : (next site k : ℕ) (xs gs : List Guard) (vs : List View) → xs ≡ gs → length xs ≤ k →
+    (next + guard_sites (map number_guard (drop k xs)) ≡ site + guard_sites (map number_guard xs)) × (vs ++ guard_wholes_from next (map number_guard (drop k xs)) ≡ guard_wholes_from site (map number_guard xs)) →
+    (next ≡ site + guard_sites (map number_guard gs)) × (vs ≡ guard_wholes_from site (map number_guard gs))
+guards_end next site k xs gs vs e l (b, c) =
+    let none : next + guard_sites (map number_guard (drop k xs)) ≡ next + 0 = at_drop_all (λ ys. next + guard_sites (map number_guard ys)) xs k l in
+    let all : site + guard_sites (map number_guard xs) ≡ site + guard_sites (map number_guard gs) = ap (λ ys. site + guard_sites (map number_guard ys)) e in (
+      omega arith,
+      (sym (append-nil vs) ∙ sym (at_drop_all (λ ys. vs ++ guard_wholes_from next (map number_guard ys)) xs k l) ∙ c ∙ ap (λ ys. guard_wholes_from site (map number_guard ys)) e),
+    )
+
+-- where the sites of a process with parts end
+pub seq_next : (site : ℕ) (p : Process) (ps : List Process) → p ≡ process.Seq ps → site + 1 + part_sites (map number ps) ≡ site + (number p).sites
+seq_next site p ps h =
+    let is : (number p).sites ≡ suc (part_sites (map number ps)) = ap (λ n. n.sites) (number_seq p ps h) in omega arith
+
+pub par_next : (site : ℕ) (p : Process) (ps : List Process) → p ≡ process.Par ps → site + 1 + part_sites (map number ps) ≡ site + (number p).sites
+par_next site p ps h =
+    let is : (number p).sites ≡ suc (part_sites (map number ps)) = ap (λ n. n.sites) (number_par p ps h) in omega arith
+
+pub if_next : (site : ℕ) (p : Process) (bs : List Branch) → p ≡ process.If bs → site + 1 + branch_sites (map number_branch bs) ≡ site + (number p).sites
+if_next site p bs h =
+    let is : (number p).sites ≡ suc (branch_sites (map number_branch bs)) = ap (λ n. n.sites) (number_if p bs h) in omega arith
+
+pub alt_next : (site : ℕ) (p : Process) (gs : List Guard) → p ≡ process.Alt gs → site + 1 + guard_sites (map number_guard gs) ≡ site + (number p).sites
+alt_next site p gs h =
+    let is : (number p).sites ≡ suc (guard_sites (map number_guard gs)) = ap (λ n. n.sites) (number_alt p gs h) in omega arith
+
+pub while_next : (site : ℕ) (p : Process) (b : Cond) (q : Process) → p ≡ process.While b q → site + 1 + (number q).sites ≡ site + (number p).sites
+while_next site p b q h =
+    let is : (number p).sites ≡ suc (number q).sites = ap (λ n. n.sites) (number_while p b q h) in omega arith
+
+pub count_next : (site : ℕ) (p : Process) (v : ℕ) (a n : Expr) (q : Process) → p ≡ process.Count v a n q → site + 1 + (number q).sites ≡ site + (number p).sites
+count_next site p v a n q h =
+    let is : (number p).sites ≡ suc (number q).sites = ap (λ m. m.sites) (number_count p v a n q h) in omega arith

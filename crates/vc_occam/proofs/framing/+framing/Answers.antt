@@ -1,9 +1,13 @@
-use Rattle.std.proofs.Common.{◌∙◌, ◌+◌, ◌++◌, [], ◌∷◌, map, drop, sym, ap}
+use Rattle.std.proofs.Common.{◌∙◌, ◌+◌, ◌++◌, ◌≤◌, ℕ, List, [], ◌∷◌, map, drop, sym, ap, subst, rules}
+use Rattle.vc_process.specs.declared.process.Branch.{Branch}
+use Rattle.vc_process.specs.declared.process.Guard.{Guard}
+use Rattle.vc_process.specs.declared.process.Process.{Process}
+use Rattle.vc_process.specs.declared.process.Process.TheViews.{the_lemmas}
 use Rattle.vc_process.specs.InOrder.{number, number_branch, number_guard}
 use Rattle.vc_occam.specs.Frames.{View, views}
-use Rattle.vc_process.specs.Numbering.{NumberedBranch, NumberedGuard}
+use Rattle.vc_process.specs.Numbering.{NumberedBranch, NumberedGuard, branch_sites, guard_sites, part_sites}
 use Rattle.vc_occam.specs.Wholes.{whole_from}
-use Rattle.vc_occam.proofs.Making.{alt_whole, branch_made, few_inputs, guard_made, if_whole, par_whole, part_made, seq_whole, views_push}
+use Rattle.vc_occam.proofs.Making.{alt_next, alt_whole, branch_fits, branch_made, branches_end, few_inputs, guard_fits, guard_made, guards_end, if_next, if_whole, par_next, par_whole, part_fits, part_made, parts_end, seq_next, seq_whole, views_push}
 use Rattle.vc_process.proofs.Numbers.{number_branch_out, number_guard_out}
 use Rattle.vc_process.proofs.Reaching.{drop_at}
 use Rattle.vc_occam.proofs.framing.+framing.Goals as goal
@@ -60,3 +64,86 @@ frame_of-returns-in_ok-made-in-Alt-clause-frame t c =
 
 pub frame_of-new-guards-requires : goal.frame_of-new-guards-requires
 frame_of-new-guards-requires t c = few_inputs c.args.site c.args.process.now c.in-Alt.guards c.in_ok-inputs-in-Alt.inputs c.in-Alt.is c.in_ok-inputs-in-Alt.ensures c.requires.sites
+
+pub frames_of-frame_of-requires : goal.frames_of-frame_of-requires
+frames_of-frame_of-requires t c =
+    let xs = c.as_slice-part-items.result.now in
+    let k = c.loop-part.part-index in
+    let all = subst (λ (ys : List Process). c.args.site + part_sites (map number ys) ≤ 65536) (sym c.as_slice-part-items.ensures) c.requires.sites in
+    (search (rules, the_lemmas), part_fits c.loop-part.next _ 65536 (number c.part-item.result) _ _ (drop_at number k xs c.part-item.result c.loop-part-test.true c.part-item.is) c.loop-part.invariant.0 all)
+
+pub frames_of-returns-clause-parts : goal.frames_of-returns-clause-parts
+frames_of-returns-clause-parts t c =
+    let x = c.loop-part in
+    (parts_end x.next c.args.site x.part-index c.as_slice-part-items.result.now c.args.parts.now (views x.frames.items) c.as_slice-part-items.ensures c.loop-part-test.false x.invariant).1
+
+pub frames_of-returns-clause-next : goal.frames_of-returns-clause-next
+frames_of-returns-clause-next t c =
+    let x = c.loop-part in
+    (parts_end x.next c.args.site x.part-index c.as_slice-part-items.result.now c.args.parts.now (views x.frames.items) c.as_slice-part-items.ensures c.loop-part-test.false x.invariant).0
+
+pub frames_of_branches-frame_of-requires : goal.frames_of_branches-frame_of-requires
+frames_of_branches-frame_of-requires t c =
+    let xs = c.as_slice-branch-items.result.now in
+    let k = c.loop-branch.branch-index in
+    let all = subst (λ (ys : List Branch). c.args.site + branch_sites (map number_branch ys) ≤ 65536) (sym c.as_slice-branch-items.ensures) c.requires.sites in
+    (search (rules, the_lemmas), subst (λ (n : NumberedBranch). c.loop-branch.next + n.then_do.sites ≤ 65536) (number_branch_out c.branch-item.result) (branch_fits c.loop-branch.next _ 65536 (number_branch c.branch-item.result) _ _ (drop_at number_branch k xs c.branch-item.result c.loop-branch-test.true c.branch-item.is) c.loop-branch.invariant.0 all))
+
+pub frames_of_branches-returns-clause-parts : goal.frames_of_branches-returns-clause-parts
+frames_of_branches-returns-clause-parts t c =
+    let x = c.loop-branch in
+    (branches_end x.next c.args.site x.branch-index c.as_slice-branch-items.result.now c.args.branches.now (views x.frames.items) c.as_slice-branch-items.ensures c.loop-branch-test.false x.invariant).1
+
+pub frames_of_branches-returns-clause-next : goal.frames_of_branches-returns-clause-next
+frames_of_branches-returns-clause-next t c =
+    let x = c.loop-branch in
+    (branches_end x.next c.args.site x.branch-index c.as_slice-branch-items.result.now c.args.branches.now (views x.frames.items) c.as_slice-branch-items.ensures c.loop-branch-test.false x.invariant).0
+
+pub frames_of_guards-frame_of-requires : goal.frames_of_guards-frame_of-requires
+frames_of_guards-frame_of-requires t c =
+    let xs = c.as_slice-guard-items.result.now in
+    let k = c.loop-guard.guard-index in
+    let all = subst (λ (ys : List Guard). c.args.site + guard_sites (map number_guard ys) ≤ 65536) (sym c.as_slice-guard-items.ensures) c.requires.sites in
+    (search (rules, the_lemmas), subst (λ (n : NumberedGuard). c.loop-guard.next + n.then_do.sites ≤ 65536) (number_guard_out c.guard-item.result) (guard_fits c.loop-guard.next _ 65536 (number_guard c.guard-item.result) _ _ (drop_at number_guard k xs c.guard-item.result c.loop-guard-test.true c.guard-item.is) c.loop-guard.invariant.0 all))
+
+pub frames_of_guards-returns-clause-parts : goal.frames_of_guards-returns-clause-parts
+frames_of_guards-returns-clause-parts t c =
+    let x = c.loop-guard in
+    (guards_end x.next c.args.site x.guard-index c.as_slice-guard-items.result.now c.args.guards.now (views x.frames.items) c.as_slice-guard-items.ensures c.loop-guard-test.false x.invariant).1
+
+pub frames_of_guards-returns-clause-next : goal.frames_of_guards-returns-clause-next
+frames_of_guards-returns-clause-next t c =
+    let x = c.loop-guard in
+    (guards_end x.next c.args.site x.guard-index c.as_slice-guard-items.result.now c.args.guards.now (views x.frames.items) c.as_slice-guard-items.ensures c.loop-guard-test.false x.invariant).0
+
+pub frame_of-frames_of-requires : goal.frame_of-frames_of-requires
+frame_of-frames_of-requires t c =
+    (search (rules, the_lemmas), subst (λ (n : ℕ). n ≤ 65536) (sym (seq_next c.args.site c.args.process.now c.in-Seq.parts c.in-Seq.is)) c.requires.sites)
+
+pub frame_of-returns-in_ok-made-in-Seq-clause-next : goal.frame_of-returns-in_ok-made-in-Seq-clause-next
+frame_of-returns-in_ok-made-in-Seq-clause-next t c =
+    c.with_parts.ensures.next ∙ c.in_ok-made-in-Seq.ensures.next ∙ seq_next c.args.site c.args.process.now c.in-Seq.parts c.in-Seq.is
+
+pub frame_of-frames_of-requires-in-Par : goal.frame_of-frames_of-requires-in-Par
+frame_of-frames_of-requires-in-Par t c =
+    (search (rules, the_lemmas), subst (λ (n : ℕ). n ≤ 65536) (sym (par_next c.args.site c.args.process.now c.in-Par.parts c.in-Par.is)) c.requires.sites)
+
+pub frame_of-returns-in_ok-made-in-Par-clause-next : goal.frame_of-returns-in_ok-made-in-Par-clause-next
+frame_of-returns-in_ok-made-in-Par-clause-next t c =
+    c.with_parts-in-Par.ensures.next ∙ c.in_ok-made-in-Par.ensures.next ∙ par_next c.args.site c.args.process.now c.in-Par.parts c.in-Par.is
+
+pub frame_of-frames_of_branches-requires : goal.frame_of-frames_of_branches-requires
+frame_of-frames_of_branches-requires t c =
+    (search (rules, the_lemmas), subst (λ (n : ℕ). n ≤ 65536) (sym (if_next c.args.site c.args.process.now c.in-If.branches c.in-If.is)) c.requires.sites)
+
+pub frame_of-returns-in_ok-made-in-If-clause-next : goal.frame_of-returns-in_ok-made-in-If-clause-next
+frame_of-returns-in_ok-made-in-If-clause-next t c =
+    c.with_parts-in-If.ensures.next ∙ c.in_ok-made-in-If.ensures.next ∙ if_next c.args.site c.args.process.now c.in-If.branches c.in-If.is
+
+pub frame_of-frames_of_guards-requires : goal.frame_of-frames_of_guards-requires
+frame_of-frames_of_guards-requires t c =
+    (search (rules, the_lemmas), subst (λ (n : ℕ). n ≤ 65536) (sym (alt_next c.args.site c.args.process.now c.in-Alt.guards c.in-Alt.is)) c.requires.sites)
+
+pub frame_of-returns-in_ok-made-in-Alt-clause-next : goal.frame_of-returns-in_ok-made-in-Alt-clause-next
+frame_of-returns-in_ok-made-in-Alt-clause-next t c =
+    c.with_parts-in-Alt.ensures.next ∙ c.in_ok-made-in-Alt.ensures.next ∙ alt_next c.args.site c.args.process.now c.in-Alt.guards c.in-Alt.is
