@@ -1,5 +1,5 @@
 -- Guards of an ALT that runs.
-use Rattle.std.proofs.Common.{◌≡◌, ◌↔◌, IsTrue, ℕ, zero, suc, ◌+◌, ◌<◌, Bool, true, false, ◌&&◌, ◌||◌, refl, ap, sym, ◌∙◌, subst, List, [], ◌∷◌, ◌++◌, map, length, get_or, drop, arith, Option, Some, None, inl, inr, if◌then◌else◌, append-nil, add-one, Result, OnOk}
+use Rattle.std.proofs.Common.{◌≡◌, ◌↔◌, IsTrue, ℕ, zero, suc, ◌+◌, ◌<◌, ◌≤◌, Bool, true, false, ◌&&◌, ◌||◌, refl, ap, sym, ◌∙◌, subst, List, [], ◌∷◌, ◌++◌, map, length, get_or, drop, arith, Option, Some, None, inl, inr, if◌then◌else◌, append-nil, add-one, Result, OnOk}
 use Rattle.std.proofs.lemmas.Bool.Decides.{nat_tests}
 use Rattle.std.proofs.lemmas.List.Elements.{Contains-append_left, Contains-append_right, Contains-append_cases}
 use Rattle.std.specs.List.{Contains}
@@ -191,3 +191,14 @@ pub no_message_did : (k : Kind) (i : ℕ) (gs : GuardedInputs) (vs : List View) 
 no_message_did k i gs vs e f s d at r h g able =
     let w = slice_get (map gate gs.inputs) at in
     subst (λ (j : Kind). Did (awaiting j i vs at) e s d r f) (sym h) (only_message w i (slice_get vs at) e f s d r g (subst (λ (j : Kind). Able (awaiting j i vs at) e s d) h able))
+
+-- what the input at a place shows
+pub gate_at : (xs : List GuardedInput) (k : ℕ) (d : GuardedInput) → k < length xs → slice_get (map gate xs) k ≡ Some (gate (get_or xs k d))
+gate_at [] k d l = absurd (omega arith)
+gate_at (x ∷ xs) zero d l = refl
+gate_at (x ∷ xs) (suc k) d l = gate_at xs k d (omega arith)
+
+pub no_gate : (xs : List GuardedInput) (k : ℕ) → length xs ≤ k → slice_get (map gate xs) k ≡ None
+no_gate [] k l = refl
+no_gate (x ∷ xs) zero l = absurd (omega arith)
+no_gate (x ∷ xs) (suc k) l = no_gate xs k (omega arith)

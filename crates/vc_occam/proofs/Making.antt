@@ -1,6 +1,6 @@
 -- How frames are made of a process.
-use Rattle.std.proofs.Common.{◌≡◌, ℕ, append_assoc, append-nil, drop, ◌≤◌, ◌<◌, subst, suc, ◌+◌, refl, ap, sym, ◌∙◌, List, [], ◌∷◌, ◌++◌, map, length, arith, add-one}
-use Rattle.std.proofs.lemmas.List.{at_drop_all}
+use Rattle.std.proofs.Common.{◌≡◌, ℕ, append_assoc, append-nil, drop, ◌≤◌, ◌<◌, subst, suc, ◌+◌, refl, ap, sym, ◌∙◌, List, [], ◌∷◌, ◌++◌, map, length, get_or, arith, add-one}
+use Rattle.std.proofs.lemmas.List.{at_drop_all, map-append}
 use Rattle.vc_process.specs.declared.condition.Cond.{Cond}
 use Rattle.vc_process.specs.declared.expression.Expr.{Expr}
 use Rattle.vc_occam.specs.declared.frame.Frame.{Frame}
@@ -12,16 +12,17 @@ use Rattle.vc_process.specs.declared.process.Process.{Process}
 use Rattle.vc_process.specs.declared.process.Process.TheVariants as process
 use Rattle.vc_process.specs.declared.process.Process.TheOpen as layer
 use Rattle.vc_process.specs.declared.process.Process.TheFolds.{fold_out-Process, fold-roll-Process}
-use Rattle.vc_process.specs.declared.process.Process.TheViews.{out-Guard}
+use Rattle.vc_process.specs.declared.process.Process.TheViews.{out-Branch, out-Guard}
 use Rattle.vc_occam.specs.Frames.{View, branches_of, count_of, guards_of, plans_of, view, views, while_of}
-use Rattle.vc_occam.specs.Gates.{gate}
+use Rattle.vc_occam.specs.Gates.{Gate, gate}
 use Rattle.vc_process.specs.InOrder.{branch_layer, guard_layer, number, number_branch, number_guard}
 use Rattle.vc_process.specs.Numbering.{Numbered, NumberedBranch, NumberedGuard, branch_sites, branches_from, guard_sites, guards_from, numbered, part_sites, parts_from}
 use Rattle.vc_occam.specs.Remains.{Fresh}
-use Rattle.vc_process.specs.Syntax.{Branches, Guards, Proc, Procs, ALT, COUNT, IF, PAR, SEQ, WHILE, branch, guard, part}
+use Rattle.vc_process.specs.Syntax.{Branches, Guards, Proc, Procs, ALT, COUNT, IF, PAR, SEQ, WHILE, branch, guard, part, Test}
 use Rattle.vc_process.specs.Terms.{exp, as_test}
 use Rattle.vc_occam.specs.Wholes.{branch_wholes_from, gates, guard_wholes_from, tests, whole_from, wholes_from}
-use Rattle.vc_process.proofs.Numbers.{number_alt, number_guard_out, number_if, number_par, number_seq}
+use Rattle.vc_process.proofs.Numbers.{number_alt, number_branch_out, number_count, number_guard_out, number_if, number_par, number_seq, number_while}
+use Rattle.vc_process.proofs.Reaching.{drop_at}
 
 pub plans_wholes : (i : ℕ) (ns : List Numbered) → plans_of (wholes_from i ns) ≡ parts_from i ns
 plans_wholes i [] = refl
@@ -42,10 +43,6 @@ par_whole site p ps vs h g =
     ap W (ap plans_of g ∙ plans_wholes (site + 1) (map number ps) ∙ ap (λ k. parts_from k (map number ps)) (add-one site)) ∙ ap (whole_from site) (sym (number_par p ps h))
 
 -- a WHILE as it is numbered
-number_while : (p : Process) (b : Cond) (q : Process) → p ≡ process.While b q → number p ≡ numbered (layer.While b (number q))
-unfolding number
-number_while p b q h = ap number (h ∙ sym (process.rolls-While b q)) ∙ fold-roll-Process Numbered NumberedBranch NumberedGuard numbered branch_layer guard_layer (layer.While b q)
-
 pub while_whole : (site : ℕ) (p : Process) (b c : Cond) (q : Process) (vs : List View) → p ≡ process.While b q → c ≡ b → vs ≡ whole_from (site + 1) (number q) ∷ [] → ◌≡◌ {A = View} (while_of site (as_test c) vs, Fresh (while_of site (as_test c) vs)) (whole_from site (number p))
 while_whole site p b c q vs h e g =
     let W : Proc → View = λ x. (x, Fresh x) in
@@ -117,10 +114,6 @@ few_inputs site p gs xs h e l =
     omega arith
 
 -- a counted SEQ as it is numbered
-number_count : (p : Process) (v : ℕ) (a n : Expr) (q : Process) → p ≡ process.Count v a n q → number p ≡ numbered (layer.Count v a n (number q))
-unfolding number
-number_count p v a n q h = ap number (h ∙ sym (process.rolls-Count v a n q)) ∙ fold-roll-Process Numbered NumberedBranch NumberedGuard numbered branch_layer guard_layer (layer.Count v a n q)
-
 pub count_whole : (site : ℕ) (p : Process) (v : ℕ) (a n b m : Expr) (q : Process) (vs : List View) → p ≡ process.Count v a n q → b ≡ a → m ≡ n → vs ≡ whole_from (site + 1) (number q) ∷ [] →
     ◌≡◌ {A = View} (count_of site v (exp b) (exp m) vs, Fresh (count_of site v (exp b) (exp m) vs)) (whole_from site (number p))
 count_whole site p v a n b m q vs h e f g =
@@ -228,3 +221,31 @@ while_next site p b q h =
 pub count_next : (site : ℕ) (p : Process) (v : ℕ) (a n : Expr) (q : Process) → p ≡ process.Count v a n q → site + 1 + (number q).sites ≡ site + (number p).sites
 count_next site p v a n q h =
     let is : (number p).sites ≡ suc (number q).sites = ap (λ m. m.sites) (number_count p v a n q h) in omega arith
+
+-- one condition more, and no branch left
+pub test_made : (k : ℕ) (xs : List Branch) (b : Branch) (t : Cond) (cs ts : List Cond) (whole : List Test) → k < length xs → b ≡ get_or xs k b → t ≡ (out-Branch b).cond → ts ≡ cs ++ t ∷ [] →
+    map as_test cs ++ tests (map number_branch (drop k xs)) ≡ whole → map as_test ts ++ tests (map number_branch (drop (k + 1) xs)) ≡ whole
+test_made k xs b t cs ts whole l h e f g =
+    let us = map as_test cs in
+    let rest = tests (map number_branch (drop (k + 1) xs)) in
+    ap (λ ys. map as_test ys ++ rest) f ∙ ap (λ ys. ys ++ rest) (map-append as_test cs (t ∷ [])) ∙ append_assoc us (as_test t ∷ []) rest ∙ ap (λ c. us ++ as_test c ∷ rest) e
+    ∙ ap (λ n. us ++ n.when ∷ rest) (sym (number_branch_out b)) ∙ ap (λ ns. us ++ tests ns) (sym (drop_at number_branch k xs b l h)) ∙ g
+
+pub tests_end : (k : ℕ) (xs bs : List Branch) (cs : List Cond) → xs ≡ bs → length xs ≤ k → map as_test cs ++ tests (map number_branch (drop k xs)) ≡ tests (map number_branch xs) → map as_test cs ≡ tests (map number_branch bs)
+tests_end k xs bs cs e l g =
+    sym (append-nil (map as_test cs)) ∙ sym (at_drop_all (λ ys. map as_test cs ++ tests (map number_branch ys)) xs k l) ∙ g ∙ ap (λ ys. tests (map number_branch ys)) e
+
+-- one input more, and no guard left
+pub gate_made : (k : ℕ) (xs : List Guard) (b : Guard) (t : Cond) (cs ts : List GuardedInput) (whole : List Gate) → k < length xs → b ≡ get_or xs k b → t ≡ (out-Guard b).cond →
+    ts ≡ cs ++ record { cond = t; chan = (out-Guard b).chan; var = (out-Guard b).var } ∷ [] → map gate cs ++ gates (map number_guard (drop k xs)) ≡ whole → map gate ts ++ gates (map number_guard (drop (k + 1) xs)) ≡ whole
+gate_made k xs b t cs ts whole l h e f g =
+    let us = map gate cs in
+    let rest = gates (map number_guard (drop (k + 1) xs)) in
+    let one : Cond → GuardedInput = λ c. record { cond = c; chan = (out-Guard b).chan; var = (out-Guard b).var } in
+    let shown : NumberedGuard → Gate = λ n. record { when = n.when; chan = n.chan; var = n.var } in
+    ap (λ ys. map gate ys ++ rest) f ∙ ap (λ ys. ys ++ rest) (map-append gate cs (one t ∷ [])) ∙ append_assoc us (gate (one t) ∷ []) rest ∙ ap (λ c. us ++ gate (one c) ∷ rest) e
+    ∙ ap (λ n. us ++ shown n ∷ rest) (sym (number_guard_out b)) ∙ ap (λ ns. us ++ gates ns) (sym (drop_at number_guard k xs b l h)) ∙ g
+
+pub gates_end : (k : ℕ) (xs gs : List Guard) (cs : List GuardedInput) → xs ≡ gs → length xs ≤ k → map gate cs ++ gates (map number_guard (drop k xs)) ≡ gates (map number_guard xs) → map gate cs ≡ gates (map number_guard gs)
+gates_end k xs gs cs e l g =
+    sym (append-nil (map gate cs)) ∙ sym (at_drop_all (λ ys. map gate cs ++ gates (map number_guard ys)) xs k l) ∙ g ∙ ap (λ ys. gates (map number_guard ys)) e
