@@ -91,6 +91,10 @@ has_site : (p : Process) → 1 ≤ (number p).sites
 unfolding number
 has_site p = subst (λ (n : Numbered). 1 ≤ n.sites) (sym (fold_out-Process Numbered NumberedBranch NumberedGuard numbered branch_layer guard_layer p)) (some_site _)
 
+-- so where its sites have 16 bits, its own has
+pub site_fits : (site limit : ℕ) (p : Process) → site + (number p).sites ≤ limit → site < limit
+site_fits site limit p l = let h = has_site p in omega arith
+
 guards_have_sites : (gs : List Guard) → length gs ≤ guard_sites (map number_guard gs)
 guards_have_sites [] = omega arith
 guards_have_sites (g ∷ gs) =

@@ -1,6 +1,6 @@
-use Rattle.std.proofs.Common.{◌∙◌, ℕ, sym, ap, arith, rules, Option}
+use Rattle.std.proofs.Common.{◌∙◌, ℕ, sym, ap, arith, Option}
 use Rattle.std.specs.Prelude.{slice_get}
-use Rattle.vc_occam.specs.declared.frame.Frame.TheViews.{out-Frame, the_lemmas}
+use Rattle.vc_occam.specs.declared.frame.Frame.TheViews.{out-Frame}
 use Rattle.vc_occam.specs.First.{own}
 use Rattle.vc_occam.specs.Frames.{View, behind, part_own, place_of, views}
 use Rattle.vc_occam.specs.Remains.{Rest}
@@ -68,18 +68,3 @@ frame::Frame::push_moves-returns-else-is_par t c =
 
 pub frame::Frame::push_moves-returns-in-Resting : goal.frame::Frame::push_moves-returns-in-Resting
 frame::Frame::push_moves-returns-in-Resting t c = pushed_none _ _ (resting_nothing c.args.self.now (store c.args.vars.now) c.in-Resting.is)
-
-pub frame::Frame::push_moves-push_part-requires : goal.frame::Frame::push_moves-push_part-requires
-frame::Frame::push_moves-push_part-requires t c = search (rules, the_lemmas)
-
-pub frame::Frame::push_moves-push_part-requires-then-is_counted : goal.frame::Frame::push_moves-push_part-requires-then-is_counted
-frame::Frame::push_moves-push_part-requires-then-is_counted t c = search (rules, the_lemmas)
-
-pub frame::Frame::push_moves-push_parts-requires : goal.frame::Frame::push_moves-push_parts-requires
-frame::Frame::push_moves-push_parts-requires t c = search (rules, the_lemmas)
-
-pub looking::push_part-push_moves-requires : goal.looking::push_part-push_moves-requires
-looking::push_part-push_moves-requires t c = search (rules, the_lemmas)
-
-pub looking::push_parts-push_moves-requires : goal.looking::push_parts-push_moves-requires
-looking::push_parts-push_moves-requires t c = search (rules, the_lemmas)

@@ -1,13 +1,16 @@
-use Rattle.std.proofs.Common.{◌∙◌, ◌+◌, ◌++◌, ◌≤◌, ℕ, List, [], ◌∷◌, map, drop, sym, ap, subst, rules}
+use Rattle.std.proofs.Common.{◌∙◌, ◌+◌, ◌++◌, ◌≤◌, ℕ, List, [], ◌∷◌, map, drop, refl, sym, ap, subst, rules}
+use Rattle.std.proofs.lemmas.Result.{IfOk-from_err, IfOk-weaker}
 use Rattle.vc_process.specs.declared.process.Branch.{Branch}
 use Rattle.vc_process.specs.declared.process.Guard.{Guard}
 use Rattle.vc_process.specs.declared.process.Process.{Process}
 use Rattle.vc_process.specs.declared.process.Process.TheViews.{the_lemmas}
 use Rattle.vc_process.specs.InOrder.{number, number_branch, number_guard}
-use Rattle.vc_occam.specs.Frames.{View, views}
+use Rattle.vc_occam.specs.Frames.{View, view, views}
 use Rattle.vc_process.specs.Numbering.{NumberedBranch, NumberedGuard, branch_sites, guard_sites, part_sites}
+use Rattle.vc_occam.specs.Remains.{Fresh}
+use Rattle.vc_process.specs.Syntax.{Proc}
 use Rattle.vc_occam.specs.Wholes.{whole_from}
-use Rattle.vc_occam.proofs.Making.{alt_next, alt_whole, branch_fits, branch_made, branches_end, few_inputs, guard_fits, guard_made, guards_end, if_next, if_whole, par_next, par_whole, part_fits, part_made, parts_end, seq_next, seq_whole, views_push}
+use Rattle.vc_occam.proofs.Making.{alt_next, alt_whole, branch_fits, branch_made, branches_end, count_next, count_whole, few_inputs, guard_fits, guard_made, guards_end, if_next, if_whole, par_next, par_whole, part_fits, part_made, parts_end, seq_next, seq_whole, site_fits, views_push, while_next, while_whole}
 use Rattle.vc_process.proofs.Numbers.{number_branch_out, number_guard_out}
 use Rattle.vc_process.proofs.Reaching.{drop_at}
 use Rattle.vc_occam.proofs.framing.+framing.Goals as goal
@@ -147,3 +150,79 @@ frame_of-frames_of_guards-requires t c =
 pub frame_of-returns-in_ok-made-in-Alt-clause-next : goal.frame_of-returns-in_ok-made-in-Alt-clause-next
 frame_of-returns-in_ok-made-in-Alt-clause-next t c =
     c.with_parts-in-Alt.ensures.next ∙ c.in_ok-made-in-Alt.ensures.next ∙ alt_next c.args.site c.args.process.now c.in-Alt.guards c.in-Alt.is
+
+pub frame_of-with_parts-requires : goal.frame_of-with_parts-requires
+frame_of-with_parts-requires t c = site_fits c.args.site 65536 c.args.process.now c.requires.sites
+
+pub frame_of-with_parts-requires-in-Par : goal.frame_of-with_parts-requires-in-Par
+frame_of-with_parts-requires-in-Par t c = site_fits c.args.site 65536 c.args.process.now c.requires.sites
+
+pub frame_of-with_parts-requires-in-If : goal.frame_of-with_parts-requires-in-If
+frame_of-with_parts-requires-in-If t c = site_fits c.args.site 65536 c.args.process.now c.requires.sites
+
+pub frame_of-with_parts-requires-in-Alt : goal.frame_of-with_parts-requires-in-Alt
+frame_of-with_parts-requires-in-Alt t c = site_fits c.args.site 65536 c.args.process.now c.requires.sites
+
+pub frame_of-with_body-requires : goal.frame_of-with_body-requires
+frame_of-with_body-requires t c = site_fits c.args.site 65536 c.args.process.now c.requires.sites
+
+pub frame_of-with_body-requires-in-Count : goal.frame_of-with_body-requires-in-Count
+frame_of-with_body-requires-in-Count t c = site_fits c.args.site 65536 c.args.process.now c.requires.sites
+
+pub frame_of-frame_of-requires : goal.frame_of-frame_of-requires
+frame_of-frame_of-requires t c =
+    let body = ap (λ (p : Process). c.args.site + 1 + (number p).sites) c.get.ensures in
+    (search (rules, the_lemmas), subst (λ (n : ℕ). n ≤ 65536) (sym (body ∙ while_next c.args.site c.args.process.now c.in-While.cond c.in-While.body c.in-While.is)) c.requires.sites)
+
+pub frame_of-returns-in_ok-made-in-While-clause-next : goal.frame_of-returns-in_ok-made-in-While-clause-next
+frame_of-returns-in_ok-made-in-While-clause-next t c =
+    let body = ap (λ (p : Process). c.args.site + 1 + (number p).sites) c.get.ensures in
+    IfOk-weaker c.with_body.result _ _ (λ made is. is ∙ c.in_ok-made-in-While.ensures.next ∙ body ∙ while_next c.args.site c.args.process.now c.in-While.cond c.in-While.body c.in-While.is) c.with_body.ensures.next
+
+pub frame_of-frame_of-requires-in-Count : goal.frame_of-frame_of-requires-in-Count
+frame_of-frame_of-requires-in-Count t c =
+    let body = ap (λ (p : Process). c.args.site + 1 + (number p).sites) c.get-in-Count.ensures in
+    (search (rules, the_lemmas), subst (λ (n : ℕ). n ≤ 65536) (sym (body ∙ count_next c.args.site c.args.process.now c.in-Count.var c.in-Count.base c.in-Count.count c.in-Count.body c.in-Count.is)) c.requires.sites)
+
+pub frame_of-returns-in_ok-kind-in-Count-clause-next : goal.frame_of-returns-in_ok-kind-in-Count-clause-next
+frame_of-returns-in_ok-kind-in-Count-clause-next t c =
+    let body = ap (λ (p : Process). c.args.site + 1 + (number p).sites) c.get-in-Count.ensures in
+    IfOk-weaker c.with_body-in-Count.result _ _ (λ made is. is ∙ c.in_ok-made-in-Count.ensures.next ∙ body ∙ count_next c.args.site c.args.process.now c.in-Count.var c.in-Count.base c.in-Count.count c.in-Count.body c.in-Count.is) c.with_body-in-Count.ensures.next
+
+pub frame_of-returns-in_ok-made-in-While-clause-frame : goal.frame_of-returns-in_ok-made-in-While-clause-frame
+frame_of-returns-in_ok-made-in-While-clause-frame t c =
+    let is = c.in_ok-made-in-While.ensures.frame ∙ ap (λ (p : Process). whole_from (c.args.site + 1) (number p)) c.get.ensures in
+    IfOk-weaker c.with_body.result _ _ (λ made w. w ∙ while_whole c.args.site c.args.process.now c.in-While.cond c.in_ok-cond-in-While.cond c.in-While.body (view c.in_ok-made-in-While.made.frame ∷ []) c.in-While.is c.in_ok-cond-in-While.ensures (ap (λ (v : View). v ∷ []) is)) c.with_body.ensures.frame
+
+pub frame_of-returns-in_ok-kind-in-Count-clause-frame : goal.frame_of-returns-in_ok-kind-in-Count-clause-frame
+frame_of-returns-in_ok-kind-in-Count-clause-frame t c =
+    let x = c.in-Count in
+    let k = c.in_ok-kind-in-Count.kind in
+    let vs = view c.in_ok-made-in-Count.made.frame ∷ [] in
+    let is = c.in_ok-made-in-Count.ensures.frame ∙ ap (λ (p : Process). whole_from (c.args.site + 1) (number p)) c.get-in-Count.ensures in
+    let whole : Proc → View = λ p. (p, Fresh p) in
+    IfOk-weaker c.with_body-in-Count.result _ _ (λ made w. w ∙ ap whole (c.in_ok-kind-in-Count.ensures c.args.site vs) ∙ count_whole c.args.site c.args.process.now x.var x.base x.count x.base x.count x.body vs x.is refl refl (ap (λ (v : View). v ∷ []) is)) c.with_body-in-Count.ensures.frame
+
+pub frame_of-returns-in_err-kind-in-Count-clause-frame : goal.frame_of-returns-in_err-kind-in-Count-clause-frame
+frame_of-returns-in_err-kind-in-Count-clause-frame t c = IfOk-from_err c.from_residual-in_err-kind-in-Count.result _ c.from_residual-in_err-kind-in-Count.ensures.0
+
+pub frame_of-returns-in_err-kind-in-Count-clause-next : goal.frame_of-returns-in_err-kind-in-Count-clause-next
+frame_of-returns-in_err-kind-in-Count-clause-next t c = IfOk-from_err c.from_residual-in_err-kind-in-Count.result _ c.from_residual-in_err-kind-in-Count.ensures.0
+
+pub frames_of-returns-in_err-made-clause-parts : goal.frames_of-returns-in_err-made-clause-parts
+frames_of-returns-in_err-made-clause-parts t c = IfOk-from_err c.from_residual.result _ c.from_residual.ensures.0
+
+pub frames_of-returns-in_err-made-clause-next : goal.frames_of-returns-in_err-made-clause-next
+frames_of-returns-in_err-made-clause-next t c = IfOk-from_err c.from_residual.result _ c.from_residual.ensures.0
+
+pub frames_of_branches-returns-in_err-made-clause-parts : goal.frames_of_branches-returns-in_err-made-clause-parts
+frames_of_branches-returns-in_err-made-clause-parts t c = IfOk-from_err c.from_residual.result _ c.from_residual.ensures.0
+
+pub frames_of_branches-returns-in_err-made-clause-next : goal.frames_of_branches-returns-in_err-made-clause-next
+frames_of_branches-returns-in_err-made-clause-next t c = IfOk-from_err c.from_residual.result _ c.from_residual.ensures.0
+
+pub frames_of_guards-returns-in_err-made-clause-parts : goal.frames_of_guards-returns-in_err-made-clause-parts
+frames_of_guards-returns-in_err-made-clause-parts t c = IfOk-from_err c.from_residual.result _ c.from_residual.ensures.0
+
+pub frames_of_guards-returns-in_err-made-clause-next : goal.frames_of_guards-returns-in_err-made-clause-next
+frames_of_guards-returns-in_err-made-clause-next t c = IfOk-from_err c.from_residual.result _ c.from_residual.ensures.0
