@@ -3,6 +3,7 @@ use Rattle.std.proofs.Common.{◌≡◌, ℕ, zero, suc, ◌+◌, ◌≤◌, ◌
 use Rattle.std.proofs.lemmas.Bool.Decides.{nat_tests}
 use Rattle.std.specs.Prelude.{slice_get, nat_lt}
 use Rattle.vc_process.specs.declared.condition.Cond.{Cond}
+use Rattle.vc_occam.specs.declared.begins.Begins.TheVariants as begins
 use Rattle.vc_occam.specs.declared.deed.Deed.{Deed}
 use Rattle.vc_occam.specs.declared.frame.Frame.{Frame}
 use Rattle.vc_occam.specs.declared.going.Next.{Next}
@@ -14,7 +15,7 @@ use Rattle.vc_process.specs.Syntax.{Test, SEQ, PAR, IF, no_parts}
 use Rattle.vc_process.specs.Terms.{as_test}
 use Rattle.vc_process.specs.Values.{Store, holds}
 use Rattle.vc_occam.specs.Remains.{Rest, Done, Stopped, Fresh, begin, branch_on, chosen, does_empty_seq, does_empty_par, does_if, does_turn, does_leave, faults_while}
-use Rattle.vc_occam.specs.Frames.{Able, Did, View, begun_at, branches_of, chosen_from, follow, has_parts, is_choice, plan_at, plans, plans_of, place_on, rest_at, view, views}
+use Rattle.vc_occam.specs.Frames.{Able, BeginsWith, Did, View, begun_at, branches_of, chosen_from, follow, has_parts, is_choice, plan_at, plans, plans_of, place_on, rest_at, view, views}
 use Rattle.vc_occam.specs.Nexts.{branch_next, turn_begun, turn_next}
 
 -- the frame at a place has begun
@@ -167,3 +168,7 @@ empty_par i (v ∷ vs) e s d (ks, q, f, st) = elim st [ ]
 pub turn_plans : (b : Bool) (vs : List View) → plans (turn_begun b vs) ≡ plans vs
 turn_plans true vs = begun_plans 0 vs
 turn_plans false vs = refl
+
+-- an IF begins with a step
+pub if_begins : (k : Kind) (cs : List Cond) (i : ℕ) (vs : List View) → k ≡ kind.If cs → BeginsWith (begins.Quiet i) (Fresh (plan_at k i vs))
+if_begins k cs i vs h = subst (λ (j : Kind). BeginsWith (begins.Quiet i) (Fresh (plan_at j i vs))) (sym h) (λ e. (refl, λ j. refl))

@@ -8,7 +8,7 @@ use Rattle.vc_occam.specs.declared.guarded.GuardedInput.{GuardedInput}
 use Rattle.vc_occam.specs.declared.moves.Move.{Move}
 use Rattle.vc_occam.specs.declared.moves.Move.TheVariants.{Choose}
 use Rattle.vc_occam.specs.First.{is_true, own}
-use Rattle.vc_occam.specs.Frames.{View, besides, place_with, plans_of, view, views}
+use Rattle.vc_occam.specs.Frames.{View, besides, listed, place_with, plans_of, view, views}
 use Rattle.vc_occam.specs.Gates.{Gate, are_decided, choices_at, gate, open_from, open_one}
 use Rattle.vc_occam.specs.Moving.{from_site, site_of}
 use Rattle.vc_occam.specs.Remains.{Rest}
@@ -30,6 +30,12 @@ from_listed i (x ∷ ms) m h = on (nat_le i (site_of x)) h (λ q. behind x ms m 
     on : (b : Bool) → (if b then Some x else from_site i ms) ≡ Some m → (from_site i ms ≡ Some m → Contains (x ∷ ms) m) → Contains (x ∷ ms) m
     on true q r = let e : x ≡ m = cc in subst (Contains (x ∷ ms)) e (at_front x ms)
     on false q r = r q
+
+-- a move whose site is before this one
+pub from_later : (i : ℕ) (o : Option Move) (m : Move) → o ≡ Some m → site_of m < i → None ≡ from_site i (listed o)
+from_later i o m h l =
+    let before : nat_le i (site_of m) ≡ false = grind (arith, nat_tests) in
+    sym (ap (λ x. from_site i (listed x)) h ∙ ap (λ b. if b then Some m else None) before)
 
 -- of two lists one behind the other
 pub from_some : (i : ℕ) (ms ns : List Move) (m : Move) → from_site i ms ≡ Some m → from_site i (ms ++ ns) ≡ Some m
