@@ -9,12 +9,12 @@ use Rattle.vc_occam.specs.declared.kind.Kind.{Kind}
 use Rattle.vc_occam.specs.declared.kind.Kind.TheVariants as kind
 use Rattle.vc_occam.specs.declared.phase.Phase.{Phase}
 use Rattle.vc_process.specs.declared.value.Value.{Value}
-use Rattle.vc_process.specs.Syntax.{Given, Assign}
+use Rattle.vc_process.specs.Syntax.{Given, Assign, Input}
 use Rattle.vc_occam.specs.Traces.{set}
 use Rattle.vc_process.specs.Usage.{just}
 use Rattle.vc_process.specs.Values.{Store, datum_of}
-use Rattle.vc_occam.specs.Remains.{Rest, Done, Stopped, Fresh, does_assign, faults_assign}
-use Rattle.vc_occam.specs.Frames.{Able, Did, HasVariables, View, plan_at, rest_at}
+use Rattle.vc_occam.specs.Remains.{Rest, Done, Stopped, Fresh, Getting, does_assign, does_input, faults_assign, gets, waits_input}
+use Rattle.vc_occam.specs.Frames.{Able, Did, HasVariables, View, going_at, plan_at, rest_at}
 
 module _ (i : ℕ) (vs : List View) (at : ℕ) (e f : Store) (s : ℕ) (d : Deed) where
   abbrev Begins : Phase → Kind → Type 0
@@ -48,3 +48,17 @@ did_store r e s d q f g h = subst (λ z. Did r e s d q z) (sym h)
 
 pub just_is : (v w : ℕ) → just w v ≡ true → v ≡ w
 just_is v w h = grind (arith, nat_tests)
+
+-- an input begins and goes on by its own deeds alone
+only_want : (i c v : ℕ) (e f : Store) (s : ℕ) (d : Deed) (r : Rest) → ((j : ℕ) (m : Option (List ℕ)) → d ≡ deed.Want j m → ⊥) → Able (Fresh (Input i c v)) e s d → Did (Fresh (Input i c v)) e s d r f
+only_want i c v e f s d r h (ks, q, x, does_input {m = m} y) = absurd (h c (Some m) refl)
+only_want i c v e f s d r h (ks, q, x, waits_input) = absurd (h c None refl)
+
+pub no_want_did : (k : Kind) (i c v : ℕ) (vs : List View) (e f : Store) (s : ℕ) (d : Deed) (r : Rest) → k ≡ kind.Receive c v → ((j : ℕ) (m : Option (List ℕ)) → d ≡ deed.Want j m → ⊥) → Able (Fresh (plan_at k i vs)) e s d → Did (Fresh (plan_at k i vs)) e s d r f
+no_want_did k i c v vs e f s d r h g able = subst (λ (j : Kind). Did (Fresh (plan_at j i vs)) e s d r f) (sym h) (only_want i c v e f s d r g (subst (λ (j : Kind). Able (Fresh (plan_at j i vs)) e s d) h able))
+
+only_gets : (i c v : ℕ) (e f : Store) (s : ℕ) (d : Deed) (r : Rest) → ((m : List ℕ) → d ≡ deed.Message m → ⊥) → Able (Getting i c v) e s d → Did (Getting i c v) e s d r f
+only_gets i c v e f s d r h (ks, q, x, gets {m = m} y) = absurd (h m refl)
+
+pub no_message_got : (k : Kind) (i c v : ℕ) (vs : List View) (at : ℕ) (e f : Store) (s : ℕ) (d : Deed) (r : Rest) → k ≡ kind.Receive c v → ((m : List ℕ) → d ≡ deed.Message m → ⊥) → Able (going_at k i vs at) e s d → Did (going_at k i vs at) e s d r f
+no_message_got k i c v vs at e f s d r h g able = subst (λ (j : Kind). Did (going_at j i vs at) e s d r f) (sym h) (only_gets i c v e f s d r g (subst (λ (j : Kind). Able (going_at j i vs at) e s d) h able))

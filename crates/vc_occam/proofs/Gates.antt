@@ -155,6 +155,15 @@ choice_did k i gs vs ws e f s d at place c m n xs h g p q a b t able =
     let by_next = subst (λ y. Did (Fresh (plan_at (kind.Alt gs) i vs)) e s (deed.Choose place c m) (rest_at (kind.Alt gs) y.phase i ws y.at) f) (sym next) by_parts in
     subst (λ (j : Kind). Did (Fresh (plan_at j i vs)) e s d (rest_at j n.phase i ws n.at) f) (sym h) (subst (λ (y : Deed). Did (Fresh (plan_at (kind.Alt gs) i vs)) e s y (rest_at (kind.Alt gs) n.phase i ws n.at) f) (sym g) by_next)
 
+-- it is taken by a choice alone
+only_choice : (i : ℕ) (gs : Guards) (e f : Store) (s : ℕ) (d : Deed) (r : Rest) → ((k c : ℕ) (m : Option (List ℕ)) → d ≡ deed.Choose k c m → ⊥) → Able (Fresh (ALT i gs)) e s d → Did (Fresh (ALT i gs)) e s d r f
+only_choice i gs e f s d r h (ks, q, x, does_choose {k = k} {c = c} {m = m} a b y z) = absurd (h k c (Some m) refl)
+only_choice i gs e f s d r h (ks, q, x, waits_choose {k = k} {c = c} a b y) = absurd (h k c None refl)
+
+pub no_choice_did : (k : Kind) (i : ℕ) (gs : GuardedInputs) (vs : List View) (e f : Store) (s : ℕ) (d : Deed) (r : Rest) → k ≡ kind.Alt gs → ((p c : ℕ) (m : Option (List ℕ)) → d ≡ deed.Choose p c m → ⊥) → Able (Fresh (plan_at k i vs)) e s d → Did (Fresh (plan_at k i vs)) e s d r f
+no_choice_did k i gs vs e f s d r h g able =
+    subst (λ (j : Kind). Did (Fresh (plan_at j i vs)) e s d r f) (sym h) (only_choice i (guards_of (map gate gs.inputs) vs) e f s d r g (subst (λ (j : Kind). Able (Fresh (plan_at j i vs)) e s d) h able))
+
 pub gate_plans : (o : Option Gate) (m : Option (List ℕ)) (k : ℕ) (vs : List View) → plans (gate_begun o m k vs) ≡ plans vs
 gate_plans None m k vs = refl
 gate_plans (Some g) None k vs = refl

@@ -1,4 +1,4 @@
-use Rattle.std.proofs.Common.{◌≡◌, ◌∙◌, sym, ap, subst, List, []}
+use Rattle.std.proofs.Common.{◌≡◌, ◌∙◌, refl, sym, ap, subst, List, []}
 use Rattle.vc_process.specs.declared.datum.Datum.{Datum}
 use Rattle.vc_occam.specs.declared.kind.Kind.{Kind}
 use Rattle.vc_occam.specs.declared.phase.Phase.TheVariants.{Ended, Stuck}
@@ -7,7 +7,7 @@ use Rattle.vc_occam.specs.Remains.{Fresh}
 use Rattle.vc_process.specs.Terms.{given, store}
 use Rattle.vc_process.specs.Values.{assigned_bytes, datum_of}
 use Rattle.vc_occam.proofs.Beginning.{empty_par}
-use Rattle.vc_occam.proofs.Doing.{at_kind, at_site, set_did, set_faulted, set_variable_there, input_variable_there, did_store}
+use Rattle.vc_occam.proofs.Doing.{no_want_did, at_kind, at_site, set_did, set_faulted, set_variable_there, input_variable_there, did_store}
 use Rattle.vc_occam.proofs.going.begin_alone.Goals as goal
 
 pub set_variable-requires : goal.set_variable-requires
@@ -39,3 +39,6 @@ pub returns-in-Par-clause-did : goal.returns-in-Par-clause-did
 returns-in-Par-clause-did c = λ vs at able.
     let e = store c.args.vars.now.items in
     at_kind c.args.own vs at e e c.args.doing.now.site c.args.doing.now.deed Ended _ _ c.in-Par.is (empty_par c.args.own vs e c.args.doing.now.site c.args.doing.now.deed) able
+
+pub returns-in-Receive : goal.returns-in-Receive
+returns-in-Receive c = record { did = λ vs at. no_want_did c.args.kind.now c.args.own c.in-Receive.chan c.in-Receive.var vs _ _ c.args.doing.now.site c.args.doing.now.deed _ c.in-Receive.is (λ j m w. c.in_default-take_deed.not-Want j m (c.take_deed.ensures ∙ w)); length = refl }

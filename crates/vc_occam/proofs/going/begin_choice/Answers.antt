@@ -1,6 +1,6 @@
-use Rattle.std.proofs.Common.{◌∙◌, sym, ap}
+use Rattle.std.proofs.Common.{◌∙◌, refl, sym, ap}
 use Rattle.vc_occam.specs.Frames.{plans, views}
-use Rattle.vc_occam.proofs.Gates.{choice_did, gate_plans, gate_variable}
+use Rattle.vc_occam.proofs.Gates.{choice_did, gate_plans, gate_variable, no_choice_did}
 use Rattle.vc_occam.proofs.going.begin_choice.Goals as goal
 
 pub take_guard-requires : goal.take_guard-requires
@@ -13,3 +13,6 @@ returns-in-Choose-clause-did c = λ s.
 
 pub returns-in-Choose-clause-plans : goal.returns-in-Choose-clause-plans
 returns-in-Choose-clause-plans c = ap plans c.take_guard.ensures.parts ∙ gate_plans _ _ _ (views c.args.parts.now.items)
+
+pub returns-in-Alt : goal.returns-in-Alt
+returns-in-Alt c = record { did = λ s. no_choice_did c.args.kind.now c.args.own c.in-Alt.guards (views c.args.parts.now.items) _ _ s c.args.doing.now.deed _ c.in-Alt.is (λ p q m w. c.in_default-take_deed.not-Choose p q m (c.take_deed.ensures ∙ w)); plans = refl; length = refl }
