@@ -5,7 +5,7 @@ use Rattle.vc_occam.specs.declared.frame.Frame.{Frame}
 use Rattle.vc_occam.specs.declared.frame.Frame.TheOpen.{Frame-F}
 use Rattle.vc_occam.specs.declared.phase.Phase.{Phase}
 use Rattle.vc_occam.specs.declared.phase.Phase.TheVariants.{Turning, Ended, Stuck, Waiting}
-use Rattle.vc_occam.specs.Frames.{Able, BeginsWith, Did, HasVariables, View, assigned_at, besides, gone_on, is_done, part_done, part_rest, plan_at, plans, rest_at, resting_at, view, views}
+use Rattle.vc_occam.specs.Frames.{Able, BeginsWith, Did, HasVariables, PartHasVariables, PartInPreorder, View, assigned_at, besides, gone_on, is_done, part_assigned, part_done, part_rest, plan_at, plans, rest_at, resting_at, view, views}
 use Rattle.vc_occam.specs.Nexts.{TurnEnded}
 use Rattle.vc_occam.specs.Remains.{Done, Rest}
 use Rattle.vc_occam.specs.Sites.{InPreorder}
@@ -376,3 +376,18 @@ going::go_within-returns-then-at-len-clause-begins t c =
     let o = c.args.parts.now.ok.0 in
     let l : c.args.at < length fs = omega (arith, c.len.ensures) in
     subst (λ (v : Option View). BeginsWith (then_begins c.go.result) (part_rest v)) (sym (set_view fs c.args.at c.go.new.self l)) c.go.ensures.begins
+
+pub going::go_within-go-requires : goal.going::go_within-go-requires
+going::go_within-go-requires t c =
+    let fs = c.args.parts.now.items in
+    let o = c.args.parts.now.ok.0 in
+    let l : c.args.at < length fs = omega (arith, c.len.ensures) in
+    let is = get_view fs c.args.at _ l c.index_mut.ensures.value in
+    let e = store c.args.vars.now.items in
+    let s = c.args.doing.now.site in (
+      search (rules, the_lemmas),
+      (
+        subst (λ (v : Option View). Able (part_rest v) e s c.args.doing.now.deed) is c.requires.able,
+        (λ q. c.requires.assigned q ∙ ap (λ (v : Option View). part_assigned s v e) is, (subst (λ (v : Option View). PartHasVariables v (length c.args.vars.now.items)) is c.requires.variables, subst PartInPreorder is c.requires.in_preorder)),
+      ),
+    )

@@ -1,4 +1,4 @@
-use Rattle.std.proofs.Common.{◌≡◌, ◌∙◌, ap, sym, subst}
+use Rattle.std.proofs.Common.{◌≡◌, ◌∙◌, ap, refl, sym, subst}
 use Rattle.std.specs.List.{Contains}
 use Rattle.vc_occam.specs.declared.moves.Move.{Move}
 use Rattle.vc_occam.specs.First.{own, first_moves}
@@ -75,3 +75,13 @@ returns-in_default-clause-waits c = λ waits none.
     let ns = own (view next.frame).1 (store next.vars.items) in
     let kept : ns ≡ without i ms = stays (state self) (state next) c.args.made.now (sent_by (state self) c.args.made.now) c.args.answer self.own_sites c.act_alone.ensures.made waits in
     apart (inner_channels next) (λ d. ap (λ s. s d) c.act_alone.ensures.inside ∙ none d) ns ns ∙ kept ∙ ap (without i) (sym (apart (inner_channels self) none ms ms))
+
+pub meet-self-requires-clause-fits : goal.meet-self-requires-clause-fits
+unfolding state inner_channels
+meet-self-requires-clause-fits c =
+    let s = state c.args.self.now in
+    subst (λ (m : Move). FitsMove m (sent_by s m) c.args.answer) c.in-Inner.is c.requires.fits
+
+pub returns-in-Inner-clause-inside : goal.returns-in-Inner-clause-inside
+unfolding state inner_channels
+returns-in-Inner-clause-inside c = refl
