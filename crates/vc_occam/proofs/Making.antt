@@ -11,7 +11,7 @@ use Rattle.vc_process.specs.declared.process.Guard.{Guard}
 use Rattle.vc_process.specs.declared.process.Process.{Process}
 use Rattle.vc_process.specs.declared.process.Process.TheVariants as process
 use Rattle.vc_process.specs.declared.process.Process.TheOpen as layer
-use Rattle.vc_process.specs.declared.process.Process.TheFolds.{fold_out-Process, fold-roll-Process}
+use Rattle.vc_process.specs.declared.process.Process.TheFolds.{fold_out-Process}
 use Rattle.vc_process.specs.declared.process.Process.TheViews.{out-Branch, out-Guard}
 use Rattle.vc_occam.specs.Frames.{View, branches_of, count_of, guards_of, plans_of, view, views, while_of}
 use Rattle.vc_occam.specs.Gates.{Gate, gate}

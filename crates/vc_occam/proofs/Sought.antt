@@ -1,5 +1,5 @@
 -- The first move at a site from one on.
-use Rattle.std.proofs.Common.{◌≡◌, ℕ, suc, Bool, true, false, ◌+◌, ◌<◌, ◌≤◌, refl, ap, sym, ◌∙◌, subst, List, [], ◌∷◌, ◌++◌, length, drop, get_or, map, arith, Option, Some, None, inl, inr, if◌then◌else◌}
+use Rattle.std.proofs.Common.{◌≡◌, ℕ, suc, Bool, true, false, ◌+◌, ◌<◌, ◌≤◌, refl, ap, sym, ◌∙◌, subst, List, [], ◌∷◌, ◌++◌, length, drop, get_or, map, arith, Option, Some, None, if◌then◌else◌}
 use Rattle.std.proofs.lemmas.Bool.Decides.{nat_tests}
 use Rattle.std.specs.List.{Contains}
 use Rattle.std.specs.Prelude.{nat_le}
@@ -11,7 +11,6 @@ use Rattle.vc_occam.specs.First.{is_true, own}
 use Rattle.vc_occam.specs.Frames.{View, besides, listed, place_with, plans_of, view, views}
 use Rattle.vc_occam.specs.Gates.{Gate, are_decided, choices_at, gate, open_from, open_one}
 use Rattle.vc_occam.specs.Moving.{from_site, site_of}
-use Rattle.vc_occam.specs.Remains.{Rest}
 use Rattle.vc_occam.specs.Sites.{PartsInPreorder, site, sites, sites_all}
 use Rattle.vc_process.specs.Usage.{among, changes}
 use Rattle.vc_process.specs.Values.{Store, holds}

@@ -1,5 +1,5 @@
 -- Where no channel is inside the node, each site's own moves are the moves.
-use Rattle.std.proofs.Common.{◌≡◌, ℕ, Bool, true, false, arith, Option, Some, None, refl, ap, sym, ◌∙◌, subst, List, [], ◌∷◌, ◌++◌, length, take, drop}
+use Rattle.std.proofs.Common.{◌≡◌, ℕ, true, false, arith, Option, Some, None, refl, ap, sym, ◌∙◌, subst, List, [], ◌∷◌, ◌++◌, length, take, drop}
 use Rattle.vc_occam.specs.declared.begins.Begins.{Begins}
 use Rattle.vc_occam.specs.declared.begins.Begins.TheVariants as begins
 use Rattle.vc_occam.specs.declared.moves.Move.{Move}

@@ -1,5 +1,5 @@
 -- An output or input that begins and waits: the other sites' moves are what they were.
-use Rattle.std.proofs.Common.{◌≡◌, ℕ, ℤ, suc, zero, Bool, true, false, refl, ap, sym, ◌∙◌, subst, List, [], ◌∷◌, ◌++◌, Option, Some, None, ◌⊎◌, inl, inr, arith}
+use Rattle.std.proofs.Common.{◌≡◌, ℕ, ℤ, Bool, true, false, refl, ap, sym, ◌∙◌, subst, List, [], ◌∷◌, ◌++◌, Option, Some, None, ◌⊎◌, inl, inr, arith}
 use Rattle.std.proofs.lemmas.Bool.Decides.{nat_tests}
 use Rattle.std.proofs.lemmas.List.Elements.{Contains-append_left, Contains-append_right}
 use Rattle.std.specs.List.{Contains}
@@ -10,7 +10,7 @@ use Rattle.vc_occam.specs.declared.moves.Move.{Move}
 use Rattle.vc_occam.specs.declared.moves.Move.TheVariants.{Offer, Want, Choose, Stopch, Inner, Quiet}
 use Rattle.vc_process.specs.Syntax.{Proc, Procs, Output}
 use Rattle.vc_process.specs.Usage.{Set}
-use Rattle.vc_process.specs.Values.{Store, datum_of}
+use Rattle.vc_process.specs.Values.{Store}
 use Rattle.vc_occam.specs.First.{own}
 use Rattle.vc_occam.specs.Moving.{BeginsToWait, site_of, without}
 use Rattle.vc_occam.specs.Remains.{Rest, Done, Fresh, Then, Turns, Beside, Step, does_offer, waits_input, in_then, in_turns, in_left, in_right, then_on, turns_on, index_on, beside_on}

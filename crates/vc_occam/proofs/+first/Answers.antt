@@ -1,18 +1,16 @@
-use Rattle.std.proofs.Common.{◌∙◌, ◌<◌, ◌≤◌, ℕ, length, drop, rules, sym, ap, subst, arith, Option, List}
+use Rattle.std.proofs.Common.{◌∙◌, ◌<◌, ℕ, length, drop, rules, sym, ap, subst}
 use Rattle.std.specs.Prelude.{slice_get}
-use Rattle.vc_occam.specs.declared.frame.Frame.{Frame}
 use Rattle.vc_occam.specs.declared.frame.Frame.TheViews.{out-Frame, the_lemmas}
-use Rattle.vc_occam.specs.declared.moves.Move.{Move}
 use Rattle.vc_occam.specs.First.{own}
-use Rattle.vc_occam.specs.Frames.{PartInPreorder, View, behind, besides, part_own, place_of, place_with, views}
+use Rattle.vc_occam.specs.Frames.{PartInPreorder, View, behind, besides, part_own, place_of, views}
 use Rattle.vc_occam.specs.Moving.{from_site}
 use Rattle.vc_occam.specs.Remains.{Rest}
 use Rattle.vc_occam.specs.Sites.{InPreorder}
 use Rattle.vc_process.specs.Terms.{store}
 use Rattle.vc_occam.proofs.Frames.{awaiting_own, follow_own, idle_own, is_awaiting, rest_apart, rest_ended, rest_going, rest_idle, rest_ready, rest_stuck, rest_together, resting_nothing, turning_none, turning_own, view_out}
 use Rattle.vc_occam.proofs.Inside.{frames_inside}
-use Rattle.vc_occam.proofs.Sought.{from_part, seek_found, seek_more, seek_none}
-use Rattle.vc_occam.proofs.Stepping.{body_preorder, get_view, none_view, par_preorder, parts_preorder, within_preorder}
+use Rattle.vc_occam.proofs.Sought.{from_part, seek_found, seek_more}
+use Rattle.vc_occam.proofs.Stepping.{body_preorder, get_view, par_preorder, parts_preorder, within_preorder}
 use Rattle.vc_occam.proofs.+first.Goals as goal
 
 pub frame::Frame::first_from-part_from-requires : goal.frame::Frame::first_from-part_from-requires

@@ -1,23 +1,11 @@
-use Rattle.std.proofs.Common.{◌≡◌, ◌∙◌, ℕ, List, Option, refl, sym, ap, subst, rules, arith, ◌<◌, length, set}
+use Rattle.std.proofs.Common.{◌≡◌, ◌∙◌, List, refl, sym, ap, subst, length}
 use Rattle.std.specs.Prelude.{slice_get}
 use Rattle.vc_occam.specs.declared.frame.Frame.TheViews.{the_lemmas, out-Frame, roll-Frame}
-use Rattle.vc_occam.specs.declared.frame.Frame.{Frame}
-use Rattle.vc_occam.specs.declared.frame.Frame.TheOpen.{Frame-F}
-use Rattle.vc_occam.specs.declared.phase.Phase.{Phase}
-use Rattle.vc_occam.specs.declared.phase.Phase.TheVariants.{Turning, Ended, Stuck, Waiting}
-use Rattle.vc_occam.specs.Frames.{Able, BeginsWith, Did, HasVariables, View, assigned_at, besides, gone_on, is_done, part_done, part_rest, plan_at, plans, rest_at, resting_at, view, views}
-use Rattle.vc_occam.specs.Nexts.{TurnEnded}
-use Rattle.vc_occam.specs.Remains.{Done, Rest}
-use Rattle.vc_occam.specs.Sites.{InPreorder}
-use Rattle.vc_process.specs.Syntax.{Proc, STOP}
+use Rattle.vc_occam.specs.declared.phase.Phase.TheVariants.{Waiting}
+use Rattle.vc_occam.specs.Frames.{Able, Did, HasVariables, View, gone_on, part_rest, plan_at, plans, resting_at, view, views}
 use Rattle.vc_process.specs.Terms.{store}
-use Rattle.vc_occam.specs.Went.{has_ended, then_begins}
-use Rattle.vc_occam.proofs.Abreast.{beside_rest, none_beside, part_able, part_did, part_preorder, part_value, part_variables}
-use Rattle.vc_occam.proofs.Ending.{able_there, besides_goes, same_length}
-use Rattle.vc_occam.proofs.Frames.{parts_len, view_roll, view_out}
-use Rattle.vc_occam.proofs.Outset.{part_begins, turn_begins}
-use Rattle.vc_occam.proofs.Stepping.{body_preorder, get_view, goes_undone, going_on, never, never_done, never_there, none_changed, none_view, par_preorder, phase_able, phase_did, resting_able, resting_did, resting_never, same_plan, set_changed, set_plans, set_view, within_able, within_assigned, within_did, within_preorder, within_variables}
-use Rattle.vc_occam.proofs.Turns.{counted_is, none_turns, turn_goes, turn_gone, turn_undone, turning_able, turning_value, turning_variables}
+use Rattle.vc_occam.proofs.Frames.{view_roll, view_out}
+use Rattle.vc_occam.proofs.Stepping.{goes_undone, going_on, resting_able, resting_did, resting_never, same_plan, within_variables}
 use Rattle.vc_occam.proofs.frame.Frame.go_resting.Goals as goal
 
 pub end_part-ended-requires-clause-able : goal.end_part-ended-requires-clause-able

@@ -1,4 +1,4 @@
-use Rattle.std.proofs.Common.{◌≡◌, ◌∙◌, ap, sym, subst, List, Option, Some, None, ℕ, true, false}
+use Rattle.std.proofs.Common.{◌≡◌, ◌∙◌, ap, sym, List, Option, Some, None, ℕ, true, false}
 use Rattle.std.specs.List.{Contains}
 use Rattle.std.specs.Prelude.{IfSome}
 use Rattle.vc_process.specs.declared.datum.Datum.{Datum}
@@ -6,7 +6,7 @@ use Rattle.vc_occam.specs.declared.moves.Move.{Move}
 use Rattle.vc_occam.specs.First.{joined, own}
 use Rattle.vc_occam.specs.Frames.{view}
 use Rattle.vc_occam.specs.Moving.{from_site}
-use Rattle.vc_occam.specs.Runnings.{moves, state, inner_channels}
+use Rattle.vc_occam.specs.Runnings.{state, inner_channels}
 use Rattle.vc_process.specs.Terms.{store}
 use Rattle.vc_process.specs.Usage.{among}
 use Rattle.vc_occam.proofs.Sought.{from_listed, none_inside}
