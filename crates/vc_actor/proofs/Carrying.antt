@@ -1,9 +1,9 @@
 -- A table of ways that is filled channel by channel.
-use Rattle.std.proofs.Common.{◌≡◌, ℕ, suc, ◌<◌, ◌≤◌, Bool, true, false, ◌&&◌, List, length, take, get_or, slice_get, slice_set, Some, refl, sym, ap, ◌∙◌, arith, inl, inr, if◌then◌else◌, eq-eqb}
+use Rattle.std.proofs.Common.{◌≡◌, ℕ, zero, suc, ◌<◌, ◌≤◌, Bool, true, false, ◌&&◌, List, length, take, get_or, slice_get, slice_set, Some, None, refl, sym, ap, ◌∙◌, arith, inl, inr, if◌then◌else◌, eq-eqb}
 use Rattle.std.proofs.lemmas.Bool.{cases_eq, ne_eqb}
 use Rattle.std.proofs.lemmas.Bool.Decides.{nat_tests}
 use Rattle.std.proofs.lemmas.Option.{slice_get-get_or}
-use Rattle.std.proofs.Math.ListN.{length-set}
+use Rattle.std.proofs.Math.ListN.{length-set, replicate}
 use mathlib.Core.Path.{fun_ext}
 use Rattle.vc_plan.specs.declared.channel.Channel.{Channel}
 use Rattle.vc_plan.specs.declared.channel.Home.{Home}
@@ -24,6 +24,13 @@ one_way w c true true = refl
 one_way w c true false = refl
 one_way w c false true = refl
 one_way w c false false = refl
+
+-- no channel yet
+pub none_carried : (n v : ℕ) (f : Bool) → on_link (replicate n empty_ways) v f ≡ None
+none_carried zero v f = refl
+none_carried (suc n) zero true = refl
+none_carried (suc n) zero false = refl
+none_carried (suc n) (suc v) f = none_carried n v f
 
 -- a channel more
 on_home : (p : Plan) (ws : List Ways) (c : ℕ) (h : Home) → length ws ≡ length p.vlinks → home_there p h ≡ true → (v : ℕ) (f : Bool) → on_link (carried ws h c) v f ≡ (if is_on v f h then Some c else on_link ws v f)

@@ -1,5 +1,5 @@
 -- What a change of one channel inside a node is to what the channels show.
-use Rattle.std.proofs.Common.{◌≡◌, ◌↔◌, ℕ, suc, List, [], ◌∷◌, ◌++◌, length, refl, sym, ap, ◌∙◌, subst, inl, inr, slice_get, slice_set, get_or, ◌<◌, Some, None, Option, Bool, true, false, IsTrue, IsSome}
+use Rattle.std.proofs.Common.{◌≡◌, ◌↔◌, ℕ, zero, suc, List, [], ◌∷◌, ◌++◌, length, refl, sym, ap, ◌∙◌, subst, inl, inr, slice_get, slice_set, get_or, ◌<◌, Some, None, Option, Bool, true, false, IsTrue, IsSome}
 use Rattle.std.proofs.lemmas.Bool.{cases_eq, false≢true}
 use Rattle.std.proofs.lemmas.Option.{slice_get-get_or}
 use Rattle.vc_machine.specs.Rendezvous.{View, nothing_yet}
@@ -52,6 +52,28 @@ same_names xs i x y differ here same c = elim (cases_eq (name x) c) [
       ((λ h. subst IsSome (sym old) refl), (λ h. subst IsSome (sym new) refl)))
   | inr other ↦ (let k = named-set_other name xs i x y c here same other in ((λ h. subst IsSome k h), (λ h. subst IsSome (sym k) h)))
 ]
+
+-- and no number stands twice
+record Was (xs : List Internal) (j : ℕ) (z : Internal) : Type 0 where
+  old : Internal
+  there : slice_get xs j ≡ Some old
+  same : z.chan ≡ old.chan
+
+was : (xs : List Internal) (i j : ℕ) (x y z : Internal) → slice_get xs i ≡ Some x → y.chan ≡ x.chan → slice_get (slice_set xs i y) j ≡ Some z → Was xs j z
+was [] i j x y z here same there = absurd (cc)
+was (v ∷ vs) zero zero x y z here same there =
+    let old : v ≡ x = cc in
+    let new : y ≡ z = cc in
+    record { old = v; there = refl; same = sym (ap name new) ∙ same ∙ sym (ap name old) }
+was (v ∷ vs) zero (suc j) x y z here same there = record { old = z; there = there; same = refl }
+was (v ∷ vs) (suc i) zero x y z here same there = record { old = z; there = there; same = refl }
+was (v ∷ vs) (suc i) (suc j) x y z here same there = let w = was vs i j x y z here same there in record { old = w.old; there = w.there; same = w.same }
+
+pub still_differ : (xs : List Internal) (i : ℕ) (x y : Internal) → NamesDiffer name xs → slice_get xs i ≡ Some x → y.chan ≡ x.chan → NamesDiffer name (slice_set xs i y)
+still_differ xs i x y differ here same j k z w at_j at_k e =
+    let p = was xs i j x y z here same at_j in
+    let q = was xs i k x y w here same at_k in
+    differ j k p.old q.old p.there q.there (sym p.same ∙ e ∙ q.same)
 
 -- what stands in the list behind the value
 pub record At (xs now : List Internal) (c i : ℕ) (x : Internal) : Type 0 where

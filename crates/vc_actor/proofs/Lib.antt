@@ -1,6 +1,7 @@
 pub mod WithinLimits
 pub mod Carrying
 pub mod Beginning
+pub mod Gathering
 pub mod Sending
 pub mod Halved
 pub mod Moving

@@ -1,8 +1,9 @@
-use Rattle.std.proofs.Common.{◌≡◌, length, slice_get, Some, refl, sym, ap, ◌∙◌, subst, arith}
-use Rattle.std.proofs.lemmas.Option.{slice_get_read}
-use Rattle.vc_actor.specs.Begin.{BeginsAs}
+use Rattle.std.proofs.Common.{◌≡◌, length, sym, ap, subst, arith}
+use borrow.Author.Count.{falls}
+use Rattle.vc_actor.specs.Begin.{AreFirst, AreWaysOf, BeginsAs}
 use Rattle.vc_actor.proofs.Beginning.{none_yet, first_more}
 use Rattle.vc_actor.proofs.Carrying.{few_nodes}
+use Rattle.vc_actor.proofs.Gathering.{stands_at}
 use Rattle.vc_actor.proofs.building.add_nodes.Goals as goal
 
 pub loop-i-init : goal.loop-i-init
@@ -17,10 +18,7 @@ overflow_cast-i c =
 
 pub build_node-requires-clause-node : goal.build_node-requires-clause-node
 build_node-requires-clause-node c =
-    let xs = c.as_slice-node-items.result.now in
-    let k = c.loop-i.i in
-    let there : slice_get xs k ≡ Some c.node-item.result = slice_get_read xs (length xs) k c.node-item.result refl c.loop-i-test.true c.node-item.is in
-    sym (ap (λ z. slice_get z k) c.as_slice-node-items.ensures) ∙ there
+    stands_at c.as_slice-node-items.result.now c.args.plan.now.nodes c.loop-i.i c.node-item.result c.as_slice-node-items.ensures c.loop-i-test.true c.node-item.is
 
 pub loop-i-preserved : goal.loop-i-preserved
 loop-i-preserved c =
@@ -28,3 +26,14 @@ loop-i-preserved c =
     let k = c.loop-i.i in
     let is : BeginsAs p k c.of_node.result = subst (BeginsAs p k) (sym c.of_node.ensures) c.in_ok-node.ensures in
     first_more p k c.loop-i.actors.items c.push.new.self.items c.of_node.result c.in_ok-push.ensures.items is c.loop-i.invariant
+
+pub loop-i-smaller : goal.loop-i-smaller
+loop-i-smaller c = falls (length c.as_slice-node-items.result.now) c.loop-i.i c.loop-i-test.true
+
+pub build_node-requires-clause-ways : goal.build_node-requires-clause-ways
+build_node-requires-clause-ways c = subst (AreWaysOf c.args.plan.now) (sym c.deref.ensures.value) c.in_ok-ways.ensures
+
+pub returns : goal.returns
+returns c =
+    let all : c.loop-i.i ≡ length c.args.plan.now.nodes = (let same = ap length c.as_slice-node-items.ensures in let most = c.loop-i.auto.i-end in let past = c.loop-i-test.false in omega arith) in
+    subst (λ n. AreFirst c.args.plan.now n c.loop-i.actors.items) all c.loop-i.invariant

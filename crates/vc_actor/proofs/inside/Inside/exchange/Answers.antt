@@ -1,6 +1,6 @@
 use Rattle.std.proofs.Common.{refl, ap, ◌∙◌, slice_set}
 use Rattle.vc_actor.specs.Shown.{views_of}
-use Rattle.vc_actor.proofs.Insides.{is_at, exchanges_at, keeps_names}
+use Rattle.vc_actor.proofs.Insides.{is_at, exchanges_at, keeps_names, still_differ}
 use Rattle.vc_actor.proofs.inside.Inside.exchange.Goals as goal
 
 pub returns-clause-ok : goal.returns-clause-ok
@@ -17,3 +17,17 @@ returns-clause-names c =
     let x = c.index_mut.result.now in
     keeps_names xs c.args.self.now c.args.chan c.in-Some.at x (record x { messages = c.push.new.self }) c.self.view_is
     (is_at xs c.args.self.now c.args.chan c.in-Some.at x c.self.invariant c.self.view_is c.in-Some.ensures.within c.in-Some.ensures.found c.index_mut.ensures.value) refl
+
+pub invariant_of-self : goal.invariant_of-self
+invariant_of-self c =
+    let xs = c.self.inside.channels.items in
+    let x = c.index_mut.result.now in
+    let at = is_at xs c.args.self.now c.args.chan c.in-Some.at x c.self.invariant c.self.view_is c.in-Some.ensures.within c.in-Some.ensures.found c.index_mut.ensures.value in
+    still_differ xs c.in-Some.at x (record x { messages = c.push.new.self }) c.self.invariant at.here refl
+
+pub invariant_of-self-in-Some : goal.invariant_of-self-in-Some
+invariant_of-self-in-Some c =
+    let xs = c.self.inside.channels.items in
+    let x = c.index_mut.result.now in
+    let at = is_at xs c.args.self.now c.args.chan c.in-Some.at x c.self.invariant c.self.view_is c.in-Some.ensures.within c.in-Some.ensures.found c.index_mut.ensures.value in
+    still_differ xs c.in-Some.at x (record x { messages = c.push.new.self }) c.self.invariant at.here refl
