@@ -1,4 +1,4 @@
-use Rattle.std.proofs.Common.{◌≡◌, ◌<◌, length, rules, arith, sym, subst, ap, ◌∙◌}
+use Rattle.std.proofs.Common.{◌≡◌, ◌<◌, length, arith, sym, subst, ap, ◌∙◌}
 use Rattle.std.specs.List.{AllByRecursion}
 use Rattle.vc_occam.specs.Opening.{Fits, opening}
 use Rattle.vc_occam.specs.Runnings.{state, inner_channels}
@@ -44,7 +44,7 @@ new-requires-2-clause-sites c = (node_runs c.args.plan.now c.requires.accepted c
 pub new-requires-2-clause-fits : goal.new-requires-2-clause-fits
 new-requires-2-clause-fits c =
     let runs = node_runs c.args.plan.now c.requires.accepted c.args.number c.args.node.now c.requires.node in
-    let kinds : c.as_slice-2.result.now ≡ kinds_of c.args.node.now.vars = search rules in
+    let kinds : c.as_slice-2.result.now ≡ kinds_of c.args.node.now.vars = c.as_slice-2.ensures ∙ c.in_ok-kinds.ensures in
     subst (λ k. Fits k c.args.node.now.process) (sym kinds) runs.fits
 
 pub new-requires-3 : goal.new-requires-3
@@ -60,7 +60,7 @@ returns c =
     let es = c.deref.result.now in
     let n = c.new-4.result in
     let given : es ≡ ends_of_node p k = c.deref.ensures.value ∙ c.in_ok-ends.ensures ∙ ends_are p c.args.ways.now c.requires.ways k in
-    let kinds : c.as_slice-2.result.now ≡ kinds_of c.args.node.now.vars = search rules in
+    let kinds : c.as_slice-2.result.now ≡ kinds_of c.args.node.now.vars = c.as_slice-2.ensures ∙ c.in_ok-kinds.ensures in
     let chans : c.deref-2.result.now ≡ numbers_inside k 0 p.channels = c.deref-2.ensures.value ∙ c.in_ok-chans.ensures ∙ ap (numbers_inside k 0) c.as_slice.ensures in
     let vcp : n.vcp ≡ c.in_ok-vcp.vcp = c.new-4.ensures.0 in
     let runs : n.process ≡ c.in_ok-process.process = c.new-4.ensures.1 in

@@ -1,9 +1,33 @@
-use Rattle.std.proofs.Common.{◌≡◌, sym, ◌∙◌, subst}
+use Rattle.std.proofs.Common.{◌≡◌, Some, IfOk, IfSome, sym, ◌∙◌, subst}
+use Rattle.vc_actor.specs.Acting.{MayAct}
 use Rattle.vc_actor.specs.OfPlan.{IsActorOf}
 use Rattle.vc_actor.specs.Turns.{FindsOf}
 use Rattle.vc_actor.specs.declared.act.ActKind.TheVariants as kind
 use Rattle.vc_actor.proofs.Turning.{of_all, if_ok}
 use Rattle.vc_actor.proofs.actor.Actor.next.Goals as goal
+
+pub returns-in-Some-clause-may : goal.returns-in-Some-clause-may
+returns-in-Some-clause-may c = subst (λ o. IfSome o (λ a. MayAct c.args.self.now a)) c.in-Some.is c.in_ok-act.ensures.may
+
+pub returns-in-Some-2-clause-may : goal.returns-in-Some-2-clause-may
+returns-in-Some-2-clause-may c =
+    let same : c.next_of.new.self ≡ c.args.self.now = c.in_ok-act.ensures.same in
+    subst (λ x. IfSome (Some c.in-Some-2.act) (λ a. MayAct x a)) same (subst (λ o. IfSome o (λ a. MayAct c.next_of.new.self a)) c.in-Some-2.is c.in_ok-act-2.ensures.may)
+
+pub returns-in-Some-3-clause-may : goal.returns-in-Some-3-clause-may
+returns-in-Some-3-clause-may c =
+    let same : c.next_of-2.new.self ≡ c.args.self.now = c.in_ok-act-2.ensures.same ∙ c.in_ok-act.ensures.same in
+    subst (λ x. IfSome (Some c.in-Some-3.act) (λ a. MayAct x a)) same (subst (λ o. IfSome o (λ a. MayAct c.next_of-2.new.self a)) c.in-Some-3.is c.in_ok-act-3.ensures.may)
+
+pub returns-in-Some-4-clause-may : goal.returns-in-Some-4-clause-may
+returns-in-Some-4-clause-may c =
+    let same : c.next_of-3.new.self ≡ c.args.self.now = c.in_ok-act-3.ensures.same ∙ c.in_ok-act-2.ensures.same ∙ c.in_ok-act.ensures.same in
+    subst (λ x. IfSome (Some c.in-Some-4.act) (λ a. MayAct x a)) same (subst (λ o. IfSome o (λ a. MayAct c.next_of-3.new.self a)) c.in-Some-4.is c.in_ok-act-4.ensures.may)
+
+pub returns-clause-may : goal.returns-clause-may
+returns-clause-may c =
+    let same : c.next_of-4.new.self ≡ c.args.self.now = c.in_ok-act-4.ensures.same ∙ c.in_ok-act-3.ensures.same ∙ c.in_ok-act-2.ensures.same ∙ c.in_ok-act.ensures.same in
+    subst (λ x. IfOk c.next_of-5.result (λ o. IfSome o (λ a. MayAct x a))) same c.next_of-5.ensures.may
 
 pub returns-in-Some-clause-finds : goal.returns-in-Some-clause-finds
 returns-in-Some-clause-finds c = λ plan k is.
