@@ -1,4 +1,5 @@
 use Rattle.std.proofs.Common.{refl, ap}
+use Rattle.std.proofs.lemmas.Bool.{false≢true}
 use Rattle.vc_actor.specs.Acting.{MakesOwn}
 use Rattle.vc_actor.specs.OfPlan.{IsActorOf}
 use Rattle.vc_actor.specs.Shown.{OfNode}
@@ -10,6 +11,9 @@ pub returns-in_ok-waits-in-Proc-clause-ok : goal.returns-in_ok-waits-in-Proc-cla
 returns-in_ok-waits-in-Proc-clause-ok c =
     alike (λ x y. (plan : _) (k : _) → IsActorOf plan k x → MakesOwn plan k x c.args.act.now y) (OfNode c.self.inside.node) (OfNode c.args.self.now) _ _ (ap OfNode c.self.view_is) refl
     (λ plan k is. moved plan k c.self.inside.node _ c.in-Proc.made c.args.act.now is.0 c.in-Proc.is (c.in_ok-waits-in-Proc.ensures.ok plan k is.1))
+
+pub invariant_of-self-then-branch : goal.invariant_of-self-then-branch
+invariant_of-self-then-branch c = λ listed. absurd (false≢true listed)
 
 pub returns-then-branch-clause-ok : goal.returns-then-branch-clause-ok
 returns-then-branch-clause-ok c =
