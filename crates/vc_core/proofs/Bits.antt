@@ -1,9 +1,9 @@
 -- One bit of an actor's links is set or cleared.
-use Rattle.std.proofs.Common.{◌≡◌, ◌≢◌, ℕ, ◌*◌, ◌%◌, ◌^◌, ◌<◌, ◌≤◌, unwrap_or, bit_or, List, get_or, slice_get, slice_set, Some, sym, ap, ◌∙◌, arith, inl, inr}
+use Rattle.std.proofs.Common.{◌≡◌, ◌≢◌, ℕ, ◌*◌, ◌%◌, ◌^◌, ◌<◌, ◌≤◌, unwrap_or, bit_or, List, length, get_or, slice_get, slice_set, Some, refl, sym, ap, ◌∙◌, subst, arith, inl, inr}
 use Rattle.std.proofs.lemmas.Bool.{cases_eq}
 use Rattle.std.proofs.lemmas.List.{length-set}
 use Rattle.std.proofs.lemmas.Nat.Bits.{bit_at-zero, bit_at-trailing_zeros, bit_at_set_same, bit_at_set_other}
-use Rattle.std.proofs.lemmas.Option.{slice_get_within, get_or_from_slice_get, unwrap_or-slice_get}
+use Rattle.std.proofs.lemmas.Option.{slice_get_within, slice_get_read, get_or_from_slice_get, unwrap_or-slice_get}
 use Rattle.std.specs.Int.{bit_at, trailing_zeros, w32, w64}
 use Rattle.vc_vcp.proofs.Placed.{place-set_same, place-set_other}
 use Rattle.vc_core.specs.Fronts.{bit_of, AreAwake, HasBit, Marked}
@@ -23,6 +23,13 @@ marked old k l x y b here it others = record {
     | inr ne ↦ ap (λ z. bit_at z i) (elsewhere old k j y ne)
   ];
 }
+
+-- the links of one actor, as the code reads and writes them, without a bit
+pub marked_in : (old now : List ℕ) (k i j l x y : ℕ) → old ≡ now → i ≡ k → j ≡ k → k < length now → x ≡ get_or old i x → bit_at y l ≡ 0 → ((m : ℕ) → m < 32 → m ≢ l → bit_at y m ≡ bit_at x m) → Marked now k l 0 (slice_set old j y)
+marked_in old now k i j l x y same is at less read gone others =
+    let within = subst (λ zs. i < length zs) (sym same) (subst (λ n. n < length now) (sym is) less) in
+    let here = subst (λ n. slice_get old n ≡ Some x) is (slice_get_read old (length old) i x refl within read) in
+    subst (λ zs. Marked zs k l 0 (slice_set old j y)) same (subst (λ n. Marked old k l 0 (slice_set old n y)) (sym at) (marked old k l x y 0 here gone others))
 
 pub marked_set : (old : List ℕ) (k l x : ℕ) → slice_get old k ≡ Some x → l < 32 → Marked old k l 1 (slice_set old k (bit_or x (1 * 2 ^ l % 2 ^ 32)))
 marked_set old k l x here few = marked old k l x (bit_or x (1 * 2 ^ l % 2 ^ 32)) 1 here (bit_at_set_same w32 x l few) (λ i less ne. bit_at_set_other w32 x l few i ne)

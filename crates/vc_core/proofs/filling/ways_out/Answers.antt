@@ -1,10 +1,13 @@
-use Rattle.std.proofs.Common.{◌≡◌, ◌+◌, ◌*◌, length, take, get_or, slice_get, Some, sym, ap, ◌∙◌, add-one, arith}
+use Rattle.std.proofs.Common.{◌≡◌, ◌+◌, ◌*◌, ◌≤◌, length, take, get_or, slice_get, None, Some, sym, ap, ◌∙◌, subst, add-one, arith, rules}
+use Rattle.std.proofs.lemmas.List.{length-replicate, take_all}
 use Rattle.std.proofs.lemmas.Option.{slice_get-get_or}
+use Rattle.std.proofs.Math.ListN.{replicate}
 use Rattle.vc_plan.specs.declared.port.Wire.{Wire}
 use Rattle.vc_plan.specs.declared.port.Spot.TheVariants.{Node}
 use Rattle.vc_accepted.specs.Outgoing.{way_out}
 use Rattle.vc_core.specs.Filled.{left}
-use Rattle.vc_core.proofs.Leaving.{are_few, next_long, next_tells}
+use Rattle.vc_core.specs.Wired.{out_at}
+use Rattle.vc_core.proofs.Leaving.{are_few, none_leaves, next_long, next_tells}
 use Rattle.vc_core.proofs.filling.ways_out.Goals as goal
 
 -- what is read past the wires
@@ -28,6 +31,25 @@ overflow_mul-actors c =
     let counted = c.len-nodes.ensures in
     let counts = c.len.ensures in
     omega arith
+
+pub loop-i-init : goal.loop-i-init
+loop-i-init c =
+    let p = c.args.plan.now in
+    let n = (c.len-nodes.result + c.len.result) * 32 in
+    let all : c.in_ok-out.out.items ≡ replicate n None = c.in_ok-out.ensures.items_if_clones_equal (λ y copies. search rules) in
+    record {
+      long = ap length all ∙ length-replicate n None ∙ (λ i. (c.len-nodes.ensures i + c.len.ensures i) * 32);
+      tells = λ actor link. ap (λ z. out_at z actor link) all ∙ none_leaves n actor link;
+    }
+
+pub returns-clause-tells : goal.returns-clause-tells
+returns-clause-tells c = λ actor link.
+    let p = c.args.plan.now in
+    let past = subst (λ xs. length xs ≤ c.loop-i.i) c.as_slice-wire-items.ensures c.loop-i-test.false in
+    c.loop-i.invariant.tells actor link ∙ ap (way_out (length p.nodes) actor link 0) (take_all c.loop-i.i p.wires past)
+
+pub returns-clause-long : goal.returns-clause-long
+returns-clause-long c = c.loop-i.invariant.long
 
 pub overflow_cast-way : goal.overflow_cast-way
 overflow_cast-way c =

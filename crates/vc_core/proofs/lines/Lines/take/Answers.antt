@@ -1,12 +1,34 @@
-use Rattle.std.proofs.Common.{◌≡◌, length, slice_get, slice_set, Some, refl, sym, ap, ◌∙◌, subst}
+use Rattle.std.proofs.Common.{◌≡◌, ◌<◌, length, slice_get, slice_set, None, Some, refl, sym, ap, ◌∙◌, subst}
+use Rattle.std.proofs.lemmas.Bool.{false≢true}
 use Rattle.std.proofs.lemmas.Option.{slice_get_read}
 use Rattle.vc_tokens.specs.Spelt.{token as spelt}
-use Rattle.vc_core.specs.Lined.{Lined, TakesOff, with_way}
+use Rattle.vc_core.specs.Lined.{Lined, AreLined, TakesOff, with_way}
 use Rattle.vc_core.specs.Wired.{in_at, Comes}
 use Rattle.vc_core.proofs.Happening.{written_back}
-use Rattle.vc_core.proofs.Lined.{comes_no_more, comes_yet, none_comes, not_empty}
+use Rattle.vc_core.proofs.Lined.{comes_no_more, comes_yet, in_few, no_some, none_comes, not_empty}
 use Rattle.vc_actor.proofs.Turning.{clash}
 use Rattle.vc_core.proofs.lines.Lines.take.Goals as goal
+
+pub returns-in_err-way : goal.returns-in_err-way
+returns-in_err-way c =
+    let n = c.args.self.now in
+    let none : None ≡ in_at n.wiring c.args.actor c.args.link = c.in_err-way.ensures ∙ ap (λ (z : Lined). in_at z.wiring c.args.actor c.args.link) c.self.view_is in
+    subst (λ o. TakesOff n c.args.actor c.args.link o n) (sym c.from_residual.ensures) (refl, (λ f. no_some f.way (none ∙ f.into)))
+
+pub invariant_of-self : goal.invariant_of-self
+invariant_of-self c = c.self.invariant
+
+pub returns-in_err-line : goal.returns-in_err-line
+returns-in_err-line c =
+    let less = c.self.invariant.near c.args.actor c.args.link c.in_ok-way.way (sym c.in_ok-way.ensures) in
+    absurd (false≢true (c.in_err-line.ensures.variant.1 (subst (λ n. c.in_ok-way.way < n) (sym c.self.inside.ways.ok.0) less)))
+
+pub invariant_of-self-in_err-token : goal.invariant_of-self-in_err-token
+invariant_of-self-in_err-token c =
+    let x = c.self.inside in
+    let w = c.in_ok-way.way in
+    let read = slice_get_read x.ways.items (length x.ways.items) w c.in_ok-line.line.now refl (c.self.invariant.near c.args.actor c.args.link w (sym c.in_ok-way.ensures)) c.in_ok-line.ensures.value in
+    subst (λ z. AreLined x.wiring z x.fronts) (sym (written_back x.ways.items w c.in_ok-line.line.now c.take.new.self read (c.in_err-token.ensures.1 ∙ sym c.in_err-token.ensures.0))) c.self.invariant
 
 pub returns-in_err-token : goal.returns-in_err-token
 returns-in_err-token c =
@@ -18,6 +40,12 @@ returns-in_err-token c =
     let same : after ≡ c.args.self.now = (λ i. record { ways = written_back x.ways.items w c.in_ok-line.line.now c.take.new.self read (c.in_err-token.ensures.1 ∙ sym c.in_err-token.ensures.0) i; wiring = x.wiring }) ∙ c.self.view_is in
     subst (λ o. TakesOff c.args.self.now c.args.actor c.args.link o after) (sym c.from_residual-in_err-token.ensures)
     (same, (λ f. none_comes x.wiring x.ways.items c.args.actor c.args.link w c.in_ok-line.line.now into read c.in_err-token.ensures.0 (subst (λ (z : Lined). Comes z.wiring z.ways c.args.actor c.args.link) (sym c.self.view_is) f)))
+
+pub clear-requires-clause-actor : goal.clear-requires-clause-actor
+clear-requires-clause-actor c = c.self.invariant.long c.args.actor c.args.link c.in_ok-way.way (sym c.in_ok-way.ensures)
+
+pub clear-requires-clause-link : goal.clear-requires-clause-link
+clear-requires-clause-link c = in_few c.self.inside.wiring c.args.actor c.args.link c.in_ok-way.way (sym c.in_ok-way.ensures)
 
 pub invariant_of-self-then-is_empty : goal.invariant_of-self-then-is_empty
 invariant_of-self-then-is_empty c =

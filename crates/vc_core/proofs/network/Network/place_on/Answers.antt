@@ -4,8 +4,14 @@ use Rattle.vc_accepted.specs.NetworkOf.{network_of}
 use Rattle.vc_accepted.specs.NetworkOf as to
 use Rattle.vc_core.specs.Placed.{FindsAt}
 use Rattle.vc_core.specs.State.{state_of, shown}
-use Rattle.vc_core.proofs.Placing.{near_is, far_is, last_on}
+use Rattle.vc_core.proofs.Placing.{near_is, far_is, last_on, no_wire}
 use Rattle.vc_core.proofs.network.Network.place_on.Goals as goal
+
+pub returns-in_err-wire : goal.returns-in_err-wire
+returns-in_err-wire c = λ p c' is owned ends less.
+    let w = c.args.way in
+    let s = state_of c.args.self.now in
+    absurd (no_wire p s w is less (ap (λ z. slice_get z (w / 2)) (sym c.as_slice.ensures) ∙ sym c.in_err-wire.ensures))
 
 pub returns-in-Some : goal.returns-in-Some
 returns-in-Some c = λ p c' is owned ends less.

@@ -10,3 +10,15 @@ returns-in-Byte c = λ p c' w ps got is h.
     let r : Reader = record { way = c.args.self.way; ends = c.args.self.ends; coming = c.with.result; found = c.args.self.found } in
     subst (λ t. HasRead p c' w (ps ++ read got (token t ∷ [])) (left got (token t ∷ [])) r) (sym c.in-Byte.is)
     (subst (λ qs. HasRead p c' w qs (got ++ c.in-Byte.byte ∷ []) r) (sym (append-nil ps)) (record { way = h.way; real = h.real; ends = h.ends; coming = c.with.ensures got h.coming; found = h.found }))
+
+pub returns-in-Eop : goal.returns-in-Eop
+returns-in-Eop c = λ p c' w ps got is h.
+    subst (λ t. HasRead p c' w (ps ++ read got (token t ∷ [])) (left got (token t ∷ [])) c.ended.result) (sym c.in-Eop.is) (c.ended.ensures p c' w ps got is h)
+
+pub returns-in-Eom : goal.returns-in-Eom
+returns-in-Eom c = λ p c' w ps got is h.
+    subst (λ t. HasRead p c' w (ps ++ read got (token t ∷ [])) (left got (token t ∷ [])) c.ended-in-Eom.result) (sym c.in-Eom.is) (c.ended-in-Eom.ensures p c' w ps got is h)
+
+pub returns-in-Fct : goal.returns-in-Fct
+returns-in-Fct c = λ p c' w ps got is h.
+    subst (λ t. HasRead p c' w (ps ++ read got (token t ∷ [])) (left got (token t ∷ [])) c.args.self) (sym c.in-Fct.is) (subst (λ qs. HasRead p c' w qs got c.args.self) (sym (append-nil ps)) h)
