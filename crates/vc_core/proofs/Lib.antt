@@ -20,3 +20,4 @@ pub mod Leading
 pub mod Bits
 pub mod Lined
 pub mod Laying
+pub mod Staying

@@ -2,8 +2,26 @@ use Rattle.std.proofs.Common.{◌≡◌, ◌<◌, length, slice_get, slice_set, 
 use Rattle.std.proofs.lemmas.Option.{slice_get_read, slice_get_within}
 use Rattle.vc_vcp.proofs.Placed.{on_ok}
 use Rattle.vc_core.specs.State.{state_of, MakesEvent}
-use Rattle.vc_core.proofs.Happening.{own_happens}
+use Rattle.vc_core.proofs.Happening.{on_err, own_happens}
+use Rattle.vc_core.proofs.Staying.{is_there, may_there, unchanged}
 use Rattle.vc_core.proofs.network.Network.act.Goals as goal
+
+pub index_mut-requires : goal.index_mut-requires
+index_mut-requires c =
+    let n = c.args.self.now in
+    let e = c.args.event.now in
+    subst (λ z. c.from.result < z) (sym n.actors.ok.0) (is_there (state_of n) e.actor c.from.result e.act c.requires.may c.from.ensures)
+
+pub make-requires-clause-may : goal.make-requires-clause-may
+make-requires-clause-may c =
+    let e = c.args.event.now in
+    may_there (state_of c.args.self.now) e.actor c.from.result c.index_mut.result.now e.act c.requires.may c.from.ensures c.index_mut.ensures.value
+
+pub returns-clause-refused : goal.returns-clause-refused
+returns-clause-refused c =
+    let s = state_of c.args.self.now in
+    let e = c.args.event.now in
+    on_err c.make.result (unchanged s c.from.result c.index_mut.result.now c.make.new.self (is_there s e.actor c.from.result e.act c.requires.may c.from.ensures) c.index_mut.ensures.value) c.make.ensures.err
 
 pub returns-clause-makes : goal.returns-clause-makes
 returns-clause-makes c = λ p is.

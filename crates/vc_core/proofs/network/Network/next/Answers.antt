@@ -3,6 +3,7 @@ use Rattle.std.proofs.lemmas.Option.{slice_get_read, slice_get_past}
 use Rattle.vc_actor.specs.Acting.{MayAct}
 use Rattle.vc_core.specs.State.{state_of}
 use Rattle.vc_actor.specs.Turns.{FindsTurn}
+use Rattle.vc_core.proofs.Staying.{unchanged}
 use Rattle.vc_core.proofs.Turning.{some_event, no_event, no_actor, few_links}
 use Rattle.vc_core.proofs.network.Network.next.Goals as goal
 
@@ -39,3 +40,21 @@ returns-in-None-clause-finds c = λ p is.
     let less = subst (λ z. c.from-place.result < z) (c.len.ensures ∙ c.args.self.now.actors.ok.0) c.if-place-len.false in
     let here = subst (λ z. slice_get xs z ≡ Some a) c.from-place.ensures (slice_get_read xs (length xs) c.from-place.result a refl less c.index_mut.ensures.value) in
     no_event p (state_of n) c.args.actor c.room-room.result c.room-room.ensures is a here (subst (FindsTurn _ c.args.actor a c.room-room.result) c.in-None.is (c.in_ok-act.ensures.finds _ c.args.actor (is.actors c.args.actor a here)))
+
+pub returns-in_err-act-clause-same : goal.returns-in_err-act-clause-same
+returns-in_err-act-clause-same c =
+    let n = c.args.self.now in
+    let less = subst (λ z. c.from-place.result < z) (c.len.ensures ∙ n.actors.ok.0) c.if-place-len.false in
+    unchanged (state_of n) c.from-place.result c.index_mut.result.now c.next.new.self less c.index_mut.ensures.value c.in_err-act.ensures.same
+
+pub returns-in-Some-clause-same : goal.returns-in-Some-clause-same
+returns-in-Some-clause-same c =
+    let n = c.args.self.now in
+    let less = subst (λ z. c.from-place.result < z) (c.len.ensures ∙ n.actors.ok.0) c.if-place-len.false in
+    unchanged (state_of n) c.from-place.result c.index_mut.result.now c.next.new.self less c.index_mut.ensures.value c.in_ok-act.ensures.same
+
+pub returns-in-None-clause-same : goal.returns-in-None-clause-same
+returns-in-None-clause-same c =
+    let n = c.args.self.now in
+    let less = subst (λ z. c.from-place.result < z) (c.len.ensures ∙ n.actors.ok.0) c.if-place-len.false in
+    unchanged (state_of n) c.from-place.result c.index_mut.result.now c.next.new.self less c.index_mut.ensures.value c.in_ok-act.ensures.same

@@ -3,8 +3,32 @@ use Rattle.std.proofs.lemmas.Option.{slice_get_read}
 use Rattle.vc_actor.specs.Acting.{MayAct}
 use Rattle.vc_core.specs.State.{state_of}
 use Rattle.vc_actor.specs.Turns.{FindsOf}
+use Rattle.vc_core.proofs.Staying.{unchanged}
 use Rattle.vc_core.proofs.Turning.{some_event, no_event_of, few_links}
 use Rattle.vc_core.proofs.network.Network.next_of.Goals as goal
+
+pub index_mut-requires : goal.index_mut-requires
+index_mut-requires c =
+    let xs = c.args.self.now.actors in
+    subst (λ z. c.from.result < z) (sym xs.ok.0) (subst (λ z. z < length xs.items) (sym c.from.ensures) c.requires.here)
+
+pub returns-in_err-act-clause-same : goal.returns-in_err-act-clause-same
+returns-in_err-act-clause-same c =
+    let n = c.args.self.now in
+    let less = subst (λ z. z < length n.actors.items) (sym c.from.ensures) c.requires.here in
+    unchanged (state_of n) c.from.result c.index_mut.result.now c.next_of.new.self less c.index_mut.ensures.value c.in_err-act.ensures.same
+
+pub returns-in-Some-clause-same : goal.returns-in-Some-clause-same
+returns-in-Some-clause-same c =
+    let n = c.args.self.now in
+    let less = subst (λ z. z < length n.actors.items) (sym c.from.ensures) c.requires.here in
+    unchanged (state_of n) c.from.result c.index_mut.result.now c.next_of.new.self less c.index_mut.ensures.value c.in_ok-act.ensures.same
+
+pub returns-in-None-clause-same : goal.returns-in-None-clause-same
+returns-in-None-clause-same c =
+    let n = c.args.self.now in
+    let less = subst (λ z. z < length n.actors.items) (sym c.from.ensures) c.requires.here in
+    unchanged (state_of n) c.from.result c.index_mut.result.now c.next_of.new.self less c.index_mut.ensures.value c.in_ok-act.ensures.same
 
 pub returns-in-Some-clause-may : goal.returns-in-Some-clause-may
 returns-in-Some-clause-may c =
