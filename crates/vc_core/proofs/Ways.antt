@@ -1,6 +1,7 @@
 -- Which of a channel's packets are on a way, in a switch and in a queue, by what the code finds of each.
-use Rattle.std.proofs.Common.{◌≡◌, ◌↔◌, ◌<◌, ℕ, Bool, IsTrue, List, [], ◌∷◌, ◌++◌, Some, None, refl, sym, ap, ◌∙◌, subst, inl, inr}
+use Rattle.std.proofs.Common.{◌≡◌, ◌↔◌, ◌<◌, ℕ, Bool, false, IsTrue, List, [], ◌∷◌, ◌++◌, Some, None, refl, sym, ap, ◌∙◌, subst, inl, inr}
 use Rattle.std.specs.List.{Contains}
+use Rattle.std.proofs.lemmas.Bool.{false≢true}
 use Rattle.vc_packets.specs.declared.mark.Mark.{Mark}
 use Rattle.vc_packets.specs.declared.packet.Packet.{Packet}
 use Rattle.vc_machine.specs.Paths.{Port, AtNode, AtSwitch}
@@ -44,6 +45,15 @@ within p s c w k link x body m t owned less there shows got mark told =
     ∙ ap (λ (z : Switch). marked (z.input link).got (z.input link).mark) shows ∙ (λ i. marked (got i) (mark i)) in
     let its = told (owned (Inside w, q) (on_ways plan (shown s) w (Inside w) q less (inr (inr refl)) (subst (λ ps. Contains ps q) (sym one) (at_front q [])))) in
     subst (λ ps. IsTrue t ↔ Has (λ z. BelongsTo (net_of plan) c (Inside w, z)) ps) (sym one) ((λ h. inl (its.0 h)), (λ has. elim has [ inl b ↦ its.1 b | inr n ↦ absurd n ]))
+
+-- none is whole in a switch at whose input no mark is
+pub none_within : (p : Plan) (s : State) (c w k link : ℕ) (x : Switch) → far (network_of p) w ≡ AtSwitch k link → switches (network_of p) (shown s) k ≡ x → (x.input link).mark ≡ None →
+    IsTrue false ↔ HasIts (network_of p) (shown s) c (Inside w)
+none_within p s c w k link x there shows mark =
+    let plan = network_of p in
+    let none : packets_at plan (shown s) (Inside w) ≡ [] = ap (λ z. inside (arrived (vcps (shown s)) (switches plan (shown s)) z)) there
+    ∙ ap (λ (z : Switch). marked (z.input link).got (z.input link).mark) shows ∙ ap (marked (x.input link).got) mark in
+    subst (λ ps. IsTrue false ↔ Has (λ z. BelongsTo (net_of plan) c (Inside w, z)) ps) (sym none) ((λ h. absurd (false≢true h)), (λ has. absurd has))
 
 -- the packets that wait in a queue
 pub waiting : (p : Plan) (s : State) (w n link : ℕ) (q : Packet) → AreOwned (network_of p) (shown s) → w < ways (network_of p) → near (network_of p) w ≡ AtNode n link → Contains ((vcps (shown s) n).carrier.queue link) q →

@@ -1,4 +1,5 @@
 use Rattle.std.proofs.Common.{◌≡◌, ◌↔◌, MatchResult, refl, sym, subst}
+use Rattle.std.proofs.lemmas.Bool.{false≢true}
 use Rattle.vc_core.specs.Enabled.{CanHappen}
 use Rattle.vc_core.specs.State.{state_of}
 use Rattle.vc_actor.specs.declared.act.Act.{Act}
@@ -21,3 +22,9 @@ returns-in-Take-clause-not_enabled c = λ p is.
     (λ why. why ≡ refused.NotEnabled ↔ (CanHappen p (state_of c.args.self.now) (record { actor = c.args.event.now.actor; act = a }) → ⊥)))
     (sym c.in-Take.is)
     (c.take_only.ensures.not_enabled p is)
+
+pub returns-else-enabled-clause-makes : goal.returns-else-enabled-clause-makes
+returns-else-enabled-clause-makes c = λ p is. tt
+
+pub returns-else-enabled-clause-not_enabled : goal.returns-else-enabled-clause-not_enabled
+returns-else-enabled-clause-not_enabled c = λ p is. ((λ why can. false≢true ((c.if-enabled.ensures.can p is).1 can)), (λ none. refl))

@@ -1,6 +1,7 @@
 use Rattle.std.proofs.Common.{IfSome, sym, subst}
 use Rattle.vc_core.specs.State.{state_of, IsNetworkOf, MayActAt, WaysLet, MakesEvent}
 use Rattle.vc_core.specs.Turns.{FindsEventOf}
+use Rattle.vc_core.proofs.Lined.{no_some}
 use Rattle.vc_core.proofs.Taking.{ways_of}
 use Rattle.vc_core.proofs.network.Network.turn_of.Goals as goal
 
@@ -13,3 +14,9 @@ returns-clause-makes c = λ p is.
     let may = subst (λ o. IfSome o (λ e. MayActAt s e.actor e.act)) c.in-Some.is c.in_ok-event.ensures.may in
     subst (λ z. MakesEvent p z e (state_of c.make.new.self)) same
     (c.in_ok-make.ensures.makes p (subst (IsNetworkOf p) (sym same) is) (subst (λ z. WaysLet z e.actor e.act) (sym same) (ways_of p s e may is found.2)))
+
+pub returns-clause-finds : goal.returns-clause-finds
+returns-clause-finds c = λ p is. subst (FindsEventOf c.args.kind p (state_of c.args.self.now) c.args.actor) c.in-Some.is (c.in_ok-event.ensures.finds p is)
+
+pub returns-clause-none : goal.returns-clause-none
+returns-clause-none c = λ none. absurd (no_some c.in-Some.event (sym none))
