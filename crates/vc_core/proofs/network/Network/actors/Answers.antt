@@ -1,5 +1,8 @@
-use Rattle.std.proofs.Common.{◌∙◌}
+use Rattle.std.proofs.Common.{arith}
 use Rattle.vc_core.proofs.network.Network.actors.Goals as goal
 
 pub returns : goal.returns
-returns c = λ p is. c.len.ensures ∙ c.args.self.now.actors.ok.0 ∙ is.count
+returns c = λ p is.
+    let all = c.args.self.now.actors.ok.0 in
+    let count = is.count in
+    omega arith

@@ -1,4 +1,5 @@
-use Rattle.std.proofs.Common.{◌≡◌, refl, sym, ◌∙◌, slice_get, Some, None, true, false}
+use Rattle.std.proofs.Common.{◌≡◌, refl, sym, ◌∙◌, slice_get, Some, None}
+use Rattle.std.proofs.lemmas.Bool.{false≢true}
 use Rattle.vc_core.specs.State.{state_of}
 use Rattle.vc_core.proofs.Enabled.{happens, has_act, has_ways, has_actor}
 use Rattle.vc_core.proofs.network.Network.enabled.Goals as goal
@@ -25,7 +26,7 @@ returns-else-can-clause-can c = λ p is.
     let e = c.args.event.now in
     let a = c.in-Some.acting.now in
     let here : slice_get n.actors.items e.actor ≡ Some a = (λ i. slice_get (sym c.as_slice.ensures.value i) (sym c.from.ensures i)) ∙ sym c.in-Some.ensures in
-    ((λ t. absurd (let q : false ≡ true = sym c.if-can.false ∙ t in cc)), (λ can. (c.can.ensures.can _ e.actor (is.actors e.actor a here)).1 (has_act p s e a is here can)))
+    ((λ t. absurd (false≢true (sym c.if-can.false ∙ t))), (λ can. (c.can.ensures.can _ e.actor (is.actors e.actor a here)).1 (has_act p s e a is here can)))
 
 pub returns-in-None-clause-can : goal.returns-in-None-clause-can
 returns-in-None-clause-can c = λ p is.
@@ -33,4 +34,4 @@ returns-in-None-clause-can c = λ p is.
     let s = state_of n in
     let e = c.args.event.now in
     let none : slice_get n.actors.items e.actor ≡ None = (λ i. slice_get (sym c.as_slice.ensures.value i) (sym c.from.ensures i)) ∙ sym c.in-None.ensures in
-    ((λ t. absurd (cc)), (λ can. absurd (has_actor p s e is can none)))
+    ((λ t. absurd (false≢true t)), (λ can. absurd (has_actor p s e is can none)))

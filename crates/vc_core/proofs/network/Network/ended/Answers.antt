@@ -1,5 +1,5 @@
 use Rattle.std.proofs.Common.{◌≡◌, ◌<◌, length, slice_get, Some, refl, sym, ap, ◌∙◌, subst, inl, inr, arith}
-use Rattle.std.proofs.lemmas.Bool.{cases_lt}
+use Rattle.std.proofs.lemmas.Bool.{cases_lt, false≢true}
 use Rattle.std.proofs.lemmas.Option.{slice_get_read, slice_get_within}
 use Rattle.vc_core.specs.State.{state_of}
 use Rattle.vc_actor.specs.Parts.{IsDone}
@@ -14,7 +14,7 @@ returns-then-not-is_done c = λ p is.
     let a = c.actor-item.result in
     let there : slice_get xs k ≡ Some a = slice_get_read xs (length xs) k a refl c.loop-actor-test.true c.actor-item.is in
     let here : slice_get c.args.self.now.actors.items k ≡ Some a = ap (λ z. slice_get z k) (sym c.deref-actor-items.ensures.value) ∙ there in
-    ((λ t. absurd (cc)), (λ have. absurd (clash c.is_done.result c.if-not-is_done.true (c.is_done.ensures.1 ((ended p (state_of c.args.self.now) is).1 have k a here)))))
+    ((λ t. absurd (false≢true t)), (λ have. absurd (clash c.is_done.result c.if-not-is_done.true (c.is_done.ensures.1 ((ended p (state_of c.args.self.now) is).1 have k a here)))))
 
 pub loop-actor-preserved : goal.loop-actor-preserved
 loop-actor-preserved c = λ j b less at.

@@ -1,7 +1,8 @@
-use Rattle.std.proofs.Common.{subst}
+use Rattle.std.proofs.Common.{◌∙◌, subst}
 use Rattle.vc_actor.specs.Acting.{MayAct}
 use Rattle.vc_core.specs.State.{state_of}
 use Rattle.vc_core.proofs.Happening.{granted, way_is, way_found}
+use Rattle.vc_core.proofs.Lined.{no_some}
 use Rattle.vc_core.proofs.network.Network.grant.Goals as goal
 
 pub grant_by-requires : goal.grant_by-requires
@@ -17,4 +18,4 @@ returns-clause-makes c = λ p is lets.
     (λ i. record { actors = n.actors.items; nodes = n.nodes; ways = (line i).ways; wiring = (line i).wiring; wires = n.wires; channels = n.channels.items }) c.grant_by.ensures is
 
 pub returns-in_default-clause-makes : goal.returns-in_default-clause-makes
-returns-in_default-clause-makes c = λ p is lets. absurd (let none = c.in_default.ensures.way in let out = lets.out in cc)
+returns-in_default-clause-makes c = λ p is lets. absurd (no_some lets.way (c.in_default.ensures.way ∙ lets.out))

@@ -2,6 +2,12 @@ use Rattle.std.proofs.Common.{sym, subst}
 use Rattle.vc_core.specs.State.{state_of, MakesEvent, MayHappen, WaysLet}
 use Rattle.vc_core.proofs.network.Network.make.Goals as goal
 
+pub act-requires-clause-may : goal.act-requires-clause-may
+act-requires-clause-may c = c.requires
+
+pub returns-in-Proc-clause-makes : goal.returns-in-Proc-clause-makes
+returns-in-Proc-clause-makes c = λ p is lets. c.act.ensures.makes p is
+
 pub returns-in-Take-clause-makes : goal.returns-in-Take-clause-makes
 returns-in-Take-clause-makes c = λ p is lets.
     let s = state_of c.args.self.now in

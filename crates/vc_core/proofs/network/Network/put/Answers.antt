@@ -1,4 +1,4 @@
-use Rattle.std.proofs.Common.{◌≡◌, ◌<◌, length, slice_get, slice_set, Some, refl, sym, ap, ◌∙◌, subst}
+use Rattle.std.proofs.Common.{◌≡◌, ◌<◌, length, slice_get, slice_set, Some, refl, sym, ◌∙◌, subst}
 use Rattle.std.proofs.lemmas.Option.{slice_get_read, slice_get_within}
 use Rattle.vc_vcp.proofs.Placed.{on_ok}
 use Rattle.vc_actor.specs.Acting.{MayAct}
@@ -6,6 +6,7 @@ use Rattle.vc_core.specs.Lined.{with_way}
 use Rattle.vc_core.specs.State.{state_of, HasWay}
 use Rattle.vc_actor.specs.declared.act.Act.TheVariants as act
 use Rattle.vc_core.proofs.Happening.{on_err, placed, written_back}
+use Rattle.vc_core.proofs.Lined.{no_some}
 use Rattle.vc_core.proofs.network.Network.put.Goals as goal
 
 pub put-requires-clause-may : goal.put-requires-clause-may
@@ -33,7 +34,7 @@ returns-clause-makes c = λ p is lets.
     let here = subst (λ z. slice_get n.actors.items z ≡ Some x) c.from.ensures read in
     on_ok c.put.result (λ puts.
     let f : HasWay s e.actor c.args.link = record { way = c.in-Some.way; tokens = puts.tokens; out = sym c.in-Some.ensures.way; stand = puts.stand } in
-    let line = puts.new_is ∙ ap (with_way n.lines c.in-Some.way) puts.puts.ends in
+    let line = puts.new_is ∙ (λ i. with_way n.lines c.in-Some.way (puts.puts.ends i)) in
     placed p s _ e c.args.link x c.put.new.from f puts.puts.token c.requires.is here puts.puts.puts
     (λ i. record { actors = slice_set n.actors.items (c.from.ensures i) c.put.new.from; nodes = n.nodes; ways = (line i).ways; wiring = (line i).wiring; wires = n.wires; channels = n.channels.items }) is) c.put.ensures.ok
 
@@ -48,4 +49,4 @@ returns-clause-refused c =
     on_err c.put.result (λ same. (λ i. record { actors = written_back n.actors.items c.from.result x c.put.new.from read same.0 i; nodes = n.nodes; ways = (same.1 i).ways; wiring = (same.1 i).wiring; wires = n.wires; channels = n.channels.items })) c.put.ensures.err
 
 pub returns-in_default-clause-makes : goal.returns-in_default-clause-makes
-returns-in_default-clause-makes c = λ p is lets. absurd (let none = c.in_default.ensures.way in let out = lets.out in cc)
+returns-in_default-clause-makes c = λ p is lets. absurd (no_some lets.way (c.in_default.ensures.way ∙ lets.out))

@@ -1,4 +1,5 @@
 use Rattle.std.proofs.Common.{◌≡◌, slice_set, refl}
+use Rattle.std.proofs.lemmas.Bool.{false≢true}
 use Rattle.vc_tokens.specs.Spelt.{token as spelt}
 use Rattle.vc_core.specs.State.{state_of}
 use Rattle.vc_actor.specs.declared.act.Act.TheVariants as act
@@ -12,26 +13,26 @@ accept-requires c = let m = (c.has_link.ensures c.args.word).0 c.if-not-has_link
 
 pub returns-then-not-has_link-clause-may : goal.returns-then-not-has_link-clause-may
 returns-then-not-has_link-clause-may c = (
-  (λ t. absurd (cc)),
+  (λ t. absurd (false≢true t)),
   (λ m. absurd (clash c.has_link.result c.if-not-has_link.true ((c.has_link.ensures c.args.word).1 (record { actor = m.actor; here = m.here; may = m.may })))),
 )
 
 pub returns-then-not-has_link-clause-can : goal.returns-then-not-has_link-clause-can
 returns-then-not-has_link-clause-can c = λ p is. (
-  (λ t. absurd (cc)),
+  (λ t. absurd (false≢true t)),
   (λ can. let m = may_at p (state_of c.args.self.now) is c.args.actor c.args.link c.args.word can in
       absurd (clash c.has_link.result c.if-not-has_link.true ((c.has_link.ensures c.args.word).1 (record { actor = m.actor; here = m.here; may = m.may })))),
 )
 
 pub returns-in_default-clause-may : goal.returns-in_default-clause-may
 returns-in_default-clause-may c = (
-  (λ t. absurd (cc)),
+  (λ t. absurd (false≢true t)),
   (λ m. absurd (c.in_default.ensures.1 m.ways)),
 )
 
 pub returns-in_default-clause-can : goal.returns-in_default-clause-can
 returns-in_default-clause-can c = λ p is. (
-  (λ t. absurd (cc)),
+  (λ t. absurd (false≢true t)),
   (λ can. absurd (c.in_default.ensures.1 (may_at p (state_of c.args.self.now) is c.args.actor c.args.link c.args.word can).ways)),
 )
 
