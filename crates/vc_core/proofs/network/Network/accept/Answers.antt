@@ -1,6 +1,20 @@
 use Rattle.std.proofs.Common.{◌≡◌, ◌<◌, length, slice_get, slice_set, Some, refl, sym, subst}
 use Rattle.std.proofs.lemmas.Option.{slice_get_read, slice_get_within}
+use Rattle.vc_actor.specs.declared.act.Act.TheVariants as act
+use Rattle.vc_core.specs.State.{state_of}
+use Rattle.vc_core.proofs.Staying.{is_there, may_there}
+use Rattle.vc_core.proofs.Taking.{link_of}
 use Rattle.vc_core.proofs.network.Network.accept.Goals as goal
+
+pub index_mut-requires : goal.index_mut-requires
+index_mut-requires c =
+    let n = c.args.self.now in
+    subst (λ z. c.from.result < z) (sym n.actors.ok.0) (is_there (state_of n) c.args.actor c.from.result (act.Take c.args.link c.args.word) c.requires c.from.ensures)
+
+pub accept-requires : goal.accept-requires
+accept-requires c =
+    let x = c.index_mut.result.now in
+    link_of x c.args.link c.args.word (may_there (state_of c.args.self.now) c.args.actor c.from.result x (act.Take c.args.link c.args.word) c.requires c.from.ensures c.index_mut.ensures.value)
 
 pub returns : goal.returns
 returns c =
