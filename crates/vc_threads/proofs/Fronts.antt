@@ -170,7 +170,7 @@ drop_at [] p x e = absurd (cc)
 drop_at (y ∷ ys) zero x e = let same : y ≡ x = cc in ap (λ z. of_pair z ∷ map of_pair ys) same
 drop_at (y ∷ ys) (suc p) x e = drop_at ys p x e
 
-stamped : (o : Option (ℕ × Act)) (at : ℕ) → option_map (λ a. a.0) o ≡ Some at → (x : ℕ × Act) × (o ≡ Some x) × (x.0 ≡ at)
+pub stamped : (o : Option (ℕ × Act)) (at : ℕ) → option_map (λ a. a.0) o ≡ Some at → (x : ℕ × Act) × (o ≡ Some x) × (x.0 ≡ at)
 stamped (Some x) at e = (x, refl, cc)
 stamped None at e = absurd (cc)
 

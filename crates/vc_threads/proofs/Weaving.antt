@@ -5,7 +5,7 @@ use Rattle.std.proofs.lemmas.Bool.{ne_eqb}
 use Rattle.vc_actors.specs.LocalRun.{Stamped}
 use Rattle.vc_actors.specs.Merge.{Made, Numbered, part, NotAfter, IsMerge, AreDistinct, Rises, StampsRise, RunRises, run_of}
 
-all_get : {X : Type 0} (P : X → Type 0) (xs : List X) (k : ℕ) (x : X) → AllByRecursion P xs → slice_get xs k ≡ Some x → P x
+pub all_get : {X : Type 0} (P : X → Type 0) (xs : List X) (k : ℕ) (x : X) → AllByRecursion P xs → slice_get xs k ≡ Some x → P x
 all_get P [] k x h e = absurd (cc)
 all_get P (y ∷ ys) zero x h e = let same : y ≡ x = cc in subst P same h.0
 all_get P (y ∷ ys) (suc k) x h e = all_get P ys k x h.1 e

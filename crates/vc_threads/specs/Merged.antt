@@ -1,5 +1,5 @@
 -- The runs of the code, in the words of merges, and which of them comes next.
-use Rattle.std.specs.Prelude.{◌≡◌, ◌⊎◌, ℕ, ◌<◌, ◌≤◌, List, map, get_or, slice_get, Option, Some, None}
+use Rattle.std.specs.Prelude.{◌≡◌, ◌⊎◌, ℕ, ◌<◌, ◌≤◌, Bool, IsTrue, List, length, map, get_or, slice_get, Option, Some, None}
 use Rattle.std.specs.Option.{option_map}
 use Rattle.vc_actors.specs.LocalRun.{Stamped}
 use Rattle.vc_actors.specs.Merge.{Made, Numbered}
@@ -40,3 +40,16 @@ NotLater rs at k later j = (at < later) ⊎ ((at ≡ later) × (id_at rs k ≤ i
 abbrev pub FindsFirst : List ActorRun → List Front → Option ℕ → Type 0
 FindsFirst rs fs None = (k at : ℕ) → IsNext fs k at → ⊥
 FindsFirst rs fs (Some k) = (at : ℕ) × IsNext fs k at × ((j later : ℕ) → IsNext fs j later → NotLater rs at k later j)
+
+-- the runs are in their actors' order
+abbrev pub IdsRise : List ActorRun → Type 0
+IdsRise rs = (j k : ℕ) → j < k → k < length rs → id_at rs j < id_at rs k
+
+-- the first run from one on whose next act has this stamp, or none where there is none
+abbrev pub FindsWith : List Front → ℕ → ℕ → Option ℕ → Type 0
+FindsWith fs from at None = (j : ℕ) → from ≤ j → IsNext fs j at → ⊥
+FindsWith fs from at (Some k) = (from ≤ k) × IsNext fs k at × ((j : ℕ) → from ≤ j → j < k → IsNext fs j at → ⊥)
+
+-- where the runs are in order no next act has a lesser stamp than this, and of those before run `from` none has this one
+abbrev pub HavePassed : List Front → Bool → ℕ → ℕ → Type 0
+HavePassed fs in_order from at = IsTrue in_order → (j later : ℕ) → IsNext fs j later → (at ≤ later) × (j < from → at < later)

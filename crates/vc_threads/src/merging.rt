@@ -1,8 +1,8 @@
 //! All actors' acts as one list of events.
-ghost use Rattle.std.specs.Prelude.{◌≡◌, ◌⊎◌, ◌↔◌, ◌<◌, List, length, map, IfOk, IfSome, IsTrue, MatchOption};
+ghost use Rattle.std.specs.Prelude.{◌≡◌, ◌⊎◌, ◌↔◌, ◌<◌, List, Some, length, map, IfOk, IfSome, IsTrue, MatchOption};
 ghost use Rattle.std.specs.List.{AllByRecursion};
 ghost use Rattle.vc_actors.specs.Merge.{Made, IsMerge, AreDistinct, RunRises, run_of};
-ghost use Rattle.vc_threads.specs.Merged.{numbered, event_of, front_of, id_at, FindsFirst};
+ghost use Rattle.vc_threads.specs.Merged.{numbered, event_of, front_of, id_at, FindsFirst, FindsWith, HavePassed, IdsRise};
 ghost use Rattle.vc_actor.specs.declared.act.Act.{Act as SpeltAct};
 
 use crate::run::ActorRun;
@@ -71,6 +71,71 @@ fn first_of(runs: &[ActorRun], fronts: &[Front]) -> Option<usize>
     }
 }
 
+// The actor of a run.
+fn id_of(runs: &[ActorRun], k: usize) -> u8
+    requires { k < length runs.now }
+    ensures { result ≡ id_at runs.now k }
+{
+    runs[k].id
+}
+
+// Whether each run's actor has a greater number than those before it.
+fn are_in_order(runs: &[ActorRun]) -> bool
+    ensures { IsTrue result ↔ IdsRise runs.now }
+{
+    for k in 1..runs.len() {
+        if id_of(runs, k - 1) >= id_of(runs, k) {
+            return false;
+        }
+    }
+    true
+}
+
+// Whether the run's next act has this stamp.
+fn comes_at(front: Front, stamp: u64) -> bool
+    ensures { IsTrue result ↔ (front.at ≡ Some stamp) }
+{
+    match front.at {
+        Some(at) => at == stamp,
+        None => false,
+    }
+}
+
+// The first run from one on whose next act has this stamp.
+fn first_with(fronts: &[Front], from: usize, stamp: u64) -> Option<usize>
+    ensures { FindsWith fronts.now from stamp result }
+{
+    for k in from..fronts.len() {
+        if comes_at(fronts[k], stamp) {
+            return Some(k);
+        }
+    }
+    None
+}
+
+// The run whose next act is the first of all, by stamp, then actor. Of runs in their actors' order it is known that no next act has a
+// lesser stamp than this one, and that none of the runs before `from` has this one.
+fn next_of(
+    runs: &[ActorRun],
+    fronts: &[Front],
+    in_order: bool,
+    from: usize,
+    stamp: u64,
+) -> Option<usize>
+    requires count { length fronts.now ≡ length runs.now }
+    requires order { IsTrue in_order → IdsRise runs.now }
+    requires passed { HavePassed fronts.now in_order from stamp }
+    ensures within { IfSome result (λ k. k < length runs.now) }
+    ensures first { FindsFirst runs.now fronts.now result }
+{
+    if in_order {
+        if let Some(k) = first_with(fronts, from, stamp) {
+            return Some(k);
+        }
+    }
+    first_of(runs, fronts)
+}
+
 /// All acts of the runs as events, by stamp, then actor. The runs are of different actors, and the stamps of each rise. The only error
 /// is want of memory.
 pub fn merge(alloc: Global, runs: &[ActorRun]) -> Result<Vec<Event>, Memory>
@@ -80,14 +145,16 @@ pub fn merge(alloc: Global, runs: &[ActorRun]) -> Result<Vec<Event>, Memory>
 {
     let mut events = Vec::new(alloc);
     let mut fronts = first_fronts(alloc, runs)?;
-    while let Some(k) = first_of(runs, fronts.as_slice()) {
+    let in_order = are_in_order(runs);
+    let (mut from, mut stamp) = (0, 0);
+    while let Some(k) = next_of(runs, fronts.as_slice(), in_order, from, stamp) {
         let run = &runs[k];
         let place = fronts[k].place;
-        events.push(Event {
-            actor: run.id,
-            act: run.acts[place].1,
-        })?;
+        let (at, act) = run.acts[place];
+        events.push(Event { actor: run.id, act })?;
         fronts[k] = front_at(run, place + 1);
+        from = k + 1;
+        stamp = at;
     }
     Ok(events)
 }

@@ -5,8 +5,9 @@ use Rattle.std.proofs.lemmas.List.{append-nil, length-map, length-set}
 use Rattle.std.proofs.lemmas.Option.{slice_get_read, slice_get_within}
 use Rattle.vc_actors.specs.Merge.{IsMerge, AreDistinct, RunRises, run_of}
 use Rattle.vc_actor.specs.declared.act.Act.{Act}
-use Rattle.vc_threads.specs.Merged.{of_pair, event_of, front_of, FindsFirst}
+use Rattle.vc_threads.specs.Merged.{of_pair, event_of, front_of, FindsFirst, HavePassed}
 use Rattle.vc_threads.proofs.Fronts.{StandsAt, left_in, left_of, stand_first, left_first, left_next, stand_next, coming, run_at, not_after, none_left}
+use Rattle.vc_threads.proofs.Passing.{still_passed}
 use Rattle.vc_threads.proofs.Weaving.{without, acts_left, distinct_still, rising_still, fewer_left, first_then, nothing_left}
 use Rattle.vc_threads.proofs.merging.merge.Goals as goal
 
@@ -20,8 +21,13 @@ loop-k-init c =
       fronts = subst (AllZip StandsAt rs) (sym is) (stand_first rs);
       distinct = subst AreDistinct (sym left) c.requires.distinct;
       rising = subst (AllByRecursion RunRises) (sym left) c.requires.rising;
+      passed = λ sure j later next. (omega arith, λ less. absurd (omega arith));
       woven = λ more m. (more, subst (λ l. IsMerge (run_of l) more) left m, ap (λ es. es ++ map event_of more) c.new-events.ensures.items);
     }
+
+pub next_of-requires-clause-passed : goal.next_of-requires-clause-passed
+next_of-requires-clause-passed c =
+    subst (λ xs. HavePassed xs c.are_in_order-in_order.result c.loop-k.from c.loop-k.stamp) (sym c.as_slice.ensures.value) c.loop-k.invariant.passed
 
 pub index-requires-in-Some : goal.index-requires-in-Some
 index-requires-in-Some c =
@@ -102,11 +108,15 @@ loop-k-preserved c =
     let made = c.index-in-Some.result.now in
     let both : Some made ≡ Some next.act = sym (slice_get_read r.acts.items (length r.acts.items) f.place made refl (slice_get_within r.acts.items f.place next.act next.act_is) c.index-in-Some.ensures) ∙ next.act_is in
     let same : made ≡ next.act = cc in
+    let in_order = c.are_in_order-in_order.result in
     record {
       count = length-set fs k c.front_at.result ∙ count;
       fronts = subst (λ g. AllZip StandsAt rs (set fs k g)) (sym c.front_at.ensures) (stand_next rs fs k r (f.place + 1) run_is z);
       distinct = subst AreDistinct (sym is) (distinct_still left k c.loop-k.invariant.distinct);
       rising = subst (AllByRecursion RunRises) (sym is) (rising_still left k c.loop-k.invariant.rising);
+      passed = subst (λ g. HavePassed (set fs k g) in_order (k + 1) made.0) (sym c.front_at.ensures)
+          (subst (HavePassed (set fs k (front_of r (f.place + 1))) in_order (k + 1)) (sym (ap (λ (x : ℕ × Act). x.0) same ∙ next.stamp))
+          (still_passed rs fs k found.0 r f next c.loop-k.invariant.rising in_order within c.are_in_order-in_order.ensures.0 found.2));
       woven = λ more m.
           let w = c.loop-k.invariant.woven (record { actor = r.id; act = of_pair next.act } ∷ more)
           (first_then left k (left_in r f.place) (of_pair next.act) (map of_pair (drop (suc f.place) r.acts.items)) c.loop-k.invariant.distinct c.loop-k.invariant.rising next.left (run_at rs fs k found.0 r f next)
