@@ -1,6 +1,7 @@
 pub mod KeyedLemmas
 pub mod PutLemmas
 pub mod Undoing
+pub mod Storing
 pub mod Placed
 pub mod Showing
 pub mod Opened
