@@ -1,5 +1,5 @@
 -- What a token that passes is to a node's steps.
-use Rattle.std.proofs.Common.{◌≡◌, ◌≢◌, ℕ, zero, suc, ◌<◌, ◌≤◌, List, [], ◌∷◌, ◌++◌, length, refl, sym, ap, ◌∙◌, subst, arith, slice_get, slice_set, get_or, Some, None}
+use Rattle.std.proofs.Common.{◌≡◌, ◌≢◌, ℕ, zero, suc, ◌<◌, ◌≤◌, List, [], ◌∷◌, ◌++◌, length, refl, sym, ap, ◌∙◌, subst, arith, slice_get, slice_set, get_or, vec_len, Vec, Global, Some, None}
 use Rattle.std.proofs.lemmas.Option.{slice_get_within, slice_get_read}
 use Rattle.std.proofs.lemmas.List.{length-set}
 use Rattle.std.specs.List.{AllByRecursion}
@@ -7,15 +7,17 @@ use Rattle.vc_packets.specs.Counting.{one_more}
 use Rattle.vc_packets.specs.Functions.{put}
 use Rattle.vc_packets.specs.declared.mark.Mark.{Mark}
 use Rattle.vc_tokens.specs.Tokens.{Token, Byte, Fct, EndMark}
-use Rattle.vc_credit.specs.Ends.{Receiver, IsFront, new_receiver}
+use Rattle.vc_credit.specs.Ends.{Receiver, Grants, IsFront, new_receiver, received}
+use Rattle.vc_credit.specs.Laws.{NeedsPlace}
 use Rattle.vc_credit.specs.Ends.{Passes as PassesOn}
 use Rattle.vc_vcp.specs.Keyed.{shown_or}
 use Rattle.vc_vcp.specs.LinkIn.{Receiving}
 use Rattle.vc_vcp.specs.LinkOut.{Sending}
 use Rattle.vc_vcp.specs.Links.{Link, Vcp, set_link, passing, Passes, passes_byte, drops_byte, passes_mark}
 use Rattle.vc_vcp.specs.Seen.{seen, ends_of, carrier_of, link_of, IsKept}
-use Rattle.vc_vcp.specs.State.{State, IsWired, IsLinkIn, limit_of}
+use Rattle.vc_vcp.specs.State.{State, IsWired, IsLinkIn, MayPut, MayGrant, limit_of}
 use Rattle.vc_vcp.specs.Steps.{Taken, Arrives}
+use Rattle.vc_vcp.proofs.Placed.{same_read}
 use Rattle.vc_vcp.proofs.Showing.{seen-in}
 use Rattle.vc_vcp.proofs.Wired.{all-at, all-set}
 
@@ -80,11 +82,10 @@ kept_in s l n x y here same = record { ends = refl; limit = limit_stays s.ins l 
 pub kept_then : (a b c : State) → IsKept a b → IsKept b c → IsKept a c
 kept_then a b c h k = record { ends = k.ends ∙ h.ends; limit = k.limit ∙ h.limit }
 
--- what is wired stays so where a token passes
-pub wired_passing : (s : State) (l : ℕ) (x y : Receiving) (k : Token) → IsWired s → slice_get s.ins l ≡ Some x → PassesOn x.receiver k y.receiver → y.limit ≡ x.limit → IsWired (record s { ins = slice_set s.ins l y })
-wired_passing s l x y k w here h same =
-    let was = all-at (IsLinkIn (limit_of s.ins)) s.ins l x w.ins here in
-    let is : IsLinkIn (limit_of s.ins) y = record { no_fct = (subst (AllByRecursion (λ k. k ≢ Fct)) h.front was.no_fct).1; limit = same ∙ was.limit } in
+-- what is wired stays so where a link's receiving end changes, and no FCT waits there
+pub wired_ins : (s : State) (l : ℕ) (x y : Receiving) → IsWired s → slice_get s.ins l ≡ Some x → AllByRecursion (λ k. k ≢ Fct) y.receiver.buffer → y.limit ≡ x.limit → IsWired (record s { ins = slice_set s.ins l y })
+wired_ins s l x y w here no_fct same =
+    let is : IsLinkIn (limit_of s.ins) y = record { no_fct = no_fct; limit = same ∙ (all-at (IsLinkIn (limit_of s.ins)) s.ins l x w.ins here).limit } in
     record {
       four_out = w.four_out;
       four_in = length-set s.ins l y ∙ w.four_in;
@@ -93,6 +94,31 @@ wired_passing s l x y k w here h same =
       names = w.names;
       ins = subst (λ m. AllByRecursion (IsLinkIn m) (slice_set s.ins l y)) (sym (limit_stays s.ins l x y here same)) (all-set (IsLinkIn (limit_of s.ins)) s.ins l y w.ins is);
     }
+
+no_fcts : (s : State) (l : ℕ) (x : Receiving) → IsWired s → slice_get s.ins l ≡ Some x → AllByRecursion (λ k. k ≢ Fct) x.receiver.buffer
+no_fcts s l x w here = (all-at (IsLinkIn (limit_of s.ins)) s.ins l x w.ins here).no_fct
+
+-- where a token passes
+pub wired_passing : (s : State) (l : ℕ) (x y : Receiving) (k : Token) → IsWired s → slice_get s.ins l ≡ Some x → PassesOn x.receiver k y.receiver → y.limit ≡ x.limit → IsWired (record s { ins = slice_set s.ins l y })
+wired_passing s l x y k w here h same = wired_ins s l x y w here (subst (AllByRecursion (λ k. k ≢ Fct)) h.front (no_fcts s l x w here)).1 same
+
+-- where places are granted
+pub wired_granting : (s : State) (l : ℕ) (x y : Receiving) → IsWired s → slice_get s.ins l ≡ Some x → Grants x.receiver y.receiver → y ≡ record x { receiver = y.receiver } → IsWired (record s { ins = slice_set s.ins l y })
+wired_granting s l x y w here h rest = wired_ins s l x y w here (subst (AllByRecursion (λ k. k ≢ Fct)) (sym (ap (λ r. r.buffer) h.after)) (no_fcts s l x w here)) (ap (λ z. z.limit) rest)
+
+none_more : (ks : List Token) (k : Token) → AllByRecursion (λ j. j ≢ Fct) ks → k ≢ Fct → AllByRecursion (λ j. j ≢ Fct) (ks ++ k ∷ [])
+none_more [] k all one = (one, tt)
+none_more (j ∷ ks) k all one = (all.0, none_more ks k all.1 one)
+
+placed : (k : Token) → NeedsPlace k → k ≢ Fct
+placed Fct needs same = absurd (cc)
+placed (Byte b) needs same = absurd (cc)
+placed (EndMark m) needs same = absurd (cc)
+
+-- where a token comes
+pub wired_coming : (s : State) (l : ℕ) (x y : Receiving) (k : Token) → IsWired s → slice_get s.ins l ≡ Some x → NeedsPlace k → y ≡ record x { receiver = received x.receiver k } → IsWired (record s { ins = slice_set s.ins l y })
+wired_coming s l x y k w here needs is =
+    wired_ins s l x y w here (subst (λ z. AllByRecursion (λ k. k ≢ Fct) z.receiver.buffer) (sym is) (none_more x.receiver.buffer k (no_fcts s l x w here) (placed k needs))) (ap (λ z. z.limit) is)
 
 -- what passes is the front
 pub front_at : (s n : State) (l : ℕ) (z : Receiving) (k : Token) → link_of n ≡ link_of s → slice_get n.ins l ≡ Some z → IsFront (link_of s l).receiver k → IsFront z.receiver k
@@ -120,3 +146,33 @@ fct_never most x is front = (subst (AllByRecursion (λ k. k ≢ Fct)) front.1 is
 pub outs_read : (s t : State) (j l : ℕ) (x : Sending) → t ≡ s → j ≡ l → length t.outs ≡ 4 → l < 4 → x ≡ get_or t.outs j x → slice_get s.outs l ≡ Some x
 outs_read s t j l x same along four within read =
     subst (λ z. slice_get z.outs l ≡ Some x) same (subst (λ i. slice_get t.outs i ≡ Some x) along (slice_get_read t.outs 4 j x (sym four) (subst (λ i. i < 4) (sym along) within) read))
+
+-- a link's number is within the list of four ends
+pub at_link : {X : Type 0} (v : Vec X Global) (j l : ℕ) → j ≡ l → l < 4 → length v.items ≡ 4 → j < vec_len v
+at_link v j l along within four = subst (λ n. j < n) (sym (v.ok.0 ∙ four)) (subst (λ i. i < 4) (sym along) within)
+
+pub at_place : {X : Type 0} (v : Vec X Global) (xs : List X) (i : ℕ) → xs ≡ v.items → i < length xs → i < vec_len v
+at_place v xs i same within = subst (λ n. i < n) (sym v.ok.0) (subst (λ z. i < length z) same within)
+
+-- what is read twice is one thing
+pub same_there : {X : Type 0} (xs : List X) (i : ℕ) (x y : X) → length xs ≡ 4 → i < 4 → x ≡ get_or xs i x → y ≡ get_or xs i y → x ≡ y
+same_there xs i x y four within a b = same_read xs i x y (slice_get_read xs 4 i x (sym four) within a) (slice_get_read xs 4 i y (sym four) within b)
+
+-- the link by which a token may be put or granted, read of the state that is seen
+pub less_put : (s t : State) (l : ℕ) (may : MayPut s l) → t ≡ s → length t.outs ≡ 4 → l < 4
+less_put s t l may same four = subst (λ n. l < n) (subst (λ z. length z.outs ≡ 4) same four) (slice_get_within s.outs l may.out may.here)
+
+pub put_there : (s t : State) (j l : ℕ) (x : Sending) (may : MayPut s l) → t ≡ s → j ≡ l → length t.outs ≡ 4 → x ≡ get_or t.outs j x → may.out ≡ x
+put_there s t j l x may same along four read = same_read s.outs l may.out x may.here (outs_read s t j l x same along four (less_put s t l may same four) read)
+
+pub less_grant : (s t : State) (l : ℕ) (may : MayGrant s l) → t ≡ s → length t.ins ≡ 4 → l < 4
+less_grant s t l may same four = subst (λ n. l < n) (subst (λ z. length z.ins ≡ 4) same four) (slice_get_within s.ins l may.into may.here)
+
+pub grant_there : (s t : State) (j l : ℕ) (x : Receiving) (may : MayGrant s l) → t ≡ s → j ≡ l → length t.ins ≡ 4 → x ≡ get_or t.ins j x → may.into ≡ x
+grant_there s t j l x may same along four read = same_read s.ins l may.into x may.here (ins_read s t j l x same along four (less_grant s t l may same four) read)
+
+pub kept_outs : (s : State) (outs : List Sending) → IsKept s (record s { outs = outs })
+kept_outs s outs = record { ends = refl; limit = refl }
+
+pub kept_strays : (s : State) (n : ℕ) → IsKept s (record s { strays = n })
+kept_strays s n = record { ends = refl; limit = refl }

@@ -4,6 +4,7 @@ use Rattle.vc_vcp.specs.Keyed.{named, NamesDiffer}
 use Rattle.vc_vcp.specs.Seen.{seen, link_of, Acks, IsKept, taken_of, advance_told}
 use Rattle.vc_vcp.specs.State.{State, HaveOwnNames, IsOutput}
 use Rattle.vc_vcp.proofs.KeyedLemmas.{named_has}
+use Rattle.vc_vcp.proofs.Passing.{at_place}
 use Rattle.vc_vcp.proofs.Placed.{same_read, always_on_err}
 use Rattle.vc_vcp.proofs.Stepping.{with_output, kept-output, links-output, output_back}
 use Rattle.vc_vcp.proofs.Straying.{ack_strays, idle_none, idle_some}
@@ -164,3 +165,21 @@ returns-in_err-advance-clause-err c =
     let out = slice_get_read x.outs.items 4 k q (sym c.self.invariant.four_out) less c.index_mut-2.ensures.value in
     always_on_err c.from_residual.result
     (output_back o i k a c.acked.new.self q c.acked.new.queue here out c.in_err-advance.ensures.err c.in_err-advance.ensures.err_queue ∙ c.self.view_is)
+
+pub index-requires : goal.index-requires
+index-requires c = at_place c.self.inside.outputs c.deref.result.now c.in-Some.at c.deref.ensures.value c.in-Some.ensures.within
+
+pub index-requires-2 : goal.index-requires-2
+index-requires-2 c = at_place c.self.inside.outputs c.deref.result.now c.in-Some.at c.deref.ensures.value c.in-Some.ensures.within
+
+pub index-requires-3 : goal.index-requires-3
+index-requires-3 c = at_place c.self.inside.outputs c.deref.result.now c.in-Some.at c.deref.ensures.value c.in-Some.ensures.within
+
+pub index_mut-requires : goal.index_mut-requires
+index_mut-requires c = at_place c.self.inside.outputs c.deref.result.now c.in-Some.at c.deref.ensures.value c.in-Some.ensures.within
+
+pub returns-in_default-clause-err : goal.returns-in_default-clause-err
+returns-in_default-clause-err c = tt
+
+pub returns-then-is_idle-clause-err : goal.returns-then-is_idle-clause-err
+returns-then-is_idle-clause-err c = tt

@@ -6,6 +6,7 @@ use Rattle.vc_vcp.specs.Keyed.{named, NamesDiffer}
 use Rattle.vc_vcp.specs.Seen.{seen, ends_of, carrier_of, IsKept}
 use Rattle.vc_vcp.specs.Steps.{Offers}
 use Rattle.vc_vcp.proofs.KeyedLemmas.{named_has}
+use Rattle.vc_vcp.proofs.Passing.{at_link, at_place}
 use Rattle.vc_vcp.proofs.Placed.{same_read, asked_is, asked_found, on_ok, on_err}
 use Rattle.vc_vcp.proofs.Stepping.{with_output, offers, kept-output, links-output, output_back}
 use Rattle.vc_vcp.proofs.vcp.Vcp.offer.Goals as goal
@@ -100,3 +101,16 @@ returns-clause-err c =
     let out = slice_get_read x.outs.items 4 k q (sym c.self.invariant.four_out) less c.index_mut-in-Some.ensures.value in
     subst (λ z. OnErr c.offer.result (with_output o i c.offer.new.self k c.offer.new.queue ≡ z)) c.self.view_is
     (on_err c.offer.result (output_back o i k a c.offer.new.self q c.offer.new.queue here out) c.offer.ensures.err c.offer.ensures.err_queue)
+
+pub index-requires : goal.index-requires
+index-requires c = at_place c.self.inside.outputs c.deref.result.now c.in-Some.at c.deref.ensures.value c.in-Some.ensures.within
+
+pub index_mut-requires : goal.index_mut-requires
+index_mut-requires c = at_place c.self.inside.outputs c.deref.result.now c.in-Some.at c.deref.ensures.value c.in-Some.ensures.within
+
+pub index_mut-requires-in-Some : goal.index_mut-requires-in-Some
+index_mut-requires-in-Some c =
+    let x = c.self.inside in
+    let i = c.in-Some.at in
+    let read = slice_get_read x.outputs.items (length x.outputs.items) i c.index.result.now refl (subst (λ z. i < length z) c.deref.ensures.value c.in-Some.ensures.within) c.index.ensures in
+    at_link x.outs c.from-link.result c.index.result.now.link c.from-link.ensures (all-at IsOutput x.outputs.items i c.index.result.now c.self.invariant.outputs read).link c.self.invariant.four_out

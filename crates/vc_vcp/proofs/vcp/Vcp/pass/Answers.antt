@@ -6,7 +6,7 @@ use Rattle.vc_tokens.specs.Tokens.{Byte, EndMark}
 use Rattle.vc_credit.specs.Ends.{IsFront}
 use Rattle.vc_vcp.specs.Seen.{link_of}
 use Rattle.vc_vcp.specs.State.{State, IsLinkIn, limit_of}
-use Rattle.vc_vcp.proofs.Passing.{ins_read, receiver_at, front_seen, never_empty, mark_or_byte, fct_never}
+use Rattle.vc_vcp.proofs.Passing.{at_link, ins_read, receiver_at, front_seen, never_empty, mark_or_byte, fct_never}
 use Rattle.vc_vcp.proofs.Wired.{all-at}
 use Rattle.vc_vcp.proofs.vcp.Vcp.pass.Goals as goal
 
@@ -131,3 +131,9 @@ returns-in-None-clause-quiet c = λ none. (refl, refl)
 
 pub returns-in-None-clause-kept : goal.returns-in-None-clause-kept
 returns-in-None-clause-kept c = record { ends = refl; limit = refl }
+
+pub index-requires : goal.index-requires
+index-requires c = at_link c.self.inside.ins c.from.result c.args.link c.from.ensures c.requires c.self.invariant.four_in
+
+pub pass_byte-requires-clause-link : goal.pass_byte-requires-clause-link
+pass_byte-requires-clause-link c = c.requires

@@ -5,6 +5,7 @@ use Rattle.vc_vcp.specs.Seen.{seen, ends_of, carrier_of, Inputs, IsKept}
 use Rattle.vc_vcp.specs.State.{State, IsInput}
 use Rattle.vc_vcp.proofs.Inputting.{inputs_ok, kept-input}
 use Rattle.vc_vcp.proofs.KeyedLemmas.{named_has}
+use Rattle.vc_vcp.proofs.Passing.{at_link, at_place}
 use Rattle.vc_vcp.proofs.Placed.{same_read, asked_is, asked_found, on_err}
 use Rattle.vc_vcp.proofs.Stepping.{with_input, links-input, input_back}
 use Rattle.vc_vcp.proofs.Wired.{wired-input, wired-outs, all-at}
@@ -110,3 +111,16 @@ returns-clause-err c =
     let out = slice_get_read x.outs.items 4 k q (sym c.self.invariant.four_out) less c.index_mut-in-Some.ensures.value in
     subst (λ z. OnErr c.want.result (with_input o i c.want.new.self k c.want.new.queue ≡ z)) c.self.view_is
     (on_err c.want.result (input_back o i k a c.want.new.self q c.want.new.queue here out) c.want.ensures.err c.want.ensures.err_queue)
+
+pub index-requires : goal.index-requires
+index-requires c = at_place c.self.inside.inputs c.deref.result.now c.in-Some.at c.deref.ensures.value c.in-Some.ensures.within
+
+pub index_mut-requires : goal.index_mut-requires
+index_mut-requires c = at_place c.self.inside.inputs c.deref.result.now c.in-Some.at c.deref.ensures.value c.in-Some.ensures.within
+
+pub index_mut-requires-in-Some : goal.index_mut-requires-in-Some
+index_mut-requires-in-Some c =
+    let x = c.self.inside in
+    let i = c.in-Some.at in
+    let read = slice_get_read x.inputs.items (length x.inputs.items) i c.index.result.now refl (subst (λ z. i < length z) c.deref.ensures.value c.in-Some.ensures.within) c.index.ensures in
+    at_link x.outs c.from-link.result c.index.result.now.link c.from-link.ensures (all-at IsInput x.inputs.items i c.index.result.now c.self.invariant.inputs read).link c.self.invariant.four_out
