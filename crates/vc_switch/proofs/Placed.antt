@@ -1,8 +1,8 @@
 -- Lists read by place: a write of one element is a change at its place.
-use Rattle.std.proofs.Common.{◌≡◌, ℕ, zero, suc, List, [], ◌∷◌, refl, sym, ap, ◌∙◌, subst, arith, slice_get, slice_set, get_or, length, ◌<◌, if◌then◌else◌, Some, inl, inr, eq-eqb}
-use Rattle.std.proofs.lemmas.Bool.{cases_eq, ne_eqb}
+use Rattle.std.proofs.Common.{◌≡◌, ℕ, zero, suc, List, [], ◌∷◌, refl, sym, ap, ◌∙◌, subst, arith, slice_get, slice_set, get_or, length, ◌<◌, ltb, if◌then◌else◌, true, false, vec_len, Vec, Global, Some, None, inl, inr, eq-eqb}
+use Rattle.std.proofs.lemmas.Bool.{cases_eq, ne_eqb, ltb-true, ltb-false}
 use Rattle.std.specs.List.{AllByRecursion}
-use Rattle.std.proofs.lemmas.Option.{get_or_from_slice_get}
+use Rattle.std.proofs.lemmas.Option.{get_or_from_slice_get, slice_get_read, slice_get_within, slice_get_past}
 use mathlib.Core.Path.{fun_ext}
 use Rattle.vc_packets.specs.Functions.{put}
 use Rattle.vc_switch.specs.State.{shown_or}
@@ -64,3 +64,17 @@ pub all-at : {X : Type 0} (P : X → Type 0) (xs : List X) (i : ℕ) (x : X) →
 all-at P [] i x h e = absurd (cc)
 all-at P (y ∷ xs) zero x h e = let q : y ≡ x = cc in subst P q h.0
 all-at P (y ∷ xs) (suc i) x h e = all-at P xs i x h.1 e
+
+-- a link's number is within a list of 32
+pub at_link : {X : Type 0} (v : Vec X Global) (j l : ℕ) → j ≡ l → l < 32 → length v.items ≡ 32 → j < vec_len v
+at_link v j l along within long = subst (λ n. j < n) (sym (v.ok.0 ∙ long)) (subst (λ i. i < 32) (sym along) within)
+
+pub at_some : {X : Type 0} (v : Vec X Global) (j : ℕ) (x : X) → slice_get v.items j ≡ Some x → j < vec_len v
+at_some v j x here = subst (λ n. j < n) (sym v.ok.0) (slice_get_within v.items j x here)
+
+-- what is sought by a number that may be past the end
+pub got : {X : Type 0} (xs ys : List X) (j i : ℕ) (x : X) → ys ≡ xs → j ≡ i → true ≡ ltb j (length ys) → x ≡ get_or ys j x → slice_get xs i ≡ Some x
+got xs ys j i x same along within is = subst (λ z. slice_get z i ≡ Some x) same (subst (λ k. slice_get ys k ≡ Some x) along (slice_get_read ys (length ys) j x refl (ltb-true j (length ys) (sym within)) is))
+
+pub got_none : {X : Type 0} (xs ys : List X) (j i : ℕ) → ys ≡ xs → j ≡ i → false ≡ ltb j (length ys) → slice_get xs i ≡ None
+got_none xs ys j i same along past = subst (λ z. slice_get z i ≡ None) same (subst (λ k. slice_get ys k ≡ None) along (slice_get_past ys j (ltb-false j (length ys) (sym past))))

@@ -1,5 +1,5 @@
 -- How a packet's tokens leave, by what changes in a switch's lists.
-use Rattle.std.proofs.Common.{◌≡◌, ℕ, zero, suc, ◌+◌, ◌-◌, ◌<◌, ◌≤◌, Bool, true, false, IsTrue, ◌↔◌, ◌||◌, List, [], ◌∷◌, ◌++◌, length, take, drop, refl, sym, ap, ◌∙◌, subst, arith, slice_get, slice_set, is_some, length-append, Option, Some, None}
+use Rattle.std.proofs.Common.{◌≡◌, ℕ, zero, suc, ◌+◌, ◌-◌, ◌<◌, ◌≤◌, Bool, true, false, IsTrue, ◌↔◌, ◌||◌, List, [], ◌∷◌, ◌++◌, length, take, drop, refl, sym, ap, ◌∙◌, subst, arith, slice_get, slice_set, get_or, is_some, length-append, Option, Some, None}
 use Rattle.std.proofs.Math.Seq.{take-suc, drop-cons}
 use Rattle.std.proofs.lemmas.List.{length-set, length-drop, length-take-le, take-append-drop}
 use Rattle.std.proofs.lemmas.Option.{slice_get_within, slice_get-get_or, get_or_from_slice_get}
@@ -19,7 +19,7 @@ use Rattle.vc_switch.specs.declared.link_in.Bound.{Bound}
 use Rattle.vc_switch.specs.declared.link_out.LinkOut.{LinkOut}
 use Rattle.vc_switch.proofs.Fronts.{gone}
 use Rattle.vc_switch.proofs.Pairing.{paired_freed}
-use Rattle.vc_switch.proofs.Placed.{put_back, place-set_same}
+use Rattle.vc_switch.proofs.Placed.{put_back, place-set_same, read_there}
 use Rattle.vc_switch.proofs.Showing.{input_at, output_at, bound_is, seen-bound}
 use Rattle.vc_switch.proofs.Keeping.{link_in, switch_with, bound-set, source-set}
 
@@ -74,6 +74,13 @@ output_is s j l b w t =
 
 pub way_of : (s : State) (j l : ℕ) (b : Bound) → IsSwitch s → (t : IsBoundTo s j l b) → IsUnderWay (plan_of s) t.input.got.passed b
 way_of s j l b w t = subst (MayBeBound (plan_of s) t.input.got.passed) t.bound (link_in s l t.input w t.here).bound
+
+pub bound_there : (s o : State) (k j l : ℕ) (b : Bound) → o ≡ s → k ≡ l → (t : IsBoundTo s j l b) → slice_get o.inputs k ≡ Some t.input
+bound_there s o k j l b shows same t = subst (λ i. slice_get o.inputs i ≡ Some t.input) (sym same) (subst (λ z. slice_get z.inputs l ≡ Some t.input) (sym shows) t.here)
+
+-- no more was put than has come
+pub next_within : (s o : State) (k j l : ℕ) (b : Bound) (a : LinkIn) → IsSwitch s → o ≡ s → k ≡ l → IsBoundTo s j l b → a ≡ get_or o.inputs k a → b.from + b.sent ≤ length a.got.passed
+next_within s o k j l b a w shows same t is = subst (λ z. b.from + b.sent ≤ length z.got.passed) (read_there o.inputs k t.input a (bound_there s o k j l b shows same t) is) (way_of s j l b w t).within
 
 leaves_at : (s : State) (j l : ℕ) (b : Bound) → IsSwitch s → (t : IsBoundTo s j l b) → BodyLeaves (plan_of s) t.input.got.passed j (drop b.from t.input.got.passed)
 leaves_at s j l b w t = subst (λ z. BodyLeaves (plan_of s) t.input.got.passed z (drop b.from t.input.got.passed)) (output_is s j l b w t) (way_of s j l b w t).leaves

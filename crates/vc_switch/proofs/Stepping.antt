@@ -10,10 +10,10 @@ use Rattle.vc_credit.specs.Ends.{Receiver, Grants, credited, received}
 use Rattle.vc_credit.specs.Ends.{Passes as PassesOn}
 use Rattle.vc_credit.specs.Laws.{NeedsPlace}
 use Rattle.vc_switch.specs.Able.{EachTokenComes}
-use Rattle.vc_switch.specs.Forward.{SwitchPlan}
+use Rattle.vc_switch.specs.Forward.{SwitchPlan, IsDrawn}
 use Rattle.vc_switch.specs.Switch.{Input, Switch, set_input, with_token, Comes, due, not_due, drawn, headed, with_header, passing, Passes, passes_byte, drops_byte, passes_mark, loses, BodyLeaves, HasGroup, SendsFct}
 use Rattle.vc_switch.specs.Front.{front_of, HasFront}
-use Rattle.vc_switch.specs.State.{State, IsSwitch, IsLinkIn, MayBeBound, interval_of, plan_of, limit_of, shown_or}
+use Rattle.vc_switch.specs.State.{State, IsSwitch, IsLinkIn, IsRange, MayBeBound, interval_of, plan_of, limit_of, shown_or}
 use Rattle.vc_switch.specs.Seen.{seen, input_of, sent_of, sent_by, sender_of}
 use Rattle.vc_switch.specs.declared.front.Front.{Front}
 use Rattle.vc_switch.specs.declared.random_range.RandomRange.{RandomRange}
@@ -123,6 +123,11 @@ link_granted plan most x y w grants is =
 -- the header that a word draws at a link
 pub header_at : (s : State) (l word : ℕ) (r : Option RandomRange) → slice_get s.ranges l ≡ Some r → drawn (interval_of r) word ≡ drawn ((plan_of s).random l) word
 header_at s l word r here = ap (λ z. drawn z word) (sym (ap (shown_or None interval_of) here))
+
+-- the least word draws a header of the range
+pub least_drawn : (r : Option RandomRange) → IsRange r → IsDrawn (interval_of r) (drawn (interval_of r) 0)
+least_drawn None is = tt
+least_drawn (Some r) is = (omega arith, omega arith)
 
 -- the bytes got with the header in front, as the steps say it
 got_at : (s : State) (l : ℕ) (x : LinkIn) (v : Option ℕ) → slice_get s.inputs l ≡ Some x → v ≡ drawn ((plan_of s).random l) x.word → headed v x.got.passed ≡ with_header (plan_of s) l ((seen s).input l)

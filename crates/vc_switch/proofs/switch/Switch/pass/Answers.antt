@@ -1,4 +1,5 @@
-use Rattle.std.proofs.Common.{sym, subst}
+use Rattle.std.proofs.Common.{sym, refl, subst}
+use Rattle.vc_switch.proofs.Placed.{at_link}
 use Rattle.vc_packets.specs.declared.mark.Mark.TheVariants.{Eop, Eom}
 use Rattle.vc_tokens.specs.Spelt.{token}
 use Rattle.vc_tokens.specs.Tokens.{Byte, EndMark}
@@ -46,3 +47,42 @@ pass_mark-requires-in-Some-Eom-clause-front c =
     let o : State = record { table = x.table; ranges = x.ranges.items; deletes = x.deletes.items; inputs = x.inputs.items; outputs = x.outputs.items; lost = x.lost } in
     let is = input_read o c.args.self.now c.from.result c.args.link a c.self.view_is c.from.ensures c.self.invariant.input_links c.requires.link c.index.ensures in
     subst (λ z. IsFront z.receiver (EndMark Eom)) (sym is.1) (subst (λ t. IsFront a.receiver (token t)) c.in-Some-Eom.field-0-is c.in-Some-Eom.ensures)
+
+pub index-requires : goal.index-requires
+index-requires c = at_link c.self.inside.inputs c.from.result c.args.link c.from.ensures c.requires.link c.self.invariant.input_links
+
+pub pass_byte-requires-clause-link : goal.pass_byte-requires-clause-link
+pass_byte-requires-clause-link c = c.requires.link
+
+pub pass_mark-requires-clause-link : goal.pass_mark-requires-clause-link
+pass_mark-requires-clause-link c = c.requires.link
+
+pub pass_mark-requires-in-Some-Eom-clause-link : goal.pass_mark-requires-in-Some-Eom-clause-link
+pass_mark-requires-in-Some-Eom-clause-link c = c.requires.link
+
+pub returns-in-Some-Byte-clause-passes : goal.returns-in-Some-Byte-clause-passes
+returns-in-Some-Byte-clause-passes c = c.pass_byte.ensures.passes
+
+pub returns-in-Some-Byte-clause-kept : goal.returns-in-Some-Byte-clause-kept
+returns-in-Some-Byte-clause-kept c = c.pass_byte.ensures.kept
+
+pub returns-in-Some-Byte-clause-ok : goal.returns-in-Some-Byte-clause-ok
+returns-in-Some-Byte-clause-ok c = refl
+
+pub returns-in-Some-Eop-clause-passes : goal.returns-in-Some-Eop-clause-passes
+returns-in-Some-Eop-clause-passes c = c.pass_mark.ensures.passes
+
+pub returns-in-Some-Eop-clause-kept : goal.returns-in-Some-Eop-clause-kept
+returns-in-Some-Eop-clause-kept c = c.pass_mark.ensures.kept
+
+pub returns-in-Some-Eop-clause-ok : goal.returns-in-Some-Eop-clause-ok
+returns-in-Some-Eop-clause-ok c = refl
+
+pub returns-in-Some-Eom-clause-passes : goal.returns-in-Some-Eom-clause-passes
+returns-in-Some-Eom-clause-passes c = c.pass_mark-in-Some-Eom.ensures.passes
+
+pub returns-in-Some-Eom-clause-kept : goal.returns-in-Some-Eom-clause-kept
+returns-in-Some-Eom-clause-kept c = c.pass_mark-in-Some-Eom.ensures.kept
+
+pub returns-in-Some-Eom-clause-ok : goal.returns-in-Some-Eom-clause-ok
+returns-in-Some-Eom-clause-ok c = refl

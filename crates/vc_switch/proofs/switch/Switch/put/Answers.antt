@@ -1,5 +1,8 @@
-use Rattle.std.proofs.Common.{◌+◌, Some, None}
-use Rattle.vc_switch.specs.State.{State}
+use Rattle.std.proofs.Common.{◌+◌, subst, Some, None}
+use Rattle.vc_switch.specs.Seen.{seen}
+use Rattle.vc_switch.proofs.Placed.{at_some}
+use Rattle.vc_switch.proofs.Putting.{free_puts, bound_there, next_within}
+use Rattle.vc_switch.specs.State.{State, IsSwitch, plan_of}
 use Rattle.vc_switch.proofs.Showing.{next_there}
 use Rattle.vc_switch.proofs.switch.Switch.put.Goals as goal
 
@@ -40,3 +43,29 @@ returns-in-None-next_byte-clause-sends c = c.put_mark.ensures.sends
 
 pub returns-in-None-next_byte-clause-kept : goal.returns-in-None-next_byte-clause-kept
 returns-in-None-next_byte-clause-kept c = c.put_mark.ensures.kept
+
+pub bound_to-requires : goal.bound_to-requires
+bound_to-requires c = c.requires.output
+
+pub unreachable-requires : goal.unreachable-requires
+unreachable-requires c = free_puts (plan_of c.args.self.now) (seen c.args.self.now) c.args.output c.in-None.ensures c.requires.may
+
+pub index-requires : goal.index-requires
+index-requires c =
+    let x = c.self.inside in
+    let o : State = record { table = x.table; ranges = x.ranges.items; deletes = x.deletes.items; inputs = x.inputs.items; outputs = x.outputs.items; lost = x.lost } in
+    let k = c.from.result in
+    let t = c.in-Some.ensures in
+    at_some x.inputs k t.input (bound_there c.args.self.now o k c.args.output c.in-Some.source c.in-Some.bound c.self.view_is c.from.ensures t)
+
+pub next_byte-requires : goal.next_byte-requires
+next_byte-requires c =
+    let x = c.self.inside in
+    let o : State = record { table = x.table; ranges = x.ranges.items; deletes = x.deletes.items; inputs = x.inputs.items; outputs = x.outputs.items; lost = x.lost } in
+    next_within c.args.self.now o c.from.result c.args.output c.in-Some.source c.in-Some.bound c.index.result.now (subst IsSwitch c.self.view_is c.self.invariant) c.self.view_is c.from.ensures c.in-Some.ensures c.index.ensures
+
+pub put_byte-requires-clause-output : goal.put_byte-requires-clause-output
+put_byte-requires-clause-output c = c.requires.output
+
+pub put_mark-requires-clause-output : goal.put_mark-requires-clause-output
+put_mark-requires-clause-output c = c.requires.output
