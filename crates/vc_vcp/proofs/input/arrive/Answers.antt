@@ -1,4 +1,4 @@
-use Rattle.std.proofs.Common.{◌≡◌, ◌<◌, ◌∙◌, length, slice_index_or, slice_get, Some, None, sym, ap, refl, subst}
+use Rattle.std.proofs.Common.{rules, ◌≡◌, ◌<◌, ◌∙◌, length, slice_index_or, slice_get, Some, None, sym, ap, refl, subst}
 use Rattle.std.proofs.lemmas.Option.{slice_get_read, slice_get_within}
 use Rattle.vc_vcp.specs.Bound.{with_inputs}
 use Rattle.vc_vcp.specs.Seen.{arrival_told}
@@ -109,3 +109,15 @@ returns-in_err-arrival-clause-err_outs c =
     let less : k < 4 = subst (λ z. z < 4) (sym c.from.ensures) (all-at IsInput inputs i x c.requires.inputs here).link in
     let out : slice_get outs k ≡ Some o = slice_get_read outs 4 k c.index-outs-from.result (sym c.requires.four) less c.index-outs-from.is ∙ ap Some c.index-outs-from.is in
     always_on_err c.from_residual.result (set_back outs k o c.arrive.new.queue out c.in_err-arrival.ensures.err_queue)
+
+pub offset_bounds-outs-from : goal.offset_bounds-outs-from
+offset_bounds-outs-from c = search rules
+
+pub returns-in_err-arrival-clause-arrives : goal.returns-in_err-arrival-clause-arrives
+returns-in_err-arrival-clause-arrives c = search rules
+
+pub returns-clause-err : goal.returns-clause-err
+returns-clause-err c = search rules
+
+pub returns-clause-err_outs : goal.returns-clause-err_outs
+returns-clause-err_outs c = search rules
