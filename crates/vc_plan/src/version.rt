@@ -16,7 +16,6 @@ pub fn as_version_two(plan: Plan) -> Plan
 
 /// A plan and the same in version 2: packets make the same hops by them, and are delivered alike; and of a plan of version 1 the one
 /// is accepted exactly where the other is.
-#[tactic(auto, using(crate::proofs::Versions::agree))]
 pub fn versions_agree()
     ensures { VersionsAgree }
 {}
