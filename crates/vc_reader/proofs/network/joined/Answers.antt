@@ -1,4 +1,5 @@
-use Rattle.std.proofs.Common.{◌≡◌, ◌∙◌, List, [], ◌∷◌, ◌++◌, sym, ap, append_assoc}
+use Rattle.std.proofs.Common.{◌≡◌, ◌∙◌, ◌+◌, ◌<◌, ℕ, List, [], ◌∷◌, ◌++◌, length, refl, sym, ap, append_assoc, arith}
+use Rattle.std.proofs.lemmas.List.{append-nil}
 use Rattle.vc_process.specs.declared.process.Process.{Process}
 use Rattle.vc_plan.specs.declared.node_plan.NodePlan.{NodePlan}
 use Rattle.vc_plan.specs.declared.node_plan.Variable.{Variable}
@@ -20,3 +21,38 @@ pub loop-head-preserved : goal.loop-head-preserved
 loop-head-preserved c =
     one-more c.loop-head.nodes c.push.new.self _ _ _ _ _ c.in-Some.head c.in-Some-next.process c.into_items.result
     c.in-Some.ensures.items c.in-Some-next.ensures.items c.into_items.ensures c.in_ok-push.ensures.ok c.loop-head.invariant
+
+-- nothing is made at first
+begins : (nodes : List NodePlan) (heads hs : List Head) (processes ps : List Process) → nodes ≡ [] → hs ≡ heads → ps ≡ processes → nodes ++ node_plans hs ps ≡ node_plans heads processes
+begins nodes heads hs processes ps en eh ep = ap (λ n. n ++ node_plans hs ps) en ∙ ap (λ h. node_plans h ps) eh ∙ ap (λ p. node_plans heads p) ep
+
+nothing : {T : Type 0} (xs : List T) (n : ℕ) → n ≡ length xs → n ≡ 0 → xs ≡ []
+nothing [] n e z = refl
+nothing (x ∷ xs) n e z = absurd (omega arith)
+
+-- no head or no process is left
+no-head : (nodes all : List NodePlan) (hs : List Head) (ps : List Process) → hs ≡ [] → nodes ++ node_plans hs ps ≡ all → nodes ≡ all
+no-head nodes all hs ps e r = sym (append-nil nodes) ∙ sym (ap (λ h. nodes ++ node_plans h ps) e) ∙ r
+
+without : (hs : List Head) → node_plans hs [] ≡ []
+without [] = refl
+without (h ∷ hs) = refl
+
+no-process : (nodes all : List NodePlan) (hs : List Head) (ps : List Process) → ps ≡ [] → nodes ++ node_plans hs ps ≡ all → nodes ≡ all
+no-process nodes all hs ps e r = sym (append-nil nodes) ∙ sym (ap (λ m. nodes ++ m) (ap (λ p. node_plans hs p) e ∙ without hs)) ∙ r
+
+fewer : (after before : ℕ) → after + 1 ≡ before → after < before
+fewer after before e = omega arith
+
+pub loop-head-init : goal.loop-head-init
+loop-head-init c =
+    begins c.new-nodes.result c.args.heads _ c.args.processes _ c.new-nodes.ensures (c.into_iter-heads.ensures.rest ∙ c.in_ok-taken_apart.ensures) (c.into_iter-processes.ensures.rest ∙ c.in_ok-taken_apart-2.ensures)
+
+pub loop-head-smaller : goal.loop-head-smaller
+loop-head-smaller c = fewer _ _ c.in-Some.ensures.len
+
+pub returns-in_default-next : goal.returns-in_default-next
+returns-in_default-next c = no-process _ _ _ _ (nothing _ _ c.loop-head.processes.rest.ok.0 c.in_default-next.ensures.cases.0) c.loop-head.invariant
+
+pub returns : goal.returns
+returns c = no-head _ _ _ _ (nothing _ _ c.loop-head.heads.rest.ok.0 c.in_default.ensures.cases.0) c.loop-head.invariant

@@ -1,5 +1,5 @@
-use Rattle.std.proofs.Common.{◌≡◌, ◌∙◌, List, [], ◌∷◌, ◌++◌, sym, ap, append_assoc, reverse}
-use Rattle.std.proofs.lemmas.List.{reverse-append}
+use Rattle.std.proofs.Common.{◌≡◌, ◌∙◌, ◌<◌, List, [], ◌∷◌, ◌++◌, length, length-append, sym, ap, append_assoc, reverse, arith}
+use Rattle.std.proofs.lemmas.List.{append-nil, reverse-append}
 use Rattle.vc_reader.proofs.network.taken_apart.Goals as goal
 
 -- the last of what is left becomes the first of what is behind it
@@ -13,3 +13,15 @@ loop-last-preserved g c =
 
 pub returns : goal.returns
 returns g c = c.reverse.ensures.items ∙ sym (ap (λ f. f ++ reverse c.loop-last.backward.items) c.in_default.ensures.0) ∙ c.loop-last.invariant
+
+begins : {T : Type 0} (items back : List T) → back ≡ [] → items ++ reverse back ≡ items
+begins items back e = ap (λ b. items ++ reverse b) e ∙ append-nil items
+
+shorter : {T : Type 0} (left rest : List T) (x : T) → left ≡ rest ++ x ∷ [] → length rest < length left
+shorter left rest x e = omega (arith, ap length e, length-append rest (x ∷ []))
+
+pub loop-last-init : goal.loop-last-init
+loop-last-init g c = begins c.args.items c.new-backward.result.items c.new-backward.ensures.items
+
+pub loop-last-smaller : goal.loop-last-smaller
+loop-last-smaller g c = shorter c.loop-last.rest c.pop.new.self c.in-Some.last c.in-Some.ensures
