@@ -1,0 +1,22 @@
+use Rattle.std.proofs.Common.{◌≡◌, ℕ, List, Some, Err, refl}
+use Rattle.serde_json.specs.Data.{Data}
+use Rattle.serde_json.specs.Read.{read}
+use Rattle.serde_json.specs.View.{view}
+use Rattle.vc_reader.specs.NetworkText.{Reads, plan_of, refusal}
+use Rattle.vc_reader.specs.declared.fault.Why.{Why}
+use Rattle.vc_reader.specs.declared.fault.Why.TheVariants as why
+use Rattle.vc_reader.specs.declared.path.Step.{Step}
+use Rattle.vc_reader.specs.declared.refused.ReadRefused.{ReadRefused}
+use Rattle.vc_reader.proofs.network.read_network.Goals as goal
+
+-- the refusal of a text that means a fault
+at-fault : (text : List ℕ) (d : Data) (w : Why) (path : List Step) (r : ReadRefused) → read text ≡ Some d → plan_of d ≡ Err (record { why = w; path = path }) → r ≡ refusal w path → Reads text (Err r)
+at-fault text d why.Missing path r t m e = rw e (record { why = why.Missing; path = path }, (d, t, m), refl)
+at-fault text d why.Kind path r t m e = rw e (record { why = why.Kind; path = path }, (d, t, m), refl)
+at-fault text d why.Range path r t m e = rw e (record { why = why.Range; path = path }, (d, t, m), refl)
+at-fault text d why.Unknown path r t m e = rw e (record { why = why.Unknown; path = path }, (d, t, m), refl)
+
+pub returns : goal.returns
+returns c =
+    at-fault c.args.text.now (view c.in_ok-value.value) c.in-Err-Fault.fault.why c.in-Err-Fault.fault.path c.at.result c.in_ok-value.ensures.ok
+    (rw c.in-Err-Fault.field-0-is at c.in-Err-Fault.ensures) c.at.ensures
