@@ -1,5 +1,6 @@
 use Rattle.std.proofs.Common.{◌≢◌, ℕ, arith}
 use Rattle.vc_plan.specs.declared.vlink.Vlink.{Vlink}
+use Rattle.vc_plan.proofs.Fitting.{in-half}
 use Rattle.vc_plan.proofs.Indexed.{there-at, each-more, each-all}
 use Rattle.vc_plan.proofs.checker.find_same_node.Goals as goal
 
@@ -20,3 +21,6 @@ loop-n-preserved c =
 
 pub returns : goal.returns
 returns c = each-all Differ c.args.vlinks.now c.loop-n.n (omega arith) c.loop-n.invariant
+
+pub overflow_cast-result : goal.overflow_cast-result
+overflow_cast-result c = in-half _ _ c.loop-n-test.true c.requires

@@ -1,4 +1,5 @@
 use Rattle.vc_plan.specs.Check.{same_way}
+use Rattle.vc_plan.proofs.Fitting.{in-half}
 use Rattle.vc_plan.proofs.Repeated.{asked, way-found, way-on, way-end}
 use Rattle.vc_plan.proofs.checker.find_way_twice.Goals as goal
 
@@ -14,3 +15,6 @@ loop-n-preserved c =
 
 pub returns : goal.returns
 returns c = way-end c.loop-n.n c.loop-n.seen.items c.args.channels.now _ c.loop-n-test.false c.loop-n.invariant
+
+pub overflow_cast-result : goal.overflow_cast-result
+overflow_cast-result c = in-half _ _ c.loop-n-test.true c.requires

@@ -4,6 +4,7 @@ use Rattle.std.proofs.lemmas.Option.{slice_get_within, slice_get-get_or}
 use Rattle.vc_plan.specs.declared.plan.Plan.{Plan}
 use Rattle.vc_plan.specs.declared.vlink.Vlink.{Vlink}
 use Rattle.vc_plan.specs.Delivery.{IsLabelledLink}
+use Rattle.vc_plan.proofs.Fitting.{in-half}
 use Rattle.vc_plan.proofs.labelling.labelling_fault.Goals as goal
 
 there-at : (vs : List Vlink) (k : ℕ) (v : Vlink) → k < length vs → v ≡ get_or vs k v → slice_get vs k ≡ Some v
@@ -38,3 +39,6 @@ loop-k-preserved c =
 pub returns-clause-labelled : goal.returns-clause-labelled
 returns-clause-labelled c = λ k v e.
     c.loop-k.invariant k v (omega (arith, slice_get_within c.args.vlinks.now k v e)) e
+
+pub overflow_cast-k : goal.overflow_cast-k
+overflow_cast-k c = in-half _ _ c.loop-k-test.true c.requires.few

@@ -3,6 +3,7 @@ use Rattle.vc_process.specs.Lawful.{Lawfully}
 use Rattle.vc_process.specs.Numbering.{written}
 use Rattle.vc_plan.specs.declared.node_plan.NodePlan.{NodePlan}
 use Rattle.vc_plan.specs.Limits.{process_names}
+use Rattle.vc_plan.proofs.Fitting.{in-byte}
 use Rattle.vc_plan.proofs.Indexed.{there-at, each-more, each-all}
 use Rattle.vc_plan.proofs.Limited.{passes}
 use Rattle.vc_plan.proofs.usage.find_usage.Goals as goal
@@ -44,3 +45,6 @@ pub returns-clause-lawful : goal.returns-clause-lawful
 returns-clause-lawful c =
     let l = ap length c.as_slice-node-items.ensures in
     each-all Keeps c.args.plan.now.nodes c.loop-n.n (omega (arith, l)) c.loop-n.invariant
+
+pub overflow_cast-result : goal.overflow_cast-result
+overflow_cast-result c = in-byte _ _ (rw c.as_slice-node-items.ensures at c.loop-n-test.true) c.requires.few
