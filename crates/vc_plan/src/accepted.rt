@@ -29,7 +29,6 @@ impl Accepted {
     ghost use Rattle.vc_plan.specs.Check.{PassesUse};
 
     /// A plan that is found to be in order.
-    #[tactic(auto, using(crate::proofs::Accepting::accepted))]
     pub(crate) fn of(plan: Plan) -> Accepted
         requires { PassesUse plan }
         ensures plan { result ≡ plan }
