@@ -105,7 +105,6 @@ impl<T: Named + Drop> Register<T> {
     }
 
     /// The register with one more thing at its end.
-    #[tactic(auto, using(crate::proofs::Numbers::position_of_more))]
     pub(crate) fn with(self, alloc: Global, item: T) -> Result<Register<T>, Memory>
         ensures { IfOk result (λ r. r ≡ self ++ item ∷ []) }
     {
