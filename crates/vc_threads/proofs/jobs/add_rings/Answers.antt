@@ -1,5 +1,6 @@
-use Rattle.std.proofs.Common.{length, slice_get, get_or, refl, ap, sym, subst, ◌∙◌, arith}
+use Rattle.std.proofs.Common.{length, slice_get, get_or, refl, ap, sym, subst, ◌∙◌, ◌≤◌, arith}
 use Rattle.std.proofs.lemmas.Option.{slice_get-get_or}
+use Rattle.vc_core.proofs.Leaving.{few}
 use Rattle.vc_plan.specs.declared.port.Port.{Port}
 use Rattle.vc_plan.specs.declared.port.Spot.TheVariants.{Node}
 use Rattle.vc_plan.specs.declared.port.Wire.{Wire}
@@ -63,3 +64,21 @@ returns-clause-wired c =
     let end = c.loop-wire.auto.wire-index-end in
     let same = ap length c.as_slice-wire-items.ensures in
     subst (λ n. AreWired c.args.plan.now n c.loop-wire.jobs.items) (omega (arith, all, end, same)) c.loop-wire.invariant.wired
+
+pub add_ring-requires-clause-nodes : goal.add_ring-requires-clause-nodes
+add_ring-requires-clause-nodes c = subst (λ n. n ≤ 32) (sym c.len-nodes.ensures) (few c.args.plan.now c.requires.plan).0
+
+pub add_ring-requires-in-loop-wire-clause-nodes : goal.add_ring-requires-in-loop-wire-clause-nodes
+add_ring-requires-in-loop-wire-clause-nodes c = subst (λ n. n ≤ 32) (sym c.len-nodes.ensures) (few c.args.plan.now c.requires.plan).0
+
+pub add_ring-requires-clause-fit : goal.add_ring-requires-clause-fit
+add_ring-requires-clause-fit c = c.loop-wire.invariant.fit
+
+pub add_ring-requires-in-loop-wire-clause-fit : goal.add_ring-requires-in-loop-wire-clause-fit
+add_ring-requires-in-loop-wire-clause-fit c = c.in_ok-add_ring.ensures.fit
+
+pub returns-clause-fit : goal.returns-clause-fit
+returns-clause-fit c = c.loop-wire.invariant.fit
+
+pub returns-clause-same : goal.returns-clause-same
+returns-clause-same c = c.loop-wire.invariant.same

@@ -1,5 +1,6 @@
-use Rattle.std.proofs.Common.{◌++◌, [], ◌∷◌, ◌+◌, length, slice_get, get_or, ap, sym, subst, ◌∙◌, arith, length-append}
+use Rattle.std.proofs.Common.{◌++◌, [], ◌∷◌, ◌+◌, ◌≤◌, length, slice_get, get_or, ap, sym, subst, ◌∙◌, arith, length-append}
 use Rattle.std.proofs.lemmas.Option.{slice_get-get_or}
+use Rattle.vc_core.proofs.Leaving.{few}
 use Rattle.vc_plan.specs.declared.port.Spot.TheVariants.{Node}
 use Rattle.vc_plan.specs.declared.port.Wire.{Wire}
 use Rattle.vc_threads.specs.Order.{IsPort, EndsTaken, MeetAt, LeftAt, LeftOn, OnWays}
@@ -81,3 +82,9 @@ returns c =
       count = omega (arith, all, end, same, count);
       left = subst (λ n. OnWays (LeftOn (length p.nodes) c.args.ends c.loop-wire.left.items) p.wires n) (omega (arith, all, end, same)) c.loop-wire.invariant.left;
     }
+
+pub take_way-requires-clause-nodes : goal.take_way-requires-clause-nodes
+take_way-requires-clause-nodes c = subst (λ n. n ≤ 32) (sym c.len-nodes.ensures) (few c.args.plan.now c.requires.plan).0
+
+pub take_way-requires-in-loop-wire-clause-nodes : goal.take_way-requires-in-loop-wire-clause-nodes
+take_way-requires-in-loop-wire-clause-nodes c = subst (λ n. n ≤ 32) (sym c.len-nodes.ensures) (few c.args.plan.now c.requires.plan).0

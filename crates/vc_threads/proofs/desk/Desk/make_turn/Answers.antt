@@ -119,3 +119,6 @@ returns-in-Ok-Put-clause-done c = λ plan n of.
 
 pub returns-then-is_same-clause-full : goal.returns-then-is_same-clause-full
 returns-then-is_same-clause-full c = tt
+
+pub returns-then-is_same-clause-stopped : goal.returns-then-is_same-clause-stopped
+returns-then-is_same-clause-stopped c = tt
