@@ -38,3 +38,21 @@ returns-clause-quiet c = λ p r quiet.
     let s = state_of c.args.network.now in
     one_acts p s (state_of c.take.new.self) (record { actor = c.args.actor; act = Take c.in-Some.link c.next_word-word.result }) c.next_word-word.new.self c.wake.new.self c.args.actor refl
     (c.take.ensures.makes p r.is c.if-not-take.false) c.wake.ensures.others (λ low. c.wake.ensures.it) (same_quiet p s c.args.seats.now c.next_word-word.new.self c.next_word-word.ensures quiet)
+
+pub returns-in_default-clause-few : goal.returns-in_default-clause-few
+returns-in_default-clause-few c = c.turn.ensures.few
+
+pub returns-in_default-clause-more : goal.returns-in_default-clause-more
+returns-in_default-clause-more c = c.turn.ensures.more
+
+pub returns-in_default-clause-same : goal.returns-in_default-clause-same
+returns-in_default-clause-same c = c.turn.ensures.same
+
+pub returns-in_default-clause-reached : goal.returns-in_default-clause-reached
+returns-in_default-clause-reached c = c.turn.ensures.reached
+
+pub returns-in_default-clause-still : goal.returns-in_default-clause-still
+returns-in_default-clause-still c = c.turn.ensures.still
+
+pub returns-in_default-clause-quiet : goal.returns-in_default-clause-quiet
+returns-in_default-clause-quiet c = c.turn.ensures.quiet

@@ -1,4 +1,4 @@
-use Rattle.std.proofs.Common.{◌≡◌, ◌⊎◌, [], length, sym, subst}
+use Rattle.std.proofs.Common.{◌≡◌, ◌⊎◌, [], ap, arith, length, sym, subst}
 use Rattle.vc_core.specs.Replaying.{Reached, Replays}
 use Rattle.vc_core.specs.State.{state_of}
 use Rattle.vc_core.specs.Turns.{IsAtRest}
@@ -23,3 +23,15 @@ returns-clause-closes c =
     subst (λ z. Closes p z (length c.run_rounds.new.events) c.args.limit c.in_ok-close.close) (sym c.in_ok-close.ensures.same)
     (subst (λ n. Closes p (state_of c.run_rounds.new.network) n c.args.limit c.in_ok-close.close) c.len.ensures
     (c.in_ok-close.ensures.closes p (c.in_ok-run_rounds.ensures.reached p begun).is (subst (λ n. (n ≡ c.args.limit) ⊎ IsAtRest p (state_of c.run_rounds.new.network)) (sym c.len.ensures) (c.in_ok-run_rounds.ensures.ends p begun (none_quiet p s c.in_ok-seats.seats c.in_ok-seats.ensures)))))
+
+pub run_rounds-requires : goal.run_rounds-requires
+run_rounds-requires c = let none = ap length c.new-events.ensures in omega (arith, none)
+
+pub close_of-requires : goal.close_of-requires
+close_of-requires c =
+    let few = c.in_ok-run_rounds.ensures.few in
+    let is = c.len.ensures in
+    omega (arith, few, is)
+
+pub returns-clause-few : goal.returns-clause-few
+returns-clause-few c = c.in_ok-run_rounds.ensures.few

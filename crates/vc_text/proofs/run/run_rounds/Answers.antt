@@ -16,3 +16,38 @@ loop-preserved c =
       quiet = λ p r q. n.quiet p (inv.reached p r) (inv.quiet p r q);
       more = elim (n.more (ap Ok c.if-not-branch.false)) [ inl all ↦ omega arith | inr less ↦ omega arith ];
     }
+
+pub loop-init : goal.loop-init
+loop-init c = record { few = c.requires; reached = λ p r. r; quiet = λ p r q. q; more = omega arith }
+
+pub returns-then-not-branch-clause-few : goal.returns-then-not-branch-clause-few
+returns-then-not-branch-clause-few c = c.in_ok-round.ensures.few
+
+pub returns-then-not-branch-clause-reached : goal.returns-then-not-branch-clause-reached
+returns-then-not-branch-clause-reached c = λ p r. c.in_ok-round.ensures.reached p (c.loop.invariant.reached p r)
+
+pub returns-then-len-limit-clause-few : goal.returns-then-len-limit-clause-few
+returns-then-len-limit-clause-few c = c.in_ok-round.ensures.few
+
+pub returns-then-len-limit-clause-reached : goal.returns-then-len-limit-clause-reached
+returns-then-len-limit-clause-reached c = λ p r. c.in_ok-round.ensures.reached p (c.loop.invariant.reached p r)
+
+pub returns-then-len-limit-clause-ends : goal.returns-then-len-limit-clause-ends
+returns-then-len-limit-clause-ends c = λ p r q.
+    let few = c.in_ok-round.ensures.few in
+    let is = c.len.ensures in
+    let all = c.if-len-limit.true in
+    inl (omega (arith, few, is, all))
+
+pub returns-clause-few : goal.returns-clause-few
+returns-clause-few c = c.loop.invariant.few
+
+pub returns-clause-reached : goal.returns-clause-reached
+returns-clause-reached c = c.loop.invariant.reached
+
+pub returns-clause-ends : goal.returns-clause-ends
+returns-clause-ends c = λ p r q.
+    let few = c.loop.invariant.few in
+    let more = c.loop.invariant.more in
+    let all = c.loop-test.false in
+    inl (omega (arith, few, more, all))
