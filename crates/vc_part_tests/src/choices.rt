@@ -17,7 +17,7 @@ const SECOND: Move = Move::Choose {
     chan: 3,
 };
 
-const ROWS: [Row; 9] = [
+const ROWS: &[Row] = &[
     Row {
         shows: "IF passes a branch whose condition is false",
         process: r#"{"if":[[["<","x",0],"stop"],[true,"skip"]]}"#,
@@ -73,6 +73,6 @@ const ROWS: [Row; 9] = [
 
 #[test]
 fn choices_run(rt: HostRuntime) -> Result<(), Fail> {
-    assert_eq!(rt; first_wrong_row(rt.alloc(), &ROWS)?, None);
+    assert_eq!(rt; first_wrong_row(rt.alloc(), ROWS)?, None);
     Ok(())
 }

@@ -1,10 +1,25 @@
 //! What expressions and conditions are worth, as an output or a WHILE shows it.
 use crate::play::{Step, takes_all};
+use std::alloc::Global;
 use std::test::Fail;
 use vc_occam::Move;
 
+/// The first of these processes that does not take these steps.
+fn first_other<'a>(
+    alloc: Global,
+    processes: &[&'a str],
+    steps: &[Step],
+) -> Result<Option<&'a str>, Fail> {
+    for process in processes {
+        if !takes_all(alloc, process, steps)? {
+            return Ok(Some(process));
+        }
+    }
+    Ok(None)
+}
+
 /// Outputs, and the numbers that they send.
-const RESULTS: [(&str, i64); 7] = [
+const RESULTS: &[(&str, i64)] = &[
     (r#"{"out":["c0",["+",2,-5]]}"#, -3),
     (r#"{"out":["c0",["-",2,5]]}"#, -3),
     (r#"{"out":["c0",["*",-3,5]]}"#, -15),
@@ -19,14 +34,14 @@ fn quotients_are_cut_toward_zero_and_remainders_have_the_left_sign(
     rt: HostRuntime,
 ) -> Result<(), Fail> {
     for (process, number) in RESULTS {
-        let steps = [Step::SendsNumber(0, 0, number)];
+        let steps = [Step::SendsNumber(0, 0, *number)];
         assert!(rt; takes_all(rt.alloc(), process, &steps)?, "{process}");
     }
     Ok(())
 }
 
 /// Outputs of what is past the greatest number, below the least one, or divided by zero.
-const FAULTS: [&str; 7] = [
+const FAULTS: &[&str] = &[
     r#"{"out":["c0",["+",9223372036854775807,1]]}"#,
     r#"{"out":["c0",["-",-9223372036854775808,1]]}"#,
     r#"{"out":["c0",["*",4294967296,2147483648]]}"#,
@@ -38,15 +53,13 @@ const FAULTS: [&str; 7] = [
 
 #[test]
 fn what_has_no_result_is_a_fault(rt: HostRuntime) -> Result<(), Fail> {
-    let steps = [Step::Quietly(&[0]), Step::Lists(&[])];
-    for process in FAULTS {
-        assert!(rt; takes_all(rt.alloc(), process, &steps)?, "{process}");
-    }
+    let stops = &[Step::Quietly(&[0]), Step::Lists(&[])];
+    assert_eq!(rt; first_other(rt.alloc(), FAULTS, stops)?, None);
     Ok(())
 }
 
 /// WHILEs whose condition is true: each comparison, and AND and OR whose left side decides or leaves it to the right one.
-const TURN: [&str; 8] = [
+const TURN: &[&str] = &[
     r#"{"while":[["=",0,0],"skip"]}"#,
     r#"{"while":[["<>",1,0],"skip"]}"#,
     r#"{"while":[["<",-1,0],"skip"]}"#,
@@ -58,7 +71,7 @@ const TURN: [&str; 8] = [
 ];
 
 /// WHILEs whose condition is false.
-const END: [&str; 7] = [
+const END: &[&str] = &[
     r#"{"while":[["=",1,0],"skip"]}"#,
     r#"{"while":[["<>",0,0],"skip"]}"#,
     r#"{"while":[["<",0,0],"skip"]}"#,
@@ -72,14 +85,10 @@ const END: [&str; 7] = [
 fn comparisons_are_those_of_whole_numbers_and_the_left_side_decides_first(
     rt: HostRuntime,
 ) -> Result<(), Fail> {
-    let turns = [Step::Quietly(&[0]), Step::Lists(&[Move::Quiet { site: 1 }])];
-    for process in TURN {
-        assert!(rt; takes_all(rt.alloc(), process, &turns)?, "{process}");
-    }
-    let ends = [Step::Quietly(&[0]), Step::Ends];
-    for process in END {
-        assert!(rt; takes_all(rt.alloc(), process, &ends)?, "{process}");
-    }
+    let turns = &[Step::Quietly(&[0]), Step::Lists(&[Move::Quiet { site: 1 }])];
+    assert_eq!(rt; first_other(rt.alloc(), TURN, turns)?, None);
+    let ends = &[Step::Quietly(&[0]), Step::Ends];
+    assert_eq!(rt; first_other(rt.alloc(), END, ends)?, None);
     Ok(())
 }
 

@@ -21,16 +21,23 @@ fn rows(alloc: Global, second: u32) -> Result<Items<Row>, Fail> {
     Ok(Items::from_slice(alloc, &[out(0, 10, 0, 0), out(second, 20, 4, 7), portal])?)
 }
 
+/// Headers, and the actions of their intervals.
+const FOUND: &[(u16, Option<Action>)] = &[
+    (0, Some(Action::Out { first: 0, last: 0 })),
+    (9, Some(Action::Out { first: 0, last: 0 })),
+    (10, Some(Action::Out { first: 4, last: 7 })),
+    (20, Some(Action::Portal)),
+    (21, None),
+];
+
 #[test]
 fn finds_the_action_of_each_interval(rt: HostRuntime) -> Result<(), Fail> {
     let table = Table::new(rows(rt.alloc(), 10)?)
         .ok()
         .ok_or("a lawful table")?;
-    assert_eq!(rt; table.find(0), Some(Action::Out { first: 0, last: 0 }));
-    assert_eq!(rt; table.find(9), Some(Action::Out { first: 0, last: 0 }));
-    assert_eq!(rt; table.find(10), Some(Action::Out { first: 4, last: 7 }));
-    assert_eq!(rt; table.find(20), Some(Action::Portal));
-    assert_eq!(rt; table.find(21), None);
+    for (header, action) in FOUND {
+        assert_eq!(rt; table.find(*header), *action, "header {header}");
+    }
     Ok(())
 }
 
@@ -43,17 +50,17 @@ fn a_table_without_rows_finds_nothing(rt: HostRuntime) -> Result<(), Fail> {
     Ok(())
 }
 
+/// Why these are no table's rows.
+fn fault(rows: Items<Row>) -> Option<TableFault> {
+    Table::new(rows).err()
+}
+
 #[test]
 fn refuses_gaps_and_overlaps(rt: HostRuntime) -> Result<(), Fail> {
-    assert_eq!(rt;
-        Table::new(rows(rt.alloc(), 11)?).err(),
-        Some(TableFault::Gap)
-    );
-    assert_eq!(rt;
-        Table::new(rows(rt.alloc(), 9)?).err(),
-        Some(TableFault::NotRising)
-    );
-    let wide = Items::from_slice(rt.alloc(), &[out(0, 10, 30, 32)])?;
-    assert_eq!(rt; Table::new(wide).err(), Some(TableFault::BadLink));
+    let alloc = rt.alloc();
+    assert_eq!(rt; fault(rows(alloc, 11)?), Some(TableFault::Gap));
+    assert_eq!(rt; fault(rows(alloc, 9)?), Some(TableFault::NotRising));
+    let wide = Items::from_slice(alloc, &[out(0, 10, 30, 32)])?;
+    assert_eq!(rt; fault(wide), Some(TableFault::BadLink));
     Ok(())
 }

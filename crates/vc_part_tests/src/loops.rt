@@ -9,7 +9,7 @@ const OFFER: Move = Move::Offer { site: 1, chan: 0 };
 /// A counted SEQ at site 1 stops at once.
 const STOPS: &[Step] = &[Step::Quietly(&[1]), Step::Lists(&[])];
 
-const ROWS: [Row; 10] = [
+const ROWS: &[Row] = &[
     Row {
         shows: "WHILE goes on as long as its condition is true",
         process: r#"{"while":[["<","x",2],{"set":["x",["+","x",1]]}]}"#,
@@ -77,6 +77,6 @@ const ROWS: [Row; 10] = [
 
 #[test]
 fn loops_run(rt: HostRuntime) -> Result<(), Fail> {
-    assert_eq!(rt; first_wrong_row(rt.alloc(), &ROWS)?, None);
+    assert_eq!(rt; first_wrong_row(rt.alloc(), ROWS)?, None);
     Ok(())
 }

@@ -19,7 +19,7 @@ const WITH_GUARD: Move = Move::Inner {
     chan: 8,
 };
 
-const ROWS: [Row; 5] = [
+const ROWS: &[Row] = &[
     Row {
         shows: "an output meets an input in one step",
         process: r#"{"par":[{"out":["c8",7]},{"seq":[{"in":["c8","x"]},{"out":["c0","x"]}]}]}"#,
@@ -66,6 +66,6 @@ const ROWS: [Row; 5] = [
 
 #[test]
 fn meetings_run(rt: HostRuntime) -> Result<(), Fail> {
-    assert_eq!(rt; first_wrong_row(rt.alloc(), &ROWS)?, None);
+    assert_eq!(rt; first_wrong_row(rt.alloc(), ROWS)?, None);
     Ok(())
 }

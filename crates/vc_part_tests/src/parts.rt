@@ -3,7 +3,7 @@ use crate::play::{Row, Step, first_wrong_row};
 use std::test::Fail;
 use vc_occam::Move;
 
-const ROWS: [Row; 4] = [
+const ROWS: &[Row] = &[
     Row {
         shows: "a PAR may begin with each of its parts",
         process: r#"{"par":[{"out":["c1",7]},{"out":["c2",7]}]}"#,
@@ -48,6 +48,6 @@ const ROWS: [Row; 4] = [
 
 #[test]
 fn parts_run(rt: HostRuntime) -> Result<(), Fail> {
-    assert_eq!(rt; first_wrong_row(rt.alloc(), &ROWS)?, None);
+    assert_eq!(rt; first_wrong_row(rt.alloc(), ROWS)?, None);
     Ok(())
 }

@@ -1,10 +1,12 @@
+//! Tokens of packets, there and back.
+use crate::packets::is_packet;
 use std::alloc::Global;
 use std::test::Fail;
 use vc_packets::{Mark, Memory, Packet, ack};
 use vc_tokens::{Assembler, Decoder, Encoder, Refused, Token, Why, encode};
 
 /// A stream of two packets: an acknowledge and a one-byte message.
-const STREAM: [Token; 7] = [
+const STREAM: &[Token] = &[
     Token::Byte(0),
     Token::Byte(1),
     Token::Eop,
@@ -18,23 +20,21 @@ const STREAM: [Token; 7] = [
 fn are_of_the_stream(packets: &[Packet]) -> bool {
     match packets {
         [first, second] => {
-            first.mark == Mark::Eop
-                && first.body.as_slice() == [0, 1].as_slice()
-                && second.mark == Mark::Eom
-                && second.body.as_slice() == [0, 1, 104].as_slice()
+            is_packet(first, &[0, 1], Mark::Eop) && is_packet(second, &[0, 1, 104], Mark::Eom)
         }
         _ => false,
     }
 }
 
+const ACKNOWLEDGE: &[Token] = &[Token::Byte(0), Token::Byte(1), Token::Eop];
+
 #[test]
 fn an_acknowledge_is_two_bytes_and_eop(rt: HostRuntime) -> Result<(), Fail> {
     let packet = ack(rt.alloc(), &[1])?;
-    let wanted = [Token::Byte(0), Token::Byte(1), Token::Eop];
-    assert_eq!(rt; encode(rt.alloc(), &packet)?.as_slice(), wanted.as_slice());
+    assert_eq!(rt; encode(rt.alloc(), &packet)?.as_slice(), ACKNOWLEDGE);
     let mut encoder = Encoder::new(packet);
-    for token in wanted {
-        assert_eq!(rt; encoder.encode_next(), Some(token));
+    for token in ACKNOWLEDGE {
+        assert_eq!(rt; encoder.encode_next(), Some(*token));
     }
     assert_eq!(rt; encoder.encode_next(), None);
     Ok(())
@@ -76,16 +76,28 @@ fn every_cutting_gives_the_same_packets(rt: HostRuntime) {
     }
 }
 
+/// How many packets ended, where the feed was not refused.
+fn count(fed: Result<Vec<Packet>, Refused>) -> Option<usize> {
+    match fed {
+        Ok(packets) => Some(packets.len()),
+        Err(_) => None,
+    }
+}
+
+/// How many packets end with as many bytes as the limit, and how many with the mark behind them.
+fn fed_full(alloc: Global, limit: usize) -> Result<(Option<usize>, Option<usize>), Fail> {
+    let mut decoder = Decoder::new(alloc, limit)?;
+    let full = vec![in alloc; Token::Byte(7); limit]?;
+    Ok((
+        count(decoder.feed(&full)),
+        count(decoder.feed(&[Token::Eom])),
+    ))
+}
+
 #[test]
 fn a_body_may_have_as_many_bytes_as_the_limit(rt: HostRuntime) -> Result<(), Fail> {
     for limit in [40, 44] {
-        let mut decoder = Decoder::new(rt.alloc(), limit)?;
-        let full = vec![in rt.alloc(); Token::Byte(7); limit]?;
-        assert_eq!(rt; decoder.feed(&full).map_or(9, |packets| packets.len()), 0);
-        let packets = decoder
-            .feed(&[Token::Eom])
-            .map_or(9, |packets| packets.len());
-        assert_eq!(rt; packets, 1);
+        assert_eq!(rt; fed_full(rt.alloc(), limit)?, (Some(0), Some(1)));
     }
     Ok(())
 }
@@ -98,19 +110,37 @@ fn refusal(fed: Result<Vec<Packet>, Refused>) -> Option<(Why, usize)> {
     }
 }
 
+/// Why a byte past the limit is refused, and then a mark, and a feed of nothing.
+fn fed_too_long(alloc: Global, limit: usize) -> Result<[Option<(Why, usize)>; 3], Fail> {
+    let mut decoder = Decoder::new(alloc, limit)?;
+    let long = vec![in alloc; Token::Byte(7); limit + 1]?;
+    Ok([
+        refusal(decoder.feed(&long)),
+        refusal(decoder.feed(&[Token::Eop])),
+        refusal(decoder.feed(&[])),
+    ])
+}
+
 #[test]
 fn a_byte_past_the_limit_is_refused_for_good(rt: HostRuntime) -> Result<(), Fail> {
     for limit in [40, 44] {
-        let mut decoder = Decoder::new(rt.alloc(), limit)?;
-        let long = vec![in rt.alloc(); Token::Byte(7); limit + 1]?;
-        assert_eq!(rt; refusal(decoder.feed(&long)), Some((Why::TooLong, 0)));
         assert_eq!(rt;
-            refusal(decoder.feed(&[Token::Eop])),
-            Some((Why::TooLong, 0))
+            fed_too_long(rt.alloc(), limit)?,
+            [Some((Why::TooLong, 0)); 3]
         );
-        assert_eq!(rt; refusal(decoder.feed(&[])), Some((Why::TooLong, 0)));
     }
     Ok(())
+}
+
+/// Whether a feed was refused for a stray token behind the acknowledge for block 1.
+fn is_stray_behind_an_acknowledge(fed: Result<Vec<Packet>, Refused>) -> bool {
+    match fed {
+        Ok(_) => false,
+        Err(refused) => match refused.before.as_slice() {
+            [packet] => refused.why == Why::StrayFct && is_packet(packet, &[0, 1], Mark::Eop),
+            _ => false,
+        },
+    }
 }
 
 #[test]
@@ -123,15 +153,7 @@ fn a_stray_fct_is_refused_behind_the_packets_before_it(rt: HostRuntime) -> Resul
         Token::Byte(0),
         Token::Fct,
     ];
-    match decoder.feed(&stream) {
-        Ok(_) => assert!(rt; false, "the FCT was taken"),
-        Err(refused) => {
-            assert_eq!(rt; refused.why, Why::StrayFct);
-            assert_eq!(rt; refused.before.len(), 1);
-            assert_eq!(rt; refused.before[0].body.as_slice(), [0, 1].as_slice());
-            assert_eq!(rt; refused.before[0].mark, Mark::Eop);
-        }
-    }
+    assert!(rt; is_stray_behind_an_acknowledge(decoder.feed(&stream)));
     assert_eq!(rt;
         refusal(decoder.feed(&[Token::Eop])),
         Some((Why::StrayFct, 0))
@@ -142,15 +164,9 @@ fn a_stray_fct_is_refused_behind_the_packets_before_it(rt: HostRuntime) -> Resul
 #[test]
 fn an_assembler_drops_bytes_past_its_limit(rt: HostRuntime) -> Result<(), Fail> {
     let mut assembler = Assembler::new(rt.alloc(), 2)?;
-    assert!(rt; assembler.is_empty());
-    assert!(rt; assembler.push(1));
-    assert!(rt; assembler.push(2));
-    assert!(rt; assembler.is_full());
-    assert!(rt; !assembler.push(3));
-    assert_eq!(rt; assembler.len(), 2);
+    assert!(rt; assembler.is_empty() && assembler.push(1) && assembler.push(2));
+    assert!(rt; assembler.is_full() && !assembler.push(3) && assembler.len() == 2);
     let packet = assembler.take(Mark::Eom)?;
-    assert_eq!(rt; packet.body.as_slice(), [1, 2].as_slice());
-    assert_eq!(rt; packet.mark, Mark::Eom);
-    assert!(rt; assembler.is_empty());
+    assert!(rt; is_packet(&packet, &[1, 2], Mark::Eom) && assembler.is_empty());
     Ok(())
 }

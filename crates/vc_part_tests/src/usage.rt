@@ -5,7 +5,7 @@ use std::test::Fail;
 use vc_occam::{UseFault, check_use};
 
 /// What each row shows, a process, and what the check of its use answers.
-const ROWS: [(&str, &str, Result<(), UseFault>); 9] = [
+const ROWS: &[(&str, &str, Result<(), UseFault>)] = &[
     (
         "the least channel is told",
         r#"{"par":[{"seq":[{"out":["c9",1]},{"out":["c4",1]}]},{"seq":[{"out":["c4",1]},{"out":["c9",1]}]}]}"#,
@@ -63,7 +63,7 @@ fn used(alloc: Global, process: &str) -> Result<Result<(), UseFault>, Fail> {
 #[test]
 fn the_first_offender_is_told(rt: HostRuntime) -> Result<(), Fail> {
     for (shows, process, answer) in ROWS {
-        assert_eq!(rt; used(rt.alloc(), process)?, answer, "{shows}");
+        assert_eq!(rt; used(rt.alloc(), process)?, *answer, "{shows}");
     }
     Ok(())
 }

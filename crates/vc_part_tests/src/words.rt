@@ -3,7 +3,7 @@ use crate::play::{Row, Step, first_wrong_row};
 use std::test::Fail;
 use vc_occam::Move;
 
-const ROWS: [Row; 11] = [
+const ROWS: &[Row] = &[
     Row {
         shows: "SKIP ends",
         process: r#""skip""#,
@@ -80,6 +80,6 @@ const ROWS: [Row; 11] = [
 
 #[test]
 fn words_run(rt: HostRuntime) -> Result<(), Fail> {
-    assert_eq!(rt; first_wrong_row(rt.alloc(), &ROWS)?, None);
+    assert_eq!(rt; first_wrong_row(rt.alloc(), ROWS)?, None);
     Ok(())
 }
