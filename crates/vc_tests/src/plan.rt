@@ -57,33 +57,36 @@ fn told(alloc: Global, text: &str) -> Result<String, Fail> {
     Ok(format!(in alloc; "{why:?}")?)
 }
 
+/// What a row shows, a network, and all that its refusal tells.
+const REFUSED: &[(&str, &str, &str)] = &[
+    (
+        "a header too few leaves none at the node",
+        switched!("[10]"),
+        "StackEmpty(PathFault { vlink: 0, from_a: true, start: Port { spot: Node(0), link: 0 }, hops: Items { items: [Hop { switch: 0, value: None, link: 4 }, Hop { switch: 1, value: None, link: 0 }] }, last: Node(1), value: None })",
+    ),
+    (
+        "a header outside the table has no interval",
+        switched!("[20,1]"),
+        "NoInterval(PathFault { vlink: 0, from_a: true, start: Port { spot: Node(0), link: 0 }, hops: Items { items: [] }, last: Switch(0), value: None })",
+    ),
+    (
+        "a block is of one end",
+        direct!(
+            r#"{"name":"v","a":["a",0,1,[1]],"b":["b",0,1,[1]]},{"name":"w","a":["a",0,1,[1]],"b":["b",0,1,[1]]}"#
+        ),
+        "BlockTwice { node: 0, block: 1 }",
+    ),
+    (
+        "a route has headers",
+        direct!(r#"{"name":"v","a":["a",0,1,[]],"b":["b",0,1,[1]]}"#),
+        "Limit(Route)",
+    ),
+];
+
 #[test]
 fn networks_are_refused_for_their_cause(rt: HostRuntime) -> Result<(), Fail> {
-    for (shows, text, why) in [
-        (
-            "a header too few leaves none at the node",
-            switched!("[10]"),
-            "StackEmpty(PathFault { vlink: 0, from_a: true, start: Port { spot: Node(0), link: 0 }, hops: Items { items: [Hop { switch: 0, value: None, link: 4 }, Hop { switch: 1, value: None, link: 0 }] }, last: Node(1), value: None })",
-        ),
-        (
-            "a header outside the table has no interval",
-            switched!("[20,1]"),
-            "NoInterval(PathFault { vlink: 0, from_a: true, start: Port { spot: Node(0), link: 0 }, hops: Items { items: [] }, last: Switch(0), value: None })",
-        ),
-        (
-            "a block is of one end",
-            direct!(
-                r#"{"name":"v","a":["a",0,1,[1]],"b":["b",0,1,[1]]},{"name":"w","a":["a",0,1,[1]],"b":["b",0,1,[1]]}"#
-            ),
-            "BlockTwice { node: 0, block: 1 }",
-        ),
-        (
-            "a route has headers",
-            direct!(r#"{"name":"v","a":["a",0,1,[]],"b":["b",0,1,[1]]}"#),
-            "Limit(Route)",
-        ),
-    ] {
-        assert_eq!(rt; told(rt.alloc(), text)?.as_str(), why, "{shows}");
+    for (shows, text, why) in REFUSED {
+        assert_eq!(rt; told(rt.alloc(), text)?.as_str(), *why, "{shows}");
     }
     Ok(())
 }

@@ -93,25 +93,22 @@ fn refused_at(alloc: Global, text: &str, why: Why, steps: &[Step]) -> bool {
     }
 }
 
-const NOWHERE: &[Step] = &[];
-
 const VERSION: &[Step] = &[Step::Field(Word::Version)];
 
 const NODES: &[Step] = &[Step::Field(Word::Nodes)];
 
+/// Texts, and what is wrong first with each, and where.
+const FAULTS: &[(&str, Why, &[Step])] = &[
+    ("[]", Why::Kind, &[]),
+    (r#"{"version":1,"nodes":[],"extra":0}"#, Why::Unknown, &[]),
+    (r#"{"version":3,"nodes":[]}"#, Why::Range, VERSION),
+    (r#"{"version":1.5,"nodes":[]}"#, Why::Kind, VERSION),
+    (r#"{"version":1}"#, Why::Missing, NODES),
+];
+
 #[test]
 fn names_the_first_fault(rt: HostRuntime) {
-    for (text, why, steps) in [
-        ("[]", Why::Kind, NOWHERE),
-        (
-            r#"{"version":1,"nodes":[],"extra":0}"#,
-            Why::Unknown,
-            NOWHERE,
-        ),
-        (r#"{"version":3,"nodes":[]}"#, Why::Range, VERSION),
-        (r#"{"version":1.5,"nodes":[]}"#, Why::Kind, VERSION),
-        (r#"{"version":1}"#, Why::Missing, NODES),
-    ] {
-        assert!(rt; refused_at(rt.alloc(), text, why, steps), "{text}");
+    for (text, why, steps) in FAULTS {
+        assert!(rt; refused_at(rt.alloc(), text, *why, steps), "{text}");
     }
 }

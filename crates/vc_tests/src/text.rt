@@ -98,26 +98,29 @@ fn is_refused_as(alloc: Global, text: &str, line: &str) -> bool {
     }
 }
 
+/// Texts that are refused, and the line of each refusal.
+const REFUSED: &[(&str, &str)] = &[
+    (r#"{"version":1"#, "refused 20 Json\n"),
+    (r#"{"version":1}"#, "refused 21 Missing /nodes\n"),
+    ("[]", "refused 22 Kind /\n"),
+    (r#"{"version":3,"nodes":[]}"#, "refused 23 Range /version\n"),
+    (
+        r#"{"version":1,"nodes":[],"extra":0}"#,
+        "refused 24 Unknown /\n",
+    ),
+    (
+        r#"{"version":1,"nodes":[{"name":"a","process":"skip"},{"name":"b","vars":[["m","bytes"]],"process":{"in":["q","m"]}}]}"#,
+        "refused 24 Unknown /nodes/1/process/in/0\n",
+    ),
+    (
+        r#"{"version":1,"nodes":[{"name":"a","process":{"out":["c",{"fill":[7,65536]}]}}],"channels":[{"name":"c","kind":"bytes","node":"a"}]}"#,
+        "refused 23 Range /nodes/0/process/out/1/fill/1\n",
+    ),
+];
+
 #[test]
 fn names_the_place_of_a_fault(rt: HostRuntime) {
-    for (text, line) in [
-        (r#"{"version":1"#, "refused 20 Json\n"),
-        (r#"{"version":1}"#, "refused 21 Missing /nodes\n"),
-        ("[]", "refused 22 Kind /\n"),
-        (r#"{"version":3,"nodes":[]}"#, "refused 23 Range /version\n"),
-        (
-            r#"{"version":1,"nodes":[],"extra":0}"#,
-            "refused 24 Unknown /\n",
-        ),
-        (
-            r#"{"version":1,"nodes":[{"name":"a","process":"skip"},{"name":"b","vars":[["m","bytes"]],"process":{"in":["q","m"]}}]}"#,
-            "refused 24 Unknown /nodes/1/process/in/0\n",
-        ),
-        (
-            r#"{"version":1,"nodes":[{"name":"a","process":{"out":["c",{"fill":[7,65536]}]}}],"channels":[{"name":"c","kind":"bytes","node":"a"}]}"#,
-            "refused 23 Range /nodes/0/process/out/1/fill/1\n",
-        ),
-    ] {
+    for (text, line) in REFUSED {
         assert!(rt; is_refused_as(rt.alloc(), text, line), "{line}");
     }
 }

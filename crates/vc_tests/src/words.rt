@@ -84,7 +84,7 @@ const BOTH_WAYS: &str =
 const INSIDE: &str =
     r#"{"version":1,"nodes":[{"name":"a","vars":[["x","int"]],"process":{"par":[{"out":["i",5]},{"in":["i","x"]}]}}],"channels":[{"name":"i","kind":"int","node":"a"}]}"#;
 
-const ROWS: [Row; 29] = [
+const ROWS: &[Row] = &[
     Row {
         shows: "a message is taken and finished",
         words: STEP,
@@ -325,7 +325,7 @@ fn holds<T: Threads + Wait>(rt: &T, alloc: Global, row: Row) -> bool {
 #[test]
 fn words_ask_for_what_is_written(rt: HostRuntime) {
     for row in ROWS {
-        assert!(rt; holds(&rt, rt.alloc(), row), "{}", row.shows);
+        assert!(rt; holds(&rt, rt.alloc(), *row), "{}", row.shows);
     }
 }
 
@@ -370,14 +370,17 @@ fn read_fails<T: Threads + Wait>(
     (status, printed)
 }
 
+/// Lines that ask for nothing that the program does.
+const BAD_LINES: &[&[&str]] = &[
+    &["vcnet", "walk", ""],
+    &["vcnet", "step", "--limit"],
+    &["vcnet", "step", "--limit=1000000001"],
+    &["vcnet"],
+];
+
 #[test]
 fn a_bad_line_reads_nothing(rt: HostRuntime) {
-    for words in [
-        ["vcnet", "walk", ""].as_slice(),
-        ["vcnet", "step", "--limit"].as_slice(),
-        ["vcnet", "step", "--limit=1000000001"].as_slice(),
-        ["vcnet"].as_slice(),
-    ] {
+    for words in BAD_LINES {
         let (status, _) = read_fails(&rt, rt.alloc(), words, 0);
         assert_eq!(rt; status, 5);
     }
