@@ -80,23 +80,27 @@ fn run_definition<'a>(alloc: Global) -> Result<Command<'a>, AllocError> {
         .arg(seed)
 }
 
-/// What the program takes.
-fn definition<'a>(alloc: Global) -> Result<Command<'a>, AllocError> {
+/// The subcommand that runs the network event by event.
+fn step_definition<'a>(alloc: Global) -> Result<Command<'a>, AllocError> {
     let limit = Arg::new(alloc, "limit")
         .long("limit")
         .value_name("N")
         .help("Makes at most so many events")
         .value_parser(value_parser!(u64).range(0..=1_000_000_000))
         .default_value("1000000");
-    let check = Command::new(alloc, "check").about("Checks the network on standard input");
-    let step = Command::new(alloc, "step")
+    Command::new(alloc, "step")
         .about("Runs the network on standard input and prints its traffic")
-        .arg(limit)?;
+        .arg(limit)
+}
+
+/// What the program takes.
+fn definition<'a>(alloc: Global) -> Result<Command<'a>, AllocError> {
+    let check = Command::new(alloc, "check").about("Checks the network on standard input");
     Command::new(alloc, "vcnet")
         .about("The virtual channel network of the T9000 and the C104, with occam processes")
         .subcommand_required(true)
         .subcommand(check)?
-        .subcommand(step)?
+        .subcommand(step_definition(alloc)?)?
         .subcommand(run_definition(alloc)?)
 }
 
