@@ -31,9 +31,17 @@ returns-in-Ok g c =
     let p = c.in_ok-accepted.accepted in
     let ran = c.in_ok-network.ensures in
     let s = state_of c.in_ok-network.network in
-    let text = traffic (channels_of p s) c.in_ok-network.report.close in
-    (p, c.in_ok-accepted.ensures, ran.few, (s, ran.replays, ran.closes,
-    subst (Writes (g.W.Write.contents c.args.writer.now) (g.W.Write.contents c.write_traffic.new.writer) text) c.in-Ok.is (c.write_traffic.ensures p ran.replays.is)))
+    let text = traffic (channels_of p s) c.in_ok-network.report.close in (
+      p,
+      c.in_ok-accepted.ensures,
+      ran.few,
+      (
+        s,
+        ran.replays,
+        ran.closes,
+        subst (Writes (g.W.Write.contents c.args.writer.now) (g.W.Write.contents c.write_traffic.new.writer) text) c.in-Ok.is (c.write_traffic.ensures p ran.replays.is),
+      ),
+    )
 
 pub returns : goal.returns
 returns g c =

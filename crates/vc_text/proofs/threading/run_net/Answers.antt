@@ -7,9 +7,12 @@ use Rattle.vc_text.proofs.threading.run_net.Goals as goal
 pub returns-in-Ok : goal.returns-in-Ok
 returns-in-Ok g c =
     let p = c.in_ok-accepted.accepted in
-    let r = c.in_ok-report.report in
-    (p, c.in_ok-accepted.ensures, c.in_ok-report.ensures,
-    subst (Writes (g.W.Write.contents c.args.writer.now) (g.W.Write.contents c.write_traffic.new.writer) (report_text p r)) c.in-Ok.is (c.write_traffic.ensures p c.in_ok-report.ensures.replays.is))
+    let r = c.in_ok-report.report in (
+      p,
+      c.in_ok-accepted.ensures,
+      c.in_ok-report.ensures,
+      subst (Writes (g.W.Write.contents c.args.writer.now) (g.W.Write.contents c.write_traffic.new.writer) (report_text p r)) c.in-Ok.is (c.write_traffic.ensures p c.in_ok-report.ensures.replays.is),
+    )
 
 pub returns : goal.returns
 returns g c =
