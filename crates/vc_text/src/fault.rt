@@ -9,6 +9,7 @@ use vc_reader::ReadRefused;
 use vc_threads::ThreadFault;
 
 /// Why a run gives no result.
+#[derive(Drop)]
 pub enum RunFault {
     /// The reader failed, had too many bytes, or didn't end.
     Read,
@@ -22,16 +23,6 @@ pub enum RunFault {
     Threads(ThreadFault),
     /// There was no memory.
     Memory,
-}
-
-impl Drop for RunFault {
-    // written, so that the crates above need not prove again how what it holds is dropped
-    fn drop(self) {
-        match self {
-            RunFault::Text(_) | RunFault::Plan(_) | RunFault::Threads(_) => {}
-            RunFault::Read | RunFault::Write | RunFault::Memory => {}
-        }
-    }
 }
 
 impl From<Memory> for RunFault {
