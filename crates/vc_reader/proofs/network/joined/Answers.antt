@@ -1,5 +1,5 @@
-use Rattle.std.proofs.Common.{◌≡◌, ◌∙◌, ◌+◌, ◌<◌, ℕ, List, [], ◌∷◌, ◌++◌, length, refl, sym, ap, append_assoc, arith}
-use Rattle.std.proofs.lemmas.List.{append-nil}
+use Rattle.std.proofs.Common.{◌≡◌, ◌∙◌, ◌+◌, ◌<◌, ℕ, List, [], ◌∷◌, ◌++◌, refl, sym, ap, append_assoc, arith}
+use Rattle.std.proofs.lemmas.List.{append-nil, nil_from_length}
 use Rattle.vc_process.specs.declared.process.Process.{Process}
 use Rattle.vc_plan.specs.declared.node_plan.NodePlan.{NodePlan}
 use Rattle.vc_plan.specs.declared.node_plan.Variable.{Variable}
@@ -26,10 +26,6 @@ loop-head-preserved c =
 begins : (nodes : List NodePlan) (heads hs : List Head) (processes ps : List Process) → nodes ≡ [] → hs ≡ heads → ps ≡ processes → nodes ++ node_plans hs ps ≡ node_plans heads processes
 begins nodes heads hs processes ps en eh ep = ap (λ n. n ++ node_plans hs ps) en ∙ ap (λ h. node_plans h ps) eh ∙ ap (λ p. node_plans heads p) ep
 
-nothing : {T : Type 0} (xs : List T) (n : ℕ) → n ≡ length xs → n ≡ 0 → xs ≡ []
-nothing [] n e z = refl
-nothing (x ∷ xs) n e z = absurd (omega arith)
-
 -- no head or no process is left
 no-head : (nodes all : List NodePlan) (hs : List Head) (ps : List Process) → hs ≡ [] → nodes ++ node_plans hs ps ≡ all → nodes ≡ all
 no-head nodes all hs ps e r = sym (append-nil nodes) ∙ sym (ap (λ h. nodes ++ node_plans h ps) e) ∙ r
@@ -52,7 +48,7 @@ pub loop-head-smaller : goal.loop-head-smaller
 loop-head-smaller c = fewer _ _ c.in-Some.ensures.len
 
 pub returns-in_default-next : goal.returns-in_default-next
-returns-in_default-next c = no-process _ _ _ _ (nothing _ _ c.loop-head.processes.rest.ok.0 c.in_default-next.ensures.cases.0) c.loop-head.invariant
+returns-in_default-next c = no-process _ _ _ _ (nil_from_length _ (sym c.loop-head.processes.rest.ok.0 ∙ c.in_default-next.ensures.cases.0)) c.loop-head.invariant
 
 pub returns : goal.returns
-returns c = no-head _ _ _ _ (nothing _ _ c.loop-head.heads.rest.ok.0 c.in_default.ensures.cases.0) c.loop-head.invariant
+returns c = no-head _ _ _ _ (nil_from_length _ (sym c.loop-head.heads.rest.ok.0 ∙ c.in_default.ensures.cases.0)) c.loop-head.invariant
