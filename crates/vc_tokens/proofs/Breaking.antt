@@ -1,14 +1,16 @@
--- A stream breaks the spelling at one place at most, and a stream that is read at none.
-use Rattle.std.proofs.Common.{◌≡◌, ℕ, ◌<◌, ◌≤◌, List, [], ◌∷◌, ◌++◌, length, refl, sym, ap, ◌∙◌, subst, arith, append-nil, append_assoc}
+-- A stream is read, or it breaks the spelling at one place.
+use Rattle.std.proofs.Common.{◌≡◌, ◌⊎◌, ℕ, ◌<◌, ◌≤◌, List, [], ◌∷◌, ◌++◌, length, refl, sym, ap, ◌∙◌, subst, arith, append-nil, append_assoc, inl, inr}
+use Rattle.std.proofs.lemmas.Bool.{cases_lt}
 use Rattle.std.specs.List.{AllByRecursion}
 use Rattle.vc_packets.specs.declared.mark.Mark.{Mark}
 use Rattle.vc_packets.specs.declared.packet.Packet.{Packet}
 use Rattle.vc_tokens.specs.declared.refused.Why.{Why}
 use Rattle.vc_tokens.specs.declared.refused.Why.TheVariants.{TooLong, StrayFct, Memory}
 use Rattle.vc_tokens.specs.Decoding.{IsBreak, Breaks}
+use Rattle.vc_tokens.specs.Laws.{IsWhole, IsBroken}
 use Rattle.vc_tokens.specs.Tokens.{Token, Byte, Fct, EndMark, bytes, spelling, spellings, Whole}
 use Rattle.vc_tokens.proofs.Spelling.{first_packet}
-use Rattle.vc_tokens.proofs.Reading.{read_once}
+use Rattle.vc_tokens.proofs.Reading.{read_once, whole_start, whole_byte, whole_mark}
 
 -- what stands behind the front of a stream that is read
 record Behind (limit : ℕ) (rest : List ℕ) (us : List Token) (left : List ℕ) : Type 0 where
@@ -138,3 +140,19 @@ broken_by limit ts ps qs why other a b (longer more e) =
 
 pub broken_once : (limit : ℕ) (ts : List Token) (ps qs : List Packet) (why other : Why) → Breaks limit ts ps why → Breaks limit ts qs other → (ps ≡ qs) × (why ≡ other)
 broken_once limit ts ps qs why other a b = broken_by limit ts ps qs why other a b (meet a.good a.bad a.later b.good b.bad b.later (sym a.is ∙ b.is))
+
+-- what stands behind a front that is read goes on to be read, or breaks
+read_on : (limit : ℕ) (front : List Token) (ps : List Packet) (rest : List ℕ) (ts : List Token) → Whole limit front ps rest → IsWhole limit (front ++ ts) ⊎ IsBroken limit (front ++ ts)
+read_on limit front ps rest [] w = inl (subst (IsWhole limit) (sym (append-nil front)) (ps, rest, w))
+read_on limit front ps rest (Fct ∷ ts) w = inr (ps, StrayFct, record { good = front; bad = Fct; later = ts; rest = rest; is = refl; whole = w; breaks = tt })
+read_on limit front ps rest (EndMark m ∷ ts) w =
+    subst (λ k. IsWhole limit k ⊎ IsBroken limit k) (append_assoc front (EndMark m ∷ []) ts)
+    (read_on limit (front ++ EndMark m ∷ []) (ps ++ record { body = rest; mark = m } ∷ []) [] ts (whole_mark limit ps rest m front w))
+read_on limit front ps rest (Byte b ∷ ts) w = elim (cases_lt (length rest) limit) [
+  | inl room ↦ subst (λ k. IsWhole limit k ⊎ IsBroken limit k) (append_assoc front (Byte b ∷ []) ts)
+      (read_on limit (front ++ Byte b ∷ []) ps (rest ++ b ∷ []) ts (whole_byte limit ps rest b room front w))
+  | inr full ↦ inr (ps, TooLong, record { good = front; bad = Byte b; later = ts; rest = rest; is = refl; whole = w; breaks = (let fits = w.rest_fits in omega (arith, full, fits)) })
+]
+
+pub read_or_broken : (limit : ℕ) (ts : List Token) → IsWhole limit ts ⊎ IsBroken limit ts
+read_or_broken limit ts = read_on limit [] [] [] ts (whole_start limit [] (omega arith))

@@ -1,5 +1,5 @@
 -- What holds of spellings, however a stream is cut.
-use Rattle.std.specs.Prelude.{◌≡◌, ℕ, List, [], ◌∷◌, ◌++◌}
+use Rattle.std.specs.Prelude.{◌≡◌, ◌⊎◌, ℕ, List, [], ◌∷◌, ◌++◌}
 use Rattle.vc_packets.specs.declared.packet.Packet.{Packet}
 use Rattle.vc_tokens.specs.declared.refused.Why.{Why}
 use Rattle.vc_tokens.specs.Decoding.{Breaks}
@@ -25,7 +25,16 @@ stream (ts ∷ feeds) = ts ++ stream feeds
 abbrev pub CuttingsAgree : Type 0
 CuttingsAgree = (limit : ℕ) (feeds : List (List Token)) (packets : List Packet) (left : List ℕ) → Feeds limit [] feeds packets left → Whole limit (stream feeds) packets left
 
--- a stream that is read is broken nowhere, and any other at one place only
+-- the stream is read, as some packets and the bytes behind them
+abbrev pub IsWhole : ℕ → List Token → Type 0
+IsWhole limit ts = (ps : List Packet) × (rest : List ℕ) × Whole limit ts ps rest
+
+-- a token of the stream is the first to break the spelling
+abbrev pub IsBroken : ℕ → List Token → Type 0
+IsBroken limit ts = (before : List Packet) × (why : Why) × Breaks limit ts before why
+
+-- a stream is read or broken, not both, and broken at one place only
 pub record BreaksAreOne : Type 0 where
+  pub some : (limit : ℕ) (ts : List Token) → IsWhole limit ts ⊎ IsBroken limit ts
   pub none : (limit : ℕ) (ts : List Token) (ps before : List Packet) (rest : List ℕ) (why : Why) → Whole limit ts ps rest → Breaks limit ts before why → ⊥
   pub one : (limit : ℕ) (ts : List Token) (ps qs : List Packet) (why other : Why) → Breaks limit ts ps why → Breaks limit ts qs other → (ps ≡ qs) × (why ≡ other)

@@ -11,7 +11,8 @@ pub fn cuttings_agree()
     ensures { CuttingsAgree }
 {}
 
-/// A stream that is read has no token that breaks the spelling, and in any other stream one token is the first to break it.
+/// A stream that is read has no token that breaks the spelling, and in any other stream one token is the first to break it, and for
+/// one reason.
 pub fn breaks_are_one()
     ensures { BreaksAreOne }
 {}
