@@ -1,7 +1,7 @@
 //! The half that inputs.
-ghost use Rattle.std.specs.Prelude.{◌≡◌, ◌≢◌, ◌≤◌, length, drop, false, true, None, [], ◌++◌, ◌↔◌, IsTrue, IsSome, IsNone, IfOk, IfSome, OnOk, OnErr};
+ghost use Rattle.std.specs.Prelude.{◌≡◌, ◌≢◌, ◌≤◌, length, drop, false, true, None, [], ◌++◌, ◌↔◌, IsTrue, IfOk, IfSome, OnOk, OnErr};
 ghost use Rattle.std.specs.Option.{option_copied};
-ghost use Rattle.vc_blocks.specs.Halves.{IsPiece, load_of};
+ghost use Rattle.vc_blocks.specs.Halves.{IsPiece};
 ghost use Rattle.vc_blocks.specs.Arriving.{after_arrival, arrival_of, after_want, want_of};
 
 use std::alloc::Global;
@@ -109,15 +109,8 @@ impl InHalf {
         self.held.as_ref()
     }
 
-    /// The bytes stored of the message that is arriving, with those of this piece behind them.
-    pub fn with_piece(&self, packet: &Packet) -> Result<Bytes, Memory>
-        requires { IsPiece packet.now }
-        ensures { IfOk result (λ message. message ≡ self.now.stored ++ load_of packet.now) }
-    {
-        self.with_body(packet.body.as_slice())
-    }
-
-    /// The bytes stored of the message that is arriving, with those of a piece behind them that has these headers and data.
+    /// The bytes stored of the message that is arriving, and behind them those that a piece with these headers and data carries behind
+    /// its block's header. Nothing is stored.
     pub fn with_body(&self, body: &[u8]) -> Result<Bytes, Memory>
         requires { 2 ≤ length body.now }
         ensures { IfOk result (λ message. message ≡ self.now.stored ++ drop 2 body.now) }

@@ -2,8 +2,8 @@
 //! it was acknowledged, and the one that inputs puts the pieces of a message together, and holds a first piece that finds no
 //! process inputting ("Networks, Routers and Transputers", chapter 2).
 //!
-//! The layer above knows that an [`OutHalf`] has at most one unacknowledged piece under way, and that an [`InHalf`] gives a
-//! message whole, when its last piece was stored (`specs/Halves`).
+//! The layer above knows that an [`OutHalf`] has at most one piece under way, and that an [`InHalf`] gives a message whole, when its
+//! last piece was stored (`specs/Halves`).
 #![tactic(auto)]
 
 mod in_half;

@@ -9,7 +9,7 @@ use std::alloc::Global;
 use std::marker::Model;
 use vc_packets::{Bytes, Memory, Packet, piece, pieces};
 
-/// The half of a virtual link's end that outputs. One piece at most is unacknowledged.
+/// The half of a virtual link's end that outputs. One piece at most is under way.
 #[derive(Drop)]
 pub struct OutHalf {
     route: Items<u16>,
@@ -67,7 +67,7 @@ impl OutHalf {
         !self.busy
     }
 
-    /// The message goes under way: its first piece is unacknowledged.
+    /// The message goes under way, with its first piece.
     pub fn offer(&mut self, msg: Bytes)
         requires { self.old.unacked ≡ [] }
         ensures route { self.new.route ≡ self.old.route }
@@ -79,7 +79,7 @@ impl OutHalf {
         self.busy = true;
     }
 
-    /// The packet of the unacknowledged piece.
+    /// The packet of the piece under way.
     pub fn packet(&self, alloc: Global) -> Result<Packet, Memory>
         requires { self.now.unacked ≢ [] }
         ensures { IfOk result (λ packet. packet ≡ piece_packet self.now.route self.now.unacked) }
@@ -100,7 +100,7 @@ impl OutHalf {
         self.count - self.piece == 1
     }
 
-    /// The packet of the piece behind the unacknowledged one.
+    /// The packet of the piece behind the one under way.
     pub fn next_packet(&self, alloc: Global) -> Result<Packet, Memory>
         requires { later_than self.now.unacked ≢ [] }
         ensures { IfOk result (λ packet. packet ≡ piece_packet self.now.route (later_than self.now.unacked)) }
