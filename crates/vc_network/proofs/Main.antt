@@ -14,7 +14,7 @@ use Rattle.vc_machine.proofs.Crediting.{no_counts}
 use Rattle.vc_machine.specs.Paths.{Port, AtNode, AtSwitch}
 use Rattle.vc_machine.specs.Rendezvous.{View, Comm, DoesAll, part, nothing_yet}
 use Rattle.vc_machine.specs.Machine as net
-use Rattle.vc_machine.specs.Machine.{State, start}
+use Rattle.vc_machine.specs.Machine.{start}
 use Rattle.vc_machine.specs.Places as places
 use Rattle.vc_machine.specs.Places.{Queue, OnWire, at_place, Held, of_held, BelongsTo, Number}
 use Rattle.vc_machine.proofs.Runs.{at_start, all_stopped}
@@ -130,6 +130,7 @@ pub record Ran {P : Type 0} (plan : Plan) (waiting : Waiting) (Does : Doing P) (
   pub good : Good plan u new
   pub views : (c : ℕ) → DoesAll (view plan s c) (part c (all_said ks)) (view plan u c)
   pub traces : (n : ℕ) (d : P) → Trace Does (process_of d (s.state n)) (said_by n ks) (process_of d (u.state n))
+  pub by_no_other : (n : ℕ) → plan.nodes ≤ n → said_by n ks ≡ []
 
 pub ran : {P : Type 0} (plan : Plan) (waiting : Waiting) (Does : Doing P) (acc : IsAccepted plan) (es : List (Event Act Token)) (s u : Network (Actor P) Token) (t : Tokens) → Good plan s t → Run (Local plan waiting Does) s es u → Ran plan waiting Does s u t
 ran plan waiting Does acc [] s u t g run =
@@ -142,6 +143,7 @@ ran plan waiting Does acc [] s u t g run =
       good = subst (λ z. Good plan z t) same g;
       views = λ c. sym (ap (λ z. view plan z c) same);
       traces = λ n d. subst (λ z. Trace Does (process_of d (s.state n)) [] (process_of d (z.state n))) same none;
+      by_no_other = λ n past. refl;
     }
 ran plan waiting Does acc (e ∷ es) s u t g run =
     let mid = run.0 in
@@ -161,6 +163,11 @@ ran plan waiting Does acc (e ∷ es) s u t g run =
             (subst (λ m. Trace Does (process_of d (s.state m)) x.ks (process_of d (mid.state m))) q (x.trace d)) (r.traces n d))
         | inr ne ↦ subst (λ z. Trace Does (process_of d (s.state n)) z (process_of d (u.state n))) (sym (said_there e.actor n x.ks r.ks ne))
             (subst (λ z. Trace Does (process_of d z) (said_by n r.ks) (process_of d (u.state n))) (run.1.others n (λ q. ne (sym q))) (r.traces n d))
+      ];
+      by_no_other = λ n past. elim (cases_eq e.actor n) [
+        | inl q ↦ subst (λ m. said_by m (tagged e.actor x.ks ++ r.ks) ≡ []) q
+            (said_here e.actor x.ks r.ks ∙ ap₂ (λ xs ys. xs ++ ys) (x.by_no_other (subst (λ m. plan.nodes ≤ m) (sym q) past)) (r.by_no_other e.actor (subst (λ m. plan.nodes ≤ m) (sym q) past)))
+        | inr ne ↦ said_there e.actor n x.ks r.ks ne ∙ r.by_no_other n past
       ];
     }
 
@@ -255,6 +262,7 @@ run_headline plan waiting Does begin es s acc run =
             subst (λ z. Trace Does (begin n) (said_by n r.ks) (process_of (begin n) z)) k.1
                 (subst (λ z. Trace Does (process_of (begin n) z) (said_by n r.ks) (process_of (begin n) (s.state n))) (first_node plan begin n less) (r.traces n (begin n))),
           ));
+          by_no_other = r.by_no_other;
           on_channel = λ c less. subst (λ z. DoesAll z (part c (all_said r.ks)) (view plan s c)) (first_view c) (r.views c);
         },
       );

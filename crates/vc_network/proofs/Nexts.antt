@@ -5,7 +5,6 @@ use Rattle.vc_actors.specs.Actors.{Label, Network, Step, taken_off, put_on}
 use Rattle.vc_actors.specs.Actors.Label.{Own, Takes, Puts}
 use Rattle.vc_machine.specs.Paths.{AtNode, AtSwitch}
 use Rattle.vc_machine.specs.Rendezvous.{View, Comm, Out, In, Fin, Stp, DoesAll, part}
-use Rattle.vc_machine.specs.Machine.{State}
 use Rattle.vc_packets.specs.Functions.{put}
 use Rattle.vc_machine.specs.Machine.{Event as NetEvent}
 use Rattle.vc_machine.specs.Machine as net
@@ -15,11 +14,11 @@ use Rattle.vc_tokens.specs.Tokens.{Token}
 use Rattle.vc_tokens.specs.Tokens as tokens
 use Rattle.vc_machine.specs.Links.{Tokens}
 use Rattle.vc_switch.specs.Waiting.{Waiting}
-use Rattle.vc_machine.specs.TokenMachine.{TokenEvent, TokenStep, TokenRun, IsProc}
+use Rattle.vc_machine.specs.TokenMachine.{TokenEvent, TokenRun, IsProc}
 use Rattle.vc_machine.specs.TokenMachine as tok
 use Rattle.vc_vcp.specs.Steps as node
 use Rattle.vc_vcp.specs.Links as links
-use Rattle.vc_vcp.specs.Links.{Vcp, unqueued}
+use Rattle.vc_vcp.specs.Links.{Vcp}
 use Rattle.vc_switch.specs.Switch.{Switch}
 use Rattle.vc_switch.specs.Switch as switch
 use Rattle.vc_network.specs.Plan.{body_limit, Plan, Inside, home, ends, way_from, back, switch_plan, net_of, IsAccepted, IsInto}
@@ -52,6 +51,7 @@ pub record Next {P : Type 0} (plan : Plan) (waiting : Waiting) (Does : Doing P) 
   pub good : Good plan u new
   pub views : (c : ℕ) → DoesAll (view plan s c) (part c ks) (view plan u c)
   pub trace : (d : P) → Trace Does (process_of d (s.state n)) ks (process_of d (u.state n))
+  pub by_no_other : plan.nodes ≤ n → ks ≡ []
 
 exchanges : (v : View) (m : List ℕ) → InnerFits v → v.stopped ≡ false → DoesAll v (Out m ∷ In m ∷ Fin ∷ []) (exchanged v m)
 exchanges v m f live = (
@@ -154,6 +154,7 @@ module _ {P : Type 0} (plan : Plan) (waiting : Waiting) (Does : Doing P) (acc : 
           };
           views = outer_views plan s u t l.new ks g sound shows l.says (inner_kept same);
           trace = traced ks tr;
+          by_no_other = λ past. absurd (omega arith);
         }
 
     same_vcps : b.vcp ≡ a.vcp → vcps s ≡ vcps u
@@ -190,6 +191,7 @@ module _ {P : Type 0} (plan : Plan) (waiting : Waiting) (Does : Doing P) (acc : 
           };
           views = inner_views plan s u t n c a b x ks g shows e ea eb others inner does;
           trace = traced (on c ks) tr;
+          by_no_other = λ past. absurd (omega arith);
         }
 
     -- nothing but the process changes
@@ -211,6 +213,7 @@ module _ {P : Type 0} (plan : Plan) (waiting : Waiting) (Does : Doing P) (acc : 
           };
           views = outer_views plan s u t t [] g g.sound shows (silent refl (λ c. refl)) (inner_kept inner);
           trace = traced [] tr;
+          by_no_other = λ past. refl;
         }
 
     abbrev here : vcps s n ≡ a.vcp
@@ -358,6 +361,7 @@ module _ {P : Type 0} (plan : Plan) (waiting : Waiting) (Does : Doing P) (acc : 
           };
           views = outer_views plan s u t l.new [] g sound shows l.says same_inner;
           trace = λ d. subst (λ z. Trace Does z [] (process_of d (u.state n))) (sym (ap (process_of d) ea)) (subst (Trace Does d []) (sym (ap (process_of d) eb)) none);
+          by_no_other = λ past. refl;
         }
 
     comes_homed : (l word w : ℕ) (c : Token) → IsInto plan w (AtSwitch k l) → b ≡ switch.with_token a l word c → SwitchHomed plan k b

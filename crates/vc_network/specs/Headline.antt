@@ -1,5 +1,5 @@
 -- The headline: first in, first out, each once.
-use Rattle.std.specs.Prelude.{◌≡◌, ◌⊎◌, ℕ, suc, ◌≤◌, ◌<◌, Bool, true, List, ◌∷◌, length, Some, Contains}
+use Rattle.std.specs.Prelude.{◌≡◌, ◌⊎◌, ℕ, suc, ◌≤◌, ◌<◌, Bool, true, List, [], ◌∷◌, length, Some, Contains}
 use Rattle.vc_actors.specs.Actors.{Network, ActBy}
 use Rattle.vc_packets.specs.declared.packet.Packet.{Packet}
 use Rattle.vc_tokens.specs.Tokens.{Token}
@@ -30,9 +30,10 @@ pub record HasItsPacket {P : Type 0} (plan : Plan) (s : Network (Actor P) Token)
 abbrev pub IsPlaceOf : {P : Type 0} → Plan → Network (Actor P) Token → ℕ → Place → Type 0
 IsPlaceOf plan s c place = (p : Packet) × Contains (everywhere plan s) (place, p) × BelongsTo (net_of plan) c (place, p)
 
--- one list of all communications: each node's part is a trace of its process, and each channel's part is a run of the channel
+-- one list of all communications: each node's part is a trace of its process, nobody else has a part, and each channel's part is a run of the channel
 pub record AreTold {P : Type 0} (plan : Plan) (Does : Doing P) (begin : ℕ → P) (s : Network (Actor P) Token) (ks : List Said) : Type 0 where
   pub by_node : (n : ℕ) → n < plan.nodes → (a : Node P) × (s.state n ≡ IsNode a) × Trace Does (begin n) (said_by n ks) a.process
+  pub by_no_other : (n : ℕ) → plan.nodes ≤ n → said_by n ks ≡ []
   pub on_channel : (c : ℕ) → c < length plan.channels → DoesAll nothing_yet (part c (all_said ks)) (view plan s c)
 
 -- packets and tokens stand nowhere but where `everywhere` counts them
