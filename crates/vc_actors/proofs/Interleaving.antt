@@ -3,10 +3,10 @@ use Rattle.std.proofs.Common.{◌≡◌, ℕ, ◌+◌, ◌≤◌, max, Bool, tru
 use Rattle.std.specs.List.{flat_map, AllByRecursion}
 use Rattle.std.proofs.lemmas.List.{append_cancel_left, map-append}
 use Rattle.std.proofs.lemmas.Bool.{ne_eqb}
-use Rattle.vc_actors.specs.Actors.{Label, Steps, Run, KeepsTo, opening, taken_off, put_on}
+use Rattle.vc_actors.specs.Actors.{Label, Steps, Run, KeepsTo, taken_off, put_on}
 use Rattle.vc_actors.specs.Actors.Label.{Own, Takes, Puts}
-use Rattle.vc_actors.specs.LocalRun.{Stamped, Turn, plain, next_stamp, CarriesStamp, LocalRun, all_taken, all_put, items, IsPrefix, LocalRuns}
-use Rattle.vc_actors.specs.Merge.{Made, part, NotAfter, IsOrdered, IsMerge, event}
+use Rattle.vc_actors.specs.LocalRun.{Stamped, Turn, plain, next_stamp, CarriesStamp, LocalRun, all_taken, all_put, items, IsPrefix}
+use Rattle.vc_actors.specs.Merge.{Made, part, NotAfter, IsOrdered, event, MergesAreRuns}
 
 -- what the whole list takes off the way and puts on it
 abbrev pub takes : {Act Item : Type 0} → ℕ → List (Made (Label Act (Stamped Item))) → List (Stamped Item)
@@ -199,14 +199,8 @@ put_parts source sink way (m ∷ ms) lawful =
     part_step (λ t. put_on way t.it) m ms (source way) (m.actor == source way) (puts way ms)
     (other_puts source sink way m.actor m.act.it lawful.0.0) (put_parts source sink way ms lawful.1)
 
--- Runs of all actors, each right by itself, that fit together on each way: their merge is a run of the network, from the
--- first states with nothing on the ways to the last states with what is left on each.
-pub interleaving : {State Act Item : Type 0} (Local : Steps State Act Item) (source sink : ℕ → ℕ)
-    → ((actor : ℕ) (old : State) (label : Label Act Item) (new : State) → Local actor old label new → KeepsTo source sink actor label)
-    → (first last : ℕ → State) (runs : ℕ → List (Turn Act Item)) (left : ℕ → List (Stamped Item)) (merged : List (Made (Label Act (Stamped Item))))
-    → LocalRuns Local source sink first runs last left
-    → IsMerge runs merged
-    → Run Local (opening first) (map event merged) (record { state = last; way = λ way. items (left way) })
+-- merges of local runs that fit together on each way are runs of the network
+pub interleaving : {State Act Item : Type 0} (Local : Steps State Act Item) (source sink : ℕ → ℕ) → MergesAreRuns Local source sink
 interleaving {State} {Act} {Item} Local source sink keeps first last runs left merged each merge =
     let lawful : AllByRecursion (IsLawful source sink) merged =
     all_parts (λ actor t. KeepsTo source sink actor (plain t.it) × CarriesStamp t.at t.it) merged (λ actor.

@@ -62,12 +62,6 @@ pub record LocalRuns {State Act Item : Type 0} (Local : Steps State Act Item) (s
 abbrev pub IsPrefix : {A : Type 0} → List A → List A → Type 0
 IsPrefix {A} xs ys = (rest : List A) × (xs ++ rest ≡ ys)
 
--- the local runs of a list of actors, numbered from `from` on
-abbrev pub EachRun : {State Act Item : Type 0} → Steps State Act Item → ℕ → List State → List (List (Turn Act Item)) → List State → Type 0
-EachRun Local from [] [] [] = Unit {0}
-EachRun Local from (f ∷ firsts) (r ∷ runs) (l ∷ lasts) = LocalRun Local from 0 f r l × EachRun Local (from + 1) firsts runs lasts
-EachRun Local from _ _ _ = ⊥
-
 -- the same stamp, with f of what it is on
 abbrev pub restamped : {A B : Type 0} → (A → B) → Stamped A → Stamped B
 restamped f s = record { at = s.at; it = f s.it }

@@ -1,7 +1,7 @@
 -- All actors' runs as one list, ordered by stamp, then actor.
-use Rattle.std.specs.Prelude.{◌≡◌, ℕ, ◌+◌, ◌<◌, ◌≤◌, ◌⊎◌, Bool, ◌&&◌, ◌||◌, nat_lt, nat_le, List, [], ◌∷◌, ◌++◌, map, if◌then◌else◌, ◌==◌}
+use Rattle.std.specs.Prelude.{◌≡◌, ℕ, ◌<◌, ◌≤◌, ◌⊎◌, List, [], ◌∷◌, map, if◌then◌else◌, ◌==◌}
 use Rattle.std.specs.List.{AllByRecursion}
-use Rattle.vc_actors.specs.Actors.{Event, Label, Steps, Run, opening}
+use Rattle.vc_actors.specs.Actors.{Event, Label, Steps, Run, opening, KeepsTo}
 use Rattle.vc_actors.specs.LocalRun.{Stamped, Turn, LocalRuns, items, plain, restamped}
 
 -- a stamped act with its actor
@@ -31,34 +31,16 @@ pub record IsMerge {A : Type 0} (runs : ℕ → List (Stamped A)) (merged : List
 abbrev pub event : {Act Item : Type 0} → Made (Label Act (Stamped Item)) → Event Act Item
 event m = record { actor = m.actor; label = plain m.act.it }
 
--- Whatever the actors did by themselves, if it fits together on each way, its merge is a run of the network: from the first
--- states with nothing on the ways to the last states with what is left on each.
+-- Each actor takes only from ways of which it is the sink, and puts only on ways of which it is the source. Whatever the actors did
+-- by themselves, if it fits together on each way, its merge is then a run of the network: from the first states with nothing on the
+-- ways to the last states with what is left on each.
 abbrev pub MergesAreRuns : {State Act Item : Type 0} → Steps State Act Item → (ℕ → ℕ) → (ℕ → ℕ) → Type 0
 MergesAreRuns {State} {Act} {Item} Local source sink =
-    (first last : ℕ → State) (runs : ℕ → List (Turn Act Item)) (left : ℕ → List (Stamped Item)) (merged : List (Made (Label Act (Stamped Item))))
+    ((actor : ℕ) (old : State) (label : Label Act Item) (new : State) → Local actor old label new → KeepsTo source sink actor label)
+    → (first last : ℕ → State) (runs : ℕ → List (Turn Act Item)) (left : ℕ → List (Stamped Item)) (merged : List (Made (Label Act (Stamped Item))))
     → LocalRuns Local source sink first runs last left
     → IsMerge runs merged
     → Run Local (opening first) (map event merged) (record { state = last; way = λ way. items (left way) })
-
--- A merge that computes: each act is put in before the first one that it isn't after.
-abbrev pub goes_before : {A : Type 0} → Made A → Made A → Bool
-goes_before m n = nat_lt m.act.at n.act.at || ((m.act.at == n.act.at) && nat_le m.actor n.actor)
-
-abbrev pub put_in : {A : Type 0} → Made A → List (Made A) → List (Made A)
-put_in m [] = m ∷ []
-put_in m (n ∷ ns) = if goes_before m n then m ∷ n ∷ ns else n ∷ put_in m ns
-
-abbrev pub sorted : {A : Type 0} → List (Made A) → List (Made A)
-sorted [] = []
-sorted (m ∷ ms) = put_in m (sorted ms)
-
--- the runs of the actors from `from` on, one after another
-abbrev pub joined : {A : Type 0} → ℕ → List (List (Stamped A)) → List (Made A)
-joined from [] = []
-joined from (run ∷ runs) = map (λ s. record { actor = from; act = s }) run ++ joined (from + 1) runs
-
-abbrev pub merge : {A : Type 0} → List (List (Stamped A)) → List (Made A)
-merge runs = sorted (joined 0 runs)
 
 -- each stamp is above those before it
 abbrev pub Rises : {A : Type 0} → ℕ → List (Stamped A) → Type 0
