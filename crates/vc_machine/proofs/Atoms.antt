@@ -88,21 +88,21 @@ arrive_atomic net back wires p t w word (Byte b) rest is front =
 arrive_atomic net back wires p t w word (EndMark m) rest is front =
     record { nodes = no_nodes net p t.nodes; wires = takes_one w (EndMark m) rest (sym is) front refl; senders = λ v other. refl; receivers = elsewhere t.receiver w _ net.far p (at_port (net.far w) p is) }
 
-pub steps_are_atomic : (net : Net) (back : ℕ → ℕ) → Wires net back → Homes net → (waiting : Waiting) → StepsAreAtomic net back waiting
-steps_are_atomic net back wires homes waiting t (Proc e) u p is h =
+pub steps_are_atomic : (net : Net) (back : ℕ → ℕ) (waiting : Waiting) → Wires net back → Homes net → StepsAreAtomic net back waiting
+steps_are_atomic net back waiting wires homes t (Proc e) u p is h =
     subst (IsAtomic net p t) (sym h.1.2) (record {
       wires = neither refl;
       senders = λ w other. refl;
       receivers = λ w other. refl;
       nodes = λ m j other. proc_elsewhere net homes m is.0 t.nodes e h.1.0 (not_node p m j is.0 is.1 is.2 other) is.3 h.1.1;
     })
-steps_are_atomic net back wires homes waiting t (Take w word) u p is h =
+steps_are_atomic net back waiting wires homes t (Take w word) u p is h =
     subst (IsAtomic net p t) (sym h.after) (arrive_atomic net back wires p t w word h.token h.rest is h.front)
-steps_are_atomic net back wires homes waiting t (Pass w) u p is h = passes_atomic net homes p t w u is h.1
-steps_are_atomic net back wires homes waiting t (Put w) u p is h = puts_atomic net waiting p t w u is h.2
-steps_are_atomic net back wires homes waiting t (PutFct w) u p is h =
+steps_are_atomic net back waiting wires homes t (Pass w) u p is h = passes_atomic net homes p t w u is h.1
+steps_are_atomic net back waiting wires homes t (Put w) u p is h = puts_atomic net waiting p t w u is h.2
+steps_are_atomic net back waiting wires homes t (PutFct w) u p is h =
     let r : Receiver = record (t.receiver w) { promised = (t.receiver w).promised + 8 } in
     subst (IsAtomic net p t) (sym h.after)
     (record { nodes = no_nodes net p t.nodes; wires = puts_one (back w) Fct (wires.near w ∙ sym is) refl; senders = λ v other. refl; receivers = elsewhere t.receiver w r net.far p (at_port (net.far w) p is) })
-steps_are_atomic net back wires homes waiting t (TokenEvent.Route w out) u p is h =
+steps_are_atomic net back waiting wires homes t (TokenEvent.Route w out) u p is h =
     subst (IsAtomic net p t) (sym h.after) (received net p t w (record (t.receiver w) { bound = Some out }) t.nodes is (no_nodes net p t.nodes))

@@ -7,14 +7,16 @@ use Rattle.vc_switch.specs.Forward.{Interval, IsDrawn, behind, without_portals}
 use Rattle.vc_labels.specs.declared.row.Row.{Row}
 use Rattle.vc_machine.specs.Machine.{HasGroup, BodyLeaves, Input, Empty, Full}
 use Rattle.vc_machine.specs.Links.{Receiver}
-use Rattle.vc_machine.specs.TokenMachine.{draw, headed, with_header}
+use Rattle.vc_switch.specs.Switch as switch
+use Rattle.vc_switch.specs.Switch.{headed}
+use Rattle.vc_machine.specs.TokenMachine.{with_header}
 use Rattle.vc_machine.specs.Laws.{Ranges}
 use Rattle.vc_machine.specs.View.{MayDraw, Got, nothing, begun, Inside, without_mark, with_mark, BoundGroup}
 
 in_range : (low high word v : ℕ) → low ≤ v → v < high → (low ≤ low + word % (high - low)) × (low + word % (high - low) < high)
 in_range low high word v a b = (omega arith, omega arith)
 
-may_draw : (r : Option Interval) (word : ℕ) (v : Option ℕ) → IsDrawn r v → IsDrawn r (draw r word)
+may_draw : (r : Option Interval) (word : ℕ) (v : Option ℕ) → IsDrawn r v → IsDrawn r (switch.drawn r word)
 may_draw None word v h = tt
 may_draw (Some i) word None h = absurd h
 may_draw (Some i) word (Some v) h = in_range i.lower i.limit word v h.0 h.1
@@ -29,16 +31,16 @@ pub no_header : (drawn : Option ℕ) (passed : List ℕ) → [] ≡ spelled (beh
 no_header None passed e = sym e
 no_header (Some v) passed e = absurd (cc)
 
-first_header : (net : Net) (n i word : ℕ) (passed : List ℕ) → Ranges net → passed ≡ [] → Headed net n i (headed (draw ((net.switch n).random i) word) []) passed
+first_header : (net : Net) (n i word : ℕ) (passed : List ℕ) → Ranges net → passed ≡ [] → Headed net n i (headed (switch.drawn ((net.switch n).random i) word) []) passed
 first_header net n i word passed ranges e =
     record {
-      drawn = draw ((net.switch n).random i) word;
+      drawn = switch.drawn ((net.switch n).random i) word;
       may = may_draw ((net.switch n).random i) word (ranges n i).0 (ranges n i).1;
-      is = sym (append-nil _) ∙ ap (λ k. spelled (behind (draw ((net.switch n).random i) word) []) ++ k) (sym e);
+      is = sym (append-nil _) ∙ ap (λ k. spelled (behind (switch.drawn ((net.switch n).random i) word) []) ++ k) (sym e);
     }
 
 with_first : (net : Net) (p : Port) (n i word : ℕ) (got passed : List ℕ) → Ranges net → p ≡ AtSwitch n i → Got net p got passed →
-    Headed net n i (headed (draw ((net.switch n).random i) word) got) passed
+    Headed net n i (headed (switch.drawn ((net.switch n).random i) word) got) passed
 with_first net p n i word [] passed ranges far (nothing none none2) = first_header net n i word passed ranges none2
 with_first net p n i word [] passed ranges far (begun drawn may some e) = absurd (some (no_header drawn passed e))
 with_first net p n i word (b ∷ bs) passed ranges far (nothing none none2) = absurd (cc)

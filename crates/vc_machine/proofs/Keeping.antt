@@ -10,7 +10,8 @@ use Rattle.vc_tokens.specs.Tokens.{Token, Byte, Fct, EndMark, without_fcts}
 use Rattle.vc_credit.specs.Ends.{Sender}
 use Rattle.vc_machine.specs.Links.{Receiver, Tokens, set_sender, set_wire, set_receiver, no_tokens}
 use Rattle.vc_switch.specs.Waiting.{Waiting}
-use Rattle.vc_machine.specs.TokenMachine.{TokenEvent, Proc, Take, Pass, Put, PutFct, TokenStep, arrive, draw, with_header, put_byte, put_mark, released, keeps, loses, Passes, node_byte, node_mark, switch_byte, switch_mark, Puts, Grants, Binds}
+use Rattle.vc_switch.specs.Switch.{drawn}
+use Rattle.vc_machine.specs.TokenMachine.{TokenEvent, Proc, Take, Pass, Put, PutFct, TokenStep, arrive, with_header, put_byte, put_mark, released, keeps, loses, Passes, node_byte, node_mark, switch_byte, switch_mark, Puts, Grants, Binds}
 use Rattle.vc_machine.specs.View.{TokenView, BoundGroup, Bindings}
 use Rattle.vc_machine.specs.Laws.{IsLimit, AllFit}
 use Rattle.vc_machine.proofs.Spelling.{without_fcts-append}
@@ -112,7 +113,7 @@ passes_ahead net Fits t v u bindings a (node_mark n i m rest k far front reach a
     (λ w x is whole. absurd (not_at_node net (net.far v) n i (t.receiver v).got w far (bindings.group v w is))))
 passes_ahead net Fits t v u bindings a (switch_byte n i b rest far none front after) =
     let r = t.receiver v in
-    let d = draw ((net.switch n).random i) r.word in
+    let d = drawn ((net.switch n).random i) r.word in
     subst (Ahead net Fits) (sym after)
     (receiver_ahead net Fits t v (record r { buffer = rest; got = with_header net n i r ++ b ∷ [] }) t.nodes a (unchanged t.nodes)
     (λ w x is whole. (
@@ -122,7 +123,7 @@ passes_ahead net Fits t v u bindings a (switch_byte n i b rest far none front af
     )))
 passes_ahead net Fits t v u bindings a (switch_mark n i m rest far none front (keeps group after)) =
     let r = t.receiver v in
-    let d = draw ((net.switch n).random i) r.word in
+    let d = drawn ((net.switch n).random i) r.word in
     subst (Ahead net Fits) (sym after)
     (receiver_ahead net Fits t v (record r { buffer = rest; got = with_header net n i r; mark = Some m }) t.nodes a (unchanged t.nodes)
     (λ w x is whole. (

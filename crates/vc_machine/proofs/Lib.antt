@@ -1,16 +1,13 @@
 pub mod Ahead
 pub mod Atoms
 pub mod Basics
-pub mod BeforeTheMark
 pub mod Binding
-pub mod Bytes
 pub mod Counts
 pub mod Cover
 pub mod Crediting
-pub mod DrawnHeader
 pub mod Exactly
 pub mod ExampleHolds
-pub mod FirstExchange
+pub mod FirstBytes
 pub mod Fitting
 pub mod Halves
 pub mod Heads
@@ -27,7 +24,6 @@ pub mod Nodes
 pub mod OneStep
 pub mod OneToken
 pub mod Passing
-pub mod PiecesLaw
 pub mod Putting
 pub mod Queues
 pub mod Reading
@@ -46,6 +42,5 @@ pub mod Unique
 pub mod Update
 pub mod Views
 pub mod Ways
-pub mod Whole
 pub mod Owned
 pub mod Short

@@ -5,11 +5,11 @@ use Rattle.std.proofs.lemmas.List.Elements.{All-from_recursion, All-contains}
 use Rattle.vc_packets.specs.declared.packet.Packet.{Packet}
 use Rattle.vc_packets.specs.Headers.{spelled}
 use Rattle.vc_packets.specs.Kind.{kind}
-use Rattle.vc_switch.specs.Forward.{behind}
-use Rattle.vc_machine.specs.Paths.{End, Net, Carries, Delivers, IsAccepted}
-use Rattle.vc_machine.specs.Machine.{State, WayState, ChanState, Input, Empty, Full, start}
+use Rattle.vc_switch.specs.Forward.{IsDrawn, behind}
+use Rattle.vc_machine.specs.Paths.{AtSwitch, End, Net, Carries, Delivers, IsAccepted}
+use Rattle.vc_machine.specs.Machine.{State, WayState, ChanState, Input, Empty, Full, BodyLeaves, start}
 use Rattle.vc_machine.specs.Places.{Place, Queue, OnWire, Inside, Held, of_input, at_place, in_ways, IsOf}
-use Rattle.vc_machine.specs.Owners.{HasOwner, EachHasOwner, OwnersAreOne, Path, ends, hops, PathsReachEnds}
+use Rattle.vc_machine.specs.Owners.{HasOwner, EachHasOwner, OwnersAreOne, Path, ends, hops, ReachesEnd, PathsReachEnds}
 use Rattle.vc_machine.proofs.Labels.{Phase, Label, Labels, number, in_way, tally, On, InputFits, WayFits, Inv, in_way_le_tally}
 use Rattle.vc_machine.proofs.Ways.{number_here}
 use Rattle.vc_machine.proofs.Counts.{Going, going, is_of_own, front_same, piece_ack}
@@ -107,21 +107,47 @@ owners_one net c d (Inside w, p) acc rc rd (n, i, v, far, draw, a) (m, j, u, the
     one_of net acc c d w v u p rc rd (drawn_both ((net.switch n).random i) v u draw (same_port net n i m j u (sym far ∙ there) drew)) a b
 owners_one net c d (Held k, p) acc rc rd a b = a ∙ sym b
 
+-- headers that deliver a packet in a switch deliver what leaves
+left_on : (net : Net) (fuel w k link out : ℕ) (v : Option ℕ) (s load body left : List ℕ) (e : End) → net.far w ≡ AtSwitch k link → IsDrawn ((net.switch k).random link) v → Delivers net fuel w s e →
+    body ≡ spelled (behind v s) ++ load → BodyLeaves net k body out left → (less : ℕ) × (after : List ℕ) × Delivers net less out after e × (left ≡ spelled after ++ load)
+left_on net fuel w k link out v s load body left e far draw d is leaves =
+    let on = onward net fuel w s e k link v far draw d in
+    let f = follows net k (behind v s) load body on.way on.stack out left on.leaves is leaves in
+    let next = on.each out f.after f.leaves in
+    (next.0, f.after, next.2, f.body)
+
 -- a path of a packet whose headers deliver it comes to their end
 path_end : (net : Net) (fuel w n : ℕ) (s load body rest : List ℕ) (e : End) → Delivers net fuel w s e → body ≡ spelled s ++ load → Path net w body n rest → (n ≡ e.node) × (rest ≡ spelled (e.block ∷ []) ++ load)
 path_end net fuel w n s load body rest e d is (ends link far) =
     let at = at_node net fuel w s e n link far d in
     (at.0, is ∙ ap (λ z. spelled z ++ load) at.1)
 path_end net fuel w n s load body rest e d is (hops k link out v left far draw leaves more) =
-    let on = onward net fuel w s e k link v far draw d in
-    let f = follows net k (behind v s) load (spelled (behind v []) ++ body) on.way on.stack out left on.leaves (spelled_behind v s load body is) leaves in
-    let next = on.each out f.after f.leaves in
-    path_end net next.0 out n f.after load left rest e next.2 f.body more
+    let l = left_on net fuel w k link out v s load (spelled (behind v []) ++ body) left e far draw d (spelled_behind v s load body is) leaves in
+    path_end net l.0 out n l.1 load left rest e l.2 l.3 more
 
-pub paths_reach : (net : Net) → PathsReachEnds net
-paths_reach net w c n p rest (inl (load, last, leads, k)) path =
+way_reaches : (net : Net) (w c n : ℕ) (p : Packet) (rest : List ℕ) → IsOf net w None p c → Path net w p.body n rest → ReachesEnd net c p n rest
+way_reaches net w c n p rest (inl (load, last, leads, k)) path =
     let r = path_end net 32 w n leads.stack load p.body rest (net.chan c).to leads.delivers leads.body path in
     inl (load, last, r.0, r.1, k)
-paths_reach net w c n p rest (inr (load, leads, k)) path =
+way_reaches net w c n p rest (inr (load, leads, k)) path =
     let r = path_end net 32 w n leads.stack load p.body rest (net.chan c).from leads.delivers leads.body path in
     inr (load, r.0, r.1, k)
+
+-- and so does one of a packet in a switch, which has what was put in front
+inside_reaches : (net : Net) (w c n k link out : ℕ) (v : Option ℕ) (p : Packet) (left rest : List ℕ) → net.far w ≡ AtSwitch k link → IsDrawn ((net.switch k).random link) v → IsOf net w v p c →
+    BodyLeaves net k p.body out left → Path net out left n rest → ReachesEnd net c p n rest
+inside_reaches net w c n k link out v p left rest far draw (inl (load, last, leads, kind)) leaves path =
+    let l = left_on net 32 w k link out v leads.stack load p.body left (net.chan c).to far draw leads.delivers leads.body leaves in
+    let r = path_end net l.0 out n l.1 load left rest (net.chan c).to l.2 l.3 path in
+    inl (load, last, r.0, r.1, kind)
+inside_reaches net w c n k link out v p left rest far draw (inr (load, leads, kind)) leaves path =
+    let l = left_on net 32 w k link out v leads.stack load p.body left (net.chan c).from far draw leads.delivers leads.body leaves in
+    let r = path_end net l.0 out n l.1 load left rest (net.chan c).from l.2 l.3 path in
+    inr (load, r.0, r.1, kind)
+
+pub paths_reach : (net : Net) → PathsReachEnds net
+paths_reach net c n (Queue w, p) rest its path = way_reaches net w c n p rest its path
+paths_reach net c n (OnWire w, p) rest its path = way_reaches net w c n p rest its path
+paths_reach net c n (Inside w, p) rest (k, i, v, far, draw, its) (j, link, out, left, there, leaves, path) =
+    inside_reaches net w c n j link out v p left rest there (same_port net j link k i v (sym there ∙ far) draw) its leaves path
+paths_reach net c n (Held d, p) rest its path = absurd path

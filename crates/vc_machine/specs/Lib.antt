@@ -12,3 +12,4 @@ pub mod Laws
 pub mod Atomic
 pub mod TokenHeadline
 pub mod Owners
+pub mod TokenExample

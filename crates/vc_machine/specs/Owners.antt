@@ -1,5 +1,5 @@
 -- Whose each packet is, where its headers let it come, and how long it is at most.
-use Rattle.std.specs.Prelude.{◌≡◌, ◌⊎◌, ℕ, ◌+◌, ◌*◌, ◌≤◌, Bool, List, [], ◌∷◌, ◌++◌, length, Option, None}
+use Rattle.std.specs.Prelude.{◌≡◌, ◌⊎◌, ℕ, ◌+◌, ◌*◌, ◌≤◌, Bool, List, [], ◌∷◌, ◌++◌, length, Option}
 use Rattle.std.specs.List.{Contains}
 use Rattle.vc_packets.specs.declared.packet.Packet.{Packet}
 use Rattle.vc_packets.specs.declared.kind.Kind.TheVariants.{Ack, Piece}
@@ -8,7 +8,7 @@ use Rattle.vc_packets.specs.Kind.{kind}
 use Rattle.vc_switch.specs.Forward.{IsDrawn, behind}
 use Rattle.vc_machine.specs.Paths.{AtNode, AtSwitch, Net, Carries, IsAccepted}
 use Rattle.vc_machine.specs.Machine.{State, Event, BodyLeaves, Run, start}
-use Rattle.vc_machine.specs.Places.{Place, in_ways, BelongsTo, IsOf}
+use Rattle.vc_machine.specs.Places.{Place, Queue, OnWire, Inside, Held, in_ways, BelongsTo}
 use Rattle.vc_machine.specs.Laws.{HasHeaders}
 
 -- a channel that the network carries, to which the packet belongs
@@ -37,9 +37,16 @@ ReachesEnd net c p n rest =
     ((load : List ℕ) × (last : Bool) × (n ≡ (net.chan c).to.node) × (rest ≡ spelled ((net.chan c).to.block ∷ []) ++ load) × (kind load p.mark ≡ Piece last))
     ⊎ ((load : List ℕ) × (n ≡ (net.chan c).from.node) × (rest ≡ spelled ((net.chan c).from.block ∷ []) ++ load) × (kind load p.mark ≡ Ack))
 
--- whatever path a packet of channel c takes from way w on, it comes to the channel's end
+-- a path that a packet may take from where it stands, in a queue, on a way or in a switch
+abbrev pub PathFrom : Net → Place × Packet → ℕ → List ℕ → Type 0
+PathFrom net (Queue w, p) n rest = Path net w p.body n rest
+PathFrom net (OnWire w, p) n rest = Path net w p.body n rest
+PathFrom net (Inside w, p) n rest = (k link out : ℕ) × (left : List ℕ) × (net.far w ≡ AtSwitch k link) × BodyLeaves net k p.body out left × Path net out left n rest
+PathFrom net (Held c, p) n rest = ⊥
+
+-- whatever path a packet of channel c takes from where it stands, the node to which it comes is the channel's end
 abbrev pub PathsReachEnds : Net → Type 0
-PathsReachEnds net = (w c n : ℕ) (p : Packet) (rest : List ℕ) → IsOf net w None p c → Path net w p.body n rest → ReachesEnd net c p n rest
+PathsReachEnds net = (c n : ℕ) (x : Place × Packet) (rest : List ℕ) → BelongsTo net c x → PathFrom net x n rest → ReachesEnd net c x.1 n rest
 
 -- after any list of steps no packet in a queue, on a way or in a switch is longer than the headers that may be on its way, and 32 bytes
 abbrev pub PacketsAreShort : Net → Type 0

@@ -2,7 +2,7 @@
 use Rattle.vc_labels.specs.declared.action.Action.TheVariants.{Out}
 use Rattle.vc_labels.specs.Interval.{action_for}
 use Rattle.vc_switch.specs.Forward.{SwitchPlan, IsDrawn, HasRoom, behind, without_portals}
-use Rattle.std.specs.Prelude.{◌≡◌, ℕ, suc, zero, ◌≤◌, ◌<◌, Bool, ◌&&◌, true, List, [], ◌∷◌, length, nat_lt, nat_le, if◌then◌else◌, Option, Some, None}
+use Rattle.std.specs.Prelude.{◌≡◌, ℕ, suc, zero, ◌≤◌, ◌<◌, Bool, true, List, [], ◌∷◌, if◌then◌else◌, Option, Some}
 
 -- an end of a wire: link `link` of a node or of a switch
 pub data Port : Type 0 where
@@ -49,16 +49,6 @@ pub record Leaves (net : Net) (n : ℕ) (s : List ℕ) (w : ℕ) (t : List ℕ) 
   pub real : w < net.ways
   pub near : net.near w ≡ AtSwitch n link
   pub left : t ≡ (if (net.switch n).deletes link then rest else header ∷ rest)
-
--- one passage through a switch
-pub record Hop (net : Net) (w : ℕ) (s : List ℕ) (w2 : ℕ) (s2 : List ℕ) : Type 0 where
-  pub switch : ℕ
-  pub link : ℕ
-  pub drawn : Option ℕ
-  pub far : net.far w ≡ AtSwitch switch link
-  pub draw : IsDrawn ((net.switch switch).random link) drawn
-  pub room : HasRoom drawn s
-  pub out : Leaves net switch (behind drawn s) w2 s2
 
 -- in switch n with stack s: there is a way on, and each way on is well
 abbrev pub GoesOn : Net → (ℕ → List ℕ → Type 0) → ℕ → List ℕ → Type 0

@@ -1,11 +1,10 @@
 -- The token machine: each step takes, passes or puts one token.
+use Rattle.vc_switch.specs.Switch.{drawn, headed}
 use Rattle.vc_switch.specs.Waiting.{Waiting, MayGo}
-use Rattle.std.specs.Prelude.{◌≡◌, ℕ, suc, ◌+◌, ◌-◌, ◌%◌, ◌≤◌, ◌<◌, List, [], ◌∷◌, ◌++◌, length, Option, Some, None}
+use Rattle.std.specs.Prelude.{◌≡◌, ℕ, suc, ◌+◌, ◌-◌, ◌≤◌, ◌<◌, List, [], ◌∷◌, ◌++◌, length, Some, None}
 use Rattle.vc_packets.specs.declared.mark.Mark.{Mark}
 use Rattle.vc_packets.specs.declared.packet.Packet.{Packet}
-use Rattle.vc_packets.specs.Headers.{spelled}
 use Rattle.vc_machine.specs.Paths.{AtNode, AtSwitch, Net}
-use Rattle.vc_switch.specs.Forward.{Interval, behind}
 use Rattle.vc_machine.specs.Machine.{State, Event, Offer, Want, Choose, Stop, Send, Receive, Enter, Leave, Step, Reaches, HasGroup, BodyLeaves, set_way}
 use Rattle.vc_tokens.specs.Tokens.{Token, Byte, Fct, EndMark}
 use Rattle.vc_machine.specs.Links.{Receiver, Tokens, set_sender, set_wire, set_receiver}
@@ -47,18 +46,9 @@ pub record Takes (net : Net) (back : ℕ → ℕ) (t : Tokens) (w word : ℕ) (u
   pub front : t.wire w ≡ token ∷ rest
   pub after : u ≡ arrive back (set_wire t w rest) w word token
 
--- the header that a word draws from a range
-abbrev pub draw : Option Interval → ℕ → Option ℕ
-draw None word = None
-draw (Some i) word = Some (i.lower + word % (i.limit - i.lower))
-
--- the bytes got, with the random header in front as the first comes
-abbrev pub headed : Option ℕ → List ℕ → List ℕ
-headed drawn [] = spelled (behind drawn [])
-headed drawn (b ∷ bs) = b ∷ bs
-
+-- the bytes got, with the random header in front before the first token
 abbrev pub with_header : Net → ℕ → ℕ → Receiver → List ℕ
-with_header net n i r = headed (draw ((net.switch n).random i) r.word) r.got
+with_header net n i r = headed (drawn ((net.switch n).random i) r.word) r.got
 
 -- the mark of these bytes passes at a switch: the packet is kept, or it has no group and is lost
 pub data Closes (net : Net) (t : Tokens) (n w : ℕ) (got : List ℕ) (m : Mark) (rest : List Token) (u : Tokens) : Type 0 where

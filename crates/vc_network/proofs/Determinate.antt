@@ -1,6 +1,6 @@
 -- An act says which step it is.
 use Rattle.vc_packets.specs.Counting.{one_more}
-use Rattle.std.proofs.Common.{◌≡◌, ℕ, suc, ◌<◌, ◌≤◌, length, arith, inl, inr, Bool, true, false, List, [], ◌∷◌, ◌++◌, Option, Some, None, sym, ap, subst, ◌∙◌}
+use Rattle.std.proofs.Common.{◌≡◌, ℕ, ◌<◌, ◌≤◌, length, arith, inl, inr, Bool, true, false, List, [], ◌∷◌, ◌++◌, Option, Some, None, sym, ap, subst, ◌∙◌}
 use Rattle.vc_tokens.specs.Tokens.{Token, Byte, EndMark}
 use Rattle.vc_switch.specs.Waiting.{Waiting}
 use Rattle.vc_credit.specs.Ends.{Puts}
@@ -15,7 +15,7 @@ use Rattle.vc_machine.specs.Paths.{AtSwitch}
 use Rattle.vc_packets.specs.Functions.{put}
 use Rattle.vc_machine.proofs.Basics.{header_rest_same}
 use Rattle.vc_machine.proofs.NodeSteps.{same_piece, same_ack, not_both}
-use Rattle.vc_machine.proofs.PiecesLaw.{pieces_same}
+use Rattle.vc_packets.proofs.Cutting.{pieces_same}
 use Rattle.vc_machine.proofs.OneStep.{body_same}
 use Rattle.vc_vcp.specs.Carrier.{Carrier, Ends, set_out, set_in, enqueue}
 use Rattle.vc_vcp.specs.Carrier.{End as NodeEnd}

@@ -1,9 +1,7 @@
 -- A step of a switch is a step of the token machine of ways.
 use Rattle.std.proofs.Common.{◌≡◌, ℕ, suc, ◌+◌, ◌-◌, ◌<◌, ◌≤◌, List, [], ◌∷◌, ◌++◌, length, Option, Some, None, refl, sym, ap, subst, ◌∙◌, arith}
 use Rattle.vc_machine.specs.Paths.{Port, AtNode, AtSwitch}
-use Rattle.vc_switch.specs.Forward.{Interval}
 use Rattle.vc_machine.specs.Machine as net
-use Rattle.vc_machine.specs.Machine.{State}
 use Rattle.vc_packets.specs.Functions.{put}
 use Rattle.vc_machine.proofs.Basics.{every_put}
 use Rattle.vc_tokens.specs.Tokens.{Token, Byte, EndMark}
@@ -53,18 +51,8 @@ group_back plan k b h = record { stack = h.stack; rest = h.rest; header = h.head
 out_way : (plan : Plan) (k output : ℕ) (b d : List ℕ) → IsAccepted plan → switch.BodyLeaves (switch_plan plan k) b output d → IsOutOf plan (way_from plan (AtSwitch k output)) (AtSwitch k output)
 out_way plan k output b d acc h = let l = h.leaves in let f = found_by plan (AtSwitch k output) (acc.groups k l.header l.first l.last output l.group l.low l.high) in (f.0, f.1)
 
-drawn_same : (r : Option Interval) (word : ℕ) → tok.draw r word ≡ drawn r word
-drawn_same None word = refl
-drawn_same (Some i) word = refl
-
-headed_same : (v : Option ℕ) (got : List ℕ) → tok.headed v got ≡ headed v got
-headed_same v [] = refl
-headed_same v (b ∷ bs) = refl
-
 header_same : (plan : Plan) (k l : ℕ) (x : Input) (r : Receiver) → SwitchEnd plan k x r → tok.with_header (net_of plan) k l r ≡ with_header (switch_plan plan k) l x
-header_same plan k l x r e =
-    let range = (switch_plan plan k).random l in
-    (λ i. tok.headed (tok.draw range (e.word i)) (e.got i)) ∙ ap (λ v. tok.headed v x.got) (drawn_same range x.word) ∙ headed_same (drawn range x.word) x.got
+header_same plan k l x r e = λ i. headed (drawn ((switch_plan plan k).random l) (e.word i)) (e.got i)
 
 put_own : {X : Type 0} (f : ℕ → X) (i : ℕ) → f ≡ put f i (f i)
 put_own f i = λ j m. sym (every_put (λ v y. y ≡ f v) f i (f i) refl (λ v ne. refl) m) j
