@@ -8,7 +8,8 @@ use Rattle.vc_network.specs.Plan.{body_limit, Plan, far, back, net_of}
 use Rattle.vc_network.specs.Processes.{Doing}
 use Rattle.vc_network.specs.Network.{begins}
 use Rattle.vc_network.specs.Views.{vcps, switches}
-use Rattle.vc_network.specs.Credit.{IsUnderCredit, CreditHolds, BodiesFit}
+use Rattle.vc_credit.specs.Credit.{IsUnderCredit}
+use Rattle.vc_network.specs.Credit.{CreditHolds, BodiesFit}
 use Rattle.vc_network.proofs.Backs.{back_back}
 use Rattle.vc_network.proofs.Showing.{wires, same_end}
 use Rattle.vc_network.proofs.Fitting.{fits}

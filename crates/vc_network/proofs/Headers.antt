@@ -1,6 +1,6 @@
 -- No packet of an accepted network is longer than its limit, so a greater limit changes nothing.
 use mathlib.Core.Path.{fun_ext}
-use Rattle.std.proofs.Common.{◌≡◌, ◌↔◌, ℕ, zero, suc, ◌+◌, ◌-◌, ◌*◌, ◌^◌, ◌<◌, ◌≤◌, Bool, true, false, nat_lt, if◌then◌else◌, inl, inr, List, [], ◌∷◌, ◌++◌, length, map, Option, Some, None, refl, sym, ap, subst, ◌∙◌, arith}
+use Rattle.std.proofs.Common.{◌≡◌, ℕ, zero, suc, ◌+◌, ◌-◌, ◌^◌, ◌≤◌, Bool, true, false, nat_lt, if◌then◌else◌, inl, inr, List, [], ◌∷◌, ◌++◌, length, Option, None, refl, sym, ap, subst, ◌∙◌, arith}
 use Rattle.std.proofs.lemmas.Bool.{cases_lt}
 use Rattle.vc_actors.specs.Actors.{Network, Event, Run, Step, Label}
 use Rattle.vc_actors.specs.Actors.Label.{Own, Takes, Puts}
@@ -14,12 +14,12 @@ use Rattle.vc_switch.specs.Switch.{Switch, set_input, with_header}
 use Rattle.vc_switch.specs.Switch as switch
 use Rattle.vc_switch.specs.Waiting.{Waiting}
 use Rattle.vc_vcp.specs.Carrier.{Ends, End as NodeEnd}
-use Rattle.vc_vcp.specs.Links.{Vcp, Passes, passes_byte, drops_byte, passes_mark, set_link, passing}
+use Rattle.vc_vcp.specs.Links.{Vcp, Passes, passes_byte, drops_byte, passes_mark}
 use Rattle.vc_vcp.specs.Steps as node
 use Rattle.vc_network.specs.Plan.{Plan, Home, Way, Inside, home, body_limit, ends, input_end, output_end, switch_plan, IsAccepted}
 use Rattle.vc_network.specs.Processes.{Doing, Move, Offer, Want, Choose, Stopch, Inner, Quiet}
 use Rattle.vc_network.specs.Network.{Act, Proc, Take, Put, Route, Fct, Pass, Node, Actor, IsNode, IsSwitch, Moves, NodeStep, SwitchStep, Local, StopsChannel, begins, HappenAll}
-use Rattle.vc_network.specs.Views.{vcps, switches, vcp_of, switch_of}
+use Rattle.vc_network.specs.Views.{vcp_of, switch_of}
 use Rattle.vc_network.specs.Headers.{with_headers, MoreHeadersChangeNothing}
 use Rattle.vc_network.specs.Headline.{Headline}
 use Rattle.vc_network.proofs.Main.{run_headline}

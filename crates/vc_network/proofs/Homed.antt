@@ -12,7 +12,7 @@ use Rattle.vc_vcp.specs.Steps as node
 use Rattle.vc_network.specs.Plan.{body_limit, Plan, home, ends, switch_plan, IsWired, IsInto, IsAccepted}
 use Rattle.vc_tokens.specs.Tokens.{Token, Byte, Fct, EndMark}
 use Rattle.vc_vcp.specs.Links.{Link, Vcp, new_link, new_vcp, unqueued, Passes, passes_byte, drops_byte, passes_mark}
-use Rattle.vc_switch.specs.Switch.{Switch, Input, new_input, new_switch}
+use Rattle.vc_switch.specs.Switch.{Switch, Input, new_input}
 use Rattle.vc_switch.specs.Switch as switch
 use Rattle.vc_network.specs.Views.{sink_node}
 use Rattle.vc_network.proofs.Wiring.{OutputsHere, InputsHere, outputs_here, inputs_here}
@@ -67,13 +67,13 @@ wants_homed plan n c end answer a b acc able (node.waits held none after) i =
 pub stops_homed : (plan : Plan) (n c : ℕ) (a b : Carrier) → node.Stops (ends plan n) a c b → CarrierHomed plan n a → CarrierHomed plan n b
 stops_homed plan n c a b h i = subst (CarrierHomed plan n) (sym h.after) (in_homed plan n c a (record (a.into c) { stopped = true }) (λ p e. i.held c p e) i)
 
-pub sends_homed : (plan : Plan) (n link : ℕ) (p : Packet) (a b : Carrier) → node.Sends a link p b → CarrierHomed plan n a → CarrierHomed plan n b
-sends_homed plan n link p a b h i =
-    subst (CarrierHomed plan n) (sym h.after)
-    (record {
-      queue = every_put (λ j y. (p : Packet) (ps : List Packet) → y ≡ p ∷ ps → IsWired plan (AtNode n j)) a.queue link h.rest (λ q qs e. i.queue link p h.rest h.front) (λ j ne. i.queue j);
-      held = i.held;
-    })
+-- a packet leaves its queue
+queue_homed : (plan : Plan) (n link : ℕ) (p : Packet) (rest : List Packet) (a : Carrier) → a.queue link ≡ p ∷ rest → CarrierHomed plan n a → CarrierHomed plan n (record a { queue = put a.queue link rest })
+queue_homed plan n link p rest a front h =
+    record {
+      queue = every_put (λ j y. (p : Packet) (ps : List Packet) → y ≡ p ∷ ps → IsWired plan (AtNode n j)) a.queue link rest (λ q qs e. h.queue link p rest front) (λ j ne. h.queue j);
+      held = h.held;
+    }
 
 advance_homed : (plan : Plan) (n c : ℕ) (end : NodeEnd) (later : List (List ℕ)) (a : Carrier) → OutputsHere plan n c end → CarrierHomed plan n a → CarrierHomed plan n (node.advance a c end later)
 advance_homed plan n c end [] a o h = record { queue = h.queue; held = h.held }
@@ -89,7 +89,7 @@ arrives_homed plan n p taken a b acc (node.takes (node.advances c end now later 
 arrives_homed plan n p taken a b acc (node.stray nobody e after) i = subst (CarrierHomed plan n) (sym after) (record { queue = i.queue; held = i.held })
 
 pub unqueued_homed : (plan : Plan) (n link : ℕ) (a : Carrier) (p : Packet) (rest : List Packet) (k : Token) → a.queue link ≡ p ∷ rest → CarrierHomed plan n a → CarrierHomed plan n (unqueued a link rest k)
-unqueued_homed plan n link a p rest (EndMark m) front h = sends_homed plan n link p a (unqueued a link rest (EndMark m)) (record { rest = rest; front = front; after = refl }) h
+unqueued_homed plan n link a p rest (EndMark m) front h = queue_homed plan n link p rest a front h
 unqueued_homed plan n link a p rest (Byte b) front h = h
 unqueued_homed plan n link a p rest Fct front h = h
 

@@ -1,6 +1,4 @@
 pub mod Backs
-pub mod BeforeTheMark
-pub mod Begun
 pub mod Crediting
 pub mod Determinate
 pub mod ExampleHolds

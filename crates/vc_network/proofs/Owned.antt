@@ -1,5 +1,5 @@
 -- Each packet of the network belongs to a channel, and none is longer than the limit.
-use Rattle.std.proofs.Common.{◌≡◌, ℕ, ◌+◌, ◌*◌, sym, subst, le_refl}
+use Rattle.std.proofs.Common.{ℕ, ◌+◌, ◌*◌, sym, subst, le_refl}
 use Rattle.std.specs.List.{Contains}
 use Rattle.vc_switch.specs.Waiting.{Waiting, Wormhole}
 use Rattle.vc_machine.specs.Links.{no_tokens}

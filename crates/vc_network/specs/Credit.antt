@@ -1,8 +1,9 @@
 -- Under credit: what comes over a way finds its place, and no packet grows past the limit.
-use Rattle.std.specs.Prelude.{◌≡◌, ℕ, ◌+◌, ◌*◌, ◌≤◌, ◌<◌, List, [], ◌∷◌, length}
+use Rattle.std.specs.Prelude.{ℕ, ◌≤◌, ◌<◌, List, length}
 use Rattle.vc_actors.specs.Actors.{Network, ActBy}
 use Rattle.vc_machine.specs.Paths.{Port, AtNode, AtSwitch}
-use Rattle.vc_tokens.specs.Tokens.{Token, Fct, fcts, without_fcts}
+use Rattle.vc_tokens.specs.Tokens.{Token}
+use Rattle.vc_credit.specs.Credit.{IsUnderCredit}
 use Rattle.vc_credit.specs.Ends.{Sender}
 use Rattle.vc_switch.specs.Waiting.{Waiting}
 use Rattle.vc_credit.specs.Ends.{Receiver}
@@ -22,14 +23,7 @@ abbrev pub receiver_at : (ℕ → Vcp) → (ℕ → Switch) → Port → Receive
 receiver_at vs sw (AtNode n l) = ((vs n).link l).receiver
 receiver_at vs sw (AtSwitch k l) = ((sw k).input l).receiver
 
--- a way with this sending end and this receiving end, and the tokens on the wire back and forth
-pub record IsUnderCredit (a : Sender) (back wire : List Token) (r : Receiver) : Type 0 where
-  pub within : a.credit + 8 * fcts back + length (without_fcts wire) + length r.buffer ≤ 16
-  -- a token finds the place that was promised to it
-  pub place : (k : Token) (rest : List Token) → without_fcts (k ∷ []) ≡ k ∷ [] → wire ≡ k ∷ rest → (0 < r.promised) × (length r.buffer < 16)
-  -- an FCT finds a credit of at most 8
-  pub low : (rest : List Token) → back ≡ Fct ∷ rest → a.credit ≤ 8
-
+-- after any list of events each way is under credit
 abbrev pub CreditHolds : {P : Type 0} → Plan → Waiting → Doing P → (ℕ → P) → Type 0
 CreditHolds {P} plan waiting Does begin =
     (es : List (ActBy Act)) (s : Network (Actor P) Token) → IsAccepted plan → HappenAll plan waiting Does (begins plan begin) es s → (w : ℕ) → w < ways plan →

@@ -1,5 +1,4 @@
--- Which events a state has, and what a decision on them answers.
-use Rattle.std.specs.Prelude.{Bool, true, false}
+-- Which events a state has.
 use Rattle.vc_actors.specs.Actors.{Network, Alike, ActBy}
 use Rattle.vc_tokens.specs.Tokens.{Token}
 use Rattle.vc_switch.specs.Waiting.{Waiting}
@@ -10,11 +9,6 @@ use Rattle.vc_network.specs.Network.{Act, Actor, Happens}
 -- some step is there by the event
 abbrev pub IsEnabled : {P : Type 0} → Plan → Waiting → Doing P → Network (Actor P) Token → ActBy Act → Type 0
 IsEnabled {P} plan waiting Does old e = (new : Network (Actor P) Token) × Happens plan waiting Does old e new
-
--- what a decision answers
-abbrev pub Decides : {P : Type 0} → Plan → Waiting → Doing P → Network (Actor P) Token → ActBy Act → Bool → Type 0
-Decides plan waiting Does old e true = IsEnabled plan waiting Does old e
-Decides plan waiting Does old e false = IsEnabled plan waiting Does old e → ⊥
 
 -- an event leads to one state only
 abbrev pub EventsAreOne : {P : Type 0} → Plan → Waiting → Doing P → Type 0
