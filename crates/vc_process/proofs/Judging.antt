@@ -29,7 +29,7 @@ judges_use p (Err (fault.Chan c)) j = j
 judges_use p (Err (fault.Var v)) j = j
 judges_use p (Err fault.Memory) j = j
 
--- a PAR's parts may run side by side, and then the parts are judged; a counted SEQ's body keeps the index, and then it is judged
+-- a PAR's parts may run side by side, and then the parts are judged; a replicated SEQ's body keeps the index, and then it is judged
 pub judges_par : (i : ℕ) (ps : Procs) (r : Result (Unit {0}) UseFault) → SideBySide ps → Judges r (LawfullyAll ps) (FirstOfAll ps) → Judges r (Lawfully (PAR i ps)) (FirstOffence (PAR i ps))
 judges_par i ps r h = judges_by r (LawfullyAll ps) (Lawfully (PAR i ps)) (FirstOfAll ps) (FirstOffence (PAR i ps)) (λ k. (h, k)) (λ x f. in_par h f)
 

@@ -1,4 +1,4 @@
--- Lawful use (rule: parts of a PAR share no output, no input and no changed variable; a counted SEQ keeps its index).
+-- Lawful use (rule: parts of a PAR share no output, no input and no changed variable; a replicated SEQ keeps its index).
 use Rattle.std.specs.Prelude.{◌≡◌, ℕ, ◌<◌, true, false, ◌||◌, ◌&&◌, ◌⊎◌}
 use Rattle.vc_process.specs.Syntax.{Proc, Output, Input, StopChan, SEQ, PAR, IF, WHILE, COUNT, ALT, Procs, no_parts, part, Branches, no_branches, branch, Guards, no_guards, guard}
 use Rattle.vc_process.specs.Usage.{Set, nothing, just, ◌∪◌, changes, uses}
@@ -103,7 +103,7 @@ abbrev mutual
   LawfullyGuards no_guards = Unit {0}
   LawfullyGuards (guard t c v p gs) = Lawfully p × LawfullyGuards gs
 
--- the first offender, PARs and counted SEQs taken by site
+-- the first offender, PARs and replicated SEQs taken by site
 mutual
   pub data FirstOffence : Proc → Offence → Type 0 where
     in_seq : {i : ℕ} {ps : Procs} {x : Offence} → FirstOfAll ps x → FirstOffence (SEQ i ps) x

@@ -1,4 +1,4 @@
--- Which variables and channels a process uses, and when parts may run side by side.
+-- Sets of numbers, and the variables that a process changes and uses.
 use Rattle.std.specs.Prelude.{ℕ, Bool, false, ◌||◌, eqb, List, nat_eq}
 use Rattle.std.specs.List.{list_any}
 use Rattle.vc_process.specs.Syntax.{Exp, Number, Variable, Binary, SizeOf, Test, Constant, Compare, Both, Either, Negate, Literal, Contents, Filled, Given, Whole, Bytes, Proc, SKIP, STOP, Assign, Output, Input, StopChan, SEQ, PAR, IF, WHILE, COUNT, ALT, Procs, no_parts, part, Branches, no_branches, branch, Guards, no_guards, guard}

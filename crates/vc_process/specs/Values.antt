@@ -22,7 +22,7 @@ abbrev pub bytes_of : Datum → List ℕ
 bytes_of (datum.Int z) = replicate 0 0
 bytes_of (datum.Bytes xs) = xs
 
--- a number of 64 bits with sign, or a fault
+-- a number of 64 bits with sign, or a fault; the mag of n and of -(n + 1) is n, so -2^63 is within
 abbrev pub within : ℤ → Option ℤ
 within z = if nat_lt (mag z) (2 ^ 63) then Some z else None
 

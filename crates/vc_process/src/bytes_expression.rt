@@ -5,7 +5,7 @@ use sqlite_items::Items;
 use std::alloc::Global;
 use vc_packets::Memory;
 
-/// An expression that is worth bytes, at most 65,535 of them; it is never a fault.
+/// An expression that is worth bytes; it is never a fault. That they are at most 65,535 is asked by `Process::is_in_length`.
 #[derive(Debug, Drop)]
 pub enum BytesExpr {
     /// The bytes themselves.
@@ -16,14 +16,14 @@ pub enum BytesExpr {
     Fill {
         /// The byte.
         byte: u8,
-        /// How often it stands, at most 65,535 times.
+        /// How often it stands.
         count: u32,
     },
 }
 
 impl BytesExpr {
     /// An equal expression.
-    pub fn copy(&self, alloc: Global) -> Result<BytesExpr, Memory>
+    pub(crate) fn copy(&self, alloc: Global) -> Result<BytesExpr, Memory>
         ensures { IfOk result (λ copy. copy ≡ self.now) }
     {
         match self {

@@ -10,7 +10,7 @@ use vc_packets::{Bytes, Memory};
 pub enum Datum {
     /// A whole number of 64 bits with sign.
     Int(i64),
-    /// Bytes, at most 65,535.
+    /// Bytes.
     Bytes(Bytes),
 }
 

@@ -46,7 +46,7 @@ impl Expr {
 
     /// Whether its variables are among these, and of the kinds that it wants.
     #[tactic(auto, unfolding(crate::specs::Terms::exp))]
-    pub fn fits(&self, kinds: &[ValueKind]) -> bool
+    pub(crate) fn fits(&self, kinds: &[ValueKind]) -> bool
         ensures { result ≡ exp_fits (exp self.now) kinds.now }
     {
         match self {
@@ -60,7 +60,7 @@ impl Expr {
 
 impl Value {
     /// Whether the expression has at most this depth.
-    pub fn is_within(&self, depth: u32) -> bool
+    pub(crate) fn is_within(&self, depth: u32) -> bool
         ensures { result ≡ given_within (given self.now) depth }
     {
         match self {
@@ -70,7 +70,7 @@ impl Value {
     }
 
     /// Whether its message has at most 65,535 bytes, where that shows in the text.
-    pub fn is_in_length(&self) -> bool
+    pub(crate) fn is_in_length(&self) -> bool
         ensures { result ≡ given_in_length (given self.now) }
     {
         match self {
@@ -82,7 +82,7 @@ impl Value {
     }
 
     /// Whether its variables are among these, and of the kinds that it wants.
-    pub fn fits(&self, kinds: &[ValueKind]) -> bool
+    pub(crate) fn fits(&self, kinds: &[ValueKind]) -> bool
         ensures { result ≡ given_fits (given self.now) kinds.now }
     {
         match self {
@@ -94,7 +94,7 @@ impl Value {
     }
 
     /// What it is worth.
-    pub fn kind(&self) -> ValueKind
+    pub(crate) fn kind(&self) -> ValueKind
         ensures { result ≡ given_kind (given self.now) }
     {
         match self {

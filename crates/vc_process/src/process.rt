@@ -154,7 +154,7 @@ fn repeated(alloc: Global, cond: &Cond, body: Boxed<Process>) -> Result<Process,
     Ok(Process::While { cond, body })
 }
 
-/// A counted SEQ with an equal base and count.
+/// A replicated SEQ with an equal base and count.
 fn counted(
     alloc: Global,
     var: u8,

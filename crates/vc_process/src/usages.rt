@@ -106,7 +106,7 @@ fn push_input(uses: &mut Items<Usage>, chan: u16, var: u8) -> Result<(), Memory>
     push_changing(uses, Used::Variable(var))
 }
 
-/// Adds the uses of a counted SEQ, apart from its body.
+/// Adds the uses of a replicated SEQ, apart from its body.
 fn push_count(uses: &mut Items<Usage>, var: u8, base: &Expr, count: &Expr) -> Result<(), Memory>
     ensures { OnOk result (uses.new ≡ uses.old ++ (as_changing (of.Variable var) ∷ exp_usages (exp base.now) ++ exp_usages (exp count.now))) }
 {
