@@ -4,6 +4,7 @@ use Rattle.std.proofs.lemmas.Bool.Decides.{nat_tests}
 use Rattle.std.proofs.lemmas.List.Elements.{Contains-append_cases}
 use Rattle.std.specs.Prelude.{◌==◌, if◌then◌else◌, MatchOption}
 use Rattle.std.specs.List.{Contains}
+use Rattle.std.specs.Option.{option_or}
 use Rattle.vc_occam.specs.declared.answer.Answer.{Answer}
 use Rattle.vc_process.specs.declared.datum.Datum.{Datum}
 use Rattle.vc_occam.specs.declared.deed.Deed.{Deed}
@@ -23,10 +24,11 @@ use Rattle.vc_occam.specs.declared.waits.Waits.TheVariants as waits
 use Rattle.vc_occam.specs.Frames.{Did, first_waits, waits_at, waits_there}
 use Rattle.vc_occam.specs.Moving.{IsAlone, site_of, deed_for, deed_on}
 use Rattle.vc_occam.specs.Sites.{sites, sites_all, sites_rest, OwnSites}
-use Rattle.vc_occam.specs.States.{State, Acts, Wants, Chooses, IsTraced, Resumes, StepsTo, bytes_or_none, came, carried, doing, or_else, output_at, sent_by, Waiting, output, input, waiting}
+use Rattle.vc_occam.specs.States.{State, Acts, Wants, Chooses, IsTraced, Resumes, StepsTo, bytes_or_none, came, carried, doing, output_at, sent_by, Waiting, output, input, waiting}
 use Rattle.vc_occam.proofs.Keeping.{lawful}
 use Rattle.vc_occam.proofs.Law.{law}
-use Rattle.vc_process.proofs.Lists.{at_front, behind, front_or, only, none, is_inserted}
+use Rattle.vc_process.proofs.Lists.{at_front, behind, front_or, only, none}
+use Rattle.vc_occam.proofs.Insertion.{is_inserted}
 use Rattle.vc_occam.proofs.Made.{no_meeting, not_there}
 use Rattle.vc_occam.proofs.Places.{doers, itself, step_site}
 use Rattle.vc_occam.proofs.Sites.{Within, clash, either, not_true, within_none}
@@ -100,10 +102,10 @@ sends x (does_offer {s = s} {c = c} {x = y} k) o q =
     rw on (k ∙ ap Some (out_same c c y x q))
 sends x (in_then st) o q = sends x st o.0 q
 sends x (in_turns st) o q = sends x st o.0 q
-sends x (in_left {i = i} {q = q} {e = e} st) o h = ap (λ y. or_else y (output_at i q e)) (sends x st o.1 h)
+sends x (in_left {i = i} {q = q} {e = e} st) o h = ap (λ y. option_or y (output_at i q e)) (sends x st o.1 h)
 sends x (in_right {i = i} {r = r} {q = q} {e = e} st) o h =
     let away : sites_rest r i ≡ false = not_true (sites_rest r i) (λ k. clash (doers_rest q i (step_site st)) (o.0 i k)) in
-    ap (λ y. or_else y (output_at i q e)) (not_there i r e away) ∙ sends x st o.2 h
+    ap (λ y. option_or y (output_at i q e)) (not_there i r e away) ∙ sends x st o.2 h
 
 traced : (s s' : State) (i : ℕ) (d : Deed) (ks : List Comm) → UsesLawfully s.rest → StepsTo s i d ks s' → IsTraced s ks s'
 traced s s' i d ks u st = λ t x k. law st (lawful s.rest u) k
@@ -220,7 +222,7 @@ found_some : (w : Waits) (xs : List Waiting) (i : ℕ) → first_waits w xs ≡ 
 found_some w [] i h = absurd (some_none i (sym h))
 found_some w (x ∷ xs) i h = on (waits_there w x) refl h (found_some w xs i)
   where
-    on : (o : Option ℕ) → waits_there w x ≡ o → or_else o (first_waits w xs) ≡ Some i → (first_waits w xs ≡ Some i → Contains xs (waits_at w i)) → Contains (x ∷ xs) (waits_at w i)
+    on : (o : Option ℕ) → waits_there w x ≡ o → option_or o (first_waits w xs) ≡ Some i → (first_waits w xs ≡ Some i → Contains xs (waits_at w i)) → Contains (x ∷ xs) (waits_at w i)
     on (Some j) q k f = subst (λ y. Contains (x ∷ xs) y) (found_there w x i (q ∙ k)) (at_front x xs)
     on None q k f = behind x xs (waits_at w i) (f k)
 
@@ -228,7 +230,7 @@ found_none : (w : Waits) (xs : List Waiting) → first_waits w xs ≡ None → (
 found_none w [] h i k = none (waits_at w i) k
 found_none w (x ∷ xs) h i k = on (waits_there w x) refl h (λ g. found_none w xs g i)
   where
-    on : (o : Option ℕ) → waits_there w x ≡ o → or_else o (first_waits w xs) ≡ None → (first_waits w xs ≡ None → Contains xs (waits_at w i) → ⊥) → ⊥
+    on : (o : Option ℕ) → waits_there w x ≡ o → option_or o (first_waits w xs) ≡ None → (first_waits w xs ≡ None → Contains xs (waits_at w i) → ⊥) → ⊥
     on (Some j) q g f = some_none j g
     on None q g f = elim (front_or x xs (waits_at w i) k) [
       | inl e ↦ some_none i (sym (waits_itself w i) ∙ ap (waits_there w) (sym e) ∙ q)

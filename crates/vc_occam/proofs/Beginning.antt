@@ -15,7 +15,7 @@ use Rattle.vc_process.specs.Syntax.{Test, SEQ, PAR, IF, no_parts}
 use Rattle.vc_process.specs.Terms.{as_test}
 use Rattle.vc_process.specs.Values.{Store, holds}
 use Rattle.vc_occam.specs.Remains.{Rest, Done, Stopped, Fresh, begin, branch_on, chosen, does_empty_seq, does_empty_par, does_if, does_turn, does_leave, faults_while}
-use Rattle.vc_occam.specs.Frames.{Able, BeginsWith, Did, View, begun_at, branches_of, chosen_from, follow, has_parts, is_choice, plan_at, plans, plans_of, place_on, rest_at, view, views}
+use Rattle.vc_occam.specs.Frames.{Able, BeginsWith, Did, View, begun_at, branches_of, chosen_from, follow, goes_on_at_one_part, is_choice, plan_at, plans, plans_of, place_on, rest_at, view, views}
 use Rattle.vc_occam.specs.Nexts.{branch_next, turn_begun, turn_next}
 
 -- the frame at a place has begun
@@ -147,7 +147,7 @@ empty_seq : (i : ℕ) (vs : List View) (e : Store) (s : ℕ) (d : Deed) → Able
 empty_seq i [] e s d (ks, q, f, does_empty_seq) = ([], does_empty_seq)
 empty_seq i (v ∷ vs) e s d (ks, q, f, st) = elim st [ ]
 
-pub seq_did : (k : Kind) (i : ℕ) (vs : List View) (e : Store) (s : ℕ) (d : Deed) → has_parts k ≡ true → ((cs : List Cond) → k ≡ kind.If cs → ⊥) → ((c : Cond) → k ≡ kind.While c → ⊥) → is_choice k ≡ false → Able (Fresh (plan_at k i vs)) e s d → Did (Fresh (plan_at k i vs)) e s d Done e
+pub seq_did : (k : Kind) (i : ℕ) (vs : List View) (e : Store) (s : ℕ) (d : Deed) → goes_on_at_one_part k ≡ true → ((cs : List Cond) → k ≡ kind.If cs → ⊥) → ((c : Cond) → k ≡ kind.While c → ⊥) → is_choice k ≡ false → Able (Fresh (plan_at k i vs)) e s d → Did (Fresh (plan_at k i vs)) e s d Done e
 seq_did kind.Skip i vs e s d h x y z a = absurd (let q : false ≡ true = h in cc)
 seq_did kind.Stop i vs e s d h x y z a = absurd (let q : false ≡ true = h in cc)
 seq_did (kind.Set v b) i vs e s d h x y z a = absurd (let q : false ≡ true = h in cc)

@@ -1,6 +1,7 @@
 -- Parts that go on side by side.
 use Rattle.std.proofs.Common.{◌≡◌, ℕ, zero, suc, true, false, ◌&&◌, refl, ap, sym, ◌∙◌, subst, List, [], ◌∷◌, ◌++◌, Option, Some, None, length, set, drop, get_or, ◌+◌, ◌≤◌, ◌<◌, arith, append_assoc, append-nil, ◌⊎◌, inl, inr}
 use Rattle.std.specs.Prelude.{slice_get}
+use Rattle.std.specs.Option.{option_or}
 use Rattle.vc_occam.specs.declared.deed.Deed.{Deed}
 use Rattle.vc_occam.specs.declared.frame.Frame.{Frame}
 use Rattle.vc_occam.specs.declared.moves.Move.{Move}
@@ -10,7 +11,7 @@ use Rattle.vc_process.specs.Values.{Store}
 use Rattle.vc_process.specs.Usage.{Set, changes}
 use Rattle.vc_occam.specs.Remains.{Rest, Done, Beside, and_then, begin, begin_seq, begin_par, begin_all, beside_on, in_left, in_right}
 use Rattle.vc_occam.specs.First.{own}
-use Rattle.vc_occam.specs.States.{Waiting, or_else, output_at, waiting}
+use Rattle.vc_occam.specs.States.{Waiting, output_at, waiting}
 use Rattle.vc_occam.specs.Frames.{Able, Did, View, all_begun, assigned_at, begun_at, begun_to, besides, first_waits, is_done, part_rest, plans, plans_of, view, views, waits_there}
 use Rattle.vc_process.proofs.Lists.{none}
 use Rattle.vc_process.proofs.Reaching.{drop_at, drop_all}
@@ -32,11 +33,11 @@ pub beside_waits : (mine : Set) (r q : Rest) → waiting (beside_on mine r q) �
 beside_waits mine Done Done = refl
 beside_waits mine r q = refl
 
-pub beside_output : (i : ℕ) (mine : Set) (r q : Rest) (e : Store) → output_at i (beside_on mine r q) e ≡ or_else (output_at i r e) (output_at i q e)
+pub beside_output : (i : ℕ) (mine : Set) (r q : Rest) (e : Store) → output_at i (beside_on mine r q) e ≡ option_or (output_at i r e) (output_at i q e)
 beside_output i mine Done Done e = refl
 beside_output i mine r q e = refl
 
-pub beside_assigned : (i : ℕ) (mine : Set) (r q : Rest) (e : Store) → assigned_at i (beside_on mine r q) e ≡ or_else (assigned_at i r e) (assigned_at i q e)
+pub beside_assigned : (i : ℕ) (mine : Set) (r q : Rest) (e : Store) → assigned_at i (beside_on mine r q) e ≡ option_or (assigned_at i r e) (assigned_at i q e)
 beside_assigned i mine Done Done e = refl
 beside_assigned i mine r q e = refl
 
@@ -97,11 +98,11 @@ begun_whole zero (v ∷ vs) l = absurd (omega arith)
 begun_whole (suc k) (v ∷ vs) l = ap (λ ws. (v.0, begin v.0) ∷ ws) (begun_whole k vs (omega arith))
 
 -- the first that waits
-pub first_append : (w : Waits) (xs ys : List Waiting) → first_waits w (xs ++ ys) ≡ or_else (first_waits w xs) (first_waits w ys)
+pub first_append : (w : Waits) (xs ys : List Waiting) → first_waits w (xs ++ ys) ≡ option_or (first_waits w xs) (first_waits w ys)
 first_append w [] ys = refl
-first_append w (x ∷ xs) ys = ap (or_else (waits_there w x)) (first_append w xs ys) ∙ first_of (waits_there w x) (first_waits w xs) (first_waits w ys)
+first_append w (x ∷ xs) ys = ap (option_or (waits_there w x)) (first_append w xs ys) ∙ first_of (waits_there w x) (first_waits w xs) (first_waits w ys)
   where
-    first_of : (a b c : Option ℕ) → or_else a (or_else b c) ≡ or_else (or_else a b) c
+    first_of : (a b c : Option ℕ) → option_or a (option_or b c) ≡ option_or (option_or a b) c
     first_of None b c = refl
     first_of (Some x) b c = refl
 
@@ -169,12 +170,12 @@ pushed_all fs k e now top l q = sym (append-nil now) ∙ ap (λ r. now ++ own r 
 pub waits_more : (fs : List Frame) (k : ℕ) (f : Frame) (w : Waits) (o : Option ℕ) → k < length fs → f ≡ get_or fs k f → None ≡ first_waits w (waiting (view f).1) → first_waits w (waiting (besides (views (drop k fs)))) ≡ o → first_waits w (waiting (besides (views (drop (k + 1) fs)))) ≡ o
 waits_more fs k f w o l h g q =
     let rest = besides (views (drop (k + 1) fs)) in
-    ap (λ x. or_else x (first_waits w (waiting rest))) g ∙ sym (first_append w (waiting (view f).1) (waiting rest)) ∙ ap (first_waits w) (sym (beside_waits (changes (view f).0) (view f).1 rest)) ∙ ap (λ r. first_waits w (waiting r)) (sym (drop_view k fs f l h)) ∙ q
+    ap (λ x. option_or x (first_waits w (waiting rest))) g ∙ sym (first_append w (waiting (view f).1) (waiting rest)) ∙ ap (first_waits w) (sym (beside_waits (changes (view f).0) (view f).1 rest)) ∙ ap (λ r. first_waits w (waiting r)) (sym (drop_view k fs f l h)) ∙ q
 
 pub waits_found : (fs : List Frame) (k : ℕ) (f : Frame) (w : Waits) (o : Option ℕ) (i : ℕ) → k < length fs → f ≡ get_or fs k f → Some i ≡ first_waits w (waiting (view f).1) → first_waits w (waiting (besides (views (drop k fs)))) ≡ o → Some i ≡ o
 waits_found fs k f w o i l h g q =
     let rest = besides (views (drop (k + 1) fs)) in
-    ap (λ x. or_else x (first_waits w (waiting rest))) g ∙ sym (first_append w (waiting (view f).1) (waiting rest)) ∙ ap (first_waits w) (sym (beside_waits (changes (view f).0) (view f).1 rest)) ∙ ap (λ r. first_waits w (waiting r)) (sym (drop_view k fs f l h)) ∙ q
+    ap (λ x. option_or x (first_waits w (waiting rest))) g ∙ sym (first_append w (waiting (view f).1) (waiting rest)) ∙ ap (first_waits w) (sym (beside_waits (changes (view f).0) (view f).1 rest)) ∙ ap (λ r. first_waits w (waiting r)) (sym (drop_view k fs f l h)) ∙ q
 
 pub waits_none : (fs : List Frame) (k : ℕ) (w : Waits) (o : Option ℕ) → length fs ≤ k → first_waits w (waiting (besides (views (drop k fs)))) ≡ o → None ≡ o
 waits_none fs k w o l q = ap (λ r. first_waits w (waiting r)) (sym (drop_none k fs l)) ∙ q

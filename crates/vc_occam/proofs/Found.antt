@@ -18,7 +18,7 @@ use Rattle.vc_occam.specs.First.{own}
 use Rattle.vc_occam.specs.Moving.{deed_for, site_of}
 use Rattle.vc_occam.specs.Sites.{PartsInPreorder, site}
 use Rattle.vc_occam.specs.States.{Waiting, output_at, waiting}
-use Rattle.vc_occam.specs.Frames.{BeginsAt, GoesOnIn, HasSiteIn, MovesAt, PartInPreorder, View, assigned_at, behind, besides, has_parts, is_counted, is_par, part_assigned, part_output, part_own, part_waits, place_of, place_with, plan_at, plans_of, view, views}
+use Rattle.vc_occam.specs.Frames.{BeginsAt, GoesOnIn, HasSiteIn, MovesAt, PartInPreorder, View, assigned_at, behind, besides, goes_on_at_one_part, is_counted, is_par, part_assigned, part_output, part_own, part_waits, place_of, place_with, plan_at, plans_of, view, views}
 use Rattle.vc_occam.proofs.Besides.{beside_own, beside_waits}
 use Rattle.vc_occam.proofs.Frames.{follow_assigned, follow_output, follow_own, follow_waits, length-views, rest_going, rest_ready, rest_together, turning_assigned, turning_output, turning_own, turning_waits, view_out}
 use Rattle.vc_occam.proofs.Inside.{frames_inside}
@@ -86,7 +86,7 @@ moves_in phase.Ended p i r q s h = λ m e k c. h m e k ((s m e k).0 c)
 moves_in phase.Stuck p i r q s h = λ m e k c. h m e k ((s m e k).0 c)
 
 -- the part that a process is at
-pub going_in : (f : Frame) (i k : ℕ) → (out-Frame f).phase ≡ phase.Waiting → has_parts (out-Frame f).kind ≡ true → k ≡ place_of (out-Frame f).kind (out-Frame f).at → GoesOnIn i (slice_get (views (out-Frame f).parts.items) k) (view f).1
+pub going_in : (f : Frame) (i k : ℕ) → (out-Frame f).phase ≡ phase.Waiting → goes_on_at_one_part (out-Frame f).kind ≡ true → k ≡ place_of (out-Frame f).kind (out-Frame f).at → GoesOnIn i (slice_get (views (out-Frame f).parts.items) k) (view f).1
 going_in f i k h g p =
     let o = out-Frame f in
     let vs = views o.parts.items in

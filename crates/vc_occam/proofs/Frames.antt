@@ -18,7 +18,7 @@ use Rattle.vc_occam.specs.First.{own}
 use Rattle.vc_occam.specs.declared.moves.Move.TheVariants.{Quiet}
 use Rattle.vc_occam.specs.States.{waiting, output_at}
 use Rattle.vc_occam.specs.Gates.{Gate, gate}
-use Rattle.vc_occam.specs.Frames.{View, awaiting, chosen_at, count_of, is_counted, is_par, all_begun, turn_of, turning, together, besides, plans_of, behind, follow, follow_on, going_at, resting, resting_at, as_begun, gone_on, has_parts, is_last, place_of, while_of, so_far, plan_at, rest_at, view_step, view, views, is_done, part_done, part_own, part_waits, part_output, part_assigned, assigned_at, begun_parts, begun_phase}
+use Rattle.vc_occam.specs.Frames.{View, awaiting, chosen_at, count_of, is_counted, is_par, all_begun, turn_of, turning, together, besides, plans_of, behind, follow, follow_on, going_at, resting, resting_at, as_begun, gone_on, goes_on_at_one_part, is_last, place_of, while_of, so_far, plan_at, rest_at, view_step, view, views, is_done, part_done, part_own, part_waits, part_output, part_assigned, assigned_at, begun_parts, begun_phase}
 use Rattle.vc_occam.proofs.Besides.{begin_goes, begun_plans_of, besides_begun, goes_then}
 
 pub view_roll : (f : Frame-F Frame) → view (roll-Frame f) ≡ (plan_at f.kind f.site (views f.parts.items), rest_at f.kind f.phase f.site (views f.parts.items) f.at)
@@ -154,7 +154,7 @@ resting_done zero (v ∷ vs) = begun_done v.0
 resting_done (suc k) (v ∷ vs) = resting_done k vs
 
 rests_done : (k : Kind) (i : ℕ) (vs : List View) (at : ℕ) → is_done (resting k i vs at) ≡ false
-rests_done k i vs at = on (has_parts k)
+rests_done k i vs at = on (goes_on_at_one_part k)
   where
     on : (b : Bool) → is_done (if b then going_at k i (resting_at (place_of k at) vs) at else Stopped) ≡ false
     on false = refl
@@ -215,7 +215,7 @@ follow_on_done None (part p ps) = refl
 follow_on_done (Some v) no_parts = refl
 follow_on_done (Some v) (part p ps) = then_goes v.1 p ps
 
-pub went_done : (k : Kind) (i : ℕ) (vs : List View) (at : ℕ) → has_parts k ≡ true → is_done (follow_on (slice_get vs (place_of k at)) (behind k i vs at)) ≡ (is_last k at (length vs) && part_done (slice_get vs (place_of k at)))
+pub went_done : (k : Kind) (i : ℕ) (vs : List View) (at : ℕ) → goes_on_at_one_part k ≡ true → is_done (follow_on (slice_get vs (place_of k at)) (behind k i vs at)) ≡ (is_last k at (length vs) && part_done (slice_get vs (place_of k at)))
 unfolding no_plans
 went_done kind.Skip i vs at h = absurd (let z : false ≡ true = h in cc)
 went_done kind.Stop i vs at h = absurd (let z : false ≡ true = h in cc)
@@ -235,7 +235,7 @@ and_yes true b h = h
 and_yes false b h = refl
 
 -- where its part has ended, it has ended if nothing comes behind the part
-pub gone_done : (k : Kind) (i : ℕ) (vs : List View) (at : ℕ) → has_parts k ≡ true → part_done (slice_get vs (place_of k at)) ≡ true → is_done (gone_on k i vs at) ≡ is_last k at (length vs)
+pub gone_done : (k : Kind) (i : ℕ) (vs : List View) (at : ℕ) → goes_on_at_one_part k ≡ true → part_done (slice_get vs (place_of k at)) ≡ true → is_done (gone_on k i vs at) ≡ is_last k at (length vs)
 gone_done k i vs at h e = went_done k i vs at h ∙ and_yes (is_last k at (length vs)) (part_done (slice_get vs (place_of k at))) e
 
 pub frame_begun : (k : Kind) (i : ℕ) (vs : List View) → ◌≡◌ {A = View} (plan_at k i (begun_parts k vs), rest_at k (begun_phase k vs) i (begun_parts k vs) 0) (plan_at k i vs, begin (plan_at k i vs))
@@ -271,7 +271,7 @@ rest_waiting f h = rest_by f phase.Waiting h
 pub rest_turning : (f : Frame) (x y : ℤ) → (out-Frame f).phase ≡ phase.Turning x y → (view f).1 ≡ turning (out-Frame f).kind (views (out-Frame f).parts.items) x y
 rest_turning f x y h = rest_by f (phase.Turning x y) h
 
--- a counted SEQ in a turn, as its body; no other kind is in a turn
+-- a replicated SEQ in a turn, as its body; no other kind is in a turn
 pub turn_own : (v : ℕ) (vs : List View) (x y : ℤ) (e : Store) → own (turn_of v vs x y) e ≡ part_own (slice_get vs 0) e
 turn_own v [] x y e = refl
 turn_own v (w ∷ vs) x y e = refl
@@ -393,7 +393,7 @@ is_awaiting f h =
     subst IsAwaiting (sym (rest_chosen f h)) (awaiting_is o.kind o.site (views o.parts.items) o.at)
 
 -- a process that is at one of its parts
-pub going_part : (k : Kind) (i : ℕ) (vs : List View) (at : ℕ) → has_parts k ≡ true → going_at k i vs at ≡ follow (slice_get vs (place_of k at)) (behind k i vs at)
+pub going_part : (k : Kind) (i : ℕ) (vs : List View) (at : ℕ) → goes_on_at_one_part k ≡ true → going_at k i vs at ≡ follow (slice_get vs (place_of k at)) (behind k i vs at)
 going_part kind.Skip i vs at h = absurd (let e : false ≡ true = h in cc)
 going_part kind.Stop i vs at h = absurd (let e : false ≡ true = h in cc)
 going_part (kind.Set v a) i vs at h = absurd (let e : false ≡ true = h in cc)
@@ -413,7 +413,7 @@ pub data IsIdle : Rest → Type 0 where
   idle_finishing : {i c : ℕ} → IsIdle (Finishing i c)
   idle_getting : {i c v : ℕ} → IsIdle (Getting i c v)
 
-going_idle : (k : Kind) (i : ℕ) (vs : List View) (at : ℕ) → has_parts k ≡ false → IsIdle (going_at k i vs at)
+going_idle : (k : Kind) (i : ℕ) (vs : List View) (at : ℕ) → goes_on_at_one_part k ≡ false → IsIdle (going_at k i vs at)
 going_idle kind.Skip i vs at h = idle_stopped
 going_idle kind.Stop i vs at h = idle_stopped
 going_idle (kind.Set v a) i vs at h = idle_stopped
@@ -427,7 +427,7 @@ going_idle (kind.While b) i vs at h = absurd (let e : true ≡ false = h in cc)
 going_idle (kind.Count v a n) i vs at h = idle_stopped
 going_idle (kind.Alt gs) i vs at h = absurd (let e : true ≡ false = h in cc)
 
-pub rest_idle : (f : Frame) → (out-Frame f).phase ≡ phase.Waiting → has_parts (out-Frame f).kind ≡ false → IsIdle (view f).1
+pub rest_idle : (f : Frame) → (out-Frame f).phase ≡ phase.Waiting → goes_on_at_one_part (out-Frame f).kind ≡ false → IsIdle (view f).1
 rest_idle f h k =
     let o = out-Frame f in
     subst IsIdle (sym (rest_waiting f h)) (going_idle o.kind o.site (views o.parts.items) o.at k)
@@ -447,7 +447,7 @@ idle_assigned i e idle_stopped = refl
 idle_assigned i e idle_finishing = refl
 idle_assigned i e idle_getting = refl
 
-going_nothing : (k : Kind) (i : ℕ) (vs : List View) (at : ℕ) → has_parts k ≡ false → ((c : ℕ) (a : Value) → k ≡ kind.Send c a → ⊥) → ((c v : ℕ) → k ≡ kind.Receive c v → ⊥) → going_at k i vs at ≡ Stopped
+going_nothing : (k : Kind) (i : ℕ) (vs : List View) (at : ℕ) → goes_on_at_one_part k ≡ false → ((c : ℕ) (a : Value) → k ≡ kind.Send c a → ⊥) → ((c v : ℕ) → k ≡ kind.Receive c v → ⊥) → going_at k i vs at ≡ Stopped
 going_nothing kind.Skip i vs at h s r = refl
 going_nothing kind.Stop i vs at h s r = refl
 going_nothing (kind.Set v a) i vs at h s r = refl
@@ -461,7 +461,7 @@ going_nothing (kind.While b) i vs at h s r = absurd (let e : true ≡ false = h 
 going_nothing (kind.Count v a n) i vs at h s r = refl
 going_nothing (kind.Alt gs) i vs at h s r = absurd (let e : true ≡ false = h in cc)
 
-pub rest_nothing : (f : Frame) → (out-Frame f).phase ≡ phase.Waiting → has_parts (out-Frame f).kind ≡ false → ((c : ℕ) (a : Value) → (out-Frame f).kind ≡ kind.Send c a → ⊥) → ((c v : ℕ) → (out-Frame f).kind ≡ kind.Receive c v → ⊥) → (view f).1 ≡ Stopped
+pub rest_nothing : (f : Frame) → (out-Frame f).phase ≡ phase.Waiting → goes_on_at_one_part (out-Frame f).kind ≡ false → ((c : ℕ) (a : Value) → (out-Frame f).kind ≡ kind.Send c a → ⊥) → ((c v : ℕ) → (out-Frame f).kind ≡ kind.Receive c v → ⊥) → (view f).1 ≡ Stopped
 rest_nothing f h k s r =
     let o = out-Frame f in
     rest_waiting f h ∙ going_nothing o.kind o.site (views o.parts.items) o.at k s r
@@ -508,7 +508,7 @@ rest_receiving f c v h k =
     let o = out-Frame f in
     rest_waiting f h ∙ ap (λ k. going_at k o.site (views o.parts.items) o.at) k
 
-pub rest_going : (f : Frame) → (out-Frame f).phase ≡ phase.Waiting → has_parts (out-Frame f).kind ≡ true →
+pub rest_going : (f : Frame) → (out-Frame f).phase ≡ phase.Waiting → goes_on_at_one_part (out-Frame f).kind ≡ true →
     (view f).1 ≡ follow (slice_get (views (out-Frame f).parts.items) (place_of (out-Frame f).kind (out-Frame f).at)) (behind (out-Frame f).kind (out-Frame f).site (views (out-Frame f).parts.items) (out-Frame f).at)
 rest_going f h k =
     let o = out-Frame f in
@@ -581,27 +581,27 @@ resting_assigned j (suc k) (v ∷ vs) e = resting_assigned j k vs e
 
 -- a process that rests begins with nothing
 rests_own : (k : Kind) (i : ℕ) (vs : List View) (at : ℕ) (e : Store) → own (resting k i vs at) e ≡ []
-rests_own k i vs at e = on (has_parts k) refl
+rests_own k i vs at e = on (goes_on_at_one_part k) refl
   where
-    on : (b : Bool) → has_parts k ≡ b → own (if b then going_at k i (resting_at (place_of k at) vs) at else Stopped) e ≡ []
+    on : (b : Bool) → goes_on_at_one_part k ≡ b → own (if b then going_at k i (resting_at (place_of k at) vs) at else Stopped) e ≡ []
     on false h = refl
     on true h =
         let ws = resting_at (place_of k at) vs in
         ap (λ (r : Rest). own r e) (going_part k i ws at h) ∙ follow_own (slice_get ws (place_of k at)) (behind k i ws at) e ∙ resting_own (place_of k at) vs e
 
 rests_output : (j : ℕ) (k : Kind) (i : ℕ) (vs : List View) (at : ℕ) (e : Store) → output_at j (resting k i vs at) e ≡ None
-rests_output j k i vs at e = on (has_parts k) refl
+rests_output j k i vs at e = on (goes_on_at_one_part k) refl
   where
-    on : (b : Bool) → has_parts k ≡ b → output_at j (if b then going_at k i (resting_at (place_of k at) vs) at else Stopped) e ≡ None
+    on : (b : Bool) → goes_on_at_one_part k ≡ b → output_at j (if b then going_at k i (resting_at (place_of k at) vs) at else Stopped) e ≡ None
     on false h = refl
     on true h =
         let ws = resting_at (place_of k at) vs in
         ap (λ (r : Rest). output_at j r e) (going_part k i ws at h) ∙ follow_output j (slice_get ws (place_of k at)) (behind k i ws at) e ∙ resting_output j (place_of k at) vs e
 
 rests_assigned : (j : ℕ) (k : Kind) (i : ℕ) (vs : List View) (at : ℕ) (e : Store) → assigned_at j (resting k i vs at) e ≡ None
-rests_assigned j k i vs at e = on (has_parts k) refl
+rests_assigned j k i vs at e = on (goes_on_at_one_part k) refl
   where
-    on : (b : Bool) → has_parts k ≡ b → assigned_at j (if b then going_at k i (resting_at (place_of k at) vs) at else Stopped) e ≡ None
+    on : (b : Bool) → goes_on_at_one_part k ≡ b → assigned_at j (if b then going_at k i (resting_at (place_of k at) vs) at else Stopped) e ≡ None
     on false h = refl
     on true h =
         let ws = resting_at (place_of k at) vs in
@@ -626,13 +626,13 @@ resting_assigns f j e h =
     ap (λ (r : Rest). assigned_at j r e) (rest_resting f h) ∙ rests_assigned j o.kind o.site (views o.parts.items) o.at e
 
 -- a process with parts that rests, and one without
-pub resting_goes : (k : Kind) (i : ℕ) (vs : List View) (at : ℕ) → has_parts k ≡ true → resting k i vs at ≡ going_at k i (resting_at (place_of k at) vs) at
+pub resting_goes : (k : Kind) (i : ℕ) (vs : List View) (at : ℕ) → goes_on_at_one_part k ≡ true → resting k i vs at ≡ going_at k i (resting_at (place_of k at) vs) at
 resting_goes k i vs at h = ap (λ (b : Bool). if b then going_at k i (resting_at (place_of k at) vs) at else Stopped) h
 
-pub resting_stops : (k : Kind) (i : ℕ) (vs : List View) (at : ℕ) → has_parts k ≡ false → resting k i vs at ≡ Stopped
+pub resting_stops : (k : Kind) (i : ℕ) (vs : List View) (at : ℕ) → goes_on_at_one_part k ≡ false → resting k i vs at ≡ Stopped
 resting_stops k i vs at h = ap (λ (b : Bool). if b then going_at k i (resting_at (place_of k at) vs) at else Stopped) h
 
-pub resting_waits : (f : Frame) (k : ℕ) → (out-Frame f).phase ≡ phase.Resting → has_parts (out-Frame f).kind ≡ true → k ≡ place_of (out-Frame f).kind (out-Frame f).at →
+pub resting_waits : (f : Frame) (k : ℕ) → (out-Frame f).phase ≡ phase.Resting → goes_on_at_one_part (out-Frame f).kind ≡ true → k ≡ place_of (out-Frame f).kind (out-Frame f).at →
     waiting (view f).1 ≡ part_waits (slice_get (resting_at k (views (out-Frame f).parts.items)) k)
 resting_waits f k h p g =
     let o = out-Frame f in
@@ -641,7 +641,7 @@ resting_waits f k h p g =
     ap waiting (rest_resting f h ∙ resting_goes o.kind o.site vs o.at p ∙ going_part o.kind o.site ws o.at p) ∙ follow_waits (slice_get ws (place_of o.kind o.at)) (behind o.kind o.site ws o.at)
     ∙ ap (λ (n : ℕ). part_waits (slice_get (resting_at n vs) n)) (sym g)
 
-pub resting_stopped : (f : Frame) → (out-Frame f).phase ≡ phase.Resting → has_parts (out-Frame f).kind ≡ false → (view f).1 ≡ Stopped
+pub resting_stopped : (f : Frame) → (out-Frame f).phase ≡ phase.Resting → goes_on_at_one_part (out-Frame f).kind ≡ false → (view f).1 ≡ Stopped
 resting_stopped f h p =
     let o = out-Frame f in
     rest_resting f h ∙ resting_stops o.kind o.site (views o.parts.items) o.at p
@@ -657,7 +657,7 @@ resting_none zero (w ∷ vs) h = absurd (let e : Some w ≡ None = h in cc)
 resting_none (suc k) (w ∷ vs) h = resting_none k vs h
 
 -- an output or input that goes on has begun; nothing else with no parts goes on
-pub going_begun : (k : Kind) (i : ℕ) (vs : List View) (at : ℕ) → has_parts k ≡ false → going_at k i vs at ≡ as_begun (plan_at k i vs)
+pub going_begun : (k : Kind) (i : ℕ) (vs : List View) (at : ℕ) → goes_on_at_one_part k ≡ false → going_at k i vs at ≡ as_begun (plan_at k i vs)
 going_begun kind.Skip i vs at h = refl
 going_begun kind.Stop i vs at h = refl
 going_begun (kind.Set v a) i vs at h = refl
@@ -672,7 +672,7 @@ going_begun (kind.Count v a n) i [] at h = refl
 going_begun (kind.Count v a n) i (w ∷ vs) at h = refl
 going_begun (kind.Alt gs) i vs at h = absurd (let e : true ≡ false = h in cc)
 
-pub none_begun : (k : Kind) (i : ℕ) (vs : List View) → has_parts k ≡ true → as_begun (plan_at k i vs) ≡ Stopped
+pub none_begun : (k : Kind) (i : ℕ) (vs : List View) → goes_on_at_one_part k ≡ true → as_begun (plan_at k i vs) ≡ Stopped
 none_begun kind.Skip i vs h = absurd (let e : false ≡ true = h in cc)
 none_begun kind.Stop i vs h = absurd (let e : false ≡ true = h in cc)
 none_begun (kind.Set v a) i vs h = absurd (let e : false ≡ true = h in cc)

@@ -6,7 +6,7 @@ use Rattle.vc_process.specs.Values.{Store, holds}
 use Rattle.vc_process.specs.Usage.{Set, just, ◌∪◌, in_exp, in_test, in_given, changes, changes_all, changes_branches, changes_guards, uses, uses_all, uses_branches, uses_guards}
 use Rattle.vc_process.specs.Lawful.{outputs, outputs_all, inputs, inputs_all, With, SideBySide, Lawfully, LawfullyAll, LawfullyBranches, LawfullyGuards}
 use Rattle.vc_occam.specs.Traces.{Comm, Fin, In, End}
-use Rattle.vc_occam.specs.Remains.{Rest, Done, Stopped, Fresh, Finishing, Getting, Then, Turns, Beside, and_then, begin, begin_seq, begin_par, begin_all, then_on, turns_on, beside_on, branch_on, chosen, GuardAt, first, later, Step, does_skip, does_empty_seq, does_empty_par, does_assign, faults_assign, faults_out, does_if, does_turn, does_leave, faults_while, does_count, does_count_none, faults_count, does_offer, does_finish, does_input, waits_input, gets, does_stop, does_choose, waits_choose, in_then, in_turns, in_left, in_right, changes_rest, uses_rest, Apart, Lawful, TraceRest}
+use Rattle.vc_occam.specs.Remains.{Rest, Done, Stopped, Fresh, Finishing, Getting, Then, Turns, Beside, and_then, begin, begin_seq, begin_par, begin_all, then_on, turns_on, beside_on, branch_on, chosen, GuardAt, first, later, Step, does_skip, does_empty_seq, does_empty_par, does_assign, faults_assign, faults_out, does_if, does_turn, does_leave, faults_while, does_count, does_count_none, faults_count, does_offer, does_finish, does_input, waits_input, gets, does_stop, does_choose, waits_choose, in_then, in_turns, in_left, in_right, changes_rest, uses_rest, Apart, KeepsVariablesApart, TraceRest}
 use Rattle.vc_occam.specs.Sites.{Disjoint}
 use Rattle.vc_occam.specs.States.{State, StepsTo, Doing, Offers, Wants, Chooses, Stops, Meets, Rests, Finishes, Receives, Does, IsTraced}
 use Rattle.vc_occam.proofs.Sites.{Within, either, not_true, clash}
@@ -232,7 +232,7 @@ step_uses (in_left {r = r} {r' = r'} {q = q} {mine = mine} st) o = beside_uses m
 step_uses (in_right {r = r} {q = q} {q' = q'} {mine = mine} st) o = beside_uses mine r q' (use_right mine r q q' (step_in st) o.0, o.1, step_uses st o.2)
 
 -- parts side by side are apart
-pub lawful : (r : Rest) → UsesLawfully r → Lawful r
+pub lawful : (r : Rest) → UsesLawfully r → KeepsVariablesApart r
 lawful Done h = tt
 lawful Stopped h = tt
 lawful (Fresh p) h = tt

@@ -9,7 +9,7 @@ use Rattle.vc_process.specs.Values.{Store, value_of, holds}
 use Rattle.vc_process.specs.Messages.{received}
 use Rattle.vc_process.specs.Usage.{Set, ◌∪◌, just, changes, changes_guards, changes_all}
 use Rattle.vc_occam.specs.Traces.{Comm, In, End, Open, Ended, set, SameKind, both_ended, Counts, Trace, cut, skip, assign, begin_out, out, input, stop_chan, seq, par, choose, leave, last_turn, turn, count, select, TraceSeq, seq_end, seq_open, seq_next, par_end, here, further, counted, count_open, count_turn, TraceAlt, this, that}
-use Rattle.vc_occam.specs.Remains.{Rest, Done, Then, Turns, Beside, begin, TraceRest, done, stopped, fresh, finishing_cut, finishing, getting_cut, getting, then_open, then_next, turns_open, turns_next, beside, index_on, branch_on, chosen, GuardAt, first, later, Step, does_skip, does_empty_seq, does_empty_par, does_assign, faults_assign, faults_out, does_if, does_turn, does_leave, faults_while, does_count, does_count_none, faults_count, does_offer, does_finish, does_input, waits_input, gets, does_stop, does_choose, waits_choose, in_then, in_turns, in_left, in_right, changes_rest, uses_rest, Apart, Lawful, StepsAreTraces}
+use Rattle.vc_occam.specs.Remains.{Rest, Done, Then, Turns, Beside, begin, TraceRest, done, stopped, fresh, finishing_cut, finishing, getting_cut, getting, then_open, then_next, turns_open, turns_next, beside, index_on, branch_on, chosen, GuardAt, first, later, Step, does_skip, does_empty_seq, does_empty_par, does_assign, faults_assign, faults_out, does_if, does_turn, does_leave, faults_while, does_count, does_count_none, faults_count, does_offer, does_finish, does_input, waits_input, gets, does_stop, does_choose, waits_choose, in_then, in_turns, in_left, in_right, changes_rest, uses_rest, Apart, KeepsVariablesApart, StepsAreTraces}
 use Rattle.vc_occam.proofs.Stores.{or_left, or_right, same_store, set_end}
 use Rattle.vc_occam.proofs.Rests.{begin_is, then_back, turns_back, beside_back, merge_left, merge_right, frame_rest}
 use Rattle.std.proofs.lemmas.Bool.Decides.{nat_tests}
@@ -180,7 +180,7 @@ received_kind : (d : Datum) (m : List ℕ) (x : Datum) → x ≡ received d m �
 received_kind (datum.Int z) m x h = subst (λ y. SameKind y (datum.Int z)) (sym h) tt
 received_kind (datum.Bytes xs) m x h = subst (λ y. SameKind y (datum.Bytes xs)) (sym h) tt
 
-pub law : {r r' : Rest} {e e' : Store} {i : ℕ} {d : Deed} {m : List Comm} → Step r e i d m r' e' → Lawful r → {t : List Comm} {x : End} → TraceRest r' e' t x → TraceRest r e (m ++ t) x
+pub law : {r r' : Rest} {e e' : Store} {i : ℕ} {d : Deed} {m : List Comm} → Step r e i d m r' e' → KeepsVariablesApart r → {t : List Comm} {x : End} → TraceRest r' e' t x → TraceRest r e (m ++ t) x
 law does_skip l done = fresh skip
 law does_empty_seq l done = fresh (seq seq_end)
 law does_empty_par l done = fresh (par par_end)

@@ -9,6 +9,7 @@ pub mod Found
 pub mod Frames
 pub mod Gates
 pub mod GoingOn
+pub mod Insertion
 pub mod Inside
 pub mod Keeping
 pub mod Kinded

@@ -5,6 +5,7 @@ use Rattle.std.proofs.lemmas.List.Elements.{Contains-append_left, Contains-appen
 use borrow.Author.Count.{below_more}
 use Rattle.std.specs.Prelude.{is_some, ◌+ℤ◌, ◌==◌}
 use Rattle.std.specs.List.{Contains}
+use Rattle.std.specs.Option.{option_or}
 use Rattle.vc_occam.specs.declared.answer.Answer.{Answer}
 use Rattle.vc_process.specs.declared.datum.Datum.{Datum}
 use Rattle.vc_occam.specs.declared.deed.Deed.{Deed}
@@ -22,8 +23,9 @@ use Rattle.vc_occam.specs.Frames.{Able}
 use Rattle.vc_occam.specs.Moving.{site_of, deed_for, deed_on, partner}
 use Rattle.vc_occam.specs.Laws.{ListedMovesCanBeMade}
 use Rattle.vc_occam.specs.Sites.{sites, sites_all, sites_rest, OwnSites}
-use Rattle.vc_occam.specs.States.{IsAwaited, State, Wants, Chooses, Does, meeting, or_else, output_at, carried, sent_by, bytes_or_none, came, doing, output, input, waiting}
-use Rattle.vc_process.proofs.Lists.{only, none, at_front, behind, front_or, is_inserted}
+use Rattle.vc_occam.specs.States.{IsAwaited, State, Wants, Chooses, Does, meeting, output_at, carried, sent_by, bytes_or_none, came, doing, output, input, waiting}
+use Rattle.vc_process.proofs.Lists.{only, none, at_front, behind, front_or}
+use Rattle.vc_occam.proofs.Insertion.{is_inserted}
 use Rattle.vc_occam.proofs.Sites.{not_true, clash}
 use Rattle.vc_occam.proofs.Stores.{or_left, or_right, or_false}
 use Rattle.vc_occam.proofs.Waiting.{step_waits}
@@ -278,7 +280,7 @@ output_site {i} (within_turns {r = r} {q = q} s) = or_left (sites_rest r i) (sit
 output_site {i} (on_left {r = r} {q = q} s) = or_left (sites_rest r i) (sites_rest q i) (output_site s)
 output_site {i} (on_right {r = r} {q = q} s) = or_right (sites_rest r i) (sites_rest q i) (output_site s)
 
-either_none : {A : Type 0} (x y : Option A) → x ≡ None → y ≡ None → or_else x y ≡ None
+either_none : {A : Type 0} (x y : Option A) → x ≡ None → y ≡ None → option_or x y ≡ None
 either_none x y h k = rw (h, k) refl
 
 -- no output begins at a site that isn't there
@@ -310,10 +312,10 @@ output_is : {i c : ℕ} {a : Given} {r : Rest} (e : Store) (x : Datum) → Stand
 output_is {i} e x itself o h = let on : (i == i) ≡ true = grind (arith, nat_tests) in rw on h
 output_is e x (within_then s) o h = output_is e x s o.0 h
 output_is e x (within_turns s) o h = output_is e x s o.0 h
-output_is {i} e x (on_left {q = q} s) o h = ap (λ y. or_else y (output_at i q e)) (output_is e x s o.1 h)
+output_is {i} e x (on_left {q = q} s) o h = ap (λ y. option_or y (output_at i q e)) (output_is e x s o.1 h)
 output_is {i} e x (on_right {r = r} {q = q} s) o h =
     let away : sites_rest r i ≡ false = not_true (sites_rest r i) (λ k. clash (output_site s) (o.0 i k)) in
-    ap (λ y. or_else y (output_at i q e)) (not_there i r e away) ∙ output_is e x s o.2 h
+    ap (λ y. option_or y (output_at i q e)) (not_there i r e away) ∙ output_is e x s o.2 h
 
 -- what hasn't ended stays so in what it stands in
 abbrev pub Goes : Rest → Type 0

@@ -117,7 +117,7 @@ few_inputs site p gs xs h e l =
     let n = guards_have_sites gs in
     omega arith
 
--- a counted SEQ as it is numbered
+-- a replicated SEQ as it is numbered
 pub count_whole : (site : ℕ) (p : Process) (v : ℕ) (a n b m : Expr) (q : Process) (vs : List View) → p ≡ process.Count v a n q → b ≡ a → m ≡ n → vs ≡ whole_from (site + 1) (number q) ∷ [] →
     ◌≡◌ {A = View} (count_of site v (exp b) (exp m) vs, Fresh (count_of site v (exp b) (exp m) vs)) (whole_from site (number p))
 count_whole site p v a n b m q vs h e f g =

@@ -23,7 +23,8 @@ use Rattle.vc_process.specs.Usage.{Set}
 use Rattle.vc_process.specs.Values.{Store}
 use Rattle.vc_occam.proofs.Acting.{one_waits, says, sends, waits_site}
 use Rattle.vc_occam.proofs.Keeping.{doing_is_traced, doing_keeps_use}
-use Rattle.vc_process.proofs.Lists.{at_front, behind, front_or, is_inserted, none, only}
+use Rattle.vc_process.proofs.Lists.{at_front, behind, front_or, none, only}
+use Rattle.vc_occam.proofs.Insertion.{is_inserted}
 use Rattle.vc_occam.proofs.Made.{able, able_on, began, met, no_meeting, taking_partner}
 use Rattle.vc_occam.proofs.Sites.{doing_keeps, step_keeps}
 use Rattle.vc_occam.proofs.Waiting.{step_waits}

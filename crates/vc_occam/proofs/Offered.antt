@@ -12,7 +12,7 @@ use Rattle.vc_occam.specs.declared.moves.Move.TheVariants as move
 use Rattle.vc_occam.specs.declared.phase.Phase.{Phase}
 use Rattle.vc_occam.specs.declared.phase.Phase.TheVariants as phase
 use Rattle.vc_occam.specs.First.{own}
-use Rattle.vc_occam.specs.Frames.{Able, ChangedAt, Did, View, branches_of, guards_of, has_parts, is_counted, is_done, is_par, part_done, part_rest, place_of, place_with, plan_at, plans, plans_of, rest_at, views}
+use Rattle.vc_occam.specs.Frames.{Able, ChangedAt, Did, View, branches_of, guards_of, goes_on_at_one_part, is_counted, is_done, is_par, part_done, part_rest, place_of, place_with, plan_at, plans, plans_of, rest_at, views}
 use Rattle.vc_occam.specs.Remains.{Rest, Done, Stopped, Fresh, Finishing, Getting, Then, Turns, Beside, Step, does_offer, in_then, in_turns, in_left, in_right}
 use Rattle.vc_occam.specs.Sites.{InPreorder}
 use Rattle.vc_process.specs.Syntax.{Procs, Branches, Guards, SEQ, PAR, IF, ALT}
@@ -91,7 +91,7 @@ offer_itself (kind.Alt gs) i vs at e s c a = absurd (no_alt i (guards_of (map ga
 abbrev pub Offers : Rest → Store → ℕ → ℕ → Rest → Type 0
 Offers r e s c q = Able r e s (Offer c) → Did r e s (Offer c) q e
 
-pub offers_within : (k : Kind) (i : ℕ) (ph : Phase) (vs ws : List View) (at p : ℕ) (e : Store) (s c : ℕ) → ph ≡ phase.Waiting → has_parts k ≡ true → p ≡ place_of k at → plans ws ≡ plans vs → Offers (part_rest (slice_get vs p)) e s c (part_rest (slice_get ws p)) → Offers (rest_at k ph i vs at) e s c (rest_at k ph i ws at)
+pub offers_within : (k : Kind) (i : ℕ) (ph : Phase) (vs ws : List View) (at p : ℕ) (e : Store) (s c : ℕ) → ph ≡ phase.Waiting → goes_on_at_one_part k ≡ true → p ≡ place_of k at → plans ws ≡ plans vs → Offers (part_rest (slice_get vs p)) e s c (part_rest (slice_get ws p)) → Offers (rest_at k ph i vs at) e s c (rest_at k ph i ws at)
 offers_within k i ph vs ws at p e s c h t g same go a =
     let st = go (within_able k i ph vs at p e s (Offer c) h t g a) in
     within_did k i ph vs ws at p e e s (Offer c) (rest_at k ph i ws at) h t g same (going_on k i ph ws at p h t g (part_goes (part_rest (slice_get vs p)) (slice_get ws p) e e s c st)) st

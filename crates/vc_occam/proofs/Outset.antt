@@ -9,7 +9,7 @@ use Rattle.vc_occam.specs.declared.look.Look.{Look}
 use Rattle.vc_occam.specs.declared.kind.Kind.{Kind}
 use Rattle.vc_occam.specs.declared.phase.Phase.{Phase}
 use Rattle.vc_occam.specs.declared.phase.Phase.TheVariants as phase
-use Rattle.vc_occam.specs.Frames.{BeginsAs, BeginsWith, Tells, View, assigned_at, behind, count_of, has_parts, is_counted, part_assigned, part_own, part_rest, place_of, rest_at, view, views, while_of}
+use Rattle.vc_occam.specs.Frames.{BeginsAs, BeginsWith, Tells, View, assigned_at, behind, count_of, goes_on_at_one_part, is_counted, part_assigned, part_own, part_rest, place_of, rest_at, view, views, while_of}
 use Rattle.vc_occam.specs.First.{own}
 use Rattle.vc_occam.specs.Remains.{Rest, Fresh}
 use Rattle.vc_process.specs.Syntax.{Exp, Test}
@@ -37,14 +37,14 @@ assigned_part j None e = refl
 assigned_part j (Some v) e = refl
 
 -- its moves are those of the part that goes on
-part_moves : (f : Frame) → (out-Frame f).phase ≡ phase.Waiting → has_parts (out-Frame f).kind ≡ true → (k : ℕ) → k ≡ place_of (out-Frame f).kind (out-Frame f).at → (e : Store) → own (view f).1 e ≡ part_own (slice_get (views (out-Frame f).parts.items) k) e
+part_moves : (f : Frame) → (out-Frame f).phase ≡ phase.Waiting → goes_on_at_one_part (out-Frame f).kind ≡ true → (k : ℕ) → k ≡ place_of (out-Frame f).kind (out-Frame f).at → (e : Store) → own (view f).1 e ≡ part_own (slice_get (views (out-Frame f).parts.items) k) e
 part_moves f h p k g e =
     let o = out-Frame f in
     let vs = views o.parts.items in
     ap (λ (x : Rest). own x e) (rest_going f h p) ∙ follow_own (slice_get vs (place_of o.kind o.at)) (behind o.kind o.site vs o.at) e ∙ ap (λ (n : ℕ). part_own (slice_get vs n) e) (sym g)
 
 -- it begins with what the part begins with that goes on
-pub part_begins : (b : Begins) (k : Kind) (i : ℕ) (ph : Phase) (vs : List View) (at n : ℕ) → ph ≡ phase.Waiting → has_parts k ≡ true → n ≡ place_of k at → BeginsWith b (part_rest (slice_get vs n)) → BeginsWith b (rest_at k ph i vs at)
+pub part_begins : (b : Begins) (k : Kind) (i : ℕ) (ph : Phase) (vs : List View) (at n : ℕ) → ph ≡ phase.Waiting → goes_on_at_one_part k ≡ true → n ≡ place_of k at → BeginsWith b (part_rest (slice_get vs n)) → BeginsWith b (rest_at k ph i vs at)
 part_begins b k i ph vs at n h p g w =
     let v = slice_get vs (place_of k at) in
     let same = ap (λ (m : ℕ). slice_get vs m) (sym g) in
@@ -53,12 +53,12 @@ part_begins b k i ph vs at n h p g w =
     (λ e. ap (λ (x : Rest). own x e) r ∙ follow_own v (behind k i vs at) e ∙ ap (λ (u : Option View). part_own u e) same ∙ own_part (slice_get vs n) e)
     (λ j e. ap (λ (x : Rest). assigned_at j x e) r ∙ follow_assigned j v (behind k i vs at) e ∙ ap (λ (u : Option View). part_assigned j u e) same ∙ assigned_part j (slice_get vs n) e) w
 
-pub as_part : (b : Begins) (f : Frame) → (out-Frame f).phase ≡ phase.Waiting → has_parts (out-Frame f).kind ≡ true → (k : ℕ) → k ≡ place_of (out-Frame f).kind (out-Frame f).at → BeginsWith b (part_rest (slice_get (views (out-Frame f).parts.items) k)) → BeginsWith b (view f).1
+pub as_part : (b : Begins) (f : Frame) → (out-Frame f).phase ≡ phase.Waiting → goes_on_at_one_part (out-Frame f).kind ≡ true → (k : ℕ) → k ≡ place_of (out-Frame f).kind (out-Frame f).at → BeginsWith b (part_rest (slice_get (views (out-Frame f).parts.items) k)) → BeginsWith b (view f).1
 as_part b f h p k g w =
     let o = out-Frame f in
     subst (λ (v : View). BeginsWith b v.1) (sym (view_out f)) (part_begins b o.kind o.site o.phase (views o.parts.items) o.at k h p g w)
 
--- a counted SEQ begins with what its turn begins with
+-- a replicated SEQ begins with what its turn begins with
 pub turn_begins : (b : Begins) (k : Kind) (i : ℕ) (ph : Phase) (x y : ℤ) (vs : List View) (at : ℕ) → ph ≡ phase.Turning x y → is_counted k ≡ true → BeginsWith b (part_rest (slice_get vs 0)) → BeginsWith b (rest_at k ph i vs at)
 turn_begins b k i ph x y vs at h c w =
     let v = slice_get vs 0 in
@@ -73,7 +73,7 @@ as_turn b f x y h k w =
     subst (λ (v : View). BeginsWith b v.1) (sym (view_out f)) (turn_begins b o.kind o.site o.phase x y (views o.parts.items) o.at h k w)
 
 -- the part that goes on is there, where its place is known
-pub goes_as_part : (f : Frame) (k : ℕ) (p : Option ℕ) → (out-Frame f).phase ≡ phase.Waiting → has_parts (out-Frame f).kind ≡ true → k ≡ place_of (out-Frame f).kind (out-Frame f).at → MatchOption p (slice_get (views (out-Frame f).parts.items) k ≡ None) (λ n. (n ≡ k) × (n < length (views (out-Frame f).parts.items))) → IfSome p (λ n. BeginsAs n (views (out-Frame f).parts.items) (view f).1)
+pub goes_as_part : (f : Frame) (k : ℕ) (p : Option ℕ) → (out-Frame f).phase ≡ phase.Waiting → goes_on_at_one_part (out-Frame f).kind ≡ true → k ≡ place_of (out-Frame f).kind (out-Frame f).at → MatchOption p (slice_get (views (out-Frame f).parts.items) k ≡ None) (λ n. (n ≡ k) × (n < length (views (out-Frame f).parts.items))) → IfSome p (λ n. BeginsAs n (views (out-Frame f).parts.items) (view f).1)
 goes_as_part f k None h q g m = tt
 goes_as_part f k (Some n) h q g m = (m.1, part_moves f h q n (m.0 ∙ g), λ b w. as_part b f h q n (m.0 ∙ g) w)
 

@@ -3,6 +3,7 @@ use Rattle.std.proofs.Common.{◌≡◌, ℕ, zero, suc, length, Bool, true, fal
 use Rattle.std.specs.List.Sorted.{IsNonDecreasingBy, IsPartitionPoint}
 use Rattle.std.specs.Prelude.{slice_get, slice_index_or, nat_le, if◌then◌else◌, ◌==◌, ◌-◌}
 use Rattle.std.proofs.lemmas.Bool.Decides.{nat_tests}
+use Rattle.std.specs.Option.{option_or}
 use lib.ListN.{get_or}
 use Rattle.vc_occam.specs.declared.deed.Deed.{Deed}
 use Rattle.vc_occam.specs.declared.frame.Frame.{Frame}
@@ -17,7 +18,7 @@ use Rattle.vc_process.specs.Values.{Store}
 use Rattle.vc_process.specs.Usage.{Set, changes, just, nothing, ◌∪◌}
 use Rattle.vc_occam.specs.Remains.{Rest, Done, Stopped, Fresh, Finishing, Getting, Then, Turns, Beside, beside_on, Step, does_skip, does_empty_seq, does_empty_par, does_assign, faults_assign, faults_out, does_if, does_turn, does_leave, faults_while, does_count, does_count_none, faults_count, does_offer, does_finish, does_input, waits_input, gets, does_stop, does_choose, waits_choose, in_then, in_turns, in_left, in_right}
 use Rattle.vc_occam.specs.Sites.{sites, sites_all, sites_branches, sites_guards, site, Precedes, InPreorder, PartsInPreorder}
-use Rattle.vc_occam.specs.States.{or_else, output_at}
+use Rattle.vc_occam.specs.States.{output_at}
 use Rattle.vc_occam.specs.Frames.{Able, ChangedAt, Did, HasVariables, PartHasVariables, PartInPreorder, View, assigned_at, besides, count_of, part_assigned, part_output, part_rest, place_with, plan_at, plans, plans_of, rest_at, together, view, views, while_of}
 use Rattle.vc_occam.proofs.Besides.{besides_did, beside_able, beside_assigned, beside_output}
 use Rattle.vc_occam.proofs.Frames.{view_out}
@@ -132,7 +133,7 @@ step_site (in_right {i = i} {r = r} {q = q} st) = or_right (doers r i) (doers q 
 pub able_site : (r : Rest) (e : Store) (i : ℕ) (d : Deed) → Able r e i d → doers r i ≡ true
 able_site r e i d (ks, q, f, st) = step_site st
 
-none_of : {A : Type 0} (x y : Option A) → x ≡ None → y ≡ None → or_else x y ≡ None
+none_of : {A : Type 0} (x y : Option A) → x ≡ None → y ≡ None → option_or x y ≡ None
 none_of x y h k = rw (h, k) refl
 
 -- no assignment begins at another site
@@ -214,13 +215,13 @@ away : {a b : Set} (i : ℕ) → Within a b → b i ≡ false → a i ≡ false
 away {a} {b} i w h = not_true (a i) (λ e. clash (w i e) h)
 
 -- what is looked for at a site is found in the part at its place
-module _ {A : Type 0} (i : ℕ) (F : Rest → Option A) (both : (mine : Set) (r q : Rest) → F (beside_on mine r q) ≡ or_else (F r) (F q)) (none : (r : Rest) → doers r i ≡ false → F r ≡ None) where
-  or_none : (x y : Option A) → y ≡ None → or_else x y ≡ x
+module _ {A : Type 0} (i : ℕ) (F : Rest → Option A) (both : (mine : Set) (r q : Rest) → F (beside_on mine r q) ≡ option_or (F r) (F q)) (none : (r : Rest) → doers r i ≡ false → F r ≡ None) where
+  or_none : (x y : Option A) → y ≡ None → option_or x y ≡ x
   or_none None y h = h
   or_none (Some x) y h = refl
 
-  none_or : (x y : Option A) → x ≡ None → or_else x y ≡ y
-  none_or x y h = ap (λ z. or_else z y) h
+  none_or : (x y : Option A) → x ≡ None → option_or x y ≡ y
+  none_or x y h = ap (λ z. option_or z y) h
 
   pub found : (vs : List View) → PartsInPreorder (plans_of vs) → AllWithin vs → F (besides vs) ≡ F (part_rest (slice_get vs (place_with i vs)))
   found [] h w = none Done refl ∙ sym (none (Fresh (STOP 0)) refl)

@@ -15,7 +15,7 @@ use Rattle.vc_process.specs.Values.{Store}
 use Rattle.vc_occam.specs.Remains.{Rest, Done, Stopped, Fresh, Finishing, Getting, Then, Turns, Beside, and_then, then_on, in_then}
 use Rattle.vc_occam.specs.Gates.{Gate, gate}
 use Rattle.vc_occam.specs.Sites.{InPreorder, PartsInPreorder, BranchesInPreorder, GuardsInPreorder}
-use Rattle.vc_occam.specs.Frames.{Able, Did, HasVariables, PartHasVariables, PartInPreorder, View, assigned_at, begun_at, behind, branches_of, count_of, follow, follow_on, goes_within, gone_on, guards_of, has_parts, is_counted, is_done, is_last, is_par, on_part, part_assigned, part_done, part_rest, place_of, plan_at, resting_at, plans, plans_of, rest_at, view, views, while_of}
+use Rattle.vc_occam.specs.Frames.{Able, Did, HasVariables, PartHasVariables, PartInPreorder, View, assigned_at, begun_at, behind, branches_of, count_of, follow, follow_on, goes_within, gone_on, guards_of, goes_on_at_one_part, is_counted, is_done, is_last, is_par, on_part, part_assigned, part_done, part_rest, place_of, plan_at, resting_at, plans, plans_of, rest_at, view, views, while_of}
 use Rattle.vc_occam.specs.Nexts.{goes_further, seq_begun, seq_next}
 use Rattle.vc_occam.proofs.Beginning.{begun_plans}
 use Rattle.vc_occam.proofs.Frames.{going_part, follow_assigned, resting_goes, resting_stops, went_done}
@@ -134,13 +134,13 @@ same_some : (vs ws : List View) (k : ℕ) → plans ws ≡ plans vs → is_some 
 same_some vs ws k h = some_plans ws k ∙ ap (λ ps. is_some (slice_get ps k)) h ∙ sym (some_plans vs k)
 
 -- the rest of a frame whose part goes on
-going_rest : (k : Kind) (i : ℕ) (ph : Phase) (vs : List View) (at p : ℕ) → ph ≡ phase.Waiting → has_parts k ≡ true → p ≡ place_of k at → rest_at k ph i vs at ≡ follow (slice_get vs p) (behind k i vs at)
+going_rest : (k : Kind) (i : ℕ) (ph : Phase) (vs : List View) (at p : ℕ) → ph ≡ phase.Waiting → goes_on_at_one_part k ≡ true → p ≡ place_of k at → rest_at k ph i vs at ≡ follow (slice_get vs p) (behind k i vs at)
 going_rest k i ph vs at p h t e = ap (λ q. rest_at k q i vs at) h ∙ going_part k i vs at t ∙ ap (λ q. follow (slice_get vs q) (behind k i vs at)) (sym e)
 
-pub within_able : (k : Kind) (i : ℕ) (ph : Phase) (vs : List View) (at p : ℕ) (e : Store) (s : ℕ) (d : Deed) → ph ≡ phase.Waiting → has_parts k ≡ true → p ≡ place_of k at → Able (rest_at k ph i vs at) e s d → Able (part_rest (slice_get vs p)) e s d
+pub within_able : (k : Kind) (i : ℕ) (ph : Phase) (vs : List View) (at p : ℕ) (e : Store) (s : ℕ) (d : Deed) → ph ≡ phase.Waiting → goes_on_at_one_part k ≡ true → p ≡ place_of k at → Able (rest_at k ph i vs at) e s d → Able (part_rest (slice_get vs p)) e s d
 within_able k i ph vs at p e s d h t g a = follow_able (slice_get vs p) (behind k i vs at) e s d (subst (λ r. Able r e s d) (going_rest k i ph vs at p h t g) a)
 
-pub within_assigned : (k : Kind) (i j : ℕ) (ph : Phase) (vs : List View) (at p : ℕ) (e : Store) → ph ≡ phase.Waiting → has_parts k ≡ true → p ≡ place_of k at → assigned_at j (rest_at k ph i vs at) e ≡ part_assigned j (slice_get vs p) e
+pub within_assigned : (k : Kind) (i j : ℕ) (ph : Phase) (vs : List View) (at p : ℕ) (e : Store) → ph ≡ phase.Waiting → goes_on_at_one_part k ≡ true → p ≡ place_of k at → assigned_at j (rest_at k ph i vs at) e ≡ part_assigned j (slice_get vs p) e
 within_assigned k i j ph vs at p e h t g = ap (λ r. assigned_at j r e) (going_rest k i ph vs at p h t g) ∙ follow_assigned j (slice_get vs p) (behind k i vs at) e
 
 pub all_variables : (vs : List View) (at n : ℕ) → ((v : ℕ) → changes_all (plans_of vs) v ≡ true → v < n) → PartHasVariables (slice_get vs at) n
@@ -173,7 +173,7 @@ guard_variables [] (v ∷ vs) (suc at) n h = guard_variables [] vs at n (λ w k.
 guard_variables (g ∷ gs) (v ∷ vs) zero n h = λ w k. h w (in_body g.var v.0 (guards_of gs vs) w k)
 guard_variables (g ∷ gs) (v ∷ vs) (suc at) n h = guard_variables gs vs at n (λ w k. h w (in_later g.var v.0 (guards_of gs vs) w k))
 
-place_variables : (k : Kind) (i : ℕ) (vs : List View) (at n : ℕ) → has_parts k ≡ true → HasVariables (plan_at k i vs) n → PartHasVariables (slice_get vs (place_of k at)) n
+place_variables : (k : Kind) (i : ℕ) (vs : List View) (at n : ℕ) → goes_on_at_one_part k ≡ true → HasVariables (plan_at k i vs) n → PartHasVariables (slice_get vs (place_of k at)) n
 place_variables kind.Skip i vs at n h g = absurd (let z : false ≡ true = h in cc)
 place_variables kind.Stop i vs at n h g = absurd (let z : false ≡ true = h in cc)
 place_variables (kind.Set v b) i vs at n h g = absurd (let z : false ≡ true = h in cc)
@@ -187,10 +187,10 @@ place_variables (kind.Count v a m) i vs at n h g = absurd (let z : false ≡ tru
 place_variables (kind.While b) i vs at n h g = while_variables i (as_test b) vs n g
 place_variables (kind.Alt gs) i vs at n h g = guard_variables (map gate gs.inputs) vs at n g
 
-pub within_variables : (k : Kind) (i : ℕ) (vs : List View) (at p n : ℕ) → has_parts k ≡ true → p ≡ place_of k at → HasVariables (plan_at k i vs) n → PartHasVariables (slice_get vs p) n
+pub within_variables : (k : Kind) (i : ℕ) (vs : List View) (at p n : ℕ) → goes_on_at_one_part k ≡ true → p ≡ place_of k at → HasVariables (plan_at k i vs) n → PartHasVariables (slice_get vs p) n
 within_variables k i vs at p n h e g = subst (λ q. PartHasVariables (slice_get vs q) n) (sym e) (place_variables k i vs at n h g)
 
-pub within_did : (k : Kind) (i : ℕ) (ph : Phase) (vs ws : List View) (at p : ℕ) (e f : Store) (s : ℕ) (d : Deed) (r : Rest) → ph ≡ phase.Waiting → has_parts k ≡ true → p ≡ place_of k at → plans ws ≡ plans vs →
+pub within_did : (k : Kind) (i : ℕ) (ph : Phase) (vs ws : List View) (at p : ℕ) (e f : Store) (s : ℕ) (d : Deed) (r : Rest) → ph ≡ phase.Waiting → goes_on_at_one_part k ≡ true → p ≡ place_of k at → plans ws ≡ plans vs →
     r ≡ follow_on (slice_get ws (place_of k at)) (behind k i ws at) → Did (part_rest (slice_get vs p)) e s d (part_rest (slice_get ws p)) f → Did (rest_at k ph i vs at) e s d r f
 within_did k i ph vs ws at p e f s d r h t g q z y =
     let b = behind k i vs at in
@@ -214,7 +214,7 @@ goes_on None ps h = refl
 goes_on (Some v) no_parts h = refl
 goes_on (Some v) (part p ps) h = sym (not_done v.1 p ps h)
 
-pub going_on : (k : Kind) (i : ℕ) (ph : Phase) (vs : List View) (at p : ℕ) → ph ≡ phase.Waiting → has_parts k ≡ true → p ≡ place_of k at → part_done (slice_get vs p) ≡ false → rest_at k ph i vs at ≡ gone_on k i vs at
+pub going_on : (k : Kind) (i : ℕ) (ph : Phase) (vs : List View) (at p : ℕ) → ph ≡ phase.Waiting → goes_on_at_one_part k ≡ true → p ≡ place_of k at → part_done (slice_get vs p) ≡ false → rest_at k ph i vs at ≡ gone_on k i vs at
 going_on k i ph vs at p h t g e =
     let z = goes_on (slice_get vs p) (behind k i vs at) e in
     going_rest k i ph vs at p h t g ∙ z ∙ ap (λ x. follow_on (slice_get vs x) (behind k i vs at)) g
@@ -223,7 +223,7 @@ and_no : (b : Bool) → (b && false) ≡ false
 and_no true = refl
 and_no false = refl
 
-pub goes_undone : (k : Kind) (i : ℕ) (ph : Phase) (vs : List View) (at p : ℕ) → ph ≡ phase.Waiting → has_parts k ≡ true → p ≡ place_of k at → part_done (slice_get vs p) ≡ false → is_done (rest_at k ph i vs at) ≡ false
+pub goes_undone : (k : Kind) (i : ℕ) (ph : Phase) (vs : List View) (at p : ℕ) → ph ≡ phase.Waiting → goes_on_at_one_part k ≡ true → p ≡ place_of k at → part_done (slice_get vs p) ≡ false → is_done (rest_at k ph i vs at) ≡ false
 goes_undone k i ph vs at p h t g e =
     let z : part_done (slice_get vs (place_of k at)) ≡ false = ap (λ x. part_done (slice_get vs x)) (sym g) ∙ e in
     ap is_done (going_on k i ph vs at p h t g e) ∙ went_done k i vs at t ∙ ap (λ b. is_last k at (length vs) && b) z ∙ and_no (is_last k at (length vs))
@@ -268,7 +268,7 @@ count_preorder : (i v : ℕ) (a n : Exp) (vs : List View) → InPreorder (count_
 count_preorder i v a n [] h = tt
 count_preorder i v a n (w ∷ vs) h = h.1
 
-pub place_preorder : (k : Kind) (i : ℕ) (vs : List View) (at : ℕ) → has_parts k ≡ true → InPreorder (plan_at k i vs) → PartInPreorder (slice_get vs (place_of k at))
+pub place_preorder : (k : Kind) (i : ℕ) (vs : List View) (at : ℕ) → goes_on_at_one_part k ≡ true → InPreorder (plan_at k i vs) → PartInPreorder (slice_get vs (place_of k at))
 place_preorder kind.Skip i vs at h g = absurd (let z : false ≡ true = h in cc)
 place_preorder kind.Stop i vs at h g = absurd (let z : false ≡ true = h in cc)
 place_preorder (kind.Set v b) i vs at h g = absurd (let z : false ≡ true = h in cc)
@@ -282,7 +282,7 @@ place_preorder (kind.While b) i vs at h g = while_preorder i (as_test b) vs g
 place_preorder (kind.Count v a m) i vs at h g = absurd (let z : false ≡ true = h in cc)
 place_preorder (kind.Alt gs) i vs at h g = guards_preorder (map gate gs.inputs) vs at g.1
 
-pub within_preorder : (k : Kind) (i : ℕ) (vs : List View) (at p : ℕ) → has_parts k ≡ true → p ≡ place_of k at → InPreorder (plan_at k i vs) → PartInPreorder (slice_get vs p)
+pub within_preorder : (k : Kind) (i : ℕ) (vs : List View) (at p : ℕ) → goes_on_at_one_part k ≡ true → p ≡ place_of k at → InPreorder (plan_at k i vs) → PartInPreorder (slice_get vs p)
 within_preorder k i vs at p h e g = subst (λ q. PartInPreorder (slice_get vs q)) (sym e) (place_preorder k i vs at h g)
 
 pub body_preorder : (k : Kind) (i : ℕ) (vs : List View) → is_counted k ≡ true → InPreorder (plan_at k i vs) → PartInPreorder (slice_get vs 0)
@@ -329,8 +329,8 @@ never_there r q e f s d (ks, p, g, st) = elim st [ ]
 pub never_done : (r q : Rest) (e f : Store) (s : ℕ) (d : Deed) → Able Done e s d → Did r e s d q f
 never_done r q e f s d (ks, p, g, st) = elim st [ ]
 
--- what one without parts changes
-pub alone_variables : (k : Kind) (i : ℕ) (vs : List View) (n : ℕ) → has_parts k ≡ false → HasVariables (plan_at k i vs) n → HasVariables (plan_at k i []) n
+-- what one changes that goes on at none of its parts
+pub alone_variables : (k : Kind) (i : ℕ) (vs : List View) (n : ℕ) → goes_on_at_one_part k ≡ false → HasVariables (plan_at k i vs) n → HasVariables (plan_at k i []) n
 alone_variables kind.Skip i vs n h g = g
 alone_variables kind.Stop i vs n h g = g
 alone_variables (kind.Set v a) i vs n h g = g
@@ -433,13 +433,13 @@ resting_plans zero (v ∷ vs) = refl
 resting_plans (suc k) (v ∷ vs) = ap (λ (ps : List Proc). v.0 ∷ ps) (resting_plans k vs)
 
 -- the part of a process that rests can do what the process can
-pub resting_able : (k : Kind) (i : ℕ) (ph : Phase) (vs : List View) (at p : ℕ) (e : Store) (s : ℕ) (d : Deed) → ph ≡ phase.Resting → has_parts k ≡ true → p ≡ place_of k at → Able (rest_at k ph i vs at) e s d → Able (part_rest (slice_get (resting_at p vs) p)) e s d
+pub resting_able : (k : Kind) (i : ℕ) (ph : Phase) (vs : List View) (at p : ℕ) (e : Store) (s : ℕ) (d : Deed) → ph ≡ phase.Resting → goes_on_at_one_part k ≡ true → p ≡ place_of k at → Able (rest_at k ph i vs at) e s d → Able (part_rest (slice_get (resting_at p vs) p)) e s d
 resting_able k i ph vs at p e s d h t g a =
     let q = place_of k at in
     let b = subst (λ (r : Rest). Able r e s d) (ap (λ (x : Phase). rest_at k x i vs at) h ∙ resting_goes k i vs at t) a in
     subst (λ (n : ℕ). Able (part_rest (slice_get (resting_at n vs) n)) e s d) (sym g) (within_able k i phase.Waiting (resting_at q vs) at q e s d refl t refl b)
 
-pub resting_did : (k : Kind) (i : ℕ) (ph : Phase) (vs ws : List View) (at p : ℕ) (e f : Store) (s : ℕ) (d : Deed) (r : Rest) → ph ≡ phase.Resting → has_parts k ≡ true → p ≡ place_of k at → plans ws ≡ plans vs →
+pub resting_did : (k : Kind) (i : ℕ) (ph : Phase) (vs ws : List View) (at p : ℕ) (e f : Store) (s : ℕ) (d : Deed) (r : Rest) → ph ≡ phase.Resting → goes_on_at_one_part k ≡ true → p ≡ place_of k at → plans ws ≡ plans vs →
     r ≡ follow_on (slice_get ws (place_of k at)) (behind k i ws at) → Did (part_rest (slice_get (resting_at p vs) p)) e s d (part_rest (slice_get ws p)) f → Did (rest_at k ph i vs at) e s d r f
 resting_did k i ph vs ws at p e f s d r h t g q z y =
     let n = place_of k at in
@@ -448,7 +448,7 @@ resting_did k i ph vs ws at p e f s d r h t g q z y =
     subst (λ (x : Rest). Did x e s d r f) (sym (ap (λ (x : Phase). rest_at k x i vs at) h ∙ resting_goes k i vs at t))
     (within_did k i phase.Waiting us ws at n e f s d r refl t refl (q ∙ sym (resting_plans n vs)) z st)
 
-pub resting_never : (k : Kind) (i : ℕ) (ph : Phase) (vs : List View) (at : ℕ) (e : Store) (s : ℕ) (d : Deed) (r : Rest) → ph ≡ phase.Resting → has_parts k ≡ false → Able (rest_at k ph i vs at) e s d → Did (rest_at k ph i vs at) e s d r e
+pub resting_never : (k : Kind) (i : ℕ) (ph : Phase) (vs : List View) (at : ℕ) (e : Store) (s : ℕ) (d : Deed) (r : Rest) → ph ≡ phase.Resting → goes_on_at_one_part k ≡ false → Able (rest_at k ph i vs at) e s d → Did (rest_at k ph i vs at) e s d r e
 resting_never k i ph vs at e s d r h t a =
     never _ r e e s d (subst (λ (x : Rest). Able x e s d) (ap (λ (x : Phase). rest_at k x i vs at) h ∙ resting_stops k i vs at t) a)
 

@@ -1,4 +1,4 @@
--- Turns of a counted SEQ.
+-- Turns of a replicated SEQ.
 use Rattle.std.proofs.Common.{◌≡◌, ◌≢◌, ℕ, zero, suc, ℤ, ◌<◌, ◌≤◌, ◌^◌, Bool, true, false, refl, ap, sym, ◌∙◌, subst, List, [], ◌∷◌, length, arith, Option, Some, None}
 use Rattle.std.specs.Prelude.{pos, negsuc, ◌+ℤ◌, ◌-ℤ◌, int_lt, nat_lt, slice_get, if◌then◌else◌}
 use Rattle.std.proofs.lemmas.Bool.Decides.{nat_tests}
@@ -58,7 +58,7 @@ has_range z y h = by (nat_lt (mag z) (2 ^ 63)) refl h
 no_none : (z : ℤ) → mag z < 2 ^ 63 → within z ≢ None
 no_none z h k = let e : Some z ≡ None = sym (in_range z h) ∙ k in absurd cc
 
--- a counted SEQ that begins
+-- a replicated SEQ that begins
 module _ (i v : ℕ) (a n : Exp) (p t : Proc) (r : Rest) (vs : List View) (e : Store) where
   abbrev Counted : Option ℤ → Option ℤ → Type 0
   Counted o w =

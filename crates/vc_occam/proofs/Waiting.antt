@@ -10,8 +10,8 @@ use Rattle.vc_process.specs.Usage.{Set}
 use Rattle.vc_occam.specs.Traces.{Comm, Fin, In}
 use Rattle.vc_occam.specs.Remains.{and_then, Rest, Done, begin, begin_seq, begin_par, begin_all, then_on, turns_on, beside_on, branch_on, chosen, Step, does_skip, does_empty_seq, does_empty_par, does_assign, faults_assign, faults_out, does_if, does_turn, does_leave, faults_while, does_count, does_count_none, faults_count, does_offer, does_finish, does_input, waits_input, gets, does_stop, does_choose, waits_choose, in_then, in_turns, in_left, in_right}
 use Rattle.vc_occam.specs.States.{State, Doing, Offers, Wants, Chooses, Stops, Meets, Rests, Finishes, Receives, Does, meeting, Waiting, output, input, waiting}
-use Rattle.vc_occam.specs.Laws.{IsAdded, IsKept, IsRemoved, IsOutputOn, IsInputOn, WaitsAfter}
-use Rattle.vc_process.proofs.Lists.{Inserted, inserted_here, inserted_left, inserted_right, is_inserted, inserted_keeps, inserted_or, same_without}
+use Rattle.vc_occam.specs.Laws.{IsAdded, IsKept, Inserted, inserted_here, WaitsAfter}
+use Rattle.vc_occam.proofs.Insertion.{inserted_left, inserted_right, is_inserted, inserted_keeps, inserted_or, same_without}
 
 both_wait : {xs ys : List Waiting} → xs ≡ [] → ys ≡ [] → xs ++ ys ≡ []
 both_wait {xs} {ys} h k = ap (λ zs. zs ++ ys) h ∙ k
@@ -141,10 +141,6 @@ added {x} {old} {new} h w =
 kept : {old new : List Waiting} → new ≡ old → IsKept old new
 kept {old} {new} h w = (λ k. subst (λ xs. Contains xs w) h k, λ k. subst (λ xs. Contains xs w) (sym h) k)
 
-removed : (Gone : Waiting → Type 0) {x : Waiting} {old new : List Waiting} → Gone x → Inserted x new old → IsRemoved Gone old new
-removed Gone {x} g h w =
-    (λ k. inserted_keeps h w k, λ k not_gone. elim (inserted_or h w k) [ inl e ↦ absurd (not_gone (subst Gone (sym e) g)) | inr o ↦ o ])
-
 fin_chan : (c d : ℕ) → Fin c ∷ [] ≡ Fin d ∷ [] → d ≡ c
 fin_chan c d h = cc
 
@@ -176,7 +172,7 @@ waits_after s s' (Meets i j k c m) ks h = meets_keep i j k c m h.6 h.7 h.8
 waits_after s s' (Rests i) ks h = kept (step_waits h.1)
 waits_after s s' (Finishes c) ks h =
     let n = step_waits h.2 in
-    removed (IsOutputOn c) {x = output h.0 n.0} (fin_chan c n.0 (sym h.1 ∙ n.1)) n.2
+    (output h.0 n.0, fin_chan c n.0 (sym h.1 ∙ n.1), n.2)
 waits_after s s' (Receives c m) ks h =
     let n = step_waits h.3 in
-    removed (IsInputOn c) {x = input h.0 n.0} (in_chan c n.0 h.1 n.1 (sym h.2 ∙ n.2)) n.3
+    (input h.0 n.0, in_chan c n.0 h.1 n.1 (sym h.2 ∙ n.2), n.3)

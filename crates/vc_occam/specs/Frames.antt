@@ -1,6 +1,7 @@
 -- What the running code stands for: a tree of frames, each with the process that was written and what remains of it.
 use Rattle.std.specs.Prelude.{◌≡◌, ℕ, zero, suc, ℤ, pos, ◌+ℤ◌, ◌-ℤ◌, int_lt, Bool, true, false, not, ◌==◌, List, [], ◌∷◌, ◌<◌, ◌↔◌, nat_le, map, drop, length, set, slice_get, Option, Some, None, if◌then◌else◌}
 use Rattle.std.specs.List.{Contains}
+use Rattle.std.specs.Option.{option_or}
 use lib.Signed.{mag}
 use Rattle.vc_occam.specs.declared.kind.Kind.{Kind}
 use Rattle.vc_occam.specs.declared.kind.Kind.TheVariants as kind
@@ -26,7 +27,7 @@ use Rattle.vc_process.specs.Syntax.{Exp, Test, Constant, Proc, SKIP, STOP, Assig
 use Rattle.vc_process.specs.Terms.{exp, given, as_test}
 use Rattle.vc_occam.specs.Remains.{Rest, Done, Stopped, Fresh, Finishing, Getting, Then, Turns, Beside, and_then, then_on, beside_on, begin, Step}
 use Rattle.vc_occam.specs.Sites.{InPreorder, site}
-use Rattle.vc_occam.specs.States.{Waiting, output, input, waiting, output_at, or_else}
+use Rattle.vc_occam.specs.States.{Waiting, output, input, waiting, output_at}
 use Rattle.vc_occam.specs.First.{own}
 use Rattle.vc_occam.specs.Gates.{Gate, gate}
 use Rattle.vc_occam.specs.Moving.{site_of}
@@ -85,7 +86,7 @@ behind kind.Seq i vs k = plans_of (drop (suc k) vs)
 behind (kind.While b) i vs k = part (while_of i (as_test b) vs) no_parts
 behind p i vs k = no_parts
 
--- it is a counted SEQ
+-- it is a replicated SEQ
 abbrev pub is_counted : Kind → Bool
 is_counted (kind.Count v a n) = true
 is_counted k = false
@@ -105,13 +106,13 @@ abbrev pub follow : Option View → Procs → Rest
 follow None ps = Fresh (STOP 0)
 follow (Some v) ps = and_then v.1 ps
 
--- it goes on at one of its parts; a counted SEQ goes on by turns of its body, and a PAR at all its parts
-abbrev pub has_parts : Kind → Bool
-has_parts kind.Seq = true
-has_parts (kind.If bs) = true
-has_parts (kind.While b) = true
-has_parts (kind.Alt gs) = true
-has_parts p = false
+-- it goes on at one of its parts; a replicated SEQ goes on by turns of its body, and a PAR at all its parts
+abbrev pub goes_on_at_one_part : Kind → Bool
+goes_on_at_one_part kind.Seq = true
+goes_on_at_one_part (kind.If bs) = true
+goes_on_at_one_part (kind.While b) = true
+goes_on_at_one_part (kind.Alt gs) = true
+goes_on_at_one_part p = false
 
 -- the part that a process is at; a WHILE has one only
 abbrev pub place_of : Kind → ℕ → ℕ
@@ -132,7 +133,7 @@ going_at p i vs k = Stopped
 abbrev pub turns_left : ℤ → ℤ → ℕ
 turns_left x y = if int_lt x y then mag (y -ℤ x) else 0
 
--- a counted SEQ in the turn with index x, where y is the last index
+-- a replicated SEQ in the turn with index x, where y is the last index
 abbrev pub turn_of : ℕ → List View → ℤ → ℤ → Rest
 turn_of v [] x y = Stopped
 turn_of v (w ∷ vs) x y = Turns w.1 v (x +ℤ pos 1) (turns_left x y) w.0
@@ -181,7 +182,7 @@ resting_at (suc k) (v ∷ vs) = v ∷ resting_at k vs
 
 -- a process that goes on at such a part
 abbrev pub resting : Kind → ℕ → List View → ℕ → Rest
-resting k i vs at = if has_parts k then going_at k i (resting_at (place_of k at) vs) at else Stopped
+resting k i vs at = if goes_on_at_one_part k then going_at k i (resting_at (place_of k at) vs) at else Stopped
 
 -- what remains of a process that is so far
 abbrev pub so_far : Phase → Proc → Rest → Rest → Rest → Rest → (ℤ → ℤ → Rest) → Rest
@@ -227,7 +228,7 @@ abbrev pub assigned_at : ℕ → Rest → Store → Option Datum
 assigned_at i (Fresh (Assign j v a)) e = if i == j then assigned_bytes a e else None
 assigned_at i (Then r ps) e = assigned_at i r e
 assigned_at i (Turns r v b n p) e = assigned_at i r e
-assigned_at i (Beside mine r q) e = or_else (assigned_at i r e) (assigned_at i q e)
+assigned_at i (Beside mine r q) e = option_or (assigned_at i r e) (assigned_at i q e)
 assigned_at i r e = None
 
 -- the moves of a part, what it waits for, the value that it outputs or assigns
@@ -288,7 +289,7 @@ waits_there w x = None
 -- the first site of these that waits for this
 abbrev pub first_waits : Waits → List Waiting → Option ℕ
 first_waits w [] = None
-first_waits w (x ∷ xs) = or_else (waits_there w x) (first_waits w xs)
+first_waits w (x ∷ xs) = option_or (waits_there w x) (first_waits w xs)
 
 -- a site that waits for this
 abbrev pub waits_at : Waits → ℕ → Waiting
@@ -361,7 +362,7 @@ gone_on k i vs at = follow_on (slice_get vs (place_of k at)) (behind k i vs at)
 
 -- a process that is so far goes on within a part
 abbrev pub goes_within : Kind → Phase → Bool
-goes_within k phase.Waiting = has_parts k
+goes_within k phase.Waiting = goes_on_at_one_part k
 goes_within k phase.Resting = true
 goes_within k (phase.Turning x y) = true
 goes_within k phase.Together = true

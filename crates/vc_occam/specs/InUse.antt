@@ -36,8 +36,8 @@ pub record UseApart (mine : Set) (r q : Rest) : Type 0 where
   pub inputs : Disjoint (inputs_rest r) (inputs_rest q)
   pub variables : Apart mine r q
 
--- what remains uses its channels and variables lawfully: parts side by side keep apart, a counted SEQ keeps its index, and what is
--- yet to begin is lawful
+-- what remains uses its channels and variables lawfully: parts side by side keep apart, a replicated SEQ keeps its index, and what
+-- is yet to begin is lawful
 abbrev pub UsesLawfully : Rest → Type 0
 UsesLawfully Done = Unit {0}
 UsesLawfully Stopped = Unit {0}

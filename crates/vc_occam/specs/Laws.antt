@@ -1,5 +1,5 @@
 -- Laws of running processes: what is listed can be done, and what waits then.
-use Rattle.std.specs.Prelude.{◌≡◌, ◌↔◌, ◌⊎◌, ℕ, List, Some, None}
+use Rattle.std.specs.Prelude.{◌≡◌, ◌↔◌, ◌⊎◌, ℕ, List, ◌∷◌, Some, None}
 use Rattle.std.specs.List.{Contains}
 use Rattle.vc_occam.specs.declared.answer.Answer.{Answer}
 use Rattle.vc_occam.specs.declared.deed.Deed.{Deed}
@@ -37,9 +37,14 @@ IsKept old new = (w : Waiting) → Contains new w ↔ Contains old w
 abbrev pub IsAdded : Waiting → List Waiting → List Waiting → Type 0
 IsAdded x old new = (w : Waiting) → Contains new w ↔ ((w ≡ x) ⊎ Contains old w)
 
--- nothing else waits than before, and all but this still waits
+-- one list is another with this put in at some place
+pub data Inserted {X : Type 0} (x : X) : List X → List X → Type 0 where
+  inserted_here : {xs : List X} → Inserted x xs (x ∷ xs)
+  inserted_later : {y : X} {xs ys : List X} → Inserted x xs ys → Inserted x (y ∷ xs) (y ∷ ys)
+
+-- one such thing waits no more; all else waits as before
 abbrev pub IsRemoved : (Waiting → Type 0) → List Waiting → List Waiting → Type 0
-IsRemoved Gone old new = (w : Waiting) → (Contains new w → Contains old w) × (Contains old w → (Gone w → ⊥) → Contains new w)
+IsRemoved Gone old new = (x : Waiting) × Gone x × Inserted x new old
 
 abbrev pub IsOutputOn : ℕ → Waiting → Type 0
 IsOutputOn c (output i d) = d ≡ c

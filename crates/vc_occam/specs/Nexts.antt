@@ -37,7 +37,7 @@ seq_begun k vs = if goes_further k vs then begun_at (suc k) vs else vs
 abbrev pub seq_next : ℕ → List View → Next
 seq_next k vs = record { phase = phase.Waiting; at = if goes_further k vs then suc k else k }
 
--- a counted SEQ whose base and count are worth this: it stops, ends, or begins its first turn
+-- a replicated SEQ whose base and count are worth this: it stops, ends, or begins its first turn
 abbrev pub last_phase : ℤ → Option ℤ → Phase
 last_phase x None = phase.Stuck
 last_phase x (Some y) = phase.Turning x y
@@ -76,7 +76,7 @@ abbrev pub turn_store : Bool → ℕ → ℤ → ℤ → Store → Store
 turn_store false v x y e = e
 turn_store true v x y e = if int_lt x y then set e v (datum.Int (x +ℤ pos 1)) else e
 
--- what remains of a counted SEQ whose turn has ended, and what the variables hold, before and after the next turn begins
+-- what remains of a replicated SEQ whose turn has ended, and what the variables hold, before and after the next turn begins
 abbrev pub TurnEnded : Kind → Phase → ℕ → List View → Store → Rest → Store → Type 0
 TurnEnded (kind.Count v a n) (phase.Turning x y) i vs e r f = (r ≡ rest_at (kind.Count v a n) (turn_phase true x y) i (turn_views true x y vs) 0) × (f ≡ turn_store true v x y e)
 TurnEnded k ph i vs e r f = Unit {0}

@@ -24,7 +24,7 @@ pub data Rest : Type 0 where
   Getting : (site chan var : ℕ) → Rest
   -- this, and then these processes
   Then : Rest → Procs → Rest
-  -- this turn of a counted SEQ, and then so many turns, with the index from next on
+  -- this turn of a replicated SEQ, and then so many turns, with the index from next on
   Turns : Rest → (var : ℕ) → (next : ℤ) → (left : ℕ) → Proc → Rest
   -- this, which remains of a process that changes these variables, beside what remains of the others
   Beside : Set → Rest → Rest → Rest
@@ -128,7 +128,7 @@ pub data Step : Rest → Store → (site : ℕ) → Deed → List Comm → Rest 
   does_stop : {s c : ℕ} {e : Store} → Step (Fresh (StopChan s c)) e s (StopChannel c) (Stp c ∷ []) Done e
   does_choose : {s k c v : ℕ} {b : Test} {p : Proc} {gs : Guards} {e : Store} {m : List ℕ} {x : Datum} → Decided gs e → GuardAt gs k b c v p → holds b e ≡ Some true → x ≡ received (e v) m → Step (Fresh (ALT s gs)) e s (Choose k c (Some m)) (In c x ∷ []) (begin p) (set e v x)
   waits_choose : {s k c v : ℕ} {b : Test} {p : Proc} {gs : Guards} {e : Store} → Decided gs e → GuardAt gs k b c v p → holds b e ≡ Some true → Step (Fresh (ALT s gs)) e s (Choose k c None) [] (Then (Getting s c v) (part p no_parts)) e
-  -- inside a SEQ or WHILE, a counted SEQ, a PAR
+  -- inside a SEQ or WHILE, a replicated SEQ, a PAR
   in_then : {i : ℕ} {d : Deed} {m : List Comm} {r r' : Rest} {e e' : Store} {ps : Procs} → Step r e i d m r' e' → Step (Then r ps) e i d m (then_on r' ps) e'
   in_turns : {i : ℕ} {d : Deed} {m : List Comm} {r r' : Rest} {e e' : Store} {v : ℕ} {b : ℤ} {n : ℕ} {p : Proc} → Step r e i d m r' e' → Step (Turns r v b n p) e i d m (turns_on r' v b n p) (index_on r' v b n e')
   in_left : {i : ℕ} {d : Deed} {m : List Comm} {r r' q : Rest} {e e' : Store} {mine : Set} → Step r e i d m r' e' → Step (Beside mine r q) e i d m (beside_on mine r' q) e'
@@ -160,13 +160,15 @@ pub record Apart (mine : Set) (r q : Rest) : Type 0 where
   pub left : (v : ℕ) → changes_rest r v ≡ true → (mine v ≡ true) × (uses_rest q v ≡ false)
   pub right : (v : ℕ) → changes_rest q v ≡ true → (mine v ≡ false) × (uses_rest r v ≡ false)
 
-abbrev pub Lawful : Rest → Type 0
-Lawful (Then r ps) = Lawful r
-Lawful (Turns r v b n p) = Lawful r
-Lawful (Beside mine r q) = Apart mine r q × Lawful r × Lawful q
-Lawful r = Unit {0}
+-- all parts side by side keep their variables apart
+abbrev pub KeepsVariablesApart : Rest → Type 0
+KeepsVariablesApart (Then r ps) = KeepsVariablesApart r
+KeepsVariablesApart (Turns r v b n p) = KeepsVariablesApart r
+KeepsVariablesApart (Beside mine r q) = Apart mine r q × KeepsVariablesApart r × KeepsVariablesApart q
+KeepsVariablesApart r = Unit {0}
 
--- followed by any trace of what remains, what a step made is a trace of what remained before
+-- where parts side by side keep their variables apart, what a step made, followed by any trace of what remains, is a trace of what
+-- remained before
 abbrev pub StepsAreTraces : Type 0
 StepsAreTraces =
-    (r : Rest) (e : Store) (i : ℕ) (d : Deed) (m : List Comm) (r' : Rest) (e' : Store) → Step r e i d m r' e' → Lawful r → (t : List Comm) (x : End) → TraceRest r' e' t x → TraceRest r e (m ++ t) x
+    (r : Rest) (e : Store) (i : ℕ) (d : Deed) (m : List Comm) (r' : Rest) (e' : Store) → Step r e i d m r' e' → KeepsVariablesApart r → (t : List Comm) (x : End) → TraceRest r' e' t x → TraceRest r e (m ++ t) x

@@ -1,6 +1,7 @@
 -- The state of a running process, and what it does at once.
 use Rattle.std.specs.Prelude.{◌≡◌, ◌≢◌, ℕ, ◌==◌, if◌then◌else◌, List, [], ◌∷◌, ◌++◌, Option, Some, None}
 use Rattle.std.specs.List.{Contains}
+use Rattle.std.specs.Option.{option_or}
 use Rattle.vc_process.specs.declared.datum.Datum.{Datum}
 use Rattle.vc_occam.specs.declared.deed.Deed.{Deed}
 use Rattle.vc_occam.specs.declared.deed.Deed.TheVariants as deed
@@ -63,17 +64,12 @@ IsTraced s ks s' = (t : List Comm) (x : End) → TraceRest s'.rest s'.store t x 
 abbrev pub Acts : State → Doing → State → Type 0
 Acts s d s' = (ks : List Comm) × Does s d ks s' × IsTraced s ks s'
 
--- the first of two that is there
-abbrev pub or_else : {A : Type 0} → Option A → Option A → Option A
-or_else (Some x) other = Some x
-or_else None other = other
-
 -- the value of the output that can begin at a site
 abbrev pub output_at : ℕ → Rest → Store → Option Datum
 output_at i (Fresh (Output j c a)) e = if i == j then datum_of a e else None
 output_at i (Then r ps) e = output_at i r e
 output_at i (Turns r v b n p) e = output_at i r e
-output_at i (Beside mine r q) e = or_else (output_at i r e) (output_at i q e)
+output_at i (Beside mine r q) e = option_or (output_at i r e) (output_at i q e)
 output_at i r e = None
 
 abbrev pub carried : Option Datum → Option (List ℕ)

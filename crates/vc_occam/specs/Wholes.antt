@@ -11,7 +11,7 @@ use Rattle.vc_process.specs.declared.process.Guard.{Guard}
 use Rattle.vc_occam.specs.Remains.{Fresh}
 use Rattle.vc_occam.specs.Frames.{View}
 
--- whether a process is no SEQ, PAR, IF, WHILE, counted SEQ or ALT
+-- whether a process is no SEQ, PAR, IF, WHILE, replicated SEQ or ALT
 abbrev pub stands_alone : layer.Process-F Process Branch Guard → Bool
 stands_alone (layer.Seq parts) = false
 stands_alone (layer.Par parts) = false

@@ -1,6 +1,6 @@
 //! Processes that run: a tree of frames, each with its parts and how far it is.
 ghost use Rattle.std.specs.Prelude.{◌≡◌, ℕ, slice_get};
-ghost use Rattle.vc_occam.specs.Frames.{all_begun, begun_parts, begun_phase, besides, is_choice, is_counted, is_par, has_parts as is_composed, is_done, is_last as nothing_behind, part_done, place_of, rest_at, view, views};
+ghost use Rattle.vc_occam.specs.Frames.{all_begun, begun_parts, begun_phase, besides, is_choice, is_counted, is_par, goes_on_at_one_part as is_composed, is_done, is_last as nothing_behind, part_done, place_of, rest_at, view, views};
 ghost use Rattle.vc_occam.specs.Remains.{begin};
 
 use crate::kind::Kind;
@@ -17,8 +17,8 @@ pub(crate) struct Frame {
 }
 
 impl Kind {
-    /// Whether it goes on at one of its parts; a counted SEQ goes on by turns of its body, and a PAR at all its parts.
-    pub(crate) fn has_parts(&self) -> bool
+    /// Whether it goes on at one of its parts; a replicated SEQ goes on by turns of its body, and a PAR at all its parts.
+    pub(crate) fn goes_on_at_one_part(&self) -> bool
         ensures { result ≡ is_composed self.now }
     {
         match self {
@@ -30,7 +30,7 @@ impl Kind {
         }
     }
 
-    /// Whether it is a counted SEQ.
+    /// Whether it is a replicated SEQ.
     pub(crate) fn is_counted(&self) -> bool
         ensures { result ≡ is_counted self.now }
     {

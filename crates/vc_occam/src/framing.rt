@@ -150,7 +150,7 @@ pub(crate) fn frame_of(alloc: Global, process: &Process, site: u32) -> Result<Fr
     }
 }
 
-/// What a counted SEQ is, without its body.
+/// What a replicated SEQ is, without its body.
 fn count_kind(alloc: Global, var: u8, base: &Expr, count: &Expr) -> Result<Kind, Memory>
     ensures { IfOk result (λ kind. (site : ℕ) (vs : List View) → plan_at kind site vs ≡ plan_at (Kind.Count var base.now count.now) site vs) }
 {

@@ -4,7 +4,7 @@ ghost use Rattle.vc_occam.specs.declared.begins.Begins.TheVariants.{Other};
 ghost use Rattle.vc_occam.specs.declared.deed.Deed.TheVariants.{Quiet};
 ghost use Rattle.vc_occam.specs.declared.frame.Frame.TheViews.{out-Frame};
 ghost use Rattle.vc_occam.specs.declared.phase.Phase.TheVariants.{Ready, Resting, Waiting};
-ghost use Rattle.vc_occam.specs.Frames.{Able, ChangedAt, Did, HasVariables, PartHasVariables, PartInPreorder, View, as_begun, assigned_at, awaiting, is_choice, is_counted, part_done, goes_within, gone_on, part_assigned, place_of, begun_at, BeginsWith, behind, chosen_from, going_at, besides, has_parts, is_done, is_last, part_rest, plan_at, plans, rest_at, resting_at, together, view, views};
+ghost use Rattle.vc_occam.specs.Frames.{Able, ChangedAt, Did, HasVariables, PartHasVariables, PartInPreorder, View, as_begun, assigned_at, awaiting, is_choice, is_counted, part_done, goes_within, gone_on, part_assigned, place_of, begun_at, BeginsWith, behind, chosen_from, going_at, besides, goes_on_at_one_part, is_done, is_last, part_rest, plan_at, plans, rest_at, resting_at, together, view, views};
 ghost use Rattle.vc_occam.specs.Gates.{gate};
 ghost use Rattle.vc_occam.specs.Nexts.{GateHasVariable, branch_next, choice_begun, choice_next, choice_store, count_begun, count_phase, count_store, gate_begun, gate_next, gate_store, over, seq_begun, seq_next, stuck_next, TurnEnded, turn_begun, turn_next, turn_phase, turn_store, turn_views};
 ghost use Rattle.vc_occam.specs.declared.deed.Deed.{Deed};
@@ -41,7 +41,7 @@ struct Progress {
     ended: bool,
 }
 
-/// A process without parts begins with what its site does.
+/// A process that goes on at none of its parts, and is no replicated SEQ, begins with what its site does.
 #[inline(always)]
 pub(crate) fn begin_alone(
     own: u16,
@@ -49,7 +49,7 @@ pub(crate) fn begin_alone(
     doing: &mut SiteDeed,
     vars: &mut Vec<Datum>,
 ) -> Phase
-    requires alone { has_parts kind.now ≡ false }
+    requires alone { goes_on_at_one_part kind.now ≡ false }
     requires uncounted { is_counted kind.now ≡ false }
     requires assigned { doing.old.deed ≡ Quiet → doing.old.assigned ≡ assigned_at doing.old.site (Fresh (plan_at kind.now own [])) (store vars.old.items) }
     requires variables { HasVariables (plan_at kind.now own []) (length vars.old.items) }
@@ -85,9 +85,9 @@ pub(crate) fn begin_alone(
     }
 }
 
-/// A process without parts that waits goes on.
+/// A process that goes on at none of its parts goes on where it waits.
 pub(crate) fn end_alone(own: u16, kind: &Kind, doing: &mut SiteDeed, vars: &mut Vec<Datum>) -> Phase
-    requires alone { has_parts kind.now ≡ false }
+    requires alone { goes_on_at_one_part kind.now ≡ false }
     requires variables { HasVariables (plan_at kind.now own []) (length vars.old.items) }
     ensures did { (vs : List View) (at : ℕ) → Able (going_at kind.now own vs at) (store vars.old.items) doing.old.site doing.old.deed → Did (going_at kind.now own vs at) (store vars.old.items) doing.old.site doing.old.deed (rest_at kind.now result own vs at) (store vars.new.items) }
     ensures length { length vars.new.items ≡ length vars.old.items }
@@ -105,7 +105,7 @@ pub(crate) fn end_alone(own: u16, kind: &Kind, doing: &mut SiteDeed, vars: &mut 
     }
 }
 
-/// How a counted SEQ begins: with which index, and which is the last one.
+/// How a replicated SEQ begins: with which index, and which is the last one.
 fn counted(base: &Expr, count: &Expr, vars: &[Datum]) -> Phase
     ensures phase { result ≡ count_phase (value_of (exp base.now) (store vars.now)) (value_of (exp count.now) (store vars.now)) }
     ensures range { (x : ℤ) → value_of (exp base.now) (store vars.now) ≡ Some x → mag x < 2 ^ 63 }
@@ -128,7 +128,7 @@ fn counted(base: &Expr, count: &Expr, vars: &[Datum]) -> Phase
     }
 }
 
-/// A counted SEQ begins its first turn, where it is no fault and has one.
+/// A replicated SEQ begins its first turn, where it is no fault and has one.
 fn begin_turns(phase: Phase, var: u8, parts: &mut Vec<Frame>, vars: &mut Vec<Datum>)
     requires { var < length vars.old.items }
     ensures parts { views parts.new.items ≡ count_begun phase (views parts.old.items) }
@@ -141,7 +141,7 @@ fn begin_turns(phase: Phase, var: u8, parts: &mut Vec<Frame>, vars: &mut Vec<Dat
     }
 }
 
-/// Where a turn of a counted SEQ has ended, the next one begins, if there is one.
+/// Where a turn of a replicated SEQ has ended, the next one begins, if there is one.
 fn after_turn(
     var: u8,
     index: i64,
@@ -166,7 +166,7 @@ fn after_turn(
     }
 }
 
-/// Whether the turns of a counted SEQ are over that is so far.
+/// Whether the turns of a replicated SEQ are over that is so far.
 fn is_over(phase: Phase) -> bool
     ensures { result ≡ over phase }
 {
@@ -207,7 +207,7 @@ fn chosen(conds: &[Cond], vars: &[Datum]) -> Option<usize>
 
 /// An IF takes its branch, or a WHILE its turn, or an empty SEQ ends.
 fn begin_composed(own: u16, kind: &Kind, parts: &mut Vec<Frame>, vars: &[Datum]) -> Next
-    requires composed { has_parts kind.now ≡ true }
+    requires composed { goes_on_at_one_part kind.now ≡ true }
     requires unchosen { is_choice kind.now ≡ false }
     ensures did { (site : ℕ) (deed : Deed) → Able (Fresh (plan_at kind.now own (views parts.old.items))) (store vars.now) site deed → Did (Fresh (plan_at kind.now own (views parts.old.items))) (store vars.now) site deed (rest_at kind.now result.phase own (views parts.new.items) result.at) (store vars.now) }
     ensures plans { plans (views parts.new.items) ≡ plans (views parts.old.items) }
@@ -234,7 +234,7 @@ fn begin_composed(own: u16, kind: &Kind, parts: &mut Vec<Frame>, vars: &[Datum])
     }
 }
 
-/// A counted SEQ evaluates its base and its count, and begins its first turn.
+/// A replicated SEQ evaluates its base and its count, and begins its first turn.
 fn begin_count(own: u16, kind: &Kind, parts: &mut Vec<Frame>, vars: &mut Vec<Datum>) -> Phase
     requires counted { is_counted kind.now ≡ true }
     requires variables { HasVariables (plan_at kind.now own (views parts.old.items)) (length vars.old.items) }
@@ -416,7 +416,7 @@ impl Frame {
             return self.begin_itself(doing, vars);
         }
         if let Phase::Waiting = self.phase {
-            if self.kind.has_parts() {
+            if self.kind.goes_on_at_one_part() {
                 let place = self.kind.place(self.at);
                 let went = go_within(place, &mut self.parts, doing, vars);
                 if went.has_ended() {
@@ -433,7 +433,7 @@ impl Frame {
     #[inline(never)]
     fn go_apart(&mut self, doing: &mut SiteDeed, vars: &mut Vec<Datum>) -> Went
         requires begun { (out-Frame self.old).phase ≡ Ready → ⊥ }
-        requires apart { (out-Frame self.old).phase ≡ Waiting → has_parts (out-Frame self.old).kind ≡ false }
+        requires apart { (out-Frame self.old).phase ≡ Waiting → goes_on_at_one_part (out-Frame self.old).kind ≡ false }
         requires able { Able (view self.old).1 (store vars.old.items) doing.old.site doing.old.deed }
         requires assigned { doing.old.deed ≡ Quiet → doing.old.assigned ≡ assigned_at doing.old.site (view self.old).1 (store vars.old.items) }
         requires variables { HasVariables (view self.old).0 (length vars.old.items) }
@@ -487,7 +487,7 @@ impl Frame {
         ensures begins { BeginsWith (then_begins result) (view self.new).1 }
         ensures length { length vars.new.items ≡ length vars.old.items }
     {
-        if !self.kind.has_parts() {
+        if !self.kind.goes_on_at_one_part() {
             return Went::Other;
         }
         let place = self.kind.place(self.at);
@@ -568,7 +568,7 @@ impl Frame {
         ensures ended { result ≡ is_done (view self.new).1 }
         ensures length { length vars.new.items ≡ length vars.old.items }
     {
-        if self.kind.has_parts() {
+        if self.kind.goes_on_at_one_part() {
             return false;
         }
         let phase = end_alone(self.site, &self.kind, doing, vars);
@@ -581,7 +581,9 @@ impl Frame {
         ensures { view self.new ≡ view self.old }
     {
         if let Phase::Waiting = self.phase {
-            if self.kind.has_parts() && part_has_begun(self.kind.place(self.at), &self.parts) {
+            if self.kind.goes_on_at_one_part()
+                && part_has_begun(self.kind.place(self.at), &self.parts)
+            {
                 self.phase = Phase::Resting;
             }
         }
@@ -605,7 +607,7 @@ impl Frame {
     /// what it begins with.
     #[inline(never)]
     fn leave_part(&mut self) -> Went
-        requires composed { has_parts (out-Frame self.old).kind ≡ true }
+        requires composed { goes_on_at_one_part (out-Frame self.old).kind ≡ true }
         requires ended { part_done (slice_get (views (out-Frame self.old).parts.items) (place_of (out-Frame self.old).kind (out-Frame self.old).at)) ≡ true }
         ensures rest { (view self.new).1 ≡ gone_on (out-Frame self.old).kind (out-Frame self.old).site (views (out-Frame self.old).parts.items) (out-Frame self.old).at }
         ensures plan { (view self.new).0 ≡ (view self.old).0 }
@@ -618,7 +620,7 @@ impl Frame {
         self.went(progress.ended)
     }
 
-    /// A turn of a counted SEQ has ended: the next one begins, if there is one; answers whether nothing remains then, and what it
+    /// A turn of a replicated SEQ has ended: the next one begins, if there is one; answers whether nothing remains then, and what it
     /// begins with.
     #[inline(never)]
     fn leave_turn(&mut self, vars: &mut Vec<Datum>) -> Went
@@ -653,8 +655,8 @@ impl Frame {
     }
 }
 
-/// A process begins with what a site does: an ALT takes a guard, an IF a branch, a WHILE or a counted SEQ a turn, and a process without
-/// parts does what it is.
+/// A process begins with what a site does: an ALT takes a guard, an IF a branch, a WHILE or a replicated SEQ a turn, and a process
+/// that goes on at none of its parts does what it is.
 #[inline(always)]
 fn begin(
     own: u16,
@@ -673,7 +675,7 @@ fn begin(
     if kind.is_choice() {
         return begin_choice(own, kind, parts, doing, vars);
     }
-    if kind.has_parts() {
+    if kind.goes_on_at_one_part() {
         return begin_composed(own, kind, parts, vars);
     }
     if kind.is_counted() {
@@ -782,7 +784,7 @@ fn settle_part(at: usize, parts: &mut Vec<Frame>)
 
 /// Where the part that a process was at has ended, a SEQ begins the next one, and a WHILE tests again.
 fn after_part(kind: &Kind, at: usize, parts: &mut Vec<Frame>) -> Progress
-    requires composed { has_parts kind.now ≡ true }
+    requires composed { goes_on_at_one_part kind.now ≡ true }
     requires ended { part_done (slice_get (views parts.old.items) (place_of kind.now at)) ≡ true }
     ensures rest { (own : ℕ) → rest_at kind.now result.next.phase own (views parts.new.items) result.next.at ≡ gone_on kind.now own (views parts.old.items) at }
     ensures plans { plans (views parts.new.items) ≡ plans (views parts.old.items) }

@@ -26,7 +26,7 @@ pub(crate) enum Kind {
     If { conds: Items<Cond> },
     /// WHILE, with its condition.
     While { cond: Cond },
-    /// A counted SEQ, with its index, base and count.
+    /// A replicated SEQ, with its index, base and count.
     Count { var: u8, base: Expr, count: Expr },
     /// ALT, with what its guards test and input.
     Alt { guards: GuardedInputs },

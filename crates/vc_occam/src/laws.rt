@@ -3,7 +3,8 @@ ghost use Rattle.vc_occam.specs.InUse.{LawfulAtFirst, StepsKeepUse, DoingKeepsUs
 ghost use Rattle.vc_occam.specs.Laws.{SitesAreOwnAtFirst, StepsKeepSites, DoingKeepsSites, ListedMovesCanBeMade, WaitingAfter};
 ghost use Rattle.vc_occam.specs.Remains.{StepsAreTraces};
 
-/// What a step of one site makes, followed by any trace of what remains, is a trace of what remained before.
+/// Where parts side by side keep their variables apart, what a step of one site makes, followed by any trace of what remains, is a
+/// trace of what remained before.
 pub fn steps_are_traces()
     ensures { StepsAreTraces }
 {}
@@ -30,7 +31,8 @@ pub fn listed_moves_can_be_made()
     ensures { ListedMovesCanBeMade }
 {}
 
-/// What waits after whatever the process does.
+/// An output that begins, and an input or guard without its message, waits; one that is finished or has its message waits no
+/// more; all else waits as before.
 pub fn waiting_after()
     ensures { WaitingAfter }
 {}

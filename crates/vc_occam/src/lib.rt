@@ -11,9 +11,9 @@
 //! to be a step without a communication, and [`Running::act_quietly`] makes one; [`Running::first_from`] finds the first move at a
 //! site from one on, without a list.
 //!
-//! Laws of the definitions, for every word of the language, stand in `laws.rt`: what a step makes, followed by any trace of what
-//! remains, is a trace of what remained before; no step loses lawful use; each listed move can be made; what waits after whatever a
-//! process does.
+//! Laws of the definitions, for every word of the language, stand in `laws.rt`: where parts side by side keep their variables apart,
+//! what a step makes, followed by any trace of what remains, is a trace of what remained before; no step loses lawful use; each
+//! listed move can be made; an output or input that begins waits until it is finished or has its message.
 //!
 //! A process runs as a tree of frames (`frame.rt`), one for each process that is written, with how far it is and at which part;
 //! what it stands for is said in `specs/Frames`. A part begins, ends and begins again by a change of its frame, without memory;

@@ -34,7 +34,7 @@ impl Frame {
         match self.phase {
             Phase::Ready => push_ready(found, self.site, &self.kind, &self.parts, vars),
             Phase::Waiting => {
-                if self.kind.has_parts() {
+                if self.kind.goes_on_at_one_part() {
                     return push_part(found, &self.parts, self.kind.place(self.at), vars);
                 }
                 Ok(())
@@ -77,7 +77,7 @@ impl Frame {
         match self.phase {
             Phase::Ready => Begins::Other,
             Phase::Waiting => {
-                if self.kind.has_parts() {
+                if self.kind.goes_on_at_one_part() {
                     return Begins::Other;
                 }
                 Begins::Nothing
@@ -108,7 +108,7 @@ impl Frame {
         ensures { IfSome result (λ at. BeginsAs at (views (out-Frame self.now).parts.items) (view self.now).1) }
     {
         if let Phase::Waiting = self.phase {
-            if self.kind.has_parts() {
+            if self.kind.goes_on_at_one_part() {
                 return place_among(&self.parts, self.kind.place(self.at));
             }
         }
@@ -139,7 +139,7 @@ impl Frame {
         match self.phase {
             Phase::Ready => ready_look(self.site, &self.kind, &self.parts, vars),
             Phase::Waiting => {
-                if self.kind.has_parts() {
+                if self.kind.goes_on_at_one_part() {
                     return Look::More;
                 }
                 Look::One(None)
@@ -184,7 +184,7 @@ impl Frame {
         match self.phase {
             Phase::Ready => None,
             Phase::Waiting => {
-                if self.kind.has_parts() {
+                if self.kind.goes_on_at_one_part() {
                     return part_waits_on(&self.parts, self.kind.place(self.at), wanted);
                 }
                 match self.kind {
@@ -198,7 +198,7 @@ impl Frame {
                 }
             }
             Phase::Resting => {
-                if self.kind.has_parts() {
+                if self.kind.goes_on_at_one_part() {
                     return part_waits_begun(&self.parts, self.kind.place(self.at), wanted);
                 }
                 None
@@ -242,7 +242,7 @@ impl Frame {
     {
         match self.phase {
             Phase::Waiting => {
-                if self.kind.has_parts() {
+                if self.kind.goes_on_at_one_part() {
                     return place_among(&self.parts, self.kind.place(self.at));
                 }
                 None

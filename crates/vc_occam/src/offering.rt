@@ -23,7 +23,7 @@ impl Frame {
                 return;
             }
             Phase::Waiting => {
-                if self.kind.has_parts() {
+                if self.kind.goes_on_at_one_part() {
                     let place = self.kind.place(self.at);
                     return offer_within(place, &mut self.parts, site);
                 }

@@ -9,7 +9,7 @@ pub(crate) enum Phase {
     Waiting,
     /// One of its parts goes on, and that is an output or input that has begun and hasn't ended.
     Resting,
-    /// A turn of a counted SEQ goes on, with this index and the last one.
+    /// A turn of a replicated SEQ goes on, with this index and the last one.
     Turning { index: i64, last: i64 },
     /// The parts of a PAR go on, side by side.
     Together,

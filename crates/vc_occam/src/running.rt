@@ -206,7 +206,7 @@ impl Running {
         }
     }
 
-    /// The site of its only move, where that is known to be a step without a communication.
+    /// The site of its only move, where that is known to be a step without a communication; None promises nothing.
     #[inline(always)]
     #[tactic(auto, unfolding(crate::specs::Runnings::state, crate::specs::Runnings::inner_channels))]
     pub fn only_step(&self) -> Option<u16>
@@ -224,6 +224,7 @@ impl Running {
     pub fn first_from(&self, site: u16) -> Option<Move>
         ensures listed { IfSome result (λ made. Contains (moves self.now) made) }
         ensures first { ((c : ℕ) → inner_channels self.now c ≡ false) → result ≡ from_site site (moves self.now) }
+        ensures joined { (c : ℕ) → inner_channels self.now c ≡ true → result ≡ None }
     {
         if !self.inside.is_empty() {
             return None;

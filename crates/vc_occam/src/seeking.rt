@@ -33,7 +33,7 @@ impl Frame {
         match self.phase {
             Phase::Ready => ready_from(site, self.site, &self.kind, &self.parts, vars),
             Phase::Waiting => {
-                if self.kind.has_parts() {
+                if self.kind.goes_on_at_one_part() {
                     return part_from(site, &self.parts, self.kind.place(self.at), vars);
                 }
                 None

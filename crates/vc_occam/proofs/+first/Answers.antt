@@ -16,18 +16,18 @@ use Rattle.vc_occam.proofs.+first.Goals as goal
 pub frame::Frame::first_from-part_from-requires : goal.frame::Frame::first_from-part_from-requires
 frame::Frame::first_from-part_from-requires t c =
     let o = out-Frame c.args.self.now in
-    let k = sym c.has_parts.ensures ∙ c.if-has_parts.true in
+    let k = sym c.goes_on_at_one_part.ensures ∙ c.if-goes_on_at_one_part.true in
     let pre = within_preorder o.kind o.site (views o.parts.items) o.at c.place.result k c.place.ensures (subst (λ (v : View). InPreorder v.0) (view_out c.args.self.now) c.requires) in
     (search (rules, the_lemmas), pre)
 
-pub frame::Frame::first_from-returns-then-has_parts : goal.frame::Frame::first_from-returns-then-has_parts
-frame::Frame::first_from-returns-then-has_parts t c =
+pub frame::Frame::first_from-returns-then-goes_on_at_one_part : goal.frame::Frame::first_from-returns-then-goes_on_at_one_part
+frame::Frame::first_from-returns-then-goes_on_at_one_part t c =
     let f = c.args.self.now in
     let e = store c.args.vars.now in
     let o = out-Frame f in
     let vs = views o.parts.items in
     c.part_from.ensures
-    ∙ sym (ap (from_site c.args.site) (ap (λ (r : Rest). own r e) (rest_going f c.in-Waiting.is (sym c.has_parts.ensures ∙ c.if-has_parts.true)) ∙ follow_own (slice_get vs (place_of o.kind o.at)) (behind o.kind o.site vs o.at) e ∙ ap (λ (k : ℕ). part_own (slice_get vs k) e) (sym c.place.ensures)))
+    ∙ sym (ap (from_site c.args.site) (ap (λ (r : Rest). own r e) (rest_going f c.in-Waiting.is (sym c.goes_on_at_one_part.ensures ∙ c.if-goes_on_at_one_part.true)) ∙ follow_own (slice_get vs (place_of o.kind o.at)) (behind o.kind o.site vs o.at) e ∙ ap (λ (k : ℕ). part_own (slice_get vs k) e) (sym c.place.ensures)))
 
 pub frame::Frame::first_from-part_from-requires-then-is_counted : goal.frame::Frame::first_from-part_from-requires-then-is_counted
 frame::Frame::first_from-part_from-requires-then-is_counted t c =
@@ -57,9 +57,9 @@ frame::Frame::first_from-returns-in-Ready t c =
     let F = λ (r : Rest). from_site c.args.site (own r (store c.args.vars.now)) in
     c.ready_from.ensures ∙ sym (ap F (rest_ready c.args.self.now c.in-Ready.is))
 
-pub frame::Frame::first_from-returns-else-has_parts : goal.frame::Frame::first_from-returns-else-has_parts
-frame::Frame::first_from-returns-else-has_parts t c =
-    sym (ap (from_site c.args.site) (idle_own (store c.args.vars.now) (rest_idle c.args.self.now c.in-Waiting.is (sym c.has_parts.ensures ∙ c.if-has_parts.false))))
+pub frame::Frame::first_from-returns-else-goes_on_at_one_part : goal.frame::Frame::first_from-returns-else-goes_on_at_one_part
+frame::Frame::first_from-returns-else-goes_on_at_one_part t c =
+    sym (ap (from_site c.args.site) (idle_own (store c.args.vars.now) (rest_idle c.args.self.now c.in-Waiting.is (sym c.goes_on_at_one_part.ensures ∙ c.if-goes_on_at_one_part.false))))
 
 pub frame::Frame::first_from-returns-else-is_counted : goal.frame::Frame::first_from-returns-else-is_counted
 frame::Frame::first_from-returns-else-is_counted t c =

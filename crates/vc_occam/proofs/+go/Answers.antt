@@ -28,7 +28,7 @@ frame::Frame::go-go_within-went-requires t c =
     let e = store c.args.vars.now.items in
     let s = c.args.doing.now.site in
     let d = c.args.doing.now.deed in
-    let h = sym c.has_parts.ensures ∙ c.if-has_parts.true in
+    let h = sym c.goes_on_at_one_part.ensures ∙ c.if-goes_on_at_one_part.true in
     let able = subst (λ (v : View). Able v.1 e s d) is c.requires.able in
     let has = subst (λ (v : View). HasVariables v.0 (length c.args.vars.now.items)) is c.requires.variables in
     let pre = subst (λ (v : View). InPreorder v.0) is c.requires.in_preorder in (
@@ -51,7 +51,7 @@ frame::Frame::go-returns-then-has_ended-clause-did t c =
     let unrolled : us ≡ vs = simp the_lemmas refl in
     let s = c.args.doing.now.site in
     let d = c.args.doing.now.deed in
-    let h = sym c.has_parts.ensures ∙ c.if-has_parts.true in
+    let h = sym c.goes_on_at_one_part.ensures ∙ c.if-goes_on_at_one_part.true in
     let r : (view c.leave_part.new.self).1 ≡ gone_on o.kind o.site ws o.at = c.leave_part.ensures.rest ∙ simp the_lemmas refl in
     let same : plans ws ≡ plans vs = c.go_within-went.ensures.plans ∙ ap plans unrolled in
     let st = subst (λ (xs : List View). Did (part_rest (slice_get xs c.place-place.result)) (store c.args.vars.now.items) s d (part_rest (slice_get ws c.place-place.result)) (store c.go_within-went.new.vars.items)) unrolled c.go_within-went.ensures.did in
@@ -69,8 +69,8 @@ frame::Frame::go-returns-then-has_ended-clause-plan t c =
     let p : (view c.leave_part.new.self).0 ≡ plan_at o.kind o.site ws = c.leave_part.ensures.plan ∙ simp (the_lemmas, view_roll, view_out) refl in
     p ∙ same_plan o.kind o.site vs ws same ∙ ap (λ (v : View). v.0) (sym (view_out c.args.self.now))
 
-pub frame::Frame::go-returns-then-has_parts-clause-did : goal.frame::Frame::go-returns-then-has_parts-clause-did
-frame::Frame::go-returns-then-has_parts-clause-did t c =
+pub frame::Frame::go-returns-then-goes_on_at_one_part-clause-did : goal.frame::Frame::go-returns-then-goes_on_at_one_part-clause-did
+frame::Frame::go-returns-then-goes_on_at_one_part-clause-did t c =
     let o = out-Frame c.args.self.now in
     let vs = views o.parts.items in
     let ws = views c.go_within-went.new.parts.items in
@@ -78,14 +78,14 @@ frame::Frame::go-returns-then-has_parts-clause-did t c =
     let unrolled : us ≡ vs = simp the_lemmas refl in
     let s = c.args.doing.now.site in
     let d = c.args.doing.now.deed in
-    let h = sym c.has_parts.ensures ∙ c.if-has_parts.true in
+    let h = sym c.goes_on_at_one_part.ensures ∙ c.if-goes_on_at_one_part.true in
     let same : plans ws ≡ plans vs = c.go_within-went.ensures.plans ∙ ap plans unrolled in
     let st = subst (λ (xs : List View). Did (part_rest (slice_get xs c.place-place.result)) (store c.args.vars.now.items) s d (part_rest (slice_get ws c.place-place.result)) (store c.go_within-went.new.vars.items)) unrolled c.go_within-went.ensures.did in
     let r = going_on o.kind o.site o.phase ws o.at c.place-place.result c.in-Waiting.is h c.place-place.ensures (sym c.go_within-went.ensures.ended ∙ sym c.has_ended.ensures ∙ c.if-has_ended.false) in
     simp (the_lemmas, view_roll, view_out) (within_did o.kind o.site o.phase vs ws o.at c.place-place.result _ _ s d _ c.in-Waiting.is h c.place-place.ensures same r st)
 
-pub frame::Frame::go-returns-then-has_parts-clause-plan : goal.frame::Frame::go-returns-then-has_parts-clause-plan
-frame::Frame::go-returns-then-has_parts-clause-plan t c =
+pub frame::Frame::go-returns-then-goes_on_at_one_part-clause-plan : goal.frame::Frame::go-returns-then-goes_on_at_one_part-clause-plan
+frame::Frame::go-returns-then-goes_on_at_one_part-clause-plan t c =
     let o = out-Frame c.args.self.now in
     let vs = views o.parts.items in
     let ws = views c.go_within-went.new.parts.items in
@@ -94,18 +94,18 @@ frame::Frame::go-returns-then-has_parts-clause-plan t c =
     let same : plans ws ≡ plans vs = c.go_within-went.ensures.plans ∙ ap plans unrolled in
     simp (the_lemmas, view_roll, view_out) (same_plan o.kind o.site vs ws same)
 
-pub frame::Frame::go-returns-then-has_parts-clause-ended : goal.frame::Frame::go-returns-then-has_parts-clause-ended
-frame::Frame::go-returns-then-has_parts-clause-ended t c =
+pub frame::Frame::go-returns-then-goes_on_at_one_part-clause-ended : goal.frame::Frame::go-returns-then-goes_on_at_one_part-clause-ended
+frame::Frame::go-returns-then-goes_on_at_one_part-clause-ended t c =
     let o = out-Frame c.args.self.now in
     let ws = views c.go_within-went.new.parts.items in
-    let h = sym c.has_parts.ensures ∙ c.if-has_parts.true in
+    let h = sym c.goes_on_at_one_part.ensures ∙ c.if-goes_on_at_one_part.true in
     let n = goes_undone o.kind o.site o.phase ws o.at c.place-place.result c.in-Waiting.is h c.place-place.ensures (sym c.go_within-went.ensures.ended ∙ sym c.has_ended.ensures ∙ c.if-has_ended.false) in
     simp (the_lemmas, view_roll, view_out) (sym c.has_ended.ensures ∙ c.if-has_ended.false ∙ sym n)
 
-pub frame::Frame::go-returns-then-has_parts-clause-begins : goal.frame::Frame::go-returns-then-has_parts-clause-begins
-frame::Frame::go-returns-then-has_parts-clause-begins t c =
+pub frame::Frame::go-returns-then-goes_on_at_one_part-clause-begins : goal.frame::Frame::go-returns-then-goes_on_at_one_part-clause-begins
+frame::Frame::go-returns-then-goes_on_at_one_part-clause-begins t c =
     let o = out-Frame c.args.self.now in
-    let h = sym c.has_parts.ensures ∙ c.if-has_parts.true in
+    let h = sym c.goes_on_at_one_part.ensures ∙ c.if-goes_on_at_one_part.true in
     simp (the_lemmas, view_roll, view_out) (part_begins _ o.kind o.site o.phase (views c.go_within-went.new.parts.items) o.at c.place-place.result c.in-Waiting.is h c.place-place.ensures c.go_within-went.ensures.begins)
 
 pub frame::Frame::go_apart-go_within-went-requires : goal.frame::Frame::go_apart-go_within-went-requires

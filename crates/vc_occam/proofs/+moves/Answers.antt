@@ -15,16 +15,16 @@ frame::Frame::push_moves-returns-in-Ready t c =
     let F = λ (r : Rest). own r (store c.args.vars.now) in
     pushed_same c.push_ready.result _ _ _ _ (ap F (rest_ready c.args.self.now c.in-Ready.is)) c.push_ready.ensures
 
-pub frame::Frame::push_moves-returns-then-has_parts : goal.frame::Frame::push_moves-returns-then-has_parts
-frame::Frame::push_moves-returns-then-has_parts t c =
+pub frame::Frame::push_moves-returns-then-goes_on_at_one_part : goal.frame::Frame::push_moves-returns-then-goes_on_at_one_part
+frame::Frame::push_moves-returns-then-goes_on_at_one_part t c =
     let f = c.args.self.now in
     let F = λ (r : Rest). own r (store c.args.vars.now) in
     let o = out-Frame f in
-    pushed_same c.push_part.result _ _ _ _ (ap F (rest_going f c.in-Waiting.is (sym c.has_parts.ensures ∙ c.if-has_parts.true)) ∙ follow_own (slice_get (views o.parts.items) (place_of o.kind o.at)) (behind o.kind o.site (views o.parts.items) o.at) (store c.args.vars.now) ∙ ap (λ (k : ℕ). part_own (slice_get (views o.parts.items) k) (store c.args.vars.now)) (sym c.place.ensures)) c.push_part.ensures
+    pushed_same c.push_part.result _ _ _ _ (ap F (rest_going f c.in-Waiting.is (sym c.goes_on_at_one_part.ensures ∙ c.if-goes_on_at_one_part.true)) ∙ follow_own (slice_get (views o.parts.items) (place_of o.kind o.at)) (behind o.kind o.site (views o.parts.items) o.at) (store c.args.vars.now) ∙ ap (λ (k : ℕ). part_own (slice_get (views o.parts.items) k) (store c.args.vars.now)) (sym c.place.ensures)) c.push_part.ensures
 
-pub frame::Frame::push_moves-returns-else-has_parts : goal.frame::Frame::push_moves-returns-else-has_parts
-frame::Frame::push_moves-returns-else-has_parts t c =
-    pushed_none _ _ (idle_own (store c.args.vars.now) (rest_idle c.args.self.now c.in-Waiting.is (sym c.has_parts.ensures ∙ c.if-has_parts.false)))
+pub frame::Frame::push_moves-returns-else-goes_on_at_one_part : goal.frame::Frame::push_moves-returns-else-goes_on_at_one_part
+frame::Frame::push_moves-returns-else-goes_on_at_one_part t c =
+    pushed_none _ _ (idle_own (store c.args.vars.now) (rest_idle c.args.self.now c.in-Waiting.is (sym c.goes_on_at_one_part.ensures ∙ c.if-goes_on_at_one_part.false)))
 
 pub frame::Frame::push_moves-returns-in-Chosen : goal.frame::Frame::push_moves-returns-in-Chosen
 frame::Frame::push_moves-returns-in-Chosen t c = pushed_none _ _ (awaiting_own (store c.args.vars.now) (is_awaiting c.args.self.now c.in-Chosen.is))

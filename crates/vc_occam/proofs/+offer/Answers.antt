@@ -29,12 +29,12 @@ frame::Frame::offer-returns-in-Ready-clause-plan t c = simp (the_lemmas, view_ro
 pub frame::Frame::offer-offer_within-requires : goal.frame::Frame::offer-offer_within-requires
 frame::Frame::offer-offer_within-requires t c =
     let o = out-Frame c.args.self.now in
-    let h = sym c.has_parts.ensures ∙ c.if-has_parts.true in
+    let h = sym c.goes_on_at_one_part.ensures ∙ c.if-goes_on_at_one_part.true in
     let pre = subst (λ (v : View). InPreorder v.0) (view_out c.args.self.now) c.requires.in_preorder in
     (search (rules, the_lemmas), simp the_lemmas (within_preorder o.kind o.site (views o.parts.items) o.at c.place-place.result h c.place-place.ensures pre))
 
-pub frame::Frame::offer-returns-then-has_parts-clause-did : goal.frame::Frame::offer-returns-then-has_parts-clause-did
-frame::Frame::offer-returns-then-has_parts-clause-did t c = λ e d a.
+pub frame::Frame::offer-returns-then-goes_on_at_one_part-clause-did : goal.frame::Frame::offer-returns-then-goes_on_at_one_part-clause-did
+frame::Frame::offer-returns-then-goes_on_at_one_part-clause-did t c = λ e d a.
     let o = out-Frame c.args.self.now in
     let vs = views o.parts.items in
     let ws = views c.offer_within.new.parts.items in
@@ -42,14 +42,14 @@ frame::Frame::offer-returns-then-has_parts-clause-did t c = λ e d a.
     let unrolled : us ≡ vs = simp the_lemmas refl in
     let s = c.args.site in
     let p = c.place-place.result in
-    let h = sym c.has_parts.ensures ∙ c.if-has_parts.true in
+    let h = sym c.goes_on_at_one_part.ensures ∙ c.if-goes_on_at_one_part.true in
     let same : plans ws ≡ plans vs = c.offer_within.ensures.plans ∙ ap plans unrolled in
     let go = subst (λ (xs : List View). Offers (part_rest (slice_get xs p)) e s d (part_rest (slice_get ws p))) unrolled (c.offer_within.ensures.did e d) in
     let able = subst (λ (v : View). Able v.1 e s (Offer d)) (view_out c.args.self.now) a in
     simp (the_lemmas, view_roll, view_out) (offers_within o.kind o.site o.phase vs ws o.at p e s d c.in-Waiting.is h c.place-place.ensures same go able)
 
-pub frame::Frame::offer-returns-then-has_parts-clause-plan : goal.frame::Frame::offer-returns-then-has_parts-clause-plan
-frame::Frame::offer-returns-then-has_parts-clause-plan t c =
+pub frame::Frame::offer-returns-then-goes_on_at_one_part-clause-plan : goal.frame::Frame::offer-returns-then-goes_on_at_one_part-clause-plan
+frame::Frame::offer-returns-then-goes_on_at_one_part-clause-plan t c =
     let o = out-Frame c.args.self.now in
     let vs = views o.parts.items in
     let ws = views c.offer_within.new.parts.items in
@@ -60,7 +60,7 @@ frame::Frame::offer-returns-then-has_parts-clause-plan t c =
 
 pub frame::Frame::offer-returns-in-Waiting-clause-did : goal.frame::Frame::offer-returns-in-Waiting-clause-did
 frame::Frame::offer-returns-in-Waiting-clause-did t c = λ e d a.
-    never_offers _ _ e e c.args.site d (idle_own e (rest_idle c.args.self.now c.in-Waiting.is (sym c.has_parts.ensures ∙ c.if-has_parts.false))) a
+    never_offers _ _ e e c.args.site d (idle_own e (rest_idle c.args.self.now c.in-Waiting.is (sym c.goes_on_at_one_part.ensures ∙ c.if-goes_on_at_one_part.false))) a
 
 pub frame::Frame::offer-offer_within-requires-then-is_counted : goal.frame::Frame::offer-offer_within-requires-then-is_counted
 frame::Frame::offer-offer_within-requires-then-is_counted t c =

@@ -13,13 +13,13 @@ frame::Frame::waits_on-returns-in-Ready t c =
     let F = λ (r : Rest). first_waits c.args.wanted (waiting r) in
     sym (ap F (rest_ready c.args.self.now c.in-Ready.is))
 
-pub frame::Frame::waits_on-returns-then-has_parts : goal.frame::Frame::waits_on-returns-then-has_parts
-frame::Frame::waits_on-returns-then-has_parts t c =
+pub frame::Frame::waits_on-returns-then-goes_on_at_one_part : goal.frame::Frame::waits_on-returns-then-goes_on_at_one_part
+frame::Frame::waits_on-returns-then-goes_on_at_one_part t c =
     let f = c.args.self.now in
     let o = out-Frame f in
     let vs = views o.parts.items in
     c.part_waits_on.ensures
-    ∙ sym (ap (first_waits c.args.wanted) (ap waiting (rest_going f c.in-Waiting.is (sym c.has_parts.ensures ∙ c.if-has_parts.true)) ∙ follow_waits (slice_get vs (place_of o.kind o.at)) (behind o.kind o.site vs o.at) ∙ ap (λ (k : ℕ). part_waits (slice_get vs k)) (sym c.place.ensures)))
+    ∙ sym (ap (first_waits c.args.wanted) (ap waiting (rest_going f c.in-Waiting.is (sym c.goes_on_at_one_part.ensures ∙ c.if-goes_on_at_one_part.true)) ∙ follow_waits (slice_get vs (place_of o.kind o.at)) (behind o.kind o.site vs o.at) ∙ ap (λ (k : ℕ). part_waits (slice_get vs k)) (sym c.place.ensures)))
 
 pub frame::Frame::waits_on-returns-in-Send : goal.frame::Frame::waits_on-returns-in-Send
 frame::Frame::waits_on-returns-in-Send t c =
@@ -34,7 +34,7 @@ frame::Frame::waits_on-returns-in-Receive t c =
 pub frame::Frame::waits_on-returns-in_default : goal.frame::Frame::waits_on-returns-in_default
 frame::Frame::waits_on-returns-in_default t c =
     let F = λ (r : Rest). first_waits c.args.wanted (waiting r) in
-    sym (ap F (rest_nothing c.args.self.now c.in-Waiting.is (sym c.has_parts.ensures ∙ c.if-has_parts.false) c.in_default.not-Send c.in_default.not-Receive))
+    sym (ap F (rest_nothing c.args.self.now c.in-Waiting.is (sym c.goes_on_at_one_part.ensures ∙ c.if-goes_on_at_one_part.false) c.in_default.not-Send c.in_default.not-Receive))
 
 pub frame::Frame::waits_on-returns-in-Ended : goal.frame::Frame::waits_on-returns-in-Ended
 frame::Frame::waits_on-returns-in-Ended t c =
@@ -85,10 +85,10 @@ looking::parts_wait_on-loop-place-preserved t c =
     let l : c.loop-place.place < length fs = search rules in
     waits_more fs c.loop-place.place c.index.result.now c.args.wanted _ l c.index.ensures (sym c.in_default.is ∙ c.waits_on.ensures) c.loop-place.invariant
 
-pub frame::Frame::waits_on-returns-then-has_parts-2 : goal.frame::Frame::waits_on-returns-then-has_parts-2
-frame::Frame::waits_on-returns-then-has_parts-2 t c =
-    c.part_waits_begun.ensures ∙ sym (ap (first_waits c.args.wanted) (resting_waits c.args.self.now c.place-then-has_parts-2.result c.in-Resting.is (sym c.has_parts-in-Resting.ensures ∙ c.if-has_parts-2.true) c.place-then-has_parts-2.ensures))
+pub frame::Frame::waits_on-returns-then-goes_on_at_one_part-2 : goal.frame::Frame::waits_on-returns-then-goes_on_at_one_part-2
+frame::Frame::waits_on-returns-then-goes_on_at_one_part-2 t c =
+    c.part_waits_begun.ensures ∙ sym (ap (first_waits c.args.wanted) (resting_waits c.args.self.now c.place-then-goes_on_at_one_part-2.result c.in-Resting.is (sym c.goes_on_at_one_part-in-Resting.ensures ∙ c.if-goes_on_at_one_part-2.true) c.place-then-goes_on_at_one_part-2.ensures))
 
-pub frame::Frame::waits_on-returns-else-has_parts-2 : goal.frame::Frame::waits_on-returns-else-has_parts-2
-frame::Frame::waits_on-returns-else-has_parts-2 t c =
-    sym (ap (λ (r : Rest). first_waits c.args.wanted (waiting r)) (resting_stopped c.args.self.now c.in-Resting.is (sym c.has_parts-in-Resting.ensures ∙ c.if-has_parts-2.false)))
+pub frame::Frame::waits_on-returns-else-goes_on_at_one_part-2 : goal.frame::Frame::waits_on-returns-else-goes_on_at_one_part-2
+frame::Frame::waits_on-returns-else-goes_on_at_one_part-2 t c =
+    sym (ap (λ (r : Rest). first_waits c.args.wanted (waiting r)) (resting_stopped c.args.self.now c.in-Resting.is (sym c.goes_on_at_one_part-in-Resting.ensures ∙ c.if-goes_on_at_one_part-2.false)))

@@ -5,8 +5,8 @@ use Rattle.vc_occam.specs.Remains.{Fresh}
 use Rattle.vc_process.specs.Terms.{store}
 use Rattle.vc_occam.proofs.going.begin.Goals as goal
 
-pub returns-then-has_parts-clause-did : goal.returns-then-has_parts-clause-did
-returns-then-has_parts-clause-did c = λ able.
+pub returns-then-goes_on_at_one_part-clause-did : goal.returns-then-goes_on_at_one_part-clause-did
+returns-then-goes_on_at_one_part-clause-did c = λ able.
     let k = c.args.kind.now in
     let vs = views c.args.parts.now.items in
     let r = rest_at k c.begin_composed.result.phase c.args.own (views c.begin_composed.new.parts.items) c.begin_composed.result.at in

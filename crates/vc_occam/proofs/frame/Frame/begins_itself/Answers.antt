@@ -8,8 +8,8 @@ use Rattle.vc_occam.proofs.frame.Frame.begins_itself.Goals as goal
 pub returns-in-Ready : goal.returns-in-Ready
 returns-in-Ready c = same_rest c.ready_step.result _ _ (rest_ready c.args.self.now c.in-Ready.is) c.ready_step.ensures
 
-pub returns-else-has_parts : goal.returns-else-has_parts
-returns-else-has_parts c = λ e. idle_own e (rest_idle c.args.self.now c.in-Waiting.is (sym c.has_parts.ensures ∙ c.if-has_parts.false))
+pub returns-else-goes_on_at_one_part : goal.returns-else-goes_on_at_one_part
+returns-else-goes_on_at_one_part c = λ e. idle_own e (rest_idle c.args.self.now c.in-Waiting.is (sym c.goes_on_at_one_part.ensures ∙ c.if-goes_on_at_one_part.false))
 
 pub returns-in-Chosen : goal.returns-in-Chosen
 returns-in-Chosen c = λ e. awaiting_own e (is_awaiting c.args.self.now c.in-Chosen.is)

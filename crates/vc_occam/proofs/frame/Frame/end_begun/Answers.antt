@@ -7,20 +7,20 @@ use Rattle.vc_occam.proofs.Frames.{going_begun, none_begun, view_out, view_roll}
 use Rattle.vc_occam.proofs.Stepping.{alone_variables, never_able}
 use Rattle.vc_occam.proofs.frame.Frame.end_begun.Goals as goal
 
-pub returns-then-has_parts-clause-did : goal.returns-then-has_parts-clause-did
-returns-then-has_parts-clause-did c =
+pub returns-then-goes_on_at_one_part-clause-did : goal.returns-then-goes_on_at_one_part-clause-did
+returns-then-goes_on_at_one_part-clause-did c =
     let o = out-Frame c.args.self.now in
-    absurd (never_able _ _ _ _ (ap (λ (v : View). as_begun v.0) (view_out c.args.self.now) ∙ none_begun o.kind o.site (views o.parts.items) (sym c.has_parts.ensures ∙ c.if-has_parts.true)) c.requires.able)
+    absurd (never_able _ _ _ _ (ap (λ (v : View). as_begun v.0) (view_out c.args.self.now) ∙ none_begun o.kind o.site (views o.parts.items) (sym c.goes_on_at_one_part.ensures ∙ c.if-goes_on_at_one_part.true)) c.requires.able)
 
-pub returns-then-has_parts-clause-ended : goal.returns-then-has_parts-clause-ended
-returns-then-has_parts-clause-ended c =
+pub returns-then-goes_on_at_one_part-clause-ended : goal.returns-then-goes_on_at_one_part-clause-ended
+returns-then-goes_on_at_one_part-clause-ended c =
     let o = out-Frame c.args.self.now in
-    absurd (never_able _ _ _ _ (ap (λ (v : View). as_begun v.0) (view_out c.args.self.now) ∙ none_begun o.kind o.site (views o.parts.items) (sym c.has_parts.ensures ∙ c.if-has_parts.true)) c.requires.able)
+    absurd (never_able _ _ _ _ (ap (λ (v : View). as_begun v.0) (view_out c.args.self.now) ∙ none_begun o.kind o.site (views o.parts.items) (sym c.goes_on_at_one_part.ensures ∙ c.if-goes_on_at_one_part.true)) c.requires.able)
 
 pub end_alone-phase-requires-clause-variables : goal.end_alone-phase-requires-clause-variables
 end_alone-phase-requires-clause-variables c =
     let o = out-Frame c.args.self.now in
-    alone_variables o.kind o.site (views o.parts.items) _ (sym c.has_parts.ensures ∙ c.if-has_parts.false) (subst (λ (v : View). HasVariables v.0 (length c.args.vars.now.items)) (view_out c.args.self.now) c.requires.variables)
+    alone_variables o.kind o.site (views o.parts.items) _ (sym c.goes_on_at_one_part.ensures ∙ c.if-goes_on_at_one_part.false) (subst (λ (v : View). HasVariables v.0 (length c.args.vars.now.items)) (view_out c.args.self.now) c.requires.variables)
 
 pub returns-clause-did : goal.returns-clause-did
 returns-clause-did c =
@@ -30,7 +30,7 @@ returns-clause-did c =
     let f = store c.end_alone-phase.new.vars.items in
     let s = c.args.doing.now.site in
     let d = c.args.doing.now.deed in
-    let g = going_begun o.kind o.site vs o.at (sym c.has_parts.ensures ∙ c.if-has_parts.false) in
+    let g = going_begun o.kind o.site vs o.at (sym c.goes_on_at_one_part.ensures ∙ c.if-goes_on_at_one_part.false) in
     let able = subst (λ (v : View). Able (as_begun v.0) e s d) (view_out c.args.self.now) c.requires.able in
     let did : Did (as_begun (plan_at o.kind o.site vs)) e s d (rest_at o.kind c.end_alone-phase.result o.site vs o.at) f =
     subst (λ (r : Rest). Did r e s d (rest_at o.kind c.end_alone-phase.result o.site vs o.at) f) g (c.end_alone-phase.ensures.did vs o.at (subst (λ (r : Rest). Able r e s d) (sym g) able)) in

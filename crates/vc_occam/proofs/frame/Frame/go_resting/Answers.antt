@@ -14,14 +14,14 @@ end_part-ended-requires-clause-able c =
     let e = store c.args.vars.now.items in
     let s = c.args.doing.now.site in
     let d = c.args.doing.now.deed in
-    let h = sym c.has_parts.ensures ∙ c.if-not-has_parts.false in
+    let h = sym c.goes_on_at_one_part.ensures ∙ c.if-not-goes_on_at_one_part.false in
     let able = subst (λ (v : View). Able v.1 e s d) (view_out c.args.self.now) c.requires.able in
     simp the_lemmas (resting_able o.kind o.site o.phase (views o.parts.items) o.at c.place-place.result e s d c.requires.resting h c.place-place.ensures able)
 
 pub end_part-ended-requires-clause-variables : goal.end_part-ended-requires-clause-variables
 end_part-ended-requires-clause-variables c =
     let o = out-Frame c.args.self.now in
-    let h = sym c.has_parts.ensures ∙ c.if-not-has_parts.false in
+    let h = sym c.goes_on_at_one_part.ensures ∙ c.if-not-goes_on_at_one_part.false in
     let has = subst (λ (v : View). HasVariables v.0 (length c.args.vars.now.items)) (view_out c.args.self.now) c.requires.variables in
     simp the_lemmas (within_variables o.kind o.site (views o.parts.items) o.at c.place-place.result _ h c.place-place.ensures has)
 
@@ -37,7 +37,7 @@ returns-then-ended-clause-did c =
     let f = store c.end_part-ended.new.vars.items in
     let s = c.args.doing.now.site in
     let d = c.args.doing.now.deed in
-    let h = sym c.has_parts.ensures ∙ c.if-not-has_parts.false in
+    let h = sym c.goes_on_at_one_part.ensures ∙ c.if-not-goes_on_at_one_part.false in
     let r : (view c.leave_part.new.self).1 ≡ gone_on o.kind o.site ws o.at = c.leave_part.ensures.rest ∙ simp the_lemmas refl in
     let same : plans ws ≡ plans vs = c.end_part-ended.ensures.plans ∙ ap plans unrolled in
     let st = subst (λ (xs : List View). Did (part_rest (slice_get (resting_at p xs) p)) e s d (part_rest (slice_get ws p)) f) unrolled c.end_part-ended.ensures.did in
@@ -65,7 +65,7 @@ returns-clause-did c =
     let p = c.place-place.result in
     let s = c.args.doing.now.site in
     let d = c.args.doing.now.deed in
-    let h = sym c.has_parts.ensures ∙ c.if-not-has_parts.false in
+    let h = sym c.goes_on_at_one_part.ensures ∙ c.if-not-goes_on_at_one_part.false in
     let same : plans ws ≡ plans vs = c.end_part-ended.ensures.plans ∙ ap plans unrolled in
     let st = subst (λ (xs : List View). Did (part_rest (slice_get (resting_at p xs) p)) (store c.args.vars.now.items) s d (part_rest (slice_get ws p)) (store c.end_part-ended.new.vars.items)) unrolled c.end_part-ended.ensures.did in
     let r = going_on o.kind o.site Waiting ws o.at p refl h c.place-place.ensures (sym c.end_part-ended.ensures.ended ∙ c.if-ended.false) in
@@ -85,16 +85,16 @@ pub returns-clause-ended : goal.returns-clause-ended
 returns-clause-ended c =
     let o = out-Frame c.args.self.now in
     let ws = views c.end_part-ended.new.parts.items in
-    let h = sym c.has_parts.ensures ∙ c.if-not-has_parts.false in
+    let h = sym c.goes_on_at_one_part.ensures ∙ c.if-not-goes_on_at_one_part.false in
     let n = goes_undone o.kind o.site Waiting ws o.at c.place-place.result refl h c.place-place.ensures (sym c.end_part-ended.ensures.ended ∙ c.if-ended.false) in
     simp (the_lemmas, view_roll, view_out) (sym n)
 
-pub returns-then-not-has_parts-clause-did : goal.returns-then-not-has_parts-clause-did
-returns-then-not-has_parts-clause-did c =
+pub returns-then-not-goes_on_at_one_part-clause-did : goal.returns-then-not-goes_on_at_one_part-clause-did
+returns-then-not-goes_on_at_one_part-clause-did c =
     let o = out-Frame c.args.self.now in
     let is = view_out c.args.self.now in
     let e = store c.args.vars.now.items in
-    let h = sym c.has_parts.ensures ∙ c.if-not-has_parts.true in
+    let h = sym c.goes_on_at_one_part.ensures ∙ c.if-not-goes_on_at_one_part.true in
     let able = subst (λ (v : View). Able v.1 e c.args.doing.now.site c.args.doing.now.deed) is c.requires.able in
     subst (λ (v : View). Did v.1 e c.args.doing.now.site c.args.doing.now.deed (view c.args.self.now).1 e) (sym is)
     (resting_never o.kind o.site o.phase (views o.parts.items) o.at e _ _ _ c.requires.resting h able)

@@ -9,8 +9,8 @@ use Rattle.vc_occam.proofs.frame.Frame.look_at_itself.Goals as goal
 pub returns-in-Ready : goal.returns-in-Ready
 returns-in-Ready c = same_told c.ready_look.result _ _ (store c.args.vars.now) (rest_ready c.args.self.now c.in-Ready.is) c.ready_look.ensures
 
-pub returns-else-has_parts : goal.returns-else-has_parts
-returns-else-has_parts c = idle_own (store c.args.vars.now) (rest_idle c.args.self.now c.in-Waiting.is (sym c.has_parts.ensures ∙ c.if-has_parts.false))
+pub returns-else-goes_on_at_one_part : goal.returns-else-goes_on_at_one_part
+returns-else-goes_on_at_one_part c = idle_own (store c.args.vars.now) (rest_idle c.args.self.now c.in-Waiting.is (sym c.goes_on_at_one_part.ensures ∙ c.if-goes_on_at_one_part.false))
 
 pub returns-in-Chosen : goal.returns-in-Chosen
 returns-in-Chosen c = awaiting_own (store c.args.vars.now) (is_awaiting c.args.self.now c.in-Chosen.is)

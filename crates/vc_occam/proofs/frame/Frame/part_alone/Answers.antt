@@ -2,8 +2,8 @@ use Rattle.std.proofs.Common.{◌∙◌, sym}
 use Rattle.vc_occam.proofs.Outset.{goes_as_part, goes_as_turn}
 use Rattle.vc_occam.proofs.frame.Frame.part_alone.Goals as goal
 
-pub returns-then-has_parts : goal.returns-then-has_parts
-returns-then-has_parts c = goes_as_part c.args.self.now c.place.result c.place_among.result c.in-Waiting.is (sym c.has_parts.ensures ∙ c.if-has_parts.true) c.place.ensures c.place_among.ensures
+pub returns-then-goes_on_at_one_part : goal.returns-then-goes_on_at_one_part
+returns-then-goes_on_at_one_part c = goes_as_part c.args.self.now c.place.result c.place_among.result c.in-Waiting.is (sym c.goes_on_at_one_part.ensures ∙ c.if-goes_on_at_one_part.true) c.place.ensures c.place_among.ensures
 
 pub returns-then-is_counted : goal.returns-then-is_counted
 returns-then-is_counted c =

@@ -10,11 +10,11 @@ use Rattle.vc_occam.proofs.Found.{going_in, placed, ready_begins, same_nothing, 
 use Rattle.vc_occam.proofs.Stepping.{body_preorder, par_preorder, parts_preorder, within_preorder}
 use Rattle.vc_occam.proofs.frame.Frame.part_with_site.Goals as goal
 
-pub returns-then-has_parts : goal.returns-then-has_parts
-returns-then-has_parts c =
+pub returns-then-goes_on_at_one_part : goal.returns-then-goes_on_at_one_part
+returns-then-goes_on_at_one_part c =
     let f = c.args.self.now in
     let o = out-Frame f in
-    let k = sym c.has_parts.ensures ∙ c.if-has_parts.true in
+    let k = sym c.goes_on_at_one_part.ensures ∙ c.if-goes_on_at_one_part.true in
     let pre = within_preorder o.kind o.site (views o.parts.items) o.at c.place.result k c.place.ensures (subst (λ (v : View). InPreorder v.0) (view_out f) c.requires) in
     placed f c.args.site c.place.result c.place_among.result (λ q. let z : phase.Waiting ≡ phase.Ready = sym c.in-Waiting.is ∙ q in cc) pre (going_in f c.args.site c.place.result c.in-Waiting.is k c.place.ensures) c.place_among.ensures
 
@@ -43,10 +43,10 @@ returns-then-is_par c =
     placed f c.args.site c.part_with.result c.place_among-then-is_par.result (λ q. let z : phase.Together ≡ phase.Ready = sym c.in-Together.is ∙ q in cc) (parts_preorder vs c.part_with.result all)
     (together_in f c.args.site c.part_with.result c.in-Together.is k all c.part_with.ensures) c.place_among-then-is_par.ensures
 
-pub returns-else-has_parts : goal.returns-else-has_parts
-returns-else-has_parts c =
+pub returns-else-goes_on_at_one_part : goal.returns-else-goes_on_at_one_part
+returns-else-goes_on_at_one_part c =
     let f = c.args.self.now in
-    let idle = rest_idle f c.in-Waiting.is (sym c.has_parts.ensures ∙ c.if-has_parts.false) in
+    let idle = rest_idle f c.in-Waiting.is (sym c.goes_on_at_one_part.ensures ∙ c.if-goes_on_at_one_part.false) in
     still f c.args.site (λ q. let z : phase.Waiting ≡ phase.Ready = sym c.in-Waiting.is ∙ q in cc) (λ e. (idle_output c.args.site e idle, idle_assigned c.args.site e idle)) (λ e. idle_own e idle)
 
 pub returns-else-is_counted : goal.returns-else-is_counted

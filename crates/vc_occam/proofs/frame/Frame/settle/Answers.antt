@@ -16,5 +16,5 @@ returns-then-part_has_begun c =
     let begun = subst (λ (ws : List View). resting_at c.place.result ws ≡ ws) unrolled (c.part_has_begun.ensures c.if-part_has_begun.true) in
     let same : resting_at (place_of o.kind o.at) vs ≡ vs = ap (λ (k : ℕ). resting_at k vs) (sym c.place.ensures) ∙ begun in
     let rest : rest_at o.kind Resting o.site vs o.at ≡ rest_at o.kind o.phase o.site vs o.at =
-    resting_goes o.kind o.site vs o.at (sym c.has_parts.ensures ∙ c.if-has_parts.true) ∙ ap (λ (ws : List View). going_at o.kind o.site ws o.at) same ∙ sym (ap (λ (p : Phase). rest_at o.kind p o.site vs o.at) c.in-Waiting.is) in
+    resting_goes o.kind o.site vs o.at (sym c.goes_on_at_one_part.ensures ∙ c.if-goes_on_at_one_part.true) ∙ ap (λ (ws : List View). going_at o.kind o.site ws o.at) same ∙ sym (ap (λ (p : Phase). rest_at o.kind p o.site vs o.at) c.in-Waiting.is) in
     simp (the_lemmas, view_roll, view_out) (ap (λ (r : Rest). (plan_at o.kind o.site vs, r)) rest)
