@@ -10,7 +10,7 @@ use Rattle.vc_credit.specs.Ends.{Receiver, Grants, credited, received}
 use Rattle.vc_credit.specs.Ends.{Passes as PassesOn}
 use Rattle.vc_credit.specs.Laws.{NeedsPlace}
 use Rattle.vc_switch.specs.Able.{EachTokenComes}
-use Rattle.vc_switch.specs.Forward.{SwitchPlan, IsDrawn}
+use Rattle.vc_switch.specs.Forward.{SwitchPlan, IsDrawn, least_of}
 use Rattle.vc_switch.specs.Switch.{Input, Switch, set_input, with_token, Comes, due, not_due, drawn, headed, with_header, passing, Passes, passes_byte, drops_byte, passes_mark, loses, BodyLeaves, HasGroup, SendsFct}
 use Rattle.vc_switch.specs.Front.{front_of, HasFront}
 use Rattle.vc_switch.specs.State.{State, IsSwitch, IsLinkIn, IsRange, MayBeBound, interval_of, plan_of, limit_of, shown_or}
@@ -128,6 +128,11 @@ header_at s l word r here = ap (λ z. drawn z word) (sym (ap (shown_or None inte
 pub least_drawn : (r : Option RandomRange) → IsRange r → IsDrawn (interval_of r) (drawn (interval_of r) 0)
 least_drawn None is = tt
 least_drawn (Some r) is = (omega arith, omega arith)
+
+-- and it is the least
+pub least_is : (r : Option RandomRange) → IsRange r → drawn (interval_of r) 0 ≡ least_of (interval_of r)
+least_is None is = refl
+least_is (Some r) is = ap Some (omega arith)
 
 -- the bytes got with the header in front, as the steps say it
 got_at : (s : State) (l : ℕ) (x : LinkIn) (v : Option ℕ) → slice_get s.inputs l ≡ Some x → v ≡ drawn ((plan_of s).random l) x.word → headed v x.got.passed ≡ with_header (plan_of s) l ((seen s).input l)

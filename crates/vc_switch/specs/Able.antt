@@ -1,5 +1,5 @@
 -- Which steps a switch can make: those that lead to some state.
-use Rattle.std.specs.Prelude.{◌≡◌, ℕ, List, Some, None}
+use Rattle.std.specs.Prelude.{◌≡◌, ◌≤◌, ℕ, List, Some, None}
 use Rattle.vc_tokens.specs.Tokens.{Token}
 use Rattle.vc_switch.specs.Forward.{SwitchPlan}
 use Rattle.vc_switch.specs.Waiting.{Wormhole}
@@ -14,6 +14,10 @@ pub record CanLeave (plan : SwitchPlan) (s : Switch) (link output : ℕ) : Type 
   pub body : List ℕ
   pub unbound : (s.input link).bound ≡ None
   pub leaves : BodyLeaves plan (s.input link).got output body
+
+-- by no lesser link the body may leave
+abbrev pub IsFirst : SwitchPlan → List ℕ → ℕ → Type 0
+IsFirst plan b link = (output : ℕ) (left : List ℕ) → BodyLeaves plan b output left → link ≤ output
 
 -- no input is bound to the output
 abbrev pub IsFree : Switch → ℕ → Type 0

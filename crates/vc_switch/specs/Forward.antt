@@ -33,6 +33,11 @@ IsDrawn (Some i) (Some v) = (i.lower ≤ v) × (v < i.limit)
 IsDrawn None (Some v) = ⊥
 IsDrawn (Some i) None = ⊥
 
+-- the least of them
+abbrev pub least_of : Option Interval → Option ℕ
+least_of None = None
+least_of (Some i) = Some i.lower
+
 abbrev pub behind : Option ℕ → List ℕ → List ℕ
 behind None s = s
 behind (Some v) s = v ∷ s

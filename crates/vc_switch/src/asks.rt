@@ -1,12 +1,10 @@
 //! What the packets at the inputs ask for, as bits.
 ghost use Rattle.std.specs.Prelude.{◌≡◌, ◌≢◌, ◌<◌, ℕ, IfOk, get_or};
 
+use crate::opening::LINKS;
 use std::alloc::Global;
 use std::marker::Model;
 use vc_packets::Memory;
-
-/// How many inputs a switch has.
-const INPUTS: usize = 32;
 
 /// For each input a bit for each output that its packet asks for.
 #[derive(Drop)]
@@ -29,7 +27,7 @@ impl Asks {
     pub(crate) fn new(alloc: Global) -> Result<Asks, Memory>
         ensures { IfOk result (λ asks. (k : ℕ) → get_or asks k 0 ≡ 0) }
     {
-        let outputs = vec![in alloc; 0; INPUTS]?;
+        let outputs = vec![in alloc; 0; usize::from(LINKS)]?;
         Ok(Asks { outputs })
     }
 

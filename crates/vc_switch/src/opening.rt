@@ -11,7 +11,7 @@ use std::alloc::Global;
 use vc_packets::Memory;
 
 /// How many links a switch has.
-const LINKS: u8 = 32;
+pub(crate) const LINKS: u8 = 32;
 
 /// What the links do with headers: the random range of each input link, and whether each output link deletes the front header.
 pub(crate) fn headers(

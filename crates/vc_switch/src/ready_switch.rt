@@ -6,7 +6,7 @@ ghost use Rattle.vc_labels.specs.Lawful.{IsLawful};
 ghost use Rattle.vc_tokens.specs.Spelt.{token};
 ghost use Rattle.vc_switch.specs.Waiting.{Wormhole};
 ghost use Rattle.vc_switch.specs.Switch.{new_switch, Comes, Passes, Routes, Sends, SendsFct};
-ghost use Rattle.vc_switch.specs.Able.{CanPass, CanLeave, CanRoute, CanPut, CanGrant};
+ghost use Rattle.vc_switch.specs.Able.{CanPass, CanRoute, CanPut, CanGrant, IsFree};
 ghost use Rattle.vc_switch.specs.Opening.{plan_given, IsRandomInput};
 ghost use Rattle.vc_switch.specs.Asking.{links_of};
 ghost use Rattle.vc_switch.specs.Front.{front_of};
@@ -16,6 +16,7 @@ ghost use Rattle.vc_switch.specs.Seen.{seen, IsKept};
 
 use crate::asks::Asks;
 use crate::bits::{has_more, told};
+use crate::opening::LINKS;
 use crate::switch::Switch;
 use crate::switch_plan::SwitchPlan;
 use std::alloc::Global;
@@ -47,9 +48,6 @@ impl Ready {
         self.grants = told(self.grants, link, switch.may_grant(link));
     }
 }
-
-/// How many links a switch has.
-const LINKS: u8 = 32;
 
 /// A [`Switch`], with masks of the links at which there is something to do. Its calls are those of the switch.
 pub struct ReadySwitch {
@@ -122,13 +120,6 @@ impl ReadySwitch {
         self.ready.passes
     }
 
-    /// A bit for each input whose packet is bound to no output and may leave by some; and for others whose headers have not come.
-    pub fn waits(&self) -> u32
-        ensures { (l output : ℕ) → l < 32 → CanLeave (plan_of self.now) (seen self.now) l output → bit_at result l ≡ 1 }
-    {
-        self.ready.waits
-    }
-
     /// A bit for each input whose packet may be bound to an output.
     pub fn routes(&self) -> u32
         ensures { (l output : ℕ) → l < 32 → CanRoute (plan_of self.now) (seen self.now) l output → bit_at result l ≡ 1 }
@@ -136,9 +127,10 @@ impl ReadySwitch {
         self.routes
     }
 
-    /// A bit for each output on which a token may be put; and for others to which a packet is bound.
+    /// A bit for each output to which a packet is bound, and so for each on which a token may be put.
     pub fn puts(&self) -> u32
-        ensures { (l : ℕ) → l < 32 → CanPut (plan_of self.now) (seen self.now) l → bit_at result l ≡ 1 }
+        ensures bound { (l : ℕ) → l < 32 → (bit_at result l ≡ 1) ↔ (IsFree (seen self.now) l → ⊥) }
+        ensures can { (l : ℕ) → l < 32 → CanPut (plan_of self.now) (seen self.now) l → bit_at result l ≡ 1 }
     {
         self.ready.puts
     }

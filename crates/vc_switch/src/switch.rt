@@ -10,9 +10,9 @@ ghost use Rattle.vc_tokens.specs.Tokens.{Byte, Fct, EndMark};
 ghost use Rattle.vc_credit.specs.Ends.{IsFront};
 ghost use Rattle.vc_credit.specs.Laws.{NeedsPlace};
 ghost use Rattle.vc_switch.specs.Waiting.{Wormhole};
-ghost use Rattle.vc_switch.specs.Forward.{IsDrawn};
+ghost use Rattle.vc_switch.specs.Forward.{IsDrawn, least_of};
 ghost use Rattle.vc_switch.specs.Switch.{new_switch, BodyLeaves, Comes, Passes, Routes, Sends, SendsFct};
-ghost use Rattle.vc_switch.specs.Able.{CanPass, CanRoute, CanPut, CanGrant, CanLeave, IsFree};
+ghost use Rattle.vc_switch.specs.Able.{CanPass, CanRoute, CanPut, CanGrant, CanLeave, IsFirst, IsFree};
 ghost use Rattle.vc_switch.specs.Opening.{plan_given, IsRandomInput};
 ghost use Rattle.vc_switch.specs.Asking.{links_of};
 ghost use Rattle.vc_switch.specs.Front.{front_of};
@@ -401,7 +401,8 @@ impl Switch {
 
     /// The least header that an input may put in front of a packet, if it has a range.
     pub fn least_header(&self, link: u8) -> Option<u16>
-        ensures { IsDrawn ((plan_of self.now).random link) result }
+        ensures least { result ≡ least_of ((plan_of self.now).random link) }
+        ensures drawn { IsDrawn ((plan_of self.now).random link) result }
     {
         match self.ranges.get(usize::from(link)) {
             Some(range) => draw(*range, 0),
@@ -412,7 +413,7 @@ impl Switch {
     /// The first link by which a packet with this body may leave, and at which of its bytes begins what leaves; nothing where it may
     /// leave by none.
     pub fn first_way(&self, body: &[u8]) -> Option<(u8, usize)>
-        ensures { MatchOption result ((output : ℕ) (left : List ℕ) → BodyLeaves (plan_of self.now) body.now output left → ⊥) (λ way. (way.1 ≤ length body.now) × BodyLeaves (plan_of self.now) body.now way.0 (drop way.1 body.now)) }
+        ensures { MatchOption result ((output : ℕ) (left : List ℕ) → BodyLeaves (plan_of self.now) body.now output left → ⊥) (λ way. (way.1 ≤ length body.now) × BodyLeaves (plan_of self.now) body.now way.0 (drop way.1 body.now) × IsFirst (plan_of self.now) body.now way.0) }
     {
         match find_front(&self.table, body) {
             Some(front) => Some((
