@@ -1,5 +1,5 @@
 -- What an actor does next is an act that it can have, and where it does nothing it can have none.
-use Rattle.std.proofs.Common.{◌≡◌, ℕ, ◌+◌, ◌<◌, get_or, Bool, true, false, IsTrue, IfSome, Result, Ok, Err, IfOk, inl, inr, List, length, Option, Some, None, refl, sym, ◌∙◌, subst, arith}
+use Rattle.std.proofs.Common.{◌≡◌, ℕ, ◌+◌, ◌<◌, get_or, Bool, true, false, IsTrue, IfSome, Result, Ok, Err, IfOk, inl, inr, List, length, Option, Some, None, refl, sym, ap, ◌∙◌, subst, arith}
 use Rattle.std.proofs.lemmas.Bool.{cases_lt}
 use Rattle.std.proofs.lemmas.Option.{slice_get-get_or}
 use Rattle.vc_network.specs.Plan as network
@@ -35,7 +35,7 @@ if_ok P Q (Err e) f h = tt
 
 module _ (plan : network.Plan) (k : ℕ) (x : Acting) (room : ℕ) where
   pub puts : (o : Option Act) → FindsAt (λ l. act.Put l) (IsTurn plan k x room) o → FindsOf kind.Put plan k x room o
-  puts (Some a) (l, e, can, least) = subst (IsTurn plan k x room) (sym e) can
+  puts (Some a) (l, e, can, least) = (subst (IsTurn plan k x room) (sym e) can, ap kind_of e)
   puts None none = by_act
     where
       by_act : (a : Act) → kind_of a ≡ Some kind.Put → IsTurn plan k x room a → ⊥
@@ -47,7 +47,7 @@ module _ (plan : network.Plan) (k : ℕ) (x : Acting) (room : ℕ) where
       by_act (act.Take l w) e t = absurd (cc)
 
   pub grants : (o : Option Act) → FindsAt (λ l. act.Fct l) (IsTurn plan k x room) o → FindsOf kind.Fct plan k x room o
-  grants (Some a) (l, e, can, least) = subst (IsTurn plan k x room) (sym e) can
+  grants (Some a) (l, e, can, least) = (subst (IsTurn plan k x room) (sym e) can, ap kind_of e)
   grants None none = by_act
     where
       by_act : (a : Act) → kind_of a ≡ Some kind.Fct → IsTurn plan k x room a → ⊥
@@ -61,7 +61,7 @@ module _ (plan : network.Plan) (k : ℕ) (x : Acting) (room : ℕ) where
   -- of all kinds, where nothing is found of the others
   pub of_all : (o : Option Act) → FindsOf kind.Pass plan k x room None → FindsOf kind.Route plan k x room None → FindsOf kind.Put plan k x room None → FindsOf kind.Fct plan k x room None →
       FindsOf kind.Proc plan k x room o → FindsTurn plan k x room o
-  of_all (Some a) f g h i j = j
+  of_all (Some a) f g h i j = j.0
   of_all None f g h i j = by_act
     where
       by_act : (a : Act) → IsTurn plan k x room a → ⊥
@@ -74,7 +74,7 @@ module _ (plan : network.Plan) (k : ℕ) (x : Acting) (room : ℕ) where
 
 module _ (plan : network.Plan) (k : ℕ) (n : Node) (room : ℕ) where
   pub passes : (o : Option Act) → FindsAt (λ l. act.Pass l) (NodeCan plan k n) o → FindsOf kind.Pass plan k (OfNode n) room o
-  passes (Some a) (l, e, can, least) = subst (IsTurn plan k (OfNode n) room) (sym e) (record { can = can; lets = tt })
+  passes (Some a) (l, e, can, least) = (subst (IsTurn plan k (OfNode n) room) (sym e) (record { can = can; lets = tt }), ap kind_of e)
   passes None none = by_act
     where
       by_act : (a : Act) → kind_of a ≡ Some kind.Pass → IsTurn plan k (OfNode n) room a → ⊥
@@ -86,7 +86,7 @@ module _ (plan : network.Plan) (k : ℕ) (n : Node) (room : ℕ) where
       by_act (act.Take l w) e t = absurd (cc)
 
   pub moves : (o : Option Act) → FindsMove plan k n o → FindsOf kind.Proc plan k (OfNode n) room o
-  moves (Some a) (m, e, can) = subst (IsTurn plan k (OfNode n) room) (sym e) (record { can = can; lets = tt })
+  moves (Some a) (m, e, can) = (subst (IsTurn plan k (OfNode n) room) (sym e) (record { can = can; lets = tt }), ap kind_of e)
   moves None none = by_act
     where
       by_act : (a : Act) → kind_of a ≡ Some kind.Proc → IsTurn plan k (OfNode n) room a → ⊥
@@ -98,7 +98,7 @@ module _ (plan : network.Plan) (k : ℕ) (n : Node) (room : ℕ) where
       by_act (act.Take l w) e t = absurd (cc)
 
   pub only_moves : (o : Option Act) → IfSome o (λ a. FindsMove plan k n (Some a)) → IfSome o (λ a. IsTurn plan k (OfNode n) room a)
-  only_moves (Some a) found = moves (Some a) found
+  only_moves (Some a) found = (moves (Some a) found).0
   only_moves None found = tt
 
   pub no_route : FindsOf kind.Route plan k (OfNode n) room None
@@ -114,7 +114,7 @@ module _ (plan : network.Plan) (k : ℕ) (n : Node) (room : ℕ) where
 
 module _ (plan : network.Plan) (k : ℕ) (s : SwitchState) (room : ℕ) where
   pub passes_here : (o : Option Act) → FindsAt (λ l. act.Pass l) (SwitchCan s) o → FindsOf kind.Pass plan k (OfSwitch s) room o
-  passes_here (Some a) (l, e, can, least) = subst (IsTurn plan k (OfSwitch s) room) (sym e) (record { can = can; lets = tt })
+  passes_here (Some a) (l, e, can, least) = (subst (IsTurn plan k (OfSwitch s) room) (sym e) (record { can = can; lets = tt }), ap kind_of e)
   passes_here None none = by_act
     where
       by_act : (a : Act) → kind_of a ≡ Some kind.Pass → IsTurn plan k (OfSwitch s) room a → ⊥
@@ -126,7 +126,7 @@ module _ (plan : network.Plan) (k : ℕ) (s : SwitchState) (room : ℕ) where
       by_act (act.Take l w) e t = absurd (cc)
 
   pub routes_here : (o : Option Act) → FindsRoute s o → FindsOf kind.Route plan k (OfSwitch s) room o
-  routes_here (Some a) (l, p, e, can, first, least) = subst (IsTurn plan k (OfSwitch s) room) (sym e) (record { can = can; lets = tt })
+  routes_here (Some a) (l, p, e, can, first, least) = (subst (IsTurn plan k (OfSwitch s) room) (sym e) (record { can = can; lets = tt }), ap kind_of e)
   routes_here None none = by_act
     where
       by_act : (a : Act) → kind_of a ≡ Some kind.Route → IsTurn plan k (OfSwitch s) room a → ⊥

@@ -67,7 +67,7 @@ kind_of (Take link word) = None
 -- an act of this kind for the actor's turn, or none where it has none
 abbrev pub FindsOf : ActKind → Plan → ℕ → Acting → ℕ → Option Act → Type 0
 FindsOf kind plan k x room None = (a : Act) → kind_of a ≡ Some kind → IsTurn plan k x room a → ⊥
-FindsOf kind plan k x room (Some a) = IsTurn plan k x room a
+FindsOf kind plan k x room (Some a) = IsTurn plan k x room a × (kind_of a ≡ Some kind)
 
 -- the act is a step of a process without a communication
 abbrev pub IsQuiet : Act → Type 0

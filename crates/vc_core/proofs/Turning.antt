@@ -129,10 +129,14 @@ quiet_event p s k a is here b (site, e) t = (refl, subst TakesNone (sym e) tt, h
 pub no_actor_of : (p : Plan) (s : State) (z : ActKind) (k : ℕ) → IsNetworkOf p s → slice_get s.actors k ≡ None → FindsEventOf z p s k None
 no_actor_of p s z k is none b e can = has_actor p s (record { actor = k; act = b }) is can none
 
+-- of whatever kind
+pub event_of : (z : ActKind) (p : Plan) (s : State) (k : ℕ) (e : Event) → FindsEventOf z p s k (Some e) → FindsEvent p s k (Some e)
+event_of z p s k e found = (found.0, found.1, found.2)
+
 -- of all kinds, where none of the others can happen
 pub events_of_all : (p : Plan) (s : State) (k : ℕ) (o : Option Event) → FindsEventOf kind.Pass p s k None → FindsEventOf kind.Route p s k None → FindsEventOf kind.Put p s k None → FindsEventOf kind.Fct p s k None →
     FindsEventOf kind.Proc p s k o → FindsEvent p s k o
-events_of_all p s k (Some e) f g h i j = j
+events_of_all p s k (Some e) f g h i j = event_of kind.Proc p s k e j
 events_of_all p s k None f g h i j = by_act
   where
     by_act : (a : Act) → TakesNone a → CanHappen p s (record { actor = k; act = a }) → ⊥

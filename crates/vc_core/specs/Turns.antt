@@ -26,14 +26,14 @@ FindsEvent p s k (Some e) = (e.actor ≡ k) × TakesNone e.act × CanHappen p s 
 -- an event of actor k of this kind, or none where none can happen
 abbrev pub FindsEventOf : ActKind → Given → State → ℕ → Option Event → Type 0
 FindsEventOf kind p s k None = (a : Act) → kind_of a ≡ Some kind → CanHappen p s (record { actor = k; act = a }) → ⊥
-FindsEventOf kind p s k (Some e) = (e.actor ≡ k) × TakesNone e.act × CanHappen p s e
+FindsEventOf kind p s k (Some e) = (e.actor ≡ k) × TakesNone e.act × CanHappen p s e × (kind_of e.act ≡ Some kind)
 
 -- the least link of actor k by which a token comes, or none where none does
 abbrev pub FindsFront : State → ℕ → Option ℕ → Type 0
 FindsFront s k None = (link : ℕ) → HasFront s k link → ⊥
 FindsFront s k (Some link) = HasFront s k link × ((l : ℕ) → l < link → HasFront s k l → ⊥)
 
--- a link by which actor k can take a token, or none where it can take none
+-- a link by which actor k can take a token, if there is such an actor; or none where it can take none
 abbrev pub FindsTake : Given → State → ℕ → Option ℕ → Type 0
 FindsTake p s k None = (link word : ℕ) → CanHappen p s (record { actor = k; act = Take link word }) → ⊥
 FindsTake p s k (Some link) = k < actors p → (word : ℕ) → CanHappen p s (record { actor = k; act = Take link word })

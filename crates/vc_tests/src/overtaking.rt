@@ -7,7 +7,7 @@ use vc_occam::Move;
 use vc_plan::Accepted;
 
 /// Two nodes that output to each other, each by a switch of its own, and four wires between the switches.
-const SQUARES: &str =
+const CROSSED: &str =
     r#"{"version":1,"nodes":[{"name":"a","vars":[["i","int"]],"process":{"par":[{"out":["c",3]},{"in":["d","i"]}]}},{"name":"b","vars":[["x","int"]],"process":{"par":[{"in":["c","x"]},{"out":["d",4]}]}}],"switches":[{"name":"s","table":[[0,10,0,0],[10,20,4,7]],"delete":[0]},{"name":"t","table":[[0,10,4,7],[10,20,0,0]],"delete":[0]}],"wires":[["a",0,"s",0],["b",0,"t",0],["s",4,"t",4],["s",5,"t",5],["s",6,"t",6],["s",7,"t",7]],"vlinks":[{"name":"v","a":["a",0,1,[10,1]],"b":["b",0,1,[0,1]]}],"channels":[{"name":"c","kind":"int","vlink":"v","way":"ab"},{"name":"d","kind":"int","vlink":"v","way":"ba"}]}"#;
 
 /// The switches at nodes a and b.
@@ -129,16 +129,17 @@ fn overtake(alloc: Global, accepted: &Accepted) -> Result<Vec<Event>, Fail> {
     }
 }
 
-/// Whether all has ended, with one message taken and one output finished on each channel.
+/// Whether all has ended, with one message taken and one output finished on each channel, and nothing was dropped.
 fn is_complete(network: &Network) -> bool {
     network.ended()
+        && (network.strays(), network.lost()) == (0, 0)
         && (network.taken(0).len(), network.taken(1).len()) == (1, 1)
         && (network.finished(0), network.finished(1)) == (1, 1)
 }
 
 #[test]
 fn an_acknowledge_overtakes_a_piece(rt: HostRuntime) -> Result<(), Fail> {
-    let accepted = accept(rt.alloc(), SQUARES)?;
+    let accepted = accept(rt.alloc(), CROSSED)?;
     let events = overtake(rt.alloc(), &accepted)?;
     let network = replayed(rt.alloc(), &accepted, events.as_slice())?;
     assert!(rt; is_complete(&network));

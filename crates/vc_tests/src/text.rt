@@ -4,7 +4,7 @@ use crate::streams::{Endless, Failing, Stubborn};
 use std::alloc::{AllocError, Global};
 use std::io::{Read, Write};
 use std::test::Fail;
-use vc_core::{Close, Event};
+use vc_core::{Act, Close, Event};
 use vc_occam::ValueKind;
 use vc_packets::Bytes;
 use vc_reader::read_network;
@@ -180,7 +180,8 @@ fn reports_its_traffic(alloc: Global, text: &str, limit: u64) -> Result<bool, Fa
         .ok_or("a run")?;
     let events = report.events.to_vec(alloc)?;
     let traffic = traffic_after(alloc, text, events.as_slice(), report.close)?;
-    Ok(traffic.as_slice() == out.as_slice() && events.len() == report.events.len())
+    let are_as_many = events.len() == report.events.len() && report.events.is_empty() == (limit == 0);
+    Ok(traffic.as_slice() == out.as_slice() && are_as_many)
 }
 
 #[test]
@@ -193,5 +194,50 @@ fn a_report_leads_to_what_was_written(rt: HostRuntime) -> Result<(), Fail> {
             );
         }
     }
+    Ok(())
+}
+
+/// What kind of event it is.
+fn kind_of(act: &Act) -> &'static str {
+    match act {
+        Act::Proc(_) => "proc",
+        Act::Take { .. } => "take",
+        Act::Pass { .. } => "pass",
+        Act::Route { .. } => "route",
+        Act::Put { .. } => "put",
+        Act::Fct { .. } => "fct",
+    }
+}
+
+/// The first events of the hello network, each with its actor. An actor takes a token where one comes, else it passes, routes, puts,
+/// grants, or its process makes a move, the first of these that it can; and then it is the next actor's turn.
+const FIRST_EVENTS: &[(u8, &str)] = &[
+    (0, "fct"),
+    (1, "take"),
+    (0, "fct"),
+    (1, "take"),
+    (0, "proc"),
+    (1, "fct"),
+];
+
+/// Whether a run of the hello network begins with these events.
+fn begins_with(alloc: Global, first: &[(u8, &str)]) -> Result<bool, Fail> {
+    let mut reader = HELLO.as_bytes();
+    let mut out: Vec<u8> = Vec::new(alloc);
+    let report = run_step(alloc, &mut reader, &mut out, first.len() as u64)
+        .ok()
+        .ok_or("a run")?;
+    let events = report.events.to_vec(alloc)?;
+    for (event, (actor, kind)) in events.iter().zip(first) {
+        if event.actor != *actor || kind_of(&event.act) != *kind {
+            return Ok(false);
+        }
+    }
+    Ok(events.len() == first.len())
+}
+
+#[test]
+fn a_run_goes_round_the_actors(rt: HostRuntime) -> Result<(), Fail> {
+    assert!(rt; begins_with(rt.alloc(), FIRST_EVENTS)?);
     Ok(())
 }

@@ -375,6 +375,8 @@ const BAD_LINES: &[&[&str]] = &[
     &["vcnet", "walk", ""],
     &["vcnet", "step", "--limit"],
     &["vcnet", "step", "--limit=1000000001"],
+    &["vcnet", "run", "--turns=1000000001"],
+    &["vcnet", "run", "--seed=4294967296"],
     &["vcnet"],
 ];
 
@@ -383,6 +385,14 @@ fn a_bad_line_reads_nothing(rt: HostRuntime) {
     for words in BAD_LINES {
         let (status, _) = read_fails(&rt, rt.alloc(), words, 0);
         assert_eq!(rt; status, 5);
+    }
+}
+
+#[test]
+fn help_reads_nothing(rt: HostRuntime) {
+    for words in [&["vcnet", "--help"], &["vcnet", "help"]] {
+        let (status, printed) = read_fails(&rt, rt.alloc(), words, 0);
+        assert!(rt; status == 0 && !printed.is_empty());
     }
 }
 

@@ -62,6 +62,17 @@ fn actor(rt: &impl Abort, alloc: Global) -> Result<Actor, Fail>
     Ok(node)
 }
 
+#[test]
+fn a_token_without_a_place_is_counted(rt: HostRuntime) -> Result<(), Fail> {
+    let mut node = actor(&rt, rt.alloc())?;
+    assert_eq!(rt; node.faults(), 0);
+    if node.may_take(0) {
+        node.take(0, &Token::Byte(5), 0)?;
+    }
+    assert_eq!(rt; node.faults(), 1);
+    Ok(())
+}
+
 /// The run of one act.
 fn run(rt: &impl Abort, alloc: Global, id: u8, at: u64) -> Result<ActorRun, Fail>
     ensures { IfOk result (λ r. (r.id ≡ id) × ((act : SpeltAct) × (r.acts.items ≡ (at, act) ∷ []))) }

@@ -14,11 +14,11 @@ all_rest p s is n few rests = at_rest p s is (λ k less. rests k (omega arith))
 
 -- what an actor's two searches find
 pub event_of : (p : Plan) (s : State) (k : ℕ) (l : ℕ) → k < actors p → FindsTake p s k (Some l) → HasEvent p s k true
-event_of p s k l node takes = (record { actor = k; act = Take l 0 }, takes node 0)
+event_of p s k l node takes = (record { actor = k; act = Take l 0 }, refl, takes node 0)
 
 pub has_of : (p : Plan) (s : State) (k : ℕ) (o : Option Event) → FindsTake p s k None → FindsEvent p s k o → HasEvent p s k (is_some o)
 has_of p s k None takes acts = record { takes = takes; acts = acts }
-has_of p s k (Some e) takes (same, none, can) = (e, can)
+has_of p s k (Some e) takes (same, none, can) = (e, same, can)
 
 pub some_take : (p : Plan) (s : State) (k : ℕ) (o : Option ℕ) → is_some o ≡ true → k < actors p → FindsTake p s k o → HasEvent p s k true
 some_take p s k (Some l) some node takes = event_of p s k l node takes

@@ -10,7 +10,7 @@ use Rattle.vc_core.specs.declared.close.Close.TheVariants.{Done, Quiet, Limit}
 
 -- whether the actor has an event
 abbrev pub HasEvent : Plan → State → ℕ → Bool → Type 0
-HasEvent p s k true = (e : Event) × CanHappen p s e
+HasEvent p s k true = (e : Event) × (e.actor ≡ k) × CanHappen p s e
 HasEvent p s k false = Rests p s k
 
 -- a run that made so many events of those allowed closes Done or Quiet where no event can happen, and every process has ended or not;

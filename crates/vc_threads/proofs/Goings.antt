@@ -23,7 +23,7 @@ use Rattle.vc_threads.specs.declared.run.ActorRun.{ActorRun}
 use Rattle.vc_threads.specs.declared.run.Stop.TheVariants.{Turns, Clock}
 use Rattle.vc_threads.specs.Stamps.{stamped, all_stamped}
 use Rattle.vc_threads.specs.Wires.{OutLooked, InLooked, Distinct, IsAmong, Sends, Receives, out_links, in_links}
-use Rattle.vc_threads.specs.Runs.{StepsByLink, IsQuiet, Used, Draws, words_of}
+use Rattle.vc_threads.specs.Runs.{StepsByLink, HasNoStep, Used, Draws, words_of}
 use Rattle.vc_threads.specs.Works.{Out, In, Seen, desk, logged, GoesOver, GoOver, IsFull, Uses, Stays, HasRun}
 use Rattle.vc_threads.proofs.Zips.{zip_weaker, zip_then, zip_one, zip_map, zip_same, zip_length, zip_at}
 use Rattle.vc_threads.proofs.Looks.{producer_then, consumer_then, looked_same, in_looked_same, in_looked_then}
@@ -142,7 +142,7 @@ looked_in_links = zip_map (λ o. o.0) (λ o. o.0) InLooked (λ a b l. l.0)
 
 module _ (plan : Plan) (k : ℕ) where
   -- no step was made, and the actor has none of its own
-  pub uses_idle : (a b : Seen) → IsQuiet plan k a.actor → b.actor ≡ a.actor → b.clock ≡ a.clock → b.log ≡ a.log → b.words ≡ a.words
+  pub uses_idle : (a b : Seen) → HasNoStep plan k a.actor → b.actor ≡ a.actor → b.clock ≡ a.clock → b.log ≡ a.log → b.words ≡ a.words
       → AllZip OutLooked a.outs b.outs → AllZip InLooked a.ins b.ins → Uses plan k 1 a b
   uses_idle a b quiet node clock log words outs ins = record {
     steps = [];

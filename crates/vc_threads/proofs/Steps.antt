@@ -13,7 +13,7 @@ use Rattle.vc_core.specs.Turns.{FindsTurn, IsPut, RoomLets}
 use Rattle.vc_actor.specs.declared.act.Act.{Act}
 use Rattle.vc_actor.specs.declared.act.Act.TheVariants.{Proc, Take, Put, Route, Fct, Pass}
 use Rattle.vc_core.specs.Shown.{Acting}
-use Rattle.vc_threads.specs.Runs.{StepsByLink, IsQuiet, Used, Draws, words_of, word_of}
+use Rattle.vc_threads.specs.Runs.{StepsByLink, HasNoStep, Used, Draws, words_of, word_of}
 use Rattle.std.specs.Int.{bit_at}
 use Rattle.std.specs.Prelude.{None}
 
@@ -93,7 +93,7 @@ run_kept plan k clock old [] new p h = subst (IsActorOf plan k) (sym p) h
 run_kept plan k clock old (t ∷ ts) new p h = run_kept plan k t.at p.0 ts new p.4 (step_kept plan k old (plain t.it) p.0 p.1)
 
 -- a node that has no act for its turn has no step of its own
-pub finds_quiet : (plan : Plan) (k : ℕ) (n : Acting) (room : ℕ) → FindsTurn plan k n room None → IsQuiet plan k n
+pub finds_quiet : (plan : Plan) (k : ℕ) (n : Acting) (room : ℕ) → FindsTurn plan k n room None → HasNoStep plan k n
 finds_quiet plan k n room f (Proc m) own can = f (Proc m) (record { can = can; lets = tt })
 finds_quiet plan k n room f (Pass l) own can = f (Pass l) (record { can = can; lets = tt })
 finds_quiet plan k n room f (Take l w) own can = absurd own

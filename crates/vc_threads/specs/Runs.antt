@@ -24,8 +24,8 @@ StepsByLink plan k old (Puts act link t) new = IsPut plan k old link act t new
 StepsByLink plan k old _ new = ⊥
 
 -- the actor has no step of its own
-abbrev pub IsQuiet : Plan → ℕ → Acting → Type 0
-IsQuiet plan k n = (act : Act) → IsOwn act → CanAct plan k n act → ⊥
+abbrev pub HasNoStep : Plan → ℕ → Acting → Type 0
+HasNoStep plan k n = (act : Act) → IsOwn act → CanAct plan k n act → ⊥
 
 -- after some prefix of the run the actor has no step of its own
 abbrev pub Rests : Plan → ℕ → ℕ → Acting → List (Turn Act Token) → Acting → Type 0
@@ -34,7 +34,7 @@ Rests plan k clock old ts new =
     × (ts ≡ before ++ after)
     × LocalRun (StepsByLink plan) k clock old before mid
     × LocalRun (StepsByLink plan) k (clock_after clock before) mid after new
-    × IsQuiet plan k mid
+    × HasNoStep plan k mid
 
 -- the run used n turns: it has n acts, or the actor once had no step of its own
 abbrev pub Used : Plan → ℕ → ℕ → ℕ → Acting → List (Turn Act Token) → Acting → Type 0

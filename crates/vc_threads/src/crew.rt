@@ -12,6 +12,7 @@ use std::snapshot::Snapshot;
 use std::sync::Wait;
 use std::thread;
 use std::thread::{Promise, Scope, Threads};
+use thiserror::Error;
 use vc_core::Actor;
 use vc_packets::Memory;
 
@@ -27,11 +28,13 @@ pub(crate) struct Job {
 }
 
 /// Why a run in threads gives no report.
-#[derive(Clone, Copy, Debug, PartialEq, Eq, Drop)]
+#[derive(Clone, Copy, Debug, PartialEq, Eq, Drop, Error)]
 pub enum ThreadFault {
     /// There was no memory.
+    #[error("there is no memory")]
     Memory,
     /// A thread was not started.
+    #[error("a thread was not started")]
     Start,
 }
 

@@ -153,7 +153,7 @@ impl Desk {
     ghost use Rattle.rand_pcg.specs.Pcg.{multiplier_64};
     ghost use Rattle.vc_core.specs.OfPlan.{IsActorOf};
     ghost use Rattle.vc_network.specs.Plan.{Plan};
-    ghost use Rattle.vc_threads.specs.Runs.{IsQuiet};
+    ghost use Rattle.vc_threads.specs.Runs.{HasNoStep};
     ghost use Rattle.vc_threads.specs.Wires.{Distinct, in_links, out_links};
     ghost use Rattle.vc_threads.specs.Works.{CanTake, IsFull, IsOfSomePlan, Uses, Stays, desk};
 
@@ -230,7 +230,7 @@ impl Desk {
         ensures stopped { OnErr result (Stays (desk self.old) (desk self.new)) }
         ensures why { IfErr result (λ why. why ≢ Stop.Turns) }
         ensures full { IfErr result (λ why. why ≡ Stop.Clock → IsFull self.new.clock self.new.ends.ins.items) }
-        ensures rests { (plan : Plan) (n : ℕ) → IsActorOf plan n self.new.actor → IfOk result (λ rested. IfSome rested (λ room. IsQuiet plan n self.new.actor)) }
+        ensures rests { (plan : Plan) (n : ℕ) → IsActorOf plan n self.new.actor → IfOk result (λ rested. IfSome rested (λ room. HasNoStep plan n self.new.actor)) }
     {
         let word = self.words.next_word();
         let (stamp, act) = take_front(&mut self.actor, &mut self.ends.ins[k], self.clock, word)?;
@@ -244,12 +244,12 @@ impl Desk {
         requires links { Distinct (out_links self.old.ends.outs.items) }
         requires low { All (λ o. o.0 < 32) self.old.ends.outs.items }
         requires room { vec_len self.old.acts < vec_capacity self.old.acts }
-        requires rests { (plan : Plan) (n : ℕ) → IsActorOf plan n self.old.actor → IfSome rested (λ room. IsQuiet plan n self.old.actor) }
+        requires rests { (plan : Plan) (n : ℕ) → IsActorOf plan n self.old.actor → IfSome rested (λ room. HasNoStep plan n self.old.actor) }
         ensures done { (plan : Plan) (n : ℕ) → IsActorOf plan n self.old.actor → OnOk result (Uses plan n 1 (desk self.old) (desk self.new)) }
         ensures stopped { OnErr result (Stays (desk self.old) (desk self.new)) }
         ensures why { IfErr result (λ why. why ≢ Stop.Turns) }
         ensures full { IfErr result (λ why. why ≡ Stop.Clock → IsFull self.new.clock self.new.ends.ins.items) }
-        ensures rests { (plan : Plan) (n : ℕ) → IsActorOf plan n self.new.actor → IfOk result (λ rested. IfSome rested (λ room. IsQuiet plan n self.new.actor)) }
+        ensures rests { (plan : Plan) (n : ℕ) → IsActorOf plan n self.new.actor → IfOk result (λ rested. IfSome rested (λ room. HasNoStep plan n self.new.actor)) }
     {
         let Some(stamp) = next_stamp(self.clock, None) else {
             return Err(Stop::Clock);
@@ -285,12 +285,12 @@ impl Desk {
         requires outs { Distinct (out_links self.old.ends.outs.items) }
         requires ins { Distinct (in_links self.old.ends.ins.items) }
         requires low { All (λ o. o.0 < 32) self.old.ends.outs.items }
-        requires rests { (plan : Plan) (n : ℕ) → IsActorOf plan n self.old.actor → IfSome rested (λ room. IsQuiet plan n self.old.actor) }
+        requires rests { (plan : Plan) (n : ℕ) → IsActorOf plan n self.old.actor → IfSome rested (λ room. HasNoStep plan n self.old.actor) }
         ensures done { (plan : Plan) (n : ℕ) → IsActorOf plan n self.old.actor → OnOk result (Uses plan n 1 (desk self.old) (desk self.new)) }
         ensures stopped { OnErr result (Stays (desk self.old) (desk self.new)) }
         ensures why { IfErr result (λ why. why ≢ Stop.Turns) }
         ensures full { IfErr result (λ why. why ≡ Stop.Clock → IsFull self.new.clock self.new.ends.ins.items) }
-        ensures rests { (plan : Plan) (n : ℕ) → IsActorOf plan n self.new.actor → IfOk result (λ rested. IfSome rested (λ room. IsQuiet plan n self.new.actor)) }
+        ensures rests { (plan : Plan) (n : ℕ) → IsActorOf plan n self.new.actor → IfOk result (λ rested. IfSome rested (λ room. HasNoStep plan n self.new.actor)) }
     {
         if self.acts.capacity() <= self.acts.len() {
             return Err(Stop::Memory);

@@ -1,3 +1,4 @@
 pub mod Status
-pub mod Line
+pub mod CommandLine
+pub mod Examples
 pub mod Program

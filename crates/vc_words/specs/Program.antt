@@ -9,6 +9,11 @@ use Rattle.vc_threads.specs.declared.report.Report.{Report}
 use Rattle.vc_text.specs.declared.fault.RunFault.{RunFault}
 use Rattle.vc_text.specs.declared.fault.RunFault.TheVariants.{Memory}
 use Rattle.vc_text.specs.declared.run.StepReport.{StepReport}
+use Rattle.clap.specs.Walk.{Text}
+use Rattle.clap.specs.Kinds.{IsAmong}
+use Rattle.clap.specs.declared.error.kind.ErrorKind.{ErrorKind}
+use Rattle.vc_words.specs.declared.line.Line.TheVariants.{Check, Step, Run}
+use Rattle.vc_words.specs.CommandLine.{Asks, faults, status_of_kind}
 use Rattle.vc_words.specs.Status.{status_of_fault, status_of_end}
 
 -- the status that was wanted, or that of a fault in writing
@@ -41,14 +46,16 @@ RunsNetwork turns seed known old new status =
     ((report : Report) × RunsInThreads turns seed known old new (Ok report) × (status ≡ status_of_end report.close))
     ⊎ ((fault : RunFault) × (mid : Option (List ℕ)) × RunsInThreads turns seed known old mid (Err fault) × TellsFault mid new fault status)
 
--- a bad line or a request for help is told, or want of memory
-abbrev pub TellsLine : Option (List ℕ) → Option (List ℕ) → ℕ → Type 0
-TellsLine old new status =
-    ((text : List ℕ) × (wanted : ℕ) × ((wanted ≡ 0) ⊎ (wanted ≡ 5)) × Tells old new text wanted status) ⊎ TellsFault old new Memory status
+-- what is wrong with the words, or the help that they ask for, is told, or want of memory
+abbrev pub TellsLine : List Text → Option (List ℕ) → Option (List ℕ) → ℕ → Type 0
+TellsLine words old new status =
+    ((text : List ℕ) × (kind : ErrorKind) × IsAmong kind (faults words) × Tells old new text (status_of_kind kind) status)
+    ⊎ TellsFault old new Memory status
 
 -- What the words ask for is done: the reader's bytes before and after, the writer's, and the status. A line that is told reads nothing.
-pub data Runs (known rest old new : Option (List ℕ)) (status : ℕ) : Type 0 where
-  checks : ChecksNetwork known old new status → Runs known rest old new status
-  steps : (limit : ℕ) → limit ≤ 1000000000 → StepsNetwork known old new limit status → Runs known rest old new status
-  runs : (turns seed : ℕ) → turns ≤ 1000000000 → RunsNetwork turns seed known old new status → Runs known rest old new status
-  tells : rest ≡ known → TellsLine old new status → Runs known rest old new status
+pub data Runs (words : List Text) (known rest old new : Option (List ℕ)) (status : ℕ) : Type 0 where
+  checks : Asks words Check → ChecksNetwork known old new status → Runs words known rest old new status
+  steps : (limit : ℕ) → limit ≤ 1000000000 → Asks words (Step limit) → StepsNetwork known old new limit status → Runs words known rest old new status
+  runs : (turns seed : ℕ) → turns ≤ 1000000000 → Asks words (Run turns seed) → RunsNetwork turns seed known old new status
+      → Runs words known rest old new status
+  tells : rest ≡ known → TellsLine words old new status → Runs words known rest old new status

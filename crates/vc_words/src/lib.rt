@@ -1,10 +1,19 @@
 //! The program `vcnet` without its streams: from the words of the command line to what is written and the status.
 //!
-//! Whatever the words ask for, what is written and the status are those of a check, of a run of so many events, of a run in threads,
-//! or of a line that is told and reads nothing (`specs/Program`, `specs/Status`), over any reader and any writer that tell their bytes.
+//! What the words ask for is what `clap` finds in them (`specs/CommandLine`), and what is written and the status are those of the
+//! check, of the run of so many events, or of the run in threads that they ask for, or of a line that is told and reads nothing
+//! (`specs/Program`, `specs/Status`), over any reader and any writer that tell their bytes.
 #![tactic(auto)]
 
-mod command;
+mod definition;
+mod laws;
+mod line;
+mod line_fault;
+mod reading;
 mod words;
 
+pub use laws::lines_are_read;
+pub use line::Line;
+pub use line_fault::LineFault;
+pub use reading::command;
 pub use words::{run_words, tell_memory, tell_no_text};

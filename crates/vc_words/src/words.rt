@@ -1,11 +1,14 @@
 //! From the words of the command line to the program's status.
 ghost use Rattle.std.specs.Prelude.{◌≡◌, ℕ, List};
 ghost use Rattle.vc_text.specs.declared.fault.RunFault.TheVariants.{Memory as OutOfMemory};
-ghost use Rattle.vc_words.specs.Line.{IsLineFault};
+ghost use Rattle.clap.specs.Walk.{Text, texts};
+ghost use Rattle.vc_words.specs.CommandLine.{faults, IsFaultOf};
 ghost use Rattle.vc_words.specs.Program.{ChecksNetwork, Runs, RunsNetwork, StepsNetwork, Tells, TellsFault, TellsLine};
 ghost use Rattle.vc_words.specs.Status.{status_of_check as status_for_check, status_of_text as status_for_text, status_of_fault, status_of_end};
 
-use crate::command::{Line, LineFault, command};
+use crate::line::Line;
+use crate::line_fault::LineFault;
+use crate::reading::command;
 use std::alloc::Global;
 use std::io::{Read, Write};
 use std::sync::Wait;
@@ -17,6 +20,12 @@ use vc_text::{RunFault, run_check, run_net, run_step, write_fault, write_text};
 
 /// The status for a network that is accepted, or whose processes have all ended.
 const DONE: u8 = 0;
+
+/// The status for a run that came to rest before all processes had ended.
+const QUIET: u8 = 1;
+
+/// The status for a run that made as many events or turns as it was allowed.
+const LIMIT: u8 = 3;
 
 /// The status where the reader or the writer failed.
 const BAD_STREAM: u8 = 6;
@@ -68,8 +77,8 @@ fn status_of_close(close: Close) -> u8
 {
     match close {
         Close::Done => DONE,
-        Close::Quiet => 1,
-        Close::Limit | Close::GateClosed | Close::ClockFull => 3,
+        Close::Quiet => QUIET,
+        Close::Limit | Close::GateClosed | Close::ClockFull => LIMIT,
         Close::Failed(_) => NO_MEMORY,
     }
 }
@@ -110,8 +119,7 @@ pub fn tell_no_text<W: Write>(writer: &mut W) -> u8
 
 /// What a bad line or a request for help prints.
 fn told_of_line<W: Write>(alloc: Global, fault: &LineFault, writer: &mut W) -> u8
-    requires { IsLineFault fault.now }
-    ensures { TellsLine (W.contents writer.old) (W.contents writer.new) result }
+    ensures { (words : List Text) → IsFaultOf (faults words) fault.now → TellsLine words (W.contents writer.old) (W.contents writer.new) result }
 {
     match fault {
         LineFault::Bad { text, status } => told_text(text.as_bytes(), *status, writer),
@@ -165,7 +173,7 @@ pub fn run_words<T: Threads + Wait, R: Read, W: Write>(
     reader: &mut R,
     writer: &mut W,
 ) -> u8
-    ensures { Runs (R.remaining reader.old) (R.remaining reader.new) (W.contents writer.old) (W.contents writer.new) result }
+    ensures { Runs (texts words.now) (R.remaining reader.old) (R.remaining reader.new) (W.contents writer.old) (W.contents writer.new) result }
 {
     match command(alloc, words) {
         Ok(Line::Check) => check_by(alloc, reader, writer),

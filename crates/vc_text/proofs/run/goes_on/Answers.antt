@@ -16,7 +16,8 @@ returns-then-branch-clause-goes_on c = λ p is.
     let most = c.min-actor-end.ensures in
     let test = c.loop-actor-test.true in
     let node : a < actors p = omega arith in
-    subst (λ z. GoesOn p z true) inv.same (subst (HasEvent p s a) c.if-branch.true (c.in_ok-has_event.ensures.has p (subst (IsNetworkOf p) (sym inv.same) is) node))
+    let event = subst (HasEvent p s a) c.if-branch.true (c.in_ok-has_event.ensures.has p (subst (IsNetworkOf p) (sym inv.same) is) node) in
+    subst (λ z. GoesOn p z true) inv.same (event.0, event.2)
 
 pub loop-actor-preserved : goal.loop-actor-preserved
 loop-actor-preserved c =

@@ -1,7 +1,7 @@
 use Rattle.std.proofs.Common.{ℕ, IfSome}
 use Rattle.vc_core.specs.OfPlan.{IsActorOf}
 use Rattle.vc_network.specs.Plan.{Plan}
-use Rattle.vc_threads.specs.Runs.{IsQuiet}
+use Rattle.vc_threads.specs.Runs.{HasNoStep}
 use Rattle.vc_threads.specs.Works.{Uses, desk}
 use Rattle.vc_threads.proofs.work.worker.Given as goal
 
@@ -9,5 +9,5 @@ use Rattle.vc_threads.proofs.work.worker.Given as goal
 abbrev pub invariant-loop-turn : goal.invariant-loop-turn
 invariant-loop-turn g l = record {
   run : (plan : Plan) (n : ℕ) → IsActorOf plan n l.initial.desk.actor → Uses plan n l.turn (desk l.initial.desk) (desk l.desk);
-  rests : (plan : Plan) (n : ℕ) → IsActorOf plan n l.desk.actor → IfSome l.rested (λ room. IsQuiet plan n l.desk.actor);
+  rests : (plan : Plan) (n : ℕ) → IsActorOf plan n l.desk.actor → IfSome l.rested (λ room. HasNoStep plan n l.desk.actor);
 }

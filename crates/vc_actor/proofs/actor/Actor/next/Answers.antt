@@ -32,25 +32,25 @@ returns-clause-may c =
 pub returns-in-Some-clause-finds : goal.returns-in-Some-clause-finds
 returns-in-Some-clause-finds c = λ plan k is.
     let x = c.args.self.now in
-    subst (FindsOf kind.Pass plan k x c.args.room) c.in-Some.is (c.in_ok-act.ensures.finds plan k is)
+    (subst (FindsOf kind.Pass plan k x c.args.room) c.in-Some.is (c.in_ok-act.ensures.finds plan k is)).0
 
 pub returns-in-Some-2-clause-finds : goal.returns-in-Some-2-clause-finds
 returns-in-Some-2-clause-finds c = λ plan k is.
     let x = c.args.self.now in
     let same : c.next_of.new.self ≡ x = c.in_ok-act.ensures.same in
-    subst (FindsOf kind.Route plan k x c.args.room) c.in-Some-2.is (subst (λ z. FindsOf kind.Route plan k z c.args.room c.in_ok-act-2.field-0) same (c.in_ok-act-2.ensures.finds plan k (subst (IsActorOf plan k) (sym same) is)))
+    (subst (FindsOf kind.Route plan k x c.args.room) c.in-Some-2.is (subst (λ z. FindsOf kind.Route plan k z c.args.room c.in_ok-act-2.field-0) same (c.in_ok-act-2.ensures.finds plan k (subst (IsActorOf plan k) (sym same) is)))).0
 
 pub returns-in-Some-3-clause-finds : goal.returns-in-Some-3-clause-finds
 returns-in-Some-3-clause-finds c = λ plan k is.
     let x = c.args.self.now in
     let same : c.next_of-2.new.self ≡ x = c.in_ok-act-2.ensures.same ∙ c.in_ok-act.ensures.same in
-    subst (FindsOf kind.Put plan k x c.args.room) c.in-Some-3.is (subst (λ z. FindsOf kind.Put plan k z c.args.room c.in_ok-act-3.field-0) same (c.in_ok-act-3.ensures.finds plan k (subst (IsActorOf plan k) (sym same) is)))
+    (subst (FindsOf kind.Put plan k x c.args.room) c.in-Some-3.is (subst (λ z. FindsOf kind.Put plan k z c.args.room c.in_ok-act-3.field-0) same (c.in_ok-act-3.ensures.finds plan k (subst (IsActorOf plan k) (sym same) is)))).0
 
 pub returns-in-Some-4-clause-finds : goal.returns-in-Some-4-clause-finds
 returns-in-Some-4-clause-finds c = λ plan k is.
     let x = c.args.self.now in
     let same : c.next_of-3.new.self ≡ x = c.in_ok-act-3.ensures.same ∙ c.in_ok-act-2.ensures.same ∙ c.in_ok-act.ensures.same in
-    subst (FindsOf kind.Fct plan k x c.args.room) c.in-Some-4.is (subst (λ z. FindsOf kind.Fct plan k z c.args.room c.in_ok-act-4.field-0) same (c.in_ok-act-4.ensures.finds plan k (subst (IsActorOf plan k) (sym same) is)))
+    (subst (FindsOf kind.Fct plan k x c.args.room) c.in-Some-4.is (subst (λ z. FindsOf kind.Fct plan k z c.args.room c.in_ok-act-4.field-0) same (c.in_ok-act-4.ensures.finds plan k (subst (IsActorOf plan k) (sym same) is)))).0
 
 pub returns-clause-finds : goal.returns-clause-finds
 returns-clause-finds c = λ plan k is.

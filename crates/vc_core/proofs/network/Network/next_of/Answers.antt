@@ -46,8 +46,9 @@ returns-in-Some-clause-finds c = λ p is.
     let less = subst (λ z. z < length xs) (sym c.from.ensures) c.requires.here in
     let here = subst (λ z. slice_get xs z ≡ Some a) c.from.ensures (slice_get_read xs (length xs) c.from.result a refl less c.index_mut.ensures.value) in
     let may = subst (λ o. IfSome o (λ b. MayAct a b)) c.in-Some.is c.in_ok-act.ensures.may in
-    some_event p (state_of n) c.args.actor c.args.room c.requires.room is a here c.in-Some.act (few_links a c.in-Some.act may)
-    (subst (FindsOf c.args.kind _ c.args.actor a c.args.room) c.in-Some.is (c.in_ok-act.ensures.finds _ c.args.actor (is.actors c.args.actor a here)))
+    let found = subst (FindsOf c.args.kind _ c.args.actor a c.args.room) c.in-Some.is (c.in_ok-act.ensures.finds _ c.args.actor (is.actors c.args.actor a here)) in
+    let event = some_event p (state_of n) c.args.actor c.args.room c.requires.room is a here c.in-Some.act (few_links a c.in-Some.act may) found.0 in
+    (event.0, event.1, event.2, found.1)
 
 pub returns-in-None-clause-finds : goal.returns-in-None-clause-finds
 returns-in-None-clause-finds c = λ p is.

@@ -6,7 +6,7 @@ use Rattle.vc_actor.specs.Shown.{Acting}
 use Rattle.vc_actor.specs.declared.act.ActKind.TheVariants as kind
 use Rattle.vc_core.proofs.Happening.{on_err}
 use Rattle.vc_actor.proofs.Turning.{if_ok}
-use Rattle.vc_core.proofs.Turning.{events_of_all, no_actor, sure_err}
+use Rattle.vc_core.proofs.Turning.{event_of, events_of_all, no_actor, sure_err}
 use Rattle.vc_core.proofs.network.Network.whole_turn.Goals as goal
 
 turn_of-here : (k : ℕ) (xs : List Acting) (place count : ℕ) → place ≡ k → count ≡ length xs → place < count → k < length xs
@@ -129,10 +129,14 @@ returns-in_err-event-4-clause-refused c =
     let same3 : state_of c.turn_of-3.new.self ≡ state_of c.args.self.now = c.in_ok-event-3.ensures.none c.in_default-3.is ∙ same2 in
     sure_err c.from_residual-in_err-event-4.result (c.in_err-event-4.ensures.refused ∙ same3)
 
+pub returns-in-Some-clause-finds : goal.returns-in-Some-clause-finds
+returns-in-Some-clause-finds c = λ p is.
+    event_of kind.Pass p (state_of c.args.self.now) c.args.actor c.in-Some.event (subst (FindsEventOf kind.Pass p (state_of c.args.self.now) c.args.actor) c.in-Some.is (c.in_ok-event.ensures.finds p is))
+
 pub returns-in-Some-2-clause-finds : goal.returns-in-Some-2-clause-finds
 returns-in-Some-2-clause-finds c = λ p is.
     let same1 : state_of c.turn_of.new.self ≡ state_of c.args.self.now = c.in_ok-event.ensures.none c.in_default.is in
-    subst (FindsEventOf kind.Route p (state_of c.args.self.now) c.args.actor) c.in-Some-2.is (subst (λ z. FindsEventOf kind.Route p z c.args.actor c.in_ok-event-2.field-0) same1 (c.in_ok-event-2.ensures.finds p (subst (IsNetworkOf p) (sym same1) is)))
+    event_of kind.Route p (state_of c.args.self.now) c.args.actor c.in-Some-2.event (subst (FindsEventOf kind.Route p (state_of c.args.self.now) c.args.actor) c.in-Some-2.is (subst (λ z. FindsEventOf kind.Route p z c.args.actor c.in_ok-event-2.field-0) same1 (c.in_ok-event-2.ensures.finds p (subst (IsNetworkOf p) (sym same1) is))))
 
 pub returns-in-Some-2-clause-makes : goal.returns-in-Some-2-clause-makes
 returns-in-Some-2-clause-makes c = λ p is.
@@ -144,7 +148,7 @@ pub returns-in-Some-3-clause-finds : goal.returns-in-Some-3-clause-finds
 returns-in-Some-3-clause-finds c = λ p is.
     let same1 : state_of c.turn_of.new.self ≡ state_of c.args.self.now = c.in_ok-event.ensures.none c.in_default.is in
     let same2 : state_of c.turn_of-2.new.self ≡ state_of c.args.self.now = c.in_ok-event-2.ensures.none c.in_default-2.is ∙ same1 in
-    subst (FindsEventOf kind.Put p (state_of c.args.self.now) c.args.actor) c.in-Some-3.is (subst (λ z. FindsEventOf kind.Put p z c.args.actor c.in_ok-event-3.field-0) same2 (c.in_ok-event-3.ensures.finds p (subst (IsNetworkOf p) (sym same2) is)))
+    event_of kind.Put p (state_of c.args.self.now) c.args.actor c.in-Some-3.event (subst (FindsEventOf kind.Put p (state_of c.args.self.now) c.args.actor) c.in-Some-3.is (subst (λ z. FindsEventOf kind.Put p z c.args.actor c.in_ok-event-3.field-0) same2 (c.in_ok-event-3.ensures.finds p (subst (IsNetworkOf p) (sym same2) is))))
 
 pub returns-in-Some-3-clause-makes : goal.returns-in-Some-3-clause-makes
 returns-in-Some-3-clause-makes c = λ p is.
@@ -158,7 +162,7 @@ returns-in-Some-4-clause-finds c = λ p is.
     let same1 : state_of c.turn_of.new.self ≡ state_of c.args.self.now = c.in_ok-event.ensures.none c.in_default.is in
     let same2 : state_of c.turn_of-2.new.self ≡ state_of c.args.self.now = c.in_ok-event-2.ensures.none c.in_default-2.is ∙ same1 in
     let same3 : state_of c.turn_of-3.new.self ≡ state_of c.args.self.now = c.in_ok-event-3.ensures.none c.in_default-3.is ∙ same2 in
-    subst (FindsEventOf kind.Fct p (state_of c.args.self.now) c.args.actor) c.in-Some-4.is (subst (λ z. FindsEventOf kind.Fct p z c.args.actor c.in_ok-event-4.field-0) same3 (c.in_ok-event-4.ensures.finds p (subst (IsNetworkOf p) (sym same3) is)))
+    event_of kind.Fct p (state_of c.args.self.now) c.args.actor c.in-Some-4.event (subst (FindsEventOf kind.Fct p (state_of c.args.self.now) c.args.actor) c.in-Some-4.is (subst (λ z. FindsEventOf kind.Fct p z c.args.actor c.in_ok-event-4.field-0) same3 (c.in_ok-event-4.ensures.finds p (subst (IsNetworkOf p) (sym same3) is))))
 
 pub returns-in-Some-4-clause-makes : goal.returns-in-Some-4-clause-makes
 returns-in-Some-4-clause-makes c = λ p is.

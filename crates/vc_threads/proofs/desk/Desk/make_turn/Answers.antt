@@ -16,7 +16,7 @@ use Rattle.vc_threads.proofs.Goings.{among, uses_idle, uses_one, sends_one, send
 use Rattle.vc_threads.proofs.Backs.{same_back, zip_back}
 use Rattle.vc_threads.proofs.Outcomes.{of_some}
 use Rattle.vc_core.specs.OfPlan.{IsActorOf}
-use Rattle.vc_threads.specs.Runs.{IsQuiet}
+use Rattle.vc_threads.specs.Runs.{HasNoStep}
 use Rattle.vc_threads.proofs.desk.Desk.make_turn.Goals as goal
 
 pub returns-in_default-clause-stopped : goal.returns-in_default-clause-stopped
@@ -48,7 +48,7 @@ returns-then-is_same-clause-done c = λ plan n of.
     let outs' = zip_back OutLooked a.ends.outs.len a.ends.outs.items c.as_mut_slice.result.now c.room_of-room.new.outs a.ends.outs.ok.0 c.as_mut_slice.ensures.value c.room_of-room.ensures.looked in
     uses_idle plan n (desk a)
     (record { actor = a.actor; clock = a.clock; log = a.acts.items; outs = mid; ins = a.ends.ins.items; words = a.words })
-    (of_some (IsQuiet plan n a.actor) c.args.rested (c.is_same.ensures c.if-is_same.true) (c.requires.rests plan n of)) refl refl refl refl outs' (zip_same InLooked in_looked_same a.ends.ins.items)
+    (of_some (HasNoStep plan n a.actor) c.args.rested (c.is_same.ensures c.if-is_same.true) (c.requires.rests plan n of)) refl refl refl refl outs' (zip_same InLooked in_looked_same a.ends.ins.items)
 
 pub returns-in-Ok-Idle-clause-rests : goal.returns-in-Ok-Idle-clause-rests
 returns-in-Ok-Idle-clause-rests c = λ plan n of.
@@ -57,7 +57,7 @@ returns-in-Ok-Idle-clause-rests c = λ plan n of.
     let same : c.turn.new.self ≡ a.actor = (subst (λ t. MakesTurn k.0 k.1 a.actor c.room_of-room.result t c.turn.new.self) c.in-Ok-Idle.field-0-is (c.in-Ok-Idle.ensures.makes k.0 k.1 k.2)).0 in
     let of' : IsActorOf plan n a.actor = subst (IsActorOf plan n) same of in
     let did = subst (λ t. MakesTurn plan n a.actor c.room_of-room.result t c.turn.new.self) c.in-Ok-Idle.field-0-is (c.in-Ok-Idle.ensures.makes plan n of') in
-    subst (IsQuiet plan n) (sym same) (finds_quiet plan n a.actor c.room_of-room.result did.1)
+    subst (HasNoStep plan n) (sym same) (finds_quiet plan n a.actor c.room_of-room.result did.1)
 
 pub find_out-k-requires : goal.find_out-k-requires
 find_out-k-requires c =

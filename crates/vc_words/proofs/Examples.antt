@@ -1,0 +1,15 @@
+-- What the words of some command lines come to.
+use Rattle.std.proofs.Common.{refl}
+use Rattle.clap.proofs.OnLiterals.{clap_on_literals}
+use Rattle.vc_words.specs.Examples.{LinesAreRead}
+
+pub lines : LinesAreRead
+unfolding clap_on_literals
+lines = record {
+  check = (refl, refl);
+  step = (refl, refl);
+  limit = (refl, refl);
+  run = (refl, refl);
+  help = refl;
+  beyond = refl;
+}

@@ -1,0 +1,96 @@
+-- The command line: what `clap` is told of it, and what its matches ask for.
+use Rattle.std.specs.Prelude.{◌≡◌, ◌&&◌, ℕ, Bool, true, Option, Some, None, List, [], ◌∷◌, codes, if◌then◌else◌, nat_lt, nat_le, length, option_and_then, option_map, unwrap_or, pos, ⊤, ◌≢◌, ◌≤◌}
+use Rattle.std.specs.List.{list_all}
+use Rattle.std.specs.Char.{digit_value}
+use Rattle.std.specs.Str.{bytes_eq}
+use Rattle.std.specs.Str.Parse.{digits_value, without_leading_plus}
+use Rattle.clap.specs.Walk.{Row, Rule, Text, one_of}
+use Rattle.clap.specs.Simple.{App, Shape, subcommand_of, new_app, new_rule, new_shape, on_top, with_rule, with_subcommand}
+use Rattle.clap.specs.Kinds.{IsAmong, Kinds}
+use Rattle.clap.specs.Faults.{fault_of}
+use Rattle.clap.specs.declared.builder.value_parser.ValueParser.{ValueParser}
+use Rattle.clap.specs.declared.builder.value_parser.ValueParser.TheVariants.{Signed, Unsigned}
+use Rattle.clap.specs.declared.error.kind.ErrorKind.{ErrorKind}
+use Rattle.clap.specs.declared.error.kind.ErrorKind.TheVariants.{DisplayHelp, DisplayVersion, OutOfMemory}
+use Rattle.vc_words.specs.declared.line.Line.{Line}
+use Rattle.vc_words.specs.declared.line.Line.TheVariants.{Check, Step, Run}
+use Rattle.vc_words.specs.declared.line_fault.LineFault.{LineFault}
+use Rattle.vc_words.specs.declared.line_fault.LineFault.TheVariants.{Bad, Memory}
+
+-- an option `--name N`, which numbers it takes, and what it is where it is not written
+abbrev pub option_of : Text → ValueParser → Text → Rule
+option_of name numbers usual =
+    record (new_rule name) { long = Some name; value_names = 1; parser = Some numbers; defaults = usual ∷ [] }
+
+abbrev pub limit_option : Rule
+limit_option = option_of (codes "limit") (Unsigned 0 1000000000) (codes "1000000")
+
+abbrev pub turns_option : Rule
+turns_option = option_of (codes "turns") (Unsigned 0 1000000000) (codes "10000000")
+
+abbrev pub seed_option : Rule
+seed_option = option_of (codes "seed") (Signed (pos 0) (pos 4294967295)) (codes "0")
+
+-- the subcommands, one of which is wanted
+abbrev pub check_shape : Shape
+check_shape = new_shape (codes "check")
+
+abbrev pub step_shape : Shape
+step_shape = record (new_shape (codes "step")) { rules = limit_option ∷ [] }
+
+abbrev pub run_shape : Shape
+run_shape = record (new_shape (codes "run")) { rules = turns_option ∷ seed_option ∷ [] }
+
+abbrev pub vcnet : App
+vcnet =
+    with_subcommand (with_subcommand (with_subcommand
+    (on_top (λ s. record s { subcommand_required = true }) (new_app (codes "vcnet")))
+    check_shape) step_shape) run_shape
+
+-- the number that a text is, where it is one of at most `most`
+abbrev pub number_in : ℕ → Text → Option ℕ
+number_in most text =
+    let digits = without_leading_plus text in
+    if nat_lt 0 (length digits) && list_all (λ d. nat_lt (digit_value d) 10) digits && nat_le (digits_value 10 digits) most
+    then Some (digits_value 10 digits) else None
+
+-- the number of an option among what was found, else the usual one
+abbrev pub number_of : Text → ℕ → ℕ → List Row → ℕ
+number_of id most usual rows = unwrap_or (option_and_then (number_in most) (one_of id rows)) usual
+
+-- what a subcommand and what was found of its options ask for
+abbrev pub line_of : Text × List Row → Line
+line_of (name, rows) =
+    if bytes_eq name (codes "step") then Step (number_of (codes "limit") 1000000000 1000000 rows)
+    else (if bytes_eq name (codes "run") then Run (number_of (codes "turns") 1000000000 10000000 rows) (number_of (codes "seed") 4294967295 0 rows)
+    else Check)
+
+-- the kinds of fault that the words have: none where they are a command line
+abbrev pub faults : List Text → Kinds
+faults = fault_of vcnet
+
+-- the words are a command line, and ask for this
+abbrev pub Asks : List Text → Line → Type 0
+Asks words line = (faults words ≡ []) × (option_map line_of (subcommand_of vcnet words) ≡ Some line)
+
+-- a request for help has status 0, and any other fault 5
+abbrev pub status_of_kind : ErrorKind → ℕ
+status_of_kind DisplayHelp = 0
+status_of_kind DisplayVersion = 0
+status_of_kind kind = 5
+
+-- a fault of this kind, as it is told, or want of memory
+abbrev pub IsToldAs : ErrorKind → LineFault → Type 0
+IsToldAs kind Memory = ⊤
+IsToldAs kind (Bad text status) = (kind ≢ OutOfMemory) × (status ≡ status_of_kind kind)
+
+-- a fault of one of these kinds, or want of memory
+abbrev pub IsFaultOf : Kinds → LineFault → Type 0
+IsFaultOf kinds Memory = ⊤
+IsFaultOf kinds (Bad text status) = (kind : ErrorKind) × IsAmong kind kinds × (status ≡ status_of_kind kind)
+
+-- the numbers of a line are in their ranges
+abbrev pub IsInRange : Line → Type 0
+IsInRange Check = ⊤
+IsInRange (Step limit) = limit ≤ 1000000000
+IsInRange (Run turns seed) = turns ≤ 1000000000

@@ -1,0 +1,20 @@
+//! A command line.
+
+/// What the words ask for.
+#[derive(Clone, Copy, Debug, PartialEq, Eq, Drop)]
+pub enum Line {
+    /// To check the network, and to print how large it is.
+    Check,
+    /// To run the network event by event, and to print its traffic.
+    Step {
+        /// The most events that are made: at most 1,000,000,000, and 1,000,000 where the words say nothing.
+        limit: u64,
+    },
+    /// To run the network with a thread for each node and each switch, and to print its traffic.
+    Run {
+        /// The most turns that each thread makes: at most 1,000,000,000, and 10,000,000 where the words say nothing.
+        turns: u64,
+        /// The seed of the words that random headers are made of: 0 where the words say nothing.
+        seed: u32,
+    },
+}

@@ -1,0 +1,85 @@
+//! What the words of a command line ask for.
+ghost use Rattle.std.specs.Prelude.{◌≡◌, ◌≤◌, IfOk, IfErr, IfSome};
+ghost use Rattle.clap.specs.Words.{found_of, kind_of, rows_of, subcommand_rows_of};
+ghost use Rattle.clap.specs.Walk.{texts};
+ghost use Rattle.vc_words.specs.CommandLine.{line_of as line_for, number_of, faults, Asks, IsFaultOf, IsInRange, IsToldAs};
+
+use crate::definition::definition;
+use crate::line::Line;
+use crate::line_fault::LineFault;
+use clap::error::ErrorKind;
+use clap::{ArgMatches, Error};
+use std::alloc::Global;
+
+/// The most events of a run, and the most turns of each thread, that a line may allow.
+const MOST: u64 = 1_000_000_000;
+
+/// How many events a run is allowed where the line says nothing.
+const USUAL_EVENTS: u64 = 1_000_000;
+
+/// How many turns each thread is allowed where the line says nothing.
+const USUAL_TURNS: u64 = 10_000_000;
+
+/// The status for a bad command line.
+const BAD_LINE: u8 = 5;
+
+/// The status for a request for help.
+const HELP: u8 = 0;
+
+/// The number that the matches have for an option, or the usual one.
+fn number(matches: &ArgMatches<'_>, id: &str, most: u64, usual: u64) -> u64
+    requires { usual ≤ most }
+    ensures number { result ≡ number_of id.now most usual (rows_of (found_of matches.now)) }
+    ensures range { result ≤ most }
+{
+    match matches.get_one::<u64>(id) {
+        Some(number) if number <= most => number,
+        _ => usual,
+    }
+}
+
+/// What the matches ask for.
+fn line_of(matches: &ArgMatches<'_>) -> Line
+    ensures line { IfSome (subcommand_rows_of matches.now) (λ found. result ≡ line_for found) }
+    ensures range { IsInRange result }
+{
+    match matches.subcommand() {
+        Some(("step", inner)) => Line::Step {
+            limit: number(inner, "limit", MOST, USUAL_EVENTS),
+        },
+        Some(("run", inner)) => Line::Run {
+            turns: number(inner, "turns", MOST, USUAL_TURNS),
+            seed: number(inner, "seed", u64::from(u32::MAX), 0) as u32,
+        },
+        _ => Line::Check,
+    }
+}
+
+/// What to print of a fault of the words.
+fn fault_of(alloc: Global, error: &Error) -> LineFault
+    ensures { IsToldAs (kind_of error.now) result }
+{
+    if error.kind() == ErrorKind::OutOfMemory {
+        return LineFault::Memory;
+    }
+    match error.to_string(alloc) {
+        Ok(text) => LineFault::Bad {
+            text,
+            status: if error.use_stderr() { BAD_LINE } else { HELP },
+        },
+        Err(_) => LineFault::Memory,
+    }
+}
+
+/// What the words ask for; the first is the program's name. They are a command line exactly where `clap` finds no fault in them, and
+/// then the answer is the subcommand with its numbers; else it is one of the faults, or want of memory.
+pub fn command(alloc: Global, words: &[&str]) -> Result<Line, LineFault>
+    ensures asks { IfOk result (Asks (texts words.now)) }
+    ensures faults { IfErr result (IsFaultOf (faults (texts words.now))) }
+    ensures range { IfOk result IsInRange }
+{
+    match definition(alloc)?.try_get_matches_from(words) {
+        Ok(matches) => Ok(line_of(&matches)),
+        Err(error) => Err(fault_of(alloc, &error)),
+    }
+}
