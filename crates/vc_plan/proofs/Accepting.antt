@@ -3,6 +3,7 @@ use Rattle.std.proofs.Common.{◌≡◌, ℕ, zero, suc, ◌<◌, ◌+◌, Bool,
 use Rattle.std.proofs.lemmas.Bool.Decides.{nat_tests}
 use Rattle.std.specs.Prelude.{slice_get, IsSome, is_some}
 use Rattle.std.specs.List.{list_any}
+use Rattle.std.specs.Option.{option_or}
 use Rattle.vc_process.specs.declared.channel_use.ChannelUse.{ChannelUse}
 use Rattle.vc_plan.specs.declared.plan.Plan.{Plan}
 use Rattle.vc_plan.specs.declared.port.Port.{Port}
@@ -15,7 +16,7 @@ use Rattle.vc_plan.specs.declared.channel.Home.{Home}
 use Rattle.vc_plan.specs.declared.channel.Home.TheVariants.{Way}
 use Rattle.vc_plan.specs.declared.node_plan.NodePlan.{NodePlan}
 use Rattle.vc_plan.specs.Accepted.{IsAccepted, port_of, end_of}
-use Rattle.vc_plan.specs.Check.{PassesUse, repeated, ports, port_twice, unwired_port, port_missing, first_of, block_of, same_block, blocks, block_twice, same_bool, same_way, way_twice_from, way_twice, misused_from, misused, wrong_use, use_ok, uses_of}
+use Rattle.vc_plan.specs.Check.{PassesUse, repeated, ports, port_twice, unwired_port, port_missing, block_of, same_block, blocks, block_twice, same_bool, same_way, way_twice_from, way_twice, misused_from, misused, wrong_use, use_ok, uses_of}
 use Rattle.vc_plan.specs.Wires.{across, same_port, same_spot, sending_port}
 
 none-else : {X : Type 0} (b : Bool) (x : X) (o : Option X) → (if b then Some x else o) ≡ None → (b ≡ false) × (o ≡ None)
@@ -139,7 +140,7 @@ blocks-differ vs h i j v w a b e f is (after l) =
     absurd (true-false (same_block x y) (ap (λ z. same_block z y) is ∙ same-block-self y) d)
 
 -- each end sends by a wire
-none-first : {X : Type 0} (a b : Option X) → first_of a b ≡ None → (a ≡ None) × (b ≡ None)
+none-first : {X : Type 0} (a b : Option X) → option_or a b ≡ None → (a ≡ None) × (b ≡ None)
 none-first (Some x) b h = absurd cc
 none-first None b h = (refl, h)
 

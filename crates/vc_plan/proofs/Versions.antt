@@ -2,6 +2,7 @@
 use mathlib.Core.Path.{fun_ext}
 use Rattle.std.proofs.Common.{◌≡◌, ℕ, zero, suc, Bool, true, false, ◌&&◌, ◌||◌, ◌==◌, List, [], ◌∷◌, length, Option, Some, None, refl, sym, ap, ap₂, subst, ◌∙◌, if◌then◌else◌, nat_le, slice_get}
 use Rattle.std.specs.List.{list_all}
+use Rattle.std.specs.Option.{option_or}
 use Rattle.vc_labels.specs.declared.action.Action.{Action}
 use Rattle.vc_labels.specs.declared.action.Action.TheVariants.{Out, Portal}
 use Rattle.vc_process.specs.declared.channel_use.ChannelUse.{ChannelUse}
@@ -19,7 +20,7 @@ use Rattle.vc_plan.specs.declared.port.Spot.TheVariants.{Node, Switch}
 use Rattle.vc_plan.specs.declared.port.Wire.{Wire}
 use Rattle.vc_plan.specs.declared.vlink.End.{End}
 use Rattle.vc_plan.specs.Accepted.{IsAccepted}
-use Rattle.vc_plan.specs.Check.{HasLawfulTables, PassesUse, channel_fault, channel_used, first_of, has_end, kind_fits, misused_from, use_ok, uses_of, way_twice, wrong_use}
+use Rattle.vc_plan.specs.Check.{HasLawfulTables, PassesUse, channel_fault, channel_used, has_end, kind_fits, misused_from, use_ok, uses_of, way_twice, wrong_use}
 use Rattle.vc_plan.specs.Delivery.{Delivers, IsLabelled, IsWellAt}
 use Rattle.vc_plan.specs.Hops.{IsHop}
 use Rattle.vc_plan.specs.Limits.{depth_ok, ends_there, home_there, limit_broken, links_ok, message_ok, names_ok, number_broken, number_ok, part_broken, parts_ok, process_broken, process_names, random_ok, routes_ok, rows_ok, spot_there, unless_ok, vars_ok, version_ok}
@@ -90,10 +91,10 @@ module _ (p : Plan) (v : ℕ) where
 
   misused_same : (n : ℕ) (nodes : List NodePlan) → misused_from (with_version p v) n nodes ≡ misused_from p n nodes
   misused_same n [] = refl
-  misused_same n (node ∷ nodes) = ap₂ (λ x z. first_of x z) (wrong_same n (uses_of node)) (misused_same (suc n) nodes)
+  misused_same n (node ∷ nodes) = ap₂ (λ x z. option_or x z) (wrong_same n (uses_of node)) (misused_same (suc n) nodes)
 
   channel_same : channel_fault (with_version p v) ≡ channel_fault p
-  channel_same = ap (λ z. first_of (way_twice p.channels) z) (misused_same 0 p.nodes)
+  channel_same = ap (λ z. option_or (way_twice p.channels) z) (misused_same 0 p.nodes)
 
   -- tables lead by the same wires
   wired_same : (n : ℕ) (a : Action) → IsWiredAction p n a → IsWiredAction (with_version p v) n a

@@ -1,6 +1,7 @@
 -- What `check` asks of a plan, and the first thing that it can find wrong.
 use Rattle.std.specs.Prelude.{◌≡◌, ◌≢◌, ℕ, suc, ◌<◌, Bool, true, false, ◌==◌, ◌&&◌, not, List, [], ◌∷◌, ◌++◌, Option, Some, None, slice_get, is_some, if◌then◌else◌, ◌⊎◌}
 use Rattle.std.specs.List.{list_any}
+use Rattle.std.specs.Option.{option_or}
 use Rattle.vc_labels.specs.declared.row.Row.{Row}
 use Rattle.vc_labels.specs.declared.fault.TableFault.{TableFault}
 use Rattle.vc_labels.specs.declared.fault.TableFault.TheVariants.{BadLink}
@@ -33,10 +34,6 @@ use Rattle.vc_plan.specs.Limits.{kinds_of, limit_broken}
 use Rattle.vc_plan.specs.Delivery.{IsLabelled}
 use Rattle.vc_plan.specs.Wires.{same_port, IsWiredAction, across, sending_port, switch_at}
 
-abbrev pub first_of : {A : Type 0} → Option A → Option A → Option A
-first_of (Some x) other = Some x
-first_of None other = other
-
 -- the first of a list that stood before
 abbrev pub repeated : {A : Type 0} → (A → A → Bool) → List A → List A → Option A
 repeated same seen [] = None
@@ -56,7 +53,7 @@ unwired_port wires e = if is_some (across wires (sending_port e)) then None else
 
 abbrev pub port_missing : List Wire → List Vlink → Option Port
 port_missing wires [] = None
-port_missing wires (v ∷ vs) = first_of (unwired_port wires v.a) (first_of (unwired_port wires v.b) (port_missing wires vs))
+port_missing wires (v ∷ vs) = option_or (unwired_port wires v.a) (option_or (unwired_port wires v.b) (port_missing wires vs))
 
 -- a block of a node
 abbrev pub block_of : End → ℕ × ℕ
@@ -161,14 +158,14 @@ uses_of node = channel_uses (kinds_of node.vars) (written node.process)
 -- the same, node by node, of these that are numbered from n on
 abbrev pub misused_from : Plan → ℕ → List NodePlan → Option ℕ
 misused_from p n [] = None
-misused_from p n (node ∷ nodes) = first_of (wrong_use p n (uses_of node)) (misused_from p (suc n) nodes)
+misused_from p n (node ∷ nodes) = option_or (wrong_use p n (uses_of node)) (misused_from p (suc n) nodes)
 
 abbrev pub misused : Plan → Option ℕ
 misused p = misused_from p 0 p.nodes
 
 -- a channel on a way that stood before, or else one that a process misuses
 abbrev pub channel_fault : Plan → Option ℕ
-channel_fault p = first_of (way_twice p.channels) (misused p)
+channel_fault p = option_or (way_twice p.channels) (misused p)
 
 -- the name of the channel or the variable, if there is such a one
 abbrev pub channel_name : Option Channel → Option (List ℕ)

@@ -12,7 +12,6 @@ use crate::check_refused::{CheckRefused, Refusal};
 use crate::fault::Fault;
 use crate::hops::{equal_ports, far_end};
 use crate::labelling::{Astray, labelling_fault};
-use crate::limits::are_wired;
 use crate::node_plan::NodePlan;
 use crate::path_fault::PathFault;
 use crate::plan::Plan;
@@ -21,6 +20,7 @@ use crate::port::{Port, Spot, Wire};
 use crate::switch_plan::SwitchPlan;
 use crate::usage::find_usage;
 use crate::vlink::{End, Vlink};
+use crate::wiring::are_wired;
 use sqlite_items::Items;
 use std::alloc::Global;
 use vc_labels::{TableFault, fault_of_rows};
@@ -145,7 +145,7 @@ fn find_same_node(vlinks: &[Vlink]) -> Option<u16>
 fn same_bool(one: bool, two: bool) -> bool
     ensures { result ≡ is_same_bool one two }
 {
-    if one { two } else { !two }
+    one == two
 }
 
 fn same_way(one: Home, two: Home) -> bool

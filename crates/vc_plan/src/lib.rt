@@ -26,7 +26,6 @@ mod labelling;
 mod laws;
 mod level;
 mod limit_word;
-mod limits;
 mod name;
 mod node_plan;
 mod path_fault;
@@ -39,6 +38,7 @@ mod switch_plan;
 mod usage;
 mod version;
 mod vlink;
+mod wiring;
 
 pub use accepted::Accepted;
 pub use channel::{Channel, Home};

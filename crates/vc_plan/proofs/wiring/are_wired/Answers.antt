@@ -3,7 +3,7 @@ use Rattle.std.proofs.lemmas.Option.{slice_get-get_or}
 use Rattle.vc_labels.specs.declared.row.Row.{Row}
 use Rattle.vc_plan.specs.Wires.{IsWiredAction}
 use Rattle.vc_plan.proofs.Indexed.{each-next, one-fails, all-pass}
-use Rattle.vc_plan.proofs.limits.are_wired.Goals as goal
+use Rattle.vc_plan.proofs.wiring.are_wired.Goals as goal
 
 pub returns-then-not-is_wired_action : goal.returns-then-not-is_wired_action
 returns-then-not-is_wired_action c =
