@@ -1,5 +1,5 @@
 -- A message has one list of pieces, and what its pieces are by number.
-use Rattle.std.proofs.Common.{zero, suc, take, drop, length-drop, length-take-le, take-append-drop, le_refl, inl, inr, ◌≡◌, ℕ, ◌+◌, ◌*◌, ◌≤◌, ◌<◌, min, List, [], ◌∷◌, ◌++◌, length, refl, sym, ap, ◌∙◌, arith, append-nil, length-append, subst}
+use Rattle.std.proofs.Common.{zero, suc, take, drop, length-drop, length-take-le, take-append-drop, inl, inr, ◌≡◌, ℕ, ◌+◌, ◌*◌, ◌≤◌, ◌<◌, min, List, [], ◌∷◌, ◌++◌, length, refl, sym, ap, ◌∙◌, arith, append-nil, length-append, subst}
 use Rattle.std.proofs.lemmas.Bool.{cases_lt}
 use Rattle.std.proofs.Math.Nat.{min_comm}
 use Rattle.std.proofs.lemmas.List.{append_cancel_left, take_at, drop_at, take_all, take_min, drop-drop}
@@ -7,7 +7,7 @@ use Rattle.vc_packets.specs.declared.mark.Mark.{Mark}
 use Rattle.vc_packets.specs.declared.mark.Mark.TheVariants.{Eop, Eom}
 use Rattle.vc_packets.specs.declared.packet.Packet.{Packet}
 use Rattle.vc_packets.specs.Headers.{spelled}
-use Rattle.vc_packets.specs.Pieces.{joined, IsCut, HasNoEmptyEnd, Pieces, piece_count}
+use Rattle.vc_packets.specs.Pieces.{joined, IsCut, HasNoEmptyEnd, Pieces, piece_count, pieces_from, pieces_of}
 use Rattle.vc_packets.specs.Spellings.{mark_before, piece_packet, packets}
 
 pub head_same : {A : Type 0} (a b : A) (xs ys : List A) → a ∷ xs ≡ b ∷ ys → a ≡ b
@@ -86,27 +86,28 @@ end_more : (m c : List ℕ) (cs : List (List ℕ)) → IsCut cs → HasNoEmptyEn
 end_more m c [] k h = absurd k
 end_more m c (d ∷ cs) k h = h
 
-cut_up : (n : ℕ) (m : List ℕ) → length m ≤ n → (cs : List (List ℕ)) × Pieces m cs
-cut_up zero m h = (m ∷ [], record { whole = append-nil m; cut = omega arith; end = λ e. e })
-cut_up (suc n) m h =
-    elim (cases_lt 32 (length m)) [
-      | inl long ↦
-          let rest = cut_up n (drop 32 m) (let k = length-drop 32 m in omega arith) in
-          let p = rest.1 in (
-            take 32 m ∷ rest.0,
-            record {
-              whole = ap (λ k. take 32 m ++ k) p.whole ∙ take-append-drop 32 m;
-              cut = cut_more (take 32 m) rest.0 (length-take-le 32 m (omega arith)) p.cut;
-              end = end_more m (take 32 m) rest.0 p.cut (end_weaker (drop 32 m) m rest.0
-                  (λ e. (let k = length-drop 32 m in let z = ap length e in absurd (omega arith))) p.end);
-            },
-          )
-      | inr short ↦ (m ∷ [], record { whole = append-nil m; cut = short; end = λ e. e })
-    ]
+so_many : (n : ℕ) (m : List ℕ) → n ≡ piece_count (length m) → Pieces m (pieces_from n m)
+so_many zero m e = absurd (omega arith)
+so_many (suc zero) m e =
+    let all : take 32 m ≡ m = take_all 32 m (omega arith) in
+    record { whole = append-nil (take 32 m) ∙ all; cut = subst (λ c. length c ≤ 32) (sym all) (omega arith); end = λ none. sym all ∙ none }
+so_many (suc (suc n)) m e =
+    let l = length-drop 32 m in
+    let rest = pieces_from (suc n) (drop 32 m) in
+    let p : Pieces (drop 32 m) rest = so_many (suc n) (drop 32 m) (omega arith) in
+    record {
+      whole = ap (λ k. take 32 m ++ k) p.whole ∙ take-append-drop 32 m;
+      cut = cut_more (take 32 m) rest (length-take-le 32 m (omega arith)) p.cut;
+      end = end_more m (take 32 m) rest p.cut (end_weaker (drop 32 m) m rest (λ none. (let z = ap length none in absurd (omega arith))) p.end);
+    }
+
+-- the pieces of a message are its pieces
+pub are_pieces : (m : List ℕ) → Pieces m (pieces_of m)
+are_pieces m = so_many (piece_count (length m)) m refl
 
 -- each message has pieces
 pub has_pieces : (m : List ℕ) → (cs : List (List ℕ)) × Pieces m cs
-has_pieces m = cut_up (length m) m (le_refl (length m))
+has_pieces m = (pieces_of m, are_pieces m)
 
 -- how many pieces there are
 length-cut : (m : List ℕ) (cs : List (List ℕ)) → IsCut cs → HasNoEmptyEnd m cs → length (joined cs) ≤ length m → length cs ≡ piece_count (length (joined cs))

@@ -1,11 +1,11 @@
 -- What holds of pieces and packets, whatever the message.
 use Rattle.std.specs.Prelude.{◌≡◌, ℕ, List, ◌++◌}
 use Rattle.vc_packets.specs.declared.packet.Packet.{Packet}
-use Rattle.vc_packets.specs.Pieces.{Pieces}
+use Rattle.vc_packets.specs.Pieces.{Pieces, pieces_of}
 use Rattle.vc_packets.specs.Spellings.{packets}
 
 abbrev pub EachHasPieces : Type 0
-EachHasPieces = (m : List ℕ) → (cs : List (List ℕ)) × Pieces m cs
+EachHasPieces = (m : List ℕ) → Pieces m (pieces_of m)
 
 abbrev pub PiecesAreOne : Type 0
 PiecesAreOne = (m : List ℕ) (cs ds : List (List ℕ)) → Pieces m cs → Pieces m ds → cs ≡ ds

@@ -1,7 +1,7 @@
 -- The pieces of a message: each packet but the last carries 32 bytes of it, the last the rest ("Networks, Routers and
 -- Transputers", chapter 2). A message whose length is a positive multiple of 32 ends with a piece of 32 bytes, and an empty
 -- message is one empty piece (profile).
-use Rattle.std.specs.Prelude.{◌≡◌, ℕ, ◌+◌, ◌-◌, ◌/◌, ◌≤◌, List, [], ◌∷◌, ◌++◌, length}
+use Rattle.std.specs.Prelude.{◌≡◌, ℕ, zero, suc, ◌+◌, ◌-◌, ◌/◌, ◌≤◌, List, [], ◌∷◌, ◌++◌, length, take, drop}
 
 abbrev pub joined : List (List ℕ) → List ℕ
 joined [] = []
@@ -28,3 +28,12 @@ pub record Pieces (m : List ℕ) (cs : List (List ℕ)) : Type 0 where
 -- how many pieces a message of this length has
 abbrev pub piece_count : ℕ → ℕ
 piece_count len = (len - 1) / 32 + 1
+
+-- so many pieces of 32 bytes, of which the last has what is left
+abbrev pub pieces_from : ℕ → List ℕ → List (List ℕ)
+pieces_from zero m = []
+pieces_from (suc n) m = take 32 m ∷ pieces_from n (drop 32 m)
+
+-- the pieces of the message m, as a function of it
+abbrev pub pieces_of : List ℕ → List (List ℕ)
+pieces_of m = pieces_from (piece_count (length m)) m

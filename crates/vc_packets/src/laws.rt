@@ -1,7 +1,7 @@
 //! Laws of pieces and packets. A law is a function that does nothing, whose contract is the law.
 ghost use Rattle.vc_packets.specs.Laws.{EachHasPieces, PiecesAreOne, PacketsTell};
 
-/// Each message has pieces.
+/// Each message has pieces: 32 bytes each, and then what is left.
 pub fn a_message_has_pieces()
     ensures { EachHasPieces }
 {}

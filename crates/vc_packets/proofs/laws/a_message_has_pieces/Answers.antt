@@ -1,5 +1,5 @@
-use Rattle.vc_packets.proofs.Cutting.{has_pieces}
+use Rattle.vc_packets.proofs.Cutting.{are_pieces}
 use Rattle.vc_packets.proofs.laws.a_message_has_pieces.Goals as goal
 
 pub returns : goal.returns
-returns c = has_pieces
+returns c = are_pieces
