@@ -7,7 +7,7 @@ use Rattle.vc_packets.specs.declared.mark.Mark.TheVariants.{Eop, Eom}
 use Rattle.vc_packets.specs.Spellings.{piece_packet, ack_packet}
 use Rattle.vc_machine.specs.Rendezvous.{nothing_yet}
 use Rattle.vc_packets.specs.Functions.{put}
-use Rattle.vc_machine.specs.Places.{Queue, OnWire, Held}
+use Rattle.vc_machine.specs.Places.{Held}
 use Rattle.vc_tokens.specs.Tokens.{Token, Byte, EndMark}
 use Rattle.vc_tokens.specs.Tokens as tokens
 use Rattle.vc_switch.specs.Waiting.{Waiting}
@@ -17,8 +17,8 @@ use Rattle.vc_vcp.specs.Carrier.{End as NodeEnd}
 use Rattle.vc_vcp.specs.Steps as node
 use Rattle.vc_vcp.specs.Links.{Vcp, new_vcp, set_link, with_token, due, passing, passes_byte, passes_mark, unqueued}
 use Rattle.vc_network.specs.Processes.{Offer, Want, by_test}
-use Rattle.vc_network.specs.Network.{Act, Proc, Take, Put, Fct, Pass, Actor, IsNode, NodeStep, Local, begins, HappenAll}
-use Rattle.vc_network.specs.Views.{view, everywhere}
+use Rattle.vc_network.specs.Network.{Act, Proc, Take, Put, Fct, Pass, Actor, IsNode, Local, begins, HappenAll}
+use Rattle.vc_network.specs.Views.{view}
 use Rattle.vc_network.specs.Example.{example, hello, does, begin, exchange}
 use Rattle.vc_network.proofs.Writes.{own_step, take_step, put_step}
 
@@ -399,23 +399,3 @@ l39 waiting = (omega arith, (Some (node.Finished 0), passes_mark Eop [] (node.Fi
 
 pub exchanged : (waiting : Waiting) → (s : Network (Actor ℕ) Token) × HappenAll example waiting (by_test does) (begins example begin) exchange s × ((view example s 0).taken ≡ hello ∷ []) × ((view example s 0).finished ≡ 1)
 exchanged waiting = (s39, (s1, (Own (Proc (Offer 0 0)), refl, own_step (L waiting) s0 0 (Proc (Offer 0 0)) (made a1 1) (l1 waiting)), (s2, (Puts (Fct 0) 1 tokens.Fct, refl, put_step (L waiting) s1 1 (Fct 0) 1 (tokens.Fct) (made b1 3) (l2 waiting)), (s3, (Takes (Take 0 0) 1 (tokens.Fct), refl, take_step (L waiting) s2 0 (Take 0 0) 1 (tokens.Fct) ([]) (made a2 1) refl (l3 waiting)), (s4, (Puts (Put 0) 0 (Byte 0), refl, put_step (L waiting) s3 0 (Put 0) 0 ((Byte 0)) (made a3 1) (l4 waiting)), (s5, (Puts (Put 0) 0 (Byte 1), refl, put_step (L waiting) s4 0 (Put 0) 0 ((Byte 1)) (made a4 1) (l5 waiting)), (s6, (Puts (Put 0) 0 (Byte 104), refl, put_step (L waiting) s5 0 (Put 0) 0 ((Byte 104)) (made a5 1) (l6 waiting)), (s7, (Puts (Put 0) 0 (Byte 101), refl, put_step (L waiting) s6 0 (Put 0) 0 ((Byte 101)) (made a6 1) (l7 waiting)), (s8, (Puts (Put 0) 0 (Byte 108), refl, put_step (L waiting) s7 0 (Put 0) 0 ((Byte 108)) (made a7 1) (l8 waiting)), (s9, (Puts (Put 0) 0 (Byte 108), refl, put_step (L waiting) s8 0 (Put 0) 0 ((Byte 108)) (made a8 1) (l9 waiting)), (s10, (Puts (Put 0) 0 (Byte 111), refl, put_step (L waiting) s9 0 (Put 0) 0 ((Byte 111)) (made a9 1) (l10 waiting)), (s11, (Puts (Put 0) 0 (EndMark Eom), refl, put_step (L waiting) s10 0 (Put 0) 0 ((EndMark Eom)) (made a10 1) (l11 waiting)), (s12, (Takes (Take 0 0) 0 (Byte 0), refl, take_step (L waiting) s11 1 (Take 0 0) 0 (Byte 0) (Byte 1 ∷ Byte 104 ∷ Byte 101 ∷ Byte 108 ∷ Byte 108 ∷ Byte 111 ∷ EndMark Eom ∷ []) (made b2 3) refl (l12 waiting)), (s13, (Takes (Take 0 0) 0 (Byte 1), refl, take_step (L waiting) s12 1 (Take 0 0) 0 (Byte 1) (Byte 104 ∷ Byte 101 ∷ Byte 108 ∷ Byte 108 ∷ Byte 111 ∷ EndMark Eom ∷ []) (made b3 3) refl (l13 waiting)), (s14, (Takes (Take 0 0) 0 (Byte 104), refl, take_step (L waiting) s13 1 (Take 0 0) 0 (Byte 104) (Byte 101 ∷ Byte 108 ∷ Byte 108 ∷ Byte 111 ∷ EndMark Eom ∷ []) (made b4 3) refl (l14 waiting)), (s15, (Takes (Take 0 0) 0 (Byte 101), refl, take_step (L waiting) s14 1 (Take 0 0) 0 (Byte 101) (Byte 108 ∷ Byte 108 ∷ Byte 111 ∷ EndMark Eom ∷ []) (made b5 3) refl (l15 waiting)), (s16, (Takes (Take 0 0) 0 (Byte 108), refl, take_step (L waiting) s15 1 (Take 0 0) 0 (Byte 108) (Byte 108 ∷ Byte 111 ∷ EndMark Eom ∷ []) (made b6 3) refl (l16 waiting)), (s17, (Takes (Take 0 0) 0 (Byte 108), refl, take_step (L waiting) s16 1 (Take 0 0) 0 (Byte 108) (Byte 111 ∷ EndMark Eom ∷ []) (made b7 3) refl (l17 waiting)), (s18, (Takes (Take 0 0) 0 (Byte 111), refl, take_step (L waiting) s17 1 (Take 0 0) 0 (Byte 111) (EndMark Eom ∷ []) (made b8 3) refl (l18 waiting)), (s19, (Takes (Take 0 0) 0 (EndMark Eom), refl, take_step (L waiting) s18 1 (Take 0 0) 0 (EndMark Eom) ([]) (made b9 3) refl (l19 waiting)), (s20, (Own (Pass 0), refl, own_step (L waiting) s19 1 (Pass 0) (made b10 3) (l20 waiting)), (s21, (Own (Pass 0), refl, own_step (L waiting) s20 1 (Pass 0) (made b11 3) (l21 waiting)), (s22, (Own (Pass 0), refl, own_step (L waiting) s21 1 (Pass 0) (made b12 3) (l22 waiting)), (s23, (Own (Pass 0), refl, own_step (L waiting) s22 1 (Pass 0) (made b13 3) (l23 waiting)), (s24, (Own (Pass 0), refl, own_step (L waiting) s23 1 (Pass 0) (made b14 3) (l24 waiting)), (s25, (Own (Pass 0), refl, own_step (L waiting) s24 1 (Pass 0) (made b15 3) (l25 waiting)), (s26, (Own (Pass 0), refl, own_step (L waiting) s25 1 (Pass 0) (made b16 3) (l26 waiting)), (s27, (Own (Pass 0), refl, own_step (L waiting) s26 1 (Pass 0) (made b17 3) (l27 waiting)), (s28, (Own (Proc (Want 0 0)), refl, own_step (L waiting) s27 1 (Proc (Want 0 0)) (made b18 5) (l28 waiting)), (s29, (Puts (Fct 0) 0 tokens.Fct, refl, put_step (L waiting) s28 0 (Fct 0) 0 (tokens.Fct) (made a11 1) (l29 waiting)), (s30, (Takes (Take 0 0) 0 (tokens.Fct), refl, take_step (L waiting) s29 1 (Take 0 0) 0 (tokens.Fct) ([]) (made b19 5) refl (l30 waiting)), (s31, (Puts (Put 0) 1 (Byte 0), refl, put_step (L waiting) s30 1 (Put 0) 1 ((Byte 0)) (made b20 5) (l31 waiting)), (s32, (Puts (Put 0) 1 (Byte 1), refl, put_step (L waiting) s31 1 (Put 0) 1 ((Byte 1)) (made b21 5) (l32 waiting)), (s33, (Puts (Put 0) 1 (EndMark Eop), refl, put_step (L waiting) s32 1 (Put 0) 1 ((EndMark Eop)) (made b22 5) (l33 waiting)), (s34, (Takes (Take 0 0) 1 (Byte 0), refl, take_step (L waiting) s33 0 (Take 0 0) 1 (Byte 0) (Byte 1 ∷ EndMark Eop ∷ []) (made a12 1) refl (l34 waiting)), (s35, (Takes (Take 0 0) 1 (Byte 1), refl, take_step (L waiting) s34 0 (Take 0 0) 1 (Byte 1) (EndMark Eop ∷ []) (made a13 1) refl (l35 waiting)), (s36, (Takes (Take 0 0) 1 (EndMark Eop), refl, take_step (L waiting) s35 0 (Take 0 0) 1 (EndMark Eop) ([]) (made a14 1) refl (l36 waiting)), (s37, (Own (Pass 0), refl, own_step (L waiting) s36 0 (Pass 0) (made a15 1) (l37 waiting)), (s38, (Own (Pass 0), refl, own_step (L waiting) s37 0 (Pass 0) (made a16 1) (l38 waiting)), (s39, (Own (Pass 0), refl, own_step (L waiting) s38 0 (Pass 0) (made a17 2) (l39 waiting)), record { states = λ n. refl; ways = λ w. refl }))))))))))))))))))))))))))))))))))))))), refl, refl)
-
-no_credit : (k : Token) (v : Vcp) (p : ℕ) → NodeStep example (by_test does) 0 (record { vcp = a1; process = 1; inner = λ c. nothing_yet }) (Puts (Put 0) 0 k) (record { vcp = v; process = p; inner = λ c. nothing_yet }) → ⊥
-no_credit k v p h = elim h.1.puts [ puts_byte b more credit body is after ↦ absurd (omega arith) | puts_mark m credit body some is after ↦ absurd (omega arith) ]
-
--- before the FCT nothing can be put
-pub not_before_the_fct : (waiting : Waiting) (k : Token) (v : Vcp) (p : ℕ) → L waiting 0 (s1.state 0) (Puts (Put 0) 0 k) (made v p) → ⊥
-not_before_the_fct waiting k v p h = no_credit k v p h.1
-
--- the packet stands in the queue before its mark is put, and on the wire from then on, and is held in the end
-pub in_the_queue : everywhere example s10 ≡ (Queue 0, piece) ∷ []
-in_the_queue = refl
-
-pub on_the_wire : everywhere example s11 ≡ (OnWire 0, piece) ∷ []
-on_the_wire = refl
-
-pub in_the_buffer : everywhere example s19 ≡ (OnWire 0, piece) ∷ []
-in_the_buffer = refl
-
-pub held : everywhere example s27 ≡ (Held 0, piece) ∷ []
-held = refl
