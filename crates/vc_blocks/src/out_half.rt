@@ -1,5 +1,5 @@
 //! The half that outputs.
-ghost use Rattle.std.specs.Prelude.{◌≡◌, ◌≢◌, [], ◌∷◌, List, ℕ, ◌↔◌, IsTrue, IfOk};
+ghost use Rattle.std.specs.Prelude.{◌≡◌, ◌≢◌, [], ◌↔◌, IsTrue, IfOk};
 ghost use Rattle.vc_packets.specs.Pieces.{Pieces};
 ghost use Rattle.vc_packets.specs.Spellings.{piece_packet};
 ghost use Rattle.vc_blocks.specs.Advancing.{later_than, advanced};

@@ -35,7 +35,7 @@ abbrev pub HoldsFor : ℕ → Option Packet → Type 0
 HoldsFor block None = Unit {0}
 HoldsFor block (Some p) = IsPieceOf block p
 
--- An output sends by one of the four links, and what is under way was offered.
+-- An output sends by one of the four links, and where a piece is under way something was offered.
 pub record IsOutput (x : Output) : Type 0 where
   pub link : x.link < 4
   pub offered : x.offered ≡ [] → x.half.unacked ≡ []
@@ -90,14 +90,6 @@ pub record IsUnwanted (s : State) (chan : ℕ) : Type 0 where
   pub input : Input
   pub here : named (λ x. x.chan) chan s.inputs ≡ Some input
   pub idle : input.half.wants ≡ false
-
-pub record HasOutput (s : State) (chan : ℕ) : Type 0 where
-  pub output : Output
-  pub here : named (λ x. x.chan) chan s.outputs ≡ Some output
-
-pub record HasInput (s : State) (chan : ℕ) : Type 0 where
-  pub input : Input
-  pub here : named (λ x. x.chan) chan s.inputs ≡ Some input
 
 -- there is credit on the link, and a packet waits
 pub record MayPut (s : State) (link : ℕ) : Type 0 where

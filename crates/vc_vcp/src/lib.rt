@@ -7,11 +7,11 @@
 //!
 //! To the layer above, each call of [`Vcp`] is exactly one step of a node: of its halves and send queues (`specs/Steps`), or of
 //! its links (`specs/Links`), between what the processor is before and after in the words of those steps (`specs/Seen`). A call
-//! that may be made only at times has a `may_` call beside it, which answers whether such a step exists (`specs/Able`). The steps
-//! of channels and packets are told for nodes on which no two ends have the same block or channel; every call keeps it so.
+//! that may be made only at times has a `may_` call beside it, which answers whether such a step exists (`specs/Able`).
 //!
-//! What always holds (`specs/State`): there are four links; what is under way was offered; an input holds only what came to its
-//! block, and nothing where a process inputs; no flow control token waits in a buffer; each link has the same limit.
+//! What always holds (`specs/State`): there are four links; no two outputs, and no two inputs, have one channel or one block, as
+//! `Vcp::new` asks; where a piece is under way something was offered; an input holds only what came to its block, and nothing where
+//! a process inputs; no flow control token waits in a buffer; each link has the same limit.
 #![tactic(auto)]
 
 mod bound;

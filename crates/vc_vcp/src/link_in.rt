@@ -31,7 +31,7 @@ impl LinkIn {
     ghost use Rattle.std.specs.Bool.{OnTrue, OnFalse};
 
     /// An empty end for packets of at most `limit` bytes.
-    pub fn new(alloc: Global, limit: usize) -> Result<LinkIn, Memory>
+    pub(crate) fn new(alloc: Global, limit: usize) -> Result<LinkIn, Memory>
         ensures { IfOk result (λ x. x ≡ record { receiver = new_receiver; passed = []; limit = limit }) }
     {
         let receiver = Receiver::new(alloc)?;
@@ -40,14 +40,14 @@ impl LinkIn {
     }
 
     /// Whether a place was promised.
-    pub fn is_promised(&self) -> bool
+    pub(crate) fn is_promised(&self) -> bool
         ensures { IsTrue result ↔ (0 < self.now.receiver.promised) }
     {
         self.receiver.is_promised()
     }
 
     /// A token comes, and takes a place that was promised.
-    pub fn accept(&mut self, came: Token)
+    pub(crate) fn accept(&mut self, came: Token)
         requires { 0 < self.old.receiver.promised }
         ensures { self.new ≡ record self.old { receiver = received self.old.receiver (token came) } }
     {
@@ -55,7 +55,7 @@ impl LinkIn {
     }
 
     /// Whether no token waits.
-    pub fn is_empty(&self) -> bool
+    pub(crate) fn is_empty(&self) -> bool
         ensures { IsTrue result ↔ (self.now.receiver.buffer ≡ []) }
     {
         self.receiver.is_empty()
@@ -83,14 +83,14 @@ impl LinkIn {
     }
 
     /// Whether an FCT may be sent: eight places are free and not promised.
-    pub fn may_grant(&self) -> bool
+    pub(crate) fn may_grant(&self) -> bool
         ensures { IsTrue result ↔ HasRoom self.now.receiver }
     {
         self.receiver.may_grant()
     }
 
     /// An FCT is sent: eight places more are promised.
-    pub fn grant(&mut self)
+    pub(crate) fn grant(&mut self)
         requires { HasRoom self.old.receiver }
         ensures grants { Grants self.old.receiver self.new.receiver }
         ensures rest { self.new ≡ record self.old { receiver = self.new.receiver } }
@@ -99,14 +99,14 @@ impl LinkIn {
     }
 
     /// The front token leaves the buffer.
-    pub fn pop(&mut self) -> Option<Token>
+    pub(crate) fn pop(&mut self) -> Option<Token>
         ensures { MatchOption result ((self.old.receiver.buffer ≡ []) × (self.new ≡ self.old)) (λ front. Passes self.old.receiver (token front) self.new.receiver × (self.new ≡ record self.old { receiver = self.new.receiver })) }
     {
         self.receiver.pop()
     }
 
-    /// A byte joins the packet, or is dropped where the packet has as many as it may.
-    pub fn push(&mut self, byte: u8) -> bool
+    /// A byte joins the packet, or is dropped where the packet has as many as it may; whether it joined.
+    pub(crate) fn push(&mut self, byte: u8) -> bool
         ensures room { IsTrue result ↔ (length self.old.passed < self.old.limit) }
         ensures added { OnTrue result (self.new ≡ record self.old { passed = self.old.passed ++ byte ∷ [] }) }
         ensures dropped { OnFalse result (self.new ≡ self.old) }
@@ -115,14 +115,14 @@ impl LinkIn {
     }
 
     /// The next packet begins.
-    pub fn clear(&mut self)
+    pub(crate) fn clear(&mut self)
         ensures { self.new ≡ record self.old { passed = [] } }
     {
         self.packet.clear();
     }
 
-    /// The byte at the front passes: it joins the packet, or is dropped where the packet has as many as it may.
-    pub fn pass_byte(&mut self, byte: u8) -> bool
+    /// The byte at the front passes: it joins the packet, or is dropped where the packet has as many as it may; whether it joined.
+    pub(crate) fn pass_byte(&mut self, byte: u8) -> bool
         requires { IsFront self.old.receiver (Byte byte) }
         ensures front { Passes self.old.receiver (Byte byte) self.new.receiver }
         ensures room { IsTrue result ↔ (length self.old.passed < self.old.limit) }
@@ -134,7 +134,8 @@ impl LinkIn {
     }
 
     /// The mark at the front passes, and the next packet begins.
-    pub fn pass_mark(&mut self)
+    pub(crate) fn pass_mark(&mut self)
+        requires { (mark : Mark) × IsFront self.old.receiver (EndMark mark) }
         ensures front { (mark : Mark) → IsFront self.old.receiver (EndMark mark) → Passes self.old.receiver (EndMark mark) self.new.receiver }
         ensures after { self.new ≡ record self.old { receiver = self.new.receiver; passed = [] } }
     {

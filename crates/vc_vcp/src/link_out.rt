@@ -2,7 +2,6 @@
 //!
 //! Each token that is put spends one of the credit, and an FCT that comes adds eight. A packet leaves the queue with its mark.
 ghost use Rattle.std.specs.Prelude.{◌≡◌, ◌≢◌, ◌<◌, ◌≤◌, ◌+◌, [], ◌∷◌, ◌++◌, ◌↔◌, IsTrue, OnOk, OnErr, slice_get, drop};
-ghost use Rattle.vc_tokens.specs.Tokens.{EndMark};
 ghost use Rattle.vc_tokens.specs.Spelt.{token};
 ghost use Rattle.vc_credit.specs.Ends.{credited};
 ghost use Rattle.vc_vcp.specs.LinkOut.{PutsFront, CanPutFront, Unqueues};
@@ -13,7 +12,7 @@ use std::alloc::Global;
 use std::collections::VecDeque;
 use std::marker::Model;
 use vc_credit::Sender;
-use vc_packets::{Mark, Memory, Packet};
+use vc_packets::{Memory, Packet};
 use vc_tokens::Token;
 
 /// The sending end of a node's link: the packets that wait to go out, first in first out, how far the front one has been put, and
@@ -37,7 +36,7 @@ impl Model for LinkOut {
 
 impl LinkOut {
     /// A link with no packet and no credit.
-    pub fn new(alloc: Global) -> LinkOut
+    pub(crate) fn new(alloc: Global) -> LinkOut
         ensures { result ≡ record { queue = []; sender = record { sent = []; credit = 0 } } }
     {
         LinkOut {
@@ -48,7 +47,7 @@ impl LinkOut {
     }
 
     /// A packet more at the end of the queue.
-    pub fn enqueue(&mut self, packet: Packet) -> Result<(), Memory>
+    pub(crate) fn enqueue(&mut self, packet: Packet) -> Result<(), Memory>
         ensures ok { OnOk result (self.new ≡ record self.old { queue = self.old.queue ++ packet ∷ [] }) }
         ensures err { OnErr result (self.new ≡ self.old) }
         ensures begun { self.old.queue ≡ [] → self.old.sender.sent ≡ [] }
@@ -58,7 +57,7 @@ impl LinkOut {
     }
 
     /// The packet that was queued last leaves the queue again.
-    pub fn unqueue(&mut self)
+    pub(crate) fn unqueue(&mut self)
         ensures { Unqueues self.old self.new }
     {
         let _last = self.queue.pop_back();
@@ -67,15 +66,8 @@ impl LinkOut {
         }
     }
 
-    /// Whether no packet waits.
-    pub fn is_empty(&self) -> bool
-        ensures { IsTrue result ↔ (self.now.queue ≡ []) }
-    {
-        self.queue.is_empty()
-    }
-
     /// The packet at the front.
-    pub fn front(&self) -> Option<&Packet>
+    pub(crate) fn front(&self) -> Option<&Packet>
         ensures { option_copied result ≡ slice_get self.now.queue 0 }
     {
         self.queue.front()
@@ -89,7 +81,7 @@ impl LinkOut {
     }
 
     /// Whether a token may be put: there is credit, and a packet.
-    pub fn may_put(&self) -> bool
+    pub(crate) fn may_put(&self) -> bool
         ensures may { IsTrue result ↔ ((0 < self.now.sender.credit) × (self.now.queue ≢ [])) }
         ensures can { OnTrue result (CanPutFront self.now) }
     {
@@ -97,14 +89,14 @@ impl LinkOut {
     }
 
     /// Whether a flow control token is due: the credit is at most 8.
-    pub fn may_credit(&self) -> bool
+    pub(crate) fn may_credit(&self) -> bool
         ensures { IsTrue result ↔ (self.now.sender.credit ≤ 8) }
     {
         self.credit.may_fct()
     }
 
     /// Eight more tokens may be put.
-    pub fn credit(&mut self)
+    pub(crate) fn credit(&mut self)
         requires { self.old.sender.credit ≤ 8 }
         ensures { self.new ≡ record self.old { sender = credited self.old.sender } }
     {
@@ -113,7 +105,7 @@ impl LinkOut {
 
     /// Puts the next token of the packet at the front: its next byte, or its mark, with which it leaves the queue.
     #[inline(always)]
-    pub fn put(&mut self) -> Token
+    pub(crate) fn put(&mut self) -> Token
         requires credit { 0 < self.old.sender.credit }
         requires packet { self.old.queue ≢ [] }
         ensures { PutsFront self.old (token result) self.new }
@@ -131,7 +123,7 @@ impl LinkOut {
             }
             None => {
                 self.leave();
-                mark_token(mark)
+                Token::from(mark)
             }
         }
     }
@@ -142,15 +134,5 @@ impl LinkOut {
     {
         self.sent = 0;
         let _sent = self.queue.pop_front();
-    }
-}
-
-/// The token of an end mark.
-fn mark_token(mark: Mark) -> Token
-    ensures { token result ≡ EndMark mark }
-{
-    match mark {
-        Mark::Eop => Token::Eop,
-        Mark::Eom => Token::Eom,
     }
 }

@@ -3,7 +3,7 @@
 //! A channel is named by its number in the network, a link by its number at the node, 0 to 3. A call that finds no memory
 //! answers `Memory`, and has changed nothing.
 ghost use Rattle.std.specs.Prelude.{◌≡◌, ◌≢◌, ◌<◌, None, Ok, ℕ, List, length, slice_get, ◌↔◌, [], false, Some, IsTrue, IsOk, IfOk, IfSome, OnOk, OnErr};
-ghost use Rattle.vc_vcp.specs.Keyed.{by_name, named};
+ghost use Rattle.vc_vcp.specs.Keyed.{named};
 ghost use Rattle.std.specs.List.{AllByRecursion};
 ghost use Rattle.vc_packets.specs.declared.packet.Packet.{Packet};
 ghost use Rattle.vc_vcp.specs.Bound.{IsBound};
@@ -11,7 +11,6 @@ ghost use Rattle.vc_vcp.specs.State.{IsInput, IsIdle, IsUnwanted, IsOpen, MayPut
 ghost use Rattle.vc_vcp.specs.Seen.{ends_of, seen, Inputs, IsKept, taken_of, passed_of, Acks};
 ghost use Rattle.vc_vcp.specs.Links.{new_vcp, Comes, Passes, Sends, SendsFct};
 ghost use Rattle.vc_credit.specs.Ends.{IsFront};
-ghost use Rattle.vc_vcp.specs.Keyed.{NamesDiffer};
 ghost use Rattle.vc_vcp.specs.Steps.{Offers, Stops, Arrives, Stray};
 ghost use Rattle.vc_vcp.specs.Able.{CanOffer, CanWant, CanFetch, CanStop, CanPut, CanGrant, CanPass, IsReady};
 ghost use Rattle.std.specs.Option.{option_copied};
@@ -66,9 +65,6 @@ impl Drop for Vcp {
 }
 
 impl Model for Vcp {
-    ghost use Rattle.std.specs.Coded.{codes};
-    ghost use Rattle.std.specs.List.{AllByRecursion};
-    ghost use Rattle.vc_blocks.specs.Halves.{IsPiece};
     ghost use Rattle.vc_vcp.specs.State.{State, IsWired};
 
     ghost Value = { State };
@@ -206,7 +202,7 @@ impl Vcp {
         }
     }
 
-    /// How many outputs on a channel are finished: all that were offered but the one under way.
+    /// How many outputs on a channel are finished: all that were offered but the one under way; 0 where the node does not output on it.
     pub fn finished(&self, chan: u16) -> u64
         ensures { result ≡ ((seen self.now).carrier.out chan).finished }
     {
@@ -226,7 +222,7 @@ impl Vcp {
         }
     }
 
-    /// Whether a channel was stopped at this node.
+    /// Whether a channel was stopped at this node; false where the node does not input on it.
     pub fn stopped(&self, chan: u16) -> bool
         ensures { result ≡ ((seen self.now).carrier.into chan).stopped }
     {

@@ -14,5 +14,5 @@ pub returns-in-None : goal.returns-in-None
 returns-in-None c =
     let x = c.self.inside in
     let read : slice_get c.index-packet.result.now.body x.sent ≡ None = search rules in
-    subst (PutsFront c.args.self.now (token c.mark_token.result)) (sym c.leave.ensures)
-    (mark_at c.args.self.now x.queue.items x.sent x.credit c.spend.new.self c.index-packet.result.now (token c.mark_token.result) (sym c.self.view_is) c.requires.packet c.requires.credit (search rules) read c.self.invariant c.spend.ensures c.mark_token.ensures)
+    subst (PutsFront c.args.self.now (token c.from.result)) (sym c.leave.ensures)
+    (mark_at c.args.self.now x.queue.items x.sent x.credit c.spend.new.self c.index-packet.result.now (token c.from.result) (sym c.self.view_is) c.requires.packet c.requires.credit (search rules) read c.self.invariant c.spend.ensures c.from.ensures)

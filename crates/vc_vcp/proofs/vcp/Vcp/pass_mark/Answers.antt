@@ -9,6 +9,18 @@ use Rattle.vc_vcp.specs.State.{State, limit_of}
 use Rattle.vc_vcp.proofs.Passing.{mark_passes, front_at, wired_passing}
 use Rattle.vc_vcp.proofs.vcp.Vcp.pass_mark.Goals as goal
 
+pub pass_mark-requires : goal.pass_mark-requires
+pass_mark-requires c =
+    let s = c.args.self.now in
+    let y = c.self.inside in
+    let k = c.from-at.result in
+    let within : k < 4 = omega arith in
+    let n : State = record { outputs = y.outputs.items; inputs = y.inputs.items; outs = y.outs.items; ins = y.ins.items; strays = y.strays } in
+    let z = c.index_mut.result.now in
+    let there = slice_get_read y.ins.items 4 k z (sym c.self.invariant.four_in) within c.index_mut.ensures.value in
+    let links = subst (λ a. link_of a ≡ link_of s) (sym c.self.view_is) c.take_passed.ensures.links in
+    (c.args.mark, front_at s n k z (EndMark c.args.mark) links there (subst (λ j. IsFront (link_of s j).receiver (EndMark c.args.mark)) (sym c.from-at.ensures) c.requires.front))
+
 pub invariant_of-self : goal.invariant_of-self
 invariant_of-self c =
     let s = c.args.self.now in
