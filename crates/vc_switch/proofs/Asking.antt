@@ -1,9 +1,9 @@
 -- What the packets at a switch's inputs ask for after a step, and which of them can be bound.
-use Rattle.std.proofs.Common.{◌≡◌, ◌≢◌, ◌+◌, ◌-◌, ◌*◌, ◌%◌, ◌<◌, ◌^◌, ℕ, zero, suc, Bool, IsTrue, List, [], ◌∷◌, ◌++◌, append-nil, length, get_or, replicate, slice_get, refl, sym, ap, ◌∙◌, subst, arith, Option, Some, None, inl, inr}
+use Rattle.std.proofs.Common.{◌≡◌, ◌≢◌, ◌+◌, ◌-◌, ◌*◌, ◌%◌, ◌<◌, ◌^◌, ℕ, zero, suc, Bool, true, false, IsTrue, List, [], ◌∷◌, ◌++◌, append-nil, length, get_or, replicate, slice_get, refl, sym, ap, ◌∙◌, subst, arith, Option, Some, None, inl, inr}
 use Rattle.std.proofs.lemmas.Bool.{cases_eq, cases_lt}
 use Rattle.std.proofs.lemmas.List.{get_or-replicate, length-replicate}
 use Rattle.std.proofs.lemmas.Nat.{pow_below}
-use Rattle.std.proofs.lemmas.Nat.Bits.{bit_at-lt, bit_at_above, bit_at_mask_inside}
+use Rattle.std.proofs.lemmas.Nat.Bits.{bit_at-lt, bit_at-zero, bit_at_above, bit_at_mask_inside}
 use Rattle.std.proofs.Math.ListN.{get_or-eq_default}
 use Rattle.std.proofs.Math.Nat.{mod-eq_of_lt}
 use Rattle.std.specs.Int.{bit_at}
@@ -14,7 +14,7 @@ use Rattle.vc_labels.specs.Interval.{action_for}
 use Rattle.vc_packets.specs.declared.mark.Mark.{Mark}
 use Rattle.vc_tokens.specs.Tokens.{Token, EndMark}
 use Rattle.vc_switch.specs.Able.{CanRoute}
-use Rattle.vc_switch.specs.Asking.{links_of, AreAsked, AreRouted}
+use Rattle.vc_switch.specs.Asking.{links_of, AreAsked, AreRouted, OnlyWaiting}
 use Rattle.vc_switch.specs.Forward.{SwitchPlan}
 use Rattle.vc_switch.specs.Front.{front_of, front_by, behind_portal}
 use Rattle.vc_switch.specs.Ready.{Tells, Waits, IsReady}
@@ -249,7 +249,31 @@ asked_marked s t output m asks kept sends was =
       ];
     }
 
+-- Only what waits.
+
+pub only_same : (s t : State) (routes : ℕ) → SamePackets (seen s) (seen t) → OnlyWaiting s routes → OnlyWaiting t routes
+only_same s t routes same was = λ l less one. waits_as (seen t) (seen s) l (same_back (seen s) (seen t) same) (was l less one)
+
+pub only_passed : (s t : State) (link routes new : ℕ) (more : Bool) → SameBut (seen s) link (seen t) → OnlyWaiting s routes → (IsTrue more → Waits ((seen t).input link)) → Tells (IsTrue more) link routes new → OnlyWaiting t new
+only_passed s t link routes new more others was waits tells = λ l less one. elim (cases_eq l link) [
+  | inl e ↦ subst (λ z. Waits ((seen t).input z)) (sym e) (waits (tells.it.0 (subst (λ z. bit_at new z ≡ 1) e one)))
+  | inr ne ↦ subst Waits (sym (others l ne)) (was l less (sym (tells.others l less ne) ∙ one))
+]
+
+pub only_all : (t : State) (r : Ready) (routes : ℕ) → IsReady t r → ((l : ℕ) → l < 32 → bit_at routes l ≡ 1 → bit_at r.waits l ≡ 1) → OnlyWaiting t routes
+only_all t r routes ready all = λ l less one. (ready.waits l less).0 (all l less one)
+
+-- a link's bit is cleared, and no other is set
+pub fewer : (link old new : ℕ) → Tells (IsTrue false) link old new → (l : ℕ) → l < 32 → bit_at new l ≡ 1 → bit_at old l ≡ 1
+fewer link old new tells l less one = elim (cases_eq l link) [
+  | inl e ↦ absurd (let no : false ≡ true = tells.it.0 (subst (λ z. bit_at new z ≡ 1) e one) in cc)
+  | inr ne ↦ sym (tells.others l less ne) ∙ one
+]
+
 -- What is asked as the switch begins.
+
+pub only_first : (s : State) → OnlyWaiting s 0
+only_first s = λ l less one. absurd (let z = bit_at-zero l in let q : 0 ≡ 1 = sym z ∙ one in cc)
 
 pub asked_first : (s : State) (asks : List ℕ) → seen s ≡ new_switch → ((k : ℕ) → get_or asks k 0 ≡ 0) → AreAsked s asks
 asked_first s asks e none = record { waiting = λ l less w. absurd (w.1 (ap (λ z. (z.input l).got) e)); others = λ l less no. none l }

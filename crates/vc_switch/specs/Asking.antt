@@ -23,8 +23,13 @@ pub record AreAsked (s : State) (asks : List ℕ) : Type 0 where
 abbrev pub AreRouted : State → ℕ → Type 0
 AreRouted s routes = (l output : ℕ) → l < 32 → CanRoute (plan_of s) (seen s) l output → bit_at routes l ≡ 1
 
+-- and only where bytes of a packet are that is bound to no output
+abbrev pub OnlyWaiting : State → ℕ → Type 0
+OnlyWaiting s routes = (l : ℕ) → l < 32 → bit_at routes l ≡ 1 → Waits ((seen s).input l)
+
 -- what a switch with masks knows of itself
 pub record IsKnown (s : State) (r : Ready) (asks : List ℕ) (routes : ℕ) : Type 0 where
   pub masks : IsReady s r
   pub asked : AreAsked s asks
   pub routed : AreRouted s routes
+  pub only : OnlyWaiting s routes

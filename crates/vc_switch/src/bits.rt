@@ -1,5 +1,5 @@
 //! Masks of links, a bit for each of the 32.
-ghost use Rattle.std.specs.Prelude.{◌≡◌, ◌<◌, ℕ, IsTrue};
+ghost use Rattle.std.specs.Prelude.{◌≡◌, ◌≢◌, ◌<◌, ℕ, IsTrue};
 ghost use Rattle.std.specs.Int.{bit_at};
 ghost use Rattle.vc_switch.specs.Ready.{Tells};
 
@@ -17,7 +17,8 @@ pub(crate) fn told(mask: u32, link: u8, is: bool) -> u32
 
 /// Whether a mask has a bit that another has not.
 pub(crate) fn has_more(mask: u32, other: u32) -> bool
-    ensures { (l : ℕ) → bit_at mask l ≡ 1 → bit_at other l ≡ 0 → IsTrue result }
+    ensures more { (l : ℕ) → bit_at mask l ≡ 1 → bit_at other l ≡ 0 → IsTrue result }
+    ensures some { IsTrue result → mask ≢ 0 }
 {
     mask & other != mask
 }

@@ -1,5 +1,5 @@
 //! A switch that knows at which of its links there is something to do, so that nobody looks at the others.
-ghost use Rattle.std.specs.Prelude.{◌≡◌, ◌≢◌, ◌<◌, ◌≤◌, ◌↔◌, ◌++◌, ℕ, None, IsTrue, IsOk, IfOk, get_or};
+ghost use Rattle.std.specs.Prelude.{◌≡◌, ◌≢◌, ◌<◌, ◌≤◌, ◌↔◌, ℕ, IsOk, IfOk, get_or};
 ghost use Rattle.std.specs.Int.{bit_at};
 ghost use Rattle.std.specs.List.{AllByRecursion};
 ghost use Rattle.vc_labels.specs.Lawful.{IsLawful};
@@ -120,9 +120,11 @@ impl ReadySwitch {
         self.ready.passes
     }
 
-    /// A bit for each input whose packet may be bound to an output.
+    /// A bit for each input whose packet may be bound to an output; any other that has one waits too, with bytes of a packet that is
+    /// bound to no output.
     pub fn routes(&self) -> u32
-        ensures { (l output : ℕ) → l < 32 → CanRoute (plan_of self.now) (seen self.now) l output → bit_at result l ≡ 1 }
+        ensures waits { (l : ℕ) → l < 32 → bit_at result l ≡ 1 → Waits ((seen self.now).input l) }
+        ensures can { (l output : ℕ) → l < 32 → CanRoute (plan_of self.now) (seen self.now) l output → bit_at result l ≡ 1 }
     {
         self.routes
     }
@@ -229,6 +231,7 @@ fn asked(switch: &Switch, link: u8, known: u32) -> u32
     ensures known { Waits ((seen switch.now).input link) → known ≢ 0 → result ≡ known }
     ensures told { Waits ((seen switch.now).input link) → known ≡ 0 → result ≡ links_of (front_of switch.now.table ((seen switch.now).input link).got) }
     ensures others { (Waits ((seen switch.now).input link) → ⊥) → result ≡ 0 }
+    ensures waits { result ≢ 0 → Waits ((seen switch.now).input link) }
 {
     if !switch.waits(link) {
         0
@@ -241,7 +244,8 @@ fn asked(switch: &Switch, link: u8, known: u32) -> u32
 
 // The inputs that wait, but those that ask for busy outputs alone.
 fn asking(asks: &Asks, waits: u32, busy: u32) -> u32
-    ensures { (l output : ℕ) → l < 32 → bit_at waits l ≡ 1 → bit_at (get_or asks.now l 0) output ≡ 1 → bit_at busy output ≡ 0 → bit_at result l ≡ 1 }
+    ensures only { (l : ℕ) → l < 32 → bit_at result l ≡ 1 → bit_at waits l ≡ 1 }
+    ensures all { (l output : ℕ) → l < 32 → bit_at waits l ≡ 1 → bit_at (get_or asks.now l 0) output ≡ 1 → bit_at busy output ≡ 0 → bit_at result l ≡ 1 }
 {
     let mut routes = waits;
     let mut left = waits;

@@ -4,7 +4,7 @@ use Rattle.vc_switch.specs.Able.{CanPass}
 use Rattle.vc_switch.specs.Seen.{seen}
 use Rattle.vc_switch.specs.State.{plan_of, limit_of}
 use Rattle.vc_switch.specs.Switch.{Passes}
-use Rattle.vc_switch.proofs.Asking.{asked_passed, routed_passed}
+use Rattle.vc_switch.proofs.Asking.{asked_passed, routed_passed, only_passed}
 use Rattle.vc_switch.proofs.Readying.{ready_else, passes_else}
 use Rattle.vc_switch.proofs.ready_switch.ReadySwitch.pass.Goals as goal
 
@@ -25,7 +25,8 @@ invariant_of-self c =
       masks = masks;
       asked = now;
       routed = routed_passed s t c.look.new.self c.args.link c.self.inside.routes c.told-self-inside.result c.set.new.self c.has_more.result kept one masks now (subst (λ m. m < 2 ^ 32) (sym c.set.ensures.it) c.asked-asks.type_inv) c.self.invariant.routed
-          (λ o asks free. c.has_more.ensures o (subst (λ m. bit_at m o ≡ 1) c.set.ensures.it asks) free) c.told-self-inside.ensures;
+          (λ o asks free. c.has_more.ensures.more o (subst (λ m. bit_at m o ≡ 1) c.set.ensures.it asks) free) c.told-self-inside.ensures;
+      only = only_passed s t c.args.link c.self.inside.routes c.told-self-inside.result c.has_more.result one.others c.self.invariant.only (λ more. c.asked-asks.ensures.waits (c.has_more.ensures.some more)) c.told-self-inside.ensures;
     }
 
 pub returns-clause-passes : goal.returns-clause-passes

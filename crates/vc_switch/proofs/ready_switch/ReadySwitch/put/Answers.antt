@@ -1,6 +1,6 @@
 use Rattle.vc_switch.specs.Seen.{seen}
 use Rattle.vc_switch.specs.State.{plan_of}
-use Rattle.vc_switch.proofs.Asking.{sent_same, asked_same, routed_same, asked_marked, routed_all}
+use Rattle.vc_switch.proofs.Asking.{sent_same, asked_same, routed_same, asked_marked, routed_all, only_same, only_all}
 use Rattle.vc_switch.proofs.Readying.{ready_sent, sent_inputs, sent_mark, ready_marked}
 use Rattle.vc_switch.proofs.ready_switch.ReadySwitch.put.Goals as goal
 
@@ -13,6 +13,7 @@ invariant_of-self c =
       masks = ready_sent s t c.self.inside.ready c.put-token.ensures.kept same c.self.invariant.masks;
       asked = asked_same s t c.self.inside.asks c.put-token.ensures.kept (sent_same (seen s) (seen t) same) c.self.invariant.asked;
       routed = routed_same s t c.self.inside.routes c.put-token.ensures.kept (sent_same (seen s) (seen t) same) c.self.invariant.routed;
+      only = only_same s t c.self.inside.routes (sent_same (seen s) (seen t) same) c.self.invariant.only;
     }
 
 pub invariant_of-self-in-Eop : goal.invariant_of-self-in-Eop
@@ -25,5 +26,6 @@ invariant_of-self-in-Eop c =
     record {
       masks = masks;
       asked = now;
-      routed = routed_all t _ c.self.inside.asks c.asking-self-inside.result masks now c.told-self-inside.type_inv c.asking-self-inside.ensures;
+      routed = routed_all t _ c.self.inside.asks c.asking-self-inside.result masks now c.told-self-inside.type_inv c.asking-self-inside.ensures.all;
+      only = only_all t _ c.asking-self-inside.result masks c.asking-self-inside.ensures.only;
     }
