@@ -50,8 +50,8 @@ pub fn the_state_is_seen()
     ensures { (net : Net) (t : Tokens) (s : State) → TokenView net t s → s ≡ seen net t }
 {}
 
-/// Where each random range has a value, each step of the token machine is no step, one step, or Enter and then Route of the packet
-/// machine, whichever the waiting rule.
+/// Where each random range has a value, each step of the token machine from tokens with each output bound to one input is no step, one
+/// step, or Enter and then Route of the packet machine, whichever the waiting rule.
 pub fn each_token_step_is_at_most_two()
     ensures { (net : Net) (back : ℕ → ℕ) (waiting : Waiting) → Ranges net → StepsAreSteps net back waiting }
 {}
@@ -102,9 +102,10 @@ pub fn no_packet_is_longer()
     ensures { (net : Net) → PacketsAreShort net }
 {}
 
-/// A step is one actor's: it takes one token off a wire to it, or puts one on a wire from it, or neither, and changes no other actor's
-/// link ends, queues and halves, where each end of a channel sends by a way from its own node. The actor can make it wherever its own
-/// parts are the same, and those are then the same afterwards.
+/// Where each way is one direction of a wire and each end of a channel sends from its own node, a step is one actor's: it takes one token
+/// off a wire to it, or puts one on a wire from it, or neither, and changes no other actor's link ends, queues and halves. The actor can
+/// make it wherever its own parts and the token that it takes are the same and each output is bound to one input, and its parts are then
+/// the same afterwards.
 #[tactic(auto, using(crate::proofs::Atoms::steps_are_atomic, crate::proofs::LinkLocal::steps_are_local))]
 pub fn a_step_is_one_actors()
     ensures atomic { (net : Net) (back : ℕ → ℕ) (waiting : Waiting) → Wires net back → Homes net → StepsAreAtomic net back waiting }

@@ -85,6 +85,13 @@ module _ {P : Type 0} (plan : Plan) (begin : ℕ → P) where
   first_inner : (n c : ℕ) → inner_of (first plan begin n) c ≡ nothing_yet
   first_inner n c = elim (nat_lt n plan.nodes) as (λ b. inner_of {P = P} (if b then IsNode (record { vcp = new_vcp; process = begin n; inner = λ c. nothing_yet }) else IsSwitch new_switch) c ≡ nothing_yet) [ true ↦ refl | false ↦ refl ]
 
+  pub first_view : (c : ℕ) → view plan (begins plan begin) c ≡ nothing_yet
+  first_view c = by_home (home plan c)
+    where
+      by_home : (h : Home) → view_at plan (begins plan begin) c h ≡ nothing_yet
+      by_home (Way v ab) = ap₂ (λ x y. halves_view (x.carrier.out c) (y.carrier.into c)) (first_vcp (source_node plan (Way v ab))) (first_vcp (sink_node plan (Way v ab)))
+      by_home (Inside n) = first_inner n c
+
   pub first_node : (n : ℕ) → n < plan.nodes → first plan begin n ≡ IsNode (record { vcp = new_vcp; process = begin n; inner = λ c. nothing_yet })
   first_node n less = ap (λ b. if b then IsNode (record { vcp = new_vcp; process = begin n; inner = λ c. nothing_yet }) else IsSwitch new_switch) (lt-ltb n plan.nodes less)
 
@@ -263,20 +270,13 @@ run_headline plan waiting Does begin es s acc run =
                 (subst (λ z. Trace Does (process_of (begin n) z) (said_by n r.ks) (process_of (begin n) (s.state n))) (first_node plan begin n less) (r.traces n (begin n))),
           ));
           by_no_other = r.by_no_other;
-          on_channel = λ c less. subst (λ z. DoesAll z (part c (all_said r.ks)) (view plan s c)) (first_view c) (r.views c);
+          on_channel = λ c less. subst (λ z. DoesAll z (part c (all_said r.ks)) (view plan s c)) (first_view plan begin c) (r.views c);
         },
       );
       stopped = λ c fs t less more e. (let p = replayed plan waiting Does s t fs more in let q = ran plan waiting Does acc p.0 s t r.new g p.1 in all_stopped (view plan s c) (part c (all_said q.ks)) (view plan t c) e (q.views c));
       no_strays = g.shows.nodes.strays g.sound.inv.strays;
       none_lost = g.shows.nodes.lost g.sound.inv.lost;
     }
-  where
-    first_view : (c : ℕ) → view plan (begins plan begin) c ≡ nothing_yet
-    first_view c = by_home (home plan c)
-      where
-        by_home : (h : Home) → view_at plan (begins plan begin) c h ≡ nothing_yet
-        by_home (Way v ab) = ap₂ (λ x y. halves_view (x.carrier.out c) (y.carrier.into c)) (first_vcp plan begin (source_node plan (Way v ab))) (first_vcp plan begin (sink_node plan (Way v ab)))
-        by_home (Inside n) = first_inner plan begin n c
 
 pub headline : {P : Type 0} (plan : Plan) (waiting : Waiting) (Does : Doing P) (begin : ℕ → P) → HeadlineHolds plan waiting Does begin
 headline plan waiting Does begin es s acc h = let r = replayed plan waiting Does (begins plan begin) s es h in run_headline plan waiting Does begin r.0 s acc r.1
