@@ -13,29 +13,30 @@ use Rattle.std.proofs.lemmas.Grind.{common_steps}
 use Rattle.std.proofs.lemmas.List.Folds.{position_or_len_push}
 use Rattle.std.proofs.lemmas.List.Sums.{prefix_len-le-length}
 use Rattle.std.proofs.lemmas.Map.Text.{is_eq-slice_cmp}
-use Rattle.vc_reader.specs.Names.{position_of, number_at, or_else}
+use Rattle.std.specs.Option.{option_or}
+use Rattle.vc_reader.specs.Names.{position_of, number_at}
 
-position_more : {A : Type 0} (p : A → Bool) (xs : List A) (x : A) → position p (xs ++ x ∷ []) ≡ or_else (position p xs) (if p x then Some (length xs) else None)
+position_more : {A : Type 0} (p : A → Bool) (xs : List A) (x : A) → position p (xs ++ x ∷ []) ≡ option_or (position p xs) (if p x then Some (length xs) else None)
 position_more p xs x = grind (arith, common_steps, position_or_len_push, prefix_len-le-length)
 
 -- one more thing may be the first of its name
-pub position_of_more : {A : Type 0} (name_of : A → List ℕ) (xs : List A) (x : A) (name : List ℕ) → position_of name_of (xs ++ x ∷ []) name ≡ or_else (position_of name_of xs name) (if bytes_eq name (name_of x) then Some (length xs) else None)
+pub position_of_more : {A : Type 0} (name_of : A → List ℕ) (xs : List A) (x : A) (name : List ℕ) → position_of name_of (xs ++ x ∷ []) name ≡ option_or (position_of name_of xs name) (if bytes_eq name (name_of x) then Some (length xs) else None)
 position_of_more name_of xs x name = position_more (λ y. bytes_eq name (name_of y)) xs x
 
 apart : (bs cs ks : List ℕ) → bytes_eq bs cs ≡ false → is_eq (slice_cmp nat_cmp bs ks) ≡ true → is_eq (slice_cmp nat_cmp cs ks) ≡ false
 apart bs cs ks n y = is_eq-slice_cmp cs ks ∙ nat_list_eq_equiv.symm cs ks ∙ sym (nat_list_eq_equiv.congr bs ks cs (sym (is_eq-slice_cmp bs ks) ∙ y)) ∙ n
 
-put_here : (now before : Option ℕ) (k : ℕ) (b : Bool) → is_some before ≡ false → now ≡ Some k → b ≡ true → now ≡ or_else before (if b then Some k else None)
+put_here : (now before : Option ℕ) (k : ℕ) (b : Bool) → is_some before ≡ false → now ≡ Some k → b ≡ true → now ≡ option_or before (if b then Some k else None)
 put_here now None k true none e same = e
 put_here now (Some j) k b none e same = cc
 put_here now None k false none e same = cc
 
-put_elsewhere : (now before : Option ℕ) (k : ℕ) (b : Bool) → now ≡ before → b ≡ false → now ≡ or_else before (if b then Some k else None)
+put_elsewhere : (now before : Option ℕ) (k : ℕ) (b : Bool) → now ≡ before → b ≡ false → now ≡ option_or before (if b then Some k else None)
 put_elsewhere now None k false e other = e
 put_elsewhere now None k true e other = cc
 put_elsewhere now (Some j) k b e other = e
 
-kept_here : (before other : Option ℕ) → is_some before ≡ true → before ≡ or_else before other
+kept_here : (before other : Option ℕ) → is_some before ≡ true → before ≡ option_or before other
 kept_here None other has = cc
 kept_here (Some j) other has = refl
 
@@ -53,10 +54,10 @@ module _ {Y : Type 0} where
 
   -- what an index holds at any name after a number was put at a name that it lacked
   pub number_at_put : (bs : List ℕ) (m n : BTreeMap (Vec ℕ Y) ℕ) (k : ℕ) → is_some (number_at m bs) ≡ false → UpdatesBy key_cmp (λ j. slice_cmp nat_cmp bs j.items) m n (Some k)
-      → (cs : List ℕ) → number_at n cs ≡ or_else (number_at m cs) (if bytes_eq cs bs then Some k else None)
+      → (cs : List ℕ) → number_at n cs ≡ option_or (number_at m cs) (if bytes_eq cs bs then Some k else None)
   number_at_put bs m n k lacks h cs = put_cases (bytes_eq bs cs) refl
     where
-      put_cases : (b : Bool) → bytes_eq bs cs ≡ b → number_at n cs ≡ or_else (number_at m cs) (if bytes_eq cs bs then Some k else None)
+      put_cases : (b : Bool) → bytes_eq bs cs ≡ b → number_at n cs ≡ option_or (number_at m cs) (if bytes_eq cs bs then Some k else None)
       put_cases true e =
           put_here (number_at n cs) (number_at m cs) k (bytes_eq cs bs)
           (subst (λ l. is_some (number_at m l) ≡ false) ((bytes_decides bs cs).0 e) lacks)
@@ -69,9 +70,9 @@ module _ {Y : Type 0} where
 
   -- a name that an index has keeps its number
   pub number_at_kept : (bs : List ℕ) (m : BTreeMap (Vec ℕ Y) ℕ) (k : ℕ) → is_some (number_at m bs) ≡ true
-      → (cs : List ℕ) → number_at m cs ≡ or_else (number_at m cs) (if bytes_eq cs bs then Some k else None)
+      → (cs : List ℕ) → number_at m cs ≡ option_or (number_at m cs) (if bytes_eq cs bs then Some k else None)
   number_at_kept bs m k has cs = kept_cases (bytes_eq cs bs) refl
     where
-      kept_cases : (b : Bool) → bytes_eq cs bs ≡ b → number_at m cs ≡ or_else (number_at m cs) (if bytes_eq cs bs then Some k else None)
+      kept_cases : (b : Bool) → bytes_eq cs bs ≡ b → number_at m cs ≡ option_or (number_at m cs) (if bytes_eq cs bs then Some k else None)
       kept_cases true e = kept_here (number_at m cs) _ (subst (λ l. is_some (number_at m l) ≡ true) (sym ((bytes_decides cs bs).0 e)) has)
       kept_cases false e = put_elsewhere (number_at m cs) (number_at m cs) k (bytes_eq cs bs) refl e

@@ -1,11 +1,12 @@
 -- What an expression of bytes means, and what a text that names a variable does.
-use Rattle.std.specs.Prelude.{ℕ, ◌+◌, ◌-◌, ◌*◌, min, List, [], ◌∷◌, ◌++◌, length, Bool, true, false, nat_le, ◌&&◌, if◌then◌else◌, codes, Result, Ok}
+use Rattle.std.specs.Prelude.{ℕ, ◌+◌, ◌-◌, ◌*◌, min, List, [], ◌∷◌, ◌++◌, length, nat_le, ◌&&◌, if◌then◌else◌, codes, Result, Ok}
 use Rattle.std.specs.Str.{bytes_eq}
 use Rattle.serde_json.specs.Data.{Data, string}
 use Rattle.vc_process.specs.declared.value_kind.ValueKind.{ValueKind}
-use Rattle.vc_process.specs.declared.value_kind.ValueKind.TheVariants.{Int, Bytes}
+use Rattle.vc_process.specs.declared.value_kind.ValueKind.TheVariants.{Bytes}
 use Rattle.vc_process.specs.declared.bytes_expression.BytesExpr.{BytesExpr}
 use Rattle.vc_process.specs.declared.bytes_expression.BytesExpr.TheVariants.{Lit, Var, Fill}
+use Rattle.vc_process.specs.Limits.{same_kind}
 use Rattle.vc_plan.specs.declared.node_plan.Variable.{Variable}
 use Rattle.vc_reader.specs.declared.path.Step.TheVariants.{Field}
 use Rattle.vc_reader.specs.declared.word.Word.TheVariants as word
@@ -13,12 +14,6 @@ use Rattle.vc_reader.specs.declared.fault.Why.TheVariants as why
 use Rattle.vc_reader.specs.declared.fault.Fault.{Fault}
 use Rattle.vc_reader.specs.Reading.{◌>>=◌, wrong, under, cell, row, text_of, number_of, only, by_only}
 use Rattle.vc_reader.specs.Names.{one_of}
-
-abbrev pub same_kind : ValueKind → ValueKind → Bool
-same_kind Int Int = true
-same_kind Int Bytes = false
-same_kind Bytes Int = false
-same_kind Bytes Bytes = true
 
 -- a variable of that kind, by its number
 abbrev pub of_kind : ValueKind → ℕ × Variable → Result ℕ Fault

@@ -5,6 +5,7 @@ use Rattle.std.specs.List.{position, list_all, slice_get}
 use Rattle.std.specs.Ordering.{nat_cmp}
 use Rattle.std.specs.Cmp.Lexicographic.{slice_cmp}
 use Rattle.std.specs.BTreeMap.{BTreeMap, get_by}
+use Rattle.std.specs.Option.{option_or}
 use Rattle.serde_json.specs.Data.{Data}
 use Rattle.vc_reader.specs.declared.fault.Why.TheVariants.{Kind, Unknown}
 use Rattle.vc_reader.specs.declared.fault.Fault.{Fault}
@@ -55,11 +56,6 @@ one_of name_of known d = text_of d >>= λ s. known_or_not (found_of name_of know
 abbrev pub number_at : {Y : Type 0} → BTreeMap (Vec ℕ Y) ℕ → List ℕ → Option ℕ
 number_at numbers name = get_by (λ k. slice_cmp nat_cmp name k.items) numbers
 
--- the first of two answers that is one
-abbrev pub or_else : {X : Type 0} → Option X → Option X → Option X
-or_else None other = other
-or_else (Some x) other = Some x
-
 -- the index after has a number for the name, if it had none before, and else what it had
 abbrev pub AddsNumber : {Y : Type 0} → BTreeMap (Vec ℕ Y) ℕ → BTreeMap (Vec ℕ Y) ℕ → List ℕ → ℕ → Type 0
-AddsNumber before after name n = (other : List ℕ) → number_at after other ≡ or_else (number_at before other) (if bytes_eq other name then Some n else None)
+AddsNumber before after name n = (other : List ℕ) → number_at after other ≡ option_or (number_at before other) (if bytes_eq other name then Some n else None)

@@ -1,6 +1,7 @@
 -- What the parts of a network's value mean, each or its first fault.
 use Rattle.std.specs.Prelude.{ℕ, min, List, [], ◌∷◌, Bool, true, false, ◌&&◌, ◌||◌, ◌==◌, if◌then◌else◌, codes, Option, option_map, Result, Ok, ⊤}
 use Rattle.std.specs.Str.{bytes_eq}
+use Rattle.std.specs.Option.{option_or}
 use Rattle.serde_json.specs.Data.{Data}
 use Rattle.vc_process.specs.declared.value_kind.ValueKind.{ValueKind}
 use Rattle.vc_process.specs.declared.value_kind.ValueKind.TheVariants.{Int, Bytes}
@@ -23,7 +24,7 @@ use Rattle.vc_reader.specs.declared.fault.Why.TheVariants as why
 use Rattle.vc_reader.specs.declared.fault.Fault.{Fault}
 use Rattle.vc_reader.specs.declared.node.Head.{Head}
 use Rattle.vc_reader.specs.Reading.{◌>>=◌, wrong, field, cell, list_of, list_field, items_in, row, object_of, has_field, text_of, number_of}
-use Rattle.vc_reader.specs.Names.{new_name, has_name, found_of, or_else, known_or_not, one_of}
+use Rattle.vc_reader.specs.Names.{new_name, has_name, found_of, known_or_not, one_of}
 
 -- a number past a type's greatest stands as that greatest
 abbrev pub at_most : {A : Type 0} → ℕ → ℕ × A → ℕ
@@ -120,7 +121,7 @@ switch_of version heads before d = do
 -- the node, or else the switch, that has the name
 abbrev pub place_named : List Head → List SwitchPlan → List ℕ → Option Spot
 place_named heads switches s =
-    or_else (option_map (λ found. Node (at_most 255 found)) (found_of (λ h. h.name) heads s))
+    option_or (option_map (λ found. Node (at_most 255 found)) (found_of (λ h. h.name) heads s))
     (option_map (λ found. Switch (at_most 255 found)) (found_of (λ w. w.name) switches s))
 
 abbrev pub place_of : List Head → List SwitchPlan → Data → Result Spot Fault

@@ -14,10 +14,6 @@ use Rattle.vc_reader.specs.declared.fault.Fault.{Fault}
 use Rattle.vc_reader.specs.declared.fault.Stop.{Stop}
 use Rattle.vc_reader.specs.declared.fault.Stop.TheVariants as stop
 
--- what a value means, or the first fault in it
-abbrev pub Read : Type 0 → Type 0
-Read A = Result A Fault
-
 infixl 10 ◌>>=◌
 abbrev pub ◌>>=◌ : {A B : Type 0} → Result A Fault → (A → Result B Fault) → Result B Fault
 (Ok x) >>= f = f x

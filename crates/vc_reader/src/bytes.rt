@@ -1,9 +1,9 @@
 //! Readers of variables and of expressions of bytes.
-ghost use Rattle.std.specs.Prelude.{◌≡◌, ℕ, ◌<◌, IfOk, Result};
+ghost use Rattle.std.specs.Prelude.{ℕ, ◌<◌, IfOk, Result};
 ghost use Rattle.serde_json.specs.View.{view};
 ghost use Rattle.vc_reader.specs.declared.fault.Fault.{Fault as FaultData};
 ghost use Rattle.vc_reader.specs.Reading.{Gives};
-ghost use Rattle.vc_reader.specs.Bytes.{same_kind as is_same, of_kind as number_of_kind, variable_of, no_longer as no_longer_than, hex_digit as hex_digit_of, hex_pair as hex_pair_of, pushed, hex_bytes as hex_bytes_of, hex_of, literal_of, fill_of, formed_bytes as formed, bytes_of};
+ghost use Rattle.vc_reader.specs.Bytes.{of_kind as number_of_kind, variable_of, no_longer as no_longer_than, hex_digit as hex_digit_of, hex_pair as hex_pair_of, pushed, hex_bytes as hex_bytes_of, hex_of, literal_of, fill_of, formed_bytes as formed, bytes_of};
 
 use crate::fault::{Stop, Why};
 use crate::name::one_of;
@@ -18,19 +18,10 @@ use std::alloc::Global;
 use vc_plan::Variable;
 use vc_process::{BytesExpr, ValueKind};
 
-fn same_kind(one: ValueKind, two: ValueKind) -> bool
-    ensures { result ≡ is_same one two }
-{
-    match one {
-        ValueKind::Int => matches!(two, ValueKind::Int),
-        ValueKind::Bytes => matches!(two, ValueKind::Bytes),
-    }
-}
-
 fn of_kind(alloc: Global, kind: ValueKind, number: usize, var: &Variable) -> Result<u8, Stop>
     ensures { Gives (λ x. x) result (number_of_kind kind (number, var.now)) }
 {
-    if same_kind(kind, var.kind) {
+    if kind == var.kind {
         Ok(number.min(255) as u8)
     } else {
         Err(wrong(alloc, Why::Kind))

@@ -14,11 +14,12 @@ pub enum ReadRefused {
     /// A field is missing.
     #[error("a field is missing")]
     Missing(Path),
-    /// A value is of another kind than its place wants.
+    /// A value is of another kind than its place wants: also a list of another length, a text that is none of the words that may
+    /// stand there, a text that is no name, and a name that was given before.
     #[error("a value is of another kind than its place wants")]
     Kind(Path),
     /// A whole number is out of its range, or bytes are too long.
-    #[error("a number is out of its range")]
+    #[error("a number is out of its range, or bytes are too long")]
     Range(Path),
     /// A field, a word or a name is unknown.
     #[error("a field or a name is unknown")]
