@@ -202,7 +202,8 @@ impl Vcp {
         }
     }
 
-    /// How many outputs on a channel are finished: all that were offered but the one under way; 0 where the node does not output on it.
+    /// How many outputs on a channel are finished: all that were offered but the one under way. It is 0 where the node does not output
+    /// on it.
     pub fn finished(&self, chan: u16) -> u64
         ensures { result ≡ ((seen self.now).carrier.out chan).finished }
     {
