@@ -1,14 +1,28 @@
-use Rattle.std.proofs.Common.{rules, ◌≤◌}
-use Rattle.vc_words.specs.Program.{steps, runs}
+use Rattle.std.proofs.Common.{rules, refl, ◌≤◌}
+use Rattle.clap.specs.Walk.{texts}
+use Rattle.vc_words.specs.CommandLine.{Asks, IsFaultOf, faults}
+use Rattle.vc_words.specs.Program.{checks, steps, runs, tells}
+use Rattle.vc_words.specs.declared.line.Line.TheVariants.{Check, Step, Run}
 use Rattle.vc_words.proofs.words.run_words.Goals as goal
 
--- src/words.rt:110:1
+pub returns-in-Ok-Check : goal.returns-in-Ok-Check
+returns-in-Ok-Check g c =
+    let asks : Asks (texts c.args.words.now) Check = search rules in
+    checks asks c.check_by.ensures
+
 pub returns-in-Ok-Step : goal.returns-in-Ok-Step
 returns-in-Ok-Step g c =
     let few : c.in-Ok-Step.limit ≤ 1000000000 = search rules in
-    steps c.in-Ok-Step.limit few c.step_by.ensures
+    let asks : Asks (texts c.args.words.now) (Step c.in-Ok-Step.limit) = search rules in
+    steps c.in-Ok-Step.limit few asks c.step_by.ensures
 
 pub returns-in-Ok-Run : goal.returns-in-Ok-Run
 returns-in-Ok-Run g c =
     let few : c.in-Ok-Run.turns ≤ 1000000000 = search rules in
-    runs c.in-Ok-Run.turns c.in-Ok-Run.seed few c.run_by.ensures
+    let asks : Asks (texts c.args.words.now) (Run c.in-Ok-Run.turns c.in-Ok-Run.seed) = search rules in
+    runs c.in-Ok-Run.turns c.in-Ok-Run.seed few asks c.run_by.ensures
+
+pub returns-in-Err : goal.returns-in-Err
+returns-in-Err g c =
+    let faulty : IsFaultOf (faults (texts c.args.words.now)) c.in-Err.fault = search rules in
+    tells refl (c.told_of_line.ensures (texts c.args.words.now) faulty)
