@@ -13,7 +13,7 @@ loop-init c =
     let holds = subst IsSwitch c.switch.ensures c.links-links.ensures.holds in
     record {
       gone = λ j less. absurd (omega arith);
-      tried = λ j o can. c.routes-left.ensures j o (within s holds (Route j o) can).0 can;
+      tried = λ j o can. c.routes-left.ensures.can j o (within s holds (Route j o) can).0 can;
     }
 
 pub returns-in_err-input-clause-finds : goal.returns-in_err-input-clause-finds

@@ -16,7 +16,7 @@ use Rattle.vc_actor.proofs.switch_actor.SwitchActor.next_put.Goals as goal
 pub loop-init : goal.loop-init
 loop-init c = record {
   gone = λ j less. absurd (omega arith);
-  tried = λ j m has. both_bits c.puts.result c.args.room j (c.puts.ensures j m.links m.can) has;
+  tried = λ j m has. both_bits c.puts.result c.args.room j (c.puts.ensures.can j m.links m.can) has;
   room = λ j less h. (bits_both c.puts.result c.args.room j h).1;
 }
 

@@ -13,4 +13,4 @@ returns-in_err-_input-clause-finds c =
     subst (FindsRoute s) (sym c.from_residual.ensures) (λ i o can.
     let few = (within s holds (Route i o) can).0 in
     let all = c.links.ensures.count in
-    not_both (c.in_err-_input.ensures i (omega arith)) (c.routes.ensures i o few can))
+    not_both (c.in_err-_input.ensures i (omega arith)) (c.routes.ensures.can i o few can))

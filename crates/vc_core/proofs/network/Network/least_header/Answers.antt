@@ -7,7 +7,7 @@ use Rattle.vc_core.proofs.network.Network.least_header.Goals as goal
 pub returns-in-Some : goal.returns-in-Some
 returns-in-Some c = λ p is.
     let x = c.in-Some.switch.now in
-    subst (λ z. IsDrawn (z.random c.args.link) c.least_header.result) (switch_plan_is p (state_of c.args.self.now) c.args.switch x is c.in-Some.ensures) c.least_header.ensures
+    subst (λ z. IsDrawn (z.random c.args.link) c.least_header.result) (switch_plan_is p (state_of c.args.self.now) c.args.switch x is c.in-Some.ensures) c.least_header.ensures.drawn
 
 pub returns-in-None : goal.returns-in-None
 returns-in-None c = λ p is.
