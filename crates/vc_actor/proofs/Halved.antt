@@ -7,6 +7,7 @@ use Rattle.vc_machine.proofs.Basics.{put-same, put-other}
 use Rattle.vc_occam.specs.States.{Waiting, output, input, waiting, Chooses}
 use Rattle.vc_occam.specs.States.{Wants as Inputs}
 use Rattle.vc_occam.specs.Laws.{IsKept, IsAdded, IsRemoved, WaitsAfter}
+use Rattle.vc_occam.proofs.Insertion.{inserted_or}
 use Rattle.vc_vcp.specs.Carrier.{End, OutHalf, InHalf, Carrier}
 use Rattle.vc_vcp.specs.Steps.{Fetches, store, message}
 use Rattle.vc_vcp.specs.Steps as steps
@@ -46,7 +47,7 @@ pub kept : (ws vs : List Waiting) → IsKept ws vs → (w : Waiting) → Contain
 kept ws vs h w k = (h w).1 k
 
 pub others : (Gone : Waiting → Type 0) (ws vs : List Waiting) → IsRemoved Gone ws vs → (w : Waiting) → (Gone w → ⊥) → Contains ws w → Contains vs w
-others Gone ws vs h w ne k = (h w).1 k ne
+others Gone ws vs h w ne k = elim (inserted_or h.2 w k) [ inl e ↦ absurd (ne (subst Gone (sym e) h.1)) | inr o ↦ o ]
 
 -- what waits after an input: the same, where it has its message, and else the input too
 abbrev pub AfterInput : ℕ → ℕ → Option (List ℕ) → List Waiting → List Waiting → Type 0

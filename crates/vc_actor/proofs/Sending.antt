@@ -2,12 +2,13 @@
 use Rattle.std.proofs.Common.{◌≡◌, ℕ, zero, suc, ◌⊎◌, inl, inr, Bool, true, false, List, [], ◌∷◌, ◌++◌, refl, sym, ap, ◌∙◌, arith, Option, Some, None, is_some, if◌then◌else◌, ◌==◌, eq-eqb}
 use Rattle.std.specs.List.{Contains}
 use Rattle.std.proofs.lemmas.List.Elements.{Contains-append_cases}
+use Rattle.std.specs.Option.{option_or}
 use Rattle.vc_process.specs.declared.datum.Datum.{Datum}
 use Rattle.vc_occam.specs.declared.moves.Move.{Move}
 use Rattle.vc_occam.specs.declared.moves.Move.TheVariants.{Offer, Want, Choose, Stopch, Inner, Quiet}
 use Rattle.vc_occam.specs.First.{own, joined, meetings, first_moves, choices, all_decided}
 use Rattle.vc_occam.specs.Remains.{Rest, Done, Stopped, Fresh, Finishing, Getting, Then, Turns, Beside}
-use Rattle.vc_occam.specs.States.{State, output_at, or_else, sent_by, carried}
+use Rattle.vc_occam.specs.States.{State, output_at, sent_by, carried}
 use Rattle.vc_occam.specs.Syntax.{SKIP, STOP, Assign, Output, Input, StopChan, SEQ, PAR, IF, WHILE, COUNT, ALT, no_parts, part, Guards, no_guards, guard}
 use Rattle.vc_occam.specs.Values.{Store, datum_of}
 
@@ -22,7 +23,7 @@ head_or_tail : {X : Type 0} (x : X) (xs : List X) (y : X) → Contains (x ∷ xs
 head_or_tail x xs y (zero, l, h) = inl h
 head_or_tail x xs y (suc k, l, h) = inr (k, omega arith, h)
 
-either : (x y : Option Datum) → (is_some x ≡ true) ⊎ (is_some y ≡ true) → is_some (or_else x y) ≡ true
+either : (x y : Option Datum) → (is_some x ≡ true) ⊎ (is_some y ≡ true) → is_some (option_or x y) ≡ true
 either (Some x) y h = refl
 either None y (inl h) = absurd (cc)
 either None y (inr h) = h
