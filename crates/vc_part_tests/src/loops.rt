@@ -1,12 +1,12 @@
-//! WHILE and the counted SEQ, as they run.
+//! WHILE and the replicated SEQ, as they run.
 use crate::play::{Row, Step, first_wrong_row};
 use std::test::Fail;
 use vc_occam::Move;
 
-/// The output of a counted SEQ's body begins.
+/// The output of a replicated SEQ's body begins.
 const OFFER: Move = Move::Offer { site: 1, chan: 0 };
 
-/// A counted SEQ at site 1 stops at once.
+/// A replicated SEQ at site 1 stops at once.
 const STOPS: &[Step] = &[Step::Quietly(&[1]), Step::Lists(&[])];
 
 const ROWS: &[Row] = &[
@@ -29,7 +29,7 @@ const ROWS: &[Row] = &[
         steps: &[Step::Quietly(&[0]), Step::Lists(&[])],
     },
     Row {
-        shows: "a counted SEQ takes as many turns as its count",
+        shows: "a replicated SEQ takes as many turns as its count",
         process: r#"{"for":["x",4,2,{"out":["c0","x"]}]}"#,
         steps: &[
             Step::Quietly(&[0]),
@@ -54,22 +54,22 @@ const ROWS: &[Row] = &[
         steps: &[Step::Quietly(&[1]), Step::SendsNumber(3, 0, 0)],
     },
     Row {
-        shows: "a counted SEQ stops at a fault of its base",
+        shows: "a replicated SEQ stops at a fault of its base",
         process: r#"{"seq":[{"for":["x",["/",1,0],1,"skip"]},{"out":["c0","x"]}]}"#,
         steps: STOPS,
     },
     Row {
-        shows: "a counted SEQ stops at a fault of its count",
+        shows: "a replicated SEQ stops at a fault of its count",
         process: r#"{"seq":[{"for":["x",0,["/",1,0],"skip"]},{"out":["c0","x"]}]}"#,
         steps: STOPS,
     },
     Row {
-        shows: "a counted SEQ of less than no turns stops",
+        shows: "a replicated SEQ of less than no turns stops",
         process: r#"{"seq":[{"for":["x",0,-1,"skip"]},{"out":["c0","x"]}]}"#,
         steps: STOPS,
     },
     Row {
-        shows: "a counted SEQ whose last index is no number stops",
+        shows: "a replicated SEQ whose last index is no number stops",
         process: r#"{"seq":[{"for":["x",9223372036854775807,2,"skip"]},{"out":["c0","x"]}]}"#,
         steps: STOPS,
     },

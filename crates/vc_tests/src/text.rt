@@ -180,7 +180,8 @@ fn reports_its_traffic(alloc: Global, text: &str, limit: u64) -> Result<bool, Fa
         .ok_or("a run")?;
     let events = report.events.to_vec(alloc)?;
     let traffic = traffic_after(alloc, text, events.as_slice(), report.close)?;
-    let are_as_many = events.len() == report.events.len() && report.events.is_empty() == (limit == 0);
+    let are_as_many = events.len() == report.events.len()
+        && report.events.is_empty() == (limit == 0);
     Ok(traffic.as_slice() == out.as_slice() && are_as_many)
 }
 

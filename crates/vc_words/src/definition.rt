@@ -42,7 +42,13 @@ fn step_definition<'a>(alloc: Global) -> Result<Command<'a>, AllocError>
     ensures shape { IfOk result (λ c. shape_of c ≡ step_shape) }
     ensures local { IfOk result (λ c. (out-Command c).has_globals ≡ false) }
 {
-    let limit = number_option(alloc, "limit", "Makes at most so many events", counts(), "1000000");
+    let limit = number_option(
+        alloc,
+        "limit",
+        "Makes at most so many events",
+        counts(),
+        "1000000",
+    );
     Command::new(alloc, "step")
         .about("Runs the network on standard input and prints its traffic")
         .arg(limit)

@@ -5,5 +5,4 @@ ghost use Rattle.vc_words.specs.Examples.{LinesAreRead};
 #[tactic(auto, using(crate::proofs::Examples::lines))]
 pub fn lines_are_read()
     ensures { LinesAreRead }
-{
-}
+{}

@@ -13,9 +13,10 @@ returns-in-Ok-clause-asks c =
     let app = c.in_ok-definition.ensures.app in
     let found = c.in-Ok.ensures in
     let same = (found.matches (ap is_simple app ∙ simple)).1 ∙ ap (λ a. subcommand_of a words) app in
-    let there = wanted c.in_ok-definition.field-0 c.in-Ok.matches app c.in_ok-definition.ensures.local found.parsed in
-    (ap (λ a. fault_of a words) (sym app) ∙ found.kinds (ap is_simple_and_free app ∙ simple_and_free),
-     ap (option_map line_of) (sym same) ∙ asked line_of (subcommand_rows_of c.in-Ok.matches) c.line_of.result there c.line_of.ensures.line)
+    let there = wanted c.in_ok-definition.field-0 c.in-Ok.matches app c.in_ok-definition.ensures.local found.parsed in (
+      ap (λ a. fault_of a words) (sym app) ∙ found.kinds (ap is_simple_and_free app ∙ simple_and_free),
+      ap (option_map line_of) (sym same) ∙ asked line_of (subcommand_rows_of c.in-Ok.matches) c.line_of.result there c.line_of.ensures.line,
+    )
 
 pub returns-in-Err-clause-faults : goal.returns-in-Err-clause-faults
 returns-in-Err-clause-faults c =
