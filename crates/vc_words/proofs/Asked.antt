@@ -1,6 +1,6 @@
 -- What the words ask for, from what `clap` says of its matches and of its errors.
-use Rattle.std.proofs.Common.{◌≡◌, ◌∙◌, true, false, refl, sym, ap, inl, inr, List, Option, Some, None, IfSome, is_some, option_map, true≢false}
-use Rattle.clap.specs.Words.{App, app_of, found_of, has_subcommand, subcommand_rows_of}
+use Rattle.std.proofs.Common.{◌≡◌, ◌∙◌, true, false, refl, sym, ap, inl, inr, Option, Some, None, IfSome, is_some, option_map, true≢false}
+use Rattle.clap.specs.Words.{App, app_of, subcommand_rows_of}
 use Rattle.clap.specs.Built.{IsParsedFrom}
 use Rattle.clap.specs.Simple.{is_simple}
 use Rattle.clap.specs.Faults.{is_simple_and_free}

@@ -1,5 +1,5 @@
 -- The number of an option, from what `clap` says that it read.
-use Rattle.std.proofs.Common.{◌≡◌, ◌∙◌, ◌<◌, ◌≤◌, ◌^◌, ◌&&◌, ℕ, Bool, true, false, refl, sym, List, [], ◌∷◌, length, Option, Some, None, Result, Ok, Err, nat_lt, nat_le, true≢false, arith, rules, unwrap_or, option_and_then, subst, ap, is_some, is_ok}
+use Rattle.std.proofs.Common.{◌≡◌, ◌∙◌, ◌<◌, ◌≤◌, ◌^◌, ◌&&◌, ℕ, Bool, true, false, refl, sym, List, [], ◌∷◌, length, Option, Some, None, Result, Ok, Err, nat_lt, nat_le, true≢false, arith, unwrap_or, option_and_then, ap, is_some, is_ok}
 use Rattle.std.specs.Bool.{⊤}
 use Rattle.std.specs.Result.{result_unwrap_or}
 use Rattle.std.proofs.lemmas.Bool.{lt-ltb, le-leb, ltb-true, leb-true}

@@ -1,11 +1,11 @@
 -- The command line: what `clap` is told of it, and what its matches ask for.
-use Rattle.std.specs.Prelude.{◌≡◌, ◌&&◌, ℕ, Bool, true, Option, Some, None, List, [], ◌∷◌, codes, if◌then◌else◌, nat_lt, nat_le, length, option_and_then, option_map, unwrap_or, pos, ⊤, ◌≢◌, ◌≤◌}
+use Rattle.std.specs.Prelude.{◌≡◌, ◌&&◌, ℕ, true, Option, Some, None, List, [], ◌∷◌, codes, if◌then◌else◌, nat_lt, nat_le, length, option_and_then, option_map, unwrap_or, pos, ⊤, ◌≢◌, ◌≤◌}
 use Rattle.std.specs.List.{list_all}
 use Rattle.std.specs.Char.{digit_value}
 use Rattle.std.specs.Str.{bytes_eq}
 use Rattle.std.specs.Str.Parse.{digits_value, without_leading_plus}
 use Rattle.clap.specs.Walk.{Row, Rule, Text, one_of}
-use Rattle.clap.specs.Simple.{App, Shape, subcommand_of, new_app, new_rule, new_shape, on_top, with_rule, with_subcommand}
+use Rattle.clap.specs.Simple.{App, Shape, subcommand_of, new_app, new_rule, new_shape, on_top, with_subcommand}
 use Rattle.clap.specs.Kinds.{IsAmong, Kinds}
 use Rattle.clap.specs.Faults.{fault_of}
 use Rattle.clap.specs.declared.builder.value_parser.ValueParser.{ValueParser}

@@ -1,8 +1,8 @@
-use Rattle.std.proofs.Common.{rules, ap, ap₂, refl, true, codes, ◌≡◌, ◌∙◌}
+use Rattle.std.proofs.Common.{rules, ap, ap₂, true, codes, ◌≡◌, ◌∙◌}
 use Rattle.std.proofs.lemmas.Result.{IfOk-weaker}
 use Rattle.clap.specs.Words.{App, app_of, new_app, with_subcommand}
 use Rattle.clap.specs.Simple.{app_of_fields, on_top, shape_of, shape_of_fields}
-use Rattle.vc_words.specs.CommandLine.{check_shape, vcnet}
+use Rattle.vc_words.specs.CommandLine.{check_shape}
 use Rattle.vc_words.proofs.definition.definition.Goals as goal
 
 pub returns-clause-app : goal.returns-clause-app
