@@ -1,11 +1,13 @@
 #!/usr/bin/env python3
-"""Tells what each must-fail edit of a crate costs to refuse, and why it is refused: bench/edits.py CRATE [EDIT..].
+"""Tries a crate's edits, and tells what each costs to refuse, and why it is refused: bench/edits.py CRATE [EDIT..].
 
-It tries each edit as `rt must-fail` does, over a copy of what `rt check` kept, so that no proof is made anew, and prints the processor
+The edits are those of the crate's must-fail/, which `rt ci` tries too, and those of bench/edits/CRATE, which it does not. It tries each
+as `rt must-fail` does, over a copy of what `rt check` kept, so that no proof is made anew, and prints the processor
 time and the stages: `front-end` and `making` come with each check, `session` is the proof itself, and `offers` the printing of a proof
 file, which is made only where no file answers the goal that the edit breaks. The first line is a check without an edit. After each
-edit stands what the prover says of it.
+edit stands what the prover says of it. It fails where the crate is still proved with an edit.
 """
+import glob
 import importlib.machinery
 import importlib.util
 import os
@@ -44,7 +46,7 @@ def stages(file):
 
 
 def check(rt, crate, texts, kept, label):
-    """Checks the crate with these texts in place of its own, and returns its processor time."""
+    """Checks the crate with these texts in place of its own, and returns its processor time, and whether it is proved."""
     with tempfile.TemporaryDirectory() as room:
         for part in rt.rtlib.PARTS:
             if os.path.isdir(f"{crate.folder}/{part}"):
@@ -62,7 +64,7 @@ def check(rt, crate, texts, kept, label):
         for line in ran.stdout.split("\n") if texts else []:
             if TOLD.search(line):
                 print(f"    {line[:200]}")
-        return took
+        return took, ran.returncode == 0
 
 
 def main(name, only):
@@ -74,15 +76,19 @@ def main(name, only):
     with tempfile.TemporaryDirectory() as kept:
         shutil.copytree(f"{crate.folder}/out/incremental", kept, dirs_exist_ok=True)
         check(rt, crate, {}, kept, "(none)")
-        total = 0.0
-        for edit in rt.edits_of(crate)[0]:
+        total, missed = 0.0, []
+        for edit in rt.edits_of(crate)[0] + sorted(glob.glob(f"{ROOT}/bench/edits/{name}/*.edit")):
             label = os.path.basename(edit).removesuffix(".edit")
             if not only or label in only:
                 texts, why = rt.read_edit(edit, crate.folder)
                 if why:
                     sys.exit(f"{label}: {why}")
-                total += check(rt, crate, texts, kept, label)
+                took, is_proved = check(rt, crate, texts, kept, label)
+                total += took
+                missed += [label] if is_proved else []
         print(f"{total:.0f} seconds in all")
+    if missed:
+        sys.exit(f"not refused: {' '.join(missed)}")
 
 
 if __name__ == "__main__":

@@ -13,10 +13,6 @@ use Rattle.vc_accepted.proofs.Wired.{link_is_at, wired}
 some_is : {A : Type 0} (x y : A) → Some x ≡ Some y → x ≡ y
 some_is x y e = cc
 
-not_both : (b : Bool) → b ≡ true → b ≡ false → ⊥
-not_both true s t = cc
-not_both false s t = cc
-
 -- a channel more, where none before it is on its way
 next_channel : (v : ℕ) (f : Bool) (cs : List Channel) (c k : ℕ) (x : Channel) → slice_get cs k ≡ Some x →
     (is_on v f x.home ≡ true → (j : ℕ) (y : Channel) → j < k → slice_get cs j ≡ Some y → is_on v f y.home ≡ true → ⊥) →

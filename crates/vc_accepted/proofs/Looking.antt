@@ -6,7 +6,7 @@ use Rattle.vc_labels.specs.declared.action.Action.{Action}
 use Rattle.vc_labels.specs.declared.action.Action.TheVariants.{Out, Portal}
 use Rattle.vc_labels.specs.Interval.{action_for, holds}
 use Rattle.vc_plan.specs.declared.switch_plan.RandomInput.{RandomInput}
-use Rattle.vc_plan.specs.Hops.{by_action, look_up, passage, put_in_front, IsDrawn}
+use Rattle.vc_plan.specs.Hops.{by_action, look_up, passage, IsDrawn}
 use Rattle.vc_switch.specs.Forward.{without_portals, past_portal, behind, HasRoom}
 use Rattle.vc_switch.specs.Forward as forward
 use Rattle.vc_accepted.specs.NetworkOf.{interval_of}
@@ -63,11 +63,6 @@ pub looks_up : (rows : List Row) (hs : List ℕ) (first last header : ℕ) (rest
 looks_up rows [] first last header rest f g = absurd (cc)
 looks_up rows (h ∷ hs) first last header rest f g =
     by-group rows h hs first last header rest (action_for rows h) refl f g (λ z. looks_up rows hs first last header rest z g)
-
--- a random header is put in front where five leave room for it
-in_front : (v : Option ℕ) (s : List ℕ) → put_in_front v s ≡ behind v s
-in_front None s = refl
-in_front (Some v) s = refl
 
 -- what a test picks
 picked : {A : Type 0} {x y z : A} (b : Bool) → (if b then x else y) ≡ z → ((b ≡ true) × (x ≡ z)) ⊎ ((b ≡ false) × (y ≡ z))

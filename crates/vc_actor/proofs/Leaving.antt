@@ -11,9 +11,6 @@ use Rattle.vc_occam.specs.Moving.{site_of, without}
 abbrev pub NoneBefore : ℕ → ℕ → List Move → Type 0
 NoneBefore i k ms = (j : ℕ) (m : Move) → j < k → slice_get ms j ≡ Some m → site_of m ≡ i → ⊥
 
-pub none_first : (i : ℕ) (ms : List Move) → NoneBefore i 0 ms
-none_first i ms = λ j m l h s. omega arith
-
 pub none_more : (i k : ℕ) (ms : List Move) (m : Move) → slice_get ms k ≡ Some m → (site_of m ≡ i → ⊥) → NoneBefore i k ms → NoneBefore i (k + 1) ms
 none_more i k ms m h away n = λ j x l g s. on j x l g s (j == k) refl
   where

@@ -2,17 +2,11 @@
 use Rattle.std.proofs.Common.{◌≡◌, ℕ, zero, suc, List, [], ◌∷◌, take, drop, slice_get, slice_set, Bool, true, Option, Some, None, if◌then◌else◌, refl, ◌∙◌, arith, sym, ap, subst, inl, inr}
 use Rattle.std.proofs.lemmas.Bool.Decides.{nat_tests}
 use Rattle.std.proofs.lemmas.List.{take-append-drop}
-use Rattle.std.proofs.lemmas.List.Elements.{Contains-append_left, Contains-append_right, Contains-append_cases}
+use Rattle.std.proofs.lemmas.List.Elements.{Contains-append_cases}
 use Rattle.std.specs.List.{Contains}
 use Rattle.std.specs.Prelude.{nat_le}
 use Rattle.vc_occam.specs.Moving.{from_site, site_of}
 use Rattle.vc_occam.specs.declared.moves.Move.{Move}
-
-pub in_before : {X : Type 0} (xs : List X) (i : ℕ) (x : X) → Contains (take i xs) x → Contains xs x
-in_before xs i x h = subst (λ ys. Contains ys x) (take-append-drop i xs) (Contains-append_left (take i xs) (drop i xs) x h)
-
-pub in_rest : {X : Type 0} (xs : List X) (i : ℕ) (x : X) → Contains (drop i xs) x → Contains xs x
-in_rest xs i x h = subst (λ ys. Contains ys x) (take-append-drop i xs) (Contains-append_right (take i xs) (drop i xs) x h)
 
 -- one that is in neither part is not in the list
 pub in_neither : {X : Type 0} (xs : List X) (i : ℕ) (x : X) → (Contains (take i xs) x → ⊥) → (Contains (drop i xs) x → ⊥) → Contains xs x → ⊥

@@ -45,10 +45,6 @@ none_past [] k e = omega arith
 none_past (x ∷ xs) zero e = absurd (cc)
 none_past (x ∷ xs) (suc k) e = let r = none_past xs k e in omega arith
 
--- the actor is one of the plan
-pub below : (p : Plan) (s : State) (k : ℕ) (a : Acting) → IsNetworkOf p s → slice_get s.actors k ≡ Some a → k < actors p
-below p s k a is here = subst (λ z. k < z) is.count (slice_get_within s.actors k a here)
-
 -- each actor is as before, but for one that is another of the plan's
 each_actor : (p : Plan) (s : State) (k : ℕ) (b : Acting) → IsNetworkOf p s → k < length s.actors → IsActorOf (network_of p) k b → (j : ℕ) (c : Acting) → slice_get (slice_set s.actors k b) j ≡ Some c → IsActorOf (network_of p) j c
 each_actor p s k b is less ok j c h = elim (cases_eq j k) [

@@ -51,13 +51,6 @@ on_link : (plan : network.Plan) (h : Home) (e : Ends) → ends_at plan h ≡ Som
 on_link plan (Way v ab) e h = refl
 on_link plan (network.Inside n) e h = absurd (cc)
 
-off_link : (plan : network.Plan) (h : Home) → ends_at plan h ≡ None → is_virtual h ≡ true → ⊥
-off_link plan (Way v ab) e h = absurd (cc)
-off_link plan (network.Inside n) e h = absurd (cc)
-
-pub no_ends : (p : Plan) (s : State) (c : ℕ) → ends_at (network_of p) (home (network_of p) c) ≡ None → FindsPlace p s c None
-no_ends p s c e = λ place stands. off_link (network_of p) (home (network_of p) c) e stands.on_link
-
 -- one of the channel's packets was found at a way
 pub found_way : (p : Plan) (s : State) (c w : ℕ) (e : Ends) (x : Place) → ends_at (network_of p) (home (network_of p) c) ≡ Some e → w < ways (network_of p) →
     FindsOn (network_of p) (shown s) c w (Some x) → FindsPlace p s c (Some x)

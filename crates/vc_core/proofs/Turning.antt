@@ -126,9 +126,6 @@ module _ (p : Plan) (s : State) (k room : ℕ) (bits : (link : ℕ) → link < 3
 pub quiet_event : (p : Plan) (s : State) (k : ℕ) (a : Acting) → IsNetworkOf p s → slice_get s.actors k ≡ Some a → (b : Act) → IsQuiet b → IsTurn (network_of p) k a 0 b → FindsEvent p s k (Some (record { actor = k; act = b }))
 quiet_event p s k a is here b (site, e) t = (refl, subst TakesNone (sym e) tt, happens p s (record { actor = k; act = b }) a is here t.can (subst (WaysLet s k) (sym e) tt))
 
-pub no_actor_of : (p : Plan) (s : State) (z : ActKind) (k : ℕ) → IsNetworkOf p s → slice_get s.actors k ≡ None → FindsEventOf z p s k None
-no_actor_of p s z k is none b e can = has_actor p s (record { actor = k; act = b }) is can none
-
 -- of whatever kind
 pub event_of : (z : ActKind) (p : Plan) (s : State) (k : ℕ) (e : Event) → FindsEventOf z p s k (Some e) → FindsEvent p s k (Some e)
 event_of z p s k e found = (found.0, found.1, found.2)

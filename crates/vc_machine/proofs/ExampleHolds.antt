@@ -250,8 +250,5 @@ runs = (
   ),
 )
 
-pub arrived : ((s12.chans 0).taken ≡ message ∷ []) × ((s12.chans 0).finished ≡ 1)
-arrived = (refl, refl)
-
 pub exchanged : (s : State) × Run example start exchange s × ((s.chans 0).taken ≡ (104 ∷ 105 ∷ []) ∷ []) × ((s.chans 0).finished ≡ 1)
 exchanged = (s12, runs, refl, refl)

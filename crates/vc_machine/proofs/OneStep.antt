@@ -90,9 +90,6 @@ switch_same o n i m j e h = cc
 some_same : (a b : ℕ) → Some a ≡ Some b → a ≡ b
 some_same a b e = cc
 
-pieces_parts : (now now2 : List ℕ) (later later2 : List (List ℕ)) → now ∷ later ≡ now2 ∷ later2 → (now ≡ now2) × (later ≡ later2)
-pieces_parts now now2 later later2 e = (cc, cc)
-
 pub step_same : (net : Net) (s : State) (e : Event) (t u : State) → IsAccepted net → Step net s e t → Step net s e u → t ≡ u
 step_same net s (Offer c m) t u acc a b =
     let same = pieces_same m (a.now ∷ a.later) (b.now ∷ b.later) a.pieces b.pieces in

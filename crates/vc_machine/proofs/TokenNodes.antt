@@ -27,9 +27,6 @@ pub record Framed (s u : State) (R : State → Type 0) : Type 0 where
 pub turned : (t s : State) → SameNodes t s → SameNodes s t
 turned t s a = record { queues = λ w. sym (a.queues w); chans = sym a.chans; strays = sym a.strays; lost = sym a.lost }
 
-unmoved : (s : State) → SameWays s s
-unmoved s = record { lines = λ w. refl; inputs = λ w. refl }
-
 enqueued_nodes : (t s : State) (w : ℕ) (p : Packet) → SameNodes t s → SameNodes (enqueue t w p) (enqueue s w p)
 enqueued_nodes t s w p a =
     record {

@@ -76,9 +76,6 @@ switch_form plan waiting j a b (Puts (Pass l) v k) h = absurd h
 kinds : (m n : ℕ) → m < n → m ≡ n → ⊥
 kinds m n h e = omega arith
 
-take_same : (l m v w : ℕ) → Take l v ≡ Take m w → (l ≡ m) × (v ≡ w)
-take_same l m v w e = (cc, cc)
-
 -- what two steps of one actor by one act have to do with each other, whatever their forms
 module _ {State : Type 0} (Makes : Label Act Token → State → Type 0) (b b' : State)
     (owns : (act act' : Act) → Makes (Own act) b → Makes (Own act') b' → act ≡ act' → b ≡ b')

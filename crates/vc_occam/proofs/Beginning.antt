@@ -11,12 +11,12 @@ use Rattle.vc_occam.specs.declared.kind.Kind.{Kind}
 use Rattle.vc_occam.specs.declared.kind.Kind.TheVariants as kind
 use Rattle.vc_occam.specs.declared.phase.Phase.{Phase}
 use Rattle.vc_occam.specs.declared.phase.Phase.TheVariants as phase
-use Rattle.vc_process.specs.Syntax.{Test, SEQ, PAR, IF, no_parts}
+use Rattle.vc_process.specs.Syntax.{Test, PAR, IF, no_parts}
 use Rattle.vc_process.specs.Terms.{as_test}
 use Rattle.vc_process.specs.Values.{Store, holds}
-use Rattle.vc_occam.specs.Remains.{Rest, Done, Stopped, Fresh, begin, branch_on, chosen, does_empty_seq, does_empty_par, does_if, does_turn, does_leave, faults_while}
-use Rattle.vc_occam.specs.Frames.{Able, BeginsWith, Did, View, begun_at, branches_of, chosen_from, follow, goes_on_at_one_part, is_choice, plan_at, plans, plans_of, place_on, rest_at, view, views}
-use Rattle.vc_occam.specs.Nexts.{branch_next, turn_begun, turn_next}
+use Rattle.vc_occam.specs.Remains.{Rest, Done, Stopped, Fresh, begin, branch_on, chosen, does_empty_par, does_if}
+use Rattle.vc_occam.specs.Frames.{Able, BeginsWith, Did, View, begun_at, branches_of, chosen_from, follow, plan_at, plans, plans_of, place_on, rest_at, view, views}
+use Rattle.vc_occam.specs.Nexts.{branch_next, turn_begun}
 
 -- the frame at a place has begun
 pub start_views : (fs : List Frame) (k : ℕ) (f g : Frame) → k < length fs → f ≡ get_or fs k f → view g ≡ ((view f).0, begin (view f).0) → views (set fs k g) ≡ begun_at k (views fs)
@@ -120,46 +120,6 @@ branch_did i cs vs ws e s d k n h w g a =
 
 pub fault_did : (i : ℕ) (cs : List Cond) (vs : List View) (e : Store) (s : ℕ) (d : Deed) → None ≡ chosen_from 0 (map as_test cs) e → Able (Fresh (plan_at (kind.If cs) i vs)) e s d → Did (Fresh (plan_at (kind.If cs) i vs)) e s d Stopped e
 fault_did i cs vs e s d h a = if_did i cs vs e s d Stopped (chosen_none (map as_test cs) vs e 0 (sym h)) a
-
-tested : (i : ℕ) (c : Cond) (vs : List View) (e : Store) (s : ℕ) (d : Deed) (b : Bool) → holds (as_test c) e ≡ Some b → Able (Fresh (plan_at (kind.While c) i vs)) e s d → Did (Fresh (plan_at (kind.While c) i vs)) e s d (rest_at (kind.While c) (turn_next b).phase i (turn_begun b vs) (turn_next b).at) e
-tested i c [] e s d b h (ks, q, f, st) = elim st [ ]
-tested i c (v ∷ vs) e s d true h (ks, q, f, does_turn g) = ([], does_turn h)
-tested i c (v ∷ vs) e s d true h (ks, q, f, does_leave g) = ([], does_turn h)
-tested i c (v ∷ vs) e s d true h (ks, q, f, faults_while g) = ([], does_turn h)
-tested i c (v ∷ vs) e s d false h (ks, q, f, does_turn g) = ([], does_leave h)
-tested i c (v ∷ vs) e s d false h (ks, q, f, does_leave g) = ([], does_leave h)
-tested i c (v ∷ vs) e s d false h (ks, q, f, faults_while g) = ([], does_leave h)
-
-pub turn_did : (i : ℕ) (c : Cond) (vs ws : List View) (e : Store) (s : ℕ) (d : Deed) (b : Bool) (n : Next) → Some b ≡ holds (as_test c) e → ws ≡ turn_begun b vs → n ≡ turn_next b → Able (Fresh (plan_at (kind.While c) i vs)) e s d →
-    Did (Fresh (plan_at (kind.While c) i vs)) e s d (rest_at (kind.While c) n.phase i ws n.at) e
-turn_did i c vs ws e s d b n h w g a =
-    subst (λ m. Did (Fresh (plan_at (kind.While c) i vs)) e s d (rest_at (kind.While c) m.phase i ws m.at) e) (sym g)
-    (subst (λ us. Did (Fresh (plan_at (kind.While c) i vs)) e s d (rest_at (kind.While c) (turn_next b).phase i us (turn_next b).at) e) (sym w)
-    (tested i c vs e s d b (sym h) a))
-
-pub no_turn : (i : ℕ) (c : Cond) (vs : List View) (e : Store) (s : ℕ) (d : Deed) → None ≡ holds (as_test c) e → Able (Fresh (plan_at (kind.While c) i vs)) e s d → Did (Fresh (plan_at (kind.While c) i vs)) e s d Stopped e
-no_turn i c [] e s d h (ks, q, f, st) = elim st [ ]
-no_turn i c (v ∷ vs) e s d h (ks, q, f, does_turn g) = ([], faults_while (sym h))
-no_turn i c (v ∷ vs) e s d h (ks, q, f, does_leave g) = ([], faults_while (sym h))
-no_turn i c (v ∷ vs) e s d h (ks, q, f, faults_while g) = ([], faults_while g)
-
-empty_seq : (i : ℕ) (vs : List View) (e : Store) (s : ℕ) (d : Deed) → Able (Fresh (SEQ i (plans_of vs))) e s d → Did (Fresh (SEQ i (plans_of vs))) e s d Done e
-empty_seq i [] e s d (ks, q, f, does_empty_seq) = ([], does_empty_seq)
-empty_seq i (v ∷ vs) e s d (ks, q, f, st) = elim st [ ]
-
-pub seq_did : (k : Kind) (i : ℕ) (vs : List View) (e : Store) (s : ℕ) (d : Deed) → goes_on_at_one_part k ≡ true → ((cs : List Cond) → k ≡ kind.If cs → ⊥) → ((c : Cond) → k ≡ kind.While c → ⊥) → is_choice k ≡ false → Able (Fresh (plan_at k i vs)) e s d → Did (Fresh (plan_at k i vs)) e s d Done e
-seq_did kind.Skip i vs e s d h x y z a = absurd (let q : false ≡ true = h in cc)
-seq_did kind.Stop i vs e s d h x y z a = absurd (let q : false ≡ true = h in cc)
-seq_did (kind.Set v b) i vs e s d h x y z a = absurd (let q : false ≡ true = h in cc)
-seq_did (kind.Send c b) i vs e s d h x y z a = absurd (let q : false ≡ true = h in cc)
-seq_did (kind.Receive c v) i vs e s d h x y z a = absurd (let q : false ≡ true = h in cc)
-seq_did (kind.Stopch c) i vs e s d h x y z a = absurd (let q : false ≡ true = h in cc)
-seq_did kind.Seq i vs e s d h x y z a = empty_seq i vs e s d a
-seq_did kind.Par i vs e s d h x y z a = absurd (let q : false ≡ true = h in cc)
-seq_did (kind.If cs) i vs e s d h x y z a = absurd (x cs refl)
-seq_did (kind.While c) i vs e s d h x y z a = absurd (y c refl)
-seq_did (kind.Count v b n) i vs e s d h x y z a = absurd (let q : false ≡ true = h in cc)
-seq_did (kind.Alt gs) i vs e s d h x y z a = absurd (let q : true ≡ false = z in cc)
 
 pub empty_par : (i : ℕ) (vs : List View) (e : Store) (s : ℕ) (d : Deed) → Able (Fresh (PAR i (plans_of vs))) e s d → Did (Fresh (PAR i (plans_of vs))) e s d Done e
 empty_par i [] e s d (ks, q, f, does_empty_par) = ([], does_empty_par)

@@ -1,10 +1,9 @@
 -- Parts that go on side by side.
-use Rattle.std.proofs.Common.{◌≡◌, ℕ, zero, suc, true, false, ◌&&◌, refl, ap, sym, ◌∙◌, subst, List, [], ◌∷◌, ◌++◌, Option, Some, None, length, set, drop, get_or, ◌+◌, ◌≤◌, ◌<◌, arith, append_assoc, append-nil, ◌⊎◌, inl, inr}
+use Rattle.std.proofs.Common.{◌≡◌, ℕ, zero, suc, true, false, ◌&&◌, refl, ap, sym, ◌∙◌, subst, List, [], ◌∷◌, ◌++◌, Option, Some, None, length, set, drop, get_or, ◌+◌, ◌≤◌, ◌<◌, arith, ◌⊎◌, inl, inr}
 use Rattle.std.specs.Prelude.{slice_get}
 use Rattle.std.specs.Option.{option_or}
 use Rattle.vc_occam.specs.declared.deed.Deed.{Deed}
 use Rattle.vc_occam.specs.declared.frame.Frame.{Frame}
-use Rattle.vc_occam.specs.declared.moves.Move.{Move}
 use Rattle.vc_occam.specs.declared.waits.Waits.{Waits}
 use Rattle.vc_process.specs.Syntax.{Proc, SKIP, STOP, Assign, Output, Input, StopChan, SEQ, PAR, IF, WHILE, COUNT, ALT, Procs, no_parts, part}
 use Rattle.vc_process.specs.Values.{Store}
@@ -13,8 +12,7 @@ use Rattle.vc_occam.specs.Remains.{Rest, Done, Beside, and_then, begin, begin_se
 use Rattle.vc_occam.specs.First.{own}
 use Rattle.vc_occam.specs.States.{Waiting, output_at, waiting}
 use Rattle.vc_occam.specs.Frames.{Able, Did, View, all_begun, assigned_at, begun_at, begun_to, besides, first_waits, is_done, part_rest, plans, plans_of, view, views, waits_there}
-use Rattle.vc_process.proofs.Lists.{none}
-use Rattle.vc_process.proofs.Reaching.{drop_at, drop_all}
+use Rattle.vc_process.proofs.Reaching.{drop_at}
 
 -- it goes on unless both have ended
 pub beside_is : (mine : Set) (r q : Rest) → (beside_on mine r q ≡ Beside mine r q) ⊎ ((r ≡ Done) × (q ≡ Done))
@@ -153,20 +151,6 @@ besides_did (v ∷ vs) (suc k) w e f i d h a = right_did (changes v.0) v.1 (besi
 pub drop_view : (k : ℕ) (fs : List Frame) (f : Frame) → k < length fs → f ≡ get_or fs k f → besides (views (drop k fs)) ≡ beside_on (changes (view f).0) (view f).1 (besides (views (drop (k + 1) fs)))
 drop_view k fs f l h = ap besides (drop_at view k fs f l h)
 
-pub drop_none : (k : ℕ) (fs : List Frame) → length fs ≤ k → besides (views (drop k fs)) ≡ Done
-drop_none k fs l = ap besides (drop_all view k fs l)
-
-pub pushed_more : (fs : List Frame) (k : ℕ) (f : Frame) (e : Store) (now later top : List Move) → k < length fs → f ≡ get_or fs k f → later ≡ now ++ own (view f).1 e → now ++ own (besides (views (drop k fs))) e ≡ top → later ++ own (besides (views (drop (k + 1) fs))) e ≡ top
-pushed_more fs k f e now later top l h g q =
-    let rest = besides (views (drop (k + 1) fs)) in
-    ap (λ ms. ms ++ own rest e) g ∙ append_assoc now (own (view f).1 e) (own rest e) ∙ ap (λ ms. now ++ ms) (sym (beside_own (changes (view f).0) (view f).1 rest e)) ∙ ap (λ r. now ++ own r e) (sym (drop_view k fs f l h)) ∙ q
-
-pub rested : (fs : List Frame) (k : ℕ) (f : Frame) (e : Store) (now top : List Move) → k < length fs → f ≡ get_or fs k f → own (view f).1 e ≡ [] → now ++ own (besides (views (drop k fs))) e ≡ top → now ++ own (besides (views (drop (k + 1) fs))) e ≡ top
-rested fs k f e now top l h none q = pushed_more fs k f e now now top l h (sym (append-nil now) ∙ ap (λ ms. now ++ ms) (sym none)) q
-
-pub pushed_all : (fs : List Frame) (k : ℕ) (e : Store) (now top : List Move) → length fs ≤ k → now ++ own (besides (views (drop k fs))) e ≡ top → now ≡ top
-pushed_all fs k e now top l q = sym (append-nil now) ∙ ap (λ r. now ++ own r e) (sym (drop_none k fs l)) ∙ q
-
 pub waits_more : (fs : List Frame) (k : ℕ) (f : Frame) (w : Waits) (o : Option ℕ) → k < length fs → f ≡ get_or fs k f → None ≡ first_waits w (waiting (view f).1) → first_waits w (waiting (besides (views (drop k fs)))) ≡ o → first_waits w (waiting (besides (views (drop (k + 1) fs)))) ≡ o
 waits_more fs k f w o l h g q =
     let rest = besides (views (drop (k + 1) fs)) in
@@ -176,6 +160,3 @@ pub waits_found : (fs : List Frame) (k : ℕ) (f : Frame) (w : Waits) (o : Optio
 waits_found fs k f w o i l h g q =
     let rest = besides (views (drop (k + 1) fs)) in
     ap (λ x. option_or x (first_waits w (waiting rest))) g ∙ sym (first_append w (waiting (view f).1) (waiting rest)) ∙ ap (first_waits w) (sym (beside_waits (changes (view f).0) (view f).1 rest)) ∙ ap (λ r. first_waits w (waiting r)) (sym (drop_view k fs f l h)) ∙ q
-
-pub waits_none : (fs : List Frame) (k : ℕ) (w : Waits) (o : Option ℕ) → length fs ≤ k → first_waits w (waiting (besides (views (drop k fs)))) ≡ o → None ≡ o
-waits_none fs k w o l q = ap (λ r. first_waits w (waiting r)) (sym (drop_none k fs l)) ∙ q

@@ -199,16 +199,6 @@ begins_ready f i r e h b =
     let at = subst (λ (ph : Phase). BeginsAt ph (view f).0 i r) h b in
     ((at e).0 ∙ ap (λ (q : Rest). output_at i q e) own, (at e).1 ∙ ap (λ (q : Rest). assigned_at i q e) own)
 
-pub begins_not : (ph : Phase) (p : Proc) (i : ℕ) (r : Rest) → (ph ≡ phase.Ready → ⊥) → BeginsAt ph p i r → BeginsNothing i r
-begins_not phase.Ready p i r n h = absurd (n refl)
-begins_not phase.Waiting p i r n h = h
-begins_not phase.Resting p i r n h = h
-begins_not (phase.Turning x y) p i r n h = h
-begins_not phase.Together p i r n h = h
-begins_not phase.Chosen p i r n h = h
-begins_not phase.Ended p i r n h = h
-begins_not phase.Stuck p i r n h = h
-
 pub moves_ready : (f : Frame) (i : ℕ) (r : Rest) (e : Store) (m : Move) (b : Bool) → i ≡ site_of m → (out-Frame f).phase ≡ phase.Ready → MovesAt (out-Frame f).phase (view f).0 i r →
     (IsTrue b ↔ Contains (own (Fresh (plan_at (out-Frame f).kind (out-Frame f).site (views (out-Frame f).parts.items))) e) m) → IsTrue b ↔ Contains (own r e) m
 moves_ready f i r e m b s h k t =

@@ -2,7 +2,7 @@
 use Rattle.std.proofs.Common.{◌≡◌, ℕ, ℤ, zero, suc, Bool, true, false, ◌&&◌, refl, ap, sym, ◌∙◌, subst, List, [], ◌∷◌, length, map, arith, Option, Some, None, Vec, Global, drop, Result, Ok, Err}
 use Rattle.std.proofs.lemmas.Bool.Decides.{nat_tests}
 use Rattle.std.specs.Prelude.{slice_get, vec_len, nat_le, IfOk, ◌==◌, if◌then◌else◌}
-use Rattle.vc_process.specs.Syntax.{Exp, Test, Proc, Output, Input, SEQ, PAR, Procs, no_parts, part}
+use Rattle.vc_process.specs.Syntax.{Proc, Output, Input, SEQ, PAR, Procs, no_parts, part}
 use Rattle.vc_occam.specs.Remains.{Rest, Done, Stopped, Fresh, Finishing, Getting, Then, Turns, Beside, and_then, then_on, begin}
 use Rattle.vc_occam.specs.declared.kind.Kind.{Kind}
 use Rattle.vc_occam.specs.declared.kind.Kind.TheVariants as kind
@@ -15,10 +15,9 @@ use Rattle.vc_occam.specs.declared.frame.Frame.TheFolds.{fold-roll-Frame, fold_o
 use Rattle.vc_process.specs.declared.value.Value.{Value}
 use Rattle.vc_process.specs.Values.{Store}
 use Rattle.vc_occam.specs.First.{own}
-use Rattle.vc_occam.specs.declared.moves.Move.TheVariants.{Quiet}
 use Rattle.vc_occam.specs.States.{waiting, output_at}
 use Rattle.vc_occam.specs.Gates.{Gate, gate}
-use Rattle.vc_occam.specs.Frames.{View, awaiting, chosen_at, count_of, is_counted, is_par, all_begun, turn_of, turning, together, besides, plans_of, behind, follow, follow_on, going_at, resting, resting_at, as_begun, gone_on, goes_on_at_one_part, is_last, place_of, while_of, so_far, plan_at, rest_at, view_step, view, views, is_done, part_done, part_own, part_waits, part_output, part_assigned, assigned_at, begun_parts, begun_phase}
+use Rattle.vc_occam.specs.Frames.{View, awaiting, chosen_at, is_counted, is_par, all_begun, turn_of, turning, together, besides, plans_of, behind, follow, follow_on, going_at, resting, resting_at, as_begun, gone_on, goes_on_at_one_part, is_last, place_of, so_far, plan_at, rest_at, view_step, view, views, is_done, part_done, part_own, part_waits, part_output, part_assigned, assigned_at, begun_parts, begun_phase}
 use Rattle.vc_occam.proofs.Besides.{begin_goes, begun_plans_of, besides_begun, goes_then}
 
 pub view_roll : (f : Frame-F Frame) → view (roll-Frame f) ≡ (plan_at f.kind f.site (views f.parts.items), rest_at f.kind f.phase f.site (views f.parts.items) f.at)
@@ -532,22 +531,6 @@ some_left v b h e z =
 pub par_waits : (i : ℕ) (vs : List View) (e : Store) → (length vs ≡ 0 → ⊥) → own (Fresh (PAR i (plans_of vs))) e ≡ []
 par_waits i [] e h = absurd (h refl)
 par_waits i (v ∷ vs) e h = refl
-
-pub while_waits : (i : ℕ) (b : Test) (vs : List View) (e : Store) → length vs ≡ 0 → own (Fresh (while_of i b vs)) e ≡ []
-while_waits i b [] e h = refl
-while_waits i b (v ∷ vs) e h = absurd (omega arith)
-
-pub while_tests : (i : ℕ) (b : Test) (vs : List View) (e : Store) → (length vs ≡ 0 → ⊥) → own (Fresh (while_of i b vs)) e ≡ Quiet i ∷ []
-while_tests i b [] e h = absurd (h refl)
-while_tests i b (v ∷ vs) e h = refl
-
-pub count_waits : (i v : ℕ) (a n : Exp) (vs : List View) (e : Store) → length vs ≡ 0 → own (Fresh (count_of i v a n vs)) e ≡ []
-count_waits i v a n [] e h = refl
-count_waits i v a n (w ∷ vs) e h = absurd (omega arith)
-
-pub count_tests : (i v : ℕ) (a n : Exp) (vs : List View) (e : Store) → (length vs ≡ 0 → ⊥) → own (Fresh (count_of i v a n vs)) e ≡ Quiet i ∷ []
-count_tests i v a n [] e h = absurd (h refl)
-count_tests i v a n (w ∷ vs) e h = refl
 
 begun_own : (p : Proc) (e : Store) → own (as_begun p) e ≡ []
 begun_own (Output i c a) e = refl

@@ -36,4 +36,3 @@ pub mod Determinate
 pub mod Unjoined
 pub mod Waited
 pub mod Ending
-pub mod Finding

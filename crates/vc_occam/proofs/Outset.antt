@@ -1,5 +1,5 @@
 -- What a frame begins with, whatever the variables hold.
-use Rattle.std.proofs.Common.{◌≡◌, ◌∙◌, ℕ, ℤ, true, refl, sym, ap, subst, List, [], ◌∷◌, Option, None, Some, length}
+use Rattle.std.proofs.Common.{◌≡◌, ◌∙◌, ℕ, ℤ, true, refl, sym, ap, subst, List, Option, None, Some, length}
 use Rattle.std.specs.Prelude.{◌<◌, IfSome, MatchOption, slice_get}
 use Rattle.vc_occam.specs.declared.begins.Begins.{Begins}
 use Rattle.vc_occam.specs.declared.begins.Begins.TheVariants as begins
@@ -9,12 +9,11 @@ use Rattle.vc_occam.specs.declared.look.Look.{Look}
 use Rattle.vc_occam.specs.declared.kind.Kind.{Kind}
 use Rattle.vc_occam.specs.declared.phase.Phase.{Phase}
 use Rattle.vc_occam.specs.declared.phase.Phase.TheVariants as phase
-use Rattle.vc_occam.specs.Frames.{BeginsAs, BeginsWith, Tells, View, assigned_at, behind, count_of, goes_on_at_one_part, is_counted, part_assigned, part_own, part_rest, place_of, rest_at, view, views, while_of}
+use Rattle.vc_occam.specs.Frames.{BeginsAs, BeginsWith, Tells, View, assigned_at, behind, goes_on_at_one_part, is_counted, part_assigned, part_own, part_rest, place_of, rest_at, view, views}
 use Rattle.vc_occam.specs.First.{own}
-use Rattle.vc_occam.specs.Remains.{Rest, Fresh}
-use Rattle.vc_process.specs.Syntax.{Exp, Test}
+use Rattle.vc_occam.specs.Remains.{Rest}
 use Rattle.vc_process.specs.Values.{Store}
-use Rattle.vc_occam.proofs.Frames.{count_tests, follow_assigned, follow_own, going_part, rest_going, turn_assigned, turn_own, turning_is, turning_own, view_out, while_tests}
+use Rattle.vc_occam.proofs.Frames.{follow_assigned, follow_own, going_part, rest_going, turn_assigned, turn_own, turning_is, turning_own, view_out}
 
 -- with the same moves and the same bytes it begins with the same
 alike : (b : Begins) (r q : Rest) → ((e : Store) → own r e ≡ own q e) → ((j : ℕ) (e : Store) → assigned_at j r e ≡ assigned_at j q e) → BeginsWith b q → BeginsWith b r
@@ -85,17 +84,3 @@ goes_as_turn f x y (Some n) h q m =
       λ e. turning_own f x y e h q ∙ ap (λ (i : ℕ). part_own (slice_get vs i) e) (sym m.0),
       λ b w. as_turn b f x y h q (subst (λ (i : ℕ). BeginsWith b (part_rest (slice_get vs i))) m.0 w),
     )
-
-while_assigned : (j i : ℕ) (b : Test) (vs : List View) (e : Store) → assigned_at j (Fresh (while_of i b vs)) e ≡ None
-while_assigned j i b [] e = refl
-while_assigned j i b (v ∷ vs) e = refl
-
-pub while_begins : (i : ℕ) (b : Test) (vs : List View) → (length vs ≡ 0 → ⊥) → BeginsWith (begins.Quiet i) (Fresh (while_of i b vs))
-while_begins i b vs h = λ e. (while_tests i b vs e h, λ j. while_assigned j i b vs e)
-
-count_assigned : (j i v : ℕ) (a n : Exp) (vs : List View) (e : Store) → assigned_at j (Fresh (count_of i v a n vs)) e ≡ None
-count_assigned j i v a n [] e = refl
-count_assigned j i v a n (w ∷ vs) e = refl
-
-pub count_begins : (i v : ℕ) (a n : Exp) (vs : List View) → (length vs ≡ 0 → ⊥) → BeginsWith (begins.Quiet i) (Fresh (count_of i v a n vs))
-count_begins i v a n vs h = λ e. (count_tests i v a n vs e h, λ j. count_assigned j i v a n vs e)

@@ -1,22 +1,20 @@
 -- The first move at a site from one on.
-use Rattle.std.proofs.Common.{◌≡◌, ℕ, suc, Bool, true, false, ◌+◌, ◌<◌, ◌≤◌, refl, ap, sym, ◌∙◌, subst, List, [], ◌∷◌, ◌++◌, length, drop, get_or, map, arith, Option, Some, None, if◌then◌else◌}
+use Rattle.std.proofs.Common.{◌≡◌, ℕ, suc, Bool, true, false, ◌+◌, ◌<◌, ◌≤◌, refl, ap, sym, ◌∙◌, subst, List, [], ◌∷◌, ◌++◌, length, drop, get_or, arith, Option, Some, None, if◌then◌else◌}
 use Rattle.std.proofs.lemmas.Bool.Decides.{nat_tests}
 use Rattle.std.specs.List.{Contains}
 use Rattle.std.specs.Prelude.{nat_le}
 use Rattle.vc_occam.specs.declared.frame.Frame.{Frame}
-use Rattle.vc_occam.specs.declared.guarded.GuardedInput.{GuardedInput}
 use Rattle.vc_occam.specs.declared.moves.Move.{Move}
 use Rattle.vc_occam.specs.declared.moves.Move.TheVariants.{Choose}
 use Rattle.vc_occam.specs.First.{is_true, own}
 use Rattle.vc_occam.specs.Frames.{View, besides, listed, place_with, plans_of, view, views}
-use Rattle.vc_occam.specs.Gates.{Gate, are_decided, choices_at, gate, open_from, open_one}
+use Rattle.vc_occam.specs.Gates.{Gate, are_decided, choices_at, open_from, open_one}
 use Rattle.vc_occam.specs.Moving.{from_site, site_of}
 use Rattle.vc_occam.specs.Sites.{PartsInPreorder, site, sites, sites_all}
 use Rattle.vc_process.specs.Usage.{among, changes}
 use Rattle.vc_process.specs.Values.{Store, holds}
 use Rattle.vc_process.proofs.Lists.{at_front, behind}
-use Rattle.vc_process.proofs.Reaching.{drop_at}
-use Rattle.vc_occam.proofs.Besides.{beside_own, drop_none, drop_view}
+use Rattle.vc_occam.proofs.Besides.{beside_own, drop_view}
 use Rattle.vc_occam.proofs.Found.{mover}
 use Rattle.vc_occam.proofs.Places.{AllWithin, own_site}
 use Rattle.vc_occam.proofs.Stores.{or_left}
@@ -96,9 +94,6 @@ seek_found i fs k f e o m l h some q =
     let rest = besides (views (drop (k + 1) fs)) in
     sym (from_some i (own (view f).1 e) (own rest e) m some) ∙ ap (from_site i) (sym (beside_own (changes (view f).0) (view f).1 rest e)) ∙ ap (λ r. from_site i (own r e)) (sym (drop_view k fs f l h)) ∙ q
 
-pub seek_none : (i : ℕ) (fs : List Frame) (k : ℕ) (e : Store) (o : Option Move) → length fs ≤ k → from_site i (own (besides (views (drop k fs))) e) ≡ o → None ≡ o
-seek_none i fs k e o l q = ap (λ r. from_site i (own r e)) (sym (drop_none k fs l)) ∙ q
-
 -- the guards of an ALT, gone through from one on
 pub open_before : (i s k : ℕ) (gs : List Gate) (e : Store) → s < i → from_site i (open_from s k gs e) ≡ None
 open_before i s k [] e l = refl
@@ -107,23 +102,6 @@ open_before i s k (g ∷ gs) e l = from_none i (open_one s k g e) (open_from s (
     one : (b : Bool) → from_site i (if b then (Choose s k g.chan ∷ []) else []) ≡ None
     one true = let off : nat_le i s ≡ false = grind (arith, nat_tests) in rw off refl
     one false = refl
-
-pub open_more : (i s k : ℕ) (xs : List GuardedInput) (x : GuardedInput) (e : Store) (o : Option Move) → k < length xs → x ≡ get_or xs k x → is_true (holds (gate x).when e) ≡ false →
-    from_site i (open_from s k (map gate (drop k xs)) e) ≡ o → from_site i (open_from s (k + 1) (map gate (drop (k + 1) xs)) e) ≡ o
-open_more i s k xs x e o l h shut q =
-    let rest = open_from s (suc k) (map gate (drop (k + 1) xs)) e in
-    let one : open_one s k (gate x) e ≡ [] = ap (λ b. if b then (Choose s k x.chan ∷ []) else []) shut in
-    let n : k + 1 ≡ suc k = omega arith in
-    ap (λ j. from_site i (open_from s j (map gate (drop (k + 1) xs)) e)) n ∙ ap (λ ms. from_site i (ms ++ rest)) (sym one) ∙ ap (λ gs. from_site i (open_from s k gs e)) (sym (drop_at gate k xs x l h)) ∙ q
-
-pub open_found : (i s k : ℕ) (xs : List GuardedInput) (x : GuardedInput) (e : Store) (o : Option Move) → i ≤ s → k < length xs → x ≡ get_or xs k x → is_true (holds (gate x).when e) ≡ true →
-    from_site i (open_from s k (map gate (drop k xs)) e) ≡ o → Some (Choose s k x.chan) ≡ o
-open_found i s k xs x e o le l h held q =
-    let rest = open_from s (suc k) (map gate (drop (k + 1) xs)) e in
-    let on : nat_le i s ≡ true = grind (arith, nat_tests) in
-    let one : open_one s k (gate x) e ≡ Choose s k x.chan ∷ [] = ap (λ b. if b then (Choose s k x.chan ∷ []) else []) held in
-    let first : from_site i (Choose s k x.chan ∷ rest) ≡ Some (Choose s k x.chan) = ap (λ b. if b then Some (Choose s k x.chan) else from_site i rest) on in
-    sym first ∙ ap (λ ms. from_site i (ms ++ rest)) (sym one) ∙ ap (λ gs. from_site i (open_from s k gs e)) (sym (drop_at gate k xs x l h)) ∙ q
 
 pub choices_before : (i s : ℕ) (gs : List Gate) (e : Store) → s < i → from_site i (choices_at s gs e) ≡ None
 choices_before i s gs e l = on (are_decided gs e)

@@ -15,7 +15,7 @@ use Rattle.vc_process.specs.Values.{Store}
 use Rattle.vc_occam.specs.Remains.{Rest, Done, Stopped, Fresh, Finishing, Getting, Then, Turns, Beside, and_then, then_on, in_then}
 use Rattle.vc_occam.specs.Gates.{Gate, gate}
 use Rattle.vc_occam.specs.Sites.{InPreorder, PartsInPreorder, BranchesInPreorder, GuardsInPreorder}
-use Rattle.vc_occam.specs.Frames.{Able, Did, HasVariables, PartHasVariables, PartInPreorder, View, assigned_at, begun_at, behind, branches_of, count_of, follow, follow_on, goes_within, gone_on, guards_of, goes_on_at_one_part, is_counted, is_done, is_last, is_par, on_part, part_assigned, part_done, part_rest, place_of, plan_at, resting_at, plans, plans_of, rest_at, view, views, while_of}
+use Rattle.vc_occam.specs.Frames.{Able, Did, HasVariables, PartHasVariables, PartInPreorder, View, assigned_at, begun_at, behind, branches_of, count_of, follow, follow_on, gone_on, guards_of, goes_on_at_one_part, is_counted, is_done, is_last, is_par, on_part, part_assigned, part_done, part_rest, place_of, plan_at, resting_at, plans, plans_of, rest_at, view, views, while_of}
 use Rattle.vc_occam.specs.Nexts.{goes_further, seq_begun, seq_next}
 use Rattle.vc_occam.proofs.Beginning.{begun_plans}
 use Rattle.vc_occam.proofs.Frames.{going_part, follow_assigned, resting_goes, resting_stops, went_done}
@@ -227,17 +227,6 @@ pub goes_undone : (k : Kind) (i : ℕ) (ph : Phase) (vs : List View) (at p : ℕ
 goes_undone k i ph vs at p h t g e =
     let z : part_done (slice_get vs (place_of k at)) ≡ false = ap (λ x. part_done (slice_get vs x)) (sym g) ∙ e in
     ap is_done (going_on k i ph vs at p h t g e) ∙ went_done k i vs at t ∙ ap (λ b. is_last k at (length vs) && b) z ∙ and_no (is_last k at (length vs))
-
--- what a frame is that goes on neither within a part nor by its own site
-pub idle : (k : Kind) (ph : Phase) (i : ℕ) (vs : List View) (at : ℕ) (e : Store) (s : ℕ) (d : Deed) → goes_within k ph ≡ false → (ph ≡ phase.Ready → ⊥) → (ph ≡ phase.Waiting → ⊥) → (ph ≡ phase.Chosen → ⊥) → Able (rest_at k ph i vs at) e s d → Did (rest_at k ph i vs at) e s d (rest_at k ph i vs at) e
-idle k phase.Ready i vs at e s d h f g w a = absurd (f refl)
-idle k phase.Waiting i vs at e s d h f g w a = absurd (g refl)
-idle k phase.Resting i vs at e s d h f g w a = absurd (let z : true ≡ false = h in cc)
-idle k (phase.Turning x y) i vs at e s d h f g w a = absurd (let z : true ≡ false = h in cc)
-idle k phase.Together i vs at e s d h f g w a = absurd (let z : true ≡ false = h in cc)
-idle k phase.Chosen i vs at e s d h f g w a = absurd (w refl)
-idle k phase.Ended i vs at e s d h f g w (ks, q, t, st) = elim st [ ]
-idle k phase.Stuck i vs at e s d h f g w (ks, q, t, st) = elim st [ ]
 
 -- sites in preorder
 pub parts_preorder : (vs : List View) (at : ℕ) → PartsInPreorder (plans_of vs) → PartInPreorder (slice_get vs at)

@@ -268,9 +268,6 @@ turned_plans true x y vs = on (int_lt x y)
     on true = begun_plans 0 vs
     on false = refl
 
-pub turning_same : (k : Kind) (vs : List View) (x z y w : ℤ) (e f : Store) (s : ℕ) (d : Deed) (r : Rest) → z ≡ x → w ≡ y → Did (turning k vs z w) e s d r f → Did (turning k vs x y) e s d r f
-turning_same k vs x z y w e f s d r h g a = subst (λ u. Did (turning k vs x u) e s d r f) g (subst (λ u. Did (turning k vs u w) e s d r f) h a)
-
 pub phase_same : (d : Bool) (x z y w : ℤ) → z ≡ x → w ≡ y → turn_phase d z w ≡ turn_phase d x y
 phase_same d x z y w h g = ap (λ u. turn_phase d u w) h ∙ ap (λ u. turn_phase d x u) g
 

@@ -29,11 +29,6 @@ split (Ok t) (Ok a) (Ok c) v f = by (v c.1)
     by (Ok x) = refl
     by (Err e) = refl
 
--- a reading whose head is at fault
-pub head-fails : {A B : Type 0} (all : Result B Fault) (m : Result A Fault) (f : A → Result B Fault) (why : Stop) → all ≡ (m >>= f) → Fails why m → Fails why all
-head-fails all m f stop.Memory e h = tt
-head-fails all m f (stop.Fault w) e h = e ∙ ap (λ x. x >>= f) h
-
 -- a reading whose rest is at fault
 pub rest-fails : {A B C : Type 0} (all : Result C Fault) (m : Result A Fault) (n : Result B Fault) (made : A → B → C) (a : A) (why : Stop) → all ≡ (m >>= λ x. n >>= λ y. Ok (made x y)) → m ≡ Ok a →
     Fails why (beside a n) → Fails why all

@@ -31,9 +31,6 @@ kept s l n x y outs w here is = record { plan = refl; limit = limit_stays s.inpu
 pub kept_limit : (s : State) (l n : ℕ) (x y : LinkIn) (outs : List LinkOut) → slice_get s.inputs l ≡ Some x → y.got.limit ≡ x.got.limit → IsKept s (record s { inputs = slice_set s.inputs l y; outputs = outs; lost = n })
 kept_limit s l n x y outs here same = record { plan = refl; limit = limit_stays s.inputs l x y here same }
 
-pub kept_lost : (s : State) (n : ℕ) → IsKept s (record s { lost = n })
-kept_lost s n = record { plan = refl; limit = refl }
-
 -- an input has room for a header
 pub room_at : (s : State) (l : ℕ) (x : LinkIn) → IsSwitch s → slice_get s.inputs l ≡ Some x → 2 ≤ x.got.limit
 room_at s l x w here = subst (λ m. 2 ≤ m) (sym (link_in s l x w here).limit) w.room
@@ -80,20 +77,6 @@ switch_two s l j n x y p q w here is same there source =
     switch_with s l n x y (slice_set s.outputs j q) w here is (length-set s.outputs j q ∙ w.output_links)
     (subst (λ f. ArePaired f (source_at (slice_set s.outputs j q))) (sym (bound-kept s.inputs l x y here same))
     (subst (ArePaired (bound_at s.inputs)) (sym (source-kept s.outputs j p q there source)) w.paired))
-
--- one more was lost
-pub switch_lost : (s : State) (n : ℕ) → IsSwitch s → IsSwitch (record s { lost = n })
-switch_lost s n w = record {
-  range_links = w.range_links;
-  delete_links = w.delete_links;
-  input_links = w.input_links;
-  output_links = w.output_links;
-  table = w.table;
-  ranges = w.ranges;
-  room = w.room;
-  inputs = w.inputs;
-  paired = w.paired;
-}
 
 -- An input of which a token passes.
 

@@ -42,9 +42,6 @@ module _ {X : Type 0} where
 pub none_apart : Distinct []
 none_apart i j l m = absurd (omega arith)
 
-pub none_low : All (λ (o : Out). o.0 < 32) []
-none_low k d m = absurd (omega arith)
-
 pub outs_more : (os os' : List Out) (x : Out) (b : Bool) → Distinct (out_links os) → All (λ o. o.0 ≢ x.0) os → os' ≡ (if b then os ++ x ∷ [] else os) → Distinct (out_links os')
 outs_more os os' x true d fresh e = subst (λ w. Distinct (out_links w)) (sym e) (distinct_more os x d fresh)
 outs_more os os' x false d fresh e = subst (λ w. Distinct (out_links w)) (sym e) d

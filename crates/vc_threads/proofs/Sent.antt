@@ -31,7 +31,6 @@ use Rattle.vc_threads.specs.contracts.crew.Job as Job
 use Rattle.vc_threads.specs.contracts.run.ActorRun as ActorRun
 use Rattle.vc_threads.proofs.link.Ends.TheSendSync as ends
 use Rattle.vc_threads.proofs.run.Stop.TheSendSync as stop
-use Rattle.std.proofs.Crossing as std
 use Rattle.std.proofs.Crossing.{crosses}
 
 expr_send : IsSend Expr.the_row
@@ -58,9 +57,6 @@ conds_send = search (sendable, crosses, cond_send) depth 20
 input_send : IsSend GuardedInput.the_row
 input_send = search (sendable, cond_send, cond_field) depth 20
 
-input_field : IsSend GuardedInput.the_field.row
-input_field = search (sendable, cond_send, cond_field) depth 20
-
 inputs_send : IsSend (Items.the_row GuardedInput.the_row)
 inputs_send = search (sendable, crosses, input_send) depth 20
 
@@ -76,9 +72,6 @@ kind_send = search (sendable, value_send, value_field, cond_send, cond_field, co
 kind_field : IsSend Kind.the_field.row
 kind_field = search (sendable, value_send, value_field, cond_send, cond_field, conds_send, expr_send, expr_field, guards_send, guards_field) depth 20
 
-frame_send : IsSend Frame.the_row
-frame_send = search (sendable, crosses, frame.send-Frame, kind_send, kind_field, phase.the_send, phase.the_field_send) depth 20 fits 20000
-
 frame_field : IsSend Frame.the_field.row
 frame_field = search (sendable, crosses, frame.send-Frame, kind_send, kind_field, phase.the_send, phase.the_field_send) depth 20 fits 20000
 
@@ -87,9 +80,6 @@ datum_send = datum.the_send
 
 items_send : IsSend (Items.the_row u16)
 items_send = search (sendable, crosses) depth 20
-
-running_send : IsSend Running.the_row
-running_send = search (sendable, crosses, frame_send, frame_field, datum_send, datum.the_field_send, items_send, std.send) depth 20
 
 running_field : IsSend Running.the_field.row
 running_field = search (sendable, crosses, frame_field, datum_send, items_send) depth 20

@@ -79,9 +79,6 @@ limit_stays (z ∷ xs) (suc l) x y here same = refl
 pub kept_in : (s : State) (l n : ℕ) (x y : Receiving) → slice_get s.ins l ≡ Some x → y.limit ≡ x.limit → IsKept s (record s { ins = slice_set s.ins l y; strays = n })
 kept_in s l n x y here same = record { ends = refl; limit = limit_stays s.ins l x y here same }
 
-pub kept_then : (a b c : State) → IsKept a b → IsKept b c → IsKept a c
-kept_then a b c h k = record { ends = k.ends ∙ h.ends; limit = k.limit ∙ h.limit }
-
 -- what is wired stays so where a link's receiving end changes, and no FCT waits there
 pub wired_ins : (s : State) (l : ℕ) (x y : Receiving) → IsWired s → slice_get s.ins l ≡ Some x → AllByRecursion (λ k. k ≢ Fct) y.receiver.buffer → y.limit ≡ x.limit → IsWired (record s { ins = slice_set s.ins l y })
 wired_ins s l x y w here no_fct same =

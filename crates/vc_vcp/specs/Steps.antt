@@ -7,7 +7,6 @@ use Rattle.vc_packets.specs.Pieces.{Pieces}
 use Rattle.vc_packets.specs.Spellings.{piece_packet, ack_packet}
 use Rattle.vc_packets.specs.declared.kind.Kind.TheVariants.{Ack, Piece}
 use Rattle.vc_packets.specs.Kind.{kind}
-use Rattle.vc_packets.specs.Functions.{put}
 use Rattle.vc_vcp.specs.Carrier.{End, Ends, InHalf, Carrier, set_out, set_in, enqueue}
 
 -- the half that inputs stores a piece: the last completes the message
@@ -76,12 +75,6 @@ pub record Stops (ends : Ends) (old : Carrier) (c : ℕ) (new : Carrier) : Type 
   pub here : ends.input c ≡ Some end
   pub idle : (old.into c).wants ≡ false
   pub after : new ≡ set_in old c (record (old.into c) { stopped = true })
-
--- the front of the link's send queue goes out
-pub record Sends (old : Carrier) (link : ℕ) (p : Packet) (new : Carrier) : Type 0 where
-  pub rest : List Packet
-  pub front : old.queue link ≡ p ∷ rest
-  pub after : new ≡ record old { queue = put old.queue link rest }
 
 -- what became of a packet that arrived
 pub data Taken : Type 0 where
