@@ -68,6 +68,7 @@ node_got net p n i got passed far (begun (Some v) may some e) =
 pub got_at_node : (net : Net) (p : Port) (n i : ℕ) (got : List ℕ) (b : ℕ) → p ≡ AtNode n i → Got net p (got ++ b ∷ []) (got ++ b ∷ [])
 got_at_node net p n i got b far = begun None (subst (λ k. MayDraw net k None) (sym far) refl) (not_empty got b) refl
 
+-- what stands inside, where the port and the mark are known
 pub inside_node : (net : Net) (p : Port) (n i : ℕ) (got : List ℕ) (mark : Option Mark) (bound : Option ℕ) (passed : List ℕ) (input : Input) → p ≡ AtNode n i →
     Inside net p got mark bound passed input → (mark ≡ None) × (got ≡ passed) × (input ≡ Empty)
 inside_node net p n i got mark bound passed input far (without_mark none g empty) = (none, node_got net p n i got passed far g, empty)
