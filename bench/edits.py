@@ -5,7 +5,8 @@ The edits are those of the crate's must-fail/, which `rt ci` tries too, and thos
 as `rt must-fail` does, over a copy of what `rt check` kept, so that no proof is made anew, and prints the processor
 time and the stages: `front-end` and `making` come with each check, `session` is the proof itself, and `offers` the printing of a proof
 file, which is made only where no file answers the goal that the edit breaks. The first line is a check without an edit. After each
-edit stands what the prover says of it. It fails where the crate is still proved with an edit.
+edit stands what the prover says of it. It fails where an edit is not refused: the crate is still proved
+with it, or it could not be compiled.
 """
 import glob
 import importlib.machinery
@@ -46,7 +47,7 @@ def stages(file):
 
 
 def check(rt, crate, texts, kept, label):
-    """Checks the crate with these texts in place of its own, and returns its processor time, and whether it is proved."""
+    """Checks the crate with these texts in place of its own, and returns its processor time, and whether the prover refuses it."""
     with tempfile.TemporaryDirectory() as room:
         for part in rt.rtlib.PARTS:
             if os.path.isdir(f"{crate.folder}/{part}"):
@@ -64,7 +65,8 @@ def check(rt, crate, texts, kept, label):
         for line in ran.stdout.split("\n") if texts else []:
             if TOLD.search(line):
                 print(f"    {line[:200]}")
-        return took, ran.returncode == 0
+        # (with status 3 it stopped at a limit of its own)
+        return took, "\nlogic=not-proved" in ran.stdout or ran.returncode == 3
 
 
 def main(name, only):
@@ -83,9 +85,9 @@ def main(name, only):
                 texts, why = rt.read_edit(edit, crate.folder)
                 if why:
                     sys.exit(f"{label}: {why}")
-                took, is_proved = check(rt, crate, texts, kept, label)
+                took, is_refused = check(rt, crate, texts, kept, label)
                 total += took
-                missed += [label] if is_proved else []
+                missed += [] if is_refused else [label]
         print(f"{total:.0f} seconds in all")
     if missed:
         sys.exit(f"not refused: {' '.join(missed)}")
