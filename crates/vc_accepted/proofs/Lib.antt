@@ -10,3 +10,4 @@ pub mod Placed
 pub mod Giving
 pub mod Wired
 pub mod Filling
+pub mod Ranked

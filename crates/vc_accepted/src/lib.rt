@@ -8,6 +8,8 @@ ghost use Rattle.vc_plan.specs.declared.plan.Plan.{Plan};
 ghost use Rattle.vc_plan.specs.declared.port.Wire.{Wire};
 ghost use Rattle.vc_plan.specs.declared.channel.Channel.{Channel};
 ghost use Rattle.vc_plan.specs.Accepted as plan;
+ghost use Rattle.vc_plan.specs.Dependencies as plan_ranks;
+ghost use Rattle.vc_machine.specs.Dependencies.{HasRanks};
 ghost use Rattle.vc_network.specs.Plan as network;
 ghost use Rattle.vc_vcp.specs.Opening.{ends_given, AreDistinct};
 ghost use Rattle.vc_accepted.specs.NetworkOf.{network_of};
@@ -46,4 +48,10 @@ pub fn tables_fill_in_order()
         way_out (length p.nodes) actor link 0 (take (suc k) p.wires)
         ≡ (if is_link (length p.nodes) actor link w.two then Some (2 * k + 1)
         else if is_link (length p.nodes) actor link w.one then Some (2 * k) else way_out (length p.nodes) actor link 0 (take k p.wires)) }
+{}
+
+/// Where the ports of an accepted plan have ranks that rise along each dependency, so have the ways of its network.
+#[tactic(auto, using(crate::proofs::Ranked::ranked))]
+pub fn ranks_are_given()
+    ensures { (p : Plan) → plan.IsAccepted p → plan_ranks.HasRanks p → HasRanks (network.net_of (network_of p)) }
 {}

@@ -151,7 +151,7 @@ port_fits p acc i w side e = by_side side (both (port_ok w.one) (port_ok w.two) 
     by_side true h = h.0
     by_side false h = h.1
 
-few_out : (p : Plan) → IsAccepted p → (w k l : ℕ) → IsOutOf (network_of p) w (AtNode k l) → l < 4
+pub few_out : (p : Plan) → IsAccepted p → (w k l : ℕ) → IsOutOf (network_of p) w (AtNode k l) → l < 4
 few_out p acc w k l o = settle (there wire_of p.wires (w / 2) (let r = o.0 in omega arith))
   where
     settle : (x : Wire) × (slice_get p.wires (w / 2) ≡ Some x) → l < 4
@@ -192,12 +192,12 @@ has [] i h = absurd (omega arith)
 has (x ∷ xs) zero h = (x, refl)
 has (x ∷ xs) (suc i) h = has xs i (omega arith)
 
-has_way : (p : Plan) (s : State) (k l w : ℕ) → IsNetworkOf p s → IsOutOf (network_of p) w (port (network_of p) k l) → HasWay s k l
+pub has_way : (p : Plan) (s : State) (k l w : ℕ) → IsNetworkOf p s → IsOutOf (network_of p) w (port (network_of p) k l) → HasWay s k l
 has_way p s k l w is o =
     let t = has s.ways w (subst (λ z. w < z) (sym is.ways) o.0) in
     record { way = w; tokens = t.0; out = is.wiring k l ∙ (outgoing_is p is.accepted k l w).1 o; stand = t.1 }
 
-has_front : (p : Plan) (s : State) (k l w : ℕ) (t : Token) (rest : List Token) → IsNetworkOf p s → IsInto (network_of p) w (port (network_of p) k l) → (shown s).way w ≡ t ∷ rest → HasFront s k l
+pub has_front : (p : Plan) (s : State) (k l w : ℕ) (t : Token) (rest : List Token) → IsNetworkOf p s → IsInto (network_of p) w (port (network_of p) k l) → (shown s).way w ≡ t ∷ rest → HasFront s k l
 has_front p s k l w t rest is o front =
     record { way = w; token = t; rest = rest; into = ap (option_map back) (is.wiring k l) ∙ (incoming_is p is.accepted k l w).1 o; stands = stands_by (slice_get s.ways w) t rest front }
 
@@ -236,7 +236,7 @@ node_put p s k (act.Take l x) n w t u is less h = absurd h
 node_put p s k (act.Route i o) n w t u is less h = absurd h
 
 -- the number of a switch is one
-one_number : (p : Plan) (k i j : ℕ) → k ≡ length p.nodes + i → k ≡ length p.nodes + j → j ≡ i
+pub one_number : (p : Plan) (k i j : ℕ) → k ≡ length p.nodes + i → k ≡ length p.nodes + j → j ≡ i
 one_number p k i j a b = omega arith
 
 module _ (p : Plan) (s : State) (k i : ℕ) (x : SwitchState) (at : k ≡ length p.nodes + i) (of : IsSwitchOf (network_of p) i x) (is : IsNetworkOf p s) where

@@ -21,3 +21,4 @@ pub mod Bits
 pub mod Lined
 pub mod Laying
 pub mod Staying
+pub mod Still

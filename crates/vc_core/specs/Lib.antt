@@ -21,3 +21,4 @@ pub use Rattle.vc_actor.specs.Parts
 pub use Rattle.vc_actor.specs.Passing
 pub use Rattle.vc_actor.specs.Shown
 pub use Rattle.vc_actor.specs.Viewed
+pub mod Still

@@ -1,8 +1,17 @@
 //! Laws of networks. A law is a function that does nothing, whose contract is the law.
 ghost use Rattle.vc_core.specs.Scheduling.{EventsLeadOn};
+ghost use Rattle.vc_core.specs.Still.{OnlyProcessesHold};
 
 /// What a scheduler of one's own rests on: events that are made one after another, from the opening state on, are a list that leads to
 /// the network's state, and the headline holds there, whatever was chosen.
 pub fn events_lead_on()
     ensures { EventsLeadOn }
+{}
+
+/// In a network whose dependencies have no cycle, wherever a run has come: where no event can happen but moves of processes, every
+/// packet is held at its receiver, and the packet of each unfinished output where no process inputs on its channel. So a network that
+/// is quiet is so because of its processes alone.
+#[tactic(auto, using(crate::proofs::Still::only_processes_hold))]
+pub fn only_processes_hold_it_up()
+    ensures { OnlyProcessesHold }
 {}

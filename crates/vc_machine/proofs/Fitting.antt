@@ -12,6 +12,7 @@ use Rattle.vc_labels.specs.declared.row.Row.{Row}
 use Rattle.vc_labels.specs.Interval.{action_for}
 use Rattle.vc_switch.specs.Forward.{past_portal, without_portals, IsDrawn, behind, HasRoom}
 use Rattle.vc_machine.specs.Machine.{State, WayState, ChanState, Empty, Full, start, set_way, set_chan, enqueue, store, accept, advance, emptied, Event, Offer, Want, Choose, Stop, Send, Receive, Enter, Leave, IsTaken, stores, holds, advances, Reaches, taken, stray, BodyLeaves, Fetches, fetches, waits, Settles, fills, lost, Departs, Step, Run}
+use Rattle.vc_machine.specs.Dependencies.{by_piece, by_ack, by_hop}
 use Rattle.vc_machine.specs.Laws.{FitsWay, HasHeaders, IsLimit, CameFitting, AllFit}
 use Rattle.vc_machine.proofs.Update.{every_put}
 use Rattle.vc_machine.proofs.Heads.{same_switch}
@@ -67,7 +68,7 @@ limits net most h =
           let next = o.each out g.after g.leaves in
           let a = leaves_shorter net n (behind drawn f.stack) out g.after g.leaves in
           let k = behind_fits net most n i drawn f.stack h draw o.room f.headers in
-          record { stack = g.after; load = f.load; fuel = next.0; to = f.to; body = g.body; delivers = next.1; headers = omega arith; small = f.small };
+          record { stack = g.after; load = f.load; fuel = next.0; to = f.to; body = g.body; delivers = next.1; stands = by_hop n i drawn f.stands far draw g.leaves; headers = omega arith; small = f.small };
     }
 
 -- the invariant
@@ -109,11 +110,11 @@ queue_fits net most s w p f h =
 piece_fits : (net : Net) (most : ℕ) → IsAccepted net → HasHeaders net most → (c : ℕ) (now : List ℕ) (later : List (List ℕ)) → Carries net c → length now ≤ 32 →
     FitsWay net most (net.chan c).from.way (piece_packet (net.chan c).from.route (now ∷ later)).body
 piece_fits net most a h c now later real small =
-    record { stack = (net.chan c).from.route; load = now; fuel = 32; to = (net.chan c).to; body = refl; delivers = a.there c real; headers = (h.routes c real).0; small = small }
+    record { stack = (net.chan c).from.route; load = now; fuel = 32; to = (net.chan c).to; body = refl; delivers = a.there c real; stands = by_piece c real; headers = (h.routes c real).0; small = small }
 
 ack_fits : (net : Net) (most : ℕ) → IsAccepted net → HasHeaders net most → (c : ℕ) → Carries net c → FitsWay net most (net.chan c).to.way (ack_packet (net.chan c).to.route).body
 ack_fits net most a h c real =
-    record { stack = (net.chan c).to.route; load = []; fuel = 32; to = (net.chan c).from; body = sym (append-nil (spelled (net.chan c).to.route)); delivers = a.back c real; headers = (h.routes c real).1; small = omega arith }
+    record { stack = (net.chan c).to.route; load = []; fuel = 32; to = (net.chan c).from; body = sym (append-nil (spelled (net.chan c).to.route)); delivers = a.back c real; stands = by_ack c real; headers = (h.routes c real).1; small = omega arith }
 
 store_keeps : (x : ChanState) (load : List ℕ) (last : Bool) → (store x load last).unacked ≡ x.unacked
 store_keeps x load true = refl

@@ -44,3 +44,4 @@ pub mod Views
 pub mod Ways
 pub mod Owned
 pub mod Short
+pub mod Still

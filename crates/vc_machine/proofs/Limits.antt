@@ -100,7 +100,7 @@ both_begin (x ∷ xs) a (y ∷ ys) b e h =
     let k = both_begin xs a ys b t (omega arith) in
     (k.0, k.1, ap₂ (λ u v. u ∷ v) xy k.2)
 
-puts_go_on : (net : Net) (back : ℕ → ℕ) (waiting : Waiting) (Fits : ℕ → List ℕ → Type 0) (limit : ℕ) (t : Tokens) (s : State) → IsLimit net Fits limit → AllFit net Fits s → TokenView net t s → Bindings net t →
+pub puts_go_on : (net : Net) (back : ℕ → ℕ) (waiting : Waiting) (Fits : ℕ → List ℕ → Type 0) (limit : ℕ) (t : Tokens) (s : State) → IsLimit net Fits limit → AllFit net Fits s → TokenView net t s → Bindings net t →
     Ahead net Fits t → PutsGoOn net back waiting t
 puts_go_on net back waiting Fits limit t s limits fit view bindings a =
     record {
@@ -125,7 +125,7 @@ puts_go_on net back waiting Fits limit t s limits fit view bindings a =
 
 -- the runs
 
-record Reached (net : Net) (Fits : ℕ → List ℕ → Type 0) (u : Tokens) : Type 0 where
+pub record Reached (net : Net) (Fits : ℕ → List ℕ → Type 0) (u : Tokens) : Type 0 where
   pub events : List Event
   pub after : State
   pub run : Run net start events after
@@ -133,7 +133,7 @@ record Reached (net : Net) (Fits : ℕ → List ℕ → Type 0) (u : Tokens) : T
   pub bindings : Bindings net u
   pub ahead : Ahead net Fits u
 
-run_reached : (net : Net) (back : ℕ → ℕ) (waiting : Waiting) (Fits : ℕ → List ℕ → Type 0) (limit : ℕ) → Ranges net → IsLimit net Fits limit →
+pub run_reached : (net : Net) (back : ℕ → ℕ) (waiting : Waiting) (Fits : ℕ → List ℕ → Type 0) (limit : ℕ) → Ranges net → IsLimit net Fits limit →
     ((es : List Event) (s : State) → Run net start es s → AllFit net Fits s) → (es : List TokenEvent) (t u : Tokens) → Reached net Fits t → TokenRun net back waiting t es u → Reached net Fits u
 run_reached net back waiting Fits limit ranges limits all [] t u r h = subst (Reached net Fits) (sym h) r
 run_reached net back waiting Fits limit ranges limits all (e ∷ es) t u r h =

@@ -76,7 +76,7 @@ advances_case net s n p c d now later acc l real live (ack b f q) k u =
     let e3 : b.later ≡ later = cc in
     subst (λ j. Inv net (advance net s j later)) same (subst (λ j. Inv net (advance net s c j)) e3 (advanced net s c b.later acc l real live b.left q))
 
-takes_it : (net : Net) (s : State) (n : ℕ) (p : Packet) (c : ℕ) → Arrival net (s.chans c) n p c → (t : State) × IsTaken net s n p t
+pub takes_it : (net : Net) (s : State) (n : ℕ) (p : Packet) (c : ℕ) → Arrival net (s.chans c) n p c → (t : State) × IsTaken net s n p t
 takes_it net s n p c (piece now later g e h f q) =
     elim (cases_Bool (s.chans c).wants) [
       | inl w ↦ (accept net s c now (last_of later), stores c now (last_of later) f w refl)

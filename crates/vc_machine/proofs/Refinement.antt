@@ -68,7 +68,7 @@ runs_are_runs net back waiting ranges es u h =
     subst (λ k. IsReached net k u) (let k : 0 + 2 * length es ≡ 2 * length es = omega arith in k)
     (run_view net back waiting ranges es no_tokens u 0 (record { events = []; few = omega arith; after = start; run = refl; view = no_view net; bindings = no_bindings net }) h)
 
-run_counts : (net : Net) (back : ℕ → ℕ) → Wires net back → (waiting : Waiting) (es : List TokenEvent) (t u : Tokens) → Credited back t → TokenRun net back waiting t es u → Credited back u
+pub run_counts : (net : Net) (back : ℕ → ℕ) → Wires net back → (waiting : Waiting) (es : List TokenEvent) (t u : Tokens) → Credited back t → TokenRun net back waiting t es u → Credited back u
 run_counts net back wires waiting [] t u all h = subst (Credited back) (sym h) all
 run_counts net back wires waiting (e ∷ es) t u all h = run_counts net back wires waiting es h.0 u (step_counts net back wires waiting t e h.0 all h.1) h.2
 

@@ -5,6 +5,7 @@ use Rattle.vc_packets.specs.declared.mark.Mark.{Mark}
 use Rattle.vc_packets.specs.declared.packet.Packet.{Packet}
 use Rattle.vc_packets.specs.Headers.{spelled}
 use Rattle.vc_machine.specs.Paths.{Carries, AtNode, AtSwitch, End, Net, Delivers, IsAccepted}
+use Rattle.vc_machine.specs.Dependencies.{CanStand}
 use Rattle.vc_switch.specs.Forward.{IsDrawn, behind}
 use Rattle.vc_machine.specs.Machine.{State, Full, Event, Run, BodyLeaves, start}
 use Rattle.vc_tokens.specs.Tokens.{Token, Fct, Whole, without_fcts}
@@ -92,7 +93,7 @@ pub record IsSound (net : Net) (back : ℕ → ℕ) (waiting : Waiting) (limit :
   pub within : WithinLimit net limit u after
   pub puts : PutsGoOn net back waiting u
 
--- a body that may stand on a way: headers that lead to an end, and at most 32 bytes
+-- a body that may stand on a way: headers that a packet can have there and that lead to an end, and at most 32 bytes
 pub record FitsWay (net : Net) (most w : ℕ) (b : List ℕ) : Type 0 where
   pub stack : List ℕ
   pub load : List ℕ
@@ -100,6 +101,7 @@ pub record FitsWay (net : Net) (most w : ℕ) (b : List ℕ) : Type 0 where
   pub to : End
   pub body : b ≡ spelled stack ++ load
   pub delivers : Delivers net fuel w stack to
+  pub stands : CanStand net w stack
   pub headers : length stack ≤ most
   pub small : length load ≤ 32
 

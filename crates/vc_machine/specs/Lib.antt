@@ -8,7 +8,9 @@ pub mod Links
 pub mod TokenMachine
 pub mod View
 pub mod Seen
+pub mod Dependencies
 pub mod Laws
+pub mod Still
 pub mod Atomic
 pub mod TokenHeadline
 pub mod Owners

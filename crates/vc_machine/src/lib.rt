@@ -18,6 +18,7 @@ ghost use Rattle.vc_machine.specs.View.{TokenView, Bindings};
 ghost use Rattle.vc_machine.specs.Seen.{seen};
 ghost use Rattle.vc_machine.specs.Laws.{Ranges, StepsAreSteps, RunsAreRuns, BuffersHold, RunsAreSound};
 ghost use Rattle.vc_machine.specs.TokenHeadline.{TokensKeepHeadline};
+ghost use Rattle.vc_machine.specs.Still.{StillIsClear};
 
 /// The headline over packets: on an accepted network, after any list of steps, each channel's taken messages are the first of its
 /// offered ones, each once, whole and in order; finished outputs are no more than taken messages; after a stop nothing more is
@@ -125,4 +126,11 @@ pub fn a_header_is_drawn()
 pub fn a_packet_goes_on_before_its_mark()
     ensures wormhole { (u : Tokens) × TokenRun example example_back Wormhole no_tokens (first_passes ++ goes_on) u × (u.wire 2 ≡ Byte 0 ∷ []) × ((u.receiver 0).mark ≡ None) × ((u.nodes.ways 0).queue ≡ piece ∷ []) }
     ensures store { (net : Net) (back : ℕ → ℕ) (t u : Tokens) (w out : ℕ) → TokenStep net back StoreAndForward t (Route w out) u → (t.receiver w).mark ≡ None → ⊥ }
+{}
+
+/// On an accepted network whose ways have ranks that rise along each dependency, wherever a run has come: if no event can happen but
+/// moves of processes, no packet is in a queue, on a way or in a switch, no way carries a token, and each way has credit. Every packet
+/// that is there is held at its receiver. In store and forward and in wormhole alike.
+pub fn a_still_network_is_clear()
+    ensures { (net : Net) (back : ℕ → ℕ) (waiting : Waiting) → StillIsClear net back waiting }
 {}

@@ -23,3 +23,4 @@ pub mod Threads
 pub mod Wires
 pub mod Wiring
 pub mod Writes
+pub mod Able

@@ -278,7 +278,7 @@ taken_reaches plan car sw t n p taken b acc s (node.advances c end now later her
     }
 
 -- what a half of the ways' machine may take, a half here may take
-taken_back : (plan : Plan) (car : ℕ → Carrier) (sw : ℕ → ℕ) (t : State) (n : ℕ) (p : Packet) (u : State) →
+pub taken_back : (plan : Plan) (car : ℕ → Carrier) (sw : ℕ → ℕ) (t : State) (n : ℕ) (p : Packet) (u : State) →
     IsAccepted plan → Sees plan car sw t → net.IsTaken (net_of plan) t n p u → (taken : node.Taken) × (b : Carrier) × node.IsTaken (ends plan n) (car n) p taken b
 taken_back plan car sw t n p u acc s (net.stores c load last piece wants after) =
     let o = inputs_there plan n c piece.real piece.node in

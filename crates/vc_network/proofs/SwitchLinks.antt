@@ -41,17 +41,17 @@ body_leaves plan k b link d acc h =
       after_is = h.after_is;
     }
 
-has_group : (plan : Plan) (k : ℕ) (b : List ℕ) → switch.HasGroup (switch_plan plan k) b → net.HasGroup (net_of plan) k b
+pub has_group : (plan : Plan) (k : ℕ) (b : List ℕ) → switch.HasGroup (switch_plan plan k) b → net.HasGroup (net_of plan) k b
 has_group plan k b h = record { stack = h.stack; rest = h.rest; header = h.header; behind_it = h.behind_it; first = h.first; last = h.last; is = h.is; front = h.front; group = h.group }
 
-group_back : (plan : Plan) (k : ℕ) (b : List ℕ) → net.HasGroup (net_of plan) k b → switch.HasGroup (switch_plan plan k) b
+pub group_back : (plan : Plan) (k : ℕ) (b : List ℕ) → net.HasGroup (net_of plan) k b → switch.HasGroup (switch_plan plan k) b
 group_back plan k b h = record { stack = h.stack; rest = h.rest; header = h.header; behind_it = h.behind_it; first = h.first; last = h.last; is = h.is; front = h.front; group = h.group }
 
 -- the way that leaves by a port of a group
 out_way : (plan : Plan) (k output : ℕ) (b d : List ℕ) → IsAccepted plan → switch.BodyLeaves (switch_plan plan k) b output d → IsOutOf plan (way_from plan (AtSwitch k output)) (AtSwitch k output)
 out_way plan k output b d acc h = let l = h.leaves in let f = found_by plan (AtSwitch k output) (acc.groups k l.header l.first l.last output l.group l.low l.high) in (f.0, f.1)
 
-header_same : (plan : Plan) (k l : ℕ) (x : Input) (r : Receiver) → SwitchEnd plan k x r → tok.with_header (net_of plan) k l r ≡ with_header (switch_plan plan k) l x
+pub header_same : (plan : Plan) (k l : ℕ) (x : Input) (r : Receiver) → SwitchEnd plan k x r → tok.with_header (net_of plan) k l r ≡ with_header (switch_plan plan k) l x
 header_same plan k l x r e = λ i. headed (drawn ((switch_plan plan k).random l) (e.word i)) (e.got i)
 
 put_own : {X : Type 0} (f : ℕ → X) (i : ℕ) → f ≡ put f i (f i)
@@ -70,10 +70,10 @@ bound_none : (plan : Plan) (k : ℕ) (x b : Option ℕ) → SameBound plan k x b
 bound_none plan k None b h e = h
 bound_none plan k (Some l) b h e = absurd (none_some l (sym e))
 
-bound_some : (plan : Plan) (k l : ℕ) (x b : Option ℕ) → SameBound plan k x b → x ≡ Some l → (out : ℕ) × (b ≡ Some out) × IsOutOf plan out (AtSwitch k l)
+pub bound_some : (plan : Plan) (k l : ℕ) (x b : Option ℕ) → SameBound plan k x b → x ≡ Some l → (out : ℕ) × (b ≡ Some out) × IsOutOf plan out (AtSwitch k l)
 bound_some plan k l x b h e = subst (λ z. SameBound plan k z b) e h
 
-bound_back : (plan : Plan) (k out : ℕ) (x b : Option ℕ) → SameBound plan k x b → b ≡ Some out → (l : ℕ) × (x ≡ Some l) × IsOutOf plan out (AtSwitch k l)
+pub bound_back : (plan : Plan) (k out : ℕ) (x b : Option ℕ) → SameBound plan k x b → b ≡ Some out → (l : ℕ) × (x ≡ Some l) × IsOutOf plan out (AtSwitch k l)
 bound_back plan k out None b h e = absurd (none_some out (sym h ∙ e))
 bound_back plan k out (Some l) b h e = (l, refl, subst (λ z. IsOutOf plan z (AtSwitch k l)) (some_same h.0 out (sym h.1 ∙ e)) h.2)
 

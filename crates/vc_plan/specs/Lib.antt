@@ -10,3 +10,4 @@ pub mod Refusals
 pub mod Search
 pub mod Versions
 pub mod Wires
+pub mod Dependencies

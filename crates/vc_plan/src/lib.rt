@@ -44,7 +44,7 @@ pub use accepted::Accepted;
 pub use channel::{Channel, Home};
 pub use check_refused::{CheckRefused, Refusal};
 pub use checker::check;
-pub use laws::refusals_are_right;
+pub use laws::{cycles_are_right, refusals_are_right};
 pub use limit_word::LimitWord;
 pub use name::Name;
 pub use node_plan::{NodePlan, Variable};

@@ -104,7 +104,7 @@ module _ (p : Plan) (waiting : Waiting) (s : Network (Actor Process) Token) (acc
         record {
           by_node = λ n less. (let q = (parts n).of_node less in (q.0, q.1, subst (λ ks. IsMadeBy p n ks q.0.process.state) (sym (one.parts n)) q.2));
           by_no_other = λ n past. one.parts n ∙ (parts n).of_none past;
-          on_channel = λ c less.
+          on_channel = λ c.
               runs_too (kind_on p) c whole.ks one.all (view (network_of p) s c) one.said nothing_yet tt
               (subst (λ v. DoesAll v (part c (all_said whole.ks)) (view (network_of p) s c)) (first_view (network_of p) (begin_of p) c) (whole.views c));
         },

@@ -50,7 +50,7 @@ uses_kinded : (p : Plan) (n : ℕ) (us : List ChannelUse) → ((k : ℕ) (u : Ch
 uses_kinded p n [] h = tt
 uses_kinded p n (u ∷ us) h = (use_kinded p n u (h 0 u refl), uses_kinded p n us (λ k v e. h (suc k) v e))
 
-named : (p : Plan) → IsAccepted p → (n : ℕ) (node : NodePlan) → slice_get p.nodes n ≡ Some node → names_fit (written node.process) (kinds_of node.vars) (length p.channels) ≡ true
+pub named : (p : Plan) → IsAccepted p → (n : ℕ) (node : NodePlan) → slice_get p.nodes n ≡ Some node → names_fit (written node.process) (kinds_of node.vars) (length p.channels) ≡ true
 named p acc n node e =
     let a = (both (list_all (wire_there p) p.wires) (list_all (ends_there p) p.vlinks && (list_all (λ (x : Channel). home_there p x.home) p.channels && list_all (process_names p) p.nodes)) (kept p acc).number).1 in
     let b = (both (list_all (ends_there p) p.vlinks) (list_all (λ (x : Channel). home_there p x.home) p.channels && list_all (process_names p) p.nodes) a).1 in

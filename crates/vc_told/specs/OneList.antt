@@ -42,7 +42,7 @@ IsMadeBy p n ks s = NodeTrace (begin_of p n).inside (written (node_plan p n).pro
 pub record IsTold (p : Plan) (s : Network (Actor Process) Token) (ks : List (ℕ × Comm)) : Type 0 where
   pub by_node : (n : ℕ) → n < length p.nodes → (a : Node Process) × (s.state n ≡ IsNode a) × IsMadeBy p n (by n ks) a.process.state
   pub by_no_other : (n : ℕ) → length p.nodes ≤ n → by n ks ≡ []
-  pub on_channel : (c : ℕ) → c < length p.channels → DoesAll nothing_yet (on c ks) (view (network_of p) s c)
+  pub on_channel : (c : ℕ) → DoesAll nothing_yet (on c ks) (view (network_of p) s c)
 
 -- after any events of an accepted plan's network there is such a list
 abbrev pub AllIsTold : Type 0

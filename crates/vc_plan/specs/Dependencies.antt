@@ -1,0 +1,78 @@
+-- For which way a packet may come to wait that has come by another; ranks that rise along these dependencies, and cycles of them.
+-- A way is named by the port by which packets leave on it.
+use Rattle.std.specs.Prelude.{◌≡◌, ◌⊎◌, ℕ, ◌<◌, Bool, List, [], ◌∷◌, length, Some, slice_get}
+use Rattle.vc_plan.specs.declared.port.Spot.{Spot}
+use Rattle.vc_plan.specs.declared.port.Spot.TheVariants.{Node, Switch}
+use Rattle.vc_plan.specs.declared.port.Port.{Port}
+use Rattle.vc_plan.specs.declared.plan.Plan.{Plan}
+use Rattle.vc_plan.specs.declared.vlink.Vlink.{Vlink}
+use Rattle.vc_plan.specs.declared.path_fault.Hop.{Hop}
+use Rattle.vc_plan.specs.Accepted.{end_of}
+use Rattle.vc_plan.specs.Hops.{IsHop}
+use Rattle.vc_plan.specs.Wires.{across, sending_port}
+
+-- the port by which the packet left
+abbrev pub port_of : Hop → Port
+port_of h = record { spot = Switch h.switch; link = h.link }
+
+-- a packet of some virtual link can leave by this port with these headers
+pub data CanLeave (net : Plan) : Port → List ℕ → Type 0 where
+  first : (k : ℕ) (v : Vlink) (from_a : Bool) → slice_get net.vlinks k ≡ Some v → CanLeave net (sending_port (end_of v from_a)) (end_of v from_a).route
+  later : {a : Port} {s t : List ℕ} (p q : Port) (h : Hop) → CanLeave net a s → across net.wires a ≡ Some p → IsHop net p s h q t → CanLeave net (port_of h) t
+
+-- a packet that left by port a can leave the switch to which it comes by port b
+pub record DependsOn (net : Plan) (a b : Port) : Type 0 where
+  pub headers : List ℕ
+  pub far : Port
+  pub hop : Hop
+  pub to : Port
+  pub after : List ℕ
+  pub leaves : CanLeave net a headers
+  pub comes : across net.wires a ≡ Some far
+  pub goes : IsHop net far headers hop to after
+  pub port : b ≡ port_of hop
+
+-- each port has a rank, and it rises along each dependency
+pub record HasRanks (net : Plan) : Type 0 where
+  pub rank : Port → ℕ
+  pub rises : (a b : Port) → DependsOn net a b → rank a < rank b
+
+-- each of these ports depends on the next, and the last on b
+abbrev pub Chain : Plan → Port → List Port → Port → Type 0
+Chain net a [] b = DependsOn net a b
+Chain net a (c ∷ cs) b = DependsOn net a c × Chain net c cs b
+
+-- and the last on the first
+abbrev pub IsCycle : Plan → List Port → Type 0
+IsCycle net [] = ⊥
+IsCycle net (a ∷ as') = Chain net a as' a
+
+-- the order of ports: nodes before switches, then by number, then by link
+abbrev pub SpotBefore : Spot → Spot → Type 0
+SpotBefore (Node m) (Node n) = m < n
+SpotBefore (Node m) (Switch n) = Unit {0}
+SpotBefore (Switch m) (Node n) = ⊥
+SpotBefore (Switch m) (Switch n) = m < n
+
+abbrev pub PortBefore : Port → Port → Type 0
+PortBefore a b = SpotBefore a.spot b.spot ⊎ ((a.spot ≡ b.spot) × (a.link < b.link))
+
+-- of two lists of one length, the first port that differs decides
+abbrev pub Before : List Port → List Port → Type 0
+Before [] bs = ⊥
+Before (a ∷ as') [] = ⊥
+Before (a ∷ as') (b ∷ bs) = PortBefore a b ⊎ ((a ≡ b) × Before as' bs)
+
+-- fewer ports, or as many and not after the others
+abbrev pub IsNotAfter : List Port → List Port → Type 0
+IsNotAfter as' bs = (length as' < length bs) ⊎ ((length as' ≡ length bs) × (Before as' bs ⊎ (as' ≡ bs)))
+
+-- a cycle, and no cycle is before it
+pub record IsLeastCycle (net : Plan) (ports : List Port) : Type 0 where
+  pub cycle : IsCycle net ports
+  pub least : (others : List Port) → IsCycle net others → IsNotAfter ports others
+
+-- what is shown is right: where there are ranks there is no cycle, and one cycle is the least
+pub record CyclesAreRight : Type 0 where
+  pub refuted : (p : Plan) (ports : List Port) → HasRanks p → IsCycle p ports → ⊥
+  pub one : (p : Plan) (ports others : List Port) → IsLeastCycle p ports → IsLeastCycle p others → ports ≡ others
