@@ -1,1 +1,2 @@
 pub mod UnderWay
+pub mod Carrying

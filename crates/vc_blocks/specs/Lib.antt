@@ -2,3 +2,4 @@ pub mod Halves
 pub mod Sending
 pub mod Advancing
 pub mod Arriving
+pub mod Carrying

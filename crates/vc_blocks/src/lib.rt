@@ -2,12 +2,14 @@
 //! it was acknowledged, and the one that inputs puts the pieces of a message together, and holds a first piece that finds no
 //! process inputting ("Networks, Routers and Transputers", chapter 2).
 //!
-//! The layer above knows that an [`OutHalf`] has at most one piece under way, and that an [`InHalf`] gives a message whole, when its
-//! last piece was stored (`specs/Halves`).
+//! The layer above knows that an [`OutHalf`] has at most one piece under way (`specs/Halves`), and that an [`InHalf`] gives a message
+//! whole, when its last piece was stored (`specs/Carrying`).
 #![tactic(auto)]
 
 mod in_half;
+mod laws;
 mod out_half;
 
 pub use in_half::{Arrival, InHalf, Want};
+pub use laws::messages_arrive_whole;
 pub use out_half::{Advance, OutHalf};

@@ -1,6 +1,6 @@
 -- What a table without a fault is, and what the one row is that holds a header.
 use Rattle.std.proofs.Common.{◌≡◌, ℕ, suc, zero, ◌≤◌, ◌<◌, Bool, true, false, IsTrue, List, [], ◌∷◌, length, if◌then◌else◌, Option, Some, None, MatchOption, refl, sym, ap, ◌∙◌, arith}
-use Rattle.std.specs.Prelude.{slice_get, slice_index_or, nat_le}
+use Rattle.std.specs.Prelude.{◌↔◌, slice_get, slice_index_or, nat_le}
 use Rattle.std.specs.List.Sorted.{IsNonDecreasingBy, IsPartitionPoint}
 use Rattle.std.proofs.lemmas.Bool.Decides.{nat_tests}
 use Rattle.vc_labels.specs.declared.row.Row.{Row}
@@ -8,8 +8,8 @@ use Rattle.vc_labels.specs.declared.action.Action.{Action}
 use Rattle.vc_labels.specs.declared.action.Action.TheVariants.{Out, Portal}
 use Rattle.vc_labels.specs.declared.fault.TableFault.{TableFault}
 use Rattle.vc_labels.specs.Interval.{holds, action_at, action_for, NoRowHolds, IsOnlyAction}
-use Rattle.vc_labels.specs.Lawful.{HasLinks, IsLawfulFrom}
-use Rattle.vc_labels.specs.Fault.{link_fault, row_fault, or_else, fault_from}
+use Rattle.vc_labels.specs.Lawful.{HasLinks, IsLawfulFrom, IsLawful, starts_at}
+use Rattle.vc_labels.specs.Fault.{link_fault, row_fault, or_else, fault_from, table_fault}
 
 HasLinks-of : (a : Action) → link_fault a ≡ None → HasLinks a
 HasLinks-of (Out first last) e = grind (arith, nat_tests)
@@ -29,6 +29,19 @@ lawful-from start (row ∷ rows) e =
     let o = or_else-first (row_fault start row) (fault_from row.limit rows) e in
     let f = row-fine start row o.0 in
     (f.0, f.1, f.2, HasLinks-of row.action f.3, lawful-from row.limit rows o.1)
+
+link-free : (a : Action) → HasLinks a → link_fault a ≡ None
+link-free (Out first last) w = grind (arith, nat_tests)
+link-free Portal w = refl
+
+row-free : (start : ℕ) (row : Row) → row.lower ≡ start → row.lower < row.limit → row.limit ≤ 65536 → link_fault row.action ≡ None → row_fault start row ≡ None
+row-free start row begins rises within links = grind (arith, nat_tests)
+
+pub free-from : (start : ℕ) (rows : List Row) → IsLawfulFrom start rows → fault_from start rows ≡ None
+free-from start [] w = refl
+free-from start (row ∷ rows) w =
+    let none : row_fault start row ≡ None = row-free start row w.0 w.1 w.2 (link-free row.action w.3) in
+    ap (λ o. or_else o (fault_from row.limit rows)) none ∙ free-from row.limit rows w.4
 
 holds-bounds : (row : Row) (h : ℕ) → IsTrue (holds row h) → (row.lower ≤ h) × (h < row.limit)
 holds-bounds row h t = grind (arith, nat_tests)
@@ -132,3 +145,6 @@ by-place start h (r ∷ rows) (suc at) w p =
     let m : holds r h ≡ false = missed r h (p.0 0 r (omega arith) (omega arith)) in
     ap (λ b. if b then Some r.action else action_for rows h) m
     ∙ by-place r.limit h rows at w.4 (λ k d l m. p.0 (suc k) d (omega arith) (omega arith), λ k d l m. p.1 (suc k) d (omega arith) (omega arith))
+
+pub faultless_are_lawful : (rows : List Row) → table_fault rows ≡ None ↔ IsLawful rows
+faultless_are_lawful rows = (lawful-from (starts_at rows) rows, free-from (starts_at rows) rows)

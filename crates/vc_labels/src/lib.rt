@@ -8,10 +8,12 @@
 
 mod action;
 mod fault;
+mod laws;
 mod row;
 mod table;
 
 pub use action::Action;
 pub use fault::{TableFault, fault_of_rows};
+pub use laws::lawful_rows_have_no_fault;
 pub use row::Row;
 pub use table::{Table, find_action};

@@ -73,14 +73,15 @@ fn find_by_halving(rows: &[Row], header: u16) -> Option<Action>
 }
 
 impl Table {
-    ghost use Rattle.std.specs.Prelude.{◌≡◌, MatchOption, MatchResult, Some};
+    ghost use Rattle.std.specs.Prelude.{◌≡◌, ◌↔◌, IsOk, MatchOption, MatchResult, Some};
     ghost use Rattle.vc_labels.specs.Fault.{table_fault};
     ghost use Rattle.vc_labels.specs.Interval.{action_for, IsOnlyAction, NoRowHolds};
     ghost use Rattle.vc_labels.specs.Lawful.{IsLawful};
 
     /// The table of these rows, or the fault of the first row that has one. It takes no memory.
     pub fn new(rows: Items<Row>) -> Result<Table, TableFault>
-        ensures { MatchResult result (λ t. (t ≡ rows) × IsLawful rows) (λ fault. table_fault rows ≡ Some fault) }
+        ensures table { MatchResult result (λ t. t ≡ rows) (λ fault. table_fault rows ≡ Some fault) }
+        ensures lawful { IsOk result ↔ IsLawful rows }
     {
         match fault_of_rows(rows.as_slice()) {
             Some(fault) => Err(fault),

@@ -75,9 +75,9 @@ refusal why.Kind path = Kind path
 refusal why.Range path = Range path
 refusal why.Unknown path = Unknown path
 
--- the text is a value that means this
+-- the text is UTF-8, and a value that means this
 abbrev pub TextMeans : List ℕ → Result Plan Fault → Type 0
-TextMeans text answer = (d : Data) × (read text ≡ Some d) × (plan_of d ≡ answer)
+TextMeans text answer = (d : Data) × IsUtf8 text × (read text ≡ Some d) × (plan_of d ≡ answer)
 
 -- what reading answers for a text: its plan, or its first fault; that it is no JSON; or that there was no memory
 abbrev pub Reads : List ℕ → Result Plan ReadRefused → Type 0

@@ -249,7 +249,7 @@ fn plan(alloc: Global, value: &Value) -> Result<Plan, Stop>
 
 /// The JSON value of a text.
 fn parse(alloc: Global, text: &[u8]) -> Result<Value, ReadRefused>
-    ensures ok { IfOk result (λ v. read text.now ≡ Some (view v)) }
+    ensures ok { IfOk result (λ v. IsUtf8 text.now × (read text.now ≡ Some (view v))) }
     ensures err { IfErr result (λ e. (e ≡ OutOfMemory) ⊎ ((e ≡ Json) × (IsUtf8 text.now → read text.now ≡ None))) }
 {
     match Value::from_slice(alloc, text) {

@@ -1,5 +1,5 @@
 //! Who may go on.
-ghost use Rattle.std.specs.Prelude.{◌≡◌, ◌≤◌};
+ghost use Rattle.std.specs.Prelude.{◌≡◌};
 
 use std::sync::atomic::{AtomicU64, Ordering};
 
@@ -21,9 +21,9 @@ pub struct EndGate {
 }
 
 impl EndGate {
-    /// The gate of a network with so many nodes, at most 64: its first actors. It is open until [`Gate::ended`] was told of each.
+    /// The gate of a network with so many nodes: its first actors. It is open until [`Gate::ended`] was told of each, and never closes
+    /// where they are more than 64.
     pub fn new(nodes: u8) -> EndGate
-        requires { nodes ≤ 64 }
         ensures { result.nodes ≡ nodes }
     {
         EndGate {

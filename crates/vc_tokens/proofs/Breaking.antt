@@ -7,10 +7,10 @@ use Rattle.vc_packets.specs.declared.packet.Packet.{Packet}
 use Rattle.vc_tokens.specs.declared.refused.Why.{Why}
 use Rattle.vc_tokens.specs.declared.refused.Why.TheVariants.{TooLong, StrayFct, Memory}
 use Rattle.vc_tokens.specs.Decoding.{IsBreak, Breaks}
-use Rattle.vc_tokens.specs.Laws.{IsWhole, IsBroken}
+use Rattle.vc_tokens.specs.Laws.{Feeds, stream, IsWhole, IsBroken}
 use Rattle.vc_tokens.specs.Tokens.{Token, Byte, Fct, EndMark, bytes, spelling, spellings, Whole}
 use Rattle.vc_tokens.proofs.Spelling.{first_packet}
-use Rattle.vc_tokens.proofs.Reading.{read_once, whole_start, whole_byte, whole_mark}
+use Rattle.vc_tokens.proofs.Reading.{read_once, whole_start, whole_byte, whole_mark, whole_join, cut_anyhow}
 
 -- what stands behind the front of a stream that is read
 record Behind (limit : ℕ) (rest : List ℕ) (us : List Token) (left : List ℕ) : Type 0 where
@@ -156,3 +156,45 @@ read_on limit front ps rest (Byte b ∷ ts) w = elim (cases_lt (length rest) lim
 
 pub read_or_broken : (limit : ℕ) (ts : List Token) → IsWhole limit ts ⊎ IsBroken limit ts
 read_or_broken limit ts = read_on limit [] [] [] ts (whole_start limit [] (omega arith))
+
+-- where a token of two lists stands: in the first, or in the second
+data Side (xs ts good : List Token) (bad : Token) (later : List Token) : Type 0 where
+  inside : (more : List Token) → xs ≡ good ++ bad ∷ more → Side xs ts good bad later
+  beyond : (gs : List Token) → good ≡ xs ++ gs → ts ≡ gs ++ bad ∷ later → Side xs ts good bad later
+
+side-next : (x : Token) (xs ts good : List Token) (bad : Token) (later : List Token) → Side xs ts good bad later → Side (x ∷ xs) ts (x ∷ good) bad later
+side-next x xs ts good bad later (inside more e) = inside more (ap (λ k. x ∷ k) e)
+side-next x xs ts good bad later (beyond gs e f) = beyond gs (ap (λ k. x ∷ k) e) f
+
+side : (xs ts good : List Token) (bad : Token) (later : List Token) → xs ++ ts ≡ good ++ bad ∷ later → Side xs ts good bad later
+side [] ts good bad later e = beyond good refl e
+side (x ∷ xs) ts [] bad later e = inside xs (let k : x ≡ bad = cc in ap (λ k. k ∷ xs) k)
+side (x ∷ xs) ts (g ∷ gs) bad later e =
+    let first : x ≡ g = cc in
+    let rest : xs ++ ts ≡ gs ++ bad ∷ later = cc in
+    subst (λ k. Side (x ∷ xs) ts (k ∷ gs) bad later) first (side-next x xs ts gs bad later (side xs ts gs bad later rest))
+
+-- a break of the last feed is one of the stream: what was left before it does not break
+cut_at : (limit : ℕ) (front ts : List Token) (packets before : List Packet) (left : List ℕ) (why : Why) → Whole limit front packets left →
+    (b : Breaks limit (bytes left ++ ts) before why) → Side (bytes left) ts b.good b.bad b.later → Breaks limit (front ++ ts) (packets ++ before) why
+cut_at limit front ts packets before left why w b (inside more e) =
+    let read : Whole limit (bytes left) [] left = record { spells = refl; bodies = tt; rest_fits = w.rest_fits } in
+    let broken : Breaks limit (bytes left) before why =
+    record { good = b.good; bad = b.bad; later = more; rest = b.rest; is = e; whole = b.whole; breaks = b.breaks } in
+    absurd (read_unbroken limit (bytes left) [] before left why read broken)
+cut_at limit front ts packets before left why w b (beyond gs e f) =
+    let P : List Token → Type 0 = λ k. Whole limit k before b.rest in
+    record {
+      good = front ++ gs;
+      bad = b.bad;
+      later = b.later;
+      rest = b.rest;
+      is = ap (λ k. front ++ k) f ∙ sym (append_assoc front gs (b.bad ∷ b.later));
+      whole = whole_join limit front gs packets before left b.rest w (subst P e b.whole);
+      breaks = b.breaks;
+    }
+
+pub cut_broken : (limit : ℕ) (feeds : List (List Token)) (ts : List Token) (packets before : List Packet) (left : List ℕ) (why : Why) →
+    Feeds limit [] feeds packets left → Breaks limit (bytes left ++ ts) before why → Breaks limit (stream feeds ++ ts) (packets ++ before) why
+cut_broken limit feeds ts packets before left why f b =
+    cut_at limit (stream feeds) ts packets before left why (cut_anyhow limit feeds packets left f) b (side (bytes left) ts b.good b.bad b.later b.is)

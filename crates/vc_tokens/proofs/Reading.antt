@@ -79,7 +79,8 @@ token_breaks limit start next i d ps rest why within w broken = record {
   breaks = broken;
 }
 
-whole_join : (limit : ℕ) (ts us : List Token) (ps qs : List Packet) (between rest : List ℕ) → Whole limit ts ps between → Whole limit (bytes between ++ us) qs rest →
+-- what is read of a front, and of what stands behind it
+pub whole_join : (limit : ℕ) (ts us : List Token) (ps qs : List Packet) (between rest : List ℕ) → Whole limit ts ps between → Whole limit (bytes between ++ us) qs rest →
     Whole limit (ts ++ us) (ps ++ qs) rest
 whole_join limit ts us ps qs between rest a b = record {
   spells = ap (λ k. k ++ us) a.spells ∙ append_assoc (spellings ps) (bytes between) us ∙ ap (λ k. spellings ps ++ k) b.spells

@@ -25,6 +25,12 @@ stream (ts ∷ feeds) = ts ++ stream feeds
 abbrev pub CuttingsAgree : Type 0
 CuttingsAgree = (limit : ℕ) (feeds : List (List Token)) (packets : List Packet) (left : List ℕ) → Feeds limit [] feeds packets left → Whole limit (stream feeds) packets left
 
+-- where a feed behind these is refused, the stream breaks at the same token, behind all packets so far
+abbrev pub CuttingsBreakAlike : Type 0
+CuttingsBreakAlike =
+    (limit : ℕ) (feeds : List (List Token)) (ts : List Token) (packets before : List Packet) (left : List ℕ) (why : Why) → Feeds limit [] feeds packets left →
+    Breaks limit (bytes left ++ ts) before why → Breaks limit (stream feeds ++ ts) (packets ++ before) why
+
 -- the stream is read, as some packets and the bytes behind them
 abbrev pub IsWhole : ℕ → List Token → Type 0
 IsWhole limit ts = (ps : List Packet) × (rest : List ℕ) × Whole limit ts ps rest

@@ -17,6 +17,6 @@ mod token;
 pub use assembler::Assembler;
 pub use decoder::Decoder;
 pub use encoder::{Encoder, encode};
-pub use laws::{breaks_are_one, cuttings_agree, readings_are_one};
+pub use laws::{breaks_are_one, cuttings_agree, cuttings_break_alike, readings_are_one};
 pub use refused::{Refused, Why};
 pub use token::Token;

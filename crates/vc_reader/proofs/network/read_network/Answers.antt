@@ -1,4 +1,5 @@
 use Rattle.std.proofs.Common.{◌≡◌, ℕ, List, Some, Err, refl}
+use Rattle.std.specs.Str.{IsUtf8}
 use Rattle.serde_json.specs.Data.{Data}
 use Rattle.serde_json.specs.Read.{read}
 use Rattle.serde_json.specs.View.{view}
@@ -10,13 +11,13 @@ use Rattle.vc_reader.specs.declared.refused.ReadRefused.{ReadRefused}
 use Rattle.vc_reader.proofs.network.read_network.Goals as goal
 
 -- the refusal of a text that means a fault
-at-fault : (text : List ℕ) (d : Data) (w : Why) (path : List Step) (r : ReadRefused) → read text ≡ Some d → plan_of d ≡ Err (record { why = w; path = path }) → r ≡ refusal w path → Reads text (Err r)
-at-fault text d why.Missing path r t m e = rw e (record { why = why.Missing; path = path }, (d, t, m), refl)
-at-fault text d why.Kind path r t m e = rw e (record { why = why.Kind; path = path }, (d, t, m), refl)
-at-fault text d why.Range path r t m e = rw e (record { why = why.Range; path = path }, (d, t, m), refl)
-at-fault text d why.Unknown path r t m e = rw e (record { why = why.Unknown; path = path }, (d, t, m), refl)
+at-fault : (text : List ℕ) (d : Data) (w : Why) (path : List Step) (r : ReadRefused) → IsUtf8 text → read text ≡ Some d → plan_of d ≡ Err (record { why = w; path = path }) → r ≡ refusal w path → Reads text (Err r)
+at-fault text d why.Missing path r u t m e = rw e (record { why = why.Missing; path = path }, (d, u, t, m), refl)
+at-fault text d why.Kind path r u t m e = rw e (record { why = why.Kind; path = path }, (d, u, t, m), refl)
+at-fault text d why.Range path r u t m e = rw e (record { why = why.Range; path = path }, (d, u, t, m), refl)
+at-fault text d why.Unknown path r u t m e = rw e (record { why = why.Unknown; path = path }, (d, u, t, m), refl)
 
 pub returns : goal.returns
 returns c =
-    at-fault c.args.text.now (view c.in_ok-value.value) c.in-Err-Fault.fault.why c.in-Err-Fault.fault.path c.at.result c.in_ok-value.ensures.ok
+    at-fault c.args.text.now (view c.in_ok-value.value) c.in-Err-Fault.fault.why c.in-Err-Fault.fault.path c.at.result c.in_ok-value.ensures.ok.0 c.in_ok-value.ensures.ok.1
     (rw c.in-Err-Fault.field-0-is at c.in-Err-Fault.ensures) c.at.ensures
