@@ -22,7 +22,7 @@ use Rattle.vc_vcp.specs.Keyed.{shown_or}
 use Rattle.vc_vcp.specs.Links.{new_vcp}
 use Rattle.vc_machine.specs.Rendezvous.{nothing_yet}
 use Rattle.vc_actor.specs.Begin.{AreFirst}
-use Rattle.vc_told.proofs.Main.{all_told}
+use Rattle.vc_placement.proofs.Networks.{invisible}
 use Rattle.vc_told.specs.Begin.{begin_of}
 use Rattle.vc_core.specs.Channels.{AreChannelsOf}
 use Rattle.vc_told.specs.Process.{Process, does}
@@ -89,13 +89,13 @@ reached_more p events i e s t r here made = record {
       (happen_more (network_of p) (begins (network_of p) (begin_of p)) (shown s) (shown t) (map event_of (take i events)) (event_of e) r.happen made.happens);
 }
 
--- there the headline holds, and one list tells all
+-- there the headline holds, and one list tells all, with a linearization
 pub replays : (p : Plan) (events : List Event) (s : State) → Reached p events s → Replays p events s
 replays p events s r = record {
   is = r.is;
   happen = r.happen;
   headline = headline (network_of p) Wormhole does (begin_of p) (map event_of events) (shown s) (accepted p r.is.accepted) r.happen;
-  told = all_told p Wormhole (map event_of events) (shown s) r.is.accepted r.happen;
+  linearizes = invisible p Wormhole (map event_of events) (shown s) r.is.accepted r.happen;
 }
 
 pub all_taken : {X : Type 0} (xs : List X) (n : ℕ) → length xs ≤ n → take n xs ≡ xs

@@ -2,12 +2,11 @@
 use Rattle.std.specs.Prelude.{◌≡◌, ◌↔◌, ℕ, List, map, take, slice_get, Option, Some, None}
 use Rattle.vc_network.specs.Network.{begins, HappenAll}
 use Rattle.vc_network.specs.Headline.{Headline}
-use Rattle.vc_occam.specs.Traces.{Comm}
+use Rattle.vc_placement.specs.Placement.{Linearizes}
 use Rattle.vc_plan.specs.declared.plan.Plan.{Plan}
 use Rattle.vc_accepted.specs.NetworkOf.{network_of}
 use Rattle.vc_switch.specs.Waiting.{Wormhole}
 use Rattle.vc_told.specs.Begin.{begin_of}
-use Rattle.vc_told.specs.OneList.{IsTold}
 use Rattle.vc_core.specs.Enabled.{CanHappen}
 use Rattle.vc_told.specs.Process.{does}
 use Rattle.vc_core.specs.State.{State, shown, event_of, state_of, IsNetworkOf}
@@ -27,12 +26,13 @@ pub record Reached (p : Plan) (events : List Event) (s : State) : Type 0 where
   pub is : IsNetworkOf p s
   pub happen : HappenAll (network_of p) Wormhole does (begins (network_of p) (begin_of p)) (map event_of events) (shown s)
 
--- and there the headline holds, and one list tells all that the nodes communicated: each node's part is a trace of its process
+-- and there the headline holds, and one list tells all that the nodes communicated, which has a linearization: each message passes at
+-- one moment, and each node's part is a trace of its process
 pub record Replays (p : Plan) (events : List Event) (s : State) : Type 0 where
   pub is : IsNetworkOf p s
   pub happen : HappenAll (network_of p) Wormhole does (begins (network_of p) (begin_of p)) (map event_of events) (shown s)
   pub headline : Headline (network_of p) Wormhole does (begin_of p) (shown s)
-  pub told : (ks : List (ℕ × Comm)) × IsTold p (shown s) ks
+  pub linearizes : Linearizes p (shown s)
 
 -- an event is refused for what it is, and not for want of memory, exactly where it is none of the network
 abbrev pub IsCause : Plan → State → Event → StepRefused → Type 0

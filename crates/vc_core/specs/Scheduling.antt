@@ -10,5 +10,5 @@ pub record EventsLeadOn : Type 0 where
   pub first : (p : Plan) (s : State) → IsOpening p s → Reached p [] s
   -- an event that is made joins those made before it
   pub next : (p : Plan) (made : List Event) (e : Event) (s t : State) → Reached p made s → MakesEvent p s e t → Reached p (made ++ e ∷ []) t
-  -- the headline holds there, and one list tells all that the nodes communicated
+  -- the headline holds there, and what the nodes communicated has a linearization
   pub headline : (p : Plan) (made : List Event) (s : State) → Reached p made s → Replays p made s

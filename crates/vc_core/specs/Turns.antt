@@ -1,10 +1,7 @@
 -- What an actor's turn is to the network; and when no event can happen at all.
 use Rattle.std.specs.Prelude.{◌≡◌, ◌↔◌, ℕ, ◌<◌, length, Bool, true, false, Option, Some, None}
-use Rattle.vc_network.specs.Network as net
-use Rattle.vc_occam.specs.Remains.{Done}
 use Rattle.vc_plan.specs.declared.plan.Plan.{Plan as Given}
 use Rattle.vc_core.specs.Enabled.{CanHappen}
-use Rattle.vc_told.specs.Process.{Process}
 use Rattle.std.specs.Int.{bit_at}
 use Rattle.vc_core.specs.State.{State, shown, HasFront, HasWay}
 use Rattle.vc_actor.specs.Turns.{kind_of}
@@ -12,6 +9,7 @@ use Rattle.vc_actor.specs.declared.act.Act.{Act}
 use Rattle.vc_actor.specs.declared.act.Act.TheVariants.{Take}
 use Rattle.vc_actor.specs.declared.act.ActKind.{ActKind}
 use Rattle.vc_core.specs.declared.event.Event.{Event}
+use Rattle.vc_placement.specs.OneNode as one_node
 pub use Rattle.vc_actor.specs.Turns.{RoomLets, IsTurn, FindsTurn, TakesNone, actors, IsPut, MakesTurn}
 
 -- room has a bit for each link by which a way goes out
@@ -54,4 +52,4 @@ GoesOn p s false = IsAtRest p s
 
 -- nothing remains of any node's process
 abbrev pub HaveEnded : Given → State → Type 0
-HaveEnded p s = (k : ℕ) → k < length p.nodes → (n : net.Node Process) × ((shown s).state k ≡ net.IsNode n) × (n.process.state.rest ≡ Done)
+HaveEnded p s = one_node.HaveEnded p (shown s)

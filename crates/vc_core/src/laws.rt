@@ -3,7 +3,7 @@ ghost use Rattle.vc_core.specs.Scheduling.{EventsLeadOn};
 ghost use Rattle.vc_core.specs.Still.{OnlyProcessesHold};
 
 /// What a scheduler of one's own rests on: events that are made one after another, from the opening state on, are a list that leads to
-/// the network's state, and the headline holds there, whatever was chosen.
+/// the network's state. Whatever was chosen, the headline holds there, and what the nodes communicated has a linearization.
 pub fn events_lead_on()
     ensures { EventsLeadOn }
 {}

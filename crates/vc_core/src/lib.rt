@@ -2,9 +2,9 @@
 //!
 //! An [`Actor`] is a node with its process, or a switch; a [`Network`] is the actors and the ways between them. A simulator makes events one after
 //! another, and the same actors run in threads. Each event that [`Network::step`] makes is exactly one step of the network of the
-//! plan (`specs/State`, MakesEvent), and what [`replay`] answers keeps the headline, and has one list of all that the nodes
-//! communicated, of which each node's part is a trace of its process (`specs/Replaying`). Whoever makes events by a scheduler of their own
-//! has the same by [`events_lead_on`].
+//! plan (`specs/State`, MakesEvent). What [`replay`] answers keeps the headline, and has one list of all that the nodes communicated.
+//! The list has a linearization: each message passes at one moment, and each node's part is a trace of its process
+//! (`specs/Replaying`). Whoever makes events by a scheduler of their own has the same by [`events_lead_on`].
 #![tactic(auto)]
 
 mod channels;

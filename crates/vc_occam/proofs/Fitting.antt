@@ -1,6 +1,6 @@
--- The variables that a process changes are there.
-use Rattle.std.proofs.Common.{◌≡◌, ℕ, suc, ◌<◌, Bool, true, false, ◌&&◌, ◌||◌, List, [], ◌∷◌, length, map, refl, ap, ◌∙◌, arith, inl, inr}
-use Rattle.std.proofs.lemmas.Bool.Decides.{nat_tests}
+-- The variables that a process uses are there, and those that it changes.
+use Rattle.std.proofs.Common.{◌≡◌, ℕ, suc, ◌<◌, Bool, true, false, ◌&&◌, ◌||◌, List, [], ◌∷◌, length, map, refl, ap, sym, subst, ◌∙◌, arith, eqb-true}
+use Rattle.std.proofs.lemmas.Bool.{ltb-true}
 use Rattle.std.specs.Prelude.{nat_lt}
 use Rattle.vc_process.specs.declared.value_kind.ValueKind.{ValueKind}
 use Rattle.vc_process.specs.declared.value_kind.ValueKind.TheVariants as of
@@ -8,68 +8,96 @@ use Rattle.vc_process.specs.declared.datum.Datum.{Datum}
 use Rattle.vc_occam.specs.Opening.{empty_of}
 use Rattle.vc_process.specs.Limits.{exp_fits, given_fits, given_kind, holds_kind}
 use Rattle.vc_process.specs.ProcessLimits.{names_fit, parts_names_fit, branches_names_fit, guards_names_fit, test_fits}
-use Rattle.vc_process.specs.Syntax.{Proc, SKIP, STOP, Assign, Output, Input, StopChan, SEQ, PAR, IF, WHILE, COUNT, ALT, Procs, no_parts, part, Branches, no_branches, branch, Guards, no_guards, guard}
-use Rattle.vc_process.specs.Usage.{just, changes, changes_all, changes_branches, changes_guards}
+use Rattle.vc_process.specs.Syntax.{Exp, Number, Variable, Binary, SizeOf, Test, Constant, Compare, Both, Either, Negate, Literal, Contents, Filled, Given, Whole, Bytes, Proc, SKIP, STOP, Assign, Output, Input, StopChan, SEQ, PAR, IF, WHILE, COUNT, ALT, Procs, no_parts, part, Branches, no_branches, branch, Guards, no_guards, guard}
+use Rattle.vc_process.specs.Usage.{Set, ◌∪◌, just, in_exp, in_test, in_given, uses, uses_all, uses_branches, uses_guards}
 use Rattle.vc_occam.specs.Frames.{HasVariables}
 use Rattle.vc_process.proofs.Held.{held_there}
-use Rattle.vc_occam.proofs.Sites.{either}
-use Rattle.vc_occam.proofs.Doing.{just_is}
+use Rattle.vc_occam.proofs.Used.{changed_used}
 
 both : (a b : Bool) → (a && b) ≡ true → (a ≡ true) × (b ≡ true)
 both true b h = (refl, h)
 both false b h = absurd (let z : false ≡ true = h in cc)
 
-none : {k : ℕ} {n : ℕ} → false ≡ true → k < n
-none h = absurd (let z : false ≡ true = h in cc)
+-- a process uses variables that are there alone
+module _ (kinds : List ValueKind) where
+  abbrev There : Set → Type 0
+  There s = (v : ℕ) → s v ≡ true → v < length kinds
 
-at : (v w n : ℕ) → w < n → just w v ≡ true → v < n
-at v w n l h = let e = just_is v w h in omega arith
+  cases_or : (a b : Set) → There a → There b → There (a ∪ b)
+  cases_or a b f g v h = at (a v) (b v) (f v) (g v) h
+    where
+      at : (p q : Bool) → (p ≡ true → v < length kinds) → (q ≡ true → v < length kinds) → (p || q) ≡ true → v < length kinds
+      at true q i j k = i refl
+      at false q i j k = j k
 
-below : (v n : ℕ) → nat_lt v n ≡ true → v < n
-below v n h = grind (arith, nat_tests)
+  none_there : There (λ v. false)
+  none_there v h = absurd (cc)
 
-mutual
-  pub fits_variables : (p : Proc) (kinds : List ValueKind) (n : ℕ) → names_fit p kinds n ≡ true → HasVariables p (length kinds)
-  fits_variables (SKIP i) kinds n h = λ v k. none k
-  fits_variables (STOP i) kinds n h = λ v k. none k
-  fits_variables (Assign i w a) kinds n h = λ v k. at v w (length kinds) (held_there kinds w (given_kind a) (both (holds_kind kinds w (given_kind a)) (given_fits a kinds) h).0) k
-  fits_variables (Output i c a) kinds n h = λ v k. none k
-  fits_variables (Input i c w) kinds n h = λ v k. at v w (length kinds) (below w (length kinds) (both (nat_lt c n) (nat_lt w (length kinds)) h).1) k
-  fits_variables (StopChan i c) kinds n h = λ v k. none k
-  fits_variables (SEQ i ps) kinds n h = parts_variables ps kinds n h
-  fits_variables (PAR i ps) kinds n h = parts_variables ps kinds n h
-  fits_variables (IF i bs) kinds n h = branches_variables bs kinds n h
-  fits_variables (WHILE i t p) kinds n h = fits_variables p kinds n (both (test_fits t kinds) (names_fit p kinds n) h).1
-  fits_variables (COUNT i w a m p) kinds n h = λ v k.
-      let x = both (holds_kind kinds w of.Int && exp_fits a kinds && exp_fits m kinds) (names_fit p kinds n) h in
-      let y = both (holds_kind kinds w of.Int && exp_fits a kinds) (exp_fits m kinds) x.0 in
-      let z = both (holds_kind kinds w of.Int) (exp_fits a kinds) y.0 in
-      elim (either (just w v) (changes p v) k) [ inl e ↦ at v w (length kinds) (held_there kinds w of.Int z.0) e | inr e ↦ fits_variables p kinds n x.1 v e ]
-  fits_variables (ALT i gs) kinds n h = guards_variables gs kinds n h
+  just_there : (w : ℕ) → w < length kinds → There (just w)
+  just_there w l v h = let e : v ≡ w = eqb-true v w h in subst (λ z. z < length kinds) (sym e) l
 
-  parts_variables : (ps : Procs) (kinds : List ValueKind) (n : ℕ) → parts_names_fit ps kinds n ≡ true → (v : ℕ) → changes_all ps v ≡ true → v < length kinds
-  parts_variables no_parts kinds n h v k = none k
-  parts_variables (part p ps) kinds n h v k =
-      let x = both (names_fit p kinds n) (parts_names_fit ps kinds n) h in
-      elim (either (changes p v) (changes_all ps v) k) [ inl e ↦ fits_variables p kinds n x.0 v e | inr e ↦ parts_variables ps kinds n x.1 v e ]
+  exp_there : (a : Exp) → exp_fits a kinds ≡ true → There (in_exp a)
+  exp_there (Number z) h = none_there
+  exp_there (Variable v) h = just_there v (held_there kinds v of.Int h)
+  exp_there (SizeOf v) h = just_there v (held_there kinds v of.Bytes h)
+  exp_there (Binary op a b) h = let n = both (exp_fits a kinds) (exp_fits b kinds) h in cases_or (in_exp a) (in_exp b) (exp_there a n.0) (exp_there b n.1)
 
-  branches_variables : (bs : Branches) (kinds : List ValueKind) (n : ℕ) → branches_names_fit bs kinds n ≡ true → (v : ℕ) → changes_branches bs v ≡ true → v < length kinds
-  branches_variables no_branches kinds n h v k = none k
-  branches_variables (branch t p bs) kinds n h v k =
-      let x = both (test_fits t kinds && names_fit p kinds n) (branches_names_fit bs kinds n) h in
-      let y = both (test_fits t kinds) (names_fit p kinds n) x.0 in
-      elim (either (changes p v) (changes_branches bs v) k) [ inl e ↦ fits_variables p kinds n y.1 v e | inr e ↦ branches_variables bs kinds n x.1 v e ]
+  given_there : (a : Given) → given_fits a kinds ≡ true → There (in_given a)
+  given_there (Whole a) h = exp_there a h
+  given_there (Bytes (Literal xs)) h = none_there
+  given_there (Bytes (Contents v)) h = just_there v (held_there kinds v of.Bytes h)
+  given_there (Bytes (Filled b n)) h = none_there
 
-  guards_variables : (gs : Guards) (kinds : List ValueKind) (n : ℕ) → guards_names_fit gs kinds n ≡ true → (v : ℕ) → changes_guards gs v ≡ true → v < length kinds
-  guards_variables no_guards kinds n h v k = none k
-  guards_variables (guard t c w p gs) kinds n h v k =
-      let x = both (test_fits t kinds && nat_lt c n && nat_lt w (length kinds) && names_fit p kinds n) (guards_names_fit gs kinds n) h in
-      let y = both (test_fits t kinds && nat_lt c n && nat_lt w (length kinds)) (names_fit p kinds n) x.0 in
-      let z = both (test_fits t kinds && nat_lt c n) (nat_lt w (length kinds)) y.0 in
-      elim (either (just w v || changes p v) (changes_guards gs v) k) [
-        | inl e ↦ elim (either (just w v) (changes p v) e) [ inl f ↦ at v w (length kinds) (below w (length kinds) z.1) f | inr f ↦ fits_variables p kinds n y.1 v f ]
-        | inr e ↦ guards_variables gs kinds n x.1 v e
-      ]
+  test_there : (a : Test) → test_fits a kinds ≡ true → There (in_test a)
+  test_there (Constant b) h = none_there
+  test_there (Compare rel a b) h = let n = both (exp_fits a kinds) (exp_fits b kinds) h in cases_or (in_exp a) (in_exp b) (exp_there a n.0) (exp_there b n.1)
+  test_there (Both a b) h = let n = both (test_fits a kinds) (test_fits b kinds) h in cases_or (in_test a) (in_test b) (test_there a n.0) (test_there b n.1)
+  test_there (Either a b) h = let n = both (test_fits a kinds) (test_fits b kinds) h in cases_or (in_test a) (in_test b) (test_there a n.0) (test_there b n.1)
+  test_there (Negate a) h = test_there a h
+
+  mutual
+    pub uses_there : (p : Proc) (n : ℕ) → names_fit p kinds n ≡ true → There (uses p)
+    uses_there (SKIP i) n h = none_there
+    uses_there (STOP i) n h = none_there
+    uses_there (Assign i v a) n h = let m = both (holds_kind kinds v (given_kind a)) (given_fits a kinds) h in cases_or (just v) (in_given a) (just_there v (held_there kinds v (given_kind a) m.0)) (given_there a m.1)
+    uses_there (Output i c a) n h = given_there a (both (nat_lt c n) (given_fits a kinds) h).1
+    uses_there (Input i c v) n h = just_there v (ltb-true v (length kinds) (both (nat_lt c n) (nat_lt v (length kinds)) h).1)
+    uses_there (StopChan i c) n h = none_there
+    uses_there (SEQ i ps) n h = all_there ps n h
+    uses_there (PAR i ps) n h = all_there ps n h
+    uses_there (IF i bs) n h = branches_there bs n h
+    uses_there (WHILE i t p) n h = let m = both (test_fits t kinds) (names_fit p kinds n) h in cases_or (in_test t) (uses p) (test_there t m.0) (uses_there p n m.1)
+    uses_there (COUNT i v a k p) n h =
+        let m = both (holds_kind kinds v of.Int && exp_fits a kinds && exp_fits k kinds) (names_fit p kinds n) h in
+        let l = both (holds_kind kinds v of.Int && exp_fits a kinds) (exp_fits k kinds) m.0 in
+        let o = both (holds_kind kinds v of.Int) (exp_fits a kinds) l.0 in
+        cases_or (just v ∪ (in_exp a ∪ in_exp k)) (uses p) (cases_or (just v) (in_exp a ∪ in_exp k) (just_there v (held_there kinds v of.Int o.0)) (cases_or (in_exp a) (in_exp k) (exp_there a o.1) (exp_there k l.1))) (uses_there p n m.1)
+    uses_there (ALT i gs) n h = guards_there gs n h
+
+    all_there : (ps : Procs) (n : ℕ) → parts_names_fit ps kinds n ≡ true → There (uses_all ps)
+    all_there no_parts n h = none_there
+    all_there (part p ps) n h = let m = both (names_fit p kinds n) (parts_names_fit ps kinds n) h in cases_or (uses p) (uses_all ps) (uses_there p n m.0) (all_there ps n m.1)
+
+    branches_there : (bs : Branches) (n : ℕ) → branches_names_fit bs kinds n ≡ true → There (uses_branches bs)
+    branches_there no_branches n h = none_there
+    branches_there (branch t p bs) n h =
+        let m = both (test_fits t kinds && names_fit p kinds n) (branches_names_fit bs kinds n) h in
+        let l = both (test_fits t kinds) (names_fit p kinds n) m.0 in
+        cases_or (in_test t ∪ uses p) (uses_branches bs) (cases_or (in_test t) (uses p) (test_there t l.0) (uses_there p n l.1)) (branches_there bs n m.1)
+
+    guards_there : (gs : Guards) (n : ℕ) → guards_names_fit gs kinds n ≡ true → There (uses_guards gs)
+    guards_there no_guards n h = none_there
+    guards_there (guard t c v p gs) n h =
+        let m = both (test_fits t kinds && nat_lt c n && nat_lt v (length kinds) && names_fit p kinds n) (guards_names_fit gs kinds n) h in
+        let l = both (test_fits t kinds && nat_lt c n && nat_lt v (length kinds)) (names_fit p kinds n) m.0 in
+        let o = both (test_fits t kinds && nat_lt c n) (nat_lt v (length kinds)) l.0 in
+        cases_or (just v ∪ in_test t ∪ uses p) (uses_guards gs)
+        (cases_or (just v ∪ in_test t) (uses p) (cases_or (just v) (in_test t) (just_there v (ltb-true v (length kinds) o.1)) (test_there t (both (test_fits t kinds) (nat_lt c n) o.0).0)) (uses_there p n l.1))
+        (guards_there gs n m.1)
+
+-- so are those that it changes
+pub fits_variables : (p : Proc) (kinds : List ValueKind) (n : ℕ) → names_fit p kinds n ≡ true → HasVariables p (length kinds)
+fits_variables p kinds n h v k = uses_there kinds p n h v (changed_used p v k)
 
 map_length : (kinds : List ValueKind) → length (map empty_of kinds) ≡ length kinds
 map_length [] = refl

@@ -36,3 +36,10 @@ pub mod Determinate
 pub mod Unjoined
 pub mod Waited
 pub mod Ending
+pub mod Used
+pub mod Counts
+pub mod Balance
+pub mod Prefixes
+pub mod Independence
+pub mod Responses
+pub mod Renamings

@@ -11,3 +11,4 @@ pub mod Search
 pub mod Versions
 pub mod Wires
 pub mod Dependencies
+pub mod OneNode

@@ -44,4 +44,11 @@ impl Accepted {
     {
         &self.plan
     }
+    /// The plan alone, from here on for anybody to change.
+    pub fn into_plan(self) -> Plan
+        ensures plan { result ≡ self }
+        ensures accepted { IsAccepted self }
+    {
+        self.plan
+    }
 }

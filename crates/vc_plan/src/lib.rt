@@ -13,6 +13,8 @@
 //! The search keeps the places reached after equally many hops, each once, in the order of their least paths; the definitions
 //! speak of all paths.
 //!
+//! The plan of one node that runs all processes of a plan side by side, with every channel inside it, is made by [`together`].
+//!
 //! A plan of version 1 means the same network as a plan of version 2 ([`as_version_two`], [`versions_agree`]).
 #![tactic(auto)]
 
@@ -28,6 +30,7 @@ mod level;
 mod limit_word;
 mod name;
 mod node_plan;
+mod one_node;
 mod path_fault;
 mod plan;
 mod plan_limits;
@@ -48,6 +51,7 @@ pub use laws::{cycles_are_right, refusals_are_right};
 pub use limit_word::LimitWord;
 pub use name::Name;
 pub use node_plan::{NodePlan, Variable};
+pub use one_node::together;
 pub use path_fault::{Hop, PathFault};
 pub use plan::Plan;
 pub use port::{Port, Spot, Wire};

@@ -19,3 +19,5 @@ pub mod Trees
 pub mod Judging
 pub mod Parted
 pub mod Placed
+pub mod RenamedTrees
+pub mod Renamings

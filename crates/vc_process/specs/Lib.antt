@@ -14,3 +14,4 @@ pub mod Syntax
 pub mod Terms
 pub mod Usage
 pub mod Values
+pub mod Renaming

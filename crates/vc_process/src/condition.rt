@@ -1,5 +1,8 @@
 //! Conditions.
 ghost use Rattle.std.specs.Prelude.{◌≡◌, IfOk};
+ghost use Rattle.vc_process.specs.Renaming.{moved_by, renamed_exp, renamed_test};
+ghost use Rattle.vc_process.specs.Syntax.{Compare};
+ghost use Rattle.vc_process.specs.Terms.{as_test, exp};
 
 use crate::copies::boxed;
 use crate::expression::Expr;
@@ -79,6 +82,56 @@ impl Cond {
             }
         }
     }
+
+    /// The same condition over variables that are moved.
+    #[cycle(moved)]
+    #[tactic(auto, unfolding(crate::specs::Terms::as_test))]
+    pub(crate) fn moved(&self, alloc: Global, by: u8) -> Result<Cond, Memory>
+        ensures { IfOk result (λ copy. as_test copy ≡ renamed_test (moved_by by) (as_test self.now)) }
+    {
+        match self {
+            Cond::Always(is_true) => Ok(Cond::Always(*is_true)),
+            Cond::Cmp { rel, left, right } => moved_comparison(alloc, *rel, left, right, by),
+            Cond::And(left, right) => {
+                let left = moved_boxed(alloc, left, by)?;
+                let right = moved_boxed(alloc, right, by)?;
+                Ok(Cond::And(left, right))
+            }
+            Cond::Or(left, right) => {
+                let left = moved_boxed(alloc, left, by)?;
+                let right = moved_boxed(alloc, right, by)?;
+                Ok(Cond::Or(left, right))
+            }
+            Cond::Not(cond) => {
+                let cond = moved_boxed(alloc, cond, by)?;
+                Ok(Cond::Not(cond))
+            }
+        }
+    }
+}
+
+/// A comparison over variables that are moved.
+#[tactic(auto, unfolding(crate::specs::Terms::as_test))]
+fn moved_comparison(
+    alloc: Global,
+    rel: Rel,
+    left: &Expr,
+    right: &Expr,
+    by: u8,
+) -> Result<Cond, Memory>
+    ensures { IfOk result (λ copy. as_test copy ≡ Compare rel (renamed_exp (moved_by by) (exp left.now)) (renamed_exp (moved_by by) (exp right.now))) }
+{
+    let left = left.moved(alloc, by)?;
+    let right = right.moved(alloc, by)?;
+    Ok(Cond::Cmp { rel, left, right })
+}
+
+/// A condition over variables that are moved, in a box of its own.
+#[cycle(moved)]
+fn moved_boxed(alloc: Global, cond: &Boxed<Cond>, by: u8) -> Result<Boxed<Cond>, Memory>
+    ensures { IfOk result (λ copy. as_test copy ≡ renamed_test (moved_by by) (as_test cond.now)) }
+{
+    boxed(alloc, cond.get().moved(alloc, by))
 }
 
 /// An equal comparison.

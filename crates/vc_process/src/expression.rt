@@ -1,5 +1,7 @@
 //! Expressions of whole numbers.
 ghost use Rattle.std.specs.Prelude.{◌≡◌, IfOk};
+ghost use Rattle.vc_process.specs.Renaming.{moved_by, renamed_exp};
+ghost use Rattle.vc_process.specs.Terms.{exp};
 
 use crate::copies::boxed;
 use crate::operator::Op;
@@ -64,6 +66,43 @@ impl Expr {
             Expr::Size(var) => Ok(Expr::Size(*var)),
         }
     }
+
+    /// The same expression over variables that are moved.
+    #[cycle(moved)]
+    #[tactic(auto, unfolding(crate::specs::Terms::exp))]
+    pub(crate) fn moved(&self, alloc: Global, by: u8) -> Result<Expr, Memory>
+        ensures { IfOk result (λ copy. exp copy ≡ renamed_exp (moved_by by) (exp self.now)) }
+    {
+        match self {
+            Expr::Num(number) => Ok(Expr::Num(*number)),
+            Expr::Var(var) => Ok(Expr::Var(moved_variable(*var, by))),
+            Expr::Bin { op, left, right } => {
+                let left = moved_boxed(alloc, left, by)?;
+                let right = moved_boxed(alloc, right, by)?;
+                Ok(Expr::Bin {
+                    op: *op,
+                    left,
+                    right,
+                })
+            }
+            Expr::Size(var) => Ok(Expr::Size(moved_variable(*var, by))),
+        }
+    }
+}
+
+/// The number of a variable that is moved by so many.
+pub(crate) fn moved_variable(var: u8, by: u8) -> u8
+    ensures { result ≡ moved_by by var }
+{
+    by.wrapping_add(var)
+}
+
+/// An expression over variables that are moved, in a box of its own.
+#[cycle(moved)]
+fn moved_boxed(alloc: Global, expr: &Boxed<Expr>, by: u8) -> Result<Boxed<Expr>, Memory>
+    ensures { IfOk result (λ copy. exp copy ≡ renamed_exp (moved_by by) (exp expr.now)) }
+{
+    boxed(alloc, expr.get().moved(alloc, by))
 }
 
 /// An equal expression in a box of its own.

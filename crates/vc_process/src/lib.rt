@@ -25,6 +25,7 @@ mod evaluation;
 mod expression;
 mod laws;
 mod limits;
+mod moved;
 mod operator;
 mod process;
 mod process_limits;

@@ -1,0 +1,11 @@
+pub mod Completions
+pub mod Elements
+pub mod Projections
+pub mod Turns
+pub mod Points
+pub mod Views
+pub mod Linearizability
+pub mod Interleavings
+pub mod Networks
+pub mod OneNode
+pub mod SameProgram

@@ -1,0 +1,5 @@
+pub mod Linearization
+pub mod Parallel
+pub mod Placement
+pub mod OneNode
+pub mod SameProgram

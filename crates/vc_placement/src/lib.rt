@@ -1,0 +1,43 @@
+//! Placement is invisible: whatever the network of an accepted plan did, one transputer that runs the same processes side by side, with
+//! every channel inside it, could have done, message for message. Definitions and laws.
+//!
+//! What the nodes communicated is a history in the sense of Herlihy and Wing (1990), whose objects are channels. A channel on a wire
+//! holds an output until it is taken and finished. A linearization of the history lets each message be output, input and finished at
+//! one moment, that at which it is got (`specs/Linearization`). The proof rewrites the history as Mazurkiewicz's traces do, by
+//! exchanging neighbours that are independent: an output moves forward to its input, and its end moves back to it.
+#![tactic(auto)]
+
+ghost use Rattle.vc_placement.specs.Linearization.{EveryHistoryLinearizes};
+ghost use Rattle.vc_placement.specs.OneNode.{OneNodeCanDoIt};
+ghost use Rattle.vc_placement.specs.Parallel.{AllIsOneTrace};
+ghost use Rattle.vc_placement.specs.Placement.{PlacementIsInvisible};
+ghost use Rattle.vc_placement.specs.SameProgram.{OneProgramOneMeaning};
+
+/// What processes did over channels that hold an output until it is taken has a linearization: each message passes at one moment, and
+/// on each channel the same messages are taken.
+pub fn every_history_linearizes()
+    ensures { EveryHistoryLinearizes }
+{}
+
+/// Where each message passes at one moment, what all processes do is a trace of one process that runs them side by side.
+pub fn all_is_one_trace()
+    ensures { AllIsOneTrace }
+{}
+
+/// After any events of an accepted plan's network, under either waiting rule, what its nodes communicated has a linearization: each
+/// node's part is a trace of its process, and each channel has exactly the messages that the network shows as taken.
+pub fn placement_is_invisible()
+    ensures { PlacementIsInvisible }
+{}
+
+/// The plan of one node that runs all processes side by side, each over variables of its own: what the network did, that node can do,
+/// message for message, and it has ended where all processes have.
+pub fn one_node_can_do_it()
+    ensures { OneNodeCanDoIt }
+{}
+
+/// Of two plans of one program, with other wires, switches, labels and homes of channels: what a node of the one can perform, the node
+/// of the other can perform.
+pub fn one_program_one_meaning()
+    ensures { OneProgramOneMeaning }
+{}

@@ -1,0 +1,194 @@
+//! Processes whose variables are moved: to the number of each variable so many are added.
+ghost use Rattle.std.specs.Prelude.{◌≡◌, IfOk, Ok, map};
+ghost use Rattle.vc_process.specs.InOrder.{number, number_branch, number_guard};
+ghost use Rattle.vc_process.specs.Renaming.{moved_by, renamed_test, IsRenamed, AreRenamed, AreRenamedBranches, IsRenamedGuard, AreRenamedGuards};
+ghost use Rattle.vc_process.specs.Terms.{as_test};
+
+use crate::condition::Cond;
+use crate::copies::{boxed, push_copied};
+use crate::expression::{Expr, moved_variable};
+use crate::process::{Branch, Guard, Process};
+use crate::value::Value;
+use sqlite_items::{Boxed, Items};
+use std::alloc::Global;
+use vc_packets::Memory;
+
+#[cycle(moved)]
+fn moved_process(alloc: Global, process: &Process, by: u8) -> Result<Process, Memory>
+    ensures { IfOk result (λ copy. IsRenamed (moved_by by) (number process.now) (number copy)) }
+{
+    match process {
+        Process::Skip => Ok(Process::Skip),
+        Process::Stop => Ok(Process::Stop),
+        Process::Set { var, value } => assigned(alloc, *var, value, by),
+        Process::Send { chan, value } => sent(alloc, *chan, value, by),
+        Process::Receive { chan, var } => Ok(Process::Receive {
+            chan: *chan,
+            var: moved_variable(*var, by),
+        }),
+        Process::Stopch { chan } => Ok(Process::Stopch { chan: *chan }),
+        Process::Seq(parts) => {
+            let parts = moved_parts(alloc, parts, by)?;
+            Ok(Process::Seq(parts))
+        }
+        Process::Par(parts) => {
+            let parts = moved_parts(alloc, parts, by)?;
+            Ok(Process::Par(parts))
+        }
+        Process::If(branches) => {
+            let branches = moved_branches(alloc, branches, by)?;
+            Ok(Process::If(branches))
+        }
+        Process::While { cond, body } => {
+            let body = moved_body(alloc, body, by)?;
+            repeated(alloc, cond, body, by)
+        }
+        Process::Count {
+            var,
+            base,
+            count,
+            body,
+        } => {
+            let body = moved_body(alloc, body, by)?;
+            counted(alloc, *var, base, count, body, by)
+        }
+        Process::Alt(guards) => {
+            let guards = moved_guards(alloc, guards, by)?;
+            Ok(Process::Alt(guards))
+        }
+    }
+}
+
+/// An assignment to a variable that is moved.
+fn assigned(alloc: Global, var: u8, value: &Value, by: u8) -> Result<Process, Memory>
+    ensures { IfOk result (λ copy. IsRenamed (moved_by by) (number (Process.Set var value.now)) (number copy)) }
+{
+    let value = value.moved(alloc, by)?;
+    Ok(Process::Set {
+        var: moved_variable(var, by),
+        value,
+    })
+}
+
+/// An output of a value that is moved.
+fn sent(alloc: Global, chan: u16, value: &Value, by: u8) -> Result<Process, Memory>
+    ensures { IfOk result (λ copy. IsRenamed (moved_by by) (number (Process.Send chan value.now)) (number copy)) }
+{
+    let value = value.moved(alloc, by)?;
+    Ok(Process::Send { chan, value })
+}
+
+/// A WHILE whose body is moved already.
+fn repeated(alloc: Global, cond: &Cond, body: Boxed<Process>, by: u8) -> Result<Process, Memory>
+    ensures { IfOk result (λ copy. (was : Process) → IsRenamed (moved_by by) (number was) (number body) → IsRenamed (moved_by by) (number (Process.While cond.now was)) (number copy)) }
+{
+    let cond = cond.moved(alloc, by)?;
+    Ok(Process::While { cond, body })
+}
+
+/// A replicated SEQ whose body is moved already.
+fn counted(
+    alloc: Global,
+    var: u8,
+    base: &Expr,
+    count: &Expr,
+    body: Boxed<Process>,
+    by: u8,
+) -> Result<Process, Memory>
+    ensures { IfOk result (λ copy. (was : Process) → IsRenamed (moved_by by) (number was) (number body) → IsRenamed (moved_by by) (number (Process.Count var base.now count.now was)) (number copy)) }
+{
+    let base = base.moved(alloc, by)?;
+    let count = count.moved(alloc, by)?;
+    Ok(Process::Count {
+        var: moved_variable(var, by),
+        base,
+        count,
+        body,
+    })
+}
+
+#[cycle(moved)]
+fn moved_body(alloc: Global, body: &Boxed<Process>, by: u8) -> Result<Boxed<Process>, Memory>
+    ensures { IfOk result (λ copy. IsRenamed (moved_by by) (number body.now) (number copy)) }
+{
+    boxed(alloc, moved_process(alloc, body.get(), by))
+}
+
+#[cycle(moved)]
+fn moved_parts(alloc: Global, parts: &Items<Process>, by: u8) -> Result<Items<Process>, Memory>
+    ensures { IfOk result (λ copies. AreRenamed (moved_by by) (map number parts.now) (map number copies)) }
+{
+    let mut copies = Items::new(alloc);
+    for part in parts.as_slice() {
+        if let Err(memory) = push_copied(&mut copies, moved_process(alloc, part, by)) {
+            return Err(memory);
+        }
+    }
+    Ok(copies)
+}
+
+#[cycle(moved)]
+fn moved_branches(alloc: Global, branches: &Items<Branch>, by: u8) -> Result<Items<Branch>, Memory>
+    ensures { IfOk result (λ copies. AreRenamedBranches (moved_by by) (map number_branch branches.now) (map number_branch copies)) }
+{
+    let mut copies = Items::new(alloc);
+    for branch in branches.as_slice() {
+        let moved = moved_conditional(alloc, &branch.cond, &branch.body, by);
+        if let Err(memory) = push_copied(&mut copies, moved) {
+            return Err(memory);
+        }
+    }
+    Ok(copies)
+}
+
+/// What is done under a condition.
+#[cycle(moved)]
+fn moved_conditional(alloc: Global, cond: &Cond, body: &Process, by: u8) -> Result<Branch, Memory>
+    ensures { IfOk result (λ copy. (as_test copy.cond ≡ renamed_test (moved_by by) (as_test cond.now)) × IsRenamed (moved_by by) (number body.now) (number copy.body)) }
+{
+    let cond = cond.moved(alloc, by)?;
+    with_condition(cond, moved_process(alloc, body, by))
+}
+
+/// What is done under the condition, unless it could not be moved.
+fn with_condition(cond: Cond, body: Result<Process, Memory>) -> Result<Branch, Memory>
+    ensures { IfOk result (λ copy. (copy.cond ≡ cond) × (body ≡ Ok copy.body)) }
+{
+    let body = body?;
+    Ok(Branch { cond, body })
+}
+
+#[cycle(moved)]
+fn moved_guards(alloc: Global, guards: &Items<Guard>, by: u8) -> Result<Items<Guard>, Memory>
+    ensures { IfOk result (λ copies. AreRenamedGuards (moved_by by) (map number_guard guards.now) (map number_guard copies)) }
+{
+    let mut copies = Items::new(alloc);
+    for guard in guards.as_slice() {
+        if let Err(memory) = push_copied(&mut copies, moved_guard(alloc, guard, by)) {
+            return Err(memory);
+        }
+    }
+    Ok(copies)
+}
+
+#[cycle(moved)]
+fn moved_guard(alloc: Global, guard: &Guard, by: u8) -> Result<Guard, Memory>
+    ensures { IfOk result (λ copy. IsRenamedGuard (moved_by by) (number_guard guard.now) (number_guard copy)) }
+{
+    let Branch { cond, body } = moved_conditional(alloc, &guard.cond, &guard.body, by)?;
+    Ok(Guard {
+        cond,
+        chan: guard.chan,
+        var: moved_variable(guard.var, by),
+        body,
+    })
+}
+
+impl Process {
+    /// The same process over other variables: to the number of each `by` is added, as a byte. Its channels stay.
+    pub fn moved(&self, alloc: Global, by: u8) -> Result<Process, Memory>
+        ensures { IfOk result (λ copy. IsRenamed (moved_by by) (number self.now) (number copy)) }
+    {
+        moved_process(alloc, self, by)
+    }
+}
