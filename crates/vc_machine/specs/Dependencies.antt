@@ -1,9 +1,10 @@
--- Which way a packet on a way may come to wait for, and when no packets can wait for one another in a circle.
+-- The channel dependency graph (Dally and Seitz, 1987) over ways: a way depends on another where a packet that comes by the first may
+-- have to wait for the second. Where ranks rise along each dependency, no packets can wait for one another in a circle.
 use Rattle.std.specs.Prelude.{◌≡◌, ℕ, ◌<◌, List, Option}
 use Rattle.vc_machine.specs.Paths.{AtSwitch, Net, Carries, Leaves}
 use Rattle.vc_switch.specs.Forward.{IsDrawn, behind}
 
--- a packet of some channel can stand on way w with these headers: a piece or an acknowledge at first, and after each hop, whatever is drawn
+-- a packet of some channel can be on this way with these headers: a piece or an acknowledge at first, and after each hop, whatever is drawn
 pub data CanStand (net : Net) : ℕ → List ℕ → Type 0 where
   by_piece : (c : ℕ) → Carries net c → CanStand net (net.chan c).from.way (net.chan c).from.route
   by_ack : (c : ℕ) → Carries net c → CanStand net (net.chan c).to.way (net.chan c).to.route

@@ -1,4 +1,4 @@
--- Where no token can be moved, and where nothing is under way.
+-- A still network: only processes can go on. And a clear way: no packet is on it or waits for it.
 use Rattle.std.specs.Prelude.{◌≡◌, ℕ, ◌<◌, List, [], None}
 use Rattle.vc_machine.specs.Paths.{AtNode, Net, IsAccepted}
 use Rattle.vc_machine.specs.Links.{Tokens, Wires, no_tokens}
@@ -20,7 +20,7 @@ MovesTokens (Route w out) = Unit {0}
 abbrev pub IsStill : Net → (ℕ → ℕ) → Waiting → Tokens → Type 0
 IsStill net back waiting t = (e : TokenEvent) (u : Tokens) → MovesTokens e → TokenStep net back waiting t e u → ⊥
 
--- nothing of a packet is on way w, in what it comes to, or in the node's queue before it, and a token could be put
+-- nothing of a packet is on way w, in the input at its end or in the queue at its beginning, and a token could be put on it
 pub record IsClear (net : Net) (t : Tokens) (w : ℕ) : Type 0 where
   pub queue : (n i : ℕ) → net.near w ≡ AtNode n i → (t.nodes.ways w).queue ≡ []
   pub sent : (t.sender w).sent ≡ []
@@ -31,11 +31,11 @@ pub record IsClear (net : Net) (t : Tokens) (w : ℕ) : Type 0 where
   pub mark : (t.receiver w).mark ≡ None
   pub bound : (t.receiver w).bound ≡ None
 
--- both ways of a wire are the network's
+-- the way back of each of the network's ways is one of them
 abbrev pub BackStays : Net → (ℕ → ℕ) → Type 0
 BackStays net back = (w : ℕ) → w < net.ways → back w < net.ways
 
--- on an accepted network with ranks, wherever only processes can make events, nothing is under way: packets are held at their receivers alone
+-- on an accepted network whose ways have ranks, each way is clear wherever a run has come to a still state
 abbrev pub StillIsClear : Net → (ℕ → ℕ) → Waiting → Type 0
 StillIsClear net back waiting =
     (most : ℕ) → IsAccepted net → HasHeaders net most → HasRanks net → Wires net back → BackStays net back → (es : List TokenEvent) (u : Tokens) →

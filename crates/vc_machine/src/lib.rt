@@ -128,9 +128,9 @@ pub fn a_packet_goes_on_before_its_mark()
     ensures store { (net : Net) (back : ℕ → ℕ) (t u : Tokens) (w out : ℕ) → TokenStep net back StoreAndForward t (Route w out) u → (t.receiver w).mark ≡ None → ⊥ }
 {}
 
-/// On an accepted network whose ways have ranks that rise along each dependency, wherever a run has come: if no event can happen but
-/// moves of processes, no packet is in a queue, on a way or in a switch, no way carries a token, and each way has credit. Every packet
-/// that is there is held at its receiver. In store and forward and in wormhole alike.
+/// The network's ways have ranks that rise along each dependency, and a run has come to a state in which no event can happen but moves
+/// of processes. Then no packet is in a queue, on a way or in a switch, no way carries a token, and each way has credit. Every packet
+/// that is there is held at its receiver. It holds in store and forward and in wormhole alike.
 pub fn a_still_network_is_clear()
     ensures { (net : Net) (back : ℕ → ℕ) (waiting : Waiting) → StillIsClear net back waiting }
 {}

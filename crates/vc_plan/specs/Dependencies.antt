@@ -1,5 +1,6 @@
--- For which way a packet may come to wait that has come by another; ranks that rise along these dependencies, and cycles of them.
--- A way is named by the port by which packets leave on it.
+-- The channel dependency graph (Dally and Seitz, 1987) of a plan: its ways, each named by the port by which packets leave on it. A port
+-- depends on another where a packet that left by the first may have to wait for the second, by any link of a group and behind any
+-- random header. Ranks that rise along dependencies, and cycles of dependencies.
 use Rattle.std.specs.Prelude.{◌≡◌, ◌⊎◌, ℕ, ◌<◌, Bool, List, [], ◌∷◌, length, Some, slice_get}
 use Rattle.vc_plan.specs.declared.port.Spot.{Spot}
 use Rattle.vc_plan.specs.declared.port.Spot.TheVariants.{Node, Switch}
@@ -72,7 +73,7 @@ pub record IsLeastCycle (net : Plan) (ports : List Port) : Type 0 where
   pub cycle : IsCycle net ports
   pub least : (others : List Port) → IsCycle net others → IsNotAfter ports others
 
--- what is shown is right: where there are ranks there is no cycle, and one cycle is the least
+-- where the ports have ranks there is no cycle, and no two cycles are the least
 pub record CyclesAreRight : Type 0 where
   pub refuted : (p : Plan) (ports : List Port) → HasRanks p → IsCycle p ports → ⊥
   pub one : (p : Plan) (ports others : List Port) → IsLeastCycle p ports → IsLeastCycle p others → ports ≡ others

@@ -31,7 +31,7 @@ pub(crate) fn equal_ports(a: Port, b: Port) -> bool
 }
 
 /// The other end of the wire at a port.
-pub(crate) fn far_end(wires: &[Wire], port: Port) -> Option<Port>
+pub fn far_end(wires: &[Wire], port: Port) -> Option<Port>
     ensures { result ≡ across wires.now port }
 {
     for wire in wires {

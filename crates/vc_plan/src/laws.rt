@@ -9,8 +9,8 @@ pub fn refusals_are_right()
     ensures { RefusalsAreRight }
 {}
 
-/// A cycle that is shown is right: where the ports have ranks that rise along each dependency there is no cycle, and one cycle is the
-/// least.
+/// A cycle that is shown refutes ranks: where the ports have ranks that rise along each dependency there is no cycle. And no two cycles
+/// are the least.
 #[tactic(auto, using(crate::proofs::Ranking::cycles_right))]
 pub fn cycles_are_right()
     ensures { CyclesAreRight }

@@ -1,0 +1,110 @@
+-- Rows of the graph: a number that is put into a row, and an edge that is added.
+use Rattle.std.proofs.Common.{◌≡◌, ◌⊎◌, inl, inr, ℕ, zero, suc, ◌<◌, List, [], ◌∷◌, ◌++◌, length, take, drop, set, Some, slice_get, get_or, refl, sym, ap, subst, ◌∙◌, arith, length-set, Result, Ok, Err}
+use Rattle.std.proofs.lemmas.List.{take-append-drop}
+use Rattle.std.specs.Global.{Vec}
+use Rattle.std.specs.List.{Contains, insert}
+use Rattle.std.specs.Prelude.{OnOk}
+use Rattle.vc_plan.specs.declared.port.Port.{Port}
+use Rattle.vc_plan.proofs.Members.{In, In-left, In-right, In-cases}
+use Rattle.vc_cycles.specs.Graph.{Gains, GainEdge, HasEdge, number, row, items_of}
+use Rattle.vc_cycles.proofs.Among.{in_contains, contains_in, read_at}
+use Rattle.vc_cycles.proofs.Numbered.{number_small}
+
+-- what is put into a list
+parts : (xs : List ℕ) (i y : ℕ) → In y xs → In y (take i xs) ⊎ In y (drop i xs)
+parts xs i y c = In-cases y (take i xs) (drop i xs) (subst (λ l. In y l) (sym (take-append-drop i xs)) c)
+
+put_keeps : (xs : List ℕ) (i x y : ℕ) → In y (take i xs) ⊎ In y (drop i xs) → In y (take i xs ++ x ∷ drop i xs)
+put_keeps xs i x y (inl c) = In-left y (take i xs) (x ∷ drop i xs) c
+put_keeps xs i x y (inr c) = In-right y (take i xs) (x ∷ drop i xs) (inr c)
+
+put_only : (xs : List ℕ) (i x y : ℕ) → In y (take i xs) ⊎ In y (x ∷ drop i xs) → In y xs ⊎ (y ≡ x)
+put_only xs i x y (inl c) = inl (subst (λ l. In y l) (take-append-drop i xs) (In-left y (take i xs) (drop i xs) c))
+put_only xs i x y (inr (inl e)) = inr (sym e)
+put_only xs i x y (inr (inr c)) = inl (subst (λ l. In y l) (take-append-drop i xs) (In-right y (take i xs) (drop i xs) c))
+
+contains_or : (xs : List ℕ) (x y : ℕ) → In y xs ⊎ (y ≡ x) → Contains xs y ⊎ (y ≡ x)
+contains_or xs x y (inl c) = inl (in_contains y xs c)
+contains_or xs x y (inr e) = inr e
+
+pub gains_insert : (xs : List ℕ) (i x : ℕ) → Gains xs (insert xs i x) x
+gains_insert xs i x = record {
+  keeps = λ y c. in_contains y (insert xs i x) (put_keeps xs i x y (parts xs i y (contains_in y xs c)));
+  has = in_contains x (insert xs i x) (In-right x (take i xs) (x ∷ drop i xs) (inl refl));
+  only = λ y c. contains_or xs x y (put_only xs i x y (In-cases y (take i xs) (x ∷ drop i xs) (contains_in y (insert xs i x) c)));
+}
+
+pub gains_same : (xs : List ℕ) (x : ℕ) → Contains xs x → Gains xs xs x
+gains_same xs x h = record { keeps = λ y c. c; has = h; only = λ y c. inl c }
+
+-- rows
+pub row_push : (rs : List (Vec ℕ)) (v : Vec ℕ) (i : ℕ) → ((k : ℕ) → row rs k ≡ []) → v.items ≡ [] → row (rs ++ v ∷ []) i ≡ []
+row_push [] v zero h e = e
+row_push [] v (suc i) h e = refl
+row_push (r ∷ rs) v zero h e = h 0
+row_push (r ∷ rs) v (suc i) h e = row_push rs v i (λ k. h (suc k)) e
+
+row_set_same : (rs : List (Vec ℕ)) (i : ℕ) (v : Vec ℕ) → i < length rs → row (set rs i v) i ≡ v.items
+row_set_same [] i v lt = absurd (omega arith)
+row_set_same (r ∷ rs) zero v lt = refl
+row_set_same (r ∷ rs) (suc i) v lt = row_set_same rs i v (omega arith)
+
+row_set_other : (rs : List (Vec ℕ)) (i k : ℕ) (v : Vec ℕ) → (k < i) ⊎ (i < k) → row (set rs i v) k ≡ row rs k
+row_set_other [] i k v ne = refl
+row_set_other (r ∷ rs) zero zero v (inl lt) = absurd (omega arith)
+row_set_other (r ∷ rs) zero zero v (inr lt) = absurd (omega arith)
+row_set_other (r ∷ rs) zero (suc k) v ne = refl
+row_set_other (r ∷ rs) (suc i) zero v ne = refl
+row_set_other (r ∷ rs) (suc i) (suc k) v (inl lt) = row_set_other rs i k v (inl (omega arith))
+row_set_other (r ∷ rs) (suc i) (suc k) v (inr lt) = row_set_other rs i k v (inr (omega arith))
+
+compared : (k i : ℕ) → (k ≡ i) ⊎ ((k < i) ⊎ (i < k))
+compared k i = grind arith
+
+pub row_is : (rs : List (Vec ℕ)) (i : ℕ) (v : Vec ℕ) → slice_get rs i ≡ Some v → row rs i ≡ v.items
+row_is rs i v e = ap items_of e
+
+same_number : (p : Port) (i k : ℕ) → number p ≡ Some i → number p ≡ Some k → i ≡ k
+same_number p i k a b = let e : Some i ≡ Some k = sym a ∙ b in cc
+
+-- an edge
+pub edge_set : (rs : List (Vec ℕ)) (i j : ℕ) (a b : Port) (v : Vec ℕ) → number a ≡ Some i → number b ≡ Some j → i < length rs → Gains (row rs i) v.items j → GainEdge rs (set rs i v) a b
+edge_set rs i j a b v na nb lt g = record {
+  many = length-set rs i v;
+  keeps = λ k l c. keeps k l c (compared k i);
+  has = λ k l ka lb. has k l (same_number a i k na ka) (same_number b j l nb lb);
+  only = λ k l c. only k l c (compared k i);
+}
+  where
+    keeps : (k l : ℕ) → HasEdge rs k l → (k ≡ i) ⊎ ((k < i) ⊎ (i < k)) → HasEdge (set rs i v) k l
+    keeps k l c (inl e) = subst (λ m. HasEdge (set rs i v) m l) (sym e) (subst (λ xs. Contains xs l) (sym (row_set_same rs i v lt)) (g.keeps l (subst (λ m. HasEdge rs m l) e c)))
+    keeps k l c (inr ne) = subst (λ xs. Contains xs l) (sym (row_set_other rs i k v ne)) c
+
+    has : (k l : ℕ) → i ≡ k → j ≡ l → HasEdge (set rs i v) k l
+    has k l e f = subst (λ m. HasEdge (set rs i v) m l) e (subst (λ m. HasEdge (set rs i v) i m) f (subst (λ xs. Contains xs j) (sym (row_set_same rs i v lt)) g.has))
+
+    new : (l : ℕ) → Contains (row rs i) l ⊎ (l ≡ j) → HasEdge rs i l ⊎ ((number a ≡ Some i) × (number b ≡ Some l))
+    new l (inl c) = inl c
+    new l (inr e) = inr (na, nb ∙ ap (λ z. Some z) (sym e))
+
+    only : (k l : ℕ) → HasEdge (set rs i v) k l → (k ≡ i) ⊎ ((k < i) ⊎ (i < k)) → HasEdge rs k l ⊎ ((number a ≡ Some k) × (number b ≡ Some l))
+    only k l c (inl e) =
+        subst (λ m. HasEdge rs m l ⊎ ((number a ≡ Some m) × (number b ≡ Some l))) (sym e)
+        (new l (g.only l (subst (λ xs. Contains xs l) (row_set_same rs i v lt) (subst (λ m. HasEdge (set rs i v) m l) e c))))
+    only k l c (inr ne) = inl (subst (λ xs. Contains xs l) (row_set_other rs i k v ne) c)
+
+-- the row that is changed is that of a port
+pub edge_put : (rs : List (Vec ℕ)) (i k j : ℕ) (a b : Port) (old v : Vec ℕ) → Some k ≡ number a → Some j ≡ number b → i ≡ k → length rs ≡ 1024 → old ≡ get_or rs i old → Gains old.items v.items j →
+    GainEdge rs (set rs i v) a b
+edge_put rs i k j a b old v na nb same many is g =
+    let here : number a ≡ Some i = sym na ∙ ap (λ z. Some z) (sym same) in
+    let small = number_small a i here in
+    let lt : i < length rs = omega (arith, small, many) in
+    edge_set rs i j a b v here (sym nb) lt (subst (λ xs. Gains xs v.items j) (sym (row_is rs i old (read_at rs i old lt is))) g)
+
+pub edge_none : (rs : List (Vec ℕ)) (a b : Port) → ((i j : ℕ) → number a ≡ Some i → number b ≡ Some j → ⊥) → GainEdge rs rs a b
+edge_none rs a b none = record { many = refl; keeps = λ i j c. c; has = λ i j p q. absurd (none i j p q); only = λ i j c. inl c }
+
+pub on_ok : {T E : Type 0} {P Q : Type 0} (r : Result T E) → (P → Q) → OnOk r P → OnOk r Q
+on_ok (Ok x) f p = f p
+on_ok (Err e) f p = tt

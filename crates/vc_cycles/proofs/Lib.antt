@@ -1,0 +1,9 @@
+pub mod Among
+pub mod Leaving
+pub mod Numbered
+pub mod Edges
+pub mod Adding
+pub mod Searching
+pub mod Rounding
+pub mod Ranked
+pub mod Cycling

@@ -1,0 +1,3 @@
+pub mod Graph
+pub mod Search
+pub mod Round

@@ -1,0 +1,15 @@
+//! Whether packets of an accepted plan can come to wait for one another in a circle.
+//!
+//! The ports of switches, each the beginning of a way, are the vertices of the channel dependency graph (Dally and Seitz, 1987). The
+//! layer above knows of [`find_cycle`] that it answers none exactly where the ports have ranks that rise along each dependency, and
+//! else a cycle of dependencies (`Dependencies` of vc_plan's specs). The cycle has the fewest ports and is the least of those by the
+//! ports in order: that is tested, and not proved.
+#![tactic(auto)]
+
+mod cycle;
+mod graph;
+mod number;
+mod round;
+mod search;
+
+pub use cycle::find_cycle;
