@@ -1,0 +1,79 @@
+#!/usr/bin/env python3
+"""Holds the documents against the repository: bench/documents.py. It prints a line for each of these, and fails where there is one:
+
+- a file that a document names and that is not there;
+- an edit that docs/WRONG_BODIES.md names and that is not there, or whose asterisk is wrong (an edit with one stands in bench/edits/,
+  which the gate does not try; one without stands in its crate's must-fail/);
+- a crate that README.md or docs/ names as `vc_..` and that crates.txt has not;
+- a sentence of README.md, docs/FORMAT.md, docs/CALLING.md or bench/README.md with over 40 words.
+"""
+import glob
+import os
+import re
+import sys
+
+ROOT = os.path.dirname(os.path.dirname(os.path.abspath(__file__)))
+DOCUMENTS = ["README.md", "bench/README.md", *sorted(os.path.relpath(it, ROOT) for it in glob.glob(f"{ROOT}/docs/*.md"))]
+PLAIN = {"README.md", "bench/README.md", "docs/FORMAT.md", "docs/CALLING.md"}
+WORDS = 40
+
+
+def text_of(path):
+    with open(f"{ROOT}/{path}", encoding="utf-8") as it:
+        return it.read()
+
+
+def edits(pattern):
+    return {os.path.basename(it)[: -len(".edit")] for it in glob.glob(f"{ROOT}/{pattern}/*.edit")}
+
+
+def missing_files(path, text):
+    for name in sorted(set(re.findall(r"[\w./-]+\.(?:md|py|json|sh)\b|\bbench/edits/\w+", text))):
+        places = [name, f"docs/{name}", f"bench/{name}", f"examples/{name}", os.path.join(os.path.dirname(path), name)]
+        if not any(os.path.exists(f"{ROOT}/{it}") for it in places) and "CRATE" not in name:
+            yield f"{path}: {name} is not there"
+
+
+def wrong_edits(path, text):
+    gate, beside = edits("crates/*/must-fail"), edits("bench/edits/*")
+    for row in text.split("\n"):
+        if not row.startswith("| `"):
+            continue
+        for name, star in re.findall(r"`(\w+)`(\*?)", row.split("|")[1]):
+            if name not in gate | beside:
+                yield f"{path}: {name} is no edit"
+            elif star and name not in beside:
+                yield f"{path}: {name} is tried by the gate, and has an asterisk"
+            elif not star and name not in gate:
+                yield f"{path}: {name} stands in bench/edits/, and has no asterisk"
+
+
+def missing_crates(path, text):
+    there = set(re.findall(r"^(\w+)(?: \w+=\S+)*:", text_of("crates.txt"), re.M))
+    for name in sorted(set(re.findall(r"\bvc_\w+", text)) - there):
+        yield f"{path}: {name} is no crate"
+
+
+def long_sentences(path, text):
+    plain = re.sub(r"```.*?```", "", text, flags=re.S)
+    for cell in re.split(r"\n\s*\n|\n[-*|#>]|\|", plain):
+        for sentence in re.split(r"(?<=[.!?:;])\s+", cell.replace("\n", " ")):
+            if len(sentence.split()) > WORDS:
+                yield f"{path}: {len(sentence.split())} words: {sentence[:70]}.."
+
+
+def main():
+    told = []
+    for path in DOCUMENTS:
+        text = text_of(path)
+        told += [*missing_files(path, text), *missing_crates(path, text)]
+        if path.endswith("WRONG_BODIES.md"):
+            told += wrong_edits(path, text)
+        if path in PLAIN:
+            told += long_sentences(path, text)
+    print("\n".join([*told, f"{len(DOCUMENTS)} documents, {len(told)} faults"]))
+    return 1 if told else 0
+
+
+if __name__ == "__main__":
+    sys.exit(main())
