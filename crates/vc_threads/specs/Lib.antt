@@ -8,3 +8,4 @@ pub mod Rings
 pub mod Order
 pub mod Closing
 pub mod Threads
+pub mod Least

@@ -1,5 +1,5 @@
 //! An actor at work, with its ends of the rings.
-ghost use Rattle.std.specs.Prelude.{◌≡◌, ◌≢◌, ℕ, ◌+◌, ◌<◌, ◌≤◌, ◌++◌, ◌⊎◌, [], ◌∷◌, length, OnErr, IfOk, IfSome, IfErr, IsSome, IsTrue};
+ghost use Rattle.std.specs.Prelude.{◌≡◌, ◌≢◌, ℕ, ◌+◌, ◌<◌, ◌≤◌, ◌++◌, ◌⊎◌, [], ◌∷◌, length, OnErr, IfOk, IfSome, IfErr, IsSome, IsTrue, ◌↔◌};
 ghost use Rattle.std.specs.List.{All, AllZip, HoldsAt};
 ghost use Rattle.std.specs.Int.{bit_at};
 ghost use Rattle.rtrb.specs.Ring.{sent, known_free, SameProducer};
@@ -7,6 +7,7 @@ ghost use Rattle.vc_core.specs.OfPlan.{IsActorOf};
 ghost use Rattle.vc_network.specs.Plan.{Plan};
 ghost use Rattle.vc_threads.specs.Wires.{OutLooked, InLooked, HasRoom, IsFree, IsReady};
 ghost use Rattle.vc_threads.specs.Works.{CanTake, IsGreatest, IsLate, TakesFront};
+ghost use Rattle.vc_threads.specs.Least.{IsFound, IsLeast, TakesLeast};
 
 use crate::link::{Ends, In, Out, Stamped};
 use crate::run::{ActorRun, Stop};
@@ -71,7 +72,7 @@ fn find_out(outs: &[(u8, Out)], link: u8) -> usize
 // Whether a link's ring has an item.
 fn is_ready(end: &mut (u8, In)) -> bool
     ensures looked { InLooked end.old end.new }
-    ensures ready { IsTrue result → IsReady end.new }
+    ensures ready { IsTrue result ↔ IsReady end.new }
 {
     let (_, consumer) = end;
     !consumer.is_empty()
@@ -80,22 +81,62 @@ fn is_ready(end: &mut (u8, In)) -> bool
 // Whether the actor may take from a link, and its ring has an item.
 fn can_take(actor: &Actor, end: &mut (u8, In)) -> bool
     ensures looked { InLooked end.old end.new }
-    ensures can { IsTrue result → CanTake actor.now end.new }
+    ensures can { IsTrue result ↔ CanTake actor.now end.new }
 {
     is_ready(end) && actor.may_take(end.0)
 }
 
-// The place of the first link from which the actor may take and whose ring has an item.
+// An end from which the actor can take, and its link.
+#[derive(Clone, Copy, Drop)]
+struct Found {
+    place: usize,
+    link: u8,
+}
+
+// Whether a link is below that of the end that was found, if one was.
+fn is_below(link: u8, least: Option<Found>) -> bool
+    ensures { IsTrue result ↔ IfSome least (λ found. link < found.link) }
+{
+    match least {
+        Some(found) => link < found.link,
+        None => true,
+    }
+}
+
+// The end of the least link among one more, the k-th. Its ring is asked only where its link is below that of the others.
+fn look(actor: &Actor, ins: &mut [(u8, In)], k: usize, least: Option<Found>) -> Option<Found>
+    requires within { k < length ins.old }
+    requires found { IsFound actor.now ins.old k least }
+    requires least { IsLeast actor.now ins.old k least }
+    ensures looked { AllZip InLooked ins.old ins.new }
+    ensures found { IsFound actor.now ins.new (k + 1) result }
+    ensures least { IsLeast actor.now ins.new (k + 1) result }
+{
+    let link = ins[k].0;
+    if !is_below(link, least) {
+        return least;
+    }
+    if can_take(actor, &mut ins[k]) {
+        Some(Found { place: k, link })
+    } else {
+        least
+    }
+}
+
+// The place of the least link from which the actor may take and whose ring has an item.
 fn find_in(actor: &Actor, ins: &mut [(u8, In)]) -> Option<usize>
     ensures looked { AllZip InLooked ins.old ins.new }
     ensures can { IfSome result (λ k. (k < length ins.new) × HoldsAt (CanTake actor.now) ins.new k) }
+    ensures least { TakesLeast actor.now ins.new result }
 {
+    let mut least = None;
     for k in 0..ins.len() {
-        if can_take(actor, &mut ins[k]) {
-            return Some(k);
-        }
+        least = look(actor, ins, k, least);
     }
-    None
+    match least {
+        Some(found) => Some(found.place),
+        None => None,
+    }
 }
 
 // Whether this was the room when the actor had no step.
@@ -278,7 +319,7 @@ impl Desk {
         }
     }
 
-    /// One turn: the take of an item from the first link that may take one and whose ring has one, or else what the actor does. The
+    /// One turn: the take of an item from the least link that may take one and whose ring has one, or else what the actor does. The
     /// answer is the room with which the actor has no step, where that is known, and the next turn is given it.
     pub(crate) fn turn(&mut self, rested: Option<u32>) -> Result<Option<u32>, Stop>
         requires actor { IsOfSomePlan self.old.actor }

@@ -17,7 +17,7 @@ use vc_core::Actor;
 /// After so many idle turns one after another a worker leaves the processor to others at each further one.
 const SPINS: u32 = 4;
 
-/// Runs an actor for at most so many turns, as long as the gate lets it. In a turn it takes the item of the first link from which it may and whose
+/// Runs an actor for at most so many turns, as long as the gate lets it. In a turn it takes the item of the least link from which it may and whose
 /// ring has one, or else does what [`Actor::turn`] does. The actor's number is the stream of the generator of its takes' words.
 ///
 /// The actor is one of a plan, no link stands twice among the ends that go out or among those that come in, and each that goes out is below
