@@ -5,3 +5,4 @@ pub mod Channels
 pub mod Closing
 pub mod Quieting
 pub mod Threaded
+pub mod Stepped

@@ -8,3 +8,4 @@ pub mod Quiet
 pub mod Running
 pub mod Shown
 pub mod Threading
+pub mod OneNode

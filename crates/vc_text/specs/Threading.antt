@@ -17,7 +17,7 @@ abbrev pub report_text : Plan → Report → List ℕ
 report_text plan r = traffic (channels_of plan (state_of r.state)) r.close
 
 -- the reader's network was run in threads, of so many turns at most and with this seed: what is reported are the events of all actors'
--- runs, which replay, with the headline and the one list there, and the traffic of the state after them was written, or a front of that
+-- runs, which replay, with the headline and a linearization there, and the traffic of the state after them was written, or a front of that
 -- before a fault of the writer; else nothing was written
 abbrev pub RunsInThreads : ℕ → ℕ → Option (List ℕ) → Option (List ℕ) → Option (List ℕ) → Result Report RunFault → Type 0
 RunsInThreads turns seed known old new (Ok r) = (plan : Plan) × ReadsAccepted known (Ok plan) × Reports plan turns seed r × Appends old new (report_text plan r)

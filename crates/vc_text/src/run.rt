@@ -8,7 +8,7 @@ ghost use Rattle.vc_core.specs.Turns.{FindsEvent};
 ghost use Rattle.vc_text.specs.Closing.{HasEvent, Closes};
 ghost use Rattle.vc_text.specs.Quiet.{AreQuiet};
 ghost use Rattle.vc_plan.specs.declared.channel.Channel.{Channel};
-ghost use Rattle.vc_text.specs.Running.{Steps};
+ghost use Rattle.vc_text.specs.Running.{RunsPlan, Steps, StepsTogether};
 ghost use Rattle.vc_text.specs.Shown.{channel_of, channels_of};
 ghost use Rattle.vc_text.specs.Streams.{Writes};
 ghost use Rattle.vc_text.specs.Traffic.{traffic};
@@ -16,6 +16,7 @@ ghost use Rattle.vc_text.specs.Views.{shown as traffic_of};
 
 use crate::check::read_accepted;
 use crate::fault::RunFault;
+use crate::one_node::read_together;
 use crate::seats::{Seats, after};
 use crate::traffic::{ChannelView, write_channels};
 use std::alloc::Global;
@@ -240,6 +241,23 @@ fn run(alloc: Global, accepted: &Accepted, limit: u64) -> Result<(Network, StepR
     Ok((network, StepReport { events, close }))
 }
 
+/// Runs an accepted network event by event, and writes its traffic. The run goes in rounds over the actors, and ends where no event is
+/// enabled, or else after `limit` events.
+fn run_plan<W: Write>(
+    alloc: Global,
+    accepted: &Accepted,
+    writer: &mut W,
+    limit: u64,
+) -> Result<StepReport, RunFault>
+    ensures { RunsPlan accepted.now (W.contents writer.old) (W.contents writer.new) limit result }
+{
+    let (network, report) = run(alloc, accepted, limit)?;
+    match write_traffic(alloc, &network, report.close, writer) {
+        Ok(()) => Ok(report),
+        Err(fault) => Err(fault),
+    }
+}
+
 /// Reads a network file, runs the network event by event, and writes its traffic. The run goes in rounds over the actors, and ends
 /// where no event is enabled, or else after `limit` events.
 pub fn run_step<R: Read, W: Write>(
@@ -251,9 +269,19 @@ pub fn run_step<R: Read, W: Write>(
     ensures { Steps (R.remaining reader.old) (W.contents writer.old) (W.contents writer.new) limit result }
 {
     let accepted = read_accepted(alloc, reader)?;
-    let (network, report) = run(alloc, &accepted, limit)?;
-    match write_traffic(alloc, &network, report.close, writer) {
-        Ok(()) => Ok(report),
-        Err(fault) => Err(fault),
-    }
+    run_plan(alloc, &accepted, writer, limit)
+}
+
+/// Reads a network file, runs all its processes side by side on one node, with every channel inside it, and writes the traffic. A
+/// network too large for one node is refused.
+pub fn run_together<R: Read, W: Write>(
+    alloc: Global,
+    reader: &mut R,
+    writer: &mut W,
+    limit: u64,
+) -> Result<StepReport, RunFault>
+    ensures { StepsTogether (R.remaining reader.old) (W.contents writer.old) (W.contents writer.new) limit result }
+{
+    let accepted = read_together(alloc, reader)?;
+    run_plan(alloc, &accepted, writer, limit)
 }

@@ -9,6 +9,7 @@ lines = record {
   check = (refl, refl);
   step = (refl, refl);
   limit = (refl, refl);
+  together = (refl, refl);
   run = (refl, refl);
   help = refl;
   beyond = refl;

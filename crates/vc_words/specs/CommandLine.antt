@@ -1,6 +1,7 @@
 -- The command line: what `clap` is told of it, and what its matches ask for.
-use Rattle.std.specs.Prelude.{◌≡◌, ◌&&◌, ℕ, true, Option, Some, None, List, [], ◌∷◌, codes, if◌then◌else◌, nat_lt, nat_le, length, option_and_then, option_map, unwrap_or, pos, ⊤, ◌≢◌, ◌≤◌}
+use Rattle.std.specs.Prelude.{◌≡◌, ◌&&◌, ℕ, Bool, true, false, Option, Some, None, List, [], ◌∷◌, codes, if◌then◌else◌, nat_lt, nat_le, length, option_and_then, option_map, unwrap_or, pos, ⊤, ◌≢◌, ◌≤◌}
 use Rattle.std.specs.List.{list_all}
+use Rattle.std.specs.Option.{option_map_or}
 use Rattle.std.specs.Char.{digit_value}
 use Rattle.std.specs.Str.{bytes_eq}
 use Rattle.std.specs.Str.Parse.{digits_value, without_leading_plus}
@@ -8,6 +9,7 @@ use Rattle.clap.specs.Walk.{Row, Rule, Text, one_of}
 use Rattle.clap.specs.Simple.{App, Shape, subcommand_of, new_app, new_rule, new_shape, on_top, with_subcommand}
 use Rattle.clap.specs.Kinds.{IsAmong, Kinds}
 use Rattle.clap.specs.Faults.{fault_of}
+use Rattle.clap.specs.declared.builder.action.ArgAction.TheVariants.{SetTrue}
 use Rattle.clap.specs.declared.builder.value_parser.ValueParser.{ValueParser}
 use Rattle.clap.specs.declared.builder.value_parser.ValueParser.TheVariants.{Signed, Unsigned}
 use Rattle.clap.specs.declared.error.kind.ErrorKind.{ErrorKind}
@@ -25,6 +27,13 @@ option_of name numbers usual =
 abbrev pub limit_option : Rule
 limit_option = option_of (codes "limit") (Unsigned 0 1000000000) (codes "1000000")
 
+-- a flag `--name`
+abbrev pub flag_of : Text → Rule
+flag_of name = record (new_rule name) { long = Some name; action = Some SetTrue }
+
+abbrev pub together_flag : Rule
+together_flag = flag_of (codes "together")
+
 abbrev pub turns_option : Rule
 turns_option = option_of (codes "turns") (Unsigned 0 1000000000) (codes "10000000")
 
@@ -36,7 +45,7 @@ abbrev pub check_shape : Shape
 check_shape = new_shape (codes "check")
 
 abbrev pub step_shape : Shape
-step_shape = record (new_shape (codes "step")) { rules = limit_option ∷ [] }
+step_shape = record (new_shape (codes "step")) { rules = limit_option ∷ together_flag ∷ [] }
 
 abbrev pub run_shape : Shape
 run_shape = record (new_shape (codes "run")) { rules = turns_option ∷ seed_option ∷ [] }
@@ -58,10 +67,14 @@ number_in most text =
 abbrev pub number_of : Text → ℕ → ℕ → List Row → ℕ
 number_of id most usual rows = unwrap_or (option_and_then (number_in most) (one_of id rows)) usual
 
+-- whether a flag is among what was found
+abbrev pub has_flag : Text → List Row → Bool
+has_flag id rows = option_map_or (λ text. bytes_eq text (codes "true")) (one_of id rows) false
+
 -- what a subcommand and what was found of its options ask for
 abbrev pub line_of : Text × List Row → Line
 line_of (name, rows) =
-    if bytes_eq name (codes "step") then Step (number_of (codes "limit") 1000000000 1000000 rows)
+    if bytes_eq name (codes "step") then Step (number_of (codes "limit") 1000000000 1000000 rows) (has_flag (codes "together") rows)
     else (if bytes_eq name (codes "run") then Run (number_of (codes "turns") 1000000000 10000000 rows) (number_of (codes "seed") 4294967295 0 rows)
     else Check)
 
@@ -92,5 +105,5 @@ IsFaultOf kinds (Bad text status) = (kind : ErrorKind) × IsAmong kind kinds × 
 -- the numbers of a line are in their ranges
 abbrev pub IsInRange : Line → Type 0
 IsInRange Check = ⊤
-IsInRange (Step limit) = limit ≤ 1000000000
+IsInRange (Step limit together) = limit ≤ 1000000000
 IsInRange (Run turns seed) = turns ≤ 1000000000

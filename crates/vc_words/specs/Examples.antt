@@ -1,5 +1,5 @@
 -- Some command lines, and what they ask for.
-use Rattle.std.specs.Prelude.{◌≡◌, List, [], ◌∷◌, codes}
+use Rattle.std.specs.Prelude.{◌≡◌, true, false, List, [], ◌∷◌, codes}
 use Rattle.clap.specs.Walk.{Text}
 use Rattle.clap.specs.declared.error.kind.ErrorKind.TheVariants.{DisplayHelp, ValueValidation}
 use Rattle.vc_words.specs.CommandLine.{Asks, faults}
@@ -11,8 +11,9 @@ line words = codes "vcnet" ∷ words
 
 pub record LinesAreRead : Type 0 where
   pub check : Asks (line (codes "check" ∷ [])) Check
-  pub step : Asks (line (codes "step" ∷ [])) (Step 1000000)
-  pub limit : Asks (line (codes "step" ∷ codes "--limit" ∷ codes "7" ∷ [])) (Step 7)
+  pub step : Asks (line (codes "step" ∷ [])) (Step 1000000 false)
+  pub limit : Asks (line (codes "step" ∷ codes "--limit" ∷ codes "7" ∷ [])) (Step 7 false)
+  pub together : Asks (line (codes "step" ∷ codes "--together" ∷ [])) (Step 1000000 true)
   pub run : Asks (line (codes "run" ∷ codes "--seed=3" ∷ codes "--turns=9" ∷ [])) (Run 9 3)
   pub help : faults (line (codes "--help" ∷ [])) ≡ DisplayHelp ∷ []
   pub beyond : faults (line (codes "step" ∷ codes "--limit" ∷ codes "1000000001" ∷ [])) ≡ ValueValidation ∷ []

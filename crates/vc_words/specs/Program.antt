@@ -1,8 +1,8 @@
 -- What the program does, over streams that tell their bytes.
-use Rattle.std.specs.Prelude.{◌≡◌, ◌⊎◌, ℕ, ◌≤◌, List, Option, Result, Ok, Err, ⊤}
+use Rattle.std.specs.Prelude.{◌≡◌, ◌⊎◌, ℕ, ◌≤◌, Bool, true, false, List, Option, Result, Ok, Err, ⊤}
 use Rattle.vc_text.specs.Checking.{Checks}
 use Rattle.vc_text.specs.FaultLine.{fault_text}
-use Rattle.vc_text.specs.Running.{Steps}
+use Rattle.vc_text.specs.Running.{Steps, StepsTogether}
 use Rattle.vc_text.specs.Streams.{Writes}
 use Rattle.vc_text.specs.Threading.{RunsInThreads}
 use Rattle.vc_threads.specs.declared.report.Report.{Report}
@@ -34,11 +34,16 @@ abbrev pub ChecksNetwork : Option (List ℕ) → Option (List ℕ) → Option (L
 ChecksNetwork known old new status =
     (Checks known old new (Ok tt) × (status ≡ 0)) ⊎ ((fault : RunFault) × (mid : Option (List ℕ)) × Checks known old mid (Err fault) × TellsFault mid new fault status)
 
--- it is run for at most so many events, or a fault of it is told
-abbrev pub StepsNetwork : Option (List ℕ) → Option (List ℕ) → Option (List ℕ) → ℕ → ℕ → Type 0
-StepsNetwork known old new limit status =
-    ((report : StepReport) × Steps known old new limit (Ok report) × (status ≡ status_of_end report.close))
-    ⊎ ((fault : RunFault) × (mid : Option (List ℕ)) × Steps known old mid limit (Err fault) × TellsFault mid new fault status)
+-- as its plan says, or all its processes side by side on one node
+abbrev pub StepsAs : Bool → Option (List ℕ) → Option (List ℕ) → Option (List ℕ) → ℕ → Result StepReport RunFault → Type 0
+StepsAs false = Steps
+StepsAs true = StepsTogether
+
+-- it is run so for at most so many events, or a fault of it is told
+abbrev pub StepsNetwork : Bool → Option (List ℕ) → Option (List ℕ) → Option (List ℕ) → ℕ → ℕ → Type 0
+StepsNetwork together known old new limit status =
+    ((report : StepReport) × StepsAs together known old new limit (Ok report) × (status ≡ status_of_end report.close))
+    ⊎ ((fault : RunFault) × (mid : Option (List ℕ)) × StepsAs together known old mid limit (Err fault) × TellsFault mid new fault status)
 
 -- it is run in threads, of so many turns at most and with this seed, or a fault of it is told
 abbrev pub RunsNetwork : ℕ → ℕ → Option (List ℕ) → Option (List ℕ) → Option (List ℕ) → ℕ → Type 0
@@ -55,7 +60,8 @@ TellsLine words old new status =
 -- What the words ask for is done: the reader's bytes before and after, the writer's, and the status. A line that is told reads nothing.
 pub data Runs (words : List Text) (known rest old new : Option (List ℕ)) (status : ℕ) : Type 0 where
   checks : Asks words Check → ChecksNetwork known old new status → Runs words known rest old new status
-  steps : (limit : ℕ) → limit ≤ 1000000000 → Asks words (Step limit) → StepsNetwork known old new limit status → Runs words known rest old new status
+  steps : (limit : ℕ) (together : Bool) → limit ≤ 1000000000 → Asks words (Step limit together) → StepsNetwork together known old new limit status
+      → Runs words known rest old new status
   runs : (turns seed : ℕ) → turns ≤ 1000000000 → Asks words (Run turns seed) → RunsNetwork turns seed known old new status
       → Runs words known rest old new status
   tells : rest ≡ known → TellsLine words old new status → Runs words known rest old new status

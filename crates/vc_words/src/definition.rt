@@ -5,10 +5,10 @@ ghost use Rattle.clap.specs.Walk.{rule_of};
 ghost use Rattle.clap.specs.Simple.{shape_of};
 ghost use Rattle.clap.specs.declared.builder.command.Command.TheViews.{out-Command};
 ghost use Rattle.clap.specs.declared.builder.value_parser.ValueParser.TheVariants.{Unsigned};
-ghost use Rattle.vc_words.specs.CommandLine.{option_of, vcnet, step_shape, run_shape};
+ghost use Rattle.vc_words.specs.CommandLine.{flag_of, option_of, vcnet, step_shape, run_shape};
 
 use clap::builder::ValueParser;
-use clap::{Arg, Command, value_parser};
+use clap::{Arg, ArgAction, Command, value_parser};
 use std::alloc::{AllocError, Global};
 
 /// How many events or turns a run may be allowed: at most 1,000,000,000.
@@ -37,6 +37,17 @@ fn number_option<'a>(
         .default_value(usual)
 }
 
+/// A flag `--name`.
+fn flag<'a>(alloc: Global, name: &'a str, help: &'a str) -> Arg<'a>
+    ensures rule { rule_of result ≡ flag_of name.entry.now }
+    ensures local { result.global ≡ false }
+{
+    Arg::new(alloc, name)
+        .long(name)
+        .help(help)
+        .action(ArgAction::SetTrue)
+}
+
 /// The subcommand that runs the network event by event.
 fn step_definition<'a>(alloc: Global) -> Result<Command<'a>, AllocError>
     ensures shape { IfOk result (λ c. shape_of c ≡ step_shape) }
@@ -49,9 +60,15 @@ fn step_definition<'a>(alloc: Global) -> Result<Command<'a>, AllocError>
         counts(),
         "1000000",
     );
+    let together = flag(
+        alloc,
+        "together",
+        "Runs all processes on one node, with every channel inside it",
+    );
     Command::new(alloc, "step")
         .about("Runs the network on standard input and prints its traffic")
-        .arg(limit)
+        .arg(limit)?
+        .arg(together)
 }
 
 /// The subcommand that runs the network in threads.

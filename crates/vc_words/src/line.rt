@@ -9,6 +9,8 @@ pub enum Line {
     Step {
         /// The most events that are made: at most 1,000,000,000, and 1,000,000 where the words say nothing.
         limit: u64,
+        /// Whether all processes run side by side on one node.
+        together: bool,
     },
     /// To run the network with a thread for each node and each switch, and to print its traffic.
     Run {

@@ -2,7 +2,7 @@
 ghost use Rattle.std.specs.Prelude.{◌≡◌, ◌≤◌, IfOk, IfErr, IfSome};
 ghost use Rattle.clap.specs.Words.{found_of, kind_of, rows_of, subcommand_rows_of};
 ghost use Rattle.clap.specs.Walk.{texts};
-ghost use Rattle.vc_words.specs.CommandLine.{line_of as line_for, number_of, faults, Asks, IsFaultOf, IsInRange, IsToldAs};
+ghost use Rattle.vc_words.specs.CommandLine.{has_flag, line_of as line_for, number_of, faults, Asks, IsFaultOf, IsInRange, IsToldAs};
 
 use crate::definition::definition;
 use crate::line::Line;
@@ -38,6 +38,16 @@ fn number(matches: &ArgMatches<'_>, id: &str, most: u64, usual: u64) -> u64
     }
 }
 
+/// Whether the matches have a flag.
+fn is_set(matches: &ArgMatches<'_>, id: &str) -> bool
+    ensures { result ≡ has_flag id.now (rows_of (found_of matches.now)) }
+{
+    match matches.get_one::<bool>(id) {
+        Some(set) => set,
+        None => false,
+    }
+}
+
 /// What the matches ask for.
 fn line_of(matches: &ArgMatches<'_>) -> Line
     ensures line { IfSome (subcommand_rows_of matches.now) (λ found. result ≡ line_for found) }
@@ -46,6 +56,7 @@ fn line_of(matches: &ArgMatches<'_>) -> Line
     match matches.subcommand() {
         Some(("step", inner)) => Line::Step {
             limit: number(inner, "limit", MOST, USUAL_EVENTS),
+            together: is_set(inner, "together"),
         },
         Some(("run", inner)) => Line::Run {
             turns: number(inner, "turns", MOST, USUAL_TURNS),

@@ -3,7 +3,7 @@ ghost use Rattle.std.specs.Prelude.{◌≡◌, ℕ, List};
 ghost use Rattle.vc_text.specs.declared.fault.RunFault.TheVariants.{Memory as OutOfMemory};
 ghost use Rattle.clap.specs.Walk.{Text, texts};
 ghost use Rattle.vc_words.specs.CommandLine.{faults, IsFaultOf};
-ghost use Rattle.vc_words.specs.Program.{ChecksNetwork, Runs, RunsNetwork, StepsNetwork, Tells, TellsFault, TellsLine};
+ghost use Rattle.vc_words.specs.Program.{ChecksNetwork, Runs, RunsNetwork, StepsAs, StepsNetwork, Tells, TellsFault, TellsLine};
 ghost use Rattle.vc_words.specs.Status.{status_of_check as status_for_check, status_of_text as status_for_text, status_of_fault, status_of_end};
 
 use crate::line::Line;
@@ -16,7 +16,9 @@ use std::thread::Threads;
 use vc_core::Close;
 use vc_plan::CheckRefused;
 use vc_reader::ReadRefused;
-use vc_text::{RunFault, run_check, run_net, run_step, write_fault, write_text};
+use vc_text::{
+    RunFault, StepReport, run_check, run_net, run_step, run_together, write_fault, write_text,
+};
 
 /// The status for a network that is accepted, or whose processes have all ended.
 const DONE: u8 = 0;
@@ -137,11 +139,34 @@ fn check_by<R: Read, W: Write>(alloc: Global, reader: &mut R, writer: &mut W) ->
     }
 }
 
-/// Runs the network that the reader has.
-fn step_by<R: Read, W: Write>(alloc: Global, reader: &mut R, writer: &mut W, limit: u64) -> u8
-    ensures { StepsNetwork (R.remaining reader.old) (W.contents writer.old) (W.contents writer.new) limit result }
+/// Runs the network that the reader has, as its plan says, or all its processes on one node.
+fn stepped<R: Read, W: Write>(
+    alloc: Global,
+    reader: &mut R,
+    writer: &mut W,
+    limit: u64,
+    is_together: bool,
+) -> Result<StepReport, RunFault>
+    ensures { StepsAs is_together (R.remaining reader.old) (W.contents writer.old) (W.contents writer.new) limit result }
 {
-    match run_step(alloc, reader, writer, limit) {
+    if is_together {
+        run_together(alloc, reader, writer, limit)
+    } else {
+        run_step(alloc, reader, writer, limit)
+    }
+}
+
+/// Runs the network that the reader has, event by event.
+fn step_by<R: Read, W: Write>(
+    alloc: Global,
+    reader: &mut R,
+    writer: &mut W,
+    limit: u64,
+    is_together: bool,
+) -> u8
+    ensures { StepsNetwork is_together (R.remaining reader.old) (W.contents writer.old) (W.contents writer.new) limit result }
+{
+    match stepped(alloc, reader, writer, limit, is_together) {
         Ok(report) => status_of_close(report.close),
         Err(fault) => told(alloc, fault, writer),
     }
@@ -177,7 +202,7 @@ pub fn run_words<T: Threads + Wait, R: Read, W: Write>(
 {
     match command(alloc, words) {
         Ok(Line::Check) => check_by(alloc, reader, writer),
-        Ok(Line::Step { limit }) => step_by(alloc, reader, writer, limit),
+        Ok(Line::Step { limit, together }) => step_by(alloc, reader, writer, limit, together),
         Ok(Line::Run { turns, seed }) => run_by(rt, alloc, reader, writer, turns, seed),
         Err(fault) => told_of_line(alloc, &fault, writer),
     }

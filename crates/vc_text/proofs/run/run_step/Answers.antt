@@ -1,55 +1,9 @@
-use Rattle.std.proofs.Common.{List, ℕ, ◌≤◌, Option, Ok, Err, length, subst}
-use Rattle.vc_core.specs.declared.close.Close.{Close}
-use Rattle.vc_core.specs.declared.event.Event.{Event}
-use Rattle.vc_core.specs.Replaying.{Replays}
-use Rattle.vc_core.specs.State.{State, state_of}
-use Rattle.vc_plan.specs.declared.plan.Plan.{Plan as Network}
 use Rattle.vc_text.specs.Checking.{ReadsAccepted}
-use Rattle.vc_text.specs.Closing.{Closes}
-use Rattle.vc_text.specs.declared.fault.RunFault.{RunFault}
-use Rattle.vc_text.specs.declared.fault.RunFault.TheVariants.{Read, Write, Text, Plan, Threads, Memory}
-use Rattle.vc_text.specs.Running.{Steps}
-use Rattle.vc_text.specs.Shown.{channels_of}
-use Rattle.vc_text.specs.Streams.{Writes}
-use Rattle.vc_text.specs.Traffic.{traffic}
 use Rattle.vc_text.proofs.Checked.{memory_any}
+use Rattle.vc_text.proofs.Stepped.{steps_by}
 use Rattle.vc_text.proofs.run.run_step.Goals as goal
-
--- the traffic could not be written, or there was no memory for it
-unwritten : (known old new : Option (List ℕ)) (limit : ℕ) (plan : Network) (events : List Event) (s : State) (close : Close) (fault : RunFault) →
-    ReadsAccepted known (Ok plan) → length events ≤ limit → Replays plan events s → Closes plan s (length events) limit close →
-    Writes old new (traffic (channels_of plan s) close) (Err fault) → Steps known old new limit (Err fault)
-unwritten known old new limit plan events s close Write read few is closes w = (plan, read, (events, s, close, few, is, closes, w))
-unwritten known old new limit plan events s close Memory read few is closes w = (memory_any known, w)
-unwritten known old new limit plan events s close Read read few is closes w = absurd w
-unwritten known old new limit plan events s close (Text refused) read few is closes w = absurd w
-unwritten known old new limit plan events s close (Plan refusal) read few is closes w = absurd w
-unwritten known old new limit plan events s close (Threads why) read few is closes w = absurd w
-
-pub returns-in-Ok : goal.returns-in-Ok
-returns-in-Ok g c =
-    let p = c.in_ok-accepted.accepted in
-    let ran = c.in_ok-network.ensures in
-    let s = state_of c.in_ok-network.network in
-    let text = traffic (channels_of p s) c.in_ok-network.report.close in (
-      p,
-      c.in_ok-accepted.ensures,
-      ran.few,
-      (
-        s,
-        ran.replays,
-        ran.closes,
-        subst (Writes (g.W.Write.contents c.args.writer.now) (g.W.Write.contents c.write_traffic.new.writer) text) c.in-Ok.is (c.write_traffic.ensures p ran.replays.is),
-      ),
-    )
 
 pub returns : goal.returns
 returns g c =
-    let p = c.in_ok-accepted.accepted in
-    let ran = c.in_ok-network.ensures in
-    let s = state_of c.in_ok-network.network in
-    let report = c.in_ok-network.report in
-    let old = g.W.Write.contents c.args.writer.now in
-    let new = g.W.Write.contents c.write_traffic.new.writer in
-    unwritten (g.R.Read.remaining c.args.reader.now) old new c.args.limit p report.events s report.close c.in-Err.fault c.in_ok-accepted.ensures ran.few ran.replays ran.closes
-    (subst (Writes old new (traffic (channels_of p s) report.close)) c.in-Err.is (c.write_traffic.ensures p ran.replays.is))
+    let known = g.R.Read.remaining c.args.reader.now in
+    steps_by (ReadsAccepted known) (memory_any known) c.in_ok-accepted.accepted (g.W.Write.contents c.args.writer.now) _ c.args.limit _ c.in_ok-accepted.ensures c.run_plan.ensures

@@ -13,8 +13,8 @@ returns-in-Ok-Check g c =
 pub returns-in-Ok-Step : goal.returns-in-Ok-Step
 returns-in-Ok-Step g c =
     let few : c.in-Ok-Step.limit ≤ 1000000000 = search rules in
-    let asks : Asks (texts c.args.words.now) (Step c.in-Ok-Step.limit) = search rules in
-    steps c.in-Ok-Step.limit few asks c.step_by.ensures
+    let asks : Asks (texts c.args.words.now) (Step c.in-Ok-Step.limit c.in-Ok-Step.together) = search rules in
+    steps c.in-Ok-Step.limit c.in-Ok-Step.together few asks c.step_by.ensures
 
 pub returns-in-Ok-Run : goal.returns-in-Ok-Run
 returns-in-Ok-Run g c =

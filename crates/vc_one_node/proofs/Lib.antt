@@ -1,0 +1,4 @@
+pub mod Kept
+pub mod LawfulKept
+pub mod Ends
+pub mod Main

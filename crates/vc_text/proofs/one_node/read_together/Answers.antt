@@ -1,0 +1,5 @@
+use Rattle.vc_text.proofs.Stepped.{reads_together}
+use Rattle.vc_text.proofs.one_node.read_together.Goals as goal
+
+pub returns : goal.returns
+returns g c = reads_together _ c.in_ok-accepted.accepted _ c.in_ok-accepted.ensures c.joined.ensures

@@ -1,0 +1,33 @@
+//! All processes of a network on one node.
+ghost use Rattle.std.specs.Prelude.{◌≡◌};
+ghost use Rattle.vc_text.specs.OneNode.{JoinsNodes, ReadsTogether};
+
+use crate::check::read_accepted;
+use crate::fault::RunFault;
+use std::alloc::Global;
+use std::io::Read;
+use vc_plan::{Accepted, CheckRefused, LimitWord, Refusal, check, together};
+
+/// The plan of one node that runs all processes of an accepted plan side by side, where the checker accepts it.
+fn joined(alloc: Global, accepted: Accepted) -> Result<Accepted, RunFault>
+    ensures { JoinsNodes accepted result }
+{
+    let Some(one) = together(alloc, accepted.plan())? else {
+        return Err(RunFault::Plan(Refusal {
+            plan: accepted.into_plan(),
+            why: CheckRefused::Limit(LimitWord::Vars),
+        }));
+    };
+    match check(alloc, one) {
+        Ok(one) => Ok(one),
+        Err(refusal) => Err(RunFault::Plan(refusal)),
+    }
+}
+
+/// The plan of one node for the network that the reader has, where the checker accepts both.
+pub(crate) fn read_together<R: Read>(alloc: Global, reader: &mut R) -> Result<Accepted, RunFault>
+    ensures { ReadsTogether (R.remaining reader.old) result }
+{
+    let accepted = read_accepted(alloc, reader)?;
+    joined(alloc, accepted)
+}
