@@ -6,7 +6,12 @@ use Rattle.vc_core.specs.Turns.{Rests, IsAtRest, FindsTake, FindsEvent, actors}
 use Rattle.vc_actor.specs.declared.act.Act.TheVariants.{Take}
 use Rattle.vc_core.specs.declared.event.Event.{Event}
 use Rattle.vc_core.proofs.Turning.{at_rest}
-use Rattle.vc_text.specs.Closing.{HasEvent}
+use Rattle.vc_core.specs.declared.close.Close.{Close}
+use Rattle.vc_core.specs.declared.close.Close.TheVariants.{Done, Quiet, Limit, GateClosed, ClockFull, Failed}
+use Rattle.vc_core.specs.Replaying.{Reached, Replays}
+use Rattle.vc_core.specs.Still.{OnlyMoves}
+use Rattle.vc_core.proofs.Still.{only_processes_hold}
+use Rattle.vc_text.specs.Closing.{HasEvent, Closes, OnlyProcessesWait}
 
 -- where all actors rest
 pub all_rest : (p : Plan) (s : State) → IsNetworkOf p s → (n : ℕ) → actors p ≤ n → ((k : ℕ) → k < n → Rests p s k) → IsAtRest p s
@@ -45,3 +50,15 @@ or_false false b e = e
 pub neither : (a b : Bool) → (a || b) ≡ false → (a ≡ false) × (b ≡ false)
 neither true b e = absurd (cc)
 neither false b e = (refl, e)
+
+-- where a run without a cycle of dependencies is quiet only processes wait
+pub processes_wait : (p : Plan) (events : List Event) (s : State) (made limit : ℕ) (close : Close) → Replays p events s → Closes p s made limit close → OnlyProcessesWait p s close
+processes_wait p events s made limit Quiet r c = λ ranks.
+    let reached : Reached p events s = record { is = r.is; happen = r.happen } in
+    let rest : OnlyMoves p s = λ e can. absurd (c.0 e can) in
+    record { packets = only_processes_hold.packets p events s ranks reached rest; outputs = only_processes_hold.outputs p events s ranks reached rest }
+processes_wait p events s made limit Done r c = tt
+processes_wait p events s made limit Limit r c = tt
+processes_wait p events s made limit GateClosed r c = tt
+processes_wait p events s made limit ClockFull r c = tt
+processes_wait p events s made limit (Failed k) r c = tt

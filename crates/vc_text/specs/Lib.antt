@@ -4,6 +4,7 @@ pub mod Views
 pub mod FaultLine
 pub mod Checking
 pub mod Closing
+pub mod Deadlock
 pub mod Quiet
 pub mod Running
 pub mod Shown

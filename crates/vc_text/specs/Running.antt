@@ -13,14 +13,15 @@ use Rattle.vc_text.specs.declared.run.StepReport.{StepReport}
 use Rattle.vc_text.specs.Streams.{AppendsFront}
 use Rattle.vc_text.specs.Checking.{ReadsAccepted}
 use Rattle.vc_text.specs.OneNode.{ReadsTogether}
-use Rattle.vc_text.specs.Closing.{Closes}
+use Rattle.vc_text.specs.Closing.{Closes, OnlyProcessesWait}
 use Rattle.vc_text.specs.Traffic.{traffic}
 
--- An accepted plan's network was run for at most so many events, which replay, with the headline and a linearization there; it closes
--- as their state says; and the traffic of that state was written, or a front of that before a fault of the writer; without memory nothing.
+-- An accepted plan's network was run for at most so many events, which replay, with the headline and a linearization there. It closes
+-- as their state says, and where it is quiet without a cycle of dependencies only its processes wait. The traffic of that state was
+-- written, or a front of that before a fault of the writer; without memory nothing was.
 abbrev pub RunsPlan : Network → Option (List ℕ) → Option (List ℕ) → ℕ → Result StepReport RunFault → Type 0
 RunsPlan plan old new limit (Ok report) =
-    (length report.events ≤ limit) × ((s : State) × Replays plan report.events s × Closes plan s (length report.events) limit report.close × Appends old new (traffic (channels_of plan s) report.close))
+    (length report.events ≤ limit) × ((s : State) × Replays plan report.events s × Closes plan s (length report.events) limit report.close × OnlyProcessesWait plan s report.close × Appends old new (traffic (channels_of plan s) report.close))
 RunsPlan plan old new limit (Err Write) =
     (events : List Event) × (s : State) × (close : Close) × (length events ≤ limit) × Replays plan events s × Closes plan s (length events) limit close × AppendsFront old new (traffic (channels_of plan s) close)
 RunsPlan plan old new limit (Err Memory) = new ≡ old

@@ -6,6 +6,7 @@
 
 mod check;
 mod check_line;
+mod deadlock;
 mod fault;
 mod fault_line;
 mod number;
@@ -19,6 +20,7 @@ mod threading;
 mod traffic;
 
 pub use check::run_check;
+pub use deadlock::run_deadlock;
 pub use fault::RunFault;
 pub use fault_line::write_fault;
 pub use run::{StepReport, run_step, run_together, write_traffic};

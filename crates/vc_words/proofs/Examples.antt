@@ -7,6 +7,7 @@ pub lines : LinesAreRead
 unfolding clap_on_literals
 lines = record {
   check = (refl, refl);
+  deadlock = (refl, refl);
   step = (refl, refl);
   limit = (refl, refl);
   together = (refl, refl);

@@ -1,6 +1,7 @@
 -- What the program does, over streams that tell their bytes.
 use Rattle.std.specs.Prelude.{◌≡◌, ◌⊎◌, ℕ, ◌≤◌, Bool, true, false, List, Option, Result, Ok, Err, ⊤}
 use Rattle.vc_text.specs.Checking.{Checks}
+use Rattle.vc_text.specs.Deadlock.{TellsDeadlock}
 use Rattle.vc_text.specs.FaultLine.{fault_text}
 use Rattle.vc_text.specs.Running.{Steps, StepsTogether}
 use Rattle.vc_text.specs.Streams.{Writes}
@@ -12,9 +13,9 @@ use Rattle.vc_text.specs.declared.run.StepReport.{StepReport}
 use Rattle.clap.specs.Walk.{Text}
 use Rattle.clap.specs.Kinds.{IsAmong}
 use Rattle.clap.specs.declared.error.kind.ErrorKind.{ErrorKind}
-use Rattle.vc_words.specs.declared.line.Line.TheVariants.{Check, Step, Run}
+use Rattle.vc_words.specs.declared.line.Line.TheVariants.{Check, Deadlock, Step, Run}
 use Rattle.vc_words.specs.CommandLine.{Asks, faults, status_of_kind}
-use Rattle.vc_words.specs.Status.{status_of_fault, status_of_end}
+use Rattle.vc_words.specs.Status.{status_of_fault, status_of_freedom, status_of_end}
 
 -- the status that was wanted, or that of a fault in writing
 abbrev pub status_after : ℕ → Result ⊤ RunFault → ℕ
@@ -33,6 +34,12 @@ TellsFault old new fault status = Tells old new (fault_text fault) (status_of_fa
 abbrev pub ChecksNetwork : Option (List ℕ) → Option (List ℕ) → Option (List ℕ) → ℕ → Type 0
 ChecksNetwork known old new status =
     (Checks known old new (Ok tt) × (status ≡ 0)) ⊎ ((fault : RunFault) × (mid : Option (List ℕ)) × Checks known old mid (Err fault) × TellsFault mid new fault status)
+
+-- it is told whether its packets can come to wait for one another in a circle, or a fault of it is told
+abbrev pub FindsDeadlock : Option (List ℕ) → Option (List ℕ) → Option (List ℕ) → ℕ → Type 0
+FindsDeadlock known old new status =
+    ((free : Bool) × TellsDeadlock known old new (Ok free) × (status ≡ status_of_freedom free))
+    ⊎ ((fault : RunFault) × (mid : Option (List ℕ)) × TellsDeadlock known old mid (Err fault) × TellsFault mid new fault status)
 
 -- as its plan says, or all its processes side by side on one node
 abbrev pub StepsAs : Bool → Option (List ℕ) → Option (List ℕ) → Option (List ℕ) → ℕ → Result StepReport RunFault → Type 0
@@ -60,6 +67,7 @@ TellsLine words old new status =
 -- What the words ask for is done: the reader's bytes before and after, the writer's, and the status. A line that is told reads nothing.
 pub data Runs (words : List Text) (known rest old new : Option (List ℕ)) (status : ℕ) : Type 0 where
   checks : Asks words Check → ChecksNetwork known old new status → Runs words known rest old new status
+  finds : Asks words Deadlock → FindsDeadlock known old new status → Runs words known rest old new status
   steps : (limit : ℕ) (together : Bool) → limit ≤ 1000000000 → Asks words (Step limit together) → StepsNetwork together known old new limit status
       → Runs words known rest old new status
   runs : (turns seed : ℕ) → turns ≤ 1000000000 → Asks words (Run turns seed) → RunsNetwork turns seed known old new status

@@ -1,5 +1,5 @@
 -- The program's status.
-use Rattle.std.specs.Prelude.{ℕ}
+use Rattle.std.specs.Prelude.{ℕ, Bool, true, false}
 use Rattle.vc_core.specs.declared.close.Close.{Close}
 use Rattle.vc_core.specs.declared.close.Close.TheVariants.{Done, Quiet, Limit, GateClosed, ClockFull, Failed}
 use Rattle.vc_plan.specs.declared.check_refused.CheckRefused.{CheckRefused}
@@ -26,6 +26,11 @@ status_of_fault (Text refused) = status_of_text refused
 status_of_fault (Plan refusal) = status_of_check refusal.why
 status_of_fault (Threads why) = 4
 status_of_fault Memory = 4
+
+-- 0 where the dependencies have no cycle, and 1 where one is shown
+abbrev pub status_of_freedom : Bool → ℕ
+status_of_freedom true = 0
+status_of_freedom false = 1
 
 -- 0 where every process has ended, 1 where the network is quiet, 3 for a limit, 4 for want of memory
 abbrev pub status_of_end : Close → ℕ

@@ -102,10 +102,14 @@ pub(crate) fn definition<'a>(alloc: Global) -> Result<Command<'a>, AllocError>
     ensures local { IfOk result (λ c. (out-Command c).has_globals ≡ false) }
 {
     let check = Command::new(alloc, "check").about("Checks the network on standard input");
+    let deadlock = Command::new(alloc, "deadlock").about(
+        "Tells whether packets of the network on standard input can wait in a circle",
+    );
     Command::new(alloc, "vcnet")
         .about("The virtual channel network of the T9000 and the C104, with occam processes")
         .subcommand_required(true)
         .subcommand(check)?
+        .subcommand(deadlock)?
         .subcommand(step_definition(alloc)?)?
         .subcommand(run_definition(alloc)?)
 }

@@ -5,6 +5,8 @@
 pub enum Line {
     /// To check the network, and to print how large it is.
     Check,
+    /// To tell whether packets of the network can come to wait for one another in a circle.
+    Deadlock,
     /// To run the network event by event, and to print its traffic.
     Step {
         /// The most events that are made: at most 1,000,000,000, and 1,000,000 where the words say nothing.

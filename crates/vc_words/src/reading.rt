@@ -62,6 +62,7 @@ fn line_of(matches: &ArgMatches<'_>) -> Line
             turns: number(inner, "turns", MOST, USUAL_TURNS),
             seed: number(inner, "seed", u64::from(u32::MAX), 0) as u32,
         },
+        Some(("deadlock", _)) => Line::Deadlock,
         _ => Line::Check,
     }
 }

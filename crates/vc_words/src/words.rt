@@ -3,8 +3,8 @@ ghost use Rattle.std.specs.Prelude.{◌≡◌, ℕ, List};
 ghost use Rattle.vc_text.specs.declared.fault.RunFault.TheVariants.{Memory as OutOfMemory};
 ghost use Rattle.clap.specs.Walk.{Text, texts};
 ghost use Rattle.vc_words.specs.CommandLine.{faults, IsFaultOf};
-ghost use Rattle.vc_words.specs.Program.{ChecksNetwork, Runs, RunsNetwork, StepsAs, StepsNetwork, Tells, TellsFault, TellsLine};
-ghost use Rattle.vc_words.specs.Status.{status_of_check as status_for_check, status_of_text as status_for_text, status_of_fault, status_of_end};
+ghost use Rattle.vc_words.specs.Program.{ChecksNetwork, FindsDeadlock, Runs, RunsNetwork, StepsAs, StepsNetwork, Tells, TellsFault, TellsLine};
+ghost use Rattle.vc_words.specs.Status.{status_of_check as status_for_check, status_of_text as status_for_text, status_of_fault, status_of_freedom as status_for_freedom, status_of_end};
 
 use crate::line::Line;
 use crate::line_fault::LineFault;
@@ -17,11 +17,15 @@ use vc_core::Close;
 use vc_plan::CheckRefused;
 use vc_reader::ReadRefused;
 use vc_text::{
-    RunFault, StepReport, run_check, run_net, run_step, run_together, write_fault, write_text,
+    RunFault, StepReport, run_check, run_deadlock, run_net, run_step, run_together,
+    write_fault, write_text,
 };
 
-/// The status for a network that is accepted, or whose processes have all ended.
+/// The status for a network that is accepted, or without a cycle, or whose processes have all ended.
 const DONE: u8 = 0;
+
+/// The status for a network whose dependencies have a cycle.
+const CYCLE: u8 = 1;
 
 /// The status for a run that came to rest before all processes had ended.
 const QUIET: u8 = 1;
@@ -85,6 +89,13 @@ fn status_of_close(close: Close) -> u8
     }
 }
 
+/// The status of a network whose dependencies have no cycle, or have one.
+fn status_of_freedom(free: bool) -> u8
+    ensures { result ≡ status_for_freedom free }
+{
+    if free { DONE } else { CYCLE }
+}
+
 /// Writes the line of a fault. The status is that of the fault, or of a later one in writing it.
 fn told<W: Write>(alloc: Global, fault: RunFault, writer: &mut W) -> u8
     ensures { TellsFault (W.contents writer.old) (W.contents writer.new) fault result }
@@ -135,6 +146,16 @@ fn check_by<R: Read, W: Write>(alloc: Global, reader: &mut R, writer: &mut W) ->
 {
     match run_check(alloc, reader, writer) {
         Ok(()) => DONE,
+        Err(fault) => told(alloc, fault, writer),
+    }
+}
+
+/// Tells whether packets of the network that the reader has can come to wait for one another in a circle.
+fn deadlock_by<R: Read, W: Write>(alloc: Global, reader: &mut R, writer: &mut W) -> u8
+    ensures { FindsDeadlock (R.remaining reader.old) (W.contents writer.old) (W.contents writer.new) result }
+{
+    match run_deadlock(alloc, reader, writer) {
+        Ok(free) => status_of_freedom(free),
         Err(fault) => told(alloc, fault, writer),
     }
 }
@@ -202,6 +223,7 @@ pub fn run_words<T: Threads + Wait, R: Read, W: Write>(
 {
     match command(alloc, words) {
         Ok(Line::Check) => check_by(alloc, reader, writer),
+        Ok(Line::Deadlock) => deadlock_by(alloc, reader, writer),
         Ok(Line::Step { limit, together }) => step_by(alloc, reader, writer, limit, together),
         Ok(Line::Run { turns, seed }) => run_by(rt, alloc, reader, writer, turns, seed),
         Err(fault) => told_of_line(alloc, &fault, writer),

@@ -11,6 +11,7 @@ use Rattle.vc_text.specs.Running.{RunsPlan}
 use Rattle.vc_text.specs.Shown.{channels_of}
 use Rattle.vc_text.specs.Streams.{Writes}
 use Rattle.vc_text.specs.Traffic.{traffic}
+use Rattle.vc_text.proofs.Closing.{processes_wait}
 use Rattle.vc_text.proofs.run.run_plan.Goals as goal
 
 -- the traffic could not be written, or there was no memory for it
@@ -35,6 +36,7 @@ returns-in-Ok g c =
         s,
         ran.replays,
         ran.closes,
+        processes_wait p c.in_ok-network.report.events s (length c.in_ok-network.report.events) c.args.limit c.in_ok-network.report.close ran.replays ran.closes,
         subst (Writes (g.W.Write.contents c.args.writer.now) (g.W.Write.contents c.write_traffic.new.writer) text) c.in-Ok.is (c.write_traffic.ensures p ran.replays.is),
       ),
     )

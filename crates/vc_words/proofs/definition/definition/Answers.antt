@@ -1,15 +1,31 @@
-use Rattle.std.proofs.Common.{rules, ap, ap₂, true, codes, ◌≡◌, ◌∙◌}
+use Rattle.std.proofs.Common.{rules, ap, ap₂, Bool, true, false, codes, ◌≡◌, ◌∙◌, ◌||◌}
 use Rattle.std.proofs.lemmas.Result.{IfOk-weaker}
 use Rattle.clap.specs.Words.{App, app_of, new_app, with_subcommand}
 use Rattle.clap.specs.Simple.{app_of_fields, on_top, shape_of, shape_of_fields}
-use Rattle.vc_words.specs.CommandLine.{check_shape}
+use Rattle.clap.specs.declared.builder.command.Command.TheViews.{out-Command}
+use Rattle.vc_words.specs.CommandLine.{check_shape, deadlock_shape}
 use Rattle.vc_words.proofs.definition.definition.Goals as goal
 
 pub returns-clause-app : goal.returns-clause-app
 returns-clause-app c =
     let check_is : shape_of c.about-check.result ≡ check_shape = ap shape_of_fields c.about-check.ensures ∙ ap (λ (a : App). a.top) c.new.ensures.app in
+    let deadlock_is : shape_of c.about-deadlock.result ≡ deadlock_shape = ap shape_of_fields c.about-deadlock.ensures ∙ ap (λ (a : App). a.top) c.new-2.ensures.app in
     let top_is : app_of c.subcommand_required.result ≡ on_top (λ s. record s { subcommand_required = true }) (new_app (codes "vcnet")) =
-    ap app_of_fields c.subcommand_required.ensures ∙ ap (on_top (λ s. record s { subcommand_required = true })) (ap app_of_fields c.about.ensures ∙ c.new-2.ensures.app) in
+    ap app_of_fields c.subcommand_required.ensures ∙ ap (on_top (λ s. record s { subcommand_required = true })) (ap app_of_fields c.about.ensures ∙ c.new-3.ensures.app) in
     let one = c.in_ok-subcommand.ensures.shape (search rules) ∙ ap₂ with_subcommand top_is check_is in
-    let two = c.in_ok-subcommand-2.ensures.shape c.in_ok-step_definition.ensures.local ∙ ap₂ with_subcommand one c.in_ok-step_definition.ensures.shape in
-    IfOk-weaker c.subcommand-3.result _ _ (λ r h. h.shape c.in_ok-run_definition.ensures.local ∙ ap₂ with_subcommand two c.in_ok-run_definition.ensures.shape) c.subcommand-3.ensures
+    let two = c.in_ok-subcommand-2.ensures.shape (search rules) ∙ ap₂ with_subcommand one deadlock_is in
+    let three = c.in_ok-subcommand-3.ensures.shape c.in_ok-step_definition.ensures.local ∙ ap₂ with_subcommand two c.in_ok-step_definition.ensures.shape in
+    IfOk-weaker c.subcommand-4.result _ _ (λ r h. h.shape c.in_ok-run_definition.ensures.local ∙ ap₂ with_subcommand three c.in_ok-run_definition.ensures.shape) c.subcommand-4.ensures
+
+neither : (a b x : Bool) → x ≡ (a || b) → a ≡ false → b ≡ false → x ≡ false
+neither a b x e p q = e ∙ ap (λ z. z || b) p ∙ q
+
+pub returns-clause-local : goal.returns-clause-local
+returns-clause-local c =
+    let top : (out-Command c.subcommand_required.result).has_globals ≡ false = search rules in
+    let check : (out-Command c.about-check.result).has_globals ≡ false = search rules in
+    let deadlock : (out-Command c.about-deadlock.result).has_globals ≡ false = search rules in
+    let one = neither _ _ _ c.in_ok-subcommand.ensures.globals top check in
+    let two = neither _ _ _ c.in_ok-subcommand-2.ensures.globals one deadlock in
+    let three = neither _ _ _ c.in_ok-subcommand-3.ensures.globals two c.in_ok-step_definition.ensures.local in
+    IfOk-weaker c.subcommand-4.result _ _ (λ r h. neither _ _ _ h.globals three c.in_ok-run_definition.ensures.local) c.subcommand-4.ensures

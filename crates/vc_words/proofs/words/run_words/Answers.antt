@@ -1,14 +1,19 @@
 use Rattle.std.proofs.Common.{rules, refl, ◌≤◌}
 use Rattle.clap.specs.Walk.{texts}
 use Rattle.vc_words.specs.CommandLine.{Asks, IsFaultOf, faults}
-use Rattle.vc_words.specs.Program.{checks, steps, runs, tells}
-use Rattle.vc_words.specs.declared.line.Line.TheVariants.{Check, Step, Run}
+use Rattle.vc_words.specs.Program.{checks, finds, steps, runs, tells}
+use Rattle.vc_words.specs.declared.line.Line.TheVariants.{Check, Deadlock, Step, Run}
 use Rattle.vc_words.proofs.words.run_words.Goals as goal
 
 pub returns-in-Ok-Check : goal.returns-in-Ok-Check
 returns-in-Ok-Check g c =
     let asks : Asks (texts c.args.words.now) Check = search rules in
     checks asks c.check_by.ensures
+
+pub returns-in-Ok-Deadlock : goal.returns-in-Ok-Deadlock
+returns-in-Ok-Deadlock g c =
+    let asks : Asks (texts c.args.words.now) Deadlock = search rules in
+    finds asks c.deadlock_by.ensures
 
 pub returns-in-Ok-Step : goal.returns-in-Ok-Step
 returns-in-Ok-Step g c =

@@ -1,0 +1,36 @@
+-- Whether the packets of a network can come to wait for one another in a circle, as it is told.
+use Rattle.std.specs.Prelude.{◌≡◌, ℕ, Bool, List, ◌++◌, codes, Option, Some, None, is_none, Result, Ok, Err}
+use Rattle.std.specs.Io.KnownBytes.{Appends}
+use Rattle.std.specs.List.{flat_map}
+use Rattle.vc_plan.specs.declared.plan.Plan.{Plan as Network}
+use Rattle.vc_plan.specs.declared.port.Port.{Port}
+use Rattle.vc_plan.specs.Dependencies.{HasRanks, IsCycle}
+use Rattle.vc_text.specs.declared.fault.RunFault.{RunFault}
+use Rattle.vc_text.specs.declared.fault.RunFault.TheVariants.{Write}
+use Rattle.vc_text.specs.Checking.{ReadsAccepted}
+use Rattle.vc_text.specs.FaultLine.{port_text}
+use Rattle.vc_text.specs.Streams.{AppendsFront}
+use Rattle.vc_text.specs.Traffic.{newline}
+
+-- a port behind a space
+abbrev pub next_port : Network → Port → List ℕ
+next_port plan p = codes " " ++ port_text plan p
+
+-- `free`, or `cycle` with the ports of a cycle
+abbrev pub deadlock_text : Network → Option (List Port) → List ℕ
+deadlock_text plan None = codes "free" ++ newline
+deadlock_text plan (Some ports) = codes "cycle" ++ flat_map (next_port plan) ports ++ newline
+
+-- no cycle is found where the ports have ranks, and else a cycle
+abbrev pub IsFound : Network → Option (List Port) → Type 0
+IsFound plan None = HasRanks plan
+IsFound plan (Some ports) = IsCycle plan ports
+
+-- The line of an accepted network was written, or a front of it before a fault of the writer; else nothing was. The answer is whether
+-- the network is free.
+abbrev pub TellsDeadlock : Option (List ℕ) → Option (List ℕ) → Option (List ℕ) → Result Bool RunFault → Type 0
+TellsDeadlock known old new (Ok free) =
+    (plan : Network) × (found : Option (List Port)) × ReadsAccepted known (Ok plan) × IsFound plan found × (free ≡ is_none found) × Appends old new (deadlock_text plan found)
+TellsDeadlock known old new (Err Write) =
+    (plan : Network) × (found : Option (List Port)) × ReadsAccepted known (Ok plan) × IsFound plan found × AppendsFront old new (deadlock_text plan found)
+TellsDeadlock known old new (Err fault) = ReadsAccepted known (Err fault) × (new ≡ old)
