@@ -1,5 +1,5 @@
 #!/usr/bin/env python3
-"""Tells how long `vcnet check` takes on networks that a checker by paths could not do.
+"""Tells how long `vcnet check` and `vcnet deadlock` take on networks that a checker by paths could not do.
 
 Usage: bench/check.py VCNET, VCNET being the built program (crates/vcnet/out/vcnet). For each network: the median of five runs in
 seconds, the peak memory in MiB, and the line that was printed.
@@ -74,10 +74,10 @@ def fabric():
     return between(switches, wires)
 
 
-def run(program, text):
+def run(program, word, text):
     """Seconds, peak memory in MiB, and what was printed."""
     began = time.perf_counter()
-    child = subprocess.Popen([program, "check"], stdin=subprocess.PIPE, stdout=subprocess.PIPE)
+    child = subprocess.Popen([program, word], stdin=subprocess.PIPE, stdout=subprocess.PIPE)
     child.stdin.write(text)
     child.stdin.close()
     printed = child.stdout.read()
@@ -93,10 +93,11 @@ def main():
         "fabric": json.dumps(fabric()).encode(),
     }
     for name, text in networks.items():
-        runs = [run(program, text) for _ in range(5)]
-        seconds = statistics.median(seconds for seconds, _, _ in runs)
-        memory = max(memory for _, memory, _ in runs)
-        print(f"{name:8} {seconds:8.3f} s {memory:8.1f} MiB  {runs[0][2]}")
+        for word in ("check", "deadlock"):
+            runs = [run(program, word, text) for _ in range(5)]
+            seconds = statistics.median(seconds for seconds, _, _ in runs)
+            memory = max(memory for _, memory, _ in runs)
+            print(f"{name:8} {word:8} {seconds:8.3f} s {memory:8.1f} MiB  {runs[0][2]}")
 
 
 if __name__ == "__main__":

@@ -2,6 +2,8 @@
 #![tactic(auto)]
 
 #[cfg(test)]
+mod deadlock;
+#[cfg(test)]
 mod gates;
 #[cfg(test)]
 mod network;
