@@ -118,4 +118,5 @@ def main():
             sweep_threads([vcnet, "run", *TURNS], network, shim, folder)
 
 
-main()
+if __name__ == "__main__":
+    main()

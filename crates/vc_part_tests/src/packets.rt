@@ -1,7 +1,7 @@
 //! Messages cut into packets, and what packets are.
 use std::alloc::Global;
 use std::test::Fail;
-use vc_packets::{Kind, Mark, Memory, Packet, ack, front_header, kind_of, piece, pieces};
+use vc_packets::{Bytes, Kind, Mark, Memory, Packet, ack, front_header, kind_of, piece, pieces};
 
 /// Whether the packet has this body and this mark.
 pub(crate) fn is_packet(packet: &Packet, body: &[u8], mark: Mark) -> bool {
@@ -65,4 +65,14 @@ fn the_kinds_of_packets(rt: HostRuntime) {
         let load = load.get(..*len).unwrap_or(&[]);
         assert_eq!(rt; kind_of(load, *mark), *kind, "{len} bytes, {mark:?}");
     }
+}
+
+#[test]
+fn bytes_with_room_are_those_that_join_them(rt: HostRuntime) -> Result<(), Fail> {
+    for room in [0, 5, 40] {
+        let mut bytes = Bytes::with_capacity(rt.alloc(), room)?;
+        bytes.extend_from_slice(b"hello")?;
+        assert_eq!(rt; bytes.as_slice(), b"hello".as_slice(), "room for {room}");
+    }
+    Ok(())
 }

@@ -54,11 +54,19 @@ pub(crate) fn first_wrong_row<'a>(
     Ok(None)
 }
 
-/// Whether the process takes these steps.
+/// Whether the process takes these steps, and so does a copy of it.
 pub(crate) fn takes_all(alloc: Global, process: &str, steps: &[Step]) -> Result<bool, Fail> {
     let plan = read(alloc, process)?;
     let node = plan.nodes.get(0).ok_or("a node")?;
-    let mut running = begin(alloc, &node.process)?;
+    Ok(
+        takes_each(alloc, &node.process, steps)?
+            && takes_each(alloc, &node.process.copy(alloc)?, steps)?,
+    )
+}
+
+/// Whether the process takes these steps.
+fn takes_each(alloc: Global, process: &Process, steps: &[Step]) -> Result<bool, Fail> {
+    let mut running = begin(alloc, process)?;
     for step in steps {
         if !takes(&mut running, alloc, *step)? {
             return Ok(false);
@@ -109,16 +117,21 @@ fn takes(running: &mut Running, alloc: Global, step: Step) -> Result<bool, Fail>
     }
 }
 
+/// Whether these are the process's moves, as a list of its own and as one in a list that is there.
 fn lists_all(running: &Running, moves: &[Move]) -> Result<bool, Fail> {
-    Ok(!running.ended() && running.actions()?.as_slice() == moves)
+    let mut found = running.actions()?;
+    let are_all = found.as_slice() == moves;
+    running.list_actions(&mut found)?;
+    Ok(!running.ended() && are_all && found.as_slice() == moves)
 }
 
 fn takes_quietly(running: &mut Running, sites: &[u16]) -> Result<bool, Fail> {
     for site in sites {
         let quiet = Move::Quiet { site: *site };
-        if !lists_all(running, &[quiet])? || !makes(running, quiet)? {
+        if !lists_all(running, &[quiet])? || !running.lists(&quiet) {
             return Ok(false);
         }
+        running.act_quietly(*site)?;
     }
     Ok(true)
 }

@@ -1,29 +1,24 @@
-//! Tests of the libraries over their public calls.
+//! Tests of texts in and out, of runs by rounds and in threads from the bytes that are read to those that are written, and of what the
+//! words of the command line ask for, over the libraries' public calls.
 #![tactic(auto)]
 
 #[cfg(test)]
-mod deadlock;
+mod event_lists;
 #[cfg(test)]
-mod gates;
+mod limits;
 #[cfg(test)]
-mod network;
+mod line;
+#[cfg(test)]
+mod memory;
 #[cfg(test)]
 mod networks;
 #[cfg(test)]
-mod overtaking;
+mod order;
 #[cfg(test)]
-mod plan;
-#[cfg(test)]
-mod reader;
+mod readers;
 #[cfg(test)]
 mod streams;
 #[cfg(test)]
-mod switch;
-#[cfg(test)]
 mod text;
 #[cfg(test)]
-mod vcp;
-#[cfg(test)]
 mod words;
-#[cfg(test)]
-mod workers;

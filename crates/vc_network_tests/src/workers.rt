@@ -3,12 +3,13 @@ ghost use Rattle.std.specs.Prelude.{◌≡◌, ℕ, ◌∷◌, [], IfOk};
 ghost use Rattle.vc_actor.specs.declared.act.Act.{Act as SpeltAct};
 ghost use Rattle.vc_threads.specs.Works.{IsOfSomePlan};
 
+use crate::networks::HELLO;
 use rtrb::RingBuffer;
 use std::alloc::Global;
 use std::process::Abort;
 use std::test::Fail;
 use vc_core::{Act, Actor, actors};
-use vc_plan::{Plan, check};
+use vc_plan::check;
 use vc_reader::read_network;
 use vc_threads::{
     ActorRun, EndGate, Ends, Gate, LinkRule, Stamped, Stop, merge, next_stamp, worker,
@@ -39,18 +40,13 @@ fn the_gate_closes_after_every_node(rt: HostRuntime) -> Result<(), Fail> {
 }
 
 /// A node by itself, whose process is a SKIP.
-fn plan(alloc: Global) -> Result<Plan, Fail> {
-    Ok(read_network(
-        alloc,
-        br#"{"version":1,"nodes":[{"name":"a","process":"skip"}]}"#,
-    )?)
-}
+const SKIPS: &str = r#"{"version":1,"nodes":[{"name":"a","process":"skip"}]}"#;
 
-/// The actor of that node.
-fn actor(rt: &impl Abort, alloc: Global) -> Result<Actor, Fail>
+/// The last actor of a network without switches.
+fn actor(rt: &impl Abort, alloc: Global, text: &str) -> Result<Actor, Fail>
     ensures { IfOk result (λ a. IsOfSomePlan a) }
 {
-    let Ok(accepted) = check(alloc, plan(alloc)?) else {
+    let Ok(accepted) = check(alloc, read_network(alloc, text.as_bytes())?) else {
         panic!(rt; "the plan is refused");
     };
     let Ok(mut nodes) = actors(alloc, &accepted) else {
@@ -64,7 +60,7 @@ fn actor(rt: &impl Abort, alloc: Global) -> Result<Actor, Fail>
 
 #[test]
 fn a_token_without_a_place_is_counted(rt: HostRuntime) -> Result<(), Fail> {
-    let mut node = actor(&rt, rt.alloc())?;
+    let mut node = actor(&rt, rt.alloc(), HELLO)?;
     assert_eq!(rt; node.faults(), 0);
     if node.may_take(0) {
         node.take(0, &Token::Byte(5), 0)?;
@@ -81,7 +77,7 @@ fn run(rt: &impl Abort, alloc: Global, id: u8, at: u64) -> Result<ActorRun, Fail
     acts.push((at, Act::Pass { link: 0 }))?;
     Ok(ActorRun {
         id,
-        actor: actor(rt, alloc)?,
+        actor: actor(rt, alloc, SKIPS)?,
         acts,
         ends: Ends {
             outs: Vec::new(alloc),
@@ -118,7 +114,7 @@ fn a_worker_takes_and_then_ends(rt: HostRuntime) -> Result<(), Fail> {
     let outs = Vec::new(alloc);
     let ends = Ends { outs, ins };
     let gate = EndGate::new(1);
-    let made = worker(alloc, 0, actor(&rt, alloc)?, ends, &gate, 100, 7);
+    let made = worker(alloc, 0, actor(&rt, alloc, SKIPS)?, ends, &gate, 100, 7);
     assert!(rt; !full && made.stop == Stop::Gate);
     assert_eq!(rt; made.acts.len(), 2);
     assert_eq!(rt; made.acts[0].0, 8);

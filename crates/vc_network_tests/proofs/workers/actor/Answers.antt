@@ -4,7 +4,7 @@ use Rattle.std.proofs.Math.Seq.{get_or-append_seam}
 use Rattle.std.proofs.lemmas.Option.{slice_get-get_or}
 use Rattle.vc_accepted.specs.NetworkOf.{network_of}
 use Rattle.vc_core.specs.Shown.{Acting}
-use Rattle.vc_tests.proofs.workers.actor.Goals as goal
+use Rattle.vc_network_tests.proofs.workers.actor.Goals as goal
 
 last_there : (xs : List Acting) (x : Acting) → slice_get (xs ++ x ∷ []) (length xs) ≡ Some x
 last_there xs x = slice_get-get_or (xs ++ x ∷ []) (length xs) x (omega (arith, length-append xs (x ∷ []))) ∙ ap Some (get_or-append_seam xs x [] x)

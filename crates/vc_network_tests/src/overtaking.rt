@@ -1,5 +1,6 @@
 //! An acknowledge that overtakes a piece by another link of its group.
 use crate::networks::{accept, replayed};
+use crate::play::Play;
 use std::alloc::Global;
 use std::test::Fail;
 use vc_core::{Act, Event, Network};
@@ -15,43 +16,30 @@ const S: u8 = 2;
 
 const T: u8 = 3;
 
-/// A network as it goes on, with its events.
+/// The network as it goes on.
 #[derive(Drop)]
-struct Play {
-    network: Network,
-    events: Vec<Event>,
+struct Crossing {
+    play: Play,
     /// Nothing is taken at link 4 of switch t.
     holds: bool,
 }
 
-impl Play {
-    fn begin(alloc: Global, accepted: &Accepted) -> Result<Play, Fail> {
-        Ok(Play {
-            network: Network::new(alloc, accepted)?,
-            events: Vec::new(alloc),
+impl Crossing {
+    fn begin(alloc: Global, accepted: &Accepted) -> Result<Crossing, Fail> {
+        Ok(Crossing {
+            play: Play::begin(alloc, accepted)?,
             holds: true,
         })
-    }
-
-    /// Makes an event where it is enabled.
-    fn make(&mut self, actor: u8, act: Act) -> Result<bool, Fail> {
-        let event = Event { actor, act };
-        if !self.network.enabled(&event) {
-            return Ok(false);
-        }
-        self.network.step(&event)?;
-        self.events.push(event)?;
-        Ok(true)
     }
 
     /// Moves tokens at a link of an actor.
     fn move_tokens(&mut self, actor: u8, link: u8) -> Result<(), Fail> {
         if !(self.holds && actor == T && link == 4) {
-            self.make(actor, Act::Take { link, word: 0 })?;
+            self.play.make(actor, Act::Take { link, word: 0 })?;
         }
-        self.make(actor, Act::Pass { link })?;
-        self.make(actor, Act::Fct { link })?;
-        self.make(actor, Act::Put { link })?;
+        self.play.make(actor, Act::Pass { link })?;
+        self.play.make(actor, Act::Fct { link })?;
+        self.play.make(actor, Act::Put { link })?;
         Ok(())
     }
 
@@ -59,8 +47,9 @@ impl Play {
         for site in 1..3 {
             for chan in 0..2 {
                 for actor in 0..2 {
-                    self.make(actor, Act::Proc(Move::Offer { site, chan }))?;
-                    self.make(actor, Act::Proc(Move::Want { site, chan }))?;
+                    self.play
+                        .make(actor, Act::Proc(Move::Offer { site, chan }))?;
+                    self.play.make(actor, Act::Proc(Move::Want { site, chan }))?;
                 }
             }
         }
@@ -76,14 +65,14 @@ impl Play {
             for link in 0..8 {
                 self.move_tokens(S, link)?;
                 self.move_tokens(T, link)?;
-                self.make(
+                self.play.make(
                     T,
                     Act::Route {
                         input: link,
                         output: 0,
                     },
                 )?;
-                self.make(
+                self.play.make(
                     S,
                     Act::Route {
                         input: link,
@@ -91,7 +80,7 @@ impl Play {
                     },
                 )?;
             }
-            self.make(
+            self.play.make(
                 T,
                 Act::Route {
                     input: 0,
@@ -105,25 +94,26 @@ impl Play {
 
 /// Whether b's output is finished before a's is taken, where a's piece of c leaves s by link 4 and stays on the wire, while a's
 /// acknowledge for d goes by link 5. Then all goes on to its end.
-fn overtakes(play: &mut Play) -> Result<bool, Fail> {
-    play.settle()?;
+fn overtakes(crossing: &mut Crossing) -> Result<bool, Fail> {
+    crossing.settle()?;
     for output in [4, 5] {
-        if !play.make(S, Act::Route { input: 0, output })? {
+        if !crossing.play.make(S, Act::Route { input: 0, output })? {
             return Ok(false);
         }
-        play.settle()?;
+        crossing.settle()?;
     }
-    let is_overtaken = play.network.finished(1) == 1 && play.network.taken(0).is_empty();
-    play.holds = false;
-    play.settle()?;
+    let network = &crossing.play.network;
+    let is_overtaken = network.finished(1) == 1 && network.taken(0).is_empty();
+    crossing.holds = false;
+    crossing.settle()?;
     Ok(is_overtaken)
 }
 
 /// The events in which the acknowledge overtakes the piece.
 fn overtake(alloc: Global, accepted: &Accepted) -> Result<Vec<Event>, Fail> {
-    let mut play = Play::begin(alloc, accepted)?;
-    if overtakes(&mut play)? {
-        Ok(play.events)
+    let mut crossing = Crossing::begin(alloc, accepted)?;
+    if overtakes(&mut crossing)? {
+        Ok(crossing.play.events)
     } else {
         Err(Fail::from("an acknowledge that did not overtake"))
     }

@@ -31,14 +31,27 @@ macro_rules! switched {
     };
 }
 
+/// The hello network, where the second node's process is this one in 31 SEQ around each other.
+macro_rules! deep {
+    ($inner:literal) => {
+        concat!(
+            r#"{"version":1,"nodes":[{"name":"a","process":{"out":["c",{"text":"hello"}]}},{"name":"b","vars":[["m","bytes"]],"process":{"seq":[{"seq":[{"seq":[{"seq":[{"seq":[{"seq":[{"seq":[{"seq":[{"seq":[{"seq":[{"seq":[{"seq":[{"seq":[{"seq":[{"seq":[{"seq":[{"seq":[{"seq":[{"seq":[{"seq":[{"seq":[{"seq":[{"seq":[{"seq":[{"seq":[{"seq":[{"seq":[{"seq":[{"seq":[{"seq":[{"seq":["#,
+            $inner,
+            r#"]}]}]}]}]}]}]}]}]}]}]}]}]}]}]}]}]}]}]}]}]}]}]}]}]}]}]}]}]}]}]}}],"wires":[["a",0,"b",0]],"vlinks":[{"name":"v","a":["a",0,1,[1]],"b":["b",0,1,[1]]}],"channels":[{"name":"c","kind":"bytes","vlink":"v","way":"ab"}]}"#
+        )
+    };
+}
+
 const DIRECT: &str = direct!(r#"{"name":"v","a":["a",0,1,[1]],"b":["b",0,1,[1]]}"#);
 
 #[test]
-fn a_wire_and_a_group_of_wires_between_switches_are_accepted(rt: HostRuntime) -> Result<(), Fail> {
+fn networks_are_accepted(rt: HostRuntime) -> Result<(), Fail> {
     let accepted = accept(rt.alloc(), DIRECT)?;
     assert_eq!(rt; accepted.plan().vlinks.len(), 1);
     let accepted = accept(rt.alloc(), switched!("[10,1]"))?;
     assert_eq!(rt; accepted.plan().switches.len(), 2);
+    let accepted = accept(rt.alloc(), deep!(r#""skip""#))?;
+    assert_eq!(rt; accepted.plan().nodes.len(), 2);
     Ok(())
 }
 
@@ -81,6 +94,11 @@ const REFUSED: &[(&str, &str, &str)] = &[
         direct!(r#"{"name":"v","a":["a",0,1,[]],"b":["b",0,1,[1]]}"#),
         "Limit(Route)",
     ),
+    (
+        "a process has at most depth 32",
+        deep!(r#"{"seq":["skip"]}"#),
+        "Limit(Depth)",
+    ),
 ];
 
 #[test]
@@ -101,13 +119,17 @@ fn direct_in_version_one(alloc: Global) -> Result<Plan, Fail>
     Ok(plan)
 }
 
+/// The version of a plan that is accepted.
+fn accepted_version(alloc: Global, plan: Plan) -> Result<u8, Fail> {
+    let accepted = check(alloc, plan).ok().ok_or("a lawful network")?;
+    Ok(accepted.plan().version)
+}
+
 #[test]
 fn a_plan_is_accepted_in_both_versions(rt: HostRuntime) -> Result<(), Fail> {
-    let plan = direct_in_version_one(rt.alloc())?;
-    assert_eq!(rt; plan.version, 1);
-    let accepted = check(rt.alloc(), as_version_two(plan))
-        .ok()
-        .ok_or("a lawful network")?;
-    assert_eq!(rt; accepted.plan().version, 2);
+    let one = direct_in_version_one(rt.alloc())?;
+    assert_eq!(rt; accepted_version(rt.alloc(), one)?, 1);
+    let two = as_version_two(direct_in_version_one(rt.alloc())?);
+    assert_eq!(rt; accepted_version(rt.alloc(), two)?, 2);
     Ok(())
 }

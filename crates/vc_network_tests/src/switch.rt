@@ -1,4 +1,5 @@
-//! Packets through a switch of four rows: headers 0 to 9 leave by link 0, 10 to 19 by links 4 to 7, 100 to 103 are portals.
+//! Packets through a switch of four rows: headers 0 to 9 leave by link 0, 10 to 19 by links 4 to 7, 20 to 99 by link 8, and 100 to 103
+//! are portals or leave by link 9.
 ghost use Rattle.std.specs.Prelude.{◌<◌};
 ghost use Rattle.std.specs.List.{AllByRecursion};
 ghost use Rattle.vc_switch.specs.Opening.{IsRandomInput};
@@ -20,8 +21,13 @@ fn row(lower: u32, limit: u32, action: Action) -> Row {
     }
 }
 
-/// A switch that deletes by these links, and puts random headers at these inputs.
-fn switch(alloc: Global, delete: &[u8], random: &[RandomInput]) -> Result<Switch, Fail>
+/// A switch with this last row, that deletes by these links, and puts random headers at these inputs.
+fn switch(
+    alloc: Global,
+    last: Action,
+    delete: &[u8],
+    random: &[RandomInput],
+) -> Result<Switch, Fail>
     requires delete { AllByRecursion (λ link. link < 32) delete.now }
     requires random { AllByRecursion IsRandomInput random.now }
 {
@@ -29,7 +35,7 @@ fn switch(alloc: Global, delete: &[u8], random: &[RandomInput]) -> Result<Switch
         row(0, 10, Action::Out { first: 0, last: 0 }),
         row(10, 20, Action::Out { first: 4, last: 7 }),
         row(20, 100, Action::Out { first: 8, last: 8 }),
-        row(100, 104, Action::Portal),
+        row(100, 104, last),
     ];
     match Table::new(Items::from_slice(alloc, &rows)?) {
         Err(_) => Err("a lawful table")?,
@@ -168,7 +174,7 @@ const DELETES: &[Step] = &[
 
 #[test]
 fn a_link_deletes_the_front_header(rt: HostRuntime) -> Result<(), Fail> {
-    let s = switch(rt.alloc(), &[0], &[]);
+    let s = switch(rt.alloc(), Action::Portal, &[0], &[]);
     assert_eq!(rt; wrong_step(s, DELETES)?, None);
     Ok(())
 }
@@ -189,29 +195,29 @@ fn a_random_header_goes_in_front_and_falls_away(rt: HostRuntime) -> Result<(), F
         lower: 100,
         limit: 104,
     };
-    let s = switch(rt.alloc(), &[], &[drawn]);
+    let s = switch(rt.alloc(), Action::Portal, &[], &[drawn]);
     assert_eq!(rt; wrong_step(s, FALLS_AWAY)?, None);
     Ok(())
 }
 
 const IS_DRAWN: &[Step] = &[
-    Step::Bytes(3, &[7], 5),
-    Step::Chooses(3, Some((4, 7))),
-    Step::Binds(3, 6, true),
-    Step::Takes(6, Token::Fct),
-    Step::Puts(6, Some(Token::Byte(0))),
-    Step::Puts(6, Some(Token::Byte(10))),
-    Step::Puts(6, Some(Token::Byte(7))),
+    Step::Bytes(3, &[7], 6),
+    Step::Chooses(3, Some((9, 9))),
+    Step::Binds(3, 9, true),
+    Step::Takes(9, Token::Fct),
+    Step::Puts(9, Some(Token::Byte(0))),
+    Step::Puts(9, Some(Token::Byte(102))),
+    Step::Puts(9, Some(Token::Byte(7))),
 ];
 
 #[test]
 fn a_random_header_is_drawn_by_the_word(rt: HostRuntime) -> Result<(), Fail> {
     let drawn = RandomInput {
         link: 3,
-        lower: 8,
-        limit: 11,
+        lower: 100,
+        limit: 104,
     };
-    let s = switch(rt.alloc(), &[], &[drawn]);
+    let s = switch(rt.alloc(), Action::Out { first: 9, last: 9 }, &[], &[drawn]);
     assert_eq!(rt; wrong_step(s, IS_DRAWN)?, None);
     Ok(())
 }
@@ -233,7 +239,7 @@ const GROUP: &[Step] = &[
 
 #[test]
 fn a_group_has_a_second_link(rt: HostRuntime) -> Result<(), Fail> {
-    let s = switch(rt.alloc(), &[], &[]);
+    let s = switch(rt.alloc(), Action::Portal, &[], &[]);
     assert_eq!(rt; wrong_step(s, GROUP)?, None);
     Ok(())
 }
@@ -258,7 +264,7 @@ const BUSY: &[Step] = &[
 
 #[test]
 fn a_packet_waits_for_a_busy_link(rt: HostRuntime) -> Result<(), Fail> {
-    let s = switch(rt.alloc(), &[], &[]);
+    let s = switch(rt.alloc(), Action::Portal, &[], &[]);
     assert_eq!(rt; wrong_step(s, BUSY)?, None);
     Ok(())
 }
@@ -276,7 +282,7 @@ const DROPS: &[Step] = &[
 
 #[test]
 fn what_is_not_due_or_has_no_group_is_dropped(rt: HostRuntime) -> Result<(), Fail> {
-    let s = switch(rt.alloc(), &[], &[]);
+    let s = switch(rt.alloc(), Action::Portal, &[], &[]);
     assert_eq!(rt; wrong_step(s, DROPS)?, None);
     Ok(())
 }
