@@ -29,6 +29,7 @@ def edits(pattern):
 
 def missing_files(path, text):
     for name in sorted(set(re.findall(r"[\w./-]+\.(?:md|py|json|sh)\b|\bbench/edits/\w+", text))):
+        name = name.removeprefix("../../")
         places = [name, f"docs/{name}", f"bench/{name}", f"examples/{name}", os.path.join(os.path.dirname(path), name)]
         if not any(os.path.exists(f"{ROOT}/{it}") for it in places) and "CRATE" not in name:
             yield f"{path}: {name} is not there"
