@@ -30,51 +30,57 @@ fn count(events: &[Event], actor: u8) -> usize {
     events.iter().filter(|event| event.actor == actor).count()
 }
 
-/// What node a does where it alone goes on: it grants its buffer's places, and its output begins.
-const FIRST_ACTS: &[Act] = &[
-    Act::Fct { link: 0 },
-    Act::Fct { link: 0 },
-    Act::Proc(Move::Offer { site: 0, chan: 0 }),
+/// The acts where node a alone goes on and ends, and then node b does: a grants its buffer's places, and its output begins; b takes
+/// both grants with the first words of its generator, grants its own places, and its input begins. The stamps are 1, 2, 2, 3, 3, 4, 5
+/// and 6.
+const HELD: &[Event] = &[
+    Event {
+        actor: 0,
+        act: Act::Fct { link: 0 },
+    },
+    Event {
+        actor: 0,
+        act: Act::Fct { link: 0 },
+    },
+    Event {
+        actor: 1,
+        act: Act::Take {
+            link: 0,
+            word: 257813417,
+        },
+    },
+    Event {
+        actor: 0,
+        act: Act::Proc(Move::Offer { site: 0, chan: 0 }),
+    },
+    Event {
+        actor: 1,
+        act: Act::Take {
+            link: 0,
+            word: 407017181,
+        },
+    },
+    Event {
+        actor: 1,
+        act: Act::Fct { link: 0 },
+    },
+    Event {
+        actor: 1,
+        act: Act::Fct { link: 0 },
+    },
+    Event {
+        actor: 1,
+        act: Act::Proc(Move::Want { site: 0, chan: 0 }),
+    },
 ];
 
-/// What node b does then, where node a has ended: it takes both grants, it grants its buffer's places, and its input begins.
-const SECOND_ACTS: &[Act] = &[
-    Act::Take { link: 0, word: 0 },
-    Act::Take { link: 0, word: 0 },
-    Act::Fct { link: 0 },
-    Act::Fct { link: 0 },
-    Act::Proc(Move::Want { site: 0, chan: 0 }),
-];
-
-/// The act, without the word of a take.
-fn wordless(act: Act) -> Act {
-    match act {
-        Act::Take { link, .. } => Act::Take { link, word: 0 },
-        other => other,
-    }
-}
-
-/// Whether the actor makes these acts and no others, but for the words of takes.
-fn makes(events: &[Event], actor: u8, acts: &[Act]) -> bool {
-    let mut left = acts;
-    for event in events {
-        if event.actor == actor {
-            match left.split_first() {
-                Some((act, rest)) if *act == wordless(event.act) => left = rest,
-                _ => return false,
-            }
-        }
-    }
-    left.is_empty()
-}
-
-/// How a run closed, how many steps node a made, and whether the nodes made the acts of the two lists alone; how many messages were
-/// offered and taken; and whether a replay of the steps shows the same of the channel.
+/// How a run closed, how many steps node a made, whether the steps are those of the list above, how many messages were offered and
+/// taken, and whether a replay of the steps shows the same of the channel.
 #[derive(Clone, Copy)]
 struct Seen {
     close: Close,
     steps: usize,
-    makes_first_acts: bool,
+    are_held: bool,
     offered: usize,
     taken: usize,
     replays: bool,
@@ -86,8 +92,7 @@ fn see(alloc: Global, accepted: &Accepted, report: &Report) -> Result<Seen, Fail
     Ok(Seen {
         close: report.close,
         steps: count(report.steps.as_slice(), 0),
-        makes_first_acts: makes(report.steps.as_slice(), 0, FIRST_ACTS)
-            && makes(report.steps.as_slice(), 1, SECOND_ACTS),
+        are_held: report.steps.as_slice() == HELD,
         offered: report.state.offered(0).len(),
         taken: report.state.taken(0).len(),
         replays: same_view(&again, &report.state, 0),
@@ -191,7 +196,7 @@ fn a_node_that_is_held_makes_no_step(rt: HostRuntime) -> Result<(), Fail> {
     };
     let seen = run(&rt, rt.alloc(), &gate, 1_000)?;
     assert!(rt; seen.close == Close::GateClosed);
-    assert!(rt; seen.makes_first_acts && seen.replays);
+    assert!(rt; seen.are_held && seen.replays);
     assert_eq!(rt; (seen.offered, seen.taken), (1, 0));
     Ok(())
 }

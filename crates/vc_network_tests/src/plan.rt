@@ -44,14 +44,25 @@ macro_rules! deep {
 
 const DIRECT: &str = direct!(r#"{"name":"v","a":["a",0,1,[1]],"b":["b",0,1,[1]]}"#);
 
+/// Networks that are accepted, and how many nodes, switches and virtual links each has.
+const ACCEPTED: &[(&str, [usize; 3])] = &[
+    (DIRECT, [2, 0, 1]),
+    (switched!("[10,1]"), [2, 2, 1]),
+    (deep!(r#""skip""#), [2, 0, 1]),
+];
+
+/// How many nodes, switches and virtual links a network has that is accepted.
+fn counts(alloc: Global, text: &str) -> Result<[usize; 3], Fail> {
+    let accepted = accept(alloc, text)?;
+    let plan = accepted.plan();
+    Ok([plan.nodes.len(), plan.switches.len(), plan.vlinks.len()])
+}
+
 #[test]
 fn networks_are_accepted(rt: HostRuntime) -> Result<(), Fail> {
-    let accepted = accept(rt.alloc(), DIRECT)?;
-    assert_eq!(rt; accepted.plan().vlinks.len(), 1);
-    let accepted = accept(rt.alloc(), switched!("[10,1]"))?;
-    assert_eq!(rt; accepted.plan().switches.len(), 2);
-    let accepted = accept(rt.alloc(), deep!(r#""skip""#))?;
-    assert_eq!(rt; accepted.plan().nodes.len(), 2);
+    for (text, wanted) in ACCEPTED {
+        assert_eq!(rt; counts(rt.alloc(), text)?, *wanted, "{text}");
+    }
     Ok(())
 }
 
