@@ -43,6 +43,11 @@ pub record GainEdge (old new : List (Vec ℕ)) (a b : Port) : Type 0 where
   pub has : (i j : ℕ) → number a ≡ Some i → number b ≡ Some j → HasEdge new i j
   pub only : (i j : ℕ) → HasEdge new i j → HasEdge old i j ⊎ ((number a ≡ Some i) × (number b ≡ Some j))
 
+-- each edge is a dependency
+pub record AreRight (net : Plan) (rows : List (Vec ℕ)) : Type 0 where
+  pub many : length rows ≡ 1024
+  pub right : (i j : ℕ) → HasEdge rows i j → (a : Port) × (b : Port) × DependsOn net a b × (number a ≡ Some i) × (number b ≡ Some j)
+
 -- an edge for each dependency of a switch's port, and no others
 pub record AreDependencies (net : Plan) (rows : List (Vec ℕ)) : Type 0 where
   pub many : length rows ≡ 1024

@@ -1,9 +1,11 @@
 -- The plan of one node passes each test of the checker.
-use Rattle.std.proofs.Common.{◌≡◌, ℕ, zero, suc, ◌+◌, ◌-◌, ◌≤◌, ◌<◌, Bool, true, false, ◌&&◌, ◌||◌, ◌==◌, nat_le, nat_lt, refl, sym, ap, subst, ◌∙◌, List, [], ◌∷◌, ◌++◌, length, length-append, map, slice_get, Option, Some, None, inl, inr, ◌⊎◌, ◌≢◌, arith, eqb-true, true≢false, if◌then◌else◌}
+use Rattle.std.proofs.Common.{◌≡◌, ℕ, zero, suc, ◌+◌, ◌-◌, ◌≤◌, ◌<◌, Bool, true, false, ◌&&◌, ◌||◌, ◌==◌, nat_le, nat_lt, refl, sym, ap, subst, ◌∙◌, List, [], ◌∷◌, ◌++◌, length, length-append, map, option_map, slice_get, Option, Some, None, inl, inr, ◌⊎◌, ◌≢◌, arith, eqb-true, true≢false, if◌then◌else◌}
 use Rattle.std.specs.List.{list_all, list_any}
 use Rattle.std.specs.Option.{option_or}
 use Rattle.std.proofs.lemmas.Bool.{lt-ltb, ltb-true, le-leb, leb-true}
-use Rattle.std.proofs.lemmas.List.{map-append}
+use Rattle.std.proofs.lemmas.List.{length-map, map-append}
+use Rattle.std.proofs.lemmas.List.Folds.{list_all-append}
+use Rattle.std.proofs.lemmas.Option.{slice_get-map}
 use Rattle.vc_occam.proofs.Fitting.{uses_there}
 use Rattle.vc_occam.proofs.Sites.{either}
 use Rattle.vc_occam.proofs.Used.{changed_used}
@@ -41,8 +43,7 @@ use Rattle.vc_process.specs.declared.value_kind.ValueKind.{ValueKind}
 -- ---- lists
 
 kinds_length : (a : List Variable) → length (kinds_of a) ≡ length a
-kinds_length [] = refl
-kinds_length (v ∷ a) = ap suc (kinds_length a)
+kinds_length a = length-map a (λ (v : Variable). v.kind)
 
 first_of : {A : Type 0} (xs ys : List A) (k : ℕ) → k < length xs → slice_get (xs ++ ys) k ≡ slice_get xs k
 first_of [] ys k l = absurd (omega arith)
@@ -53,30 +54,17 @@ rest_of : {A : Type 0} (xs ys : List A) (k : ℕ) → slice_get (xs ++ ys) (leng
 rest_of [] ys k = let e : 0 + k ≡ k = omega arith in ap (slice_get ys) e
 rest_of (x ∷ xs) ys k = let e : length (x ∷ xs) + k ≡ suc (length xs + k) = omega arith in ap (slice_get ((x ∷ xs) ++ ys)) e ∙ rest_of xs ys k
 
-all_append : {A : Type 0} (test : A → Bool) (xs ys : List A) → list_all test xs ≡ true → list_all test ys ≡ true → list_all test (xs ++ ys) ≡ true
-all_append test [] ys h g = g
-all_append test (x ∷ xs) ys h g = let r = both (test x) (list_all test xs) h in both_true r.0 (all_append test xs ys r.1 g)
-
-get_map : {A B : Type 0} (f : A → B) (xs : List A) (k : ℕ) (x : A) → slice_get xs k ≡ Some x → slice_get (map f xs) k ≡ Some (f x)
-get_map f [] k x e = absurd cc
-get_map f (y ∷ ys) zero x e = let is : y ≡ x = cc in ap (λ z. Some (f z)) is
-get_map f (y ∷ ys) (suc k) x e = get_map f ys k x e
-
 -- ---- names of variables, and ways
 
 vars_named : (ns : List NodePlan) → list_all node_names_ok ns ≡ true → list_all (λ (v : Variable). is_name v.name) (all_vars ns) ≡ true
 vars_named [] h = refl
 vars_named (n ∷ ns) h =
     let r = both (node_names_ok n) (list_all node_names_ok ns) h in
-    all_append (λ (v : Variable). is_name v.name) n.vars (all_vars ns) (both (is_name n.name) (list_all (λ (v : Variable). is_name v.name) n.vars) r.0).1 (vars_named ns r.1)
+    list_all-append (λ (v : Variable). is_name v.name) n.vars (all_vars ns) ∙ both_true (both (is_name n.name) (list_all (λ (v : Variable). is_name v.name) n.vars) r.0).1 (vars_named ns r.1)
 
 names_inside : (cs : List Channel) → list_all (λ (c : Channel). is_name c.name) (map inside cs) ≡ list_all (λ (c : Channel). is_name c.name) cs
 names_inside [] = refl
 names_inside (c ∷ cs) = ap (λ b. is_name c.name && b) (names_inside cs)
-
-length_inside : (cs : List Channel) → length (map inside cs) ≡ length cs
-length_inside [] = refl
-length_inside (c ∷ cs) = ap suc (length_inside cs)
 
 homes_inside : (one : Plan) (cs : List Channel) → nat_lt 0 (length one.nodes) ≡ true → list_all (λ (c : Channel). home_there one c.home) (map inside cs) ≡ true
 homes_inside one [] h = refl
@@ -195,7 +183,7 @@ module _ (p : Plan) (acc : IsAccepted p) (one : Plan) (is : IsOneNodeOf p one) w
     where
       go : (x : Option Channel) → slice_get p.channels u.chan ≡ x → channel_used p i u x ≡ true → channel_used one 0 u (slice_get (map inside p.channels) u.chan) ≡ true
       go None e h = absurd (true≢false (sym h))
-      go (Some x) e h = ap (channel_used one 0 u) (get_map inside p.channels u.chan x e) ∙ (both (has_end p x.home u.is_output i) (kind_fits u.kind x.kind) h).1
+      go (Some x) e h = ap (channel_used one 0 u) (slice_get-map inside p.channels u.chan ∙ ap (option_map inside) e) ∙ (both (has_end p x.home u.is_output i) (kind_fits u.kind x.kind) h).1
 
   right_uses : (i : ℕ) (us : List ChannelUse) → ((j : ℕ) (u : ChannelUse) → slice_get us j ≡ Some u → use_ok p i u ≡ true) → wrong_use one 0 us ≡ None
   right_uses i [] h = refl
@@ -407,7 +395,7 @@ module _ (p : Plan) (acc : IsAccepted p) (one : Plan) (is : IsOneNodeOf p one) w
     switches = ap (λ s. nat_le (length s) 32) is.switches;
     wires = ap (λ w. nat_le (length w) 256) is.wires;
     vlinks = ap (λ v. nat_le (length v) 256) is.vlinks;
-    channels = ap (λ cs. nat_le (length cs) 512) is.channels ∙ ap (λ n. nat_le n 512) (length_inside p.channels) ∙ kept.channels;
+    channels = ap (λ cs. nat_le (length cs) 512) is.channels ∙ ap (λ n. nat_le n 512) (length-map p.channels inside) ∙ kept.channels;
     rows = ap (list_all rows_ok) is.switches;
     routes = ap (list_all routes_ok) is.vlinks;
     links = both_true (ap (list_all wire_ok) is.wires) (both_true (ap (list_all ends_ok) is.vlinks) (ap (list_all switch_links_ok) is.switches));
@@ -417,7 +405,7 @@ module _ (p : Plan) (acc : IsAccepted p) (one : Plan) (is : IsOneNodeOf p one) w
         (both_true (ap (list_all (λ (c : Channel). home_there one c.home)) is.channels ∙ homes_inside one p.channels (ap (λ ns. nat_lt 0 (length ns)) is.is.nodes))
         (of_node (process_names one)
         (ap (λ t. names_fit t (kinds_of is.is.node.vars) (length one.channels)) is.is.process ∙ ap (λ ks. parts_names_fit is.is.parts ks (length one.channels)) is.is.vars
-        ∙ ap (parts_names_fit is.is.parts big) (ap length is.channels ∙ length_inside p.channels) ∙ all_together.names))));
+        ∙ ap (parts_names_fit is.is.parts big) (ap length is.channels ∙ length-map p.channels inside) ∙ all_together.names))));
     names =
         let was = both (list_all node_names_ok p.nodes) (list_all (λ (s : SwitchPlan). is_name s.name) p.switches && (list_all (λ (v : Vlink). is_name v.name) p.vlinks && list_all (λ (c : Channel). is_name c.name) p.channels)) kept.names in
         let some = both (list_all (λ (s : SwitchPlan). is_name s.name) p.switches) (list_all (λ (v : Vlink). is_name v.name) p.vlinks && list_all (λ (c : Channel). is_name c.name) p.channels) was.1 in
