@@ -1,5 +1,5 @@
--- A trace with messages that are output later and finished earlier, with what was output and not taken left out, and what was taken
--- and not finished finished.
+-- Completions: a trace in which messages are output later and finished earlier, a pending output that was not taken is left out, and
+-- one that was taken is finished (Herlihy and Wing, 1990: the completion of a history).
 use Rattle.std.proofs.Common.{◌≡◌, ℕ, suc, ◌≤◌, subst, List, [], ◌∷◌, ◌++◌, arith}
 use Rattle.vc_process.specs.declared.datum.Datum.{Datum}
 use Rattle.vc_placement.specs.Linearization.{StaysEnded}
@@ -12,12 +12,12 @@ use Rattle.vc_occam.proofs.Prefixes.{StrictPrefix, strict_none, strict_more, pre
 use Rattle.vc_occam.proofs.Independence.{an_output, an_end, Swap, swap_here, swap_later, swapped, out_here}
 use Rattle.vc_occam.proofs.Responses.{Insertion, insertion_later, insertion_within, Unfinished, finished}
 
--- the last communication, an output, is left out
+-- a pending output, the last communication, is left out
 pub data Withdrawal : List Comm → List Comm → Type 0 where
   withdrawal_here : {c : ℕ} {x : Datum} → Withdrawal (Out c x ∷ []) []
   withdrawal_later : {k : Comm} {l m : List Comm} → Withdrawal l m → Withdrawal (k ∷ l) (k ∷ m)
 
--- an output that has no end gets one
+-- a pending output is finished
 pub data Response : List Comm → List Comm → Type 0 where
   response_here : {c : ℕ} {x : Datum} {a l m : List Comm} → Insertion c a l m → fins c l ≡ 0 → Response (Out c x ∷ l) (Out c x ∷ m)
   response_later : {k : Comm} {l m : List Comm} → Response l m → Response (k ∷ l) (k ∷ m)
@@ -115,7 +115,7 @@ rewritten x q (responds s h) =
     let t = rewritten r.0 r.1 h in
     (t.0, t.1, λ f k. t.2 f (r.2 f k))
 
--- nothing becomes nothing
+-- the empty list stays empty
 swap_some : {l m : List Comm} → Swap l m → l ≡ [] → ⊥
 swap_some (swap_here h) e = cc
 swap_some (swap_later h) e = cc

@@ -5,7 +5,7 @@ use Rattle.vc_process.specs.Messages.{message}
 use Rattle.vc_told.specs.OneList.{to_channel}
 use Rattle.vc_occam.specs.Traces.{Comm, Out, Fin, In, Stp}
 
--- a message that passes, a stop, an input whose output stands before, an end whose output stands before
+-- what a list consists of on the way to its linearization: a message that passes, a stop, an input or an end whose output stands before
 pub data Element : Type 0 where
   Exchanged : (sender receiver chan : ℕ) (sent got : Datum) → Element
   Stopped : (node chan : ℕ) → Element
@@ -81,7 +81,7 @@ pub after_out : {c d : ℕ} {h : Phase} {n : ℕ} {x : Datum} {ks : List (ℕ ×
 after_out (turn_out g) q = g
 after_out (turn_other e g) q = absurd (e q)
 
--- one item on another channel is passed over
+-- an element on another channel is passed over
 pub exchanged_past : (n c : ℕ) (x : Datum) (i : Element) (l : List Element) → chan_of i ≢ c → exchanged n c x (i ∷ l) ≡ i ∷ exchanged n c x l
 exchanged_past n c x (Exchanged s r d y z) l e = refl
 exchanged_past n c x (Stopped s d) l e = refl

@@ -1,4 +1,4 @@
--- Whatever processes did over channels that hold one output, they can do over channels that hold none.
+-- Whatever processes did over channels that hold an output until it is taken has a linearization.
 use Rattle.std.proofs.Common.{◌≡◌, ℕ, refl, sym, ap, subst, ◌∙◌, List, [], ◌∷◌, ◌++◌, arith}
 use Rattle.vc_placement.specs.Linearization.{Atomic, Exchange, Stop, comms_of, all_comms, points, AreFaithful, completed, EveryHistoryLinearizes}
 use Rattle.vc_machine.specs.Rendezvous.{DoesAll, nothing_yet}
@@ -13,7 +13,7 @@ use Rattle.vc_placement.proofs.Elements.{Element, Exchanged, Stopped, Received, 
 use Rattle.vc_placement.proofs.Projections.{projected}
 use Rattle.vc_placement.proofs.Points.{linearized_points}
 use Rattle.vc_placement.proofs.Turns.{Bounded, all_in_turn}
-use Rattle.vc_placement.proofs.Views.{seen, even_run, not_got, not_finished, idle_tail}
+use Rattle.vc_placement.proofs.Views.{seen, even_run, not_received, not_finished, idle_tail}
 
 -- a list without inputs and ends that stand alone
 record Atoms (l : List Element) : Type 0 where
@@ -29,7 +29,7 @@ atoms (Exchanged n m c x y ∷ l) t h =
 atoms (Stopped n c ∷ l) t h =
     let r = atoms l (λ d. idle_tail d (t d)) h.1 in
     record { all = Stop n c ∷ r.all; same = ap (λ z. comms_of (Stop n c) ++ z) r.same; faithful = (tt, r.faithful) }
-atoms (Received n c y ∷ l) t h = absurd (not_got c (t c))
+atoms (Received n c y ∷ l) t h = absurd (not_received c (t c))
 atoms (Finished n c ∷ l) t h = absurd (not_finished c (t c))
 
 -- no process finishes more outputs than it began, however far it has come

@@ -1,6 +1,7 @@
 -- One node that runs all processes of a plan side by side can do what the plan's network did.
 use Rattle.std.proofs.Common.{◌≡◌, ℕ, zero, suc, ◌+◌, ◌≤◌, ◌<◌, true, nat_lt, length-append, refl, sym, ap, subst, ◌∙◌, List, [], ◌∷◌, ◌++◌, length, map, get_or, slice_get, Some, inl, inr, arith}
 use Rattle.std.proofs.lemmas.Bool.{cases_lt, lt-ltb, ltb-true}
+use Rattle.std.proofs.lemmas.List.{length-map, map-append}
 use Rattle.vc_actors.specs.Actors.{Network}
 use Rattle.vc_network.specs.Network.{Node, Actor, IsNode}
 use Rattle.vc_process.specs.declared.value_kind.ValueKind.{ValueKind}
@@ -47,12 +48,10 @@ empty_second [] ls v = let e : 0 + v ≡ v = omega arith in ap (empty ls) e
 empty_second (k ∷ ks) ls v = let e : length (k ∷ ks) + v ≡ suc (length ks + v) = omega arith in ap (empty ((k ∷ ks) ++ ls)) e ∙ empty_second ks ls v
 
 kinds_append : (a b : List NodeVariable) → kinds_of (a ++ b) ≡ kinds_of a ++ kinds_of b
-kinds_append [] b = refl
-kinds_append (v ∷ a) b = ap (λ z. v.kind ∷ z) (kinds_append a b)
+kinds_append a b = map-append (λ (v : NodeVariable). v.kind) a b
 
 kinds_length : (a : List NodeVariable) → length (kinds_of a) ≡ length a
-kinds_length [] = refl
-kinds_length (v ∷ a) = ap suc (kinds_length a)
+kinds_length a = length-map a (λ (v : NodeVariable). v.kind)
 
 -- from the k-th variable on stand those of these nodes, empty
 abbrev Holds : Store → ℕ → List NodePlan → Type 0

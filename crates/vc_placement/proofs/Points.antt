@@ -1,4 +1,4 @@
--- Gathering a list changes nothing of what is got and stopped, nor its order.
+-- Linearizing a list changes nothing of what is got and stopped, nor its order.
 use Rattle.std.proofs.Common.{◌≡◌, ℕ, Bool, true, false, ◌==◌, refl, sym, ap, ◌∙◌, List, [], ◌∷◌, inl, inr, eq-eqb, ne_eqb, if◌then◌else◌}
 use Rattle.std.proofs.lemmas.Bool.{cases_eq}
 use Rattle.vc_process.specs.declared.datum.Datum.{Datum}

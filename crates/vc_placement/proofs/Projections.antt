@@ -1,4 +1,4 @@
--- What gathering a list does to each node's part of it.
+-- What linearizing a list does to each node's part of it.
 use Rattle.std.proofs.Common.{◌≡◌, ◌≢◌, ℕ, Bool, true, false, ◌==◌, refl, sym, ap, subst, ◌∙◌, List, [], ◌∷◌, ◌++◌, inl, inr, ◌⊎◌, arith, eq-eqb, ne_eqb, if◌then◌else◌}
 use Rattle.std.proofs.lemmas.Bool.{cases_eq}
 use Rattle.vc_process.specs.declared.datum.Datum.{Datum}
@@ -124,7 +124,7 @@ others {c} {m} n x e (receives {m = r} {y = y} {l = l} q t) =
 others {c} {m} n x e (stops {n = s} {l = l} t) = by_past n (Stopped s c) l (exchanged m c x l) (others n x e t)
 others {c} {m} n x e (other {i = i} {l = l} a t) = ap (λ z. by n (spell z)) (exchanged_past m c x i l a) ∙ by_past n i l (exchanged m c x l) (others n x e t)
 
--- each node's part becomes its part of the gathered list
+-- each node's part becomes its part of the linearized list
 if_rewritten : (b : Bool) (k : Comm) {l m : List Comm} → Rewrites l m → Rewrites (if b then k ∷ l else l) (if b then k ∷ m else m)
 if_rewritten true k h = behind k h
 if_rewritten false k h = h

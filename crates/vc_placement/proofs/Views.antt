@@ -1,4 +1,4 @@
--- Gathering a list changes nothing of what is taken on a channel, and of its being stopped.
+-- Linearizing a list changes nothing of what is taken on a channel, and of its being stopped.
 use Rattle.std.proofs.Common.{◌≡◌, ◌≢◌, ℕ, suc, ◌<◌, Bool, true, false, ◌==◌, refl, sym, ap, ap₂, subst, ◌∙◌, List, [], ◌∷◌, ◌++◌, length, Some, inl, inr, arith, eq-eqb, ne_eqb, length-append, if◌then◌else◌}
 use Rattle.std.proofs.lemmas.Bool.{cases_eq}
 use Rattle.vc_process.specs.declared.datum.Datum.{Datum}
@@ -10,7 +10,7 @@ use Rattle.vc_occam.specs.Traces.{Comm, Out, Fin, In, Stp}
 use Rattle.vc_placement.proofs.Turns.{at_end}
 use Rattle.vc_placement.proofs.Elements.{Element, Exchanged, Stopped, Received, Finished, spell, chan_of, without, exchanged, linearized, Idle, ElementsInTurn, passes, stops, other, AreMet}
 
--- from these messages taken and this flag on, the items lead to those
+-- from these messages taken and this flag on, the elements lead to those
 pub data Shows (c : ℕ) : List (List ℕ) → Bool → List Element → List (List ℕ) → Bool → Type 0 where
   shows_end : {ms : List (List ℕ)} {b : Bool} → Shows c ms b [] ms b
   shows_passes : {ms ns : List (List ℕ)} {b e : Bool} {n m : ℕ} {x y : Datum} {l : List Element} → b ≡ false → Shows c (ms ++ message y ∷ []) b l ns e → Shows c ms b (Exchanged n m c x y ∷ l) ns e
@@ -38,23 +38,23 @@ module _ (c d : ℕ) where
   without_shows (shows_other {i = Received s f y} a t) = shows_other a (without_shows t)
   without_shows (shows_other {i = Finished s f} {l = l} a t) = end_shows s f l t (shows_other a (without_shows t))
 
-  got_shows : {ms ns : List (List ℕ)} {b e : Bool} (n : ℕ) (x : Datum) (s f : ℕ) (y : Datum) (l : List Element) → Shows c ms b (Exchanged n s f x y ∷ without d l) ns e → Shows c ms b (Received s f y ∷ exchanged n d x l) ns e → Shows c ms b (exchanged n d x (Received s f y ∷ l)) ns e
-  got_shows {ms} {ns} {b} {e} n x s f y l t r = elim (cases_eq f d) [
+  received_shows : {ms ns : List (List ℕ)} {b e : Bool} (n : ℕ) (x : Datum) (s f : ℕ) (y : Datum) (l : List Element) → Shows c ms b (Exchanged n s f x y ∷ without d l) ns e → Shows c ms b (Received s f y ∷ exchanged n d x l) ns e → Shows c ms b (exchanged n d x (Received s f y ∷ l)) ns e
+  received_shows {ms} {ns} {b} {e} n x s f y l t r = elim (cases_eq f d) [
     | inl q ↦ subst (λ a. Shows c ms b (if a then Exchanged n s d x y ∷ without d l else Received s f y ∷ exchanged n d x l) ns e) (sym (eq-eqb f d q))
         (subst (λ j. Shows c ms b (Exchanged n s j x y ∷ without d l) ns e) q t)
     | inr q ↦ subst (λ a. Shows c ms b (if a then Exchanged n s d x y ∷ without d l else Received s f y ∷ exchanged n d x l) ns e) (sym (ne_eqb f d q)) r
   ]
 
-  settle_shows : (n : ℕ) (x : Datum) {ms ns : List (List ℕ)} {b e : Bool} {l : List Element} → Shows c ms b l ns e → Shows c ms b (exchanged n d x l) ns e
-  settle_shows n x shows_end = shows_end
-  settle_shows n x (shows_passes f t) = shows_passes f (settle_shows n x t)
-  settle_shows n x (shows_gets {n = s} {y = y} {l = l} f t) = got_shows n x s c y l (shows_passes f (without_shows t)) (shows_gets f (settle_shows n x t))
-  settle_shows n x (shows_finished t) = shows_finished (settle_shows n x t)
-  settle_shows n x (shows_stopped t) = shows_stopped (settle_shows n x t)
-  settle_shows n x (shows_other {i = Exchanged s r f z y} a t) = shows_other a (settle_shows n x t)
-  settle_shows n x (shows_other {i = Stopped s f} a t) = shows_other a (settle_shows n x t)
-  settle_shows n x (shows_other {i = Received s f y} {l = l} a t) = got_shows n x s f y l (shows_other a (without_shows t)) (shows_other a (settle_shows n x t))
-  settle_shows n x (shows_other {i = Finished s f} a t) = shows_other a (settle_shows n x t)
+  exchanged_shows : (n : ℕ) (x : Datum) {ms ns : List (List ℕ)} {b e : Bool} {l : List Element} → Shows c ms b l ns e → Shows c ms b (exchanged n d x l) ns e
+  exchanged_shows n x shows_end = shows_end
+  exchanged_shows n x (shows_passes f t) = shows_passes f (exchanged_shows n x t)
+  exchanged_shows n x (shows_gets {n = s} {y = y} {l = l} f t) = received_shows n x s c y l (shows_passes f (without_shows t)) (shows_gets f (exchanged_shows n x t))
+  exchanged_shows n x (shows_finished t) = shows_finished (exchanged_shows n x t)
+  exchanged_shows n x (shows_stopped t) = shows_stopped (exchanged_shows n x t)
+  exchanged_shows n x (shows_other {i = Exchanged s r f z y} a t) = shows_other a (exchanged_shows n x t)
+  exchanged_shows n x (shows_other {i = Stopped s f} a t) = shows_other a (exchanged_shows n x t)
+  exchanged_shows n x (shows_other {i = Received s f y} {l = l} a t) = received_shows n x s f y l (shows_other a (without_shows t)) (shows_other a (exchanged_shows n x t))
+  exchanged_shows n x (shows_other {i = Finished s f} a t) = shows_other a (exchanged_shows n x t)
 
 abbrev view_of : List (List ℕ) → List (List ℕ) → ℕ → Bool → View
 view_of o t n b = record { offered = o; taken = t; finished = n; stopped = b }
@@ -75,13 +75,13 @@ module _ (c : ℕ) where
 
   -- one communication on the channel, where the rest shows what it leads to
   here : (n : ℕ) (k : Comm) (ks : List (ℕ × Comm)) (v w u : View) → (to_channel k).0 ≡ c → Does v (to_channel k).1 w → Seen ks w u → Seen ((n, k) ∷ ks) v u
-  here n (Out d x) ks v w u e h t = settle_shows c d n x (subst (λ z. Seen ks z u) h.1 t)
+  here n (Out d x) ks v w u e h t = exchanged_shows c d n x (subst (λ z. Seen ks z u) h.1 t)
   here n (In d y) ks v w u e h t = subst (λ j. Shows c v.taken v.stopped (Received n j y ∷ linearized ks) u.taken u.stopped) (sym e) (shows_gets h.1 (subst (λ z. Seen ks z u) h.2 t))
   here n (Fin d) ks v w u e h t = subst (λ j. Shows c v.taken v.stopped (Finished n j ∷ linearized ks) u.taken u.stopped) (sym e) (shows_finished (subst (λ z. Seen ks z u) h.1 t))
   here n (Stp d) ks v w u e h t = subst (λ j. Shows c v.taken v.stopped (Stopped n j ∷ linearized ks) u.taken u.stopped) (sym e) (shows_stopped (subst (λ z. Seen ks z u) h t))
 
   elsewhere : (n : ℕ) (k : Comm) (ks : List (ℕ × Comm)) (v u : View) → (to_channel k).0 ≢ c → Seen ks v u → Seen ((n, k) ∷ ks) v u
-  elsewhere n (Out d x) ks v u e t = settle_shows c d n x t
+  elsewhere n (Out d x) ks v u e t = exchanged_shows c d n x t
   elsewhere n (In d y) ks v u e t = shows_other e t
   elsewhere n (Fin d) ks v u e t = shows_other e t
   elsewhere n (Stp d) ks v u e t = shows_other e t
@@ -112,8 +112,8 @@ module _ (c : ℕ) where
   on_past (Received n d y) l e = ap (λ a. if a then rendezvous.In (message y) ∷ on c (spell l) else on c (spell l)) (ne_eqb d c e)
   on_past (Finished n d) l e = ap (λ a. if a then rendezvous.Fin ∷ on c (spell l) else on c (spell l)) (ne_eqb d c e)
 
-  pub not_got : {n : ℕ} {y : Datum} {l : List Element} → ElementsInTurn c Idle (Received n c y ∷ l) → ⊥
-  not_got (other e t) = e refl
+  pub not_received : {n : ℕ} {y : Datum} {l : List Element} → ElementsInTurn c Idle (Received n c y ∷ l) → ⊥
+  not_received (other e t) = e refl
 
   pub not_finished : {n : ℕ} {l : List Element} → ElementsInTurn c Idle (Finished n c ∷ l) → ⊥
   not_finished (other e t) = e refl
@@ -123,11 +123,11 @@ module _ (c : ℕ) where
   idle_tail (stops t) = t
   idle_tail (other e t) = t
 
-  -- where nothing is under way the channel's part of what is gathered is a run of it
+  -- where nothing is under way the channel's part of what is linearized is a run of it
   pub even_run : {ms ns : List (List ℕ)} {b e : Bool} {l : List Element} → Shows c ms b l ns e → ElementsInTurn c Idle l → AreMet l → DoesAll (Even ms b) (on c (spell l)) (Even ns e)
   even_run shows_end t q = refl
   even_run {ns = ns} {b = b} {e = e} (shows_passes {ms = ms} {n = n} {m = r} {x = x} {y = y} {l = l} f h) t q = one_passes n r x y l ms b (Even ns e) q.0 f (even_run h (idle_tail t) q.1)
-  even_run (shows_gets f h) t q = absurd (not_got t)
+  even_run (shows_gets f h) t q = absurd (not_received t)
   even_run (shows_finished h) t q = absurd (not_finished t)
   even_run {ns = ns} {e = e} (shows_stopped {ms = ms} {b = b} {l = l} h) t q =
       subst (λ a. DoesAll (Even ms b) (if a then rendezvous.Stp ∷ on c (spell l) else on c (spell l)) (Even ns e)) (sym (eq-eqb c c refl)) (Even ms true, refl, even_run h (idle_tail t) q.1)

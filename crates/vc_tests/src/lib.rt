@@ -1,4 +1,5 @@
-//! Tests of texts in and out, of runs by rounds and in threads from the bytes that are read to those that are written, and of what the words of the command line ask for, over the libraries' public calls.
+//! Tests of texts in and out, of runs by rounds and in threads from the bytes that are read to those that are written, and of what the
+//! words of the command line ask for, over the libraries' public calls.
 #![tactic(auto)]
 
 #[cfg(test)]

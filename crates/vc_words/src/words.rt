@@ -17,8 +17,8 @@ use vc_core::Close;
 use vc_plan::CheckRefused;
 use vc_reader::ReadRefused;
 use vc_text::{
-    RunFault, StepReport, run_check, run_deadlock, run_net, run_step, run_together,
-    write_fault, write_text,
+    RunFault, StepReport, run_check, run_deadlock, run_net, run_step, run_together, write_fault,
+    write_text,
 };
 
 /// The status for a network that is accepted, or without a cycle, or whose processes have all ended.
