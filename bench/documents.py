@@ -1,9 +1,10 @@
 #!/usr/bin/env python3
-"""Holds the documents against the repository: bench/documents.py. It prints a line for each of these, and fails where there is one:
+"""Holds the documents against the repository: bench/documents.py [--mend]. It prints a line for each of these, and fails where there is one:
 
 - a file that a document names and that is not there;
 - an edit that docs/WRONG_BODIES.md names and that is not there, or whose asterisk is wrong (an edit with one stands in bench/edits/,
   which the gate does not try; one without stands in its crate's must-fail/);
+- a list of all edits in docs/WRONG_BODIES.md that is not that of the files (with --mend it is written anew);
 - a crate that README.md or docs/ names as `vc_..` and that crates.txt has not;
 - a sentence of README.md, docs/FORMAT.md, docs/CALLING.md or bench/README.md with over 40 words.
 """
@@ -16,6 +17,8 @@ ROOT = os.path.dirname(os.path.dirname(os.path.abspath(__file__)))
 DOCUMENTS = ["README.md", "bench/README.md", *sorted(os.path.relpath(it, ROOT) for it in glob.glob(f"{ROOT}/docs/*.md"))]
 PLAIN = {"README.md", "bench/README.md", "docs/FORMAT.md", "docs/CALLING.md"}
 WORDS = 40
+# What stands before the list of all edits.
+LIST = "\n## All edits, by crate\n\n"
 
 
 def text_of(path):
@@ -49,6 +52,26 @@ def wrong_edits(path, text):
                 yield f"{path}: {name} stands in bench/edits/, and has no asterisk"
 
 
+def all_edits():
+    """The list of all edits, by crate."""
+    lines = []
+    for crate in sorted(os.listdir(f"{ROOT}/crates")):
+        gate, beside = edits(f"crates/{crate}/must-fail"), edits(f"bench/edits/{crate}")
+        names = [f"`{it}`" + "*" * (it not in gate) for it in sorted(gate | beside)]
+        lines += [f"- {crate}: {', '.join(names)}"] if names else []
+    return "\n".join(lines) + "\n"
+
+
+def wrong_list(path, text, mend):
+    front, _, found = text.partition(LIST)
+    if found != all_edits():
+        if not mend:
+            yield f"{path}: the list of all edits is not that of the files: bench/documents.py --mend"
+            return
+        with open(f"{ROOT}/{path}", "w", encoding="utf-8") as it:
+            it.write(front + LIST + all_edits())
+
+
 def missing_crates(path, text):
     there = set(re.findall(r"^(\w+)(?: \w+=\S+)*:", text_of("crates.txt"), re.M))
     for name in sorted(set(re.findall(r"\bvc_\w+", text)) - there):
@@ -69,7 +92,7 @@ def main():
         text = text_of(path)
         told += [*missing_files(path, text), *missing_crates(path, text)]
         if path.endswith("WRONG_BODIES.md"):
-            told += wrong_edits(path, text)
+            told += [*wrong_edits(path, text), *wrong_list(path, text, "--mend" in sys.argv)]
         if path in PLAIN:
             told += long_sentences(path, text)
     print("\n".join([*told, f"{len(DOCUMENTS)} documents, {len(told)} faults"]))

@@ -49,7 +49,7 @@ def main():
         subprocess.run(["cc", "-O2", "-shared", "-fPIC", "-o", shim, source], check=True)
         for crate in CRATES:
             program = folder / crate
-            build(crate, str(program), tests=True)
+            build(str(program), crate, tests=True)
             listed = subprocess.run([program, "--list"], capture_output=True, check=True, text=True).stdout
             for line in listed.splitlines():
                 if "memory" in line:
