@@ -2,7 +2,6 @@
 use Rattle.std.specs.Prelude.{◌≡◌, ◌≢◌, ℕ, suc, ◌<◌, Bool, true, false, ◌==◌, ◌&&◌, not, List, [], ◌∷◌, ◌++◌, Option, Some, None, slice_get, is_some, if◌then◌else◌, ◌⊎◌}
 use Rattle.std.specs.List.{list_any}
 use Rattle.std.specs.Option.{option_or}
-use Rattle.vc_labels.specs.declared.row.Row.{Row}
 use Rattle.vc_labels.specs.declared.fault.TableFault.{TableFault}
 use Rattle.vc_labels.specs.declared.fault.TableFault.TheVariants.{BadLink}
 use Rattle.vc_labels.specs.Fault.{table_fault}
@@ -32,7 +31,7 @@ use Rattle.vc_plan.specs.declared.check_refused.CheckRefused.TheVariants as why
 use Rattle.vc_plan.specs.Labelling.{IsFirstFault}
 use Rattle.vc_plan.specs.Limits.{kinds_of, limit_broken}
 use Rattle.vc_plan.specs.Delivery.{IsLabelled}
-use Rattle.vc_plan.specs.Wires.{same_port, IsWiredAction, across, sending_port, switch_at}
+use Rattle.vc_plan.specs.Wires.{same_port, AreWiredRows, across, sending_port, switch_at}
 
 -- the first of a list that stood before
 abbrev pub repeated : {A : Type 0} → (A → A → Bool) → List A → List A → Option A
@@ -70,18 +69,15 @@ blocks (v ∷ vs) = block_of v.a ∷ block_of v.b ∷ blocks vs
 abbrev pub block_twice : List Vlink → Option (ℕ × ℕ)
 block_twice vlinks = repeated same_block [] (blocks vlinks)
 
-abbrev pub HasWiredRows : Plan → ℕ → SwitchPlan → Type 0
-HasWiredRows p n plan = (k : ℕ) (row : Row) → slice_get plan.rows k ≡ Some row → IsWiredAction p n row.action
-
 -- a switch's table is lawful, and each link of its groups has a wire
 pub record IsLawfulSwitch (p : Plan) (n : ℕ) (plan : SwitchPlan) : Type 0 where
   pub table : table_fault plan.rows ≡ None
-  pub wired : HasWiredRows p n plan
+  pub wired : AreWiredRows p n plan.rows
 
 -- the table's fault, or else a link without a wire
 abbrev pub IsSwitchFault : Plan → ℕ → SwitchPlan → TableFault → Type 0
 IsSwitchFault p n plan fault =
-    (table_fault plan.rows ≡ Some fault) ⊎ ((table_fault plan.rows ≡ None) × (fault ≡ BadLink) × ¬ HasWiredRows p n plan)
+    (table_fault plan.rows ≡ Some fault) ⊎ ((table_fault plan.rows ≡ None) × (fault ≡ BadLink) × ¬ AreWiredRows p n plan.rows)
 
 abbrev pub HasLawfulTables : Plan → Type 0
 HasLawfulTables p = (n : ℕ) (plan : SwitchPlan) → switch_at p n ≡ Some plan → IsLawfulSwitch p n plan

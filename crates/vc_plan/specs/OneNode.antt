@@ -1,8 +1,9 @@
 -- The plan of one node that runs all processes of another plan side by side: a PAR of them, each over variables of its own, with every
 -- channel inside it (occam 2.1 Reference Manual, "Parallel": the parts of a PAR run together, and it ends when all have ended).
-use Rattle.std.specs.Prelude.{◌≡◌, ℕ, suc, ◌+◌, ◌<◌, List, [], ◌∷◌, ◌++◌, length, map, codes}
+use Rattle.std.specs.Prelude.{◌≡◌, ℕ, suc, ◌+◌, ◌<◌, List, [], ◌∷◌, ◌++◌, length, map, nat_le, codes, Option, is_some, IfSome}
 use Rattle.vc_process.specs.InOrder.{number}
-use Rattle.vc_process.specs.Numbering.{written}
+use Rattle.vc_process.specs.declared.process.Process.{Process}
+use Rattle.vc_process.specs.Numbering.{written, parts_from}
 use Rattle.vc_process.specs.Renaming.{Renamed}
 use Rattle.vc_process.specs.Syntax.{Proc, PAR, Procs, no_parts, part}
 use Rattle.vc_plan.specs.Limits.{kinds_of}
@@ -27,6 +28,10 @@ AreProcesses k [] no_parts = Unit {0}
 AreProcesses k (n ∷ ns) (part q qs) = IsBehind k (length n.vars) (written n.process) q × AreProcesses (k + length n.vars) ns qs
 AreProcesses k [] (part q qs) = ⊥
 AreProcesses k (n ∷ ns) no_parts = ⊥
+
+-- so they are where these processes are the parts of a PAR at site 0
+abbrev pub AreTogether : List NodePlan → List Process → Type 0
+AreTogether nodes parts = AreProcesses 0 nodes (parts_from 1 (map number parts))
 
 -- one is a plan of one node, which runs all processes of p side by side
 pub record IsOnOneNode (p one : Plan) : Type 0 where
@@ -58,3 +63,8 @@ pub record IsOneNodeOf (p one : Plan) : Type 0 where
   pub wires : one.wires ≡ []
   pub vlinks : one.vlinks ≡ []
   pub channels : one.channels ≡ map inside p.channels
+
+-- a plan of one node is made exactly where the nodes have at most 64 variables together, and it is the one node of p
+abbrev pub IsTogether : Plan → Option Plan → Type 0
+IsTogether p made =
+    (is_some made ≡ nat_le (length (all_vars p.nodes)) 64) × IfSome made (λ one. IsOneNodeOf p one)

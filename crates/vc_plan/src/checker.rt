@@ -104,7 +104,8 @@ fn find_block_twice(alloc: Global, vlinks: &[Vlink]) -> Result<Option<(u8, u16)>
 }
 
 fn fault_of_switch(net: &Plan, switch: u8, plan: &SwitchPlan) -> Option<TableFault>
-    ensures { MatchOption result (IsLawfulSwitch net.now switch plan.now) (λ fault. IsSwitchFault net.now switch plan.now fault) }
+    ensures { MatchOption result (IsLawfulSwitch net.now switch plan.now)
+        (λ fault. IsSwitchFault net.now switch plan.now fault) }
 {
     match fault_of_rows(plan.rows.as_slice()) {
         Some(fault) => Some(fault),
@@ -120,7 +121,8 @@ fn fault_of_switch(net: &Plan, switch: u8, plan: &SwitchPlan) -> Option<TableFau
 
 fn find_table(net: &Plan) -> Option<(u8, TableFault)>
     requires { length net.now.switches < 256 }
-    ensures { MatchOption result (HasLawfulTables net.now) (λ found. IsFirstTable net.now found.0 found.1) }
+    ensures { MatchOption result (HasLawfulTables net.now)
+        (λ found. IsFirstTable net.now found.0 found.1) }
 {
     for (n, plan) in net.switches.as_slice().iter().enumerate() {
         if let Some(fault) = fault_of_switch(net, n as u8, plan) {
@@ -364,7 +366,8 @@ fn find_refusal(alloc: Global, plan: &Plan) -> Result<Option<CheckRefused>, Memo
 /// Accepts exactly the plans that keep the limits, deliver on every path and give no other cause for a refusal; else it gives
 /// the plan back with the first thing that is wrong. Want of memory refuses too.
 pub fn check(alloc: Global, plan: Plan) -> Result<Accepted, Refusal>
-    ensures { MatchResult result (λ accepted. (accepted ≡ plan) × IsAccepted plan) (λ refusal. (refusal.plan ≡ plan) × IsCause plan refusal.why) }
+    ensures { MatchResult result (λ accepted. (accepted ≡ plan) × IsAccepted plan)
+        (λ refusal. (refusal.plan ≡ plan) × IsCause plan refusal.why) }
 {
     match find_refusal(alloc, &plan) {
         Ok(None) => Ok(Accepted::of(plan)),

@@ -41,7 +41,8 @@ fn way_fault(
     requires limits { LimitsFit net.now }
     requires wired { IsWired net.now }
     ensures delivers { IfOk result (λ found. IfNone found (DeliversTo net.now from.now to.now)) }
-    ensures fault { IfOk result (λ found. IfSome found (λ f. IsFaultOfWay net.now from.now to.now f)) }
+    ensures fault { IfOk result (λ found.
+        IfSome found (λ f. IsFaultOfWay net.now from.now to.now f)) }
     ensures place { IfOk result (λ found. IfSome found (λ f. f.vlink ≡ vlink)) }
     ensures way { IfOk result (λ found. IfSome found (λ f. f.from_a ≡ from_a)) }
 {
@@ -75,7 +76,8 @@ fn link_fault(
     requires limits { LimitsFit net.now }
     requires wired { IsWired net.now }
     ensures delivers { IfOk result (λ found. IfNone found (IsLabelledLink net.now vlink.now)) }
-    ensures fault { IfOk result (λ found. IfSome found (λ f. IsFaultOfLink net.now vlink.now f.from_a f)) }
+    ensures fault { IfOk result (λ found.
+        IfSome found (λ f. IsFaultOfLink net.now vlink.now f.from_a f)) }
     ensures place { IfOk result (λ found. IfSome found (λ f. f.vlink ≡ number)) }
 {
     match way_fault(alloc, net, &vlink.a, &vlink.b, number, true)? {

@@ -1,8 +1,8 @@
 //! All processes of a plan on one node.
-ghost use Rattle.std.specs.Prelude.{◌≡◌, ◌≤◌, ◌++◌, length, map, nat_le, is_some, IfOk, IfSome, OnOk};
-ghost use Rattle.vc_plan.specs.OneNode.{all_sites, all_vars, inside, AreProcesses, IsOneNodeOf};
+ghost use Rattle.std.specs.Prelude.{◌≡◌, ◌≤◌, ◌++◌, length, map, IfOk, OnOk};
+ghost use Rattle.vc_plan.specs.OneNode.{all_sites, all_vars, inside, AreTogether, IsTogether};
 ghost use Rattle.vc_process.specs.InOrder.{number};
-ghost use Rattle.vc_process.specs.Numbering.{part_sites, parts_from};
+ghost use Rattle.vc_process.specs.Numbering.{part_sites};
 
 use crate::channel::{Channel, Home};
 use crate::node_plan::{NodePlan, Variable};
@@ -15,7 +15,7 @@ use vc_process::Process;
 /// The processes of all nodes, each over variables that stand behind those of the nodes before it.
 fn processes(alloc: Global, nodes: &Items<NodePlan>) -> Result<Items<Process>, Memory>
     requires { length (all_vars nodes.now) ≤ 64 }
-    ensures processes { IfOk result (λ parts. AreProcesses 0 nodes.now (parts_from 1 (map number parts))) }
+    ensures processes { IfOk result (λ parts. AreTogether nodes.now parts) }
     ensures sites { IfOk result (λ parts. part_sites (map number parts) ≡ all_sites nodes.now) }
 {
     let mut parts = Items::new(alloc);
@@ -76,7 +76,7 @@ fn channels(alloc: Global, channels: &Items<Channel>) -> Result<Items<Channel>, 
 /// The plan of one node that runs all processes side by side, with every channel inside it; none where the nodes have more than 64
 /// variables together, which no node may have. Its channels are those of the plan, in the same order.
 pub fn together(alloc: Global, plan: &Plan) -> Result<Option<Plan>, Memory>
-    ensures { IfOk result (λ made. (is_some made ≡ nat_le (length (all_vars plan.now.nodes)) 64) × IfSome made (λ one. IsOneNodeOf plan.now one)) }
+    ensures { IfOk result (λ made. IsTogether plan.now made) }
 {
     let vars = variables(alloc, &plan.nodes)?;
     if vars.len() > 64 {

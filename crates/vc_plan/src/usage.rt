@@ -67,7 +67,8 @@ pub(crate) fn find_usage(alloc: Global, plan: &Plan) -> Result<Option<(u8, Name)
     requires few { length plan.now.nodes < 256 }
     requires names { list_all (process_names plan.now) plan.now.nodes ≡ true }
     ensures lawful { IfOk result (λ found. IfNone found (AreLawful plan.now)) }
-    ensures first { IfOk result (λ found. IfSome found (λ usage. IsFirstUsage plan.now usage.0 usage.1)) }
+    ensures first { IfOk result (λ found.
+        IfSome found (λ usage. IsFirstUsage plan.now usage.0 usage.1)) }
 {
     for (n, node) in plan.nodes.as_slice().iter().enumerate() {
         if let Some(name) = usage_of(alloc, plan, node)? {

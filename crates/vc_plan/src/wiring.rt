@@ -1,8 +1,7 @@
 //! Whether each link of a group is on a wire.
 
-ghost use Rattle.std.specs.Prelude.{◌≡◌, ℕ, Some, IsTrue, ◌↔◌, slice_get};
-ghost use Rattle.vc_labels.specs.declared.row.Row.{Row};
-ghost use Rattle.vc_plan.specs.Wires.{HasWire, IsWiredAction};
+ghost use Rattle.std.specs.Prelude.{IsTrue, ◌↔◌};
+ghost use Rattle.vc_plan.specs.Wires.{AreWiredRows, HasWire, IsWiredAction};
 
 use crate::hops::far_end;
 use crate::plan::Plan;
@@ -42,7 +41,7 @@ fn is_wired_action(net: &Plan, switch: u8, action: Action) -> bool
 }
 
 pub(crate) fn are_wired(net: &Plan, switch: u8, rows: &[Row]) -> bool
-    ensures { IsTrue result ↔ ((k : ℕ) (row : Row) → slice_get rows.now k ≡ Some row → IsWiredAction net.now switch row.action) }
+    ensures { IsTrue result ↔ AreWiredRows net.now switch rows.now }
 {
     for row in rows {
         if !is_wired_action(net, switch, row.action) {

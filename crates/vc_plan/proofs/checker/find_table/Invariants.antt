@@ -5,4 +5,6 @@ use Rattle.vc_plan.specs.Check.{IsLawfulSwitch}
 use Rattle.vc_plan.proofs.checker.find_table.Given as goal
 
 abbrev pub invariant-loop-n : goal.invariant-loop-n
-invariant-loop-n l = (k : ℕ) (plan : SwitchPlan) → k < l.n → switch_at l.net k ≡ Some plan → IsLawfulSwitch l.net k plan
+invariant-loop-n l =
+    (k : ℕ) (plan : SwitchPlan) → k < l.n → switch_at l.net k ≡ Some plan
+    → IsLawfulSwitch l.net k plan

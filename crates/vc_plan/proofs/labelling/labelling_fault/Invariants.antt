@@ -5,4 +5,6 @@ use Rattle.vc_plan.specs.Delivery.{IsLabelledLink}
 use Rattle.vc_plan.proofs.labelling.labelling_fault.Given as goal
 
 abbrev pub invariant-loop-k : goal.invariant-loop-k
-invariant-loop-k l = (j : ℕ) (v : Vlink) → j < l.k → slice_get l.vlinks j ≡ Some v → IsLabelledLink l.net v
+invariant-loop-k l =
+    (j : ℕ) (v : Vlink) → j < l.k → slice_get l.vlinks j ≡ Some v
+    → IsLabelledLink l.net v

@@ -6,4 +6,6 @@ use Rattle.vc_plan.specs.declared.node_plan.NodePlan.{NodePlan}
 use Rattle.vc_plan.proofs.usage.find_usage.Given as goal
 
 abbrev pub invariant-loop-n : goal.invariant-loop-n
-invariant-loop-n l = (k : ℕ) (node : NodePlan) → k < l.n → slice_get l.plan.nodes k ≡ Some node → Lawfully (written node.process)
+invariant-loop-n l =
+    (k : ℕ) (node : NodePlan) → k < l.n → slice_get l.plan.nodes k ≡ Some node
+    → Lawfully (written node.process)
