@@ -1,5 +1,6 @@
 pub mod Accepted
 pub mod Check
+pub mod Deletions
 pub mod Delivery
 pub mod Faults
 pub mod Hops

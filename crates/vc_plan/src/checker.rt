@@ -17,6 +17,7 @@ use crate::path_fault::PathFault;
 use crate::plan::Plan;
 use crate::plan_limits::{find_broken_limit, kinds_in};
 use crate::port::{Port, Spot, Wire};
+use crate::searched_plan::SearchedPlan;
 use crate::switch_plan::SwitchPlan;
 use crate::usage::find_usage;
 use crate::vlink::{End, Vlink};
@@ -343,7 +344,8 @@ fn find_cause_of_paths(alloc: Global, plan: &Plan) -> Result<Option<CheckRefused
     ensures passes { IfOk result (λ found. IfNone found (PassesUse plan.now)) }
     ensures cause { IfOk result (λ found. IfSome found (λ why. IsCause plan.now why)) }
 {
-    match labelling_fault(alloc, plan, plan.vlinks.as_slice())? {
+    let searched = SearchedPlan::new(alloc, plan)?;
+    match labelling_fault(alloc, &searched, plan.vlinks.as_slice())? {
         Some(found) => Ok(Some(path_refused(found))),
         None => find_cause_of_use(alloc, plan),
     }

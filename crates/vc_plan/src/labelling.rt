@@ -10,9 +10,9 @@ ghost use Rattle.vc_plan.specs.Labelling.{IsFaultOfWay, IsFaultOfLink, IsFirstFa
 use crate::fault::Fault;
 use crate::hops::far_end;
 use crate::path_fault::Hop;
-use crate::plan::Plan;
 use crate::port::{Port, Spot};
 use crate::search::find_fault;
+use crate::searched_plan::SearchedPlan;
 use crate::vlink::{End, Vlink};
 use sqlite_items::Items;
 use std::alloc::Global;
@@ -32,7 +32,7 @@ pub(crate) struct Astray {
 
 fn way_fault(
     alloc: Global,
-    net: &Plan,
+    net: &SearchedPlan<'_>,
     from: &End,
     to: &End,
     vlink: u16,
@@ -50,7 +50,7 @@ fn way_fault(
         spot: Spot::Node(from.node),
         link: from.link,
     };
-    match far_end(net.wires.as_slice(), start) {
+    match far_end(net.plan().wires.as_slice(), start) {
         None => Ok(None),
         Some(port) => match find_fault(alloc, net, to, port, from.route.as_slice())? {
             None => Ok(None),
@@ -69,7 +69,7 @@ fn way_fault(
 
 fn link_fault(
     alloc: Global,
-    net: &Plan,
+    net: &SearchedPlan<'_>,
     vlink: &Vlink,
     number: u16,
 ) -> Result<Option<Astray>, Memory>
@@ -89,7 +89,7 @@ fn link_fault(
 /// The fault of the first virtual link that has one; None where every packet reaches its end.
 pub(crate) fn labelling_fault(
     alloc: Global,
-    net: &Plan,
+    net: &SearchedPlan<'_>,
     vlinks: &[Vlink],
 ) -> Result<Option<Astray>, Memory>
     requires limits { LimitsFit net.now }

@@ -36,6 +36,7 @@ mod plan;
 mod plan_limits;
 mod port;
 mod search;
+mod searched_plan;
 mod stack;
 mod switch_plan;
 mod usage;

@@ -9,7 +9,7 @@ returns-in-Some-2-clause-fault c =
       start = refl;
       least = record {
         port = c.in-Some.port;
-        across_is = sym (rw c.as_slice.ensures at c.in-Some.ensures);
+        across_is = sym (rw (c.as_slice.ensures, c.plan.ensures) at c.in-Some.ensures);
         path = path;
         least = least;
       };
