@@ -1,5 +1,9 @@
 -- The first offender refutes lawful use, and is one.
-use Rattle.std.proofs.Common.{◌≡◌, ℕ, ◌<◌, ◌⊎◌, true, false, refl, ap, inl, inr, arith}
+use Rattle.std.proofs.Common.{◌≡◌, ℕ, ◌<◌, ◌⊎◌, true, false, refl, ap, inl, inr, arith, Result, Ok, Err}
+use Rattle.std.specs.Prelude.{IfErr}
+use Rattle.vc_process.specs.declared.use_fault.UseFault.{UseFault}
+use Rattle.vc_process.specs.declared.use_fault.UseFault.TheVariants as fault
+use Rattle.vc_process.specs.Sharing.{Judges}
 use Rattle.vc_process.specs.Syntax.{Proc, Procs, Branches, Guards}
 use Rattle.vc_process.specs.Lawful.{outputs, inputs, Shared, Lawfully, LawfullyAll, LawfullyBranches, LawfullyGuards, SideBySide, Least, Offence, channel, variable, Offends, by_output, by_input, by_variable, FirstOffence, FirstOfAll, FirstOfBranches, FirstOfGuards, in_seq, at_par, in_par, in_if, in_while, at_count, in_count, in_alt, this_part, later_part, this_branch, later_branch, this_guard, later_guard}
 use Rattle.vc_process.specs.Usage.{changes, uses}
@@ -35,6 +39,13 @@ mutual
 
 pub unlawful : OffendersAreUnlawful
 unlawful p x = offends
+
+-- so one who judges refuses lawful use for want of memory alone
+pub exact_use : (p : Proc) (r : Result (Unit {0}) UseFault) → Judges r (Lawfully p) (FirstOffence p) → IfErr r (λ f. Lawfully p → f ≡ fault.Memory)
+exact_use p (Ok u) j = tt
+exact_use p (Err (fault.Chan c)) j = λ l. absurd (unlawful p (channel c) j l)
+exact_use p (Err (fault.Var v)) j = λ l. absurd (unlawful p (variable v) j l)
+exact_use p (Err fault.Memory) j = λ l. refl
 
 by_order : (P : ℕ → Type 0) (j k : ℕ) → Least P j → Least P k → ((j < k) ⊎ ((j ≡ k) ⊎ (k < j))) → j ≡ k
 by_order P j k a b (inl less) = absurd (b.1 j less a.0)

@@ -1,5 +1,6 @@
 //! Whether channels and variables are used lawfully.
-ghost use Rattle.std.specs.Prelude.{◌≡◌, ℕ, MatchResult, map};
+ghost use Rattle.std.specs.Prelude.{◌≡◌, ℕ, IfErr, MatchResult, map};
+ghost use Rattle.vc_process.specs.declared.use_fault.UseFault.TheVariants as use_fault;
 ghost use Rattle.vc_process.specs.InOrder.{number, number_branch, number_guard};
 ghost use Rattle.vc_process.specs.Lawful.{FirstOffence, FirstOfAll, FirstOfBranches, FirstOfGuards, Lawfully, LawfullyAll, LawfullyBranches, LawfullyGuards};
 ghost use Rattle.vc_process.specs.Numbering.{branches_from, guards_from, parts_from, written};
@@ -18,9 +19,12 @@ use std::alloc::Global;
 /// Accepts exactly the processes that use channels and variables lawfully, else tells the first offender, PARs and replicated SEQs
 /// taken by site: of a PAR the least channel that two parts output on, else the least that two input on, else the least variable
 /// that one changes and another uses; of a replicated SEQ its index, where the body changes it (occam 2.1 manual, replication).
-/// Memory is told only where there was none.
+/// A process with lawful use is refused for want of memory alone.
 pub fn check_use(alloc: Global, process: &Process) -> Result<(), UseFault>
-    ensures { MatchResult result (λ _. Lawfully (written process.now)) (λ fault. IsUseFault (written process.now) fault) }
+    ensures verdict { MatchResult result (λ _. Lawfully (written process.now))
+        (λ fault. IsUseFault (written process.now) fault) }
+    ensures exact { IfErr result (λ fault.
+        Lawfully (written process.now) → fault ≡ use_fault.Memory) }
 {
     check_process(alloc, process)
 }

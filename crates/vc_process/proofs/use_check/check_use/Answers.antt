@@ -4,10 +4,16 @@ use Rattle.vc_process.specs.Numbering.{written}
 use Rattle.vc_process.specs.Sharing.{Judges}
 use Rattle.vc_process.specs.Syntax.{Proc}
 use Rattle.vc_process.proofs.Numbers.{written_is}
+use Rattle.vc_process.proofs.Judged.{exact_use}
 use Rattle.vc_process.proofs.Judging.{judges_use}
 use Rattle.vc_process.proofs.use_check.check_use.Goals as goal
+use Rattle.vc_process.proofs.use_check.check_use.Goals.{After-check_process}
 
-pub returns : goal.returns
-returns c =
-    let p = c.args.process.now in
-    judges_use (written p) c.check_process.result (subst (λ (q : Proc). Judges c.check_process.result (Lawfully q) (FirstOffence q)) (sym (written_is p)) (c.check_process.ensures 0))
+judged : (c : After-check_process) → Judges c.check_process.result (Lawfully (written c.args.process.now)) (FirstOffence (written c.args.process.now))
+judged c = subst (λ (q : Proc). Judges c.check_process.result (Lawfully q) (FirstOffence q)) (sym (written_is c.args.process.now)) (c.check_process.ensures 0)
+
+pub returns-clause-verdict : goal.returns-clause-verdict
+returns-clause-verdict c = judges_use (written c.args.process.now) c.check_process.result (judged c)
+
+pub returns-clause-exact : goal.returns-clause-exact
+returns-clause-exact c = exact_use (written c.args.process.now) c.check_process.result (judged c)
