@@ -26,32 +26,44 @@ pub fn accepted_plans_are_accepted()
 /// and sends by one of the node's four links.
 #[tactic(auto, using(crate::proofs::Giving::given_small))]
 pub fn nodes_are_given_their_ends()
-    ensures ends { (p : Plan) (n : ℕ) → plan.IsAccepted p → ends_given (ends_of_node p n) ≡ network.ends (network_of p) n }
-    ensures distinct { (p : Plan) (n : ℕ) → plan.IsAccepted p → AreDistinct (ends_of_node p n) }
-    ensures links { (p : Plan) (n : ℕ) → plan.IsAccepted p → AllByRecursion (λ e. e.link < 4) (ends_of_node p n) }
+    ensures ends { (p : Plan) (n : ℕ) → plan.IsAccepted p →
+        ends_given (ends_of_node p n) ≡ network.ends (network_of p) n }
+    ensures distinct { (p : Plan) (n : ℕ) → plan.IsAccepted p →
+        AreDistinct (ends_of_node p n) }
+    ensures links { (p : Plan) (n : ℕ) → plan.IsAccepted p →
+        AllByRecursion (λ e. e.link < 4) (ends_of_node p n) }
 {}
 
 /// The way that is found by an actor's link is the one way that goes out there, and its wire's other way is the one that comes in.
 #[tactic(auto, using(crate::proofs::Wired::ways_few))]
 pub fn ways_are_found_by_their_links()
-    ensures out { (p : Plan) → plan.IsAccepted p → (actor link w : ℕ) → (outgoing p actor link ≡ Some w) ↔ network.IsOutOf (network_of p) w (link_port p actor link) }
-    ensures into { (p : Plan) → plan.IsAccepted p → (actor link w : ℕ) → (incoming p actor link ≡ Some w) ↔ network.IsInto (network_of p) w (link_port p actor link) }
+    ensures out { (p : Plan) → plan.IsAccepted p → (actor link w : ℕ) →
+        (outgoing p actor link ≡ Some w)
+        ↔ network.IsOutOf (network_of p) w (link_port p actor link) }
+    ensures into { (p : Plan) → plan.IsAccepted p → (actor link w : ℕ) →
+        (incoming p actor link ≡ Some w)
+        ↔ network.IsInto (network_of p) w (link_port p actor link) }
     ensures few { (p : Plan) → plan.IsAccepted p → network.ways (network_of p) ≤ 512 }
 {}
 
 /// What is found among the first channels, or wires, of an accepted plan is what a table shows in which these were written one
 /// after the other: each is written where its own channel or way is sought, and over none before it.
 pub fn tables_fill_in_order()
-    ensures channels { (p : Plan) → plan.IsAccepted p → (k v : ℕ) (from_a : Bool) (x : Channel) → slice_get p.channels k ≡ Some x →
-        first_on 0 (take (suc k) p.channels) v from_a ≡ (if is_on v from_a x.home then Some k else first_on 0 (take k p.channels) v from_a) }
-    ensures wires { (p : Plan) → plan.IsAccepted p → (actor link k : ℕ) (w : Wire) → slice_get p.wires k ≡ Some w →
+    ensures channels { (p : Plan) → plan.IsAccepted p →
+        (k v : ℕ) (from_a : Bool) (x : Channel) → slice_get p.channels k ≡ Some x →
+        first_on 0 (take (suc k) p.channels) v from_a
+        ≡ (if is_on v from_a x.home then Some k else first_on 0 (take k p.channels) v from_a) }
+    ensures wires { (p : Plan) → plan.IsAccepted p →
+        (actor link k : ℕ) (w : Wire) → slice_get p.wires k ≡ Some w →
         way_out (length p.nodes) actor link 0 (take (suc k) p.wires)
         ≡ (if is_link (length p.nodes) actor link w.two then Some (2 * k + 1)
-        else if is_link (length p.nodes) actor link w.one then Some (2 * k) else way_out (length p.nodes) actor link 0 (take k p.wires)) }
+        else if is_link (length p.nodes) actor link w.one then Some (2 * k)
+        else way_out (length p.nodes) actor link 0 (take k p.wires)) }
 {}
 
 /// Where the ports of an accepted plan have ranks that rise along each dependency, so have the ways of its network.
 #[tactic(auto, using(crate::proofs::Ranked::ranked))]
 pub fn ranks_are_given()
-    ensures { (p : Plan) → plan.IsAccepted p → plan_ranks.HasRanks p → HasRanks (network.net_of (network_of p)) }
+    ensures { (p : Plan) → plan.IsAccepted p → plan_ranks.HasRanks p →
+        HasRanks (network.net_of (network_of p)) }
 {}
