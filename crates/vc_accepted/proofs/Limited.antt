@@ -16,7 +16,7 @@ use Rattle.vc_accepted.specs.NetworkOf.{headers_of}
 use Rattle.vc_accepted.proofs.Listed.{both}
 
 pub kept : (p : Plan) → IsAccepted p → Keeps p
-kept p acc = keeps p acc.passes.before.before.before.before.before.before.before.before.limits
+kept p acc = keeps p acc.limits
 
 either : (a b : Bool) → (a || b) ≡ true → a ≡ false → b ≡ true
 either true b h e = absurd (cc)

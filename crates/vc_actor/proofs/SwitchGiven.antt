@@ -4,6 +4,7 @@ use Rattle.std.proofs.lemmas.Bool.Decides.{nat_tests}
 use Rattle.std.specs.List.{list_all, AllByRecursion}
 use mathlib.Core.Path.{fun_ext}
 use Rattle.vc_labels.specs.Fault.{table_fault}
+use Rattle.vc_labels.proofs.Tables.{faultless_are_lawful}
 use Rattle.std.specs.Prelude.{None}
 use Rattle.vc_plan.specs.declared.plan.Plan.{Plan}
 use Rattle.vc_plan.specs.declared.switch_plan.RandomInput.{RandomInput}
@@ -53,7 +54,7 @@ pub given_ranges : (p : Plan) → IsAccepted p → (k : ℕ) (s : SwitchPlan) �
 given_ranges p acc k s e = (both (list_all range_ok s.random) (links_differ s.random) (passes random_ok p.switches k s (kept p acc).random e)).0
 
 pub given_table : (p : Plan) → IsAccepted p → (k : ℕ) (s : SwitchPlan) → slice_get p.switches k ≡ Some s → table_fault s.rows ≡ None
-given_table p acc k s e = (acc.tables k s e).table
+given_table p acc k s e = (faultless_are_lawful s.rows).1 (acc.tables k s e).table
 
 -- what it is given is what the plan says
 

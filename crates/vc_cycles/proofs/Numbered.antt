@@ -81,10 +81,10 @@ on_wires p (w ∷ ws) a q ok there e =
     go rest false false s t r = rest r
 
 pub kept : (p : Plan) → IsAccepted p → Keeps p
-kept p acc = keeps p acc.passes.before.before.before.before.before.before.before.before.limits
+kept p acc = keeps p acc.limits
 
 pub limits : (p : Plan) → IsAccepted p → LimitsFit p
-limits p acc = limits-fit p acc.passes.before.before.before.before.before.before.before.before.limits
+limits p acc = limits-fit p acc.limits
 
 fits_all : (p : Plan) (acc : IsAccepted p) (a q : Port) → across p.wires a ≡ Some q → Fits p a
 fits_all p acc a q e =

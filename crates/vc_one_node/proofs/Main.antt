@@ -16,8 +16,9 @@ use Rattle.vc_one_node.specs.Fits.{fits_one_node, IsSize, IsSizeLimit, OneNodeIs
 use Rattle.vc_plan.proofs.Accepting.{accepted}
 use Rattle.vc_plan.proofs.Refuting.{right}
 use Rattle.vc_plan.proofs.Limited.{both, keeps, names-fit, passes, Keeps}
-use Rattle.vc_plan.specs.Accepted.{IsAccepted}
-use Rattle.vc_plan.specs.Check.{IsCause, PassesLimits, PassesUse, block_twice, misused, misused_from, port_missing, port_twice, way_twice, same_way, way_twice_from, has_end, end_is_at, end_is_there, kind_fits, channel_used, use_ok, wrong_use, uses_of, same_bool}
+use Rattle.vc_plan.proofs.Passed.{uses_are_ok}
+use Rattle.vc_plan.specs.Accepted.{IsAccepted, uses_of}
+use Rattle.vc_plan.specs.Check.{IsCause, PassesLimits, PassesUse, block_twice, misused, misused_from, port_missing, port_twice, way_twice, same_way, way_twice_from, has_end, end_is_at, end_is_there, kind_fits, channel_used, use_ok, wrong_use, same_bool}
 use Rattle.vc_plan.specs.Limits.{links_ok, number_ok, version_ok, ends_ok, ends_there, limit_broken, parts_ok, random_ok, routes_ok, rows_ok, switch_in_version_one, switch_links_ok, unless_ok, vars_ok, wire_ok, wire_there, depth_ok, is_name, kinds_of, message_ok, names_ok, node_names_ok, process_names, home_there}
 use Rattle.vc_plan.specs.OneNode.{all_sites, all_vars, inside, IsBehind, AreProcesses, IsOnOneNode, IsOneNodeOf}
 use Rattle.vc_plan.specs.declared.channel.Channel.{Channel}
@@ -113,12 +114,9 @@ one_end : (p : Plan) (h : Home) (o : Bool) (i j : ℕ) → has_end p h o i ≡ t
 one_end p (Way v f) o i j h g = one_there (slice_get p.vlinks v) (same_bool f o) i j h g
 one_end p (Inside m) o i j h g = sym (eqb-true m i h) ∙ eqb-true m j g
 
-limits : (p : Plan) → IsAccepted p → limit_broken p ≡ None
-limits p acc = acc.passes.before.before.before.before.before.before.before.before.limits
-
 module _ (p : Plan) (acc : IsAccepted p) (one : Plan) (is : IsOneNodeOf p one) where
   kept : Keeps p
-  kept = keeps p (limits p acc)
+  kept = keeps p acc.limits
 
   abbrev big : List ValueKind
   big = kinds_of (all_vars p.nodes)
@@ -228,13 +226,13 @@ module _ (p : Plan) (acc : IsAccepted p) (one : Plan) (is : IsOneNodeOf p one) w
       let apart : (v w : ℕ) → dom v ≡ true → dom w ≡ true → ρ v ≡ ρ w → v ≡ w = λ v w a b e. (let l = num v (ltb-true v (length x.vars) a) in let m = num w (ltb-true w (length x.vars) b) in omega arith) in
       let depth = both (depth_within was 32) (exps_within was 8) (passes depth_ok p.nodes i x kept.depth node) in
       record {
-        outs = λ c h. (let u = output_use kinds c was (sym (outputs_kept ρ ren c) ∙ h) in is_at i u.1 true c (acc.uses i u.0 x u.1 node u.2) u.3 u.4);
-        ins = λ c h. (let u = input_use kinds c was (sym (inputs_kept ρ ren c) ∙ h) in is_at i u.1 false c (acc.uses i u.0 x u.1 node u.2) u.3 u.4);
+        outs = λ c h. (let u = output_use kinds c was (sym (outputs_kept ρ ren c) ∙ h) in is_at i u.1 true c (uses_are_ok p acc i u.0 x u.1 node u.2) u.3 u.4);
+        ins = λ c h. (let u = input_use kinds c was (sym (inputs_kept ρ ren c) ∙ h) in is_at i u.1 false c (uses_are_ok p acc i u.0 x u.1 node u.2) u.3 u.4);
         changed = λ w h. (let f = changes_from ρ ren w h in let l = within f.0 (changed_used was f.0 f.2) in let e = num f.0 l in let g = f.1 in (omega arith, omega arith));
         used = λ w h. (let f = uses_from ρ ren w h in let l = within f.0 f.2 in let e = num f.0 l in let g = f.1 in (omega arith, omega arith));
         lawful = lawful_kept ρ dom apart ren (λ v u. lt-ltb v (length x.vars) (within v u)) (acc.lawful_use i x node);
         names = names_kept ρ kinds big same there count ren named;
-        right = ap (wrong_use one 0) (uses_kept ρ kinds big same there count ren named) ∙ right_uses i (channel_uses kinds was) (λ j u e. acc.uses i j x u node e);
+        right = ap (wrong_use one 0) (uses_kept ρ kinds big same there count ren named) ∙ right_uses i (channel_uses kinds was) (λ j u e. uses_are_ok p acc i j x u node e);
         flat = exps_kept ρ ren 8 ∙ depth.1;
         deep = depth_kept ρ ren 31;
         short = length_kept ρ ren ∙ passes message_ok p.nodes i x kept.message node;
@@ -510,7 +508,7 @@ module _ (p : Plan) (acc : IsAccepted p) (one : Plan) (is : IsOneNodeOf p one) w
     }
 
 pub one_accepted : OneNodeIsAccepted
-one_accepted p one acc is = (λ ok. fits_where_kept p acc one is (keeps one (limits one ok)), λ fits. accepted one (passes_use p acc one is fits))
+one_accepted p one acc is = (λ ok. fits_where_kept p acc one is (keeps one ok.limits), λ fits. accepted one (passes_use p acc one is fits))
 
 -- a cause but a limit comes behind all limits
 kept_before : (p : Plan) (cause : CheckRefused) → ((w : LimitWord) → cause ≡ why.Limit w → ⊥) → cause ≢ why.Memory → IsCause p cause → PassesLimits p

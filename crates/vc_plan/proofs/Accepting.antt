@@ -15,15 +15,16 @@ use Rattle.vc_plan.specs.declared.channel.Channel.{Channel}
 use Rattle.vc_plan.specs.declared.channel.Home.{Home}
 use Rattle.vc_plan.specs.declared.channel.Home.TheVariants.{Way}
 use Rattle.vc_plan.specs.declared.node_plan.NodePlan.{NodePlan}
-use Rattle.vc_plan.specs.Accepted.{IsAccepted, port_of, end_of}
-use Rattle.vc_plan.specs.Check.{PassesUse, repeated, ports, port_twice, unwired_port, port_missing, block_of, same_block, blocks, block_twice, same_bool, same_way, way_twice_from, way_twice, misused_from, misused, wrong_use, use_ok, uses_of}
+use Rattle.vc_plan.specs.Accepted.{IsAccepted, port_of, end_of, uses_of}
+use Rattle.vc_plan.specs.Check.{PassesUse, repeated, ports, port_twice, unwired_port, port_missing, block_of, same_block, blocks, block_twice, same_bool, same_way, way_twice_from, way_twice, misused_from, misused, wrong_use, use_ok}
 use Rattle.vc_plan.specs.Wires.{across, same_port, same_spot, sending_port}
+use Rattle.vc_plan.proofs.Uses.{use_right}
 
-none-else : {X : Type 0} (b : Bool) (x : X) (o : Option X) → (if b then Some x else o) ≡ None → (b ≡ false) × (o ≡ None)
+pub none-else : {X : Type 0} (b : Bool) (x : X) (o : Option X) → (if b then Some x else o) ≡ None → (b ≡ false) × (o ≡ None)
 none-else true x o h = absurd cc
 none-else false x o h = (refl, h)
 
-neither : (a b : Bool) → (a || b) ≡ false → (a ≡ false) × (b ≡ false)
+pub neither : (a b : Bool) → (a || b) ≡ false → (a ≡ false) × (b ≡ false)
 neither true b h = absurd cc
 neither false b h = (refl, h)
 
@@ -60,7 +61,7 @@ differ same seen (z ∷ zs) h (suc i) (suc j) x y l e f =
     differ same (seen ++ z ∷ []) zs n.1 i j x y (omega arith) e f
 
 -- the place of the first or second of a pair, where pairs stand in a row
-abbrev place : ℕ → Bool → ℕ
+abbrev pub place : ℕ → Bool → ℕ
 place zero true = 0
 place zero false = 1
 place (suc i) a = suc (suc (place i a))
@@ -165,7 +166,7 @@ end-sends ws (u ∷ us) h (suc k) v a e =
     end-sends ws us m.1 k v a e
 
 -- no two channels are on one way
-abbrev homes : List Channel → List Home
+abbrev pub homes : List Channel → List Home
 homes [] = []
 homes (c ∷ cs) = c.home ∷ homes cs
 
@@ -235,7 +236,7 @@ accepted p h =
     let wires = ports.before in
     let channels = none-first (way_twice p.channels) (misused p) used.channels in
     record {
-      passes = h;
+      limits = wires.before.limits;
       one_port = λ i j v w a b e f is. ports-differ p.wires wires.once i j v w a b e f is (order i a j b);
       sends = end-sends p.wires p.vlinks ports.ports;
       one_end = λ i j v w a b e f m n. blocks-differ p.vlinks blocks.blocks i j v w a b e f (λ k. (m k, n k)) (order i a j b);
@@ -243,6 +244,6 @@ accepted p h =
       labelled = paths.labelled;
       apart = used.before.apart;
       one_channel = one-way p.channels channels.0;
-      uses = λ n k node u e g. subst (λ j. use_ok p j u ≡ true) (zero-add n) (right-uses p 0 p.nodes channels.1 n k node u e g);
+      uses = λ n k node u e g. use_right p n u (subst (λ j. use_ok p j u ≡ true) (zero-add n) (right-uses p 0 p.nodes channels.1 n k node u e g));
       lawful_use = h.lawful;
     }

@@ -10,14 +10,16 @@ use Rattle.vc_plan.specs.declared.port.Port.{Port}
 use Rattle.vc_plan.specs.declared.port.Spot.{Spot}
 use Rattle.vc_plan.specs.declared.vlink.End.{End}
 use Rattle.vc_plan.specs.declared.vlink.Vlink.{Vlink}
-use Rattle.vc_plan.specs.Accepted.{IsAccepted}
-use Rattle.vc_plan.specs.Check.{IsCause, IsSwitchFault, IsLawfulSwitch}
+use Rattle.vc_plan.specs.Accepted.{IsAccepted, IsLawfulSwitch}
+use Rattle.vc_plan.specs.Check.{IsCause, IsSwitchFault}
 use Rattle.vc_plan.specs.Delivery.{DeliversTo, IsLabelledLink, IsLabelled}
 use Rattle.vc_plan.specs.Faults.{Path, IsFaulty, ValueBefore, Before, IsNotAfter, fault_at}
 use Rattle.vc_plan.specs.Hops.{IsHop}
 use Rattle.vc_plan.specs.Labelling.{IsFaultOfWay, IsFaultOfLink, IsFirstFault}
 use Rattle.vc_plan.specs.Refusals.{RefusalsAreRight}
 use Rattle.vc_plan.proofs.Least.{faulty-stops}
+use Rattle.vc_labels.proofs.Tables.{faultless_are_lawful}
+use Rattle.vc_plan.proofs.Passed.{passes_all}
 use Rattle.vc_plan.proofs.Order.{ValueBefore-trans, Before-trans}
 use Rattle.vc_process.proofs.Judged.{unlawful}
 
@@ -33,25 +35,29 @@ link-stops net v false f is well = way-stops net v.b v.a f is.1 well.back
 leads-astray : (p : Plan) (vlinks : List Vlink) (f : Astray) → IsFirstFault p vlinks f → IsLabelled p vlinks → ⊥
 leads-astray p vlinks f is well = link-stops p is.vlink f.from_a f is.fault (well f.vlink is.vlink is.there)
 
-refuted : (p : Plan) (cause : CheckRefused) → cause ≢ why.Memory → IsCause p cause → IsAccepted p → ⊥
-refuted p (why.Limit word) m is a = absurd (let c : Some word ≡ None = sym is ∙ a.passes.before.before.before.before.before.before.before.before.limits in cc)
-refuted p (why.PortTwice port) m is a = absurd (let c : Some port ≡ None = sym is.1 ∙ a.passes.before.before.before.before.before.before.before.once in cc)
-refuted p (why.PortMissing port) m is a = absurd (let c : Some port ≡ None = sym is.1 ∙ a.passes.before.before.before.before.before.before.ports in cc)
-refuted p (why.BlockTwice node block) m is a = absurd (let c : Some (node, block) ≡ None = sym is.1 ∙ a.passes.before.before.before.before.before.blocks in cc)
-refuted p (why.Table n fault) m is a = by is.1.is (a.tables n is.1.plan is.1.there)
+-- a plan that may be accepted is refused for want of memory alone
+pub only_memory : (p : Plan) (cause : CheckRefused) → IsCause p cause → IsAccepted p → cause ≡ why.Memory
+only_memory p (why.Limit word) is a = absurd (let c : Some word ≡ None = sym is ∙ (passes_all p a).before.before.before.before.before.before.before.before.limits in cc)
+only_memory p (why.PortTwice port) is a = absurd (let c : Some port ≡ None = sym is.1 ∙ (passes_all p a).before.before.before.before.before.before.before.once in cc)
+only_memory p (why.PortMissing port) is a = absurd (let c : Some port ≡ None = sym is.1 ∙ (passes_all p a).before.before.before.before.before.before.ports in cc)
+only_memory p (why.BlockTwice node block) is a = absurd (let c : Some (node, block) ≡ None = sym is.1 ∙ (passes_all p a).before.before.before.before.before.blocks in cc)
+only_memory p (why.Table n fault) is a = absurd (by is.1.is (a.tables n is.1.plan is.1.there))
   where
     by : IsSwitchFault p n is.1.plan fault → IsLawfulSwitch p n is.1.plan → ⊥
-    by (inl bad) good = absurd (let c : Some fault ≡ None = sym bad ∙ good.table in cc)
+    by (inl bad) good = absurd (let c : Some fault ≡ None = sym bad ∙ (faultless_are_lawful is.1.plan.rows).1 good.table in cc)
     by (inr bad) good = bad.2 good.wired
-refuted p (why.NoInterval f) m is a = leads-astray p p.vlinks _ is.1 a.labelled
-refuted p (why.WrongEnd f) m is a = leads-astray p p.vlinks _ is.1 a.labelled
-refuted p (why.StackEmpty f) m is a = leads-astray p p.vlinks _ is.1 a.labelled
-refuted p (why.StackFull f) m is a = leads-astray p p.vlinks _ is.1.1.1 a.labelled
-refuted p (why.Hops f) m is a = leads-astray p p.vlinks _ is.1 a.labelled
-refuted p (why.SameNode n) m is a = a.apart n is.1.vlink is.1.there is.1.is
-refuted p (why.Channel n) m is a = absurd (let c : Some n ≡ None = sym is.1 ∙ a.passes.before.channels in cc)
-refuted p (why.Usage n name) m is a = unlawful _ is.1.is.offence is.1.is.is (a.lawful_use n is.1.node is.1.there)
-refuted p why.Memory m is a = m refl
+only_memory p (why.NoInterval f) is a = absurd (leads-astray p p.vlinks _ is.1 a.labelled)
+only_memory p (why.WrongEnd f) is a = absurd (leads-astray p p.vlinks _ is.1 a.labelled)
+only_memory p (why.StackEmpty f) is a = absurd (leads-astray p p.vlinks _ is.1 a.labelled)
+only_memory p (why.StackFull f) is a = absurd (leads-astray p p.vlinks _ is.1.1.1 a.labelled)
+only_memory p (why.Hops f) is a = absurd (leads-astray p p.vlinks _ is.1 a.labelled)
+only_memory p (why.SameNode n) is a = absurd (a.apart n is.1.vlink is.1.there is.1.is)
+only_memory p (why.Channel n) is a = absurd (let c : Some n ≡ None = sym is.1 ∙ (passes_all p a).before.channels in cc)
+only_memory p (why.Usage n name) is a = absurd (unlawful _ is.1.is.offence is.1.is.is (a.lawful_use n is.1.node is.1.there))
+only_memory p why.Memory is a = refl
+
+refuted : (p : Plan) (cause : CheckRefused) → cause ≢ why.Memory → IsCause p cause → IsAccepted p → ⊥
+refuted p cause other is acc = other (only_memory p cause is acc)
 
 -- an order of choices in which none is before itself
 ValueBefore-itself : (v : Option ℕ) → ValueBefore v v → ⊥

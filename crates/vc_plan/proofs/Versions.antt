@@ -1,8 +1,7 @@
 -- Nothing but one limit asks for a plan's version.
 use mathlib.Core.Path.{fun_ext}
-use Rattle.std.proofs.Common.{◌≡◌, ℕ, zero, suc, Bool, true, false, ◌&&◌, ◌||◌, ◌==◌, List, [], ◌∷◌, length, Option, Some, None, refl, sym, ap, ap₂, subst, ◌∙◌, if◌then◌else◌, nat_le, slice_get}
+use Rattle.std.proofs.Common.{◌≡◌, ℕ, zero, suc, Bool, true, false, ◌&&◌, ◌||◌, ◌==◌, List, [], ◌∷◌, length, Option, Some, None, refl, sym, ap, ap₂, subst, ◌∙◌, nat_le, slice_get}
 use Rattle.std.specs.List.{list_all}
-use Rattle.std.specs.Option.{option_or}
 use Rattle.vc_labels.specs.declared.action.Action.{Action}
 use Rattle.vc_labels.specs.declared.action.Action.TheVariants.{Out, Portal}
 use Rattle.vc_process.specs.declared.channel_use.ChannelUse.{ChannelUse}
@@ -19,8 +18,7 @@ use Rattle.vc_plan.specs.declared.port.Spot.{Spot}
 use Rattle.vc_plan.specs.declared.port.Spot.TheVariants.{Node, Switch}
 use Rattle.vc_plan.specs.declared.port.Wire.{Wire}
 use Rattle.vc_plan.specs.declared.vlink.End.{End}
-use Rattle.vc_plan.specs.Accepted.{IsAccepted}
-use Rattle.vc_plan.specs.Check.{HasLawfulTables, PassesUse, channel_fault, channel_used, has_end, kind_fits, misused_from, use_ok, uses_of, way_twice, wrong_use}
+use Rattle.vc_plan.specs.Accepted.{HasLawfulTables, IsAccepted, IsAtEnd, IsRightUse}
 use Rattle.vc_plan.specs.Delivery.{Delivers, IsLabelled, IsWellAt}
 use Rattle.vc_plan.specs.Hops.{IsHop}
 use Rattle.vc_plan.specs.Limits.{depth_ok, ends_there, home_there, limit_broken, links_ok, message_ok, names_ok, number_broken, number_ok, part_broken, parts_ok, process_broken, process_names, random_ok, routes_ok, rows_ok, spot_there, unless_ok, vars_ok, version_ok}
@@ -74,27 +72,12 @@ module _ (p : Plan) (v : ℕ) where
   limit_same e is = ap (λ z. unless_ok (version_ok (with_version p v)) word.Version (other_broken z)) part_same ∙ unbroken (version_ok p) (version_ok (with_version p v)) e is
 
   -- processes use the same channels
-  end_same : (h : Home) (is_output : Bool) (n : ℕ) → has_end (with_version p v) h is_output n ≡ has_end p h is_output n
-  end_same (Way k from_a) is_output n = refl
-  end_same (Inside m) is_output n = refl
+  end_same : (h : Home) (is_output : Bool) (n : ℕ) → IsAtEnd p h is_output n → IsAtEnd (with_version p v) h is_output n
+  end_same (Way k from_a) is_output n e = e
+  end_same (Inside m) is_output n e = e
 
-  used_same : (n : ℕ) (u : ChannelUse) (c : Option Channel) → channel_used (with_version p v) n u c ≡ channel_used p n u c
-  used_same n u None = refl
-  used_same n u (Some c) = ap (λ b. b && kind_fits u.kind c.kind) (end_same c.home u.is_output n)
-
-  use_same : (n : ℕ) (u : ChannelUse) → use_ok (with_version p v) n u ≡ use_ok p n u
-  use_same n u = used_same n u (slice_get p.channels u.chan)
-
-  wrong_same : (n : ℕ) (us : List ChannelUse) → wrong_use (with_version p v) n us ≡ wrong_use p n us
-  wrong_same n [] = refl
-  wrong_same n (u ∷ us) = ap₂ (λ b z. if b then z else Some u.chan) (use_same n u) (wrong_same n us)
-
-  misused_same : (n : ℕ) (nodes : List NodePlan) → misused_from (with_version p v) n nodes ≡ misused_from p n nodes
-  misused_same n [] = refl
-  misused_same n (node ∷ nodes) = ap₂ (λ x z. option_or x z) (wrong_same n (uses_of node)) (misused_same (suc n) nodes)
-
-  channel_same : channel_fault (with_version p v) ≡ channel_fault p
-  channel_same = ap (λ z. option_or (way_twice p.channels) z) (misused_same 0 p.nodes)
+  use_same : (n : ℕ) (u : ChannelUse) → IsRightUse p n u → IsRightUse (with_version p v) n u
+  use_same n u r = record { channel = r.channel; there = r.there; at_end = end_same r.channel.home u.is_output n r.at_end; kind = r.kind }
 
   -- tables lead by the same wires
   wired_same : (n : ℕ) (a : Action) → IsWiredAction p n a → IsWiredAction (with_version p v) n a
@@ -132,38 +115,9 @@ module _ (p : Plan) (v : ℕ) where
       let l = h k x at in
       record { there = λ q far. delivers_same p v x.b 32 q x.a.route (l.there q far); back = λ q far. delivers_same p v x.a 32 q x.b.route (l.back q far) }
 
-  passes_same : PassesUse p → version_ok (with_version p v) ≡ true → PassesUse (with_version p v)
-  passes_same h is =
-      let channels = h.before in
-      let nodes = channels.before in
-      let paths = nodes.before in
-      let tables = paths.before in
-      let blocks = tables.before in
-      let ports = blocks.before in
-      let wires = ports.before in
-      record {
-        before = record {
-          before = record {
-            before = record {
-              before = record {
-                before = record {
-                  before = record { before = record { before = record { limits = limit_same p v wires.before.limits is }; once = wires.once }; ports = ports.ports };
-                  blocks = blocks.blocks;
-                };
-                tables = tables_same p v tables.tables;
-              };
-              labelled = labelled_same paths.labelled;
-            };
-            apart = nodes.apart;
-          };
-          channels = channel_same p v ∙ channels.channels;
-        };
-        lawful = h.lawful;
-      }
-
   accepted_same : IsAccepted p → version_ok (with_version p v) ≡ true → IsAccepted (with_version p v)
   accepted_same h is = record {
-    passes = passes_same h.passes is;
+    limits = limit_same p v h.limits is;
     one_port = h.one_port;
     sends = h.sends;
     one_end = h.one_end;
@@ -171,7 +125,7 @@ module _ (p : Plan) (v : ℕ) where
     labelled = labelled_same h.labelled;
     apart = h.apart;
     one_channel = h.one_channel;
-    uses = λ n k node u at used. use_same p v n u ∙ h.uses n k node u at used;
+    uses = λ n k node u at used. use_same p v n u (h.uses n k node u at used);
     lawful_use = h.lawful_use;
   }
 

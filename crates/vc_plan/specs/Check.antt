@@ -5,9 +5,9 @@ use Rattle.std.specs.Option.{option_or}
 use Rattle.vc_labels.specs.declared.fault.TableFault.{TableFault}
 use Rattle.vc_labels.specs.declared.fault.TableFault.TheVariants.{BadLink}
 use Rattle.vc_labels.specs.Fault.{table_fault}
+use Rattle.vc_labels.specs.Lawful.{IsLawful}
 use Rattle.vc_process.specs.declared.value_kind.ValueKind.{ValueKind}
 use Rattle.vc_process.specs.declared.channel_use.ChannelUse.{ChannelUse}
-use Rattle.vc_process.specs.ChannelUses.{channel_uses}
 use Rattle.vc_process.specs.Lawful.{Lawfully, Offence, channel, variable, FirstOffence}
 use Rattle.vc_process.specs.Limits.{same_kind}
 use Rattle.vc_process.specs.Numbering.{written}
@@ -29,7 +29,8 @@ use Rattle.vc_plan.specs.declared.labelling.Astray.{Astray}
 use Rattle.vc_plan.specs.declared.check_refused.CheckRefused.{CheckRefused}
 use Rattle.vc_plan.specs.declared.check_refused.CheckRefused.TheVariants as why
 use Rattle.vc_plan.specs.Labelling.{IsFirstFault}
-use Rattle.vc_plan.specs.Limits.{kinds_of, limit_broken}
+use Rattle.vc_plan.specs.Accepted.{AreApart, AreLawful, HasLawfulTables, IsLawfulSwitch, uses_of}
+use Rattle.vc_plan.specs.Limits.{limit_broken}
 use Rattle.vc_plan.specs.Delivery.{IsLabelled}
 use Rattle.vc_plan.specs.Wires.{same_port, AreWiredRows, across, sending_port, switch_at}
 
@@ -69,18 +70,10 @@ blocks (v ∷ vs) = block_of v.a ∷ block_of v.b ∷ blocks vs
 abbrev pub block_twice : List Vlink → Option (ℕ × ℕ)
 block_twice vlinks = repeated same_block [] (blocks vlinks)
 
--- a switch's table is lawful, and each link of its groups has a wire
-pub record IsLawfulSwitch (p : Plan) (n : ℕ) (plan : SwitchPlan) : Type 0 where
-  pub table : table_fault plan.rows ≡ None
-  pub wired : AreWiredRows p n plan.rows
-
 -- the table's fault, or else a link without a wire
 abbrev pub IsSwitchFault : Plan → ℕ → SwitchPlan → TableFault → Type 0
 IsSwitchFault p n plan fault =
-    (table_fault plan.rows ≡ Some fault) ⊎ ((table_fault plan.rows ≡ None) × (fault ≡ BadLink) × ¬ AreWiredRows p n plan.rows)
-
-abbrev pub HasLawfulTables : Plan → Type 0
-HasLawfulTables p = (n : ℕ) (plan : SwitchPlan) → switch_at p n ≡ Some plan → IsLawfulSwitch p n plan
+    (table_fault plan.rows ≡ Some fault) ⊎ (IsLawful plan.rows × (fault ≡ BadLink) × ¬ AreWiredRows p n plan.rows)
 
 -- the first switch with a fault
 pub record IsFirstTable (p : Plan) (n : ℕ) (fault : TableFault) : Type 0 where
@@ -88,9 +81,6 @@ pub record IsFirstTable (p : Plan) (n : ℕ) (fault : TableFault) : Type 0 where
   pub there : switch_at p n ≡ Some plan
   pub is : IsSwitchFault p n plan fault
   pub earlier : (k : ℕ) (other : SwitchPlan) → k < n → switch_at p k ≡ Some other → IsLawfulSwitch p k other
-
-abbrev pub AreApart : List Vlink → Type 0
-AreApart vs = (k : ℕ) (v : Vlink) → slice_get vs k ≡ Some v → v.a.node ≢ v.b.node
 
 pub record IsFirstSameNode (vs : List Vlink) (n : ℕ) : Type 0 where
   pub vlink : Vlink
@@ -148,9 +138,6 @@ abbrev pub wrong_use : Plan → ℕ → List ChannelUse → Option ℕ
 wrong_use p n [] = None
 wrong_use p n (u ∷ us) = if use_ok p n u then wrong_use p n us else Some u.chan
 
-abbrev pub uses_of : NodePlan → List ChannelUse
-uses_of node = channel_uses (kinds_of node.vars) (written node.process)
-
 -- the same, node by node, of these that are numbered from n on
 abbrev pub misused_from : Plan → ℕ → List NodePlan → Option ℕ
 misused_from p n [] = None
@@ -181,10 +168,6 @@ pub record IsUsage (p : Plan) (node : NodePlan) (name : List ℕ) : Type 0 where
   pub offence : Offence
   pub is : FirstOffence (written node.process) offence
   pub named : offence_name p node offence ≡ Some name
-
--- each process uses its channels and variables lawfully
-abbrev pub AreLawful : Plan → Type 0
-AreLawful p = (n : ℕ) (node : NodePlan) → slice_get p.nodes n ≡ Some node → Lawfully (written node.process)
 
 -- the first node whose process doesn't
 pub record IsFirstUsage (p : Plan) (n : ℕ) (name : List ℕ) : Type 0 where

@@ -1,8 +1,9 @@
 //! The checker: a plan is accepted, or refused for the first thing that is wrong.
-ghost use Rattle.std.specs.Prelude.{◌≡◌, ◌==◌, ◌+◌, ◌<◌, ◌≤◌, IfNone, IfOk, IfSome, MatchOption, MatchResult, None, Some, length, true};
+ghost use Rattle.std.specs.Prelude.{◌≡◌, ◌==◌, ◌+◌, ◌<◌, ◌≤◌, IfErr, IfNone, IfOk, IfSome, MatchOption, MatchResult, None, Some, length, true};
 ghost use Rattle.std.specs.List.{list_all, list_any};
-ghost use Rattle.vc_plan.specs.Accepted.{IsAccepted};
-ghost use Rattle.vc_plan.specs.Check.{AreApart, HasLawfulTables, IsCause, IsFirstSameNode, IsFirstTable, IsLawfulSwitch, IsRefusedPath, IsSwitchFault, PassesPaths, PassesTables, PassesUse, block_twice as twice_block, channel_fault as fault_of_channels, has_end as end_there, kind_fits as fits_kind, misused_from, end_is_at as is_end_at, port_missing, port_twice, same_block, same_bool as is_same_bool, same_way as is_same_way, unwired_port, use_ok as is_use_ok, uses_of, way_twice, wrong_use};
+ghost use Rattle.vc_plan.specs.Accepted.{IsAccepted, AreApart, HasLawfulTables, IsLawfulSwitch, uses_of};
+ghost use Rattle.vc_plan.specs.Check.{IsCause, IsFirstSameNode, IsFirstTable, IsRefusedPath, IsSwitchFault, PassesPaths, PassesTables, PassesUse, block_twice as twice_block, channel_fault as fault_of_channels, has_end as end_there, kind_fits as fits_kind, misused_from, end_is_at as is_end_at, port_missing, port_twice, same_block, same_bool as is_same_bool, same_way as is_same_way, unwired_port, use_ok as is_use_ok, way_twice, wrong_use};
+ghost use Rattle.vc_plan.specs.declared.check_refused.CheckRefused.TheVariants as refused;
 ghost use Rattle.vc_plan.specs.Limits.{limit_broken};
 ghost use Rattle.vc_plan.specs.Wires.{across, same_port};
 
@@ -365,11 +366,13 @@ fn find_refusal(alloc: Global, plan: &Plan) -> Result<Option<CheckRefused>, Memo
     }
 }
 
-/// Accepts exactly the plans that keep the limits, deliver on every path and give no other cause for a refusal; else it gives
-/// the plan back with the first thing that is wrong. Want of memory refuses too.
+/// Accepts exactly the plans that may be accepted: those that keep the limits, deliver on every path and give no other cause for a
+/// refusal. Else it gives the plan back with the first thing that is wrong. A plan that may be accepted is refused only where there
+/// was no memory for the check.
 pub fn check(alloc: Global, plan: Plan) -> Result<Accepted, Refusal>
-    ensures { MatchResult result (λ accepted. (accepted ≡ plan) × IsAccepted plan)
+    ensures verdict { MatchResult result (λ accepted. (accepted ≡ plan) × IsAccepted plan)
         (λ refusal. (refusal.plan ≡ plan) × IsCause plan refusal.why) }
+    ensures exact { IfErr result (λ refusal. IsAccepted plan → refusal.why ≡ refused.Memory) }
 {
     match find_refusal(alloc, &plan) {
         Ok(None) => Ok(Accepted::of(plan)),

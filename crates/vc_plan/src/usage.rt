@@ -4,7 +4,8 @@ ghost use Rattle.std.specs.List.{list_all};
 ghost use Rattle.vc_process.specs.Lawful.{Lawfully};
 ghost use Rattle.vc_process.specs.Numbering.{written};
 ghost use Rattle.vc_process.specs.UseFaults.{IsUseFault};
-ghost use Rattle.vc_plan.specs.Check.{AreLawful, IsFirstUsage, IsUsage, channel_name, variable_name};
+ghost use Rattle.vc_plan.specs.Check.{IsFirstUsage, IsUsage, channel_name, variable_name};
+ghost use Rattle.vc_plan.specs.Accepted.{AreLawful};
 ghost use Rattle.vc_plan.specs.Limits.{process_names};
 
 use crate::channel::Channel;

@@ -12,10 +12,11 @@ use Rattle.vc_occam.proofs.Kinded.{begins_sound}
 use Rattle.vc_plan.specs.declared.channel.Channel.{Channel}
 use Rattle.vc_plan.specs.declared.node_plan.NodePlan.{NodePlan}
 use Rattle.vc_plan.specs.declared.plan.Plan.{Plan}
-use Rattle.vc_plan.specs.Accepted.{IsAccepted}
-use Rattle.vc_plan.specs.Check.{has_end, kind_fits, channel_used, use_ok, uses_of}
+use Rattle.vc_plan.specs.Accepted.{IsAccepted, uses_of}
+use Rattle.vc_plan.specs.Check.{has_end, kind_fits, channel_used, use_ok}
 use Rattle.vc_plan.specs.Limits.{kinds_of, wire_there, ends_there, home_there, process_names}
 use Rattle.vc_plan.proofs.Limited.{passes}
+use Rattle.vc_plan.proofs.Passed.{uses_are_ok}
 use Rattle.vc_accepted.proofs.Limited.{kept}
 use Rattle.vc_accepted.proofs.Listed.{both}
 use Rattle.vc_told.specs.Begin.{node_plan, no_node, begin_of}
@@ -64,6 +65,6 @@ begins_good p acc n less =
     record {
       lawful = begins (written node.process) (acc.lawful_use n node here);
       sound = begins_sound (kind_on p) kinds (written node.process)
-          (kinded (kind_on p) kinds (length p.channels) (written node.process) (named p acc n node here) (uses_kinded p n (uses_of node) (λ k u e. acc.uses n k node u here e)));
+          (kinded (kind_on p) kinds (length p.channels) (written node.process) (named p acc n node here) (uses_kinded p n (uses_of node) (λ k u e. uses_are_ok p acc n k node u here e)));
       store = empty_kinded (kind_on p) kinds;
     }

@@ -4,6 +4,7 @@ use Rattle.vc_packets.specs.declared.memory.Memory.{Memory}
 use Rattle.vc_plan.specs.declared.check_refused.CheckRefused.{CheckRefused}
 use Rattle.vc_plan.specs.declared.plan.Plan.{Plan}
 use Rattle.vc_plan.specs.Check.{PassesUse}
+use Rattle.vc_plan.proofs.Refuting.{only_memory}
 use Rattle.vc_plan.proofs.checker.check.Goals as goal
 
 passed : (p : Plan) (found : Result (Option CheckRefused) Memory) → IfOk found (λ f. IfNone f (PassesUse p)) → found ≡ Ok None → PassesUse p
@@ -11,3 +12,6 @@ passed p found h e = rw e at h
 
 pub of-requires : goal.of-requires
 of-requires c = passed c.args.plan c.find_refusal.result c.find_refusal.ensures.passes (cc)
+
+pub returns-in-Ok-Some-clause-exact : goal.returns-in-Ok-Some-clause-exact
+returns-in-Ok-Some-clause-exact c = λ acc. only_memory c.args.plan c.in-Ok-Some.why (rw c.in-Ok-Some.field-0-is at c.in-Ok-Some.ensures.cause) acc

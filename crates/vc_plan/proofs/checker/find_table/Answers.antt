@@ -1,5 +1,5 @@
 use Rattle.std.proofs.Common.{◌≡◌, ◌<◌, length, get_or, arith, ap}
-use Rattle.vc_plan.specs.Check.{IsLawfulSwitch}
+use Rattle.vc_plan.specs.Accepted.{IsLawfulSwitch}
 use Rattle.vc_plan.proofs.Fitting.{in-byte}
 use Rattle.vc_plan.proofs.Indexed.{there-at, each-more, each-all}
 use Rattle.vc_plan.proofs.checker.find_table.Goals as goal

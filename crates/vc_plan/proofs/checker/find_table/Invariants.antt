@@ -1,7 +1,7 @@
 use Rattle.std.proofs.Common.{◌≡◌, ℕ, ◌<◌, Some}
 use Rattle.vc_plan.specs.declared.switch_plan.SwitchPlan.{SwitchPlan}
 use Rattle.vc_plan.specs.Wires.{switch_at}
-use Rattle.vc_plan.specs.Check.{IsLawfulSwitch}
+use Rattle.vc_plan.specs.Accepted.{IsLawfulSwitch}
 use Rattle.vc_plan.proofs.checker.find_table.Given as goal
 
 abbrev pub invariant-loop-n : goal.invariant-loop-n
