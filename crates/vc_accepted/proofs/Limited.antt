@@ -11,12 +11,13 @@ use Rattle.vc_plan.specs.declared.vlink.Vlink.{Vlink}
 use Rattle.vc_plan.specs.Accepted.{IsAccepted, end_of}
 use Rattle.vc_plan.specs.Limits.{switch_in_version_one, is_empty, route_ok, routes_ok, random_ok, range_ok, links_differ, home_there, wire_there, ends_there, process_names}
 use Rattle.vc_plan.specs.Hops.{random_at}
+use Rattle.vc_plan.proofs.KeptLimits.{limits_of}
 use Rattle.vc_plan.proofs.Limited.{keeps, passes, Keeps}
 use Rattle.vc_accepted.specs.NetworkOf.{headers_of}
 use Rattle.vc_accepted.proofs.Listed.{both}
 
 pub kept : (p : Plan) → IsAccepted p → Keeps p
-kept p acc = keeps p acc.limits
+kept p acc = keeps p (limits_of p acc)
 
 either : (a b : Bool) → (a || b) ≡ true → a ≡ false → b ≡ true
 either true b h e = absurd (cc)

@@ -13,6 +13,7 @@ use Rattle.vc_plan.specs.Hops.{LimitsFit}
 use Rattle.vc_plan.specs.Limits.{wire_ok, port_ok, link_ok, ends_ok, switch_links_ok, wire_there, spot_there, ends_there, home_there, process_names}
 use Rattle.vc_plan.specs.Wires.{across, same_port}
 use Rattle.vc_plan.proofs.Frontier.{port-same}
+use Rattle.vc_plan.proofs.KeptLimits.{limits_of}
 use Rattle.vc_plan.proofs.Limited.{Keeps, keeps, both, limits-fit}
 use Rattle.vc_cycles.specs.Graph.{number, number_at, port_at}
 
@@ -81,10 +82,10 @@ on_wires p (w ∷ ws) a q ok there e =
     go rest false false s t r = rest r
 
 pub kept : (p : Plan) → IsAccepted p → Keeps p
-kept p acc = keeps p acc.limits
+kept p acc = keeps p (limits_of p acc)
 
 pub limits : (p : Plan) → IsAccepted p → LimitsFit p
-limits p acc = limits-fit p acc.limits
+limits p acc = limits-fit p (limits_of p acc)
 
 fits_all : (p : Plan) (acc : IsAccepted p) (a q : Port) → across p.wires a ≡ Some q → Fits p a
 fits_all p acc a q e =

@@ -15,7 +15,8 @@ use Rattle.vc_one_node.proofs.LawfulKept.{lawful_kept, changes_from, uses_from}
 use Rattle.vc_one_node.specs.Fits.{fits_one_node, IsSize, IsSizeLimit, OneNodeIsAccepted, OnlySizesRefuseIt}
 use Rattle.vc_plan.proofs.Accepting.{accepted}
 use Rattle.vc_plan.proofs.Refuting.{right}
-use Rattle.vc_plan.proofs.Limited.{both, keeps, names-fit, passes, Keeps}
+use Rattle.vc_plan.proofs.KeptLimits.{limits_of}
+use Rattle.vc_plan.proofs.Limited.{both, keeps, names-fit, passes, unbroken, Keeps}
 use Rattle.vc_plan.proofs.Passed.{uses_are_ok}
 use Rattle.vc_plan.specs.Accepted.{IsAccepted, uses_of}
 use Rattle.vc_plan.specs.Check.{IsCause, PassesLimits, PassesUse, block_twice, misused, misused_from, port_missing, port_twice, way_twice, same_way, way_twice_from, has_end, end_is_at, end_is_there, kind_fits, channel_used, use_ok, wrong_use, same_bool}
@@ -80,17 +81,6 @@ no_way_twice : (n : ℕ) (seen : List Home) (cs : List Channel) → way_twice_fr
 no_way_twice n seen [] = refl
 no_way_twice n seen (c ∷ cs) = ap (λ b. if b then Some n else way_twice_from (suc n) (seen ++ Inside 0 ∷ []) (map inside cs)) (no_way seen) ∙ no_way_twice (suc n) (seen ++ Inside 0 ∷ []) cs
 
--- what breaks no limit
-ok_then : (b : Bool) (w : LimitWord) (next : Option LimitWord) → b ≡ true → next ≡ None → unless_ok b w next ≡ None
-ok_then true w next h g = g
-ok_then false w next h g = absurd (true≢false (sym h))
-
-unbroken : (p : Plan) → Keeps p → limit_broken p ≡ None
-unbroken p k =
-    ok_then _ _ _ k.version (ok_then _ _ _ k.nodes (ok_then _ _ _ k.switches (ok_then _ _ _ k.wires (ok_then _ _ _ k.vlinks (ok_then _ _ _ k.channels
-    (ok_then _ _ _ k.vars (ok_then _ _ _ k.rows (ok_then _ _ _ k.routes (ok_then _ _ _ k.links (ok_then _ _ _ k.random
-    (ok_then _ _ _ k.depth (ok_then _ _ _ k.parts (ok_then _ _ _ k.message (ok_then _ _ _ k.number (ok_then _ _ _ k.names refl)))))))))))))))
-
 -- a test that passes is not the first that is broken, and one that does not pass is
 past : (b : Bool) (v w : LimitWord) (next : Option LimitWord) → b ≡ true → unless_ok b v next ≡ Some w → next ≡ Some w
 past true v w next e h = h
@@ -116,7 +106,7 @@ one_end p (Inside m) o i j h g = sym (eqb-true m i h) ∙ eqb-true m j g
 
 module _ (p : Plan) (acc : IsAccepted p) (one : Plan) (is : IsOneNodeOf p one) where
   kept : Keeps p
-  kept = keeps p acc.limits
+  kept = keeps p (limits_of p acc)
 
   abbrev big : List ValueKind
   big = kinds_of (all_vars p.nodes)
@@ -508,7 +498,7 @@ module _ (p : Plan) (acc : IsAccepted p) (one : Plan) (is : IsOneNodeOf p one) w
     }
 
 pub one_accepted : OneNodeIsAccepted
-one_accepted p one acc is = (λ ok. fits_where_kept p acc one is (keeps one ok.limits), λ fits. accepted one (passes_use p acc one is fits))
+one_accepted p one acc is = (λ ok. fits_where_kept p acc one is (keeps one (limits_of one ok)), λ fits. accepted one (passes_use p acc one is fits))
 
 -- a cause but a limit comes behind all limits
 kept_before : (p : Plan) (cause : CheckRefused) → ((w : LimitWord) → cause ≡ why.Limit w → ⊥) → cause ≢ why.Memory → IsCause p cause → PassesLimits p

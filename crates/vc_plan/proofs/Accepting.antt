@@ -18,6 +18,8 @@ use Rattle.vc_plan.specs.declared.node_plan.NodePlan.{NodePlan}
 use Rattle.vc_plan.specs.Accepted.{IsAccepted, port_of, end_of, uses_of}
 use Rattle.vc_plan.specs.Check.{PassesUse, repeated, ports, port_twice, unwired_port, port_missing, block_of, same_block, blocks, block_twice, same_bool, same_way, way_twice_from, way_twice, misused_from, misused, wrong_use, use_ok}
 use Rattle.vc_plan.specs.Wires.{across, same_port, same_spot, sending_port}
+use Rattle.vc_plan.proofs.KeptLimits.{tests_are}
+use Rattle.vc_plan.proofs.Limited.{keeps}
 use Rattle.vc_plan.proofs.Uses.{use_right}
 
 pub none-else : {X : Type 0} (b : Bool) (x : X) (o : Option X) → (if b then Some x else o) ≡ None → (b ≡ false) × (o ≡ None)
@@ -236,7 +238,7 @@ accepted p h =
     let wires = ports.before in
     let channels = none-first (way_twice p.channels) (misused p) used.channels in
     record {
-      limits = wires.before.limits;
+      limits = tests_are p (keeps p wires.before.limits);
       one_port = λ i j v w a b e f is. ports-differ p.wires wires.once i j v w a b e f is (order i a j b);
       sends = end-sends p.wires p.vlinks ports.ports;
       one_end = λ i j v w a b e f m n. blocks-differ p.vlinks blocks.blocks i j v w a b e f (λ k. (m k, n k)) (order i a j b);

@@ -70,6 +70,16 @@ keeps p h =
       names = r.0;
     }
 
+ok_then : (b : Bool) (w : LimitWord) (next : Option LimitWord) → b ≡ true → next ≡ None → unless_ok b w next ≡ None
+ok_then true w next h g = g
+ok_then false w next h g = absurd cc
+
+pub unbroken : (p : Plan) → Keeps p → limit_broken p ≡ None
+unbroken p k =
+    ok_then _ _ _ k.version (ok_then _ _ _ k.nodes (ok_then _ _ _ k.switches (ok_then _ _ _ k.wires (ok_then _ _ _ k.vlinks (ok_then _ _ _ k.channels
+    (ok_then _ _ _ k.vars (ok_then _ _ _ k.rows (ok_then _ _ _ k.routes (ok_then _ _ _ k.links (ok_then _ _ _ k.random
+    (ok_then _ _ _ k.depth (ok_then _ _ _ k.parts (ok_then _ _ _ k.message (ok_then _ _ _ k.number (ok_then _ _ _ k.names refl)))))))))))))))
+
 pub both : (a b : Bool) → (a && b) ≡ true → (a ≡ true) × (b ≡ true)
 both true b h = (refl, h)
 both false b h = absurd cc

@@ -1,5 +1,5 @@
 -- What may be accepted passes each test of the checker.
-use Rattle.std.proofs.Common.{◌≡◌, ℕ, zero, suc, ◌<◌, ◌+◌, Bool, true, false, ◌||◌, ◌==◌, ◌&&◌, List, [], ◌∷◌, ◌++◌, Option, Some, None, refl, sym, ap, ap₂, ◌∙◌, subst, arith, zero-add, if◌then◌else◌}
+use Rattle.std.proofs.Common.{◌≡◌, ℕ, zero, suc, ◌<◌, ◌+◌, Bool, true, false, ◌||◌, ◌==◌, List, [], ◌∷◌, ◌++◌, Option, Some, None, refl, sym, ap, ap₂, ◌∙◌, subst, arith, zero-add, if◌then◌else◌}
 use Rattle.std.proofs.lemmas.Bool.{eqb-true}
 use Rattle.std.specs.Prelude.{slice_get, IsSome, is_some}
 use Rattle.std.specs.List.{list_any}
@@ -18,6 +18,7 @@ use Rattle.vc_plan.specs.Check.{PassesUse, repeated, ports, port_twice, unwired_
 use Rattle.vc_plan.specs.Wires.{across, same_port, sending_port}
 use Rattle.vc_plan.proofs.Accepting.{homes, neither, none-else, place}
 use Rattle.vc_plan.proofs.Frontier.{port-same}
+use Rattle.vc_plan.proofs.KeptLimits.{limits_of}
 use Rattle.vc_plan.proofs.Limited.{both}
 use Rattle.vc_plan.proofs.Uses.{right_use}
 
@@ -176,7 +177,7 @@ passes_all p acc = record {
           before = record {
             before = record {
               before = record {
-                before = record { limits = acc.limits };
+                before = record { limits = limits_of p acc };
                 once = ports-once p acc;
               };
               ports = none-missing p.wires p.vlinks acc.sends;

@@ -1,6 +1,6 @@
 -- Nothing but one limit asks for a plan's version.
 use mathlib.Core.Path.{fun_ext}
-use Rattle.std.proofs.Common.{◌≡◌, ℕ, zero, suc, Bool, true, false, ◌&&◌, ◌||◌, ◌==◌, List, [], ◌∷◌, length, Option, Some, None, refl, sym, ap, ap₂, subst, ◌∙◌, nat_le, slice_get}
+use Rattle.std.proofs.Common.{◌≡◌, ℕ, zero, suc, Bool, true, false, ◌&&◌, ◌||◌, ◌==◌, List, length, Option, None, refl, sym, ap, ap₂, subst, ◌∙◌, nat_le}
 use Rattle.std.specs.List.{list_all}
 use Rattle.vc_labels.specs.declared.action.Action.{Action}
 use Rattle.vc_labels.specs.declared.action.Action.TheVariants.{Out, Portal}
@@ -10,7 +10,6 @@ use Rattle.vc_plan.specs.declared.channel.Home.{Home}
 use Rattle.vc_plan.specs.declared.channel.Home.TheVariants.{Way, Inside}
 use Rattle.vc_plan.specs.declared.limit_word.LimitWord.{LimitWord}
 use Rattle.vc_plan.specs.declared.limit_word.LimitWord.TheVariants as word
-use Rattle.vc_plan.specs.declared.node_plan.NodePlan.{NodePlan}
 use Rattle.vc_plan.specs.declared.path_fault.Hop.{Hop}
 use Rattle.vc_plan.specs.declared.plan.Plan.{Plan}
 use Rattle.vc_plan.specs.declared.port.Port.{Port}
@@ -22,6 +21,8 @@ use Rattle.vc_plan.specs.Accepted.{HasLawfulTables, IsAccepted, IsAtEnd, IsRight
 use Rattle.vc_plan.specs.Delivery.{Delivers, IsLabelled, IsWellAt}
 use Rattle.vc_plan.specs.Hops.{IsHop}
 use Rattle.vc_plan.specs.Limits.{depth_ok, ends_there, home_there, limit_broken, links_ok, message_ok, names_ok, number_broken, number_ok, part_broken, parts_ok, process_broken, process_names, random_ok, routes_ok, rows_ok, spot_there, unless_ok, vars_ok, version_ok}
+use Rattle.vc_plan.proofs.KeptLimits.{limits_of, tests_are}
+use Rattle.vc_plan.proofs.Limited.{keeps}
 use Rattle.vc_plan.specs.Versions.{IsVersionOne, version_two, VersionsAgree}
 use Rattle.vc_plan.specs.Wires.{IsWiredAction}
 
@@ -117,7 +118,7 @@ module _ (p : Plan) (v : ℕ) where
 
   accepted_same : IsAccepted p → version_ok (with_version p v) ≡ true → IsAccepted (with_version p v)
   accepted_same h is = record {
-    limits = limit_same p v h.limits is;
+    limits = tests_are (with_version p v) (keeps (with_version p v) (limit_same p v (limits_of p h) is));
     one_port = h.one_port;
     sends = h.sends;
     one_end = h.one_end;

@@ -17,7 +17,8 @@ use Rattle.vc_plan.specs.declared.channel.Home.TheVariants.{Way, Inside}
 use Rattle.vc_plan.specs.declared.node_plan.NodePlan.{NodePlan}
 use Rattle.vc_plan.specs.declared.switch_plan.SwitchPlan.{SwitchPlan}
 use Rattle.vc_plan.specs.Delivery.{IsLabelled}
-use Rattle.vc_plan.specs.Limits.{kinds_of, limit_broken}
+use Rattle.vc_plan.specs.KeptLimits.{KeepsLimits}
+use Rattle.vc_plan.specs.Limits.{kinds_of}
 use Rattle.vc_plan.specs.Wires.{AreWiredRows, across, sending_port, switch_at}
 
 -- port one or port two of a wire
@@ -69,7 +70,7 @@ AreLawful p = (n : ℕ) (node : NodePlan) → slice_get p.nodes n ≡ Some node 
 
 pub record IsAccepted (p : Plan) : Type 0 where
   -- it keeps each limit
-  pub limits : limit_broken p ≡ None
+  pub limits : KeepsLimits p
   -- no port is on two wires, or at both ends of one
   pub one_port : (i j : ℕ) (v w : Wire) (a b : Bool) → slice_get p.wires i ≡ Some v → slice_get p.wires j ≡ Some w → port_of v a ≡ port_of w b → (i ≡ j) × (a ≡ b)
   -- each end sends by a link that is on a wire

@@ -4,6 +4,7 @@ pub mod Deletions
 pub mod Delivery
 pub mod Faults
 pub mod Hops
+pub mod KeptLimits
 pub mod Labelling
 pub mod Limits
 pub mod Places

@@ -4,11 +4,11 @@
 //! channels, named by their numbers. [`check`] takes a plan and answers an [`Accepted`], which nothing else makes, or a
 //! [`Refusal`] that gives the plan back as it came, with its first fault in a fixed order (`specs/Check`).
 //!
-//! The layer above knows of an accepted plan what `specs/Accepted` says: each limit is kept, each port is on one wire, each end
-//! sends by a wire and has its own block, each table is lawful, every path of every virtual link delivers (`specs/Hops`,
-//! `specs/Delivery`), each channel is alone on its way, each process uses its node's channels at the right end and with the right
-//! kind, and uses channels and variables lawfully. A path that doesn't deliver is refused with the least such path: of the first
-//! virtual link in order, way ab before ba, with the fewest hops, then the least by its choices (`specs/Faults`).
+//! The layer above knows of an accepted plan what `specs/Accepted` says: each limit is kept (`specs/KeptLimits`), each port is on
+//! one wire, each end sends by a wire and has its own block, each table is lawful, every path of every virtual link delivers
+//! (`specs/Hops`, `specs/Delivery`), each channel is alone on its way, each process uses its node's channels at the right end and
+//! with the right kind, and uses channels and variables lawfully. A path that doesn't deliver is refused with the least such path:
+//! of the first virtual link in order, way ab before ba, with the fewest hops, then the least by its choices (`specs/Faults`).
 //!
 //! The search keeps the places reached after equally many hops, each once, in the order of their least paths; the definitions
 //! speak of all paths.
