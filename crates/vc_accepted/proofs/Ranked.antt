@@ -1,12 +1,14 @@
 -- Where the ports of an accepted plan have ranks, so have the ways of its network: a way has the rank of the port by which it leaves.
-use Rattle.std.proofs.Common.{◌≡◌, ℕ, ◌<◌, Bool, true, not, if◌then◌else◌, length, List, ◌∷◌, Option, Some, None, refl, sym, ap, subst, ◌∙◌}
+use Rattle.std.proofs.Common.{◌≡◌, ℕ, ◌<◌, Bool, true, not, if◌then◌else◌, length, List, ◌∷◌, Option, Some, None, slice_get, refl, sym, ap, subst, ◌∙◌}
 use Rattle.vc_labels.specs.declared.action.Action.TheVariants.{Out}
 use Rattle.vc_labels.specs.Interval.{action_for}
 use Rattle.vc_plan.specs.declared.plan.Plan.{Plan}
+use Rattle.vc_plan.specs.declared.port.Port.{Port}
 use Rattle.vc_plan.specs.declared.port.Spot.TheVariants.{Node, Switch}
 use Rattle.vc_plan.specs.declared.switch_plan.SwitchPlan.{SwitchPlan}
+use Rattle.vc_plan.specs.declared.vlink.Vlink.{Vlink}
 use Rattle.vc_plan.specs.Accepted as plan
-use Rattle.vc_plan.specs.Dependencies.{CanLeave, first, later, DependsOn, port_of}
+use Rattle.vc_plan.specs.Dependencies.{CanLeave, first, later, GoesTo, DependsOn}
 use Rattle.vc_plan.specs.Dependencies as plan_ranks
 use Rattle.vc_plan.specs.Hops.{random_at, range_in, passage_at, left_by, after_link, IsHop}
 use Rattle.vc_plan.specs.Hops as hops
@@ -50,6 +52,13 @@ stands_room : (net : Net) → paths.IsAccepted net → (w : ℕ) (s : List ℕ) 
 stands_room net acc w s n i v stands far draw =
     let d = stands_deliver net acc w s stands in
     (onward net d.0 w s d.1 n i v far draw d.2).room
+
+-- a packet of some virtual link can leave by this port with these headers
+record IsSent (p : Plan) (q : Port) (s : List ℕ) : Type 0 where
+  pub index : ℕ
+  pub vlink : Vlink
+  pub there : slice_get p.vlinks index ≡ Some vlink
+  pub leaves : CanLeave p vlink q s
 
 module _ (p : Plan) (acc : plan.IsAccepted p) where
   abbrev N : network.Plan
@@ -98,55 +107,68 @@ module _ (p : Plan) (acc : plan.IsAccepted p) where
   far_is w n i real e = crosses w real ∙ ap (λ q. Some (port_back q)) e
 
   -- an end of a virtual link sends by its port
-  from_end : (v : ℕ) (ab : Bool) → v < length N.links → let e = network.end_of (virtual_link N v) ab in CanLeave p (port_back (near N (way_from N (AtNode e.node e.link)))) e.route
+  from_end : (v : ℕ) (ab : Bool) → v < length N.links → let e = network.end_of (virtual_link N v) ab in IsSent p (port_back (near N (way_from N (AtNode e.node e.link)))) e.route
   from_end v ab less =
       let e = network.end_of (virtual_link N v) ab in
       let x = there link_of p.vlinks v less in
       let found = found_by N (AtNode e.node e.link) ((accepted p acc).sends v ab less) in
-      subst (λ q. CanLeave p (port_back q) e.route) (sym found.1)
-      (subst (λ (z : network.End). CanLeave p (record { spot = Node z.node; link = z.link }) z.route) (sym (end_is p v x.0 ab x.1)) (first v x.0 ab x.1))
+      record {
+        index = v;
+        vlink = x.0;
+        there = x.1;
+        leaves =
+            subst (λ q. CanLeave p x.0 (port_back q) e.route) (sym found.1)
+            (subst (λ (z : network.End). CanLeave p x.0 (record { spot = Node z.node; link = z.link }) z.route) (sym (end_is p v x.0 ab x.1)) (first ab));
+      }
 
-  from_channel : (c : ℕ) → Carries net c → CanLeave p (port_back (near N (net.chan c).from.way)) (net.chan c).from.route
+  from_channel : (c : ℕ) → Carries net c → IsSent p (port_back (near N (net.chan c).from.way)) (net.chan c).from.route
   from_channel c real = by_home (home N c) refl real.1
     where
-      by_home : (h : Home) → home N c ≡ h → is_virtual h ≡ true → CanLeave p (port_back (near N (net_channel N h).from.way)) (net_channel N h).from.route
+      by_home : (h : Home) → home N c ≡ h → is_virtual h ≡ true → IsSent p (port_back (near N (net_channel N h).from.way)) (net_channel N h).from.route
       by_home (Way v ab) e t = from_end v ab ((accepted p acc).on_link c v ab e)
       by_home (Inside n) e t = absurd (cc)
 
-  to_channel : (c : ℕ) → Carries net c → CanLeave p (port_back (near N (net.chan c).to.way)) (net.chan c).to.route
+  to_channel : (c : ℕ) → Carries net c → IsSent p (port_back (near N (net.chan c).to.way)) (net.chan c).to.route
   to_channel c real = by_home (home N c) refl real.1
     where
-      by_home : (h : Home) → home N c ≡ h → is_virtual h ≡ true → CanLeave p (port_back (near N (net_channel N h).to.way)) (net_channel N h).to.route
+      by_home : (h : Home) → home N c ≡ h → is_virtual h ≡ true → IsSent p (port_back (near N (net_channel N h).to.way)) (net_channel N h).to.route
       by_home (Way v ab) e t = from_end v (not ab) ((accepted p acc).on_link c v ab e)
       by_home (Inside n) e t = absurd (cc)
 
+  -- a packet that goes on from a way by another makes a hop of the plan
+  goes_on : (w out n i : ℕ) (s t : List ℕ) (v : Option ℕ) → CanStand net w s → (at : net.far w ≡ AtSwitch n i) → IsDrawn ((net.switch n).random i) v → Leaves net n (behind v s) out t →
+      GoesTo p (port_back (near N w)) s (port_back (near N out)) t
+  goes_on w out n i s t v stands at draw l =
+      let real = stands_real net ok w s stands in
+      let room = stands_room net ok w s n i v stands at draw in
+      record {
+        far = record { spot = Switch n; link = i };
+        hop = record { switch = n; value = v; link = l.link };
+        to = port_back (far N out);
+        comes = far_is w n i real at;
+        goes = hop_by n i s v out t draw room l (switch_at p n) refl;
+        port = ap port_back l.near;
+      }
+
   -- what can stand on a way can leave by its port
-  leaves_there : (w : ℕ) (s : List ℕ) → CanStand net w s → CanLeave p (port_back (near N w)) s
+  leaves_there : (w : ℕ) (s : List ℕ) → CanStand net w s → IsSent p (port_back (near N w)) s
   leaves_there w s (by_piece c real) = from_channel c real
   leaves_there w s (by_ack c real) = to_channel c real
   leaves_there w s (by_hop {w = v} {out = out} {s = r} {t = t} n i x stands far draw leaves) =
-      let real = stands_real net ok v r stands in
-      let room = stands_room net ok v r n i x stands far draw in
-      let hop = hop_by n i r x out t draw room leaves (switch_at p n) refl in
-      subst (λ q. CanLeave p (port_back q) t) (sym leaves.near)
-      (later (record { spot = Switch n; link = i }) (port_back (network.far N out)) (record { switch = n; value = x; link = leaves.link }) (leaves_there v r stands) (far_is v n i real far) hop)
+      let sent = leaves_there v r stands in
+      record { index = sent.index; vlink = sent.vlink; there = sent.there; leaves = later sent.leaves (goes_on v out n i r t x stands far draw leaves) }
 
   depends_there : (w out : ℕ) → Depends net w out → DependsOn p (port_back (near N w)) (port_back (near N out))
   depends_there w out d =
-      let real = stands_real net ok w d.headers d.stands in
-      let room = stands_room net ok w d.headers d.switch d.link d.drawn d.stands d.far d.draw in
-      let l = d.leaves in
-      let hop = hop_by d.switch d.link d.headers d.drawn out d.after d.draw room l (switch_at p d.switch) refl in
+      let sent = leaves_there w d.headers d.stands in
       record {
+        index = sent.index;
+        vlink = sent.vlink;
         headers = d.headers;
-        far = record { spot = Switch d.switch; link = d.link };
-        hop = record { switch = d.switch; value = d.drawn; link = l.link };
-        to = port_back (far N out);
         after = d.after;
-        leaves = leaves_there w d.headers d.stands;
-        comes = far_is w d.switch d.link real d.far;
-        goes = hop;
-        port = ap port_back l.near;
+        there = sent.there;
+        leaves = sent.leaves;
+        goes = goes_on w out d.switch d.link d.headers d.after d.drawn d.stands d.far d.draw d.leaves;
       }
 
   pub ranked : plan_ranks.HasRanks p → HasRanks net

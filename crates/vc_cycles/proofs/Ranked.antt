@@ -87,11 +87,11 @@ pub ranks : (net : Plan) → IsAccepted net → (rows : List (Vec ℕ)) → AreD
 ranks net acc rows d w = record { rank = λ p. rank_of rows w (number p); rises = λ a b x. rises a b x a.spot refl }
   where
     rises : (a b : Port) → DependsOn net a b → (spot : Spot) → a.spot ≡ spot → rank_of rows w (number a) < rank_of rows w (number b)
-    rises a b x spot at = go spot at (switch_number net acc b x.to x.hop.switch (ap (λ p. across net.wires p) x.port ∙ x.goes.far) (ap (λ (p : Port). p.spot) x.port))
+    rises a b x spot at = go spot at (switch_number net acc b x.goes.to x.goes.hop.switch (ap (λ p. across net.wires p) x.goes.port ∙ x.goes.goes.far) (ap (λ (p : Port). p.spot) x.goes.port))
       where
         go : (spot : Spot) → a.spot ≡ spot → (j : ℕ) × (number b ≡ Some j) → rank_of rows w (number a) < rank_of rows w (number b)
         go (Node n) at (j, q) =
             subst (λ o. rank_of rows w o < rank_of rows w (number b)) (sym (ap (λ s. number_at s a.link) at)) (rank_first rows w (number b) j q)
         go (Switch n) at (j, q) =
-            let i = switch_number net acc a x.far n x.comes at in
+            let i = switch_number net acc a x.goes.far n x.goes.comes at in
             rank_rises rows w (number a) (number b) i.0 j i.1 q (number_small a i.0 i.1) (d.all a b i.0 j x i.1 q)

@@ -16,22 +16,29 @@ use Rattle.vc_plan.specs.Wires.{across, sending_port}
 abbrev pub port_of : Hop → Port
 port_of h = record { spot = Switch h.switch; link = h.link }
 
--- a packet of some virtual link can leave by this port with these headers
-pub data CanLeave (net : Plan) : Port → List ℕ → Type 0 where
-  first : (k : ℕ) (v : Vlink) (from_a : Bool) → slice_get net.vlinks k ≡ Some v → CanLeave net (sending_port (end_of v from_a)) (end_of v from_a).route
-  later : {a : Port} {s t : List ℕ} (p q : Port) (h : Hop) → CanLeave net a s → across net.wires a ≡ Some p → IsHop net p s h q t → CanLeave net (port_of h) t
-
--- a packet that left by port a can leave the switch to which it comes by port b
-pub record DependsOn (net : Plan) (a b : Port) : Type 0 where
-  pub headers : List ℕ
+-- one hop: a packet that leaves by port a with headers s leaves the switch to which it comes by port b with headers t
+pub record GoesTo (net : Plan) (a : Port) (s : List ℕ) (b : Port) (t : List ℕ) : Type 0 where
   pub far : Port
   pub hop : Hop
   pub to : Port
-  pub after : List ℕ
-  pub leaves : CanLeave net a headers
   pub comes : across net.wires a ≡ Some far
-  pub goes : IsHop net far headers hop to after
+  pub goes : IsHop net far s hop to t
   pub port : b ≡ port_of hop
+
+-- a packet of this virtual link can leave by this port with these headers
+pub data CanLeave (net : Plan) (v : Vlink) : Port → List ℕ → Type 0 where
+  first : (from_a : Bool) → CanLeave net v (sending_port (end_of v from_a)) (end_of v from_a).route
+  later : {a b : Port} {s t : List ℕ} → CanLeave net v a s → GoesTo net a s b t → CanLeave net v b t
+
+-- a packet of some virtual link that left by port a can leave the switch to which it comes by port b
+pub record DependsOn (net : Plan) (a b : Port) : Type 0 where
+  pub index : ℕ
+  pub vlink : Vlink
+  pub headers : List ℕ
+  pub after : List ℕ
+  pub there : slice_get net.vlinks index ≡ Some vlink
+  pub leaves : CanLeave net vlink a headers
+  pub goes : GoesTo net a headers b after
 
 -- each port has a rank, and it rises along each dependency
 pub record HasRanks (net : Plan) : Type 0 where
