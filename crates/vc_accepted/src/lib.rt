@@ -28,8 +28,7 @@ pub fn accepted_plans_are_accepted()
 pub fn nodes_are_given_their_ends()
     ensures ends { (p : Plan) (n : ℕ) → plan.IsAccepted p →
         ends_given (ends_of_node p n) ≡ network.ends (network_of p) n }
-    ensures distinct { (p : Plan) (n : ℕ) → plan.IsAccepted p →
-        AreDistinct (ends_of_node p n) }
+    ensures distinct { (p : Plan) (n : ℕ) → plan.IsAccepted p → AreDistinct (ends_of_node p n) }
     ensures links { (p : Plan) (n : ℕ) → plan.IsAccepted p →
         AllByRecursion (λ e. e.link < 4) (ends_of_node p n) }
 {}
@@ -52,7 +51,8 @@ pub fn tables_fill_in_order()
     ensures channels { (p : Plan) → plan.IsAccepted p →
         (k v : ℕ) (from_a : Bool) (x : Channel) → slice_get p.channels k ≡ Some x →
         first_on 0 (take (suc k) p.channels) v from_a
-        ≡ (if is_on v from_a x.home then Some k else first_on 0 (take k p.channels) v from_a) }
+        ≡ (if is_on v from_a x.home then Some k
+        else first_on 0 (take k p.channels) v from_a) }
     ensures wires { (p : Plan) → plan.IsAccepted p →
         (actor link k : ℕ) (w : Wire) → slice_get p.wires k ≡ Some w →
         way_out (length p.nodes) actor link 0 (take (suc k) p.wires)

@@ -6,7 +6,7 @@ use Rattle.std.specs.List.{Contains, insert}
 use Rattle.std.specs.Prelude.{OnOk}
 use Rattle.vc_plan.specs.declared.port.Port.{Port}
 use Rattle.vc_plan.proofs.Members.{In, In-left, In-right, In-cases}
-use Rattle.vc_cycles.specs.Graph.{Gains, GainEdge, HasEdge, number, row, items_of}
+use Rattle.vc_cycles.specs.Graph.{Gains, GainEdge, HasEdge, port_number, row, items_of}
 use Rattle.vc_cycles.proofs.Among.{in_contains, contains_in, read_at}
 use Rattle.vc_cycles.proofs.Numbered.{number_small}
 
@@ -64,11 +64,11 @@ compared k i = grind arith
 pub row_is : (rs : List (Vec ℕ)) (i : ℕ) (v : Vec ℕ) → slice_get rs i ≡ Some v → row rs i ≡ v.items
 row_is rs i v e = ap items_of e
 
-same_number : (p : Port) (i k : ℕ) → number p ≡ Some i → number p ≡ Some k → i ≡ k
+same_number : (p : Port) (i k : ℕ) → port_number p ≡ Some i → port_number p ≡ Some k → i ≡ k
 same_number p i k a b = let e : Some i ≡ Some k = sym a ∙ b in cc
 
 -- an edge
-pub edge_set : (rs : List (Vec ℕ)) (i j : ℕ) (a b : Port) (v : Vec ℕ) → number a ≡ Some i → number b ≡ Some j → i < length rs → Gains (row rs i) v.items j → GainEdge rs (set rs i v) a b
+pub edge_set : (rs : List (Vec ℕ)) (i j : ℕ) (a b : Port) (v : Vec ℕ) → port_number a ≡ Some i → port_number b ≡ Some j → i < length rs → Gains (row rs i) v.items j → GainEdge rs (set rs i v) a b
 edge_set rs i j a b v na nb lt g = record {
   many = length-set rs i v;
   keeps = λ k l c. keeps k l c (compared k i);
@@ -83,26 +83,26 @@ edge_set rs i j a b v na nb lt g = record {
     has : (k l : ℕ) → i ≡ k → j ≡ l → HasEdge (set rs i v) k l
     has k l e f = subst (λ m. HasEdge (set rs i v) m l) e (subst (λ m. HasEdge (set rs i v) i m) f (subst (λ xs. Contains xs j) (sym (row_set_same rs i v lt)) g.has))
 
-    new : (l : ℕ) → Contains (row rs i) l ⊎ (l ≡ j) → HasEdge rs i l ⊎ ((number a ≡ Some i) × (number b ≡ Some l))
+    new : (l : ℕ) → Contains (row rs i) l ⊎ (l ≡ j) → HasEdge rs i l ⊎ ((port_number a ≡ Some i) × (port_number b ≡ Some l))
     new l (inl c) = inl c
     new l (inr e) = inr (na, nb ∙ ap (λ z. Some z) (sym e))
 
-    only : (k l : ℕ) → HasEdge (set rs i v) k l → (k ≡ i) ⊎ ((k < i) ⊎ (i < k)) → HasEdge rs k l ⊎ ((number a ≡ Some k) × (number b ≡ Some l))
+    only : (k l : ℕ) → HasEdge (set rs i v) k l → (k ≡ i) ⊎ ((k < i) ⊎ (i < k)) → HasEdge rs k l ⊎ ((port_number a ≡ Some k) × (port_number b ≡ Some l))
     only k l c (inl e) =
-        subst (λ m. HasEdge rs m l ⊎ ((number a ≡ Some m) × (number b ≡ Some l))) (sym e)
+        subst (λ m. HasEdge rs m l ⊎ ((port_number a ≡ Some m) × (port_number b ≡ Some l))) (sym e)
         (new l (g.only l (subst (λ xs. Contains xs l) (row_set_same rs i v lt) (subst (λ m. HasEdge (set rs i v) m l) e c))))
     only k l c (inr ne) = inl (subst (λ xs. Contains xs l) (row_set_other rs i k v ne) c)
 
 -- the row that is changed is that of a port
-pub edge_put : (rs : List (Vec ℕ)) (i k j : ℕ) (a b : Port) (old v : Vec ℕ) → Some k ≡ number a → Some j ≡ number b → i ≡ k → length rs ≡ 1024 → old ≡ get_or rs i old → Gains old.items v.items j →
+pub edge_put : (rs : List (Vec ℕ)) (i k j : ℕ) (a b : Port) (old v : Vec ℕ) → Some k ≡ port_number a → Some j ≡ port_number b → i ≡ k → length rs ≡ 1024 → old ≡ get_or rs i old → Gains old.items v.items j →
     GainEdge rs (set rs i v) a b
 edge_put rs i k j a b old v na nb same many is g =
-    let here : number a ≡ Some i = sym na ∙ ap (λ z. Some z) (sym same) in
+    let here : port_number a ≡ Some i = sym na ∙ ap (λ z. Some z) (sym same) in
     let small = number_small a i here in
     let lt : i < length rs = omega (arith, small, many) in
     edge_set rs i j a b v here (sym nb) lt (subst (λ xs. Gains xs v.items j) (sym (row_is rs i old (read_at rs i old lt is))) g)
 
-pub edge_none : (rs : List (Vec ℕ)) (a b : Port) → ((i j : ℕ) → number a ≡ Some i → number b ≡ Some j → ⊥) → GainEdge rs rs a b
+pub edge_none : (rs : List (Vec ℕ)) (a b : Port) → ((i j : ℕ) → port_number a ≡ Some i → port_number b ≡ Some j → ⊥) → GainEdge rs rs a b
 edge_none rs a b none = record { many = refl; keeps = λ i j c. c; has = λ i j p q. absurd (none i j p q); only = λ i j c. inl c }
 
 pub on_ok : {T E : Type 0} {P Q : Type 0} (r : Result T E) → (P → Q) → OnOk r P → OnOk r Q

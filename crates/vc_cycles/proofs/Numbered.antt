@@ -15,7 +15,7 @@ use Rattle.vc_plan.specs.Wires.{across, same_port}
 use Rattle.vc_plan.proofs.Frontier.{port-same}
 use Rattle.vc_plan.proofs.KeptLimits.{limits_of}
 use Rattle.vc_plan.proofs.Limited.{Keeps, keeps, both, limits-fit}
-use Rattle.vc_cycles.specs.Graph.{number, number_at, port_at}
+use Rattle.vc_cycles.specs.Graph.{port_number, port_number_at, port_at}
 
 -- what a number says of its port
 record Numbers (spot : Spot) (link i : ℕ) : Type 0 where
@@ -28,7 +28,7 @@ record Numbers (spot : Spot) (link i : ℕ) : Type 0 where
 some_is : (x y : ℕ) → Some x ≡ Some y → x ≡ y
 some_is x y e = cc
 
-numbers : (spot : Spot) (link i : ℕ) → number_at spot link ≡ Some i → Numbers spot link i
+numbers : (spot : Spot) (link i : ℕ) → port_number_at spot link ≡ Some i → Numbers spot link i
 numbers (Node n) link i e = absurd cc
 numbers (Switch n) link i e = go (nat_lt n 32) (nat_lt link 32) refl refl e
   where
@@ -37,7 +37,7 @@ numbers (Switch n) link i e = go (nat_lt n 32) (nat_lt link 32) refl refl e
     go true false p q r = absurd cc
     go false b p q r = absurd cc
 
-pub number_small : (a : Port) (i : ℕ) → number a ≡ Some i → i < 1024
+pub number_small : (a : Port) (i : ℕ) → port_number a ≡ Some i → i < 1024
 number_small a i e =
     let n = numbers a.spot a.link i e in
     let few = n.few in
@@ -51,7 +51,7 @@ divided n link i small sum = omega arith
 rest : (n link i : ℕ) → link < 32 → i ≡ n * 32 + link → i % 32 ≡ link
 rest n link i small sum = omega arith
 
-pub number_back : (a : Port) (i : ℕ) → number a ≡ Some i → port_at i ≡ a
+pub number_back : (a : Port) (i : ℕ) → port_number a ≡ Some i → port_at i ≡ a
 number_back a i e =
     let n = numbers a.spot a.link i e in
     ap (λ (k : ℕ). record { spot = Switch k; link = i % 32 }) (divided n.switch a.link i n.small n.sum)
@@ -94,14 +94,14 @@ fits_all p acc a q e =
     e
 
 -- a switch's port on a wire has a number
-numbered : (p : Plan) (n link : ℕ) → nat_le (length p.switches) 32 ≡ true → nat_le link 31 ≡ true → nat_lt n (length p.switches) ≡ true → (i : ℕ) × (number_at (Switch n) link ≡ Some i)
+numbered : (p : Plan) (n link : ℕ) → nat_le (length p.switches) 32 ≡ true → nat_le link 31 ≡ true → nat_lt n (length p.switches) ≡ true → (i : ℕ) × (port_number_at (Switch n) link ≡ Some i)
 numbered p n link many ok there =
     let a : nat_lt n 32 ≡ true = grind (arith, nat_tests) in
     let b : nat_lt link 32 ≡ true = grind (arith, nat_tests) in
     (n * 32 + link, ap (λ x. if x && nat_lt link 32 then Some (n * 32 + link) else None) a ∙ ap (λ x. if x then Some (n * 32 + link) else None) b)
 
-pub switch_number : (p : Plan) → IsAccepted p → (a q : Port) (n : ℕ) → across p.wires a ≡ Some q → a.spot ≡ Switch n → (i : ℕ) × (number a ≡ Some i)
+pub switch_number : (p : Plan) → IsAccepted p → (a q : Port) (n : ℕ) → across p.wires a ≡ Some q → a.spot ≡ Switch n → (i : ℕ) × (port_number a ≡ Some i)
 switch_number p acc a q n e at =
     let f = fits_all p acc a q e in
     let r = numbered p n a.link (kept p acc).switches (subst (λ s. link_ok s a.link ≡ true) at f.0) (subst (λ s. spot_there p s ≡ true) at f.1) in
-    (r.0, ap (λ s. number_at s a.link) at ∙ r.1)
+    (r.0, ap (λ s. port_number_at s a.link) at ∙ r.1)

@@ -8,7 +8,7 @@ use Rattle.vc_plan.specs.declared.port.Spot.TheVariants.{Node, Switch}
 use Rattle.vc_plan.specs.Accepted.{IsAccepted}
 use Rattle.vc_plan.specs.Dependencies.{DependsOn, HasRanks}
 use Rattle.vc_plan.specs.Wires.{across}
-use Rattle.vc_cycles.specs.Graph.{HasEdge, AreDependencies, number, number_at}
+use Rattle.vc_cycles.specs.Graph.{HasEdge, AreDependencies, port_number, port_number_at}
 use Rattle.vc_cycles.specs.Round.{IsAway, AreRows}
 use Rattle.vc_cycles.proofs.Numbered.{switch_number, number_small}
 
@@ -84,14 +84,14 @@ module _ (rows : List (Vec ℕ)) where
       subst (λ m. 1 + count 1024 w m < 1 + count 1024 w y) f (subst (λ m. 1 + count 1024 w i < 1 + count 1024 w m) g (omega (arith, c)))
 
 pub ranks : (net : Plan) → IsAccepted net → (rows : List (Vec ℕ)) → AreDependencies net rows → ((k : ℕ) → k < 1024 → IsAway rows k) → HasRanks net
-ranks net acc rows d w = record { rank = λ p. rank_of rows w (number p); rises = λ a b x. rises a b x a.spot refl }
+ranks net acc rows d w = record { rank = λ p. rank_of rows w (port_number p); rises = λ a b x. rises a b x a.spot refl }
   where
-    rises : (a b : Port) → DependsOn net a b → (spot : Spot) → a.spot ≡ spot → rank_of rows w (number a) < rank_of rows w (number b)
+    rises : (a b : Port) → DependsOn net a b → (spot : Spot) → a.spot ≡ spot → rank_of rows w (port_number a) < rank_of rows w (port_number b)
     rises a b x spot at = go spot at (switch_number net acc b x.goes.to x.goes.hop.switch (ap (λ p. across net.wires p) x.goes.port ∙ x.goes.goes.far) (ap (λ (p : Port). p.spot) x.goes.port))
       where
-        go : (spot : Spot) → a.spot ≡ spot → (j : ℕ) × (number b ≡ Some j) → rank_of rows w (number a) < rank_of rows w (number b)
+        go : (spot : Spot) → a.spot ≡ spot → (j : ℕ) × (port_number b ≡ Some j) → rank_of rows w (port_number a) < rank_of rows w (port_number b)
         go (Node n) at (j, q) =
-            subst (λ o. rank_of rows w o < rank_of rows w (number b)) (sym (ap (λ s. number_at s a.link) at)) (rank_first rows w (number b) j q)
+            subst (λ o. rank_of rows w o < rank_of rows w (port_number b)) (sym (ap (λ s. port_number_at s a.link) at)) (rank_first rows w (port_number b) j q)
         go (Switch n) at (j, q) =
             let i = switch_number net acc a x.goes.far n x.goes.comes at in
-            rank_rises rows w (number a) (number b) i.0 j i.1 q (number_small a i.0 i.1) (d.all a b i.0 j x i.1 q)
+            rank_rises rows w (port_number a) (port_number b) i.0 j i.1 q (number_small a i.0 i.1) (d.all a b i.0 j x i.1 q)

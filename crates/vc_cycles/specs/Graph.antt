@@ -8,13 +8,13 @@ use Rattle.vc_plan.specs.declared.port.Spot.TheVariants.{Node, Switch}
 use Rattle.vc_plan.specs.declared.port.Port.{Port}
 use Rattle.vc_plan.specs.Dependencies.{DependsOn}
 
-abbrev pub number_at : Spot → ℕ → Option ℕ
-number_at (Node n) link = None
-number_at (Switch n) link = if nat_lt n 32 && nat_lt link 32 then Some (n * 32 + link) else None
+abbrev pub port_number_at : Spot → ℕ → Option ℕ
+port_number_at (Node n) link = None
+port_number_at (Switch n) link = if nat_lt n 32 && nat_lt link 32 then Some (n * 32 + link) else None
 
 -- the number of a switch's port, and the port of a number
-abbrev pub number : Port → Option ℕ
-number p = number_at p.spot p.link
+abbrev pub port_number : Port → Option ℕ
+port_number p = port_number_at p.spot p.link
 
 abbrev pub port_at : ℕ → Port
 port_at i = record { spot = Switch (i / 32); link = i % 32 }
@@ -40,17 +40,17 @@ pub record Gains (old new : List ℕ) (x : ℕ) : Type 0 where
 pub record GainEdge (old new : List (Vec ℕ)) (a b : Port) : Type 0 where
   pub many : length new ≡ length old
   pub keeps : (i j : ℕ) → HasEdge old i j → HasEdge new i j
-  pub has : (i j : ℕ) → number a ≡ Some i → number b ≡ Some j → HasEdge new i j
-  pub only : (i j : ℕ) → HasEdge new i j → HasEdge old i j ⊎ ((number a ≡ Some i) × (number b ≡ Some j))
+  pub has : (i j : ℕ) → port_number a ≡ Some i → port_number b ≡ Some j → HasEdge new i j
+  pub only : (i j : ℕ) → HasEdge new i j → HasEdge old i j ⊎ ((port_number a ≡ Some i) × (port_number b ≡ Some j))
 
 -- each edge is a dependency
 pub record AreRight (net : Plan) (rows : List (Vec ℕ)) : Type 0 where
   pub many : length rows ≡ 1024
-  pub right : (i j : ℕ) → HasEdge rows i j → (a : Port) × (b : Port) × DependsOn net a b × (number a ≡ Some i) × (number b ≡ Some j)
+  pub right : (i j : ℕ) → HasEdge rows i j → (a : Port) × (b : Port) × DependsOn net a b × (port_number a ≡ Some i) × (port_number b ≡ Some j)
 
 -- an edge for each dependency of a switch's port, and no others
 pub record AreDependencies (net : Plan) (rows : List (Vec ℕ)) : Type 0 where
   pub many : length rows ≡ 1024
   pub small : (i j : ℕ) → HasEdge rows i j → j < 1024
   pub right : (i j : ℕ) → HasEdge rows i j → DependsOn net (port_at i) (port_at j)
-  pub all : (a b : Port) (i j : ℕ) → DependsOn net a b → number a ≡ Some i → number b ≡ Some j → HasEdge rows i j
+  pub all : (a b : Port) (i j : ℕ) → DependsOn net a b → port_number a ≡ Some i → port_number b ≡ Some j → HasEdge rows i j

@@ -2,8 +2,10 @@
 use Rattle.std.specs.Prelude.{◌≡◌, ℕ, suc, ◌+◌, ◌≤◌, ◌<◌, Bool, true, false, List, [], ◌∷◌, ◌++◌, length, Some, slice_get, slice_set, slice_index_or, if◌then◌else◌}
 use Rattle.std.specs.Global.{Vec}
 use Rattle.std.specs.List.{Contains}
-use Rattle.vc_cycles.specs.Graph.{HasEdge, row}
+use Rattle.vc_plan.specs.declared.plan.Plan.{Plan}
+use Rattle.vc_cycles.specs.Graph.{AreDependencies, HasEdge, row}
 use Rattle.vc_cycles.specs.declared.round.Found.{Found}
+use Rattle.vc_cycles.specs.declared.round.Round.{Round}
 
 -- no way leads from this port back to it: some ports, but not this one, are all that it depends on, and what they depend on is among them
 pub record IsAway (rows : List (Vec ℕ)) (start : ℕ) : Type 0 where
@@ -59,3 +61,14 @@ pub record Looking (rows : List (Vec ℕ)) (start at : ℕ) (row_is : List ℕ) 
 pub record PointsBack (found : List Found) : Type 0 where
   pub small : (k : ℕ) (f : Found) → slice_get found k ≡ Some f → f.port < 1024
   pub back : (k : ℕ) (f : Found) → slice_get found (suc k) ≡ Some f → f.from ≤ k
+
+-- a search by which the first n ports of a row were found too, that of the port at this place of its list
+abbrev pub LooksAt : List ℕ → ℕ → ℕ → Round → Round → Type 0
+LooksAt row_is at n old new =
+    (rows : List (Vec ℕ)) (start : ℕ) → Looking rows start at row_is 0 old.found.items old.seen.items → Looking rows start at row_is n new.found.items new.seen.items
+
+-- where these are the dependencies, and the port at this place of the list depends on the one at which the search began
+abbrev pub WhereClosed : Round → ℕ → (Plan → ℕ → Type 0) → Type 0
+WhereClosed round last Then =
+    (net : Plan) (rows : List (Vec ℕ)) (start looked : ℕ) (f : Found) → AreDependencies net rows → Searched rows start looked round.found.items round.seen.items →
+    slice_get round.found.items last ≡ Some f → HasEdge rows f.port start → Then net start

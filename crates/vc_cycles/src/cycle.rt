@@ -21,8 +21,10 @@ fn shorter(one: Option<Vec<Port>>, other: Option<Vec<Port>>) -> Option<Vec<Port>
     }
 }
 
-/// The ports of a cycle of dependencies, each of which depends on the next, and the last on the first; none where there is no cycle,
-/// and then the ports have ranks. The cycle is the least: of those with the fewest ports the first by the ports in order.
+/// Finds a cycle of dependencies: its ports, each of which depends on the next, and the last on the first. It answers none where there
+/// is no cycle, and then the ports have ranks. It fails for want of memory alone.
+///
+/// The contract promises a cycle. Tests look that it is the least, of those with the fewest ports the first by the ports in order.
 pub fn find_cycle(alloc: Global, accepted: &Accepted) -> Result<Option<Vec<Port>>, Memory>
     ensures free { IfOk result (λ found. IfNone found (HasRanks accepted.now)) }
     ensures cycle { IfOk result (λ found. IfSome found (λ ports. IsCycle accepted.now ports.items)) }

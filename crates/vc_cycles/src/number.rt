@@ -1,6 +1,6 @@
 //! Ports of switches by their numbers.
 ghost use Rattle.std.specs.Prelude.{◌≡◌, ◌<◌};
-ghost use Rattle.vc_cycles.specs.Graph.{number, port_at as port_of_number};
+ghost use Rattle.vc_cycles.specs.Graph.{port_number, port_at as port_of_number};
 
 use vc_plan::{Port, Spot};
 
@@ -12,7 +12,7 @@ pub(crate) const PORTS: usize = 1024;
 
 /// The number of a switch's port; none for a node's.
 pub(crate) fn number_of(port: Port) -> Option<u16>
-    ensures { result ≡ number port }
+    ensures { result ≡ port_number port }
 {
     match port.spot {
         Spot::Switch(switch) if switch < LINKS && port.link < LINKS => {

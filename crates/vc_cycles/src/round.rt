@@ -1,12 +1,11 @@
 //! The way round from a port back to it, breadth first.
-ghost use Rattle.std.specs.Prelude.{◌≡◌, ℕ, ◌<◌, List, Some, length, slice_get, IfNone, IfOk, IfSome, OnOk};
+ghost use Rattle.std.specs.Prelude.{◌≡◌, ℕ, ◌<◌, List, length, IfNone, IfOk, IfSome, OnOk};
 ghost use Rattle.std.specs.Global.{Vec};
 ghost use Rattle.std.specs.List.{Contains};
 ghost use Rattle.vc_plan.specs.declared.plan.Plan.{Plan};
 ghost use Rattle.vc_plan.specs.Dependencies.{IsCycle};
-ghost use Rattle.vc_cycles.specs.Graph.{AreDependencies, HasEdge};
-ghost use Rattle.vc_cycles.specs.Round.{AreRows, IsAway, Looking, PointsBack, Searched, found_after, seen_after};
-ghost use Rattle.vc_cycles.specs.declared.round.Found.{Found};
+ghost use Rattle.vc_cycles.specs.Graph.{AreDependencies};
+ghost use Rattle.vc_cycles.specs.Round.{AreRows, IsAway, LooksAt, PointsBack, Searched, WhereClosed, found_after, seen_after};
 
 use crate::number::{PORTS, port_at};
 use std::alloc::Global;
@@ -31,7 +30,8 @@ impl Round {
     /// The port at which the search begins, alone. It is not seen: the search asks of each port whether it depends on the first.
     fn new(alloc: Global, start: u16) -> Result<Round, Memory>
         requires { start < 1024 }
-        ensures { (rows : List (Vec ℕ)) → IfOk result (λ r. Searched rows start 0 r.found.items r.seen.items) }
+        ensures { (rows : List (Vec ℕ)) →
+            IfOk result (λ r. Searched rows start 0 r.found.items r.seen.items) }
     {
         let mut found = Vec::new(alloc);
         found.push(Found {
@@ -45,7 +45,8 @@ impl Round {
     /// Finds a port, from the one at a place of the list, unless it was seen.
     fn find(&mut self, port: u16, from: usize) -> Result<(), Memory>
         requires { port < length self.old.seen.items }
-        ensures found { OnOk result (self.new.found.items ≡ found_after self.old.found.items self.old.seen.items port from) }
+        ensures found { OnOk result (self.new.found.items
+            ≡ found_after self.old.found.items self.old.seen.items port from) }
         ensures seen { OnOk result (self.new.seen.items ≡ seen_after self.old.seen.items port) }
     {
         if self.seen[usize::from(port)] {
@@ -60,7 +61,7 @@ impl Round {
     fn look(&mut self, row: &[u16], at: usize) -> Result<(), Memory>
         requires many { length self.old.seen.items ≡ 1024 }
         requires small { (j : ℕ) → Contains row.now j → j < 1024 }
-        ensures { OnOk result ((rows : List (Vec ℕ)) (start : ℕ) → Looking rows start at row.now 0 self.old.found.items self.old.seen.items → Looking rows start at row.now (length row.now) self.new.found.items self.new.seen.items) }
+        ensures { OnOk result (LooksAt row.now at (length row.now) self.old self.new) }
     {
         for port in row {
             self.find(*port, at)?;
@@ -72,7 +73,8 @@ impl Round {
     fn path(&self, alloc: Global, last: usize) -> Result<Vec<Port>, Memory>
         requires within { last < length self.now.found.items }
         requires back { PointsBack self.now.found.items }
-        ensures { (net : Plan) (rows : List (Vec ℕ)) (start looked : ℕ) (f : Found) → AreDependencies net rows → Searched rows start looked self.now.found.items self.now.seen.items → slice_get self.now.found.items last ≡ Some f → HasEdge rows f.port start → IfOk result (λ ports. IsCycle net ports.items) }
+        ensures { WhereClosed self.now last
+            (λ net start. IfOk result (λ ports. IsCycle net ports.items)) }
     {
         let mut ports = Vec::new(alloc);
         let mut at = last;
@@ -95,7 +97,8 @@ pub(crate) fn find_round(
     requires rows { AreRows rows.now }
     requires start { start < 1024 }
     ensures none { IfOk result (λ found. IfNone found (IsAway rows.now start)) }
-    ensures some { (net : Plan) → AreDependencies net rows.now → IfOk result (λ found. IfSome found (λ ports. IsCycle net ports.items)) }
+    ensures some { (net : Plan) → AreDependencies net rows.now →
+        IfOk result (λ found. IfSome found (λ ports. IsCycle net ports.items)) }
 {
     let mut round = Round::new(alloc, start)?;
     let mut at = 0;
