@@ -7,3 +7,4 @@ pub mod Expressions
 pub mod Conditions
 pub mod Processes
 pub mod NetworkText
+pub mod Laws

@@ -1,26 +1,16 @@
 -- Names, and the numbers of what has them.
-use Rattle.std.specs.Prelude.{◌≡◌, ℕ, List, [], ◌∷◌, length, Bool, false, not, nat_le, nat_lt, ◌==◌, ◌&&◌, ◌||◌, if◌then◌else◌, Option, Some, None, is_some, option_map, option_and_then, Result, Ok, Vec}
+use Rattle.std.specs.Prelude.{◌≡◌, ℕ, List, Bool, not, ◌&&◌, if◌then◌else◌, Option, Some, None, is_some, option_map, option_and_then, Result, Ok, Vec}
 use Rattle.std.specs.Str.{bytes_eq}
-use Rattle.std.specs.List.{position, list_all, slice_get}
+use Rattle.std.specs.List.{position, slice_get}
 use Rattle.std.specs.Ordering.{nat_cmp}
 use Rattle.std.specs.Cmp.Lexicographic.{slice_cmp}
 use Rattle.std.specs.BTreeMap.{BTreeMap, get_by}
 use Rattle.std.specs.Option.{option_or}
 use Rattle.serde_json.specs.Data.{Data}
+use Rattle.vc_plan.specs.Limits.{is_name}
 use Rattle.vc_reader.specs.declared.fault.Why.TheVariants.{Kind, Unknown}
 use Rattle.vc_reader.specs.declared.fault.Fault.{Fault}
 use Rattle.vc_reader.specs.Reading.{◌>>=◌, wrong, text_of}
-
--- 1 to 16 letters, digits, _ or -, the first a letter
-abbrev pub is_letter : ℕ → Bool
-is_letter c = (nat_le 65 c && nat_le c 90) || (nat_le 97 c && nat_le c 122)
-
-abbrev pub is_name_byte : ℕ → Bool
-is_name_byte c = is_letter c || (nat_le 48 c && nat_le c 57) || (c == 95) || (c == 45)
-
-abbrev pub is_name : List ℕ → Bool
-is_name [] = false
-is_name (c ∷ cs) = is_letter c && list_all is_name_byte cs && nat_lt (length cs) 16
 
 -- the number of the first that has the name
 abbrev pub position_of : {A : Type 0} → (A → List ℕ) → List A → List ℕ → Option ℕ

@@ -9,6 +9,7 @@ mod channel;
 mod condition;
 mod expression;
 mod fault;
+mod laws;
 mod name;
 mod network;
 mod node;
@@ -24,6 +25,7 @@ mod wire;
 mod word;
 
 pub use fault::Why;
+pub use laws::{names_differ, version_one_has_no_portals};
 pub use network::read_network;
 pub use path::{Path, Step};
 pub use refused::ReadRefused;

@@ -3,7 +3,8 @@ ghost use Rattle.std.specs.Prelude.{◌≡◌, option_map};
 ghost use Rattle.std.specs.List.{list_all};
 ghost use Rattle.serde_json.specs.View.{view};
 ghost use Rattle.vc_reader.specs.Reading.{Gives};
-ghost use Rattle.vc_reader.specs.Names.{is_letter as is_letter_byte, is_name_byte as is_name_part, is_name as is_name_text, own_name as own_name_of, new_name, has_name, known_or_not, one_of as one_of_names};
+ghost use Rattle.vc_plan.specs.Limits.{is_letter as is_letter_byte, is_name_byte as is_name_part, begins_with_letter, is_name as is_name_text};
+ghost use Rattle.vc_reader.specs.Names.{own_name as own_name_of, new_name, has_name, known_or_not, one_of as one_of_names};
 
 use crate::fault::{Stop, Why};
 use crate::reader::{Reader, text, wrong};
@@ -22,7 +23,7 @@ fn is_letter(c: u8) -> bool
 fn is_name_byte(c: u8) -> bool
     ensures { result ≡ is_name_part c }
 {
-    is_letter(c) || (48 <= c && c <= 57) || c == 95 || c == 45
+    is_letter(c) || ((48 <= c && c <= 57) || (c == 95 || c == 45))
 }
 
 fn are_name_bytes(text: &[u8]) -> bool
@@ -31,13 +32,19 @@ fn are_name_bytes(text: &[u8]) -> bool
     text.iter().all(|c| is_name_byte(*c))
 }
 
-fn is_name(text: &[u8]) -> bool
-    ensures { result ≡ is_name_text text.now }
+fn first_is_letter(text: &[u8]) -> bool
+    ensures { result ≡ begins_with_letter text.now }
 {
     match text {
         [] => false,
-        [first, rest @ ..] => is_letter(*first) && are_name_bytes(rest) && rest.len() < 16,
+        [first, ..] => is_letter(*first),
     }
+}
+
+fn is_name(text: &[u8]) -> bool
+    ensures { result ≡ is_name_text text.now }
+{
+    first_is_letter(text) && text.len() <= 16 && are_name_bytes(text)
 }
 
 /// A text that must be a name, and none that is taken.

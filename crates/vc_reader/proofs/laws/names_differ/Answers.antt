@@ -1,0 +1,5 @@
+use Rattle.vc_reader.proofs.Differing.{names_differ}
+use Rattle.vc_reader.proofs.laws.names_differ.Goals as goal
+
+pub returns : goal.returns
+returns c = names_differ
