@@ -1,5 +1,5 @@
 -- No name is given twice in a plan that was read.
-use Rattle.std.proofs.Common.{◌≡◌, ◌∙◌, ℕ, zero, suc, ◌+◌, length, List, [], ◌∷◌, ◌++◌, map, refl, sym, ap, subst, arith, append-nil, Bool, true, false, ◌||◌, Result, Ok}
+use Rattle.std.proofs.Common.{◌≡◌, ◌∙◌, ℕ, length, List, [], ◌∷◌, ◌++◌, map, refl, sym, ap, subst, arith, append-nil, Bool, true, false, ◌||◌, Ok}
 use Rattle.std.specs.Str.{bytes_eq}
 use Rattle.std.specs.List.{IsDistinct, AllByRecursion}
 use Rattle.serde_json.specs.Data.{Data}

@@ -6,3 +6,11 @@ pub mod Read
 pub mod Named
 pub mod Differing
 pub mod Versions
+pub mod Asked
+pub mod Lengths
+pub mod Fitting
+pub mod Keeping
+pub mod Leading
+pub mod Told
+pub mod ToldProcesses
+pub mod ToldPlan

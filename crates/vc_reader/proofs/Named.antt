@@ -1,5 +1,5 @@
 -- Names of what was read: each is a name, and no two are the same.
-use Rattle.std.proofs.Common.{◌≡◌, ◌∙◌, ℕ, suc, ◌+◌, length, List, [], ◌∷◌, ◌++◌, map, refl, sym, ap, subst, arith, append_assoc, Bool, true, false, not, ◌&&◌, ◌||◌, cond, nat_lt, if◌then◌else◌, Option, Some, None, Result, Ok, Err}
+use Rattle.std.proofs.Common.{◌≡◌, ◌∙◌, ℕ, suc, ◌+◌, length, List, [], ◌∷◌, ◌++◌, map, refl, sym, ap, subst, arith, append_assoc, Bool, true, false, not, ◌&&◌, ◌||◌, cond, nat_lt, if◌then◌else◌, Some, None, Ok}
 use Rattle.std.specs.Prelude.{is_some}
 use Rattle.std.specs.Str.{bytes_eq}
 use Rattle.std.specs.List.{IsDistinct, list_any, position_or_len}
@@ -10,9 +10,8 @@ use Rattle.std.proofs.lemmas.List.Folds.{list_any-append}
 use Rattle.std.proofs.lemmas.Map.Keys.{IsDistinct-push}
 use Rattle.serde_json.specs.Data.{Data}
 use Rattle.vc_plan.specs.Limits.{is_name}
-use Rattle.vc_reader.specs.declared.fault.Fault.{Fault}
 use Rattle.vc_reader.specs.declared.fault.Why.TheVariants.{Kind}
-use Rattle.vc_reader.specs.Reading.{◌>>=◌, wrong, text_of}
+use Rattle.vc_reader.specs.Reading.{wrong, text_of}
 use Rattle.vc_reader.specs.Names.{own_name, new_name, has_name}
 use Rattle.vc_reader.proofs.Read.{ok_is, then_ok}
 

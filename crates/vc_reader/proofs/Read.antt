@@ -1,5 +1,5 @@
 -- What is known of a value, and of its parts, where it was read without a fault.
-use Rattle.std.proofs.Common.{◌≡◌, ◌∙◌, ℕ, zero, suc, ◌+◌, length, List, [], ◌∷◌, ◌++◌, refl, sym, ap, subst, arith, Bool, true, false, if◌then◌else◌, Option, Some, None, Result, Ok, Err}
+use Rattle.std.proofs.Common.{◌≡◌, ◌∙◌, ℕ, ◌+◌, length, List, [], ◌∷◌, ◌++◌, refl, sym, ap, subst, arith, Option, Some, None, Result, Ok, Err}
 use Rattle.serde_json.specs.Data.{Data, null, boolean, number, string, array, object, Items, no_items, item}
 use Rattle.serde_json.specs.Find.{get, at}
 use Rattle.vc_plan.specs.declared.plan.Plan.{Plan}
@@ -25,7 +25,7 @@ use Rattle.vc_reader.specs.Words.{word_text}
 use Rattle.vc_reader.specs.Reading.{◌>>=◌, under, present, field, cell, each, list_of, absent_or_list, list_field, count, items_in, row, object_of, number_of}
 use Rattle.vc_reader.specs.Names.{new_name, has_name}
 use Rattle.vc_reader.specs.Network.{head_of, var_of, kind_of, switch_of, switch_words, is_place, table_row, link_of, random_of, wire_of, vlink_of, end_of, channel_of, channel_words, home_of}
-use Rattle.vc_reader.specs.NetworkText.{network_words, node_process, node_plans, nodes_of, plan_with_wires, plan_with_nodes, plan_of}
+use Rattle.vc_reader.specs.NetworkText.{network_words, node_process, node_plans, nodes_of, plan_of}
 
 pub ok_is : {A : Type 0} (x y : A) → ◌≡◌ {A = Result A Fault} (Ok x) (Ok y) → x ≡ y
 ok_is x y e = cc

@@ -1,17 +1,15 @@
 -- A file of version 1 gives switches without portals and random inputs.
-use Rattle.std.proofs.Common.{◌≡◌, ◌∙◌, ℕ, List, [], ◌∷◌, ◌++◌, refl, sym, ap, subst, Bool, true, false, not, ◌&&◌, if◌then◌else◌, Option, Some, None, Result, Ok}
+use Rattle.std.proofs.Common.{◌≡◌, ◌∙◌, ℕ, List, [], ◌∷◌, ◌++◌, refl, sym, ap, subst, Bool, true, false, not, ◌&&◌, if◌then◌else◌, Some, None, Ok}
 use Rattle.std.specs.Ordering.{nat_cmp}
 use Rattle.std.specs.declared.cmp.Ordering.{Ordering}
 use Rattle.std.specs.declared.cmp.Ordering.TheVariants.{Less, Equal, Greater}
 use Rattle.std.specs.Ordering.{is_eq, match_ordering}
 use Rattle.std.specs.Cmp.Lexicographic.{slice_cmp, bytes_decides}
 use Rattle.std.specs.List.{list_all}
-use Rattle.std.specs.Str.{bytes_eq}
 use Rattle.std.proofs.lemmas.List.Folds.{list_all-append}
 use Rattle.std.proofs.lemmas.Map.Text.{is_eq-slice_cmp}
 use Rattle.serde_json.specs.Data.{Data, null, boolean, number, string, array, object, unsigned, Members, no_members, member}
 use Rattle.serde_json.specs.Find.{get, get_member}
-use Rattle.vc_labels.specs.declared.action.Action.{Action}
 use Rattle.vc_labels.specs.declared.action.Action.TheVariants.{Out}
 use Rattle.vc_labels.specs.declared.row.Row.{Row}
 use Rattle.vc_plan.specs.declared.plan.Plan.{Plan}
@@ -23,11 +21,11 @@ use Rattle.vc_reader.specs.declared.fault.Why.TheVariants.{Unknown}
 use Rattle.vc_reader.specs.declared.word.Word.{Word}
 use Rattle.vc_reader.specs.declared.word.Word.TheVariants as word
 use Rattle.vc_reader.specs.Words.{word_text}
-use Rattle.vc_reader.specs.Reading.{◌>>=◌, cell, field, row, list_of, list_field, absent_or_list, under, is_word, has_only, object_of, number_of, wrong}
+use Rattle.vc_reader.specs.Reading.{cell, row, list_field, absent_or_list, under, is_word, has_only, object_of, number_of, wrong}
 use Rattle.vc_reader.specs.declared.path.Step.TheVariants.{Field}
 use Rattle.vc_reader.specs.Network.{header_of, limit_of, link_of, out_row, table_row, random_of, switch_words, switch_of}
 use Rattle.vc_reader.specs.NetworkText.{plan_of}
-use Rattle.vc_reader.proofs.Read.{Parts, parts, ok_is, then_ok, under_ok, field_ok, field_keeps, list_field_keeps, switch_parts}
+use Rattle.vc_reader.proofs.Read.{parts, ok_is, then_ok, field_ok, field_keeps, list_field_keeps, switch_parts}
 
 pub both_true : (a b : Bool) → a ≡ true → b ≡ true → (a && b) ≡ true
 both_true true b e f = f

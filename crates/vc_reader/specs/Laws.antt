@@ -1,5 +1,5 @@
 -- What holds of each plan that a value means.
-use Rattle.std.specs.Prelude.{List, ◌++◌, map, Bool, true, false}
+use Rattle.std.specs.Prelude.{◌++◌, map, Bool, true, false}
 use Rattle.std.specs.List.{AllByRecursion, IsDistinct}
 use Rattle.std.specs.Str.{bytes_eq}
 use Rattle.vc_plan.specs.declared.channel.Channel.{Channel}

@@ -8,3 +8,4 @@ pub mod Conditions
 pub mod Processes
 pub mod NetworkText
 pub mod Laws
+pub mod Faulty

@@ -1,12 +1,15 @@
 //! Laws of the plans that network files mean. A law is a function that does nothing, whose contract is the law.
-ghost use Rattle.std.specs.Prelude.{◌≡◌, true, Some, Ok};
+ghost use Rattle.std.specs.Prelude.{◌≡◌, true, false, Some, Ok, Err};
 ghost use Rattle.std.specs.List.{list_all};
 ghost use Rattle.serde_json.specs.Data.{Data, number, unsigned};
 ghost use Rattle.serde_json.specs.Find.{get};
+ghost use Rattle.vc_plan.specs.declared.limit_word.LimitWord.{LimitWord};
 ghost use Rattle.vc_plan.specs.declared.plan.Plan.{Plan};
-ghost use Rattle.vc_plan.specs.Limits.{switch_in_version_one};
+ghost use Rattle.vc_plan.specs.Limits.{limit_broken, switch_in_version_one};
+ghost use Rattle.vc_reader.specs.Faulty.{LeadsToFault};
+ghost use Rattle.vc_reader.specs.declared.fault.Fault.{Fault as FaultData};
 ghost use Rattle.vc_reader.specs.declared.word.Word.TheVariants.{Version};
-ghost use Rattle.vc_reader.specs.Laws.{HasDistinctNames};
+ghost use Rattle.vc_reader.specs.Laws.{HasDistinctNames, is_kept_by_files};
 ghost use Rattle.vc_reader.specs.NetworkText.{plan_of};
 ghost use Rattle.vc_reader.specs.Words.{word_text};
 
@@ -21,4 +24,17 @@ pub fn version_one_has_no_portals()
     ensures { (d : Data) (p : Plan) →
         get (word_text Version) d ≡ Some (number (unsigned 1)) → plan_of d ≡ Ok p →
         list_all switch_in_version_one p.switches ≡ true }
+{}
+
+/// Of a plan's limits no network file breaks those of its version, its messages, its numbers and its names. Where another is broken,
+/// none of these four comes before it.
+pub fn files_keep_four_limits()
+    ensures { (d : Data) (p : Plan) (limit : LimitWord) →
+        plan_of d ≡ Ok p → limit_broken p ≡ Some limit → is_kept_by_files limit ≡ false }
+{}
+
+/// The path of a refusal leads, in the file's value, to what is wrong. Where a field is missing it leads to an object that lacks that
+/// field; where something is out of its range, to a number or a text; where something is unknown, to a text or an object.
+pub fn faults_are_where_paths_lead()
+    ensures { (d : Data) (fault : FaultData) → plan_of d ≡ Err fault → LeadsToFault fault.path fault.why d }
 {}

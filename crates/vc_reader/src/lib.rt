@@ -25,7 +25,9 @@ mod wire;
 mod word;
 
 pub use fault::Why;
-pub use laws::{names_differ, version_one_has_no_portals};
+pub use laws::{
+    faults_are_where_paths_lead, files_keep_four_limits, names_differ, version_one_has_no_portals,
+};
 pub use network::read_network;
 pub use path::{Path, Step};
 pub use refused::ReadRefused;

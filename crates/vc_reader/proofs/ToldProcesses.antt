@@ -1,0 +1,379 @@
+-- The faults of processes lead to what is wrong.
+use Rattle.std.proofs.Common.{◌≡◌, ℕ, zero, suc, ◌+◌, List, [], ◌∷◌, length, refl, subst, arith, Bool, true, false, ◌==◌, if◌then◌else◌, nat_le, nat_lt, Some, Result, Ok}
+use Rattle.std.specs.Prelude.{min, ◌^◌, ◌-◌, ◌*◌, pos}
+use Rattle.std.specs.Str.{bytes_eq}
+use Rattle.std.specs.Cmp.Lexicographic.{bytes_decides}
+use Rattle.std.proofs.lemmas.Bool.Decides.{nat_tests}
+use Rattle.serde_json.specs.Data.{Data, null, boolean, number, string, array, object, unsigned, negative, float, Items, no_members, member}
+use Rattle.serde_json.specs.Find.{get_member}
+use Rattle.vc_process.specs.declared.bytes_expression.BytesExpr.TheVariants as bytes
+use Rattle.vc_process.specs.declared.condition.Cond.{Cond}
+use Rattle.vc_process.specs.declared.condition.Cond.TheVariants as cond
+use Rattle.vc_process.specs.declared.expression.Expr.{Expr}
+use Rattle.vc_process.specs.declared.expression.Expr.TheVariants as expr
+use Rattle.vc_process.specs.declared.operator.Op.{Op}
+use Rattle.vc_process.specs.declared.operator.Op.TheVariants.{Add, Sub, Mul, Div, Rem}
+use Rattle.vc_process.specs.declared.process.Branch.{Branch}
+use Rattle.vc_process.specs.declared.process.Guard.{Guard}
+use Rattle.vc_process.specs.declared.process.Process.{Process}
+use Rattle.vc_process.specs.declared.process.Process.TheVariants as process
+use Rattle.vc_process.specs.declared.relation.Rel.{Rel}
+use Rattle.vc_process.specs.declared.relation.Rel.TheVariants.{Eq, Ne, Lt, Gt, Le, Ge}
+use Rattle.vc_process.specs.declared.value.Value.TheVariants as value
+use Rattle.vc_process.specs.declared.value_kind.ValueKind.{ValueKind}
+use Rattle.vc_process.specs.declared.value_kind.ValueKind.TheVariants as kind
+use Rattle.vc_process.specs.Limits.{same_kind}
+use Rattle.vc_plan.specs.declared.channel.Channel.{Channel}
+use Rattle.vc_plan.specs.declared.node_plan.Variable.{Variable}
+use Rattle.vc_reader.specs.declared.condition.CondWord.{CondWord}
+use Rattle.vc_reader.specs.declared.condition.CondWord.TheVariants as cond_head
+use Rattle.vc_reader.specs.declared.expression.ExprWord.{ExprWord}
+use Rattle.vc_reader.specs.declared.expression.ExprWord.TheVariants as expr_head
+use Rattle.vc_reader.specs.declared.fault.Fault.{Fault}
+use Rattle.vc_reader.specs.declared.fault.Why.TheVariants as why
+use Rattle.vc_reader.specs.declared.path.Step.TheVariants.{Field}
+use Rattle.vc_reader.specs.declared.process.ProcessWord.{ProcessWord}
+use Rattle.vc_reader.specs.declared.process.ProcessWord.TheVariants as head_of
+use Rattle.vc_reader.specs.declared.word.Word.{Word}
+use Rattle.vc_reader.specs.declared.word.Word.TheVariants as word
+use Rattle.vc_reader.specs.Faulty.{number_out, text_too_long, unknown_field}
+use Rattle.vc_reader.specs.Bytes.{of_kind, variable_of, no_longer, hex_digit, hex_bytes, hex_of, literal_of, fill_of, formed_bytes, bytes_of}
+use Rattle.vc_reader.specs.Conditions.{cond_word, plain_cond, comparison_of, both_of, either_of, not_of, worded_cond, cond_step, cond_of, whole_cond}
+use Rattle.vc_reader.specs.Expressions.{int_of, leaf_of, expr_word, head, size_of, operation_of, worded_expr, expr_step, expr_of, whole_expr}
+use Rattle.vc_reader.specs.Names.{one_of}
+use Rattle.vc_reader.specs.Processes.{channel_named, variable_named, value_of, set_of, send_of, receive_of, stopch_of, plain_of, branch_of, while_of, count_of, guard_of, field_word, worded_process, named_process, process_step, process_of, whole_process}
+use Rattle.vc_reader.specs.Reading.{◌>>=◌, wrong, under, cell, list_of, count, text_of, number_of, only, by_only}
+use Rattle.vc_reader.specs.Words.{word_text}
+use Rattle.vc_reader.proofs.Leading.{IsTold, here, ok_told, kind_told, then_told, under_told, list_told, cell_told, row_told, text_told, if_told, number_told, one_of_told, first_member}
+use Rattle.vc_reader.proofs.Told.{cell_then}
+
+-- ---- variables, channels and bytes
+
+variable_told : (k : ValueKind) (vars : List Variable) (d : Data) → IsTold d (variable_of k vars d)
+variable_told k vars d = then_told d (one_of (λ (v : Variable). v.name) vars d) (of_kind k) (one_of_told (λ (v : Variable). v.name) vars d)
+    (λ found _. if_told d (same_kind k (found.1).kind) (Ok (min found.0 255)) (wrong why.Kind) (ok_told d (min found.0 255)) (kind_told d))
+
+channel_told : (channels : List Channel) (d : Data) → IsTold d (channel_named channels d)
+channel_told channels d = then_told d (one_of (λ (c : Channel). c.name) channels d) (λ found. Ok (min found.0 65535, (found.1).kind)) (one_of_told (λ (c : Channel). c.name) channels d)
+    (λ found _. ok_told d (min found.0 65535, (found.1).kind))
+
+named_told : (vars : List Variable) (d : Data) → IsTold d (variable_named vars d)
+named_told vars d = then_told d (one_of (λ (v : Variable). v.name) vars d) (λ found. Ok (min found.0 255, (found.1).kind)) (one_of_told (λ (v : Variable). v.name) vars d)
+    (λ found _. ok_told d (min found.0 255, (found.1).kind))
+
+longer_told : (s xs : List ℕ) → IsTold (string s) (no_longer xs)
+longer_told s xs = if_told (string s) (nat_le (length xs) 65535) (Ok xs) (wrong why.Range) (ok_told (string s) xs) (here (string s) why.Range (text_too_long s))
+
+digit_told : (d : Data) (c : ℕ) → IsTold d (hex_digit c)
+digit_told d c = if_told d _ (Ok (c - 48)) _ (ok_told d (c - 48)) (if_told d _ (Ok (c - 87)) (wrong why.Kind) (ok_told d (c - 87)) (kind_told d))
+
+hex_bytes_told : (d : Data) (xs : List ℕ) → IsTold d (hex_bytes xs)
+hex_bytes_told d [] = ok_told d []
+hex_bytes_told d (a ∷ []) = kind_told d
+hex_bytes_told d (a ∷ b ∷ rest) =
+    then_told d (hex_digit a) (λ h. hex_digit b >>= λ l. hex_bytes rest >>= λ o. Ok ((16 * h + l) ∷ o)) (digit_told d a) (λ h _.
+    then_told d (hex_digit b) (λ l. hex_bytes rest >>= λ o. Ok ((16 * h + l) ∷ o)) (digit_told d b) (λ l _.
+    then_told d (hex_bytes rest) (λ o. Ok ((16 * h + l) ∷ o)) (hex_bytes_told d rest) (λ o _. ok_told d ((16 * h + l) ∷ o))))
+
+-- a text, whose bytes are read, and are not too long
+texts_told : (read : List ℕ → Result (List ℕ) Fault) → ((s : List ℕ) → IsTold (string s) (read s)) → (d : Data) → IsTold d (text_of d >>= read >>= no_longer >>= λ xs. Ok (bytes.Lit xs))
+texts_told read told (string s) =
+    then_told (string s) (read s >>= no_longer) (λ xs. Ok (bytes.Lit xs)) (then_told (string s) (read s) no_longer (told s) (λ xs _. longer_told s xs)) (λ xs _. ok_told (string s) (bytes.Lit xs))
+texts_told read told null = kind_told null
+texts_told read told (boolean b) = kind_told (boolean b)
+texts_told read told (number n) = kind_told (number n)
+texts_told read told (array ds) = kind_told (array ds)
+texts_told read told (object ms) = kind_told (object ms)
+
+literal_told : (d : Data) → IsTold d (literal_of d)
+literal_told (string s) = then_told (string s) (no_longer s) (λ xs. Ok (bytes.Lit xs)) (longer_told s s) (λ xs _. ok_told (string s) (bytes.Lit xs))
+literal_told null = kind_told null
+literal_told (boolean b) = kind_told (boolean b)
+literal_told (number n) = kind_told (number n)
+literal_told (array ds) = kind_told (array ds)
+literal_told (object ms) = kind_told (object ms)
+
+fill_told : (d : Data) → IsTold d (fill_of d)
+fill_told = row_told 2 (λ d. cell 0 (number_of 0 255) d >>= λ b. cell 1 (number_of 0 65535) d >>= λ n. Ok (bytes.Fill b n)) (λ ds c.
+    cell_then 0 (number_of 0 255) ds (λ b. cell 1 (number_of 0 65535) (array ds) >>= λ n. Ok (bytes.Fill b n)) (omega (arith, c)) (number_told 0 255) (λ b.
+    cell_then 1 (number_of 0 65535) ds (λ n. Ok (bytes.Fill b n)) (omega (arith, c)) (number_told 0 65535) (λ n. ok_told (array ds) (bytes.Fill b n))))
+
+-- the one field of an object of one field
+abbrev TellsOnly : {A : Type 0} → (List ℕ → Data → Result A Fault) → Type 0
+TellsOnly read = (key : List ℕ) (d : Data) → IsTold (object (member key d no_members)) (read key d)
+
+only_told : {A : Type 0} (read : List ℕ → Data → Result A Fault) → TellsOnly read → (d : Data) → IsTold d (by_only read (only d))
+only_told read told (object (member key d no_members)) = told key d
+only_told read told (object (member key d (member l e ms))) = kind_told (object (member key d (member l e ms)))
+only_told read told (object no_members) = kind_told (object no_members)
+only_told read told null = kind_told null
+only_told read told (boolean b) = kind_told (boolean b)
+only_told read told (number n) = kind_told (number n)
+only_told read told (string s) = kind_told (string s)
+only_told read told (array ds) = kind_told (array ds)
+
+-- what is read under the word that the field has
+word_told : {A : Type 0} (w : Word) (key : List ℕ) (d : Data) (r other : Result A Fault) → IsTold d r → IsTold (object (member key d no_members)) other →
+    IsTold (object (member key d no_members)) (if bytes_eq key (word_text w) then under (Field w) r else other)
+word_told w key d r other told rest = go (bytes_eq key (word_text w)) refl
+  where
+    go : (b : Bool) → bytes_eq key (word_text w) ≡ b → IsTold (object (member key d no_members)) (if b then under (Field w) r else other)
+    go true is = under_told (Field w) (object (member key d no_members)) d r
+        (subst (λ k. get_member k (member key d no_members) ≡ Some d) ((bytes_decides key (word_text w)).0 is) (first_member key d no_members)) told
+    go false is = rest
+
+unknown_told : {A : Type 0} (key : List ℕ) (d : Data) → IsTold {A = A} (object (member key d no_members)) (wrong why.Unknown)
+unknown_told key d = here (object (member key d no_members)) why.Unknown (unknown_field (member key d no_members) key d (first_member key d no_members))
+
+formed_told : TellsOnly formed_bytes
+formed_told key d =
+    word_told word.Hex key d (hex_of d) _ (texts_told hex_bytes (λ s. hex_bytes_told (string s) s) d)
+    (word_told word.Text key d (literal_of d) _ (literal_told d)
+    (word_told word.Fill key d (fill_of d) (wrong why.Unknown) (fill_told d) (unknown_told key d)))
+
+bytes_told : (vars : List Variable) (d : Data) → IsTold d (bytes_of vars d)
+bytes_told vars (string s) = then_told (string s) (variable_of kind.Bytes vars (string s)) (λ n. Ok (bytes.Var n)) (variable_told kind.Bytes vars (string s)) (λ n _. ok_told (string s) (bytes.Var n))
+bytes_told vars (object ms) = only_told formed_bytes formed_told (object ms)
+bytes_told vars null = kind_told null
+bytes_told vars (boolean b) = kind_told (boolean b)
+bytes_told vars (number n) = kind_told (number n)
+bytes_told vars (array ds) = kind_told (array ds)
+
+-- ---- expressions
+
+int_told : (d : Data) → IsTold d (int_of d)
+int_told (number (unsigned n)) = if_told (number (unsigned n)) (nat_lt n (2 ^ 63)) (Ok (pos n)) (wrong why.Range) (ok_told (number (unsigned n)) (pos n)) (here (number (unsigned n)) why.Range (number_out (unsigned n)))
+int_told (number (negative z)) = ok_told (number (negative z)) z
+int_told (number (float x)) = kind_told (number (float x))
+int_told null = kind_told null
+int_told (boolean b) = kind_told (boolean b)
+int_told (string s) = kind_told (string s)
+int_told (array ds) = kind_told (array ds)
+int_told (object ms) = kind_told (object ms)
+
+leaf_told : (vars : List Variable) (d : Data) → IsTold d (leaf_of vars d)
+leaf_told vars (number n) = then_told (number n) (int_of (number n)) (λ z. Ok (expr.Num z)) (int_told (number n)) (λ z _. ok_told (number n) (expr.Num z))
+leaf_told vars (string s) = then_told (string s) (variable_of kind.Int vars (string s)) (λ n. Ok (expr.Var n)) (variable_told kind.Int vars (string s)) (λ n _. ok_told (string s) (expr.Var n))
+leaf_told vars null = kind_told null
+leaf_told vars (boolean b) = kind_told (boolean b)
+leaf_told vars (array ds) = kind_told (array ds)
+leaf_told vars (object ms) = kind_told (object ms)
+
+-- the word at the head of a list
+head_told : {A : Type 0} (read : Data → Result A Fault) (ds : Items) → ((d : Data) → IsTold d (read d)) → IsTold (array ds) (head read (array ds))
+head_told read ds told = go (count ds == 0) refl
+  where
+    go : (b : Bool) → (count ds == 0) ≡ b → IsTold (array ds) (if b then wrong why.Kind else cell 0 read (array ds))
+    go true is = kind_told (array ds)
+    go false is = cell_told 0 read ds (grind (arith, nat_tests)) told
+
+expr_word_told : (d : Data) → IsTold d (expr_word d)
+expr_word_told (string s) =
+    if_told (string s) _ (Ok expr_head.SizeOf) _ (ok_told (string s) expr_head.SizeOf)
+    (if_told (string s) _ (Ok (expr_head.Operator Add)) _ (ok_told (string s) (expr_head.Operator Add))
+    (if_told (string s) _ (Ok (expr_head.Operator Sub)) _ (ok_told (string s) (expr_head.Operator Sub))
+    (if_told (string s) _ (Ok (expr_head.Operator Mul)) _ (ok_told (string s) (expr_head.Operator Mul))
+    (if_told (string s) _ (Ok (expr_head.Operator Div)) _ (ok_told (string s) (expr_head.Operator Div))
+    (if_told (string s) _ (Ok (expr_head.Operator Rem)) (wrong why.Kind) (ok_told (string s) (expr_head.Operator Rem)) (kind_told (string s)))))))
+expr_word_told null = kind_told null
+expr_word_told (boolean b) = kind_told (boolean b)
+expr_word_told (number n) = kind_told (number n)
+expr_word_told (array ds) = kind_told (array ds)
+expr_word_told (object ms) = kind_told (object ms)
+
+size_told : (vars : List Variable) (d : Data) → IsTold d (size_of vars d)
+size_told vars = row_told 2 (λ d. cell 1 (variable_of kind.Bytes vars) d >>= λ v. Ok (expr.Size v)) (λ ds c.
+    cell_then 1 (variable_of kind.Bytes vars) ds (λ v. Ok (expr.Size v)) (omega (arith, c)) (variable_told kind.Bytes vars) (λ v. ok_told (array ds) (expr.Size v)))
+
+module _ (vars : List Variable) (part : Data → Result Expr Fault) (told : (d : Data) → IsTold d (part d)) where
+  operation_told : (op : Op) (d : Data) → IsTold d (operation_of part op d)
+  operation_told op = row_told 3 (λ d. cell 1 part d >>= λ a. cell 2 part d >>= λ b. Ok (expr.Bin op a b)) (λ ds c.
+      cell_then 1 part ds (λ a. cell 2 part (array ds) >>= λ b. Ok (expr.Bin op a b)) (omega (arith, c)) told (λ a.
+      cell_then 2 part ds (λ b. Ok (expr.Bin op a b)) (omega (arith, c)) told (λ b. ok_told (array ds) (expr.Bin op a b))))
+
+  worded_expr_told : (w : ExprWord) (d : Data) → IsTold d (worded_expr part vars w d)
+  worded_expr_told expr_head.SizeOf d = size_told vars d
+  worded_expr_told (expr_head.Operator op) d = operation_told op d
+
+  expr_step_told : (d : Data) → IsTold d (expr_step part vars d)
+  expr_step_told (array ds) = then_told (array ds) (head expr_word (array ds)) (λ w. worded_expr part vars w (array ds)) (head_told expr_word ds expr_word_told) (λ w _. worded_expr_told w (array ds))
+  expr_step_told (number n) = leaf_told vars (number n)
+  expr_step_told (string s) = leaf_told vars (string s)
+  expr_step_told null = leaf_told vars null
+  expr_step_told (boolean b) = leaf_told vars (boolean b)
+  expr_step_told (object ms) = leaf_told vars (object ms)
+
+expr_told : (depth : ℕ) (vars : List Variable) (d : Data) → IsTold d (expr_of depth vars d)
+expr_told zero vars d = leaf_told vars d
+expr_told (suc depth) vars d = expr_step_told vars (expr_of depth vars) (expr_told depth vars) d
+
+whole_told : (vars : List Variable) (d : Data) → IsTold d (whole_expr vars d)
+whole_told vars d = expr_told 127 vars d
+
+-- ---- conditions
+
+cond_word_told : (d : Data) → IsTold d (cond_word d)
+cond_word_told (string s) =
+    if_told (string s) _ (Ok (cond_head.Compare Eq)) _ (ok_told (string s) (cond_head.Compare Eq))
+    (if_told (string s) _ (Ok (cond_head.Compare Ne)) _ (ok_told (string s) (cond_head.Compare Ne))
+    (if_told (string s) _ (Ok (cond_head.Compare Lt)) _ (ok_told (string s) (cond_head.Compare Lt))
+    (if_told (string s) _ (Ok (cond_head.Compare Gt)) _ (ok_told (string s) (cond_head.Compare Gt))
+    (if_told (string s) _ (Ok (cond_head.Compare Le)) _ (ok_told (string s) (cond_head.Compare Le))
+    (if_told (string s) _ (Ok (cond_head.Compare Ge)) _ (ok_told (string s) (cond_head.Compare Ge))
+    (if_told (string s) _ (Ok cond_head.Both) _ (ok_told (string s) cond_head.Both)
+    (if_told (string s) _ (Ok cond_head.Either) _ (ok_told (string s) cond_head.Either)
+    (if_told (string s) _ (Ok cond_head.Neither) (wrong why.Kind) (ok_told (string s) cond_head.Neither) (kind_told (string s))))))))))
+cond_word_told null = kind_told null
+cond_word_told (boolean b) = kind_told (boolean b)
+cond_word_told (number n) = kind_told (number n)
+cond_word_told (array ds) = kind_told (array ds)
+cond_word_told (object ms) = kind_told (object ms)
+
+plain_cond_told : (d : Data) → IsTold d (plain_cond d)
+plain_cond_told (boolean b) = ok_told (boolean b) (cond.Always b)
+plain_cond_told null = kind_told null
+plain_cond_told (number n) = kind_told (number n)
+plain_cond_told (string s) = kind_told (string s)
+plain_cond_told (array ds) = kind_told (array ds)
+plain_cond_told (object ms) = kind_told (object ms)
+
+comparison_told : (vars : List Variable) (rel : Rel) (d : Data) → IsTold d (comparison_of vars rel d)
+comparison_told vars rel = row_told 3 (λ d. cell 1 (whole_expr vars) d >>= λ a. cell 2 (whole_expr vars) d >>= λ b. Ok (cond.Cmp rel a b)) (λ ds c.
+    cell_then 1 (whole_expr vars) ds (λ a. cell 2 (whole_expr vars) (array ds) >>= λ b. Ok (cond.Cmp rel a b)) (omega (arith, c)) (whole_told vars) (λ a.
+    cell_then 2 (whole_expr vars) ds (λ b. Ok (cond.Cmp rel a b)) (omega (arith, c)) (whole_told vars) (λ b. ok_told (array ds) (cond.Cmp rel a b))))
+
+module _ (vars : List Variable) (part : Data → Result Cond Fault) (told : (d : Data) → IsTold d (part d)) where
+  both_told : (d : Data) → IsTold d (both_of part d)
+  both_told = row_told 3 (λ d. cell 1 part d >>= λ a. cell 2 part d >>= λ b. Ok (cond.And a b)) (λ ds c.
+      cell_then 1 part ds (λ a. cell 2 part (array ds) >>= λ b. Ok (cond.And a b)) (omega (arith, c)) told (λ a.
+      cell_then 2 part ds (λ b. Ok (cond.And a b)) (omega (arith, c)) told (λ b. ok_told (array ds) (cond.And a b))))
+
+  either_told : (d : Data) → IsTold d (either_of part d)
+  either_told = row_told 3 (λ d. cell 1 part d >>= λ a. cell 2 part d >>= λ b. Ok (cond.Or a b)) (λ ds c.
+      cell_then 1 part ds (λ a. cell 2 part (array ds) >>= λ b. Ok (cond.Or a b)) (omega (arith, c)) told (λ a.
+      cell_then 2 part ds (λ b. Ok (cond.Or a b)) (omega (arith, c)) told (λ b. ok_told (array ds) (cond.Or a b))))
+
+  not_told : (d : Data) → IsTold d (not_of part d)
+  not_told = row_told 2 (λ d. cell 1 part d >>= λ a. Ok (cond.Not a)) (λ ds c. cell_then 1 part ds (λ a. Ok (cond.Not a)) (omega (arith, c)) told (λ a. ok_told (array ds) (cond.Not a)))
+
+  worded_cond_told : (w : CondWord) (d : Data) → IsTold d (worded_cond part vars w d)
+  worded_cond_told (cond_head.Compare rel) d = comparison_told vars rel d
+  worded_cond_told cond_head.Both d = both_told d
+  worded_cond_told cond_head.Either d = either_told d
+  worded_cond_told cond_head.Neither d = not_told d
+
+  cond_step_told : (d : Data) → IsTold d (cond_step part vars d)
+  cond_step_told (array ds) = then_told (array ds) (head cond_word (array ds)) (λ w. worded_cond part vars w (array ds)) (head_told cond_word ds cond_word_told) (λ w _. worded_cond_told w (array ds))
+  cond_step_told (boolean b) = plain_cond_told (boolean b)
+  cond_step_told null = plain_cond_told null
+  cond_step_told (number n) = plain_cond_told (number n)
+  cond_step_told (string s) = plain_cond_told (string s)
+  cond_step_told (object ms) = plain_cond_told (object ms)
+
+cond_told : (depth : ℕ) (vars : List Variable) (d : Data) → IsTold d (cond_of depth vars d)
+cond_told zero vars d = plain_cond_told d
+cond_told (suc depth) vars d = cond_step_told vars (cond_of depth vars) (cond_told depth vars) d
+
+whole_cond_told : (vars : List Variable) (d : Data) → IsTold d (whole_cond vars d)
+whole_cond_told vars d = cond_told 127 vars d
+
+-- ---- processes
+
+value_told : (k : ValueKind) (vars : List Variable) (d : Data) → IsTold d (value_of k vars d)
+value_told kind.Int vars d = then_told d (whole_expr vars d) (λ e. Ok (value.Int e)) (whole_told vars d) (λ e _. ok_told d (value.Int e))
+value_told kind.Bytes vars d = then_told d (bytes_of vars d) (λ b. Ok (value.Bytes b)) (bytes_told vars d) (λ b _. ok_told d (value.Bytes b))
+
+set_told : (vars : List Variable) (d : Data) → IsTold d (set_of vars d)
+set_told vars = row_told 2 (λ d. cell 0 (variable_named vars) d >>= λ v. cell 1 (value_of v.1 vars) d >>= λ x. Ok (process.Set v.0 x)) (λ ds c.
+    cell_then 0 (variable_named vars) ds (λ v. cell 1 (value_of v.1 vars) (array ds) >>= λ x. Ok (process.Set v.0 x)) (omega (arith, c)) (named_told vars) (λ v.
+    cell_then 1 (value_of v.1 vars) ds (λ x. Ok (process.Set v.0 x)) (omega (arith, c)) (value_told v.1 vars) (λ x. ok_told (array ds) (process.Set v.0 x))))
+
+send_told : (vars : List Variable) (channels : List Channel) (d : Data) → IsTold d (send_of vars channels d)
+send_told vars channels = row_told 2 (λ d. cell 0 (channel_named channels) d >>= λ n. cell 1 (value_of n.1 vars) d >>= λ x. Ok (process.Send n.0 x)) (λ ds c.
+    cell_then 0 (channel_named channels) ds (λ n. cell 1 (value_of n.1 vars) (array ds) >>= λ x. Ok (process.Send n.0 x)) (omega (arith, c)) (channel_told channels) (λ n.
+    cell_then 1 (value_of n.1 vars) ds (λ x. Ok (process.Send n.0 x)) (omega (arith, c)) (value_told n.1 vars) (λ x. ok_told (array ds) (process.Send n.0 x))))
+
+receive_told : (vars : List Variable) (channels : List Channel) (d : Data) → IsTold d (receive_of vars channels d)
+receive_told vars channels = row_told 2 (λ d. cell 0 (channel_named channels) d >>= λ n. cell 1 (variable_of n.1 vars) d >>= λ v. Ok (process.Receive n.0 v)) (λ ds c.
+    cell_then 0 (channel_named channels) ds (λ n. cell 1 (variable_of n.1 vars) (array ds) >>= λ v. Ok (process.Receive n.0 v)) (omega (arith, c)) (channel_told channels) (λ n.
+    cell_then 1 (variable_of n.1 vars) ds (λ v. Ok (process.Receive n.0 v)) (omega (arith, c)) (variable_told n.1 vars) (λ v. ok_told (array ds) (process.Receive n.0 v))))
+
+stopch_told : (channels : List Channel) (d : Data) → IsTold d (stopch_of channels d)
+stopch_told channels d = then_told d (channel_named channels d) (λ n. Ok (process.Stopch n.0)) (channel_told channels d) (λ n _. ok_told d (process.Stopch n.0))
+
+plain_told : (d : Data) (s : List ℕ) → IsTold d (plain_of s)
+plain_told d s = if_told d _ (Ok process.Skip) _ (ok_told d process.Skip) (if_told d _ (Ok process.Stop) (wrong why.Kind) (ok_told d process.Stop) (kind_told d))
+
+abbrev a_branch : Cond → Process → Branch
+a_branch c p = record { cond = c; body = p }
+
+abbrev a_guard : Cond → ℕ → ℕ → Process → Guard
+a_guard c n v p = record { cond = c; chan = n; var = v; body = p }
+
+module _ (vars : List Variable) (channels : List Channel) (part : Data → Result Process Fault) (told : (d : Data) → IsTold d (part d)) where
+  branch_told : (d : Data) → IsTold d (branch_of part vars d)
+  branch_told = row_told 2 (λ d. cell 0 (whole_cond vars) d >>= λ b. cell 1 part d >>= λ p. Ok (a_branch b p)) (λ ds c.
+      cell_then 0 (whole_cond vars) ds (λ b. cell 1 part (array ds) >>= λ p. Ok (a_branch b p)) (omega (arith, c)) (whole_cond_told vars) (λ b.
+      cell_then 1 part ds (λ p. Ok (a_branch b p)) (omega (arith, c)) told (λ p. ok_told (array ds) (a_branch b p))))
+
+  while_told : (d : Data) → IsTold d (while_of part vars d)
+  while_told = row_told 2 (λ d. cell 0 (whole_cond vars) d >>= λ b. cell 1 part d >>= λ p. Ok (process.While b p)) (λ ds c.
+      cell_then 0 (whole_cond vars) ds (λ b. cell 1 part (array ds) >>= λ p. Ok (process.While b p)) (omega (arith, c)) (whole_cond_told vars) (λ b.
+      cell_then 1 part ds (λ p. Ok (process.While b p)) (omega (arith, c)) told (λ p. ok_told (array ds) (process.While b p))))
+
+  count_told : (d : Data) → IsTold d (count_of part vars d)
+  count_told = row_told 4 (λ d. cell 0 (variable_of kind.Int vars) d >>= λ v. cell 1 (whole_expr vars) d >>= λ a. cell 2 (whole_expr vars) d >>= λ n. cell 3 part d >>= λ p. Ok (process.Count v a n p)) (λ ds c.
+      cell_then 0 (variable_of kind.Int vars) ds (λ v. cell 1 (whole_expr vars) (array ds) >>= λ a. cell 2 (whole_expr vars) (array ds) >>= λ n. cell 3 part (array ds) >>= λ p. Ok (process.Count v a n p)) (omega (arith, c)) (variable_told kind.Int vars) (λ v.
+      cell_then 1 (whole_expr vars) ds (λ a. cell 2 (whole_expr vars) (array ds) >>= λ n. cell 3 part (array ds) >>= λ p. Ok (process.Count v a n p)) (omega (arith, c)) (whole_told vars) (λ a.
+      cell_then 2 (whole_expr vars) ds (λ n. cell 3 part (array ds) >>= λ p. Ok (process.Count v a n p)) (omega (arith, c)) (whole_told vars) (λ n.
+      cell_then 3 part ds (λ p. Ok (process.Count v a n p)) (omega (arith, c)) told (λ p. ok_told (array ds) (process.Count v a n p))))))
+
+  guard_told : (d : Data) → IsTold d (guard_of part vars channels d)
+  guard_told = row_told 4 (λ d. cell 0 (whole_cond vars) d >>= λ b. cell 1 (channel_named channels) d >>= λ n. cell 2 (variable_of n.1 vars) d >>= λ v. cell 3 part d >>= λ p. Ok (a_guard b n.0 v p)) (λ ds c.
+      cell_then 0 (whole_cond vars) ds (λ b. cell 1 (channel_named channels) (array ds) >>= λ n. cell 2 (variable_of n.1 vars) (array ds) >>= λ v. cell 3 part (array ds) >>= λ p. Ok (a_guard b n.0 v p)) (omega (arith, c)) (whole_cond_told vars) (λ b.
+      cell_then 1 (channel_named channels) ds (λ n. cell 2 (variable_of n.1 vars) (array ds) >>= λ v. cell 3 part (array ds) >>= λ p. Ok (a_guard b n.0 v p)) (omega (arith, c)) (channel_told channels) (λ n.
+      cell_then 2 (variable_of n.1 vars) ds (λ v. cell 3 part (array ds) >>= λ p. Ok (a_guard b n.0 v p)) (omega (arith, c)) (variable_told n.1 vars) (λ v.
+      cell_then 3 part ds (λ p. Ok (a_guard b n.0 v p)) (omega (arith, c)) told (λ p. ok_told (array ds) (a_guard b n.0 v p))))))
+
+  worded_told : (w : ProcessWord) (d : Data) → IsTold d (worded_process part vars channels w d)
+  worded_told head_of.Set d = set_told vars d
+  worded_told head_of.Send d = send_told vars channels d
+  worded_told head_of.Receive d = receive_told vars channels d
+  worded_told head_of.Stopch d = stopch_told channels d
+  worded_told head_of.Seq d = then_told d (list_of (λ _. part) d) (λ ps. Ok (process.Seq ps)) (list_told (λ _. part) (λ _. told) d) (λ ps _. ok_told d (process.Seq ps))
+  worded_told head_of.Par d = then_told d (list_of (λ _. part) d) (λ ps. Ok (process.Par ps)) (list_told (λ _. part) (λ _. told) d) (λ ps _. ok_told d (process.Par ps))
+  worded_told head_of.If d = then_told d (list_of (λ _. branch_of part vars) d) (λ bs. Ok (process.If bs)) (list_told (λ _. branch_of part vars) (λ _. branch_told) d) (λ bs _. ok_told d (process.If bs))
+  worded_told head_of.While d = while_told d
+  worded_told head_of.Count d = count_told d
+  worded_told head_of.Alt d = then_told d (list_of (λ _. guard_of part vars channels) d) (λ gs. Ok (process.Alt gs)) (list_told (λ _. guard_of part vars channels) (λ _. guard_told) d) (λ gs _. ok_told d (process.Alt gs))
+
+  -- a process of the word that the field has
+  process_word_told : (w : ProcessWord) (key : List ℕ) (d : Data) (other : Result ProcessWord Fault) → IsTold (object (member key d no_members)) (other >>= λ u. under (Field (field_word u)) (worded_process part vars channels u d)) →
+      IsTold (object (member key d no_members)) ((if bytes_eq key (word_text (field_word w)) then Ok w else other) >>= λ u. under (Field (field_word u)) (worded_process part vars channels u d))
+  process_word_told w key d other rest = go (bytes_eq key (word_text (field_word w))) refl
+    where
+      go : (b : Bool) → bytes_eq key (word_text (field_word w)) ≡ b → IsTold (object (member key d no_members)) ((if b then Ok w else other) >>= λ u. under (Field (field_word u)) (worded_process part vars channels u d))
+      go true is = under_told (Field (field_word w)) (object (member key d no_members)) d (worded_process part vars channels w d)
+          (subst (λ k. get_member k (member key d no_members) ≡ Some d) ((bytes_decides key (word_text (field_word w))).0 is) (first_member key d no_members)) (worded_told w d)
+      go false is = rest
+
+  process_named_told : TellsOnly (named_process part vars channels)
+  process_named_told key d =
+      process_word_told head_of.Set key d _ (process_word_told head_of.Send key d _ (process_word_told head_of.Receive key d _ (process_word_told head_of.Stopch key d _
+      (process_word_told head_of.Seq key d _ (process_word_told head_of.Par key d _ (process_word_told head_of.If key d _ (process_word_told head_of.While key d _
+      (process_word_told head_of.Count key d _ (process_word_told head_of.Alt key d (wrong why.Unknown) (unknown_told key d))))))))))
+
+  process_step_told : (d : Data) → IsTold d (process_step part vars channels d)
+  process_step_told (string s) = plain_told (string s) s
+  process_step_told (object ms) = only_told (named_process part vars channels) process_named_told (object ms)
+  process_step_told null = kind_told null
+  process_step_told (boolean b) = kind_told (boolean b)
+  process_step_told (number n) = kind_told (number n)
+  process_step_told (array ds) = kind_told (array ds)
+
+process_told : (depth : ℕ) (vars : List Variable) (channels : List Channel) (d : Data) → IsTold d (process_of depth vars channels d)
+process_told zero vars channels d = text_told plain_of (λ s. plain_told (string s) s) d
+process_told (suc depth) vars channels d = process_step_told vars channels (process_of depth vars channels) (process_told depth vars channels) d
+
+pub whole_process_told : (vars : List Variable) (channels : List Channel) (d : Data) → IsTold d (whole_process vars channels d)
+whole_process_told vars channels d = process_told 127 vars channels d
