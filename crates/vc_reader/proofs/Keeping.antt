@@ -1,4 +1,4 @@
--- The limits that no network file breaks: a plan that was read keeps them.
+-- The first limit that a plan breaks that was read is none of its version, its messages, its numbers and its names.
 use Rattle.std.proofs.Common.{◌≡◌, ◌∙◌, ℕ, zero, suc, ◌≤◌, List, [], ◌∷◌, ◌++◌, length, refl, sym, ap, subst, arith, Bool, true, false, ◌&&◌, ◌||◌, ◌==◌, if◌then◌else◌, nat_le, nat_lt, slice_get, Option, Some, None, Ok}
 use Rattle.std.specs.Prelude.{min, option_map}
 use Rattle.std.specs.List.{list_all}
@@ -26,7 +26,7 @@ use Rattle.vc_plan.specs.declared.vlink.Vlink.{Vlink}
 use Rattle.vc_plan.specs.Limits.{is_name, kinds_of, limit_broken, message_ok, names_ok, node_names_ok, number_ok, process_names, spot_there, wire_there, ends_there, home_there, switch_in_version_one, unless_ok, vars_ok, version_ok, rows_ok, routes_ok, links_ok, random_ok, depth_ok, parts_ok}
 use Rattle.vc_reader.specs.declared.node.Head.{Head}
 use Rattle.vc_reader.specs.declared.word.Word.TheVariants as word
-use Rattle.vc_reader.specs.Laws.{is_kept_by_files}
+use Rattle.vc_reader.specs.Laws.{refuses_no_file}
 use Rattle.vc_reader.specs.Names.{new_name, has_name, found_of, known_or_not, one_of}
 use Rattle.vc_reader.specs.Network.{head_of, var_of, node_of, switch_of, is_place, place_named, place_of, link_of, wire_of, end_of, vlink_of, vlink_number, node_home, way_home, way_of, home_of, channel_of, header_of}
 use Rattle.vc_reader.specs.NetworkText.{node_plans, node_process, plan_of, vars_of}
@@ -290,16 +290,16 @@ module _ (d : Data) (p : Plan) (q : Parts d p) where
 -- ---- the first limit that is broken
 
 -- it is this one, which files may break, or one of those behind it
-may : (b : Bool) (x w : LimitWord) (next : Option LimitWord) → is_kept_by_files x ≡ false → (b ≡ true → next ≡ Some w → is_kept_by_files w ≡ false) → unless_ok b x next ≡ Some w → is_kept_by_files w ≡ false
+may : (b : Bool) (x w : LimitWord) (next : Option LimitWord) → refuses_no_file x ≡ false → (b ≡ true → next ≡ Some w → refuses_no_file w ≡ false) → unless_ok b x next ≡ Some w → refuses_no_file w ≡ false
 may true x w next free rest e = rest refl e
-may false x w next free rest e = subst (λ y. is_kept_by_files y ≡ false) (let c : Some x ≡ Some w = e in cc) free
+may false x w next free rest e = subst (λ y. refuses_no_file y ≡ false) (let c : Some x ≡ Some w = e in cc) free
 
 -- it is none that is kept
-kept : (b : Bool) (x w : LimitWord) (next : Option LimitWord) → b ≡ true → (next ≡ Some w → is_kept_by_files w ≡ false) → unless_ok b x next ≡ Some w → is_kept_by_files w ≡ false
+kept : (b : Bool) (x w : LimitWord) (next : Option LimitWord) → b ≡ true → (next ≡ Some w → refuses_no_file w ≡ false) → unless_ok b x next ≡ Some w → refuses_no_file w ≡ false
 kept true x w next is rest e = rest e
 kept false x w next is rest e = absurd (let c : false ≡ true = is in cc)
 
-pub limits_kept : (d : Data) (p : Plan) (w : LimitWord) → plan_of d ≡ Ok p → limit_broken p ≡ Some w → is_kept_by_files w ≡ false
+pub limits_kept : (d : Data) (p : Plan) (w : LimitWord) → plan_of d ≡ Ok p → limit_broken p ≡ Some w → refuses_no_file w ≡ false
 limits_kept d p w e broken =
     let q = parts d p e in
     kept (version_ok p) limit.Version w _ (version d p q)

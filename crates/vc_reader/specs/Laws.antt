@@ -11,13 +11,13 @@ use Rattle.vc_plan.specs.declared.plan.Plan.{Plan}
 use Rattle.vc_plan.specs.declared.switch_plan.SwitchPlan.{SwitchPlan}
 use Rattle.vc_plan.specs.declared.vlink.Vlink.{Vlink}
 
--- the limits that no network file breaks
-abbrev pub is_kept_by_files : LimitWord → Bool
-is_kept_by_files Version = true
-is_kept_by_files Message = true
-is_kept_by_files Number = true
-is_kept_by_files Name = true
-is_kept_by_files limit = false
+-- a plan that was read from a network file is never refused by these limits: where it breaks limits, the first is none of them
+abbrev pub refuses_no_file : LimitWord → Bool
+refuses_no_file Version = true
+refuses_no_file Message = true
+refuses_no_file Number = true
+refuses_no_file Name = true
+refuses_no_file limit = false
 
 -- no two nodes or switches have one name, no two virtual links, no two channels, and no two variables of one node
 pub record HasDistinctNames (p : Plan) : Type 0 where

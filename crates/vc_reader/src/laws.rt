@@ -9,7 +9,7 @@ ghost use Rattle.vc_plan.specs.Limits.{limit_broken, switch_in_version_one};
 ghost use Rattle.vc_reader.specs.Faulty.{LeadsToFault};
 ghost use Rattle.vc_reader.specs.declared.fault.Fault.{Fault as FaultData};
 ghost use Rattle.vc_reader.specs.declared.word.Word.TheVariants.{Version};
-ghost use Rattle.vc_reader.specs.Laws.{HasDistinctNames, is_kept_by_files};
+ghost use Rattle.vc_reader.specs.Laws.{HasDistinctNames, refuses_no_file};
 ghost use Rattle.vc_reader.specs.NetworkText.{plan_of};
 ghost use Rattle.vc_reader.specs.Words.{word_text};
 
@@ -26,15 +26,16 @@ pub fn version_one_has_no_portals()
         list_all switch_in_version_one p.switches ≡ true }
 {}
 
-/// Of a plan's limits no network file breaks those of its version, its messages, its numbers and its names. Where another is broken,
-/// none of these four comes before it.
-pub fn files_keep_four_limits()
+/// Where the plan of a network file breaks limits, the first of them is none of its version, its messages, its numbers and its names. So
+/// `check` refuses no network file by one of these four.
+pub fn four_limits_refuse_no_file()
     ensures { (d : Data) (p : Plan) (limit : LimitWord) →
-        plan_of d ≡ Ok p → limit_broken p ≡ Some limit → is_kept_by_files limit ≡ false }
+        plan_of d ≡ Ok p → limit_broken p ≡ Some limit → refuses_no_file limit ≡ false }
 {}
 
 /// The path of a refusal leads, in the file's value, to what is wrong. Where a field is missing it leads to an object that lacks that
 /// field; where something is out of its range, to a number or a text; where something is unknown, to a text or an object.
 pub fn faults_are_where_paths_lead()
-    ensures { (d : Data) (fault : FaultData) → plan_of d ≡ Err fault → LeadsToFault fault.path fault.why d }
+    ensures { (d : Data) (fault : FaultData) →
+        plan_of d ≡ Err fault → LeadsToFault fault.path fault.why d }
 {}

@@ -2,6 +2,9 @@
 //!
 //! The layer above knows that what `read_network` answers is exactly the network that the text means, a function from the JSON
 //! value to a plan or its first fault (`specs/NetworkText`).
+//!
+//! Laws say in the format's own words what holds of that function (`laws.rt`): names differ, no file is refused by four of the limits,
+//! a file of version 1 has no portals, and the path of a refusal leads to what is wrong.
 #![tactic(auto)]
 
 mod bytes;
@@ -26,7 +29,8 @@ mod word;
 
 pub use fault::Why;
 pub use laws::{
-    faults_are_where_paths_lead, files_keep_four_limits, names_differ, version_one_has_no_portals,
+    faults_are_where_paths_lead, four_limits_refuse_no_file, names_differ,
+    version_one_has_no_portals,
 };
 pub use network::read_network;
 pub use path::{Path, Step};

@@ -1,5 +1,5 @@
 use Rattle.vc_reader.proofs.Keeping.{limits_kept}
-use Rattle.vc_reader.proofs.laws.files_keep_four_limits.Goals as goal
+use Rattle.vc_reader.proofs.laws.four_limits_refuse_no_file.Goals as goal
 
 pub returns : goal.returns
 returns c = limits_kept
