@@ -4,7 +4,9 @@ use Rattle.std.specs.Result.{IsOkAnd}
 use Rattle.std.proofs.Math.Seq.{take-suc}
 use Rattle.std.proofs.lemmas.List.{take_all}
 use Rattle.vc_process.specs.declared.condition.Cond.{Cond}
+use Rattle.vc_process.specs.declared.expression.Expr.{Expr}
 use Rattle.vc_process.specs.declared.process.Process.{Process}
+use Rattle.vc_process.specs.declared.process.Process.TheVariants as process
 use Rattle.vc_process.specs.declared.process.Branch.{Branch}
 use Rattle.vc_process.specs.declared.process.Guard.{Guard}
 use Rattle.vc_process.specs.declared.process.Process.TheViews.{out-Branch, roll-Branch, roll-out-Branch, out-Guard, roll-Guard, roll-out-Guard}
@@ -12,6 +14,18 @@ use Rattle.vc_process.specs.declared.process.Process.TheViews.{out-Branch, roll-
 pub copied_as : {A E : Type 0} (r : Result A E) (x y : A) → x ≡ y → IfOk r (λ z. z ≡ x) → IfOk r (λ z. z ≡ y)
 copied_as (Ok z) x y e h = h ∙ e
 copied_as (Err m) x y e h = h
+
+pub copied_while : {E : Type 0} (r : Result Process E) (cond : Result Cond E) (b : Cond) (p q o : Process) → o ≡ process.While b p → IfOk cond (λ d. d ≡ b) → q ≡ p → IfOk r (λ made. IsOkAnd cond (λ d. made ≡ process.While d q)) → IfOk r (λ made. made ≡ o)
+copied_while (Ok made) (Ok d) b p q o is f h m = m ∙ ap (λ (z : Cond). process.While z q) f ∙ ap (λ (z : Process). process.While b z) h ∙ sym is
+copied_while (Ok made) (Err e) b p q o is f h m = absurd m
+copied_while (Err e) cond b p q o is f h m = tt
+
+pub copied_count : {E : Type 0} (r : Result Process E) (base count : Result Expr E) (v : ℕ) (a n : Expr) (p q o : Process) → o ≡ process.Count v a n p → IfOk base (λ c. c ≡ a) → IfOk count (λ m. m ≡ n) → q ≡ p → IfOk r (λ made. IsOkAnd base (λ c. IsOkAnd count (λ m. made ≡ process.Count v c m q))) → IfOk r (λ made. made ≡ o)
+copied_count (Ok made) (Ok c) (Ok m) v a n p q o is f g h k =
+    k ∙ ap (λ (z : Expr). process.Count v z m q) f ∙ ap (λ (z : Expr). process.Count v a z q) g ∙ ap (λ (z : Process). process.Count v a n z) h ∙ sym is
+copied_count (Ok made) (Ok c) (Err e) v a n p q o is f g h k = absurd k
+copied_count (Ok made) (Err e) count v a n p q o is f g h k = absurd k
+copied_count (Err e) base count v a n p q o is f g h k = tt
 
 -- a copy in a box
 pub copied_boxed : {A E : Type 0} (r copied : Result A E) (x y : A) → x ≡ y → IfOk copied (λ z. z ≡ x) → IfOk r (λ z. copied ≡ Ok z) → IfOk r (λ z. z ≡ y)

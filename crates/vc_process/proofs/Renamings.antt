@@ -61,6 +61,19 @@ module _ (ρ : ℕ → ℕ) where
   pub word_count : (v w : ℕ) (a c n m : Expr) (p q : Process) → w ≡ ρ v → exp c ≡ renamed_exp ρ (exp a) → exp m ≡ renamed_exp ρ (exp n) → IsRenamed ρ (number p) (number q) → IsRenamed ρ (number (process.Count v a n p)) (number (process.Count w c m q))
   word_count v w a c n m p q e f g h = by_numbers (process.Count v a n p) (process.Count w c m q) _ _ (number_count (process.Count v a n p) v a n p refl) (number_count (process.Count w c m q) w c m q refl) (count_renamed ρ v w a c n m (number p) (number q) e f g h)
 
+  pub while_next : {E : Type 0} (o : Process) (b : Cond) (p q : Process) (cond : Result Cond E) (r : Result Process E) → o ≡ process.While b p → IfOk cond (λ d. as_test d ≡ renamed_test ρ (as_test b)) → IsRenamed ρ (number p) (number q) → IfOk r (λ made. IsOkAnd cond (λ d. made ≡ process.While d q)) →
+      IfOk r (λ made. IsRenamed ρ (number o) (number made))
+  while_next o b p q (Ok d) (Ok made) is f h m = subst (λ z. IsRenamed ρ (number z) (number made)) (sym is) (subst (λ z. IsRenamed ρ (number (process.While b p)) (number z)) (sym m) (word_while b d p q f h))
+  while_next o b p q (Err e) (Ok made) is f h m = absurd m
+  while_next o b p q cond (Err e) is f h m = tt
+
+  pub count_next : {E : Type 0} (o : Process) (v w : ℕ) (a n : Expr) (p q : Process) (base count : Result Expr E) (r : Result Process E) → o ≡ process.Count v a n p → w ≡ ρ v → IfOk base (λ c. exp c ≡ renamed_exp ρ (exp a)) → IfOk count (λ m. exp m ≡ renamed_exp ρ (exp n)) → IsRenamed ρ (number p) (number q) → IfOk r (λ made. IsOkAnd base (λ c. IsOkAnd count (λ m. made ≡ process.Count w c m q))) →
+      IfOk r (λ made. IsRenamed ρ (number o) (number made))
+  count_next o v w a n p q (Ok c) (Ok m) (Ok made) is e f g h k = subst (λ z. IsRenamed ρ (number z) (number made)) (sym is) (subst (λ z. IsRenamed ρ (number (process.Count v a n p)) (number z)) (sym k) (word_count v w a c n m p q e f g h))
+  count_next o v w a n p q (Ok c) (Err x) (Ok made) is e f g h k = absurd k
+  count_next o v w a n p q (Err x) count (Ok made) is e f g h k = absurd k
+  count_next o v w a n p q base count (Err x) is e f g h k = tt
+
   are_more : (ps qs : List Numbered) (p q : Numbered) → AreRenamed ρ ps qs → IsRenamed ρ p q → AreRenamed ρ (ps ++ p ∷ []) (qs ++ q ∷ [])
   are_more [] [] p q h k = (k, tt)
   are_more (x ∷ ps) (y ∷ qs) p q h k = (h.0, are_more ps qs p q h.1 k)

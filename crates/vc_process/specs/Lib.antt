@@ -15,3 +15,4 @@ pub mod Terms
 pub mod Usage
 pub mod Values
 pub mod Renaming
+pub mod Moved

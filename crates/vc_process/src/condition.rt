@@ -1,8 +1,8 @@
 //! Conditions.
 ghost use Rattle.std.specs.Prelude.{◌≡◌, IfOk};
-ghost use Rattle.vc_process.specs.Renaming.{moved_by, renamed_exp, renamed_test};
+ghost use Rattle.vc_process.specs.Moved.{moved_exp, IsMovedTest};
 ghost use Rattle.vc_process.specs.Syntax.{Compare};
-ghost use Rattle.vc_process.specs.Terms.{as_test, exp};
+ghost use Rattle.vc_process.specs.Terms.{as_test};
 
 use crate::copies::boxed;
 use crate::expression::Expr;
@@ -87,7 +87,7 @@ impl Cond {
     #[cycle(moved)]
     #[tactic(auto, unfolding(crate::specs::Terms::as_test))]
     pub(crate) fn moved(&self, alloc: Global, by: u8) -> Result<Cond, Memory>
-        ensures { IfOk result (λ copy. as_test copy ≡ renamed_test (moved_by by) (as_test self.now)) }
+        ensures { IfOk result (λ copy. IsMovedTest by self.now copy) }
     {
         match self {
             Cond::Always(is_true) => Ok(Cond::Always(*is_true)),
@@ -119,7 +119,8 @@ fn moved_comparison(
     right: &Expr,
     by: u8,
 ) -> Result<Cond, Memory>
-    ensures { IfOk result (λ copy. as_test copy ≡ Compare rel (renamed_exp (moved_by by) (exp left.now)) (renamed_exp (moved_by by) (exp right.now))) }
+    ensures { IfOk result (λ copy.
+        as_test copy ≡ Compare rel (moved_exp by left.now) (moved_exp by right.now)) }
 {
     let left = left.moved(alloc, by)?;
     let right = right.moved(alloc, by)?;
@@ -129,7 +130,7 @@ fn moved_comparison(
 /// A condition over variables that are moved, in a box of its own.
 #[cycle(moved)]
 fn moved_boxed(alloc: Global, cond: &Boxed<Cond>, by: u8) -> Result<Boxed<Cond>, Memory>
-    ensures { IfOk result (λ copy. as_test copy ≡ renamed_test (moved_by by) (as_test cond.now)) }
+    ensures { IfOk result (λ copy. IsMovedTest by cond.now copy) }
 {
     boxed(alloc, cond.get().moved(alloc, by))
 }

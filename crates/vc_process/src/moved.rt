@@ -1,13 +1,11 @@
 //! Processes whose variables are moved: to the number of each variable so many are added.
-ghost use Rattle.std.specs.Prelude.{◌≡◌, IfOk, Ok, map};
-ghost use Rattle.vc_process.specs.InOrder.{number, number_branch, number_guard};
-ghost use Rattle.vc_process.specs.Renaming.{moved_by, renamed_test, IsRenamed, AreRenamed, AreRenamedBranches, IsRenamedGuard, AreRenamedGuards};
-ghost use Rattle.vc_process.specs.Terms.{as_test};
+ghost use Rattle.std.specs.Prelude.{IfOk};
+ghost use Rattle.vc_process.specs.Moved.{IsMoved, AreMoved, AreMovedBranches, IsMovedGuard, AreMovedGuards, IsMovedTest};
 
 use crate::condition::Cond;
 use crate::copies::{boxed, push_copied};
 use crate::expression::{Expr, moved_variable};
-use crate::process::{Branch, Guard, Process};
+use crate::process::{Branch, Guard, Process, count_of, while_of, with_condition};
 use crate::value::Value;
 use sqlite_items::{Boxed, Items};
 use std::alloc::Global;
@@ -15,7 +13,7 @@ use vc_packets::Memory;
 
 #[cycle(moved)]
 fn moved_process(alloc: Global, process: &Process, by: u8) -> Result<Process, Memory>
-    ensures { IfOk result (λ copy. IsRenamed (moved_by by) (number process.now) (number copy)) }
+    ensures { IfOk result (λ copy. IsMoved by process.now copy) }
 {
     match process {
         Process::Skip => Ok(Process::Skip),
@@ -41,7 +39,7 @@ fn moved_process(alloc: Global, process: &Process, by: u8) -> Result<Process, Me
         }
         Process::While { cond, body } => {
             let body = moved_body(alloc, body, by)?;
-            repeated(alloc, cond, body, by)
+            while_of(cond.moved(alloc, by), body)
         }
         Process::Count {
             var,
@@ -50,7 +48,12 @@ fn moved_process(alloc: Global, process: &Process, by: u8) -> Result<Process, Me
             body,
         } => {
             let body = moved_body(alloc, body, by)?;
-            counted(alloc, *var, base, count, body, by)
+            count_of(
+                moved_variable(*var, by),
+                base.moved(alloc, by),
+                count.moved(alloc, by),
+                body,
+            )
         }
         Process::Alt(guards) => {
             let guards = moved_guards(alloc, guards, by)?;
@@ -61,7 +64,7 @@ fn moved_process(alloc: Global, process: &Process, by: u8) -> Result<Process, Me
 
 /// An assignment to a variable that is moved.
 fn assigned(alloc: Global, var: u8, value: &Value, by: u8) -> Result<Process, Memory>
-    ensures { IfOk result (λ copy. IsRenamed (moved_by by) (number (Process.Set var value.now)) (number copy)) }
+    ensures { IfOk result (λ copy. IsMoved by (Process.Set var value.now) copy) }
 {
     let value = value.moved(alloc, by)?;
     Ok(Process::Set {
@@ -72,51 +75,22 @@ fn assigned(alloc: Global, var: u8, value: &Value, by: u8) -> Result<Process, Me
 
 /// An output of a value that is moved.
 fn sent(alloc: Global, chan: u16, value: &Value, by: u8) -> Result<Process, Memory>
-    ensures { IfOk result (λ copy. IsRenamed (moved_by by) (number (Process.Send chan value.now)) (number copy)) }
+    ensures { IfOk result (λ copy. IsMoved by (Process.Send chan value.now) copy) }
 {
     let value = value.moved(alloc, by)?;
     Ok(Process::Send { chan, value })
 }
 
-/// A WHILE whose body is moved already.
-fn repeated(alloc: Global, cond: &Cond, body: Boxed<Process>, by: u8) -> Result<Process, Memory>
-    ensures { IfOk result (λ copy. (was : Process) → IsRenamed (moved_by by) (number was) (number body) → IsRenamed (moved_by by) (number (Process.While cond.now was)) (number copy)) }
-{
-    let cond = cond.moved(alloc, by)?;
-    Ok(Process::While { cond, body })
-}
-
-/// A replicated SEQ whose body is moved already.
-fn counted(
-    alloc: Global,
-    var: u8,
-    base: &Expr,
-    count: &Expr,
-    body: Boxed<Process>,
-    by: u8,
-) -> Result<Process, Memory>
-    ensures { IfOk result (λ copy. (was : Process) → IsRenamed (moved_by by) (number was) (number body) → IsRenamed (moved_by by) (number (Process.Count var base.now count.now was)) (number copy)) }
-{
-    let base = base.moved(alloc, by)?;
-    let count = count.moved(alloc, by)?;
-    Ok(Process::Count {
-        var: moved_variable(var, by),
-        base,
-        count,
-        body,
-    })
-}
-
 #[cycle(moved)]
 fn moved_body(alloc: Global, body: &Boxed<Process>, by: u8) -> Result<Boxed<Process>, Memory>
-    ensures { IfOk result (λ copy. IsRenamed (moved_by by) (number body.now) (number copy)) }
+    ensures { IfOk result (λ copy. IsMoved by body.now copy) }
 {
     boxed(alloc, moved_process(alloc, body.get(), by))
 }
 
 #[cycle(moved)]
 fn moved_parts(alloc: Global, parts: &Items<Process>, by: u8) -> Result<Items<Process>, Memory>
-    ensures { IfOk result (λ copies. AreRenamed (moved_by by) (map number parts.now) (map number copies)) }
+    ensures { IfOk result (λ copies. AreMoved by parts.now copies) }
 {
     let mut copies = Items::new(alloc);
     for part in parts.as_slice() {
@@ -129,7 +103,7 @@ fn moved_parts(alloc: Global, parts: &Items<Process>, by: u8) -> Result<Items<Pr
 
 #[cycle(moved)]
 fn moved_branches(alloc: Global, branches: &Items<Branch>, by: u8) -> Result<Items<Branch>, Memory>
-    ensures { IfOk result (λ copies. AreRenamedBranches (moved_by by) (map number_branch branches.now) (map number_branch copies)) }
+    ensures { IfOk result (λ copies. AreMovedBranches by branches.now copies) }
 {
     let mut copies = Items::new(alloc);
     for branch in branches.as_slice() {
@@ -144,23 +118,15 @@ fn moved_branches(alloc: Global, branches: &Items<Branch>, by: u8) -> Result<Ite
 /// What is done under a condition.
 #[cycle(moved)]
 fn moved_conditional(alloc: Global, cond: &Cond, body: &Process, by: u8) -> Result<Branch, Memory>
-    ensures { IfOk result (λ copy. (as_test copy.cond ≡ renamed_test (moved_by by) (as_test cond.now)) × IsRenamed (moved_by by) (number body.now) (number copy.body)) }
+    ensures { IfOk result (λ copy. IsMovedTest by cond.now copy.cond × IsMoved by body.now copy.body) }
 {
     let cond = cond.moved(alloc, by)?;
     with_condition(cond, moved_process(alloc, body, by))
 }
 
-/// What is done under the condition, unless it could not be moved.
-fn with_condition(cond: Cond, body: Result<Process, Memory>) -> Result<Branch, Memory>
-    ensures { IfOk result (λ copy. (copy.cond ≡ cond) × (body ≡ Ok copy.body)) }
-{
-    let body = body?;
-    Ok(Branch { cond, body })
-}
-
 #[cycle(moved)]
 fn moved_guards(alloc: Global, guards: &Items<Guard>, by: u8) -> Result<Items<Guard>, Memory>
-    ensures { IfOk result (λ copies. AreRenamedGuards (moved_by by) (map number_guard guards.now) (map number_guard copies)) }
+    ensures { IfOk result (λ copies. AreMovedGuards by guards.now copies) }
 {
     let mut copies = Items::new(alloc);
     for guard in guards.as_slice() {
@@ -173,7 +139,7 @@ fn moved_guards(alloc: Global, guards: &Items<Guard>, by: u8) -> Result<Items<Gu
 
 #[cycle(moved)]
 fn moved_guard(alloc: Global, guard: &Guard, by: u8) -> Result<Guard, Memory>
-    ensures { IfOk result (λ copy. IsRenamedGuard (moved_by by) (number_guard guard.now) (number_guard copy)) }
+    ensures { IfOk result (λ copy. IsMovedGuard by guard.now copy) }
 {
     let Branch { cond, body } = moved_conditional(alloc, &guard.cond, &guard.body, by)?;
     Ok(Guard {
@@ -187,7 +153,7 @@ fn moved_guard(alloc: Global, guard: &Guard, by: u8) -> Result<Guard, Memory>
 impl Process {
     /// The same process over other variables: to the number of each `by` is added, as a byte. Its channels stay.
     pub fn moved(&self, alloc: Global, by: u8) -> Result<Process, Memory>
-        ensures { IfOk result (λ copy. IsRenamed (moved_by by) (number self.now) (number copy)) }
+        ensures { IfOk result (λ copy. IsMoved by self.now copy) }
     {
         moved_process(alloc, self, by)
     }

@@ -1,5 +1,6 @@
 //! Processes, as they are written.
 ghost use Rattle.std.specs.Prelude.{◌≡◌, IfOk, Ok};
+ghost use Rattle.std.specs.Result.{IsOkAnd};
 
 use crate::condition::Cond;
 use crate::copies::{boxed, push_copied};
@@ -115,7 +116,7 @@ fn copy_process(alloc: Global, process: &Process) -> Result<Process, Memory>
         Process::If(branches) => copy_branches(alloc, branches).map(Process::If),
         Process::While { cond, body } => {
             let body = copy_body(alloc, body)?;
-            repeated(alloc, cond, body)
+            while_of(cond.copy(alloc), body)
         }
         Process::Count {
             var,
@@ -124,7 +125,7 @@ fn copy_process(alloc: Global, process: &Process) -> Result<Process, Memory>
             body,
         } => {
             let body = copy_body(alloc, body)?;
-            counted(alloc, *var, base, count, body)
+            count_of(*var, base.copy(alloc), count.copy(alloc), body)
         }
         Process::Alt(guards) => copy_guards(alloc, guards).map(Process::Alt),
     }
@@ -146,26 +147,26 @@ fn sent(alloc: Global, chan: u16, value: &Value) -> Result<Process, Memory>
     Ok(Process::Send { chan, value })
 }
 
-/// A WHILE with an equal condition.
-fn repeated(alloc: Global, cond: &Cond, body: Boxed<Process>) -> Result<Process, Memory>
-    ensures { IfOk result (λ copy. copy ≡ Process.While cond.now body) }
+/// A WHILE, unless its condition could not be copied.
+pub(crate) fn while_of(cond: Result<Cond, Memory>, body: Boxed<Process>) -> Result<Process, Memory>
+    ensures { IfOk result (λ made. IsOkAnd cond (λ test. made ≡ Process.While test body)) }
 {
-    let cond = cond.copy(alloc)?;
+    let cond = cond?;
     Ok(Process::While { cond, body })
 }
 
-/// A replicated SEQ with an equal base and count.
-fn counted(
-    alloc: Global,
+/// A replicated SEQ, unless its base or its count could not be copied.
+pub(crate) fn count_of(
     var: u8,
-    base: &Expr,
-    count: &Expr,
+    base: Result<Expr, Memory>,
+    count: Result<Expr, Memory>,
     body: Boxed<Process>,
 ) -> Result<Process, Memory>
-    ensures { IfOk result (λ copy. copy ≡ Process.Count var base.now count.now body) }
+    ensures { IfOk result (λ made. IsOkAnd base (λ first. IsOkAnd count (λ turns.
+        made ≡ Process.Count var first turns body))) }
 {
-    let base = base.copy(alloc)?;
-    let count = count.copy(alloc)?;
+    let base = base?;
+    let count = count?;
     Ok(Process::Count {
         var,
         base,
@@ -217,8 +218,8 @@ fn copy_conditional(alloc: Global, cond: &Cond, body: &Process) -> Result<Branch
     with_condition(cond, copy_process(alloc, body))
 }
 
-/// What is done under the condition, unless its copy failed.
-fn with_condition(cond: Cond, body: Result<Process, Memory>) -> Result<Branch, Memory>
+/// What is done under the condition, unless it could not be copied.
+pub(crate) fn with_condition(cond: Cond, body: Result<Process, Memory>) -> Result<Branch, Memory>
     ensures { IfOk result (λ copy. (copy.cond ≡ cond) × (body ≡ Ok copy.body)) }
 {
     let body = body?;

@@ -1,6 +1,6 @@
 use Rattle.std.proofs.Common.{refl}
 use Rattle.vc_process.specs.Renaming.{moved_by}
-use Rattle.vc_process.proofs.Renamings.{parts_next, branches_next, guards_next, guard_word, word_skip, word_stop, word_receive, word_stopch, word_seq, word_par, word_if, word_alt}
+use Rattle.vc_process.proofs.Renamings.{parts_next, branches_next, guards_next, guard_word, word_skip, word_stop, word_receive, word_stopch, word_seq, word_par, word_if, word_alt, while_next, count_next}
 use Rattle.vc_process.proofs.moved.+moved.Goals as goal
 
 pub moved_parts-loop-part-preserved : goal.moved_parts-loop-part-preserved
@@ -44,3 +44,11 @@ moved_process-returns-in_ok-guards-in-Alt t c = word_alt (moved_by c.args.by) c.
 
 pub moved_guard-returns : goal.moved_guard-returns
 moved_guard-returns t c = guard_word (moved_by c.args.by) c.args.guard.now _ c.in_ok-cond.ensures.0 refl c.moved_variable.ensures c.in_ok-cond.ensures.1
+
+pub moved_process-returns-in_ok-body-in-While : goal.moved_process-returns-in_ok-body-in-While
+moved_process-returns-in_ok-body-in-While t c =
+    while_next (moved_by c.args.by) c.args.process.now c.in-While.cond _ _ c.moved.result _ c.in-While.is c.moved.ensures c.in_ok-body-in-While.ensures c.while_of.ensures
+
+pub moved_process-returns-in_ok-body-in-Count : goal.moved_process-returns-in_ok-body-in-Count
+moved_process-returns-in_ok-body-in-Count t c =
+    count_next (moved_by c.args.by) c.args.process.now c.in-Count.var c.moved_variable-in-Count.result c.in-Count.base c.in-Count.count _ _ c.moved-in-Count.result c.moved-in-Count-2.result _ c.in-Count.is c.moved_variable-in-Count.ensures c.moved-in-Count.ensures c.moved-in-Count-2.ensures c.in_ok-body-in-Count.ensures c.count_of.ensures

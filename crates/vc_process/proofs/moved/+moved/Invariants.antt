@@ -1,17 +1,16 @@
-use Rattle.std.proofs.Common.{◌+◌, ◌*◌, take, map}
+use Rattle.std.proofs.Common.{◌+◌, ◌*◌, take}
 use Rattle.vc_process.proofs.process.Process.TheLaws.{the_size}
-use Rattle.vc_process.specs.InOrder.{number, number_branch, number_guard}
-use Rattle.vc_process.specs.Renaming.{moved_by, AreRenamed, AreRenamedBranches, AreRenamedGuards}
+use Rattle.vc_process.specs.Moved.{AreMoved, AreMovedBranches, AreMovedGuards}
 use Rattle.vc_process.proofs.moved.+moved.Given as goal
 
 abbrev pub invariant-moved_parts-loop-part : goal.invariant-moved_parts-loop-part
-invariant-moved_parts-loop-part l = AreRenamed (moved_by l.by) (map number (take l.part-index l.part-items)) (map number l.copies)
+invariant-moved_parts-loop-part l = AreMoved l.by (take l.part-index l.part-items) l.copies
 
 abbrev pub invariant-moved_branches-loop-branch : goal.invariant-moved_branches-loop-branch
-invariant-moved_branches-loop-branch l = AreRenamedBranches (moved_by l.by) (map number_branch (take l.branch-index l.branch-items)) (map number_branch l.copies)
+invariant-moved_branches-loop-branch l = AreMovedBranches l.by (take l.branch-index l.branch-items) l.copies
 
 abbrev pub invariant-moved_guards-loop-guard : goal.invariant-moved_guards-loop-guard
-invariant-moved_guards-loop-guard l = AreRenamedGuards (moved_by l.by) (map number_guard (take l.guard-index l.guard-items)) (map number_guard l.copies)
+invariant-moved_guards-loop-guard l = AreMovedGuards l.by (take l.guard-index l.guard-items) l.copies
 
 abbrev pub decreases-moved_body : goal.decreases-moved_body
 decreases-moved_body l = 2 * goal.size-moved_body l + 1

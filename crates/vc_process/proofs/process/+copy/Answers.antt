@@ -1,8 +1,6 @@
-use Rattle.std.proofs.Common.{ap, sym, ◌∙◌}
+use Rattle.std.proofs.Common.{sym}
 use Rattle.std.proofs.lemmas.Result.{IfOk-from_err}
-use Rattle.vc_process.specs.declared.process.Process.{Process}
-use Rattle.vc_process.specs.declared.process.Process.TheVariants as process
-use Rattle.vc_process.proofs.Copied.{copied_as, copied_boxed, copied_next, copied_all, copied_branch, copied_conditional, copied_guard}
+use Rattle.vc_process.proofs.Copied.{copied_as, copied_while, copied_count, copied_boxed, copied_next, copied_all, copied_branch, copied_conditional, copied_guard}
 use Rattle.vc_process.proofs.process.+copy.Goals as goal
 
 pub copy_body-returns : goal.copy_body-returns
@@ -79,8 +77,8 @@ copy_process-returns-in-Stopch t c = sym c.in-Stopch.is
 
 pub copy_process-returns-in_ok-body-in-While : goal.copy_process-returns-in_ok-body-in-While
 copy_process-returns-in_ok-body-in-While t c =
-    copied_as c.repeated.result _ _ (ap (λ (b : Process). process.While c.in-While.cond b) c.in_ok-body-in-While.ensures ∙ sym c.in-While.is) c.repeated.ensures
+    copied_while _ c.copy.result c.in-While.cond _ _ _ c.in-While.is c.copy.ensures c.in_ok-body-in-While.ensures c.while_of.ensures
 
 pub copy_process-returns-in_ok-body-in-Count : goal.copy_process-returns-in_ok-body-in-Count
 copy_process-returns-in_ok-body-in-Count t c =
-    copied_as c.counted.result _ _ (ap (λ (b : Process). process.Count c.in-Count.var c.in-Count.base c.in-Count.count b) c.in_ok-body-in-Count.ensures ∙ sym c.in-Count.is) c.counted.ensures
+    copied_count _ c.copy-in-Count.result c.copy-in-Count-2.result c.in-Count.var c.in-Count.base c.in-Count.count _ _ _ c.in-Count.is c.copy-in-Count.ensures c.copy-in-Count-2.ensures c.in_ok-body-in-Count.ensures c.count_of.ensures
