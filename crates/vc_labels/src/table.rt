@@ -80,7 +80,7 @@ impl Table {
 
     /// The table of these rows, or the fault of the first row that has one. It takes no memory.
     pub fn new(rows: Items<Row>) -> Result<Table, TableFault>
-        ensures table { MatchResult result (λ t. t ≡ rows) (λ fault. table_fault rows ≡ Some fault) }
+        ensures table { MatchResult result (λ t. t ≡ rows) (λ f. table_fault rows ≡ Some f) }
         ensures lawful { IsOk result ↔ IsLawful rows }
     {
         match fault_of_rows(rows.as_slice()) {
