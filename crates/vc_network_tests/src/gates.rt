@@ -1,4 +1,5 @@
 //! Runs in threads whose gates show who makes the turns.
+use crate::events::{act, event};
 use crate::networks::{HELLO, accept, replayed};
 use crate::play::same_view;
 use std::alloc::Global;
@@ -34,44 +35,14 @@ fn count(events: &[Event], actor: u8) -> usize {
 /// both grants with the first words of its generator, grants its own places, and its input begins. The stamps are 1, 2, 2, 3, 3, 4, 5
 /// and 6.
 const HELD: &[Event] = &[
-    Event {
-        actor: 0,
-        act: Act::Fct { link: 0 },
-    },
-    Event {
-        actor: 0,
-        act: Act::Fct { link: 0 },
-    },
-    Event {
-        actor: 1,
-        act: Act::Take {
-            link: 0,
-            word: 257813417,
-        },
-    },
-    Event {
-        actor: 0,
-        act: Act::Proc(Move::Offer { site: 0, chan: 0 }),
-    },
-    Event {
-        actor: 1,
-        act: Act::Take {
-            link: 0,
-            word: 407017181,
-        },
-    },
-    Event {
-        actor: 1,
-        act: Act::Fct { link: 0 },
-    },
-    Event {
-        actor: 1,
-        act: Act::Fct { link: 0 },
-    },
-    Event {
-        actor: 1,
-        act: Act::Proc(Move::Want { site: 0, chan: 0 }),
-    },
+    event!(0, Fct 0),
+    event!(0, Fct 0),
+    event!(1, take 0 257813417),
+    event!(0, offer 0 on 0),
+    event!(1, take 0 407017181),
+    event!(1, Fct 0),
+    event!(1, Fct 0),
+    event!(1, want 0 on 0),
 ];
 
 /// How a run closed, how many steps node a made, whether the steps are those of the list above, how many messages were offered and

@@ -4,6 +4,8 @@
 #[cfg(test)]
 mod choices;
 #[cfg(test)]
+mod events;
+#[cfg(test)]
 mod gates;
 #[cfg(test)]
 mod memory;

@@ -1,4 +1,5 @@
 //! A list of events that is refused, and a network that is put together.
+use crate::events::{act, event};
 use crate::networks::{HELLO, accept, replayed};
 use crate::play::same_view;
 use std::alloc::Global;
@@ -10,30 +11,12 @@ use vc_tokens::Token;
 
 /// Events of the hello network. The last but two is not enabled, since node a has no credit.
 const EVENTS: &[Event] = &[
-    Event {
-        actor: 0,
-        act: Act::Fct { link: 0 },
-    },
-    Event {
-        actor: 1,
-        act: Act::Take { link: 0, word: 7 },
-    },
-    Event {
-        actor: 0,
-        act: Act::Proc(Move::Offer { site: 0, chan: 0 }),
-    },
-    Event {
-        actor: 0,
-        act: Act::Put { link: 0 },
-    },
-    Event {
-        actor: 1,
-        act: Act::Fct { link: 0 },
-    },
-    Event {
-        actor: 0,
-        act: Act::Take { link: 0, word: 7 },
-    },
+    event!(0, Fct 0),
+    event!(1, take 0 7),
+    event!(0, offer 0 on 0),
+    event!(0, Put 0),
+    event!(1, Fct 0),
+    event!(0, take 0 7),
 ];
 
 /// Whether the network is the one after the first three events: it shows the same, and goes on by the two behind the refused one, and

@@ -1,4 +1,5 @@
 //! Packets that a switch sends on before their mark has come.
+use crate::events::act;
 use crate::networks::{SQUARES, accept};
 use crate::play::Play;
 use std::alloc::Global;
@@ -97,57 +98,32 @@ fn wrong_step(alloc: Global, text: &str, steps: &[Step]) -> Result<Option<usize>
     Ok(None)
 }
 
-/// An act: `Put 0` by link 0, `0 to 4` where the packet at input 0 is bound to output 4, `offer 1 on 0` of site 1 on channel 0.
-macro_rules! act {
-    (take $link:literal) => {
-        Act::Take {
-            link: $link,
-            word: 0,
-        }
-    };
-    ($kind:ident $link:literal) => {
-        Act::$kind { link: $link }
-    };
-    ($input:literal to $output:literal) => {
-        Act::Route {
-            input: $input,
-            output: $output,
-        }
-    };
-    (offer $site:literal on $chan:literal) => {
-        Act::Proc(Move::Offer {
-            site: $site,
-            chan: $chan,
-        })
-    };
-}
-
 /// Switch s binds a's packet once its two bytes `00 0a` have passed, and puts them, though their mark is still at a. The packet has 13
 /// tokens as a puts it, and 11 as t puts it, which deletes the header of s and t.
 const FORWARDS: &[Step] = &[
     Step::Makes(S, act!(Fct 0)),
-    Step::Makes(A, act!(take 0)),
+    Step::Makes(A, act!(take 0 0)),
     Step::Makes(A, act!(offer 1 on 0)),
     Step::Makes(A, act!(Put 0)),
-    Step::Makes(S, act!(take 0)),
+    Step::Makes(S, act!(take 0 0)),
     Step::Makes(S, act!(Pass 0)),
     Step::Refuses(S, act!(0 to 4)),
     Step::Makes(A, act!(Put 0)),
-    Step::Makes(S, act!(take 0)),
+    Step::Makes(S, act!(take 0 0)),
     Step::Refuses(S, act!(0 to 4)),
     Step::Makes(S, act!(Pass 0)),
     Step::Makes(S, act!(0 to 4)),
     Step::Refuses(S, act!(Put 4)),
     Step::Makes(T, act!(Fct 4)),
-    Step::Makes(S, act!(take 4)),
+    Step::Makes(S, act!(take 4 0)),
     Step::Stands(Place::Queue(A)),
     Step::Makes(S, act!(Put 4)),
     Step::Makes(S, act!(Put 4)),
     Step::Refuses(S, act!(Put 4)),
-    Step::Makes(T, act!(take 4)),
+    Step::Makes(T, act!(take 4 0)),
     Step::Makes(T, act!(Pass 4)),
     Step::Refuses(T, act!(4 to 0)),
-    Step::Makes(T, act!(take 4)),
+    Step::Makes(T, act!(take 4 0)),
     Step::Makes(T, act!(Pass 4)),
     Step::Makes(T, act!(4 to 0)),
     Step::Stands(Place::Queue(A)),
@@ -161,20 +137,20 @@ const FORWARDS: &[Step] = &[
 const SHARES: &[Step] = &[
     Step::Makes(SHARED_S, act!(Fct 0)),
     Step::Makes(SHARED_S, act!(Fct 1)),
-    Step::Makes(A, act!(take 0)),
-    Step::Makes(D, act!(take 0)),
+    Step::Makes(A, act!(take 0 0)),
+    Step::Makes(D, act!(take 0 0)),
     Step::Makes(A, act!(offer 0 on 0)),
     Step::Makes(D, act!(offer 0 on 1)),
     Step::Makes(A, act!(Put 0)),
     Step::Makes(A, act!(Put 0)),
     Step::Makes(D, act!(Put 0)),
     Step::Makes(D, act!(Put 0)),
-    Step::Makes(SHARED_S, act!(take 0)),
-    Step::Makes(SHARED_S, act!(take 0)),
+    Step::Makes(SHARED_S, act!(take 0 0)),
+    Step::Makes(SHARED_S, act!(take 0 0)),
     Step::Makes(SHARED_S, act!(Pass 0)),
     Step::Makes(SHARED_S, act!(Pass 0)),
-    Step::Makes(SHARED_S, act!(take 1)),
-    Step::Makes(SHARED_S, act!(take 1)),
+    Step::Makes(SHARED_S, act!(take 1 0)),
+    Step::Makes(SHARED_S, act!(take 1 0)),
     Step::Makes(SHARED_S, act!(Pass 1)),
     Step::Makes(SHARED_S, act!(Pass 1)),
     Step::Makes(SHARED_S, act!(0 to 4)),
