@@ -1,7 +1,7 @@
 -- The headline of the whole network.
 use Rattle.std.proofs.Common.{Option, Some, None, ◌≡◌, ℕ, zero, suc, ◌+◌, ◌<◌, ◌≤◌, inl, inr, Bool, true, false, List, [], ◌∷◌, ◌++◌, length, Some, None, refl, sym, ap, ap₂, subst, ◌∙◌, arith, append-nil, append_assoc, if◌then◌else◌, nat_lt, nat_eq, eq-eqb, ne_eqb, le_refl}
 use Rattle.std.proofs.lemmas.Bool.{cases_eq, lt-ltb}
-use Rattle.vc_actors.specs.Actors.{Network, Event, Run}
+use Rattle.vc_actors.specs.Actors.{Network, ActBy, Event, Run}
 use Rattle.vc_packets.specs.declared.mark.Mark.{Mark}
 use Rattle.vc_tokens.specs.Tokens.{Token}
 use Rattle.vc_machine.specs.Links.{Receiver, Tokens, no_tokens}
@@ -24,7 +24,7 @@ use Rattle.vc_vcp.specs.Links.{Vcp, new_vcp}
 use Rattle.vc_switch.specs.Switch.{Switch, new_switch}
 use Rattle.vc_network.specs.Plan.{back, Plan, Home, Way, Inside, home, ways, near, far, is_virtual, net_of, IsAccepted}
 use Rattle.vc_network.specs.Processes.{Doing, Trace, none, more, comms}
-use Rattle.vc_network.specs.Network.{Act, Actor, IsNode, IsSwitch, Local, first, begins}
+use Rattle.vc_network.specs.Network.{Act, Actor, IsNode, IsSwitch, Local, first, begins, HappenAll}
 use Rattle.vc_network.specs.Views.{vcp_of, halves_view, inner_of, switch_of, vcps, switches, source_node, sink_node, view_at, view, queue_at, Arrived, arrived, on_wire, marked, inside, in_ways, in_halves, everywhere, Said, said_by, all_said}
 use Rattle.vc_network.proofs.Replays.{replayed}
 use Rattle.vc_network.specs.Headline.{HeadlineHolds, IsFaithful, HasItsPacket, Headline}
@@ -248,7 +248,7 @@ module _ {P : Type 0} (plan : Plan) (s : Network (Actor P) Token) (t : Tokens) (
 
 pub run_headline : {P : Type 0} (plan : Plan) (waiting : Waiting) (Does : Doing P) (begin : ℕ → P) (es : List (Event Act Token)) (s : Network (Actor P) Token) → IsAccepted plan →
     Run (Local plan waiting Does) (begins plan begin) es s → Headline plan waiting Does begin s
-run_headline plan waiting Does begin es s acc run =
+run_headline {P} plan waiting Does begin es s acc run =
     let r = ran plan waiting Does acc es (begins plan begin) s no_tokens (good_start plan begin) run in
     let g = r.good in
     record {
@@ -273,10 +273,17 @@ run_headline plan waiting Does begin es s acc run =
           on_channel = λ c less. subst (λ z. DoesAll z (part c (all_said r.ks)) (view plan s c)) (first_view plan begin c) (r.views c);
         },
       );
-      stopped = λ c fs t less more e. (let p = replayed plan waiting Does s t fs more in let q = ran plan waiting Does acc p.0 s t r.new g p.1 in all_stopped (view plan s c) (part c (all_said q.ks)) (view plan t c) e (q.views c));
+      along = λ c fs t goes. (let q = later fs t goes in (part c (all_said q.ks), q.views c));
+      by_event = λ c e t h. (let x = next plan waiting Does acc s t r.new e.actor h.0 g h.2 in (part c x.ks, x.short c, x.views c));
+      stopped = λ c fs t less goes e. (let q = later fs t goes in all_stopped (view plan s c) (part c (all_said q.ks)) (view plan t c) e (q.views c));
       no_strays = g.shows.nodes.strays g.sound.inv.strays;
       none_lost = g.shows.nodes.lost g.sound.inv.lost;
     }
+  where
+    later : (fs : List (ActBy Act)) (t : Network (Actor P) Token) → HappenAll plan waiting Does s fs t → Ran plan waiting Does s t (ran plan waiting Does acc es (begins plan begin) s no_tokens (good_start plan begin) run).new
+    later fs t goes =
+        let p = replayed plan waiting Does s t fs goes in
+        ran plan waiting Does acc p.0 s t _ (ran plan waiting Does acc es (begins plan begin) s no_tokens (good_start plan begin) run).good p.1
 
 pub headline : {P : Type 0} (plan : Plan) (waiting : Waiting) (Does : Doing P) (begin : ℕ → P) → HeadlineHolds plan waiting Does begin
 headline plan waiting Does begin es s acc h = let r = replayed plan waiting Does (begins plan begin) s es h in run_headline plan waiting Does begin r.0 s acc r.1

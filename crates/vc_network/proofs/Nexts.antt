@@ -3,12 +3,13 @@ use Rattle.std.proofs.Common.{◌≡◌, ◌≢◌, ℕ, ◌+◌, ◌<◌, ◌�
 use Rattle.std.proofs.lemmas.Bool.{cases_eq}
 use Rattle.vc_actors.specs.Actors.{Label, Network, Step, taken_off, put_on}
 use Rattle.vc_actors.specs.Actors.Label.{Own, Takes, Puts}
-use Rattle.vc_machine.specs.Paths.{AtNode, AtSwitch}
+use Rattle.vc_machine.specs.Paths.{Net, AtNode, AtSwitch}
 use Rattle.vc_machine.specs.Rendezvous.{View, Comm, Out, In, Fin, Stp, DoesAll, part}
 use Rattle.vc_packets.specs.Functions.{put}
-use Rattle.vc_machine.specs.Machine.{Event as NetEvent}
+use Rattle.vc_machine.specs.Machine.{Event as NetEvent, State as NetState}
 use Rattle.vc_machine.specs.Machine as net
 use Rattle.vc_machine.proofs.Basics.{every_put}
+use Rattle.vc_machine.proofs.Runs.{part_here, part_other}
 use Rattle.vc_machine.proofs.Views.{slice_get_end}
 use Rattle.vc_tokens.specs.Tokens.{Token}
 use Rattle.vc_tokens.specs.Tokens as tokens
@@ -28,7 +29,8 @@ use Rattle.vc_network.specs.Network.{Act, Proc, Take, Put, Route, Fct, Pass, Nod
 use Rattle.vc_network.specs.Views.{vcp_of, inner_of, switch_of, vcps, switches, view}
 use Rattle.vc_network.proofs.Backs.{back_into}
 use Rattle.vc_network.proofs.Seen.{Sees}
-use Rattle.vc_network.proofs.Saying.{silent}
+use Rattle.vc_network.proofs.Saying.{Says, silent, one}
+use Rattle.vc_network.specs.Headline.{ByOneEvent, no_step, one_step, exchange}
 use Rattle.vc_network.proofs.NodeLift.{Lifted, offers, wants, chooses, stops}
 use Rattle.vc_network.proofs.Showing.{Shows, carriers, losses, halves_shown, is_due, SameReceiver, link_here, input_here}
 use Rattle.vc_credit.specs.Ends.{IsDue}
@@ -36,7 +38,7 @@ use Rattle.vc_network.proofs.Fitting.{fits}
 use Rattle.vc_network.proofs.NodeLinks.{TokenLifted, new_carriers, said_by_pass, comes, passes_a_byte, passes_a_mark, sends, sends_fct}
 use Rattle.vc_network.proofs.SwitchLinks as at_switch
 use Rattle.vc_network.proofs.Homed.{CarrierHomed, VcpHomed, SwitchHomed, offers_homed, wants_homed, fetches_homed, stops_homed, unqueued_homed, passes_carrier, link_homed, halves_homed, link_way, input_homed, input_way, routed_way}
-use Rattle.vc_network.proofs.Steps.{InnerFits, Good, sound_step, own_ways, take_front, take_ways, put_ways, node_vcps, node_switches, switch_vcps, switch_switches, outer_views, inner_views, on}
+use Rattle.vc_network.proofs.Steps.{InnerFits, Good, sound_step, own_ways, take_front, take_ways, put_ways, node_vcps, node_switches, switch_vcps, switch_switches, outer_views, inner_views, on, part_on, part_off}
 
 abbrev pub process_of : {P : Type 0} → P → Actor P → P
 process_of d (IsNode a) = a.process
@@ -50,8 +52,26 @@ pub record Next {P : Type 0} (plan : Plan) (waiting : Waiting) (Does : Doing P) 
   pub run : TokenRun (net_of plan) back waiting t events new
   pub good : Good plan u new
   pub views : (c : ℕ) → DoesAll (view plan s c) (part c ks) (view plan u c)
+  pub short : (c : ℕ) → ByOneEvent (home plan c) (part c ks)
   pub trace : (d : P) → Trace Does (process_of d (s.state n)) ks (process_of d (u.state n))
   pub by_no_other : plan.nodes ≤ n → ks ≡ []
+
+-- what one event of the ways says is of one channel at most
+short_said : (plan : Plan) (net : Net) (t u : NetState) (ks : List (ℕ × Comm)) → Says net t u ks → (c : ℕ) → ByOneEvent (home plan c) (part c ks)
+short_said plan net t u ks (silent e same) c = subst (λ z. ByOneEvent (home plan c) (part c z)) (sym e) no_step
+short_said plan net t u ks (one d k x e r may chans new) c =
+    subst (λ z. ByOneEvent (home plan c) (part c z)) (sym e)
+    (elim (cases_eq d c) [
+      | inl q ↦ subst (λ z. ByOneEvent (home plan c) (part z ((d, k) ∷ []))) q (subst (ByOneEvent (home plan c)) (sym (part_here d k [])) (one_step k))
+      | inr ne ↦ subst (ByOneEvent (home plan c)) (sym (part_other c d k [] ne)) no_step
+    ])
+
+-- what is said of a channel inside a node is said of it alone
+short_on : (plan : Plan) (c : ℕ) (ks : List Comm) → ByOneEvent (home plan c) ks → (d : ℕ) → ByOneEvent (home plan d) (part d (on c ks))
+short_on plan c ks h d = elim (cases_eq d c) [
+  | inl q ↦ subst (λ z. ByOneEvent (home plan z) (part z (on c ks))) (sym q) (subst (ByOneEvent (home plan c)) (sym (part_on c ks)) h)
+  | inr ne ↦ subst (ByOneEvent (home plan d)) (sym (part_off d c ks (λ q. ne (sym q)))) no_step
+]
 
 exchanges : (v : View) (m : List ℕ) → InnerFits v → v.stopped ≡ false → DoesAll v (Out m ∷ In m ∷ Fin ∷ []) (exchanged v m)
 exchanges v m f live = (
@@ -153,6 +173,7 @@ module _ {P : Type 0} (plan : Plan) (waiting : Waiting) (Does : Doing P) (acc : 
             kinds = all_kinds;
           };
           views = outer_views plan s u t l.new ks g sound shows l.says (inner_kept same);
+          short = short_said plan (net_of plan) t.nodes l.new.nodes ks l.says;
           trace = traced ks tr;
           by_no_other = λ past. absurd (omega arith);
         }
@@ -167,9 +188,9 @@ module _ {P : Type 0} (plan : Plan) (waiting : Waiting) (Does : Doing P) (acc : 
         (subst (λ z. Shows plan (vcps s) (switches plan s) z t) (sym el) g.shows))
 
     -- a step inside the node
-    inside : u.way ≡ s.way → (c : ℕ) (x : View) (ks : List Comm) → home plan c ≡ Inside n → b.vcp ≡ a.vcp → b.inner ≡ put a.inner c x → DoesAll (a.inner c) ks x → InnerFits x →
+    inside : u.way ≡ s.way → (c : ℕ) (x : View) (ks : List Comm) → home plan c ≡ Inside n → ByOneEvent (home plan c) ks → b.vcp ≡ a.vcp → b.inner ≡ put a.inner c x → DoesAll (a.inner c) ks x → InnerFits x →
         Trace Does a.process (on c ks) b.process → Next plan waiting Does s u t n
-    inside el c x ks e carrier inner does fits tr =
+    inside el c x ks e few carrier inner does fits tr =
         let shows = same_shows el carrier in
         record {
           ks = on c ks;
@@ -190,6 +211,7 @@ module _ {P : Type 0} (plan : Plan) (waiting : Waiting) (Does : Doing P) (acc : 
             kinds = all_kinds;
           };
           views = inner_views plan s u t n c a b x ks g shows e ea eb others inner does;
+          short = short_on plan c ks few;
           trace = traced (on c ks) tr;
           by_no_other = λ past. absurd (omega arith);
         }
@@ -212,6 +234,7 @@ module _ {P : Type 0} (plan : Plan) (waiting : Waiting) (Does : Doing P) (acc : 
             kinds = all_kinds;
           };
           views = outer_views plan s u t t [] g g.sound shows (silent refl (λ c. refl)) (inner_kept inner);
+          short = λ c. no_step;
           trace = traced [] tr;
           by_no_other = λ past. refl;
         }
@@ -244,10 +267,10 @@ module _ {P : Type 0} (plan : Plan) (waiting : Waiting) (Does : Doing P) (acc : 
         (stops plan (carriers (vcps s)) (losses (switches plan s)) t.nodes n c b.vcp.carrier acc g.shows.nodes (subst (λ z. node.Stops (ends plan n) z c b.vcp.carrier) (sym here_carrier) h.0))
     moved (Stopch site c) el (d, inr h) =
         let f = subst (λ z. InnerFits (inner_of z c)) ea (g.inner n c) in
-        inside el c (record (a.inner c) { stopped = true }) (Stp ∷ []) h.0 h.1 h.2 (record (a.inner c) { stopped = true }, refl, refl) (record { taken = f.taken; finished = f.finished }) (did (Stops site c) d)
+        inside el c (record (a.inner c) { stopped = true }) (Stp ∷ []) h.0 (one_step Stp) h.1 h.2 (record (a.inner c) { stopped = true }, refl, refl) (record { taken = f.taken; finished = f.finished }) (did (Stops site c) d)
     moved (Inner i j guard c) el h =
         let f = subst (λ z. InnerFits (inner_of z c)) ea (g.inner n c) in
-        inside el c (exchanged (a.inner c) h.0) (Out h.0 ∷ In h.0 ∷ Fin ∷ []) h.2 h.4 h.5 (exchanges (a.inner c) h.0 f h.3) (exchanged_fits (a.inner c) h.0 f) (did (Meets i j guard c h.0) h.1)
+        inside el c (exchanged (a.inner c) h.0) (Out h.0 ∷ In h.0 ∷ Fin ∷ []) h.2 (exchange n h.0 h.2) h.4 h.5 (exchanges (a.inner c) h.0 f h.3) (exchanged_fits (a.inner c) h.0 f) (did (Meets i j guard c h.0) h.1)
     moved (Quiet site) el h = alone el h.1 h.2 (did (Rests site) h.0)
 
     goes_on : (taken : Option node.Taken) → GoesOn Does a.process taken b.process → Trace Does a.process (said_by_pass taken) b.process
@@ -360,6 +383,7 @@ module _ {P : Type 0} (plan : Plan) (waiting : Waiting) (Does : Doing P) (acc : 
             kinds = λ m h. (let x = g.kinds m h in (x.0, others m (λ e. omega arith) ∙ x.1));
           };
           views = outer_views plan s u t l.new [] g sound shows l.says same_inner;
+          short = λ c. no_step;
           trace = λ d. subst (λ z. Trace Does z [] (process_of d (u.state n))) (sym (ap (process_of d) ea)) (subst (Trace Does d []) (sym (ap (process_of d) eb)) none);
           by_no_other = λ past. refl;
         }

@@ -137,11 +137,11 @@ abbrev pub on : ℕ → List Comm → List (ℕ × Comm)
 on c [] = []
 on c (k ∷ ks) = (c, k) ∷ on c ks
 
-part_on : (c : ℕ) (ks : List Comm) → part c (on c ks) ≡ ks
+pub part_on : (c : ℕ) (ks : List Comm) → part c (on c ks) ≡ ks
 part_on c [] = refl
 part_on c (k ∷ ks) = part_here c k (on c ks) ∙ ap (λ z. k ∷ z) (part_on c ks)
 
-part_off : (c d : ℕ) (ks : List Comm) → (d ≡ c → ⊥) → part c (on d ks) ≡ []
+pub part_off : (c d : ℕ) (ks : List Comm) → (d ≡ c → ⊥) → part c (on d ks) ≡ []
 part_off c d [] ne = refl
 part_off c d (k ∷ ks) ne = part_other c d k (on d ks) ne ∙ part_off c d ks ne
 

@@ -23,14 +23,20 @@ abbrev pub receiver_at : (ℕ → Vcp) → (ℕ → Switch) → Port → Receive
 receiver_at vs sw (AtNode n l) = ((vs n).link l).receiver
 receiver_at vs sw (AtSwitch k l) = ((sw k).input l).receiver
 
--- after any list of events each way is under credit
-abbrev pub CreditHolds : {P : Type 0} → Plan → Waiting → Doing P → (ℕ → P) → Type 0
-CreditHolds {P} plan waiting Does begin =
-    (es : List (ActBy Act)) (s : Network (Actor P) Token) → IsAccepted plan → HappenAll plan waiting Does (begins plan begin) es s → (w : ℕ) → w < ways plan →
-    IsUnderCredit (sender_at (vcps s) (switches plan s) (near plan w)) (s.way (back w)) (s.way w) (receiver_at (vcps s) (switches plan s) (far plan w))
+-- each way is under credit
+abbrev pub AreUnderCredit : {P : Type 0} → Plan → Network (Actor P) Token → Type 0
+AreUnderCredit plan s =
+    (w : ℕ) → w < ways plan → IsUnderCredit (sender_at (vcps s) (switches plan s) (near plan w)) (s.way (back w)) (s.way w) (receiver_at (vcps s) (switches plan s) (far plan w))
 
 -- no link's end keeps more bytes than a packet may have
+abbrev pub AreWithinLimit : {P : Type 0} → Plan → Network (Actor P) Token → Type 0
+AreWithinLimit plan s = (w : ℕ) → w < ways plan → length (arrived (vcps s) (switches plan s) (far plan w)).got ≤ body_limit plan
+
+-- so it is after any list of events
+abbrev pub CreditHolds : {P : Type 0} → Plan → Waiting → Doing P → (ℕ → P) → Type 0
+CreditHolds {P} plan waiting Does begin =
+    (es : List (ActBy Act)) (s : Network (Actor P) Token) → IsAccepted plan → HappenAll plan waiting Does (begins plan begin) es s → AreUnderCredit plan s
+
 abbrev pub BodiesFit : {P : Type 0} → Plan → Waiting → Doing P → (ℕ → P) → Type 0
 BodiesFit {P} plan waiting Does begin =
-    (es : List (ActBy Act)) (s : Network (Actor P) Token) → IsAccepted plan → HappenAll plan waiting Does (begins plan begin) es s →
-    (w : ℕ) → w < ways plan → length (arrived (vcps s) (switches plan s) (far plan w)).got ≤ body_limit plan
+    (es : List (ActBy Act)) (s : Network (Actor P) Token) → IsAccepted plan → HappenAll plan waiting Does (begins plan begin) es s → AreWithinLimit plan s

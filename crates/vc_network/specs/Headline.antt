@@ -5,13 +5,13 @@ use Rattle.vc_packets.specs.declared.packet.Packet.{Packet}
 use Rattle.vc_tokens.specs.Tokens.{Token}
 use Rattle.vc_switch.specs.Waiting.{Waiting}
 use Rattle.vc_vcp.specs.Links.{new_link}
-use Rattle.vc_machine.specs.Rendezvous.{IsPrefixOf, DoesAll, part, nothing_yet}
+use Rattle.vc_machine.specs.Rendezvous.{Comm, Out, In, Fin, IsPrefixOf, DoesAll, part, nothing_yet}
 use Rattle.vc_machine.specs.Paths.{AtNode, AtSwitch}
 use Rattle.vc_switch.specs.Switch.{new_input}
 use Rattle.vc_machine.specs.Places.{Place, BelongsTo, Number}
-use Rattle.vc_network.specs.Plan.{Plan, Way, home, net_of, IsOutOf, IsInto, IsAccepted}
+use Rattle.vc_network.specs.Plan.{Plan, Home, Way, Inside, home, net_of, IsOutOf, IsInto, IsAccepted}
 use Rattle.vc_network.specs.Processes.{Doing, Trace}
-use Rattle.vc_network.specs.Network.{Act, Node, Actor, IsNode, begins, HappenAll}
+use Rattle.vc_network.specs.Network.{Act, Node, Actor, IsNode, begins, Happens, HappenAll}
 use Rattle.vc_network.specs.Views.{vcps, switches, sink_node, view, everywhere, Said, said_by, all_said}
 
 -- what holds of channel c
@@ -43,11 +43,20 @@ pub record NowhereElse {P : Type 0} (plan : Plan) (s : Network (Actor P) Token) 
   pub at_switch : (k link : ℕ) → ((switches plan s k).input link ≡ new_input) ⊎ ((w : ℕ) × IsInto plan w (AtSwitch k link))
   pub held : (n c : ℕ) (p : Packet) → ((vcps s n).carrier.into c).held ≡ Some p → (c < length plan.channels) × (sink_node plan (home plan c) ≡ n)
 
+-- what one event is to a channel: no step, one, or, where an output and an input meet inside a node, an offer, its input and its end
+pub data ByOneEvent (h : Home) : List Comm → Type 0 where
+  no_step : ByOneEvent h []
+  one_step : (k : Comm) → ByOneEvent h (k ∷ [])
+  exchange : (n : ℕ) (m : List ℕ) → h ≡ Inside n → ByOneEvent h (Out m ∷ In m ∷ Fin ∷ [])
+
 pub record Headline {P : Type 0} (plan : Plan) (waiting : Waiting) (Does : Doing P) (begin : ℕ → P) (s : Network (Actor P) Token) : Type 0 where
   pub faithful : (c : ℕ) → c < length plan.channels → IsFaithful plan s c
   pub packets : (c v : ℕ) (ab : Bool) → c < length plan.channels → home plan c ≡ Way v ab → HasItsPacket plan s c
   pub nowhere_else : NowhereElse plan s
   pub told : (ks : List Said) × AreTold plan Does begin s ks
+  -- whatever happens from here on is a run of the channel, and one event is a step of it at most, or an exchange inside a node
+  pub along : (c : ℕ) (es : List (ActBy Act)) (t : Network (Actor P) Token) → HappenAll plan waiting Does s es t → (ks : List Comm) × DoesAll (view plan s c) ks (view plan t c)
+  pub by_event : (c : ℕ) (e : ActBy Act) (t : Network (Actor P) Token) → Happens plan waiting Does s e t → (ks : List Comm) × ByOneEvent (home plan c) ks × DoesAll (view plan s c) ks (view plan t c)
   -- after a stop nothing more is taken
   pub stopped : (c : ℕ) (es : List (ActBy Act)) (t : Network (Actor P) Token) → c < length plan.channels → HappenAll plan waiting Does s es t →
       (view plan s c).stopped ≡ true → (view plan t c).taken ≡ (view plan s c).taken
