@@ -23,7 +23,8 @@ use Rattle.vc_network.specs.Network.{Actor}
 use Rattle.vc_network.specs.Credit.{sender_at}
 use Rattle.vc_network.specs.Views.{vcps, switches, queue_at}
 use Rattle.vc_network.proofs.NodeLift.{taken_back}
-use Rattle.vc_network.proofs.Showing.{NodeEnd, SwitchEnd, SameBound, SameReceiver, carriers, losses}
+use Rattle.vc_network.specs.Packets.{SameBound}
+use Rattle.vc_network.proofs.Showing.{NodeEnd, SwitchEnd, SameReceiver, carriers, losses}
 use Rattle.vc_network.proofs.Steps.{Good}
 use Rattle.vc_network.proofs.SwitchLinks.{has_group, group_back, header_same, bound_some, bound_back}
 use Rattle.vc_network.proofs.Wires.{one_near}

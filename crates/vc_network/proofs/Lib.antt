@@ -13,6 +13,7 @@ pub mod NodeLinks
 pub mod OneStep
 pub mod OneTokenEnds
 pub mod Owned
+pub mod Packets
 pub mod Replays
 pub mod Saying
 pub mod Seen

@@ -49,6 +49,7 @@ pub record Next {P : Type 0} (plan : Plan) (waiting : Waiting) (Does : Doing P) 
   pub ks : List (ℕ × Comm)
   pub new : Tokens
   pub events : List TokenEvent
+  pub single : length events ≤ 1
   pub run : TokenRun (net_of plan) back waiting t events new
   pub good : Good plan u new
   pub views : (c : ℕ) → DoesAll (view plan s c) (part c ks) (view plan u c)
@@ -163,6 +164,7 @@ module _ {P : Type 0} (plan : Plan) (waiting : Waiting) (Does : Doing P) (acc : 
           ks = ks;
           new = l.new;
           events = e ∷ [];
+          single = omega arith;
           run = (l.new, l.step, refl);
           good = record {
             shows = shows;
@@ -196,6 +198,7 @@ module _ {P : Type 0} (plan : Plan) (waiting : Waiting) (Does : Doing P) (acc : 
           ks = on c ks;
           new = t;
           events = [];
+          single = omega arith;
           run = refl;
           good = record {
             shows = shows;
@@ -224,6 +227,7 @@ module _ {P : Type 0} (plan : Plan) (waiting : Waiting) (Does : Doing P) (acc : 
           ks = [];
           new = t;
           events = [];
+          single = omega arith;
           run = refl;
           good = record {
             shows = shows;
@@ -373,6 +377,7 @@ module _ {P : Type 0} (plan : Plan) (waiting : Waiting) (Does : Doing P) (acc : 
           ks = [];
           new = l.new;
           events = e ∷ [];
+          single = omega arith;
           run = (l.new, l.step, refl);
           good = record {
             shows = shows;

@@ -9,20 +9,8 @@ use Rattle.vc_machine.proofs.Basics.{put-same, put-other, every_put}
 use Rattle.vc_vcp.specs.Carrier.{Carrier, OutHalf, InHalf, set_out, set_in}
 use Rattle.vc_network.proofs.Wires.{one_near}
 use Rattle.vc_network.specs.Plan.{Plan, home, ways, near, IsAccepted}
+use Rattle.vc_network.specs.Packets.{of_halves}
 use Rattle.vc_network.specs.Views.{source_node, sink_node, queue_at}
-
--- a channel from its two halves
-abbrev pub of_halves : OutHalf → InHalf → ChanState
-of_halves x y = record {
-  unacked = x.unacked;
-  offered = x.offered;
-  finished = x.finished;
-  wants = y.wants;
-  stopped = y.stopped;
-  held = y.held;
-  stored = y.stored;
-  taken = y.taken;
-}
 
 pub record Sees (plan : Plan) (car : ℕ → Carrier) (sw : ℕ → ℕ) (t : State) : Type 0 where
   pub queue : (w : ℕ) → w < ways plan → (t.ways w).queue ≡ queue_at car (near plan w)

@@ -22,6 +22,7 @@ use Rattle.vc_credit.specs.Ends.{Receiver as LinkReceiver}
 use Rattle.vc_network.specs.Plan.{back, net_of}
 use Rattle.vc_network.proofs.Backs.{back_back, near_back, back_out}
 use Rattle.vc_network.specs.Credit.{sender_at, receiver_at}
+use Rattle.vc_network.specs.Packets.{SameBound}
 use Rattle.vc_network.proofs.Seen.{Sees, keep}
 
 -- the receiving end of a way to a node, and of a way to a switch
@@ -31,11 +32,6 @@ pub record NodeEnd (x : Link) (r : Receiver) : Type 0 where
   pub got : r.got ≡ x.passed
   pub mark : r.mark ≡ None
   pub bound : r.bound ≡ None
-
--- bound to the link, and to the way that leaves by it
-abbrev pub SameBound : Plan → ℕ → Option ℕ → Option ℕ → Type 0
-SameBound plan k None b = b ≡ None
-SameBound plan k (Some l) b = (out : ℕ) × (b ≡ Some out) × IsOutOf plan out (AtSwitch k l)
 
 pub record SwitchEnd (plan : Plan) (k : ℕ) (x : Input) (r : Receiver) : Type 0 where
   pub buffer : r.buffer ≡ x.receiver.buffer

@@ -25,7 +25,7 @@ use Rattle.vc_switch.specs.Switch.{Switch}
 use Rattle.vc_network.specs.Plan.{Home, Inside, IsAccepted, Plan, Way, back, home, is_virtual, net_of}
 use Rattle.vc_network.specs.Network.{Act, Node, Actor, IsNode, IsSwitch}
 use Rattle.vc_network.specs.Views.{vcp_of, inner_of, switch_of, vcps, switches, source_node, sink_node, view_at, view}
-use Rattle.vc_network.proofs.Seen.{of_halves}
+use Rattle.vc_network.specs.Packets.{of_halves}
 use Rattle.vc_network.proofs.Showing.{Shows, wires}
 use Rattle.vc_network.proofs.Wiring.{net_accepted}
 use Rattle.vc_network.proofs.Saying.{Says, silent, one, said}

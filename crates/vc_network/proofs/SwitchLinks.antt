@@ -23,7 +23,8 @@ use Rattle.vc_network.proofs.Backs.{back_back, back_into, back_out}
 use Rattle.vc_network.proofs.Seen.{Sees, keep}
 use Rattle.vc_network.proofs.Saying.{silent}
 use Rattle.vc_network.specs.Credit.{sender_at}
-use Rattle.vc_network.proofs.Showing.{Shows, SwitchEnd, SameBound, SameReceiver, carriers, losses, switch_shown}
+use Rattle.vc_network.specs.Packets.{SameBound}
+use Rattle.vc_network.proofs.Showing.{Shows, SwitchEnd, SameReceiver, carriers, losses, switch_shown}
 use Rattle.vc_network.proofs.NodeLinks.{TokenLifted, wire_take, wire_put}
 
 -- the words of a switch and of the network say the same

@@ -1,4 +1,5 @@
-//! The whole network over tokens: nodes with processes and switches, joined by ways. Definitions and laws.
+//! The whole network over tokens: nodes with processes and switches, joined by ways. Definitions and laws. The laws here are of
+//! processes that are numbered by their states, with steps that a test tells; vc_told has them of processes of occam.
 #![tactic(auto)]
 
 ghost use Rattle.std.specs.Prelude.{◌≡◌, ℕ, Bool, List, [], ◌∷◌};
@@ -16,13 +17,15 @@ ghost use Rattle.vc_network.specs.Credit.{CreditHolds, BodiesFit};
 ghost use Rattle.vc_network.specs.Enabled.{EventsAreOne};
 ghost use Rattle.vc_network.specs.Headers.{MoreHeadersChangeNothing};
 ghost use Rattle.vc_network.specs.Headline.{HeadlineHolds};
+ghost use Rattle.vc_network.specs.Packets.{EventsAreSteps};
 ghost use Rattle.vc_network.specs.Owners.{EachHasOwner, PacketsAreShort};
 ghost use Rattle.vc_network.specs.Threads.{ThreadsKeepHeadline, ReplaysReach};
 
 /// On an accepted network, after any list of steps, each channel's taken messages are the first of its
 /// offered ones, each once, whole and in order; finished outputs are no more than taken messages; after a
 /// stop nothing more is taken; and while an output on a virtual link is unfinished exactly one of its packets is
-/// in exactly one place: where its mark is. One list of communications has each process's part and each channel's
+/// in exactly one place: where its mark is. From there on each channel's views are a run of the channel, whatever happens: one event is
+/// no step of it, one, or, inside a node, an offer, its input and its end. One list of communications has each process's part and each channel's
 /// part, and nobody else's. Nothing is dropped. In store and forward and in wormhole alike.
 pub fn first_in_first_out_each_once()
     ensures { (plan : Plan) (waiting : Waiting) (does : ℕ → Deed → ℕ → Bool) (begin : ℕ → ℕ) → HeadlineHolds plan waiting (by_test does) begin }
@@ -43,6 +46,12 @@ pub fn no_buffer_overflows()
 /// On an accepted network, after any list of steps, no link's end keeps more bytes than a packet may have.
 pub fn no_packet_grows()
     ensures { (plan : Plan) (waiting : Waiting) (does : ℕ → Deed → ℕ → Bool) (begin : ℕ → ℕ) → BodiesFit plan waiting (by_test does) begin }
+{}
+
+/// On an accepted network, after any list of steps, its packets are where a run of the packet machine leads. An event more is no step of
+/// it, one step, or two, by which a packet enters a switch and is bound at once.
+pub fn each_event_is_at_most_two_steps()
+    ensures { (plan : Plan) (waiting : Waiting) (does : ℕ → Deed → ℕ → Bool) (begin : ℕ → ℕ) → EventsAreSteps plan waiting (by_test does) begin }
 {}
 
 /// On an accepted network, after any list of steps, each packet in a queue, on a way or in a switch belongs to a channel.

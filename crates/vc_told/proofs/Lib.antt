@@ -1,3 +1,4 @@
+pub mod Bounded
 pub mod Stepped
 pub mod Joined
 pub mod Taken

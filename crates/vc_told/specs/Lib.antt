@@ -1,4 +1,5 @@
 pub mod Begin
+pub mod Bounds
 pub mod OneList
 pub mod Sent
 pub mod Swapping

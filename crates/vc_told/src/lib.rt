@@ -2,6 +2,7 @@
 //! channel's part is a run of the channel. So no log is invented, and nothing is taken before it could be sent. Definitions and laws.
 #![tactic(auto)]
 
+ghost use Rattle.vc_told.specs.Bounds.{CreditIsKept, LimitsAreKept, PacketsHaveOwners, PacketsAreShort, PacketsAreMoved};
 ghost use Rattle.vc_told.specs.Determinate.{DeedsLeadToOneState, LawfulProcessesStaySo};
 ghost use Rattle.vc_told.specs.OneList.{AllIsTold};
 ghost use Rattle.vc_told.specs.Sent.{NothingIsGotUnsent};
@@ -38,6 +39,29 @@ pub fn lawful_processes_are_determinate()
 /// events of the network one after another, and lead to where the actors ended.
 pub fn acts_can_be_replayed()
     ensures { ActsCanBeReplayed }
+{}
+
+/// Whatever happened on an accepted plan's network, no buffer overflows: each token finds the place that was promised to it, and each
+/// FCT a credit of at most 8. And no link's end keeps more bytes than a packet may have.
+#[tactic(auto, using(crate::proofs::Bounded::credit_kept, crate::proofs::Bounded::limits_kept))]
+pub fn no_buffer_overflows()
+    ensures credit { CreditIsKept }
+    ensures limits { LimitsAreKept }
+{}
+
+/// Whatever happened on an accepted plan's network, each packet in a queue, on a way or in a switch belongs to a channel, and is no
+/// longer than the headers that may be on its way, of two bytes each, and 32 bytes of data.
+#[tactic(auto, using(crate::proofs::Bounded::owners_known, crate::proofs::Bounded::all_short))]
+pub fn each_packet_has_its_channel()
+    ensures owners { PacketsHaveOwners }
+    ensures short { PacketsAreShort }
+{}
+
+/// Whatever happened on an accepted plan's network, its packets are where a run of the packet machine leads. An event more is no step of
+/// it, one step, or two, by which a packet enters a switch and is bound at once.
+#[tactic(auto, using(crate::proofs::Bounded::packets_moved))]
+pub fn each_event_is_at_most_two_steps()
+    ensures { PacketsAreMoved }
 {}
 
 /// An accepted plan and the same in version 2 (`as_version_two` of vc_plan) are run alike: the same lists of events happen, to the
