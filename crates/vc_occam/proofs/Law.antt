@@ -3,6 +3,7 @@ use Rattle.std.proofs.Common.{◌≡◌, ℕ, zero, suc, ℤ, Bool, true, false,
 use Rattle.std.specs.Prelude.{if◌then◌else◌}
 use Rattle.vc_process.specs.declared.datum.Datum.{Datum}
 use Rattle.vc_process.specs.declared.datum.Datum.TheVariants as datum
+use Rattle.vc_process.proofs.Bytes.{number_within}
 use Rattle.vc_occam.specs.declared.deed.Deed.{Deed}
 use Rattle.vc_process.specs.Syntax.{Exp, Test, Proc, IF, WHILE, COUNT, Procs, no_parts, part, Branches, no_branches, branch, Guards}
 use Rattle.vc_process.specs.Values.{Store, value_of, holds}
@@ -177,7 +178,7 @@ right_law {r} {q} {q'} {e} {e'} {mine} m f a w (beside {t = t} {u = u} {y = y} h
 
 -- what a message is worth for a variable is of the variable's kind
 received_kind : (d : Datum) (m : List ℕ) (x : Datum) → x ≡ received d m → SameKind x d
-received_kind (datum.Int z) m x h = subst (λ y. SameKind y (datum.Int z)) (sym h) tt
+received_kind (datum.Int z) m x h = subst (λ y. SameKind y (datum.Int z)) (sym h) (number_within m)
 received_kind (datum.Bytes xs) m x h = subst (λ y. SameKind y (datum.Bytes xs)) (sym h) tt
 
 pub law : {r r' : Rest} {e e' : Store} {i : ℕ} {d : Deed} {m : List Comm} → Step r e i d m r' e' → KeepsVariablesApart r → {t : List Comm} {x : End} → TraceRest r' e' t x → TraceRest r e (m ++ t) x

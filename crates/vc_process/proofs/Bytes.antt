@@ -1,5 +1,11 @@
--- The message of a value has all that the value has: read again as its kind, it is the same message.
-use Rattle.std.proofs.Common.{◌≡◌, ℕ, zero, suc, ◌<◌, ◌^◌, ℤ, get_or, refl, ap, ◌∙◌, arith}
+-- The message of a value has all that the value has: read again as its kind, it is the same message. A number that is read has 64 bits.
+use Rattle.std.proofs.Common.{◌≡◌, ℕ, zero, suc, ◌<◌, ◌-◌, ◌^◌, ℤ, pos, negsuc, Bool, true, false, List, Option, Some, None, if◌then◌else◌, nat_lt, get_or, refl, ap, ◌∙◌, arith}
+use Rattle.std.proofs.lemmas.Bool.{lt-ltb}
+use Rattle.std.proofs.lemmas.Bool.Decides.{nat_tests}
+use Rattle.std.specs.Int.{cast_signed}
+use lib.Signed.{mag}
+use mir.Val.{sel}
+use Rattle.vc_process.specs.Values.{within}
 use Rattle.std.specs.Int.{w64, to_le_bytes, from_le_bytes, cast_unsigned}
 use Rattle.std.proofs.lemmas.Int.{of_z-to_z}
 use Rattle.std.proofs.lemmas.Nat.{le_bytes_8}
@@ -25,3 +31,14 @@ number_again z =
     let n = cast_unsigned w64 z in
     let m = from_le_bytes w64 (to_le_bytes w64 n) in
     ap (to_le_bytes w64) (of_z-to_z w64 m (read_small n)) ∙ le_bytes_8 (to_le_bytes w64 n) m refl (bytes_small n) refl
+
+small_by : (n : ℕ) (b : Bool) → nat_lt n (2 ^ 63) ≡ b → nat_lt (mag (sel b (pos n) (negsuc (2 ^ 64 - suc n)))) (2 ^ 63) ≡ true
+small_by n true h = h
+small_by n false h = let l : 2 ^ 64 - suc n < 2 ^ 63 = grind (arith, nat_tests, h) in lt-ltb (2 ^ 64 - suc n) (2 ^ 63) l
+
+small : (n : ℕ) → nat_lt (mag (cast_signed w64 n)) (2 ^ 63) ≡ true
+small n = small_by n (nat_lt n (2 ^ 63)) refl
+
+pub number_within : (m : List ℕ) → within (number_of m) ≡ Some (number_of m)
+unfolding number_of
+number_within m = ap (λ (b : Bool). if b then Some (number_of m) else None) (small (from_le_bytes w64 m))
