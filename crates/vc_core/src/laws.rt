@@ -3,7 +3,8 @@ ghost use Rattle.vc_core.specs.Scheduling.{EventsLeadOn};
 ghost use Rattle.vc_core.specs.Still.{OnlyProcessesHold};
 
 /// What a scheduler of one's own rests on: events that are made one after another, from the opening state on, are a list that leads to
-/// the network's state. Whatever was chosen, the headline holds there, and what the nodes communicated has a linearization.
+/// the network's state. Whatever was chosen, the headline holds there, and what the nodes communicated has a linearization. The headline
+/// holds in the words of the definitions too, with the list that the steps of the processes make.
 pub fn events_lead_on()
     ensures { EventsLeadOn }
 {}
