@@ -21,7 +21,7 @@ use Rattle.vc_switch.specs.Switch.{new_switch}
 use Rattle.vc_tokens.specs.Spelt.{tokens}
 use Rattle.vc_tokens.specs.declared.token.Token.{Token}
 use Rattle.vc_vcp.specs.Keyed.{shown_or}
-use Rattle.vc_threads.specs.Closing.{ClosesBy, stop_at}
+use Rattle.vc_threads.specs.Closing.{ClosesBy, stop_among, stop_at, stop_in}
 use Rattle.vc_threads.specs.Crews.{Ran}
 use Rattle.vc_threads.specs.Merged.{numbered, event_of}
 use Rattle.vc_threads.specs.Order.{actor_left, outs_left, ins_left, tokens_at, LeftOn, OnWays}
@@ -53,9 +53,9 @@ module _ (p : Plan) (acc : IsAccepted p) (turns seed : ℕ) (js : List Job) (rs 
     (outs : map (λ v. v.items) e.outs.items ≡ map outs_left rs) (ins : map (λ v. v.items) e.ins.items ≡ map ins_left rs)
     (lines : List (Vec Token)) (count : length lines ≡ 2 * length p.wires) (left : OnWays (LeftOn (length p.nodes) e lines) p.wires (length p.wires)) (merged : List (Made Act)) (merge : IsMerge (run_of (map numbered rs)) merged)
     (steps : List Event) (steps_are : steps ≡ map event_of merged) where
-  pub reports : (r : Report) → r.steps.items ≡ steps → IsNetworkOf p (state_of r.state) → (state_of r.state).actors ≡ map actor_left rs → (state_of r.state).ways ≡ map (λ line. tokens line.items) lines
+  pub reports : (r : Report) → r.steps.items ≡ steps → r.stops.items ≡ map stop_in rs → IsNetworkOf p (state_of r.state) → (state_of r.state).actors ≡ map actor_left rs → (state_of r.state).ways ≡ map (λ line. tokens line.items) lines
       → r.close ≡ Done ↔ HaveEnded p (state_of r.state) → (r.close ≢ Done → ClosesBy (length rs) (stop_at rs) r.close) → Reports p turns seed r
-  reports r are_steps is actors_are ways_are done closes =
+  reports r are_steps are_stops is actors_are ways_are done closes =
       let s = state_of r.state in
       let run = steps_of p turns seed js rs begins are ran in
       let last = last_of p turns seed js rs begins are ran in
@@ -69,8 +69,8 @@ module _ (p : Plan) (acc : IsAccepted p) (turns seed : ℕ) (js : List Job) (rs 
       let leads = leads_there p acc turns seed run (stop_at rs) last each none (idle_there p turns seed js rs begins are ran) (shown s).way order bare merged made steps steps_are s is ends (λ w. refl) in
       record {
         runs = run;
-        stops = stop_at rs;
-        each = λ k less. subst (IsRunOf p turns seed k (run k) (stop_at rs k)) (ends k) (each k less);
+        count = ap length are_stops ∙ (length-map rs stop_in ∙ runs_count p turns seed js rs begins are ran);
+        each = λ k less. subst (λ ss. IsRunOf p turns seed k (run k) (stop_among ss k) ((shown s).state k)) (sym are_stops) (subst (IsRunOf p turns seed k (run k) (stop_at rs k)) (ends k) (each k less));
         none = none;
         order = order;
         merged = merged;
@@ -78,6 +78,6 @@ module _ (p : Plan) (acc : IsAccepted p) (turns seed : ℕ) (js : List Job) (rs 
         steps = are_steps ∙ steps_are;
         replays = subst (λ w. Replays p w s) (sym are_steps) leads;
         done = done;
-        full = greatest_there p turns seed js rs begins are ran e outs ins wired lines left;
-        closes = λ not. subst (λ n. ClosesBy n (stop_at rs) r.close) (runs_count p turns seed js rs begins are ran) (closes not);
+        full = λ k less at_clock. greatest_there p turns seed js rs begins are ran e outs ins wired lines left k less (ap (λ ss. stop_among ss k) (sym are_stops) ∙ at_clock);
+        closes = λ not. subst (λ ss. ClosesBy (actors p) (stop_among ss) r.close) (sym are_stops) (subst (λ n. ClosesBy n (stop_at rs) r.close) (runs_count p turns seed js rs begins are ran) (closes not));
       }

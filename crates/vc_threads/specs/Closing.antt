@@ -9,9 +9,13 @@ use Rattle.vc_threads.specs.declared.run.Stop.TheVariants.{Turns, Gate, Clock, M
 abbrev pub stop_in : ActorRun → Stop
 stop_in r = r.stop
 
--- why worker k ended
+-- why worker k ended, where this is told of each in turn
+abbrev pub stop_among : List Stop → ℕ → Stop
+stop_among stops k = get_or stops k Turns
+
+-- why the worker of run k ended
 abbrev pub stop_at : List ActorRun → ℕ → Stop
-stop_at rs k = get_or (map stop_in rs) k Turns
+stop_at rs = stop_among (map stop_in rs)
 
 -- the runs stand in the order of their actors, from 0 on
 abbrev pub AreInOrder : List ActorRun → Type 0

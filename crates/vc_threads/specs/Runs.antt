@@ -7,8 +7,8 @@ use Rattle.vc_actors.specs.LocalRun.{Stamped, Turn, LocalRun, clock_after}
 use Rattle.vc_network.specs.Plan.{Plan}
 use Rattle.vc_tokens.specs.Spelt.{token}
 use Rattle.vc_tokens.specs.declared.token.Token.{Token}
-use Rattle.rand_pcg.specs.Lcg.{Lcg}
-use Rattle.rand_pcg.specs.Pcg.{pcg32}
+use Rattle.rand_pcg.specs.Lcg.{Lcg, started, increment_of}
+use Rattle.rand_pcg.specs.Pcg.{multiplier_64, pcg32}
 use Rattle.vc_core.specs.Able.{CanAct}
 use Rattle.vc_core.specs.Acting.{MakesOwn, MakesTake, IsOwn}
 use Rattle.vc_core.specs.Turns.{IsPut}
@@ -50,6 +50,10 @@ word_of (Puts act link s) = []
 -- the words of the takes, in order
 abbrev pub words_of : List (Turn Act Token) → List ℕ
 words_of = flat_map (λ t. word_of t.it)
+
+-- the generator of a seed and an actor's number, at its beginning
+abbrev pub generator : ℕ → ℕ → Lcg
+generator seed k = started 64 multiplier_64 seed (increment_of 64 k)
 
 -- these are the next words of the generator, which then is h
 abbrev pub Draws : Lcg → List ℕ → Lcg → Type 0

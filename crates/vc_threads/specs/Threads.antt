@@ -1,8 +1,7 @@
 -- The jobs of all actors, and what a run in threads reports.
 use Rattle.std.specs.Prelude.{◌≡◌, ◌≢◌, ◌↔◌, ℕ, ◌+◌, ◌<◌, ◌≤◌, List, [], ◌∷◌, ◌++◌, length, map}
 use Rattle.std.specs.List.{AllByRecursion, Contains}
-use Rattle.rand_pcg.specs.Lcg.{Lcg, started, increment_of}
-use Rattle.rand_pcg.specs.Pcg.{multiplier_64}
+use Rattle.rand_pcg.specs.Lcg.{Lcg}
 use Rattle.vc_accepted.specs.NetworkOf.{network_of}
 use Rattle.vc_accepted.specs.Outgoing.{actor_of as port_actor}
 use Rattle.vc_actors.specs.Actors.{Label, act_of}
@@ -23,11 +22,11 @@ use Rattle.vc_tokens.specs.Spelt.{tokens}
 use Rattle.vc_tokens.specs.Tokens.{Token as Item}
 use Rattle.vc_tokens.specs.declared.token.Token.{Token}
 use Rattle.vc_told.specs.Process.{Process}
-use Rattle.vc_threads.specs.Closing.{ClosesBy}
+use Rattle.vc_threads.specs.Closing.{ClosesBy, stop_among}
 use Rattle.vc_threads.specs.Merged.{event_of}
 use Rattle.vc_threads.specs.Order.{OnWays}
 use Rattle.vc_threads.specs.Rings.{IsOnWire}
-use Rattle.vc_threads.specs.Runs.{StepsByLink, Used, Draws, words_of}
+use Rattle.vc_threads.specs.Runs.{StepsByLink, Used, Draws, generator, words_of}
 use Rattle.vc_threads.specs.Works.{IsGreatest}
 use Rattle.vc_threads.specs.declared.crew.Job.{Job}
 use Rattle.vc_threads.specs.declared.report.Report.{Report}
@@ -65,7 +64,7 @@ pub record IsRunOf (p : Plan) (turns seed k : ℕ) (steps : List (Turn Act Token
   pub used : stop ≡ Turns → Used (network_of p) k turns 0 from steps to
   pub ends : actor_of to ≡ last
   pub rest : Lcg
-  pub words : Draws (started 64 multiplier_64 seed (increment_of 64 k)) (words_of steps) rest
+  pub words : Draws (generator seed k) (words_of steps) rest
 
 -- what was taken off the way from one port to another, and then what is left on it, is what was put on it, with its stamps
 abbrev pub TakesInOrder : ℕ → (ℕ → List (Turn Act Token)) → (ℕ → List Item) → ℕ → Port → Port → Type 0
@@ -77,12 +76,13 @@ abbrev pub HasGreatest : List (Turn Act Token) → Type 0
 HasGreatest ts = (t : Turn Act Token) × Contains ts t × IsGreatest t.at
 
 -- The reported steps are those of all actors' runs, by stamp, then actor. On both ways of each wire what was taken, and then what the
--- state has there, is what was put. The steps lead to the state, where each actor is as its run left it. The run closes Done exactly where every process has
--- ended there, and else by why the workers ended; where one ended by its clock an act has the greatest stamp.
+-- state has there, is what was put. The steps lead to the state, where each actor is as its run left it. It is told of each actor why its
+-- worker ended. The run closes Done exactly where every process has ended there, and else by what is told: Failed with the least actor of
+-- which want of memory is. Where a worker ended by its clock an act has the greatest stamp.
 pub record Reports (p : Plan) (turns seed : ℕ) (r : Report) : Type 0 where
   pub runs : ℕ → List (Turn Act Token)
-  pub stops : ℕ → Stop
-  pub each : (k : ℕ) → k < actors p → IsRunOf p turns seed k (runs k) (stops k) ((shown (state_of r.state)).state k)
+  pub count : length r.stops.items ≡ actors p
+  pub each : (k : ℕ) → k < actors p → IsRunOf p turns seed k (runs k) (stop_among r.stops.items k) ((shown (state_of r.state)).state k)
   pub none : (k : ℕ) → actors p ≤ k → runs k ≡ []
   pub order : OnWays (TakesInOrder (length p.nodes) runs (shown (state_of r.state)).way) p.wires (length p.wires)
   pub merged : List (Made Act)
@@ -90,5 +90,5 @@ pub record Reports (p : Plan) (turns seed : ℕ) (r : Report) : Type 0 where
   pub steps : r.steps.items ≡ map event_of merged
   pub replays : Replays p r.steps.items (state_of r.state)
   pub done : r.close ≡ Done ↔ HaveEnded p (state_of r.state)
-  pub closes : r.close ≢ Done → ClosesBy (actors p) stops r.close
-  pub full : (k : ℕ) → k < actors p → stops k ≡ Clock → (j : ℕ) × HasGreatest (runs j)
+  pub closes : r.close ≢ Done → ClosesBy (actors p) (stop_among r.stops.items) r.close
+  pub full : (k : ℕ) → k < actors p → stop_among r.stops.items k ≡ Clock → (j : ℕ) × HasGreatest (runs j)

@@ -3,8 +3,7 @@ use Rattle.std.specs.Prelude.{◌≡◌, ℕ, ◌+◌, ◌^◌, ◌≤◌, ◌�
 use Rattle.std.specs.List.{AllZip, AllByRecursion, Contains}
 use mathlib.Core.List.{IsPrefix}
 use Rattle.std.specs.declared.alloc.Global.{Global}
-use Rattle.rand_pcg.specs.Lcg.{Lcg, started, increment_of}
-use Rattle.rand_pcg.specs.Pcg.{multiplier_64}
+use Rattle.rand_pcg.specs.Lcg.{Lcg}
 use Rattle.rtrb.specs.Ring.{received, known_items, SameConsumer}
 use Rattle.rtrb.specs.declared.producer.Producer.{Producer}
 use Rattle.rtrb.specs.declared.consumer.Consumer.{Consumer}
@@ -26,7 +25,7 @@ use Rattle.vc_threads.specs.declared.link.LinkRule.{LinkRule}
 use Rattle.vc_threads.specs.declared.link.Stamped.{Stamped}
 use Rattle.vc_threads.specs.declared.run.ActorRun.{ActorRun}
 use Rattle.vc_threads.specs.declared.run.Stop.TheVariants.{Turns, Clock}
-use Rattle.vc_threads.specs.Runs.{StepsByLink, Used, Draws, words_of}
+use Rattle.vc_threads.specs.Runs.{StepsByLink, Used, Draws, generator, words_of}
 use Rattle.vc_threads.specs.Stamps.{stamped}
 use Rattle.vc_threads.specs.Wires.{Sends, Receives, OutLooked, InLooked, IsReady, IsAmong, out_links, in_links}
 
@@ -136,6 +135,6 @@ pub record HasRun (plan : Plan) (k n id seed : ℕ) (actor : Acting) (ends : End
   pub ins : AllZip (Receives steps) ends.ins.items r.ends.ins.items
   pub links : GoOver ends.outs.items ends.ins.items steps
   pub rest : Lcg
-  pub words : Draws (started 64 multiplier_64 seed (increment_of 64 id)) (words_of steps) rest
+  pub words : Draws (generator seed id) (words_of steps) rest
   pub used : r.stop ≡ Turns → Used plan k n 0 actor steps r.actor
   pub full : r.stop ≡ Clock → IsFull (clock_after 0 steps) r.ends.ins.items

@@ -190,11 +190,9 @@ impl Desk {
     ghost use Rattle.std.specs.Prelude.{◌≡◌, ◌≢◌, ◌<◌, ◌++◌, ℕ, [], ◌∷◌, length, OnOk, OnErr, IfOk, IfErr, IfSome};
     ghost use Rattle.std.specs.List.{All, HoldsAt};
     ghost use Rattle.std.specs.Vec.{vec_len, vec_capacity};
-    ghost use Rattle.rand_pcg.specs.Lcg.{started, increment_of};
-    ghost use Rattle.rand_pcg.specs.Pcg.{multiplier_64};
     ghost use Rattle.vc_core.specs.OfPlan.{IsActorOf};
     ghost use Rattle.vc_network.specs.Plan.{Plan};
-    ghost use Rattle.vc_threads.specs.Runs.{HasNoStep};
+    ghost use Rattle.vc_threads.specs.Runs.{HasNoStep, generator};
     ghost use Rattle.vc_threads.specs.Wires.{Distinct, in_links, out_links};
     ghost use Rattle.vc_threads.specs.Works.{CanTake, IsFull, IsOfSomePlan, Uses, Stays, desk};
 
@@ -204,7 +202,7 @@ impl Desk {
         ensures clock { result.clock ≡ 0 }
         ensures acts { result.acts.items ≡ [] }
         ensures ends { result.ends ≡ ends }
-        ensures words { result.words ≡ started 64 multiplier_64 seed (increment_of 64 id) }
+        ensures words { result.words ≡ generator seed id }
     {
         let mut acts = Vec::new(alloc);
         let _room = acts.reserve(1);

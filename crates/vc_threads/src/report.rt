@@ -1,13 +1,15 @@
 //! What a run in threads reports.
-ghost use Rattle.std.specs.Prelude.{◌≡◌, ◌≢◌, ◌↔◌, ◌<◌, length, IsNone, IfSome};
+ghost use Rattle.std.specs.Prelude.{◌≡◌, ◌≢◌, ◌↔◌, ◌<◌, length, map, IsNone, IfOk, IfSome};
 ghost use Rattle.vc_core.specs.State.{state_of, IsNetworkOf};
 ghost use Rattle.vc_core.specs.Turns.{HaveEnded};
 ghost use Rattle.vc_core.specs.declared.close.Close.TheVariants.{Done};
 ghost use Rattle.vc_plan.specs.declared.plan.Plan.{Plan};
-ghost use Rattle.vc_threads.specs.Closing.{AreInOrder, ClosesBy, NoneStopped, stop_at};
+ghost use Rattle.vc_threads.specs.Closing.{AreInOrder, ClosesBy, NoneStopped, stop_at, stop_in};
 
 use crate::run::{ActorRun, Stop};
+use std::alloc::Global;
 use vc_core::{Close, Event, Network};
+use vc_packets::Memory;
 
 /// What a run in threads reports.
 #[derive(Drop)]
@@ -16,8 +18,21 @@ pub struct Report {
     pub steps: Vec<Event>,
     /// The network after them.
     pub state: Network,
+    /// Why the worker of each actor ended, in the actors' order.
+    pub stops: Vec<Stop>,
     /// How the run ended.
     pub close: Close,
+}
+
+/// Why each worker ended, in the order of the runs.
+pub(crate) fn stops_of(alloc: Global, runs: &[ActorRun]) -> Result<Vec<Stop>, Memory>
+    ensures { IfOk result (λ stops. stops.items ≡ map stop_in runs.now) }
+{
+    let mut stops = Vec::new(alloc);
+    for run in runs {
+        stops.push(run.stop)?;
+    }
+    Ok(stops)
 }
 
 // The first worker that ended so.

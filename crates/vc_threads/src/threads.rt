@@ -7,7 +7,7 @@ use crate::gate::Gate;
 use crate::jobs::make_jobs;
 use crate::merging::merge;
 use crate::order::{all_parts, take_all};
-use crate::report::{Report, close_of, stopped};
+use crate::report::{Report, close_of, stopped, stops_of};
 use std::alloc::Global;
 use std::sync::Wait;
 use std::thread::Threads;
@@ -16,7 +16,8 @@ use vc_plan::Accepted;
 
 /// Runs each node and each switch of an accepted plan in a thread of its own, for at most so many turns each, as long as the gate lets it.
 /// The threads are joined, and their acts are made one list: whatever the threads did, it is a run of the network. The network that is
-/// reported is put together from the actors, as their acts left them, and from the tokens that are left in the rings.
+/// reported is put together from the actors, as their acts left them, and from the tokens that are left in the rings. Why each worker
+/// ended is told, and where one met want of memory the run closes with the least of their actors, if not every process has ended.
 ///
 /// The words of an actor's takes are those of the generator of this seed and the actor's number.
 pub fn run_threads<G: Gate, R: Threads + Wait>(
@@ -32,6 +33,7 @@ pub fn run_threads<G: Gate, R: Threads + Wait>(
     let jobs = make_jobs(alloc, accepted)?;
     let runs = run_jobs(rt, alloc, jobs, gate, turns, seed)?;
     let steps = merge(alloc, runs.as_slice())?;
+    let stops = stops_of(alloc, runs.as_slice())?;
     let otherwise = stopped(runs.as_slice());
     let (actors, ends) = all_parts(alloc, runs)?;
     let left = take_all(alloc, ends, accepted.plan())?;
@@ -40,6 +42,7 @@ pub fn run_threads<G: Gate, R: Threads + Wait>(
     Ok(Report {
         steps,
         state,
+        stops,
         close,
     })
 }

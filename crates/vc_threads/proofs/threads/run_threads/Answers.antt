@@ -1,10 +1,10 @@
-use Rattle.std.proofs.Common.{◌*◌, length, map, slice_get, refl, ap, sym, subst, ◌∙◌}
+use Rattle.std.proofs.Common.{◌≡◌, ◌*◌, length, map, slice_get, refl, ap, sym, subst, ◌∙◌}
 use Rattle.std.specs.List.{AllByRecursion}
 use Rattle.std.proofs.lemmas.List.{length-map}
 use Rattle.vc_actors.specs.Merge.{AreDistinct, IsMerge, RunRises, run_of}
 use Rattle.vc_plan.specs.declared.plan.Plan.{Plan}
 use Rattle.vc_tokens.specs.Spelt.{tokens}
-use Rattle.vc_threads.specs.Closing.{AreInOrder, ClosesBy, stop_at}
+use Rattle.vc_threads.specs.Closing.{AreInOrder, ClosesBy, stop_at, stop_in}
 use Rattle.vc_threads.specs.Crews.{IsFit}
 use Rattle.vc_threads.specs.Merged.{numbered}
 use Rattle.vc_threads.specs.Order.{actor_left, MeetAt, LeftOn, OnWires, OnWays}
@@ -28,7 +28,7 @@ merge-requires-clause-rising g c =
 
 pub stopped-otherwise-requires : goal.stopped-otherwise-requires
 stopped-otherwise-requires g c =
-    subst AreInOrder (sym c.as_slice-2.ensures.value) (in_order c.args.turns c.args.seed c.in_ok-jobs.jobs.items c.in_ok-runs.runs.items c.in_ok-jobs.ensures.numbered c.in_ok-runs.ensures)
+    subst AreInOrder (sym c.as_slice-3.ensures.value) (in_order c.args.turns c.args.seed c.in_ok-jobs.jobs.items c.in_ok-runs.runs.items c.in_ok-jobs.ensures.numbered c.in_ok-runs.ensures)
 
 pub take_all-requires-clause-rings : goal.take_all-requires-clause-rings
 take_all-requires-clause-rings g c =
@@ -46,11 +46,11 @@ of_parts-requires g c =
     record {
       count = ap length are ∙ (length-map rs actor_left ∙ runs_count p c.args.turns c.args.seed js rs c.in_ok-jobs.ensures.begins c.in_ok-jobs.ensures.numbered c.in_ok-runs.ensures);
       actors = λ k x here. parts_fit p c.args.turns c.args.seed js rs c.in_ok-jobs.ensures.begins c.in_ok-jobs.ensures.numbered c.in_ok-runs.ensures k x (ap (λ xs. slice_get xs k) (sym are) ∙ here);
-      ways = ap length c.as_slice-3.ensures.value ∙ (c.in_ok-left.ensures.count ∙ ap (λ (q : Plan). 2 * length q.wires) c.plan.ensures.plan);
+      ways = ap length c.as_slice-4.ensures.value ∙ (c.in_ok-left.ensures.count ∙ ap (λ (q : Plan). 2 * length q.wires) c.plan.ensures.plan);
     }
 
 pub close_of-close-requires : goal.close_of-close-requires
-close_of-close-requires g c = not_done (length c.as_slice-2.result.now) (stop_at c.as_slice-2.result.now) c.stopped-otherwise.result c.stopped-otherwise.ensures
+close_of-close-requires g c = not_done (length c.as_slice-3.result.now) (stop_at c.as_slice-3.result.now) c.stopped-otherwise.result c.stopped-otherwise.ensures
 
 pub returns : goal.returns
 returns g c =
@@ -66,7 +66,8 @@ returns g c =
     left (c.in_ok-left.ensures.count ∙ ap (λ (q : Plan). 2 * length q.wires) same)
     (subst (λ q. OnWays (LeftOn (length q.nodes) c.in_ok-actors.ends left) q.wires (length q.wires)) same c.in_ok-left.ensures.left)
     m.0 (subst (λ xs. IsMerge (run_of (map numbered xs)) m.0) c.as_slice.ensures.value m.1) c.in_ok-steps.steps.items m.2
-    (record { steps = c.in_ok-steps.steps; state = c.in_ok-state.state; close = c.close_of-close.result }) refl
-    made.is (made.actors ∙ c.in_ok-actors.ensures.actors) (made.ways ∙ ap (map (λ line. tokens line.items)) c.as_slice-3.ensures.value) (done.done p made.is)
+    (record { steps = c.in_ok-steps.steps; state = c.in_ok-state.state; stops = c.in_ok-stops.stops; close = c.close_of-close.result }) refl
+    (subst (λ rs. c.in_ok-stops.stops.items ≡ map stop_in rs) c.as_slice-2.ensures.value c.in_ok-stops.ensures)
+    made.is (made.actors ∙ c.in_ok-actors.ensures.actors) (made.ways ∙ ap (map (λ line. tokens line.items)) c.as_slice-4.ensures.value) (done.done p made.is)
     (λ not. subst (ClosesBy (length c.in_ok-runs.runs.items) (stop_at c.in_ok-runs.runs.items)) (sym (done.other not))
-    (subst (λ xs. ClosesBy (length xs) (stop_at xs) c.stopped-otherwise.result) c.as_slice-2.ensures.value c.stopped-otherwise.ensures))
+    (subst (λ xs. ClosesBy (length xs) (stop_at xs) c.stopped-otherwise.result) c.as_slice-3.ensures.value c.stopped-otherwise.ensures))

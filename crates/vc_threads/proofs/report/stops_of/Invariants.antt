@@ -1,0 +1,6 @@
+use Rattle.std.proofs.Common.{◌≡◌, map, take}
+use Rattle.vc_threads.specs.Closing.{stop_in}
+use Rattle.vc_threads.proofs.report.stops_of.Given as goal
+
+abbrev pub invariant-loop-run : goal.invariant-loop-run
+invariant-loop-run l = l.stops.items ≡ map stop_in (take l.run-index l.runs)
