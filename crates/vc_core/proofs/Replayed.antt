@@ -5,7 +5,8 @@ use Rattle.std.proofs.lemmas.Bool.Decides.{nat_tests}
 use Rattle.std.proofs.lemmas.List.{length-map, map-append}
 use mathlib.Core.Path.{fun_ext}
 use Rattle.vc_actors.specs.Actors.{Network, ActBy}
-use Rattle.vc_network.specs.Headline.{Headline}
+use Rattle.vc_network.specs.Headline.{AreTold, HeadlineAndList}
+use Rattle.vc_network.specs.Views.{Said}
 use Rattle.vc_network.specs.Network as net
 use Rattle.vc_network.specs.Network.{Happens, HappenAll, begins, first}
 use Rattle.vc_network.specs.Plan.{ways}
@@ -90,21 +91,19 @@ reached_more p events i e s t r here made = record {
       (happen_more (network_of p) (begins (network_of p) (begin_of p)) (shown s) (shown t) (map event_of (take i events)) (event_of e) r.happen made.happens);
 }
 
--- there the headline holds
-pub by_steps : (p : Plan) (events : List Event) (s : State) → Reached p events s → Headline (network_of p) Wormhole does (begin_of p) (shown s)
-by_steps p events s r = headline (network_of p) Wormhole does (begin_of p) (map event_of events) (shown s) (accepted p r.is.accepted) r.happen
+-- there the headline holds, and one list tells all
+both : (p : Plan) (events : List Event) (s : State) → Reached p events s → HeadlineAndList (network_of p) Wormhole does (begin_of p) (shown s)
+both p events s r = headline (network_of p) Wormhole does (begin_of p) (map event_of events) (shown s) (accepted p r.is.accepted) r.happen
 
--- and one list tells all in occam's words, with a linearization
+pub by_steps : (p : Plan) (events : List Event) (s : State) → Reached p events s → (ks : List Said) × AreTold (network_of p) does (begin_of p) (shown s) ks
+by_steps p events s r = (both p events s r).1
+
+-- and it is told in occam's words, with a linearization
 pub replays : (p : Plan) (events : List Event) (s : State) → Reached p events s → Replays p events s
-replays p events s r = let h = by_steps p events s r in record {
+replays p events s r = record {
   is = r.is;
   happen = r.happen;
-  faithful = h.faithful;
-  packets = h.packets;
-  nowhere_else = h.nowhere_else;
-  stopped = h.stopped;
-  no_strays = h.no_strays;
-  none_lost = h.none_lost;
+  headline = (both p events s r).0;
   linearizes = invisible p Wormhole (map event_of events) (shown s) r.is.accepted r.happen;
 }
 

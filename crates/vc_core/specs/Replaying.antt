@@ -1,19 +1,14 @@
 -- The opening state of an accepted plan, and what a replay of events answers.
-use Rattle.std.specs.Prelude.{◌≡◌, ◌↔◌, ℕ, ◌<◌, Bool, true, List, length, map, take, slice_get, Option, Some, None}
-use Rattle.vc_actors.specs.Actors as actors
-use Rattle.vc_network.specs.Headline.{IsFaithful, HasItsPacket, NowhereElse}
-use Rattle.vc_network.specs.Network as net
+use Rattle.std.specs.Prelude.{◌≡◌, ◌↔◌, ℕ, List, map, take, slice_get, Option, Some, None}
+use Rattle.vc_network.specs.Headline.{Headline}
 use Rattle.vc_network.specs.Network.{begins, HappenAll}
-use Rattle.vc_network.specs.Plan.{Way, home}
-use Rattle.vc_network.specs.Views.{vcps, switches, view}
 use Rattle.vc_placement.specs.Placement.{Linearizes}
 use Rattle.vc_plan.specs.declared.plan.Plan.{Plan}
 use Rattle.vc_accepted.specs.NetworkOf.{network_of}
 use Rattle.vc_switch.specs.Waiting.{Wormhole}
 use Rattle.vc_told.specs.Begin.{begin_of}
 use Rattle.vc_core.specs.Enabled.{CanHappen}
-use Rattle.vc_told.specs.Process.{Process, does}
-use Rattle.vc_tokens.specs.Tokens.{Token}
+use Rattle.vc_told.specs.Process.{does}
 use Rattle.vc_core.specs.State.{State, shown, event_of, state_of, IsNetworkOf}
 use Rattle.vc_core.specs.declared.event.Event.{Event}
 use Rattle.vc_core.specs.declared.network.Network.{Network}
@@ -31,21 +26,12 @@ pub record Reached (p : Plan) (events : List Event) (s : State) : Type 0 where
   pub is : IsNetworkOf p s
   pub happen : HappenAll (network_of p) Wormhole does (begins (network_of p) (begin_of p)) (map event_of events) (shown s)
 
--- and there the headline holds. Its one list, of all that the nodes communicated, is told in occam's words and has a linearization: each
--- message passes at one moment, and each node's part is a trace of its process
+-- and there the headline holds, and one list tells all that the nodes communicated, which has a linearization: each message passes at
+-- one moment, and each node's part is a trace of its process
 pub record Replays (p : Plan) (events : List Event) (s : State) : Type 0 where
   pub is : IsNetworkOf p s
   pub happen : HappenAll (network_of p) Wormhole does (begins (network_of p) (begin_of p)) (map event_of events) (shown s)
-  pub faithful : (c : ℕ) → c < length (network_of p).channels → IsFaithful (network_of p) (shown s) c
-  pub packets : (c v : ℕ) (ab : Bool) → c < length (network_of p).channels → home (network_of p) c ≡ Way v ab → HasItsPacket (network_of p) (shown s) c
-  pub nowhere_else : NowhereElse (network_of p) (shown s)
-  -- after a stop nothing more is taken
-  pub stopped : (c : ℕ) (es : List (actors.ActBy net.Act)) (t : actors.Network (net.Actor Process) Token) → c < length (network_of p).channels →
-      HappenAll (network_of p) Wormhole does (shown s) es t → (view (network_of p) (shown s) c).stopped ≡ true →
-      (view (network_of p) t c).taken ≡ (view (network_of p) (shown s) c).taken
-  -- nothing is dropped
-  pub no_strays : (n : ℕ) → (vcps (shown s) n).carrier.strays ≡ 0
-  pub none_lost : (k : ℕ) → (switches (network_of p) (shown s) k).lost ≡ 0
+  pub headline : Headline (network_of p) Wormhole does (shown s)
   pub linearizes : Linearizes p (shown s)
 
 -- an event is refused for what it is, and not for want of memory, exactly where it is none of the network

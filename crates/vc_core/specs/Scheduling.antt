@@ -1,9 +1,9 @@
 -- What a scheduler rests on: a list of events grows by one that was made, and the headline holds wherever it leads.
 use Rattle.std.specs.Prelude.{List, [], ◌∷◌, ◌++◌}
 use Rattle.vc_accepted.specs.NetworkOf.{network_of}
-use Rattle.vc_network.specs.Headline.{Headline}
+use Rattle.vc_network.specs.Headline.{AreTold}
+use Rattle.vc_network.specs.Views.{Said}
 use Rattle.vc_plan.specs.declared.plan.Plan.{Plan}
-use Rattle.vc_switch.specs.Waiting.{Wormhole}
 use Rattle.vc_told.specs.Begin.{begin_of}
 use Rattle.vc_told.specs.Process.{does}
 use Rattle.vc_core.specs.Replaying.{IsOpening, Reached, Replays}
@@ -17,5 +17,5 @@ pub record EventsLeadOn : Type 0 where
   pub next : (p : Plan) (made : List Event) (e : Event) (s t : State) → Reached p made s → MakesEvent p s e t → Reached p (made ++ e ∷ []) t
   -- the headline holds there, and what the nodes communicated has a linearization
   pub headline : (p : Plan) (made : List Event) (s : State) → Reached p made s → Replays p made s
-  -- and it holds in the words of the definitions, with the list that the steps of the processes make
-  pub by_steps : (p : Plan) (made : List Event) (s : State) → Reached p made s → Headline (network_of p) Wormhole does (begin_of p) (shown s)
+  -- the steps of the processes make such a list too, which leads each process to what remains of it
+  pub by_steps : (p : Plan) (made : List Event) (s : State) → Reached p made s → (ks : List Said) × AreTold (network_of p) does (begin_of p) (shown s) ks

@@ -121,8 +121,8 @@ record IsClean {P : Type 0} (plan : Plan) (actor : ℕ) (x : Actor P) : Type 0 w
   strays : (vcp_of x).carrier.strays ≡ 0
   lost : (i : ℕ) → actor ≡ plan.nodes + i → (switch_of x).lost ≡ 0
 
-all_clean : {P : Type 0} (plan : Plan) (waiting : Waiting) (Does : Doing P) (begin : ℕ → P) (s : Network (Actor P) Token) → Headline plan waiting Does begin s → (k : ℕ) → IsClean plan k (s.state k)
-all_clean plan waiting Does begin s h k = record { strays = h.no_strays k; lost = λ i e. subst (λ z. (switch_of (s.state z)).lost ≡ 0) (sym e) (h.none_lost i) }
+all_clean : {P : Type 0} (plan : Plan) (waiting : Waiting) (Does : Doing P) (s : Network (Actor P) Token) → Headline plan waiting Does s → (k : ℕ) → IsClean plan k (s.state k)
+all_clean plan waiting Does s h k = record { strays = h.no_strays k; lost = λ i e. subst (λ z. (switch_of (s.state z)).lost ≡ 0) (sym e) (h.none_lost i) }
 
 module _ {P : Type 0} (plan : Plan) (most : ℕ) (waiting : Waiting) (Does : Doing P) (le : plan.headers ≤ most) where
   limits : body_limit plan ≤ body_limit (with_headers plan most)
@@ -163,7 +163,7 @@ module _ {P : Type 0} (plan : Plan) (most : ℕ) (waiting : Waiting) (Does : Doi
     run_up done mid [] s r d = d
     run_up done mid (e ∷ es) s r (next, step, rest) =
         let now = Run-more (Local plan waiting Does) (begins plan begin) mid next done e r step in
-        let clean = all_clean plan waiting Does begin next (run_headline plan waiting Does begin (done ++ e ∷ []) next acc now) e.actor in (
+        let clean = all_clean plan waiting Does next (run_headline plan waiting Does begin (done ++ e ∷ []) next acc now) e.actor in (
           next,
           record { local = local_up e.actor (mid.state e.actor) e.label (next.state e.actor) step.local clean; others = step.others; ways = step.ways },
           run_up (done ++ e ∷ []) next es s now rest,
@@ -175,7 +175,7 @@ module _ {P : Type 0} (plan : Plan) (most : ℕ) (waiting : Waiting) (Does : Doi
         let next : Network (Actor P) Token = record mid { state = put mid.state actor x } in
         let e : Event Act Token = record { actor = actor; label = Own act } in
         let now = Run-more (Local plan waiting Does) (begins plan begin) mid next done e r (own_step (Local plan waiting Does) mid actor act x h) in
-        subst (IsClean plan actor) (put-same mid.state actor x) (all_clean plan waiting Does begin next (run_headline plan waiting Does begin (done ++ e ∷ []) next acc now) actor)
+        subst (IsClean plan actor) (put-same mid.state actor x) (all_clean plan waiting Does next (run_headline plan waiting Does begin (done ++ e ∷ []) next acc now) actor)
 
     run_down : (done : List (Event Act Token)) (mid : Network (Actor P) Token) (es : List (Event Act Token)) (s : Network (Actor P) Token)
         → Run (Local plan waiting Does) (begins plan begin) done mid → Run (Local (with_headers plan most) waiting Does) mid es s → Run (Local plan waiting Does) mid es s

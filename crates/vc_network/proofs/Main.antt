@@ -27,7 +27,7 @@ use Rattle.vc_network.specs.Processes.{Doing, Trace, none, more, comms}
 use Rattle.vc_network.specs.Network.{Act, Actor, IsNode, IsSwitch, Local, first, begins, HappenAll}
 use Rattle.vc_network.specs.Views.{vcp_of, halves_view, inner_of, switch_of, vcps, switches, source_node, sink_node, view_at, view, queue_at, Arrived, arrived, on_wire, marked, inside, in_ways, in_halves, everywhere, Said, said_by, all_said}
 use Rattle.vc_network.proofs.Replays.{replayed}
-use Rattle.vc_network.specs.Headline.{HeadlineHolds, IsFaithful, HasItsPacket, Headline}
+use Rattle.vc_network.specs.Headline.{HeadlineHolds, IsFaithful, HasItsPacket, AreTold, Headline}
 use Rattle.vc_network.proofs.Wiring.{net_accepted, carried}
 use Rattle.vc_network.proofs.Homed.{VcpHomed, SwitchHomed, new_vcp_homed}
 use Rattle.vc_network.specs.Credit.{sender_at}
@@ -247,7 +247,7 @@ module _ {P : Type 0} (plan : Plan) (s : Network (Actor P) Token) (t : Tokens) (
       }
 
 pub run_headline : {P : Type 0} (plan : Plan) (waiting : Waiting) (Does : Doing P) (begin : ℕ → P) (es : List (Event Act Token)) (s : Network (Actor P) Token) → IsAccepted plan →
-    Run (Local plan waiting Does) (begins plan begin) es s → Headline plan waiting Does begin s
+    Run (Local plan waiting Does) (begins plan begin) es s → Headline plan waiting Does s
 run_headline {P} plan waiting Does begin es s acc run =
     let r = ran plan waiting Does acc es (begins plan begin) s no_tokens (good_start plan begin) run in
     let g = r.good in
@@ -260,19 +260,6 @@ run_headline {P} plan waiting Does begin es s acc run =
         at_switch = λ k link. g.switched k link;
         held = λ n c p e. (g.nodes n).carrier.held c p e;
       };
-      told = (
-        r.ks,
-        record {
-          by_node = λ n less. (let k = g.kinds n less in (
-            k.0,
-            k.1,
-            subst (λ z. Trace Does (begin n) (said_by n r.ks) (process_of (begin n) z)) k.1
-                (subst (λ z. Trace Does (process_of (begin n) z) (said_by n r.ks) (process_of (begin n) (s.state n))) (first_node plan begin n less) (r.traces n (begin n))),
-          ));
-          by_no_other = r.by_no_other;
-          on_channel = λ c less. subst (λ z. DoesAll z (part c (all_said r.ks)) (view plan s c)) (first_view plan begin c) (r.views c);
-        },
-      );
       along = λ c fs t goes. (let q = later fs t goes in (part c (all_said q.ks), q.views c));
       by_event = λ c e t h. (let x = next plan waiting Does acc s t r.new e.actor h.0 g h.2 in (part c x.ks, x.short c, x.views c));
       stopped = λ c fs t less goes e. (let q = later fs t goes in all_stopped (view plan s c) (part c (all_said q.ks)) (view plan t c) e (q.views c));
@@ -285,5 +272,24 @@ run_headline {P} plan waiting Does begin es s acc run =
         let p = replayed plan waiting Does s t fs goes in
         ran plan waiting Does acc p.0 s t _ (ran plan waiting Does acc es (begins plan begin) s no_tokens (good_start plan begin) run).good p.1
 
+pub run_list : {P : Type 0} (plan : Plan) (waiting : Waiting) (Does : Doing P) (begin : ℕ → P) (es : List (Event Act Token)) (s : Network (Actor P) Token) → IsAccepted plan →
+    Run (Local plan waiting Does) (begins plan begin) es s → (ks : List Said) × AreTold plan Does begin s ks
+run_list plan waiting Does begin es s acc run =
+    let r = ran plan waiting Does acc es (begins plan begin) s no_tokens (good_start plan begin) run in
+    let g = r.good in (
+      r.ks,
+      record {
+        by_node = λ n less. (let k = g.kinds n less in (
+          k.0,
+          k.1,
+          subst (λ z. Trace Does (begin n) (said_by n r.ks) (process_of (begin n) z)) k.1
+              (subst (λ z. Trace Does (process_of (begin n) z) (said_by n r.ks) (process_of (begin n) (s.state n))) (first_node plan begin n less) (r.traces n (begin n))),
+        ));
+        by_no_other = r.by_no_other;
+        on_channel = λ c less. subst (λ z. DoesAll z (part c (all_said r.ks)) (view plan s c)) (first_view plan begin c) (r.views c);
+      },
+    )
+
 pub headline : {P : Type 0} (plan : Plan) (waiting : Waiting) (Does : Doing P) (begin : ℕ → P) → HeadlineHolds plan waiting Does begin
-headline plan waiting Does begin es s acc h = let r = replayed plan waiting Does (begins plan begin) s es h in run_headline plan waiting Does begin r.0 s acc r.1
+headline plan waiting Does begin es s acc h =
+    let r = replayed plan waiting Does (begins plan begin) s es h in (run_headline plan waiting Does begin r.0 s acc r.1, run_list plan waiting Does begin r.0 s acc r.1)

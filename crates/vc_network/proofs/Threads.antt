@@ -11,7 +11,7 @@ use Rattle.vc_network.specs.Processes.{Doing}
 use Rattle.vc_network.specs.Network.{Act, Proc, Take, Put, Route, Fct, Pass, Node, Actor, IsNode, IsSwitch, NodeStep, SwitchStep, Local, first, begins, actor_at, HappenAll}
 use Rattle.vc_network.specs.Threads.{source, sink, ended, ThreadsKeepHeadline}
 use Rattle.vc_network.proofs.Replays.{happened}
-use Rattle.vc_network.proofs.Main.{run_headline}
+use Rattle.vc_network.proofs.Main.{run_headline, run_list}
 use Rattle.vc_switch.specs.Switch.{Switch}
 
 node_keeps : {P : Type 0} (plan : Plan) (Does : Doing P) (n : ℕ) (a b : Node P) (label : Label Act Token) → NodeStep plan Does n a label b → KeepsTo (source plan) (sink plan) n label
@@ -54,7 +54,7 @@ pub threads_headline : {P : Type 0} (plan : Plan) (waiting : Waiting) (Does : Do
 threads_headline plan waiting Does begin last runs left acts acc h =
     let r = threads_run (Local plan waiting Does) (source plan) (sink plan) (keeps plan waiting Does) (first plan begin) last runs left acts h.fit h.merged in (
       subst (λ es. HappenAll plan waiting Does (begins plan begin) es (ended last left)) r.1 (happened plan waiting Does (begins plan begin) (ended last left) r.0 r.2),
-      run_headline plan waiting Does begin r.0 (ended last left) acc r.2,
+      (run_headline plan waiting Does begin r.0 (ended last left) acc r.2, run_list plan waiting Does begin r.0 (ended last left) acc r.2),
     )
 
 -- a step takes and puts on the plan's ways alone

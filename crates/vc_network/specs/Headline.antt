@@ -49,11 +49,10 @@ pub data ByOneEvent (h : Home) : List Comm → Type 0 where
   one_step : (k : Comm) → ByOneEvent h (k ∷ [])
   exchange : (n : ℕ) (m : List ℕ) → h ≡ Inside n → ByOneEvent h (Out m ∷ In m ∷ Fin ∷ [])
 
-pub record Headline {P : Type 0} (plan : Plan) (waiting : Waiting) (Does : Doing P) (begin : ℕ → P) (s : Network (Actor P) Token) : Type 0 where
+pub record Headline {P : Type 0} (plan : Plan) (waiting : Waiting) (Does : Doing P) (s : Network (Actor P) Token) : Type 0 where
   pub faithful : (c : ℕ) → c < length plan.channels → IsFaithful plan s c
   pub packets : (c v : ℕ) (ab : Bool) → c < length plan.channels → home plan c ≡ Way v ab → HasItsPacket plan s c
   pub nowhere_else : NowhereElse plan s
-  pub told : (ks : List Said) × AreTold plan Does begin s ks
   -- whatever happens from here on is a run of the channel, and one event is a step of it at most, or an exchange inside a node
   pub along : (c : ℕ) (es : List (ActBy Act)) (t : Network (Actor P) Token) → HappenAll plan waiting Does s es t → (ks : List Comm) × DoesAll (view plan s c) ks (view plan t c)
   pub by_event : (c : ℕ) (e : ActBy Act) (t : Network (Actor P) Token) → Happens plan waiting Does s e t → (ks : List Comm) × ByOneEvent (home plan c) ks × DoesAll (view plan s c) ks (view plan t c)
@@ -64,7 +63,11 @@ pub record Headline {P : Type 0} (plan : Plan) (waiting : Waiting) (Does : Doing
   pub no_strays : (n : ℕ) → (vcps s n).carrier.strays ≡ 0
   pub none_lost : (k : ℕ) → (switches plan s k).lost ≡ 0
 
+-- the headline, and one list of all communications
+abbrev pub HeadlineAndList : {P : Type 0} → Plan → Waiting → Doing P → (ℕ → P) → Network (Actor P) Token → Type 0
+HeadlineAndList plan waiting Does begin s = Headline plan waiting Does s × ((ks : List Said) × AreTold plan Does begin s ks)
+
 -- after any list of events that happens from the opening state of an accepted network
 abbrev pub HeadlineHolds : {P : Type 0} → Plan → Waiting → Doing P → (ℕ → P) → Type 0
 HeadlineHolds {P} plan waiting Does begin =
-    (es : List (ActBy Act)) (s : Network (Actor P) Token) → IsAccepted plan → HappenAll plan waiting Does (begins plan begin) es s → Headline plan waiting Does begin s
+    (es : List (ActBy Act)) (s : Network (Actor P) Token) → IsAccepted plan → HappenAll plan waiting Does (begins plan begin) es s → HeadlineAndList plan waiting Does begin s

@@ -9,7 +9,7 @@ use Rattle.vc_network.specs.Plan.{Plan, near, far, IsAccepted}
 use Rattle.vc_network.specs.Processes.{Doing, IsDeterminate}
 use Rattle.vc_network.specs.Network.{Act, Actor, Local, first, begins, actor_at, HappenAll}
 use Rattle.vc_network.specs.Enabled.{IsEnabled}
-use Rattle.vc_network.specs.Headline.{Headline}
+use Rattle.vc_network.specs.Headline.{HeadlineAndList}
 
 -- a way's source is the actor at its near end, and its sink the one at its far end
 abbrev pub source : Plan → ℕ → ℕ
@@ -38,7 +38,7 @@ ThreadsKeepHeadline {P} plan waiting Does begin =
     (last : ℕ → Actor P) (runs : ℕ → List (Turn Act Token)) (left : ℕ → List (Stamped Token)) (acts : List (Made Act))
     → IsAccepted plan
     → AreThreads plan waiting Does begin runs last left acts
-    → HappenAll plan waiting Does (begins plan begin) (map made_by acts) (ended last left) × Headline plan waiting Does begin (ended last left)
+    → HappenAll plan waiting Does (begins plan begin) (map made_by acts) (ended last left) × HeadlineAndList plan waiting Does begin (ended last left)
 
 -- A replay of these acts: wherever it has come, the next event is enabled, and at the end it is where the threads ended.
 abbrev pub ReplaysReach : {P : Type 0} → Plan → Waiting → Doing P → (ℕ → P) → Type 0
