@@ -27,7 +27,8 @@ fn shorter(one: Option<Vec<Port>>, other: Option<Vec<Port>>) -> Option<Vec<Port>
 /// The contract promises a cycle. Tests look that it is the least, of those with the fewest ports the first by the ports in order.
 pub fn find_cycle(alloc: Global, accepted: &Accepted) -> Result<Option<Vec<Port>>, Memory>
     ensures free { IfOk result (λ found. IfNone found (HasRanks accepted.now)) }
-    ensures cycle { IfOk result (λ found. IfSome found (λ ports. IsCycle accepted.now ports.items)) }
+    ensures cycle { IfOk result (λ found.
+        IfSome found (λ ports. IsCycle accepted.now ports.items)) }
 {
     let rows = find_dependencies(alloc, accepted.plan())?;
     let mut least = None;

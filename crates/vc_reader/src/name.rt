@@ -89,7 +89,8 @@ pub(crate) fn one_of<'a, N: Named + Drop>(
     among: &'a Register<N>,
     value: &Value,
 ) -> Result<(usize, &'a N), Stop>
-    ensures { Gives (λ p. (p.0, p.1.now)) result (one_of_names N.name_of among.now (view value.now)) }
+    ensures { Gives (λ p. (p.0, p.1.now)) result
+        (one_of_names N.name_of among.now (view value.now)) }
 {
     let text = text(alloc, value)?;
     match among.find(text.as_bytes()) {
