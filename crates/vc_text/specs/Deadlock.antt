@@ -16,10 +16,18 @@ use Rattle.vc_text.specs.Traffic.{newline}
 abbrev pub next_port : Network → Port → List ℕ
 next_port plan p = codes " " ++ port_text plan p
 
+-- ports, each behind a space
+abbrev pub ports_text : Network → List Port → List ℕ
+ports_text plan ports = flat_map (next_port plan) ports
+
+-- the line of a cycle with these ports
+abbrev pub cycle_text : Network → List Port → List ℕ
+cycle_text plan ports = codes "cycle" ++ ports_text plan ports ++ newline
+
 -- `free`, or `cycle` with the ports of a cycle
 abbrev pub deadlock_text : Network → Option (List Port) → List ℕ
 deadlock_text plan None = codes "free" ++ newline
-deadlock_text plan (Some ports) = codes "cycle" ++ flat_map (next_port plan) ports ++ newline
+deadlock_text plan (Some ports) = cycle_text plan ports
 
 -- no cycle is found where the ports have ranks, and else a cycle
 abbrev pub IsFound : Network → Option (List Port) → Type 0

@@ -1,7 +1,6 @@
 //! Whether the packets of a network can come to wait for one another in a circle.
-ghost use Rattle.std.specs.Prelude.{◌≡◌, ◌++◌, IfOk, OnOk, Some};
-ghost use Rattle.std.specs.List.{flat_map};
-ghost use Rattle.vc_text.specs.Deadlock.{TellsDeadlock, deadlock_text, next_port};
+ghost use Rattle.std.specs.Prelude.{◌≡◌, ◌++◌, IfOk, OnOk};
+ghost use Rattle.vc_text.specs.Deadlock.{TellsDeadlock, cycle_text as text_of_cycle, next_port, ports_text};
 ghost use Rattle.vc_text.specs.Streams.{Writes};
 
 use crate::check::read_accepted;
@@ -23,7 +22,7 @@ fn push_next(out: &mut Vec<u8>, plan: &Plan, port: Port) -> Result<(), Memory>
 }
 
 fn push_ports(out: &mut Vec<u8>, plan: &Plan, ports: &[Port]) -> Result<(), Memory>
-    ensures { OnOk result (out.new.items ≡ out.old.items ++ flat_map (next_port plan.now) ports.now) }
+    ensures { OnOk result (out.new.items ≡ out.old.items ++ ports_text plan.now ports.now) }
 {
     for port in ports {
         push_next(out, plan, *port)?;
@@ -33,7 +32,7 @@ fn push_ports(out: &mut Vec<u8>, plan: &Plan, ports: &[Port]) -> Result<(), Memo
 
 /// The line of a network with this cycle.
 fn cycle_text(alloc: Global, plan: &Plan, ports: &[Port]) -> Result<Vec<u8>, Memory>
-    ensures { IfOk result (λ text. text.items ≡ deadlock_text plan.now (Some ports.now)) }
+    ensures { IfOk result (λ text. text.items ≡ text_of_cycle plan.now ports.now) }
 {
     let mut out = Vec::new(alloc);
     out.extend_from_slice(b"cycle")?;
@@ -48,7 +47,8 @@ fn write_cycle<W: Write>(
     ports: &[Port],
     writer: &mut W,
 ) -> Result<(), RunFault>
-    ensures { Writes (W.contents writer.old) (W.contents writer.new) (deadlock_text plan.now (Some ports.now)) result }
+    ensures { Writes (W.contents writer.old) (W.contents writer.new)
+        (text_of_cycle plan.now ports.now) result }
 {
     let text = cycle_text(alloc, plan, ports)?;
     write_text(writer, text.as_slice())
@@ -61,7 +61,8 @@ pub fn run_deadlock<R: Read, W: Write>(
     reader: &mut R,
     writer: &mut W,
 ) -> Result<bool, RunFault>
-    ensures { TellsDeadlock (R.remaining reader.old) (W.contents writer.old) (W.contents writer.new) result }
+    ensures { TellsDeadlock (R.remaining reader.old)
+        (W.contents writer.old) (W.contents writer.new) result }
 {
     let accepted = read_accepted(alloc, reader)?;
     match find_cycle(alloc, &accepted)? {

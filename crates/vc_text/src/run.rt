@@ -280,7 +280,8 @@ pub fn run_together<R: Read, W: Write>(
     writer: &mut W,
     limit: u64,
 ) -> Result<StepReport, RunFault>
-    ensures { StepsTogether (R.remaining reader.old) (W.contents writer.old) (W.contents writer.new) limit result }
+    ensures { StepsTogether (R.remaining reader.old)
+        (W.contents writer.old) (W.contents writer.new) limit result }
 {
     let accepted = read_together(alloc, reader)?;
     run_plan(alloc, &accepted, writer, limit)
