@@ -328,7 +328,7 @@ module _ (p : Plan) (made : List Event) (s : State) (ranks : HasRanks p) (r : Re
       }
 
 pub only_processes_hold : OnlyProcessesHold
-only_processes_hold = record {
-  packets = λ p made s ranks r only. all_held p made s ranks r only;
-  outputs = λ p made s ranks r only c v ab at less unfinished. held_unasked p made s ranks r only c v ab at less unfinished;
+only_processes_hold p made s ranks r only = record {
+  packets = all_held p made s ranks r only;
+  outputs = λ c v ab at less unfinished. held_unasked p made s ranks r only c v ab at less unfinished;
 }

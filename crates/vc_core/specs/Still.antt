@@ -54,9 +54,11 @@ pub record IsUnasked {P : Type 0} (plan : Plan) (s : Network (Actor P) Token) (c
   pub held : ((vcps s (sink_node plan (home plan c))).carrier.into c).held ≡ Some packet
   pub unasked : ((vcps s (sink_node plan (home plan c))).carrier.into c).wants ≡ false
 
--- The network's ports have ranks, and no event can happen but moves of processes. Then every packet is held at its receiver, and that of
--- each unfinished output where no process inputs on its channel.
-pub record OnlyProcessesHold : Type 0 where
-  pub packets : (p : Given) (made : List Event) (s : State) → HasRanks p → Reached p made s → OnlyMoves p s → AllIsHeld (network_of p) (shown s)
-  pub outputs : (p : Given) (made : List Event) (s : State) → HasRanks p → Reached p made s → OnlyMoves p s → (c v : ℕ) (ab : Bool) → home (network_of p) c ≡ Way v ab →
-      c < length (network_of p).channels → IsUnfinished p s c → IsUnasked (network_of p) (shown s) c
+-- Every packet is held at its receiver, and no way carries a token. The packet of each unfinished output is held where no process inputs.
+pub record IsHeldUp (p : Given) (s : State) : Type 0 where
+  pub packets : AllIsHeld (network_of p) (shown s)
+  pub outputs : (c v : ℕ) (ab : Bool) → home (network_of p) c ≡ Way v ab → c < length (network_of p).channels → IsUnfinished p s c → IsUnasked (network_of p) (shown s) c
+
+-- wherever a run has come, if the network's ports have ranks, and no event can happen but moves of processes, it is held up so
+abbrev pub OnlyProcessesHold : Type 0
+OnlyProcessesHold = (p : Given) (made : List Event) (s : State) → HasRanks p → Reached p made s → OnlyMoves p s → IsHeldUp p s

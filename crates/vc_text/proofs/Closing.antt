@@ -56,7 +56,7 @@ pub processes_wait : (p : Plan) (events : List Event) (s : State) (made limit : 
 processes_wait p events s made limit Quiet r c = λ ranks.
     let reached : Reached p events s = record { is = r.is; happen = r.happen } in
     let rest : OnlyMoves p s = λ e can. absurd (c.0 e can) in
-    record { packets = only_processes_hold.packets p events s ranks reached rest; outputs = only_processes_hold.outputs p events s ranks reached rest }
+    only_processes_hold p events s ranks reached rest
 processes_wait p events s made limit Done r c = tt
 processes_wait p events s made limit Limit r c = tt
 processes_wait p events s made limit GateClosed r c = tt

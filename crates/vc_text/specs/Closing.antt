@@ -1,13 +1,10 @@
 -- What the close of a run says of the state after it.
-use Rattle.std.specs.Prelude.{◌≡◌, ℕ, ◌<◌, Bool, true, false, length, ⊤}
-use Rattle.vc_accepted.specs.NetworkOf.{network_of}
-use Rattle.vc_network.specs.Plan.{Way, home}
+use Rattle.std.specs.Prelude.{◌≡◌, ℕ, Bool, true, false, ⊤}
 use Rattle.vc_plan.specs.declared.plan.Plan.{Plan}
 use Rattle.vc_plan.specs.Dependencies.{HasRanks}
 use Rattle.vc_core.specs.Enabled.{CanHappen}
-use Rattle.vc_core.specs.Placed.{IsUnfinished}
-use Rattle.vc_core.specs.State.{State, shown}
-use Rattle.vc_core.specs.Still.{AllIsHeld, IsUnasked}
+use Rattle.vc_core.specs.State.{State}
+use Rattle.vc_core.specs.Still.{IsHeldUp}
 use Rattle.vc_core.specs.Turns.{Rests, IsAtRest, HaveEnded}
 use Rattle.vc_core.specs.declared.event.Event.{Event}
 use Rattle.vc_core.specs.declared.close.Close.{Close}
@@ -17,11 +14,6 @@ use Rattle.vc_core.specs.declared.close.Close.TheVariants.{Done, Quiet, Limit}
 abbrev pub HasEvent : Plan → State → ℕ → Bool → Type 0
 HasEvent p s k true = (e : Event) × (e.actor ≡ k) × CanHappen p s e
 HasEvent p s k false = Rests p s k
-
--- Every packet is held at its receiver, and no way carries a token. The packet of each unfinished output is held where no process inputs.
-pub record IsHeldUp (p : Plan) (s : State) : Type 0 where
-  pub packets : AllIsHeld (network_of p) (shown s)
-  pub outputs : (c v : ℕ) (ab : Bool) → home (network_of p) c ≡ Way v ab → c < length (network_of p).channels → IsUnfinished p s c → IsUnasked (network_of p) (shown s) c
 
 -- a network whose ports have ranks is quiet because of its processes alone
 abbrev pub OnlyProcessesWait : Plan → State → Close → Type 0
