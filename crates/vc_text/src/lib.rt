@@ -27,3 +27,4 @@ pub use run::{StepReport, run_step, run_together, write_traffic};
 pub use streams::write_text;
 pub use threading::run_net;
 pub use traffic::{ChannelView, write_channels};
+pub use vc_reader::{Path, ReadRefused, Step, Word, read_network};
