@@ -4,17 +4,16 @@ use Rattle.std.specs.Io.KnownBytes.{Appends}
 use Rattle.vc_plan.specs.declared.plan.Plan.{Plan as Network}
 use Rattle.vc_plan.specs.Accepted.{IsAccepted}
 use Rattle.vc_plan.specs.Check.{IsCause}
-use Rattle.vc_reader.specs.NetworkText.{Reads}
 use Rattle.vc_text.specs.declared.fault.RunFault.{RunFault}
 use Rattle.vc_text.specs.declared.fault.RunFault.TheVariants.{Write, Text, Plan, Threads}
-use Rattle.vc_text.specs.Streams.{AppendsFront}
+use Rattle.vc_text.specs.Streams.{AppendsFront, ReadsFile}
 use Rattle.vc_text.specs.Traffic.{newline}
 
 -- the network of the reader's text is accepted, or the text or its plan is refused for what is wrong first
 abbrev pub ReadsAccepted : Option (List ℕ) → Result Network RunFault → Type 0
-ReadsAccepted (Some text) (Ok plan) = Reads text (Ok plan) × IsAccepted plan
-ReadsAccepted (Some text) (Err (Text refused)) = Reads text (Err refused)
-ReadsAccepted (Some text) (Err (Plan refusal)) = Reads text (Ok refusal.plan) × IsCause refusal.plan refusal.why
+ReadsAccepted (Some text) (Ok plan) = ReadsFile text (Ok plan) × IsAccepted plan
+ReadsAccepted (Some text) (Err (Text refused)) = ReadsFile text (Err refused)
+ReadsAccepted (Some text) (Err (Plan refusal)) = ReadsFile text (Ok refusal.plan) × IsCause refusal.plan refusal.why
 ReadsAccepted None (Ok plan) = IsAccepted plan
 ReadsAccepted None (Err (Plan refusal)) = IsCause refusal.plan refusal.why
 ReadsAccepted known (Err (Threads why)) = ⊥

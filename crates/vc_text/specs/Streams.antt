@@ -1,8 +1,9 @@
 -- What reading all of a reader and writing a whole text do, where the streams tell their bytes.
-use Rattle.std.specs.Prelude.{◌≡◌, ℕ, List, take, Option, Some, None, Result, Ok, Err, ⊤}
+use Rattle.std.specs.Prelude.{◌≡◌, ℕ, ◌≤◌, List, length, take, Option, Some, None, Result, Ok, Err, ⊤}
 use Rattle.std.specs.Io.KnownBytes.{Appends}
 use Rattle.vc_plan.specs.declared.plan.Plan.{Plan as Network}
 use Rattle.vc_reader.specs.NetworkText.{Reads}
+use Rattle.vc_reader.specs.declared.refused.ReadRefused.{ReadRefused}
 use Rattle.vc_text.specs.declared.fault.RunFault.{RunFault}
 use Rattle.vc_text.specs.declared.fault.RunFault.TheVariants.{Read, Write, Text, Plan, Threads, Memory}
 
@@ -28,10 +29,18 @@ Writes old new text (Err Write) = AppendsFront old new text
 Writes old new text (Err Memory) = new ≡ old
 Writes old new text (Err _) = ⊥
 
+-- a network file has at most so many bytes
+abbrev pub most_bytes : ℕ
+most_bytes = 16777216
+
+-- the text is that of a network file, and is read so
+abbrev pub ReadsFile : List ℕ → Result Network ReadRefused → Type 0
+ReadsFile text answer = (length text ≤ most_bytes) × Reads text answer
+
 -- the plan is that of the reader's text, or the text is refused for its first fault
 abbrev pub ReadsPlan : Option (List ℕ) → Result Network RunFault → Type 0
-ReadsPlan (Some text) (Ok plan) = Reads text (Ok plan)
-ReadsPlan (Some text) (Err (Text refused)) = Reads text (Err refused)
+ReadsPlan (Some text) (Ok plan) = ReadsFile text (Ok plan)
+ReadsPlan (Some text) (Err (Text refused)) = ReadsFile text (Err refused)
 ReadsPlan known (Err (Plan refusal)) = ⊥
 ReadsPlan known (Err (Threads why)) = ⊥
 ReadsPlan known (Err Write) = ⊥

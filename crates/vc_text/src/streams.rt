@@ -1,7 +1,7 @@
 //! Reading all of a reader, and writing a whole text.
 ghost use Rattle.std.specs.Prelude.{◌≡◌, ◌≤◌, length, IfOk, OnOk, OnErr, IfErr};
 ghost use Rattle.std.specs.Io.KnownBytes.{Appends};
-ghost use Rattle.vc_text.specs.Streams.{AppendsFront, IsAllOf, Writes, IsReadFault, ReadsPlan};
+ghost use Rattle.vc_text.specs.Streams.{AppendsFront, IsAllOf, Writes, IsReadFault, ReadsPlan, most_bytes};
 
 use crate::fault::RunFault;
 use std::alloc::Global;
@@ -18,7 +18,7 @@ const MOST_READS: u32 = 1048576;
 /// All that the reader has, up to so many bytes and so many reads.
 fn read_all<R: Read>(alloc: Global, reader: &mut R) -> Result<Vec<u8>, RunFault>
     ensures all { IfOk result (λ bytes. IsAllOf (R.remaining reader.old) bytes.items) }
-    ensures limit { IfOk result (λ bytes. length bytes.items ≤ MOST_BYTES) }
+    ensures limit { IfOk result (λ bytes. length bytes.items ≤ most_bytes) }
     ensures fault { IfErr result IsReadFault }
 {
     let mut bytes = Vec::new(alloc);
