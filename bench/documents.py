@@ -6,7 +6,7 @@
   which the gate does not try; one without stands in its crate's must-fail/);
 - a list of all edits in docs/WRONG_BODIES.md that is not that of the files (with --mend it is written anew);
 - a crate that README.md or docs/ names as `vc_..` and that crates.txt has not;
-- a sentence of README.md, docs/FORMAT.md, docs/CALLING.md or bench/README.md with over 40 words.
+- a sentence of theirs with over 40 words.
 """
 import glob
 import os
@@ -15,7 +15,6 @@ import sys
 
 ROOT = os.path.dirname(os.path.dirname(os.path.abspath(__file__)))
 DOCUMENTS = ["README.md", "bench/README.md", *sorted(os.path.relpath(it, ROOT) for it in glob.glob(f"{ROOT}/docs/*.md"))]
-PLAIN = {"README.md", "bench/README.md", "docs/FORMAT.md", "docs/CALLING.md"}
 WORDS = 40
 # What stands before the list of all edits.
 LIST = "\n## All edits, by crate\n\n"
@@ -93,8 +92,7 @@ def main():
         told += [*missing_files(path, text), *missing_crates(path, text)]
         if path.endswith("WRONG_BODIES.md"):
             told += [*wrong_edits(path, text), *wrong_list(path, text, "--mend" in sys.argv)]
-        if path in PLAIN:
-            told += long_sentences(path, text)
+        told += long_sentences(path, text)
     print("\n".join([*told, f"{len(DOCUMENTS)} documents, {len(told)} faults"]))
     return 1 if told else 0
 

@@ -152,7 +152,8 @@ fn check_by<R: Read, W: Write>(alloc: Global, reader: &mut R, writer: &mut W) ->
 
 /// Tells whether packets of the network that the reader has can come to wait for one another in a circle.
 fn deadlock_by<R: Read, W: Write>(alloc: Global, reader: &mut R, writer: &mut W) -> u8
-    ensures { FindsDeadlock (R.remaining reader.old) (W.contents writer.old) (W.contents writer.new) result }
+    ensures { FindsDeadlock (R.remaining reader.old)
+        (W.contents writer.old) (W.contents writer.new) result }
 {
     match run_deadlock(alloc, reader, writer) {
         Ok(free) => status_of_freedom(free),
@@ -168,7 +169,8 @@ fn stepped<R: Read, W: Write>(
     limit: u64,
     is_together: bool,
 ) -> Result<StepReport, RunFault>
-    ensures { StepsAs is_together (R.remaining reader.old) (W.contents writer.old) (W.contents writer.new) limit result }
+    ensures { StepsAs is_together (R.remaining reader.old)
+        (W.contents writer.old) (W.contents writer.new) limit result }
 {
     if is_together {
         run_together(alloc, reader, writer, limit)
@@ -185,7 +187,8 @@ fn step_by<R: Read, W: Write>(
     limit: u64,
     is_together: bool,
 ) -> u8
-    ensures { StepsNetwork is_together (R.remaining reader.old) (W.contents writer.old) (W.contents writer.new) limit result }
+    ensures { StepsNetwork is_together (R.remaining reader.old)
+        (W.contents writer.old) (W.contents writer.new) limit result }
 {
     match stepped(alloc, reader, writer, limit, is_together) {
         Ok(report) => status_of_close(report.close),
