@@ -1,0 +1,151 @@
+#!/usr/bin/env python3
+"""Tells what one must believe for a promise: bench/reading.py [--write].
+
+From the clauses of a public function it follows each name to its definition in specs/, and the names in that, and so on. It counts the
+lines of those definitions, without imports, comments and blank lines. Types that the code declares are not counted, and not those of the
+toolchain. It compares what it finds with docs/READING.md and fails where a figure there is exceeded; with --write it writes the page's
+tables anew. A name counts where it stands, so the figures are a little too large.
+"""
+import glob
+import os
+import re
+import sys
+
+ROOT = os.path.dirname(os.path.dirname(os.path.abspath(__file__)))
+PAGE = f"{ROOT}/docs/READING.md"
+# The promises, in the order in which one reads: the function, and the file that has it.
+PROMISES = [
+    ("replay", "vc_core/src/network.rt"),
+    ("run_threads", "vc_threads/src/threads.rt"),
+    ("check", "vc_plan/src/checker.rt"),
+    ("read_network", "vc_reader/src/network.rt"),
+    ("run_step", "vc_text/src/run.rt"),
+]
+ORDER = re.findall(r"^(\w+)(?: \w+=\S+)*:", open(f"{ROOT}/crates.txt", encoding="utf-8").read(), re.M)
+HEAD = re.compile(r"^ *(?:abbrev |unfoldable )*(?:pub )?(?:record |data )?([^\s:({]+)(?=[\s:({])")
+NAME = re.compile(r"[^\s(){}\[\];,:=→×λ]+")
+BLOCKS = {"mutual", "module"}
+
+
+class Module:
+    """The definitions of one file of specs/, and what its names stand for."""
+
+    def __init__(self, path):
+        self.path = os.path.relpath(path, f"{ROOT}/crates")
+        self.lines, self.names = {}, {}
+        now, depth = None, 0
+        for line in open(path, encoding="utf-8"):
+            line = line.rstrip()
+            if line.startswith("use ") or line.startswith("pub use "):
+                self.names.update(imports(line.removeprefix("pub ")[4:]))
+            elif line.strip() and not line.strip().startswith("--"):
+                indent = len(line) - len(line.lstrip())
+                if indent == 0:
+                    # the definitions of a block stand two columns in
+                    depth = 2 if line.split()[0] in BLOCKS else 0
+                head = HEAD.match(line)
+                if indent == depth and head:
+                    now = head[1]
+                self.lines.setdefault(now, []).append(line)
+
+
+def imports(text):
+    """What a `use` gives to a file: its names, each with the module and the name there."""
+    text = re.sub(r"\s*--.*$", "", text.rstrip(";"))
+    group = re.match(r"(\S+?)\.\{(.*)\}$", text)
+    if not group:
+        path, _, alias = text.partition(" as ")
+        return {(alias or path.rsplit(".", 1)[-1]).strip(): (path.strip(), None)}
+    found = {}
+    for item in group[2].split(","):
+        name, _, alias = item.strip().partition(" as ")
+        found[(alias or name).strip("«» ")] = (group[1], name.strip("«» "))
+    return found
+
+
+def modules():
+    """All files of specs/, by the names by which they are imported."""
+    found = {}
+    for path in glob.glob(f"{ROOT}/crates/*/specs/**/*.antt", recursive=True):
+        parts = os.path.relpath(path, f"{ROOT}/crates")[: -len(".antt")].split("/")
+        found["Rattle." + ".".join(parts)] = Module(path)
+    return found
+
+
+def clauses(function, path):
+    """The clauses of a function, and what their names stand for."""
+    text = open(f"{ROOT}/crates/{path}", encoding="utf-8").read()
+    names = {}
+    for line in re.findall(r"ghost use ([^;]*);", text):
+        names.update(imports(line))
+    signature = re.search(rf"\n *pub fn {function}\b(.*?)\n *\{{\n", text, re.S)
+    if not signature:
+        raise SystemExit(f"{path}: no function {function}")
+    at = re.search(r"\b(?:requires|ensures)\b", signature[1])
+    return (signature[1][at.start() :] if at else ""), names
+
+
+def reached(found, text, names, own, seen):
+    """Adds to `seen` the definitions that a text's names lead to."""
+    for token in NAME.findall(text):
+        parts = token.strip(".").split(".")
+        target = names.get(parts[0])
+        if target and target[1] is None and len(parts) > 1:
+            target = (target[0], parts[1])
+        if own and parts[0] in own.lines:
+            target = (None, parts[0])
+        if not target or target[1] is None:
+            continue
+        module = own if target[0] is None else found.get(target[0])
+        if not module or target[1] not in module.lines or (module.path, target[1]) in seen:
+            continue
+        seen[module.path, target[1]] = len(module.lines[target[1]])
+        reached(found, "\n".join(module.lines[target[1]]), module.names, module, seen)
+
+
+def table(found):
+    """Each promise, with the files that it reaches and no promise before it."""
+    rows, before, seen = [], {}, {}
+    for function, path in PROMISES:
+        text, names = clauses(function, path)
+        alone = {}
+        reached(found, text, names, None, alone)
+        seen = {**before, **alone}
+        rows.append((function, sum(alone.values()), len({k[0] for k in alone}), sum(seen.values()), alone, before))
+        before = seen
+    return rows
+
+
+def by_file(lines):
+    files = {}
+    for (path, _), count in lines.items():
+        files[path] = files.get(path, 0) + count
+    return files
+
+
+def page(rows):
+    out = ["| Promise | Lines reached | Files | Lines with those above |", "|---|---|---|---|"]
+    out += [f"| `{name}` | {lines} | {files} | {together} |" for name, lines, files, together, _, _ in rows]
+    for name, _, _, _, alone, before in rows:
+        more = by_file({k: n for k, n in alone.items() if k not in before})
+        out += ["", f"### `{name}`", "", "| File | Lines reached |", "|---|---|"]
+        out += [f"| {path} | {count} |" for path, count in sorted(more.items(), key=lambda it: (ORDER.index(it[0].split("/")[0]), it[0]))]
+    return "\n".join(out) + "\n"
+
+
+def main():
+    rows = table(modules())
+    mark = "<!-- made by bench/reading.py --write -->\n"
+    front, _, old = open(PAGE, encoding="utf-8").read().partition(mark)
+    if "--write" in sys.argv:
+        with open(PAGE, "w", encoding="utf-8") as it:
+            it.write(front + mark + "\n" + page(rows))
+        return 0
+    told = {m[1]: int(m[2]) for m in re.finditer(r"^\| `(\w+)` \| (\d+) \|", old, re.M)}
+    wrong = [f"{name}: {lines} lines, and the page says {told.get(name)}" for name, lines, *_ in rows if lines > told.get(name, 0)]
+    print("\n".join([*wrong, *(f"{name}: {lines} lines in {files} files" for name, lines, files, *_ in rows)]))
+    return 1 if wrong else 0
+
+
+if __name__ == "__main__":
+    sys.exit(main())
