@@ -4,13 +4,12 @@ ghost use Rattle.vc_plan.specs.Accepted.{IsAccepted};
 
 use std::alloc::Global;
 use vc_packets::Memory;
-use vc_plan::{CheckRefused, Plan, check, refusals_are_right};
+use vc_plan::{CheckRefused, Plan, check};
 
 /// Whether every path of a plan delivers, and it keeps every other rule: exactly.
 pub fn is_well_labelled(alloc: Global, plan: Plan) -> Result<bool, Memory>
     ensures { IfOk result (λ yes. IsTrue yes ↔ IsAccepted plan) }
 {
-    refusals_are_right();
     match check(alloc, plan) {
         Ok(_accepted) => Ok(true),
         Err(refusal) => match refusal.why {

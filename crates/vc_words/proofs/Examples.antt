@@ -13,5 +13,6 @@ lines = record {
   together = (refl, refl);
   run = (refl, refl);
   help = refl;
+  version = refl;
   beyond = refl;
 }

@@ -56,7 +56,7 @@ run_shape = record (new_shape (codes "run")) { rules = turns_option ∷ seed_opt
 abbrev pub vcnet : App
 vcnet =
     with_subcommand (with_subcommand (with_subcommand (with_subcommand
-    (on_top (λ s. record s { subcommand_required = true }) (new_app (codes "vcnet")))
+    (on_top (λ s. record s { subcommand_required = true; has_version = true }) (new_app (codes "vcnet")))
     check_shape) deadlock_shape) step_shape) run_shape
 
 -- the number that a text is, where it is one of at most `most`
@@ -89,7 +89,7 @@ faults = fault_of vcnet
 abbrev pub Asks : List Text → Line → Type 0
 Asks words line = (faults words ≡ []) × (option_map line_of (subcommand_of vcnet words) ≡ Some line)
 
--- a request for help has status 0, and any other fault 5
+-- a request for help or for the version has status 0, and any other fault 5
 abbrev pub status_of_kind : ErrorKind → ℕ
 status_of_kind DisplayHelp = 0
 status_of_kind DisplayVersion = 0

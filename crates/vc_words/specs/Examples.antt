@@ -1,7 +1,7 @@
 -- Some command lines, and what they ask for.
 use Rattle.std.specs.Prelude.{◌≡◌, true, false, List, [], ◌∷◌, codes}
 use Rattle.clap.specs.Walk.{Text}
-use Rattle.clap.specs.declared.error.kind.ErrorKind.TheVariants.{DisplayHelp, ValueValidation}
+use Rattle.clap.specs.declared.error.kind.ErrorKind.TheVariants.{DisplayHelp, DisplayVersion, ValueValidation}
 use Rattle.vc_words.specs.CommandLine.{Asks, faults}
 use Rattle.vc_words.specs.declared.line.Line.TheVariants.{Check, Deadlock, Step, Run}
 
@@ -17,4 +17,5 @@ pub record LinesAreRead : Type 0 where
   pub together : Asks (line (codes "step" ∷ codes "--together" ∷ [])) (Step 1000000 true)
   pub run : Asks (line (codes "run" ∷ codes "--seed=3" ∷ codes "--turns=9" ∷ [])) (Run 9 3)
   pub help : faults (line (codes "--help" ∷ [])) ≡ DisplayHelp ∷ []
+  pub version : faults (line (codes "--version" ∷ [])) ≡ DisplayVersion ∷ []
   pub beyond : faults (line (codes "step" ∷ codes "--limit" ∷ codes "1000000001" ∷ [])) ≡ ValueValidation ∷ []

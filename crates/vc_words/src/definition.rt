@@ -11,6 +11,51 @@ use clap::builder::ValueParser;
 use clap::{Arg, ArgAction, Command, value_parser};
 use std::alloc::{AllocError, Global};
 
+/// The version of the program and of all libraries.
+const VERSION: &str = "1.1.0";
+
+/// What stands at the end of the program's help.
+const PROGRAM_HELP: &str = "\
+Each subcommand reads one network, as JSON, from standard input (docs/FORMAT.md), and writes to standard output.
+
+Exit status: 0 done, accepted, free; 1 quiet, cycle; 2 refused; 3 a limit was reached; 4 no memory; 5 a bad command line; 6 a stream failed.
+
+Example: vcnet step < examples/hello.json";
+
+/// What stands at the end of the help of `check`.
+const CHECK_HELP: &str = "\
+Prints `accepted` with how many nodes, switches, virtual links and channels there are, or `refused` with the first fault.
+
+Exit status: 0 accepted; 2 refused; 4 no memory; 6 a stream failed.
+
+Example: vcnet check < examples/squares.json";
+
+/// What stands at the end of the help of `deadlock`.
+const DEADLOCK_HELP: &str = "\
+Prints `free`, or `cycle` with the links by which packets can wait for one another.
+
+Exit status: 0 free; 1 cycle; 2 refused; 4 no memory; 6 a stream failed.
+
+Example: vcnet deadlock < examples/ring.json";
+
+/// What stands at the end of the help of `step`.
+const STEP_HELP: &str = "\
+Prints what each channel carried, and how the run ended: `end done` where every process ended, `end quiet` where nothing can happen any more, \
+`end limit` where more events can happen. A number over one wire takes some 47 events; give a long run a greater --limit.
+
+Exit status: 0 done; 1 quiet; 2 refused; 3 limit; 4 no memory; 6 a stream failed.
+
+Example: vcnet step --limit 100000000 < examples/sieve.json";
+
+/// What stands at the end of the help of `run`.
+const RUN_HELP: &str = "\
+Starts a thread for each node and each switch. Prints what each channel carried, and how the run ended: `end done` where every process \
+ended, `end limit` where the threads used up their turns. A network that is quiet ends with `end limit`, too.
+
+Exit status: 0 done; 2 refused; 3 limit; 4 no memory or no thread; 6 a stream failed.
+
+Example: vcnet run --seed 7 < examples/universal.json";
+
 /// How many events or turns a run may be allowed: at most 1,000,000,000.
 fn counts<'a>() -> ValueParser<'a>
     ensures { result ≡ Unsigned 0 1000000000 }
@@ -67,6 +112,7 @@ fn step_definition<'a>(alloc: Global) -> Result<Command<'a>, AllocError>
     );
     Command::new(alloc, "step")
         .about("Runs the network on standard input and prints its traffic")
+        .after_help(STEP_HELP)
         .arg(limit)?
         .arg(together)
 }
@@ -92,6 +138,7 @@ fn run_definition<'a>(alloc: Global) -> Result<Command<'a>, AllocError>
     );
     Command::new(alloc, "run")
         .about("Runs the network on standard input in threads and prints its traffic")
+        .after_help(RUN_HELP)
         .arg(turns)?
         .arg(seed)
 }
@@ -101,12 +148,16 @@ pub(crate) fn definition<'a>(alloc: Global) -> Result<Command<'a>, AllocError>
     ensures app { IfOk result (λ c. app_of c ≡ vcnet) }
     ensures local { IfOk result (λ c. (out-Command c).has_globals ≡ false) }
 {
-    let check = Command::new(alloc, "check").about("Checks the network on standard input");
-    let deadlock = Command::new(alloc, "deadlock").about(
-        "Tells whether packets of the network on standard input can wait in a circle",
-    );
+    let check = Command::new(alloc, "check")
+        .about("Checks the network on standard input")
+        .after_help(CHECK_HELP);
+    let deadlock = Command::new(alloc, "deadlock")
+        .about("Tells whether packets of the network on standard input can wait in a circle")
+        .after_help(DEADLOCK_HELP);
     Command::new(alloc, "vcnet")
         .about("The virtual channel network of the T9000 and the C104, with occam processes")
+        .after_help(PROGRAM_HELP)
+        .version(VERSION)
         .subcommand_required(true)
         .subcommand(check)?
         .subcommand(deadlock)?

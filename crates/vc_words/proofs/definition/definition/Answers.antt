@@ -8,10 +8,11 @@ use Rattle.vc_words.proofs.definition.definition.Goals as goal
 
 pub returns-clause-app : goal.returns-clause-app
 returns-clause-app c =
-    let check_is : shape_of c.about-check.result ≡ check_shape = ap shape_of_fields c.about-check.ensures ∙ ap (λ (a : App). a.top) c.new.ensures.app in
-    let deadlock_is : shape_of c.about-deadlock.result ≡ deadlock_shape = ap shape_of_fields c.about-deadlock.ensures ∙ ap (λ (a : App). a.top) c.new-2.ensures.app in
-    let top_is : app_of c.subcommand_required.result ≡ on_top (λ s. record s { subcommand_required = true }) (new_app (codes "vcnet")) =
-    ap app_of_fields c.subcommand_required.ensures ∙ ap (on_top (λ s. record s { subcommand_required = true })) (ap app_of_fields c.about.ensures ∙ c.new-3.ensures.app) in
+    let check_is : shape_of c.after_help-check.result ≡ check_shape = ap shape_of_fields c.after_help-check.ensures ∙ ap shape_of_fields c.about.ensures ∙ ap (λ (a : App). a.top) c.new.ensures.app in
+    let deadlock_is : shape_of c.after_help-deadlock.result ≡ deadlock_shape = ap shape_of_fields c.after_help-deadlock.ensures ∙ ap shape_of_fields c.about-2.ensures ∙ ap (λ (a : App). a.top) c.new-2.ensures.app in
+    let top_is : app_of c.subcommand_required.result ≡ on_top (λ s. record s { subcommand_required = true; has_version = true }) (new_app (codes "vcnet")) =
+    ap app_of_fields c.subcommand_required.ensures ∙ ap (on_top (λ s. record s { subcommand_required = true })) (ap app_of_fields c.version.ensures ∙ ap (on_top (λ s. record s { has_version = true }))
+    (ap app_of_fields c.after_help.ensures ∙ ap app_of_fields c.about-3.ensures ∙ c.new-3.ensures.app)) in
     let one = c.in_ok-subcommand.ensures.shape (search rules) ∙ ap₂ with_subcommand top_is check_is in
     let two = c.in_ok-subcommand-2.ensures.shape (search rules) ∙ ap₂ with_subcommand one deadlock_is in
     let three = c.in_ok-subcommand-3.ensures.shape c.in_ok-step_definition.ensures.local ∙ ap₂ with_subcommand two c.in_ok-step_definition.ensures.shape in
@@ -23,8 +24,8 @@ neither a b x e p q = e ∙ ap (λ z. z || b) p ∙ q
 pub returns-clause-local : goal.returns-clause-local
 returns-clause-local c =
     let top : (out-Command c.subcommand_required.result).has_globals ≡ false = search rules in
-    let check : (out-Command c.about-check.result).has_globals ≡ false = search rules in
-    let deadlock : (out-Command c.about-deadlock.result).has_globals ≡ false = search rules in
+    let check : (out-Command c.after_help-check.result).has_globals ≡ false = search rules in
+    let deadlock : (out-Command c.after_help-deadlock.result).has_globals ≡ false = search rules in
     let one = neither _ _ _ c.in_ok-subcommand.ensures.globals top check in
     let two = neither _ _ _ c.in_ok-subcommand-2.ensures.globals one deadlock in
     let three = neither _ _ _ c.in_ok-subcommand-3.ensures.globals two c.in_ok-step_definition.ensures.local in
