@@ -19,7 +19,7 @@ refused_of (Some text) plan refusal read is = (subst (λ q. ReadsFile text (Ok q
 refused_of None plan refusal read is = subst (λ q. IsCause q refusal.why) (sym is.0) is.1
 
 pub returns-in-Ok : goal.returns-in-Ok
-returns-in-Ok g c = accepted_of (g.R.Read.remaining c.args.reader.now) c.in_ok-plan.plan c.in-Ok.accepted c.in_ok-plan.ensures c.in-Ok.ensures
+returns-in-Ok g c = accepted_of (g.R.Read.remaining c.args.reader.now) c.in_ok-plan.plan c.in-Ok.accepted c.in_ok-plan.ensures c.in-Ok.ensures.verdict
 
 pub returns-in-Err : goal.returns-in-Err
-returns-in-Err g c = refused_of (g.R.Read.remaining c.args.reader.now) c.in_ok-plan.plan c.in-Err.refusal c.in_ok-plan.ensures c.in-Err.ensures
+returns-in-Err g c = refused_of (g.R.Read.remaining c.args.reader.now) c.in_ok-plan.plan c.in-Err.refusal c.in_ok-plan.ensures c.in-Err.ensures.verdict

@@ -1,9 +1,9 @@
-use Rattle.std.proofs.Common.{ℕ, ◌≤◌, List, length, Option, Some, None, Ok, Err, subst}
+use Rattle.std.proofs.Common.{ℕ, List, Option, Some, None, Ok, Err, subst}
 use Rattle.vc_plan.specs.declared.plan.Plan.{Plan as Network}
 use Rattle.vc_reader.specs.NetworkText.{Reads}
 use Rattle.vc_reader.specs.declared.refused.ReadRefused.{ReadRefused}
 use Rattle.vc_text.specs.declared.fault.RunFault.TheVariants.{Text}
-use Rattle.vc_text.specs.Streams.{IsAllOf, ReadsFile, ReadsPlan, most_bytes}
+use Rattle.vc_text.specs.Streams.{IsAllOf, ReadsFile, ReadsPlan}
 use Rattle.vc_text.proofs.streams.read_plan.Goals as goal
 
 -- the bytes that were read are the text
