@@ -1,6 +1,7 @@
 pub mod Known
 pub mod Texts
 pub mod Checked
+pub mod Drawing
 pub mod Channels
 pub mod Closing
 pub mod Quieting

@@ -1,5 +1,5 @@
 -- A plan that was read and its run, together.
-use Rattle.std.proofs.Common.{ℕ, List, Option, Result, Ok, Err, ◌⊎◌, inl, inr}
+use Rattle.std.proofs.Common.{ℕ, List, Option, Result, Ok, Err, inr}
 use Rattle.vc_plan.specs.declared.plan.Plan.{Plan as Network}
 use Rattle.vc_text.specs.Checking.{ReadsAccepted}
 use Rattle.vc_text.specs.OneNode.{JoinsNodes, ReadsTogether}

@@ -7,6 +7,8 @@ pub mod Closing
 pub mod Deadlock
 pub mod Quiet
 pub mod Running
+pub mod Seated
+pub mod Takes
 pub mod Shown
 pub mod Threading
 pub mod OneNode

@@ -14,16 +14,25 @@ use Rattle.vc_text.specs.Streams.{AppendsFront}
 use Rattle.vc_text.specs.Checking.{ReadsAccepted}
 use Rattle.vc_text.specs.OneNode.{ReadsTogether}
 use Rattle.vc_text.specs.Closing.{Closes, OnlyProcessesWait}
+use Rattle.vc_text.specs.Takes.{HasWordsOf}
 use Rattle.vc_text.specs.Traffic.{traffic}
 
--- An accepted plan's network was run for at most so many events, which replay, with the headline and a linearization there. It closes
--- as their state says, and where it is quiet without a cycle of dependencies only its processes wait. The traffic of that state was
--- written, or a front of that before a fault of the writer; without memory nothing was.
+-- An accepted plan's network was run for at most so many events, which replay, with the headline and a linearization there. The words of
+-- each actor's takes are those of the generator of seed 0 and its number. The run closes as the state says, and where it is quiet without
+-- a cycle of dependencies only its processes wait.
+pub record IsRunWithin (plan : Network) (limit : ℕ) (events : List Event) (s : State) (close : Close) : Type 0 where
+  pub few : length events ≤ limit
+  pub replays : Replays plan events s
+  pub words : HasWordsOf plan 0 events
+  pub closes : Closes plan s (length events) limit close
+  pub waits : OnlyProcessesWait plan s close
+
+-- it was run so, and the traffic of the state was written, or a front of that before a fault of the writer; without memory nothing was
 abbrev pub RunsPlan : Network → Option (List ℕ) → Option (List ℕ) → ℕ → Result StepReport RunFault → Type 0
 RunsPlan plan old new limit (Ok report) =
-    (length report.events ≤ limit) × ((s : State) × Replays plan report.events s × Closes plan s (length report.events) limit report.close × OnlyProcessesWait plan s report.close × Appends old new (traffic (channels_of plan s) report.close))
+    (s : State) × IsRunWithin plan limit report.events s report.close × Appends old new (traffic (channels_of plan s) report.close)
 RunsPlan plan old new limit (Err Write) =
-    (events : List Event) × (s : State) × (close : Close) × (length events ≤ limit) × Replays plan events s × Closes plan s (length events) limit close × AppendsFront old new (traffic (channels_of plan s) close)
+    (events : List Event) × (s : State) × (close : Close) × IsRunWithin plan limit events s close × AppendsFront old new (traffic (channels_of plan s) close)
 RunsPlan plan old new limit (Err Memory) = new ≡ old
 RunsPlan plan old new limit (Err fault) = ⊥
 

@@ -2,13 +2,14 @@
 ghost use Rattle.std.specs.Prelude.{◌≡◌, ◌⊎◌, ◌<◌, ◌≤◌, ◌+◌, [], ◌∷◌, ◌++◌, ℕ, true, false, length, map, slice_get, Some, None, Ok, IfOk, OnOk};
 ghost use Rattle.vc_plan.specs.declared.plan.Plan.{Plan};
 ghost use Rattle.vc_core.specs.State.{state_of, IsNetworkOf};
-ghost use Rattle.vc_core.specs.Replaying.{Reached, Replays};
+ghost use Rattle.vc_core.specs.Replaying.{Reached};
 ghost use Rattle.vc_core.specs.Turns.{Rests, IsAtRest, GoesOn, actors};
 ghost use Rattle.vc_core.specs.Turns.{FindsEvent};
 ghost use Rattle.vc_text.specs.Closing.{HasEvent, Closes};
 ghost use Rattle.vc_text.specs.Quiet.{AreQuiet};
 ghost use Rattle.vc_plan.specs.declared.channel.Channel.{Channel};
-ghost use Rattle.vc_text.specs.Running.{RunsPlan, Steps, StepsTogether};
+ghost use Rattle.vc_text.specs.Running.{IsRunWithin, RunsPlan, Steps, StepsTogether};
+ghost use Rattle.vc_text.specs.Seated.{HaveGiven};
 ghost use Rattle.vc_text.specs.Shown.{channel_of, channels_of};
 ghost use Rattle.vc_text.specs.Streams.{Writes};
 ghost use Rattle.vc_text.specs.Traffic.{traffic};
@@ -89,6 +90,8 @@ fn turn(
     ensures still { (p : Plan) → Reached p events.old (state_of network.old) → result ≡ Ok false → state_of network.new ≡ state_of network.old }
     ensures rests { (p : Plan) → Reached p events.old (state_of network.old) → result ≡ Ok false → FindsEvent p (state_of network.old) actor None }
     ensures quiet { (p : Plan) → Reached p events.old (state_of network.old) → AreQuiet p (state_of network.old) seats.old → IfOk result (λ had. AreQuiet p (state_of network.new) seats.new) }
+    ensures words { (p : Plan) → Reached p events.old (state_of network.old) →
+        HaveGiven p events.old seats.old → OnOk result (HaveGiven p events.new seats.new) }
 {
     let Some(event) = network.turn(actor)? else {
         seats.rest(actor);
@@ -114,6 +117,8 @@ fn act(
     ensures still { (p : Plan) → Reached p events.old (state_of network.old) → result ≡ Ok false → state_of network.new ≡ state_of network.old }
     ensures rests { (p : Plan) → Reached p events.old (state_of network.old) → actor < actors p → result ≡ Ok false → Rests p (state_of network.old) actor }
     ensures quiet { (p : Plan) → Reached p events.old (state_of network.old) → AreQuiet p (state_of network.old) seats.old → IfOk result (λ had. AreQuiet p (state_of network.new) seats.new) }
+    ensures words { (p : Plan) → Reached p events.old (state_of network.old) →
+        HaveGiven p events.old seats.old → OnOk result (HaveGiven p events.new seats.new) }
 {
     let Some(link) = network.link_to_take(actor) else {
         return turn(network, seats, events, actor);
@@ -176,6 +181,8 @@ fn round(
     ensures more { result ≡ Ok true → (length events.new ≡ limit) ⊎ (length events.old < length events.new) }
     ensures rests { (p : Plan) → Reached p events.old (state_of network.old) → AreQuiet p (state_of network.old) seats.old → result ≡ Ok false → IsAtRest p (state_of network.new) }
     ensures quiet { (p : Plan) → Reached p events.old (state_of network.old) → AreQuiet p (state_of network.old) seats.old → IfOk result (λ had. AreQuiet p (state_of network.new) seats.new) }
+    ensures words { (p : Plan) → Reached p events.old (state_of network.old) →
+        HaveGiven p events.old seats.old → OnOk result (HaveGiven p events.new seats.new) }
 {
     let mut moved = false;
     let mut left = u64::MAX;
@@ -202,6 +209,8 @@ fn run_rounds(
     ensures few { OnOk result (length events.new ≤ limit) }
     ensures reached { (p : Plan) → Reached p events.old (state_of network.old) → OnOk result (Reached p events.new (state_of network.new)) }
     ensures ends { (p : Plan) → Reached p events.old (state_of network.old) → AreQuiet p (state_of network.old) seats.old → OnOk result ((length events.new ≡ limit) ⊎ IsAtRest p (state_of network.new)) }
+    ensures words { (p : Plan) → Reached p events.old (state_of network.old) →
+        HaveGiven p events.old seats.old → OnOk result (HaveGiven p events.new seats.new) }
 {
     for _ in 0..limit {
         if !round(network, seats, events, limit)? {
@@ -229,9 +238,8 @@ fn close_of(network: &mut Network, events: usize, limit: u64) -> Result<Close, M
 
 /// Runs a network in rounds, to its end or up to so many events.
 fn run(alloc: Global, accepted: &Accepted, limit: u64) -> Result<(Network, StepReport), Memory>
-    ensures few { IfOk result (λ r. length (r.1).events ≤ limit) }
-    ensures replays { IfOk result (λ r. Replays accepted.now (r.1).events (state_of r.0)) }
-    ensures closes { IfOk result (λ r. Closes accepted.now (state_of r.0) (length (r.1).events) limit (r.1).close) }
+    ensures { IfOk result (λ r.
+        IsRunWithin accepted.now limit (r.1).events (state_of r.0) (r.1).close) }
 {
     let mut network = Network::new(alloc, accepted)?;
     let mut seats = Seats::new(alloc, network.actors())?;
@@ -259,7 +267,8 @@ fn run_plan<W: Write>(
 }
 
 /// Reads a network file, runs the network event by event, and writes its traffic. The run goes in rounds over the actors, and ends
-/// where no event is enabled, or else after `limit` events.
+/// where no event is enabled, or else after `limit` events. The words of an actor's takes are those of the generator of seed 0 and the
+/// actor's number.
 pub fn run_step<R: Read, W: Write>(
     alloc: Global,
     reader: &mut R,

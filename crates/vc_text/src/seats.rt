@@ -1,7 +1,9 @@
 //! What a run keeps of each actor.
-ghost use Rattle.std.specs.Prelude.{◌≡◌, ◌≢◌, ◌<◌, ◌+◌, ◌-◌, ◌^◌, ℕ, IfOk, MatchOption};
+ghost use Rattle.std.specs.Prelude.{◌≡◌, ◌≢◌, ◌<◌, ◌+◌, ◌-◌, ◌^◌, ℕ, Some, IfOk, MatchOption};
 ghost use Rattle.std.specs.Int.{bit_at};
 ghost use Rattle.vc_text.specs.Quiet.{active_at, IsIdle};
+ghost use Rattle.vc_text.specs.Seated.{DrawsFor, generator_of};
+ghost use Rattle.vc_threads.specs.Runs.{generator};
 
 use rand_core::utils::NextWord;
 use rand_pcg::Lcg64Xsh32;
@@ -17,9 +19,11 @@ pub(crate) struct Seats {
 }
 
 impl Seats {
-    /// So many actors, of which nothing is known.
+    /// So many actors, of which nothing is known. The words of each are those of the generator of seed 0 and its number.
     pub(crate) fn new(alloc: Global, actors: usize) -> Result<Seats, Memory>
-        ensures { IfOk result (λ seats. (k : ℕ) → k < 64 → active_at seats k ≡ 1) }
+        ensures active { IfOk result (λ seats. (k : ℕ) → k < 64 → active_at seats k ≡ 1) }
+        ensures words { IfOk result (λ seats. (k : ℕ) → k < actors →
+            generator_of seats k ≡ Some (generator 0 k)) }
     {
         let mut words = Vec::new(alloc);
         for actor in 0..actors {
@@ -40,6 +44,7 @@ impl Seats {
     pub(crate) fn rest(&mut self, actor: u8)
         requires { actor < 64 }
         ensures it { active_at self.new actor ≡ 0 }
+        ensures words { self.new.words ≡ self.old.words }
         ensures others { (k : ℕ) → k < 64 → k ≢ actor → active_at self.new k ≡ active_at self.old k }
     {
         self.active &= !(1u64 << actor);
@@ -49,6 +54,7 @@ impl Seats {
     pub(crate) fn wake(&mut self, actor: u8)
         requires { actor < 64 }
         ensures it { active_at self.new actor ≡ 1 }
+        ensures words { self.new.words ≡ self.old.words }
         ensures others { (k : ℕ) → k ≢ actor → active_at self.new k ≡ active_at self.old k }
     {
         self.active |= 1u64 << actor;
@@ -56,7 +62,8 @@ impl Seats {
 
     /// The next word of an actor.
     pub(crate) fn next_word(&mut self, actor: u8) -> u32
-        ensures { (k : ℕ) → active_at self.new k ≡ active_at self.old k }
+        ensures word { DrawsFor self.old actor result self.new }
+        ensures active { (k : ℕ) → active_at self.new k ≡ active_at self.old k }
     {
         match self.words.get_mut(usize::from(actor)) {
             Some(generator) => generator.next_word(),

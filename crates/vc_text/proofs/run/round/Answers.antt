@@ -19,6 +19,7 @@ loop-actor-init c = record {
   more = λ e. absurd (cc);
   same = λ p r q e. refl;
   quiet = λ p r q. q;
+  words = λ p r g. g;
   rests = λ p r q e k low none node. absurd (let all = bit_at_ones 64 k low in omega (arith, all, none));
 }
 
@@ -44,6 +45,7 @@ loop-actor-preserved c =
       more = λ e. grown c.loop-actor.moved had (length c.args.events.now) (length c.loop-actor.events) (length c.act.new.events) inv.some inv.more grows (λ e. n.more (ap Ok e)) (sym any ∙ e);
       same = λ p r q e. (let b = neither c.loop-actor.moved had (sym any ∙ e) in n.still p (inv.reached p r) (ap Ok b.1) ∙ inv.same p r q b.0);
       quiet = λ p r q. n.quiet p (inv.reached p r) (inv.quiet p r q);
+      words = λ p r g. n.words p (inv.reached p r) (inv.words p r g);
       rests = λ p r q e k less gone node. (let b = neither c.loop-actor.moved had (sym any ∙ e) in
           elim (cases_lt k c.in-Some.actor) [
             | inl sooner ↦ elim (cases_eq (bit_at c.loop-actor.left k) 1) [

@@ -5,6 +5,7 @@ use Rattle.vc_core.specs.Replaying.{Reached}
 use Rattle.vc_core.specs.State.{state_of}
 use Rattle.vc_core.specs.Turns.{Rests, actors}
 use Rattle.vc_text.specs.Quiet.{AreQuiet}
+use Rattle.vc_text.specs.Seated.{HaveGiven}
 use Rattle.vc_text.proofs.run.round.Given as goal
 
 abbrev pub invariant-loop-actor : goal.invariant-loop-actor
@@ -16,6 +17,8 @@ invariant-loop-actor l = record {
   more : l.moved ≡ true → length l.fn.events < length l.events;
   same : (p : Plan) → Reached p l.fn.events (state_of l.fn.network) → AreQuiet p (state_of l.fn.network) l.fn.seats → l.moved ≡ false → state_of l.network ≡ state_of l.fn.network;
   quiet : (p : Plan) → Reached p l.fn.events (state_of l.fn.network) → AreQuiet p (state_of l.fn.network) l.fn.seats → AreQuiet p (state_of l.network) l.seats;
+  words : (p : Plan) → Reached p l.fn.events (state_of l.fn.network) →
+      HaveGiven p l.fn.events l.fn.seats → HaveGiven p l.events l.seats;
   rests : (p : Plan) → Reached p l.fn.events (state_of l.fn.network) → AreQuiet p (state_of l.fn.network) l.fn.seats → l.moved ≡ false → (k : ℕ) → k < 64 → bit_at l.left k ≡ 0 → k < actors p → Rests p (state_of l.fn.network) k;
 }
 

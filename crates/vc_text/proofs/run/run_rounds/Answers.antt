@@ -14,11 +14,12 @@ loop-preserved c =
       few = n.few;
       reached = λ p r. n.reached p (inv.reached p r);
       quiet = λ p r q. n.quiet p (inv.reached p r) (inv.quiet p r q);
+      words = λ p r g. n.words p (inv.reached p r) (inv.words p r g);
       more = elim (n.more (ap Ok c.if-not-branch.false)) [ inl all ↦ omega arith | inr less ↦ omega arith ];
     }
 
 pub loop-init : goal.loop-init
-loop-init c = record { few = c.requires; reached = λ p r. r; quiet = λ p r q. q; more = omega arith }
+loop-init c = record { few = c.requires; reached = λ p r. r; quiet = λ p r q. q; words = λ p r g. g; more = omega arith }
 
 pub returns-then-not-branch-clause-few : goal.returns-then-not-branch-clause-few
 returns-then-not-branch-clause-few c = c.in_ok-round.ensures.few
@@ -51,3 +52,12 @@ returns-clause-ends c = λ p r q.
     let more = c.loop.invariant.more in
     let all = c.loop-test.false in
     inl (omega (arith, few, more, all))
+
+pub returns-then-not-branch-clause-words : goal.returns-then-not-branch-clause-words
+returns-then-not-branch-clause-words c = λ p r g. c.in_ok-round.ensures.words p (c.loop.invariant.reached p r) (c.loop.invariant.words p r g)
+
+pub returns-then-len-limit-clause-words : goal.returns-then-len-limit-clause-words
+returns-then-len-limit-clause-words c = λ p r g. c.in_ok-round.ensures.words p (c.loop.invariant.reached p r) (c.loop.invariant.words p r g)
+
+pub returns-clause-words : goal.returns-clause-words
+returns-clause-words c = c.loop.invariant.words

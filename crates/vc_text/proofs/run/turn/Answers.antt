@@ -4,6 +4,8 @@ use Rattle.vc_core.specs.State.{state_of, MakesOne}
 use Rattle.vc_core.specs.Turns.{FindsEvent}
 use Rattle.vc_core.proofs.Replayed.{reached_next}
 use Rattle.vc_text.specs.Quiet.{AreQuiet}
+use Rattle.vc_text.specs.Seated.{HaveGiven}
+use Rattle.vc_text.proofs.Drawing.{given_same, given_still}
 use Rattle.vc_text.proofs.Quieting.{acts_quiet, one_quiet}
 use Rattle.vc_text.proofs.run.turn.Goals as goal
 
@@ -72,3 +74,12 @@ returns-in_default-clause-still c = λ p r e.
 
 pub returns-in_default-clause-rests : goal.returns-in_default-clause-rests
 returns-in_default-clause-rests c = λ p r e. subst (FindsEvent p (state_of c.args.network.now) c.args.actor) c.in_default.is (c.in_ok-event.ensures.finds p r.is)
+
+pub returns-clause-words : goal.returns-clause-words
+returns-clause-words c = λ p r given.
+    let found = subst (FindsEvent p (state_of c.args.network.now) c.args.actor) c.in-Some.is (c.in_ok-event.ensures.finds p r.is) in
+    subst (λ es. HaveGiven p es c.args.seats.now) (sym c.in_ok-push.ensures.ok)
+    (given_still p c.args.events.now c.in-Some.event c.args.seats.now c.args.seats.now found.1 refl given)
+
+pub returns-in_default-clause-words : goal.returns-in_default-clause-words
+returns-in_default-clause-words c = λ p r given. given_same p c.args.events.now c.args.seats.now c.rest.new.self c.rest.ensures.words given

@@ -1,0 +1,128 @@
+-- What the generators of a run have given.
+use Rattle.std.proofs.Common.{◌≡◌, ◌==◌, ℕ, zero, suc, ◌+◌, ◌<◌, ◌≤◌, List, length, slice_set, [], ◌∷◌, ◌++◌, Bool, true, false, if◌then◌else◌, slice_get, Some, inl, inr, refl, sym, ap, ◌∙◌, subst, arith, append-nil, eq-eqb, ne_eqb}
+use Rattle.std.proofs.lemmas.Bool.{cases_eq, cases_lt}
+use Rattle.std.proofs.lemmas.List.Concat.{flat_map-append}
+use Rattle.std.proofs.lemmas.Option.{slice_get_within}
+use Rattle.rand_pcg.specs.Lcg.{Lcg}
+use Rattle.rand_pcg.specs.Pcg.{pcg32}
+use Rattle.vc_actor.specs.declared.act.Act.{Act}
+use Rattle.vc_actor.specs.declared.act.Act.TheVariants.{Proc, Take, Put, Route, Fct, Pass}
+use Rattle.vc_core.specs.Turns.{TakesNone, actors}
+use Rattle.vc_core.specs.declared.event.Event.{Event}
+use Rattle.vc_plan.specs.declared.plan.Plan.{Plan}
+use Rattle.vc_switch.proofs.Placed.{place-set_other, place-set_same}
+use Rattle.vc_threads.proofs.Steps.{draws_then}
+use Rattle.vc_threads.specs.Runs.{Draws, generator}
+use Rattle.vc_text.specs.Seated.{DrawsFor, HaveGiven, generator_of}
+use Rattle.vc_text.specs.Takes.{HasWordsOf, take_word, word_by, words_by}
+use Rattle.vc_text.specs.declared.seats.Seats.{Seats}
+
+some_is : (g h : Lcg) → Some g ≡ Some h → g ≡ h
+some_is g h e = cc
+
+-- one thing more
+get_before : {X : Type 0} (xs : List X) (x : X) (k : ℕ) → k < length xs → slice_get (xs ++ x ∷ []) k ≡ slice_get xs k
+get_before [] x k less = absurd (omega (arith, less))
+get_before (y ∷ ys) x zero less = refl
+get_before (y ∷ ys) x (suc k) less = get_before ys x k (omega (arith, less))
+
+get_last : {X : Type 0} (xs : List X) (x : X) (k : ℕ) → k ≡ length xs → slice_get (xs ++ x ∷ []) k ≡ Some x
+get_last [] x zero is = refl
+get_last [] x (suc k) is = absurd (omega (arith, is))
+get_last (y ∷ ys) x zero is = absurd (omega (arith, is))
+get_last (y ∷ ys) x (suc k) is = get_last ys x k (omega (arith, is))
+
+-- one generator more, at its beginning
+pub generators_begun : (ws : List Lcg) (n : ℕ) → length ws ≡ n → ((k : ℕ) → k < n → slice_get ws k ≡ Some (generator 0 k)) →
+    (k : ℕ) → k < n + 1 → slice_get (ws ++ generator 0 n ∷ []) k ≡ Some (generator 0 k)
+generators_begun ws n count begun k less = elim (cases_lt k n) [
+  | inl sooner ↦ get_before ws (generator 0 n) k (omega (arith, count, sooner)) ∙ begun k sooner
+  | inr later ↦ (let at : n ≡ k = omega (arith, less, later) in get_last ws (generator 0 n) k (omega (arith, count, at)) ∙ ap (λ i. Some (generator 0 i)) at)
+]
+
+-- the next word is drawn of a generator, which is written back
+pub draws_for : (a b : Seats) (k i word : ℕ) (g h : Lcg) → i ≡ k → b.words.items ≡ slice_set a.words.items i h → slice_get a.words.items i ≡ Some g → (word, h) ≡ pcg32 g → DrawsFor a k word b
+draws_for a b k i word g h at is here step = record {
+  its = λ f there.
+      let same : Some g ≡ Some f = sym here ∙ ap (slice_get a.words.items) at ∙ there in
+      let own : (word, h) ≡ pcg32 f = step ∙ ap pcg32 (some_is g f same) in (
+        ap (λ (p : ℕ × Lcg). p.0) own,
+        ap (λ ws. slice_get ws k) is ∙ ap (λ z. slice_get (slice_set a.words.items i h) z) (sym at) ∙ place-set_same a.words.items i h (slice_get_within a.words.items i g here)
+            ∙ ap (λ (p : ℕ × Lcg). Some p.1) own,
+      );
+  others = λ j ne. ap (λ ws. slice_get ws j) is ∙ place-set_other a.words.items i j h (λ e. ne (e ∙ at));
+}
+
+-- there is no such generator
+pub draws_none : (a : Seats) (k i word : ℕ) → i ≡ k → length a.words.items ≤ i → DrawsFor a k word a
+draws_none a k i word at past = record {
+  its = λ g there. absurd (let less = slice_get_within a.words.items k g there in omega (arith, at, past, less));
+  others = λ j ne. refl;
+}
+
+-- at first none has given a word
+pub none_given : (p : Plan) (n : ℕ) (seats : Seats) → actors p ≤ n → ((k : ℕ) → k < n → generator_of seats k ≡ Some (generator 0 k)) → HaveGiven p [] seats
+none_given p n seats few begin = λ k less. (generator 0 k, begin k (omega (arith, few, less)), refl)
+
+-- a run's words are those that were given
+pub given_words : (p : Plan) (es : List Event) (seats : Seats) → HaveGiven p es seats → HasWordsOf p 0 es
+given_words p es seats given = λ k less. (let g = given k less in (g.0, g.2))
+
+-- an act that is no take has no word
+no_word : (a : Act) → TakesNone a → take_word a ≡ []
+no_word (Take link word) none = absurd none
+no_word (Proc made) none = refl
+no_word (Put link) none = refl
+no_word (Route input output) none = refl
+no_word (Fct link) none = refl
+no_word (Pass link) none = refl
+
+none_either : (b : Bool) (ws : List ℕ) → ws ≡ [] → (if b then ws else []) ≡ []
+none_either true ws none = none
+none_either false ws none = refl
+
+-- one event more has its word behind those before it
+words_more : (k : ℕ) (es : List Event) (e : Event) → words_by k (es ++ e ∷ []) ≡ words_by k es ++ (word_by k e ++ [])
+words_more k es e = flat_map-append (word_by k) es (e ∷ [])
+
+-- an event without a word for actor k
+silent : (k : ℕ) (es : List Event) (e : Event) → word_by k e ≡ [] → words_by k (es ++ e ∷ []) ≡ words_by k es
+silent k es e none = words_more k es e ∙ ap (λ ws. words_by k es ++ (ws ++ [])) none ∙ append-nil (words_by k es)
+
+-- an event that is no take
+pub given_still : (p : Plan) (es : List Event) (e : Event) (a b : Seats) → TakesNone e.act → b.words ≡ a.words → HaveGiven p es a → HaveGiven p (es ++ e ∷ []) b
+given_still p es e a b none same given = λ k less. (
+    let g = given k less in
+    let quiet = silent k es e (none_either (e.actor == k) (take_word e.act) (no_word e.act none)) in
+    (g.0, ap (λ ws. slice_get ws.items k) same ∙ g.1, subst (λ ws. Draws (generator 0 k) ws g.0) (sym quiet) g.2))
+
+-- no event
+pub given_same : (p : Plan) (es : List Event) (a b : Seats) → b.words ≡ a.words → HaveGiven p es a → HaveGiven p es b
+given_same p es a b same given = λ k less. (let g = given k less in (g.0, ap (λ ws. slice_get ws.items k) same ∙ g.1, g.2))
+
+-- a word for what is no actor
+pub given_past : (p : Plan) (es : List Event) (a b : Seats) (actor word : ℕ) → (actor < actors p → ⊥) → DrawsFor a actor word b → HaveGiven p es a → HaveGiven p es b
+given_past p es a b actor word past draws given = λ k less.
+    elim (cases_eq k actor) [
+      | inl same ↦ absurd (past (subst (λ z. z < actors p) same less))
+      | inr ne ↦ (let g = given k less in (g.0, draws.others k ne ∙ g.1, g.2))
+    ]
+
+-- a take, with the next word of its actor
+pub given_take : (p : Plan) (es : List Event) (a m b : Seats) (actor link word : ℕ) → DrawsFor a actor word m → b.words ≡ m.words → HaveGiven p es a →
+    HaveGiven p (es ++ record { actor = actor; act = Take link word } ∷ []) b
+given_take p es a m b actor link word draws same given = λ k less.
+    let g = given k less in
+    let e : Event = record { actor = actor; act = Take link word } in
+    let kept : generator_of b k ≡ generator_of m k = ap (λ ws. slice_get ws.items k) same in
+    elim (cases_eq k actor) [
+      | inl is ↦ (let own = draws.its g.0 (subst (λ z. generator_of a z ≡ Some g.0) is g.1) in
+          let its : word_by k e ≡ word ∷ [] = ap (λ b. if b then word ∷ [] else []) (eq-eqb actor k (sym is)) in
+          let more : words_by k (es ++ e ∷ []) ≡ words_by k es ++ word ∷ [] = words_more k es e ∙ ap (λ ws. words_by k es ++ (ws ++ [])) its in (
+            (pcg32 g.0).1,
+            kept ∙ subst (λ z. generator_of m z ≡ Some (pcg32 g.0).1) (sym is) own.1,
+            subst (λ ws. Draws (generator 0 k) ws (pcg32 g.0).1) (sym more) (draws_then (generator 0 k) g.0 (pcg32 g.0).1 (words_by k es) (word ∷ []) g.2 (own.0, refl)),
+          ))
+      | inr ne ↦ (let none : word_by k e ≡ [] = ap (λ b. if b then word ∷ [] else []) (ne_eqb actor k (λ s. ne (sym s))) in
+          (g.0, kept ∙ draws.others k ne ∙ g.1, subst (λ ws. Draws (generator 0 k) ws g.0) (sym (silent k es e none)) g.2))
+    ]
