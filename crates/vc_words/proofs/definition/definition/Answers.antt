@@ -2,9 +2,14 @@ use Rattle.std.proofs.Common.{rules, ap, ap₂, Bool, true, false, codes, ◌≡
 use Rattle.std.proofs.lemmas.Result.{IfOk-weaker}
 use Rattle.clap.specs.Words.{App, app_of, new_app, with_subcommand}
 use Rattle.clap.specs.Simple.{app_of_fields, on_top, shape_of, shape_of_fields}
+use Rattle.clap.specs.declared.builder.command.Command.{Command}
+use Rattle.clap.specs.declared.builder.command.Command.TheOpen.{Command-F}
 use Rattle.clap.specs.declared.builder.command.Command.TheViews.{out-Command}
 use Rattle.vc_words.specs.CommandLine.{check_shape, deadlock_shape}
 use Rattle.vc_words.proofs.definition.definition.Goals as goal
+
+abbrev globals : Command-F Command → Bool
+globals f = f.has_globals
 
 pub returns-clause-app : goal.returns-clause-app
 returns-clause-app c =
@@ -13,8 +18,10 @@ returns-clause-app c =
     let top_is : app_of c.subcommand_required.result ≡ on_top (λ s. record s { subcommand_required = true; has_version = true }) (new_app (codes "vcnet")) =
     ap app_of_fields c.subcommand_required.ensures ∙ ap (on_top (λ s. record s { subcommand_required = true })) (ap app_of_fields c.version.ensures ∙ ap (on_top (λ s. record s { has_version = true }))
     (ap app_of_fields c.after_help.ensures ∙ ap app_of_fields c.about-3.ensures ∙ c.new-3.ensures.app)) in
-    let one = c.in_ok-subcommand.ensures.shape (search rules) ∙ ap₂ with_subcommand top_is check_is in
-    let two = c.in_ok-subcommand-2.ensures.shape (search rules) ∙ ap₂ with_subcommand one deadlock_is in
+    let check_local = ap globals c.after_help-check.ensures ∙ ap globals c.about.ensures ∙ c.new.ensures.local in
+    let deadlock_local = ap globals c.after_help-deadlock.ensures ∙ ap globals c.about-2.ensures ∙ c.new-2.ensures.local in
+    let one = c.in_ok-subcommand.ensures.shape check_local ∙ ap₂ with_subcommand top_is check_is in
+    let two = c.in_ok-subcommand-2.ensures.shape deadlock_local ∙ ap₂ with_subcommand one deadlock_is in
     let three = c.in_ok-subcommand-3.ensures.shape c.in_ok-step_definition.ensures.local ∙ ap₂ with_subcommand two c.in_ok-step_definition.ensures.shape in
     IfOk-weaker c.subcommand-4.result _ _ (λ r h. h.shape c.in_ok-run_definition.ensures.local ∙ ap₂ with_subcommand three c.in_ok-run_definition.ensures.shape) c.subcommand-4.ensures
 
@@ -24,8 +31,8 @@ neither a b x e p q = e ∙ ap (λ z. z || b) p ∙ q
 pub returns-clause-local : goal.returns-clause-local
 returns-clause-local c =
     let top : (out-Command c.subcommand_required.result).has_globals ≡ false = search rules in
-    let check : (out-Command c.after_help-check.result).has_globals ≡ false = search rules in
-    let deadlock : (out-Command c.after_help-deadlock.result).has_globals ≡ false = search rules in
+    let check : (out-Command c.after_help-check.result).has_globals ≡ false = ap globals c.after_help-check.ensures ∙ ap globals c.about.ensures ∙ c.new.ensures.local in
+    let deadlock : (out-Command c.after_help-deadlock.result).has_globals ≡ false = ap globals c.after_help-deadlock.ensures ∙ ap globals c.about-2.ensures ∙ c.new-2.ensures.local in
     let one = neither _ _ _ c.in_ok-subcommand.ensures.globals top check in
     let two = neither _ _ _ c.in_ok-subcommand-2.ensures.globals one deadlock in
     let three = neither _ _ _ c.in_ok-subcommand-3.ensures.globals two c.in_ok-step_definition.ensures.local in
