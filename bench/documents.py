@@ -6,7 +6,8 @@
   which the gate does not try; one without stands in its crate's must-fail/);
 - a list of all edits in docs/WRONG_BODIES.md that is not that of the files (with --mend it is written anew);
 - a crate that README.md or docs/ names as `vc_..` and that crates.txt has not;
-- a sentence of theirs with over 40 words.
+- a sentence of theirs with over 40 words;
+- a piece of Rattle in docs/CALLING.md that does not stand so in crates/vc_uses.
 """
 import glob
 import os
@@ -85,6 +86,13 @@ def long_sentences(path, text):
                 yield f"{path}: {len(sentence.split())} words: {sentence[:70]}.."
 
 
+def strange_code(path, text):
+    sources = [text_of(os.path.relpath(it, ROOT)) for it in glob.glob(f"{ROOT}/crates/vc_uses/src/*.rt")]
+    for piece in re.findall(r"```rust\n(.*?)```", text, re.S):
+        if not any(piece.strip() in it for it in sources):
+            yield f"{path}: not in vc_uses: {piece.strip()[:70]}.."
+
+
 def main():
     told = []
     for path in DOCUMENTS:
@@ -93,6 +101,8 @@ def main():
         if path.endswith("WRONG_BODIES.md"):
             told += [*wrong_edits(path, text), *wrong_list(path, text, "--mend" in sys.argv)]
         told += long_sentences(path, text)
+        if path.endswith("CALLING.md"):
+            told += strange_code(path, text)
     print("\n".join([*told, f"{len(DOCUMENTS)} documents, {len(told)} faults"]))
     return 1 if told else 0
 

@@ -13,8 +13,12 @@ use vc_packets::Bytes;
 
 /// How many outputs on a channel are not finished: none or one. No test is needed before the subtraction.
 pub fn under_way(network: &Network, chan: u16) -> u64
-    requires { (p : Plan) × (events : List Event) × Replays p events (state_of network.now) × (chan < length p.channels) }
-    ensures is { (p : Plan) (events : List Event) → Replays p events (state_of network.now) → chan < length p.channels → result ≡ length (view (network_of p) (shown (state_of network.now)) chan).offered - (view (network_of p) (shown (state_of network.now)) chan).finished }
+    requires { (p : Plan) × (events : List Event)
+        × Replays p events (state_of network.now) × (chan < length p.channels) }
+    ensures is { (p : Plan) (events : List Event) →
+        Replays p events (state_of network.now) → chan < length p.channels →
+        result ≡ length (view (network_of p) (shown (state_of network.now)) chan).offered
+        - (view (network_of p) (shown (state_of network.now)) chan).finished }
     ensures one { result ≤ 1 }
 {
     network.offered(chan).len() as u64 - network.finished(chan)
@@ -23,8 +27,12 @@ pub fn under_way(network: &Network, chan: u16) -> u64
 /// The messages that were offered on a channel and have not been taken: they stand behind those that have, so no test is needed
 /// before the slice is cut.
 pub fn to_come(network: &Network, chan: u16) -> &[Bytes]
-    requires { (p : Plan) × (events : List Event) × Replays p events (state_of network.now) × (chan < length p.channels) }
-    ensures { (p : Plan) (events : List Event) → Replays p events (state_of network.now) → chan < length p.channels → (view (network_of p) (shown (state_of network.now)) chan).offered ≡ (view (network_of p) (shown (state_of network.now)) chan).taken ++ result.now }
+    requires { (p : Plan) × (events : List Event)
+        × Replays p events (state_of network.now) × (chan < length p.channels) }
+    ensures { (p : Plan) (events : List Event) →
+        Replays p events (state_of network.now) → chan < length p.channels →
+        (view (network_of p) (shown (state_of network.now)) chan).offered
+        ≡ (view (network_of p) (shown (state_of network.now)) chan).taken ++ result.now }
 {
     &network.offered(chan)[network.taken(chan).len()..]
 }
