@@ -1,7 +1,7 @@
 #!/usr/bin/env python3
 """Holds the documents against the repository: bench/documents.py [--mend]. It prints a line for each of these, and fails where there is one:
 
-- a file that a document names and that is not there;
+- a file or a source that a document names and that is not there;
 - an edit that docs/WRONG_BODIES.md names and that is not there, or whose asterisk is wrong (an edit with one stands in bench/edits/,
   which the gate does not try; one without stands in its crate's must-fail/);
 - a list of all edits in docs/WRONG_BODIES.md that is not that of the files (with --mend it is written anew);
@@ -15,7 +15,8 @@ import re
 import sys
 
 ROOT = os.path.dirname(os.path.dirname(os.path.abspath(__file__)))
-DOCUMENTS = ["README.md", "bench/README.md", *sorted(os.path.relpath(it, ROOT) for it in glob.glob(f"{ROOT}/docs/*.md"))]
+DOCUMENTS = ["README.md", "bench/README.md", *sorted(os.path.relpath(it, ROOT) for it in glob.glob(f"{ROOT}/docs/**/*.md", recursive=True))]
+SOURCES = [os.path.relpath(it, ROOT) for it in glob.glob(f"{ROOT}/crates/*/*/**/*.*t", recursive=True)]
 WORDS = 40
 # What stands before the list of all edits.
 LIST = "\n## All edits, by crate\n\n"
@@ -36,6 +37,9 @@ def missing_files(path, text):
         places = [name, f"docs/{name}", f"bench/{name}", f"examples/{name}", os.path.join(os.path.dirname(path), name)]
         if not any(os.path.exists(f"{ROOT}/{it}") for it in places) and "CRATE" not in name:
             yield f"{path}: {name} is not there"
+    for name in sorted(set(re.findall(r"[\w./-]+\.(?:rt|antt)\b", text))):
+        if not any(f"/{it}".endswith(f"/{name}") for it in SOURCES):
+            yield f"{path}: {name} is no source"
 
 
 def wrong_edits(path, text):
