@@ -16,7 +16,7 @@ use Rattle.vc_switch.specs.Waiting.{Waiting, Wormhole}
 use Rattle.vc_tokens.specs.Tokens.{Token}
 use Rattle.vc_vcp.specs.Links.{Vcp}
 use Rattle.vc_network.specs.Network.{Actor, begins, Happens}
-use Rattle.vc_network.specs.Packets.{SameBound, IsMarked, IsInput, StandsFor, AtMostTwo, no_step, one_step, enters_bound, IsRunOfPackets, EventsAreSteps}
+use Rattle.vc_network.specs.Packets.{SameBound, IsMarked, IsInputAt, StandsForPackets, AtMostTwoSteps, no_step, one_step, enters_bound, IsRunOfPackets, EventsAreSteps}
 use Rattle.vc_network.specs.Plan.{Plan, ways, near, far, back, net_of, IsAccepted}
 use Rattle.vc_network.specs.Processes.{Doing}
 use Rattle.vc_network.specs.Views.{vcps, switches, Arrived, arrived, on_wire}
@@ -31,7 +31,7 @@ use Rattle.vc_network.proofs.Wiring.{net_accepted}
 node_empty : (got : List ℕ) (mark : Option Mark) (bound : Option ℕ) → mark ≡ None → input_of got mark bound ≡ input_of got None bound
 node_empty got mark bound e = ap (λ z. input_of got z bound) e
 
-kept : (plan : Plan) (vs : ℕ → Vcp) (sw : ℕ → Switch) (p : Port) (r : Receiver) → SameReceiver plan vs sw p r → IsInput plan sw p (input_of r.got r.mark r.bound)
+kept : (plan : Plan) (vs : ℕ → Vcp) (sw : ℕ → Switch) (p : Port) (r : Receiver) → SameReceiver plan vs sw p r → IsInputAt plan sw p (input_of r.got r.mark r.bound)
 kept plan vs sw (AtNode n l) r e = node_empty r.got r.mark r.bound e.mark
 kept plan vs sw (AtSwitch k l) r e = by_mark ((sw k).input l).mark refl
   where
@@ -42,7 +42,7 @@ kept plan vs sw (AtSwitch k l) r e = by_mark ((sw k).input l).mark refl
         subst (λ z. IsMarked plan k z ((sw k).input l) (input_of r.got r.mark r.bound)) (sym h)
         (r.bound, ap (λ z. input_of r.got z r.bound) (e.mark ∙ h) ∙ ap (λ z. input_of z (Some m) r.bound) e.got, e.bound)
 
-stands : {P : Type 0} (plan : Plan) (s : Network (Actor P) Token) (t : Tokens) → Good plan s t → StandsFor plan s (seen (net_of plan) t)
+stands : {P : Type 0} (plan : Plan) (s : Network (Actor P) Token) (t : Tokens) → Good plan s t → StandsForPackets plan s (seen (net_of plan) t)
 stands plan s t g = record {
   queue = λ w real. g.shows.nodes.queue w real;
   line = λ w real.
@@ -58,7 +58,7 @@ stands plan s t g = record {
 -- the steps of the packet machine for one event of the ways at most
 record Goes (net : Net) (t u : Tokens) : Type 0 where
   pub steps : List Event
-  pub few : AtMostTwo steps
+  pub few : AtMostTwoSteps steps
   pub run : Run net (seen net t) steps (seen net u)
 
 module _ (plan : Plan) (waiting : Waiting) (acc : IsAccepted plan) where

@@ -38,31 +38,31 @@ IsMarked plan k None x input = input ≡ Empty
 IsMarked plan k (Some m) x input = (b : Option ℕ) × (input ≡ Full (record { body = x.got; mark = m }) b) × SameBound plan k x.bound b
 
 -- what a way's far end keeps: a node keeps no packet there
-abbrev pub IsInput : Plan → (ℕ → Switch) → Port → Input → Type 0
-IsInput plan sw (AtNode n l) input = input ≡ Empty
-IsInput plan sw (AtSwitch k l) input = IsMarked plan k ((sw k).input l).mark ((sw k).input l) input
+abbrev pub IsInputAt : Plan → (ℕ → Switch) → Port → Input → Type 0
+IsInputAt plan sw (AtNode n l) input = input ≡ Empty
+IsInputAt plan sw (AtSwitch k l) input = IsMarked plan k ((sw k).input l).mark ((sw k).input l) input
 
 -- the tokens of the network stand for the packets of x
-pub record StandsFor {P : Type 0} (plan : Plan) (s : Network (Actor P) Token) (x : State) : Type 0 where
+pub record StandsForPackets {P : Type 0} (plan : Plan) (s : Network (Actor P) Token) (x : State) : Type 0 where
   pub queue : (w : ℕ) → w < ways plan → (x.ways w).queue ≡ queue_at (λ n. (vcps s n).carrier) (near plan w)
   pub line : (w : ℕ) → w < ways plan → (x.ways w).line ≡ on_wire plan (far plan w) (arrived (vcps s) (switches plan s) (far plan w)) (s.way w)
-  pub input : (w : ℕ) → w < ways plan → IsInput plan (switches plan s) (far plan w) (x.ways w).input
+  pub input : (w : ℕ) → w < ways plan → IsInputAt plan (switches plan s) (far plan w) (x.ways w).input
   pub chan : (c : ℕ) → x.chans c ≡ of_halves ((vcps s (source_node plan (home plan c))).carrier.out c) ((vcps s (sink_node plan (home plan c))).carrier.into c)
 
 -- no step, one step, or a packet enters a switch and is bound at once
-pub data AtMostTwo : List Event → Type 0 where
-  no_step : AtMostTwo []
-  one_step : (e : Event) → AtMostTwo (e ∷ [])
-  enters_bound : (w out : ℕ) (drawn : Option ℕ) → AtMostTwo (Enter w drawn ∷ Route w out ∷ [])
+pub data AtMostTwoSteps : List Event → Type 0 where
+  no_step : AtMostTwoSteps []
+  one_step : (e : Event) → AtMostTwoSteps (e ∷ [])
+  enters_bound : (w out : ℕ) (drawn : Option ℕ) → AtMostTwoSteps (Enter w drawn ∷ Route w out ∷ [])
 
 -- the network's packets are where a run of the packet machine leads, and one event more is at most two steps more
 pub record IsRunOfPackets {P : Type 0} (plan : Plan) (waiting : Waiting) (Does : Doing P) (s : Network (Actor P) Token) : Type 0 where
   pub state : State
   pub events : List Event
   pub run : Run (net_of plan) start events state
-  pub stands : StandsFor plan s state
+  pub stands : StandsForPackets plan s state
   pub next : (e : ActBy Act) (u : Network (Actor P) Token) → Happens plan waiting Does s e u →
-      (y : State) × (steps : List Event) × AtMostTwo steps × Run (net_of plan) state steps y × StandsFor plan u y
+      (y : State) × (steps : List Event) × AtMostTwoSteps steps × Run (net_of plan) state steps y × StandsForPackets plan u y
 
 -- so it is after any list of events
 abbrev pub EventsAreSteps : {P : Type 0} → Plan → Waiting → Doing P → (ℕ → P) → Type 0

@@ -2,17 +2,18 @@
 //! processes that are numbered by their states, with steps that a test tells; vc_told has them of processes of occam.
 #![tactic(auto)]
 
-ghost use Rattle.std.specs.Prelude.{◌≡◌, ℕ, Bool, List, [], ◌∷◌};
+ghost use Rattle.std.specs.Prelude.{◌≡◌, ℕ, List, [], ◌∷◌};
 ghost use Rattle.vc_actors.specs.Actors.{Network};
 ghost use Rattle.vc_actors.specs.LocalRun.{Stamped};
 ghost use Rattle.vc_actors.specs.Merge.{Made, IsMerge};
 ghost use Rattle.vc_tokens.specs.Tokens.{Token};
 ghost use Rattle.vc_switch.specs.Waiting.{Waiting};
-ghost use Rattle.vc_network.specs.Plan.{Plan, IsAccepted};
+ghost use Rattle.vc_network.specs.Numbered.{OfNumbered};
+ghost use Rattle.vc_network.specs.Plan.{IsAccepted};
 ghost use Rattle.vc_network.specs.Network.{Act, Actor, begins, HappenAll};
 ghost use Rattle.vc_network.specs.Views.{view};
 ghost use Rattle.vc_network.specs.Example.{example, hello, does, begin, exchange};
-ghost use Rattle.vc_network.specs.Processes.{Deed, by_test};
+ghost use Rattle.vc_network.specs.Processes.{by_test};
 ghost use Rattle.vc_network.specs.Credit.{CreditHolds, BodiesFit};
 ghost use Rattle.vc_network.specs.Enabled.{EventsAreOne};
 ghost use Rattle.vc_network.specs.Headers.{MoreHeadersChangeNothing};
@@ -28,67 +29,70 @@ ghost use Rattle.vc_network.specs.Threads.{ThreadsKeepHeadline, ReplaysReach};
 /// no step of it, one, or, inside a node, an offer, its input and its end. One list of communications has each process's part and each channel's
 /// part, and nobody else's. Nothing is dropped. In store and forward and in wormhole alike.
 pub fn first_in_first_out_each_once()
-    ensures { (plan : Plan) (waiting : Waiting) (does : ℕ → Deed → ℕ → Bool) (begin : ℕ → ℕ) → HeadlineHolds plan waiting (by_test does) begin }
+    ensures { OfNumbered HeadlineHolds }
 {}
 
 /// On an accepted network, whatever the actors did by themselves, if it fits together on each way, its merge is a run of the network,
 /// and the headline holds of it: for every schedule of threads.
 pub fn threads_keep_the_headline()
-    ensures { (plan : Plan) (waiting : Waiting) (does : ℕ → Deed → ℕ → Bool) (begin : ℕ → ℕ) → ThreadsKeepHeadline plan waiting (by_test does) begin }
+    ensures { OfNumbered ThreadsKeepHeadline }
 {}
 
 /// On an accepted network, after any list of steps, no buffer overflows: each token finds the place that was promised to it, and each
 /// FCT a credit of at most 8.
 pub fn no_buffer_overflows()
-    ensures { (plan : Plan) (waiting : Waiting) (does : ℕ → Deed → ℕ → Bool) (begin : ℕ → ℕ) → CreditHolds plan waiting (by_test does) begin }
+    ensures { OfNumbered CreditHolds }
 {}
 
 /// On an accepted network, after any list of steps, no link's end keeps more bytes than a packet may have.
 pub fn no_packet_grows()
-    ensures { (plan : Plan) (waiting : Waiting) (does : ℕ → Deed → ℕ → Bool) (begin : ℕ → ℕ) → BodiesFit plan waiting (by_test does) begin }
+    ensures { OfNumbered BodiesFit }
 {}
 
 /// On an accepted network, after any list of steps, its packets are where a run of the packet machine leads. An event more is no step of
 /// it, one step, or two, by which a packet enters a switch and is bound at once.
 pub fn each_event_is_at_most_two_steps()
-    ensures { (plan : Plan) (waiting : Waiting) (does : ℕ → Deed → ℕ → Bool) (begin : ℕ → ℕ) → EventsAreSteps plan waiting (by_test does) begin }
+    ensures { OfNumbered EventsAreSteps }
 {}
 
 /// On an accepted network, after any list of steps, each packet in a queue, on a way or in a switch belongs to a channel.
 pub fn each_packet_has_its_channel()
-    ensures { (plan : Plan) (waiting : Waiting) (does : ℕ → Deed → ℕ → Bool) (begin : ℕ → ℕ) → EachHasOwner plan waiting (by_test does) begin }
+    ensures { OfNumbered EachHasOwner }
 {}
 
 /// On an accepted network, after any list of steps, no packet in a queue, on a way or in a switch is longer than the limit.
 pub fn no_packet_is_longer()
-    ensures { (plan : Plan) (waiting : Waiting) (does : ℕ → Deed → ℕ → Bool) (begin : ℕ → ℕ) → PacketsAreShort plan waiting (by_test does) begin }
+    ensures { OfNumbered PacketsAreShort }
 {}
 
 /// On an accepted network, where more headers may be on the way than it says, the same lists of events happen, to the same states: no
 /// packet needs the room.
 pub fn more_headers_change_nothing()
-    ensures { (plan : Plan) (waiting : Waiting) (does : ℕ → Deed → ℕ → Bool) (begin : ℕ → ℕ) → MoreHeadersChangeNothing plan waiting (by_test does) begin }
+    ensures { OfNumbered MoreHeadersChangeNothing }
 {}
 
 /// On an accepted network whose processes are determinate, an event leads from a state to one state only.
 pub fn an_event_leads_to_one_state()
-    ensures { (plan : Plan) (waiting : Waiting) (does : ℕ → Deed → ℕ → Bool) → EventsAreOne plan waiting (by_test does) }
+    ensures { OfNumbered (λ plan waiting does begin. EventsAreOne plan waiting does) }
 {}
 
 /// On an accepted network whose processes are determinate, a replay of the merge of what the threads did is never refused, and ends
 /// where the threads ended.
 pub fn replays_reach_the_end()
-    ensures { (plan : Plan) (waiting : Waiting) (does : ℕ → Deed → ℕ → Bool) (begin : ℕ → ℕ) → ReplaysReach plan waiting (by_test does) begin }
+    ensures { OfNumbered ReplaysReach }
 {}
 
 /// What the actors did by themselves has one merge only.
 pub fn a_merge_is_one()
-    ensures { (runs : ℕ → List (Stamped Act)) (acts others : List (Made Act)) → IsMerge runs acts → IsMerge runs others → acts ≡ others }
+    ensures { (runs : ℕ → List (Stamped Act)) (acts others : List (Made Act)) →
+        IsMerge runs acts → IsMerge runs others → acts ≡ others }
 {}
 
 /// Two nodes on one wire are accepted, and a message goes over in tokens and is acknowledged, whichever the waiting rule.
 #[tactic(auto, using(crate::proofs::ExampleHolds::accepted, crate::proofs::FirstExchange::exchanged))]
 pub fn an_exchange()
     ensures accepted { IsAccepted example }
-    ensures runs { (waiting : Waiting) → (s : Network (Actor ℕ) Token) × HappenAll example waiting (by_test does) (begins example begin) exchange s × ((view example s 0).taken ≡ hello ∷ []) × ((view example s 0).finished ≡ 1) }
+    ensures runs { (waiting : Waiting) → (s : Network (Actor ℕ) Token) ×
+        HappenAll example waiting (by_test does) (begins example begin) exchange s ×
+        ((view example s 0).taken ≡ hello ∷ []) × ((view example s 0).finished ≡ 1) }
 {}

@@ -30,3 +30,7 @@ moved_exp by e = renamed_exp (moved_by by) (exp e)
 
 abbrev pub IsMovedTest : ℕ → Cond → Cond → Type 0
 IsMovedTest by was now = as_test now ≡ renamed_test (moved_by by) (as_test was)
+
+-- what is done under a condition: both are moved
+abbrev pub IsMovedBranch : ℕ → Cond → Process → Branch → Type 0
+IsMovedBranch by cond body now = IsMovedTest by cond now.cond × IsMoved by body now.body

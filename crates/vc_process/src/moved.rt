@@ -1,6 +1,6 @@
 //! Processes whose variables are moved: to the number of each variable so many are added.
 ghost use Rattle.std.specs.Prelude.{IfOk};
-ghost use Rattle.vc_process.specs.Moved.{IsMoved, AreMoved, AreMovedBranches, IsMovedGuard, AreMovedGuards, IsMovedTest};
+ghost use Rattle.vc_process.specs.Moved.{IsMoved, AreMoved, AreMovedBranches, IsMovedBranch, IsMovedGuard, AreMovedGuards};
 
 use crate::condition::Cond;
 use crate::copies::{boxed, push_copied};
@@ -118,7 +118,7 @@ fn moved_branches(alloc: Global, branches: &Items<Branch>, by: u8) -> Result<Ite
 /// What is done under a condition.
 #[cycle(moved)]
 fn moved_conditional(alloc: Global, cond: &Cond, body: &Process, by: u8) -> Result<Branch, Memory>
-    ensures { IfOk result (λ copy. IsMovedTest by cond.now copy.cond × IsMoved by body.now copy.body) }
+    ensures { IfOk result (IsMovedBranch by cond.now body.now) }
 {
     let cond = cond.moved(alloc, by)?;
     with_condition(cond, moved_process(alloc, body, by))

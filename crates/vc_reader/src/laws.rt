@@ -1,5 +1,5 @@
 //! Laws of the plans that network files mean. A law is a function that does nothing, whose contract is the law.
-ghost use Rattle.std.specs.Prelude.{◌≡◌, true, false, Some, Ok, Err};
+ghost use Rattle.std.specs.Prelude.{◌≡◌, [], true, false, Some, Ok, Err};
 ghost use Rattle.std.specs.List.{list_all};
 ghost use Rattle.serde_json.specs.Data.{Data, number, unsigned};
 ghost use Rattle.serde_json.specs.Find.{get};
@@ -34,8 +34,10 @@ pub fn four_limits_refuse_no_file()
 {}
 
 /// The path of a refusal leads, in the file's value, to what is wrong. Where a field is missing it leads to an object that lacks that
-/// field; where something is out of its range, to a number or a text; where something is unknown, to a text or an object.
+/// field. Where something is out of its range, it leads to a whole number outside the range that the format gives that place, or to a
+/// text of more than 65,535 bytes. Where something is unknown, it leads to a text, or to an object with a field that the format does
+/// not have there.
 pub fn faults_are_where_paths_lead()
     ensures { (d : Data) (fault : FaultData) →
-        plan_of d ≡ Err fault → LeadsToFault fault.path fault.why d }
+        plan_of d ≡ Err fault → LeadsToFault [] fault.path fault.why d }
 {}

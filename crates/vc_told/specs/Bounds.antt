@@ -20,17 +20,17 @@ AlwaysHolds Holds =
     (p : Plan) (waiting : Waiting) (es : List (ActBy Act)) (s : Network (Actor Process) Token) → IsAccepted p →
     HappenAll (network_of p) waiting does (begins (network_of p) (begin_of p)) es s → Holds waiting (network_of p) s
 
-abbrev pub CreditIsKept : Type 0
-CreditIsKept = AlwaysHolds (λ waiting. AreUnderCredit)
+abbrev pub NetworksKeepCredit : Type 0
+NetworksKeepCredit = AlwaysHolds (λ waiting. AreUnderCredit)
 
-abbrev pub LimitsAreKept : Type 0
-LimitsAreKept = AlwaysHolds (λ waiting. AreWithinLimit)
+abbrev pub NetworksKeepLimits : Type 0
+NetworksKeepLimits = AlwaysHolds (λ waiting. AreWithinLimit)
 
 abbrev pub PacketsHaveOwners : Type 0
 PacketsHaveOwners = AlwaysHolds (λ waiting. HaveOwners)
 
-abbrev pub PacketsAreShort : Type 0
-PacketsAreShort = AlwaysHolds (λ waiting. AreShort)
+abbrev pub NoPacketIsLonger : Type 0
+NoPacketIsLonger = AlwaysHolds (λ waiting. AreShort)
 
 -- each event is at most two steps of the packet machine
 abbrev pub PacketsAreMoved : Type 0

@@ -2,7 +2,7 @@
 //! channel's part is a run of the channel. So no log is invented, and nothing is taken before it could be sent. Definitions and laws.
 #![tactic(auto)]
 
-ghost use Rattle.vc_told.specs.Bounds.{CreditIsKept, LimitsAreKept, PacketsHaveOwners, PacketsAreShort, PacketsAreMoved};
+ghost use Rattle.vc_told.specs.Bounds.{NetworksKeepCredit, NetworksKeepLimits, PacketsHaveOwners, NoPacketIsLonger, PacketsAreMoved};
 ghost use Rattle.vc_told.specs.Determinate.{DeedsLeadToOneState, LawfulProcessesStaySo};
 ghost use Rattle.vc_told.specs.OneList.{AllIsTold};
 ghost use Rattle.vc_told.specs.Sent.{NothingIsGotUnsent};
@@ -45,8 +45,8 @@ pub fn acts_can_be_replayed()
 /// FCT a credit of at most 8. And no link's end keeps more bytes than a packet may have.
 #[tactic(auto, using(crate::proofs::Bounded::credit_kept, crate::proofs::Bounded::limits_kept))]
 pub fn no_buffer_overflows()
-    ensures credit { CreditIsKept }
-    ensures limits { LimitsAreKept }
+    ensures credit { NetworksKeepCredit }
+    ensures limits { NetworksKeepLimits }
 {}
 
 /// Whatever happened on an accepted plan's network, each packet in a queue, on a way or in a switch belongs to a channel, and is no
@@ -54,7 +54,7 @@ pub fn no_buffer_overflows()
 #[tactic(auto, using(crate::proofs::Bounded::owners_known, crate::proofs::Bounded::all_short))]
 pub fn each_packet_has_its_channel()
     ensures owners { PacketsHaveOwners }
-    ensures short { PacketsAreShort }
+    ensures short { NoPacketIsLonger }
 {}
 
 /// Whatever happened on an accepted plan's network, its packets are where a run of the packet machine leads. An event more is no step of

@@ -7,10 +7,12 @@ abbrev pub invariant-moved_parts-loop-part : goal.invariant-moved_parts-loop-par
 invariant-moved_parts-loop-part l = AreMoved l.by (take l.part-index l.part-items) l.copies
 
 abbrev pub invariant-moved_branches-loop-branch : goal.invariant-moved_branches-loop-branch
-invariant-moved_branches-loop-branch l = AreMovedBranches l.by (take l.branch-index l.branch-items) l.copies
+invariant-moved_branches-loop-branch l =
+    AreMovedBranches l.by (take l.branch-index l.branch-items) l.copies
 
 abbrev pub invariant-moved_guards-loop-guard : goal.invariant-moved_guards-loop-guard
-invariant-moved_guards-loop-guard l = AreMovedGuards l.by (take l.guard-index l.guard-items) l.copies
+invariant-moved_guards-loop-guard l =
+    AreMovedGuards l.by (take l.guard-index l.guard-items) l.copies
 
 abbrev pub decreases-moved_body : goal.decreases-moved_body
 decreases-moved_body l = 2 * goal.size-moved_body l + 1
