@@ -29,6 +29,10 @@ RoomLets room (Proc made) = Unit {0}
 RoomLets room (Pass link) = Unit {0}
 RoomLets room (Route input output) = Unit {0}
 
+-- the act puts no token, so it needs room on no link
+abbrev pub NeedsNoRoom : Act → Type 0
+NeedsNoRoom a = (room : ℕ) → RoomLets room a
+
 -- the actor can have the act for its turn
 pub record IsTurn (plan : Plan) (k : ℕ) (x : Acting) (room : ℕ) (a : Act) : Type 0 where
   pub can : CanAct plan k x a
@@ -99,3 +103,9 @@ abbrev pub MakesTurn : Plan → ℕ → Acting → ℕ → Turn → Acting → T
 MakesTurn plan k old room turn.Idle new = (new ≡ old) × FindsTurn plan k old room None
 MakesTurn plan k old room (turn.Local a) new = IsTurn plan k old room a × MakesOwn plan k old a new
 MakesTurn plan k old room (turn.Put link a item) new = IsTurn plan k old room a × IsPut plan k old link a item new
+
+-- where a turn put a token on a link, the link has room
+abbrev pub PutsWithRoom : ℕ → Turn → Type 0
+PutsWithRoom room turn.Idle = Unit {0}
+PutsWithRoom room (turn.Local a) = Unit {0}
+PutsWithRoom room (turn.Put link a item) = bit_at room link ≡ 1

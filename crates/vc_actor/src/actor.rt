@@ -6,7 +6,7 @@ ghost use Rattle.vc_actor.specs.Acting.{HasLink, MayAct, MakesOwn, MakesTake, Ma
 ghost use Rattle.vc_actor.specs.OfPlan.{IsActorOf};
 ghost use Rattle.vc_actor.specs.Parts.{HasEnded, node_in, switch_in, strays_of, lost_of, faults_of};
 ghost use Rattle.vc_actor.specs.Shown.{OfNode, OfSwitch};
-ghost use Rattle.vc_actor.specs.Turns.{FindsOf, FindsTurn, IsQuiet, IsTold, IsTurn, MakesTurn};
+ghost use Rattle.vc_actor.specs.Turns.{FindsOf, FindsTurn, IsQuiet, IsTold, IsTurn, MakesTurn, PutsWithRoom, RoomLets};
 ghost use Rattle.vc_network.specs.Plan.{Plan};
 ghost use Rattle.vc_tokens.specs.Spelt.{token};
 
@@ -177,10 +177,13 @@ impl Actor {
 
     /// Makes the actor's next step: a token passes, by the least link; a switch binds a packet, the least input's to the least
     /// output; a token is put, by the least link with room; a flow control token is put, by the least link with room; then a move
-    /// of the process, beginning behind the site that acted last. `room` has a bit for each outgoing link that has room.
+    /// of the process, beginning behind the site that acted last. `room` has a bit for each outgoing link that has room, and a token is
+    /// put on such a link alone. An idle turn changes nothing.
     #[inline(always)]
     pub fn turn(&mut self, room: u32) -> Result<Turn, Memory>
         ensures makes { (plan : Plan) (k : ℕ) → IsActorOf plan k self.old → IfOk result (λ turn. MakesTurn plan k self.old room turn self.new) }
+        ensures room { IfOk result (PutsWithRoom room) }
+        ensures idle { IfOk result (λ turn. turn ≡ Turn.Idle → self.new ≡ self.old) }
         ensures refused { OnErr result (self.new ≡ self.old) }
     {
         match self.next(room)? {
@@ -194,6 +197,8 @@ impl Actor {
     fn turn_by(&mut self, act: Act) -> Result<Turn, Memory>
         requires { MayAct self.old act }
         ensures makes { (plan : Plan) (k : ℕ) → IsActorOf plan k self.old → IfOk result (λ turn. IsTold plan k self.old act turn self.new) }
+        ensures room { (room : ℕ) → RoomLets room act → IfOk result (PutsWithRoom room) }
+        ensures idle { IfOk result (λ turn. turn ≡ Turn.Idle → self.new ≡ self.old) }
         ensures refused { OnErr result (self.new ≡ self.old) }
     {
         match act {
@@ -219,6 +224,7 @@ impl Actor {
     pub fn next(&mut self, room: u32) -> Result<Option<Act>, Memory>
         ensures same { self.new ≡ self.old }
         ensures may { IfOk result (λ act. IfSome act (λ a. MayAct self.old a)) }
+        ensures lets { IfOk result (λ act. IfSome act (RoomLets room)) }
         ensures finds { (plan : Plan) (k : ℕ) → IsActorOf plan k self.old → IfOk result (FindsTurn plan k self.old room) }
     {
         if let Some(act) = self.next_of(ActKind::Pass, room)? {
@@ -241,6 +247,7 @@ impl Actor {
     pub fn next_of(&mut self, kind: ActKind, room: u32) -> Result<Option<Act>, Memory>
         ensures same { self.new ≡ self.old }
         ensures may { IfOk result (λ act. IfSome act (λ a. MayAct self.old a)) }
+        ensures lets { IfOk result (λ act. IfSome act (RoomLets room)) }
         ensures finds { (plan : Plan) (k : ℕ) → IsActorOf plan k self.old → IfOk result (FindsOf kind plan k self.old room) }
     {
         match &mut self.part {

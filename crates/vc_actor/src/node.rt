@@ -5,7 +5,7 @@ ghost use Rattle.vc_occam.specs.Remains.{Done};
 ghost use Rattle.vc_occam.specs.Runnings.{inner_channels, moves as moves_of, state};
 ghost use Rattle.vc_occam.specs.declared.moves.Move.{Move as SpeltMove};
 ghost use Rattle.vc_actor.specs.Acting.{NodeMay};
-ghost use Rattle.vc_actor.specs.Turns.{IsTurn, IsQuiet, FindsAt, FindsMove};
+ghost use Rattle.vc_actor.specs.Turns.{IsTurn, IsQuiet, FindsAt, FindsMove, NeedsNoRoom, RoomLets};
 ghost use Rattle.vc_occam.specs.Moving.{site_of as its_site, without};
 ghost use Rattle.vc_occam.specs.States.{came};
 ghost use Rattle.vc_vcp.specs.Able.{CanFetch};
@@ -93,6 +93,7 @@ impl Node {
     #[inline(always)]
     pub(crate) fn next_pass(&self) -> Option<Act>
         ensures may { IfSome result (λ a. NodeMay self.now a) }
+        ensures lets { IfSome result NeedsNoRoom }
         ensures finds { (plan : Plan) (k : ℕ) → IsNodeOf plan k self.now → FindsAt (λ link. Act.Pass link) (NodeCan plan k self.now) result }
     {
         prove!(self.vcp.links() == NODE_LINKS);
@@ -108,6 +109,7 @@ impl Node {
     #[inline(always)]
     pub(crate) fn next_put(&self, room: u32) -> Option<Act>
         ensures may { IfSome result (λ a. NodeMay self.now a) }
+        ensures lets { IfSome result (RoomLets room) }
         ensures finds { (plan : Plan) (k : ℕ) → IsNodeOf plan k self.now → FindsAt (λ link. Act.Put link) (IsTurn plan k (OfNode self.now) room) result }
     {
         for link in 0..NODE_LINKS {
@@ -122,6 +124,7 @@ impl Node {
     #[inline(always)]
     pub(crate) fn next_grant(&self, room: u32) -> Option<Act>
         ensures may { IfSome result (λ a. NodeMay self.now a) }
+        ensures lets { IfSome result (RoomLets room) }
         ensures finds { (plan : Plan) (k : ℕ) → IsNodeOf plan k self.now → FindsAt (λ link. Act.Fct link) (IsTurn plan k (OfNode self.now) room) result }
     {
         for link in 0..NODE_LINKS {
@@ -136,6 +139,7 @@ impl Node {
     #[inline(always)]
     pub(crate) fn only_step(&self) -> Option<Act>
         ensures may { IfSome result (λ a. NodeMay self.now a) }
+        ensures lets { IfSome result NeedsNoRoom }
         ensures quiet { IfSome result IsQuiet }
         ensures finds { (plan : Plan) (k : ℕ) → IsNodeOf plan k self.now → IfSome result (λ a. FindsMove plan k self.now (Some a)) }
     {
@@ -159,6 +163,7 @@ impl Node {
     pub(crate) fn let_move(&self, made: Move) -> Option<Act>
         requires { Contains (moves_of self.now.process) made }
         ensures may { IfSome result (λ a. NodeMay self.now a) }
+        ensures lets { IfSome result NeedsNoRoom }
         ensures finds { (plan : Plan) (k : ℕ) → IsNodeOf plan k self.now → IfSome result (λ a. FindsMove plan k self.now (Some a)) }
     {
         if self.channel_lets(&made) {
@@ -171,6 +176,7 @@ impl Node {
     pub(crate) fn next_move(&self, moves: &[Move], site: u16) -> Option<Act>
         requires { moves.now ≡ moves_of self.now.process }
         ensures may { IfSome result (λ a. NodeMay self.now a) }
+        ensures lets { IfSome result NeedsNoRoom }
         ensures finds { (plan : Plan) (k : ℕ) → IsNodeOf plan k self.now → FindsMove plan k self.now result }
     {
         let (before, rest) = moves.split_at(first_from(moves, site));
@@ -184,6 +190,7 @@ impl Node {
     fn first_let(&self, moves: &[Move]) -> Option<Act>
         requires { (m : SpeltMove) → Contains moves.now m → Contains (moves_of self.now.process) m }
         ensures may { IfSome result (λ a. NodeMay self.now a) }
+        ensures lets { IfSome result NeedsNoRoom }
         ensures some { (plan : Plan) (k : ℕ) → IsNodeOf plan k self.now → IfSome result (λ a. FindsMove plan k self.now (Some a)) }
         ensures none { (plan : Plan) (k : ℕ) (m : SpeltMove) → IsNodeOf plan k self.now → result ≡ None → Contains moves.now m → CanMove plan k self.now m → ⊥ }
     {

@@ -4,7 +4,7 @@ ghost use Rattle.vc_actor.specs.Acting.{NodeMay, MakesOwn, MakesTake, MakesPut, 
 ghost use Rattle.vc_actor.specs.Able.{NodeCan};
 ghost use Rattle.vc_actor.specs.OfPlan.{IsNodeOf, IsActorOf};
 ghost use Rattle.vc_actor.specs.Shown.{OfNode};
-ghost use Rattle.vc_actor.specs.Turns.{FindsMove, FindsOf, IsQuiet};
+ghost use Rattle.vc_actor.specs.Turns.{FindsMove, FindsOf, IsQuiet, NeedsNoRoom, RoomLets};
 ghost use Rattle.vc_occam.specs.Moving.{without};
 ghost use Rattle.vc_occam.specs.Remains.{Done};
 ghost use Rattle.vc_occam.specs.Runnings.{inner_channels, moves as moves_of, state};
@@ -153,6 +153,7 @@ impl NodeActor {
     pub(crate) fn next_of(&mut self, kind: ActKind, room: u32) -> Result<Option<Act>, Memory>
         ensures same { self.new ≡ self.old }
         ensures may { IfOk result (λ act. IfSome act (λ a. NodeMay self.old a)) }
+        ensures lets { IfOk result (λ act. IfSome act (RoomLets room)) }
         ensures finds { (plan : Plan) (k : ℕ) → IsNodeOf plan k self.old → IfOk result (FindsOf kind plan k (OfNode self.old) room) }
     {
         match kind {
@@ -168,6 +169,7 @@ impl NodeActor {
     #[inline(always)]
     pub(crate) fn only_step(&self) -> Option<Act>
         ensures may { IfSome result (λ a. NodeMay self.now a) }
+        ensures lets { IfSome result NeedsNoRoom }
         ensures quiet { IfSome result IsQuiet }
         ensures finds { (plan : Plan) (k : ℕ) → IsNodeOf plan k self.now → IfSome result (λ a. FindsMove plan k self.now (Some a)) }
     {
@@ -200,6 +202,7 @@ impl NodeActor {
     fn next_move(&mut self) -> Result<Option<Act>, Memory>
         ensures same { self.new ≡ self.old }
         ensures may { IfOk result (λ act. IfSome act (λ a. NodeMay self.old a)) }
+        ensures lets { IfOk result (λ act. IfSome act NeedsNoRoom) }
         ensures finds { (plan : Plan) (k : ℕ) → IsNodeOf plan k self.old → IfOk result (FindsMove plan k self.old) }
     {
         if let Some(act) = self.only_step() {
@@ -216,6 +219,7 @@ impl NodeActor {
     fn found_move(&mut self) -> Option<Act>
         ensures same { self.new ≡ self.old }
         ensures may { IfSome result (λ a. NodeMay self.old a) }
+        ensures lets { IfSome result NeedsNoRoom }
         ensures finds { (plan : Plan) (k : ℕ) → IsNodeOf plan k self.old → IfSome result (λ a. FindsMove plan k self.old (Some a)) }
     {
         if self.is_listed || !self.are_many {
@@ -247,6 +251,7 @@ impl NodeActor {
     fn next_listed(&mut self) -> Result<Option<Act>, Memory>
         ensures same { self.new ≡ self.old }
         ensures may { IfOk result (λ act. IfSome act (λ a. NodeMay self.old a)) }
+        ensures lets { IfOk result (λ act. IfSome act NeedsNoRoom) }
         ensures finds { (plan : Plan) (k : ℕ) → IsNodeOf plan k self.old → IfOk result (FindsMove plan k self.old) }
     {
         if !self.is_listed {

@@ -4,7 +4,7 @@ ghost use Rattle.vc_actor.specs.Acting.{SwitchMay, MakesOwn, MakesTake, MakesPut
 ghost use Rattle.vc_actor.specs.Able.{SwitchCan};
 ghost use Rattle.vc_actor.specs.OfPlan.{IsActorOf};
 ghost use Rattle.vc_actor.specs.Shown.{OfSwitch};
-ghost use Rattle.vc_actor.specs.Turns.{IsTurn, FindsAt, FindsOf, FindsRoute};
+ghost use Rattle.vc_actor.specs.Turns.{IsTurn, FindsAt, FindsOf, FindsRoute, NeedsNoRoom, RoomLets};
 ghost use Rattle.vc_network.specs.Plan.{Plan};
 ghost use Rattle.vc_switch.specs.Able.{CanLeave};
 ghost use Rattle.vc_switch.specs.Seen.{seen};
@@ -116,6 +116,7 @@ impl SwitchActor {
     #[inline(always)]
     pub(crate) fn next_of(&self, kind: ActKind, room: u32) -> Option<Act>
         ensures may { IfSome result (λ a. SwitchMay self.now.switch a) }
+        ensures lets { IfSome result (RoomLets room) }
         ensures finds { (plan : Plan) (k : ℕ) → FindsOf kind plan k (OfSwitch self.now.switch) room result }
     {
         match kind {
@@ -131,6 +132,7 @@ impl SwitchActor {
     #[inline(always)]
     fn next_pass(&self) -> Option<Act>
         ensures may { IfSome result (λ a. SwitchMay self.now.switch a) }
+        ensures lets { IfSome result NeedsNoRoom }
         ensures finds { FindsAt (λ link. Act.Pass link) (SwitchCan self.now.switch) result }
     {
         let link = lowest(self.switch.passes(), self.switch.switch().links())?;
@@ -141,6 +143,7 @@ impl SwitchActor {
     #[inline(always)]
     fn next_route(&self) -> Option<Act>
         ensures may { IfSome result (λ a. SwitchMay self.now.switch a) }
+        ensures lets { IfSome result NeedsNoRoom }
         ensures finds { FindsRoute self.now.switch result }
     {
         let _input = lowest(self.switch.routes(), self.switch.switch().links())?;
@@ -151,6 +154,7 @@ impl SwitchActor {
     #[inline(never)]
     fn first_route(&self) -> Option<Act>
         ensures may { IfSome result (λ a. SwitchMay self.now.switch a) }
+        ensures lets { IfSome result NeedsNoRoom }
         ensures finds { FindsRoute self.now.switch result }
     {
         let links = self.switch.switch().links();
@@ -169,6 +173,7 @@ impl SwitchActor {
     fn route_of(&self, input: u8) -> Option<Act>
         requires { input < 32 }
         ensures may { IfSome result (λ a. SwitchMay self.now.switch a) }
+        ensures lets { IfSome result NeedsNoRoom }
         ensures finds { FindsAt (λ output. Act.Route input output) (SwitchCan self.now.switch) result }
     {
         match self.switch.switch().choices(input) {
@@ -183,6 +188,7 @@ impl SwitchActor {
         requires few { last < 32 }
         requires group { (output : ℕ) → CanLeave (plan_of self.now.switch) (seen self.now.switch) input output ↔ ((first ≤ output) × (output ≤ last)) }
         ensures may { IfSome result (λ a. SwitchMay self.now.switch a) }
+        ensures lets { IfSome result NeedsNoRoom }
         ensures finds { FindsAt (λ output. Act.Route input output) (SwitchCan self.now.switch) result }
     {
         for output in first..last + 1 {
@@ -197,6 +203,7 @@ impl SwitchActor {
     #[inline(always)]
     fn next_put(&self, room: u32) -> Option<Act>
         ensures may { IfSome result (λ a. SwitchMay self.now.switch a) }
+        ensures lets { IfSome result (RoomLets room) }
         ensures finds { (plan : Plan) (k : ℕ) → FindsAt (λ link. Act.Put link) (IsTurn plan k (OfSwitch self.now.switch) room) result }
     {
         let links = self.switch.switch().links();
@@ -215,6 +222,7 @@ impl SwitchActor {
     #[inline(always)]
     fn next_grant(&self, room: u32) -> Option<Act>
         ensures may { IfSome result (λ a. SwitchMay self.now.switch a) }
+        ensures lets { IfSome result (RoomLets room) }
         ensures finds { (plan : Plan) (k : ℕ) → FindsAt (λ link. Act.Fct link) (IsTurn plan k (OfSwitch self.now.switch) room) result }
     {
         let link = lowest(self.switch.grants() & room, self.switch.switch().links())?;

@@ -1,6 +1,7 @@
 use Rattle.std.proofs.Common.{sym, subst}
+use Rattle.std.specs.Prelude.{IfSome}
 use Rattle.vc_actor.specs.OfPlan.{IsActorOf}
-use Rattle.vc_actor.specs.Turns.{FindsTurn, IsTold}
+use Rattle.vc_actor.specs.Turns.{FindsTurn, IsTold, RoomLets}
 use Rattle.vc_actor.proofs.Turning.{turned, if_ok}
 use Rattle.vc_actor.proofs.actor.Actor.turn.Goals as goal
 
@@ -13,3 +14,7 @@ returns-in-Some-clause-makes c = λ plan k is.
     let may = subst (FindsTurn plan k c.args.self.now c.args.room) c.in-Some.is (c.in_ok-next.ensures.finds plan k is) in
     if_ok _ _ c.turn_by.result (λ t told. turned plan k c.args.self.now _ c.args.room c.in-Some.act t may (subst (λ x. IsTold plan k x c.in-Some.act t c.turn_by.new.self) same told))
     (c.turn_by.ensures.makes plan k (subst (IsActorOf plan k) (sym same) is))
+
+pub returns-in-Some-clause-room : goal.returns-in-Some-clause-room
+returns-in-Some-clause-room c =
+    c.turn_by.ensures.room c.args.room (subst (λ o. IfSome o (RoomLets c.args.room)) c.in-Some.is c.in_ok-next.ensures.lets)

@@ -35,3 +35,6 @@ returns-clause-finds c = λ plan k.
       λ j low turn.
           not_both (c.in_ok-link.ensures.2 j low) (both_bits c.grants.result c.args.room j ((c.grants.ensures j turn.can.0).1 turn.can.1) turn.lets),
     )
+
+pub returns-clause-lets : goal.returns-clause-lets
+returns-clause-lets c = (bits_both c.grants.result c.args.room c.in_ok-link.link c.in_ok-link.ensures.1).1
