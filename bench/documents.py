@@ -7,7 +7,10 @@
 - a list of all edits in docs/WRONG_BODIES.md that is not that of the files (with --mend it is written anew);
 - a crate that README.md or docs/ names as `vc_..` and that crates.txt has not;
 - a sentence of theirs with over 40 words;
-- a piece of Rattle in docs/CALLING.md that does not stand so in crates/vc_uses.
+- a piece of Rattle in docs/CALLING.md that does not stand so in crates/vc_uses;
+- a script of bench/ that does not say with which kit it was made, as README.md names it.
+
+Made with rattle-kit-13f, logic dac8208d650f15bf.
 """
 import glob
 import os
@@ -97,8 +100,16 @@ def strange_code(path, text):
             yield f"{path}: not in vc_uses: {piece.strip()[:70]}.."
 
 
+def made_with_another_kit():
+    kit = re.search(r"`rt version`: (rattle-\S+), logic (\w+)", text_of("README.md"))
+    for path in sorted(glob.glob(f"{ROOT}/bench/*.py") + glob.glob(f"{ROOT}/bench/*.sh")):
+        name = os.path.relpath(path, ROOT)
+        if f"Made with {kit[1]}, logic {kit[2]}." not in text_of(name):
+            yield f"{name} does not say with which kit it was made"
+
+
 def main():
-    told = []
+    told = [*made_with_another_kit()]
     for path in DOCUMENTS:
         text = text_of(path)
         told += [*missing_files(path, text), *missing_crates(path, text)]

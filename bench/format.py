@@ -7,6 +7,8 @@
 - a refusal, a last line, a word of a process or an operator that no example shows.
 
 White space outside of texts counts for nothing. Of printed lines the spaces in front are left out.
+
+Made with rattle-kit-13f, logic dac8208d650f15bf.
 """
 import os
 import re
