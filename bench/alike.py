@@ -6,6 +6,8 @@ It makes COUNT networks by chance (1,000), numbered from FIRST on (1), and gives
 given to either again; the last line counts what both answered. So a build can be held against an earlier one, or against another
 program of the same format. One network in four is such that its labels deliver, one has a value of its file changed, one a label, a
 wire or a link, and one has labels that mostly lead astray.
+
+Made with rattle-kit-13f, logic dac8208d650f15bf.
 """
 import collections
 import copy

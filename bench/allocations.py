@@ -5,6 +5,8 @@ Usage: bench/allocations.py VCNET [NETWORK..], VCNET being the built program (cr
 examples/ where none is named. Each check and each run by step must print what it prints with ample memory, or that memory is short,
 with status 4. A run in threads, of which no two need be alike, must print a fault alone, or the traffic of a run that ended because an
 actor found no memory, both with status 4; or the traffic of a run to its end, or to the end of its turns.
+
+Made with rattle-kit-13f, logic dac8208d650f15bf.
 """
 import os
 import pathlib

@@ -8,6 +8,8 @@ seconds, the peak memory in MiB, and the line that was printed.
 - tables: 32 switches in a row, each with 64 rows, and 256 virtual links over all of them.
 - fabric: two switches joined by four wires, each with 64 rows, that put one of 64 random headers before each packet of a node;
   256 virtual links.
+
+Made with rattle-kit-13f, logic dac8208d650f15bf.
 """
 import json
 import os

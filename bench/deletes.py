@@ -7,6 +7,8 @@ their length, so what the longer takes more is its reading and one pass over its
 a list of that length.
 
 The network: one switch with 15 wires to itself, and a virtual link whose packets may leave by any of their 30 ends, over and over.
+
+Made with rattle-kit-13f, logic dac8208d650f15bf.
 """
 import json
 import pathlib

@@ -1,13 +1,13 @@
 #!/usr/bin/env python3
-"""Holds the documents against the repository: bench/documents.py [--mend]. It prints a line for each of these, and fails where there is one:
+"""Holds the documents against the repository: bench/documents.py. It prints a line for each of these, and fails where there is one:
 
 - a file or a source that a document names and that is not there;
-- an edit that docs/WRONG_BODIES.md names and that is not there, or whose asterisk is wrong (an edit with one stands in bench/edits/,
-  which the gate does not try; one without stands in its crate's must-fail/);
-- a list of all edits in docs/WRONG_BODIES.md that is not that of the files (with --mend it is written anew);
 - a crate that README.md or docs/ names as `vc_..` and that crates.txt has not;
 - a sentence of theirs with over 40 words;
-- a piece of Rattle in docs/CALLING.md that does not stand so in crates/vc_uses.
+- a piece of Rattle in docs/CALLING.md that does not stand so in crates/vc_uses;
+- a script of bench/ that does not say with which kit it was made, as README.md names it.
+
+Made with rattle-kit-13f, logic dac8208d650f15bf.
 """
 import glob
 import os
@@ -18,17 +18,11 @@ ROOT = os.path.dirname(os.path.dirname(os.path.abspath(__file__)))
 DOCUMENTS = ["README.md", "bench/README.md", *sorted(os.path.relpath(it, ROOT) for it in glob.glob(f"{ROOT}/docs/**/*.md", recursive=True))]
 SOURCES = [os.path.relpath(it, ROOT) for it in glob.glob(f"{ROOT}/crates/*/*/**/*.*t", recursive=True)]
 WORDS = 40
-# What stands before the list of all edits.
-LIST = "\n## All edits, by crate\n\n"
 
 
 def text_of(path):
     with open(f"{ROOT}/{path}", encoding="utf-8") as it:
         return it.read()
-
-
-def edits(pattern):
-    return {os.path.basename(it)[: -len(".edit")] for it in glob.glob(f"{ROOT}/{pattern}/*.edit")}
 
 
 def missing_files(path, text):
@@ -40,40 +34,6 @@ def missing_files(path, text):
     for name in sorted(set(re.findall(r"[\w./-]+\.(?:rt|antt)\b", text))):
         if not any(f"/{it}".endswith(f"/{name}") for it in SOURCES):
             yield f"{path}: {name} is no source"
-
-
-def wrong_edits(path, text):
-    gate, beside = edits("crates/*/must-fail"), edits("bench/edits/*")
-    for row in text.split("\n"):
-        if not row.startswith("| `"):
-            continue
-        for name, star in re.findall(r"`(\w+)`(\*?)", row.split("|")[1]):
-            if name not in gate | beside:
-                yield f"{path}: {name} is no edit"
-            elif star and name not in beside:
-                yield f"{path}: {name} is tried by the gate, and has an asterisk"
-            elif not star and name not in gate:
-                yield f"{path}: {name} stands in bench/edits/, and has no asterisk"
-
-
-def all_edits():
-    """The list of all edits, by crate."""
-    lines = []
-    for crate in sorted(os.listdir(f"{ROOT}/crates")):
-        gate, beside = edits(f"crates/{crate}/must-fail"), edits(f"bench/edits/{crate}")
-        names = [f"`{it}`" + "*" * (it not in gate) for it in sorted(gate | beside)]
-        lines += [f"- {crate}: {', '.join(names)}"] if names else []
-    return "\n".join(lines) + "\n"
-
-
-def wrong_list(path, text, mend):
-    front, _, found = text.partition(LIST)
-    if found != all_edits():
-        if not mend:
-            yield f"{path}: the list of all edits is not that of the files: bench/documents.py --mend"
-            return
-        with open(f"{ROOT}/{path}", "w", encoding="utf-8") as it:
-            it.write(front + LIST + all_edits())
 
 
 def missing_crates(path, text):
@@ -97,13 +57,19 @@ def strange_code(path, text):
             yield f"{path}: not in vc_uses: {piece.strip()[:70]}.."
 
 
+def made_with_another_kit():
+    kit = re.search(r"`rt version`: (rattle-\S+), logic (\w+)", text_of("README.md"))
+    for path in sorted(glob.glob(f"{ROOT}/bench/*.py") + glob.glob(f"{ROOT}/bench/*.sh")):
+        name = os.path.relpath(path, ROOT)
+        if f"Made with {kit[1]}, logic {kit[2]}." not in text_of(name):
+            yield f"{name} does not say with which kit it was made"
+
+
 def main():
-    told = []
+    told = [*made_with_another_kit()]
     for path in DOCUMENTS:
         text = text_of(path)
         told += [*missing_files(path, text), *missing_crates(path, text)]
-        if path.endswith("WRONG_BODIES.md"):
-            told += [*wrong_edits(path, text), *wrong_list(path, text, "--mend" in sys.argv)]
         told += long_sentences(path, text)
         if path.endswith("CALLING.md"):
             told += strange_code(path, text)

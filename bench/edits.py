@@ -7,6 +7,8 @@ time and the stages: `front-end` and `making` come with each check, `session` is
 file, which is made only where no file answers the goal that the edit breaks. The first line is a check without an edit. After each
 edit stands what the prover says of it. It fails where an edit is not refused: the crate is still proved
 with it, or it could not be compiled.
+
+Made with rattle-kit-13f, logic dac8208d650f15bf.
 """
 import glob
 import importlib.machinery

@@ -8,6 +8,8 @@ of events, which a run reports, and no more.
 - while: a WHILE that counts up one variable.
 - par: a PAR of 1,000 parts, each a WHILE of SKIP.
 - alt: an ALT of 100 guards in a WHILE, beside 100 processes that each output on a channel of the same node.
+
+Made with rattle-kit-13f, logic dac8208d650f15bf.
 """
 import json
 import os

@@ -5,6 +5,8 @@ A check keeps each module that it has checked in the crate's out/incremental, an
 what the later one took. It is right for a first check on one processor (`rm -r out/incremental; rt check --jobs 1`); after an edit the
 folder holds modules of several checks. `Lts` is the borrow checker's part of a function, which grows with its ways out and what is
 dropped on each; `Proof` is the search for goals without an answer; the others are what rattle writes of a function.
+
+Made with rattle-kit-13f, logic dac8208d650f15bf.
 """
 import collections
 import glob

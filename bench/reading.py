@@ -5,6 +5,8 @@ From the clauses of a public function it follows each name to its definition in 
 lines of those definitions, without imports, comments and blank lines. Types that the code declares are not counted, and not those of the
 toolchain. It compares what it finds with docs/READING.md and fails where a figure there is exceeded; with --write it writes the page's
 tables anew. A name counts where it stands, so the figures are a little too large.
+
+Made with rattle-kit-13f, logic dac8208d650f15bf.
 """
 import glob
 import os

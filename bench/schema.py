@@ -1,8 +1,10 @@
 #!/usr/bin/env python3
 """Holds the examples against docs/network.schema.json: bench/schema.py. It wants Python's jsonschema.
 
-Each network of examples/index.txt that vcnet reads (no refusal 20 to 25) must be one by the schema. Of those that are refused for their
+Each network of examples/index.txt that vcnet reads (no refusal 20 to 24) must be one by the schema. Of those that are refused for their
 form it tells how many the schema refuses too: the others name what is not there, or give a name twice, which no schema tells.
+
+Made with rattle-kit-13f, logic dac8208d650f15bf.
 """
 import json
 import os
@@ -25,7 +27,7 @@ def rows():
 
 
 def is_unread(output):
-    return any(output.startswith(f"refused {n} ") for n in range(20, 26))
+    return any(output.startswith(f"refused {n} ") for n in range(20, 25))
 
 
 def main():

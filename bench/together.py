@@ -6,6 +6,8 @@ runs each by `step` and by `step --together`. Where both come to rest, each chan
 and both must end alike. Most nodes output and input by one schedule, so that most networks take messages; in some of them two of a
 node's communications change places, or a process is any by chance, so that it waits for ever. A network of which the two differ is
 printed; the last lines count what was compared.
+
+Made with rattle-kit-13f, logic dac8208d650f15bf.
 """
 import collections
 import json

@@ -2,6 +2,8 @@
 """How many tokens a second are spelled and read again, for longer and longer streams.
 
 Usage: bench/tokens.py, anywhere in the repository. The least of five runs counts.
+
+Made with rattle-kit-13f, logic dac8208d650f15bf.
 """
 import pathlib
 import subprocess

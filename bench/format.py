@@ -1,0 +1,101 @@
+#!/usr/bin/env python3
+"""Holds the examples of docs/FORMAT.md against examples/: bench/format.py. It prints a line for each of these, and fails where there is one:
+
+- a row of a table whose first column is "Example": a piece in it that its network's file has not, words with which examples/index.txt
+  does not run that file, or a line that is not printed there;
+- a block that is a network other than its file, or lines that its file's network does not print; the file is the last one named before;
+- a refusal, a last line, a word of a process or an operator that no example shows.
+
+White space outside of texts counts for nothing. Of printed lines the spaces in front are left out.
+
+Made with rattle-kit-13f, logic dac8208d650f15bf.
+"""
+import os
+import re
+import sys
+
+ROOT = os.path.dirname(os.path.dirname(os.path.abspath(__file__)))
+PAGE = "docs/FORMAT.md"
+PRINTED = re.compile(r"(channel|refused|cycle|free|accepted|end)\b")
+# What the examples of the page must show: words of processes, operators, relations, connectives, bytes.
+WORDS = '"skip" "stop" "set" "out" "in" "stopch" "seq" "par" "if" "while" "for" "alt" "+" "-" "*" "/" "\\\\" "size" "=" "<>" "<" ">" "<=" ">="'
+WORDS += ' "and" "or" "not" true false "hex" "text" "fill" "table" "delete" "random" "portal" "vars" "vlink" "way" "node" "wires"'
+
+
+def text_of(path):
+    with open(f"{ROOT}/{path}", encoding="utf-8", errors="replace") as it:
+        return it.read()
+
+
+def dense(text):
+    """The text without the white space that stands outside of JSON's texts."""
+    return re.sub(r'("(?:\\.|[^"\\])*")|\s+', r"\1", text)
+
+
+def outputs():
+    """What each network prints, by its file and the words of the command line."""
+    rows = [line.split(maxsplit=3) for line in text_of("examples/index.txt").splitlines()]
+    return {(it[2], it[3]): text_of(f"examples/{it[1]}") for it in rows if it[1] != "-" and len(it) == 4}
+
+
+def is_among(wanted, text):
+    """Whether these are lines of the text, in its order."""
+    lines = iter(line.strip() for line in text.splitlines())
+    return all(it in lines for it in wanted)
+
+
+def spans(cell):
+    return re.findall(r"`([^`]+)`", cell)
+
+
+def wrong_row(cells, printed):
+    """Of one row: the file's words, the pieces that it must have, and the lines that must be printed."""
+    name, words = [*spans(cells[3]), "step"][:2]
+    if (name, words) not in printed:
+        yield f"{name} {words} is not in examples/index.txt"
+        return
+    network = dense(text_of(f"examples/{name}"))
+    yield from (f"{name} has no {it}" for it in spans(cells[0]) if dense(it) not in network)
+    wanted = spans(cells[2])
+    if not wanted or not is_among(wanted, printed[name, words]):
+        yield f"{name} {words} does not print {wanted}"
+
+
+def rows_of(page):
+    """The cells of the tables of examples: a piece, what it means, what is printed, the file and the words."""
+    tables = re.findall(r"^\| Example \|.*\n\|[-|]*\n((?:\|.*\n)+)", page, re.M)
+    return [row.split("|")[1:5] for table in tables for row in table.splitlines()]
+
+
+def wrong_blocks(page, printed):
+    for block in re.finditer(r"^```\n(.*?)^```$", page, re.M | re.S):
+        named, text = re.findall(r"examples/([\w/]+\.json)", page[: block.start()])[-1], block[1]
+        if text.startswith("{"):
+            if dense(text) != dense(text_of(f"examples/{named}")):
+                yield f"the block is not {named}: {text[:40]!r}"
+        elif PRINTED.match(text):
+            wanted = [line.strip() for line in text.splitlines()]
+            if not any(is_among(wanted, it) for (name, _), it in printed.items() if name == named):
+                yield f"{named} does not print {wanted}"
+        elif "--" not in text:
+            yield f"a block that is neither a network nor printed nor drawn: {text[:40]!r}"
+
+
+def not_shown(rows, printed):
+    pieces, lines = (" ".join(it for cells in rows for it in spans(cells[n])) for n in (0, 2))
+    kinds = {it for text in printed.values() for it in re.findall(r"^(?:refused \d+ \w+|end \w+|free$|cycle|accepted)", text, re.M)}
+    yield from (f"no example prints {it}" for it in sorted(kinds) if it not in lines)
+    yield from (f"no example has {it}" for it in WORDS.split() if it not in pieces)
+
+
+def main():
+    page, printed = text_of(PAGE), outputs()
+    rows = rows_of(page)
+    told = [fault for cells in rows for fault in wrong_row(cells, printed)]
+    told += [*wrong_blocks(page, printed), *not_shown(rows, printed)]
+    print("\n".join([*told, f"{PAGE}: {len(told)} faults"]))
+    return 1 if told else 0
+
+
+if __name__ == "__main__":
+    sys.exit(main())

@@ -1,0 +1,124 @@
+#!/usr/bin/env python3
+"""Makes docs/vcnet.1, the page of `man`, of the texts that vcnet prints for --help: bench/man.py [--write].
+
+The texts stand in crates/vc_words/src/definition.rt, where clap is told of the command line. Without --write it fails where the page is
+other than what they make, or where it finds no text for a subcommand; with --write it writes the page. `man -l docs/vcnet.1` shows it.
+
+Made with rattle-kit-13f, logic dac8208d650f15bf.
+"""
+import os
+import re
+import sys
+
+ROOT = os.path.dirname(os.path.dirname(os.path.abspath(__file__)))
+SOURCE = f"{ROOT}/crates/vc_words/src/definition.rt"
+PAGE = f"{ROOT}/docs/vcnet.1"
+TEXT = r'"((?:[^"\\]|\\[\s\S])*)"'
+# Which numbers an option takes, by what reads them.
+NUMBERS = {"counts()": "0 to 1,000,000,000", "value_parser!(u32)": "0 to 4,294,967,295"}
+FILES = [
+    ("docs/FORMAT.md", "The network file with examples, every refusal, and what is printed."),
+    ("docs/network.schema.json", "The form of a network file as a JSON schema, for an editor."),
+    ("examples/", "Networks to begin with, each with what is printed for it."),
+]
+
+
+def text_of(path):
+    with open(path, encoding="utf-8") as it:
+        return it.read()
+
+
+def constants(source):
+    """The texts that have a name, with the lines joined that a backslash joins."""
+    found = re.findall(rf"const (\w+): &str = {TEXT};", source)
+    return {name: re.sub(r"\\\n\s*", "", text) for name, text in found}
+
+
+def options(function):
+    """Each option of the command that the function makes: its name, what it takes, what it does, its numbers, and what it is at first."""
+    numbered = re.findall(rf"number_option\(\s*alloc,\s*{TEXT},\s*{TEXT},\s*([^,]+?),\s*{TEXT},?\s*\)", function)
+    flags = re.findall(rf"\bflag\(\s*alloc,\s*{TEXT},\s*{TEXT},?\s*\)", function)
+    rows = [(name, "N", text, NUMBERS[numbers], usual) for name, text, numbers, usual in numbered]
+    return rows + [(name, "", text, "", "") for name, text in flags]
+
+
+def commands(source):
+    """The program and then each subcommand, as --help lists them: its name, what it is about, the paragraphs behind that, its options."""
+    named, found = constants(source), {}
+    for function in re.split(r"\n(?=(?:pub\(crate\) )?fn )", source):
+        made = re.findall(rf"Command::new\(alloc, {TEXT}\)\s*\.about\({TEXT}\)\s*\.after_help\((\w+)\)", function)
+        if function.count("Command::new(") != len(made):
+            sys.exit(f"{SOURCE}: a command without its texts: {function[:60]}..")
+        for name, about, behind in made:
+            found[name] = (name, about, named[behind].split("\n\n"), options(function) if len(made) == 1 else [])
+    listed = re.findall(r"\.subcommand\((\w+?)(?:_definition\(alloc\)\?)?\)", source)
+    return [found[name] for name in ("vcnet", *listed)]
+
+
+def roff(text):
+    """The text as man reads it: what stands between backticks is bold."""
+    text = text.replace("\\", "\\e").replace("-", "\\-")
+    text = re.sub(r"`([^`]*)`", r"\\fB\1\\fR", text)
+    return re.sub(r"^([.'])", r"\\&\1", text, flags=re.M)
+
+
+def part(paragraphs, word):
+    """What stands behind this word at the head of one of the paragraphs."""
+    return next((it.removeprefix(f"{word}: ") for it in paragraphs if it.startswith(f"{word}: ")), "")
+
+
+def bold(text):
+    return rf"\fB{roff(text)}\fR"
+
+
+def spelled(option, takes):
+    return bold(f"--{option}") + (rf" \fI{takes}\fR" if takes else "")
+
+
+def synopsis(name, rows):
+    return bold(f"vcnet {name}") + "".join(f" [{spelled(*it[:2])}]" for it in rows) + r" < \fInetwork\fR"
+
+
+def entries(rows):
+    """A list of words, each with what stands behind it."""
+    return [line for head, text in rows for line in (".TP", head, text)]
+
+
+def about_command(name, about, paragraphs, rows):
+    told = [(spelled(*it[:2]), roff(it[2]) + (f" ({it[3]}; {int(it[4]):,} where it is not given)." if it[1] else ".")) for it in rows]
+    lines = [f".SS {synopsis(name, rows)}", f"{roff(about)}.", ".PP", roff(paragraphs[0]), *entries(told)]
+    return [*lines, ".PP", f"Exit status: {roff(part(paragraphs, 'Exit status'))}"]
+
+
+def page(source):
+    """The page's text."""
+    every = commands(source)
+    (_, about, paragraphs, _), others = every[0], every[1:]
+    statuses = [it.split(" ", 1) for it in part(paragraphs, "Exit status").rstrip(".").split("; ")]
+    lines = [r'.\" Made by bench/man.py of crates/vc_words/src/definition.rt.', f'.TH VCNET 1 "" "vcnet {constants(source)["VERSION"]}"']
+    lines += [".SH NAME", rf"vcnet \- {roff(about[0].lower() + about[1:])}", ".SH SYNOPSIS"]
+    for name, _, _, rows in others:
+        lines += [synopsis(name, rows), ".br"]
+    lines += [rf"{bold('vcnet')} [\fIcommand\fR] {bold('--help')}", ".br", bold("vcnet --version")]
+    lines += [".SH DESCRIPTION", f"{roff(about)}.", ".PP", roff(paragraphs[0]), ".SH COMMANDS"]
+    lines += [line for it in others for line in about_command(*it)]
+    lines += [".SH EXIT STATUS", *entries([(bold(status), f"{roff(text)}.") for status, text in statuses])]
+    lines += [".SH EXAMPLES", ".nf", *[roff(part(it[2], "Example")) for it in every], ".fi"]
+    lines += [".SH FILES", *entries([(bold(name), text) for name, text in FILES])]
+    return "\n".join(lines) + "\n"
+
+
+def main():
+    wanted = page(text_of(SOURCE))
+    if "--write" in sys.argv:
+        with open(PAGE, "w", encoding="utf-8") as it:
+            it.write(wanted)
+    elif not os.path.exists(PAGE) or text_of(PAGE) != wanted:
+        print("docs/vcnet.1 is not that of the texts: bench/man.py --write")
+        return 1
+    print("docs/vcnet.1: 0 faults")
+    return 0
+
+
+if __name__ == "__main__":
+    sys.exit(main())

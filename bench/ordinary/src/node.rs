@@ -1,0 +1,745 @@
+//! A node: its link ends, the two halves of its virtual links' ends, and its process.
+
+use crate::core::*;
+use crate::plan::{Home, Kind, Plan, Process, Value};
+use crate::process::{Code, Env, Site, SiteSet};
+use std::collections::VecDeque;
+
+struct Link {
+    buffer: Buffer,
+    credit: u8,
+    /// The packet that is coming.
+    in_len: u8,
+    in_body: [u8; 48],
+    /// The packet that is going: its mark comes after out_len bytes.
+    out_len: u8,
+    out_at: u8,
+    sending: bool,
+    out_mark: Token,
+    out_body: [u8; 48],
+    /// The packets to send: an end's number twice, and 1 more for an acknowledge.
+    queue: VecDeque<u16>,
+}
+
+/// One end of a virtual link.
+struct End {
+    link: u8,
+    head_len: u8,
+    head: [u8; 8],
+    out_chan: u16,
+    in_chan: u16,
+    // the half that sends the last message of out_chan's log
+    busy: bool,
+    out_site: u16,
+    /// Where the unacknowledged piece begins, and where the message ends, in the log.
+    piece: usize,
+    limit: usize,
+    // the half that takes
+    want_site: u16,
+    want_guard: u16,
+    held: bool,
+    held_last: bool,
+    held_len: u8,
+    held_body: [u8; 32],
+}
+
+struct Chan {
+    number: u16,
+    kind: Kind,
+    inside: bool,
+    sends: bool,
+    stopped: bool,
+    end: u16,
+    /// The site that stands at an ALT with a true guard on it, or, inside, at an input.
+    reader: u16,
+    /// Inside: the site that stands at an output.
+    sender: u16,
+    finished: u64,
+    offered: Log,
+    taken: Log,
+}
+
+/// What a node knows of a channel at the end.
+pub struct Side {
+    pub chan: usize,
+    /// The node outputs on it, so `offered` and `finished` count.
+    pub sends: bool,
+    pub offered: usize,
+    pub finished: u64,
+    /// Where the node inputs on it.
+    pub taken: Option<Log>,
+    pub stopped: bool,
+}
+
+#[repr(align(128))] // each is the work of one thread
+pub struct Node {
+    links: [Link; 4],
+    passable: u32,
+    puttable: u32,
+    grantable: u32,
+    ends: Vec<End>,
+    end_of_block: Vec<u16>,
+    chans: Vec<Chan>,
+    code: Code,
+    env: Env,
+    ready: SiteSet,
+    last_site: usize,
+    /// A PAR's parts that still run; a counted SEQ's turns still to come.
+    left: Vec<u64>,
+    ended: bool,
+    pub strays: u64,
+}
+
+impl Node {
+    pub fn new(plan: &Plan, i: usize, process: Process, wired: u32) -> Node {
+        let mut ends = Vec::new();
+        let mut end_at = vec![[NONE; 2]; plan.vlinks.len()];
+        let mut end_of_block = Vec::new();
+        for (v, vlink) in plan.vlinks.iter().enumerate() {
+            for (side, end) in [&vlink.a, &vlink.b].into_iter().enumerate() {
+                if end.node != i {
+                    continue;
+                }
+                let block = end.block as usize;
+                if end_of_block.len() <= block {
+                    end_of_block.resize(block + 1, NONE);
+                }
+                end_of_block[block] = ends.len() as u16;
+                end_at[v][side] = ends.len() as u16;
+                let mut head = [0; 8];
+                for (k, h) in end.route.iter().enumerate() {
+                    head[2 * k..2 * k + 2].copy_from_slice(&h.to_be_bytes());
+                }
+                ends.push(End {
+                    link: end.link,
+                    head_len: 2 * end.route.len() as u8,
+                    head,
+                    out_chan: NONE,
+                    in_chan: NONE,
+                    busy: false,
+                    out_site: NONE,
+                    piece: 0,
+                    limit: 0,
+                    want_site: NONE,
+                    want_guard: NONE,
+                    held: false,
+                    held_last: false,
+                    held_len: 0,
+                    held_body: [0; 32],
+                });
+            }
+        }
+        let mut chans = Vec::new();
+        let mut local = vec![NONE; plan.channels.len()];
+        for (c, chan) in plan.channels.iter().enumerate() {
+            let mut add = |inside: bool, sends: bool, end: u16| {
+                local[c] = chans.len() as u16;
+                chans.push(Chan {
+                    number: c as u16,
+                    kind: chan.kind,
+                    inside,
+                    sends,
+                    stopped: false,
+                    end,
+                    reader: NONE,
+                    sender: NONE,
+                    finished: 0,
+                    offered: Log::new(chan.kind),
+                    taken: Log::new(chan.kind),
+                });
+                local[c]
+            };
+            match chan.home {
+                Home::Inside { node } if node == i => {
+                    add(true, true, NONE);
+                }
+                Home::Inside { .. } => {}
+                Home::Way { vlink, from_a } => {
+                    let from = end_at[vlink][!from_a as usize];
+                    let to = end_at[vlink][from_a as usize];
+                    if from != NONE {
+                        ends[from as usize].out_chan = add(false, true, from);
+                    } else if to != NONE {
+                        ends[to as usize].in_chan = add(false, false, to);
+                    }
+                }
+            }
+        }
+        let code = Code::new(process, &mut |c| local[c]);
+        let sites = code.sites.len();
+        let links = std::array::from_fn(|l| Link {
+            buffer: Buffer::new(),
+            credit: 0,
+            in_len: 0,
+            in_body: [0; 48],
+            out_len: 0,
+            out_at: 0,
+            sending: false,
+            out_mark: Token::Eop,
+            out_body: [0; 48],
+            queue: VecDeque::with_capacity(2 * ends.iter().filter(|e| e.link as usize == l).count()),
+        });
+        let mut node = Node {
+            links,
+            passable: 0,
+            puttable: 0,
+            grantable: wired,
+            ends,
+            end_of_block,
+            chans,
+            code,
+            env: Env::new(&plan.nodes[i].vars),
+            ready: SiteSet::new(sites),
+            last_site: usize::MAX,
+            left: vec![0; sites],
+            ended: false,
+            strays: 0,
+        };
+        node.begin(0);
+        node
+    }
+
+    /// What the node knows of its channels.
+    pub fn sides(self) -> impl Iterator<Item = Side> {
+        self.chans.into_iter().map(|c| Side {
+            chan: c.number as usize,
+            finished: c.finished,
+            stopped: c.stopped,
+            offered: if c.inside { c.taken.count() } else { c.offered.count() },
+            sends: c.sends,
+            taken: (c.inside || !c.sends).then_some(c.taken),
+        })
+    }
+
+    // ------------------------------------------------------------------ control
+
+    /// The process at the site begins, as far as it has no move.
+    fn begin(&mut self, mut site: u16) {
+        loop {
+            match &self.code.sites[site as usize] {
+                Site::Seq { first } => {
+                    site = *first;
+                    continue;
+                }
+                Site::Par { parts } => {
+                    let n = parts.len();
+                    self.left[site as usize] = n as u64;
+                    for k in 0..n {
+                        if let Site::Par { parts } = &self.code.sites[site as usize] {
+                            let part = parts[k];
+                            self.begin(part);
+                        }
+                    }
+                }
+                Site::Stop => {}
+                Site::Send { chan, value } if self.chans[*chan as usize].inside => {
+                    let c = &mut self.chans[*chan as usize];
+                    let fault = match value {
+                        Value::Int(e) => self.env.int(e).is_none(),
+                        _ => false,
+                    };
+                    if fault {
+                        self.ready.set(site);
+                    } else {
+                        c.sender = site;
+                        if c.reader != NONE && !c.stopped {
+                            self.ready.set(site);
+                        }
+                    }
+                }
+                Site::Receive { chan, .. } => {
+                    let c = &mut self.chans[*chan as usize];
+                    if c.stopped {
+                        return;
+                    }
+                    if !c.inside {
+                        self.ready.set(site);
+                        return;
+                    }
+                    c.reader = site;
+                    if c.sender != NONE {
+                        self.ready.set(c.sender);
+                    }
+                }
+                Site::Alt(guards) => {
+                    if guards.iter().any(|g| self.env.cond(&g.cond).is_none()) {
+                        return;
+                    }
+                    for g in guards {
+                        let c = &mut self.chans[g.chan as usize];
+                        if c.stopped || self.env.cond(&g.cond) != Some(true) {
+                            continue;
+                        }
+                        c.reader = site;
+                        if c.inside {
+                            if c.sender != NONE {
+                                self.ready.set(c.sender);
+                            }
+                        } else if self.ends[c.end as usize].held {
+                            self.ready.set(site);
+                        }
+                    }
+                }
+                _ => self.ready.set(site),
+            }
+            return;
+        }
+    }
+
+    /// The site has ended; what stands round it goes on.
+    fn end(&mut self, mut site: u16) {
+        loop {
+            let up = self.code.ups[site as usize];
+            if up.next != NONE {
+                return self.begin(up.next);
+            }
+            site = up.parent;
+            if site == NONE {
+                self.ended = true;
+                return;
+            }
+            match &self.code.sites[site as usize] {
+                Site::Par { .. } => {
+                    let left = &mut self.left[site as usize];
+                    *left -= 1;
+                    if *left > 0 {
+                        return;
+                    }
+                }
+                Site::While { .. } => {
+                    self.ready.set(site);
+                    return;
+                }
+                Site::Count { var, body, .. } => {
+                    let left = &mut self.left[site as usize];
+                    if *left > 0 {
+                        *left -= 1;
+                        self.env.ints[*var as usize] += 1;
+                        let body = *body;
+                        return self.begin(body);
+                    }
+                }
+                _ => {}
+            }
+        }
+    }
+
+    /// An ALT no longer stands at its guards.
+    fn leave_alt(&mut self, site: u16) {
+        if let Site::Alt(guards) = &self.code.sites[site as usize] {
+            for g in guards {
+                let c = &mut self.chans[g.chan as usize];
+                if c.reader == site {
+                    c.reader = NONE;
+                    if c.sender != NONE {
+                        self.ready.clear(c.sender);
+                    }
+                }
+            }
+            self.ready.clear(site);
+        }
+    }
+
+    /// The last message of the channel's log reaches the input or the ALT at `site`.
+    fn got(&mut self, site: u16, guard: u16, chan: u16) {
+        let c = &self.chans[chan as usize];
+        match &self.code.sites[site as usize] {
+            Site::Receive { var, .. } => {
+                self.env.got(*var, c.kind, c.taken.last());
+                self.end(site);
+            }
+            Site::Alt(guards) => {
+                let g = &guards[guard as usize];
+                self.env.got(g.var, c.kind, c.taken.last());
+                let body = g.body;
+                self.begin(body);
+            }
+            _ => {}
+        }
+    }
+
+    // ------------------------------------------------------------------ moves
+
+    /// The move of a site that is ready.
+    fn step(&mut self, site: u16) -> Act {
+        self.last_site = site as usize;
+        match &self.code.sites[site as usize] {
+            Site::Send { chan, value } => {
+                let chan = *chan;
+                let c = &mut self.chans[chan as usize];
+                self.ready.clear(site);
+                let start = c.offered.data.len();
+                if c.inside {
+                    return self.inner(site, chan);
+                }
+                if self.env.message(value, &mut c.offered.data).is_none() {
+                    return Act::Quiet { site };
+                }
+                c.offered.close();
+                let e = &mut self.ends[c.end as usize];
+                e.busy = true;
+                e.out_site = site;
+                e.piece = start;
+                e.limit = c.offered.data.len();
+                let (number, end) = (c.number, c.end);
+                self.queue(end, false);
+                Act::Offer { site, chan: number }
+            }
+            Site::Receive { chan, .. } => {
+                let chan = *chan;
+                self.ready.clear(site);
+                self.want(site, NONE, chan);
+                Act::Want {
+                    site,
+                    chan: self.chans[chan as usize].number,
+                }
+            }
+            Site::Stopch { chan } => {
+                let c = &mut self.chans[*chan as usize];
+                c.stopped = true;
+                let number = c.number;
+                self.ready.clear(site);
+                if c.inside && c.sender != NONE {
+                    self.ready.clear(c.sender);
+                }
+                self.end(site);
+                Act::Stopch { site, chan: number }
+            }
+            Site::Alt(guards) => {
+                let found = guards.iter().position(|g| {
+                    let c = &self.chans[g.chan as usize];
+                    c.reader == site
+                        && !c.inside
+                        && self.ends[c.end as usize].held
+                        && self.env.cond(&g.cond) == Some(true)
+                });
+                let guard = found.unwrap_or(0) as u16;
+                let chan = guards[guard as usize].chan;
+                self.leave_alt(site);
+                self.want(site, guard, chan);
+                Act::Choose {
+                    site,
+                    guard,
+                    chan: self.chans[chan as usize].number,
+                }
+            }
+            _ => {
+                self.ready.clear(site);
+                self.quiet(site);
+                Act::Quiet { site }
+            }
+        }
+    }
+
+    #[inline]
+    fn quiet(&mut self, site: u16) {
+        match &self.code.sites[site as usize] {
+            Site::SetInt { var, value } => {
+                if let Some(n) = self.env.int(value) {
+                    self.env.ints[*var as usize] = n;
+                    self.end(site);
+                }
+            }
+            Site::SetBytes { var, value } => {
+                self.env.set_bytes(*var, value);
+                self.end(site);
+            }
+            Site::If(branches) => {
+                for (c, body) in branches {
+                    match self.env.cond(c) {
+                        Some(false) => {}
+                        Some(true) => {
+                            let body = *body;
+                            return self.begin(body);
+                        }
+                        None => return,
+                    }
+                }
+            }
+            Site::While { cond, body } => match self.env.cond(cond) {
+                Some(true) => {
+                    let body = *body;
+                    self.begin(body)
+                }
+                Some(false) => self.end(site),
+                None => {}
+            },
+            Site::Count { var, base, count, body } => {
+                let Some(base) = self.env.int(base) else {
+                    return;
+                };
+                let Some(count) = self.env.int(count) else {
+                    return;
+                };
+                if count < 0 {
+                    return;
+                }
+                if count == 0 {
+                    return self.end(site);
+                }
+                if base.checked_add(count - 1).is_none() {
+                    return;
+                }
+                self.env.ints[*var as usize] = base;
+                self.left[site as usize] = count as u64 - 1;
+                let body = *body;
+                self.begin(body);
+            }
+            _ => self.end(site),
+        }
+    }
+
+    /// An output inside the node that has a move: its expression's fault, or the meeting.
+    fn inner(&mut self, site: u16, chan: u16) -> Act {
+        let c = &mut self.chans[chan as usize];
+        if c.sender != site {
+            return Act::Quiet { site }; // it faulted when it began
+        }
+        let reader = c.reader;
+        let Site::Send { value, .. } = &self.code.sites[site as usize] else {
+            return Act::Quiet { site };
+        };
+        // offered and taken are one log here
+        let _ = self.env.message(value, &mut c.taken.data);
+        c.taken.close();
+        c.finished += 1;
+        c.sender = NONE;
+        let number = c.number;
+        let mut guard = NONE;
+        if let Site::Alt(guards) = &self.code.sites[reader as usize] {
+            let found = guards
+                .iter()
+                .position(|g| g.chan == chan && self.env.cond(&g.cond) == Some(true));
+            guard = found.unwrap_or(0) as u16;
+            self.leave_alt(reader);
+        }
+        self.chans[chan as usize].reader = NONE;
+        self.got(reader, guard, chan);
+        self.end(site);
+        Act::Inner {
+            sender: site,
+            receiver: reader,
+            guard,
+            chan: number,
+        }
+    }
+
+    // ------------------------------------------------------------------ packets
+
+    /// Queues the end's piece, or an acknowledge.
+    fn queue(&mut self, end: u16, ack: bool) {
+        let link = self.ends[end as usize].link as usize;
+        let l = &mut self.links[link];
+        l.queue.push_back(2 * end + ack as u16);
+        if l.credit > 0 {
+            self.puttable |= bit(link);
+        }
+    }
+
+    /// A process inputs on the channel: a held packet is stored, else it waits.
+    fn want(&mut self, site: u16, guard: u16, chan: u16) {
+        let end = self.chans[chan as usize].end;
+        let e = &mut self.ends[end as usize];
+        if e.held {
+            e.held = false;
+            let c = &mut self.chans[chan as usize];
+            c.taken.data.extend_from_slice(&e.held_body[..e.held_len as usize]);
+            let last = e.held_last;
+            self.queue(end, true);
+            if last {
+                self.chans[chan as usize].taken.close();
+                return self.got(site, guard, chan);
+            }
+        }
+        let e = &mut self.ends[end as usize];
+        e.want_site = site;
+        e.want_guard = guard;
+    }
+
+    /// The packet that came by the link is whole: it is for one of the halves, or a stray.
+    fn arrive(&mut self, link: usize, eom: bool) {
+        let l = &mut self.links[link];
+        let len = l.in_len as usize;
+        l.in_len = 0;
+        let block = u16::from_be_bytes([l.in_body[0], l.in_body[1]]) as usize;
+        let Some(&end) = self.end_of_block.get(block).filter(|&&e| e != NONE && len >= 2) else {
+            self.strays += 1;
+            return;
+        };
+        let e = &mut self.ends[end as usize];
+        let data = &l.in_body[2..len];
+        if data.is_empty() && !eom {
+            // an acknowledge
+            if !e.busy {
+                self.strays += 1;
+            } else if e.limit - e.piece > 32 {
+                e.piece += 32;
+                self.queue(end, false);
+            } else {
+                e.busy = false;
+                let site = e.out_site;
+                self.chans[e.out_chan as usize].finished += 1;
+                self.end(site);
+            }
+        } else if data.len() > 32 || (!eom && data.len() != 32) || e.held || e.in_chan == NONE {
+            self.strays += 1;
+        } else if e.want_site == NONE {
+            e.held = true;
+            e.held_last = eom;
+            e.held_len = data.len() as u8;
+            e.held_body[..data.len()].copy_from_slice(data);
+            let reader = self.chans[e.in_chan as usize].reader;
+            if reader != NONE {
+                self.ready.set(reader);
+            }
+        } else {
+            let chan = e.in_chan;
+            let c = &mut self.chans[chan as usize];
+            c.taken.data.extend_from_slice(data);
+            let (site, guard) = (e.want_site, e.want_guard);
+            if eom {
+                e.want_site = NONE;
+                c.taken.close();
+            }
+            self.queue(end, true);
+            if eom {
+                self.got(site, guard, chan);
+            }
+        }
+    }
+
+    #[inline]
+    fn pass(&mut self, link: usize) {
+        let l = &mut self.links[link];
+        let token = l.buffer.pop();
+        if l.buffer.is_empty() {
+            self.passable &= !bit(link);
+        }
+        if l.buffer.may_grant() {
+            self.grantable |= bit(link);
+        }
+        match token {
+            Token::Byte(b) => {
+                if (l.in_len as usize) < l.in_body.len() {
+                    l.in_body[l.in_len as usize] = b;
+                    l.in_len += 1;
+                }
+            }
+            mark => self.arrive(link, mark == Token::Eom),
+        }
+    }
+
+    /// Makes the next packet of the link's queue ready to be put.
+    fn load(&mut self, link: usize) {
+        let l = &mut self.links[link];
+        let Some(which) = l.queue.pop_front() else {
+            return;
+        };
+        let e = &self.ends[which as usize / 2];
+        l.out_body[..8].copy_from_slice(&e.head);
+        let mut n = e.head_len as usize;
+        l.out_mark = Token::Eop;
+        if which % 2 == 0 {
+            let piece = (e.limit - e.piece).min(32);
+            let from = &self.chans[e.out_chan as usize].offered.data[e.piece..e.piece + piece];
+            l.out_body[n..n + piece].copy_from_slice(from);
+            n += piece;
+            if e.piece + piece == e.limit {
+                l.out_mark = Token::Eom;
+            }
+        }
+        l.out_len = n as u8;
+        l.out_at = 0;
+        l.sending = true;
+    }
+
+    #[inline]
+    fn put(&mut self, link: usize) -> Token {
+        if !self.links[link].sending {
+            self.load(link);
+        }
+        let l = &mut self.links[link];
+        l.credit -= 1;
+        let token = if l.out_at < l.out_len {
+            l.out_at += 1;
+            Token::Byte(l.out_body[l.out_at as usize - 1])
+        } else {
+            l.sending = false;
+            l.out_mark
+        };
+        if l.credit == 0 || (!l.sending && l.queue.is_empty()) {
+            self.puttable &= !bit(link);
+        }
+        token
+    }
+}
+
+impl Node {
+    /// It has an act that isn't a take.
+    pub fn may_act(&self) -> bool {
+        self.passable | self.puttable | self.grantable != 0 || !self.ready.is_empty()
+    }
+}
+
+impl Agent for Node {
+    #[inline]
+    fn take(&mut self, link: usize, token: Token, _word: u32) {
+        let l = &mut self.links[link];
+        if token == Token::Fct {
+            l.credit += 8;
+            if l.sending || !l.queue.is_empty() {
+                self.puttable |= bit(link);
+            }
+        } else {
+            l.buffer.push(token);
+            self.passable |= bit(link);
+        }
+    }
+
+    #[inline]
+    fn turn(&mut self, mut room: impl FnMut(usize) -> bool) -> Turn {
+        if self.passable != 0 {
+            let link = self.passable.trailing_zeros() as usize;
+            self.pass(link);
+            return Turn::Local(Act::Pass { link: link as u8 });
+        }
+        let mut outs = self.puttable;
+        while outs != 0 {
+            let link = outs.trailing_zeros() as usize;
+            if room(link) {
+                let token = self.put(link);
+                return Turn::Put {
+                    link,
+                    act: Act::Put { link: link as u8 },
+                    token,
+                };
+            }
+            outs &= outs - 1;
+        }
+        let mut grants = self.grantable;
+        while grants != 0 {
+            let link = grants.trailing_zeros() as usize;
+            if room(link) {
+                let l = &mut self.links[link];
+                l.buffer.grant();
+                if !l.buffer.may_grant() {
+                    self.grantable &= !bit(link);
+                }
+                return Turn::Put {
+                    link,
+                    act: Act::Fct { link: link as u8 },
+                    token: Token::Fct,
+                };
+            }
+            grants &= grants - 1;
+        }
+        match self.ready.next(self.last_site.wrapping_add(1)) {
+            Some(site) => Turn::Local(self.step(site)),
+            None => Turn::Idle,
+        }
+    }
+
+    fn ended(&self) -> bool {
+        self.ended
+    }
+}

@@ -1,0 +1,65 @@
+#!/usr/bin/env python3
+"""Makes docs/WRONG_BODIES.md of the edits: bench/wrong_bodies.py [--write].
+
+The page is bench/edits/head.md, which is written by hand, and then a table for each crate: its edits, what each one's wrong body does, and
+who tries it. What it does is the edit's first line, behind a `#`: one sentence or two. Without --write it prints a line for each of these,
+and fails where there is one: an edit without such a line, an edit that head.md names and that is not there, and a page other than that of
+the files. With --write it writes the page.
+
+Made with rattle-kit-13f, logic dac8208d650f15bf.
+"""
+import glob
+import os
+import re
+import sys
+
+ROOT = os.path.dirname(os.path.dirname(os.path.abspath(__file__)))
+PAGE = f"{ROOT}/docs/WRONG_BODIES.md"
+REASON = re.compile(r"# ([A-Z`].*\.)\n")
+# Who tries the edits of a folder.
+TRIED = {"crates": "gate", "bench": "bench"}
+
+
+def text_of(path):
+    with open(path, encoding="utf-8") as it:
+        return it.read()
+
+
+def edits():
+    """Each edit's crate, name, what it does (nothing where its first line does not say it) and who tries it."""
+    found = []
+    for path in glob.glob(f"{ROOT}/crates/*/must-fail/*.edit") + glob.glob(f"{ROOT}/bench/edits/*/*.edit"):
+        steps = os.path.relpath(path, ROOT).split("/")
+        reason = REASON.match(text_of(path))
+        name = steps[-1].removesuffix(".edit")
+        found.append((steps[1 if steps[0] == "crates" else 2], name, reason and reason[1], TRIED[steps[0]]))
+    return sorted(found)
+
+
+def page(found):
+    """The page's text."""
+    by_gate = sum(tried == "gate" for *_, tried in found)
+    lines = [f"## All edits, by crate\n\nThere are {len(found)} edits, of which the gate tries {by_gate}."]
+    for crate in sorted({it[0] for it in found}):
+        lines += [f"\n### {crate}\n", "| Edit | What the wrong body does | Tried by |", "|---|---|---|"]
+        lines += [f"| `{name}` | {reason} | {tried} |" for of, name, reason, tried in found if of == crate]
+    return text_of(f"{ROOT}/bench/edits/head.md") + "\n" + "\n".join(lines) + "\n"
+
+
+def main():
+    found = edits()
+    there = {f"{crate}/{name}" for crate, name, *_ in found}
+    named = re.findall(r"`(vc_\w+/\w+)`", text_of(f"{ROOT}/bench/edits/head.md"))
+    told = [f"{crate}/{name}: its first line does not say what it does" for crate, name, reason, _ in found if not reason]
+    told += [f"bench/edits/head.md: {it} is no edit" for it in named if it not in there]
+    if "--write" in sys.argv and not told:
+        with open(PAGE, "w", encoding="utf-8") as it:
+            it.write(page(found))
+    elif not told and text_of(PAGE) != page(found):
+        told.append("docs/WRONG_BODIES.md is not that of the files: bench/wrong_bodies.py --write")
+    print("\n".join([*told, f"{len(found)} edits, {len(told)} faults"]))
+    return 1 if told else 0
+
+
+if __name__ == "__main__":
+    sys.exit(main())
