@@ -2,7 +2,7 @@
 """Holds the examples of docs/FORMAT.md against examples/: bench/format.py. It prints a line for each of these, and fails where there is one:
 
 - a row of a table whose first column is "Example": a piece in it that its network's file has not, words with which examples/index.txt
-  does not run that file, or a line that is not printed there;
+  does not run that file, a line that is not printed there, or another status;
 - a block that is a network other than its file, or lines that its file's network does not print; the file is the last one named before;
 - a refusal, a last line, a word of a process or an operator that no example shows.
 
@@ -33,9 +33,9 @@ def dense(text):
 
 
 def outputs():
-    """What each network prints, by its file and the words of the command line."""
+    """What each network prints, and its status, by its file and the words of the command line."""
     rows = [line.split(maxsplit=3) for line in text_of("examples/index.txt").splitlines()]
-    return {(it[2], it[3]): text_of(f"examples/{it[1]}") for it in rows if it[1] != "-" and len(it) == 4}
+    return {(it[2], it[3]): ("" if it[1] == "-" else text_of(f"examples/{it[1]}"), it[0]) for it in rows if len(it) == 4}
 
 
 def is_among(wanted, text):
@@ -56,9 +56,11 @@ def wrong_row(cells, printed):
         return
     network = dense(text_of(f"examples/{name}"))
     yield from (f"{name} has no {it}" for it in spans(cells[0]) if dense(it) not in network)
-    wanted = spans(cells[2])
-    if not wanted or not is_among(wanted, printed[name, words]):
+    (text, status), wanted, statuses = printed[name, words], spans(cells[2]), re.findall(r"status (\d)", cells[2])
+    if not is_among(wanted, text) or not wanted + statuses:
         yield f"{name} {words} does not print {wanted}"
+    if statuses not in ([], [status]):
+        yield f"{name} {words} ends with status {status}"
 
 
 def rows_of(page):
@@ -75,7 +77,7 @@ def wrong_blocks(page, printed):
                 yield f"the block is not {named}: {text[:40]!r}"
         elif PRINTED.match(text):
             wanted = [line.strip() for line in text.splitlines()]
-            if not any(is_among(wanted, it) for (name, _), it in printed.items() if name == named):
+            if not any(is_among(wanted, it) for (name, _), (it, _) in printed.items() if name == named):
                 yield f"{named} does not print {wanted}"
         elif "--" not in text:
             yield f"a block that is neither a network nor printed nor drawn: {text[:40]!r}"
@@ -83,7 +85,7 @@ def wrong_blocks(page, printed):
 
 def not_shown(rows, printed):
     pieces, lines = (" ".join(it for cells in rows for it in spans(cells[n])) for n in (0, 2))
-    kinds = {it for text in printed.values() for it in re.findall(r"^(?:refused \d+ \w+|end \w+|free$|cycle|accepted)", text, re.M)}
+    kinds = {it for text, _ in printed.values() for it in re.findall(r"^(?:refused \d+ \w+|end \w+|free$|cycle|accepted)", text, re.M)}
     yield from (f"no example prints {it}" for it in sorted(kinds) if it not in lines)
     yield from (f"no example has {it}" for it in WORDS.split() if it not in pieces)
 

@@ -7,16 +7,21 @@
 mod check;
 mod core;
 mod json;
+mod limits;
 mod net;
 mod node;
+mod paths;
 mod plan;
 mod process;
+mod reader;
 #[cfg_attr(feature = "classic_ring", path = "ring_classic.rs")]
 mod ring;
 mod switch;
 mod threads;
+mod usage;
 
 use net::{Close, Network, run_step, traffic};
+use plan::Plan;
 use std::io::{Read, Write};
 
 const USAGE: &str = "ordinary check | step [--limit N] | run [--turns N] [--seed N]";
@@ -84,31 +89,25 @@ fn main() {
     if read.is_err() || data.len() > MOST_INPUT {
         say(b"fault read\n", 6);
     }
-    let mut plan = match plan::read_network(&data) {
-        Ok(plan) => plan,
-        Err(text) => say(format!("{text}\n").as_bytes(), 2),
+    let (text, status) = match reader::read_network(&data).and_then(|plan| check::check(&plan).map(|_| plan)) {
+        Err(refusal) => (format!("{refusal}\n").into_bytes(), 2),
+        Ok(plan) => answer(line, plan),
     };
-    drop(data);
-    if let Err(text) = check::check(&plan) {
-        say(format!("{text}\n").as_bytes(), 2);
-    }
+    say(&text, status)
+}
+
+/// What is printed of an accepted plan, and the status.
+fn answer(line: Line, mut plan: Plan) -> (Vec<u8>, i32) {
     if let Line::Check = line {
-        let text = format!(
-            "accepted nodes {} switches {} vlinks {} channels {}\n",
-            plan.nodes.len(),
-            plan.switches.len(),
-            plan.vlinks.len(),
-            plan.channels.len()
-        );
-        say(text.as_bytes(), 0);
+        return (accepted(&plan).into_bytes(), 0);
     }
     let start = std::time::Instant::now();
-    let mut net = Network::new(&mut plan);
     let keep = std::env::var_os("ORDINARY_FORGET").is_none();
+    let mut net = Network::new(&mut plan);
     let (events, close) = match line {
-        Line::Check => return,
-        Line::Step { limit } => run_step(&mut net, limit, keep),
         Line::Run { turns, seed } => threads::run_threads(&mut net, turns, seed, keep),
+        Line::Step { limit } => run_step(&mut net, limit, keep),
+        Line::Check => run_step(&mut net, 0, keep),
     };
     if std::env::var_os("ORDINARY_STATS").is_some() {
         eprintln!("events {} seconds {:.6}", events.len(), start.elapsed().as_secs_f64());
@@ -122,7 +121,15 @@ fn main() {
         Close::Quiet => 1,
         Close::Limit => 3,
     };
-    let text = traffic(&plan, net.sides(), close);
-    drop(events);
-    say(&text, status)
+    (traffic(&plan, net.sides(), close), status)
+}
+
+fn accepted(plan: &Plan) -> String {
+    format!(
+        "accepted nodes {} switches {} vlinks {} channels {}\n",
+        plan.nodes.len(),
+        plan.switches.len(),
+        plan.vlinks.len(),
+        plan.channels.len()
+    )
 }

@@ -2,7 +2,7 @@
 
 use crate::core::*;
 use crate::node::{Node, Side};
-use crate::plan::{Kind, Plan, Port, Process, Spot};
+use crate::plan::{Channel, Kind, Plan, Port, Process, Spot};
 use crate::switch::Switch;
 use std::io::Write;
 
@@ -71,77 +71,110 @@ struct Way {
     tail: u8,
 }
 
-/// Goes round the actors, each of which makes one event a round, until there is none or as many were made as are allowed.
-/// `keep`: whether the events are kept.
-pub fn run_step(net: &mut Network, limit: u64, keep: bool) -> (Vec<Event>, Close) {
-    let nodes = net.nodes.len();
-    let n = nodes + net.switches.len();
-    let mut events: Vec<Event> = Vec::new();
-    let mut made = 0u64;
-    let mut words: Vec<Pcg> = (0..n).map(|a| Pcg::new(0, a as u64)).collect();
-    // ways[32 * actor + link] goes to that port; there[actor] has a bit for each way with a token
-    let mut ways: Vec<Way> = (0..32 * n)
-        .map(|_| Way {
+/// A run event by event: the tokens on the ways, and what is known of each actor.
+struct Run<'n> {
+    net: &'n mut Network,
+    words: Vec<Pcg>,
+    /// `ways[32 * actor + link]` goes to that port.
+    ways: Vec<Way>,
+    /// Where each port's wire leads.
+    to: Vec<(u8, u8)>,
+    /// Of each actor a bit for each link by which a token comes.
+    there: Vec<u32>,
+    /// A bit for each actor that may have an act. One that was idle stays so until a token comes.
+    active: u64,
+}
+
+impl Run<'_> {
+    fn new(net: &mut Network) -> Run<'_> {
+        let n = net.nodes.len() + net.switches.len();
+        let empty = || Way {
             places: [Token::Fct; 32],
             head: 0,
             tail: 0,
-        })
-        .collect();
-    let mut there = vec![0u32; n];
-    let to: Vec<(u8, u8)> = net.far.iter().flatten().map(|f| f.unwrap_or((0, 0))).collect();
-    // an actor that was idle stays so until a token comes
-    let mut active: u64 = if n == 64 { u64::MAX } else { (1 << n) - 1 };
-    while active != 0 {
-        let mut round = active;
+        };
+        Run {
+            words: (0..n).map(|a| Pcg::new(0, a as u64)).collect(),
+            ways: (0..32 * n).map(|_| empty()).collect(),
+            to: net.far.iter().flatten().map(|f| f.unwrap_or((0, 0))).collect(),
+            there: vec![0; n],
+            active: if n == 64 { u64::MAX } else { (1 << n) - 1 },
+            net,
+        }
+    }
+
+    /// Takes the token that comes by the actor's least link.
+    #[inline(always)]
+    fn take(&mut self, a: usize) -> Act {
+        let link = self.there[a].trailing_zeros() as usize;
+        let way = &mut self.ways[32 * a + link];
+        let token = way.places[(way.head & 31) as usize];
+        way.head = way.head.wrapping_add(1);
+        if way.head == way.tail {
+            self.there[a] &= !bit(link);
+        }
+        let word = self.words[a].next();
+        let nodes = self.net.nodes.len();
+        if a < nodes {
+            self.net.nodes[a].take(link, token, word);
+        } else {
+            self.net.switches[a - nodes].take(link, token, word);
+        }
+        let link = link as u8;
+        let word = word.into();
+        Act::Take { link, word }
+    }
+
+    /// Makes the actor's next act but a take, if it has one.
+    #[inline(always)]
+    fn turn(&mut self, a: usize) -> Option<Act> {
+        let nodes = self.net.nodes.len();
+        let turn = if a < nodes {
+            self.net.nodes[a].turn(|_| true)
+        } else {
+            self.net.switches[a - nodes].turn(|_| true)
+        };
+        match turn {
+            Turn::Idle => {
+                self.active &= !(1 << a);
+                None
+            }
+            Turn::Local(act) => Some(act),
+            Turn::Put { link, act, token } => {
+                let (b, l) = self.to[32 * a + link];
+                let way = &mut self.ways[32 * b as usize + l as usize];
+                way.places[(way.tail & 31) as usize] = token;
+                way.tail = way.tail.wrapping_add(1);
+                self.there[b as usize] |= bit(l as usize);
+                self.active |= 1 << b;
+                Some(act)
+            }
+        }
+    }
+
+    fn goes_on(&self) -> bool {
+        (0..self.there.len()).any(|a| self.there[a] != 0 || self.active >> a & 1 == 1 && may_act(self.net, a))
+    }
+}
+
+/// Goes round the actors, each of which makes one event a round, until there is none or as many were made as are allowed.
+/// `keep`: whether the events are kept.
+pub fn run_step(net: &mut Network, limit: u64, keep: bool) -> (Vec<Event>, Close) {
+    let mut events: Vec<Event> = Vec::new();
+    let mut made = 0u64;
+    let mut run = Run::new(net);
+    while run.active != 0 {
+        let mut round = run.active;
         while round != 0 {
             let a = round.trailing_zeros() as usize;
             if made == limit {
-                if (0..n).any(|a| there[a] != 0 || active >> a & 1 == 1 && may_act(net, a)) {
-                    return (events, Close::Limit);
-                }
-                active = 0;
-                break;
+                let close = if run.goes_on() { Close::Limit } else { at_rest(run.net) };
+                return (events, close);
             }
-            let act = if there[a] != 0 {
-                let link = there[a].trailing_zeros() as usize;
-                let way = &mut ways[32 * a + link];
-                let token = way.places[(way.head & 31) as usize];
-                way.head = way.head.wrapping_add(1);
-                if way.head == way.tail {
-                    there[a] &= !bit(link);
-                }
-                let word = words[a].next();
-                if a < nodes {
-                    net.nodes[a].take(link, token, word);
-                } else {
-                    net.switches[a - nodes].take(link, token, word);
-                }
-                Some(Act::Take {
-                    link: link as u8,
-                    word: word.into(),
-                })
+            let act = if run.there[a] != 0 {
+                Some(run.take(a))
             } else {
-                let turn = if a < nodes {
-                    net.nodes[a].turn(|_| true)
-                } else {
-                    net.switches[a - nodes].turn(|_| true)
-                };
-                match turn {
-                    Turn::Idle => {
-                        active &= !(1 << a);
-                        None
-                    }
-                    Turn::Local(act) => Some(act),
-                    Turn::Put { link, act, token } => {
-                        let (b, l) = to[32 * a + link];
-                        let way = &mut ways[32 * b as usize + l as usize];
-                        way.places[(way.tail & 31) as usize] = token;
-                        way.tail = way.tail.wrapping_add(1);
-                        there[b as usize] |= bit(l as usize);
-                        active |= 1 << b;
-                        Some(act)
-                    }
-                }
+                run.turn(a)
             };
             if let Some(act) = act {
                 made += 1;
@@ -149,11 +182,15 @@ pub fn run_step(net: &mut Network, limit: u64, keep: bool) -> (Vec<Event>, Close
                     events.push(Event { actor: a as u8, act });
                 }
             }
-            round = active & (!1 << a);
+            round = run.active & (!1 << a);
         }
     }
-    let close = if net.ended() { Close::Done } else { Close::Quiet };
-    (events, close)
+    (events, at_rest(net))
+}
+
+/// How a run ends where nothing can happen any more.
+fn at_rest(net: &Network) -> Close {
+    if net.ended() { Close::Done } else { Close::Quiet }
 }
 
 /// The actor has an act that isn't a take.
@@ -185,51 +222,63 @@ fn decimal(out: &mut Vec<u8>, n: i64) {
     out.extend_from_slice(&b[at..]);
 }
 
+/// A message: an int in decimal, bytes in hexadecimal, `-` where it has no byte.
+fn push_message(out: &mut Vec<u8>, kind: Kind, message: &[u8]) {
+    const DIGITS: &[u8; 16] = b"0123456789abcdef";
+    match kind {
+        Kind::Int => decimal(out, i64::from_le_bytes(message.try_into().unwrap_or([0; 8]))),
+        Kind::Bytes if message.is_empty() => out.push(b'-'),
+        Kind::Bytes => {
+            out.reserve(2 * message.len() + 1);
+            let digits = message
+                .iter()
+                .flat_map(|b| [DIGITS[(b >> 4) as usize], DIGITS[(b & 15) as usize]]);
+            out.extend(digits);
+        }
+    }
+}
+
+/// What both nodes of a channel know of it.
+#[derive(Default)]
+struct Shown {
+    offered: usize,
+    finished: u64,
+    taken: Option<Log>,
+    stopped: bool,
+}
+
+fn push_channel(out: &mut Vec<u8>, channel: &Channel, shown: &Shown) {
+    let count = shown.taken.as_ref().map_or(0, Log::count);
+    let stopped = if shown.stopped { " stopped" } else { "" };
+    let (name, offered, finished) = (&channel.name, shown.offered, shown.finished);
+    let _ = writeln!(
+        out,
+        "channel {name} offered {offered} taken {count} finished {finished}{stopped}"
+    );
+    for (k, message) in shown.taken.iter().flat_map(Log::messages).enumerate() {
+        out.extend_from_slice(b"  ");
+        decimal(out, k as i64);
+        out.push(b' ');
+        push_message(out, channel.kind, message);
+        out.push(b'\n');
+    }
+}
+
 /// The lines of each channel, and how the run ended.
 pub fn traffic(plan: &Plan, sides: impl Iterator<Item = Side>, close: Close) -> Vec<u8> {
-    const DIGITS: &[u8; 16] = b"0123456789abcdef";
-    let mut sending: Vec<(usize, u64)> = vec![(0, 0); plan.channels.len()];
-    let mut taking: Vec<Option<(Log, bool)>> = (0..plan.channels.len()).map(|_| None).collect();
-    for s in sides {
-        if s.sends {
-            sending[s.chan] = (s.offered, s.finished);
+    let mut shown: Vec<Shown> = plan.channels.iter().map(|_| Shown::default()).collect();
+    for side in sides {
+        let of = &mut shown[side.chan];
+        if side.sends {
+            (of.offered, of.finished) = (side.offered, side.finished);
         }
-        if let Some(log) = s.taken {
-            taking[s.chan] = Some((log, s.stopped));
+        if let Some(log) = side.taken {
+            (of.taken, of.stopped) = (Some(log), side.stopped);
         }
     }
     let mut out = Vec::new();
-    for (c, chan) in plan.channels.iter().enumerate() {
-        let (offered, finished) = sending[c];
-        let (count, stopped) = taking[c].as_ref().map_or((0, false), |t| (t.0.count(), t.1));
-        let _ = write!(
-            out,
-            "channel {} offered {offered} taken {count} finished {finished}",
-            chan.name
-        );
-        out.extend_from_slice(if stopped { b" stopped\n" } else { b"\n" });
-        let Some((log, _)) = &taking[c] else { continue };
-        for k in 0..count {
-            let m = log.message(k);
-            out.extend_from_slice(b"  ");
-            decimal(&mut out, k as i64);
-            out.push(b' ');
-            match chan.kind {
-                Kind::Int => {
-                    let b: [u8; 8] = m.try_into().unwrap_or([0; 8]);
-                    decimal(&mut out, i64::from_le_bytes(b));
-                }
-                Kind::Bytes if m.is_empty() => out.push(b'-'),
-                Kind::Bytes => {
-                    out.reserve(2 * m.len() + 1);
-                    out.extend(
-                        m.iter()
-                            .flat_map(|b| [DIGITS[(b >> 4) as usize], DIGITS[(b & 15) as usize]]),
-                    );
-                }
-            }
-            out.push(b'\n');
-        }
+    for (channel, of) in plan.channels.iter().zip(&shown) {
+        push_channel(&mut out, channel, of);
     }
     out.extend_from_slice(match close {
         Close::Done => b"end done\n",

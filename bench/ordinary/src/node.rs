@@ -1,7 +1,7 @@
 //! A node: its link ends, the two halves of its virtual links' ends, and its process.
 
 use crate::core::*;
-use crate::plan::{Home, Kind, Plan, Process, Value};
+use crate::plan::{self, Channel, Home, Kind, Plan, Process, Value};
 use crate::process::{Code, Env, Site, SiteSet};
 use std::collections::VecDeque;
 
@@ -90,84 +90,9 @@ pub struct Node {
     pub strays: u64,
 }
 
-impl Node {
-    pub fn new(plan: &Plan, i: usize, process: Process, wired: u32) -> Node {
-        let mut ends = Vec::new();
-        let mut end_at = vec![[NONE; 2]; plan.vlinks.len()];
-        let mut end_of_block = Vec::new();
-        for (v, vlink) in plan.vlinks.iter().enumerate() {
-            for (side, end) in [&vlink.a, &vlink.b].into_iter().enumerate() {
-                if end.node != i {
-                    continue;
-                }
-                let block = end.block as usize;
-                if end_of_block.len() <= block {
-                    end_of_block.resize(block + 1, NONE);
-                }
-                end_of_block[block] = ends.len() as u16;
-                end_at[v][side] = ends.len() as u16;
-                let mut head = [0; 8];
-                for (k, h) in end.route.iter().enumerate() {
-                    head[2 * k..2 * k + 2].copy_from_slice(&h.to_be_bytes());
-                }
-                ends.push(End {
-                    link: end.link,
-                    head_len: 2 * end.route.len() as u8,
-                    head,
-                    out_chan: NONE,
-                    in_chan: NONE,
-                    busy: false,
-                    out_site: NONE,
-                    piece: 0,
-                    limit: 0,
-                    want_site: NONE,
-                    want_guard: NONE,
-                    held: false,
-                    held_last: false,
-                    held_len: 0,
-                    held_body: [0; 32],
-                });
-            }
-        }
-        let mut chans = Vec::new();
-        let mut local = vec![NONE; plan.channels.len()];
-        for (c, chan) in plan.channels.iter().enumerate() {
-            let mut add = |inside: bool, sends: bool, end: u16| {
-                local[c] = chans.len() as u16;
-                chans.push(Chan {
-                    number: c as u16,
-                    kind: chan.kind,
-                    inside,
-                    sends,
-                    stopped: false,
-                    end,
-                    reader: NONE,
-                    sender: NONE,
-                    finished: 0,
-                    offered: Log::new(chan.kind),
-                    taken: Log::new(chan.kind),
-                });
-                local[c]
-            };
-            match chan.home {
-                Home::Inside { node } if node == i => {
-                    add(true, true, NONE);
-                }
-                Home::Inside { .. } => {}
-                Home::Way { vlink, from_a } => {
-                    let from = end_at[vlink][!from_a as usize];
-                    let to = end_at[vlink][from_a as usize];
-                    if from != NONE {
-                        ends[from as usize].out_chan = add(false, true, from);
-                    } else if to != NONE {
-                        ends[to as usize].in_chan = add(false, false, to);
-                    }
-                }
-            }
-        }
-        let code = Code::new(process, &mut |c| local[c]);
-        let sites = code.sites.len();
-        let links = std::array::from_fn(|l| Link {
+impl Link {
+    fn new(ends: usize) -> Link {
+        Link {
             buffer: Buffer::new(),
             credit: 0,
             in_len: 0,
@@ -177,15 +102,128 @@ impl Node {
             sending: false,
             out_mark: Token::Eop,
             out_body: [0; 48],
-            queue: VecDeque::with_capacity(2 * ends.iter().filter(|e| e.link as usize == l).count()),
-        });
+            queue: VecDeque::with_capacity(2 * ends),
+        }
+    }
+}
+
+impl End {
+    fn new(end: &plan::End) -> End {
+        let mut head = [0; 8];
+        for (two, header) in head.chunks_mut(2).zip(&end.route) {
+            two.copy_from_slice(&header.to_be_bytes());
+        }
+        End {
+            link: end.link,
+            head_len: 2 * end.route.len() as u8,
+            head,
+            out_chan: NONE,
+            in_chan: NONE,
+            busy: false,
+            out_site: NONE,
+            piece: 0,
+            limit: 0,
+            want_site: NONE,
+            want_guard: NONE,
+            held: false,
+            held_last: false,
+            held_len: 0,
+            held_body: [0; 32],
+        }
+    }
+}
+
+impl Chan {
+    fn new(number: usize, kind: Kind, end: u16, sends: bool) -> Chan {
+        Chan {
+            number: number as u16,
+            kind,
+            inside: end == NONE,
+            sends,
+            stopped: false,
+            end,
+            reader: NONE,
+            sender: NONE,
+            finished: 0,
+            offered: Log::new(kind),
+            taken: Log::new(kind),
+        }
+    }
+}
+
+/// A node's ends, and which of them each block is.
+#[derive(Default)]
+struct Ends {
+    all: Vec<End>,
+    of_block: Vec<u16>,
+    /// The ends of each virtual link at this node, a and b.
+    of_vlink: Vec<[u16; 2]>,
+}
+
+impl Ends {
+    fn of(plan: &Plan, node: usize) -> Ends {
+        let mut ends = Ends::default();
+        for vlink in &plan.vlinks {
+            let of_vlink = [&vlink.a, &vlink.b].map(|end| if end.node == node { ends.add(end) } else { NONE });
+            ends.of_vlink.push(of_vlink);
+        }
+        ends
+    }
+
+    fn add(&mut self, end: &plan::End) -> u16 {
+        let (block, number) = (end.block as usize, self.all.len() as u16);
+        if self.of_block.len() <= block {
+            self.of_block.resize(block + 1, NONE);
+        }
+        self.of_block[block] = number;
+        self.all.push(End::new(end));
+        number
+    }
+
+    /// The channel as the node knows it, where it is one of the node's.
+    fn channel(&mut self, number: usize, channel: &Channel, node: usize, here: u16) -> Option<Chan> {
+        let new = |end, sends| Some(Chan::new(number, channel.kind, end, sends));
+        match channel.home {
+            Home::Inside { node: at } if at == node => new(NONE, true),
+            Home::Inside { .. } => None,
+            Home::Way { vlink, from_a } => {
+                let [a, b] = self.of_vlink[vlink];
+                let (from, to) = if from_a { (a, b) } else { (b, a) };
+                if from != NONE {
+                    self.all[from as usize].out_chan = here;
+                    return new(from, true);
+                }
+                if to != NONE {
+                    self.all[to as usize].in_chan = here;
+                    return new(to, false);
+                }
+                None
+            }
+        }
+    }
+}
+
+impl Node {
+    pub fn new(plan: &Plan, i: usize, process: Process, wired: u32) -> Node {
+        let mut ends = Ends::of(plan, i);
+        let mut chans = Vec::new();
+        let mut local = vec![NONE; plan.channels.len()];
+        for (c, channel) in plan.channels.iter().enumerate() {
+            let here = chans.len() as u16;
+            if let Some(chan) = ends.channel(c, channel, i, here) {
+                local[c] = here;
+                chans.push(chan);
+            }
+        }
+        let code = Code::new(process, &mut |c| local[c]);
+        let sites = code.sites.len();
         let mut node = Node {
-            links,
+            links: std::array::from_fn(|l| Link::new(ends.all.iter().filter(|e| e.link as usize == l).count())),
             passable: 0,
             puttable: 0,
             grantable: wired,
-            ends,
-            end_of_block,
+            ends: ends.all,
+            end_of_block: ends.of_block,
             chans,
             code,
             env: Env::new(&plan.nodes[i].vars),
@@ -215,74 +253,85 @@ impl Node {
 
     /// The process at the site begins, as far as it has no move.
     fn begin(&mut self, mut site: u16) {
-        loop {
-            match &self.code.sites[site as usize] {
-                Site::Seq { first } => {
-                    site = *first;
-                    continue;
-                }
-                Site::Par { parts } => {
-                    let n = parts.len();
-                    self.left[site as usize] = n as u64;
-                    for k in 0..n {
-                        if let Site::Par { parts } = &self.code.sites[site as usize] {
-                            let part = parts[k];
-                            self.begin(part);
-                        }
+        while let Site::Seq { first } = &self.code.sites[site as usize] {
+            site = *first;
+        }
+        match &self.code.sites[site as usize] {
+            Site::Par { parts } => {
+                let n = parts.len();
+                self.left[site as usize] = n as u64;
+                for k in 0..n {
+                    if let Site::Par { parts } = &self.code.sites[site as usize] {
+                        let part = parts[k];
+                        self.begin(part);
                     }
                 }
-                Site::Stop => {}
-                Site::Send { chan, value } if self.chans[*chan as usize].inside => {
-                    let c = &mut self.chans[*chan as usize];
-                    let fault = match value {
-                        Value::Int(e) => self.env.int(e).is_none(),
-                        _ => false,
-                    };
-                    if fault {
-                        self.ready.set(site);
-                    } else {
-                        c.sender = site;
-                        if c.reader != NONE && !c.stopped {
-                            self.ready.set(site);
-                        }
-                    }
-                }
-                Site::Receive { chan, .. } => {
-                    let c = &mut self.chans[*chan as usize];
-                    if c.stopped {
-                        return;
-                    }
-                    if !c.inside {
-                        self.ready.set(site);
-                        return;
-                    }
-                    c.reader = site;
-                    if c.sender != NONE {
-                        self.ready.set(c.sender);
-                    }
-                }
-                Site::Alt(guards) => {
-                    if guards.iter().any(|g| self.env.cond(&g.cond).is_none()) {
-                        return;
-                    }
-                    for g in guards {
-                        let c = &mut self.chans[g.chan as usize];
-                        if c.stopped || self.env.cond(&g.cond) != Some(true) {
-                            continue;
-                        }
-                        c.reader = site;
-                        if c.inside {
-                            if c.sender != NONE {
-                                self.ready.set(c.sender);
-                            }
-                        } else if self.ends[c.end as usize].held {
-                            self.ready.set(site);
-                        }
-                    }
-                }
-                _ => self.ready.set(site),
             }
+            Site::Stop => {}
+            Site::Send { chan, .. } if self.chans[*chan as usize].inside => self.begin_send(site),
+            Site::Receive { chan, .. } => {
+                let chan = *chan;
+                self.begin_receive(site, chan);
+            }
+            Site::Alt(_) => self.begin_alt(site),
+            _ => self.ready.set(site),
+        }
+    }
+
+    /// An output inside the node has a move where an input waits, or where its expression is a fault.
+    fn begin_send(&mut self, site: u16) {
+        let Site::Send { chan, value } = &self.code.sites[site as usize] else {
             return;
+        };
+        if let Value::Int(e) = value
+            && self.env.int(e).is_none()
+        {
+            self.ready.set(site);
+            return;
+        }
+        let c = &mut self.chans[*chan as usize];
+        c.sender = site;
+        if c.reader != NONE && !c.stopped {
+            self.ready.set(site);
+        }
+    }
+
+    fn begin_receive(&mut self, site: u16, chan: u16) {
+        let c = &mut self.chans[chan as usize];
+        if c.stopped {
+            return;
+        }
+        if !c.inside {
+            self.ready.set(site);
+            return;
+        }
+        c.reader = site;
+        if c.sender != NONE {
+            self.ready.set(c.sender);
+        }
+    }
+
+    /// An ALT stands at each guard that is open, unless a condition is a fault.
+    fn begin_alt(&mut self, site: u16) {
+        let Site::Alt(guards) = &self.code.sites[site as usize] else {
+            return;
+        };
+        if guards.iter().any(|g| self.env.cond(&g.cond).is_none()) {
+            return;
+        }
+        for g in guards {
+            let c = &mut self.chans[g.chan as usize];
+            if c.stopped || self.env.cond(&g.cond) != Some(true) {
+                continue;
+            }
+            c.reader = site;
+            if c.inside {
+                if c.sender != NONE {
+                    self.ready.set(c.sender);
+                }
+            } else if self.ends[c.end as usize].held {
+                self.ready.set(site);
+            }
         }
     }
 
@@ -363,74 +412,77 @@ impl Node {
     /// The move of a site that is ready.
     fn step(&mut self, site: u16) -> Act {
         self.last_site = site as usize;
+        self.ready.clear(site);
         match &self.code.sites[site as usize] {
-            Site::Send { chan, value } => {
-                let chan = *chan;
-                let c = &mut self.chans[chan as usize];
-                self.ready.clear(site);
-                let start = c.offered.data.len();
-                if c.inside {
-                    return self.inner(site, chan);
-                }
-                if self.env.message(value, &mut c.offered.data).is_none() {
-                    return Act::Quiet { site };
-                }
-                c.offered.close();
-                let e = &mut self.ends[c.end as usize];
-                e.busy = true;
-                e.out_site = site;
-                e.piece = start;
-                e.limit = c.offered.data.len();
-                let (number, end) = (c.number, c.end);
-                self.queue(end, false);
-                Act::Offer { site, chan: number }
-            }
+            Site::Send { .. } => self.send(site),
             Site::Receive { chan, .. } => {
                 let chan = *chan;
-                self.ready.clear(site);
                 self.want(site, NONE, chan);
-                Act::Want {
-                    site,
-                    chan: self.chans[chan as usize].number,
-                }
+                let chan = self.chans[chan as usize].number;
+                Act::Want { site, chan }
             }
             Site::Stopch { chan } => {
                 let c = &mut self.chans[*chan as usize];
                 c.stopped = true;
-                let number = c.number;
-                self.ready.clear(site);
+                let chan = c.number;
                 if c.inside && c.sender != NONE {
                     self.ready.clear(c.sender);
                 }
                 self.end(site);
-                Act::Stopch { site, chan: number }
+                Act::Stopch { site, chan }
             }
-            Site::Alt(guards) => {
-                let found = guards.iter().position(|g| {
-                    let c = &self.chans[g.chan as usize];
-                    c.reader == site
-                        && !c.inside
-                        && self.ends[c.end as usize].held
-                        && self.env.cond(&g.cond) == Some(true)
-                });
-                let guard = found.unwrap_or(0) as u16;
-                let chan = guards[guard as usize].chan;
-                self.leave_alt(site);
-                self.want(site, guard, chan);
-                Act::Choose {
-                    site,
-                    guard,
-                    chan: self.chans[chan as usize].number,
-                }
-            }
+            Site::Alt(_) => self.choose(site),
             _ => {
-                self.ready.clear(site);
                 self.quiet(site);
                 Act::Quiet { site }
             }
         }
     }
 
+    /// An output begins: its message is logged, and its first piece queued.
+    #[inline]
+    fn send(&mut self, site: u16) -> Act {
+        let Site::Send { chan, value } = &self.code.sites[site as usize] else {
+            return Act::Quiet { site };
+        };
+        let chan = *chan;
+        let c = &mut self.chans[chan as usize];
+        if c.inside {
+            return self.inner(site, chan);
+        }
+        let start = c.offered.data.len();
+        if self.env.message(value, &mut c.offered.data).is_none() {
+            return Act::Quiet { site };
+        }
+        c.offered.close();
+        let e = &mut self.ends[c.end as usize];
+        e.busy = true;
+        e.out_site = site;
+        e.piece = start;
+        e.limit = c.offered.data.len();
+        let (chan, end) = (c.number, c.end);
+        self.queue(end, false);
+        Act::Offer { site, chan }
+    }
+
+    /// An ALT takes the first guard at which a packet is held.
+    fn choose(&mut self, site: u16) -> Act {
+        let Site::Alt(guards) = &self.code.sites[site as usize] else {
+            return Act::Quiet { site };
+        };
+        let found = guards.iter().position(|g| {
+            let c = &self.chans[g.chan as usize];
+            c.reader == site && !c.inside && self.ends[c.end as usize].held && self.env.cond(&g.cond) == Some(true)
+        });
+        let guard = found.unwrap_or(0) as u16;
+        let chan = guards[guard as usize].chan;
+        self.leave_alt(site);
+        self.want(site, guard, chan);
+        let chan = self.chans[chan as usize].number;
+        Act::Choose { site, guard, chan }
+    }
+
+    /// A step of a site without a communication.
     #[inline]
     fn quiet(&mut self, site: u16) {
         match &self.code.sites[site as usize] {
@@ -464,29 +516,30 @@ impl Node {
                 Some(false) => self.end(site),
                 None => {}
             },
-            Site::Count { var, base, count, body } => {
-                let Some(base) = self.env.int(base) else {
-                    return;
-                };
-                let Some(count) = self.env.int(count) else {
-                    return;
-                };
-                if count < 0 {
-                    return;
-                }
-                if count == 0 {
-                    return self.end(site);
-                }
-                if base.checked_add(count - 1).is_none() {
-                    return;
-                }
-                self.env.ints[*var as usize] = base;
-                self.left[site as usize] = count as u64 - 1;
-                let body = *body;
-                self.begin(body);
+            Site::Count { .. } => {
+                let _ = self.begin_count(site);
             }
             _ => self.end(site),
         }
+    }
+
+    /// A replicated SEQ begins its first turn; None at a fault.
+    fn begin_count(&mut self, site: u16) -> Option<()> {
+        let Site::Count { var, base, count, body } = &self.code.sites[site as usize] else {
+            return None;
+        };
+        let base = self.env.int(base)?;
+        let turns = u64::try_from(self.env.int(count)?).ok()?;
+        if turns == 0 {
+            self.end(site);
+            return Some(());
+        }
+        base.checked_add_unsigned(turns - 1)?;
+        self.env.ints[*var as usize] = base;
+        self.left[site as usize] = turns - 1;
+        let body = *body;
+        self.begin(body);
+        Some(())
     }
 
     /// An output inside the node that has a move: its expression's fault, or the meeting.
@@ -562,50 +615,67 @@ impl Node {
         let len = l.in_len as usize;
         l.in_len = 0;
         let block = u16::from_be_bytes([l.in_body[0], l.in_body[1]]) as usize;
-        let Some(&end) = self.end_of_block.get(block).filter(|&&e| e != NONE && len >= 2) else {
-            self.strays += 1;
-            return;
+        let known = self.end_of_block.get(block).filter(|&&e| e != NONE && len >= 2);
+        let is_for_a_half = match known {
+            Some(&end) if len == 2 && !eom => self.acked(end),
+            Some(&end) => self.store(end, link, len, eom),
+            None => false,
         };
-        let e = &mut self.ends[end as usize];
-        let data = &l.in_body[2..len];
-        if data.is_empty() && !eom {
-            // an acknowledge
-            if !e.busy {
-                self.strays += 1;
-            } else if e.limit - e.piece > 32 {
-                e.piece += 32;
-                self.queue(end, false);
-            } else {
-                e.busy = false;
-                let site = e.out_site;
-                self.chans[e.out_chan as usize].finished += 1;
-                self.end(site);
-            }
-        } else if data.len() > 32 || (!eom && data.len() != 32) || e.held || e.in_chan == NONE {
+        if !is_for_a_half {
             self.strays += 1;
-        } else if e.want_site == NONE {
+        }
+    }
+
+    /// An acknowledge: the next piece goes, or the output is finished. It is a stray where nothing is unacknowledged.
+    #[inline]
+    fn acked(&mut self, end: u16) -> bool {
+        let e = &mut self.ends[end as usize];
+        if !e.busy {
+            return false;
+        }
+        if e.limit - e.piece > 32 {
+            e.piece += 32;
+            self.queue(end, false);
+        } else {
+            e.busy = false;
+            let site = e.out_site;
+            self.chans[e.out_chan as usize].finished += 1;
+            self.end(site);
+        }
+        true
+    }
+
+    /// A piece is stored where a process inputs, and else held. It is a stray where one is held, or where it has no lawful length.
+    #[inline]
+    fn store(&mut self, end: u16, link: usize, len: usize, eom: bool) -> bool {
+        let e = &mut self.ends[end as usize];
+        let data = &self.links[link].in_body[2..len];
+        if data.len() > 32 || (!eom && data.len() != 32) || e.held || e.in_chan == NONE {
+            return false;
+        }
+        let chan = e.in_chan;
+        let c = &mut self.chans[chan as usize];
+        if e.want_site == NONE {
             e.held = true;
             e.held_last = eom;
             e.held_len = data.len() as u8;
             e.held_body[..data.len()].copy_from_slice(data);
-            let reader = self.chans[e.in_chan as usize].reader;
-            if reader != NONE {
-                self.ready.set(reader);
+            if c.reader != NONE {
+                self.ready.set(c.reader);
             }
-        } else {
-            let chan = e.in_chan;
-            let c = &mut self.chans[chan as usize];
-            c.taken.data.extend_from_slice(data);
-            let (site, guard) = (e.want_site, e.want_guard);
-            if eom {
-                e.want_site = NONE;
-                c.taken.close();
-            }
-            self.queue(end, true);
-            if eom {
-                self.got(site, guard, chan);
-            }
+            return true;
         }
+        c.taken.data.extend_from_slice(data);
+        let (site, guard) = (e.want_site, e.want_guard);
+        if eom {
+            e.want_site = NONE;
+            c.taken.close();
+        }
+        self.queue(end, true);
+        if eom {
+            self.got(site, guard, chan);
+        }
+        true
     }
 
     #[inline]
@@ -703,35 +773,15 @@ impl Agent for Node {
             self.pass(link);
             return Turn::Local(Act::Pass { link: link as u8 });
         }
-        let mut outs = self.puttable;
-        while outs != 0 {
-            let link = outs.trailing_zeros() as usize;
-            if room(link) {
-                let token = self.put(link);
-                return Turn::Put {
-                    link,
-                    act: Act::Put { link: link as u8 },
-                    token,
-                };
-            }
-            outs &= outs - 1;
+        if let Some(link) = links(self.puttable).find(|&link| room(link)) {
+            let token = self.put(link);
+            let act = Act::Put { link: link as u8 };
+            return Turn::Put { link, act, token };
         }
-        let mut grants = self.grantable;
-        while grants != 0 {
-            let link = grants.trailing_zeros() as usize;
-            if room(link) {
-                let l = &mut self.links[link];
-                l.buffer.grant();
-                if !l.buffer.may_grant() {
-                    self.grantable &= !bit(link);
-                }
-                return Turn::Put {
-                    link,
-                    act: Act::Fct { link: link as u8 },
-                    token: Token::Fct,
-                };
-            }
-            grants &= grants - 1;
+        if let Some(link) = links(self.grantable).find(|&link| room(link)) {
+            self.links[link].buffer.grant();
+            set_bit(&mut self.grantable, link, self.links[link].buffer.may_grant());
+            return Turn::grant(link);
         }
         match self.ready.next(self.last_site.wrapping_add(1)) {
             Some(site) => Turn::Local(self.step(site)),
