@@ -10,7 +10,7 @@ use Rattle.vc_actor.specs.declared.act.Act.TheVariants.{Take}
 use Rattle.vc_actor.specs.declared.act.ActKind.{ActKind}
 use Rattle.vc_core.specs.declared.event.Event.{Event}
 use Rattle.vc_placement.specs.OneNode as one_node
-pub use Rattle.vc_actor.specs.Turns.{RoomLets, IsTurn, FindsTurn, TakesNone, actors, IsPut, MakesTurn}
+pub use Rattle.vc_actor.specs.Turns.{RoomLets, IsTurn, FindsTurn, TakesNone, actors, IsPut, MakesTurn, PutsWithRoom}
 
 -- room has a bit for each link by which a way goes out
 abbrev pub IsRoom : State → ℕ → ℕ → Type 0

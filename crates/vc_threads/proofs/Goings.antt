@@ -242,19 +242,22 @@ module _ (plan : Plan) (k : ℕ) where
         used = used_then plan k n m a.clock a.actor b.actor c.actor p.steps q.steps p.goes.run run p.used (subst (λ w. Used plan k m w b.actor q.steps c.actor) p.goes.clock q.used);
       }
 
-  pub outs_apart : (n : ℕ) (a b : Seen) → Uses plan k n a b → Distinct (out_links a.outs) → Distinct (out_links b.outs)
-  outs_apart n a b p = subst Distinct (sym (outs_same n a b p))
+-- the other end of the same link
+pub same_set : {X : Type 0} (xs : List (ℕ × X)) (k : ℕ) (r y : ℕ × X) → k < length xs → r ≡ get_or xs k r → y.0 ≡ r.0 →
+    map (λ o. o.0) (set xs k y) ≡ map (λ o. o.0) xs
+same_set [] k r y within is link = absurd (omega arith)
+same_set (x ∷ xs) zero r y within is link = ap (λ l. l ∷ map (λ o. o.0) xs) (link ∙ ap (λ o. o.0) is)
+same_set (x ∷ xs) (suc k) r y within is link = ap (λ ls. x.0 ∷ ls) (same_set xs k r y (omega arith) is link)
 
-  pub ins_apart : (n : ℕ) (a b : Seen) → Uses plan k n a b → Distinct (in_links a.ins) → Distinct (in_links b.ins)
-  ins_apart n a b p = subst Distinct (sym (ins_same n a b p))
-
-  pub outs_low : (n : ℕ) (a b : Seen) → Uses plan k n a b → All (λ o. o.0 < 32) a.outs → All (λ o. o.0 < 32) b.outs
-  outs_low n a b p low j d m =
-      let e = zip_length (Sends p.steps) a.outs b.outs p.goes.outs in
-      let l = zip_at (Sends p.steps) a.outs b.outs j d d p.goes.outs (omega arith) in
-      let h = low j d (omega arith) in
-      let same = l.0 in
-      subst (λ (v : ℕ). v < 32) (sym same) h
+-- the ends of the same links are below 32 where these are
+pub low_kept : {X : Type 0} (os ps : List (ℕ × X)) → map (λ o. o.0) ps ≡ map (λ o. o.0) os → All (λ o. o.0 < 32) os → All (λ o. o.0 < 32) ps
+low_kept os ps same low j d within =
+    let n = length_links os in
+    let m = length_links ps in
+    let e = ap length same in
+    let less : j < length os = omega (arith, n, m, e, within) in
+    let at : (get_or ps j d).0 ≡ (get_or os j d).0 = sym (link_at ps j d within) ∙ (ap (λ ls. get_or ls j 0) same ∙ link_at os j d less) in
+    subst (λ (v : ℕ). v < 32) (sym at) (low j d less)
 
 pub stays_same : (a : Seen) → Stays a a
 stays_same a = record { actor = refl; clock = refl; log = refl; outs = zip_same OutLooked looked_same a.outs; ins = zip_same InLooked in_looked_same a.ins }

@@ -100,12 +100,3 @@ finds_quiet plan k n room f (Take l w) own can = absurd own
 finds_quiet plan k n room f (Put l) own can = absurd own
 finds_quiet plan k n room f (Fct l) own can = absurd own
 finds_quiet plan k n room f (Route i o) own can = f (Route i o) (record { can = can; lets = tt })
-
--- a put goes to a link with room
-pub put_room : (plan : Plan) (k link room : ℕ) (old : Acting) (act : Act) (item : Token) (new : Acting) → IsPut plan k old link act item new → RoomLets room act → bit_at room link ≡ 1
-put_room plan k link room old (Put l) item new p lets = subst (λ x. bit_at room x ≡ 1) (sym p.0) lets
-put_room plan k link room old (Fct l) item new p lets = subst (λ x. bit_at room x ≡ 1) (sym p.0) lets
-put_room plan k link room old (Proc m) item new p lets = absurd p
-put_room plan k link room old (Take l w) item new p lets = absurd p
-put_room plan k link room old (Pass l) item new p lets = absurd p
-put_room plan k link room old (Route i o) item new p lets = absurd p

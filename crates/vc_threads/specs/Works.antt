@@ -55,6 +55,10 @@ pub record Seen : Type 0 where
 abbrev pub desk : Desk → Seen
 desk d = record { actor = d.actor; clock = d.clock; log = d.acts.items; outs = d.ends.outs.items; ins = d.ends.ins.items; words = d.words }
 
+-- the ends are of the same links, in order
+abbrev pub SameLinks : Seen → Seen → Type 0
+SameLinks a b = (out_links b.outs ≡ out_links a.outs) × (in_links b.ins ≡ in_links a.ins)
+
 -- what is logged of a step
 abbrev pub logged : Turn Act Token → ℕ × Act
 logged t = (t.at, act_of t.it)

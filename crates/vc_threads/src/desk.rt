@@ -159,6 +159,7 @@ fn take_front(
     requires { CanTake actor.old end.old }
     ensures ok { (plan : Plan) (k : ℕ) → IsActorOf plan k actor.old → IfOk result (λ made. TakesFront plan k actor.old clock word end.old made actor.new end.new) }
     ensures err { OnErr result ((actor.new ≡ actor.old) × (end.new ≡ end.old)) }
+    ensures link { end.new.0 ≡ end.old.0 }
     ensures why { IfErr result (λ why. why ≢ Stop.Turns) }
     ensures full { IfErr result (λ why. why ≡ Stop.Clock → IsGreatest clock ⊎ IsLate end.new) }
 {
@@ -194,7 +195,7 @@ impl Desk {
     ghost use Rattle.vc_network.specs.Plan.{Plan};
     ghost use Rattle.vc_threads.specs.Runs.{HasNoStep, generator};
     ghost use Rattle.vc_threads.specs.Wires.{Distinct, in_links, out_links};
-    ghost use Rattle.vc_threads.specs.Works.{CanTake, IsFull, IsOfSomePlan, Uses, Stays, desk};
+    ghost use Rattle.vc_threads.specs.Works.{CanTake, IsFull, SameLinks, Uses, Stays, desk};
 
     /// An actor that did nothing yet. Its words are those of the generator of this seed and number.
     pub(crate) fn new(alloc: Global, id: u8, actor: Actor, ends: Ends, seed: u32) -> Desk
@@ -267,6 +268,7 @@ impl Desk {
         requires room { vec_len self.old.acts < vec_capacity self.old.acts }
         ensures done { (plan : Plan) (n : ℕ) → IsActorOf plan n self.old.actor → OnOk result (Uses plan n 1 (desk self.old) (desk self.new)) }
         ensures stopped { OnErr result (Stays (desk self.old) (desk self.new)) }
+        ensures ends { SameLinks (desk self.old) (desk self.new) }
         ensures why { IfErr result (λ why. why ≢ Stop.Turns) }
         ensures full { IfErr result (λ why. why ≡ Stop.Clock → IsFull self.new.clock self.new.ends.ins.items) }
         ensures rests { (plan : Plan) (n : ℕ) → IsActorOf plan n self.new.actor → IfOk result (λ rested. IfSome rested (λ room. HasNoStep plan n self.new.actor)) }
@@ -279,13 +281,13 @@ impl Desk {
 
     // What the actor does where it takes nothing. It is not asked where it had no step with this room before.
     fn make_turn(&mut self, rested: Option<u32>) -> Result<Option<u32>, Stop>
-        requires actor { IsOfSomePlan self.old.actor }
         requires links { Distinct (out_links self.old.ends.outs.items) }
         requires low { All (λ o. o.0 < 32) self.old.ends.outs.items }
         requires room { vec_len self.old.acts < vec_capacity self.old.acts }
         requires rests { (plan : Plan) (n : ℕ) → IsActorOf plan n self.old.actor → IfSome rested (λ room. HasNoStep plan n self.old.actor) }
         ensures done { (plan : Plan) (n : ℕ) → IsActorOf plan n self.old.actor → OnOk result (Uses plan n 1 (desk self.old) (desk self.new)) }
         ensures stopped { OnErr result (Stays (desk self.old) (desk self.new)) }
+        ensures ends { SameLinks (desk self.old) (desk self.new) }
         ensures why { IfErr result (λ why. why ≢ Stop.Turns) }
         ensures full { IfErr result (λ why. why ≡ Stop.Clock → IsFull self.new.clock self.new.ends.ins.items) }
         ensures rests { (plan : Plan) (n : ℕ) → IsActorOf plan n self.new.actor → IfOk result (λ rested. IfSome rested (λ room. HasNoStep plan n self.new.actor)) }
@@ -320,13 +322,13 @@ impl Desk {
     /// One turn: the take of an item from the least link that may take one and whose ring has one, or else what the actor does. The
     /// answer is the room with which the actor has no step, where that is known, and the next turn is given it.
     pub(crate) fn turn(&mut self, rested: Option<u32>) -> Result<Option<u32>, Stop>
-        requires actor { IsOfSomePlan self.old.actor }
         requires outs { Distinct (out_links self.old.ends.outs.items) }
         requires ins { Distinct (in_links self.old.ends.ins.items) }
         requires low { All (λ o. o.0 < 32) self.old.ends.outs.items }
         requires rests { (plan : Plan) (n : ℕ) → IsActorOf plan n self.old.actor → IfSome rested (λ room. HasNoStep plan n self.old.actor) }
         ensures done { (plan : Plan) (n : ℕ) → IsActorOf plan n self.old.actor → OnOk result (Uses plan n 1 (desk self.old) (desk self.new)) }
         ensures stopped { OnErr result (Stays (desk self.old) (desk self.new)) }
+        ensures ends { SameLinks (desk self.old) (desk self.new) }
         ensures why { IfErr result (λ why. why ≢ Stop.Turns) }
         ensures full { IfErr result (λ why. why ≡ Stop.Clock → IsFull self.new.clock self.new.ends.ins.items) }
         ensures rests { (plan : Plan) (n : ℕ) → IsActorOf plan n self.new.actor → IfOk result (λ rested. IfSome rested (λ room. HasNoStep plan n self.new.actor)) }

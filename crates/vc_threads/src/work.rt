@@ -4,7 +4,7 @@ ghost use Rattle.std.specs.List.{All};
 ghost use Rattle.vc_core.specs.OfPlan.{IsActorOf};
 ghost use Rattle.vc_network.specs.Plan.{Plan};
 ghost use Rattle.vc_threads.specs.Wires.{Distinct, out_links, in_links};
-ghost use Rattle.vc_threads.specs.Works.{IsOfSomePlan, HasRun};
+ghost use Rattle.vc_threads.specs.Works.{HasRun};
 
 use crate::desk::Desk;
 use crate::gate::Gate;
@@ -20,8 +20,7 @@ const SPINS: u32 = 4;
 /// Runs an actor for at most so many turns, as long as the gate lets it. In a turn it takes the item of the least link from which it may and whose
 /// ring has one, or else does what [`Actor::turn`] does. The actor's number is the stream of the generator of its takes' words.
 ///
-/// The actor is one of a plan, no link stands twice among the ends that go out or among those that come in, and each that goes out is below
-/// 32. The clock at `u64::MAX` ends the worker before the act, and so does want of memory.
+/// No link stands twice among the ends that go out or among those that come in, and each that goes out is below 32. The clock at `u64::MAX` ends the worker before the act, and so does want of memory.
 pub fn worker<G: Gate>(
     alloc: Global,
     id: u8,
@@ -31,7 +30,6 @@ pub fn worker<G: Gate>(
     turns: u64,
     seed: u32,
 ) -> ActorRun
-    requires actor { IsOfSomePlan actor }
     requires outs { Distinct (out_links ends.outs.items) }
     requires ins { Distinct (in_links ends.ins.items) }
     requires low { All (λ o. o.0 < 32) ends.outs.items }

@@ -1,44 +1,26 @@
-use Rattle.std.proofs.Common.{◌≡◌, ◌<◌, sym, ◌∙◌, subst, arith}
+use Rattle.std.proofs.Common.{◌≡◌, ◌<◌, refl, sym, ◌∙◌, subst, arith}
 use Rattle.std.specs.List.{All}
 use Rattle.vc_core.specs.OfPlan.{IsActorOf}
 use Rattle.vc_threads.specs.Wires.{Distinct, out_links, in_links}
 use Rattle.vc_threads.specs.Works.{desk}
 use Rattle.vc_threads.specs.declared.run.Stop.TheVariants.{Turns, Gate, Clock}
-use Rattle.vc_threads.proofs.Goings.{uses_zero, uses_then, outs_apart, ins_apart, outs_low, actor_kept, stays_same, has_run}
+use Rattle.vc_threads.proofs.Goings.{uses_zero, uses_then, low_kept, actor_kept, stays_same, has_run}
 use Rattle.vc_threads.proofs.work.worker.Goals as goal
 
 pub loop-turn-init : goal.loop-turn-init
-loop-turn-init g c = record { run = λ plan n of. uses_zero plan n (desk c.new-desk.result); rests = λ plan n of. tt }
-
-pub turn-requires-clause-actor : goal.turn-requires-clause-actor
-turn-requires-clause-actor g c =
-    let plan = c.requires.actor.0 in
-    let k = c.requires.actor.1 in
-    let of = subst (λ a. IsActorOf plan k a) (sym c.new-desk.ensures.actor) c.requires.actor.2 in
-    (plan, k, actor_kept plan k c.loop-turn.turn (desk c.new-desk.result) (desk c.loop-turn.desk) (c.loop-turn.invariant.run plan k of) of)
+loop-turn-init g c = record { run = λ plan n of. uses_zero plan n (desk c.new-desk.result); ends = (refl, refl); rests = λ plan n of. tt }
 
 pub turn-requires-clause-outs : goal.turn-requires-clause-outs
 turn-requires-clause-outs g c =
-    let plan = c.requires.actor.0 in
-    let k = c.requires.actor.1 in
-    let of = subst (λ a. IsActorOf plan k a) (sym c.new-desk.ensures.actor) c.requires.actor.2 in
-    outs_apart plan k c.loop-turn.turn (desk c.new-desk.result) (desk c.loop-turn.desk) (c.loop-turn.invariant.run plan k of)
-    (subst (λ e. Distinct (out_links e.outs.items)) (sym c.new-desk.ensures.ends) c.requires.outs)
+    subst Distinct (sym c.loop-turn.invariant.ends.0) (subst (λ e. Distinct (out_links e.outs.items)) (sym c.new-desk.ensures.ends) c.requires.outs)
 
 pub turn-requires-clause-ins : goal.turn-requires-clause-ins
 turn-requires-clause-ins g c =
-    let plan = c.requires.actor.0 in
-    let k = c.requires.actor.1 in
-    let of = subst (λ a. IsActorOf plan k a) (sym c.new-desk.ensures.actor) c.requires.actor.2 in
-    ins_apart plan k c.loop-turn.turn (desk c.new-desk.result) (desk c.loop-turn.desk) (c.loop-turn.invariant.run plan k of)
-    (subst (λ e. Distinct (in_links e.ins.items)) (sym c.new-desk.ensures.ends) c.requires.ins)
+    subst Distinct (sym c.loop-turn.invariant.ends.1) (subst (λ e. Distinct (in_links e.ins.items)) (sym c.new-desk.ensures.ends) c.requires.ins)
 
 pub turn-requires-clause-low : goal.turn-requires-clause-low
 turn-requires-clause-low g c =
-    let plan = c.requires.actor.0 in
-    let k = c.requires.actor.1 in
-    let of = subst (λ a. IsActorOf plan k a) (sym c.new-desk.ensures.actor) c.requires.actor.2 in
-    outs_low plan k c.loop-turn.turn (desk c.new-desk.result) (desk c.loop-turn.desk) (c.loop-turn.invariant.run plan k of)
+    low_kept (desk c.new-desk.result).outs (desk c.loop-turn.desk).outs c.loop-turn.invariant.ends.0
     (subst (λ e. All (λ o. o.0 < 32) e.outs.items) (sym c.new-desk.ensures.ends) c.requires.low)
 
 pub returns-then-not-pass-clause-run : goal.returns-then-not-pass-clause-run
@@ -65,6 +47,7 @@ loop-turn-preserved g c = record {
       let p = c.loop-turn.invariant.run plan n of in
       uses_then plan n c.loop-turn.turn 1 (desk c.new-desk.result) (desk c.loop-turn.desk) (desk c.turn.new.self) p
       (c.in-Ok.ensures.done plan n (actor_kept plan n c.loop-turn.turn (desk c.new-desk.result) (desk c.loop-turn.desk) p of));
+  ends = (c.in-Ok.ensures.ends.0 ∙ c.loop-turn.invariant.ends.0, c.in-Ok.ensures.ends.1 ∙ c.loop-turn.invariant.ends.1);
   rests = λ plan n of. c.in-Ok.ensures.rests plan n of;
 }
 

@@ -2,17 +2,18 @@ use Rattle.std.proofs.Common.{◌≡◌, ℕ, refl, sym, subst, get_or, ap, ◌�
 use Rattle.std.proofs.Math.ListN.{set}
 use Rattle.vc_actors.specs.Actors.Label.{Own, Puts}
 use Rattle.vc_actors.specs.LocalRun.{Turn}
+use Rattle.vc_actor.specs.Turns.{PutsWithRoom}
 use Rattle.vc_core.specs.Turns.{MakesTurn, IsPut}
 use Rattle.vc_actor.specs.declared.act.Act.{Act}
 use Rattle.vc_tokens.specs.declared.token.Token.{Token}
 use Rattle.vc_threads.specs.declared.link.Stamped.{Stamped}
 use Rattle.vc_threads.specs.Stamps.{stamped}
 use Rattle.vc_threads.specs.Wires.{OutLooked, InLooked, HasRoom, Distinct, IsAmong}
-use Rattle.vc_threads.specs.Works.{Out, Uses, desk}
+use Rattle.vc_threads.specs.Works.{Out, SameLinks, Uses, desk}
 use Rattle.vc_threads.proofs.Zips.{zip_same}
 use Rattle.vc_threads.proofs.Looks.{looked_same, in_looked_same}
-use Rattle.vc_threads.proofs.Steps.{finds_quiet, put_room}
-use Rattle.vc_threads.proofs.Goings.{among, uses_idle, uses_one, sends_one, sends_quiet, receives_quiet, looked_sends, looked_out_links}
+use Rattle.vc_threads.proofs.Steps.{finds_quiet}
+use Rattle.vc_threads.proofs.Goings.{among, uses_idle, uses_one, sends_one, sends_quiet, receives_quiet, looked_sends, looked_out_links, same_set}
 use Rattle.vc_threads.proofs.Backs.{same_back, zip_back}
 use Rattle.vc_threads.proofs.Outcomes.{of_some}
 use Rattle.vc_core.specs.OfPlan.{IsActorOf}
@@ -53,8 +54,7 @@ returns-then-is_same-clause-done c = λ plan n of.
 pub returns-in-Ok-Idle-clause-rests : goal.returns-in-Ok-Idle-clause-rests
 returns-in-Ok-Idle-clause-rests c = λ plan n of.
     let a = c.args.self.now in
-    let k = c.requires.actor in
-    let same : c.turn.new.self ≡ a.actor = (subst (λ t. MakesTurn k.0 k.1 a.actor c.room_of-room.result t c.turn.new.self) c.in-Ok-Idle.field-0-is (c.in-Ok-Idle.ensures.makes k.0 k.1 k.2)).0 in
+    let same : c.turn.new.self ≡ a.actor = c.in-Ok-Idle.ensures.idle c.in-Ok-Idle.field-0-is in
     let of' : IsActorOf plan n a.actor = subst (IsActorOf plan n) same of in
     let did = subst (λ t. MakesTurn plan n a.actor c.room_of-room.result t c.turn.new.self) c.in-Ok-Idle.field-0-is (c.in-Ok-Idle.ensures.makes plan n of') in
     subst (HasNoStep plan n) (sym same) (finds_quiet plan n a.actor c.room_of-room.result did.1)
@@ -62,12 +62,9 @@ returns-in-Ok-Idle-clause-rests c = λ plan n of.
 pub find_out-k-requires : goal.find_out-k-requires
 find_out-k-requires c =
     let a = c.args.self.now in
-    let plan = c.requires.actor.0 in
-    let k = c.requires.actor.1 in
     let e = same_back OutLooked a.ends.outs.len a.ends.outs.items c.as_mut_slice.result.now c.room_of-room.new.outs a.ends.outs.ok.0 c.as_mut_slice.ensures.value c.room_of-room.ensures.looked in
-    let did = subst (λ t. MakesTurn plan k a.actor c.room_of-room.result t c.turn.new.self) c.in-Ok-Put.field-0-is (c.in-Ok-Put.ensures.makes plan k c.requires.actor.2) in
     subst (λ w. HasRoom w c.in-Ok-Put.link) (sym e ∙ sym c.as_slice.ensures.value)
-    (c.room_of-room.ensures.room c.in-Ok-Put.link (put_room plan k c.in-Ok-Put.link c.room_of-room.result a.actor c.in-Ok-Put.act c.in-Ok-Put.item c.turn.new.self did.1 did.0.lets))
+    (c.room_of-room.ensures.room c.in-Ok-Put.link (subst (PutsWithRoom c.room_of-room.result) c.in-Ok-Put.field-0-is c.in-Ok-Put.ensures.room))
 
 pub returns-in-Ok-Idle-clause-done : goal.returns-in-Ok-Idle-clause-done
 returns-in-Ok-Idle-clause-done c = λ plan n of.
@@ -122,3 +119,44 @@ returns-then-is_same-clause-full c = tt
 
 pub returns-then-is_same-clause-stopped : goal.returns-then-is_same-clause-stopped
 returns-then-is_same-clause-stopped c = tt
+
+pub returns-in_default-clause-ends : goal.returns-in_default-clause-ends
+returns-in_default-clause-ends c = (refl, refl)
+
+pub returns-then-is_same-clause-ends : goal.returns-then-is_same-clause-ends
+returns-then-is_same-clause-ends c =
+    let a = c.args.self.now in
+    let mid = take a.ends.outs.len (c.room_of-room.new.outs ++ drop (length c.room_of-room.new.outs) a.ends.outs.items) in
+    let outs' = zip_back OutLooked a.ends.outs.len a.ends.outs.items c.as_mut_slice.result.now c.room_of-room.new.outs a.ends.outs.ok.0 c.as_mut_slice.ensures.value c.room_of-room.ensures.looked in
+    (looked_out_links a.ends.outs.items mid outs', refl)
+
+pub returns-in-Ok-Idle-clause-ends : goal.returns-in-Ok-Idle-clause-ends
+returns-in-Ok-Idle-clause-ends c =
+    let a = c.args.self.now in
+    let mid = take a.ends.outs.len (c.room_of-room.new.outs ++ drop (length c.room_of-room.new.outs) a.ends.outs.items) in
+    let outs' = zip_back OutLooked a.ends.outs.len a.ends.outs.items c.as_mut_slice.result.now c.room_of-room.new.outs a.ends.outs.ok.0 c.as_mut_slice.ensures.value c.room_of-room.ensures.looked in
+    (looked_out_links a.ends.outs.items mid outs', refl)
+
+pub returns-in-Ok-Local-clause-ends : goal.returns-in-Ok-Local-clause-ends
+returns-in-Ok-Local-clause-ends c =
+    let a = c.args.self.now in
+    let mid = take a.ends.outs.len (c.room_of-room.new.outs ++ drop (length c.room_of-room.new.outs) a.ends.outs.items) in
+    let outs' = zip_back OutLooked a.ends.outs.len a.ends.outs.items c.as_mut_slice.result.now c.room_of-room.new.outs a.ends.outs.ok.0 c.as_mut_slice.ensures.value c.room_of-room.ensures.looked in
+    subst (SameLinks (desk a)) (sym c.log.ensures) (looked_out_links a.ends.outs.items mid outs', refl)
+
+pub returns-in-Ok-Put-clause-ends : goal.returns-in-Ok-Put-clause-ends
+returns-in-Ok-Put-clause-ends c =
+    let a = c.args.self.now in
+    let mid = take a.ends.outs.len (c.room_of-room.new.outs ++ drop (length c.room_of-room.new.outs) a.ends.outs.items) in
+    let outs' = zip_back OutLooked a.ends.outs.len a.ends.outs.items c.as_mut_slice.result.now c.room_of-room.new.outs a.ends.outs.ok.0 c.as_mut_slice.ensures.value c.room_of-room.ensures.looked in
+    let k = c.find_out-k.result in
+    let within : k < length mid = subst (λ w. k < length w) c.as_slice.ensures.value c.find_out-k.ensures.within in
+    subst (SameLinks (desk a)) (sym c.log-in-Ok-Put.ensures)
+    (same_set mid k c.index_mut.result.now c.put_item.new.end within c.index_mut.ensures.value c.put_item.ensures.link ∙ looked_out_links a.ends.outs.items mid outs', refl)
+
+pub returns-in-Err-clause-ends : goal.returns-in-Err-clause-ends
+returns-in-Err-clause-ends c =
+    let a = c.args.self.now in
+    let mid = take a.ends.outs.len (c.room_of-room.new.outs ++ drop (length c.room_of-room.new.outs) a.ends.outs.items) in
+    let outs' = zip_back OutLooked a.ends.outs.len a.ends.outs.items c.as_mut_slice.result.now c.room_of-room.new.outs a.ends.outs.ok.0 c.as_mut_slice.ensures.value c.room_of-room.ensures.looked in
+    (looked_out_links a.ends.outs.items mid outs', refl)

@@ -1,4 +1,4 @@
-use Rattle.std.proofs.Common.{sym, subst, ◌++◌, take, drop, length}
+use Rattle.std.proofs.Common.{refl, sym, ◌∙◌, subst, ◌++◌, take, drop, length}
 use Rattle.std.specs.List.{HoldsAt}
 use Rattle.vc_threads.specs.Wires.{InLooked, Distinct}
 use Rattle.vc_threads.specs.Works.{Seen, CanTake, desk}
@@ -54,3 +54,18 @@ take_from-requires-clause-can c =
     let ins = a.ends.ins in
     let same = same_back InLooked ins.len ins.items c.as_mut_slice.result.now c.find_in.new.ins ins.ok.0 c.as_mut_slice.ensures.value c.find_in.ensures.looked in
     subst (λ w. HoldsAt (CanTake a.actor) w c.in-Some.k) (sym same) c.in-Some.ensures.can.1
+
+pub returns-then-capacity-len-clause-ends : goal.returns-then-capacity-len-clause-ends
+returns-then-capacity-len-clause-ends c = (refl, refl)
+
+pub returns-in-Some-clause-ends : goal.returns-in-Some-clause-ends
+returns-in-Some-clause-ends c =
+    let ins = c.args.self.now.ends.ins in
+    let z = zip_back InLooked ins.len ins.items c.as_mut_slice.result.now c.find_in.new.ins ins.ok.0 c.as_mut_slice.ensures.value c.find_in.ensures.looked in
+    (c.take_from.ensures.ends.0, c.take_from.ensures.ends.1 ∙ looked_in_links ins.items (take ins.len (c.find_in.new.ins ++ drop (length c.find_in.new.ins) ins.items)) z)
+
+pub returns-in-None-clause-ends : goal.returns-in-None-clause-ends
+returns-in-None-clause-ends c =
+    let ins = c.args.self.now.ends.ins in
+    let z = zip_back InLooked ins.len ins.items c.as_mut_slice.result.now c.find_in.new.ins ins.ok.0 c.as_mut_slice.ensures.value c.find_in.ensures.looked in
+    (c.make_turn.ensures.ends.0, c.make_turn.ensures.ends.1 ∙ looked_in_links ins.items (take ins.len (c.find_in.new.ins ++ drop (length c.find_in.new.ins) ins.items)) z)
