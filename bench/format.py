@@ -1,5 +1,6 @@
 #!/usr/bin/env python3
-"""Holds the examples of docs/FORMAT.md against examples/: bench/format.py. It prints a line for each of these, and fails where there is one:
+"""Holds the examples of docs/FORMAT.md, and the blocks of docs/TUTORIAL.md, against examples/: bench/format.py. It prints a line for each of
+these, and fails where there is one:
 
 - a row of a table whose first column is "Example": a piece in it that its network's file has not, words with which examples/index.txt
   does not run that file, a line that is not printed there, or another status;
@@ -16,6 +17,7 @@ import sys
 
 ROOT = os.path.dirname(os.path.dirname(os.path.abspath(__file__)))
 PAGE = "docs/FORMAT.md"
+TUTORIAL = "docs/TUTORIAL.md"
 PRINTED = re.compile(r"(channel|refused|cycle|free|accepted|end)\b")
 # What the examples of the page must show: words of processes, operators, relations, connectives, bytes.
 WORDS = '"skip" "stop" "set" "out" "in" "stopch" "seq" "par" "if" "while" "for" "alt" "+" "-" "*" "/" "\\\\" "size" "=" "<>" "<" ">" "<=" ">="'
@@ -95,8 +97,9 @@ def main():
     rows = rows_of(page)
     told = [fault for cells in rows for fault in wrong_row(cells, printed)]
     told += [*wrong_blocks(page, printed), *not_shown(rows, printed)]
-    print("\n".join([*told, f"{PAGE}: {len(told)} faults"]))
-    return 1 if told else 0
+    taught = [*wrong_blocks(text_of(TUTORIAL), printed)]
+    print("\n".join([*told, f"{PAGE}: {len(told)} faults", *taught, f"{TUTORIAL}: {len(taught)} faults"]))
+    return 1 if told or taught else 0
 
 
 if __name__ == "__main__":
