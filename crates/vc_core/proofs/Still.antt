@@ -1,5 +1,5 @@
 -- In a network whose ways have ranks every packet is held at its receiver where only processes can make events.
-use Rattle.std.proofs.Common.{◌≡◌, ℕ, zero, suc, ◌+◌, ◌*◌, ◌/◌, ◌%◌, ◌<◌, ◌≤◌, Bool, true, false, ◌==◌, inl, inr, List, [], ◌∷◌, ◌++◌, length, map, slice_get, Option, Some, None, refl, sym, ap, subst, ◌∙◌, arith, le_refl}
+use Rattle.std.proofs.Common.{◌≡◌, ℕ, zero, suc, ◌+◌, ◌/◌, ◌%◌, ◌<◌, ◌≤◌, Bool, true, false, ◌==◌, inl, inr, List, [], ◌++◌, length, map, slice_get, Option, Some, None, refl, sym, ap, subst, ◌∙◌, arith, le_refl}
 use Rattle.std.proofs.lemmas.Bool.Decides.{nat_tests}
 use Rattle.std.proofs.lemmas.List.Elements.{All-from_recursion, All-contains}
 use Rattle.std.specs.List.{AllByRecursion, Contains}
@@ -28,9 +28,9 @@ use Rattle.vc_actors.specs.Actors.{Network}
 use Rattle.vc_network.specs.Network.{Actor, begins}
 use Rattle.vc_network.specs.Plan.{Way, back, body_limit, ends, home, near, far, ways, switch_plan, net_of, IsOutOf, IsInto}
 use Rattle.vc_network.specs.Plan as network
-use Rattle.vc_network.specs.Views.{vcp_of, switch_of, vcps, switches, sink_node, queue_at, in_ways, in_halves, everywhere}
+use Rattle.vc_network.specs.Views.{vcp_of, switch_of, vcps, switches, sink_node, queue_at, in_halves, everywhere}
 use Rattle.vc_network.proofs.Able.{node_passes, node_puts, node_grants, switch_passes, switch_puts, switch_routes, switch_grants}
-use Rattle.vc_network.proofs.Backs.{back_real, back_out, back_into}
+use Rattle.vc_network.proofs.Backs.{back_real, back_out}
 use Rattle.vc_network.proofs.Fitting.{has_headers}
 use Rattle.vc_network.proofs.Main.{Ran, good_start, ran, same_ways, packets}
 use Rattle.vc_network.proofs.Replays.{replayed}
@@ -44,7 +44,7 @@ use Rattle.vc_plan.specs.declared.plan.Plan.{Plan}
 use Rattle.vc_plan.specs.declared.port.Spot.{Spot}
 use Rattle.vc_plan.specs.declared.port.Spot.TheVariants.{Node as AtSpot, Switch}
 use Rattle.vc_plan.specs.declared.port.Wire.{Wire}
-use Rattle.vc_switch.specs.State.{State as SwitchState, plan_of, limit_of}
+use Rattle.vc_switch.specs.State.{State as SwitchState, plan_of}
 use Rattle.vc_switch.specs.Seen.{seen as seen_switch}
 use Rattle.vc_switch.specs.Able as switch_able
 use Rattle.vc_switch.specs.Waiting.{Wormhole}

@@ -13,6 +13,7 @@ use Rattle.vc_network.specs.Views.{view, sink_node, vcps, switches, queue_at, ar
 use Rattle.vc_plan.specs.declared.plan.Plan.{Plan as Given}
 use Rattle.vc_accepted.specs.NetworkOf.{network_of}
 use Rattle.vc_core.specs.Sought.{Has, IsOwned}
+use Rattle.vc_core.specs.Enabled.{NetworkState}
 use Rattle.vc_core.specs.State.{State, shown}
 use Rattle.vc_core.specs.declared.place.Place.{Place as Name}
 use Rattle.vc_core.specs.declared.place.Place.TheVariants as name
@@ -35,8 +36,11 @@ FindsPlace p s c None = (place : Place) → Stands p s c place → ⊥
 FindsPlace p s c (Some x) = (place : Place) × Stands p s c place × IsNamed (network_of p) place x
 
 -- one output on the channel is not finished
+abbrev pub IsUnfinishedIn : Given → NetworkState → ℕ → Type 0
+IsUnfinishedIn p x c = length (view (network_of p) x c).offered ≡ suc (view (network_of p) x c).finished
+
 abbrev pub IsUnfinished : Given → State → ℕ → Type 0
-IsUnfinished p s c = length (view (network_of p) (shown s) c).offered ≡ suc (view (network_of p) (shown s) c).finished
+IsUnfinished p s c = IsUnfinishedIn p (shown s) c
 
 -- each packet in a queue, on a way or in a switch belongs to a channel, and is no longer than the limit
 abbrev pub AreOwned : {P : Type 0} → Plan → Network (Actor P) Token → Type 0

@@ -7,7 +7,8 @@ use Rattle.vc_plan.specs.declared.plan.Plan.{Plan}
 use Rattle.vc_accepted.specs.NetworkOf.{network_of}
 use Rattle.vc_switch.specs.Waiting.{Wormhole}
 use Rattle.vc_told.specs.Begin.{begin_of}
-use Rattle.vc_core.specs.Enabled.{CanHappen}
+use Rattle.vc_core.specs.Enabled.{NetworkState, CanHappen}
+use Rattle.vc_plan.specs.Accepted.{IsAccepted}
 use Rattle.vc_told.specs.Process.{does}
 use Rattle.vc_core.specs.State.{State, shown, event_of, state_of, IsNetworkOf}
 use Rattle.vc_core.specs.declared.event.Event.{Event}
@@ -25,6 +26,14 @@ pub record IsOpening (p : Plan) (s : State) : Type 0 where
 pub record Reached (p : Plan) (events : List Event) (s : State) : Type 0 where
   pub is : IsNetworkOf p s
   pub happen : HappenAll (network_of p) Wormhole does (begins (network_of p) (begin_of p)) (map event_of events) (shown s)
+
+-- these events lead from the opening state of an accepted plan to this one. There the headline holds, and one list tells all that the nodes
+-- communicated, which has a linearization
+pub record RunsTo (p : Plan) (events : List Event) (x : NetworkState) : Type 0 where
+  pub accepted : IsAccepted p
+  pub happen : HappenAll (network_of p) Wormhole does (begins (network_of p) (begin_of p)) (map event_of events) x
+  pub headline : Headline (network_of p) Wormhole does x
+  pub linearizes : Linearizes p x
 
 -- and there the headline holds, and one list tells all that the nodes communicated, which has a linearization: each message passes at
 -- one moment, and each node's part is a trace of its process

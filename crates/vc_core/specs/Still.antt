@@ -1,5 +1,5 @@
 -- Where no event can happen but moves of processes, and where the packets are then.
-use Rattle.std.specs.Prelude.{◌≡◌, ℕ, ◌<◌, Bool, false, List, [], ◌∷◌, length, Some}
+use Rattle.std.specs.Prelude.{◌≡◌, ℕ, ◌<◌, Bool, false, List, [], length, Some}
 use Rattle.std.specs.List.{Contains}
 use Rattle.vc_actors.specs.Actors.{Network}
 use Rattle.vc_packets.specs.declared.packet.Packet.{Packet}
@@ -13,8 +13,8 @@ use Rattle.vc_plan.specs.Dependencies.{HasRanks}
 use Rattle.vc_plan.specs.declared.plan.Plan.{Plan as Given}
 use Rattle.vc_actor.specs.declared.act.Act.{Act}
 use Rattle.vc_actor.specs.declared.act.Act.TheVariants.{Proc, Take, Put, Route, Fct, Pass}
-use Rattle.vc_core.specs.Enabled.{CanHappen}
-use Rattle.vc_core.specs.Placed.{IsUnfinished}
+use Rattle.vc_core.specs.Enabled.{NetworkState, CanHappen}
+use Rattle.vc_core.specs.Placed.{IsUnfinishedIn}
 use Rattle.vc_core.specs.Replaying.{Reached}
 use Rattle.vc_core.specs.State.{State, shown}
 use Rattle.vc_core.specs.declared.event.Event.{Event}
@@ -55,10 +55,11 @@ pub record IsUnasked {P : Type 0} (plan : Plan) (s : Network (Actor P) Token) (c
   pub unasked : ((vcps s (sink_node plan (home plan c))).carrier.into c).wants ≡ false
 
 -- Every packet is held at its receiver, and no way carries a token. The packet of each unfinished output is held where no process inputs.
-pub record IsHeldUp (p : Given) (s : State) : Type 0 where
-  pub packets : AllIsHeld (network_of p) (shown s)
-  pub outputs : (c v : ℕ) (ab : Bool) → home (network_of p) c ≡ Way v ab → c < length (network_of p).channels → IsUnfinished p s c → IsUnasked (network_of p) (shown s) c
+pub record IsHeldUp (p : Given) (x : NetworkState) : Type 0 where
+  pub packets : AllIsHeld (network_of p) x
+  pub outputs : (c v : ℕ) (ab : Bool) → home (network_of p) c ≡ Way v ab → c < length (network_of p).channels →
+      IsUnfinishedIn p x c → IsUnasked (network_of p) x c
 
 -- wherever a run has come, if the network's ports have ranks, and no event can happen but moves of processes, it is held up so
 abbrev pub OnlyProcessesHold : Type 0
-OnlyProcessesHold = (p : Given) (made : List Event) (s : State) → HasRanks p → Reached p made s → OnlyMoves p s → IsHeldUp p s
+OnlyProcessesHold = (p : Given) (made : List Event) (s : State) → HasRanks p → Reached p made s → OnlyMoves p s → IsHeldUp p (shown s)

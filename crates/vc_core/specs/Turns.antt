@@ -1,7 +1,7 @@
 -- What an actor's turn is to the network; and when no event can happen at all.
-use Rattle.std.specs.Prelude.{◌≡◌, ◌↔◌, ℕ, ◌<◌, length, Bool, true, false, Option, Some, None}
+use Rattle.std.specs.Prelude.{◌≡◌, ◌↔◌, ℕ, ◌<◌, Bool, true, false, Option, Some, None}
 use Rattle.vc_plan.specs.declared.plan.Plan.{Plan as Given}
-use Rattle.vc_core.specs.Enabled.{CanHappen}
+use Rattle.vc_core.specs.Enabled.{NetworkState, CanHappenIn, CanHappen}
 use Rattle.std.specs.Int.{bit_at}
 use Rattle.vc_core.specs.State.{State, shown, HasFront, HasWay}
 use Rattle.vc_actor.specs.Turns.{kind_of}
@@ -42,8 +42,11 @@ pub record Rests (p : Given) (s : State) (k : ℕ) : Type 0 where
   pub acts : FindsEvent p s k None
 
 -- no event can happen
+abbrev pub IsAtRestIn : Given → NetworkState → Type 0
+IsAtRestIn p x = (e : Event) → CanHappenIn p x e → ⊥
+
 abbrev pub IsAtRest : Given → State → Type 0
-IsAtRest p s = (e : Event) → CanHappen p s e → ⊥
+IsAtRest p s = IsAtRestIn p (shown s)
 
 -- whether some event can
 abbrev pub GoesOn : Given → State → Bool → Type 0
@@ -51,5 +54,8 @@ GoesOn p s true = (e : Event) × CanHappen p s e
 GoesOn p s false = IsAtRest p s
 
 -- nothing remains of any node's process
+abbrev pub HaveEndedIn : Given → NetworkState → Type 0
+HaveEndedIn p x = one_node.HaveEnded p x
+
 abbrev pub HaveEnded : Given → State → Type 0
-HaveEnded p s = one_node.HaveEnded p (shown s)
+HaveEnded p s = HaveEndedIn p (shown s)

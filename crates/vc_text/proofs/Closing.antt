@@ -1,7 +1,7 @@
 -- How a run closes.
 use Rattle.std.proofs.Common.{◌≡◌, ℕ, ◌<◌, ◌≤◌, length, Option, Some, None, is_some, ◌+◌, ◌||◌, Bool, true, false, List, refl, ap, arith}
 use Rattle.vc_plan.specs.declared.plan.Plan.{Plan}
-use Rattle.vc_core.specs.State.{State, IsNetworkOf}
+use Rattle.vc_core.specs.State.{State, shown, IsNetworkOf}
 use Rattle.vc_core.specs.Turns.{Rests, IsAtRest, FindsTake, FindsEvent, actors}
 use Rattle.vc_actor.specs.declared.act.Act.TheVariants.{Take}
 use Rattle.vc_core.specs.declared.event.Event.{Event}
@@ -52,7 +52,7 @@ neither true b e = absurd (cc)
 neither false b e = (refl, e)
 
 -- where a run without a cycle of dependencies is quiet only processes wait
-pub processes_wait : (p : Plan) (events : List Event) (s : State) (made limit : ℕ) (close : Close) → Replays p events s → Closes p s made limit close → OnlyProcessesWait p s close
+pub processes_wait : (p : Plan) (events : List Event) (s : State) (made limit : ℕ) (close : Close) → Replays p events s → Closes p (shown s) made limit close → OnlyProcessesWait p (shown s) close
 processes_wait p events s made limit Quiet r c = λ ranks.
     let reached : Reached p events s = record { is = r.is; happen = r.happen } in
     let rest : OnlyMoves p s = λ e can. absurd (c.0 e can) in

@@ -2,10 +2,10 @@
 use Rattle.std.specs.Prelude.{◌≡◌, ℕ, Bool, true, false, ⊤}
 use Rattle.vc_plan.specs.declared.plan.Plan.{Plan}
 use Rattle.vc_plan.specs.Dependencies.{HasRanks}
-use Rattle.vc_core.specs.Enabled.{CanHappen}
+use Rattle.vc_core.specs.Enabled.{NetworkState, CanHappen, CanHappenIn}
 use Rattle.vc_core.specs.State.{State}
 use Rattle.vc_core.specs.Still.{IsHeldUp}
-use Rattle.vc_core.specs.Turns.{Rests, IsAtRest, HaveEnded}
+use Rattle.vc_core.specs.Turns.{Rests, IsAtRestIn, HaveEndedIn}
 use Rattle.vc_core.specs.declared.event.Event.{Event}
 use Rattle.vc_core.specs.declared.close.Close.{Close}
 use Rattle.vc_core.specs.declared.close.Close.TheVariants.{Done, Quiet, Limit}
@@ -16,14 +16,14 @@ HasEvent p s k true = (e : Event) × (e.actor ≡ k) × CanHappen p s e
 HasEvent p s k false = Rests p s k
 
 -- a network whose ports have ranks is quiet because of its processes alone
-abbrev pub OnlyProcessesWait : Plan → State → Close → Type 0
-OnlyProcessesWait p s Quiet = HasRanks p → IsHeldUp p s
-OnlyProcessesWait p s close = ⊤
+abbrev pub OnlyProcessesWait : Plan → NetworkState → Close → Type 0
+OnlyProcessesWait p x Quiet = HasRanks p → IsHeldUp p x
+OnlyProcessesWait p x close = ⊤
 
 -- a run that made so many events of those allowed closes Done or Quiet where no event can happen, and every process has ended or not;
 -- and Limit where it made as many as allowed, and an event can happen
-abbrev pub Closes : Plan → State → ℕ → ℕ → Close → Type 0
-Closes p s made limit Done = IsAtRest p s × HaveEnded p s
-Closes p s made limit Quiet = IsAtRest p s × (HaveEnded p s → ⊥)
-Closes p s made limit Limit = (made ≡ limit) × ((e : Event) × CanHappen p s e)
-Closes p s made limit close = ⊥
+abbrev pub Closes : Plan → NetworkState → ℕ → ℕ → Close → Type 0
+Closes p x made limit Done = IsAtRestIn p x × HaveEndedIn p x
+Closes p x made limit Quiet = IsAtRestIn p x × (HaveEndedIn p x → ⊥)
+Closes p x made limit Limit = (made ≡ limit) × ((e : Event) × CanHappenIn p x e)
+Closes p x made limit close = ⊥

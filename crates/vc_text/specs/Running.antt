@@ -2,8 +2,8 @@
 use Rattle.std.specs.Prelude.{◌≡◌, ℕ, ◌≤◌, List, length, Option, Result, Ok, Err}
 use Rattle.std.specs.Io.KnownBytes.{Appends}
 use Rattle.vc_core.specs.declared.close.Close.{Close}
-use Rattle.vc_core.specs.Replaying.{Replays}
-use Rattle.vc_core.specs.State.{State}
+use Rattle.vc_core.specs.Enabled.{NetworkState}
+use Rattle.vc_core.specs.Replaying.{RunsTo}
 use Rattle.vc_core.specs.declared.event.Event.{Event}
 use Rattle.vc_text.specs.Shown.{channels_of}
 use Rattle.vc_plan.specs.declared.plan.Plan.{Plan as Network}
@@ -20,19 +20,19 @@ use Rattle.vc_text.specs.Traffic.{traffic}
 -- An accepted plan's network was run for at most so many events, which replay, with the headline and a linearization there. The words of
 -- each actor's takes are those of the generator of seed 0 and its number. The run closes as the state says, and where it is quiet without
 -- a cycle of dependencies only its processes wait.
-pub record IsRunWithin (plan : Network) (limit : ℕ) (events : List Event) (s : State) (close : Close) : Type 0 where
+pub record IsRunWithin (plan : Network) (limit : ℕ) (events : List Event) (x : NetworkState) (close : Close) : Type 0 where
   pub few : length events ≤ limit
-  pub replays : Replays plan events s
+  pub runs : RunsTo plan events x
   pub words : HasWordsOf plan 0 events
-  pub closes : Closes plan s (length events) limit close
-  pub waits : OnlyProcessesWait plan s close
+  pub closes : Closes plan x (length events) limit close
+  pub waits : OnlyProcessesWait plan x close
 
 -- it was run so, and the traffic of the state was written, or a front of that before a fault of the writer; without memory nothing was
 abbrev pub RunsPlan : Network → Option (List ℕ) → Option (List ℕ) → ℕ → Result StepReport RunFault → Type 0
 RunsPlan plan old new limit (Ok report) =
-    (s : State) × IsRunWithin plan limit report.events s report.close × Appends old new (traffic (channels_of plan s) report.close)
+    (x : NetworkState) × IsRunWithin plan limit report.events x report.close × Appends old new (traffic (channels_of plan x) report.close)
 RunsPlan plan old new limit (Err Write) =
-    (events : List Event) × (s : State) × (close : Close) × IsRunWithin plan limit events s close × AppendsFront old new (traffic (channels_of plan s) close)
+    (events : List Event) × (x : NetworkState) × (close : Close) × IsRunWithin plan limit events x close × AppendsFront old new (traffic (channels_of plan x) close)
 RunsPlan plan old new limit (Err Memory) = new ≡ old
 RunsPlan plan old new limit (Err fault) = ⊥
 

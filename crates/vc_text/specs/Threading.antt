@@ -1,7 +1,7 @@
 -- What a run in threads answers and writes.
 use Rattle.std.specs.Prelude.{◌≡◌, ℕ, List, Option, Result, Ok, Err}
 use Rattle.std.specs.Io.KnownBytes.{Appends}
-use Rattle.vc_core.specs.State.{state_of}
+use Rattle.vc_core.specs.State.{shown, state_of}
 use Rattle.vc_plan.specs.declared.plan.Plan.{Plan}
 use Rattle.vc_threads.specs.Threads.{Reports}
 use Rattle.vc_threads.specs.declared.report.Report.{Report}
@@ -14,7 +14,7 @@ use Rattle.vc_text.specs.Traffic.{traffic}
 
 -- the text of what was reported
 abbrev pub report_text : Plan → Report → List ℕ
-report_text plan r = traffic (channels_of plan (state_of r.state)) r.close
+report_text plan r = traffic (channels_of plan (shown (state_of r.state))) r.close
 
 -- the reader's network was run in threads, of so many turns at most and with this seed: what is reported are the events of all actors'
 -- runs, which replay, with the headline and a linearization there, and the traffic of the state after them was written, or a front of that

@@ -1,7 +1,7 @@
 //! Running a network event by event.
 ghost use Rattle.std.specs.Prelude.{◌≡◌, ◌⊎◌, ◌<◌, ◌≤◌, ◌+◌, [], ◌∷◌, ◌++◌, ℕ, true, false, length, map, slice_get, Some, None, Ok, IfOk, OnOk};
 ghost use Rattle.vc_plan.specs.declared.plan.Plan.{Plan};
-ghost use Rattle.vc_core.specs.State.{state_of, IsNetworkOf};
+ghost use Rattle.vc_core.specs.State.{shown, state_of, IsNetworkOf};
 ghost use Rattle.vc_core.specs.Replaying.{Reached};
 ghost use Rattle.vc_core.specs.Turns.{Rests, IsAtRest, GoesOn, actors};
 ghost use Rattle.vc_core.specs.Turns.{FindsEvent};
@@ -38,7 +38,8 @@ pub struct StepReport {
 
 /// The channels of a network, in order.
 fn views(alloc: Global, network: &Network) -> Result<Vec<ChannelView<'_>>, Memory>
-    ensures { (p : Plan) → IsNetworkOf p (state_of network.now) → IfOk result (λ views. map traffic_of views.items ≡ channels_of p (state_of network.now)) }
+    ensures { (p : Plan) → IsNetworkOf p (state_of network.now) →
+        IfOk result (λ views. map traffic_of views.items ≡ channels_of p (shown (state_of network.now))) }
 {
     let mut views = Vec::new(alloc);
     for chan in 0..network.channels().min(65535) as u16 {
@@ -49,7 +50,9 @@ fn views(alloc: Global, network: &Network) -> Result<Vec<ChannelView<'_>>, Memor
 
 /// What a channel of a network is and has done.
 fn view_of(network: &Network, chan: u16) -> ChannelView<'_>
-    ensures { (p : Plan) (x : Channel) → IsNetworkOf p (state_of network.now) → slice_get p.channels chan ≡ Some x → traffic_of result ≡ channel_of p (state_of network.now) chan x }
+    ensures { (p : Plan) (x : Channel) →
+        IsNetworkOf p (state_of network.now) → slice_get p.channels chan ≡ Some x →
+        traffic_of result ≡ channel_of p (shown (state_of network.now)) chan x }
 {
     ChannelView {
         name: network.name(chan),
@@ -68,7 +71,9 @@ pub fn write_traffic<W: Write>(
     close: Close,
     writer: &mut W,
 ) -> Result<(), RunFault>
-    ensures { (p : Plan) → IsNetworkOf p (state_of network.now) → Writes (W.contents writer.old) (W.contents writer.new) (traffic (channels_of p (state_of network.now)) close) result }
+    ensures { (p : Plan) → IsNetworkOf p (state_of network.now) →
+        Writes (W.contents writer.old) (W.contents writer.new)
+        (traffic (channels_of p (shown (state_of network.now))) close) result }
 {
     let views = views(alloc, network)?;
     write_channels(alloc, views.as_slice(), close, writer)
@@ -159,7 +164,9 @@ fn goes_on(network: &mut Network) -> Result<bool, Memory>
 
 /// How a run ends where no event is enabled.
 fn resting(network: &Network) -> Close
-    ensures { (p : Plan) (made limit : ℕ) → IsNetworkOf p (state_of network.now) → IsAtRest p (state_of network.now) → Closes p (state_of network.now) made limit result }
+    ensures { (p : Plan) (made limit : ℕ) →
+        IsNetworkOf p (state_of network.now) → IsAtRest p (state_of network.now) →
+        Closes p (shown (state_of network.now)) made limit result }
 {
     if network.ended() {
         Close::Done
@@ -226,7 +233,9 @@ fn run_rounds(
 /// How a run ends that has made so many events.
 fn close_of(network: &mut Network, events: usize, limit: u64) -> Result<Close, Memory>
     requires { events ≤ limit }
-    ensures closes { (p : Plan) → IsNetworkOf p (state_of network.old) → (events ≡ limit) ⊎ IsAtRest p (state_of network.old) → IfOk result (Closes p (state_of network.old) events limit) }
+    ensures closes { (p : Plan) →
+        IsNetworkOf p (state_of network.old) → (events ≡ limit) ⊎ IsAtRest p (state_of network.old) →
+        IfOk result (Closes p (shown (state_of network.old)) events limit) }
     ensures same { state_of network.new ≡ state_of network.old }
 {
     if events as u64 >= limit && goes_on(network)? {
@@ -238,8 +247,9 @@ fn close_of(network: &mut Network, events: usize, limit: u64) -> Result<Close, M
 
 /// Runs a network in rounds, to its end or up to so many events.
 fn run(alloc: Global, accepted: &Accepted, limit: u64) -> Result<(Network, StepReport), Memory>
-    ensures { IfOk result (λ r.
-        IsRunWithin accepted.now limit (r.1).events (state_of r.0) (r.1).close) }
+    ensures is { IfOk result (λ r. IsNetworkOf accepted.now (state_of r.0)) }
+    ensures run { IfOk result (λ r.
+        IsRunWithin accepted.now limit (r.1).events (shown (state_of r.0)) (r.1).close) }
 {
     let mut network = Network::new(alloc, accepted)?;
     let mut seats = Seats::new(alloc, network.actors())?;

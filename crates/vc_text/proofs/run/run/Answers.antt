@@ -1,6 +1,6 @@
 use Rattle.std.proofs.Common.{◌≡◌, ◌⊎◌, [], ap, arith, length, sym, subst}
 use Rattle.vc_core.specs.Replaying.{Reached, Replays}
-use Rattle.vc_core.specs.State.{state_of}
+use Rattle.vc_core.specs.State.{shown, state_of, IsNetworkOf}
 use Rattle.vc_core.specs.Turns.{IsAtRest}
 use Rattle.vc_text.specs.Closing.{Closes}
 use Rattle.vc_text.specs.Seated.{HaveGiven}
@@ -10,8 +10,14 @@ use Rattle.vc_text.proofs.Drawing.{given_words, none_given}
 use Rattle.vc_text.proofs.Quieting.{none_quiet}
 use Rattle.vc_text.proofs.run.run.Goals as goal
 
-pub returns : goal.returns
-returns c =
+pub returns-clause-is : goal.returns-clause-is
+returns-clause-is c =
+    let p = c.args.accepted.now in
+    let begun = subst (λ es. Reached p es (state_of c.in_ok-network.network)) (sym c.new-events.ensures) (reached_first p [] (state_of c.in_ok-network.network) c.in_ok-network.ensures) in
+    subst (IsNetworkOf p) (sym c.in_ok-close.ensures.same) (c.in_ok-run_rounds.ensures.reached p begun).is
+
+pub returns-clause-run : goal.returns-clause-run
+returns-clause-run c =
     let p = c.args.accepted.now in
     let s = state_of c.in_ok-network.network in
     let t = state_of c.close_of.new.network in
@@ -23,16 +29,16 @@ returns c =
     let none = subst (λ es. HaveGiven p es c.in_ok-seats.seats) (sym c.new-events.ensures)
     (none_given p c.actors.result c.in_ok-seats.seats (omega (arith, many)) c.in_ok-seats.ensures.words) in
     let ends = ran.ends p begun (none_quiet p s c.in_ok-seats.seats c.in_ok-seats.ensures.active) in
-    let replays_there = subst (Replays p events) (sym c.in_ok-close.ensures.same) (replays p events (state_of c.run_rounds.new.network) reached) in
-    let closes = subst (λ z. Closes p z (length events) c.args.limit c.in_ok-close.close) (sym c.in_ok-close.ensures.same)
-    (subst (λ n. Closes p (state_of c.run_rounds.new.network) n c.args.limit c.in_ok-close.close) c.len.ensures
+    let there = subst (Replays p events) (sym c.in_ok-close.ensures.same) (replays p events (state_of c.run_rounds.new.network) reached) in
+    let closes = subst (λ z. Closes p (shown z) (length events) c.args.limit c.in_ok-close.close) (sym c.in_ok-close.ensures.same)
+    (subst (λ n. Closes p (shown (state_of c.run_rounds.new.network)) n c.args.limit c.in_ok-close.close) c.len.ensures
     (c.in_ok-close.ensures.closes p reached.is (subst (λ n. (n ≡ c.args.limit) ⊎ IsAtRest p (state_of c.run_rounds.new.network)) (sym c.len.ensures) ends))) in
     record {
       few = ran.few;
-      replays = replays_there;
+      runs = record { accepted = there.is.accepted; happen = there.happen; headline = there.headline; linearizes = there.linearizes };
       words = given_words p events c.run_rounds.new.seats (ran.words p begun none);
       closes = closes;
-      waits = processes_wait p events t (length events) c.args.limit c.in_ok-close.close replays_there closes;
+      waits = processes_wait p events t (length events) c.args.limit c.in_ok-close.close there closes;
     }
 
 pub run_rounds-requires : goal.run_rounds-requires

@@ -1,7 +1,7 @@
 use Rattle.std.proofs.Common.{◌<◌, ◌≤◌, ap, ◌∙◌, map, length, arith}
-use Rattle.vc_core.specs.State.{state_of}
+use Rattle.vc_core.specs.State.{shown, state_of}
 use Rattle.vc_actor.proofs.Carrying.{few_channels}
-use Rattle.vc_text.specs.Views.{shown}
+use Rattle.vc_text.specs.Views.{shown as traffic_of}
 use Rattle.vc_text.proofs.Channels.{viewed_more, viewed_all, some_at}
 use Rattle.vc_text.proofs.run.views.Goals as goal
 
@@ -12,7 +12,7 @@ loop-chan-preserved c = λ p is.
     let most = c.min-chan-end.ensures in
     let less : c.loop-chan.chan < length p.channels = omega arith in
     let x = some_at p.channels c.loop-chan.chan less in
-    ap (map shown) c.in_ok-push.ensures.items ∙ viewed_more p (state_of c.args.network.now) c.loop-chan.views.items c.view_of.result c.loop-chan.chan x.0 x.1 less (c.loop-chan.invariant p is) (c.view_of.ensures p x.0 is x.1)
+    ap (map traffic_of) c.in_ok-push.ensures.items ∙ viewed_more p (shown (state_of c.args.network.now)) c.loop-chan.views.items c.view_of.result c.loop-chan.chan x.0 x.1 less (c.loop-chan.invariant p is) (c.view_of.ensures p x.0 is x.1)
 
 pub returns : goal.returns
 returns c = λ p is.
@@ -21,4 +21,4 @@ returns c = λ p is.
     let most = c.min-chan-end.ensures in
     let test = c.loop-chan-test.false in
     let past : length p.channels ≤ c.loop-chan.chan = omega arith in
-    viewed_all p (state_of c.args.network.now) c.loop-chan.views.items c.loop-chan.chan past (c.loop-chan.invariant p is)
+    viewed_all p (shown (state_of c.args.network.now)) c.loop-chan.views.items c.loop-chan.chan past (c.loop-chan.invariant p is)
