@@ -42,8 +42,8 @@ fn switch(
         Ok(table) => {
             let plan = SwitchPlan {
                 table,
-                delete: Items::from_slice(alloc, delete)?,
-                random: Items::from_slice(alloc, random)?,
+                delete,
+                random,
             };
             Ok(Switch::new(alloc, plan, 44)?)
         }

@@ -4,7 +4,6 @@
 //! [`Switch::new`] takes memory.
 ghost use Rattle.std.specs.Prelude.{◌≡◌, ◌<◌, ◌≤◌, ◌↔◌, ◌++◌, ℕ, List, length, drop, None, Some, IsTrue, IsOk, IfOk, MatchOption};
 ghost use Rattle.std.specs.List.{AllByRecursion};
-ghost use Rattle.vc_labels.specs.Lawful.{IsLawful};
 ghost use Rattle.vc_packets.specs.Counting.{one_more};
 ghost use Rattle.vc_tokens.specs.Spelt.{token, tokens};
 ghost use Rattle.vc_tokens.specs.Tokens.{Byte, Fct, EndMark};
@@ -57,23 +56,19 @@ impl Model for Switch {
 impl Switch {
     /// A switch of this plan with nothing on its links, for packets whose headers and data have at most `body_limit` bytes.
     pub fn new(alloc: Global, plan: SwitchPlan, body_limit: usize) -> Result<Switch, Memory>
-        requires table { IsLawful plan.table }
         requires limit { 2 ≤ body_limit }
-        requires delete { AllByRecursion (λ link. link < 32) plan.delete }
-        requires random { AllByRecursion IsRandomInput plan.random }
+        requires delete { AllByRecursion (λ link. link < 32) plan.delete.now }
+        requires random { AllByRecursion IsRandomInput plan.random.now }
         ensures seen { IfOk result (λ switch. seen switch ≡ new_switch) }
-        ensures plan { IfOk result (λ switch. plan_of switch ≡ plan_given plan) }
+        ensures plan { IfOk result (λ switch. plan_of switch ≡ plan_given plan.entry) }
         ensures limit { IfOk result (λ switch. limit_of switch.inputs ≡ body_limit) }
     {
-        let SwitchPlan {
-            table,
-            delete,
-            random,
-        } = plan;
-        let (ranges, deletes) = opening::headers(alloc, random, delete)?;
+        // a table's rows are lawful
+        let _rows = plan.table.rows();
+        let (ranges, deletes) = opening::headers(alloc, plan.random, plan.delete)?;
         let (inputs, outputs) = opening::links(alloc, body_limit)?;
         Ok(Switch {
-            table,
+            table: plan.table,
             ranges,
             deletes,
             inputs,
