@@ -1,7 +1,7 @@
 -- A move has a step of the definitions where it is listed and its channel lets it, and only there.
-use Rattle.std.proofs.Common.{◌≡◌, ◌≢◌, ℕ, zero, suc, ◌<◌, ◌≤◌, IsTrue, false, List, [], ◌∷◌, length, nat_lt, slice_get, arith, Option, Some, None, IsSome, is_some, refl, sym, ap, ◌∙◌, subst, inl, inr}
+use Rattle.std.proofs.Common.{◌≡◌, ◌≢◌, ℕ, zero, suc, ◌<◌, ◌≤◌, ◌↔◌, Bool, IsTrue, false, List, [], ◌∷◌, length, slice_get, arith, Option, Some, None, IsSome, is_some, refl, sym, ap, ◌∙◌, subst, inl, inr}
 use Rattle.std.specs.List.{Contains}
-use Rattle.std.proofs.lemmas.Bool.Decides.{nat_tests}
+use Rattle.std.proofs.lemmas.Bool.{cases_lt}
 use Rattle.vc_machine.specs.Rendezvous.{nothing_yet}
 use Rattle.vc_network.specs.Network as net
 use Rattle.vc_network.specs.Plan.{Plan}
@@ -16,15 +16,16 @@ use Rattle.vc_occam.specs.Traces.{Comm}
 use Rattle.vc_occam.proofs.Made.{can_be_made}
 use Rattle.vc_credit.specs.Ends.{new_receiver}
 use Rattle.vc_tokens.specs.Tokens.{Token, Byte, EndMark}
-use Rattle.vc_vcp.specs.Able.{CanOffer, CanPass}
+use Rattle.vc_vcp.specs.Able.{CanOffer, CanPass, CanPut}
 use Rattle.vc_vcp.specs.Carrier.{Carrier, Ends}
 use Rattle.vc_vcp.specs.Keyed.{named, shown_or}
 use Rattle.vc_vcp.specs.Links.{Vcp, Passes, passes_byte, drops_byte, passes_mark}
 use Rattle.vc_vcp.specs.Seen.{seen, ends_of}
-use Rattle.vc_vcp.specs.State.{State as Held}
+use Rattle.vc_vcp.specs.State.{State as Held, MayPut, MayGrant}
 use Rattle.vc_vcp.specs.Steps.{Taken}
 use Rattle.vc_vcp.specs.Steps as node
 use Rattle.vc_vcp.proofs.Enabling.{can_offer, offers_idle}
+use Rattle.vc_vcp.proofs.Passing.{less_put, less_grant}
 use Rattle.vc_actor.specs.Able.{HalfCan, CanMove}
 use Rattle.vc_actor.specs.Inside.{IsOpen, exchanged_on, stopped_on}
 use Rattle.vc_actor.specs.OfPlan.{IsNodeOf}
@@ -162,5 +163,19 @@ no_pass s l most es long four is past can =
     let none = none_at s.ins l (λ less. omega arith) in
     buffered (seen s) l most es can.taken can.new can.passes (ap (λ o. (shown_or new_receiver (λ x. x.receiver) o).buffer) none)
 
-pub not_less : (a b : ℕ) → b ≤ a → IsTrue (nat_lt a b) → ⊥
-not_less a b past less = grind (arith, nat_tests)
+-- What may be done by a link of the node alone.
+
+pub put_by : (s : Held) (l : ℕ) (b : Bool) → length s.outs ≡ 4 → (IsTrue b ↔ MayPut s l) → IsTrue b ↔ ((l < 4) × MayPut s l)
+put_by s l b four may = (λ t. (less_put s s l (may.0 t) refl four, may.0 t), λ h. may.1 h.1)
+
+pub can_put_by : (s : Held) (l : ℕ) (b : Bool) → length s.outs ≡ 4 → (IsTrue b ↔ MayPut s l) → (IsTrue b ↔ CanPut (seen s) l) → IsTrue b ↔ ((l < 4) × CanPut (seen s) l)
+can_put_by s l b four may can = (λ t. (less_put s s l (may.0 t) refl four, can.0 t), λ h. can.1 h.1)
+
+pub grant_by : (s : Held) (l : ℕ) (b : Bool) → length s.ins ≡ 4 → (IsTrue b ↔ MayGrant s l) → IsTrue b ↔ ((l < 4) × MayGrant s l)
+grant_by s l b four may = (λ t. (less_grant s s l (may.0 t) refl four, may.0 t), λ h. may.1 h.1)
+
+pub pass_by : (s : Held) (l most : ℕ) (es : Ends) (b : Bool) → length s.ins ≡ 4 → (IsTrue b ↔ CanPass most es (seen s) l) → (IsTrue b ↔ (((seen s).link l).receiver.buffer ≢ [])) → IsTrue b ↔ ((l < 4) × (((seen s).link l).receiver.buffer ≢ []))
+pass_by s l most es b four can waits = (λ t. (less_pass s l most es four (can.0 t), waits.0 t), λ h. waits.1 h.1)
+  where
+    less_pass : (s : Held) (l most : ℕ) (es : Ends) → length s.ins ≡ 4 → CanPass most es (seen s) l → l < 4
+    less_pass s l most es four can = elim (cases_lt l 4) [ inl less ↦ less | inr far ↦ absurd (no_pass s l most es four 4 refl far can) ]

@@ -71,14 +71,14 @@ deletes_same : (ls : List ℕ) (link : ℕ) → opening.deletes ls link ≡ hops
 deletes_same [] link = refl
 deletes_same (l ∷ ls) link = ap (λ b. l == link || b) (deletes_same ls link)
 
-pub plan_same : (given : Given) (s : SwitchPlan) → given.table ≡ s.rows → given.delete ≡ s.delete → given.random ≡ ranges_given s.random → plan_given given ≡ switch_of s
+pub plan_same : (given : Given) (s : SwitchPlan) → given.table ≡ s.rows → given.delete.now ≡ s.delete → given.random.now ≡ ranges_given s.random → plan_given given ≡ switch_of s
 plan_same given s table delete random = λ i. record {
   table = table i;
   random = fun_ext (λ link. ap (λ rs. interval_of (range_given rs link)) random ∙ range_same s.random link) i;
   deletes = fun_ext (λ link. ap (λ ls. opening.deletes ls link) delete ∙ deletes_same s.delete link) i;
 }
 
-pub built : {E : Type 0} (p : SwitchPlan) (given : Given) (most : ℕ) (r : Result State E) → given.table ≡ p.rows → given.delete ≡ p.delete → given.random ≡ ranges_given p.random →
+pub built : {E : Type 0} (p : SwitchPlan) (given : Given) (most : ℕ) (r : Result State E) → given.table ≡ p.rows → given.delete.now ≡ p.delete → given.random.now ≡ ranges_given p.random →
     IfOk r (λ s. seen s ≡ new_switch) → IfOk r (λ s. plan_of s ≡ plan_given given) → IfOk r (λ s. limit_of s.inputs ≡ most) → IfOk r (IsBuilt p most)
 built p given most (Ok s) table delete random empty plan limit = record { empty = empty; plan = plan ∙ plan_same given p table delete random; limit = limit }
 built p given most (Err e) table delete random empty plan limit = tt

@@ -1,5 +1,5 @@
 -- What a call of a switch is: a step of its actor.
-use Rattle.std.proofs.Common.{◌≡◌, ℕ, ◌+◌, ◌-◌, ◌<◌, ◌≤◌, false, List, [], ◌∷◌, ◌++◌, slice_get, Option, Some, None, refl, sym, ap, ◌∙◌, subst, arith, inl, inr, nat_lt, if◌then◌else◌}
+use Rattle.std.proofs.Common.{◌≡◌, ℕ, ◌+◌, ◌-◌, ◌<◌, ◌≤◌, ◌↔◌, Bool, IsTrue, false, List, [], ◌∷◌, ◌++◌, slice_get, Option, Some, None, refl, sym, ap, ◌∙◌, subst, arith, inl, inr, nat_lt, if◌then◌else◌}
 use Rattle.std.proofs.lemmas.Bool.{cases_lt}
 use Rattle.std.proofs.lemmas.Bool.Decides.{nat_tests}
 use Rattle.vc_machine.specs.Paths.{AtNode, AtSwitch}
@@ -135,6 +135,9 @@ within s is (act.Route l o) can = route_within s is l o can
 
 pub may : (s : State) → IsSwitch s → (a : Act) → SwitchCan s a → SwitchMay s a
 may s is a can = record { links = within s is a can; can = can }
+
+pub may_by : (s : State) → IsSwitch s → (a : Act) (b : Bool) → (IsTrue b ↔ SwitchCan s a) → IsTrue b ↔ SwitchMay s a
+may_by s is a b can = (λ t. may s is a (can.0 t), λ m. can.1 m.can)
 
 -- a packet can be bound where it can leave by a free output, and only there
 pub route_can : (plan : SwitchPlan) (s : Switch) (l o : ℕ) → CanLeave plan s l o → IsFree s o → CanRoute plan s l o

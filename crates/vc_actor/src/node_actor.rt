@@ -77,12 +77,13 @@ impl NodeActor {
         ensures may { IsTrue result ↔ NodeMay self.now act.now }
         ensures can { (plan : Plan) (k : ℕ) → IsNodeOf plan k self.now → IsTrue result ↔ NodeCan plan k self.now act.now }
     {
+        prove!(self.node.vcp.links() == NODE_LINKS);
         match act {
             Act::Proc(made) => self.node.can_move(made),
             Act::Take { link, .. } => *link < NODE_LINKS,
-            Act::Put { link } => *link < NODE_LINKS && self.node.vcp.may_put(*link),
-            Act::Fct { link } => *link < NODE_LINKS && self.node.vcp.may_grant(*link),
-            Act::Pass { link } => *link < self.node.vcp.links() && self.node.vcp.may_pass(*link),
+            Act::Put { link } => self.node.vcp.may_put(*link),
+            Act::Fct { link } => self.node.vcp.may_grant(*link),
+            Act::Pass { link } => self.node.vcp.may_pass(*link),
             Act::Route { .. } => false,
         }
     }

@@ -42,28 +42,15 @@ impl SwitchActor {
         ensures can { IsTrue result ↔ SwitchCan self.now.switch act.now }
     {
         let switch = self.switch.switch();
-        let links = switch.links();
+        prove!(switch.links() == 32);
         match *act {
             Act::Proc(_) => false,
-            Act::Take { link, .. } => link < links,
-            Act::Put { link } => link < links && switch.may_put(link),
-            Act::Fct { link } => link < links && switch.may_grant(link),
-            Act::Pass { link } => link < links && switch.may_pass(link),
-            Act::Route { input, output } => self.can_route(input, output),
+            Act::Take { link, .. } => switch.may_take(link),
+            Act::Put { link } => switch.may_put(link),
+            Act::Fct { link } => switch.may_grant(link),
+            Act::Pass { link } => switch.may_pass(link),
+            Act::Route { input, output } => switch.may_route(input, output),
         }
-    }
-
-    // Whether the packet at an input can be bound to an output.
-    fn can_route(&self, input: u8, output: u8) -> bool
-        ensures may { IsTrue result ↔ SwitchMay self.now.switch (Act.Route input output) }
-        ensures can { IsTrue result ↔ SwitchCan self.now.switch (Act.Route input output) }
-    {
-        let switch = self.switch.switch();
-        let links = switch.links();
-        if input >= links || output >= links {
-            return false;
-        }
-        switch.may_route(input, output)
     }
 
     /// A token comes over a link, with a word for a random header.

@@ -42,12 +42,11 @@ pub(crate) fn build_switch(
     let Ok(table) = Table::new(Items::from_slice(alloc, plan.rows.as_slice())?) else {
         unreachable!();
     };
-    let delete = Items::from_slice(alloc, plan.delete.as_slice())?;
     let random = ranges_of(alloc, plan.random.as_slice())?;
     let given = Given {
         table,
-        delete,
-        random,
+        delete: plan.delete.as_slice(),
+        random: random.as_slice(),
     };
     ReadySwitch::new(alloc, given, body_limit)
 }

@@ -89,6 +89,14 @@ impl Table {
         }
     }
 
+    /// Its rows, in rising order: what is known of them is that they are lawful.
+    pub fn rows(&self) -> &[Row]
+        ensures rows { result.now ≡ self.now }
+        ensures lawful { IsLawful self.now }
+    {
+        self.rows.as_slice()
+    }
+
     /// The action of the one row that holds the header, if there is such a row.
     pub fn find(&self, header: u16) -> Option<Action>
         ensures action { result ≡ action_for self.now header }

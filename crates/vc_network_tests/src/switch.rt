@@ -42,8 +42,8 @@ fn switch(
         Ok(table) => {
             let plan = SwitchPlan {
                 table,
-                delete: Items::from_slice(alloc, delete)?,
-                random: Items::from_slice(alloc, random)?,
+                delete,
+                random,
             };
             Ok(Switch::new(alloc, plan, 44)?)
         }
@@ -106,6 +106,8 @@ enum Step<'a> {
     Comes(u8, Token),
     /// This token comes, and none passes.
     Takes(u8, Token),
+    /// The switch has no such link: no token comes, passes or leaves there, and no packet may be bound to it.
+    Lacks(u8),
     /// The packet that came here may leave by a link from the first to the second, or by none.
     Chooses(u8, Option<(u8, u8)>),
     /// The packet that came here is bound to the second link, or may not be.
@@ -116,6 +118,20 @@ enum Step<'a> {
     Free(u8),
     /// So many tokens and packets were dropped.
     Lost(u64),
+}
+
+/// Whether each question about a link is answered as of one that is not there.
+fn lacks(s: &Switch, link: u8) -> bool {
+    let asks = [
+        s.may_take(link),
+        s.may_pass(link),
+        s.may_grant(link),
+        s.may_put(link),
+        s.free(link),
+        s.may_route(link, 0),
+        s.may_route(0, link),
+    ];
+    s.choices(link).is_none() && !asks.contains(&true)
 }
 
 /// Whether the switch takes this step.
@@ -134,12 +150,13 @@ fn takes(s: &mut Switch, step: Step) -> Result<bool, Memory> {
             s.take(link, token, 0)?;
             Ok(may && !s.may_pass(link))
         }
-        Step::Chooses(link, group) if link < 32 => Ok(s.choices(link) == group),
+        Step::Lacks(link) => Ok(lacks(s, link)),
+        Step::Chooses(link, group) => Ok(s.choices(link) == group),
         Step::Binds(input, output, may) if input < 32 && output < 32 => {
             Ok(route(s, input, output) == may)
         }
         Step::Puts(link, token) if link < 32 => Ok(put(s, link) == token),
-        Step::Free(link) if link < 32 => Ok(s.free(link)),
+        Step::Free(link) => Ok(s.free(link)),
         Step::Lost(count) => Ok(s.lost() == count),
         _ => Ok(false),
     }
@@ -154,6 +171,21 @@ fn wrong_step(switch: Result<Switch, Fail>, steps: &[Step]) -> Result<Option<usi
         }
     }
     Ok(None)
+}
+
+const BEYOND: &[Step] = &[
+    Step::Bytes(0, &[0, 1], 0),
+    Step::Chooses(0, Some((0, 0))),
+    Step::Lacks(32),
+    Step::Lacks(255),
+    Step::Free(31),
+];
+
+#[test]
+fn nothing_is_done_beyond_the_links(rt: HostRuntime) -> Result<(), Fail> {
+    let s = switch(rt.alloc(), Action::Portal, &[], &[]);
+    assert_eq!(rt; wrong_step(s, BEYOND)?, None);
+    Ok(())
 }
 
 const DELETES: &[Step] = &[

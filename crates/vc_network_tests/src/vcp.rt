@@ -120,11 +120,44 @@ fn a_message_of_two_pieces_is_exchanged(rt: HostRuntime) -> Result<(), Fail> {
     Ok(())
 }
 
+/// Hands the packet at the front of link 0 over whole; what came with it.
+fn hand(from: &mut Vcp, to: &mut Vcp) -> Result<Came, Memory> {
+    match from.next_out(0) {
+        None => Ok(Came::Nothing),
+        Some(packet) => Ok(kind_of(Some(to.take(&packet)?))),
+    }
+}
+
+#[test]
+fn whole_packets_carry_a_message(rt: HostRuntime) -> Result<(), Fail> {
+    let mut a = node(rt.alloc(), Some(0), None)?;
+    let mut b = node(rt.alloc(), None, Some(0))?;
+    assert!(rt; begin(&mut a, &mut b)?);
+    assert!(rt; hand(&mut a, &mut b)? == Came::Stored && hand(&mut a, &mut b)? == Came::Nothing);
+    assert!(rt; hand(&mut b, &mut a)? == Came::More);
+    assert!(rt; hand(&mut a, &mut b)? == Came::Complete && hand(&mut b, &mut a)? == Came::Finished);
+    assert_eq!(rt; (a.finished(0), b.taken(0).len()), (1, 1));
+    Ok(())
+}
+
+#[test]
+fn a_half_sent_packet_stays(rt: HostRuntime) -> Result<(), Fail> {
+    let mut a = node(rt.alloc(), Some(0), None)?;
+    let mut b = node(rt.alloc(), None, Some(0))?;
+    assert!(rt; offer(&mut a, &[7])? && a.next_out(4).is_none());
+    grant(&mut b, &mut a);
+    put(&mut a, &mut b);
+    assert!(rt; a.next_out(0).is_none() && a.front_out(0).is_some());
+    Ok(())
+}
+
 #[test]
 fn a_token_that_is_not_due_is_dropped(rt: HostRuntime) -> Result<(), Fail> {
     let mut a = node(rt.alloc(), None, None)?;
     a.accept(0, Token::Byte(7));
-    assert!(rt; !a.may_pass(0) && a.strays() == 1);
+    a.accept(4, Token::Fct);
+    assert!(rt; !a.may_pass(0) && a.strays() == 2);
+    assert!(rt; !a.may_pass(4) && !a.may_put(4) && !a.may_grant(4));
     Ok(())
 }
 
@@ -151,12 +184,12 @@ fn a_packet_for_no_half_is_dropped(rt: HostRuntime) -> Result<(), Fail> {
 
 /// Whether a packet is ready for an input, and none waits to leave.
 fn holds(vcp: &Vcp) -> bool {
-    vcp.ready(0) && vcp.next_out(0).is_none()
+    vcp.ready(0) && vcp.front_out(0).is_none()
 }
 
 /// Whether an input completes at once, and then a packet waits to leave.
 fn completes(vcp: &mut Vcp) -> Result<bool, Memory> {
-    Ok(matches!(want(vcp)?, Some(Want::Complete(_))) && vcp.next_out(0).is_some())
+    Ok(matches!(want(vcp)?, Some(Want::Complete(_))) && vcp.front_out(0).is_some())
 }
 
 #[test]

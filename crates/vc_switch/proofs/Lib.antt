@@ -6,6 +6,7 @@ pub mod Keeping
 pub mod Stepping
 pub mod Enabling
 pub mod Routing
+pub mod Beyond
 pub mod Putting
 pub mod Opened
 pub mod Readying

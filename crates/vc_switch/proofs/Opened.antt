@@ -86,8 +86,8 @@ deletes_past (l ∷ ls) link h past =
 abbrev pub begun : Given → ℕ → State
 begun p limit = record {
   table = p.table;
-  ranges = listed (range_given p.random) link_count;
-  deletes = listed (deletes p.delete) link_count;
+  ranges = listed (range_given p.random.now) link_count;
+  deletes = listed (deletes p.delete.now) link_count;
   inputs = listed (λ link. new_link_in limit) link_count;
   outputs = listed (λ link. new_link_out) link_count;
   lost = 0;
@@ -100,19 +100,19 @@ begun_seen p limit = λ i. record {
   lost = 0;
 }
 
-random_is : (p : Given) (link : ℕ) → AllByRecursion IsRandomInput p.random → shown_or None interval_of (slice_get (listed (range_given p.random) link_count) link) ≡ interval_of (range_given p.random link)
+random_is : (p : Given) (link : ℕ) → AllByRecursion IsRandomInput p.random.now → shown_or None interval_of (slice_get (listed (range_given p.random.now) link_count) link) ≡ interval_of (range_given p.random.now link)
 random_is p link h = elim (cases_lt link link_count) [
-  | inl less ↦ ap (shown_or None interval_of) (get_listed (range_given p.random) link_count link less)
-  | inr more ↦ ap (shown_or None interval_of) (get_past (range_given p.random) link_count link more) ∙ sym (ap interval_of (range_past p.random link h (subst (λ n. n ≤ link) count_is more)))
+  | inl less ↦ ap (shown_or None interval_of) (get_listed (range_given p.random.now) link_count link less)
+  | inr more ↦ ap (shown_or None interval_of) (get_past (range_given p.random.now) link_count link more) ∙ sym (ap interval_of (range_past p.random.now link h (subst (λ n. n ≤ link) count_is more)))
 ]
 
-deletes_is : (p : Given) (link : ℕ) → AllByRecursion (λ l. l < 32) p.delete → shown_or false (λ b. b) (slice_get (listed (deletes p.delete) link_count) link) ≡ deletes p.delete link
+deletes_is : (p : Given) (link : ℕ) → AllByRecursion (λ l. l < 32) p.delete.now → shown_or false (λ b. b) (slice_get (listed (deletes p.delete.now) link_count) link) ≡ deletes p.delete.now link
 deletes_is p link h = elim (cases_lt link link_count) [
-  | inl less ↦ ap (shown_or false (λ b. b)) (get_listed (deletes p.delete) link_count link less)
-  | inr more ↦ ap (shown_or false (λ b. b)) (get_past (deletes p.delete) link_count link more) ∙ sym (deletes_past p.delete link h (subst (λ n. n ≤ link) count_is more))
+  | inl less ↦ ap (shown_or false (λ b. b)) (get_listed (deletes p.delete.now) link_count link less)
+  | inr more ↦ ap (shown_or false (λ b. b)) (get_past (deletes p.delete.now) link_count link more) ∙ sym (deletes_past p.delete.now link h (subst (λ n. n ≤ link) count_is more))
 ]
 
-pub begun_plan : (p : Given) (limit : ℕ) → AllByRecursion (λ l. l < 32) p.delete → AllByRecursion IsRandomInput p.random → plan_of (begun p limit) ≡ plan_given p
+pub begun_plan : (p : Given) (limit : ℕ) → AllByRecursion (λ l. l < 32) p.delete.now → AllByRecursion IsRandomInput p.random.now → plan_of (begun p limit) ≡ plan_given p
 begun_plan p limit ds rs = λ i. record { table = p.table; random = (λ link. random_is p link rs i); deletes = (λ link. deletes_is p link ds i) }
 
 limit_first : (xs : List LinkIn) → limit_of xs ≡ shown_or 0 (λ x. x.got.limit) (slice_get xs 0)
@@ -130,14 +130,14 @@ none_paired f g none free = record {
   ins = λ i j e. (let q : None ≡ Some j = sym (none i) ∙ e in absurd (cc));
 }
 
-pub begun_switch : (p : Given) (limit : ℕ) → IsLawful p.table → 2 ≤ limit → AllByRecursion IsRandomInput p.random → IsSwitch (begun p limit)
+pub begun_switch : (p : Given) (limit : ℕ) → IsLawful p.table → 2 ≤ limit → AllByRecursion IsRandomInput p.random.now → IsSwitch (begun p limit)
 begun_switch p limit lawful room rs = record {
-  range_links = length-listed (range_given p.random) link_count ∙ count_is;
-  delete_links = length-listed (deletes p.delete) link_count ∙ count_is;
+  range_links = length-listed (range_given p.random.now) link_count ∙ count_is;
+  delete_links = length-listed (deletes p.delete.now) link_count ∙ count_is;
   input_links = length-listed (λ link. new_link_in limit) link_count ∙ count_is;
   output_links = length-listed (λ link. new_link_out) link_count ∙ count_is;
   table = lawful;
-  ranges = all_listed IsRange (range_given p.random) link_count (λ link. is_range p.random link rs);
+  ranges = all_listed IsRange (range_given p.random.now) link_count (λ link. is_range p.random.now link rs);
   room = subst (λ m. 2 ≤ m) (sym (begun_limit p limit)) room;
   inputs = all_listed (IsLinkIn (plan_of (begun p limit)) (limit_of (begun p limit).inputs)) (λ link. new_link_in limit) link_count (λ link. record { no_fct = tt; limit = sym (begun_limit p limit); bound = tt });
   paired = none_paired (bound_at (begun p limit).inputs) (source_at (begun p limit).outputs)

@@ -95,12 +95,14 @@ can_route plan s l j can free = (set_input s l (record (s.input l) { bound = Som
 pub route_leaves : (plan : SwitchPlan) (s : Switch) (l j : ℕ) → CanRoute plan s l j → CanLeave plan s l j
 route_leaves plan s l j can = record { body = can.1.body; unbound = can.1.unbound; leaves = can.1.group }
 
-pub not_free : (plan : SwitchPlan) (s : Switch) (l j : ℕ) (b : Bool) → (IsTrue b ↔ IsFree s j) → b ≡ false → IsTrue false ↔ CanRoute plan s l j
-not_free plan s l j b is no_way = (λ t. absurd (cc), λ can. (let t : b ≡ true = is.1 can.1.free in absurd (cc)))
+pub in_group_free : (plan : SwitchPlan) (s : Switch) (l j first last : ℕ) (b : Bool) → (IsTrue b ↔ ((j < 32) × IsFree s j)) → last < 32 → ((j : ℕ) → CanLeave plan s l j ↔ ((first ≤ j) × (j ≤ last))) → (first ≤ j) × (j ≤ last) → IsTrue b ↔ CanRoute plan s l j
+in_group_free plan s l j first last b free few group within =
+    let high = within.1 in
+    (λ t. can_route plan s l j ((group j).1 within) (free.0 t).1, λ can. free.1 (omega arith, can.1.free))
 
-pub in_choices : (plan : SwitchPlan) (s : Switch) (l j first last : ℕ) (b c : Bool) → (IsTrue b ↔ IsFree s j) → b ≡ true → ((j : ℕ) → CanLeave plan s l j ↔ ((first ≤ j) × (j ≤ last))) → (IsTrue c ↔ ((first ≤ j) × (j ≤ last))) → IsTrue c ↔ CanRoute plan s l j
-in_choices plan s l j first last b c free is group within =
-    (λ t. can_route plan s l j ((group j).1 (within.0 t)) (free.0 is), λ can. within.1 ((group j).0 (route_leaves plan s l j can)))
+pub out_of_group : (plan : SwitchPlan) (s : Switch) (l j first last : ℕ) (b : Bool) → ((j : ℕ) → CanLeave plan s l j ↔ ((first ≤ j) × (j ≤ last))) → (IsTrue b ↔ ((first ≤ j) × (j ≤ last))) → b ≡ false → IsTrue b ↔ CanRoute plan s l j
+out_of_group plan s l j first last b group within is =
+    (λ t. (let h : b ≡ true = t in absurd (cc)), λ can. within.1 ((group j).0 (route_leaves plan s l j can)))
 
 pub no_group : (plan : SwitchPlan) (s : Switch) (l j : ℕ) → ((j : ℕ) → CanLeave plan s l j → ⊥) → IsTrue false ↔ CanRoute plan s l j
 no_group plan s l j none = (λ t. absurd (cc), λ can. absurd (none j (route_leaves plan s l j can)))

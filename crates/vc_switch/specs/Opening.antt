@@ -25,7 +25,7 @@ deletes [] link = false
 deletes (l ∷ ls) link = l == link || deletes ls link
 
 abbrev pub plan_given : Given → SwitchPlan
-plan_given p = record { table = p.table; random = λ link. interval_of (range_given p.random link); deletes = deletes p.delete }
+plan_given p = record { table = p.table; random = λ link. interval_of (range_given p.random.now link); deletes = deletes p.delete.now }
 
 -- the values at 0 to n - 1
 abbrev pub listed : {X : Type 0} → (ℕ → X) → ℕ → List X

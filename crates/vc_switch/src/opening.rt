@@ -6,7 +6,6 @@ use crate::link_in::LinkIn;
 use crate::link_out::LinkOut;
 use crate::random_range::RandomRange;
 use crate::switch_plan::RandomInput;
-use sqlite_items::Items;
 use std::alloc::Global;
 use vc_packets::Memory;
 
@@ -15,18 +14,6 @@ pub(crate) const LINKS: u8 = 32;
 
 /// What the links do with headers: the random range of each input link, and whether each output link deletes the front header.
 pub(crate) fn headers(
-    alloc: Global,
-    random: Items<RandomInput>,
-    delete: Items<u8>,
-) -> Result<(Vec<Option<RandomRange>>, Vec<bool>), Memory>
-    ensures ranges { IfOk result (λ all. all.0.items ≡ listed (range_given random) link_count) }
-    ensures deletions { IfOk result (λ all. all.1.items ≡ listed (deletes delete) link_count) }
-{
-    headers_by(alloc, random.as_slice(), delete.as_slice())
-}
-
-// What the links do with headers, by these lists.
-fn headers_by(
     alloc: Global,
     random: &[RandomInput],
     delete: &[u8],

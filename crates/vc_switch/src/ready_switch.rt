@@ -2,7 +2,6 @@
 ghost use Rattle.std.specs.Prelude.{◌≡◌, ◌≢◌, ◌<◌, ◌≤◌, ◌↔◌, ℕ, IsOk, IfOk, get_or};
 ghost use Rattle.std.specs.Int.{bit_at};
 ghost use Rattle.std.specs.List.{AllByRecursion};
-ghost use Rattle.vc_labels.specs.Lawful.{IsLawful};
 ghost use Rattle.vc_tokens.specs.Spelt.{token};
 ghost use Rattle.vc_switch.specs.Waiting.{Wormhole};
 ghost use Rattle.vc_switch.specs.Switch.{new_switch, Comes, Passes, Routes, Sends, SendsFct};
@@ -85,12 +84,11 @@ impl Model for ReadySwitch {
 impl ReadySwitch {
     /// A switch of this plan with nothing on its links, for packets whose headers and data have at most `body_limit` bytes.
     pub fn new(alloc: Global, plan: SwitchPlan, body_limit: usize) -> Result<ReadySwitch, Memory>
-        requires table { IsLawful plan.table }
         requires limit { 2 ≤ body_limit }
-        requires delete { AllByRecursion (λ link. link < 32) plan.delete }
-        requires random { AllByRecursion IsRandomInput plan.random }
+        requires delete { AllByRecursion (λ link. link < 32) plan.delete.now }
+        requires random { AllByRecursion IsRandomInput plan.random.now }
         ensures seen { IfOk result (λ switch. seen switch ≡ new_switch) }
-        ensures plan { IfOk result (λ switch. plan_of switch ≡ plan_given plan) }
+        ensures plan { IfOk result (λ switch. plan_of switch ≡ plan_given plan.entry) }
         ensures limit { IfOk result (λ switch. limit_of switch.inputs ≡ body_limit) }
     {
         Ok(ReadySwitch {

@@ -1,9 +1,9 @@
 //! A switch: the calls by which it is run, each a step of the switch.
 //!
-//! A link is named by its number at the switch, 0 to 31. Only [`Switch::new`] takes memory.
+//! A link is named by its number at the switch, 0 to 31. A question about another is answered false, or with nothing. Only
+//! [`Switch::new`] takes memory.
 ghost use Rattle.std.specs.Prelude.{◌≡◌, ◌<◌, ◌≤◌, ◌↔◌, ◌++◌, ℕ, List, length, drop, None, Some, IsTrue, IsOk, IfOk, MatchOption};
 ghost use Rattle.std.specs.List.{AllByRecursion};
-ghost use Rattle.vc_labels.specs.Lawful.{IsLawful};
 ghost use Rattle.vc_packets.specs.Counting.{one_more};
 ghost use Rattle.vc_tokens.specs.Spelt.{token, tokens};
 ghost use Rattle.vc_tokens.specs.Tokens.{Byte, Fct, EndMark};
@@ -23,7 +23,7 @@ ghost use Rattle.vc_switch.specs.Seen.{seen, IsKept, IsBoundTo, IsNext};
 use crate::front::find_front;
 use crate::link_in::{Bound, LinkIn};
 use crate::link_out::LinkOut;
-use crate::opening;
+use crate::opening::{self, LINKS};
 use crate::random_range::{RandomRange, draw};
 use crate::switch_plan::SwitchPlan;
 use std::alloc::Global;
@@ -56,23 +56,19 @@ impl Model for Switch {
 impl Switch {
     /// A switch of this plan with nothing on its links, for packets whose headers and data have at most `body_limit` bytes.
     pub fn new(alloc: Global, plan: SwitchPlan, body_limit: usize) -> Result<Switch, Memory>
-        requires table { IsLawful plan.table }
         requires limit { 2 ≤ body_limit }
-        requires delete { AllByRecursion (λ link. link < 32) plan.delete }
-        requires random { AllByRecursion IsRandomInput plan.random }
+        requires delete { AllByRecursion (λ link. link < 32) plan.delete.now }
+        requires random { AllByRecursion IsRandomInput plan.random.now }
         ensures seen { IfOk result (λ switch. seen switch ≡ new_switch) }
-        ensures plan { IfOk result (λ switch. plan_of switch ≡ plan_given plan) }
+        ensures plan { IfOk result (λ switch. plan_of switch ≡ plan_given plan.entry) }
         ensures limit { IfOk result (λ switch. limit_of switch.inputs ≡ body_limit) }
     {
-        let SwitchPlan {
-            table,
-            delete,
-            random,
-        } = plan;
-        let (ranges, deletes) = opening::headers(alloc, random, delete)?;
+        // a table's rows are lawful
+        let _rows = plan.table.rows();
+        let (ranges, deletes) = opening::headers(alloc, plan.random, plan.delete)?;
         let (inputs, outputs) = opening::links(alloc, body_limit)?;
         Ok(Switch {
-            table,
+            table: plan.table,
             ranges,
             deletes,
             inputs,
@@ -81,11 +77,11 @@ impl Switch {
         })
     }
 
-    /// Whether a token may come over a link: it always may.
+    /// Whether a token may come over a link: always, where the switch has the link.
     pub fn may_take(&self, link: u8) -> bool
-        ensures { IsTrue result }
+        ensures { IsTrue result ↔ (link < 32) }
     {
-        true
+        link < LINKS
     }
 
     /// A token comes over a link, with a word for a random header: an FCT is credit for the output of the same link, all else goes
@@ -130,10 +126,12 @@ impl Switch {
 
     /// Whether a token may pass from a link's buffer: one waits, and no packet is whole in the input.
     pub fn may_pass(&self, link: u8) -> bool
-        requires { link < 32 }
         ensures { IsTrue result ↔ CanPass (limit_of self.now.inputs) (plan_of self.now) (seen self.now) link }
     {
-        self.inputs[usize::from(link)].may_pass()
+        match self.inputs.get(usize::from(link)) {
+            Some(input) => input.may_pass(),
+            None => false,
+        }
     }
 
     /// A token passes from a link's buffer: a byte joins the packet that is arriving, or is dropped and counted past the limit; with
@@ -187,10 +185,12 @@ impl Switch {
 
     /// Whether an FCT may be put on a link: eight places of its buffer are free and not promised.
     pub fn may_grant(&self, link: u8) -> bool
-        requires { link < 32 }
-        ensures { IsTrue result ↔ CanGrant (seen self.now) link }
+        ensures { IsTrue result ↔ ((link < 32) × CanGrant (seen self.now) link) }
     {
-        self.inputs[usize::from(link)].may_grant()
+        match self.inputs.get(usize::from(link)) {
+            Some(input) => input.may_grant(),
+            None => false,
+        }
     }
 
     /// An FCT is put on a link.
@@ -206,10 +206,9 @@ impl Switch {
     /// The group of links by which an input's packet may leave, its first and its last: it is bound to none yet, and its front
     /// header is there and has this group.
     pub fn choices(&self, input: u8) -> Option<(u8, u8)>
-        requires { input < 32 }
         ensures { MatchOption result ((output : ℕ) → CanLeave (plan_of self.now) (seen self.now) input output → ⊥) (λ group. (group.0 ≤ group.1) × (group.1 < 32) × ((output : ℕ) → CanLeave (plan_of self.now) (seen self.now) input output ↔ ((group.0 ≤ output) × (output ≤ group.1)))) }
     {
-        let waiting = &self.inputs[usize::from(input)];
+        let waiting = self.inputs.get(usize::from(input))?;
         if !waiting.is_idle() {
             return None;
         }
@@ -240,31 +239,30 @@ impl Switch {
 
     /// The input whose packet is bound to an output.
     pub(crate) fn source(&self, output: u8) -> Option<u8>
-        requires { output < 32 }
         ensures { MatchOption result (IsFree (seen self.now) output) (λ input. (input < 32) × (((seen self.now).input input).bound ≡ Some output)) }
     {
-        self.outputs[usize::from(output)].source
+        match self.outputs.get(usize::from(output)) {
+            Some(link) => link.source,
+            None => None,
+        }
     }
 
-    /// Whether no input is bound to an output.
+    /// Whether the switch has an output, and no input is bound to it.
     pub fn free(&self, link: u8) -> bool
-        requires { link < 32 }
-        ensures { IsTrue result ↔ IsFree (seen self.now) link }
+        ensures { IsTrue result ↔ ((link < 32) × IsFree (seen self.now) link) }
     {
-        self.outputs[usize::from(link)].is_free()
+        match self.outputs.get(usize::from(link)) {
+            Some(output) => output.is_free(),
+            None => false,
+        }
     }
 
     /// Whether an input's packet may be bound to an output: the output is in the packet's group, and free.
     pub fn may_route(&self, input: u8, output: u8) -> bool
-        requires input { input < 32 }
-        requires output { output < 32 }
         ensures { IsTrue result ↔ CanRoute (plan_of self.now) (seen self.now) input output }
     {
-        if !self.free(output) {
-            return false;
-        }
         match self.choices(input) {
-            Some((first, last)) => is_within(first, last, output),
+            Some((first, last)) => is_within(first, last, output) && self.free(output),
             None => false,
         }
     }
@@ -291,10 +289,9 @@ impl Switch {
 
     // The input whose packet is bound to an output, and how it leaves by it.
     fn bound_to(&self, output: u8) -> Option<(u8, Bound)>
-        requires { output < 32 }
         ensures { MatchOption result (IsFree (seen self.now) output) (λ r. IsBoundTo self.now output r.0 r.1) }
     {
-        match self.outputs[usize::from(output)].source {
+        match self.source(output) {
             None => None,
             Some(source) => match self.inputs[usize::from(source)].bound {
                 None => None,
@@ -305,7 +302,6 @@ impl Switch {
 
     /// Whether a token may be put on an output: there is credit, and a token of the packet that is bound to it.
     pub fn may_put(&self, output: u8) -> bool
-        requires { output < 32 }
         ensures { IsTrue result ↔ CanPut (plan_of self.now) (seen self.now) output }
     {
         match self.bound_to(output) {

@@ -1,5 +1,4 @@
 //! Switches, as they are given their plan.
-use sqlite_items::Items;
 use vc_labels::Table;
 
 /// An input link that puts a random header before each packet ("Networks, Routers and Transputers", chapter 1, universal routing).
@@ -13,13 +12,13 @@ pub struct RandomInput {
     pub limit: u32,
 }
 
-/// What a switch is given: its table, and what its links do with headers.
+/// What a switch is given: its table, and what its links do with headers. The lists are read and not kept.
 #[derive(Drop)]
-pub struct SwitchPlan {
+pub struct SwitchPlan<'a> {
     /// By which links a header leaves.
     pub table: Table,
     /// The output links that delete the front header of each packet that leaves by them, each 0 to 31.
-    pub delete: Items<u8>,
+    pub delete: &'a [u8],
     /// The input links that put a random header. Where a link stands twice, the first counts.
-    pub random: Items<RandomInput>,
+    pub random: &'a [RandomInput],
 }

@@ -146,7 +146,7 @@ can_pass_with s l most (EndMark m ∷ rest) own wired here none some =
       passes = passes_mark m rest a.taken a.new here refl a.arrives refl;
     }
 
-waits_for : (old : Vcp) (l most : ℕ) (ends : Ends) (t : Option Taken) (new : Vcp) → Passes most ends old l t new → (old.link l).receiver.buffer ≢ []
+pub waits_for : (old : Vcp) (l most : ℕ) (ends : Ends) (t : Option Taken) (new : Vcp) → Passes most ends old l t new → (old.link l).receiver.buffer ≢ []
 waits_for old l most ends t new (passes_byte b rest here taken room after) none = let e : Byte b ∷ rest ≡ [] = sym here ∙ none in absurd (cc)
 waits_for old l most ends t new (drops_byte b rest here taken full after) none = let e : Byte b ∷ rest ≡ [] = sym here ∙ none in absurd (cc)
 waits_for old l most ends t new (passes_mark m rest what carrier here taken arrives after) none = let e : EndMark m ∷ rest ≡ [] = sym here ∙ none in absurd (cc)

@@ -16,3 +16,5 @@ pub mod Passing
 pub mod Enabling
 pub mod Arriving
 pub mod Hinting
+pub mod Beyond
+pub mod LeavingWhole

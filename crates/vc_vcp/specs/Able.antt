@@ -1,9 +1,10 @@
 -- Which steps a node can make: those that lead to some state.
 use Rattle.std.specs.Prelude.{◌≡◌, ◌≢◌, ℕ, false, List, Option, None}
+use Rattle.vc_packets.specs.declared.packet.Packet.{Packet}
 use Rattle.vc_tokens.specs.Tokens.{Token}
 use Rattle.vc_vcp.specs.Carrier.{End, Ends, InHalf, Carrier}
 use Rattle.vc_vcp.specs.Steps.{Offers, IsOpen, Wants, Fetches, Stops, Taken}
-use Rattle.vc_vcp.specs.Links.{Vcp, Comes, Passes, Sends, SendsFct}
+use Rattle.vc_vcp.specs.Links.{Vcp, Comes, LeavesWhole, Passes, Sends, SendsFct}
 
 -- an output of this message can begin on the channel
 abbrev pub CanOffer : Ends → Carrier → ℕ → List ℕ → Type 0
@@ -34,6 +35,12 @@ pub record CanPut (old : Vcp) (link : ℕ) : Type 0 where
   pub token : Token
   pub new : Vcp
   pub sends : Sends old link token new
+
+-- a packet can leave the link's send queue whole
+pub record CanLeaveWhole (old : Vcp) (link : ℕ) : Type 0 where
+  pub packet : Packet
+  pub new : Vcp
+  pub leaves : LeavesWhole old link packet new
 
 -- an FCT can go out by the link
 abbrev pub CanGrant : Vcp → ℕ → Type 0

@@ -59,6 +59,13 @@ unqueued a link rest (EndMark m) = record a { queue = put a.queue link rest }
 unqueued a link rest (Byte b) = a
 unqueued a link rest Fct = a
 
+-- the packet at the front of the link's send queue leaves it whole, of which no token has gone out, and all else stays
+pub record LeavesWhole (old : Vcp) (link : ℕ) (p : Packet) (new : Vcp) : Type 0 where
+  pub rest : List Packet
+  pub front : old.carrier.queue link ≡ p ∷ rest
+  pub whole : (old.link link).sender.sent ≡ []
+  pub after : new ≡ record old { carrier = record old.carrier { queue = put old.carrier.queue link rest } }
+
 -- the next token of the packet at the front of the link's send queue goes out
 pub record Sends (old : Vcp) (link : ℕ) (k : Token) (new : Vcp) : Type 0 where
   pub packet : Packet

@@ -1,10 +1,10 @@
 //! The sending end of a node's link: packets wait in its queue, and the one at the front goes out token by token.
 //!
 //! Each token that is put spends one of the credit, and an FCT that comes adds eight. A packet leaves the queue with its mark.
-ghost use Rattle.std.specs.Prelude.{◌≡◌, ◌≢◌, ◌<◌, ◌≤◌, ◌+◌, [], ◌∷◌, ◌++◌, ◌↔◌, IsTrue, OnOk, OnErr, slice_get, drop};
+ghost use Rattle.std.specs.Prelude.{◌≡◌, ◌≢◌, ◌<◌, ◌≤◌, ◌+◌, [], ◌∷◌, ◌++◌, ◌↔◌, None, IsTrue, IfSome, OnOk, OnErr, slice_get, drop};
 ghost use Rattle.vc_tokens.specs.Spelt.{token};
 ghost use Rattle.vc_credit.specs.Ends.{credited};
-ghost use Rattle.vc_vcp.specs.LinkOut.{PutsFront, CanPutFront, Unqueues};
+ghost use Rattle.vc_vcp.specs.LinkOut.{PutsFront, CanPutFront, TakesFront, HasNoneWhole, Unqueues};
 ghost use Rattle.std.specs.Bool.{OnTrue};
 ghost use Rattle.std.specs.Option.{option_copied};
 
@@ -71,6 +71,18 @@ impl LinkOut {
         ensures { option_copied result ≡ slice_get self.now.queue 0 }
     {
         self.queue.front()
+    }
+
+    /// Takes the packet at the front out of the queue; none where no packet waits, or where a token of the first one was put.
+    pub(crate) fn take_front(&mut self) -> Option<Packet>
+        ensures takes { IfSome result (λ p. TakesFront self.old p self.new) }
+        ensures none { result ≡ None → HasNoneWhole self.old }
+        ensures same { result ≡ None → self.new ≡ self.old }
+    {
+        if self.sent > 0 {
+            return None;
+        }
+        self.queue.pop_front()
     }
 
     /// The packets that wait, in two parts: those of the first go out before those of the second.

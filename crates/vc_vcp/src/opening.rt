@@ -13,7 +13,7 @@ use vc_blocks::{InHalf, OutHalf};
 use vc_packets::Memory;
 
 /// How many links a node has.
-const LINKS: usize = 4;
+pub(crate) const LINKS: usize = 4;
 
 /// The outputs of these ends, in their order.
 pub(crate) fn outputs(alloc: Global, ends: &[End]) -> Result<Vec<Output>, Memory>

@@ -1,18 +1,18 @@
 //! The virtual channel processor of a node: the calls by which it is run, each a step of the node.
 //!
-//! A channel is named by its number in the network, a link by its number at the node, 0 to 3. A call that finds no memory
-//! answers `Memory`, and has changed nothing.
-ghost use Rattle.std.specs.Prelude.{◌≡◌, ◌≢◌, ◌<◌, None, Ok, ℕ, List, length, slice_get, ◌↔◌, [], false, Some, IsTrue, IsOk, IfOk, IfSome, OnOk, OnErr};
+//! A channel is named by its number in the network, a link by its number at the node, 0 to 3. A question about another link is
+//! answered false, or with nothing. A call that finds no memory answers `Memory`, and has changed nothing.
+ghost use Rattle.std.specs.Prelude.{◌≡◌, ◌≢◌, ◌<◌, ◌≤◌, None, Ok, ℕ, List, length, slice_get, ◌↔◌, [], false, Some, IsTrue, IsOk, IsSome, IfOk, IfSome, OnOk, OnErr};
 ghost use Rattle.vc_vcp.specs.Keyed.{named};
 ghost use Rattle.std.specs.List.{AllByRecursion};
 ghost use Rattle.vc_packets.specs.declared.packet.Packet.{Packet};
 ghost use Rattle.vc_vcp.specs.Bound.{IsBound};
 ghost use Rattle.vc_vcp.specs.State.{IsInput, IsIdle, IsUnwanted, IsOpen, MayPut, MayGrant, IsPieceOf, limit_of};
 ghost use Rattle.vc_vcp.specs.Seen.{ends_of, seen, Inputs, IsKept, taken_of, passed_of, Acks};
-ghost use Rattle.vc_vcp.specs.Links.{new_vcp, Comes, Passes, Sends, SendsFct};
+ghost use Rattle.vc_vcp.specs.Links.{new_vcp, Comes, LeavesWhole, Passes, Sends, SendsFct};
 ghost use Rattle.vc_credit.specs.Ends.{IsFront};
 ghost use Rattle.vc_vcp.specs.Steps.{Offers, Stops, Arrives, Stray};
-ghost use Rattle.vc_vcp.specs.Able.{CanOffer, CanWant, CanFetch, CanStop, CanPut, CanGrant, CanPass, IsReady};
+ghost use Rattle.vc_vcp.specs.Able.{CanOffer, CanWant, CanFetch, CanStop, CanPut, CanLeaveWhole, CanGrant, CanPass, IsReady};
 ghost use Rattle.std.specs.Option.{option_copied};
 ghost use Rattle.vc_vcp.specs.Opening.{ends_given, AreDistinct};
 ghost use Rattle.vc_packets.specs.Counting.{one_more};
@@ -26,7 +26,7 @@ use crate::hints::Hints;
 use crate::input::{self, Input};
 use crate::link_in::LinkIn;
 use crate::link_out::LinkOut;
-use crate::opening;
+use crate::opening::{self, LINKS};
 use crate::output::Output;
 use crate::places::{input_of, input_on, output_of, output_on};
 use crate::taken::{self, Taken};
@@ -280,28 +280,49 @@ impl Vcp {
 
     /// Whether a token may pass from a link's buffer: one waits.
     pub fn may_pass(&self, link: u8) -> bool
-        requires { link < 4 }
         ensures waits { IsTrue result ↔ (((seen self.now).link link).receiver.buffer ≢ []) }
         ensures can { IsTrue result ↔ CanPass (limit_of self.now.ins) (ends_of self.now) (seen self.now) link }
     {
-        !self.ins[usize::from(link)].is_empty()
+        match self.ins.get(usize::from(link)) {
+            Some(into) => !into.is_empty(),
+            None => false,
+        }
     }
 
     /// The packet at the front of a link's send queue, if one waits.
-    pub fn next_out(&self, link: u8) -> Option<&Packet>
-        requires { link < 4 }
+    pub fn front_out(&self, link: u8) -> Option<&Packet>
         ensures { option_copied result ≡ slice_get ((seen self.now).carrier.queue link) 0 }
     {
-        self.outs[usize::from(link)].front()
+        match self.outs.get(usize::from(link)) {
+            Some(out) => out.front(),
+            None => None,
+        }
+    }
+
+    /// Takes the packet at the front of a link's send queue out of it, for a client that carries whole packets; `put` gives the
+    /// same packets token by token. The answer is none, and nothing changes, where no packet waits, where a token of the first one was
+    /// put, or where the node has no such link.
+    pub fn next_out(&mut self, link: u8) -> Option<Packet>
+        ensures can { IsSome result ↔ CanLeaveWhole (seen self.old) link }
+        ensures leaves { IfSome result (λ p. LeavesWhole (seen self.old) link p (seen self.new)) }
+        ensures kept { IsKept self.old self.new }
+        ensures none { result ≡ None → self.new ≡ self.old }
+    {
+        if link >= self.links() {
+            return None;
+        }
+        self.outs[usize::from(link)].take_front()
     }
 
     /// Whether a token may be put on a link: there is credit, and a packet waits.
     pub fn may_put(&self, link: u8) -> bool
-        requires { link < 4 }
         ensures may { IsTrue result ↔ MayPut self.now link }
         ensures can { IsTrue result ↔ CanPut (seen self.now) link }
     {
-        self.outs[usize::from(link)].may_put()
+        match self.outs.get(usize::from(link)) {
+            Some(out) => out.may_put(),
+            None => false,
+        }
     }
 
     /// Puts the next token of the packet at the front of a link's send queue; with its mark the packet leaves the queue.
@@ -316,11 +337,13 @@ impl Vcp {
 
     /// Whether an FCT may be put on a link: eight places of its buffer are free and not promised.
     pub fn may_grant(&self, link: u8) -> bool
-        requires { link < 4 }
         ensures may { IsTrue result ↔ MayGrant self.now link }
-        ensures can { IsTrue result ↔ CanGrant (seen self.now) link }
+        ensures can { IsTrue result ↔ ((link < 4) × CanGrant (seen self.now) link) }
     {
-        self.ins[usize::from(link)].may_grant()
+        match self.ins.get(usize::from(link)) {
+            Some(into) => into.may_grant(),
+            None => false,
+        }
     }
 
     /// An FCT is put on a link.
@@ -332,13 +355,18 @@ impl Vcp {
         self.ins[usize::from(link)].grant();
     }
 
-    /// A token comes over a link: an FCT is credit, all else goes to the buffer. It is dropped and counted where it is not due.
+    /// A token comes over a link: an FCT is credit, all else goes to the buffer. It is dropped and counted where it is not due, or
+    /// where the node has no such link.
     #[inline(always)]
     pub fn accept(&mut self, link: u8, came: Token)
-        requires { link < 4 }
-        ensures comes { Comes (seen self.old) link (token came) (seen self.new) }
+        ensures comes { link < 4 → Comes (seen self.old) link (token came) (seen self.new) }
+        ensures beyond { 4 ≤ link → self.new ≡ record self.old { strays = one_more self.old.strays } }
         ensures kept { IsKept self.old self.new }
     {
+        if usize::from(link) >= LINKS {
+            self.drop_one();
+            return;
+        }
         match came {
             Token::Fct => self.accept_credit(link),
             Token::Byte(_) | Token::Eop | Token::Eom => self.accept_data(link, came),

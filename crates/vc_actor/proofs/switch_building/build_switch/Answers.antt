@@ -11,20 +11,18 @@ pub new-requires-2-clause-delete : goal.new-requires-2-clause-delete
 new-requires-2-clause-delete c =
     let p = c.args.plan.now in
     let t = both (list_all (λ l. nat_le l 31) p.delete) (list_all (λ (r : RandomInput). nat_le r.link 31) p.random) c.requires.links in
-    let same : c.in_ok-delete.delete ≡ p.delete = c.in_ok-delete.ensures ∙ c.as_slice-2.ensures in
-    subst (AllByRecursion (λ link. link < 32)) (sym same) (links_small p.delete t.0)
+    subst (AllByRecursion (λ link. link < 32)) (sym c.as_slice-3.ensures) (links_small p.delete t.0)
 
 pub new-requires-2-clause-random : goal.new-requires-2-clause-random
 new-requires-2-clause-random c =
     let p = c.args.plan.now in
     let t = both (list_all (λ l. nat_le l 31) p.delete) (list_all (λ (r : RandomInput). nat_le r.link 31) p.random) c.requires.links in
-    let same : c.in_ok-random.random ≡ ranges_given p.random = c.in_ok-random.ensures ∙ ap ranges_given c.as_slice-3.ensures in
+    let same : c.as_slice-4.result.now ≡ ranges_given p.random = c.as_slice-4.ensures ∙ c.in_ok-random.ensures ∙ ap ranges_given c.as_slice-2.ensures in
     subst (AllByRecursion IsRandomInput) (sym same) (ranges_fit p.random c.requires.ranges t.1)
 
 pub returns : goal.returns
 returns c =
     let p = c.args.plan.now in
     let table : c.in-Ok.table ≡ p.rows = search rules in
-    let delete : c.in_ok-delete.delete ≡ p.delete = c.in_ok-delete.ensures ∙ c.as_slice-2.ensures in
-    let random : c.in_ok-random.random ≡ ranges_given p.random = c.in_ok-random.ensures ∙ ap ranges_given c.as_slice-3.ensures in
-    built p (record { table = c.in-Ok.table; delete = c.in_ok-delete.delete; random = c.in_ok-random.random }) c.args.body_limit c.new-2.result table delete random c.new-2.ensures.seen c.new-2.ensures.plan c.new-2.ensures.limit
+    let random : c.as_slice-4.result.now ≡ ranges_given p.random = c.as_slice-4.ensures ∙ c.in_ok-random.ensures ∙ ap ranges_given c.as_slice-2.ensures in
+    built p (record { table = c.in-Ok.table; delete = c.as_slice-3.result; random = c.as_slice-4.result }) c.args.body_limit c.new-2.result table c.as_slice-3.ensures random c.new-2.ensures.seen c.new-2.ensures.plan c.new-2.ensures.limit

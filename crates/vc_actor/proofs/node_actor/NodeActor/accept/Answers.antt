@@ -10,4 +10,4 @@ use Rattle.vc_actor.proofs.node_actor.NodeActor.accept.Goals as goal
 pub returns : goal.returns
 returns c =
     alike (λ x y. (plan : _) (k word : _) → IsActorOf plan k x → MakesTake plan k x c.args.link word (token c.args.came) y) (OfNode c.self.inside.node) (OfNode c.args.self.now) _ _ (ap OfNode c.self.view_is) refl
-    (λ plan k word is. takes plan k c.self.inside.node _ c.args.link word _ is c.accept.ensures.comes c.accept.ensures.kept refl refl)
+    (λ plan k word is. takes plan k c.self.inside.node _ c.args.link word _ is (c.accept.ensures.comes c.requires) c.accept.ensures.kept refl refl)

@@ -23,7 +23,7 @@ returns-then-free-clause-may c =
     let few = c.requires.few in
     let small : o < 32 = omega arith in
     let high : o ≤ c.args.last = omega arith in
-    record { links = (c.requires.input, small); can = route_can (plan_of s) (seen s) c.args.input o ((c.requires.group o).1 (low, high)) (subst (λ z. IsFree (seen z) o) c.switch.ensures (c.if-free.ensures.0 refl)) }
+    record { links = (c.requires.input, small); can = route_can (plan_of s) (seen s) c.args.input o ((c.requires.group o).1 (low, high)) (subst (λ z. IsFree (seen z) o) c.switch.ensures (c.if-free.ensures.0 refl).1) }
 
 pub returns-then-free-clause-finds : goal.returns-then-free-clause-finds
 returns-then-free-clause-finds c =
@@ -32,12 +32,15 @@ returns-then-free-clause-finds c =
     let low : c.args.first ≤ o = omega arith in
     let t = c.loop-output-test.true in
     let high : o ≤ c.args.last = omega arith in
-    (o, refl, route_can (plan_of s) (seen s) c.args.input o ((c.requires.group o).1 (low, high)) (subst (λ z. IsFree (seen z) o) c.switch.ensures (c.if-free.ensures.0 refl)), c.loop-output.invariant)
+    (o, refl, route_can (plan_of s) (seen s) c.args.input o ((c.requires.group o).1 (low, high)) (subst (λ z. IsFree (seen z) o) c.switch.ensures (c.if-free.ensures.0 refl).1), c.loop-output.invariant)
 
 pub loop-output-preserved : goal.loop-output-preserved
 loop-output-preserved c =
     let s = c.args.self.now.switch in
-    none_more (SwitchCan s) (λ o. Route c.args.input o) c.loop-output.output c.loop-output.invariant (λ can. clash c.free.result c.if-free.false (c.free.ensures.1 (subst (λ z. IsFree (seen z) c.loop-output.output) (sym c.switch.ensures) can.1.free)))
+    let t = c.loop-output-test.true in
+    let few = c.requires.few in
+    let small : c.loop-output.output < 32 = omega arith in
+    none_more (SwitchCan s) (λ o. Route c.args.input o) c.loop-output.output c.loop-output.invariant (λ can. clash c.free.result c.if-free.false (c.free.ensures.1 (small, subst (λ z. IsFree (seen z) c.loop-output.output) (sym c.switch.ensures) can.1.free)))
 
 pub returns-clause-finds : goal.returns-clause-finds
 returns-clause-finds c = λ o can.

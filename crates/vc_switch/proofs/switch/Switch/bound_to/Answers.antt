@@ -1,62 +1,36 @@
-use Rattle.std.proofs.Common.{◌≡◌, ◌<◌, sym, refl, subst, arith, slice_get, length, vec_len, rules, Some}
+use Rattle.std.proofs.Common.{◌≡◌, ◌<◌, sym, ap, ◌∙◌, subst, slice_get, Some, None}
 use Rattle.std.proofs.lemmas.Option.{slice_get_read}
-use Rattle.vc_switch.specs.State.{IsSwitch}
-use Rattle.vc_switch.proofs.Enabling.{free_none}
-use Rattle.vc_switch.proofs.Putting.{source_of, source_within, source_bound}
+use Rattle.vc_switch.specs.State.{IsSwitch, output_of}
+use Rattle.vc_switch.proofs.Placed.{at_link}
+use Rattle.vc_switch.proofs.Showing.{bound_is, input_at}
 use Rattle.vc_switch.proofs.switch.Switch.bound_to.Goals as goal
 
-pub index-requires-in-Some : goal.index-requires-in-Some
-index-requires-in-Some c =
-    let x = c.self.inside in
-    let within : c.from.result < 32 = omega arith in
-    let p = c.index.result.now in
-    let read = slice_get_read x.outputs.items 32 c.from.result p (sym c.self.invariant.output_links) within c.index.ensures in
-    let there = subst (λ z. slice_get z.outputs c.args.output ≡ Some p) c.self.view_is (subst (λ j. slice_get x.outputs.items j ≡ Some p) c.from.ensures read) in
-    let w = subst IsSwitch c.self.view_is c.self.invariant in
-    let source = source_of c.args.self.now c.args.output p (Some c.in-Some.source) there c.in-Some.is in
-    let less : c.in-Some.source < length c.args.self.now.inputs = source_within c.args.self.now c.args.output c.in-Some.source w source in
-    let low : c.from-in-Some.result < length x.inputs.items = subst (λ z. c.from-in-Some.result < length z.inputs) (sym c.self.view_is) (subst (λ k. k < length c.args.self.now.inputs) (sym c.from-in-Some.ensures) less) in
-    let len : vec_len x.inputs ≡ length x.inputs.items = search rules in
-    subst (λ n. c.from-in-Some.result < n) (sym len) low
+pub index-requires : goal.index-requires
+index-requires c = at_link c.self.inside.inputs c.from.result c.in-Some.source c.from.ensures c.in-Some.ensures.0 c.self.invariant.input_links
 
 pub returns-in-None : goal.returns-in-None
-returns-in-None c =
-    let x = c.self.inside in
-    let within : c.from.result < 32 = omega arith in
-    let p = c.index.result.now in
-    let read = slice_get_read x.outputs.items 32 c.from.result p (sym c.self.invariant.output_links) within c.index.ensures in
-    let there = subst (λ z. slice_get z.outputs c.args.output ≡ Some p) c.self.view_is (subst (λ j. slice_get x.outputs.items j ≡ Some p) c.from.ensures read) in
-    let w = subst IsSwitch c.self.view_is c.self.invariant in
-    free_none c.args.self.now c.args.output p w there c.in-None.is
+returns-in-None c = c.in-None.ensures
 
 pub returns-in-None-bound : goal.returns-in-None-bound
 returns-in-None-bound c =
+    let s = c.args.self.now in
     let x = c.self.inside in
-    let within : c.from.result < 32 = omega arith in
-    let p = c.index.result.now in
-    let read = slice_get_read x.outputs.items 32 c.from.result p (sym c.self.invariant.output_links) within c.index.ensures in
-    let there = subst (λ z. slice_get z.outputs c.args.output ≡ Some p) c.self.view_is (subst (λ j. slice_get x.outputs.items j ≡ Some p) c.from.ensures read) in
-    let w = subst IsSwitch c.self.view_is c.self.invariant in
-    let source = source_of c.args.self.now c.args.output p (Some c.in-Some.source) there c.in-Some.is in
-    let less : c.in-Some.source < length c.args.self.now.inputs = source_within c.args.self.now c.args.output c.in-Some.source w source in
-    let low : c.from-in-Some.result < length x.inputs.items = subst (λ z. c.from-in-Some.result < length z.inputs) (sym c.self.view_is) (subst (λ k. k < length c.args.self.now.inputs) (sym c.from-in-Some.ensures) less) in
-    let a = c.index-in-Some.result.now in
-    let reads = slice_get_read x.inputs.items (length x.inputs.items) c.from-in-Some.result a refl low c.index-in-Some.ensures in
-    let here = subst (λ z. slice_get z.inputs c.in-Some.source ≡ Some a) c.self.view_is (subst (λ j. slice_get x.inputs.items j ≡ Some a) c.from-in-Some.ensures reads) in
-    absurd (source_bound c.args.self.now c.args.output c.in-Some.source a w source here c.in-None-bound.is)
+    let a = c.index.result.now in
+    let l = c.in-Some.source in
+    let low = subst (λ k. k < 32) (sym c.from.ensures) c.in-Some.ensures.0 in
+    let read = slice_get_read x.inputs.items 32 c.from.result a (sym c.self.invariant.input_links) low c.index.ensures in
+    let here = subst (λ z. slice_get z.inputs l ≡ Some a) c.self.view_is (subst (λ j. slice_get x.inputs.items j ≡ Some a) c.from.ensures read) in
+    let q : None ≡ Some c.args.output = sym (ap (λ z. z.bound) (input_at s l a here) ∙ ap output_of c.in-None-bound.is) ∙ c.in-Some.ensures.1 in
+    absurd (cc)
 
 pub returns-in-Some-bound : goal.returns-in-Some-bound
 returns-in-Some-bound c =
+    let s = c.args.self.now in
     let x = c.self.inside in
-    let within : c.from.result < 32 = omega arith in
-    let p = c.index.result.now in
-    let read = slice_get_read x.outputs.items 32 c.from.result p (sym c.self.invariant.output_links) within c.index.ensures in
-    let there = subst (λ z. slice_get z.outputs c.args.output ≡ Some p) c.self.view_is (subst (λ j. slice_get x.outputs.items j ≡ Some p) c.from.ensures read) in
+    let a = c.index.result.now in
+    let l = c.in-Some.source in
+    let low = subst (λ k. k < 32) (sym c.from.ensures) c.in-Some.ensures.0 in
+    let read = slice_get_read x.inputs.items 32 c.from.result a (sym c.self.invariant.input_links) low c.index.ensures in
+    let here = subst (λ z. slice_get z.inputs l ≡ Some a) c.self.view_is (subst (λ j. slice_get x.inputs.items j ≡ Some a) c.from.ensures read) in
     let w = subst IsSwitch c.self.view_is c.self.invariant in
-    let source = source_of c.args.self.now c.args.output p (Some c.in-Some.source) there c.in-Some.is in
-    let less : c.in-Some.source < length c.args.self.now.inputs = source_within c.args.self.now c.args.output c.in-Some.source w source in
-    let low : c.from-in-Some.result < length x.inputs.items = subst (λ z. c.from-in-Some.result < length z.inputs) (sym c.self.view_is) (subst (λ k. k < length c.args.self.now.inputs) (sym c.from-in-Some.ensures) less) in
-    let a = c.index-in-Some.result.now in
-    let reads = slice_get_read x.inputs.items (length x.inputs.items) c.from-in-Some.result a refl low c.index-in-Some.ensures in
-    let here = subst (λ z. slice_get z.inputs c.in-Some.source ≡ Some a) c.self.view_is (subst (λ j. slice_get x.inputs.items j ≡ Some a) c.from-in-Some.ensures reads) in
-    record { input = a; here = here; bound = c.in-Some-bound.is; source = source }
+    record { input = a; here = here; bound = c.in-Some-bound.is; source = w.paired.ins l c.args.output (sym (bound_is s l) ∙ c.in-Some.ensures.1) }

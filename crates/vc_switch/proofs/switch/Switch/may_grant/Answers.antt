@@ -1,13 +1,17 @@
-use Rattle.std.proofs.Common.{◌≡◌, ◌<◌, sym, subst, arith, slice_get, Some}
-use Rattle.std.proofs.lemmas.Option.{slice_get_read}
-use Rattle.vc_switch.proofs.Enabling.{grant_iff}
+use Rattle.std.proofs.Common.{◌∙◌, ap, subst}
+use Rattle.vc_switch.specs.State.{State, IsSwitch}
+use Rattle.vc_switch.proofs.Beyond.{grant_there, no_grant}
+use Rattle.vc_switch.proofs.Placed.{got, got_none}
 use Rattle.vc_switch.proofs.switch.Switch.may_grant.Goals as goal
 
-pub returns : goal.returns
-returns c =
-    let x = c.self.inside in
-    let a = c.index.result.now in
-    let within : c.from.result < 32 = omega arith in
-    let read = slice_get_read x.inputs.items 32 c.from.result a (sym c.self.invariant.input_links) within c.index.ensures in
-    let here = subst (λ z. slice_get z.inputs c.args.link ≡ Some a) c.self.view_is (subst (λ j. slice_get x.inputs.items j ≡ Some a) c.from.ensures read) in
-    grant_iff c.args.self.now c.args.link a c.may_grant.result here c.may_grant.ensures
+pub returns-in-Some : goal.returns-in-Some
+returns-in-Some c =
+    let s = c.args.self.now in
+    let here = got s.inputs c.deref.result.now c.from.result c.args.link _ (c.deref.ensures.value ∙ ap (λ (z : State). z.inputs) c.self.view_is) c.from.ensures c.in-Some.ensures.lookup.0 c.in-Some.ensures.lookup.1 in
+    grant_there s c.args.link _ c.may_grant.result (subst IsSwitch c.self.view_is c.self.invariant) here c.may_grant.ensures
+
+pub returns-in-None : goal.returns-in-None
+returns-in-None c =
+    let s = c.args.self.now in
+    let past = got_none s.inputs c.deref.result.now c.from.result c.args.link (c.deref.ensures.value ∙ ap (λ (z : State). z.inputs) c.self.view_is) c.from.ensures c.in-None.ensures.lookup.0 in
+    no_grant s c.args.link (subst IsSwitch c.self.view_is c.self.invariant) past

@@ -1,7 +1,8 @@
-use Rattle.std.proofs.Common.{◌≡◌, ◌<◌, sym, ap, ◌∙◌, subst, arith, slice_get, Some}
+use Rattle.std.proofs.Common.{◌≡◌, ◌<◌, sym, ap, ◌∙◌, subst, slice_get, Some}
 use Rattle.std.proofs.lemmas.Option.{slice_get_read}
 use Rattle.vc_switch.specs.State.{State, IsSwitch, plan_of}
 use Rattle.vc_switch.specs.Seen.{seen}
+use Rattle.vc_switch.proofs.Beyond.{sourced_within}
 use Rattle.vc_switch.proofs.Placed.{read_there, at_link, at_some}
 use Rattle.vc_switch.proofs.Putting.{free_puts, put_iff, no_credit, bound_there, next_within}
 use Rattle.vc_switch.proofs.switch.Switch.may_put.Goals as goal
@@ -16,7 +17,8 @@ returns-then-may_send c =
     let x = c.self.inside in
     let w = subst IsSwitch c.self.view_is c.self.invariant in
     let t = c.in-Some.ensures in
-    let within : c.from.result < 32 = omega arith in
+    let less = sourced_within s c.args.output c.in-Some.source w t.source in
+    let within : c.from.result < 32 = subst (λ k. k < 32) (sym c.from.ensures) less in
     let p = c.index.result.now in
     let reads = slice_get_read x.outputs.items 32 c.from.result p (sym c.self.invariant.output_links) within c.index.ensures in
     let there = subst (λ z. slice_get z.outputs c.args.output ≡ Some p) c.self.view_is (subst (λ j. slice_get x.outputs.items j ≡ Some p) c.from.ensures reads) in
@@ -31,17 +33,17 @@ returns-else-may_send c =
     let x = c.self.inside in
     let w = subst IsSwitch c.self.view_is c.self.invariant in
     let t = c.in-Some.ensures in
-    let within : c.from.result < 32 = omega arith in
+    let less = sourced_within s c.args.output c.in-Some.source w t.source in
+    let within : c.from.result < 32 = subst (λ k. k < 32) (sym c.from.ensures) less in
     let p = c.index.result.now in
     let reads = slice_get_read x.outputs.items 32 c.from.result p (sym c.self.invariant.output_links) within c.index.ensures in
     let there = subst (λ z. slice_get z.outputs c.args.output ≡ Some p) c.self.view_is (subst (λ j. slice_get x.outputs.items j ≡ Some p) c.from.ensures reads) in
     no_credit s c.args.output c.in-Some.source c.in-Some.bound p c.may_send.result w t there c.may_send.ensures c.if-may_send.false
 
-pub bound_to-requires : goal.bound_to-requires
-bound_to-requires c = c.requires
-
 pub index-requires : goal.index-requires
-index-requires c = at_link c.self.inside.outputs c.from.result c.args.output c.from.ensures c.requires c.self.invariant.output_links
+index-requires c =
+    let less = sourced_within c.args.self.now c.args.output c.in-Some.source (subst IsSwitch c.self.view_is c.self.invariant) c.in-Some.ensures.source in
+    at_link c.self.inside.outputs c.from.result c.args.output c.from.ensures less c.self.invariant.output_links
 
 pub may_send-requires : goal.may_send-requires
 may_send-requires c = tt

@@ -11,7 +11,7 @@ invariant_of-result c =
     let n : State = record { table = c.args.plan.table; ranges = c.in_ok-ranges.ranges.items; deletes = c.in_ok-ranges.deletes.items; inputs = c.in_ok-inputs.inputs.items; outputs = c.in_ok-inputs.outputs.items; lost = 0 } in
     let is : n ≡ begun c.args.plan c.args.body_limit =
     (λ i. record { table = c.args.plan.table; ranges = ranges i; deletes = all i; inputs = c.in_ok-inputs.ensures.inputs i; outputs = c.in_ok-inputs.ensures.outputs i; lost = 0 }) in
-    subst IsSwitch (sym is) (begun_switch c.args.plan c.args.body_limit c.requires.table c.requires.limit c.requires.random)
+    subst IsSwitch (sym is) (begun_switch c.args.plan c.args.body_limit c.rows-rows.ensures.lawful c.requires.limit c.requires.random)
 
 pub returns-clause-seen : goal.returns-clause-seen
 returns-clause-seen c =

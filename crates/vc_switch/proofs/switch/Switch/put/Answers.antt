@@ -44,9 +44,6 @@ returns-in-None-next_byte-clause-sends c = c.put_mark.ensures.sends
 pub returns-in-None-next_byte-clause-kept : goal.returns-in-None-next_byte-clause-kept
 returns-in-None-next_byte-clause-kept c = c.put_mark.ensures.kept
 
-pub bound_to-requires : goal.bound_to-requires
-bound_to-requires c = c.requires.output
-
 pub unreachable-requires : goal.unreachable-requires
 unreachable-requires c = free_puts (plan_of c.args.self.now) (seen c.args.self.now) c.args.output c.in-None.ensures c.requires.may
 

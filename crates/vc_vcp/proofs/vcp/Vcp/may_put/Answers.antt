@@ -1,25 +1,27 @@
-use Rattle.std.proofs.Common.{◌≡◌, ◌<◌, Some, slice_get, sym, subst, arith}
-use Rattle.std.proofs.lemmas.Option.{slice_get_read}
+use Rattle.std.proofs.Common.{ap, ◌∙◌}
 use Rattle.vc_vcp.specs.State.{State}
-use Rattle.vc_vcp.proofs.Passing.{at_link, outs_read}
+use Rattle.vc_vcp.proofs.Beyond.{got, got_none, no_may_put, no_put}
 use Rattle.vc_vcp.proofs.Enabling.{put_iff, may_put_iff}
 use Rattle.vc_vcp.proofs.vcp.Vcp.may_put.Goals as goal
 
-pub returns-clause-can : goal.returns-clause-can
-returns-clause-can c =
-    let x = c.self.inside in
-    let a = c.index.result.now in
-    let within : c.from.result < 4 = omega arith in
-    let read = slice_get_read x.outs.items 4 c.from.result a (sym c.self.invariant.four_out) within c.index.ensures in
-    let here = subst (λ z. slice_get z.outs c.args.link ≡ Some a) c.self.view_is (subst (λ j. slice_get x.outs.items j ≡ Some a) c.from.ensures read) in
-    put_iff c.args.self.now c.args.link a c.may_put.result here c.may_put.ensures.may c.may_put.ensures.can
+pub returns-in-Some-clause-may : goal.returns-in-Some-clause-may
+returns-in-Some-clause-may c =
+    let s = c.args.self.now in
+    let here = got s.outs c.deref.result.now c.from.result c.args.link _ (c.deref.ensures.value ∙ ap (λ (z : State). z.outs) c.self.view_is) c.from.ensures c.in-Some.ensures.lookup.0 c.in-Some.ensures.lookup.1 in
+    may_put_iff s c.args.link _ c.may_put.result here c.may_put.ensures.may
 
-pub index-requires : goal.index-requires
-index-requires c = at_link c.self.inside.outs c.from.result c.args.link c.from.ensures c.requires c.self.invariant.four_out
+pub returns-in-Some-clause-can : goal.returns-in-Some-clause-can
+returns-in-Some-clause-can c =
+    let s = c.args.self.now in
+    let here = got s.outs c.deref.result.now c.from.result c.args.link _ (c.deref.ensures.value ∙ ap (λ (z : State). z.outs) c.self.view_is) c.from.ensures c.in-Some.ensures.lookup.0 c.in-Some.ensures.lookup.1 in
+    put_iff s c.args.link _ c.may_put.result here c.may_put.ensures.may c.may_put.ensures.can
 
-pub returns-clause-may : goal.returns-clause-may
-returns-clause-may c =
-    let x = c.self.inside in
-    let o : State = record { outputs = x.outputs.items; inputs = x.inputs.items; outs = x.outs.items; ins = x.ins.items; strays = x.strays } in
-    let here = outs_read c.args.self.now o c.from.result c.args.link c.index.result.now c.self.view_is c.from.ensures c.self.invariant.four_out c.requires c.index.ensures in
-    may_put_iff c.args.self.now c.args.link c.index.result.now c.may_put.result here c.may_put.ensures.may
+pub returns-in-None-clause-may : goal.returns-in-None-clause-may
+returns-in-None-clause-may c =
+    let s = c.args.self.now in
+    no_may_put s c.args.link (got_none s.outs c.deref.result.now c.from.result c.args.link (c.deref.ensures.value ∙ ap (λ (z : State). z.outs) c.self.view_is) c.from.ensures c.in-None.ensures.lookup.0)
+
+pub returns-in-None-clause-can : goal.returns-in-None-clause-can
+returns-in-None-clause-can c =
+    let s = c.args.self.now in
+    no_put s c.args.link (got_none s.outs c.deref.result.now c.from.result c.args.link (c.deref.ensures.value ∙ ap (λ (z : State). z.outs) c.self.view_is) c.from.ensures c.in-None.ensures.lookup.0)

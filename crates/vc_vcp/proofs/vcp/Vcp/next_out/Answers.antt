@@ -1,12 +1,63 @@
-use Rattle.std.proofs.Common.{[], slice_get, sym, ap, ◌∙◌}
-use Rattle.vc_vcp.specs.Keyed.{shown_or}
+use Rattle.std.proofs.Common.{◌<◌, ◌≤◌, ◌∙◌, sym, subst, slice_set, IfSome}
+use Rattle.std.proofs.lemmas.Option.{slice_get_read}
+use Rattle.vc_vcp.specs.Links.{LeavesWhole}
+use Rattle.vc_vcp.specs.Seen.{seen, IsKept}
 use Rattle.vc_vcp.specs.State.{State}
-use Rattle.vc_vcp.proofs.Passing.{outs_read}
+use Rattle.vc_vcp.proofs.Beyond.{out_past}
+use Rattle.vc_vcp.proofs.LeavingWhole.{none_whole, same_outs, told_can, whole_if, whole_iff}
+use Rattle.vc_vcp.proofs.Passing.{at_link, kept_outs}
+use Rattle.vc_vcp.proofs.Wired.{wired-outs}
 use Rattle.vc_vcp.proofs.vcp.Vcp.next_out.Goals as goal
 
-pub returns : goal.returns
-returns c =
+pub returns-then-link-links-clause-can : goal.returns-then-link-links-clause-can
+returns-then-link-links-clause-can c =
+    let s = c.args.self.now in
+    none_whole s c.args.link (out_past s c.args.link c.links.ensures.ends.0 (subst (λ n. n ≤ c.args.link) c.links.ensures.four c.if-link-links.true))
+
+pub index_mut-requires : goal.index_mut-requires
+index_mut-requires c =
+    let few = subst (λ n. c.args.link < n) c.links.ensures.four c.if-link-links.false in
+    at_link c.self.inside.outs c.from.result c.args.link c.from.ensures few c.self.invariant.four_out
+
+pub invariant_of-self : goal.invariant_of-self
+invariant_of-self c =
     let x = c.self.inside in
     let o : State = record { outputs = x.outputs.items; inputs = x.inputs.items; outs = x.outs.items; ins = x.ins.items; strays = x.strays } in
-    let here = outs_read c.args.self.now o c.from.result c.args.link c.index.result.now c.self.view_is c.from.ensures c.self.invariant.four_out c.requires c.index.ensures in
-    c.front.ensures ∙ ap (λ z. slice_get (shown_or [] (λ x. x.queue) z) 0) (sym here)
+    wired-outs o c.from.result c.take_front.new.self c.self.invariant
+
+pub returns-clause-can : goal.returns-clause-can
+returns-clause-can c =
+    let x = c.self.inside in
+    let o : State = record { outputs = x.outputs.items; inputs = x.inputs.items; outs = x.outs.items; ins = x.ins.items; strays = x.strays } in
+    let within : c.from.result < 4 = subst (λ n. c.from.result < n) c.links.ensures.four (subst (λ k. k < c.links.result) (sym c.from.ensures) c.if-link-links.false) in
+    let q = c.index_mut.result.now in
+    let here = slice_get_read x.outs.items 4 c.from.result q (sym c.self.invariant.four_out) within c.index_mut.ensures.value in
+    told_can o c.args.self.now c.from.result c.args.link c.take_front.result c.self.view_is c.from.ensures (whole_iff o c.from.result q c.take_front.new.self c.take_front.result here c.take_front.ensures.takes c.take_front.ensures.none)
+
+pub returns-clause-leaves : goal.returns-clause-leaves
+returns-clause-leaves c =
+    let x = c.self.inside in
+    let o : State = record { outputs = x.outputs.items; inputs = x.inputs.items; outs = x.outs.items; ins = x.ins.items; strays = x.strays } in
+    let within : c.from.result < 4 = subst (λ n. c.from.result < n) c.links.ensures.four (subst (λ k. k < c.links.result) (sym c.from.ensures) c.if-link-links.false) in
+    let q = c.index_mut.result.now in
+    let here = slice_get_read x.outs.items 4 c.from.result q (sym c.self.invariant.four_out) within c.index_mut.ensures.value in
+    let new : State = record o { outs = slice_set x.outs.items c.from.result c.take_front.new.self } in
+    subst (λ z. IfSome c.take_front.result (λ p. LeavesWhole (seen z) c.args.link p (seen new))) c.self.view_is
+    (subst (λ k. IfSome c.take_front.result (λ p. LeavesWhole (seen o) k p (seen new))) c.from.ensures
+    (whole_if o c.from.result q c.take_front.new.self c.take_front.result here c.take_front.ensures.takes))
+
+pub returns-clause-kept : goal.returns-clause-kept
+returns-clause-kept c =
+    let x = c.self.inside in
+    let o : State = record { outputs = x.outputs.items; inputs = x.inputs.items; outs = x.outs.items; ins = x.ins.items; strays = x.strays } in
+    let outs = slice_set x.outs.items c.from.result c.take_front.new.self in
+    subst (λ z. IsKept z (record o { outs = outs })) c.self.view_is (kept_outs o outs)
+
+pub returns-clause-none : goal.returns-clause-none
+returns-clause-none c =
+    let x = c.self.inside in
+    let o : State = record { outputs = x.outputs.items; inputs = x.inputs.items; outs = x.outs.items; ins = x.ins.items; strays = x.strays } in
+    let within : c.from.result < 4 = subst (λ n. c.from.result < n) c.links.ensures.four (subst (λ k. k < c.links.result) (sym c.from.ensures) c.if-link-links.false) in
+    let q = c.index_mut.result.now in
+    let here = slice_get_read x.outs.items 4 c.from.result q (sym c.self.invariant.four_out) within c.index_mut.ensures.value in
+    λ none. same_outs o c.from.result q c.take_front.new.self here (c.take_front.ensures.same none) ∙ c.self.view_is
