@@ -12,7 +12,7 @@ use vc_core::{Act, Actor, actors};
 use vc_plan::check;
 use vc_reader::read_network;
 use vc_threads::{
-    ActorRun, EndGate, Ends, Gate, LinkRule, Stamped, Stop, merge, next_stamp, worker,
+    ActorRun, ClosableGate, EndGate, Ends, Gate, LinkRule, Stamped, Stop, merge, next_stamp, worker,
 };
 use vc_tokens::Token;
 
@@ -103,22 +103,57 @@ fn the_merge_goes_by_stamp_then_actor(rt: HostRuntime) -> Result<(), Fail> {
     Ok(())
 }
 
-#[test]
-fn a_worker_takes_and_then_ends(rt: HostRuntime) -> Result<(), Fail> {
-    let alloc = rt.alloc();
+/// What the node whose process is a SKIP does with this gate, where a token waits for it.
+fn skipped<G: Gate>(rt: &impl Abort, alloc: Global, gate: &G) -> Result<ActorRun, Fail> {
     let (mut producer, consumer) = RingBuffer::with_protocol::<Global, LinkRule>(alloc, 32)?;
     let item = Token::Fct;
-    let full = producer.push(Stamped { at: 7, item }).is_err();
+    assert!(rt; producer.push(Stamped { at: 7, item }).is_ok());
     let mut ins = Vec::new(alloc);
     ins.push((2u8, consumer))?;
     let outs = Vec::new(alloc);
     let ends = Ends { outs, ins };
-    let gate = EndGate::new(1);
-    let made = worker(alloc, 0, actor(&rt, alloc, SKIPS)?, ends, &gate, 100, 7);
-    assert!(rt; !full && made.stop == Stop::Gate);
+    Ok(worker(alloc, 0, actor(rt, alloc, SKIPS)?, ends, gate, 100, 7))
+}
+
+#[test]
+fn a_worker_takes_and_then_ends(rt: HostRuntime) -> Result<(), Fail> {
+    let made = skipped(&rt, rt.alloc(), &EndGate::new(1))?;
+    assert!(rt; made.stop == Stop::Gate);
     assert_eq!(rt; made.acts.len(), 2);
     assert_eq!(rt; made.acts[0].0, 8);
     assert!(rt; matches!(made.acts[0].1, Act::Take { link: 2, .. }));
     assert_eq!(rt; made.acts[1].0, 9);
+    Ok(())
+}
+
+/// Closes a gate in a turn, before it asks it.
+#[derive(Drop)]
+struct ClosesIn<'g> {
+    turn: u64,
+    gate: &'g ClosableGate<'g, EndGate>,
+}
+
+impl<'g> Gate for ClosesIn<'g> {
+    fn pass(&self, actor: u8, turn: u64) -> bool {
+        if turn == self.turn {
+            self.gate.close();
+        }
+        self.gate.pass(actor, turn)
+    }
+
+    fn ended(&self, actor: u8) {
+        self.gate.ended(actor);
+    }
+}
+
+#[test]
+fn a_worker_ends_at_the_turn_in_which_its_gate_closes(rt: HostRuntime) -> Result<(), Fail> {
+    let never = EndGate::new(9);
+    for turn in 0..2 {
+        let gate = ClosableGate::new(&never);
+        let made = skipped(&rt, rt.alloc(), &ClosesIn { turn, gate: &gate })?;
+        assert!(rt; made.stop == Stop::Gate && !gate.pass(0, 9));
+        assert_eq!(rt; made.acts.len() as u64, turn);
+    }
     Ok(())
 }

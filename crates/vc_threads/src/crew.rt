@@ -3,7 +3,7 @@ ghost use Rattle.std.specs.Prelude.{◌≡◌, ◌++◌, [], ◌∷◌, IfOk, On
 ghost use Rattle.std.specs.List.{All, AllZip};
 ghost use Rattle.vc_threads.specs.Crews.{IsFit, Ran};
 
-use crate::gate::Gate;
+use crate::gate::{Closes, Gate};
 use crate::link::Ends;
 use crate::run::ActorRun;
 use crate::work::worker;
@@ -98,8 +98,9 @@ fn work<G: Gate>(alloc: Global, job: Job, gate: &G, turns: u64, seed: u32) -> Ac
     worker(alloc, id, actor, ends, gate, turns, seed)
 }
 
-// Starts a thread for the last job, then those of the others, and joins it, whether the others started or not.
-fn run_all<'s, E, J: Given + Send + Drop + 's, G: Gate, R: Threads>(
+// Starts a thread for the last job, then those of the others, and joins it, whether the others started or not. Where a thread is not
+// started the gate is closed, so that those that run end at their next turns.
+fn run_all<'s, E, J: Given + Send + Drop + 's, G: Closes, R: Threads>(
     rt: &R,
     scope: &Scope<'s, E>,
     alloc: Global,
@@ -128,6 +129,7 @@ fn run_all<'s, E, J: Given + Send + Drop + 's, G: Gate, R: Threads>(
         { work(alloc, job.job(), gate, turns, seed) },
     );
     let Ok(child) = started else {
+        gate.close();
         return Err(ThreadFault::Start);
     };
     let others = run_all(rt, scope, alloc, jobs, gate, turns, seed);
@@ -137,8 +139,9 @@ fn run_all<'s, E, J: Given + Send + Drop + 's, G: Gate, R: Threads>(
     Ok(runs)
 }
 
-/// Runs each job in a thread of its own, and gives the runs in the jobs' order once all threads have ended.
-pub(crate) fn run_jobs<G: Gate, R: Threads + Wait>(
+/// Runs each job in a thread of its own, and gives the runs in the jobs' order once all threads have ended. Where a thread is not
+/// started it closes the gate.
+pub(crate) fn run_jobs<G: Closes, R: Threads + Wait>(
     rt: &R,
     alloc: Global,
     jobs: Vec<Job>,

@@ -1,7 +1,8 @@
 //! Who may go on.
-ghost use Rattle.std.specs.Prelude.{◌≡◌};
+ghost use Rattle.std.specs.Prelude.{◌≡◌, false, true};
 
-use std::sync::atomic::{AtomicU64, Ordering};
+use std::marker::Model;
+use std::sync::atomic::{AtomicBool, AtomicU64, Ordering};
 
 /// Says of each turn whether an actor may make it.
 pub trait Gate: Sync {
@@ -13,23 +14,38 @@ pub trait Gate: Sync {
     fn ended(&self, actor: u8);
 }
 
-/// The gate that closes once the process of every node has ended.
+/// The gate that closes once the process of every node has ended. Contracts see how many nodes there are.
 #[derive(Drop)]
 pub struct EndGate {
     nodes: u8,
     ended: AtomicU64,
 }
 
+impl Model for EndGate {
+    ghost use Rattle.std.specs.Prelude.{ℕ};
+
+    ghost Value = { ℕ };
+
+    ghost view = { λ gate. gate.nodes };
+}
+
 impl EndGate {
     /// The gate of a network with so many nodes: its first actors. It is open until [`Gate::ended`] was told of each, and never closes
     /// where they are more than 64.
     pub fn new(nodes: u8) -> EndGate
-        ensures { result.nodes ≡ nodes }
+        ensures { result ≡ nodes }
     {
         EndGate {
             nodes,
             ended: AtomicU64::new(0),
         }
+    }
+
+    /// How many nodes the network has.
+    pub fn nodes(&self) -> u8
+        ensures { result ≡ self.now }
+    {
+        self.nodes
     }
 }
 
@@ -44,4 +60,66 @@ impl Gate for EndGate {
             self.ended.fetch_or(1u64 << actor, Ordering::SeqCst);
         }
     }
+}
+
+/// A gate in front of another: it answers as that one does until it is closed, and no from then on. Contracts see the other gate.
+#[derive(Drop)]
+pub struct ClosableGate<'g, G> {
+    gate: &'g G,
+    is_closed: AtomicBool,
+}
+
+impl<'g, G> Model for ClosableGate<'g, G> {
+    ghost Value = { G };
+
+    ghost view = { λ closable. closable.gate.now };
+}
+
+impl<'g, G> ClosableGate<'g, G> {
+    /// The gate in front of this one, not closed yet.
+    pub fn new(gate: &'g G) -> ClosableGate<'g, G>
+        ensures { result ≡ gate.now }
+    {
+        ClosableGate {
+            gate,
+            is_closed: AtomicBool::new(false),
+        }
+    }
+
+    /// Closes the gate for good: each worker that asks it ends at its next turn.
+    pub fn close(&self) {
+        self.is_closed.store(true, Ordering::SeqCst);
+    }
+}
+
+impl<'g, G: Gate> Gate for ClosableGate<'g, G> {
+    fn pass(&self, actor: u8, turn: u64) -> bool {
+        let is_closed = self.is_closed.load(Ordering::SeqCst);
+        pass_unless(is_closed, || self.gate.pass(actor, turn))
+    }
+
+    fn ended(&self, actor: u8) {
+        self.gate.ended(actor);
+    }
+}
+
+/// A gate that can be closed.
+pub(crate) trait Closes: Gate {
+    /// Closes the gate for good.
+    fn close(&self);
+}
+
+impl<'g, G: Gate> Closes for ClosableGate<'g, G> {
+    fn close(&self) {
+        ClosableGate::close(self);
+    }
+}
+
+// The other gate's answer, unless this one is closed.
+fn pass_unless<F: FnOnce() -> bool>(is_closed: bool, pass: F) -> bool
+    requires { F.pre pass }
+    ensures closed { is_closed ≡ true → result ≡ false }
+    ensures open { is_closed ≡ false → F.post pass result }
+{
+    !is_closed && pass()
 }

@@ -22,7 +22,7 @@ mod threads;
 mod work;
 
 pub use crew::ThreadFault;
-pub use gate::{EndGate, Gate};
+pub use gate::{ClosableGate, EndGate, Gate};
 pub use link::{Ends, In, LinkRule, Out, Stamped};
 pub use merging::merge;
 pub use report::Report;

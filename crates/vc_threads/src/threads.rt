@@ -3,7 +3,7 @@ ghost use Rattle.std.specs.Prelude.{IfOk};
 ghost use Rattle.vc_threads.specs.Threads.{Reports};
 
 use crate::crew::{ThreadFault, run_jobs};
-use crate::gate::Gate;
+use crate::gate::{ClosableGate, Gate};
 use crate::jobs::make_jobs;
 use crate::merging::merge;
 use crate::order::{all_parts, take_all};
@@ -18,6 +18,7 @@ use vc_plan::Accepted;
 /// The threads are joined, and their acts are made one list: whatever the threads did, it is a run of the network. The network that is
 /// reported is put together from the actors, as their acts left them, and from the tokens that are left in the rings. Why each worker
 /// ended is told, and where one met want of memory the run closes with the least of their actors, if not every process has ended.
+/// Where a thread can't be started, the workers that run end at their next turns, and the call then fails.
 ///
 /// The words of an actor's takes are those of the generator of this seed and the actor's number.
 pub fn run_threads<G: Gate, R: Threads + Wait>(
@@ -31,7 +32,8 @@ pub fn run_threads<G: Gate, R: Threads + Wait>(
     ensures { IfOk result (Reports accepted.now turns seed) }
 {
     let jobs = make_jobs(alloc, accepted)?;
-    let runs = run_jobs(rt, alloc, jobs, gate, turns, seed)?;
+    let gate = ClosableGate::new(gate);
+    let runs = run_jobs(rt, alloc, jobs, &gate, turns, seed)?;
     let steps = merge(alloc, runs.as_slice())?;
     let stops = stops_of(alloc, runs.as_slice())?;
     let otherwise = stopped(runs.as_slice());
