@@ -1,7 +1,6 @@
 //! A worker by itself, its stamps, its gate, and the merge of what workers did.
 ghost use Rattle.std.specs.Prelude.{◌≡◌, ℕ, ◌∷◌, [], IfOk};
 ghost use Rattle.vc_actor.specs.declared.act.Act.{Act as SpeltAct};
-ghost use Rattle.vc_threads.specs.Works.{IsOfSomePlan};
 
 use crate::networks::HELLO;
 use rtrb::RingBuffer;
@@ -43,9 +42,7 @@ fn the_gate_closes_after_every_node(rt: HostRuntime) -> Result<(), Fail> {
 const SKIPS: &str = r#"{"version":1,"nodes":[{"name":"a","process":"skip"}]}"#;
 
 /// The last actor of a network without switches.
-fn actor(rt: &impl Abort, alloc: Global, text: &str) -> Result<Actor, Fail>
-    ensures { IfOk result (λ a. IsOfSomePlan a) }
-{
+fn actor(rt: &impl Abort, alloc: Global, text: &str) -> Result<Actor, Fail> {
     let Ok(accepted) = check(alloc, read_network(alloc, text.as_bytes())?) else {
         panic!(rt; "the plan is refused");
     };
