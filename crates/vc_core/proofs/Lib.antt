@@ -22,3 +22,4 @@ pub mod Lined
 pub mod Laying
 pub mod Staying
 pub mod Still
+pub mod Naming

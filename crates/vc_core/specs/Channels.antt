@@ -1,5 +1,6 @@
 -- What the channels of a plan are called, and where they are.
 use Rattle.std.specs.Prelude.{◌≡◌, ℕ, not, List, length, Option, Some, None, slice_get}
+use Rattle.std.specs.String.{string_bytes}
 use Rattle.vc_plan.specs.declared.channel.Channel.{Channel}
 use Rattle.vc_plan.specs.declared.plan.Plan.{Plan}
 use Rattle.vc_accepted.specs.NetworkOf.{network_of, home_in}
@@ -19,21 +20,19 @@ abbrev pub ends_at : network.Plan → network.Home → Option Ends
 ends_at plan (Way v ab) = Some (record { from = block_of (end_of (virtual_link plan v) ab); to = block_of (end_of (virtual_link plan v) (not ab)) })
 ends_at plan (Inside n) = None
 
--- a channel's name and kind, the node that outputs on it, the one that inputs, and the ends of its virtual link
-abbrev pub info_of : Plan → Channel → ChannelInfo
-info_of p x = record {
-  name = x.name;
-  kind = x.kind;
-  source = source_node (network_of p) (home_in x);
-  sink = sink_node (network_of p) (home_in x);
-  ends = ends_at (network_of p) (home_in x);
-}
+-- the channel's name and kind, the node that outputs on it, the one that inputs, and the ends of its virtual link
+pub record IsInfoOf (p : Plan) (x : Channel) (info : ChannelInfo) : Type 0 where
+  pub name : string_bytes info.name ≡ x.name
+  pub kind : info.kind ≡ x.kind
+  pub source : info.source ≡ source_node (network_of p) (home_in x)
+  pub sink : info.sink ≡ sink_node (network_of p) (home_in x)
+  pub ends : info.ends ≡ ends_at (network_of p) (home_in x)
 
 -- this is channel c of the plan
 pub record IsChannelOf (p : Plan) (c : ℕ) (info : ChannelInfo) : Type 0 where
   pub channel : Channel
   pub here : slice_get p.channels c ≡ Some channel
-  pub name : info.name ≡ channel.name
+  pub name : string_bytes info.name ≡ channel.name
   pub kind : info.kind ≡ channel.kind
   pub source : info.source ≡ source_node (network_of p) (home (network_of p) c)
   pub sink : info.sink ≡ sink_node (network_of p) (home (network_of p) c)

@@ -1,13 +1,16 @@
 //! What the channels of a plan are called, and where they are.
 ghost use Rattle.std.specs.Prelude.{◌≡◌, IfOk};
+ghost use Rattle.std.specs.Str.{IsUtf8};
+ghost use Rattle.std.specs.String.{string_bytes};
 ghost use Rattle.vc_accepted.specs.NetworkOf.{network_of, home_of};
-ghost use Rattle.vc_core.specs.Channels.{AreChannelsOf, info_of as information, block_of, ends_at};
+ghost use Rattle.vc_core.specs.Channels.{AreChannelsOf, IsInfoOf, block_of, ends_at};
 ghost use Rattle.vc_core.specs.Sought.{sought_at};
 ghost use Rattle.vc_network.specs.Plan as network;
 ghost use Rattle.vc_network.specs.Views.{source_node, sink_node};
+ghost use Rattle.vc_plan.specs.Accepted.{IsAccepted};
+ghost use Rattle.vc_plan.specs.KeptLimits.{IsName};
 
 use crate::sought::Sought;
-use sqlite_items::Items;
 use std::alloc::Global;
 use vc_occam::ValueKind;
 use vc_packets::Memory;
@@ -17,7 +20,7 @@ use vc_plan::{Channel, End, Home, Plan};
 #[derive(Drop)]
 pub(crate) struct ChannelInfo {
     /// Its name.
-    pub(crate) name: Items<u8>,
+    pub(crate) name: String,
     /// What its messages are.
     pub(crate) kind: ValueKind,
     /// The node that outputs on it.
@@ -58,8 +61,9 @@ impl Ends {
     }
 }
 
-/// The channels of a plan, in their order.
+/// The channels of an accepted plan, in their order.
 pub(crate) fn channels_of(alloc: Global, plan: &Plan) -> Result<Vec<ChannelInfo>, Memory>
+    requires { IsAccepted plan.now }
     ensures { IfOk result (λ channels. AreChannelsOf plan.now channels.items) }
 {
     let mut channels = Vec::new(alloc);
@@ -71,16 +75,27 @@ pub(crate) fn channels_of(alloc: Global, plan: &Plan) -> Result<Vec<ChannelInfo>
 
 // What a channel of the plan is called, and where it is.
 fn info_of(alloc: Global, plan: &Plan, channel: &Channel) -> Result<ChannelInfo, Memory>
-    ensures { IfOk result (λ info. info ≡ information plan.now channel.now) }
+    requires { IsName channel.now.name }
+    ensures { IfOk result (IsInfoOf plan.now channel.now) }
 {
-    let name = Items::from_slice(alloc, channel.name.as_slice())?;
     Ok(ChannelInfo {
-        name,
+        name: text_of(alloc, channel.name.as_slice())?,
         kind: channel.kind,
         source: source_of(plan, channel.home),
         sink: sink_of(plan, channel.home),
         ends: ends_of(plan, channel.home),
     })
+}
+
+// A name as a text.
+fn text_of(alloc: Global, name: &[u8]) -> Result<String, Memory>
+    requires { IsUtf8 name.now }
+    ensures { IfOk result (λ text. string_bytes text ≡ name.now) }
+{
+    match str::from_utf8(name) {
+        Ok(text) => Ok(String::from_str(alloc, text)?),
+        Err(_) => unreachable!(),
+    }
 }
 
 // The node that outputs on a channel of this home.

@@ -488,13 +488,13 @@ impl Network {
         self.channels.len()
     }
 
-    /// The name of a channel.
-    pub fn name(&self, chan: u16) -> &[u8]
+    /// The name of a channel: 1 to 16 ASCII letters, digits, `_` and `-`. It is empty where the network has no such channel.
+    pub fn name(&self, chan: u16) -> &str
         ensures { (p : Plan) (x : Channel) → IsNetworkOf p (state_of self.now) → slice_get p.channels chan ≡ Some x → result.now ≡ x.name }
     {
         match at(self.channels.as_slice(), usize::from(chan)) {
-            Some(channel) => channel.name.as_slice(),
-            None => &[],
+            Some(channel) => channel.name.as_str(),
+            None => "",
         }
     }
 

@@ -1,13 +1,17 @@
 //! Why an event or a list of events is refused.
 use crate::network::Network;
+use std::fmt::{self, Debug, Formatter, Write};
+use thiserror::Error;
 use vc_packets::Memory;
 
 /// Why a step was not made. The network is as it was.
-#[derive(Clone, Copy, Debug, PartialEq, Eq, Drop)]
+#[derive(Clone, Copy, Debug, PartialEq, Eq, Drop, Error)]
 pub enum StepRefused {
     /// The event is not enabled.
+    #[error("the event is not enabled")]
     NotEnabled,
     /// There was no memory for it.
+    #[error("there is no memory")]
     Memory,
 }
 
@@ -23,7 +27,8 @@ impl From<Memory> for StepRefused {
 }
 
 /// Why a list of events was not replayed to its end.
-#[derive(Drop)]
+#[derive(Drop, Error)]
+#[error("event {index} is refused: {why}")]
 pub struct ReplayRefused {
     /// The number of the event that was refused, from 0.
     pub index: usize,
@@ -31,4 +36,15 @@ pub struct ReplayRefused {
     pub state: Option<Network>,
     /// Why it was refused.
     pub why: StepRefused,
+}
+
+impl Debug for ReplayRefused {
+    // by hand, since a network shows no text
+    fn fmt<W: Write>(&self, f: &mut Formatter<W>) -> fmt::Result {
+        write!(
+            f,
+            "ReplayRefused {{ index: {}, why: {:?}, .. }}",
+            self.index, self.why
+        )
+    }
 }

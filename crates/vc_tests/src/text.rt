@@ -15,7 +15,7 @@ fn write_hello<W: Write>(alloc: Global, writer: &mut W) -> Result<(), RunFault> 
     let mut taken = Vec::new(alloc);
     taken.push(Bytes::from_slice(alloc, b"hello")?)?;
     let view = ChannelView {
-        name: b"c",
+        name: "c",
         kind: ValueKind::Bytes,
         offered: 1,
         taken: taken.as_slice(),

@@ -3,26 +3,48 @@ ghost use Rattle.std.specs.Prelude.{◌≡◌};
 ghost use Rattle.vc_text.specs.declared.fault.RunFault.TheVariants.{Memory as OutOfMemory, Text as InText, Threads as InThreads};
 
 use std::alloc::{AllocError, AllocFailed};
+use std::fmt::{self, Debug, Formatter, Write};
+use thiserror::Error;
 use vc_packets::Memory;
 use vc_plan::Refusal;
 use vc_reader::ReadRefused;
 use vc_threads::ThreadFault;
 
 /// Why a run gives no result.
-#[derive(Drop)]
+#[derive(Drop, Error)]
 pub enum RunFault {
     /// The reader failed, had too many bytes, or didn't end.
+    #[error("the network can't be read")]
     Read,
     /// The writer failed or took nothing. What went out is a front of the text.
+    #[error("the output can't be written")]
     Write,
     /// The text is no network.
+    #[error("the text is no network: {0}")]
     Text(ReadRefused),
     /// The plan is refused.
+    #[error("the plan is refused")]
     Plan(Refusal),
     /// The threads gave no report.
+    #[error("the threads gave no report: {0}")]
     Threads(ThreadFault),
     /// There was no memory.
+    #[error("there is no memory")]
     Memory,
+}
+
+impl Debug for RunFault {
+    // by hand, since a plan shows no text
+    fn fmt<W: Write>(&self, f: &mut Formatter<W>) -> fmt::Result {
+        match self {
+            RunFault::Read => f.write_str("Read"),
+            RunFault::Write => f.write_str("Write"),
+            RunFault::Text(refused) => write!(f, "Text({refused:?})"),
+            RunFault::Plan(refusal) => write!(f, "Plan({:?})", refusal.why),
+            RunFault::Threads(why) => write!(f, "Threads({why:?})"),
+            RunFault::Memory => f.write_str("Memory"),
+        }
+    }
 }
 
 impl From<Memory> for RunFault {

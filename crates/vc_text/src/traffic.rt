@@ -19,7 +19,7 @@ use vc_packets::{Bytes, Memory};
 #[derive(Clone, Copy, Drop)]
 pub struct ChannelView<'a> {
     /// Its name.
-    pub name: &'a [u8],
+    pub name: &'a str,
     /// What its messages are.
     pub kind: ValueKind,
     /// How many messages were offered.
@@ -136,7 +136,7 @@ fn push_channel(out: &mut Vec<u8>, view: &ChannelView<'_>) -> Result<(), Memory>
     ensures { OnOk result (out.new.items ≡ out.old.items ++ channel_line (shown view.now)) }
 {
     out.extend_from_slice(b"channel ")?;
-    out.extend_from_slice(view.name)?;
+    out.extend_from_slice(view.name.as_bytes())?;
     out.extend_from_slice(b" offered ")?;
     push_number(out, view.offered as u64)?;
     out.extend_from_slice(b" taken ")?;

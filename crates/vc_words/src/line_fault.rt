@@ -3,11 +3,13 @@ ghost use Rattle.std.specs.Prelude.{◌≡◌};
 ghost use Rattle.vc_words.specs.declared.line_fault.LineFault.TheVariants.{Memory as OutOfMemory};
 
 use std::alloc::AllocError;
+use thiserror::Error;
 
 /// Why the words ask for nothing that can be done.
-#[derive(Debug, Drop)]
+#[derive(Debug, Drop, Error)]
 pub enum LineFault {
     /// They are a bad command line, or ask for help.
+    #[error("{text}")]
     Bad {
         /// What to print.
         text: String,
@@ -15,6 +17,7 @@ pub enum LineFault {
         status: u8,
     },
     /// There was no memory to read them.
+    #[error("there is no memory")]
     Memory,
 }
 

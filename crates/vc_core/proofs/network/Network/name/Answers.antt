@@ -9,7 +9,7 @@ returns-in-Some c = λ p x is there.
     let n = c.args.self.now in
     let here : slice_get n.channels.items c.args.chan ≡ Some c.in-Some.channel.now = (λ i. slice_get (sym c.as_slice.ensures.value i) (sym c.from.ensures i)) ∙ sym c.in-Some.ensures in
     let info = is.channels.each c.args.chan c.in-Some.channel.now here in
-    c.as_slice-in-Some.ensures ∙ info.name ∙ ap (λ z. z.name) (channel_is p c.args.chan c.in-Some.channel.now x info there)
+    c.as_str.ensures.value ∙ info.name ∙ ap (λ z. z.name) (channel_is p c.args.chan c.in-Some.channel.now x info there)
 
 pub returns-in-None : goal.returns-in-None
 returns-in-None c = λ p x is there.
