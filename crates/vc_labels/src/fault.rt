@@ -4,15 +4,19 @@ ghost use Rattle.vc_labels.specs.Fault.{row_fault, link_fault, table_fault};
 
 use crate::action::Action;
 use crate::row::Row;
+use thiserror::Error;
 
 /// Why rows are no table.
-#[derive(Clone, Copy, Debug, PartialEq, Eq, Drop)]
+#[derive(Clone, Copy, Debug, PartialEq, Eq, Drop, Error)]
 pub enum TableFault {
     /// A row isn't `lower < limit <= 65,536`, or begins before the limit of the row before it.
+    #[error("the rows do not rise")]
     NotRising,
     /// A row begins after the limit of the row before it.
+    #[error("there is a gap between two rows")]
     Gap,
     /// A group's first link is after its last, or its last is over 31.
+    #[error("a group is of no links of a switch")]
     BadLink,
 }
 

@@ -3,6 +3,8 @@ use sqlite_items::Items;
 use std::alloc::Global;
 use std::test::Fail;
 use vc_labels::{Action, Row, Table, TableFault};
+use vc_packets::Memory;
+use vc_plan::{CheckRefused, LimitWord};
 
 fn out(lower: u32, limit: u32, first: u8, last: u8) -> Row {
     Row {
@@ -62,5 +64,19 @@ fn refuses_gaps_and_overlaps(rt: HostRuntime) -> Result<(), Fail> {
     assert_eq!(rt; fault(rows(alloc, 9)?), Some(TableFault::NotRising));
     let wide = Items::from_slice(alloc, &[out(0, 10, 30, 32)])?;
     assert_eq!(rt; fault(wide), Some(TableFault::BadLink));
+    Ok(())
+}
+
+#[test]
+fn errors_are_told_in_words(rt: HostRuntime) -> Result<(), Fail> {
+    let rows = CheckRefused::Table {
+        switch: 3,
+        fault: TableFault::Gap,
+    };
+    let nodes = CheckRefused::Limit(LimitWord::Nodes);
+    let text = format!(in rt.alloc(); "{rows}; {nodes}; {}", Memory)?;
+    let wanted = "the rows of switch 3 are no table: there is a gap between two rows; \
+        a limit is broken: there are more than 32 nodes; there is no memory";
+    assert_eq!(rt; text.as_str(), wanted);
     Ok(())
 }
