@@ -18,7 +18,7 @@ import sys
 ROOT = os.path.dirname(os.path.dirname(os.path.abspath(__file__)))
 PAGE = "docs/FORMAT.md"
 TUTORIAL = "docs/TUTORIAL.md"
-PRINTED = re.compile(r"(channel|refused|cycle|free|accepted|end)\b")
+PRINTED = re.compile(r"(channel|refused|cycle|free|graph|accepted|end)\b")
 # What the examples of the page must show: words of processes, operators, relations, connectives, bytes.
 WORDS = '"skip" "stop" "set" "out" "in" "stopch" "seq" "par" "if" "while" "for" "alt" "+" "-" "*" "/" "\\\\" "size" "=" "<>" "<" ">" "<=" ">="'
 WORDS += ' "and" "or" "not" true false "hex" "text" "fill" "table" "delete" "random" "portal" "vars" "vlink" "way" "node" "wires"'
@@ -87,7 +87,7 @@ def wrong_blocks(page, printed):
 
 def not_shown(rows, printed):
     pieces, lines = (" ".join(it for cells in rows for it in spans(cells[n])) for n in (0, 2))
-    kinds = {it for text, _ in printed.values() for it in re.findall(r"^(?:refused \d+ \w+|end \w+|free$|cycle|accepted)", text, re.M)}
+    kinds = {it for text, _ in printed.values() for it in re.findall(r"^(?:refused \d+ \w+|end \w+|free$|cycle|graph|accepted)", text, re.M)}
     yield from (f"no example prints {it}" for it in sorted(kinds) if it not in lines)
     yield from (f"no example has {it}" for it in WORDS.split() if it not in pieces)
 

@@ -10,6 +10,7 @@ use vc_words::{Line, LineFault, command, run_words};
 const LINES: &[(&[&str], Result<Line, u8>)] = &[
     (&["vcnet", "check"], Ok(Line::Check)),
     (&["vcnet", "deadlock"], Ok(Line::Deadlock)),
+    (&["vcnet", "draw"], Ok(Line::Draw)),
     (
         &["vcnet", "step"],
         Ok(Line::Step {

@@ -25,8 +25,12 @@ accepted_text plan =
     codes "accepted nodes " ++ decimal (length plan.nodes) ++ codes " switches " ++ decimal (length plan.switches) ++ codes " vlinks " ++ decimal (length plan.vlinks)
     ++ codes " channels " ++ decimal (length plan.channels) ++ newline
 
--- the line of an accepted network was written, or a front of it before a fault of the writer; else nothing was
+-- a text of an accepted network was written, or a front of it before a fault of the writer; else nothing was
+abbrev pub TellsAccepted : (Network → List ℕ) → Option (List ℕ) → Option (List ℕ) → Option (List ℕ) → Result ⊤ RunFault → Type 0
+TellsAccepted text_of known old new (Ok u) = (plan : Network) × ReadsAccepted known (Ok plan) × Appends old new (text_of plan)
+TellsAccepted text_of known old new (Err Write) = (plan : Network) × ReadsAccepted known (Ok plan) × AppendsFront old new (text_of plan)
+TellsAccepted text_of known old new (Err fault) = ReadsAccepted known (Err fault) × (new ≡ old)
+
+-- the text is the line of an accepted network
 abbrev pub Checks : Option (List ℕ) → Option (List ℕ) → Option (List ℕ) → Result ⊤ RunFault → Type 0
-Checks known old new (Ok u) = (plan : Network) × ReadsAccepted known (Ok plan) × Appends old new (accepted_text plan)
-Checks known old new (Err Write) = (plan : Network) × ReadsAccepted known (Ok plan) × AppendsFront old new (accepted_text plan)
-Checks known old new (Err fault) = ReadsAccepted known (Err fault) × (new ≡ old)
+Checks = TellsAccepted accepted_text

@@ -43,7 +43,7 @@ pub(crate) fn push_channel_name(out: &mut Vec<u8>, plan: &Plan, number: u16) -> 
     Ok(())
 }
 
-fn push_spot(out: &mut Vec<u8>, plan: &Plan, spot: Spot) -> Result<(), Memory>
+pub(crate) fn push_spot(out: &mut Vec<u8>, plan: &Plan, spot: Spot) -> Result<(), Memory>
     ensures { OnOk result (out.new.items ≡ out.old.items ++ spot_text plan.now spot) }
 {
     match spot {
@@ -92,7 +92,7 @@ fn push_hops(out: &mut Vec<u8>, plan: &Plan, hops: &[Hop]) -> Result<(), Memory>
     Ok(())
 }
 
-fn push_way(out: &mut Vec<u8>, from_a: bool) -> Result<(), Memory>
+pub(crate) fn push_way(out: &mut Vec<u8>, from_a: bool) -> Result<(), Memory>
     ensures { OnOk result (out.new.items ≡ out.old.items ++ way_text from_a) }
 {
     if from_a {

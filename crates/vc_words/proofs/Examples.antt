@@ -8,6 +8,7 @@ unfolding clap_on_literals
 lines = record {
   check = (refl, refl);
   deadlock = (refl, refl);
+  draw = (refl, refl);
   step = (refl, refl);
   limit = (refl, refl);
   together = (refl, refl);

@@ -15,7 +15,7 @@ use Rattle.clap.specs.declared.builder.value_parser.ValueParser.TheVariants.{Sig
 use Rattle.clap.specs.declared.error.kind.ErrorKind.{ErrorKind}
 use Rattle.clap.specs.declared.error.kind.ErrorKind.TheVariants.{DisplayHelp, DisplayVersion, OutOfMemory}
 use Rattle.vc_words.specs.declared.line.Line.{Line}
-use Rattle.vc_words.specs.declared.line.Line.TheVariants.{Check, Deadlock, Step, Run}
+use Rattle.vc_words.specs.declared.line.Line.TheVariants.{Check, Deadlock, Draw, Step, Run}
 use Rattle.vc_words.specs.declared.line_fault.LineFault.{LineFault}
 use Rattle.vc_words.specs.declared.line_fault.LineFault.TheVariants.{Bad, Memory}
 
@@ -47,6 +47,9 @@ check_shape = new_shape (codes "check")
 abbrev pub deadlock_shape : Shape
 deadlock_shape = new_shape (codes "deadlock")
 
+abbrev pub draw_shape : Shape
+draw_shape = new_shape (codes "draw")
+
 abbrev pub step_shape : Shape
 step_shape = record (new_shape (codes "step")) { rules = limit_option ∷ together_flag ∷ [] }
 
@@ -55,9 +58,9 @@ run_shape = record (new_shape (codes "run")) { rules = turns_option ∷ seed_opt
 
 abbrev pub vcnet : App
 vcnet =
-    with_subcommand (with_subcommand (with_subcommand (with_subcommand
+    with_subcommand (with_subcommand (with_subcommand (with_subcommand (with_subcommand
     (on_top (λ s. record s { subcommand_required = true; has_version = true }) (new_app (codes "vcnet")))
-    check_shape) deadlock_shape) step_shape) run_shape
+    check_shape) deadlock_shape) draw_shape) step_shape) run_shape
 
 -- the number that a text is, where it is one of at most `most`
 abbrev pub number_in : ℕ → Text → Option ℕ
@@ -79,7 +82,8 @@ abbrev pub line_of : Text × List Row → Line
 line_of (name, rows) =
     if bytes_eq name (codes "step") then Step (number_of (codes "limit") 1000000000 1000000 rows) (has_flag (codes "together") rows)
     else (if bytes_eq name (codes "run") then Run (number_of (codes "turns") 1000000000 10000000 rows) (number_of (codes "seed") 4294967295 0 rows)
-    else (if bytes_eq name (codes "deadlock") then Deadlock else Check))
+    else (if bytes_eq name (codes "deadlock") then Deadlock
+    else (if bytes_eq name (codes "draw") then Draw else Check)))
 
 -- the kinds of fault that the words have: none where they are a command line
 abbrev pub faults : List Text → Kinds
@@ -109,5 +113,6 @@ IsFaultOf kinds (Bad text status) = (kind : ErrorKind) × IsAmong kind kinds × 
 abbrev pub IsInRange : Line → Type 0
 IsInRange Check = ⊤
 IsInRange Deadlock = ⊤
+IsInRange Draw = ⊤
 IsInRange (Step limit together) = limit ≤ 1000000000
 IsInRange (Run turns seed) = turns ≤ 1000000000

@@ -3,7 +3,7 @@ use Rattle.std.specs.Prelude.{◌≡◌, true, false, List, [], ◌∷◌, codes
 use Rattle.clap.specs.Walk.{Text}
 use Rattle.clap.specs.declared.error.kind.ErrorKind.TheVariants.{DisplayHelp, DisplayVersion, ValueValidation}
 use Rattle.vc_words.specs.CommandLine.{Asks, faults}
-use Rattle.vc_words.specs.declared.line.Line.TheVariants.{Check, Deadlock, Step, Run}
+use Rattle.vc_words.specs.declared.line.Line.TheVariants.{Check, Deadlock, Draw, Step, Run}
 
 -- the program's name, and then the other words
 abbrev pub line : List Text → List Text
@@ -12,6 +12,7 @@ line words = codes "vcnet" ∷ words
 pub record LinesAreRead : Type 0 where
   pub check : Asks (line (codes "check" ∷ [])) Check
   pub deadlock : Asks (line (codes "deadlock" ∷ [])) Deadlock
+  pub draw : Asks (line (codes "draw" ∷ [])) Draw
   pub step : Asks (line (codes "step" ∷ [])) (Step 1000000 false)
   pub limit : Asks (line (codes "step" ∷ codes "--limit" ∷ codes "7" ∷ [])) (Step 7 false)
   pub together : Asks (line (codes "step" ∷ codes "--together" ∷ [])) (Step 1000000 true)

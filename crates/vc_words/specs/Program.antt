@@ -3,6 +3,7 @@ use Rattle.std.specs.Prelude.{◌≡◌, ◌⊎◌, ℕ, ◌≤◌, Bool, true, 
 use Rattle.vc_text.specs.Checking.{Checks}
 use Rattle.vc_text.specs.Deadlock.{TellsDeadlock}
 use Rattle.vc_text.specs.FaultLine.{fault_text}
+use Rattle.vc_text.specs.Graph.{WritesGraph}
 use Rattle.vc_text.specs.Running.{Steps, StepsTogether}
 use Rattle.vc_text.specs.Streams.{Writes}
 use Rattle.vc_text.specs.Threading.{RunsInThreads}
@@ -13,7 +14,7 @@ use Rattle.vc_text.specs.declared.run.StepReport.{StepReport}
 use Rattle.clap.specs.Walk.{Text}
 use Rattle.clap.specs.Kinds.{IsAmong}
 use Rattle.clap.specs.declared.error.kind.ErrorKind.{ErrorKind}
-use Rattle.vc_words.specs.declared.line.Line.TheVariants.{Check, Deadlock, Step, Run}
+use Rattle.vc_words.specs.declared.line.Line.TheVariants.{Check, Deadlock, Draw, Step, Run}
 use Rattle.vc_words.specs.CommandLine.{Asks, faults, status_of_kind}
 use Rattle.vc_words.specs.Status.{status_of_fault, status_of_freedom, status_of_end}
 
@@ -40,6 +41,11 @@ abbrev pub FindsDeadlock : Option (List ℕ) → Option (List ℕ) → Option (L
 FindsDeadlock known old new status =
     ((free : Bool) × TellsDeadlock known old new (Ok free) × (status ≡ status_of_freedom free))
     ⊎ ((fault : RunFault) × (mid : Option (List ℕ)) × TellsDeadlock known old mid (Err fault) × TellsFault mid new fault status)
+
+-- it is written as Graphviz text, or a fault of it is told
+abbrev pub DrawsNetwork : Option (List ℕ) → Option (List ℕ) → Option (List ℕ) → ℕ → Type 0
+DrawsNetwork known old new status =
+    (WritesGraph known old new (Ok tt) × (status ≡ 0)) ⊎ ((fault : RunFault) × (mid : Option (List ℕ)) × WritesGraph known old mid (Err fault) × TellsFault mid new fault status)
 
 -- as its plan says, or all its processes side by side on one node
 abbrev pub StepsAs : Bool → Option (List ℕ) → Option (List ℕ) → Option (List ℕ) → ℕ → Result StepReport RunFault → Type 0
@@ -68,6 +74,7 @@ TellsLine words old new status =
 pub data Runs (words : List Text) (known rest old new : Option (List ℕ)) (status : ℕ) : Type 0 where
   checks : Asks words Check → ChecksNetwork known old new status → Runs words known rest old new status
   finds : Asks words Deadlock → FindsDeadlock known old new status → Runs words known rest old new status
+  draws : Asks words Draw → DrawsNetwork known old new status → Runs words known rest old new status
   steps : (limit : ℕ) (together : Bool) → limit ≤ 1000000000 → Asks words (Step limit together) → StepsNetwork together known old new limit status
       → Runs words known rest old new status
   runs : (turns seed : ℕ) → turns ≤ 1000000000 → Asks words (Run turns seed) → RunsNetwork turns seed known old new status

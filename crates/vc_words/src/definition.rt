@@ -18,7 +18,7 @@ const VERSION: &str = "1.1.0";
 const PROGRAM_HELP: &str = "\
 Each subcommand reads one network, as JSON, from standard input (docs/FORMAT.md), and writes to standard output.
 
-Exit status: 0 done, accepted, free; 1 quiet, cycle; 2 refused; 3 a limit was reached; 4 no memory; 5 a bad command line; 6 a stream failed.
+Exit status: 0 done, accepted, free, drawn; 1 quiet, cycle; 2 refused; 3 a limit was reached; 4 no memory or no thread; 5 a bad command line; 6 a stream failed.
 
 Example: vcnet step < examples/hello.json";
 
@@ -37,6 +37,15 @@ Prints `free`, or `cycle` with the links by which packets can wait for one anoth
 Exit status: 0 free; 1 cycle; 2 refused; 4 no memory; 6 a stream failed.
 
 Example: vcnet deadlock < examples/ring.json";
+
+/// What stands at the end of the help of `draw`.
+const DRAW_HELP: &str = "\
+Prints the network for `dot`, a program of Graphviz, which makes a drawing of it: nodes as boxes, switches as ellipses, a line for each wire, \
+a dashed one for each virtual link with its channels, and a dotted one for each channel inside a node.
+
+Exit status: 0 drawn; 2 refused; 4 no memory; 6 a stream failed.
+
+Example: vcnet draw < examples/ring.json | dot -Tsvg > ring.svg";
 
 /// What stands at the end of the help of `step`.
 const STEP_HELP: &str = "\
@@ -154,6 +163,9 @@ pub(crate) fn definition<'a>(alloc: Global) -> Result<Command<'a>, AllocError>
     let deadlock = Command::new(alloc, "deadlock")
         .about("Tells whether packets of the network on standard input can wait in a circle")
         .after_help(DEADLOCK_HELP);
+    let draw = Command::new(alloc, "draw")
+        .about("Writes the network on standard input as Graphviz text")
+        .after_help(DRAW_HELP);
     Command::new(alloc, "vcnet")
         .about("The virtual channel network of the T9000 and the C104, with occam processes")
         .after_help(PROGRAM_HELP)
@@ -161,6 +173,7 @@ pub(crate) fn definition<'a>(alloc: Global) -> Result<Command<'a>, AllocError>
         .subcommand_required(true)
         .subcommand(check)?
         .subcommand(deadlock)?
+        .subcommand(draw)?
         .subcommand(step_definition(alloc)?)?
         .subcommand(run_definition(alloc)?)
 }

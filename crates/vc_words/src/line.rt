@@ -7,6 +7,8 @@ pub enum Line {
     Check,
     /// To tell whether packets of the network can come to wait for one another in a circle.
     Deadlock,
+    /// To write the network as Graphviz text.
+    Draw,
     /// To run the network event by event, and to print its traffic.
     Step {
         /// The most events that are made: at most 1,000,000,000, and 1,000,000 where the words say nothing.

@@ -63,6 +63,7 @@ fn line_of(matches: &ArgMatches<'_>) -> Line
             seed: number(inner, "seed", u64::from(u32::MAX), 0) as u32,
         },
         Some(("deadlock", _)) => Line::Deadlock,
+        Some(("draw", _)) => Line::Draw,
         _ => Line::Check,
     }
 }

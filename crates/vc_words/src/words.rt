@@ -3,7 +3,7 @@ ghost use Rattle.std.specs.Prelude.{◌≡◌, ℕ, List};
 ghost use Rattle.vc_text.specs.declared.fault.RunFault.TheVariants.{Memory as OutOfMemory};
 ghost use Rattle.clap.specs.Walk.{Text, texts};
 ghost use Rattle.vc_words.specs.CommandLine.{faults, IsFaultOf};
-ghost use Rattle.vc_words.specs.Program.{ChecksNetwork, FindsDeadlock, Runs, RunsNetwork, StepsAs, StepsNetwork, Tells, TellsFault, TellsLine};
+ghost use Rattle.vc_words.specs.Program.{ChecksNetwork, DrawsNetwork, FindsDeadlock, Runs, RunsNetwork, StepsAs, StepsNetwork, Tells, TellsFault, TellsLine};
 ghost use Rattle.vc_words.specs.Status.{status_of_check as status_for_check, status_of_text as status_for_text, status_of_fault, status_of_freedom as status_for_freedom, status_of_end};
 
 use crate::line::Line;
@@ -17,11 +17,11 @@ use vc_core::Close;
 use vc_plan::CheckRefused;
 use vc_reader::ReadRefused;
 use vc_text::{
-    RunFault, StepReport, run_check, run_deadlock, run_net, run_step, run_together, write_fault,
-    write_text,
+    RunFault, StepReport, run_check, run_deadlock, run_draw, run_net, run_step, run_together,
+    write_fault, write_text,
 };
 
-/// The status for a network that is accepted, or without a cycle, or whose processes have all ended.
+/// The status for a network that is accepted, or drawn, or without a cycle, or whose processes have all ended.
 const DONE: u8 = 0;
 
 /// The status for a network whose dependencies have a cycle.
@@ -42,7 +42,7 @@ const BAD_LINE: u8 = 5;
 /// The status for a network that is refused.
 const REFUSED: u8 = 2;
 
-/// The status for want of memory.
+/// The status for want of memory, or of a thread.
 const NO_MEMORY: u8 = 4;
 
 /// The status of a text that is refused, where memory may have been short.
@@ -161,6 +161,17 @@ fn deadlock_by<R: Read, W: Write>(alloc: Global, reader: &mut R, writer: &mut W)
     }
 }
 
+/// Writes the network that the reader has as Graphviz text.
+fn draw_by<R: Read, W: Write>(alloc: Global, reader: &mut R, writer: &mut W) -> u8
+    ensures { DrawsNetwork (R.remaining reader.old)
+        (W.contents writer.old) (W.contents writer.new) result }
+{
+    match run_draw(alloc, reader, writer) {
+        Ok(()) => DONE,
+        Err(fault) => told(alloc, fault, writer),
+    }
+}
+
 /// Runs the network that the reader has, as its plan says, or all its processes on one node.
 fn stepped<R: Read, W: Write>(
     alloc: Global,
@@ -227,6 +238,7 @@ pub fn run_words<T: Threads + Wait, R: Read, W: Write>(
     match command(alloc, words) {
         Ok(Line::Check) => check_by(alloc, reader, writer),
         Ok(Line::Deadlock) => deadlock_by(alloc, reader, writer),
+        Ok(Line::Draw) => draw_by(alloc, reader, writer),
         Ok(Line::Step { limit, together }) => step_by(alloc, reader, writer, limit, together),
         Ok(Line::Run { turns, seed }) => run_by(rt, alloc, reader, writer, turns, seed),
         Err(fault) => told_of_line(alloc, &fault, writer),

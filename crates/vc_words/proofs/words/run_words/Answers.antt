@@ -1,8 +1,8 @@
 use Rattle.std.proofs.Common.{rules, refl, ◌≤◌}
 use Rattle.clap.specs.Walk.{texts}
 use Rattle.vc_words.specs.CommandLine.{Asks, IsFaultOf, faults}
-use Rattle.vc_words.specs.Program.{checks, finds, steps, runs, tells}
-use Rattle.vc_words.specs.declared.line.Line.TheVariants.{Check, Deadlock, Step, Run}
+use Rattle.vc_words.specs.Program.{checks, draws, finds, steps, runs, tells}
+use Rattle.vc_words.specs.declared.line.Line.TheVariants.{Check, Deadlock, Draw, Step, Run}
 use Rattle.vc_words.proofs.words.run_words.Goals as goal
 
 pub returns-in-Ok-Check : goal.returns-in-Ok-Check
@@ -14,6 +14,11 @@ pub returns-in-Ok-Deadlock : goal.returns-in-Ok-Deadlock
 returns-in-Ok-Deadlock g c =
     let asks : Asks (texts c.args.words.now) Deadlock = search rules in
     finds asks c.deadlock_by.ensures
+
+pub returns-in-Ok-Draw : goal.returns-in-Ok-Draw
+returns-in-Ok-Draw g c =
+    let asks : Asks (texts c.args.words.now) Draw = search rules in
+    draws asks c.draw_by.ensures
 
 pub returns-in-Ok-Step : goal.returns-in-Ok-Step
 returns-in-Ok-Step g c =
