@@ -4,6 +4,8 @@
 - a file or a source that a document names and that is not there;
 - a crate that README.md or docs/ names as `vc_..` and that crates.txt has not;
 - a sentence of theirs with over 40 words;
+- a name between backticks (a function, a type, a clause, an edit) that no source, script, example or file has; words in capitals stand for
+  something else, docs/FORMAT.md is held by bench/format.py, and docs/lab/ speaks of its day;
 - a piece of Rattle in docs/CALLING.md that does not stand so in crates/vc_uses;
 - a script of bench/ that does not say with which kit it was made, as README.md names it.
 
@@ -18,6 +20,8 @@ ROOT = os.path.dirname(os.path.dirname(os.path.abspath(__file__)))
 DOCUMENTS = ["README.md", "bench/README.md", *sorted(os.path.relpath(it, ROOT) for it in glob.glob(f"{ROOT}/docs/**/*.md", recursive=True))]
 SOURCES = [os.path.relpath(it, ROOT) for it in glob.glob(f"{ROOT}/crates/*/*/**/*.*t", recursive=True)]
 WORDS = 40
+# Names of the toolchain, of the system, and of what is yet to come.
+OTHERS = set("plant proves lemma grep Display BinaryHeap matches_of explain stats".split())
 
 
 def text_of(path):
@@ -57,6 +61,27 @@ def strange_code(path, text):
             yield f"{path}: not in vc_uses: {piece.strip()[:70]}.."
 
 
+def names():
+    """The words of all sources, scripts and networks, and of the names of files."""
+    crates = [it for kind in ("src", "specs", "proofs") for it in glob.glob(f"{ROOT}/crates/*/{kind}/**/*", recursive=True)]
+    scripts = [*glob.glob(f"{ROOT}/bench/*"), *glob.glob(f"{ROOT}/examples/**/*", recursive=True), f"{ROOT}/crates.txt", f"{ROOT}/.ci/run"]
+    edits = [*glob.glob(f"{ROOT}/crates/*/must-fail/*"), *glob.glob(f"{ROOT}/bench/**/*", recursive=True), *glob.glob(f"{ROOT}/docs/*")]
+    found = {word for it in [*crates, *scripts, *edits] for word in re.findall(r"\w+", it)}
+    for it in crates + scripts:
+        if os.path.isfile(it):
+            # some networks are no UTF-8
+            with open(it, encoding="utf-8", errors="replace") as file:
+                found.update(re.findall(r"\w+", file.read()))
+    return found
+
+
+def unknown_names(path, text, known):
+    for code in re.findall(r"`([^`\n]+)`", re.sub(r"```.*?```", "", text, flags=re.S)):
+        for word in re.findall(r"[A-Za-z_]\w{3,}", code):
+            if word not in known and not word.isupper():
+                yield f"{path}: no source has {word}: `{code[:60]}`"
+
+
 def made_with_another_kit():
     kit = re.search(r"`rt version`: (rattle-\S+), logic (\w+)", text_of("README.md"))
     for path in sorted(glob.glob(f"{ROOT}/bench/*.py") + glob.glob(f"{ROOT}/bench/*.sh")):
@@ -66,11 +91,13 @@ def made_with_another_kit():
 
 
 def main():
-    told = [*made_with_another_kit()]
+    told, known = [*made_with_another_kit()], names() | OTHERS
     for path in DOCUMENTS:
         text = text_of(path)
         told += [*missing_files(path, text), *missing_crates(path, text)]
         told += long_sentences(path, text)
+        if not path.startswith("docs/lab/") and not path.endswith("FORMAT.md"):
+            told += unknown_names(path, text, known)
         if path.endswith("CALLING.md"):
             told += strange_code(path, text)
     print("\n".join([*told, f"{len(DOCUMENTS)} documents, {len(told)} faults"]))
