@@ -102,9 +102,12 @@ by_steps p events s r = (both p events s r).1
 pub replays : (p : Plan) (events : List Event) (s : State) → Reached p events s → Replays p events s
 replays p events s r = record {
   is = r.is;
-  happen = r.happen;
-  headline = (both p events s r).0;
-  linearizes = invisible p Wormhole (map event_of events) (shown s) r.is.accepted r.happen;
+  runs = record {
+    accepted = r.is.accepted;
+    happen = r.happen;
+    headline = (both p events s r).0;
+    linearizes = invisible p Wormhole (map event_of events) (shown s) r.is.accepted r.happen;
+  };
 }
 
 pub all_taken : {X : Type 0} (xs : List X) (n : ℕ) → length xs ≤ n → take n xs ≡ xs

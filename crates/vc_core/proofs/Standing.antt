@@ -161,15 +161,15 @@ unfinished p events s c r replays less finds = by_home (home plan c) refl
 
     on_way : (v : ℕ) (ab : Bool) → home plan c ≡ Way v ab → (o : Option Place) → FindsPlace p s c o → IsSome o ↔ IsUnfinished p s c
     on_way v ab at None finds =
-        let its = replays.headline.packets c v ab below at in (
+        let its = replays.runs.headline.packets c v ab below at in (
           (λ t. absurd (cc)),
           (λ u.
               let r = number_has (BelongsTo (net_of plan) c) (everywhere plan (shown s)) 0 (its.one_packet u) in
               absurd (finds r.0.0 (record { on_link = ap is_virtual at; here = (r.0.1, r.1, r.2) }))),
         )
     on_way v ab at (Some x) (place, stands, named) =
-        let its = replays.headline.packets c v ab below at in (
-          (λ t. elim (finished_or plan s c (replays.headline.faithful c below)) [
+        let its = replays.runs.headline.packets c v ab below at in (
+          (λ t. elim (finished_or plan s c (replays.runs.headline.faithful c below)) [
             | inl u ↦ u
             | inr done ↦ absurd (number_none (BelongsTo (net_of plan) c) (everywhere plan (shown s)) (its.no_packet done) (place, stands.here.0) stands.here.1 stands.here.2)
           ]),

@@ -207,14 +207,14 @@ ended p s is = ((λ all k less. to k less all), (λ have k a here. from k a here
 
 -- an actor of a network that runs has dropped nothing
 pub none_stray : (p : Plan) (events : List Event) (s : State) (k : ℕ) (a : Acting) → Replays p events s → slice_get s.actors k ≡ Some a → strays_of a ≡ 0
-none_stray p events s k (OfNode n) r here = ap (λ (z : net.Actor Process). (vcp_of z).carrier.strays) (sym (state_at s k (OfNode n) here)) ∙ r.headline.no_strays k
+none_stray p events s k (OfNode n) r here = ap (λ (z : net.Actor Process). (vcp_of z).carrier.strays) (sym (state_at s k (OfNode n) here)) ∙ r.runs.headline.no_strays k
 none_stray p events s k (OfSwitch x) r here = refl
 
 pub none_lost : (p : Plan) (events : List Event) (s : State) (k : ℕ) (a : Acting) → Replays p events s → slice_get s.actors k ≡ Some a → lost_of a ≡ 0
 none_lost p events s k (OfNode n) r here = refl
 none_lost p events s k (OfSwitch x) r here =
     let (i, at, of) = r.is.actors k (OfSwitch x) here in
-    ap (λ (z : net.Actor Process). (switch_of z).lost) (sym (state_at s k (OfSwitch x) here)) ∙ ap (λ z. (switch_of ((shown s).state z)).lost) at ∙ r.headline.none_lost i
+    ap (λ (z : net.Actor Process). (switch_of z).lost) (sym (state_at s k (OfSwitch x) here)) ∙ ap (λ z. (switch_of ((shown s).state z)).lost) at ∙ r.runs.headline.none_lost i
 
 -- Bits of room.
 

@@ -18,5 +18,6 @@ NetworkState = Network (Actor Process) Token
 abbrev pub CanHappenIn : Plan → NetworkState → Event → Type 0
 CanHappenIn p x e = IsEnabled (network_of p) Wormhole does x (event_of e)
 
+-- and so for a state of the code
 abbrev pub CanHappen : Plan → State → Event → Type 0
 CanHappen p s e = CanHappenIn p (shown s) e

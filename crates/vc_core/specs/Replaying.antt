@@ -28,20 +28,17 @@ pub record Reached (p : Plan) (events : List Event) (s : State) : Type 0 where
   pub happen : HappenAll (network_of p) Wormhole does (begins (network_of p) (begin_of p)) (map event_of events) (shown s)
 
 -- these events lead from the opening state of an accepted plan to this one. There the headline holds, and one list tells all that the nodes
--- communicated, which has a linearization
+-- communicated, which has a linearization: each message passes at one moment, and each node's part is a trace of its process
 pub record RunsTo (p : Plan) (events : List Event) (x : NetworkState) : Type 0 where
   pub accepted : IsAccepted p
   pub happen : HappenAll (network_of p) Wormhole does (begins (network_of p) (begin_of p)) (map event_of events) x
   pub headline : Headline (network_of p) Wormhole does x
   pub linearizes : Linearizes p x
 
--- and there the headline holds, and one list tells all that the nodes communicated, which has a linearization: each message passes at
--- one moment, and each node's part is a trace of its process
+-- and so for a state of the code
 pub record Replays (p : Plan) (events : List Event) (s : State) : Type 0 where
   pub is : IsNetworkOf p s
-  pub happen : HappenAll (network_of p) Wormhole does (begins (network_of p) (begin_of p)) (map event_of events) (shown s)
-  pub headline : Headline (network_of p) Wormhole does (shown s)
-  pub linearizes : Linearizes p (shown s)
+  pub runs : RunsTo p events (shown s)
 
 -- an event is refused for what it is, and not for want of memory, exactly where it is none of the network
 abbrev pub IsCause : Plan → State → Event → StepRefused → Type 0

@@ -4,6 +4,7 @@ use crate::name::Name;
 use crate::path_fault::PathFault;
 use crate::plan::Plan;
 use crate::port::Port;
+use std::fmt::{self, Debug, Formatter, Write};
 use thiserror::Error;
 use vc_labels::TableFault;
 
@@ -71,10 +72,18 @@ pub enum CheckRefused {
 }
 
 /// A plan that was refused, as it came, and why.
-#[derive(Drop)]
+#[derive(Drop, Error)]
+#[error("the plan is refused: {why}")]
 pub struct Refusal {
     /// The plan.
     pub plan: Plan,
     /// Its first fault.
     pub why: CheckRefused,
+}
+
+impl Debug for Refusal {
+    // by hand, since a plan shows no text
+    fn fmt<W: Write>(&self, f: &mut Formatter<W>) -> fmt::Result {
+        write!(f, "Refusal {{ why: {:?}, .. }}", self.why)
+    }
 }

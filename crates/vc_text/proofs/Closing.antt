@@ -54,7 +54,7 @@ neither false b e = (refl, e)
 -- where a run without a cycle of dependencies is quiet only processes wait
 pub processes_wait : (p : Plan) (events : List Event) (s : State) (made limit : ℕ) (close : Close) → Replays p events s → Closes p (shown s) made limit close → OnlyProcessesWait p (shown s) close
 processes_wait p events s made limit Quiet r c = λ ranks.
-    let reached : Reached p events s = record { is = r.is; happen = r.happen } in
+    let reached : Reached p events s = record { is = r.is; happen = r.runs.happen } in
     let rest : OnlyMoves p s = λ e can. absurd (c.0 e can) in
     only_processes_hold p events s ranks reached rest
 processes_wait p events s made limit Done r c = tt

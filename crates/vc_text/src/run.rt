@@ -1,5 +1,5 @@
 //! Running a network event by event.
-ghost use Rattle.std.specs.Prelude.{◌≡◌, ◌⊎◌, ◌<◌, ◌≤◌, ◌+◌, [], ◌∷◌, ◌++◌, ℕ, true, false, length, map, slice_get, Some, None, Ok, IfOk, OnOk};
+ghost use Rattle.std.specs.Prelude.{◌≡◌, ◌⊎◌, ◌<◌, ◌≤◌, ◌+◌, [], ◌∷◌, ◌++◌, ℕ, true, false, length, slice_get, Some, None, Ok, IfOk, OnOk};
 ghost use Rattle.vc_plan.specs.declared.plan.Plan.{Plan};
 ghost use Rattle.vc_core.specs.State.{shown, state_of, IsNetworkOf};
 ghost use Rattle.vc_core.specs.Replaying.{Reached};
@@ -13,7 +13,7 @@ ghost use Rattle.vc_text.specs.Seated.{HaveGiven};
 ghost use Rattle.vc_text.specs.Shown.{channel_of, channels_of};
 ghost use Rattle.vc_text.specs.Streams.{Writes};
 ghost use Rattle.vc_text.specs.Traffic.{traffic};
-ghost use Rattle.vc_text.specs.Views.{shown as traffic_of};
+ghost use Rattle.vc_text.specs.Views.{AreViews, shown as traffic_of};
 
 use crate::check::read_accepted;
 use crate::fault::RunFault;
@@ -39,7 +39,7 @@ pub struct StepReport {
 /// The channels of a network, in order.
 fn views(alloc: Global, network: &Network) -> Result<Vec<ChannelView<'_>>, Memory>
     ensures { (p : Plan) → IsNetworkOf p (state_of network.now) →
-        IfOk result (λ views. map traffic_of views.items ≡ channels_of p (shown (state_of network.now))) }
+        IfOk result (λ views. AreViews p (shown (state_of network.now)) views.items) }
 {
     let mut views = Vec::new(alloc);
     for chan in 0..network.channels().min(65535) as u16 {
@@ -233,8 +233,8 @@ fn run_rounds(
 /// How a run ends that has made so many events.
 fn close_of(network: &mut Network, events: usize, limit: u64) -> Result<Close, Memory>
     requires { events ≤ limit }
-    ensures closes { (p : Plan) →
-        IsNetworkOf p (state_of network.old) → (events ≡ limit) ⊎ IsAtRest p (state_of network.old) →
+    ensures closes { (p : Plan) → IsNetworkOf p (state_of network.old) →
+        (events ≡ limit) ⊎ IsAtRest p (state_of network.old) →
         IfOk result (Closes p (shown (state_of network.old)) events limit) }
     ensures same { state_of network.new ≡ state_of network.old }
 {

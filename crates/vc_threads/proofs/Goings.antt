@@ -242,13 +242,6 @@ module _ (plan : Plan) (k : ℕ) where
         used = used_then plan k n m a.clock a.actor b.actor c.actor p.steps q.steps p.goes.run run p.used (subst (λ w. Used plan k m w b.actor q.steps c.actor) p.goes.clock q.used);
       }
 
--- the other end of the same link
-pub same_set : {X : Type 0} (xs : List (ℕ × X)) (k : ℕ) (r y : ℕ × X) → k < length xs → r ≡ get_or xs k r → y.0 ≡ r.0 →
-    map (λ o. o.0) (set xs k y) ≡ map (λ o. o.0) xs
-same_set [] k r y within is link = absurd (omega arith)
-same_set (x ∷ xs) zero r y within is link = ap (λ l. l ∷ map (λ o. o.0) xs) (link ∙ ap (λ o. o.0) is)
-same_set (x ∷ xs) (suc k) r y within is link = ap (λ ls. x.0 ∷ ls) (same_set xs k r y (omega arith) is link)
-
 -- the ends of the same links are below 32 where these are
 pub low_kept : {X : Type 0} (os ps : List (ℕ × X)) → map (λ o. o.0) ps ≡ map (λ o. o.0) os → All (λ o. o.0 < 32) os → All (λ o. o.0 < 32) ps
 low_kept os ps same low j d within =

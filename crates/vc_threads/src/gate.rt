@@ -40,13 +40,6 @@ impl EndGate {
             ended: AtomicU64::new(0),
         }
     }
-
-    /// How many nodes the network has.
-    pub fn nodes(&self) -> u8
-        ensures { result ≡ self.now }
-    {
-        self.nodes
-    }
 }
 
 impl Gate for EndGate {

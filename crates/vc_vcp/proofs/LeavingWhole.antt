@@ -6,7 +6,7 @@ use Rattle.vc_packets.specs.Functions.{put}
 use Rattle.vc_credit.specs.Ends.{new_sender}
 use Rattle.vc_vcp.specs.Able.{CanLeaveWhole}
 use Rattle.vc_vcp.specs.Keyed.{shown_or}
-use Rattle.vc_vcp.specs.LinkOut.{Sending, TakesFront, HasNoneWhole}
+use Rattle.vc_vcp.specs.LinkOut.{Sending, FrontLeavesWhole, HasNoneWhole}
 use Rattle.vc_vcp.specs.Links.{LeavesWhole}
 use Rattle.vc_vcp.specs.Seen.{seen, carrier_of, link_of}
 use Rattle.vc_vcp.specs.State.{State}
@@ -14,7 +14,7 @@ use Rattle.vc_vcp.proofs.Beyond.{queue_past}
 use Rattle.vc_vcp.proofs.Placed.{put_back, set_back}
 use Rattle.vc_vcp.proofs.Showing.{seen-out}
 
-pub leaves_whole : (s : State) (l : ℕ) (x y : Sending) (p : Packet) → slice_get s.outs l ≡ Some x → TakesFront x p y → LeavesWhole (seen s) l p (seen (record s { outs = slice_set s.outs l y }))
+pub leaves_whole : (s : State) (l : ℕ) (x y : Sending) (p : Packet) → slice_get s.outs l ≡ Some x → FrontLeavesWhole x p y → LeavesWhole (seen s) l p (seen (record s { outs = slice_set s.outs l y }))
 leaves_whole s l x y p here h =
     let r : (link_of s l).sender ≡ x.sender = ap (shown_or new_sender (λ x. x.sender)) here in
     let same : (link_of s l).sender ≡ y.sender = r ∙ sym (ap (λ z. z.sender) h.after) in
@@ -32,11 +32,11 @@ leaves_none s l x here none can =
     let h = can.leaves in
     none can.packet h.rest (sym (ap (shown_or [] (λ x. x.queue)) here) ∙ h.front) (sym (ap (λ z. z.sent) (ap (shown_or new_sender (λ x. x.sender)) here)) ∙ h.whole)
 
-pub whole_iff : (s : State) (l : ℕ) (x y : Sending) (o : Option Packet) → slice_get s.outs l ≡ Some x → IfSome o (λ p. TakesFront x p y) → (o ≡ None → HasNoneWhole x) → IsSome o ↔ CanLeaveWhole (seen s) l
+pub whole_iff : (s : State) (l : ℕ) (x y : Sending) (o : Option Packet) → slice_get s.outs l ≡ Some x → IfSome o (λ p. FrontLeavesWhole x p y) → (o ≡ None → HasNoneWhole x) → IsSome o ↔ CanLeaveWhole (seen s) l
 whole_iff s l x y None here takes none = (λ t. absurd (cc), λ can. absurd (leaves_none s l x here (none refl) can))
 whole_iff s l x y (Some p) here takes none = (λ t. record { packet = p; new = _; leaves = leaves_whole s l x y p here takes }, λ can. refl)
 
-pub whole_if : (s : State) (l : ℕ) (x y : Sending) (o : Option Packet) → slice_get s.outs l ≡ Some x → IfSome o (λ p. TakesFront x p y) → IfSome o (λ p. LeavesWhole (seen s) l p (seen (record s { outs = slice_set s.outs l y })))
+pub whole_if : (s : State) (l : ℕ) (x y : Sending) (o : Option Packet) → slice_get s.outs l ≡ Some x → IfSome o (λ p. FrontLeavesWhole x p y) → IfSome o (λ p. LeavesWhole (seen s) l p (seen (record s { outs = slice_set s.outs l y })))
 whole_if s l x y None here takes = tt
 whole_if s l x y (Some p) here takes = leaves_whole s l x y p here takes
 

@@ -37,7 +37,7 @@ abbrev pub CanPutFront : Sending → Type 0
 CanPutFront old = (k : Token) × (new : Sending) × PutsFront old k new
 
 -- the packet at the front leaves whole: none of its tokens was put
-pub record TakesFront (old : Sending) (p : Packet) (new : Sending) : Type 0 where
+pub record FrontLeavesWhole (old : Sending) (p : Packet) (new : Sending) : Type 0 where
   pub rest : List Packet
   pub front : old.queue ≡ p ∷ rest
   pub whole : old.sender.sent ≡ []

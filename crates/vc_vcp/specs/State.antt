@@ -3,6 +3,7 @@ use Rattle.std.specs.Prelude.{◌≡◌, ◌≢◌, ℕ, ◌<◌, List, length, 
 use Rattle.std.specs.List.{AllByRecursion}
 use Rattle.vc_packets.specs.declared.packet.Packet.{Packet}
 use Rattle.vc_packets.specs.Headers.{spelled}
+use Rattle.vc_packets.specs.Counting.{one_more}
 use Rattle.vc_packets.specs.Kind.{kind}
 use Rattle.vc_packets.specs.declared.kind.Kind.TheVariants.{Ack}
 use Rattle.vc_tokens.specs.Tokens.{Fct}
@@ -20,6 +21,10 @@ pub record State : Type 0 where
   pub outs : List Sending  -- by link
   pub ins : List Receiving  -- by link
   pub strays : ℕ
+
+-- one more packet or token was dropped, and nothing else changed
+abbrev pub CountsStray : State → State → Type 0
+CountsStray old new = new ≡ record old { strays = one_more old.strays }
 
 -- a packet is a piece for this block
 pub record IsPieceOf (block : ℕ) (p : Packet) : Type 0 where

@@ -4,7 +4,7 @@
 ghost use Rattle.std.specs.Prelude.{◌≡◌, ◌≢◌, ◌<◌, ◌≤◌, ◌+◌, [], ◌∷◌, ◌++◌, ◌↔◌, None, IsTrue, IfSome, OnOk, OnErr, slice_get, drop};
 ghost use Rattle.vc_tokens.specs.Spelt.{token};
 ghost use Rattle.vc_credit.specs.Ends.{credited};
-ghost use Rattle.vc_vcp.specs.LinkOut.{PutsFront, CanPutFront, TakesFront, HasNoneWhole, Unqueues};
+ghost use Rattle.vc_vcp.specs.LinkOut.{PutsFront, CanPutFront, FrontLeavesWhole, HasNoneWhole, Unqueues};
 ghost use Rattle.std.specs.Bool.{OnTrue};
 ghost use Rattle.std.specs.Option.{option_copied};
 
@@ -75,7 +75,7 @@ impl LinkOut {
 
     /// Takes the packet at the front out of the queue; none where no packet waits, or where a token of the first one was put.
     pub(crate) fn take_front(&mut self) -> Option<Packet>
-        ensures takes { IfSome result (λ p. TakesFront self.old p self.new) }
+        ensures takes { IfSome result (λ p. FrontLeavesWhole self.old p self.new) }
         ensures none { result ≡ None → HasNoneWhole self.old }
         ensures same { result ≡ None → self.new ≡ self.old }
     {

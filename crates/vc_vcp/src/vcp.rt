@@ -7,7 +7,7 @@ ghost use Rattle.vc_vcp.specs.Keyed.{named};
 ghost use Rattle.std.specs.List.{AllByRecursion};
 ghost use Rattle.vc_packets.specs.declared.packet.Packet.{Packet};
 ghost use Rattle.vc_vcp.specs.Bound.{IsBound};
-ghost use Rattle.vc_vcp.specs.State.{IsInput, IsIdle, IsUnwanted, IsOpen, MayPut, MayGrant, IsPieceOf, limit_of};
+ghost use Rattle.vc_vcp.specs.State.{CountsStray, IsInput, IsIdle, IsUnwanted, IsOpen, MayPut, MayGrant, IsPieceOf, limit_of};
 ghost use Rattle.vc_vcp.specs.Seen.{ends_of, seen, Inputs, IsKept, taken_of, passed_of, Acks};
 ghost use Rattle.vc_vcp.specs.Links.{new_vcp, Comes, LeavesWhole, Passes, Sends, SendsFct};
 ghost use Rattle.vc_credit.specs.Ends.{IsFront};
@@ -15,7 +15,6 @@ ghost use Rattle.vc_vcp.specs.Steps.{Offers, Stops, Arrives, Stray};
 ghost use Rattle.vc_vcp.specs.Able.{CanOffer, CanWant, CanFetch, CanStop, CanPut, CanLeaveWhole, CanGrant, CanPass, IsReady};
 ghost use Rattle.std.specs.Option.{option_copied};
 ghost use Rattle.vc_vcp.specs.Opening.{ends_given, AreDistinct};
-ghost use Rattle.vc_packets.specs.Counting.{one_more};
 ghost use Rattle.vc_tokens.specs.Spelt.{token};
 ghost use Rattle.vc_tokens.specs.Tokens.{Byte, Fct, EndMark};
 ghost use Rattle.vc_credit.specs.Laws.{NeedsPlace};
@@ -360,7 +359,7 @@ impl Vcp {
     #[inline(always)]
     pub fn accept(&mut self, link: u8, came: Token)
         ensures comes { link < 4 → Comes (seen self.old) link (token came) (seen self.new) }
-        ensures beyond { 4 ≤ link → self.new ≡ record self.old { strays = one_more self.old.strays } }
+        ensures beyond { 4 ≤ link → CountsStray self.old self.new }
         ensures kept { IsKept self.old self.new }
     {
         if usize::from(link) >= LINKS {
@@ -545,7 +544,7 @@ impl Vcp {
     // No half may take a packet.
     fn stray(&mut self) -> Taken
         ensures stray { taken_of result ≡ Stray }
-        ensures counted { self.new ≡ record self.old { strays = one_more self.old.strays } }
+        ensures counted { CountsStray self.old self.new }
     {
         self.drop_one();
         Taken::Stray
@@ -568,7 +567,7 @@ impl Vcp {
 
     // One more was dropped.
     fn drop_one(&mut self)
-        ensures { self.new ≡ record self.old { strays = one_more self.old.strays } }
+        ensures { CountsStray self.old self.new }
     {
         self.strays = self.strays.saturating_add(1);
     }

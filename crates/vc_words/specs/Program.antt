@@ -31,10 +31,16 @@ Tells old new text wanted status = (written : Result ⊤ RunFault) × Writes old
 abbrev pub TellsFault : Option (List ℕ) → Option (List ℕ) → RunFault → ℕ → Type 0
 TellsFault old new fault status = Tells old new (fault_text fault) (status_of_fault fault) status
 
--- the network that the reader had is checked, or a fault of it is told
+-- a text about the network that the reader had is written, or a fault is told
+abbrev pub WritesOrTells : (Option (List ℕ) → Option (List ℕ) → Option (List ℕ) → Result ⊤ RunFault → Type 0)
+    → Option (List ℕ) → Option (List ℕ) → Option (List ℕ) → ℕ → Type 0
+WritesOrTells WritesText known old new status =
+    (WritesText known old new (Ok tt) × (status ≡ 0))
+    ⊎ ((fault : RunFault) × (mid : Option (List ℕ)) × WritesText known old mid (Err fault) × TellsFault mid new fault status)
+
+-- the network that the reader had is checked
 abbrev pub ChecksNetwork : Option (List ℕ) → Option (List ℕ) → Option (List ℕ) → ℕ → Type 0
-ChecksNetwork known old new status =
-    (Checks known old new (Ok tt) × (status ≡ 0)) ⊎ ((fault : RunFault) × (mid : Option (List ℕ)) × Checks known old mid (Err fault) × TellsFault mid new fault status)
+ChecksNetwork = WritesOrTells Checks
 
 -- it is told whether its packets can come to wait for one another in a circle, or a fault of it is told
 abbrev pub FindsDeadlock : Option (List ℕ) → Option (List ℕ) → Option (List ℕ) → ℕ → Type 0
@@ -42,10 +48,9 @@ FindsDeadlock known old new status =
     ((free : Bool) × TellsDeadlock known old new (Ok free) × (status ≡ status_of_freedom free))
     ⊎ ((fault : RunFault) × (mid : Option (List ℕ)) × TellsDeadlock known old mid (Err fault) × TellsFault mid new fault status)
 
--- it is written as Graphviz text, or a fault of it is told
+-- it is written as Graphviz text
 abbrev pub DrawsNetwork : Option (List ℕ) → Option (List ℕ) → Option (List ℕ) → ℕ → Type 0
-DrawsNetwork known old new status =
-    (WritesGraph known old new (Ok tt) × (status ≡ 0)) ⊎ ((fault : RunFault) × (mid : Option (List ℕ)) × WritesGraph known old mid (Err fault) × TellsFault mid new fault status)
+DrawsNetwork = WritesOrTells WritesGraph
 
 -- as its plan says, or all its processes side by side on one node
 abbrev pub StepsAs : Bool → Option (List ℕ) → Option (List ℕ) → Option (List ℕ) → ℕ → Result StepReport RunFault → Type 0

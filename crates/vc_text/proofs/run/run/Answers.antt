@@ -35,7 +35,7 @@ returns-clause-run c =
     (c.in_ok-close.ensures.closes p reached.is (subst (λ n. (n ≡ c.args.limit) ⊎ IsAtRest p (state_of c.run_rounds.new.network)) (sym c.len.ensures) ends))) in
     record {
       few = ran.few;
-      runs = record { accepted = there.is.accepted; happen = there.happen; headline = there.headline; linearizes = there.linearizes };
+      runs = there.runs;
       words = given_words p events c.run_rounds.new.seats (ran.words p begun none);
       closes = closes;
       waits = processes_wait p events t (length events) c.args.limit c.in_ok-close.close there closes;

@@ -7,7 +7,7 @@ use Rattle.vc_core.proofs.network.Network.place.Goals as goal
 pub returns-clause-unfinished : goal.returns-clause-unfinished
 returns-clause-unfinished c = λ p events replays less.
     unfinished p events (state_of c.args.self.now) c.args.chan c.place_by.result replays less
-    (c.place_by.ensures p replays.is (are_owned p events (state_of c.args.self.now) (record { is = replays.is; happen = replays.happen })) (sym (c.in_ok-ends.ensures p replays.is)))
+    (c.place_by.ensures p replays.is (are_owned p events (state_of c.args.self.now) (record { is = replays.is; happen = replays.runs.happen })) (sym (c.in_ok-ends.ensures p replays.is)))
 
 pub returns-clause-finds : goal.returns-clause-finds
 returns-clause-finds c = λ p events reached.

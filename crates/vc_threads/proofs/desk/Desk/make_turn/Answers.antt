@@ -1,5 +1,6 @@
 use Rattle.std.proofs.Common.{◌≡◌, ℕ, refl, sym, subst, get_or, ap, ◌∙◌, ◌++◌, ◌∷◌, [], take, drop, length, ◌<◌}
 use Rattle.std.proofs.Math.ListN.{set}
+use Rattle.std.proofs.Math.Seq.{map-set_same}
 use Rattle.vc_actors.specs.Actors.Label.{Own, Puts}
 use Rattle.vc_actors.specs.LocalRun.{Turn}
 use Rattle.vc_actor.specs.Turns.{PutsWithRoom}
@@ -13,7 +14,7 @@ use Rattle.vc_threads.specs.Works.{Out, SameLinks, Uses, desk}
 use Rattle.vc_threads.proofs.Zips.{zip_same}
 use Rattle.vc_threads.proofs.Looks.{looked_same, in_looked_same}
 use Rattle.vc_threads.proofs.Steps.{finds_quiet}
-use Rattle.vc_threads.proofs.Goings.{among, uses_idle, uses_one, sends_one, sends_quiet, receives_quiet, looked_sends, looked_out_links, same_set}
+use Rattle.vc_threads.proofs.Goings.{among, uses_idle, uses_one, sends_one, sends_quiet, receives_quiet, looked_sends, looked_out_links}
 use Rattle.vc_threads.proofs.Backs.{same_back, zip_back}
 use Rattle.vc_threads.proofs.Outcomes.{of_some}
 use Rattle.vc_core.specs.OfPlan.{IsActorOf}
@@ -150,9 +151,8 @@ returns-in-Ok-Put-clause-ends c =
     let mid = take a.ends.outs.len (c.room_of-room.new.outs ++ drop (length c.room_of-room.new.outs) a.ends.outs.items) in
     let outs' = zip_back OutLooked a.ends.outs.len a.ends.outs.items c.as_mut_slice.result.now c.room_of-room.new.outs a.ends.outs.ok.0 c.as_mut_slice.ensures.value c.room_of-room.ensures.looked in
     let k = c.find_out-k.result in
-    let within : k < length mid = subst (λ w. k < length w) c.as_slice.ensures.value c.find_out-k.ensures.within in
     subst (SameLinks (desk a)) (sym c.log-in-Ok-Put.ensures)
-    (same_set mid k c.index_mut.result.now c.put_item.new.end within c.index_mut.ensures.value c.put_item.ensures.link ∙ looked_out_links a.ends.outs.items mid outs', refl)
+    (map-set_same (λ (o : Out). o.0) mid k c.put_item.new.end c.index_mut.result.now (c.put_item.ensures.link ∙ ap (λ (o : Out). o.0) c.index_mut.ensures.value) ∙ looked_out_links a.ends.outs.items mid outs', refl)
 
 pub returns-in-Err-clause-ends : goal.returns-in-Err-clause-ends
 returns-in-Err-clause-ends c =

@@ -5,13 +5,14 @@ use Rattle.vc_threads.specs.Runs.{Draws, word_of}
 use Rattle.vc_actor.specs.declared.act.Act.{Act}
 use Rattle.std.proofs.Common.{ℕ, inl, inr, refl, subst, sym, get_or, ap, ◌∙◌, ◌++◌, ◌∷◌, []}
 use Rattle.std.proofs.Math.ListN.{set}
+use Rattle.std.proofs.Math.Seq.{map-set_same}
 use Rattle.vc_threads.specs.Wires.{OutLooked, InLooked}
-use Rattle.vc_threads.specs.Works.{SameLinks, Uses, take_of, desk}
+use Rattle.vc_threads.specs.Works.{In, SameLinks, Uses, take_of, desk}
 use Rattle.vc_threads.proofs.Zips.{zip_same, zip_step}
 use Rattle.vc_threads.proofs.Looks.{looked_same, in_looked_same, in_looked_then}
 use Rattle.vc_threads.proofs.Late.{full_passed, written_in}
 use Rattle.vc_threads.proofs.Outcomes.{on_err}
-use Rattle.vc_threads.proofs.Goings.{among, uses_one, receives_one, sends_quiet, same_set}
+use Rattle.vc_threads.proofs.Goings.{among, uses_one, receives_one, sends_quiet}
 use Rattle.vc_threads.proofs.desk.Desk.take_from.Goals as goal
 
 pub returns-in_err-stamp-clause-stopped : goal.returns-in_err-stamp-clause-stopped
@@ -52,10 +53,10 @@ returns-in_err-stamp-clause-full c =
 
 pub returns-in_err-stamp-clause-ends : goal.returns-in_err-stamp-clause-ends
 returns-in_err-stamp-clause-ends c =
-    (refl, same_set c.args.self.now.ends.ins.items c.args.k c.index_mut.result.now c.take_front.new.end c.requires.within c.index_mut.ensures.value c.in_err-stamp.ensures.link)
+    (refl, map-set_same (λ (i : In). i.0) c.args.self.now.ends.ins.items c.args.k c.take_front.new.end c.index_mut.result.now (c.in_err-stamp.ensures.link ∙ ap (λ (i : In). i.0) c.index_mut.ensures.value))
 
 pub returns-clause-ends : goal.returns-clause-ends
 returns-clause-ends c =
     let a = c.args.self.now in
     subst (SameLinks (desk a)) (sym c.log.ensures)
-    (refl, same_set a.ends.ins.items c.args.k c.index_mut.result.now c.take_front.new.end c.requires.within c.index_mut.ensures.value c.in_ok-stamp.ensures.link)
+    (refl, map-set_same (λ (i : In). i.0) a.ends.ins.items c.args.k c.take_front.new.end c.index_mut.result.now (c.in_ok-stamp.ensures.link ∙ ap (λ (i : In). i.0) c.index_mut.ensures.value))
