@@ -1,6 +1,7 @@
 //! A node: its process, and the virtual channel processor that carries its channels.
 ghost use Rattle.std.specs.Prelude.{◌≡◌, ◌≢◌, ◌<◌, ◌≤◌, ◌↔◌, ◌++◌, ℕ, [], length, true, false, Option, Some, None, IsTrue, IfOk, IfSome, OnOk, OnErr};
 ghost use Rattle.std.specs.List.{Contains};
+ghost use Rattle.vc_occam.specs.Blocking.{blocked as blocked_at};
 ghost use Rattle.vc_occam.specs.Remains.{Done};
 ghost use Rattle.vc_occam.specs.Runnings.{inner_channels, moves as moves_of, state};
 ghost use Rattle.vc_occam.specs.declared.moves.Move.{Move as SpeltMove};
@@ -26,8 +27,9 @@ ghost use Rattle.vc_tokens.specs.Spelt.{tokens};
 use crate::act::Act;
 use crate::inside::Inside;
 use crate::room::has_room;
+use sqlite_items::Items;
 use std::alloc::Global;
-use vc_occam::{Answer, Move, Running};
+use vc_occam::{Answer, Blocked, Move, Running};
 use vc_packets::{Bytes, Memory, Packet};
 use vc_tokens::Token;
 use vc_vcp::{Taken, Vcp, Want};
@@ -288,6 +290,13 @@ impl Node {
         ensures { IsTrue result ↔ ((state self.now.process).rest ≡ Done) }
     {
         self.process.ended()
+    }
+
+    /// What the parts of the process are at that do not go on by themselves, in order of site.
+    pub fn blocked(&self) -> Result<Items<Blocked>, Memory>
+        ensures { IfOk result (λ found. found ≡ blocked_at (state self.now.process).rest (state self.now.process).store) }
+    {
+        self.process.blocked()
     }
 
     /// Makes a move. The answer is whether its site is known to wait then, and the others' moves to be what they were.

@@ -1,3 +1,4 @@
+pub mod Blocking
 pub mod Filled
 pub mod Channels
 pub mod Scheduling

@@ -9,6 +9,7 @@ ghost use Rattle.vc_plan.specs.declared.channel.Channel.{Channel};
 ghost use Rattle.vc_accepted.specs.NetworkOf.{network_of};
 ghost use Rattle.vc_network.specs.Plan.{home};
 ghost use Rattle.vc_network.specs.Views.{view, source_node, sink_node, vcps};
+ghost use Rattle.vc_core.specs.Blocking.{blocked_in, blocked_of as blocked_as};
 ghost use Rattle.vc_core.specs.Placed.{AreOwned, FindsPlace, IsUnfinished};
 ghost use Rattle.vc_core.specs.Channels.{ends_at};
 ghost use Rattle.vc_core.specs.Enabled.{CanHappen};
@@ -16,7 +17,7 @@ ghost use Rattle.std.specs.Int.{bit_at};
 ghost use Rattle.vc_actor.specs.Parts.{IsDone, node_at, vcp_in, strays_of, lost_of, saturated};
 ghost use Rattle.std.specs.List.{sum_by};
 ghost use Rattle.vc_actor.specs.OfPlan.{IsActorOf};
-ghost use Rattle.vc_actor.specs.Shown.{Acting};
+ghost use Rattle.vc_actor.specs.Shown.{Acting, actor_of};
 ghost use Rattle.vc_actor.specs.Turns.{actors};
 ghost use Rattle.vc_core.specs.Turns.{FindsFront, FindsTake, FindsEvent, FindsEventOf, HaveEnded, IsRoom};
 ghost use Rattle.vc_core.specs.declared.event.Event.{Event as Happening};
@@ -31,7 +32,7 @@ use crate::refused::{ReplayRefused, StepRefused};
 use sqlite_items::{Items, at};
 use std::alloc::Global;
 use vc_actor::{Act, ActKind, Actor, Node, actors, has_room, lowest};
-use vc_occam::ValueKind;
+use vc_occam::{Blocked, ValueKind};
 use vc_packets::{Bytes, Memory};
 use vc_plan::{Accepted, Port, Wire};
 use vc_tokens::Token;
@@ -474,6 +475,17 @@ impl Network {
         true
     }
 
+    /// What the parts of a node's process are at that do not go on by themselves, in order of site; nothing where the network has no
+    /// such node.
+    pub fn blocked(&self, alloc: Global, node: usize) -> Result<Items<Blocked>, Memory>
+        ensures { IfOk result (λ found. found ≡ blocked_in (shown (state_of self.now)) node) }
+    {
+        match at(self.actors.as_slice(), node) {
+            Some(actor) => blocked_of(alloc, actor),
+            None => Ok(Items::new(alloc)),
+        }
+    }
+
     /// How many actors there are: the nodes, and then the switches.
     pub fn actors(&self) -> usize
         ensures { (p : Plan) → IsNetworkOf p (state_of self.now) → result ≡ actors p }
@@ -653,6 +665,16 @@ impl Network {
             },
             None => None,
         }
+    }
+}
+
+// What the parts of an actor's process are at that do not go on by themselves, if it is a node.
+fn blocked_of(alloc: Global, actor: &Actor) -> Result<Items<Blocked>, Memory>
+    ensures { IfOk result (λ found. found ≡ blocked_as (actor_of actor.now)) }
+{
+    match actor.node() {
+        Some(node) => node.blocked(),
+        None => Ok(Items::new(alloc)),
     }
 }
 

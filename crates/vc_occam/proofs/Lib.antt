@@ -2,6 +2,7 @@ pub mod Abreast
 pub mod Acting
 pub mod Beginning
 pub mod Besides
+pub mod Blocks
 pub mod Checked
 pub mod Doing
 pub mod Fitting

@@ -14,6 +14,7 @@ pub use Rattle.vc_process.specs.Syntax
 pub use Rattle.vc_process.specs.Terms
 pub use Rattle.vc_process.specs.Usage
 pub use Rattle.vc_process.specs.Values
+pub mod Blocking
 pub mod First
 pub mod Frames
 pub mod Gates

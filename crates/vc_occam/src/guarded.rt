@@ -29,7 +29,7 @@ pub(crate) struct GuardedInputs {
 
 impl GuardedInput {
     /// Whether its condition is true.
-    fn is_open(&self, vars: &[Datum]) -> bool
+    pub(crate) fn is_open(&self, vars: &[Datum]) -> bool
         ensures { result ≡ is_true (holds (as_test self.now.cond) (store vars.now)) }
     {
         match self.cond.holds(vars) {
@@ -81,7 +81,7 @@ impl GuardedInputs {
     }
 
     /// Whether no condition is a fault.
-    fn are_decided(&self, vars: &[Datum]) -> bool
+    pub(crate) fn are_decided(&self, vars: &[Datum]) -> bool
         ensures { result ≡ all_decided (map gate self.now.inputs) (store vars.now) }
     {
         for input in self.inputs.as_slice() {

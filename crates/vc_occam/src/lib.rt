@@ -29,6 +29,8 @@
 
 mod answer;
 mod begins;
+mod blocked;
+mod blocking;
 mod deed;
 mod frame;
 mod framing;
@@ -51,6 +53,7 @@ mod waits;
 mod went;
 
 pub use answer::Answer;
+pub use blocked::Blocked;
 pub use laws::{
     lawful_use_is_kept, listed_moves_can_be_made, sites_are_own, steps_are_traces, waiting_after,
 };

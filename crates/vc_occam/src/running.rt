@@ -11,6 +11,7 @@ ghost use Rattle.vc_process.specs.Terms.{store};
 
 use crate::answer::Answer;
 use crate::begins::Begins;
+use crate::blocked::Blocked;
 use crate::deed::Deed;
 use crate::frame::Frame;
 use crate::framing::begin_frame;
@@ -123,6 +124,7 @@ fn meet(
 impl Running {
     ghost use Rattle.std.specs.Prelude.{◌≡◌, ◌≤◌, ◌↔◌, ◌++◌, ◌∷◌, [], IsTrue, IfOk, IfSome, OnOk, OnErr, MatchOption, Some, None, true, false, ℕ};
     ghost use Rattle.std.specs.List.{Contains};
+    ghost use Rattle.vc_occam.specs.Blocking.{blocked};
     ghost use Rattle.vc_occam.specs.First.{own};
     ghost use Rattle.vc_occam.specs.Frames.{assigned_at, waits_at};
     ghost use Rattle.vc_occam.specs.Moving.{BeginsToWait, CanMeet, from_site, site_of, without};
@@ -442,6 +444,16 @@ impl Running {
         ensures { MatchOption result ((i : ℕ) → Contains (waiting (state self.now).rest) (input i chan) → ⊥) (λ i. Contains (waiting (state self.now).rest) (input i chan)) }
     {
         self.waits_on(self.hints.input_on(chan), Waits::Input { chan })
+    }
+
+    /// What its parts are at that do not go on by themselves, in order of site; of an ALT each open guard, in order.
+    #[tactic(auto, unfolding(crate::specs::Runnings::state))]
+    pub fn blocked(&self) -> Result<Items<Blocked>, Memory>
+        ensures { IfOk result (λ found. found ≡ blocked (state self.now).rest (state self.now).store) }
+    {
+        let mut found = Items::new(self.alloc);
+        self.frame.push_blocked(&mut found, &self.vars)?;
+        Ok(found)
     }
 
     /// Whether nothing remains.
