@@ -2,8 +2,8 @@
 """Makes each allocation of a run fail in turn.
 
 Usage: bench/allocations.py VCNET [NETWORK..], VCNET being the built program (crates/vcnet/out/vcnet), the networks those of
-examples/ where none is named. Each check, drawing and run by step must print what it prints with ample memory, or that memory is short,
-with status 4. A run in threads, of which no two need be alike, must print a fault alone, or the traffic of a run that ended because an
+examples/ where none is named. Each check, explanation, drawing and run by step, with its events, with who waits, or without, must print what
+it prints with ample memory, or that memory is short, with status 4. A run in threads, of which no two need be alike, must print a fault alone, or the traffic of a run that ended because an
 actor found no memory, both with status 4; or the traffic of a run to its end, or to the end of its turns.
 
 Made with rattle-kit-13f, logic dac8208d650f15bf.
@@ -115,8 +115,8 @@ def main():
         source.write_text(SHIM)
         subprocess.run(["cc", "-O2", "-shared", "-fPIC", "-o", shim, source], check=True)
         for network in networks:
-            for word in ("check", "draw", "step"):
-                sweep([vcnet, word], network, shim, folder)
+            for words in ("check", "explain", "draw", "step", "step --why", "step --trace"):
+                sweep([vcnet, *words.split()], network, shim, folder)
             sweep_threads([vcnet, "run", *TURNS], network, shim, folder)
 
 

@@ -8,6 +8,7 @@ use Rattle.vc_occam.specs.declared.moves.Move.TheVariants as move
 use Rattle.vc_log.specs.declared.entry.Brief.{Brief}
 use Rattle.vc_log.specs.declared.entry.Brief.TheVariants as brief
 use Rattle.vc_log.specs.declared.entry.Entry.{Entry}
+use Rattle.vc_log.specs.declared.events.Events.{Events}
 
 -- the next word, and the next move
 abbrev pub first_word : List ℕ → ℕ
@@ -45,6 +46,10 @@ moves_left _ moves = moves
 abbrev pub events_of : List Entry → List ℕ → List Move → List Event
 events_of [] words moves = []
 events_of (e ∷ es) words moves = record { actor = e.actor; act = act_of e.brief words moves } ∷ events_of es (words_left e.brief words) (moves_left e.brief moves)
+
+-- the events that are still to come
+abbrev pub events_left : Events → List Event
+events_left left = events_of left.entries.now left.words.now left.moves.now
 
 -- how many words, and how many moves, a brief and entries take
 abbrev pub words_of : Brief → ℕ

@@ -2,9 +2,10 @@
 
 ghost use Rattle.std.specs.Prelude.{◌≡◌, [], ◌∷◌, ◌++◌, length, ◌↔◌, IsTrue, IfOk, OnOk, OnErr};
 ghost use Rattle.vc_actor.specs.declared.act.Act.TheVariants.{Proc, Take};
-ghost use Rattle.vc_log.specs.Kept.{act_of, words_of, moves_of};
+ghost use Rattle.vc_log.specs.Kept.{act_of, words_of, moves_of, events_left};
 
 use crate::entry::{Brief, Entry};
+use crate::events::Events;
 use sqlite_items::Items;
 use std::alloc::{AllocError, Global};
 use std::marker::Model;
@@ -115,6 +116,17 @@ impl EventLog {
             return Err(fault);
         }
         Ok(())
+    }
+
+    /// Goes through its events, in order.
+    pub fn iter(&self) -> Events<'_>
+        ensures { events_left result ≡ self.now }
+    {
+        Events {
+            entries: self.entries.as_slice(),
+            words: self.words.as_slice(),
+            moves: self.moves.as_slice(),
+        }
     }
 
     /// Its events, in order. Where memory is short it answers so, and stays.

@@ -6,5 +6,7 @@
 
 mod entry;
 mod event_log;
+mod events;
 
 pub use event_log::EventLog;
+pub use events::Events;

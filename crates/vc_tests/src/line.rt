@@ -11,11 +11,14 @@ const LINES: &[(&[&str], Result<Line, u8>)] = &[
     (&["vcnet", "check"], Ok(Line::Check)),
     (&["vcnet", "deadlock"], Ok(Line::Deadlock)),
     (&["vcnet", "draw"], Ok(Line::Draw)),
+    (&["vcnet", "explain"], Ok(Line::Explain)),
     (
         &["vcnet", "step"],
         Ok(Line::Step {
             limit: 1_000_000,
             together: false,
+            why: false,
+            trace: false,
         }),
     ),
     (
@@ -23,6 +26,17 @@ const LINES: &[(&[&str], Result<Line, u8>)] = &[
         Ok(Line::Step {
             limit: 1_000_000_000,
             together: true,
+            why: false,
+            trace: false,
+        }),
+    ),
+    (
+        &["vcnet", "step", "--trace"],
+        Ok(Line::Step {
+            limit: 1_000_000,
+            together: false,
+            why: false,
+            trace: true,
         }),
     ),
     (
@@ -30,13 +44,26 @@ const LINES: &[(&[&str], Result<Line, u8>)] = &[
         Ok(Line::Run {
             turns: 10_000_000,
             seed: 0,
+            why: false,
+            trace: false,
         }),
     ),
     (
-        &["vcnet", "run", "--seed=4294967295", "--turns", "0"],
+        &["vcnet", "run", "--seed=4294967295", "--turns", "0", "--why"],
         Ok(Line::Run {
             turns: 0,
             seed: 4_294_967_295,
+            why: true,
+            trace: false,
+        }),
+    ),
+    (
+        &["vcnet", "run", "--why", "--trace"],
+        Ok(Line::Run {
+            turns: 10_000_000,
+            seed: 0,
+            why: true,
+            trace: true,
         }),
     ),
     (&["vcnet", "step", "--limit", "1000000001"], Err(5)),

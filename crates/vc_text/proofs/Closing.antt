@@ -12,6 +12,7 @@ use Rattle.vc_core.specs.Replaying.{Reached, Replays}
 use Rattle.vc_core.specs.Still.{OnlyMoves}
 use Rattle.vc_core.proofs.Still.{only_processes_hold}
 use Rattle.vc_text.specs.Closing.{HasEvent, Closes, OnlyProcessesWait}
+use Rattle.vc_text.specs.Simulating.{counted}
 
 -- where all actors rest
 pub all_rest : (p : Plan) (s : State) → IsNetworkOf p s → (n : ℕ) → actors p ≤ n → ((k : ℕ) → k < n → Rests p s k) → IsAtRest p s
@@ -30,14 +31,14 @@ some_take p s k (Some l) some node takes = event_of p s k l node takes
 some_take p s k None some node takes = absurd (cc)
 
 -- a step that made an event or none
-pub longer : {X : Type 0} (had : Bool) (old new : List X) → (had ≡ true → length new ≡ length old + 1) → (had ≡ false → new ≡ old) → length old ≤ length new
-longer true old new more same = let e = more refl in omega arith
-longer false old new more same = let e = ap length (same refl) in omega arith
+pub counted_few : (had : Bool) (old new : ℕ) → new ≡ counted had old → (old ≤ new) × (new ≤ old + 1)
+counted_few true old new is = (omega (arith, is), omega (arith, is))
+counted_few false old new is = (omega (arith, is), omega (arith, is))
 
-pub grown : (moved had : Bool) (first old new : ℕ) → first ≤ old → (moved ≡ true → first < old) → old ≤ new → (had ≡ true → new ≡ old + 1) → (moved || had) ≡ true → first < new
-grown true had first old new least some grows more e = let s = some refl in omega arith
-grown false true first old new least some grows more e = let m = more refl in omega arith
-grown false false first old new least some grows more e = absurd (cc)
+pub grown : (moved had : Bool) (first old new : ℕ) → first ≤ old → (moved ≡ true → first < old) → new ≡ counted had old → (moved || had) ≡ true → first < new
+grown true had first old new least some is e = let s = some refl in let n = counted_few had old new is in omega (arith, s, n.0)
+grown false true first old new least some is e = omega (arith, least, is)
+grown false false first old new least some is e = absurd (cc)
 
 pub or_true : (a b : Bool) → b ≡ true → (a || b) ≡ true
 or_true true b e = refl

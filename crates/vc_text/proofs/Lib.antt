@@ -1,3 +1,4 @@
+pub mod Asked
 pub mod Known
 pub mod Texts
 pub mod Checked
@@ -6,4 +7,5 @@ pub mod Channels
 pub mod Closing
 pub mod Quieting
 pub mod Threaded
+pub mod Simulated
 pub mod Stepped

@@ -1,12 +1,28 @@
 -- A plan that was read and its run, together.
 use Rattle.std.proofs.Common.{ℕ, List, Option, Result, Ok, Err, inr}
+use Rattle.vc_core.specs.Enabled.{NetworkState}
+use Rattle.vc_core.specs.declared.close.Close.{Close}
+use Rattle.vc_core.specs.declared.event.Event.{Event}
 use Rattle.vc_plan.specs.declared.plan.Plan.{Plan as Network}
 use Rattle.vc_text.specs.Checking.{ReadsAccepted}
 use Rattle.vc_text.specs.OneNode.{JoinsNodes, ReadsTogether}
-use Rattle.vc_text.specs.Running.{RunsPlan, StepsBy}
+use Rattle.vc_text.specs.Running.{ClosesBy, IsRunWithin, RunsPlan, StepsBy}
+use Rattle.vc_text.specs.Shown.{channels_of}
+use Rattle.vc_text.specs.Streams.{Writes}
+use Rattle.vc_text.specs.Traffic.{traffic}
 use Rattle.vc_text.specs.declared.fault.RunFault.{RunFault}
 use Rattle.vc_text.specs.declared.fault.RunFault.TheVariants.{Read, Write, Text, Plan, Threads, Memory}
 use Rattle.vc_text.specs.declared.run.StepReport.{StepReport}
+
+-- the traffic could not be written, or there was no memory for it
+pub unwritten : (old new : Option (List ℕ)) (limit : ℕ) (plan : Network) (events : List Event) (x : NetworkState) (close : Close) (fault : RunFault) →
+    IsRunWithin plan limit events x close → Writes old new (traffic (channels_of plan x) close) (Err fault) → RunsPlan plan old new limit (Err fault)
+unwritten old new limit plan events x close Write ran w = (events, x, close, ran, w)
+unwritten old new limit plan events x close Memory ran w = w
+unwritten old new limit plan events x close Read ran w = absurd w
+unwritten old new limit plan events x close (Text refused) ran w = absurd w
+unwritten old new limit plan events x close (Plan refusal) ran w = absurd w
+unwritten old new limit plan events x close (Threads why) ran w = absurd w
 
 -- the plan was read, and it was run
 pub steps_by : (Reads : Result Network RunFault → Type 0) → Reads (Err Memory) → (plan : Network) (old new : Option (List ℕ)) (limit : ℕ) (result : Result StepReport RunFault) →
@@ -23,3 +39,9 @@ steps_by Reads memory plan old new limit (Err (Threads why)) read ran = absurd r
 pub reads_together : (known : Option (List ℕ)) (plan : Network) (result : Result Network RunFault) → ReadsAccepted known (Ok plan) → JoinsNodes plan result → ReadsTogether known result
 reads_together known plan (Ok one) read joined = (plan, read, joined)
 reads_together known plan (Err fault) read joined = inr (plan, read, joined)
+
+-- and so for a run of which the close alone is answered
+pub closes_by : (Reads : Result Network RunFault → Type 0) → Reads (Err Memory) → (plan : Network) (old new : Option (List ℕ)) (limit : ℕ) (result : Result Close RunFault) →
+    Reads (Ok plan) → ClosesBy (RunsPlan plan old new limit) result → ClosesBy (StepsBy Reads old new limit) result
+closes_by Reads memory plan old new limit (Ok close) read ran = (ran.0, ran.1, (plan, read, ran.2))
+closes_by Reads memory plan old new limit (Err fault) read ran = steps_by Reads memory plan old new limit (Err fault) read ran

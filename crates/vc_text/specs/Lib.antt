@@ -9,7 +9,9 @@ pub mod Graph
 pub mod Quiet
 pub mod Running
 pub mod Seated
+pub mod Simulating
 pub mod Takes
 pub mod Shown
 pub mod Threading
 pub mod OneNode
+pub mod Why

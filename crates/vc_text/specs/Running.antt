@@ -49,3 +49,8 @@ Steps known = StepsBy (ReadsAccepted known)
 -- all its processes are run side by side on one node
 abbrev pub StepsTogether : Option (List ℕ) → Option (List ℕ) → Option (List ℕ) → ℕ → Result StepReport RunFault → Type 0
 StepsTogether known = StepsBy (ReadsTogether known)
+
+-- a run of which the close alone is answered: there is such a report
+abbrev pub ClosesBy : (Result StepReport RunFault → Type 0) → Result Close RunFault → Type 0
+ClosesBy Runs (Ok close) = (report : StepReport) × (report.close ≡ close) × Runs (Ok report)
+ClosesBy Runs (Err fault) = Runs (Err fault)

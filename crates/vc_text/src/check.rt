@@ -12,7 +12,7 @@ use vc_packets::Memory;
 use vc_plan::{Accepted, Plan, check};
 
 /// The network that the reader has, where the checker accepts it.
-pub(crate) fn read_accepted<R: Read>(alloc: Global, reader: &mut R) -> Result<Accepted, RunFault>
+pub fn read_accepted<R: Read>(alloc: Global, reader: &mut R) -> Result<Accepted, RunFault>
     ensures { ReadsAccepted (R.remaining reader.old) result }
 {
     let plan = read_plan(alloc, reader)?;
@@ -22,8 +22,9 @@ pub(crate) fn read_accepted<R: Read>(alloc: Global, reader: &mut R) -> Result<Ac
     }
 }
 
+/// The line of an accepted network: how many nodes, switches, virtual links and channels it has. It fails for want of memory alone.
 #[tactic(auto, using(std::proofs::Common::append_assoc), unfolding(crate::specs::Checking::accepted_text))]
-fn accepted_text(alloc: Global, plan: &Plan) -> Result<Vec<u8>, Memory>
+pub fn accepted_text(alloc: Global, plan: &Plan) -> Result<Vec<u8>, Memory>
     ensures { IfOk result (λ text. text.items ≡ text_of_accepted plan.now) }
 {
     let mut out = Vec::new(alloc);

@@ -30,8 +30,8 @@ fn push_ports(out: &mut Vec<u8>, plan: &Plan, ports: &[Port]) -> Result<(), Memo
     Ok(())
 }
 
-/// The line of a network with this cycle.
-fn cycle_text(alloc: Global, plan: &Plan, ports: &[Port]) -> Result<Vec<u8>, Memory>
+/// The line of a network with this cycle. It fails for want of memory alone.
+pub fn cycle_text(alloc: Global, plan: &Plan, ports: &[Port]) -> Result<Vec<u8>, Memory>
     ensures { IfOk result (λ text. text.items ≡ text_of_cycle plan.now ports.now) }
 {
     let mut out = Vec::new(alloc);

@@ -24,7 +24,8 @@ fn push_thread_line(out: &mut Vec<u8>, why: ThreadFault) -> Result<(), Memory>
     Ok(())
 }
 
-fn fault_text(alloc: Global, fault: &RunFault) -> Result<Vec<u8>, Memory>
+/// The line of a fault, and nothing for a fault of the writer. It fails for want of memory alone.
+pub fn fault_text(alloc: Global, fault: &RunFault) -> Result<Vec<u8>, Memory>
     ensures { IfOk result (λ text. text.items ≡ text_of_fault fault.now) }
 {
     let mut out = Vec::new(alloc);

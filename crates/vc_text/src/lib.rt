@@ -7,6 +7,7 @@
 mod check;
 mod check_line;
 mod deadlock;
+mod event_sink;
 mod fault;
 mod fault_line;
 mod graph;
@@ -16,17 +17,24 @@ mod plan_text;
 mod read_line;
 mod run;
 mod seats;
+mod simulation;
 mod streams;
 mod threading;
 mod traffic;
+mod why;
 
-pub use check::run_check;
-pub use deadlock::run_deadlock;
+pub use check::{accepted_text, read_accepted, run_check};
+pub use deadlock::{cycle_text, run_deadlock};
 pub use fault::RunFault;
-pub use fault_line::write_fault;
+pub use fault_line::{fault_text, write_fault};
 pub use graph::run_draw;
-pub use run::{StepReport, run_step, run_together, write_traffic};
-pub use streams::write_text;
-pub use threading::run_net;
+pub use one_node::read_together;
+pub use run::{
+    StepReport, run_accepted, run_step, run_step_unlogged, run_together, run_together_unlogged,
+    write_traffic,
+};
+pub use streams::{read_all, write_text};
+pub use threading::{gate_of, run_net, run_net_unlogged};
 pub use traffic::{ChannelView, write_channels};
 pub use vc_reader::{Path, ReadRefused, Step, Word, read_network};
+pub use why::{run_net_why, run_step_why, run_together_why, tail_of};

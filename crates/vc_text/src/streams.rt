@@ -15,8 +15,9 @@ const MOST_BYTES: usize = 16777216;
 /// A reader that hasn't ended after so many reads is taken to have no end.
 const MOST_READS: u32 = 1048576;
 
-/// All that the reader has, up to so many bytes and so many reads.
-fn read_all<R: Read>(alloc: Global, reader: &mut R) -> Result<Vec<u8>, RunFault>
+/// All that the reader has, at most 16,777,216 bytes in at most 1,048,576 reads. It fails where the reader fails or has more, or for
+/// want of memory; how far the reader was read is not said then.
+pub fn read_all<R: Read>(alloc: Global, reader: &mut R) -> Result<Vec<u8>, RunFault>
     ensures all { IfOk result (λ bytes. IsAllOf (R.remaining reader.old) bytes.items) }
     ensures limit { IfOk result (λ bytes. length bytes.items ≤ most_bytes) }
     ensures fault { IfErr result IsReadFault }

@@ -1,5 +1,5 @@
 //! Running a network in threads.
-ghost use Rattle.vc_text.specs.Threading.{RunsInThreads};
+ghost use Rattle.vc_text.specs.Threading.{EndsInThreads, RunsInThreads};
 
 use crate::check::read_accepted;
 use crate::fault::RunFault;
@@ -9,10 +9,10 @@ use std::io::{Read, Write};
 use std::sync::Wait;
 use std::thread::Threads;
 use vc_plan::Accepted;
-use vc_threads::{EndGate, Report, run_threads};
+use vc_threads::{EndGate, Ending, Report, run_threads, run_threads_unlogged};
 
 /// The gate that closes once the process of each node has ended; a plan has at most 32 nodes.
-fn gate_of(accepted: &Accepted) -> EndGate {
+pub fn gate_of(accepted: &Accepted) -> EndGate {
     EndGate::new(accepted.plan().nodes.len().min(64) as u8)
 }
 
@@ -34,6 +34,28 @@ pub fn run_net<T: Threads + Wait, R: Read, W: Write>(
     let report = run_threads(rt, alloc, &accepted, &gate, turns, seed)?;
     match write_traffic(alloc, &report.state, report.close, writer) {
         Ok(()) => Ok(report),
+        Err(fault) => Err(fault),
+    }
+}
+
+/// Does the same as [`run_net`], and keeps no events: its memory does not grow with their number. There are events that [`run_net`]
+/// could have reported.
+pub fn run_net_unlogged<T: Threads + Wait, R: Read, W: Write>(
+    rt: &T,
+    alloc: Global,
+    reader: &mut R,
+    writer: &mut W,
+    turns: u64,
+    seed: u32,
+) -> Result<Ending, RunFault>
+    ensures { EndsInThreads turns seed (R.remaining reader.old)
+        (W.contents writer.old) (W.contents writer.new) result }
+{
+    let accepted = read_accepted(alloc, reader)?;
+    let gate = gate_of(&accepted);
+    let ending = run_threads_unlogged(rt, alloc, &accepted, &gate, turns, seed)?;
+    match write_traffic(alloc, &ending.state, ending.close, writer) {
+        Ok(()) => Ok(ending),
         Err(fault) => Err(fault),
     }
 }

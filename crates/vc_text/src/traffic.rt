@@ -161,7 +161,11 @@ fn push_close(out: &mut Vec<u8>, close: Close) -> Result<(), Memory>
 }
 
 /// The text of a network's traffic.
-fn traffic_text(alloc: Global, views: &[ChannelView<'_>], close: Close) -> Result<Vec<u8>, Memory>
+pub(crate) fn traffic_text(
+    alloc: Global,
+    views: &[ChannelView<'_>],
+    close: Close,
+) -> Result<Vec<u8>, Memory>
     ensures { IfOk result (λ text. text.items ≡ traffic (map shown views.now) close) }
 {
     let mut out = Vec::new(alloc);

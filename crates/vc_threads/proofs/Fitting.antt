@@ -7,7 +7,7 @@ use Rattle.std.proofs.Math.Seq.{get_or-append_seam}
 use Rattle.std.proofs.lemmas.List.Elements.{All-push}
 use Rattle.std.proofs.lemmas.Simd.{map-map}
 use Rattle.vc_core.specs.Shown.{Acting}
-use Rattle.vc_threads.specs.Threads.{AreNumbered, actor_in, who}
+use Rattle.vc_threads.specs.Threads.{AreNumbered, Who, actor_in, who}
 use Rattle.vc_threads.specs.declared.crew.Job.{Job}
 use Rattle.vc_threads.specs.Wires.{Distinct, out_links, in_links}
 use Rattle.vc_threads.specs.Works.{Out, In}
@@ -54,7 +54,7 @@ pub ins_more : (is is' : List In) (x : In) (b : Bool) → Distinct (in_links is)
 ins_more is is' x true d fresh e = subst (λ w. Distinct (in_links w)) (sym e) (distinct_more is x d fresh)
 ins_more is is' x false d fresh e = subst (λ w. Distinct (in_links w)) (sym e) d
 
-pub numbered_push : (n : ℕ) (ws : List (ℕ × Acting)) (w : ℕ × Acting) → AreNumbered n ws → w.0 ≡ n + length ws → AreNumbered n (ws ++ w ∷ [])
+pub numbered_push : (n : ℕ) (ws : List Who) (w : Who) → AreNumbered n ws → w.id ≡ n + length ws → AreNumbered n (ws ++ w ∷ [])
 numbered_push n [] w are is = (omega (arith, is), tt)
 numbered_push n (v ∷ vs) w are is = (are.0, numbered_push (n + 1) vs w are.1 (omega (arith, is)))
 
@@ -70,4 +70,4 @@ actors_step js js' job {x} {rest} {rest'} {all} pushed is steps before =
 
 -- jobs of the same actors
 pub actors_kept : (old new : List Job) → map who new ≡ map who old → map actor_in new ≡ map actor_in old
-actors_kept old new e = sym (map-map (λ (w : ℕ × Acting). w.1) who new) ∙ (ap (map (λ (w : ℕ × Acting). w.1)) e ∙ map-map (λ (w : ℕ × Acting). w.1) who old)
+actors_kept old new e = sym (map-map (λ (w : Who). w.actor) who new) ∙ (ap (map (λ (w : Who). w.actor)) e ∙ map-map (λ (w : Who). w.actor) who old)

@@ -4,14 +4,15 @@ use Rattle.std.specs.Global.{Vec}
 use Rattle.std.specs.List.{AllZip}
 use Rattle.std.proofs.lemmas.List.{length-map}
 use Rattle.vc_accepted.specs.NetworkOf.{network_of, wire_of}
-use Rattle.vc_actors.specs.Merge.{Made, IsMerge, run_of}
+use Rattle.vc_actors.specs.Actors.{act_of}
+use Rattle.vc_actors.specs.LocalRun.{restamped}
+use Rattle.vc_actors.specs.Merge.{Made, IsMerge}
 use Rattle.vc_core.specs.Begin.{AreFirst}
-use Rattle.vc_core.specs.Replaying.{Replays}
 use Rattle.vc_core.specs.Shown.{actor_of}
-use Rattle.vc_core.specs.State.{state_of, shown, IsNetworkOf}
+use Rattle.vc_core.specs.State.{State, shown, IsNetworkOf}
 use Rattle.vc_core.specs.Turns.{HaveEnded, actors}
 use Rattle.vc_actor.specs.declared.act.Act.{Act}
-use Rattle.vc_core.specs.declared.event.Event.{Event}
+use Rattle.vc_core.specs.declared.close.Close.{Close}
 use Rattle.vc_core.specs.declared.close.Close.TheVariants.{Done}
 use Rattle.vc_network.specs.Network.{IsSwitch}
 use Rattle.vc_network.specs.Plan.{ways}
@@ -23,17 +24,17 @@ use Rattle.vc_tokens.specs.declared.token.Token.{Token}
 use Rattle.vc_vcp.specs.Keyed.{shown_or}
 use Rattle.vc_threads.specs.Closing.{ClosesBy, stop_among, stop_at, stop_in}
 use Rattle.vc_threads.specs.Crews.{Ran}
-use Rattle.vc_threads.specs.Merged.{numbered, event_of}
+use Rattle.vc_threads.specs.Merged.{event_of}
 use Rattle.vc_threads.specs.Order.{actor_left, outs_left, ins_left, tokens_at, LeftOn, OnWays}
 use Rattle.vc_threads.specs.Rings.{AreWired}
-use Rattle.vc_threads.specs.Threads.{AreNumbered, IsRunOf, Reports, actor_in, who}
+use Rattle.vc_threads.specs.Threads.{AreNumbered, IsRunOf, IsThreadRun, actor_in, who}
 use Rattle.vc_threads.specs.declared.crew.Job.{Job}
 use Rattle.vc_threads.specs.declared.order.AllEnds.{AllEnds}
-use Rattle.vc_threads.specs.declared.report.Report.{Report}
 use Rattle.vc_threads.specs.declared.run.ActorRun.{ActorRun}
+use Rattle.vc_threads.specs.declared.run.Stop.{Stop}
 use Rattle.vc_threads.proofs.Fullness.{greatest_there}
 use Rattle.vc_threads.proofs.Ordered.{takes_in_order}
-use Rattle.vc_threads.proofs.Reported.{steps_of, last_of, each_run, no_run, idle_there, ends_there, acts_merged, runs_count}
+use Rattle.vc_threads.proofs.Reported.{steps_of, last_of, each_run, no_run, idle_there, ends_there, runs_count}
 use Rattle.vc_threads.proofs.Threading.{leads_there}
 
 -- the tokens on a way, where these stand on all
@@ -51,12 +52,11 @@ none_past (x ∷ xs) (suc w) h = none_past xs w (omega arith)
 module _ (p : Plan) (acc : IsAccepted p) (turns seed : ℕ) (js : List Job) (rs : List ActorRun) (begins : AreFirst p (actors p) (map actor_in js)) (are : AreNumbered 0 (map who js))
     (ran : AllZip (Ran turns seed) js rs) (wired : AreWired p (length p.wires) js) (e : AllEnds)
     (outs : map (λ v. v.items) e.outs.items ≡ map outs_left rs) (ins : map (λ v. v.items) e.ins.items ≡ map ins_left rs)
-    (lines : List (Vec Token)) (count : length lines ≡ 2 * length p.wires) (left : OnWays (LeftOn (length p.nodes) e lines) p.wires (length p.wires)) (merged : List (Made Act)) (merge : IsMerge (run_of (map numbered rs)) merged)
-    (steps : List Event) (steps_are : steps ≡ map event_of merged) where
-  pub reports : (r : Report) → r.steps.items ≡ steps → r.stops.items ≡ map stop_in rs → IsNetworkOf p (state_of r.state) → (state_of r.state).actors ≡ map actor_left rs → (state_of r.state).ways ≡ map (λ line. tokens line.items) lines
-      → r.close ≡ Done ↔ HaveEnded p (state_of r.state) → (r.close ≢ Done → ClosesBy (length rs) (stop_at rs) r.close) → Reports p turns seed r
-  reports r are_steps are_stops is actors_are ways_are done closes =
-      let s = state_of r.state in
+    (lines : List (Vec Token)) (count : length lines ≡ 2 * length p.wires) (left : OnWays (LeftOn (length p.nodes) e lines) p.wires (length p.wires)) (merged : List (Made Act))
+    (made : IsMerge (λ k. map (restamped act_of) (steps_of p turns seed js rs begins are ran k)) merged) where
+  pub is_run : (s : State) (stops : List Stop) (close : Close) → stops ≡ map stop_in rs → IsNetworkOf p s → s.actors ≡ map actor_left rs → s.ways ≡ map (λ line. tokens line.items) lines
+      → close ≡ Done ↔ HaveEnded p s → (close ≢ Done → ClosesBy (length rs) (stop_at rs) close) → IsThreadRun p turns seed (map event_of merged) s stops close
+  is_run s stops close are_stops is actors_are ways_are done closes =
       let run = steps_of p turns seed js rs begins are ran in
       let last = last_of p turns seed js rs begins are ran in
       let each = each_run p turns seed js rs begins are ran wired in
@@ -65,8 +65,7 @@ module _ (p : Plan) (acc : IsAccepted p) (turns seed : ℕ) (js : List Job) (rs 
       let on : (w : ℕ) → (shown s).way w ≡ tokens (tokens_at lines w) = λ w. ap (λ xs. shown_or [] (λ ts. ts) (slice_get xs w)) ways_are ∙ shown_at lines w in
       let bare : (w : ℕ) → ways (network_of p) ≤ w → (shown s).way w ≡ [] = λ w past. let n = length-map p.wires wire_of in on w ∙ none_past lines w (omega (arith, past, count, n)) in
       let order = takes_in_order p turns seed js rs begins are ran e outs ins wired lines (shown s).way on left in
-      let made = acts_merged p turns seed js rs begins are ran merged merge in
-      let leads = leads_there p acc turns seed run (stop_at rs) last each none (idle_there p turns seed js rs begins are ran) (shown s).way order bare merged made steps steps_are s is ends (λ w. refl) in
+      let leads = leads_there p acc turns seed run (stop_at rs) last each none (idle_there p turns seed js rs begins are ran) (shown s).way order bare merged made (map event_of merged) refl s is ends (λ w. refl) in
       record {
         runs = run;
         count = ap length are_stops ∙ (length-map rs stop_in ∙ runs_count p turns seed js rs begins are ran);
@@ -75,9 +74,9 @@ module _ (p : Plan) (acc : IsAccepted p) (turns seed : ℕ) (js : List Job) (rs 
         order = order;
         merged = merged;
         merge = made;
-        steps = are_steps ∙ steps_are;
-        replays = subst (λ w. Replays p w s) (sym are_steps) leads;
+        steps = refl;
+        replays = leads;
         done = done;
         full = λ k less at_clock. greatest_there p turns seed js rs begins are ran e outs ins wired lines left k less (ap (λ ss. stop_among ss k) (sym are_stops) ∙ at_clock);
-        closes = λ not. subst (λ ss. ClosesBy (actors p) (stop_among ss) r.close) (sym are_stops) (subst (λ n. ClosesBy n (stop_at rs) r.close) (runs_count p turns seed js rs begins are ran) (closes not));
+        closes = λ not. subst (λ ss. ClosesBy (actors p) (stop_among ss) close) (sym are_stops) (subst (λ n. ClosesBy n (stop_at rs) close) (runs_count p turns seed js rs begins are ran) (closes not));
       }

@@ -1,5 +1,5 @@
 -- How a turn of a desk is put together.
-use Rattle.std.proofs.Common.{◌≡◌, ◌≢◌, ℕ, zero, suc, ◌+◌, ◌<◌, ◌≤◌, List, [], ◌∷◌, ◌++◌, length, get_or, false, eqb, inl, inr, refl, ap, sym, subst, arith, map, ◌∙◌, append_assoc, length-append, eq-eqb}
+use Rattle.std.proofs.Common.{◌≡◌, ◌≢◌, ℕ, zero, suc, ◌+◌, ◌<◌, ◌≤◌, List, [], ◌∷◌, ◌++◌, length, get_or, Bool, true, false, eqb, inl, inr, refl, ap, sym, subst, arith, map, ◌∙◌, append_assoc, length-append, eq-eqb}
 use Rattle.std.specs.List.{AllZip, All, AllByRecursion}
 use Rattle.std.proofs.Math.ListN.{set}
 use Rattle.std.proofs.lemmas.List.{append-nil, map-append}
@@ -24,7 +24,7 @@ use Rattle.vc_threads.specs.declared.run.Stop.TheVariants.{Turns, Clock}
 use Rattle.vc_threads.specs.Stamps.{stamped, all_stamped}
 use Rattle.vc_threads.specs.Wires.{OutLooked, InLooked, Distinct, IsAmong, Sends, Receives, out_links, in_links}
 use Rattle.vc_threads.specs.Runs.{StepsByLink, HasNoStep, Used, Draws, words_of}
-use Rattle.vc_threads.specs.Works.{Out, In, Seen, desk, logged, GoesOver, GoOver, IsFull, Uses, Stays, HasRun}
+use Rattle.vc_threads.specs.Works.{Out, In, Seen, desk, kept, logged, GoesOver, GoOver, IsFull, Uses, Stays, HasRun}
 use Rattle.vc_threads.proofs.Zips.{zip_weaker, zip_then, zip_one, zip_map, zip_same, zip_length, zip_at}
 use Rattle.vc_threads.proofs.Looks.{producer_then, consumer_then, looked_same, in_looked_same, in_looked_then}
 use Rattle.vc_threads.proofs.Steps.{clock_then, run_then, put_then, taken_then, words_then, draws_then, used_then, run_kept}
@@ -140,17 +140,27 @@ looked_out_links = zip_map (λ o. o.0) (λ o. o.0) OutLooked (λ a b l. l.0)
 pub looked_in_links : (os ps : List In) → AllZip InLooked os ps → in_links ps ≡ in_links os
 looked_in_links = zip_map (λ o. o.0) (λ o. o.0) InLooked (λ a b l. l.0)
 
+-- no act is kept of none, and of two parts what is kept of each
+kept_none : (b : Bool) → kept b [] ≡ []
+kept_none true = refl
+kept_none false = refl
+
+kept_then : (b : Bool) (ts us : List (Turn Act Token)) → kept b (map logged (ts ++ us)) ≡ kept b (map logged ts) ++ kept b (map logged us)
+kept_then true ts us = map-append logged ts us
+kept_then false ts us = refl
+
 module _ (plan : Plan) (k : ℕ) where
   -- no step was made, and the actor has none of its own
-  pub uses_idle : (a b : Seen) → HasNoStep plan k a.actor → b.actor ≡ a.actor → b.clock ≡ a.clock → b.log ≡ a.log → b.words ≡ a.words
+  pub uses_idle : (a b : Seen) → HasNoStep plan k a.actor → b.actor ≡ a.actor → b.clock ≡ a.clock → b.keeps ≡ a.keeps → b.log ≡ a.log → b.words ≡ a.words
       → AllZip OutLooked a.outs b.outs → AllZip InLooked a.ins b.ins → Uses plan k 1 a b
-  uses_idle a b quiet node clock log words outs ins = record {
+  uses_idle a b quiet node clock keeps log words outs ins = record {
     steps = [];
     few = omega arith;
     goes = record {
       run = node;
       clock = clock;
-      log = log ∙ sym (append-nil a.log);
+      keeps = keeps;
+      log = log ∙ sym (ap (λ w. a.log ++ w) (kept_none a.keeps) ∙ append-nil a.log);
       outs = sends_quiet [] (λ l. refl) a.outs b.outs outs;
       ins = receives_quiet [] (λ l. refl) a.ins b.ins ins;
       links = tt;
@@ -161,14 +171,15 @@ module _ (plan : Plan) (k : ℕ) where
 
   -- one step was made
   pub uses_one : (a b : Seen) (t : Turn Act Token) → StepsByLink plan k a.actor (plain t.it) b.actor → t.at ≡ next_stamp a.clock t.it → CarriesStamp t.at t.it
-      → GoesOver (out_links a.outs) (in_links a.ins) t.it → b.clock ≡ t.at → b.log ≡ a.log ++ logged t ∷ [] → Draws a.words (words_of (t ∷ [])) b.words
+      → GoesOver (out_links a.outs) (in_links a.ins) t.it → b.clock ≡ t.at → b.keeps ≡ a.keeps → b.log ≡ a.log ++ kept a.keeps (logged t ∷ []) → Draws a.words (words_of (t ∷ [])) b.words
       → AllZip (Sends (t ∷ [])) a.outs b.outs → AllZip (Receives (t ∷ [])) a.ins b.ins → Uses plan k 1 a b
-  uses_one a b t step stamp carries over clock log words outs ins = record {
+  uses_one a b t step stamp carries over clock keeps log words outs ins = record {
     steps = t ∷ [];
     few = omega arith;
     goes = record {
       run = (b.actor, step, stamp, carries, refl);
       clock = clock;
+      keeps = keeps;
       log = log;
       outs = outs;
       ins = ins;
@@ -186,6 +197,7 @@ module _ (plan : Plan) (k : ℕ) where
     goes = record {
       run = p.goes.run;
       clock = p.goes.clock;
+      keeps = p.goes.keeps;
       log = p.goes.log;
       outs = p.goes.outs;
       ins = looked_receives p.steps ins a.ins b.ins looked p.goes.ins;
@@ -203,7 +215,8 @@ module _ (plan : Plan) (k : ℕ) where
     goes = record {
       run = refl;
       clock = refl;
-      log = sym (append-nil a.log);
+      keeps = refl;
+      log = sym (ap (λ w. a.log ++ w) (kept_none a.keeps) ∙ append-nil a.log);
       outs = sends_quiet [] (λ l. refl) a.outs a.outs (zip_same OutLooked looked_same a.outs);
       ins = receives_quiet [] (λ l. refl) a.ins a.ins (zip_same InLooked in_looked_same a.ins);
       links = tt;
@@ -231,7 +244,9 @@ module _ (plan : Plan) (k : ℕ) where
         goes = record {
           run = run_then (StepsByLink plan) k a.clock a.actor b.actor c.actor p.steps q.steps p.goes.run run;
           clock = q.goes.clock ∙ (ap (λ w. clock_after w q.steps) p.goes.clock ∙ sym (clock_then a.clock p.steps q.steps));
-          log = q.goes.log ∙ (ap (λ w. w ++ map logged q.steps) p.goes.log ∙ (append_assoc a.log (map logged p.steps) (map logged q.steps) ∙ ap (λ w. a.log ++ w) (sym (map-append logged p.steps q.steps))));
+          keeps = q.goes.keeps ∙ p.goes.keeps;
+          log = q.goes.log ∙ (ap (λ w. w ++ kept b.keeps (map logged q.steps)) p.goes.log ∙ (ap (λ h. (a.log ++ kept a.keeps (map logged p.steps)) ++ kept h (map logged q.steps)) p.goes.keeps
+              ∙ (append_assoc a.log (kept a.keeps (map logged p.steps)) (kept a.keeps (map logged q.steps)) ∙ ap (λ w. a.log ++ w) (sym (kept_then a.keeps p.steps q.steps)))));
           outs = sends_then p.steps q.steps a.outs b.outs c.outs p.goes.outs q.goes.outs;
           ins = receives_then p.steps q.steps a.ins b.ins c.ins p.goes.ins q.goes.ins;
           links = both_lists (λ t. GoesOver (out_links a.outs) (in_links a.ins) t.it) p.steps q.steps p.goes.links
@@ -253,23 +268,23 @@ low_kept os ps same low j d within =
     subst (λ (v : ℕ). v < 32) (sym at) (low j d less)
 
 pub stays_same : (a : Seen) → Stays a a
-stays_same a = record { actor = refl; clock = refl; log = refl; outs = zip_same OutLooked looked_same a.outs; ins = zip_same InLooked in_looked_same a.ins }
+stays_same a = record { actor = refl; clock = refl; keeps = refl; log = refl; outs = zip_same OutLooked looked_same a.outs; ins = zip_same InLooked in_looked_same a.ins }
 
 -- nothing was done after a look
 pub stays_looked : (a b : Seen) (ins : List In) → AllZip InLooked ins a.ins → Stays a b → Stays (record a { ins = ins }) b
-stays_looked a b ins looked p = record { actor = p.actor; clock = p.clock; log = p.log; outs = p.outs; ins = zip_then InLooked InLooked InLooked in_looked_then ins a.ins b.ins looked p.ins }
+stays_looked a b ins looked p = record { actor = p.actor; clock = p.clock; keeps = p.keeps; log = p.log; outs = p.outs; ins = zip_then InLooked InLooked InLooked in_looked_then ins a.ins b.ins looked p.ins }
 
 -- an actor of the plan stays one
 pub actor_kept : (plan : Plan) (k n : ℕ) (a b : Seen) → Uses plan k n a b → IsActorOf plan k a.actor → IsActorOf plan k b.actor
 actor_kept plan k n a b p h = run_kept plan k a.clock a.actor p.steps b.actor p.goes.run h
 
 -- what a worker gives back
-pub has_run : (plan : Plan) (k n m id seed : ℕ) (a b c : Desk) (actor : Acting) (ends : Ends) (r : ActorRun)
+pub has_run : (plan : Plan) (k n m id seed : ℕ) (a b c : Desk) (actor : Acting) (ends : Ends) (keeps : Bool) (r : ActorRun)
     → Uses plan k n (desk a) (desk b) → Stays (desk b) (desk c) → n ≤ m
-    → a.actor ≡ actor → a.clock ≡ 0 → a.acts.items ≡ [] → a.ends ≡ ends → a.words ≡ started 64 multiplier_64 seed (increment_of 64 id)
+    → a.actor ≡ actor → a.clock ≡ 0 → a.keeps ≡ keeps → a.acts.items ≡ [] → a.ends ≡ ends → a.words ≡ started 64 multiplier_64 seed (increment_of 64 id)
     → r.actor ≡ c.actor → r.acts ≡ c.acts → r.ends ≡ c.ends → (r.stop ≡ Turns → n ≡ m) → (r.stop ≡ Clock → IsFull c.clock c.ends.ins.items)
-    → HasRun plan k m id seed actor ends r
-has_run plan k n m id seed a b c actor ends r p s le actor_is clock_is acts_is ends_is words_is actor' acts' ends' turns full =
+    → HasRun plan k m id seed actor ends keeps r
+has_run plan k n m id seed a b c actor ends keeps r p s le actor_is clock_is keeps_is acts_is ends_is words_is actor' acts' ends' turns full =
     let few = p.few in
     let last : r.actor ≡ b.actor = actor' ∙ s.actor in
     let outs = sends_looked p.steps a.ends.outs.items b.ends.outs.items c.ends.outs.items p.goes.outs s.outs in
@@ -280,7 +295,7 @@ has_run plan k n m id seed a b c actor ends r p s le actor_is clock_is acts_is e
       run = subst (λ v. LocalRun (StepsByLink plan) k 0 v p.steps r.actor) actor_is
           (subst (λ w. LocalRun (StepsByLink plan) k w a.actor p.steps r.actor) clock_is
           (subst (λ v. LocalRun (StepsByLink plan) k a.clock a.actor p.steps v) (sym last) p.goes.run));
-      acts = ap (λ v. v.items) acts' ∙ (s.log ∙ (p.goes.log ∙ ap (λ w. w ++ map logged p.steps) acts_is));
+      acts = ap (λ v. v.items) acts' ∙ (s.log ∙ (p.goes.log ∙ (ap (λ w. w ++ kept a.keeps (map logged p.steps)) acts_is ∙ ap (λ h. kept h (map logged p.steps)) keeps_is)));
       outs = subst (λ e. AllZip (Sends p.steps) e.outs.items r.ends.outs.items) ends_is (subst (λ e. AllZip (Sends p.steps) a.ends.outs.items e.outs.items) (sym ends') outs);
       ins = subst (λ e. AllZip (Receives p.steps) e.ins.items r.ends.ins.items) ends_is (subst (λ e. AllZip (Receives p.steps) a.ends.ins.items e.ins.items) (sym ends') ins);
       links = subst (λ e. GoOver e.outs.items e.ins.items p.steps) ends_is p.goes.links;

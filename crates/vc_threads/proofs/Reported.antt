@@ -1,5 +1,5 @@
 -- What the runs of all jobs report.
-use Rattle.std.proofs.Common.{◌≡◌, ℕ, zero, suc, ◌+◌, ◌<◌, ◌≤◌, ◌==◌, ◌⊎◌, inl, inr, false, nat_lt, if◌then◌else◌, List, [], ◌∷◌, length, map, slice_get, option_map, Some, None, refl, ap, sym, subst, ◌∙◌, arith, eq-eqb}
+use Rattle.std.proofs.Common.{◌≡◌, ℕ, zero, suc, ◌+◌, ◌<◌, ◌≤◌, ◌==◌, ◌⊎◌, inl, inr, Bool, true, false, nat_lt, if◌then◌else◌, List, [], ◌∷◌, length, map, slice_get, option_map, Some, None, refl, ap, sym, subst, ◌∙◌, arith, eq-eqb}
 use Rattle.std.specs.List.{AllZip, Contains}
 use Rattle.std.proofs.lemmas.Bool.{cases_lt}
 use Rattle.std.proofs.lemmas.Bool.Decides.{nat_tests}
@@ -11,7 +11,7 @@ use Rattle.rand_pcg.specs.Pcg.{multiplier_64}
 use Rattle.vc_accepted.specs.NetworkOf.{network_of}
 use Rattle.vc_actors.specs.Actors.{act_of}
 use Rattle.vc_actors.specs.LocalRun.{Turn, restamped}
-use Rattle.vc_actors.specs.Merge.{Made, IsMerge, run_of}
+use Rattle.vc_actors.specs.Merge.{Made, IsMerge, StampsRise, run_of}
 use Rattle.vc_core.specs.Begin.{AreFirst, BeginsAs}
 use Rattle.vc_core.specs.OfPlan.{IsActorOf}
 use Rattle.vc_core.specs.Shown.{Acting, actor_of}
@@ -32,12 +32,14 @@ use Rattle.vc_threads.specs.Merged.{of_pair, numbered}
 use Rattle.vc_threads.specs.Order.{actor_left}
 use Rattle.vc_threads.specs.Rings.{AreWired, outs_in, ins_in}
 use Rattle.vc_threads.specs.Runs.{Draws, words_of}
-use Rattle.vc_threads.specs.Threads.{AreNumbered, IsRunOf, actor_in, who}
-use Rattle.vc_threads.specs.Works.{logged, HasRun}
+use Rattle.vc_threads.specs.Threads.{AllKeep, AreNumbered, IsRunOf, actor_in, who}
+use Rattle.vc_threads.specs.Works.{kept, logged, HasRun}
 use Rattle.vc_threads.specs.declared.crew.Job.{Job}
 use Rattle.vc_threads.specs.declared.run.ActorRun.{ActorRun}
 use Rattle.vc_threads.specs.declared.run.Stop.TheVariants.{Turns}
+use Rattle.vc_threads.proofs.Existing.{merges}
 use Rattle.vc_threads.proofs.OverWires.{over_wires}
+use Rattle.vc_threads.proofs.Rising.{steps_rise}
 use Rattle.vc_threads.proofs.Steps.{run_kept}
 use Rattle.vc_threads.proofs.Zips.{zip_length}
 
@@ -80,6 +82,12 @@ done_at turns seed n (suc k) (j ∷ js) (r ∷ rs) are ran less =
       acts = ap (λ b. if b then map of_pair r.acts.items else run_of (map numbered rs) (n + suc k)) other ∙ (ap (run_of (map numbered rs)) (sym same) ∙ d.acts);
     }
 
+-- whether the worker of a job keeps its acts
+keeps_at : (b : Bool) (js : List Job) (k : ℕ) (job : Job) → slice_get js k ≡ Some job → AllKeep b (map who js) → job.keeps ≡ b
+keeps_at b [] k job here keep = absurd (cc)
+keeps_at b (j ∷ js) zero job here keep = let same : j ≡ job = cc in ap (λ (x : Job). x.keeps) (sym same) ∙ keep.0
+keeps_at b (j ∷ js) (suc k) job here keep = keeps_at b js k job here keep.1
+
 -- past the jobs there is no run
 pub none_past : (turns seed n i : ℕ) (js : List Job) (rs : List ActorRun) → AreNumbered n (map who js) → AllZip (Ran turns seed) js rs → n + length js ≤ i → run_of (map numbered rs) i ≡ []
 none_past turns seed n i [] [] are ran past = refl
@@ -102,7 +110,7 @@ module _ (p : Plan) (turns seed : ℕ) (js : List Job) (rs : List ActorRun) (fir
   pub record Did (k : ℕ) : Type 0 where
     pub done : Done turns seed 0 k js rs
     pub begins : BeginsAs p k done.job.actor
-    pub has : HasRun (network_of p) k turns done.job.id seed done.job.actor done.job.ends done.run
+    pub has : HasRun (network_of p) k turns done.job.id seed done.job.actor done.job.ends done.job.keeps done.run
 
   pub did : (k : ℕ) → k < actors p → Did k
   did k less =
@@ -111,10 +119,12 @@ module _ (p : Plan) (turns seed : ℕ) (js : List Job) (rs : List ActorRun) (fir
       let b = first.each k d.job.actor (slice_get-map actor_in js k ∙ ap (option_map actor_in) d.job_is) in
       record { done = d; begins = b; has = d.ran.1 (network_of p) k b.is }
 
-  did_acts : (k : ℕ) (d : Did k) → run_of (map numbered rs) k ≡ map (restamped act_of) d.has.steps
-  did_acts k d =
+  did_acts : AllKeep true (map who js) → (k : ℕ) (d : Did k) → run_of (map numbered rs) k ≡ map (restamped act_of) d.has.steps
+  did_acts keep k d =
       let at : 0 + k ≡ k = omega arith in
-      ap (run_of (map numbered rs)) (sym at) ∙ (d.done.acts ∙ (ap (map of_pair) d.has.acts ∙ map-map of_pair logged d.has.steps))
+      let kept_all : d.done.job.keeps ≡ true = keeps_at true js k d.done.job d.done.job_is keep in
+      ap (run_of (map numbered rs)) (sym at)
+      ∙ (d.done.acts ∙ (ap (map of_pair) (d.has.acts ∙ ap (λ b. kept b (map logged d.has.steps)) kept_all) ∙ map-map of_pair logged d.has.steps))
 
   abbrev pub pick : (k : ℕ) → (k < actors p) ⊎ (actors p ≤ k) → List (Turn Act Token)
   pick k (inl less) = (did k less).has.steps
@@ -128,16 +138,26 @@ module _ (p : Plan) (turns seed : ℕ) (js : List Job) (rs : List ActorRun) (fir
   picked_none k (inl less) past = absurd (omega (arith, past, less))
   picked_none k (inr beyond) past = refl
 
-  picked_acts : (k : ℕ) (c : (k < actors p) ⊎ (actors p ≤ k)) → run_of (map numbered rs) k ≡ map (restamped act_of) (pick k c)
-  picked_acts k (inl less) = did_acts k (did k less)
-  picked_acts k (inr past) = let n = jobs_count in none_past turns seed 0 k js rs are ran (omega (arith, n, past))
+  picked_acts : AllKeep true (map who js) → (k : ℕ) (c : (k < actors p) ⊎ (actors p ≤ k)) → run_of (map numbered rs) k ≡ map (restamped act_of) (pick k c)
+  picked_acts keep k (inl less) = did_acts keep k (did k less)
+  picked_acts keep k (inr past) = let n = jobs_count in none_past turns seed 0 k js rs are ran (omega (arith, n, past))
 
   pub no_run : (k : ℕ) → actors p ≤ k → steps_of k ≡ []
   no_run k past = picked_none k (cases_lt k (actors p)) past
 
-  -- their acts are merged
-  pub acts_merged : (merged : List (Made Act)) → IsMerge (run_of (map numbered rs)) merged → IsMerge (λ k. map (restamped act_of) (steps_of k)) merged
-  acts_merged merged m = record { ordered = m.ordered; parts = λ k. m.parts k ∙ picked_acts k (cases_lt k (actors p)) }
+  -- their acts are merged, where they are kept
+  pub acts_merged : AllKeep true (map who js) → (merged : List (Made Act)) → IsMerge (run_of (map numbered rs)) merged → IsMerge (λ k. map (restamped act_of) (steps_of k)) merged
+  acts_merged keep merged m = record { ordered = m.ordered; parts = λ k. m.parts k ∙ picked_acts keep k (cases_lt k (actors p)) }
+
+  picked_rise : (k : ℕ) (c : (k < actors p) ⊎ (actors p ≤ k)) → StampsRise (map (restamped act_of) (pick k c))
+  picked_rise k (inl less) =
+      let d = did k less in
+      subst StampsRise (map-map of_pair logged d.has.steps) (steps_rise (network_of p) k d.done.job.actor d.done.run.actor d.has.steps d.has.run)
+  picked_rise k (inr past) = tt
+
+  -- and they have a merge, kept or not
+  pub have_merge : (merged : List (Made Act)) × IsMerge (λ k. map (restamped act_of) (steps_of k)) merged
+  have_merge = merges (λ k. map (restamped act_of) (steps_of k)) (actors p) (λ k. picked_rise k (cases_lt k (actors p))) (λ k past. ap (map (restamped act_of)) (no_run k past))
 
   -- where each actor's run led
   abbrev pub pick_last : (k : ℕ) → (k < actors p) ⊎ (actors p ≤ k) → Actor Process

@@ -1,5 +1,5 @@
 -- The runs that workers give back can be merged: their stamps rise, and no two are of one actor.
-use Rattle.std.proofs.Common.{◌≡◌, ℕ, ◌+◌, ◌<◌, List, [], ◌∷◌, map, sym, subst, ◌∙◌, arith}
+use Rattle.std.proofs.Common.{◌≡◌, ℕ, ◌+◌, ◌<◌, Bool, true, false, List, [], ◌∷◌, map, sym, subst, ◌∙◌, arith}
 use Rattle.std.specs.List.{AllZip, AllByRecursion}
 use Rattle.vc_actors.specs.Actors.{Label}
 use Rattle.vc_actors.specs.Actors.Label.{Own, Takes, Puts}
@@ -13,7 +13,7 @@ use Rattle.vc_threads.specs.Crews.{IsFit, Ran}
 use Rattle.vc_threads.specs.Merged.{of_pair, numbered}
 use Rattle.vc_threads.specs.Runs.{StepsByLink}
 use Rattle.vc_threads.specs.Threads.{AreNumbered, who}
-use Rattle.vc_threads.specs.Works.{logged}
+use Rattle.vc_threads.specs.Works.{kept, logged}
 use Rattle.vc_threads.specs.declared.crew.Job.{Job}
 use Rattle.vc_threads.specs.declared.run.ActorRun.{ActorRun}
 
@@ -30,12 +30,21 @@ from_rises : {A : Type 0} (clock : ℕ) (ss : List (Stamped A)) → Rises clock 
 from_rises clock [] h = tt
 from_rises clock (s ∷ ss) h = h.1
 
+kept_rises : (b : Bool) (acts : List (ℕ × Act)) → StampsRise (map of_pair acts) → StampsRise (map of_pair (kept b acts))
+kept_rises true acts h = h
+kept_rises false acts h = tt
+
+-- what an actor did rises, whether it is kept or not
+pub steps_rise : (plan : Plan) (k : ℕ) (old new : Acting) (ts : List (Turn Act Token)) → LocalRun (StepsByLink plan) k 0 old ts new → StampsRise (map of_pair (map logged ts))
+steps_rise plan k old new ts h = from_rises 0 (map of_pair (map logged ts)) (log_rises plan k 0 old new ts h)
+
 one_rises : (turns seed : ℕ) (j : Job) (r : ActorRun) → IsFit j → Ran turns seed j r → RunRises (numbered r)
 one_rises turns seed j r fit ran =
     let plan = fit.actor.0 in
     let k = fit.actor.1 in
     let run = ran.1 plan k fit.actor.2 in
-    subst (λ xs. StampsRise (map of_pair xs)) (sym run.acts) (from_rises 0 (map of_pair (map logged run.steps)) (log_rises plan k 0 j.actor r.actor run.steps run.run))
+    subst (λ xs. StampsRise (map of_pair xs)) (sym run.acts)
+    (kept_rises j.keeps (map logged run.steps) (from_rises 0 (map of_pair (map logged run.steps)) (log_rises plan k 0 j.actor r.actor run.steps run.run)))
 
 pub all_rise : (turns seed : ℕ) (js : List Job) (rs : List ActorRun) → AllByRecursion IsFit js → AllZip (Ran turns seed) js rs → AllByRecursion RunRises (map numbered rs)
 all_rise turns seed [] [] fit ran = tt

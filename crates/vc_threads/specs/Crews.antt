@@ -1,5 +1,5 @@
 -- What the workers are given, and what they give back.
-use Rattle.std.specs.Prelude.{◌≡◌, ℕ, ◌<◌}
+use Rattle.std.specs.Prelude.{◌≡◌, ℕ, ◌<◌, Bool}
 use Rattle.std.specs.List.{All}
 use Rattle.vc_core.specs.OfPlan.{IsActorOf}
 use Rattle.vc_core.specs.Shown.{Acting}
@@ -20,10 +20,11 @@ pub record IsFitFor (x : Acting) (e : Ends) : Type 0 where
 abbrev pub IsFit : Job → Type 0
 IsFit j = IsFitFor j.actor j.ends
 
--- the run is one of this actor over these ends, of at most so many turns
-abbrev pub RanFrom : ℕ → ℕ → ℕ → Acting → Ends → ActorRun → Type 0
-RanFrom turns seed id actor ends r = (r.id ≡ id) × ((plan : Plan) (n : ℕ) → IsActorOf plan n actor → HasRun plan n turns id seed actor ends r)
+-- the run is one of this actor over these ends, of at most so many turns, with its acts or without
+abbrev pub RanFrom : ℕ → ℕ → ℕ → Acting → Ends → Bool → ActorRun → Type 0
+RanFrom turns seed id actor ends keeps r =
+    (r.id ≡ id) × ((plan : Plan) (n : ℕ) → IsActorOf plan n actor → HasRun plan n turns id seed actor ends keeps r)
 
 -- the run of this job
 abbrev pub Ran : ℕ → ℕ → Job → ActorRun → Type 0
-Ran turns seed j r = RanFrom turns seed j.id j.actor j.ends r
+Ran turns seed j r = RanFrom turns seed j.id j.actor j.ends j.keeps r

@@ -1,5 +1,5 @@
 -- The jobs of all actors, and what a run in threads reports.
-use Rattle.std.specs.Prelude.{◌≡◌, ◌≢◌, ◌↔◌, ℕ, ◌+◌, ◌<◌, ◌≤◌, List, [], ◌∷◌, ◌++◌, length, map}
+use Rattle.std.specs.Prelude.{◌≡◌, ◌≢◌, ◌↔◌, ℕ, ◌+◌, ◌<◌, ◌≤◌, Bool, List, [], ◌∷◌, ◌++◌, length, map}
 use Rattle.std.specs.List.{AllByRecursion, Contains}
 use Rattle.rand_pcg.specs.Lcg.{Lcg}
 use Rattle.vc_accepted.specs.NetworkOf.{network_of}
@@ -11,10 +11,12 @@ use Rattle.vc_actors.specs.Merge.{Made, IsMerge}
 use Rattle.vc_core.specs.Begin.{BeginsAs}
 use Rattle.vc_core.specs.Replaying.{Replays}
 use Rattle.vc_core.specs.Shown.{Acting, actor_of}
-use Rattle.vc_core.specs.State.{state_of, shown}
+use Rattle.vc_core.specs.State.{State, state_of, shown}
 use Rattle.vc_core.specs.Turns.{HaveEnded, actors}
 use Rattle.vc_actor.specs.declared.act.Act.{Act}
+use Rattle.vc_core.specs.declared.close.Close.{Close}
 use Rattle.vc_core.specs.declared.close.Close.TheVariants.{Done}
+use Rattle.vc_core.specs.declared.event.Event.{Event}
 use Rattle.vc_network.specs.Network as net
 use Rattle.vc_plan.specs.declared.plan.Plan.{Plan}
 use Rattle.vc_plan.specs.declared.port.Port.{Port}
@@ -29,18 +31,28 @@ use Rattle.vc_threads.specs.Rings.{IsOnWire}
 use Rattle.vc_threads.specs.Runs.{StepsByLink, Used, Draws, generator, words_of}
 use Rattle.vc_threads.specs.Works.{IsGreatest}
 use Rattle.vc_threads.specs.declared.crew.Job.{Job}
+use Rattle.vc_threads.specs.declared.report.Ending.{Ending}
 use Rattle.vc_threads.specs.declared.report.Report.{Report}
 use Rattle.vc_threads.specs.declared.run.Stop.{Stop}
 use Rattle.vc_threads.specs.declared.run.Stop.TheVariants.{Turns, Clock}
 
--- the actors' numbers go up from n
-abbrev pub AreNumbered : ℕ → List (ℕ × Acting) → Type 0
-AreNumbered n [] = Unit {0}
-AreNumbered n (w ∷ ws) = (w.0 ≡ n) × AreNumbered (n + 1) ws
-
 -- a job without its ends
-abbrev pub who : Job → ℕ × Acting
-who j = (j.id, j.actor)
+pub record Who : Type 0 where
+  pub id : ℕ
+  pub actor : Acting
+  pub keeps : Bool
+
+abbrev pub who : Job → Who
+who j = record { id = j.id; actor = j.actor; keeps = j.keeps }
+
+-- the actors' numbers go up from n
+abbrev pub AreNumbered : ℕ → List Who → Type 0
+AreNumbered n [] = Unit {0}
+AreNumbered n (w ∷ ws) = (w.id ≡ n) × AreNumbered (n + 1) ws
+
+-- each worker keeps its acts, or none does
+abbrev pub AllKeep : Bool → List Who → Type 0
+AllKeep keeps = AllByRecursion (λ w. w.keeps ≡ keeps)
 
 abbrev pub actor_in : Job → Acting
 actor_in j = j.actor
@@ -75,20 +87,28 @@ TakesInOrder nodes runs left way from to =
 abbrev pub HasGreatest : List (Turn Act Token) → Type 0
 HasGreatest ts = (t : Turn Act Token) × Contains ts t × IsGreatest t.at
 
--- The reported steps are those of all actors' runs, by stamp, then actor. On both ways of each wire what was taken, and then what the
+-- The events are those of all actors' runs, by stamp, then actor. On both ways of each wire what was taken, and then what the
 -- state has there, is what was put. The steps lead to the state, where each actor is as its run left it. It is told of each actor why its
 -- worker ended. The run closes Done exactly where every process has ended there, and else by what is told: Failed with the least actor of
 -- which want of memory is. Where a worker ended by its clock an act has the greatest stamp.
-pub record Reports (p : Plan) (turns seed : ℕ) (r : Report) : Type 0 where
+pub record IsThreadRun (p : Plan) (turns seed : ℕ) (events : List Event) (s : State) (stops : List Stop) (close : Close) : Type 0 where
   pub runs : ℕ → List (Turn Act Token)
-  pub count : length r.stops.items ≡ actors p
-  pub each : (k : ℕ) → k < actors p → IsRunOf p turns seed k (runs k) (stop_among r.stops.items k) ((shown (state_of r.state)).state k)
+  pub count : length stops ≡ actors p
+  pub each : (k : ℕ) → k < actors p → IsRunOf p turns seed k (runs k) (stop_among stops k) ((shown s).state k)
   pub none : (k : ℕ) → actors p ≤ k → runs k ≡ []
-  pub order : OnWays (TakesInOrder (length p.nodes) runs (shown (state_of r.state)).way) p.wires (length p.wires)
+  pub order : OnWays (TakesInOrder (length p.nodes) runs (shown s).way) p.wires (length p.wires)
   pub merged : List (Made Act)
   pub merge : IsMerge (λ k. map (restamped act_of) (runs k)) merged
-  pub steps : r.steps.items ≡ map event_of merged
-  pub replays : Replays p r.steps.items (state_of r.state)
-  pub done : r.close ≡ Done ↔ HaveEnded p (state_of r.state)
-  pub closes : r.close ≢ Done → ClosesBy (actors p) (stop_among r.stops.items) r.close
-  pub full : (k : ℕ) → k < actors p → stop_among r.stops.items k ≡ Clock → (j : ℕ) × HasGreatest (runs j)
+  pub steps : events ≡ map event_of merged
+  pub replays : Replays p events s
+  pub done : close ≡ Done ↔ HaveEnded p s
+  pub closes : close ≢ Done → ClosesBy (actors p) (stop_among stops) close
+  pub full : (k : ℕ) → k < actors p → stop_among stops k ≡ Clock → (j : ℕ) × HasGreatest (runs j)
+
+-- what is reported is such a run
+abbrev pub Reports : Plan → ℕ → ℕ → Report → Type 0
+Reports p turns seed r = IsThreadRun p turns seed r.steps.items (state_of r.state) r.stops.items r.close
+
+-- what is told without the events is how such a run ended
+abbrev pub EndsRun : Plan → ℕ → ℕ → Ending → Type 0
+EndsRun p turns seed e = (events : List Event) × IsThreadRun p turns seed events (state_of e.state) e.stops.items e.close

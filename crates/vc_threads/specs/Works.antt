@@ -1,5 +1,5 @@
 -- What a worker does.
-use Rattle.std.specs.Prelude.{◌≡◌, ℕ, ◌+◌, ◌^◌, ◌≤◌, ◌⊎◌, ◌++◌, List, [], ◌∷◌, length, map}
+use Rattle.std.specs.Prelude.{◌≡◌, ℕ, ◌+◌, ◌^◌, ◌≤◌, ◌⊎◌, ◌++◌, Bool, true, false, List, [], ◌∷◌, length, map}
 use Rattle.std.specs.List.{AllZip, AllByRecursion, Contains}
 use mathlib.Core.List.{IsPrefix}
 use Rattle.std.specs.declared.alloc.Global.{Global}
@@ -43,17 +43,18 @@ In = ℕ × Consumer Stamped Global LinkRule
 abbrev pub CanTake : Acting → In → Type 0
 CanTake x i = HasLink x i.0 × IsReady i
 
--- what is seen of a desk
+-- what is seen of a desk: also whether its acts are kept in the log
 pub record Seen : Type 0 where
   pub actor : Acting
   pub clock : ℕ
+  pub keeps : Bool
   pub log : List (ℕ × Act)
   pub outs : List Out
   pub ins : List In
   pub words : Lcg
 
 abbrev pub desk : Desk → Seen
-desk d = record { actor = d.actor; clock = d.clock; log = d.acts.items; outs = d.ends.outs.items; ins = d.ends.ins.items; words = d.words }
+desk d = record { actor = d.actor; clock = d.clock; keeps = d.keeps; log = d.acts.items; outs = d.ends.outs.items; ins = d.ends.ins.items; words = d.words }
 
 -- the ends are of the same links, in order
 abbrev pub SameLinks : Seen → Seen → Type 0
@@ -62,6 +63,11 @@ SameLinks a b = (out_links b.outs ≡ out_links a.outs) × (in_links b.ins ≡ i
 -- what is logged of a step
 abbrev pub logged : Turn Act Token → ℕ × Act
 logged t = (t.at, act_of t.it)
+
+-- the acts, where they are kept, or none
+abbrev pub kept : Bool → List (ℕ × Act) → List (ℕ × Act)
+kept true acts = acts
+kept false acts = []
 
 -- a put goes out by one of the first links, and a take comes in by one of the others
 abbrev pub GoesOver : List ℕ → List ℕ → Label Act (local.Stamped Token) → Type 0
@@ -73,12 +79,13 @@ GoesOver outs ins (Puts act link s) = IsAmong outs link
 abbrev pub GoOver : List Out → List In → List (Turn Act Token) → Type 0
 GoOver outs ins = AllByRecursion (λ t. GoesOver (out_links outs) (in_links ins) t.it)
 
--- Some steps lead from one desk to the other: they are a run of actor k by itself, they are logged, the rings show what they took and
+-- Some steps lead from one desk to the other: they are a run of actor k by itself, they are logged where acts are kept, the rings show what they took and
 -- put, all over the links of these rings, and the words of their takes were drawn.
 pub record Goes (plan : Plan) (k : ℕ) (a : Seen) (ts : List (Turn Act Token)) (b : Seen) : Type 0 where
   pub run : LocalRun (StepsByLink plan) k a.clock a.actor ts b.actor
   pub clock : b.clock ≡ clock_after a.clock ts
-  pub log : b.log ≡ a.log ++ map logged ts
+  pub keeps : b.keeps ≡ a.keeps
+  pub log : b.log ≡ a.log ++ kept a.keeps (map logged ts)
   pub outs : AllZip (Sends ts) a.outs b.outs
   pub ins : AllZip (Receives ts) a.ins b.ins
   pub links : GoOver a.outs a.ins ts
@@ -107,6 +114,7 @@ IsFull clock ins = IsGreatest clock ⊎ ((i : In) × Contains ins i × IsLate i)
 pub record Stays (a b : Seen) : Type 0 where
   pub actor : b.actor ≡ a.actor
   pub clock : b.clock ≡ a.clock
+  pub keeps : b.keeps ≡ a.keeps
   pub log : b.log ≡ a.log
   pub outs : AllZip OutLooked a.outs b.outs
   pub ins : AllZip InLooked a.ins b.ins
@@ -125,16 +133,17 @@ pub record TakesFront (plan : Plan) (k : ℕ) (old : Acting) (clock word : ℕ) 
   pub ring : SameConsumer end.1 end'.1
   pub got : received end'.1 ≡ received end.1 ++ item ∷ []
 
--- What a worker gives back: some steps, at most n, are a run of actor k by itself from its first state to its last. They are the acts.
+-- What a worker gives back: some steps, at most n, are a run of actor k by itself from its first state to its last. They are the
+-- acts, where these are kept.
 -- What the ring ends sent and received is what the steps put and took, all over the links of these ends, and the words of the takes are
 -- those of the generator, in order.
 -- A worker that ended by its turns used them, and one that ended by its clock had a stamp that was the greatest, its own or that of an
 -- item that waited.
-pub record HasRun (plan : Plan) (k n id seed : ℕ) (actor : Acting) (ends : Ends) (r : ActorRun) : Type 0 where
+pub record HasRun (plan : Plan) (k n id seed : ℕ) (actor : Acting) (ends : Ends) (keeps : Bool) (r : ActorRun) : Type 0 where
   pub steps : List (Turn Act Token)
   pub few : length steps ≤ n
   pub run : LocalRun (StepsByLink plan) k 0 actor steps r.actor
-  pub acts : r.acts.items ≡ map logged steps
+  pub acts : r.acts.items ≡ kept keeps (map logged steps)
   pub outs : AllZip (Sends steps) ends.outs.items r.ends.outs.items
   pub ins : AllZip (Receives steps) ends.ins.items r.ends.ins.items
   pub links : GoOver ends.outs.items ends.ins.items steps

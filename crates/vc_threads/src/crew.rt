@@ -6,7 +6,7 @@ ghost use Rattle.vc_threads.specs.Crews.{IsFit, Ran};
 use crate::gate::{Closes, Gate};
 use crate::link::Ends;
 use crate::run::ActorRun;
-use crate::work::worker;
+use crate::work::run_job;
 use std::alloc::Global;
 use std::snapshot::Snapshot;
 use std::sync::Wait;
@@ -25,6 +25,8 @@ pub(crate) struct Job {
     pub(crate) actor: Actor,
     /// The actor's ends of the rings.
     pub(crate) ends: Ends,
+    /// Whether its acts are kept.
+    pub(crate) keeps: bool,
 }
 
 /// Why a run in threads gives no report.
@@ -94,8 +96,7 @@ fn work<G: Gate>(alloc: Global, job: Job, gate: &G, turns: u64, seed: u32) -> Ac
     requires { IsFit job }
     ensures { Ran turns seed job result }
 {
-    let Job { id, actor, ends } = job;
-    worker(alloc, id, actor, ends, gate, turns, seed)
+    run_job(alloc, job, gate, turns, seed)
 }
 
 // Starts a thread for the last job, then those of the others, and joins it, whether the others started or not. Where a thread is not

@@ -22,6 +22,8 @@ use vc_core::{Act, Actor, Turn};
 pub(crate) struct Desk {
     pub(crate) actor: Actor,
     clock: u64,
+    // whether its acts are kept
+    keeps: bool,
     acts: Vec<(u64, Act)>,
     ends: Ends,
     words: Lcg64Xsh32,
@@ -195,12 +197,20 @@ impl Desk {
     ghost use Rattle.vc_network.specs.Plan.{Plan};
     ghost use Rattle.vc_threads.specs.Runs.{HasNoStep, generator};
     ghost use Rattle.vc_threads.specs.Wires.{Distinct, in_links, out_links};
-    ghost use Rattle.vc_threads.specs.Works.{CanTake, IsFull, SameLinks, Uses, Stays, desk};
+    ghost use Rattle.vc_threads.specs.Works.{CanTake, IsFull, SameLinks, Uses, Stays, desk, kept};
 
     /// An actor that did nothing yet. Its words are those of the generator of this seed and number.
-    pub(crate) fn new(alloc: Global, id: u8, actor: Actor, ends: Ends, seed: u32) -> Desk
+    pub(crate) fn new(
+        alloc: Global,
+        id: u8,
+        actor: Actor,
+        ends: Ends,
+        keeps: bool,
+        seed: u32,
+    ) -> Desk
         ensures actor { result.actor ≡ actor }
         ensures clock { result.clock ≡ 0 }
+        ensures keeps { result.keeps ≡ keeps }
         ensures acts { result.acts.items ≡ [] }
         ensures ends { result.ends ≡ ends }
         ensures words { result.words ≡ generator seed id }
@@ -210,6 +220,7 @@ impl Desk {
         Desk {
             actor,
             clock: 0,
+            keeps,
             acts,
             ends,
             words: Lcg64Xsh32::new(u64::from(seed), u64::from(id)),
@@ -228,6 +239,7 @@ impl Desk {
         let Desk {
             actor,
             clock: _,
+            keeps: _,
             acts,
             ends,
             words: _,
@@ -249,15 +261,22 @@ impl Desk {
         self.idle
     }
 
-    // Logs an act for which there is room, and makes room for the next one. Where memory is wanting, the next turn says so.
+    // Logs an act, where acts are kept, for which there is room, and makes room for the next one. Where memory is wanting, the next turn
+    // says so.
     fn log(&mut self, stamp: u64, act: Act)
         requires room { vec_len self.old.acts < vec_capacity self.old.acts }
-        ensures { desk self.new ≡ record (desk self.old) { clock = stamp; log = (desk self.old).log ++ (stamp, act) ∷ [] } }
+        ensures { desk self.new ≡ record (desk self.old) {
+          clock = stamp;
+          log = (desk self.old).log ++ kept self.old.keeps ((stamp, act) ∷ []);
+        } }
     {
-        self.acts.push_reserved((stamp, act));
-        let _room = self.acts.reserve(1);
         self.clock = stamp;
         self.idle = 0;
+        if !self.keeps {
+            return;
+        }
+        self.acts.push_reserved((stamp, act));
+        let _room = self.acts.reserve(1);
     }
 
     // Takes the front item of the k-th incoming link.

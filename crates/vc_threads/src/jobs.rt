@@ -7,7 +7,7 @@ ghost use Rattle.vc_core.specs.Turns.{actors as actors_in};
 ghost use Rattle.vc_plan.specs.Accepted.{IsAccepted};
 ghost use Rattle.vc_threads.specs.Crews.{IsFit};
 ghost use Rattle.vc_threads.specs.Rings.{AddsRing, AreBare, AreWired, CanAddRing, outs_in, ins_in};
-ghost use Rattle.vc_threads.specs.Threads.{AreNumbered, actor_in, who};
+ghost use Rattle.vc_threads.specs.Threads.{AllKeep, AreNumbered, actor_in, who};
 ghost use Rattle.vc_threads.specs.Works.{IsOfSomePlan};
 
 use crate::crew::Job;
@@ -19,9 +19,9 @@ use vc_packets::Memory;
 use vc_plan::{Accepted, Plan, Port, Spot};
 
 // The job of an actor that has no links yet.
-fn job_of(alloc: Global, id: u8, actor: Actor) -> Job
+fn job_of(alloc: Global, id: u8, actor: Actor, keeps: bool) -> Job
     requires { IsOfSomePlan actor }
-    ensures who { who result ≡ (id, actor) }
+    ensures who { who result ≡ record { id = id; actor = actor; keeps = keeps } }
     ensures fit { IsFit result }
     ensures bare { (outs_in result ≡ []) × (ins_in result ≡ []) }
 {
@@ -31,22 +31,24 @@ fn job_of(alloc: Global, id: u8, actor: Actor) -> Job
         id,
         actor,
         ends: Ends { outs, ins },
+        keeps,
     }
 }
 
 // A job for each actor, without links, numbered from 0 on.
-fn jobs_of(alloc: Global, actors: Vec<Actor>) -> Result<Vec<Job>, Memory>
+fn jobs_of(alloc: Global, actors: Vec<Actor>, keeps: bool) -> Result<Vec<Job>, Memory>
     requires few { length actors.items ≤ 64 }
     requires actors { AllByRecursion IsOfSomePlan actors.items }
     ensures fit { IfOk result (λ jobs. All IsFit jobs.items) }
     ensures numbered { IfOk result (λ jobs. AreNumbered 0 (map who jobs.items)) }
     ensures actors { IfOk result (λ jobs. map actor_in jobs.items ≡ actors.items) }
+    ensures keep { IfOk result (λ jobs. AllKeep keeps (map who jobs.items)) }
     ensures bare { IfOk result (λ jobs. AreBare jobs.items) }
 {
     let mut jobs = Vec::new(alloc);
     for actor in actors {
         let id = jobs.len() as u8;
-        jobs.push(job_of(alloc, id, actor))?;
+        jobs.push(job_of(alloc, id, actor, keeps))?;
     }
     Ok(jobs)
 }
@@ -135,14 +137,15 @@ fn add_rings(alloc: Global, jobs: &mut Vec<Job>, plan: &Plan) -> Result<(), Memo
 
 /// A job for each actor of an accepted plan, which begins, with the ends of its rings: one for each way of the plan, from the actor at
 /// its near end to the one at its far end.
-pub(crate) fn make_jobs(alloc: Global, accepted: &Accepted) -> Result<Vec<Job>, Memory>
+pub(crate) fn make_jobs(alloc: Global, accepted: &Accepted, keeps: bool) -> Result<Vec<Job>, Memory>
     ensures fit { IfOk result (λ jobs. All IsFit jobs.items) }
     ensures numbered { IfOk result (λ jobs. AreNumbered 0 (map who jobs.items)) }
     ensures begins { IfOk result (λ jobs. AreFirst accepted.now (actors_in accepted.now) (map actor_in jobs.items)) }
     ensures wired { IfOk result (λ jobs. AreWired accepted.now (length accepted.now.wires) jobs.items) }
+    ensures keep { IfOk result (λ jobs. AllKeep keeps (map who jobs.items)) }
 {
     let plan = accepted.plan();
-    let mut jobs = jobs_of(alloc, actors(alloc, accepted)?)?;
+    let mut jobs = jobs_of(alloc, actors(alloc, accepted)?, keeps)?;
     add_rings(alloc, &mut jobs, plan)?;
     Ok(jobs)
 }

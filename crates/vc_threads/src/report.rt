@@ -24,6 +24,17 @@ pub struct Report {
     pub close: Close,
 }
 
+/// How a run in threads ended, without its events.
+#[derive(Drop)]
+pub struct Ending {
+    /// The network after all acts of the threads.
+    pub state: Network,
+    /// Why the worker of each actor ended, in the actors' order.
+    pub stops: Vec<Stop>,
+    /// How the run ended.
+    pub close: Close,
+}
+
 /// Why each worker ended, in the order of the runs.
 pub(crate) fn stops_of(alloc: Global, runs: &[ActorRun]) -> Result<Vec<Stop>, Memory>
     ensures { IfOk result (λ stops. stops.items ≡ map stop_in runs.now) }

@@ -1,11 +1,13 @@
 //! A worker: one actor with its ends of the rings, turn by turn.
-ghost use Rattle.std.specs.Prelude.{◌≡◌, ℕ, ◌<◌};
+ghost use Rattle.std.specs.Prelude.{◌≡◌, ℕ, ◌<◌, true};
 ghost use Rattle.std.specs.List.{All};
 ghost use Rattle.vc_core.specs.OfPlan.{IsActorOf};
 ghost use Rattle.vc_network.specs.Plan.{Plan};
+ghost use Rattle.vc_threads.specs.Crews.{Ran};
 ghost use Rattle.vc_threads.specs.Wires.{Distinct, out_links, in_links};
 ghost use Rattle.vc_threads.specs.Works.{HasRun};
 
+use crate::crew::Job;
 use crate::desk::Desk;
 use crate::gate::Gate;
 use crate::link::Ends;
@@ -17,26 +19,20 @@ use vc_core::Actor;
 /// After so many idle turns one after another a worker leaves the processor to others at each further one.
 const SPINS: u32 = 4;
 
-/// Runs an actor for at most so many turns, as long as the gate lets it. In a turn it takes the item of the least link from which it may and whose
-/// ring has one, or else does what [`Actor::turn`] does. The actor's number is the stream of the generator of its takes' words.
-///
-/// No link stands twice among the ends that go out or among those that come in, and each that goes out is below 32. The clock at `u64::MAX` ends the worker before the act, and so does want of memory.
-pub fn worker<G: Gate>(
-    alloc: Global,
-    id: u8,
-    actor: Actor,
-    ends: Ends,
-    gate: &G,
-    turns: u64,
-    seed: u32,
-) -> ActorRun
-    requires outs { Distinct (out_links ends.outs.items) }
-    requires ins { Distinct (in_links ends.ins.items) }
-    requires low { All (λ o. o.0 < 32) ends.outs.items }
-    ensures id { result.id ≡ id }
-    ensures run { (plan : Plan) (n : ℕ) → IsActorOf plan n actor → HasRun plan n turns id seed actor ends result }
+/// Does a job: runs its actor for at most so many turns, as long as the gate lets it.
+pub(crate) fn run_job<G: Gate>(alloc: Global, job: Job, gate: &G, turns: u64, seed: u32) -> ActorRun
+    requires outs { Distinct (out_links job.ends.outs.items) }
+    requires ins { Distinct (in_links job.ends.ins.items) }
+    requires low { All (λ o. o.0 < 32) job.ends.outs.items }
+    ensures { Ran turns seed job result }
 {
-    let mut desk = Desk::new(alloc, id, actor, ends, seed);
+    let Job {
+        id,
+        actor,
+        ends,
+        keeps,
+    } = job;
+    let mut desk = Desk::new(alloc, id, actor, ends, keeps, seed);
     let mut told = false;
     let mut rested = None;
     for turn in 0..turns {
@@ -56,4 +52,35 @@ pub fn worker<G: Gate>(
         }
     }
     desk.into_run(id, Stop::Turns)
+}
+
+/// Runs an actor for at most so many turns, as long as the gate lets it. In a turn it takes the item of the least link from which it
+/// may and whose ring has one, or else does what [`Actor::turn`] does. The actor's number is the stream of the generator of its takes'
+/// words.
+///
+/// No link stands twice among the ends that go out or among those that come in, and each that goes out is below 32. The clock at
+/// `u64::MAX` ends the worker before the act, and so does want of memory.
+pub fn worker<G: Gate>(
+    alloc: Global,
+    id: u8,
+    actor: Actor,
+    ends: Ends,
+    gate: &G,
+    turns: u64,
+    seed: u32,
+) -> ActorRun
+    requires outs { Distinct (out_links ends.outs.items) }
+    requires ins { Distinct (in_links ends.ins.items) }
+    requires low { All (λ o. o.0 < 32) ends.outs.items }
+    ensures id { result.id ≡ id }
+    ensures run { (plan : Plan) (n : ℕ) → IsActorOf plan n actor → HasRun plan n turns id seed actor ends true result }
+{
+    let keeps = true;
+    let job = Job {
+        id,
+        actor,
+        ends,
+        keeps,
+    };
+    run_job(alloc, job, gate, turns, seed)
 }

@@ -7,12 +7,16 @@ pub lines : LinesAreRead
 unfolding clap_on_literals
 lines = record {
   check = (refl, refl);
+  explain = (refl, refl);
   deadlock = (refl, refl);
   draw = (refl, refl);
   step = (refl, refl);
   limit = (refl, refl);
   together = (refl, refl);
+  why = (refl, refl);
+  trace = (refl, refl);
   run = (refl, refl);
+  run_trace = (refl, refl);
   help = refl;
   version = refl;
   beyond = refl;

@@ -2,3 +2,4 @@ pub mod Numbers
 pub mod Asked
 pub mod Examples
 pub mod Flags
+pub mod Defined

@@ -15,7 +15,7 @@ use Rattle.clap.specs.declared.builder.value_parser.ValueParser.TheVariants.{Sig
 use Rattle.clap.specs.declared.error.kind.ErrorKind.{ErrorKind}
 use Rattle.clap.specs.declared.error.kind.ErrorKind.TheVariants.{DisplayHelp, DisplayVersion, OutOfMemory}
 use Rattle.vc_words.specs.declared.line.Line.{Line}
-use Rattle.vc_words.specs.declared.line.Line.TheVariants.{Check, Deadlock, Draw, Step, Run}
+use Rattle.vc_words.specs.declared.line.Line.TheVariants.{Check, Explain, Deadlock, Draw, Step, Run}
 use Rattle.vc_words.specs.declared.line_fault.LineFault.{LineFault}
 use Rattle.vc_words.specs.declared.line_fault.LineFault.TheVariants.{Bad, Memory}
 
@@ -34,6 +34,12 @@ flag_of name = record (new_rule name) { long = Some name; action = Some SetTrue 
 abbrev pub together_flag : Rule
 together_flag = flag_of (codes "together")
 
+abbrev pub why_flag : Rule
+why_flag = flag_of (codes "why")
+
+abbrev pub trace_flag : Rule
+trace_flag = flag_of (codes "trace")
+
 abbrev pub turns_option : Rule
 turns_option = option_of (codes "turns") (Unsigned 0 1000000000) (codes "10000000")
 
@@ -44,6 +50,9 @@ seed_option = option_of (codes "seed") (Signed (pos 0) (pos 4294967295)) (codes 
 abbrev pub check_shape : Shape
 check_shape = new_shape (codes "check")
 
+abbrev pub explain_shape : Shape
+explain_shape = new_shape (codes "explain")
+
 abbrev pub deadlock_shape : Shape
 deadlock_shape = new_shape (codes "deadlock")
 
@@ -51,16 +60,16 @@ abbrev pub draw_shape : Shape
 draw_shape = new_shape (codes "draw")
 
 abbrev pub step_shape : Shape
-step_shape = record (new_shape (codes "step")) { rules = limit_option ∷ together_flag ∷ [] }
+step_shape = record (new_shape (codes "step")) { rules = limit_option ∷ together_flag ∷ why_flag ∷ trace_flag ∷ [] }
 
 abbrev pub run_shape : Shape
-run_shape = record (new_shape (codes "run")) { rules = turns_option ∷ seed_option ∷ [] }
+run_shape = record (new_shape (codes "run")) { rules = turns_option ∷ seed_option ∷ why_flag ∷ trace_flag ∷ [] }
 
 abbrev pub vcnet : App
 vcnet =
-    with_subcommand (with_subcommand (with_subcommand (with_subcommand (with_subcommand
+    with_subcommand (with_subcommand (with_subcommand (with_subcommand (with_subcommand (with_subcommand
     (on_top (λ s. record s { subcommand_required = true; has_version = true }) (new_app (codes "vcnet")))
-    check_shape) deadlock_shape) draw_shape) step_shape) run_shape
+    check_shape) explain_shape) deadlock_shape) draw_shape) step_shape) run_shape
 
 -- the number that a text is, where it is one of at most `most`
 abbrev pub number_in : ℕ → Text → Option ℕ
@@ -80,10 +89,13 @@ has_flag id rows = option_map_or (λ text. bytes_eq text (codes "true")) (one_of
 -- what a subcommand and what was found of its options ask for
 abbrev pub line_of : Text × List Row → Line
 line_of (name, rows) =
-    if bytes_eq name (codes "step") then Step (number_of (codes "limit") 1000000000 1000000 rows) (has_flag (codes "together") rows)
-    else (if bytes_eq name (codes "run") then Run (number_of (codes "turns") 1000000000 10000000 rows) (number_of (codes "seed") 4294967295 0 rows)
+    if bytes_eq name (codes "step")
+    then Step (number_of (codes "limit") 1000000000 1000000 rows) (has_flag (codes "together") rows) (has_flag (codes "why") rows) (has_flag (codes "trace") rows)
+    else (if bytes_eq name (codes "run")
+    then Run (number_of (codes "turns") 1000000000 10000000 rows) (number_of (codes "seed") 4294967295 0 rows) (has_flag (codes "why") rows) (has_flag (codes "trace") rows)
+    else (if bytes_eq name (codes "explain") then Explain
     else (if bytes_eq name (codes "deadlock") then Deadlock
-    else (if bytes_eq name (codes "draw") then Draw else Check)))
+    else (if bytes_eq name (codes "draw") then Draw else Check))))
 
 -- the kinds of fault that the words have: none where they are a command line
 abbrev pub faults : List Text → Kinds
@@ -112,7 +124,8 @@ IsFaultOf kinds (Bad text status) = (kind : ErrorKind) × IsAmong kind kinds × 
 -- the numbers of a line are in their ranges
 abbrev pub IsInRange : Line → Type 0
 IsInRange Check = ⊤
+IsInRange Explain = ⊤
 IsInRange Deadlock = ⊤
 IsInRange Draw = ⊤
-IsInRange (Step limit together) = limit ≤ 1000000000
-IsInRange (Run turns seed) = turns ≤ 1000000000
+IsInRange (Step limit together why trace) = limit ≤ 1000000000
+IsInRange (Run turns seed why trace) = turns ≤ 1000000000

@@ -27,6 +27,11 @@ status_of_fault (Plan refusal) = status_of_check refusal.why
 status_of_fault (Threads why) = 4
 status_of_fault Memory = 4
 
+-- 0 where the network is accepted, and 2 where it is refused
+abbrev pub status_of_acceptance : Bool → ℕ
+status_of_acceptance true = 0
+status_of_acceptance false = 2
+
 -- 0 where the dependencies have no cycle, and 1 where one is shown
 abbrev pub status_of_freedom : Bool → ℕ
 status_of_freedom true = 0

@@ -30,6 +30,15 @@ Exit status: 0 accepted; 2 refused; 4 no memory; 6 a stream failed.
 
 Example: vcnet check < examples/squares.json";
 
+/// What stands at the end of the help of `explain`.
+const EXPLAIN_HELP: &str = "\
+Prints, where the network is refused, the line that `check` prints, a sentence that says what to change, and the line and column of what is at \
+fault. Else it prints the line of `check`, what the network has, and the line of `deadlock`.
+
+Exit status: 0 accepted; 2 refused; 4 no memory; 6 a stream failed.
+
+Example: vcnet explain < examples/squares.json";
+
 /// What stands at the end of the help of `deadlock`.
 const DEADLOCK_HELP: &str = "\
 Prints `free`, or `cycle` with the links by which packets can wait for one another.
@@ -50,7 +59,8 @@ Example: vcnet draw < examples/ring.json | dot -Tsvg > ring.svg";
 /// What stands at the end of the help of `step`.
 const STEP_HELP: &str = "\
 Prints what each channel carried, and how the run ended: `end done` where every process ended, `end quiet` where nothing can happen any more, \
-`end limit` where more events can happen. A number over one wire takes some 47 events; give a long run a greater --limit.
+`end limit` where more events can happen. A number over one wire takes some 47 events; give a long run a greater --limit. With --why each \
+part of a process that waits or has stopped has a line behind these, and so has each packet. With --trace the events stand in front, one a line.
 
 Exit status: 0 done; 1 quiet; 2 refused; 3 limit; 4 no memory; 6 a stream failed.
 
@@ -59,7 +69,9 @@ Example: vcnet step --limit 100000000 < examples/sieve.json";
 /// What stands at the end of the help of `run`.
 const RUN_HELP: &str = "\
 Starts a thread for each node and each switch. Prints what each channel carried, and how the run ended: `end done` where every process \
-ended, `end limit` where the threads used up their turns. A network that is quiet ends with `end limit`, too.
+ended, `end limit` where the threads used up their turns. A network that is quiet ends with `end limit`, too. With --why each part of a \
+process that waits or has stopped has a line behind these, and so has each packet. With --trace the events stand in front, one a line, in an \
+order in which they could have been made one after another.
 
 Exit status: 0 done; 2 refused; 3 limit; 4 no memory or no thread; 6 a stream failed.
 
@@ -119,11 +131,23 @@ fn step_definition<'a>(alloc: Global) -> Result<Command<'a>, AllocError>
         "together",
         "Runs all processes on one node, with every channel inside it",
     );
+    let why = flag(
+        alloc,
+        "why",
+        "Prints, behind the traffic, who waits for what and where the packets are",
+    );
+    let trace = flag(
+        alloc,
+        "trace",
+        "Prints the events of the run, a line each, in front of its traffic",
+    );
     Command::new(alloc, "step")
         .about("Runs the network on standard input and prints its traffic")
         .after_help(STEP_HELP)
         .arg(limit)?
-        .arg(together)
+        .arg(together)?
+        .arg(why)?
+        .arg(trace)
 }
 
 /// The subcommand that runs the network in threads.
@@ -145,11 +169,23 @@ fn run_definition<'a>(alloc: Global) -> Result<Command<'a>, AllocError>
         value_parser!(u32),
         "0",
     );
+    let why = flag(
+        alloc,
+        "why",
+        "Prints, behind the traffic, who waits for what and where the packets are",
+    );
+    let trace = flag(
+        alloc,
+        "trace",
+        "Prints the events of the run, a line each, in front of its traffic",
+    );
     Command::new(alloc, "run")
         .about("Runs the network on standard input in threads and prints its traffic")
         .after_help(RUN_HELP)
         .arg(turns)?
-        .arg(seed)
+        .arg(seed)?
+        .arg(why)?
+        .arg(trace)
 }
 
 /// What the program takes.
@@ -160,6 +196,9 @@ pub(crate) fn definition<'a>(alloc: Global) -> Result<Command<'a>, AllocError>
     let check = Command::new(alloc, "check")
         .about("Checks the network on standard input")
         .after_help(CHECK_HELP);
+    let explain = Command::new(alloc, "explain")
+        .about("Tells what is wrong in the network on standard input, and where")
+        .after_help(EXPLAIN_HELP);
     let deadlock = Command::new(alloc, "deadlock")
         .about("Tells whether packets of the network on standard input can wait in a circle")
         .after_help(DEADLOCK_HELP);
@@ -172,6 +211,7 @@ pub(crate) fn definition<'a>(alloc: Global) -> Result<Command<'a>, AllocError>
         .version(VERSION)
         .subcommand_required(true)
         .subcommand(check)?
+        .subcommand(explain)?
         .subcommand(deadlock)?
         .subcommand(draw)?
         .subcommand(step_definition(alloc)?)?

@@ -5,6 +5,8 @@
 pub enum Line {
     /// To check the network, and to print how large it is.
     Check,
+    /// To tell what is wrong in the network file and where, or what the network has.
+    Explain,
     /// To tell whether packets of the network can come to wait for one another in a circle.
     Deadlock,
     /// To write the network as Graphviz text.
@@ -15,6 +17,10 @@ pub enum Line {
         limit: u64,
         /// Whether all processes run side by side on one node.
         together: bool,
+        /// Whether it is printed, too, who waits for what.
+        why: bool,
+        /// Whether its events are written in front of the traffic.
+        trace: bool,
     },
     /// To run the network with a thread for each node and each switch, and to print its traffic.
     Run {
@@ -22,5 +28,9 @@ pub enum Line {
         turns: u64,
         /// The seed of the words that random headers are made of: 0 where the words say nothing.
         seed: u32,
+        /// Whether it is printed, too, who waits for what.
+        why: bool,
+        /// Whether its events are written in front of the traffic.
+        trace: bool,
     },
 }

@@ -57,11 +57,16 @@ fn line_of(matches: &ArgMatches<'_>) -> Line
         Some(("step", inner)) => Line::Step {
             limit: number(inner, "limit", MOST, USUAL_EVENTS),
             together: is_set(inner, "together"),
+            why: is_set(inner, "why"),
+            trace: is_set(inner, "trace"),
         },
         Some(("run", inner)) => Line::Run {
             turns: number(inner, "turns", MOST, USUAL_TURNS),
             seed: number(inner, "seed", u64::from(u32::MAX), 0) as u32,
+            why: is_set(inner, "why"),
+            trace: is_set(inner, "trace"),
         },
+        Some(("explain", _)) => Line::Explain,
         Some(("deadlock", _)) => Line::Deadlock,
         Some(("draw", _)) => Line::Draw,
         _ => Line::Check,

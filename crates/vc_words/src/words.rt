@@ -3,8 +3,8 @@ ghost use Rattle.std.specs.Prelude.{◌≡◌, ℕ, List};
 ghost use Rattle.vc_text.specs.declared.fault.RunFault.TheVariants.{Memory as OutOfMemory};
 ghost use Rattle.clap.specs.Walk.{Text, texts};
 ghost use Rattle.vc_words.specs.CommandLine.{faults, IsFaultOf};
-ghost use Rattle.vc_words.specs.Program.{ChecksNetwork, DrawsNetwork, FindsDeadlock, Runs, RunsNetwork, StepsAs, StepsNetwork, Tells, TellsFault, TellsLine};
-ghost use Rattle.vc_words.specs.Status.{status_of_check as status_for_check, status_of_text as status_for_text, status_of_fault, status_of_freedom as status_for_freedom, status_of_end};
+ghost use Rattle.vc_words.specs.Program.{ChecksNetwork, DrawsNetwork, ExplainsNetwork, FindsDeadlock, Runs, RunsNetwork, StepsAs, StepsNetwork, Tells, TellsFault, TellsLine, ThreadsAs};
+ghost use Rattle.vc_words.specs.Status.{status_of_acceptance as status_for_acceptance, status_of_check as status_for_check, status_of_text as status_for_text, status_of_fault, status_of_freedom as status_for_freedom, status_of_end};
 
 use crate::line::Line;
 use crate::line_fault::LineFault;
@@ -14,12 +14,15 @@ use std::io::{Read, Write};
 use std::sync::Wait;
 use std::thread::Threads;
 use vc_core::Close;
+use vc_explain::run_explain;
 use vc_plan::CheckRefused;
 use vc_reader::ReadRefused;
 use vc_text::{
-    RunFault, StepReport, run_check, run_deadlock, run_draw, run_net, run_step, run_together,
-    write_fault, write_text,
+    RunFault, run_check, run_deadlock, run_draw, run_net_unlogged, run_net_why, run_step_unlogged,
+    run_step_why, run_together_unlogged, run_together_why, write_fault, write_text,
 };
+use vc_threads::Ending;
+use vc_trace::{trace_net, trace_step, trace_together};
 
 /// The status for a network that is accepted, or drawn, or without a cycle, or whose processes have all ended.
 const DONE: u8 = 0;
@@ -150,6 +153,24 @@ fn check_by<R: Read, W: Write>(alloc: Global, reader: &mut R, writer: &mut W) ->
     }
 }
 
+/// The status of a network that is accepted, or refused.
+fn status_of_acceptance(is_accepted: bool) -> u8
+    ensures { result ≡ status_for_acceptance is_accepted }
+{
+    if is_accepted { DONE } else { REFUSED }
+}
+
+/// Tells what is wrong in the network file that the reader has, and where, or what its network has.
+fn explain_by<R: Read, W: Write>(alloc: Global, reader: &mut R, writer: &mut W) -> u8
+    ensures { ExplainsNetwork (R.remaining reader.old)
+        (W.contents writer.old) (W.contents writer.new) result }
+{
+    match run_explain(alloc, reader, writer) {
+        Ok(is_accepted) => status_of_acceptance(is_accepted),
+        Err(fault) => told(alloc, fault, writer),
+    }
+}
+
 /// Tells whether packets of the network that the reader has can come to wait for one another in a circle.
 fn deadlock_by<R: Read, W: Write>(alloc: Global, reader: &mut R, writer: &mut W) -> u8
     ensures { FindsDeadlock (R.remaining reader.old)
@@ -172,21 +193,26 @@ fn draw_by<R: Read, W: Write>(alloc: Global, reader: &mut R, writer: &mut W) -> 
     }
 }
 
-/// Runs the network that the reader has, as its plan says, or all its processes on one node.
+/// Runs the network that the reader has, as its plan says, or all its processes on one node, and without its events or with them.
 fn stepped<R: Read, W: Write>(
     alloc: Global,
     reader: &mut R,
     writer: &mut W,
     limit: u64,
     is_together: bool,
-) -> Result<StepReport, RunFault>
-    ensures { StepsAs is_together (R.remaining reader.old)
+    is_why: bool,
+    is_traced: bool,
+) -> Result<Close, RunFault>
+    ensures { StepsAs is_together is_why is_traced (R.remaining reader.old)
         (W.contents writer.old) (W.contents writer.new) limit result }
 {
-    if is_together {
-        run_together(alloc, reader, writer, limit)
-    } else {
-        run_step(alloc, reader, writer, limit)
+    match (is_together, is_why, is_traced) {
+        (false, false, false) => run_step_unlogged(alloc, reader, writer, limit),
+        (true, false, false) => run_together_unlogged(alloc, reader, writer, limit),
+        (false, true, false) => run_step_why(alloc, reader, writer, limit),
+        (true, true, false) => run_together_why(alloc, reader, writer, limit),
+        (false, _, true) => trace_step(alloc, reader, writer, limit, is_why),
+        (true, _, true) => trace_together(alloc, reader, writer, limit, is_why),
     }
 }
 
@@ -197,17 +223,40 @@ fn step_by<R: Read, W: Write>(
     writer: &mut W,
     limit: u64,
     is_together: bool,
+    is_why: bool,
+    is_traced: bool,
 ) -> u8
-    ensures { StepsNetwork is_together (R.remaining reader.old)
+    ensures { StepsNetwork is_together is_why is_traced (R.remaining reader.old)
         (W.contents writer.old) (W.contents writer.new) limit result }
 {
-    match stepped(alloc, reader, writer, limit, is_together) {
-        Ok(report) => status_of_close(report.close),
+    match stepped(alloc, reader, writer, limit, is_together, is_why, is_traced) {
+        Ok(close) => status_of_close(close),
         Err(fault) => told(alloc, fault, writer),
     }
 }
 
 /// Runs the network that the reader has, in threads.
+fn threaded<T: Threads + Wait, R: Read, W: Write>(
+    rt: &T,
+    alloc: Global,
+    reader: &mut R,
+    writer: &mut W,
+    turns: u64,
+    seed: u32,
+    is_why: bool,
+    is_traced: bool,
+) -> Result<Ending, RunFault>
+    ensures { ThreadsAs is_why is_traced turns seed (R.remaining reader.old)
+        (W.contents writer.old) (W.contents writer.new) result }
+{
+    match (is_why, is_traced) {
+        (false, false) => run_net_unlogged(rt, alloc, reader, writer, turns, seed),
+        (true, false) => run_net_why(rt, alloc, reader, writer, turns, seed),
+        (_, true) => trace_net(rt, alloc, reader, writer, turns, seed, is_why),
+    }
+}
+
+/// Runs the network that the reader has, in threads, and answers the status.
 fn run_by<T: Threads + Wait, R: Read, W: Write>(
     rt: &T,
     alloc: Global,
@@ -215,11 +264,14 @@ fn run_by<T: Threads + Wait, R: Read, W: Write>(
     writer: &mut W,
     turns: u64,
     seed: u32,
+    is_why: bool,
+    is_traced: bool,
 ) -> u8
-    ensures { RunsNetwork turns seed (R.remaining reader.old) (W.contents writer.old) (W.contents writer.new) result }
+    ensures { RunsNetwork is_why is_traced turns seed (R.remaining reader.old)
+        (W.contents writer.old) (W.contents writer.new) result }
 {
-    match run_net(rt, alloc, reader, writer, turns, seed) {
-        Ok(report) => status_of_close(report.close),
+    match threaded(rt, alloc, reader, writer, turns, seed, is_why, is_traced) {
+        Ok(ending) => status_of_close(ending.close),
         Err(fault) => told(alloc, fault, writer),
     }
 }
@@ -237,10 +289,25 @@ pub fn run_words<T: Threads + Wait, R: Read, W: Write>(
 {
     match command(alloc, words) {
         Ok(Line::Check) => check_by(alloc, reader, writer),
+        Ok(Line::Explain) => explain_by(alloc, reader, writer),
         Ok(Line::Deadlock) => deadlock_by(alloc, reader, writer),
         Ok(Line::Draw) => draw_by(alloc, reader, writer),
-        Ok(Line::Step { limit, together }) => step_by(alloc, reader, writer, limit, together),
-        Ok(Line::Run { turns, seed }) => run_by(rt, alloc, reader, writer, turns, seed),
+        Ok(
+            Line::Step {
+                limit,
+                together,
+                why,
+                trace,
+            },
+        ) => step_by(alloc, reader, writer, limit, together, why, trace),
+        Ok(
+            Line::Run {
+                turns,
+                seed,
+                why,
+                trace,
+            },
+        ) => run_by(rt, alloc, reader, writer, turns, seed, why, trace),
         Err(fault) => told_of_line(alloc, &fault, writer),
     }
 }

@@ -1,51 +1,47 @@
-use Rattle.std.proofs.Common.{◌≡◌, ◌⊎◌, [], ap, arith, length, sym, subst}
-use Rattle.vc_core.specs.Replaying.{Reached, Replays}
+use Rattle.std.proofs.Common.{◌≡◌, ◌⊎◌, [], arith, length, sym, subst}
+use Rattle.vc_core.specs.Replaying.{Replays}
 use Rattle.vc_core.specs.State.{shown, state_of, IsNetworkOf}
 use Rattle.vc_core.specs.Turns.{IsAtRest}
 use Rattle.vc_text.specs.Closing.{Closes}
-use Rattle.vc_text.specs.Seated.{HaveGiven}
-use Rattle.vc_core.proofs.Replayed.{reached_first, replays}
+use Rattle.vc_core.proofs.Replayed.{replays}
 use Rattle.vc_text.proofs.Closing.{processes_wait}
-use Rattle.vc_text.proofs.Drawing.{given_words, none_given}
-use Rattle.vc_text.proofs.Quieting.{none_quiet}
+use Rattle.vc_text.proofs.Drawing.{given_words}
 use Rattle.vc_text.proofs.run.run.Goals as goal
 
 pub returns-clause-is : goal.returns-clause-is
-returns-clause-is c =
+returns-clause-is g c =
     let p = c.args.accepted.now in
-    let begun = subst (λ es. Reached p es (state_of c.in_ok-network.network)) (sym c.new-events.ensures) (reached_first p [] (state_of c.in_ok-network.network) c.in_ok-network.ensures) in
-    subst (IsNetworkOf p) (sym c.in_ok-close.ensures.same) (c.in_ok-run_rounds.ensures.reached p begun).is
+    let ran = c.in_ok-rounds.ensures.runs p [] c.requires c.in_ok-run.ensures.opens in
+    subst (IsNetworkOf p) (sym c.in_ok-close.ensures.same) ran.2.reached.is
 
 pub returns-clause-run : goal.returns-clause-run
-returns-clause-run c =
+returns-clause-run g c =
     let p = c.args.accepted.now in
-    let s = state_of c.in_ok-network.network in
-    let t = state_of c.close_of.new.network in
-    let events = c.run_rounds.new.events in
-    let ran = c.in_ok-run_rounds.ensures in
-    let begun = subst (λ es. Reached p es s) (sym c.new-events.ensures) (reached_first p [] s c.in_ok-network.ensures) in
-    let reached = ran.reached p begun in
-    let many = c.actors.ensures p begun.is in
-    let none = subst (λ es. HaveGiven p es c.in_ok-seats.seats) (sym c.new-events.ensures)
-    (none_given p c.actors.result c.in_ok-seats.seats (omega (arith, many)) c.in_ok-seats.ensures.words) in
-    let ends = ran.ends p begun (none_quiet p s c.in_ok-seats.seats c.in_ok-seats.ensures.active) in
-    let there = subst (Replays p events) (sym c.in_ok-close.ensures.same) (replays p events (state_of c.run_rounds.new.network) reached) in
+    let begun = c.in_ok-run.ensures.opens in
+    let t = state_of c.close.new.self.network in
+    let mid = c.rounds.new.self in
+    let ran = c.in_ok-rounds.ensures.runs p [] c.requires begun in
+    let events = ran.0 in
+    let ends = c.in_ok-rounds.ensures.ends p [] c.requires begun in
+    let few = c.in_ok-rounds.ensures.few in
+    let many = ran.2.many in
+    let there = subst (Replays p events) (sym c.in_ok-close.ensures.same) (replays p events (state_of mid.network) ran.2.reached) in
     let closes = subst (λ z. Closes p (shown z) (length events) c.args.limit c.in_ok-close.close) (sym c.in_ok-close.ensures.same)
-    (subst (λ n. Closes p (shown (state_of c.run_rounds.new.network)) n c.args.limit c.in_ok-close.close) c.len.ensures
-    (c.in_ok-close.ensures.closes p reached.is (subst (λ n. (n ≡ c.args.limit) ⊎ IsAtRest p (state_of c.run_rounds.new.network)) (sym c.len.ensures) ends))) in
-    record {
-      few = ran.few;
-      runs = there.runs;
-      words = given_words p events c.run_rounds.new.seats (ran.words p begun none);
-      closes = closes;
-      waits = processes_wait p events t (length events) c.args.limit c.in_ok-close.close there closes;
-    }
+    (subst (λ n. Closes p (shown (state_of mid.network)) n c.args.limit c.in_ok-close.close) (sym many)
+    (c.in_ok-close.ensures.closes p ran.2.reached.is ends)) in (
+      events,
+      ran.1,
+      record {
+        few = omega (arith, few, many);
+        runs = there.runs;
+        words = given_words p events mid.seats ran.2.words;
+        closes = closes;
+        waits = processes_wait p events t (length events) c.args.limit c.in_ok-close.close there closes;
+      },
+    )
 
-pub run_rounds-requires : goal.run_rounds-requires
-run_rounds-requires c = let none = ap length c.new-events.ensures in omega (arith, none)
+pub rounds-requires : goal.rounds-requires
+rounds-requires g c = let none = c.in_ok-run.ensures.none in omega (arith, none)
 
-pub close_of-requires : goal.close_of-requires
-close_of-requires c =
-    let few = c.in_ok-run_rounds.ensures.few in
-    let is = c.len.ensures in
-    omega (arith, few, is)
+pub close-requires : goal.close-requires
+close-requires g c = c.in_ok-rounds.ensures.few

@@ -1,26 +1,10 @@
-use Rattle.std.proofs.Common.{List, ℕ, Option, Err, subst}
-use Rattle.vc_core.specs.declared.close.Close.{Close}
-use Rattle.vc_core.specs.declared.event.Event.{Event}
-use Rattle.vc_core.specs.Enabled.{NetworkState}
+use Rattle.std.proofs.Common.{subst}
 use Rattle.vc_core.specs.State.{shown, state_of}
-use Rattle.vc_plan.specs.declared.plan.Plan.{Plan as Network}
-use Rattle.vc_text.specs.declared.fault.RunFault.{RunFault}
-use Rattle.vc_text.specs.declared.fault.RunFault.TheVariants.{Read, Write, Text, Plan, Threads, Memory}
-use Rattle.vc_text.specs.Running.{IsRunWithin, RunsPlan}
 use Rattle.vc_text.specs.Shown.{channels_of}
 use Rattle.vc_text.specs.Streams.{Writes}
 use Rattle.vc_text.specs.Traffic.{traffic}
+use Rattle.vc_text.proofs.Stepped.{unwritten}
 use Rattle.vc_text.proofs.run.run_plan.Goals as goal
-
--- the traffic could not be written, or there was no memory for it
-unwritten : (old new : Option (List ℕ)) (limit : ℕ) (plan : Network) (events : List Event) (x : NetworkState) (close : Close) (fault : RunFault) →
-    IsRunWithin plan limit events x close → Writes old new (traffic (channels_of plan x) close) (Err fault) → RunsPlan plan old new limit (Err fault)
-unwritten old new limit plan events x close Write ran w = (events, x, close, ran, w)
-unwritten old new limit plan events x close Memory ran w = w
-unwritten old new limit plan events x close Read ran w = absurd w
-unwritten old new limit plan events x close (Text refused) ran w = absurd w
-unwritten old new limit plan events x close (Plan refusal) ran w = absurd w
-unwritten old new limit plan events x close (Threads why) ran w = absurd w
 
 pub returns-in-Ok : goal.returns-in-Ok
 returns-in-Ok g c =

@@ -1,6 +1,6 @@
 use Rattle.std.proofs.Common.{subst}
 use Rattle.vc_text.specs.Streams.{Writes}
-use Rattle.vc_text.specs.Threading.{report_text}
+use Rattle.vc_text.specs.Threading.{ending_of, ending_text}
 use Rattle.vc_text.proofs.Threaded.{unwritten}
 use Rattle.vc_text.proofs.threading.run_net.Goals as goal
 
@@ -11,12 +11,12 @@ returns-in-Ok g c =
       p,
       c.in_ok-accepted.ensures,
       c.in_ok-report.ensures,
-      subst (Writes (g.W.Write.contents c.args.writer.now) (g.W.Write.contents c.write_traffic.new.writer) (report_text p r)) c.in-Ok.is (c.write_traffic.ensures p c.in_ok-report.ensures.replays.is),
+      subst (Writes (g.W.Write.contents c.args.writer.now) (g.W.Write.contents c.write_traffic.new.writer) (ending_text p (ending_of r))) c.in-Ok.is (c.write_traffic.ensures p c.in_ok-report.ensures.replays.is),
     )
 
 pub returns : goal.returns
 returns g c =
     let p = c.in_ok-accepted.accepted in
     let r = c.in_ok-report.report in
-    unwritten c.args.turns c.args.seed (g.R.Read.remaining c.args.reader.now) (g.W.Write.contents c.args.writer.now) (g.W.Write.contents c.write_traffic.new.writer) p r c.in-Err.fault c.in_ok-accepted.ensures c.in_ok-report.ensures
-    (subst (Writes (g.W.Write.contents c.args.writer.now) (g.W.Write.contents c.write_traffic.new.writer) (report_text p r)) c.in-Err.is (c.write_traffic.ensures p c.in_ok-report.ensures.replays.is))
+    unwritten c.args.turns c.args.seed (g.R.Read.remaining c.args.reader.now) (g.W.Write.contents c.args.writer.now) (g.W.Write.contents c.write_traffic.new.writer) p (ending_of r) c.in-Err.fault c.in_ok-accepted.ensures (r.steps.items, c.in_ok-report.ensures)
+    (subst (Writes (g.W.Write.contents c.args.writer.now) (g.W.Write.contents c.write_traffic.new.writer) (ending_text p (ending_of r))) c.in-Err.is (c.write_traffic.ensures p c.in_ok-report.ensures.replays.is))

@@ -2,8 +2,9 @@ use Rattle.std.proofs.Common.{◌≡◌, ◌≤◌, [], ◌∷◌, ◌++◌, len
 use Rattle.std.specs.List.{All, AllByRecursion}
 use Rattle.std.proofs.lemmas.List.{map-append, length-map}
 use Rattle.std.proofs.lemmas.List.Elements.{All-push}
+use Rattle.vc_actors.proofs.Merging.{both_lists}
 use Rattle.vc_threads.specs.Crews.{IsFit}
-use Rattle.vc_threads.specs.Threads.{AreNumbered, who}
+use Rattle.vc_threads.specs.Threads.{AllKeep, AreNumbered, who}
 use Rattle.vc_threads.specs.Works.{IsOfSomePlan}
 use Rattle.vc_threads.proofs.Fitting.{numbered_push, actors_step}
 use Rattle.vc_threads.proofs.Ringed.{none_more}
@@ -29,7 +30,9 @@ loop-actor-preserved c =
       few = omega (arith, few, shorter, longer);
       fit = subst (All IsFit) (sym pushed) (All-push IsFit jobs job inv.fit c.job_of.ensures.fit);
       numbered = subst (AreNumbered 0) (sym (ap (map who) pushed ∙ map-append who jobs (job ∷ [])))
-          (numbered_push 0 (map who jobs) (who job) inv.numbered (ap (λ w. w.0) c.job_of.ensures.who ∙ grind (arith, length-map)));
-      all = actors_step jobs c.push.new.self.items job pushed (ap (λ w. w.1) c.job_of.ensures.who) steps inv.all;
+          (numbered_push 0 (map who jobs) (who job) inv.numbered (ap (λ w. w.id) c.job_of.ensures.who ∙ grind (arith, length-map)));
+      keep = subst (AllKeep c.args.keeps) (sym (ap (map who) pushed ∙ map-append who jobs (job ∷ [])))
+          (both_lists (λ w. w.keeps ≡ c.args.keeps) (map who jobs) (who job ∷ []) inv.keep (ap (λ w. w.keeps) c.job_of.ensures.who, tt));
+      all = actors_step jobs c.push.new.self.items job pushed (ap (λ w. w.actor) c.job_of.ensures.who) steps inv.all;
       bare = subst AreBare (sym pushed) (λ k. (none_more outs_in jobs job (λ i. (inv.bare i).0) c.job_of.ensures.bare.0 k, none_more ins_in jobs job (λ i. (inv.bare i).1) c.job_of.ensures.bare.1 k));
     }

@@ -1,73 +1,18 @@
-use Rattle.std.proofs.Common.{◌≡◌, ◌*◌, length, map, slice_get, refl, ap, sym, subst, ◌∙◌}
-use Rattle.std.specs.List.{AllByRecursion}
-use Rattle.std.proofs.lemmas.List.{length-map}
-use Rattle.vc_actors.specs.Merge.{AreDistinct, IsMerge, RunRises, run_of}
+use Rattle.std.proofs.Common.{◌≡◌, ℕ, List, Result, Ok, Err, IfOk, true, refl, subst}
+use Rattle.vc_core.specs.State.{state_of}
+use Rattle.vc_core.specs.declared.event.Event.{Event}
 use Rattle.vc_plan.specs.declared.plan.Plan.{Plan}
-use Rattle.vc_tokens.specs.Spelt.{tokens}
-use Rattle.vc_threads.specs.Closing.{AreInOrder, ClosesBy, stop_at, stop_in}
-use Rattle.vc_threads.specs.Crews.{IsFit}
-use Rattle.vc_threads.specs.Merged.{numbered}
-use Rattle.vc_threads.specs.Order.{actor_left, MeetAt, LeftOn, OnWires, OnWays}
-use Rattle.vc_threads.proofs.Closings.{not_done}
-use Rattle.vc_threads.proofs.Fitting.{by_recursion}
-use Rattle.vc_threads.proofs.Gathered.{reports}
-use Rattle.vc_threads.proofs.Ordered.{ends_meet}
-use Rattle.vc_threads.proofs.Reported.{in_order, parts_fit, runs_count}
-use Rattle.vc_threads.proofs.Rising.{all_apart, all_rise}
+use Rattle.vc_threads.specs.Threads.{IsThreadRun, Reports}
+use Rattle.vc_threads.specs.declared.crew.ThreadFault.{ThreadFault}
+use Rattle.vc_threads.specs.declared.report.Report.{Report}
 use Rattle.vc_threads.proofs.threads.run_threads.Goals as goal
 
-pub merge-requires-clause-distinct : goal.merge-requires-clause-distinct
-merge-requires-clause-distinct g c =
-    subst (λ rs. AreDistinct (map numbered rs)) (sym c.as_slice.ensures.value)
-    (all_apart c.args.turns c.args.seed 0 c.in_ok-jobs.jobs.items c.in_ok-runs.runs.items c.in_ok-jobs.ensures.numbered c.in_ok-runs.ensures)
-
-pub merge-requires-clause-rising : goal.merge-requires-clause-rising
-merge-requires-clause-rising g c =
-    subst (λ rs. AllByRecursion RunRises (map numbered rs)) (sym c.as_slice.ensures.value)
-    (all_rise c.args.turns c.args.seed c.in_ok-jobs.jobs.items c.in_ok-runs.runs.items (by_recursion IsFit c.in_ok-jobs.jobs.items c.in_ok-jobs.ensures.fit) c.in_ok-runs.ensures)
-
-pub stopped-otherwise-requires : goal.stopped-otherwise-requires
-stopped-otherwise-requires g c =
-    subst AreInOrder (sym c.as_slice-3.ensures.value) (in_order c.args.turns c.args.seed c.in_ok-jobs.jobs.items c.in_ok-runs.runs.items c.in_ok-jobs.ensures.numbered c.in_ok-runs.ensures)
-
-pub take_all-requires-clause-rings : goal.take_all-requires-clause-rings
-take_all-requires-clause-rings g c =
-    let js = c.in_ok-jobs.jobs.items in
-    subst (λ q. OnWires (MeetAt (length q.nodes) c.in_ok-actors.ends) q.wires (length q.wires)) (sym c.plan.ensures.plan)
-    (ends_meet c.args.accepted.now c.args.turns c.args.seed js c.in_ok-runs.runs.items c.in_ok-jobs.ensures.begins c.in_ok-jobs.ensures.numbered c.in_ok-runs.ensures
-    c.in_ok-actors.ends c.in_ok-actors.ensures.outs c.in_ok-actors.ensures.ins c.in_ok-jobs.ensures.wired (by_recursion IsFit js c.in_ok-jobs.ensures.fit))
-
-pub of_parts-requires : goal.of_parts-requires
-of_parts-requires g c =
-    let p = c.args.accepted.now in
-    let js = c.in_ok-jobs.jobs.items in
-    let rs = c.in_ok-runs.runs.items in
-    let are = c.in_ok-actors.ensures.actors in
-    record {
-      count = ap length are ∙ (length-map rs actor_left ∙ runs_count p c.args.turns c.args.seed js rs c.in_ok-jobs.ensures.begins c.in_ok-jobs.ensures.numbered c.in_ok-runs.ensures);
-      actors = λ k x here. parts_fit p c.args.turns c.args.seed js rs c.in_ok-jobs.ensures.begins c.in_ok-jobs.ensures.numbered c.in_ok-runs.ensures k x (ap (λ xs. slice_get xs k) (sym are) ∙ here);
-      ways = ap length c.as_slice-4.ensures.value ∙ (c.in_ok-left.ensures.count ∙ ap (λ (q : Plan). 2 * length q.wires) c.plan.ensures.plan);
-    }
-
-pub close_of-close-requires : goal.close_of-close-requires
-close_of-close-requires g c = not_done (length c.as_slice-3.result.now) (stop_at c.as_slice-3.result.now) c.stopped-otherwise.result c.stopped-otherwise.ensures
+-- the events are those of the report
+reported : (p : Plan) (turns seed : ℕ) (result : Result Report ThreadFault) →
+    IfOk result (λ r. (events : List Event) × (true ≡ true → events ≡ r.steps.items) × IsThreadRun p turns seed events (state_of r.state) r.stops.items r.close) →
+    IfOk result (Reports p turns seed)
+reported p turns seed (Ok r) (events, are, run) = subst (λ es. IsThreadRun p turns seed es (state_of r.state) r.stops.items r.close) (are refl) run
+reported p turns seed (Err why) none = tt
 
 pub returns : goal.returns
-returns g c =
-    let p = c.args.accepted.now in
-    let same = c.plan.ensures.plan in
-    let m = c.in_ok-steps.ensures in
-    let left = c.in_ok-left.left.items in
-    let made = c.in_ok-state.ensures in
-    let done = c.close_of-close.ensures in
-    reports p c.plan.ensures.accepted c.args.turns c.args.seed c.in_ok-jobs.jobs.items c.in_ok-runs.runs.items
-    c.in_ok-jobs.ensures.begins c.in_ok-jobs.ensures.numbered c.in_ok-runs.ensures c.in_ok-jobs.ensures.wired
-    c.in_ok-actors.ends c.in_ok-actors.ensures.outs c.in_ok-actors.ensures.ins
-    left (c.in_ok-left.ensures.count ∙ ap (λ (q : Plan). 2 * length q.wires) same)
-    (subst (λ q. OnWays (LeftOn (length q.nodes) c.in_ok-actors.ends left) q.wires (length q.wires)) same c.in_ok-left.ensures.left)
-    m.0 (subst (λ xs. IsMerge (run_of (map numbered xs)) m.0) c.as_slice.ensures.value m.1) c.in_ok-steps.steps.items m.2
-    (record { steps = c.in_ok-steps.steps; state = c.in_ok-state.state; stops = c.in_ok-stops.stops; close = c.close_of-close.result }) refl
-    (subst (λ rs. c.in_ok-stops.stops.items ≡ map stop_in rs) c.as_slice-2.ensures.value c.in_ok-stops.ensures)
-    made.is (made.actors ∙ c.in_ok-actors.ensures.actors) (made.ways ∙ ap (map (λ line. tokens line.items)) c.as_slice-4.ensures.value) (done.done p made.is)
-    (λ not. subst (ClosesBy (length c.in_ok-runs.runs.items) (stop_at c.in_ok-runs.runs.items)) (sym (done.other not))
-    (subst (λ xs. ClosesBy (length xs) (stop_at xs) c.stopped-otherwise.result) c.as_slice-3.ensures.value c.stopped-otherwise.ensures))
+returns g c = reported c.args.accepted.now c.args.turns c.args.seed c.run_actors.result c.run_actors.ensures

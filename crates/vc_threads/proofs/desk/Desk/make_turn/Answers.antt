@@ -10,7 +10,7 @@ use Rattle.vc_tokens.specs.declared.token.Token.{Token}
 use Rattle.vc_threads.specs.declared.link.Stamped.{Stamped}
 use Rattle.vc_threads.specs.Stamps.{stamped}
 use Rattle.vc_threads.specs.Wires.{OutLooked, InLooked, HasRoom, Distinct, IsAmong}
-use Rattle.vc_threads.specs.Works.{Out, SameLinks, Uses, desk}
+use Rattle.vc_threads.specs.Works.{Out, SameLinks, Uses, desk, kept}
 use Rattle.vc_threads.proofs.Zips.{zip_same}
 use Rattle.vc_threads.proofs.Looks.{looked_same, in_looked_same}
 use Rattle.vc_threads.proofs.Steps.{finds_quiet}
@@ -27,6 +27,7 @@ returns-in_default-clause-stopped c =
     record {
       actor = refl;
       clock = refl;
+      keeps = refl;
       log = refl;
       outs = zip_same OutLooked looked_same a.ends.outs.items;
       ins = zip_same InLooked in_looked_same a.ends.ins.items;
@@ -38,6 +39,7 @@ returns-in-Err-clause-stopped c =
     record {
       actor = c.in-Err.ensures.refused;
       clock = refl;
+      keeps = refl;
       log = refl;
       outs = zip_back OutLooked a.ends.outs.len a.ends.outs.items c.as_mut_slice.result.now c.room_of-room.new.outs a.ends.outs.ok.0 c.as_mut_slice.ensures.value c.room_of-room.ensures.looked;
       ins = zip_same InLooked in_looked_same a.ends.ins.items;
@@ -49,8 +51,8 @@ returns-then-is_same-clause-done c = λ plan n of.
     let mid = take a.ends.outs.len (c.room_of-room.new.outs ++ drop (length c.room_of-room.new.outs) a.ends.outs.items) in
     let outs' = zip_back OutLooked a.ends.outs.len a.ends.outs.items c.as_mut_slice.result.now c.room_of-room.new.outs a.ends.outs.ok.0 c.as_mut_slice.ensures.value c.room_of-room.ensures.looked in
     uses_idle plan n (desk a)
-    (record { actor = a.actor; clock = a.clock; log = a.acts.items; outs = mid; ins = a.ends.ins.items; words = a.words })
-    (of_some (HasNoStep plan n a.actor) c.args.rested (c.is_same.ensures c.if-is_same.true) (c.requires.rests plan n of)) refl refl refl refl outs' (zip_same InLooked in_looked_same a.ends.ins.items)
+    (record { actor = a.actor; clock = a.clock; keeps = a.keeps; log = a.acts.items; outs = mid; ins = a.ends.ins.items; words = a.words })
+    (of_some (HasNoStep plan n a.actor) c.args.rested (c.is_same.ensures c.if-is_same.true) (c.requires.rests plan n of)) refl refl refl refl refl outs' (zip_same InLooked in_looked_same a.ends.ins.items)
 
 pub returns-in-Ok-Idle-clause-rests : goal.returns-in-Ok-Idle-clause-rests
 returns-in-Ok-Idle-clause-rests c = λ plan n of.
@@ -73,8 +75,8 @@ returns-in-Ok-Idle-clause-done c = λ plan n of.
     let outs' = zip_back OutLooked a.ends.outs.len a.ends.outs.items c.as_mut_slice.result.now c.room_of-room.new.outs a.ends.outs.ok.0 c.as_mut_slice.ensures.value c.room_of-room.ensures.looked in
     let did = subst (λ t. MakesTurn plan n a.actor c.room_of-room.result t c.turn.new.self) c.in-Ok-Idle.field-0-is (c.in-Ok-Idle.ensures.makes plan n of) in
     uses_idle plan n (desk a)
-    (record { actor = c.turn.new.self; clock = a.clock; log = a.acts.items; outs = take a.ends.outs.len (c.room_of-room.new.outs ++ drop (length c.room_of-room.new.outs) a.ends.outs.items); ins = a.ends.ins.items; words = a.words })
-    (finds_quiet plan n a.actor c.room_of-room.result did.1) did.0 refl refl refl outs' (zip_same InLooked in_looked_same a.ends.ins.items)
+    (record { actor = c.turn.new.self; clock = a.clock; keeps = a.keeps; log = a.acts.items; outs = take a.ends.outs.len (c.room_of-room.new.outs ++ drop (length c.room_of-room.new.outs) a.ends.outs.items); ins = a.ends.ins.items; words = a.words })
+    (finds_quiet plan n a.actor c.room_of-room.result did.1) did.0 refl refl refl refl outs' (zip_same InLooked in_looked_same a.ends.ins.items)
 
 pub returns-in-Ok-Local-clause-done : goal.returns-in-Ok-Local-clause-done
 returns-in-Ok-Local-clause-done c = λ plan n of.
@@ -85,8 +87,8 @@ returns-in-Ok-Local-clause-done c = λ plan n of.
     let made : ℕ × Act = (c.in-Some.stamp, c.in-Ok-Local.act) in
     let t : Turn Act Token = record { at = c.in-Some.stamp; it = Own c.in-Ok-Local.act } in
     subst (λ b. Uses plan n 1 (desk a) b) (sym c.log.ensures) (uses_one plan n (desk a)
-    (record { actor = c.turn.new.self; clock = c.in-Some.stamp; log = a.acts.items ++ made ∷ []; outs = mid; ins = a.ends.ins.items; words = a.words })
-    t did.1 c.in-Some.ensures tt tt refl refl refl
+    (record { actor = c.turn.new.self; clock = c.in-Some.stamp; keeps = a.keeps; log = a.acts.items ++ kept a.keeps (made ∷ []); outs = mid; ins = a.ends.ins.items; words = a.words })
+    t did.1 c.in-Some.ensures tt tt refl refl refl refl
     (sends_quiet (t ∷ []) (λ l. refl) a.ends.outs.items mid outs')
     (receives_quiet (t ∷ []) (λ l. refl) a.ends.ins.items a.ends.ins.items (zip_same InLooked in_looked_same a.ends.ins.items)))
 
@@ -109,8 +111,8 @@ returns-in-Ok-Put-clause-done c = λ plan n of.
     let step : IsPut plan n a.actor r.0 act c.in-Ok-Put.item c.turn.new.self =
     subst (λ l. IsPut plan n a.actor l act c.in-Ok-Put.item c.turn.new.self) (sym link) did.1 in
     subst (λ b. Uses plan n 1 (desk a) b) (sym c.log-in-Ok-Put.ensures) (uses_one plan n (desk a)
-    (record { actor = c.turn.new.self; clock = c.in-Some.stamp; log = a.acts.items ++ made ∷ []; outs = set mid k c.put_item.new.end; ins = a.ends.ins.items; words = a.words })
-    t step c.in-Some.ensures refl (subst (λ ls. IsAmong ls r.0) (looked_out_links a.ends.outs.items mid outs') (among mid k r within c.index_mut.ensures.value)) refl refl refl
+    (record { actor = c.turn.new.self; clock = c.in-Some.stamp; keeps = a.keeps; log = a.acts.items ++ kept a.keeps (made ∷ []); outs = set mid k c.put_item.new.end; ins = a.ends.ins.items; words = a.words })
+    t step c.in-Some.ensures refl (subst (λ ls. IsAmong ls r.0) (looked_out_links a.ends.outs.items mid outs') (among mid k r within c.index_mut.ensures.value)) refl refl refl refl
     (looked_sends (t ∷ []) a.ends.outs.items mid (set mid k c.put_item.new.end) outs'
     (sends_one mid k r c.put_item.new.end c.in-Some.stamp act x links within c.index_mut.ensures.value c.put_item.ensures.link c.put_item.ensures.ring c.put_item.ensures.sent))
     (receives_quiet (t ∷ []) (λ l. refl) a.ends.ins.items a.ends.ins.items (zip_same InLooked in_looked_same a.ends.ins.items)))

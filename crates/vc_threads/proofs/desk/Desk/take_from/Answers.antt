@@ -7,7 +7,7 @@ use Rattle.std.proofs.Common.{ℕ, inl, inr, refl, subst, sym, get_or, ap, ◌�
 use Rattle.std.proofs.Math.ListN.{set}
 use Rattle.std.proofs.Math.Seq.{map-set_same}
 use Rattle.vc_threads.specs.Wires.{OutLooked, InLooked}
-use Rattle.vc_threads.specs.Works.{In, SameLinks, Uses, take_of, desk}
+use Rattle.vc_threads.specs.Works.{In, SameLinks, Uses, take_of, desk, kept}
 use Rattle.vc_threads.proofs.Zips.{zip_same, zip_step}
 use Rattle.vc_threads.proofs.Looks.{looked_same, in_looked_same, in_looked_then}
 use Rattle.vc_threads.proofs.Late.{full_passed, written_in}
@@ -24,6 +24,7 @@ returns-in_err-stamp-clause-stopped c =
     on_err _ c.from_residual.result (record {
       actor = same.0;
       clock = refl;
+      keeps = refl;
       log = refl;
       outs = zip_same OutLooked looked_same a.ends.outs.items;
       ins = zip_step InLooked in_looked_then a.ends.ins.items a.ends.ins.items c.args.k c.index_mut.result.now c.take_front.new.end (zip_same InLooked in_looked_same a.ends.ins.items) c.requires.within looked;
@@ -36,9 +37,9 @@ returns-clause-done c = λ plan n of.
     let made : ℕ × Act = (c.in_ok-stamp.stamp, c.in_ok-stamp.act) in
     let t = take_of made c.index_mut.result.now.0 h.item in
     subst (λ b. Uses plan n 1 (desk a) b) (sym c.log.ensures) (uses_one plan n (desk a)
-    (record { actor = c.take_front.new.actor; clock = c.in_ok-stamp.stamp; log = a.acts.items ++ made ∷ []; outs = a.ends.outs.items; ins = set a.ends.ins.items c.args.k c.take_front.new.end; words = c.next_word-word.new.self })
+    (record { actor = c.take_front.new.actor; clock = c.in_ok-stamp.stamp; keeps = a.keeps; log = a.acts.items ++ kept a.keeps (made ∷ []); outs = a.ends.outs.items; ins = set a.ends.ins.items c.args.k c.take_front.new.end; words = c.next_word-word.new.self })
     t h.step h.stamp tt (among a.ends.ins.items c.args.k c.index_mut.result.now c.requires.within c.index_mut.ensures.value) refl
-    refl
+    refl refl
     (subst (λ x. Draws a.words (word_of (Takes x c.index_mut.result.now.0 (stamped h.item)) ++ []) c.next_word-word.new.self) (sym h.act)
     (ap (λ (p : ℕ × Lcg). p.0) c.next_word-word.ensures, ap (λ (p : ℕ × Lcg). p.1) c.next_word-word.ensures))
     (sends_quiet (t ∷ []) (λ l. refl) a.ends.outs.items a.ends.outs.items (zip_same OutLooked looked_same a.ends.outs.items))

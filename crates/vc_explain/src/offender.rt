@@ -1,0 +1,211 @@
+//! What a refusal names.
+ghost use Rattle.std.specs.Prelude.{◌≡◌, ◌++◌, ◌∷◌, [], IfOk, OnOk};
+ghost use Rattle.std.specs.List.{enumerate_from, flat_map};
+ghost use Rattle.vc_explain.specs.Offenders.{end_field as field_of_end, has_block as has_block_of, of_block, limited_field as limited_field_of, of_limit, of_path, of_port, of_spot, of_vlink, of_wire, offenders as offenders_of, path_of};
+ghost use Rattle.vc_explain.specs.Place.{path_line};
+ghost use Rattle.vc_plan.specs.Wires.{same_port, same_spot};
+
+use crate::place::push_path_line;
+use std::alloc::Global;
+use vc_packets::Memory;
+use vc_plan::{CheckRefused, End, LimitWord, PathFault, Plan, Port, Spot, Vlink, Wire};
+use vc_reader::{Step, Word};
+
+/// A part of the network file that a refusal names.
+#[derive(Clone, Copy, Debug, PartialEq, Eq, Drop)]
+pub enum Offender {
+    /// A field of the file.
+    All(Word),
+    /// An item of a list of the file, by its number from 0.
+    Item(Word, usize),
+    /// A field of such an item.
+    Part(Word, usize, Word),
+}
+
+/// The field of the file that breaks a limit, where it is one of the file and not of a part.
+fn limited_field(word: LimitWord) -> Option<Word>
+    ensures { result ≡ limited_field_of word }
+{
+    match word {
+        LimitWord::Version => Some(Word::Version),
+        LimitWord::Nodes => Some(Word::Nodes),
+        LimitWord::Switches => Some(Word::Switches),
+        LimitWord::Wires => Some(Word::Wires),
+        LimitWord::Vlinks => Some(Word::Vlinks),
+        LimitWord::Channels => Some(Word::Channels),
+        _ => None,
+    }
+}
+
+fn push_limited(found: &mut Vec<Offender>, field: Option<Word>) -> Result<(), Memory>
+    ensures { OnOk result (found.new.items ≡ found.old.items ++ of_limit field) }
+{
+    if let Some(field) = field {
+        found.push(Offender::All(field))?;
+    }
+    Ok(())
+}
+
+fn spot_item(spot: Spot) -> Offender
+    ensures { result ≡ of_spot spot }
+{
+    match spot {
+        Spot::Node(n) => Offender::Item(Word::Nodes, usize::from(n)),
+        Spot::Switch(n) => Offender::Item(Word::Switches, usize::from(n)),
+    }
+}
+
+fn equal_spots(a: Spot, b: Spot) -> bool
+    ensures { result ≡ same_spot a b }
+{
+    match (a, b) {
+        (Spot::Node(m), Spot::Node(n)) => m == n,
+        (Spot::Switch(m), Spot::Switch(n)) => m == n,
+        _ => false,
+    }
+}
+
+fn equal_ports(a: Port, b: Port) -> bool
+    ensures { result ≡ same_port a b }
+{
+    equal_spots(a.spot, b.spot) && a.link == b.link
+}
+
+/// Wire n, where it has the port.
+fn push_wire(found: &mut Vec<Offender>, port: Port, n: usize, wire: &Wire) -> Result<(), Memory>
+    ensures { OnOk result (found.new.items ≡ found.old.items ++ of_wire port (n, wire.now)) }
+{
+    if equal_ports(wire.one, port) || equal_ports(wire.two, port) {
+        found.push(Offender::Item(Word::Wires, n))?;
+    }
+    Ok(())
+}
+
+/// The first two wires that have the port.
+fn wires_at(alloc: Global, wires: &[Wire], port: Port) -> Result<Vec<Offender>, Memory>
+    ensures { IfOk result (λ found. found.items ≡ of_port wires.now port) }
+{
+    let mut found = Vec::new(alloc);
+    for (n, wire) in wires.iter().enumerate() {
+        push_wire(&mut found, port, n, wire)?;
+    }
+    found.truncate(2);
+    Ok(found)
+}
+
+fn has_block(node: u8, block: u16, end: &End) -> bool
+    ensures { result ≡ has_block_of node block end.now }
+{
+    end.node == node && end.block == block
+}
+
+/// The ends of virtual link n that have the block.
+fn push_ends(
+    found: &mut Vec<Offender>,
+    node: u8,
+    block: u16,
+    n: usize,
+    vlink: &Vlink,
+) -> Result<(), Memory>
+    ensures { OnOk result (found.new.items
+        ≡ found.old.items ++ of_vlink node block (n, vlink.now)) }
+{
+    if has_block(node, block, &vlink.a) {
+        found.push(Offender::Part(Word::Vlinks, n, Word::A))?;
+    }
+    if has_block(node, block, &vlink.b) {
+        found.push(Offender::Part(Word::Vlinks, n, Word::B))?;
+    }
+    Ok(())
+}
+
+/// The first two ends that have the block.
+fn ends_at(alloc: Global, vlinks: &[Vlink], node: u8, block: u16) -> Result<Vec<Offender>, Memory>
+    ensures { IfOk result (λ found. found.items ≡ of_block vlinks.now node block) }
+{
+    let mut found = Vec::new(alloc);
+    for (n, vlink) in vlinks.iter().enumerate() {
+        push_ends(&mut found, node, block, n, vlink)?;
+    }
+    found.truncate(2);
+    Ok(found)
+}
+
+fn end_field(is_a: bool) -> Word
+    ensures { result ≡ field_of_end is_a }
+{
+    if is_a { Word::A } else { Word::B }
+}
+
+/// The end from which the packets come, and the place where the fault shows.
+fn push_path_ends(found: &mut Vec<Offender>, fault: &PathFault) -> Result<(), Memory>
+    ensures { OnOk result (found.new.items ≡ found.old.items ++ of_path fault.now) }
+{
+    let field = end_field(fault.from_a);
+    found.push(Offender::Part(Word::Vlinks, usize::from(fault.vlink), field))?;
+    found.push(spot_item(fault.last))?;
+    Ok(())
+}
+
+/// What a refusal names, in the order in which it is told.
+pub(crate) fn offenders(
+    alloc: Global,
+    plan: &Plan,
+    why: &CheckRefused,
+) -> Result<Vec<Offender>, Memory>
+    ensures { IfOk result (λ found. found.items ≡ offenders_of plan.now why.now) }
+{
+    let mut found = Vec::new(alloc);
+    match why {
+        CheckRefused::Limit(word) => push_limited(&mut found, limited_field(*word))?,
+        CheckRefused::PortTwice(port) => {
+            found.push(spot_item(port.spot))?;
+            found.extend_from_slice(wires_at(alloc, plan.wires.as_slice(), *port)?.as_slice())?;
+        }
+        CheckRefused::PortMissing(port) => found.push(spot_item(port.spot))?,
+        CheckRefused::BlockTwice { node, block } => {
+            found.push(Offender::Item(Word::Nodes, usize::from(*node)))?;
+            found.extend_from_slice(ends_at(
+                alloc,
+                plan.vlinks.as_slice(),
+                *node,
+                *block,
+            )?.as_slice())?;
+        }
+        CheckRefused::Table { switch, fault: _ } => {
+            found.push(Offender::Part(Word::Switches, usize::from(*switch), Word::Table))?;
+        }
+        CheckRefused::NoInterval(path)
+        | CheckRefused::WrongEnd(path)
+        | CheckRefused::StackEmpty(path)
+        | CheckRefused::StackFull(path)
+        | CheckRefused::Hops(path) => push_path_ends(&mut found, path)?,
+        CheckRefused::SameNode(n) => found.push(Offender::Item(Word::Vlinks, usize::from(*n)))?,
+        CheckRefused::Channel(n) => found.push(Offender::Item(Word::Channels, usize::from(*n)))?,
+        CheckRefused::Usage { node, name: _ } => {
+            found.push(Offender::Part(Word::Nodes, usize::from(*node), Word::Process))?;
+        }
+        CheckRefused::Memory => {}
+    }
+    Ok(found)
+}
+
+/// The place of a part of the file, and its path.
+pub(crate) fn push_offender_line(
+    out: &mut Vec<u8>,
+    text: &[u8],
+    offender: Offender,
+) -> Result<(), Memory>
+    ensures { OnOk result (out.new.items ≡ out.old.items ++ path_line text.now (path_of offender)) }
+{
+    match offender {
+        Offender::All(list) => push_path_line(out, text, &[Step::Field(list)]),
+        Offender::Item(list, n) => {
+            push_path_line(out, text, &[Step::Field(list), Step::Index(n)])
+        }
+        Offender::Part(list, n, field) => {
+            let path = [Step::Field(list), Step::Index(n), Step::Field(field)];
+            push_path_line(out, text, &path)
+        }
+    }
+}

@@ -1,0 +1,19 @@
+use Rattle.std.proofs.Common.{[], arith, refl, subst}
+use Rattle.vc_core.specs.State.{state_of}
+use Rattle.vc_core.proofs.Replayed.{reached_first}
+use Rattle.vc_text.proofs.Drawing.{none_given}
+use Rattle.vc_text.proofs.Quieting.{none_quiet}
+use Rattle.vc_text.proofs.simulation.Simulation.new.Goals as goal
+
+pub returns-clause-opens : goal.returns-clause-opens
+returns-clause-opens c =
+    let p = c.args.accepted.now in
+    let s = state_of c.in_ok-network.network in
+    let reached = reached_first p [] s c.in_ok-network.ensures in
+    let many = c.actors.ensures p reached.is in
+    record {
+      reached = reached;
+      many = refl;
+      words = none_given p c.actors.result c.in_ok-seats.seats (omega (arith, many)) c.in_ok-seats.ensures.words;
+      quiet = none_quiet p s c.in_ok-seats.seats c.in_ok-seats.ensures.active;
+    }

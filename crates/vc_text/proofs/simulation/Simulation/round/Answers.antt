@@ -1,0 +1,87 @@
+use Rattle.std.proofs.Common.{◌≡◌, ◌≤◌, ◌<◌, ◌+◌, ◌-◌, ◌^◌, ◌||◌, false, Ok, refl, sym, ap, ◌∙◌, subst, inl, inr, arith}
+use Rattle.std.proofs.lemmas.Bool.{cases_eq, cases_lt}
+use Rattle.std.proofs.lemmas.Nat.Bits.{bit_at_ones, bit_at-lt}
+use Rattle.std.specs.Int.{bit_at}
+use Rattle.vc_core.specs.State.{state_of}
+use Rattle.vc_core.specs.Turns.{Rests, IsAtRest, actors}
+use Rattle.vc_core.proofs.Leaving.{few}
+use Rattle.vc_text.proofs.Closing.{all_rest, grown, neither, or_true, or_false, counted_few}
+use Rattle.vc_text.proofs.Quieting.{idle_rests, bit_after, not_after, fewer_after}
+use Rattle.vc_text.proofs.Simulated.{stays_on, then_on}
+use Rattle.vc_text.proofs.simulation.Simulation.round.Goals.{then-branch, else-branch}
+use Rattle.vc_text.proofs.simulation.Simulation.round.Goals as goal
+
+pub loop-actor-init : goal.loop-actor-init
+loop-actor-init g c = record {
+  few = c.requires;
+  edge = (0, omega arith, refl);
+  runs = stays_on g.K.EventSink.holds c.args.self.now c.args.events.now;
+  some = omega arith;
+  more = λ e. absurd (cc);
+  same = λ e p es kept run. refl;
+  rests = λ e p es kept run k low none node. absurd (let all = bit_at_ones 64 k low in omega (arith, all, none));
+}
+
+pub loop-actor-preserved : goal.loop-actor-preserved
+loop-actor-preserved g c =
+    let inv = c.loop-actor.invariant in
+    let n = c.in_ok-act.ensures in
+    let had = c.in_ok-act.field-0 in
+    let any : c.if-branch.moved ≡ (c.loop-actor.moved || had) = elim c.if-branch.branch [
+      | then-branch w ↦ w.moved-is ∙ sym (or_true c.loop-actor.moved had w.if-branch.true)
+      | else-branch w ↦ w.moved-is ∙ sym (or_false c.loop-actor.moved had w.if-branch.false)
+    ] in
+    let under = c.if-self-limit.false in
+    let made = counted_few had c.loop-actor.self.made c.act.new.self.made n.made in
+    let next = c.in-Some.ensures in
+    let past = next.0 in
+    record {
+      few = omega (arith, made, under);
+      edge = (c.in-Some.actor + 1, omega arith, c.after-left.ensures);
+      runs = then_on g.K.EventSink.holds c.args.self.now c.loop-actor.self c.act.new.self c.args.events.now c.loop-actor.events c.act.new.events inv.runs n.runs;
+      some = (let s = inv.some in omega (arith, made, s));
+      more = λ e. grown c.loop-actor.moved had c.args.self.now.made c.loop-actor.self.made c.act.new.self.made inv.some inv.more n.made (sym any ∙ e);
+      same = λ e p es kept run. (let b = neither c.loop-actor.moved had (sym any ∙ e) in
+          let mid = inv.runs p es kept run in n.still (ap Ok b.1) p mid.2.reached.is ∙ inv.same b.0 p es kept run);
+      rests = λ e p es kept run k less gone node. (let b = neither c.loop-actor.moved had (sym any ∙ e) in
+          let mid = inv.runs p es kept run in
+          let same = inv.same b.0 p es kept run in
+          elim (cases_lt k c.in-Some.actor) [
+            | inl sooner ↦ elim (cases_eq (bit_at c.loop-actor.left k) 1) [
+              | inl has ↦ subst (λ z. Rests p z k) same
+                  (idle_rests p (state_of c.loop-actor.self.network) c.loop-actor.self.seats c.awake.result k mid.2.reached.is mid.2.quiet (λ l f. c.awake.ensures.told k l less f) less (next.2 k sooner has))
+              | inr ne ↦ inv.rests b.0 p es kept run k less (let bit = bit_at-lt c.loop-actor.left k in omega (arith, bit, ne)) node
+            ]
+            | inr later ↦ elim (cases_lt c.in-Some.actor k) [
+              | inl behind ↦ absurd (let one = ap (λ m. bit_at m k) c.after-left.ensures ∙ bit_after c.in-Some.actor k less behind in omega (arith, one, gone))
+              | inr upto ↦ (let at : c.in-Some.actor ≡ k = omega arith in
+                  let rest = n.rests (ap Ok b.1) p mid.2.reached.is (subst (λ z. z < actors p) (sym at) node) in
+                  subst (λ z. Rests p (state_of c.args.self.now.network) z) at (subst (λ z. Rests p z c.in-Some.actor) same rest))
+            ]
+          ]);
+    }
+
+pub loop-actor-smaller : goal.loop-actor-smaller
+loop-actor-smaller g c =
+    let edge = c.loop-actor.invariant.edge in
+    let next = c.in-Some.ensures in
+    let past : edge.0 ≤ c.in-Some.actor = not_after edge.0 c.in-Some.actor (subst (λ m. bit_at m c.in-Some.actor ≡ 1) edge.2 next.1) in
+    let less = fewer_after edge.0 c.in-Some.actor past next.0 in
+    subst (λ m. m < c.loop-actor.left) (sym c.after-left.ensures) (subst (λ m. 2 ^ 64 - 2 ^ (c.in-Some.actor + 1) < m) (sym edge.2) less)
+
+pub returns-clause-rests : goal.returns-clause-rests
+returns-clause-rests g c = λ e p es kept run.
+    let inv = c.loop-actor.invariant in
+    let none : c.loop-actor.moved ≡ false = cc in
+    let mid = inv.runs p es kept run in
+    let same = inv.same none p es kept run in
+    let nodes = (few p run.reached.is.accepted).0 in
+    let switches = (few p run.reached.is.accepted).1 in
+    let s = state_of c.args.self.now.network in
+    subst (IsAtRest p) (sym same) (all_rest p s run.reached.is (actors p) (omega arith) (λ k less.
+    let low : k < 64 = omega arith in
+    elim (cases_eq (bit_at c.loop-actor.left k) 1) [
+      | inl has ↦ subst (λ z. Rests p z k) same
+          (idle_rests p (state_of c.loop-actor.self.network) c.loop-actor.self.seats c.awake.result k mid.2.reached.is mid.2.quiet (λ l f. c.awake.ensures.told k l low f) low (c.in_default.ensures k low has))
+      | inr ne ↦ inv.rests none p es kept run k low (let bit = bit_at-lt c.loop-actor.left k in omega (arith, bit, ne)) less
+    ]))

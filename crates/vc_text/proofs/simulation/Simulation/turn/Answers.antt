@@ -1,0 +1,56 @@
+use Rattle.std.proofs.Common.{◌≡◌, ◌∙◌, [], ◌∷◌, ◌++◌, Bool, true, false, Result, Ok, refl, subst, sym}
+use Rattle.vc_core.specs.State.{state_of, MakesOne}
+use Rattle.vc_core.specs.Turns.{FindsEvent}
+use Rattle.vc_core.specs.Replaying.{Reached}
+use Rattle.vc_text.specs.Quiet.{AreQuiet}
+use Rattle.vc_text.proofs.Drawing.{given_same, given_still}
+use Rattle.vc_text.proofs.Quieting.{acts_quiet, one_quiet}
+use Rattle.vc_text.proofs.Simulated.{one_more}
+use Rattle.vc_text.proofs.simulation.Simulation.turn.Goals as goal
+
+-- it had one, or it had none
+apart : {E : Type 0} (a b : Result Bool E) → a ≡ b → a ≡ Ok true → b ≡ Ok false → ⊥
+apart a b same had none = cc
+
+pub returns-clause-runs : goal.returns-clause-runs
+returns-clause-runs g c = λ p es kept run.
+    let a = c.args.self.now in
+    let s = state_of a.network in
+    let t = state_of c.turn.new.self in
+    let found = subst (FindsEvent p s c.args.actor) c.in-Some.is (c.in_ok-event.ensures.finds p run.reached.is) in
+    let makes = subst (λ m. MakesOne p s m t) c.in-Some.is (c.in_ok-event.ensures.makes p run.reached.is) in
+    one_more g.K.EventSink.holds p es c.in-Some.event a _ _ (c.in_ok-record.ensures es kept) refl makes
+    (given_still p es c.in-Some.event a.seats a.seats found.1 refl run.words)
+    (acts_quiet p s t c.in-Some.event a.seats c.args.actor found.0 found.1 found.2 makes run.quiet) run
+
+pub returns-in_default-clause-runs : goal.returns-in_default-clause-runs
+returns-in_default-clause-runs g c = λ p es kept run.
+    let a = c.args.self.now in
+    let s = state_of a.network in
+    let t = state_of c.turn.new.self in
+    let same : t ≡ s = subst (λ o. MakesOne p s o t) c.in_default.is (c.in_ok-event.ensures.makes p run.reached.is) in (
+      es,
+      kept,
+      record {
+        reached = subst (Reached p es) (sym same) run.reached;
+        many = run.many;
+        words = given_same p es a.seats c.rest.new.self c.rest.ensures.words run.words;
+        quiet = subst (λ z. AreQuiet p z c.rest.new.self) (sym same)
+            (one_quiet p s a.seats c.rest.new.self c.args.actor c.rest.ensures.others (subst (FindsEvent p s c.args.actor) c.in_default.is (c.in_ok-event.ensures.finds p run.reached.is)) run.quiet);
+      },
+    )
+
+pub returns-clause-still : goal.returns-clause-still
+returns-clause-still g c = λ e. absurd (apart _ _ e refl refl)
+
+pub returns-clause-rests : goal.returns-clause-rests
+returns-clause-rests g c = λ e. absurd (apart _ _ e refl refl)
+
+pub returns-in_default-clause-still : goal.returns-in_default-clause-still
+returns-in_default-clause-still g c = λ e p is.
+    let s = state_of c.args.self.now.network in
+    let t = state_of c.turn.new.self in
+    subst (λ o. MakesOne p s o t) c.in_default.is (c.in_ok-event.ensures.makes p is)
+
+pub returns-in_default-clause-rests : goal.returns-in_default-clause-rests
+returns-in_default-clause-rests g c = λ e p is. subst (FindsEvent p (state_of c.args.self.now.network) c.args.actor) c.in_default.is (c.in_ok-event.ensures.finds p is)

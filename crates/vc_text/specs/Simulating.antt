@@ -1,0 +1,27 @@
+-- A run under way.
+use Rattle.std.specs.Prelude.{◌≡◌, ℕ, ◌+◌, Bool, true, false, List, length}
+use Rattle.vc_core.specs.Replaying.{Reached}
+use Rattle.vc_core.specs.State.{state_of}
+use Rattle.vc_core.specs.declared.event.Event.{Event}
+use Rattle.vc_plan.specs.declared.plan.Plan.{Plan}
+use Rattle.vc_text.specs.Quiet.{AreQuiet}
+use Rattle.vc_text.specs.Seated.{HaveGiven}
+use Rattle.vc_text.specs.declared.simulation.Simulation.{Simulation}
+
+-- these events led from the opening state to where the run is, as many as it counts; the words of their takes are those that the
+-- generators gave; and of the actors that are known to have no event but takes none has one
+pub record HasRun (p : Plan) (events : List Event) (run : Simulation) : Type 0 where
+  pub reached : Reached p events (state_of run.network)
+  pub many : length events ≡ run.made
+  pub words : HaveGiven p events run.seats
+  pub quiet : AreQuiet p (state_of run.network) run.seats
+
+-- whatever events led to the old run and were taken, some lead to the new one and were taken
+abbrev pub LeadsOn : {K : Type 0} → (K → List Event → Type 0) → Simulation → K → Simulation → K → Type 0
+LeadsOn holds old taken new taken' =
+    (p : Plan) (events : List Event) → holds taken events → HasRun p events old → (events' : List Event) × holds taken' events' × HasRun p events' new
+
+-- how many events there are after one more, or none
+abbrev pub counted : Bool → ℕ → ℕ
+counted true made = made + 1
+counted false made = made

@@ -1,0 +1,179 @@
+//! A network run event by event, in rounds over its actors.
+ghost use Rattle.std.specs.Prelude.{◌≡◌, ◌⊎◌, ◌<◌, ◌≤◌, ◌+◌, ◌^◌, ◌-◌, ◌∷◌, ◌++◌, [], ℕ, true, false, List, length, None, Ok, IfOk, OnOk};
+ghost use Rattle.vc_plan.specs.declared.plan.Plan.{Plan};
+ghost use Rattle.vc_core.specs.State.{shown, state_of, IsNetworkOf};
+ghost use Rattle.vc_core.specs.Turns.{Rests, IsAtRest, GoesOn, FindsEvent, actors};
+ghost use Rattle.vc_core.specs.declared.event.Event.{Event};
+ghost use Rattle.vc_text.specs.Closing.{HasEvent, Closes};
+ghost use Rattle.vc_text.specs.Simulating.{HasRun, LeadsOn, counted};
+
+use crate::event_sink::EventSink;
+use crate::seats::{Seats, after};
+use std::alloc::Global;
+use vc_core::{Act, Close, Event, Network};
+use vc_packets::Memory;
+use vc_plan::Accepted;
+
+/// A run under way: its network, what is known of the actors, and how many events were made.
+#[derive(Drop)]
+pub(crate) struct Simulation {
+    pub(crate) network: Network,
+    seats: Seats,
+    made: u64,
+}
+
+impl Simulation {
+    /// The network of an accepted plan, in its opening state.
+    pub(crate) fn new(alloc: Global, accepted: &Accepted) -> Result<Simulation, Memory>
+        ensures none { IfOk result (λ run. run.made ≡ 0) }
+        ensures opens { IfOk result (HasRun accepted.now []) }
+    {
+        let network = Network::new(alloc, accepted)?;
+        let seats = Seats::new(alloc, network.actors())?;
+        Ok(Simulation {
+            network,
+            seats,
+            made: 0,
+        })
+    }
+
+    /// An actor makes the event, but a take, that it makes next, if it has one. The answer is whether it had one.
+    fn turn<K: EventSink>(&mut self, events: &mut K, actor: u8) -> Result<bool, Memory>
+        requires actor { actor < 64 }
+        requires few { self.old.made < 2 ^ 64 - 1 }
+        ensures made { IfOk result (λ had. self.new.made ≡ counted had self.old.made) }
+        ensures runs { OnOk result (LeadsOn K.holds self.old events.old self.new events.new) }
+        ensures still { result ≡ Ok false → (p : Plan) → IsNetworkOf p (state_of self.old.network) →
+            state_of self.new.network ≡ state_of self.old.network }
+        ensures rests { result ≡ Ok false → (p : Plan) → IsNetworkOf p (state_of self.old.network) →
+            FindsEvent p (state_of self.old.network) actor None }
+    {
+        let Some(event) = self.network.turn(actor)? else {
+            self.seats.rest(actor);
+            return Ok(false);
+        };
+        events.record(event)?;
+        self.made += 1;
+        Ok(true)
+    }
+
+    /// An actor makes the event that it makes next, if it has one: a take from the least link that has a token, else what it does
+    /// where every way has room. The answer is whether it had one.
+    fn act<K: EventSink>(&mut self, events: &mut K, actor: u8) -> Result<bool, Memory>
+        requires actor { actor < 64 }
+        requires few { self.old.made < 2 ^ 64 - 1 }
+        ensures made { IfOk result (λ had. self.new.made ≡ counted had self.old.made) }
+        ensures runs { OnOk result (LeadsOn K.holds self.old events.old self.new events.new) }
+        ensures still { result ≡ Ok false → (p : Plan) → IsNetworkOf p (state_of self.old.network) →
+            state_of self.new.network ≡ state_of self.old.network }
+        ensures rests { result ≡ Ok false → (p : Plan) → IsNetworkOf p (state_of self.old.network) →
+            actor < actors p → Rests p (state_of self.old.network) actor }
+    {
+        let Some(link) = self.network.link_to_take(actor) else {
+            return self.turn(events, actor);
+        };
+        let word = self.seats.next_word(actor);
+        if !self.network.take(actor, link, word) {
+            return Ok(false);
+        }
+        self.seats.wake(actor);
+        let act = Act::Take { link, word };
+        events.record(Event { actor, act })?;
+        self.made += 1;
+        Ok(true)
+    }
+
+    /// One round over the actors: each makes at most one event, up to so many events in all. The answer is whether an event was made.
+    fn round<K: EventSink>(&mut self, events: &mut K, limit: u64) -> Result<bool, Memory>
+        requires { self.old.made ≤ limit }
+        ensures few { OnOk result (self.new.made ≤ limit) }
+        ensures more { result ≡ Ok true → (self.new.made ≡ limit) ⊎ (self.old.made < self.new.made) }
+        ensures runs { OnOk result (LeadsOn K.holds self.old events.old self.new events.new) }
+        ensures rests { result ≡ Ok false → (p : Plan) (es : List Event) →
+            K.holds events.old es → HasRun p es self.old → IsAtRest p (state_of self.new.network) }
+    {
+        let mut moved = false;
+        let mut left = u64::MAX;
+        while let Some(actor) = self.seats.next_of(self.network.awake(), left) {
+            if self.made >= limit {
+                return Ok(true);
+            }
+            if self.act(events, actor)? {
+                moved = true;
+            }
+            left = after(actor);
+        }
+        Ok(moved)
+    }
+
+    /// Rounds over the actors, until none has an event or there are so many events.
+    pub(crate) fn rounds<K: EventSink>(&mut self, events: &mut K, limit: u64) -> Result<(), Memory>
+        requires { self.old.made ≤ limit }
+        ensures few { OnOk result (self.new.made ≤ limit) }
+        ensures runs { OnOk result (LeadsOn K.holds self.old events.old self.new events.new) }
+        ensures ends { OnOk result ((p : Plan) (es : List Event) → K.holds events.old es → HasRun p es self.old →
+            (self.new.made ≡ limit) ⊎ IsAtRest p (state_of self.new.network)) }
+    {
+        for _ in 0..limit {
+            if !self.round(events, limit)? {
+                return Ok(());
+            }
+            if self.made >= limit {
+                return Ok(());
+            }
+        }
+        Ok(())
+    }
+
+    /// How the run ends, of at most so many events.
+    pub(crate) fn close(&mut self, limit: u64) -> Result<Close, Memory>
+        requires { self.old.made ≤ limit }
+        ensures closes { (p : Plan) → IsNetworkOf p (state_of self.old.network) →
+            (self.old.made ≡ limit) ⊎ IsAtRest p (state_of self.old.network) →
+            IfOk result (Closes p (shown (state_of self.old.network)) self.old.made limit) }
+        ensures same { state_of self.new.network ≡ state_of self.old.network }
+    {
+        if self.made >= limit && goes_on(&mut self.network)? {
+            Ok(Close::Limit)
+        } else {
+            Ok(resting(&self.network))
+        }
+    }
+}
+
+/// Whether an actor has an event.
+fn has_event(network: &mut Network, actor: u8) -> Result<bool, Memory>
+    ensures has { (p : Plan) → IsNetworkOf p (state_of network.old) → actor < actors p → IfOk result (HasEvent p (state_of network.old) actor) }
+    ensures same { state_of network.new ≡ state_of network.old }
+{
+    if network.link_to_take(actor).is_some() {
+        return Ok(true);
+    }
+    Ok(network.next(actor)?.is_some())
+}
+
+/// Whether some actor has an event.
+fn goes_on(network: &mut Network) -> Result<bool, Memory>
+    ensures goes_on { (p : Plan) → IsNetworkOf p (state_of network.old) → IfOk result (GoesOn p (state_of network.old)) }
+    ensures same { state_of network.new ≡ state_of network.old }
+{
+    for actor in 0..network.actors().min(255) as u8 {
+        if has_event(network, actor)? {
+            return Ok(true);
+        }
+    }
+    Ok(false)
+}
+
+/// How a run ends where no event is enabled.
+fn resting(network: &Network) -> Close
+    ensures { (p : Plan) (made limit : ℕ) →
+        IsNetworkOf p (state_of network.now) → IsAtRest p (state_of network.now) →
+        Closes p (shown (state_of network.now)) made limit result }
+{
+    if network.ended() {
+        Close::Done
+    } else {
+        Close::Quiet
+    }
+}

@@ -1,0 +1,14 @@
+use Rattle.std.proofs.Common.{ℕ, IfSome}
+use Rattle.vc_core.specs.OfPlan.{IsActorOf}
+use Rattle.vc_network.specs.Plan.{Plan}
+use Rattle.vc_threads.specs.Runs.{HasNoStep}
+use Rattle.vc_threads.specs.Works.{SameLinks, Uses, desk}
+use Rattle.vc_threads.proofs.work.run_job.Given as goal
+
+-- so far each turn was used, and the ends are of the same links; and where the actor is known to have no step of its own, it has none
+abbrev pub invariant-loop-turn : goal.invariant-loop-turn
+invariant-loop-turn g l = record {
+  run : (plan : Plan) (n : ℕ) → IsActorOf plan n l.initial.desk.actor → Uses plan n l.turn (desk l.initial.desk) (desk l.desk);
+  ends : SameLinks (desk l.initial.desk) (desk l.desk);
+  rests : (plan : Plan) (n : ℕ) → IsActorOf plan n l.desk.actor → IfSome l.rested (λ room. HasNoStep plan n l.desk.actor);
+}

@@ -1,0 +1,117 @@
+-- Texts that go to a writer one after another.
+use Rattle.std.proofs.Common.{◌≡◌, ◌<◌, ℕ, zero, suc, ◌+◌, List, [], ◌∷◌, ◌++◌, length, take, get_or, Option, Some, None, Result, Ok, Err, OnErr, refl, sym, ap, subst, ◌∙◌, append_assoc, append-nil, arith}
+use Rattle.std.specs.List.{flat_map}
+use Rattle.std.specs.Io.KnownBytes.{Appends}
+use Rattle.vc_text.specs.Streams.{AppendsFront}
+use Rattle.vc_trace.specs.Pieces.{Passes}
+
+appends_two : (a b c : Option (List ℕ)) (xs ys : List ℕ) → Appends a b xs → Appends b c ys → Appends a c (xs ++ ys)
+appends_two None b c xs ys p q = tt
+appends_two (Some u) None c xs ys p q = absurd p
+appends_two (Some u) (Some v) None xs ys p q = absurd q
+appends_two (Some u) (Some v) (Some w) xs ys p q = q ∙ ap (λ t. t ++ ys) p ∙ append_assoc u xs ys
+
+-- a front of a list, behind another list
+take_behind : (xs ys : List ℕ) (k : ℕ) → (n : ℕ) × (take n (xs ++ ys) ≡ xs ++ take k ys)
+take_behind [] ys k = (k, refl)
+take_behind (x ∷ xs) ys k = let (n, is) = take_behind xs ys k in (suc n, ap (λ t. x ∷ t) is)
+
+-- a front of a list is a front of a longer one
+take_sooner : (xs ys : List ℕ) (k : ℕ) → (n : ℕ) × (take n (xs ++ ys) ≡ take k xs)
+take_sooner [] ys k = (0, nothing ys k)
+  where
+    nothing : (ys : List ℕ) (k : ℕ) → take 0 ys ≡ take k []
+    nothing ys zero = refl
+    nothing ys (suc k) = refl
+take_sooner (x ∷ xs) ys zero = (0, refl)
+take_sooner (x ∷ xs) ys (suc k) = let (n, is) = take_sooner xs ys k in (suc n, ap (λ t. x ∷ t) is)
+
+-- nothing is a front of each text
+pub front_none : (a : Option (List ℕ)) (text : List ℕ) → AppendsFront a a text
+front_none None text = (0, tt)
+front_none (Some u) text = (0, sym (append-nil u))
+
+-- a front of a text is a front of a longer text
+pub front_longer : (a b : Option (List ℕ)) (text more : List ℕ) → AppendsFront a b text → AppendsFront a b (text ++ more)
+front_longer a b text more (k, front) =
+    let (n, is) = take_sooner text more k in
+    (n, subst (Appends a b) (sym is) front)
+
+-- a whole text, and then a front of another
+pub front_behind : (a b c : Option (List ℕ)) (xs ys : List ℕ) → Appends a b xs → AppendsFront b c ys → AppendsFront a c (xs ++ ys)
+front_behind a b c xs ys all (k, front) =
+    let (n, is) = take_behind xs ys k in
+    (n, subst (Appends a c) (sym is) (appends_two a b c xs (take k ys) all front))
+
+-- a text, and then another
+pub passes_two : (old mid new : Option (List ℕ)) (held left after x y : List ℕ) → Passes old held mid left x → Passes mid left new after y → Passes old held new after (x ++ y)
+passes_two old mid new held left after x y (out, all, is) (out2, all2, is2) = (
+  out ++ out2,
+  appends_two old mid new out out2 all all2,
+  append_assoc out out2 after ∙ ap (λ t. out ++ t) is2 ∙ sym (append_assoc out left y) ∙ ap (λ t. t ++ y) is ∙ append_assoc held x y,
+)
+
+-- a text, and then a front of another
+pub passes_front : (old mid new : Option (List ℕ)) (held left x y : List ℕ) → Passes old held mid left x → AppendsFront mid new (left ++ y) → AppendsFront old new (held ++ (x ++ y))
+passes_front old mid new held left x y (out, all, is) front =
+    subst (AppendsFront old new) (sym (append_assoc out left y) ∙ ap (λ t. t ++ y) is ∙ append_assoc held x y) (front_behind old mid new out (left ++ y) all front)
+
+-- a front of a text, which more was to follow
+pub front_first : (old new : Option (List ℕ)) (held x y : List ℕ) → AppendsFront old new (held ++ x) → AppendsFront old new (held ++ (x ++ y))
+front_first old new held x y front = subst (AppendsFront old new) (append_assoc held x y) (front_longer old new (held ++ x) y front)
+
+-- a text, and then all that the buffer has
+pub passes_all : (old mid new : Option (List ℕ)) (held left x : List ℕ) → Passes old held mid left x → Appends mid new left → Appends old new (held ++ x)
+passes_all old mid new held left x (out, all, is) last = subst (Appends old new) is (appends_two old mid new out left all last)
+
+-- what the buffer had goes, and then the text itself
+pub passes_whole : (old mid new : Option (List ℕ)) (held text : List ℕ) → Appends old mid held → Appends mid new text → Passes old held new [] text
+passes_whole old mid new held text first then = (held ++ text, appends_two old mid new held text first then, append-nil (held ++ text))
+
+-- what holds anyway holds where there is an error
+pub any_err : {T E P : Type 0} (r : Result T E) → P → OnErr r P
+any_err (Ok x) p = tt
+any_err (Err e) p = p
+
+-- the text of one item more
+text_sooner : {X : Type 0} (f : X → List ℕ) (xs : List X) (n : ℕ) (d : X) → n < length xs → flat_map f (take (suc n) xs) ≡ flat_map f (take n xs) ++ f (get_or xs n d)
+text_sooner f [] n d less = absurd (omega (arith, less))
+text_sooner f (x ∷ xs) zero d less = append-nil (f x)
+text_sooner f (x ∷ xs) (suc n) d less = ap (λ t. f x ++ t) (text_sooner f xs n d (omega (arith, less))) ∙ sym (append_assoc (f x) (flat_map f (take n xs)) (f (get_or xs n d)))
+
+pub text_more : {X : Type 0} (f : X → List ℕ) (xs : List X) (n : ℕ) (d : X) → n < length xs → flat_map f (take (n + 1) xs) ≡ flat_map f (take n xs) ++ f (get_or xs n d)
+text_more f xs n d less =
+    let next : n + 1 ≡ suc n = omega arith in
+    ap (λ m. flat_map f (take m xs)) next ∙ text_sooner f xs n d less
+
+-- the text of all items is that of the first ones, of the next one, and of the others
+pub text_rest : {X : Type 0} (f : X → List ℕ) (xs : List X) (n : ℕ) (d : X) → n < length xs →
+    (more : List ℕ) × (flat_map f xs ≡ flat_map f (take n xs) ++ (f (get_or xs n d) ++ more))
+text_rest f [] n d less = absurd (omega (arith, less))
+text_rest f (x ∷ xs) zero d less = (flat_map f xs, refl)
+text_rest f (x ∷ xs) (suc n) d less =
+    let (more, is) = text_rest f xs n d (omega (arith, less)) in
+    (more, ap (λ t. f x ++ t) is ∙ sym (append_assoc (f x) (flat_map f (take n xs)) (f (get_or xs n d) ++ more)))
+
+-- a loop over items passes the text of each: one more
+pub passes_more : {X : Type 0} (f : X → List ℕ) (xs : List X) (n : ℕ) (d : X) (old mid new : Option (List ℕ)) (held left after : List ℕ) → n < length xs →
+    Passes old held mid left (flat_map f (take n xs)) → Passes mid left new after (f (get_or xs n d)) → Passes old held new after (flat_map f (take (n + 1) xs))
+passes_more f xs n d old mid new held left after less p q =
+    subst (Passes old held new after) (sym (text_more f xs n d less)) (passes_two old mid new held left after (flat_map f (take n xs)) (f (get_or xs n d)) p q)
+
+-- and a front of one more, where the writer failed
+pub fails_there : {X : Type 0} (f : X → List ℕ) (xs : List X) (n : ℕ) (d : X) (old mid new : Option (List ℕ)) (held left : List ℕ) → n < length xs →
+    Passes old held mid left (flat_map f (take n xs)) → AppendsFront mid new (left ++ f (get_or xs n d)) → AppendsFront old new (held ++ flat_map f xs)
+fails_there f xs n d old mid new held left less p front =
+    let (more, is) = text_rest f xs n d less in
+    subst (λ t. AppendsFront old new (held ++ t)) (sym is)
+    (passes_front old mid new held left (flat_map f (take n xs)) (f (get_or xs n d) ++ more) p (front_first mid new left (f (get_or xs n d)) more front))
+
+-- a text, and then a front of what the buffer has
+pub passes_held : (old mid new : Option (List ℕ)) (held left x : List ℕ) → Passes old held mid left x → AppendsFront mid new left → AppendsFront old new (held ++ x)
+passes_held old mid new held left x (out, all, is) front = subst (AppendsFront old new) is (front_behind old mid new out left all front)
+
+-- a text, and then all that the buffer has with another
+pub passes_last : (old mid new : Option (List ℕ)) (held left x y : List ℕ) → Passes old held mid left x → Appends mid new (left ++ y) → Appends old new (held ++ (x ++ y))
+passes_last old mid new held left x y (out, all, is) last =
+    subst (Appends old new) (sym (append_assoc out left y) ∙ ap (λ t. t ++ y) is ∙ append_assoc held x y) (appends_two old mid new out (left ++ y) all last)

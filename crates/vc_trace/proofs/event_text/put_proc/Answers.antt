@@ -1,0 +1,19 @@
+use Rattle.std.proofs.Common.{codes}
+use Rattle.std.proofs.lemmas.Result.{on_err_weaker, on_ok_weaker}
+use Rattle.vc_trace.specs.EventText.{move_words, spaced}
+use Rattle.vc_trace.proofs.Passing.{any_err, front_first, passes_front, passes_two}
+use Rattle.vc_trace.proofs.event_text.put_proc.Goals as goal
+
+pub returns-in_err-put-clause-err : goal.returns-in_err-put-clause-err
+returns-in_err-put-clause-err g c =
+    any_err c.from_residual.result (front_first _ _ c.args.piece.now.items (codes " proc") (spaced (move_words c.args.plan.now c.args.made)) c.in_err-put.ensures.err)
+
+pub returns-clause-ok : goal.returns-clause-ok
+returns-clause-ok g c =
+    let words = spaced (move_words c.args.plan.now c.args.made) in
+    on_ok_weaker c.put_move.result (passes_two _ _ _ c.args.piece.now.items _ _ (codes " proc") words c.in_ok-put.ensures.ok) c.put_move.ensures.ok
+
+pub returns-clause-err : goal.returns-clause-err
+returns-clause-err g c =
+    let words = spaced (move_words c.args.plan.now c.args.made) in
+    on_err_weaker c.put_move.result (passes_front _ _ _ c.args.piece.now.items _ (codes " proc") words c.in_ok-put.ensures.ok) c.put_move.ensures.err

@@ -1,0 +1,3 @@
+pub mod EventText
+pub mod Pieces
+pub mod Tracing

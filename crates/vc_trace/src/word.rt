@@ -1,0 +1,10 @@
+//! The words of a line.
+
+/// A word of the text of an event.
+#[derive(Clone, Copy, Drop)]
+pub(crate) enum Word<'a> {
+    /// Bytes as they stand.
+    Text(&'a [u8]),
+    /// A number in decimal.
+    Number(u64),
+}

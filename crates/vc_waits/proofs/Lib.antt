@@ -1,0 +1,3 @@
+pub mod Folded
+pub mod Meaning
+pub mod Placed

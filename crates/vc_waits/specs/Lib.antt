@@ -1,0 +1,5 @@
+pub mod Meaning
+pub mod Names
+pub mod Packets
+pub mod Paths
+pub mod Waits

@@ -1,0 +1,41 @@
+-- The paths of a process and of those within it in the network file, in order of site.
+use Rattle.std.specs.Prelude.{ℕ, List, [], ◌∷◌, ◌++◌, codes, decimal}
+use Rattle.std.specs.List.{enumerate_from, flat_map}
+use Rattle.vc_process.specs.declared.process.Process.{Process}
+use Rattle.vc_process.specs.declared.process.Branch.{Branch}
+use Rattle.vc_process.specs.declared.process.Guard.{Guard}
+use Rattle.vc_process.specs.declared.process.Process.TheOpen as layer
+use Rattle.vc_process.specs.declared.process.Process.TheFolds.{fold-Process, fold-Branch, fold-Guard}
+
+-- the paths of a process that stands at a path
+abbrev pub PathsAt : Type 0
+PathsAt = List ℕ → List (List ℕ)
+
+-- the k-th of a list that stands at a path, with the step from its place in the list to the process
+abbrev pub each_at : List ℕ → List ℕ → ℕ × PathsAt → List (List ℕ)
+each_at list step (k, paths_of) = paths_of (list ++ decimal k ++ step)
+
+-- a process comes first, and then those within it; in a branch and in a guard the process is the last of the list
+abbrev pub layer_paths : layer.Process-F PathsAt PathsAt PathsAt → PathsAt
+layer_paths (layer.Seq ps) at = at ∷ flat_map (each_at (at ++ codes "/seq/") []) (enumerate_from 0 ps)
+layer_paths (layer.Par ps) at = at ∷ flat_map (each_at (at ++ codes "/par/") []) (enumerate_from 0 ps)
+layer_paths (layer.If bs) at = at ∷ flat_map (each_at (at ++ codes "/if/") (codes "/1")) (enumerate_from 0 bs)
+layer_paths (layer.While b p) at = at ∷ p (at ++ codes "/while/1")
+layer_paths (layer.Count v a n p) at = at ∷ p (at ++ codes "/for/3")
+layer_paths (layer.Alt gs) at = at ∷ flat_map (each_at (at ++ codes "/alt/") (codes "/3")) (enumerate_from 0 gs)
+layer_paths p at = at ∷ []
+
+abbrev pub branch_layer : layer.Branch-F PathsAt PathsAt PathsAt → PathsAt
+branch_layer b = b.body
+
+abbrev pub guard_layer : layer.Guard-F PathsAt PathsAt PathsAt → PathsAt
+guard_layer g = g.body
+
+unfoldable pub paths : Process → PathsAt
+paths = fold-Process PathsAt PathsAt PathsAt layer_paths branch_layer guard_layer
+
+unfoldable pub branch_paths : Branch → PathsAt
+branch_paths = fold-Branch PathsAt PathsAt PathsAt layer_paths branch_layer guard_layer
+
+unfoldable pub guard_paths : Guard → PathsAt
+guard_paths = fold-Guard PathsAt PathsAt PathsAt layer_paths branch_layer guard_layer

@@ -1,0 +1,57 @@
+-- Who waits for what, as lines of text.
+use Rattle.std.specs.Prelude.{ℕ, List, [], ◌∷◌, ◌++◌, Bool, codes, decimal, if◌then◌else◌, slice_get}
+use Rattle.std.specs.List.{enumerate_from, flat_map}
+use Rattle.std.specs.Option.{option_map_or}
+use Rattle.vc_accepted.specs.NetworkOf.{network_of}
+use Rattle.vc_core.specs.Blocking.{blocked_in}
+use Rattle.vc_core.specs.Enabled.{NetworkState}
+use Rattle.vc_network.specs.Views.{view}
+use Rattle.vc_occam.specs.declared.blocked.Blocked.{Blocked}
+use Rattle.vc_occam.specs.declared.blocked.Blocked.TheVariants.{Output, Input, Guard, Closed, Undecided, Stop, Stopped}
+use Rattle.vc_plan.specs.declared.node_plan.NodePlan.{NodePlan}
+use Rattle.vc_plan.specs.declared.plan.Plan.{Plan}
+use Rattle.vc_waits.specs.Paths.{paths}
+
+abbrev pub newline : List ℕ
+newline = 10 ∷ []
+
+-- a channel's name, and whether a process has stopped it
+abbrev pub stop_text : Bool → List ℕ
+stop_text is_stopped = if is_stopped then codes " stopped" else []
+
+abbrev pub channel_text : Plan → NetworkState → ℕ → List ℕ
+channel_text plan x c = option_map_or (λ k. k.name ++ stop_text (view (network_of plan) x c).stopped) (slice_get plan.channels c) []
+
+-- the path of the process that has a site
+abbrev pub path_text : List (List ℕ) → ℕ → List ℕ
+path_text paths i = option_map_or (λ path. path) (slice_get paths i) []
+
+-- a part of a node's process that waits, at a site, for something on a channel
+abbrev pub waits_line : NodePlan → List ℕ → List ℕ → List ℕ → List ℕ
+waits_line node path what channel = codes "waits " ++ node.name ++ codes " " ++ path ++ what ++ channel ++ newline
+
+-- one that has stopped, at a site
+abbrev pub stopped_line : NodePlan → List ℕ → List ℕ → List ℕ
+stopped_line node path how = codes "stopped " ++ node.name ++ codes " " ++ path ++ how ++ newline
+
+-- what blocks a part of a node's process; the site of a fault is not kept
+unfoldable pub blocked_line : Plan → NetworkState → NodePlan → List (List ℕ) → Blocked → List ℕ
+blocked_line plan x node paths (Output i c) = waits_line node (path_text paths i) (codes " for the end of its output on ") (channel_text plan x c)
+blocked_line plan x node paths (Input i c) = waits_line node (path_text paths i) (codes " for an input on ") (channel_text plan x c)
+blocked_line plan x node paths (Guard i c) = waits_line node (path_text paths i) (codes " for a guard on ") (channel_text plan x c)
+blocked_line plan x node paths (Closed i) = stopped_line node (path_text paths i) (codes " at an ALT without an open guard")
+blocked_line plan x node paths (Undecided i) = stopped_line node (path_text paths i) (codes " by a fault")
+blocked_line plan x node paths (Stop i) = stopped_line node (path_text paths i) (codes " by STOP")
+blocked_line plan x node paths Stopped = codes "stopped " ++ node.name ++ codes " by a fault or in an IF" ++ newline
+
+-- the path of the n-th node's process
+abbrev pub process_path : ℕ → List ℕ
+process_path n = codes "/nodes/" ++ decimal n ++ codes "/process"
+
+-- the n-th node, with a line for each part of its process that does not go on by itself
+abbrev pub node_lines : Plan → NetworkState → ℕ × NodePlan → List ℕ
+node_lines plan x (n, node) = flat_map (blocked_line plan x node (paths node.process (process_path n))) (blocked_in x n)
+
+-- all nodes
+abbrev pub processes_text : Plan → NetworkState → List ℕ
+processes_text plan x = flat_map (node_lines plan x) (enumerate_from 0 plan.nodes)

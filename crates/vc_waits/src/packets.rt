@@ -1,0 +1,121 @@
+//! The text of where the packets of a network are.
+ghost use Rattle.std.specs.Prelude.{◌≡◌, ◌++◌, ℕ, List, IfOk, OnOk, Option};
+ghost use Rattle.std.specs.List.{enumerate_from, flat_map};
+ghost use Rattle.vc_core.specs.Replaying.{Reached};
+ghost use Rattle.vc_core.specs.State.{shown, state_of};
+ghost use Rattle.vc_core.specs.declared.event.Event.{Event};
+ghost use Rattle.vc_waits.specs.Packets.{ArePlaces, IsWaitsText, packet_line, packets_text, place_text, ports_text};
+
+use crate::names::{push_channel_name, push_node_name, push_port_name, push_switch_name};
+use crate::number::push_number;
+use crate::waits::push_processes;
+use std::alloc::Global;
+use vc_core::{Network, Place};
+use vc_packets::Memory;
+use vc_plan::{Plan, Wire};
+
+/// Where the packet of each channel stands, in order.
+fn places(alloc: Global, network: &Network) -> Result<Vec<Option<Place>>, Memory>
+    ensures { (p : Plan) (events : List Event) → Reached p events (state_of network.now) →
+        IfOk result (λ places. ArePlaces p (shown (state_of network.now)) places.items) }
+{
+    let mut places = Vec::new(alloc);
+    for chan in 0..network.channels().min(65535) as u16 {
+        places.push(network.place(chan))?;
+    }
+    Ok(places)
+}
+
+/// The two ports of a wire, from the one where the packet went in.
+#[tactic(auto, using(std::proofs::Common::append_assoc))]
+fn push_ports(out: &mut Vec<u8>, plan: &Plan, wire: &Wire, from_one: bool) -> Result<(), Memory>
+    ensures { OnOk result (out.new.items ≡ out.old.items ++ ports_text plan.now wire.now from_one) }
+{
+    let (from, to) = if from_one {
+        (wire.one, wire.two)
+    } else {
+        (wire.two, wire.one)
+    };
+    push_port_name(out, plan, from)?;
+    out.extend_from_slice(b" ")?;
+    push_port_name(out, plan, to)
+}
+
+/// A wire by its ports.
+fn push_wire(out: &mut Vec<u8>, plan: &Plan, number: u16, from_one: bool) -> Result<(), Memory>
+    ensures { OnOk result (out.new.items ≡ out.old.items ++ place_text plan.now (Place.Wire number from_one)) }
+{
+    out.extend_from_slice(b" on the wire ")?;
+    match plan.wires.get(usize::from(number)) {
+        Some(wire) => push_ports(out, plan, wire, from_one),
+        None => Ok(()),
+    }
+}
+
+#[tactic(auto, using(std::proofs::Common::append_assoc))]
+fn push_place(out: &mut Vec<u8>, plan: &Plan, place: Place) -> Result<(), Memory>
+    ensures { OnOk result (out.new.items ≡ out.old.items ++ place_text plan.now place) }
+{
+    match place {
+        Place::Queue(node) => {
+            out.extend_from_slice(b" queued at ")?;
+            push_node_name(out, plan, node)
+        }
+        Place::Wire(number, from_one) => push_wire(out, plan, number, from_one),
+        Place::Inside(switch, link) => {
+            out.extend_from_slice(b" in ")?;
+            push_switch_name(out, plan, switch)?;
+            out.extend_from_slice(b" at link ")?;
+            push_number(out, link as u64)
+        }
+        Place::Held(node) => {
+            out.extend_from_slice(b" held at ")?;
+            push_node_name(out, plan, node)
+        }
+    }
+}
+
+/// The line of the packet of a channel, where it has one.
+#[tactic(auto, using(std::proofs::Common::append_assoc))]
+fn push_packet(
+    out: &mut Vec<u8>,
+    plan: &Plan,
+    chan: usize,
+    place: Option<Place>,
+) -> Result<(), Memory>
+    ensures { OnOk result (out.new.items ≡ out.old.items ++ packet_line plan.now (chan, place)) }
+{
+    if let Some(place) = place {
+        out.extend_from_slice(b"packet ")?;
+        push_channel_name(out, plan, chan)?;
+        push_place(out, plan, place)?;
+        out.push(10)?;
+    }
+    Ok(())
+}
+
+fn push_packets(out: &mut Vec<u8>, plan: &Plan, places: &[Option<Place>]) -> Result<(), Memory>
+    ensures { OnOk result (out.new.items ≡ out.old.items ++ packets_text plan.now places.now) }
+{
+    for (chan, place) in places.iter().enumerate() {
+        push_packet(out, plan, chan, *place)?;
+    }
+    Ok(())
+}
+
+/// Adds to a text a line for each part of a process of the plan's network that does not go on by itself, and then one for each packet of
+/// an output that is not finished. A line of a process says what it waits for, or how it has stopped, and a line of a packet where it is.
+/// The nodes, the parts of a process and the channels come in the file's order.
+pub fn push_waits(
+    alloc: Global,
+    out: &mut Vec<u8>,
+    plan: &Plan,
+    network: &Network,
+) -> Result<(), Memory>
+    requires { (events : List Event) × Reached plan.now events (state_of network.now) }
+    ensures { OnOk result ((text : List ℕ) × IsWaitsText plan.now (shown (state_of network.now)) text × (out.new.items ≡ out.old.items ++ text)) }
+{
+    let places = places(alloc, network)?;
+    push_processes(alloc, out, plan, network)?;
+    push_packets(out, plan, places.as_slice())
+}
