@@ -294,7 +294,8 @@ impl Node {
 
     /// What the parts of the process are at that do not go on by themselves, in order of site.
     pub fn blocked(&self) -> Result<Items<Blocked>, Memory>
-        ensures { IfOk result (λ found. found ≡ blocked_at (state self.now.process).rest (state self.now.process).store) }
+        ensures { IfOk result (λ found.
+            found ≡ blocked_at (state self.now.process).rest (state self.now.process).store) }
     {
         self.process.blocked()
     }

@@ -1,7 +1,7 @@
 //! What the parts of a process are at that do not go on by themselves.
-ghost use Rattle.std.specs.Prelude.{◌≡◌, ◌++◌, ◌∷◌, [], ℤ, ℕ, List, OnOk, Option, map, slice_get};
+ghost use Rattle.std.specs.Prelude.{◌∷◌, [], ℤ, ℕ, List, Option, map, slice_get};
 ghost use Rattle.std.specs.List.{flat_map};
-ghost use Rattle.vc_occam.specs.Blocking.{blocked as blocked_at, blocked_fresh, open_gate, or_closed};
+ghost use Rattle.vc_occam.specs.Blocking.{Adds, blocked as blocked_at, blocked_fresh, open_gate, or_closed};
 ghost use Rattle.vc_occam.specs.Frames.{View, as_begun, awaiting, besides, chosen_at, count_of, guards_of, part_rest, plan_at, resting_at, turn_of, view, views, while_of};
 ghost use Rattle.vc_occam.specs.Gates.{gate};
 ghost use Rattle.vc_occam.specs.Remains.{Fresh};
@@ -26,7 +26,7 @@ impl Frame {
         found: &mut Items<Blocked>,
         vars: &[Datum],
     ) -> Result<(), Memory>
-        ensures { OnOk result (found.new ≡ found.old ++ blocked_at (view self.now).1 (store vars.now)) }
+        ensures { Adds found.old found.new (blocked_at (view self.now).1 (store vars.now)) result }
     {
         match self.phase {
             Phase::Ready => push_fresh(found, self.site, &self.kind, &self.parts, vars),
@@ -62,7 +62,8 @@ impl Frame {
 
     /// Adds what it is at once it has begun: an output, an input, or nothing that goes on.
     fn push_itself(&self, found: &mut Items<Blocked>) -> Result<(), Memory>
-        ensures { (e : Store) → OnOk result (found.new ≡ found.old ++ blocked_at (as_begun (view self.now).0) e) }
+        ensures { (e : Store) →
+            Adds found.old found.new (blocked_at (as_begun (view self.now).0) e) result }
     {
         push_begun(found, self.site, &self.kind, &self.parts)
     }
@@ -76,7 +77,8 @@ impl GuardedInputs {
         site: u16,
         vars: &[Datum],
     ) -> Result<(), Memory>
-        ensures { OnOk result (found.new ≡ found.old ++ or_closed site (flat_map (open_gate site (store vars.now)) (map gate self.now.inputs))) }
+        ensures { Adds found.old found.new
+            (or_closed site (flat_map (open_gate site (store vars.now)) (map gate self.now.inputs))) result }
     {
         let before = found.len();
         self.push_open_guards(found, site, vars)?;
@@ -93,7 +95,8 @@ impl GuardedInputs {
         site: u16,
         vars: &[Datum],
     ) -> Result<(), Memory>
-        ensures { OnOk result (found.new ≡ found.old ++ flat_map (open_gate site (store vars.now)) (map gate self.now.inputs)) }
+        ensures { Adds found.old found.new
+            (flat_map (open_gate site (store vars.now)) (map gate self.now.inputs)) result }
     {
         for input in self.inputs.as_slice() {
             input.push_guard(found, site, vars)?;
@@ -110,7 +113,8 @@ impl GuardedInput {
         site: u16,
         vars: &[Datum],
     ) -> Result<(), Memory>
-        ensures { OnOk result (found.new ≡ found.old ++ open_gate site (store vars.now) (gate self.now)) }
+        ensures { Adds found.old found.new
+            (open_gate site (store vars.now) (gate self.now)) result }
     {
         if self.is_open(vars) {
             let chan = self.chan;
@@ -123,7 +127,7 @@ impl GuardedInput {
 /// Adds one.
 #[inline(always)]
 fn push_one(found: &mut Items<Blocked>, one: Blocked) -> Result<(), Memory>
-    ensures { OnOk result (found.new ≡ found.old ++ (one ∷ [])) }
+    ensures { Adds found.old found.new (one ∷ []) result }
 {
     found.push(one)?;
     Ok(())
@@ -137,7 +141,8 @@ fn push_fresh(
     parts: &Vec<Frame>,
     vars: &[Datum],
 ) -> Result<(), Memory>
-    ensures { OnOk result (found.new ≡ found.old ++ blocked_at (Fresh (plan_at kind.now site (views parts.now.items))) (store vars.now)) }
+    ensures { Adds found.old found.new
+        (blocked_at (Fresh (plan_at kind.now site (views parts.now.items))) (store vars.now)) result }
 {
     match kind {
         Kind::Stop => push_one(found, Blocked::Stop { site }),
@@ -158,7 +163,8 @@ fn push_output(
     value: &Value,
     vars: &[Datum],
 ) -> Result<(), Memory>
-    ensures { OnOk result (found.new ≡ found.old ++ blocked_fresh (Output site chan (given value.now)) (store vars.now)) }
+    ensures { Adds found.old found.new
+        (blocked_fresh (Output site chan (given value.now)) (store vars.now)) result }
 {
     if value.has_value(vars) {
         return push_one(found, Blocked::Output { site, chan });
@@ -168,8 +174,12 @@ fn push_output(
 
 /// Adds what a WHILE or a replicated SEQ without a body is at, which is STOP; one with a body goes on by itself.
 fn push_turnless(found: &mut Items<Blocked>, site: u16, parts: &Vec<Frame>) -> Result<(), Memory>
-    ensures turns { (b : Test) (e : Store) → OnOk result (found.new ≡ found.old ++ blocked_fresh (while_of site b (views parts.now.items)) e) }
-    ensures counts { (v : ℕ) (a k : Exp) (e : Store) → OnOk result (found.new ≡ found.old ++ blocked_fresh (count_of site v a k (views parts.now.items)) e) }
+    ensures turns { (b : Test) (e : Store) →
+        Adds found.old found.new
+        (blocked_fresh (while_of site b (views parts.now.items)) e) result }
+    ensures counts { (v : ℕ) (a k : Exp) (e : Store) →
+        Adds found.old found.new
+        (blocked_fresh (count_of site v a k (views parts.now.items)) e) result }
 {
     if parts.is_empty() {
         return push_one(found, Blocked::Stop { site });
@@ -184,7 +194,9 @@ fn push_alt(
     guards: &GuardedInputs,
     vars: &[Datum],
 ) -> Result<(), Memory>
-    ensures { (vs : List View) → OnOk result (found.new ≡ found.old ++ blocked_fresh (ALT site (guards_of (map gate guards.now.inputs) vs)) (store vars.now)) }
+    ensures { (vs : List View) →
+        Adds found.old found.new
+        (blocked_fresh (ALT site (guards_of (map gate guards.now.inputs) vs)) (store vars.now)) result }
 {
     if guards.are_decided(vars) {
         return guards.push_guards(found, site, vars);
@@ -199,7 +211,9 @@ fn push_begun(
     kind: &Kind,
     parts: &Vec<Frame>,
 ) -> Result<(), Memory>
-    ensures { (e : Store) → OnOk result (found.new ≡ found.old ++ blocked_at (as_begun (plan_at kind.now site (views parts.now.items))) e) }
+    ensures { (e : Store) →
+        Adds found.old found.new
+        (blocked_at (as_begun (plan_at kind.now site (views parts.now.items))) e) result }
 {
     match kind {
         Kind::Send { chan, .. } => push_one(found, Blocked::Output { site, chan: *chan }),
@@ -216,7 +230,8 @@ fn push_part(
     at: usize,
     vars: &[Datum],
 ) -> Result<(), Memory>
-    ensures { OnOk result (found.new ≡ found.old ++ blocked_at (part_rest (slice_get (views parts.now.items) at)) (store vars.now)) }
+    ensures { Adds found.old found.new
+        (blocked_at (part_rest (slice_get (views parts.now.items) at)) (store vars.now)) result }
 {
     if at < parts.len() {
         return parts[at].push_blocked(found, vars);
@@ -226,7 +241,9 @@ fn push_part(
 
 /// Adds what the part at a place is at, which has begun; where there is none, STOP.
 fn push_part_begun(found: &mut Items<Blocked>, parts: &Vec<Frame>, at: usize) -> Result<(), Memory>
-    ensures { (e : Store) → OnOk result (found.new ≡ found.old ++ blocked_at (part_rest (slice_get (resting_at at (views parts.now.items)) at)) e) }
+    ensures { (e : Store) →
+        Adds found.old found.new
+        (blocked_at (part_rest (slice_get (resting_at at (views parts.now.items)) at)) e) result }
 {
     if at < parts.len() {
         return parts[at].push_itself(found);
@@ -237,7 +254,9 @@ fn push_part_begun(found: &mut Items<Blocked>, parts: &Vec<Frame>, at: usize) ->
 /// Adds what the body of a replicated SEQ is at.
 #[cycle(blocked)]
 fn push_turn(found: &mut Items<Blocked>, parts: &Vec<Frame>, vars: &[Datum]) -> Result<(), Memory>
-    ensures { (v : ℕ) (x y : ℤ) → OnOk result (found.new ≡ found.old ++ blocked_at (turn_of v (views parts.now.items) x y) (store vars.now)) }
+    ensures { (v : ℕ) (x y : ℤ) →
+        Adds found.old found.new
+        (blocked_at (turn_of v (views parts.now.items) x y) (store vars.now)) result }
 {
     if parts.is_empty() {
         return push_one(found, Blocked::Stopped);
@@ -248,7 +267,8 @@ fn push_turn(found: &mut Items<Blocked>, parts: &Vec<Frame>, vars: &[Datum]) -> 
 /// Adds what parts side by side are at.
 #[cycle(blocked)]
 fn push_parts(found: &mut Items<Blocked>, parts: &Vec<Frame>, vars: &[Datum]) -> Result<(), Memory>
-    ensures { OnOk result (found.new ≡ found.old ++ blocked_at (besides (views parts.now.items)) (store vars.now)) }
+    ensures { Adds found.old found.new
+        (blocked_at (besides (views parts.now.items)) (store vars.now)) result }
 {
     for part in parts.as_slice() {
         part.push_blocked(found, vars)?;
@@ -258,7 +278,8 @@ fn push_parts(found: &mut Items<Blocked>, parts: &Vec<Frame>, vars: &[Datum]) ->
 
 /// Adds the input of the guard that an ALT took.
 fn push_chosen(found: &mut Items<Blocked>, site: u16, kind: &Kind, at: usize) -> Result<(), Memory>
-    ensures { (vs : List View) (e : Store) → OnOk result (found.new ≡ found.old ++ blocked_at (awaiting kind.now site vs at) e) }
+    ensures { (vs : List View) (e : Store) →
+        Adds found.old found.new (blocked_at (awaiting kind.now site vs at) e) result }
 {
     match kind {
         Kind::Alt { guards } => push_taken(found, site, guards.inputs.as_slice(), at),
@@ -273,7 +294,9 @@ fn push_taken(
     inputs: &[GuardedInput],
     at: usize,
 ) -> Result<(), Memory>
-    ensures { (v : Option View) (e : Store) → OnOk result (found.new ≡ found.old ++ blocked_at (chosen_at site (slice_get (map gate inputs.now) at) v) e) }
+    ensures { (v : Option View) (e : Store) →
+        Adds found.old found.new
+        (blocked_at (chosen_at site (slice_get (map gate inputs.now) at) v) e) result }
 {
     if at < inputs.len() {
         let chan = inputs[at].chan;

@@ -449,7 +449,8 @@ impl Running {
     /// What its parts are at that do not go on by themselves, in order of site; of an ALT each open guard, in order.
     #[tactic(auto, unfolding(crate::specs::Runnings::state))]
     pub fn blocked(&self) -> Result<Items<Blocked>, Memory>
-        ensures { IfOk result (λ found. found ≡ blocked (state self.now).rest (state self.now).store) }
+        ensures { IfOk result (λ found.
+            found ≡ blocked (state self.now).rest (state self.now).store) }
     {
         let mut found = Items::new(self.alloc);
         self.frame.push_blocked(&mut found, &self.vars)?;

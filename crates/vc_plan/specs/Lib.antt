@@ -14,3 +14,4 @@ pub mod Versions
 pub mod Wires
 pub mod Dependencies
 pub mod OneNode
+pub mod Names

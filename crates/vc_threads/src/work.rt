@@ -73,7 +73,8 @@ pub fn worker<G: Gate>(
     requires ins { Distinct (in_links ends.ins.items) }
     requires low { All (λ o. o.0 < 32) ends.outs.items }
     ensures id { result.id ≡ id }
-    ensures run { (plan : Plan) (n : ℕ) → IsActorOf plan n actor → HasRun plan n turns id seed actor ends true result }
+    ensures run { (plan : Plan) (n : ℕ) → IsActorOf plan n actor →
+        HasRun plan n turns id seed actor ends true result }
 {
     let keeps = true;
     let job = Job {
