@@ -268,6 +268,16 @@ impl Node {
         self.vcp.receiving(link).tokens()
     }
 
+    /// How many more tokens a link may put: at most 16, and none where the node has no such link.
+    pub fn credit_at(&self, link: u8) -> u8
+        ensures { result ≡ ((seen self.now.vcp).link link).sender.credit }
+    {
+        if link >= self.vcp.links() {
+            return 0;
+        }
+        self.vcp.sending(link).credit_left()
+    }
+
     /// The bytes that have passed at a link of a packet whose mark has not.
     pub fn passed_at(&self, link: u8) -> &[u8]
         ensures { result.now ≡ ((seen self.now.vcp).link link).passed }

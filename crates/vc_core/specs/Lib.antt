@@ -1,3 +1,4 @@
+pub mod Links
 pub mod Blocking
 pub mod Filled
 pub mod Channels

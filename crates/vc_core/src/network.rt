@@ -12,6 +12,7 @@ ghost use Rattle.vc_network.specs.Views.{view, source_node, sink_node, vcps};
 ghost use Rattle.vc_core.specs.Blocking.{blocked_in, blocked_of as blocked_as};
 ghost use Rattle.vc_core.specs.Placed.{AreOwned, FindsPlace, IsUnfinished};
 ghost use Rattle.vc_core.specs.Channels.{ends_at};
+ghost use Rattle.vc_core.specs.Links.{credit_at, credit_in, way_of};
 ghost use Rattle.vc_core.specs.Enabled.{CanHappen};
 ghost use Rattle.std.specs.Int.{bit_at};
 ghost use Rattle.vc_actor.specs.Parts.{IsDone, node_at, vcp_in, strays_of, lost_of, saturated};
@@ -486,6 +487,27 @@ impl Network {
         }
     }
 
+    /// How many tokens stand on a wire in one direction: from its port one, or from its port two. None where there is no such wire.
+    pub fn tokens_on(&self, wire: u16, from_one: bool) -> usize
+        ensures { result ≡ length ((shown (state_of self.now)).way (way_of wire from_one)) }
+    {
+        let way = 2 * usize::from(wire) + usize::from(!from_one);
+        match self.lines.ways().get(way) {
+            Some(line) => line.len(),
+            None => 0,
+        }
+    }
+
+    /// How many more tokens an actor may put on a link: at most 16, and none where there is no such link.
+    pub fn credit(&self, actor: usize, link: u8) -> u8
+        ensures { result ≡ credit_in (shown (state_of self.now)) actor link }
+    {
+        match at(self.actors.as_slice(), actor) {
+            Some(actor) => credit_of(actor, link),
+            None => 0,
+        }
+    }
+
     /// How many actors there are: the nodes, and then the switches.
     pub fn actors(&self) -> usize
         ensures { (p : Plan) → IsNetworkOf p (state_of self.now) → result ≡ actors p }
@@ -675,6 +697,19 @@ fn blocked_of(alloc: Global, actor: &Actor) -> Result<Items<Blocked>, Memory>
     match actor.node() {
         Some(node) => node.blocked(),
         None => Ok(Items::new(alloc)),
+    }
+}
+
+// How many more tokens an actor may put on a link.
+fn credit_of(actor: &Actor, link: u8) -> u8
+    ensures { result ≡ credit_at (actor_of actor.now) link }
+{
+    if let Some(node) = actor.node() {
+        return node.credit_at(link);
+    }
+    match actor.switch() {
+        Some(switch) => switch.credit_left(link),
+        None => 0,
     }
 }
 

@@ -23,7 +23,7 @@ impl Model for Way {
 }
 
 impl Way {
-    ghost use Rattle.std.specs.Prelude.{◌≡◌, ◌↔◌, [], ◌∷◌, ◌++◌, List, IsTrue, OnOk, OnErr, MatchOption};
+    ghost use Rattle.std.specs.Prelude.{◌≡◌, ◌↔◌, [], ◌∷◌, ◌++◌, List, length, IsTrue, OnOk, OnErr, MatchOption};
     ghost use Rattle.vc_tokens.specs.Tokens.{Token};
     ghost use Rattle.vc_tokens.specs.Spelt.{token, tokens};
     ghost use Rattle.vc_actor.specs.Acting.{MayAct};
@@ -44,6 +44,13 @@ impl Way {
         ensures { tokens (result.0.now ++ result.1.now) ≡ self.now }
     {
         self.queue.as_slices()
+    }
+
+    /// How many tokens are on the way.
+    pub(crate) fn len(&self) -> usize
+        ensures { result ≡ length self.now }
+    {
+        self.queue.len()
     }
 
     /// The front token is taken off, if there is one.

@@ -44,6 +44,13 @@ impl LinkOut {
         is_due
     }
 
+    /// How many more tokens may be put: at most 16.
+    pub(crate) fn credit_left(&self) -> u8
+        ensures { result ≡ self.now.credit }
+    {
+        self.credit.credit()
+    }
+
     /// Whether there is credit for a token.
     pub(crate) fn may_send(&self) -> bool
         ensures { IsTrue result ↔ (0 < self.now.credit) }

@@ -364,6 +364,16 @@ impl Switch {
         }
     }
 
+    /// How many more tokens a link may put: at most 16, and none where the switch has no such link.
+    pub fn credit_left(&self, link: u8) -> u8
+        ensures { result ≡ ((seen self.now).output link).credit }
+    {
+        match self.outputs.get(usize::from(link)) {
+            Some(output) => output.credit_left(),
+            None => 0,
+        }
+    }
+
     /// The tokens that wait in a link's buffer, in two parts: those of the first came before those of the second. No link beyond
     /// the 32 has any.
     pub fn tokens(&self, link: u8) -> (&[Token], &[Token])

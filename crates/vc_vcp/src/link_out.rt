@@ -92,6 +92,13 @@ impl LinkOut {
         self.queue.as_slices()
     }
 
+    /// How many more tokens may be put: at most 16.
+    pub fn credit_left(&self) -> u8
+        ensures { result ≡ self.now.sender.credit }
+    {
+        self.credit.credit()
+    }
+
     /// Whether a token may be put: there is credit, and a packet.
     pub(crate) fn may_put(&self) -> bool
         ensures may { IsTrue result ↔ ((0 < self.now.sender.credit) × (self.now.queue ≢ [])) }
