@@ -34,8 +34,11 @@ def constants(source):
     return {name: re.sub(r"\\\n\s*", "", text) for name, text in found}
 
 
-def options(function):
-    """Each option of the command that the function makes: its name, what it takes, what it does, its numbers, and what it is at first."""
+def options(function, source):
+    """Each option of the command that the function makes: its name, what it takes, what it does, its numbers, and what it is at first.
+    A flag that several commands have is made by a function of its own."""
+    for shared in re.findall(r"\.arg\((\w+_flag)\(alloc\)\)", function):
+        function += re.search(rf"\nfn {shared}<.*?\n}}\n", source, re.S)[0]
     numbered = re.findall(rf"number_option\(\s*alloc,\s*{TEXT},\s*{TEXT},\s*([^,]+?),\s*{TEXT},?\s*\)", function)
     flags = re.findall(rf"\bflag\(\s*alloc,\s*{TEXT},\s*{TEXT},?\s*\)", function)
     rows = [(name, "N", text, NUMBERS[numbers], usual) for name, text, numbers, usual in numbered]
@@ -50,7 +53,7 @@ def commands(source):
         if function.count("Command::new(") != len(made):
             sys.exit(f"{SOURCE}: a command without its texts: {function[:60]}..")
         for name, about, behind in made:
-            found[name] = (name, about, named[behind].split("\n\n"), options(function) if len(made) == 1 else [])
+            found[name] = (name, about, named[behind].split("\n\n"), options(function, source) if len(made) == 1 else [])
     listed = re.findall(r"\.subcommand\((\w+?)(?:_definition\(alloc\)\?)?\)", source)
     return [found[name] for name in ("vcnet", *listed)]
 

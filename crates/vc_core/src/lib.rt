@@ -33,4 +33,4 @@ pub use laws::{events_lead_on, only_processes_hold_it_up};
 pub use network::{Network, replay};
 pub use place::Place;
 pub use refused::{ReplayRefused, StepRefused};
-pub use vc_actor::{Act, Actor, Turn, actors};
+pub use vc_actor::{Act, ActKind, Actor, Turn, actors};

@@ -320,6 +320,23 @@ impl Network {
         self.whole_turn(actor)
     }
 
+    /// An actor makes an event of this kind, if it has one where every way has room. Whoever chooses the kinds makes events in an order of
+    /// their own.
+    pub fn turn_by(&mut self, actor: u8, kind: ActKind) -> Result<Option<Event>, Memory>
+        ensures finds { (p : Plan) → IsNetworkOf p (state_of self.old) →
+            IfOk result (FindsEventOf kind p (state_of self.old) actor) }
+        ensures makes { (p : Plan) → IsNetworkOf p (state_of self.old) →
+            IfOk result (λ made. MakesOne p (state_of self.old) made (state_of self.new)) }
+        ensures refused { OnErr result (state_of self.new ≡ state_of self.old) }
+    {
+        let place = usize::from(actor);
+        if place >= self.actors.len() {
+            return Ok(None);
+        }
+        let room = self.lines.room(actor);
+        self.turn_of(actor, kind, room)
+    }
+
     // An actor makes the only move of its process, where that is known to be a step without a communication, and its links are known to
     // have nothing to do.
     #[inline(always)]

@@ -10,7 +10,6 @@ ghost use Rattle.vc_text.specs.Checking.{ReadsAccepted};
 ghost use Rattle.vc_text.specs.Deadlock.{deadlock_text};
 ghost use Rattle.vc_text.specs.Streams.{most_bytes};
 
-use crate::number::push_number;
 use crate::offender::{Offender, offenders, push_offender_line};
 use crate::place::{push_byte_line, push_path_line};
 use crate::sentence::{plan_sentence, text_sentence};
@@ -22,7 +21,9 @@ use vc_cycles::find_cycle;
 use vc_packets::Memory;
 use vc_plan::{Accepted, CheckRefused, Plan, Port, Refusal, check};
 use vc_reader::{Path, ReadRefused, Step, read_network};
-use vc_text::{RunFault, accepted_text, cycle_text, fault_text, read_all, write_text};
+use vc_text::{
+    RunFault, accepted_text, cycle_text, fault_text, push_number, read_all, write_text,
+};
 
 /// What is told of a network file.
 #[derive(Drop)]

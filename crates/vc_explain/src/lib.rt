@@ -7,8 +7,6 @@
 #![tactic(auto)]
 
 mod explanation;
-mod name;
-mod number;
 mod offender;
 mod parts;
 mod place;

@@ -1,12 +1,12 @@
 //! Places in a text, as they are told.
 ghost use Rattle.std.specs.Prelude.{◌≡◌, ◌++◌, ◌≤◌, length, take, OnOk};
-ghost use Rattle.vc_text.specs.FaultLine.{step_text, steps_text};
+ghost use Rattle.vc_text.specs.FaultLine.{steps_text};
 ghost use Rattle.vc_explain.specs.Place.{byte_line, column_from, line_from, path_line, place_text};
 
-use crate::number::push_number;
 use crate::parts::value_at;
 use vc_packets::Memory;
 use vc_reader::Step;
+use vc_text::{push_number, push_step};
 
 /// The line and the column behind these bytes, both from 1.
 fn line_and_column(before: &[u8]) -> (usize, usize)
@@ -56,17 +56,6 @@ pub(crate) fn push_byte_line(out: &mut Vec<u8>, text: &[u8], n: usize) -> Result
 {
     push_place(out, first(text, n))?;
     out.push(10)?;
-    Ok(())
-}
-
-fn push_step(out: &mut Vec<u8>, step: Step) -> Result<(), Memory>
-    ensures { OnOk result (out.new.items ≡ out.old.items ++ step_text step) }
-{
-    out.extend_from_slice(b"/")?;
-    match step {
-        Step::Field(word) => out.extend_from_slice(word.text().as_bytes())?,
-        Step::Index(n) => push_number(out, n as u64)?,
-    }
     Ok(())
 }
 

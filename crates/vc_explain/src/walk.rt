@@ -3,14 +3,12 @@ ghost use Rattle.std.specs.Prelude.{◌≡◌, ◌++◌, IfOk, OnOk};
 ghost use Rattle.std.specs.List.{flat_map};
 ghost use Rattle.vc_explain.specs.Walk.{header_text, headers_behind as headers_behind_hop, headers_text, hop_line, hops_text, last_line, past_portals as headers_past_portals, path_walked, route_of as route_of_path, start_line, walk_text};
 ghost use Rattle.vc_plan.specs.Hops.{after_link as headers_after_link, deletes as does_delete, put_in_front as headers_in_front};
-ghost use Rattle.vc_text.specs.FaultLine.{hop_text, last_text};
 
-use crate::name::{push_port, push_spot, push_switch, push_value};
-use crate::number::push_number;
 use std::alloc::Global;
 use vc_labels::{Action, Row, find_action};
 use vc_packets::Memory;
 use vc_plan::{CheckRefused, Hop, PathFault, Plan, SwitchPlan};
+use vc_text::{push_hop, push_last, push_number, push_port};
 
 /// The headers of a packet, the front one first.
 fn push_headers(out: &mut Vec<u8>, headers: &[u16]) -> Result<(), Memory>
@@ -113,18 +111,6 @@ fn headers_behind(
     }
 }
 
-/// A passage through a switch, as ` SWITCH.LINK` or ` SWITCH+VALUE.LINK`.
-#[tactic(auto, using(std::proofs::Common::append_assoc))]
-fn push_hop(out: &mut Vec<u8>, plan: &Plan, hop: &Hop) -> Result<(), Memory>
-    ensures { OnOk result (out.new.items ≡ out.old.items ++ hop_text plan.now hop.now) }
-{
-    out.extend_from_slice(b" ")?;
-    push_switch(out, plan, hop.switch)?;
-    push_value(out, hop.value)?;
-    out.extend_from_slice(b".")?;
-    push_number(out, hop.link as u64)
-}
-
 #[tactic(auto, using(std::proofs::Common::append_assoc), unfolding(crate::specs::Walk::hop_line))]
 fn push_hop_line(out: &mut Vec<u8>, plan: &Plan, hop: &Hop, headers: &[u16]) -> Result<(), Memory>
     ensures { OnOk result (out.new.items
@@ -135,16 +121,6 @@ fn push_hop_line(out: &mut Vec<u8>, plan: &Plan, hop: &Hop, headers: &[u16]) -> 
     push_headers(out, headers)?;
     out.push(10)?;
     Ok(())
-}
-
-/// The place where the fault shows.
-#[tactic(auto, using(std::proofs::Common::append_assoc))]
-fn push_last(out: &mut Vec<u8>, plan: &Plan, fault: &PathFault) -> Result<(), Memory>
-    ensures { OnOk result (out.new.items ≡ out.old.items ++ last_text plan.now fault.now) }
-{
-    out.extend_from_slice(b" ")?;
-    push_spot(out, plan, fault.last)?;
-    push_value(out, fault.value)
 }
 
 #[tactic(auto, using(std::proofs::Common::append_assoc), unfolding(crate::specs::Walk::last_line))]

@@ -368,10 +368,10 @@ impl Switch {
     pub fn credit_left(&self, link: u8) -> u8
         ensures { result ≡ ((seen self.now).output link).credit }
     {
-        match self.outputs.get(usize::from(link)) {
-            Some(output) => output.credit_left(),
-            None => 0,
-        }
+        let Some(output) = self.outputs.get(usize::from(link)) else {
+            return 0;
+        };
+        output.credit_left()
     }
 
     /// The tokens that wait in a link's buffer, in two parts: those of the first came before those of the second. No link beyond

@@ -1,4 +1,3 @@
-pub mod Asked
 pub mod Known
 pub mod Texts
 pub mod Checked

@@ -6,9 +6,9 @@ use Rattle.vc_core.specs.declared.event.Event.{Event}
 use Rattle.vc_plan.specs.declared.plan.Plan.{Plan as Network}
 use Rattle.vc_text.specs.Checking.{ReadsAccepted}
 use Rattle.vc_text.specs.OneNode.{JoinsNodes, ReadsTogether}
-use Rattle.vc_text.specs.Running.{ClosesBy, IsRunWithin, RunsPlan, StepsBy}
+use Rattle.vc_text.specs.Running.{IsRunWithin, RunText, RunsPlan, StepsBy, WritesRun, WritesRunBy}
 use Rattle.vc_text.specs.Shown.{channels_of}
-use Rattle.vc_text.specs.Streams.{Writes}
+use Rattle.vc_text.specs.Streams.{Writes, WritesOne}
 use Rattle.vc_text.specs.Traffic.{traffic}
 use Rattle.vc_text.specs.declared.fault.RunFault.{RunFault}
 use Rattle.vc_text.specs.declared.fault.RunFault.TheVariants.{Read, Write, Text, Plan, Threads, Memory}
@@ -40,8 +40,33 @@ pub reads_together : (known : Option (List ℕ)) (plan : Network) (result : Resu
 reads_together known plan (Ok one) read joined = (plan, read, joined)
 reads_together known plan (Err fault) read joined = inr (plan, read, joined)
 
--- and so for a run of which the close alone is answered
-pub closes_by : (Reads : Result Network RunFault → Type 0) → Reads (Err Memory) → (plan : Network) (old new : Option (List ℕ)) (limit : ℕ) (result : Result Close RunFault) →
-    Reads (Ok plan) → ClosesBy (RunsPlan plan old new limit) result → ClosesBy (StepsBy Reads old new limit) result
-closes_by Reads memory plan old new limit (Ok close) read ran = (ran.0, ran.1, (plan, read, ran.2))
-closes_by Reads memory plan old new limit (Err fault) read ran = steps_by Reads memory plan old new limit (Err fault) read ran
+-- a text was made, and then written
+pub writes_one : (IsText : List ℕ → Type 0) (old new : Option (List ℕ)) (text : List ℕ) (result : Result (Unit {0}) RunFault) → IsText text → Writes old new text result → WritesOne IsText old new result
+writes_one IsText old new text (Ok u) is w = (text, is, w)
+writes_one IsText old new text (Err Write) is w = (text, is, w)
+writes_one IsText old new text (Err Memory) is w = w
+writes_one IsText old new text (Err Read) is w = absurd w
+writes_one IsText old new text (Err (Text refused)) is w = absurd w
+writes_one IsText old new text (Err (Plan refusal)) is w = absurd w
+writes_one IsText old new text (Err (Threads why)) is w = absurd w
+
+-- a text of a run could not be written, or there was no memory for it
+pub run_unwritten : (IsText : RunText) (old new : Option (List ℕ)) (limit : ℕ) (plan : Network) (events : List Event) (x : NetworkState) (close : Close) (fault : RunFault) →
+    IsRunWithin plan limit events x close → WritesOne (IsText plan events x close) old new (Err fault) → WritesRun IsText plan old new limit (Err fault)
+run_unwritten IsText old new limit plan events x close Write ran w = (events, x, close, ran, w)
+run_unwritten IsText old new limit plan events x close Memory ran w = w
+run_unwritten IsText old new limit plan events x close Read ran w = absurd w
+run_unwritten IsText old new limit plan events x close (Text refused) ran w = absurd w
+run_unwritten IsText old new limit plan events x close (Plan refusal) ran w = absurd w
+run_unwritten IsText old new limit plan events x close (Threads why) ran w = absurd w
+
+-- the plan was read, and it was run
+pub writes_by : (IsText : RunText) (Reads : Result Network RunFault → Type 0) → Reads (Err Memory) → (plan : Network) (old new : Option (List ℕ)) (limit : ℕ) (result : Result Close RunFault) →
+    Reads (Ok plan) → WritesRun IsText plan old new limit result → WritesRunBy IsText Reads old new limit result
+writes_by IsText Reads memory plan old new limit (Ok close) read ran = (plan, read, ran)
+writes_by IsText Reads memory plan old new limit (Err Write) read ran = (plan, read, ran)
+writes_by IsText Reads memory plan old new limit (Err Memory) read ran = (memory, ran)
+writes_by IsText Reads memory plan old new limit (Err Read) read ran = absurd ran
+writes_by IsText Reads memory plan old new limit (Err (Text refused)) read ran = absurd ran
+writes_by IsText Reads memory plan old new limit (Err (Plan refusal)) read ran = absurd ran
+writes_by IsText Reads memory plan old new limit (Err (Threads why)) read ran = absurd ran

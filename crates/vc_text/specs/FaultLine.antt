@@ -4,10 +4,9 @@ use Rattle.std.specs.Option.{option_map_or}
 use Rattle.std.specs.List.{flat_map, slice_get}
 use Rattle.vc_labels.specs.declared.fault.TableFault.{TableFault}
 use Rattle.vc_labels.specs.declared.fault.TableFault.TheVariants.{NotRising, Gap, BadLink}
+use Rattle.vc_plan.specs.Names.{channel_name, node_name, spot_name, switch_name, vlink_name}
 use Rattle.vc_plan.specs.declared.plan.Plan.{Plan}
 use Rattle.vc_plan.specs.declared.port.Port.{Port}
-use Rattle.vc_plan.specs.declared.port.Spot.{Spot}
-use Rattle.vc_plan.specs.declared.port.Spot.TheVariants.{Node, Switch}
 use Rattle.vc_plan.specs.declared.path_fault.Hop.{Hop}
 use Rattle.vc_plan.specs.declared.path_fault.PathFault.{PathFault}
 use Rattle.vc_plan.specs.declared.limit_word.LimitWord.{LimitWord}
@@ -46,28 +45,8 @@ read_line read.Memory = codes "fault memory"
 
 -- ---- the plan
 
--- the name at a number of the plan
-abbrev pub name_at : {A : Type 0} → (A → List ℕ) → List A → ℕ → List ℕ
-name_at name_of things n = option_map_or name_of (slice_get things n) []
-
-abbrev pub node_name : Plan → ℕ → List ℕ
-node_name plan n = name_at (λ node. node.name) plan.nodes n
-
-abbrev pub switch_name : Plan → ℕ → List ℕ
-switch_name plan n = name_at (λ switch. switch.name) plan.switches n
-
-abbrev pub vlink_name : Plan → ℕ → List ℕ
-vlink_name plan n = name_at (λ vlink. vlink.name) plan.vlinks n
-
-abbrev pub channel_name : Plan → ℕ → List ℕ
-channel_name plan n = name_at (λ channel. channel.name) plan.channels n
-
-abbrev pub spot_text : Plan → Spot → List ℕ
-spot_text plan (Node n) = node_name plan n
-spot_text plan (Switch n) = switch_name plan n
-
 abbrev pub port_text : Plan → Port → List ℕ
-port_text plan p = spot_text plan p.spot ++ codes "." ++ decimal p.link
+port_text plan p = spot_name plan p.spot ++ codes "." ++ decimal p.link
 
 -- the random header that was put in front, where one was
 abbrev pub value_text : Option ℕ → List ℕ
@@ -86,7 +65,7 @@ start_text plan f = vlink_name plan f.vlink ++ codes " " ++ way_text f.from_a ++
 
 -- the place where the fault shows
 abbrev pub last_text : Plan → PathFault → List ℕ
-last_text plan f = codes " " ++ spot_text plan f.last ++ value_text f.value
+last_text plan f = codes " " ++ spot_name plan f.last ++ value_text f.value
 
 -- from the sending port by the port by which each switch was left
 abbrev pub path_text : Plan → PathFault → List ℕ

@@ -13,7 +13,8 @@ use Rattle.vc_plan.specs.declared.port.Wire.{Wire}
 use Rattle.vc_plan.specs.declared.vlink.Vlink.{Vlink}
 use Rattle.vc_text.specs.declared.fault.RunFault.{RunFault}
 use Rattle.vc_text.specs.Checking.{TellsAccepted}
-use Rattle.vc_text.specs.FaultLine.{spot_text, way_text}
+use Rattle.vc_plan.specs.Names.{spot_name}
+use Rattle.vc_text.specs.FaultLine.{way_text}
 
 -- a node or a switch, by its name
 unfoldable pub place_line : List ℕ → List ℕ
@@ -21,7 +22,7 @@ place_line name = codes "  \"" ++ name ++ codes "\";\n"
 
 -- the two places that an edge joins
 unfoldable pub edge_ends : Plan → Spot → Spot → List ℕ
-edge_ends plan one two = codes "  \"" ++ spot_text plan one ++ codes "\" -- \"" ++ spot_text plan two ++ codes "\" ["
+edge_ends plan one two = codes "  \"" ++ spot_name plan one ++ codes "\" -- \"" ++ spot_name plan two ++ codes "\" ["
 
 -- a wire, with the number of its link at each end
 abbrev pub link_labels : Wire → List ℕ

@@ -14,4 +14,4 @@ pub mod Takes
 pub mod Shown
 pub mod Threading
 pub mod OneNode
-pub mod Why
+pub mod Tail

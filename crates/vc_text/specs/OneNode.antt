@@ -1,5 +1,5 @@
 -- All processes of the reader's network on one node.
-use Rattle.std.specs.Prelude.{◌≡◌, ◌⊎◌, ℕ, ◌<◌, List, length, Option, Result, Ok, Err, ⊤}
+use Rattle.std.specs.Prelude.{◌≡◌, ◌⊎◌, ℕ, ◌<◌, Bool, true, false, List, length, Option, Result, Ok, Err, ⊤}
 use Rattle.vc_plan.specs.Accepted.{IsAccepted}
 use Rattle.vc_plan.specs.Check.{IsCause}
 use Rattle.vc_plan.specs.OneNode.{all_vars, IsOneNodeOf}
@@ -27,3 +27,8 @@ JoinsNodes plan (Err fault) = ⊥
 abbrev pub ReadsTogether : Option (List ℕ) → Result Network RunFault → Type 0
 ReadsTogether known (Ok one) = (plan : Network) × ReadsAccepted known (Ok plan) × JoinsNodes plan (Ok one)
 ReadsTogether known (Err fault) = ReadsAccepted known (Err fault) ⊎ ((plan : Network) × ReadsAccepted known (Ok plan) × JoinsNodes plan (Err fault))
+
+-- the reader's network itself, or the plan of one node for it
+abbrev pub ReadsAs : (together : Bool) → Option (List ℕ) → Result Network RunFault → Type 0
+ReadsAs false known = ReadsAccepted known
+ReadsAs true known = ReadsTogether known

@@ -50,7 +50,25 @@ Steps known = StepsBy (ReadsAccepted known)
 abbrev pub StepsTogether : Option (List ℕ) → Option (List ℕ) → Option (List ℕ) → ℕ → Result StepReport RunFault → Type 0
 StepsTogether known = StepsBy (ReadsTogether known)
 
--- a run of which the close alone is answered: there is such a report
-abbrev pub ClosesBy : (Result StepReport RunFault → Type 0) → Result Close RunFault → Type 0
-ClosesBy Runs (Ok close) = (report : StepReport) × (report.close ≡ close) × Runs (Ok report)
-ClosesBy Runs (Err fault) = Runs (Err fault)
+-- what a text says of a run: of its plan, its events, the state after them, and how it closed
+abbrev pub RunText : Type 1
+RunText = Network → List Event → NetworkState → Close → List ℕ → Type 0
+
+-- such a text was written, or a front of one before a fault of the writer; without memory nothing was
+abbrev pub WritesRun : RunText → Network → Option (List ℕ) → Option (List ℕ) → ℕ
+    → Result Close RunFault → Type 0
+WritesRun IsText plan old new limit (Ok close) =
+    (events : List Event) × (x : NetworkState) × IsRunWithin plan limit events x close
+    × ((text : List ℕ) × IsText plan events x close text × Appends old new text)
+WritesRun IsText plan old new limit (Err Write) =
+    (events : List Event) × (x : NetworkState) × (close : Close) × IsRunWithin plan limit events x close
+    × ((text : List ℕ) × IsText plan events x close text × AppendsFront old new text)
+WritesRun IsText plan old new limit (Err Memory) = new ≡ old
+WritesRun IsText plan old new limit (Err fault) = ⊥
+
+-- the plan that is read so is run; else nothing was written
+abbrev pub WritesRunBy : RunText → (Result Network RunFault → Type 0) → Option (List ℕ) → Option (List ℕ) → ℕ
+    → Result Close RunFault → Type 0
+WritesRunBy IsText Reads old new limit (Ok close) = (plan : Network) × Reads (Ok plan) × WritesRun IsText plan old new limit (Ok close)
+WritesRunBy IsText Reads old new limit (Err Write) = (plan : Network) × Reads (Ok plan) × WritesRun IsText plan old new limit (Err Write)
+WritesRunBy IsText Reads old new limit (Err fault) = Reads (Err fault) × (new ≡ old)

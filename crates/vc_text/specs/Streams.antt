@@ -29,6 +29,13 @@ Writes old new text (Err Write) = AppendsFront old new text
 Writes old new text (Err Memory) = new ≡ old
 Writes old new text (Err _) = ⊥
 
+-- a text of this kind was written, or a front of one before a fault of the writer, or nothing for want of memory
+abbrev pub WritesOne : (List ℕ → Type 0) → Option (List ℕ) → Option (List ℕ) → Result ⊤ RunFault → Type 0
+WritesOne IsText old new (Ok u) = (text : List ℕ) × IsText text × Appends old new text
+WritesOne IsText old new (Err Write) = (text : List ℕ) × IsText text × AppendsFront old new text
+WritesOne IsText old new (Err Memory) = new ≡ old
+WritesOne IsText old new (Err _) = ⊥
+
 -- a network file has at most so many bytes
 abbrev pub most_bytes : ℕ
 most_bytes = 16777216

@@ -3,9 +3,7 @@ ghost use Rattle.std.specs.Prelude.{◌≡◌, ◌++◌, OnOk};
 ghost use Rattle.vc_text.specs.FaultLine.{limit_text as text_of_limit, table_text as text_of_table, check_head, block_text, switch_fault_text, usage_text, offender_text, check_line as line_of_check};
 
 use crate::number::push_number;
-use crate::plan_text::{
-    push_channel_name, push_node, push_path, push_port, push_switch, push_vlink,
-};
+use crate::plan_text::{push_path, push_port};
 use vc_labels::TableFault;
 use vc_packets::Memory;
 use vc_plan::{CheckRefused, LimitWord, Plan};
@@ -68,7 +66,7 @@ fn head(why: &CheckRefused) -> &'static str
 fn push_block(out: &mut Vec<u8>, plan: &Plan, node: u8, block: u16) -> Result<(), Memory>
     ensures { OnOk result (out.new.items ≡ out.old.items ++ block_text plan.now node block) }
 {
-    push_node(out, plan, node)?;
+    out.extend_from_slice(plan.node_name(usize::from(node)))?;
     out.extend_from_slice(b" ")?;
     push_number(out, block as u64)
 }
@@ -81,7 +79,7 @@ fn push_switch_fault(
 ) -> Result<(), Memory>
     ensures { OnOk result (out.new.items ≡ out.old.items ++ switch_fault_text plan.now switch fault) }
 {
-    push_switch(out, plan, switch)?;
+    out.extend_from_slice(plan.switch_name(usize::from(switch)))?;
     out.extend_from_slice(b" ")?;
     out.extend_from_slice(table_text(fault).as_bytes())?;
     Ok(())
@@ -90,8 +88,15 @@ fn push_switch_fault(
 fn push_usage(out: &mut Vec<u8>, plan: &Plan, node: u8, name: &[u8]) -> Result<(), Memory>
     ensures { OnOk result (out.new.items ≡ out.old.items ++ usage_text plan.now node name.now) }
 {
-    push_node(out, plan, node)?;
+    out.extend_from_slice(plan.node_name(usize::from(node)))?;
     out.extend_from_slice(b" ")?;
+    out.extend_from_slice(name)?;
+    Ok(())
+}
+
+fn push_name(out: &mut Vec<u8>, name: &[u8]) -> Result<(), Memory>
+    ensures { OnOk result (out.new.items ≡ out.old.items ++ name.now) }
+{
     out.extend_from_slice(name)?;
     Ok(())
 }
@@ -119,8 +124,8 @@ fn push_offender(out: &mut Vec<u8>, plan: &Plan, why: &CheckRefused) -> Result<(
         | CheckRefused::StackEmpty(path)
         | CheckRefused::StackFull(path)
         | CheckRefused::Hops(path) => push_path(out, plan, path),
-        CheckRefused::SameNode(vlink) => push_vlink(out, plan, *vlink),
-        CheckRefused::Channel(chan) => push_channel_name(out, plan, *chan),
+        CheckRefused::SameNode(vlink) => push_name(out, plan.vlink_name(usize::from(*vlink))),
+        CheckRefused::Channel(chan) => push_name(out, plan.channel_name(usize::from(*chan))),
         CheckRefused::Usage { node, name } => push_usage(out, plan, *node, name.as_slice()),
         CheckRefused::Memory => Ok(()),
     }

@@ -6,7 +6,7 @@ use vc_log::EventLog;
 use vc_packets::Memory;
 
 /// What takes the events of a run, in order. Contracts know of each list whether it may be the one of the events that were taken.
-pub(crate) trait EventSink {
+pub trait EventSink {
     ghost use Rattle.std.specs.Prelude.{List};
     ghost use Rattle.vc_core.specs.declared.event.Event.{Event};
 
@@ -14,7 +14,8 @@ pub(crate) trait EventSink {
 
     /// Takes the next event.
     fn record(&mut self, event: Event) -> Result<(), Memory>
-        ensures { (es : List Event) → holds self.old es → OnOk result (holds self.new (es ++ event ∷ [])) };
+        ensures { (es : List Event) → holds self.old es →
+            OnOk result (holds self.new (es ++ event ∷ [])) };
 }
 
 /// A log keeps them.

@@ -7,7 +7,7 @@ ghost use Rattle.vc_text.specs.Streams.{Writes};
 use crate::check::read_accepted;
 use crate::fault::RunFault;
 use crate::number::push_number;
-use crate::plan_text::{push_spot, push_way};
+use crate::plan_text::push_way;
 use crate::streams::write_text;
 use std::alloc::Global;
 use std::io::{Read, Write};
@@ -52,9 +52,9 @@ fn push_ends(out: &mut Vec<u8>, plan: &Plan, one: Spot, two: Spot) -> Result<(),
     ensures { OnOk result (out.new.items ≡ out.old.items ++ edge_ends plan.now one two) }
 {
     out.extend_from_slice(b"  \"")?;
-    push_spot(out, plan, one)?;
+    out.extend_from_slice(plan.spot_name(one))?;
     out.extend_from_slice(b"\" -- \"")?;
-    push_spot(out, plan, two)?;
+    out.extend_from_slice(plan.spot_name(two))?;
     out.extend_from_slice(b"\" [")?;
     Ok(())
 }

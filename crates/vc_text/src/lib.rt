@@ -7,6 +7,7 @@
 mod check;
 mod check_line;
 mod deadlock;
+mod draws;
 mod event_sink;
 mod fault;
 mod fault_line;
@@ -16,25 +17,34 @@ mod one_node;
 mod plan_text;
 mod read_line;
 mod run;
+mod schedule;
 mod seats;
 mod simulation;
+mod step_options;
 mod streams;
+mod tail;
+mod thread_options;
 mod threading;
 mod traffic;
-mod why;
+mod unlogged;
 
 pub use check::{accepted_text, read_accepted, run_check};
 pub use deadlock::{cycle_text, run_deadlock};
 pub use fault::RunFault;
 pub use fault_line::{fault_text, write_fault};
 pub use graph::run_draw;
-pub use one_node::read_together;
-pub use run::{
-    StepReport, run_accepted, run_step, run_step_unlogged, run_together, run_together_unlogged,
-    write_traffic,
-};
+pub use event_sink::EventSink;
+pub use number::push_number;
+pub use one_node::{read_as, read_together};
+pub use plan_text::{push_hop, push_last, push_port};
+pub use read_line::push_step;
+pub use run::{StepReport, run, run_accepted, run_step, run_together, write_traffic};
+pub use schedule::Schedule;
+pub use step_options::StepOptions;
 pub use streams::{read_all, write_text};
+pub use tail::tail_of;
+pub use thread_options::ThreadOptions;
 pub use threading::{gate_of, run_net, run_net_unlogged};
 pub use traffic::{ChannelView, write_channels};
+pub use unlogged::{run_step_unlogged, run_unlogged};
 pub use vc_reader::{Path, ReadRefused, Step, Word, read_network};
-pub use why::{run_net_why, run_step_why, run_together_why, tail_of};

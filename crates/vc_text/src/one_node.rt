@@ -1,6 +1,6 @@
 //! All processes of a network on one node.
 ghost use Rattle.std.specs.Prelude.{◌≡◌};
-ghost use Rattle.vc_text.specs.OneNode.{JoinsNodes, ReadsTogether};
+ghost use Rattle.vc_text.specs.OneNode.{JoinsNodes, ReadsAs, ReadsTogether};
 
 use crate::check::read_accepted;
 use crate::fault::RunFault;
@@ -30,4 +30,19 @@ pub fn read_together<R: Read>(alloc: Global, reader: &mut R) -> Result<Accepted,
 {
     let accepted = read_accepted(alloc, reader)?;
     joined(alloc, accepted)
+}
+
+/// The network that the reader has, or the plan of one node for it, where the checker accepts it.
+pub fn read_as<R: Read>(
+    alloc: Global,
+    reader: &mut R,
+    is_together: bool,
+) -> Result<Accepted, RunFault>
+    ensures { ReadsAs is_together (R.remaining reader.old) result }
+{
+    if is_together {
+        read_together(alloc, reader)
+    } else {
+        read_accepted(alloc, reader)
+    }
 }

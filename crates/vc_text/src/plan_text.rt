@@ -1,62 +1,17 @@
 //! Names and paths of a plan.
 ghost use Rattle.std.specs.Prelude.{◌≡◌, ◌++◌, OnOk};
-ghost use Rattle.vc_text.specs.FaultLine.{node_name, switch_name, vlink_name, channel_name, spot_text, port_text, value_text, hop_text, way_text, start_text, last_text, path_text};
+ghost use Rattle.vc_text.specs.FaultLine.{port_text, value_text, hop_text, way_text, start_text, last_text, path_text};
 ghost use Rattle.std.specs.List.{flat_map};
 
 use crate::number::push_number;
 use vc_packets::Memory;
-use vc_plan::{Hop, PathFault, Plan, Port, Spot};
+use vc_plan::{Hop, PathFault, Plan, Port};
 
-pub(crate) fn push_node(out: &mut Vec<u8>, plan: &Plan, number: u8) -> Result<(), Memory>
-    ensures { OnOk result (out.new.items ≡ out.old.items ++ node_name plan.now number) }
-{
-    if let Some(node) = plan.nodes.get(number as usize) {
-        out.extend_from_slice(node.name.as_slice())?;
-    }
-    Ok(())
-}
-
-pub(crate) fn push_switch(out: &mut Vec<u8>, plan: &Plan, number: u8) -> Result<(), Memory>
-    ensures { OnOk result (out.new.items ≡ out.old.items ++ switch_name plan.now number) }
-{
-    if let Some(switch) = plan.switches.get(number as usize) {
-        out.extend_from_slice(switch.name.as_slice())?;
-    }
-    Ok(())
-}
-
-pub(crate) fn push_vlink(out: &mut Vec<u8>, plan: &Plan, number: u16) -> Result<(), Memory>
-    ensures { OnOk result (out.new.items ≡ out.old.items ++ vlink_name plan.now number) }
-{
-    if let Some(vlink) = plan.vlinks.get(number as usize) {
-        out.extend_from_slice(vlink.name.as_slice())?;
-    }
-    Ok(())
-}
-
-pub(crate) fn push_channel_name(out: &mut Vec<u8>, plan: &Plan, number: u16) -> Result<(), Memory>
-    ensures { OnOk result (out.new.items ≡ out.old.items ++ channel_name plan.now number) }
-{
-    if let Some(channel) = plan.channels.get(number as usize) {
-        out.extend_from_slice(channel.name.as_slice())?;
-    }
-    Ok(())
-}
-
-pub(crate) fn push_spot(out: &mut Vec<u8>, plan: &Plan, spot: Spot) -> Result<(), Memory>
-    ensures { OnOk result (out.new.items ≡ out.old.items ++ spot_text plan.now spot) }
-{
-    match spot {
-        Spot::Node(number) => push_node(out, plan, number),
-        Spot::Switch(number) => push_switch(out, plan, number),
-    }
-}
-
-/// A port, as `PLACE.LINK`.
-pub(crate) fn push_port(out: &mut Vec<u8>, plan: &Plan, port: Port) -> Result<(), Memory>
+/// Adds a port to a text, as `PLACE.LINK`. It fails for want of memory alone.
+pub fn push_port(out: &mut Vec<u8>, plan: &Plan, port: Port) -> Result<(), Memory>
     ensures { OnOk result (out.new.items ≡ out.old.items ++ port_text plan.now port) }
 {
-    push_spot(out, plan, port.spot)?;
+    out.extend_from_slice(plan.spot_name(port.spot))?;
     out.extend_from_slice(b".")?;
     push_number(out, port.link as u64)
 }
@@ -72,12 +27,12 @@ fn push_value(out: &mut Vec<u8>, value: Option<u16>) -> Result<(), Memory>
     Ok(())
 }
 
-/// A passage through a switch, as ` SWITCH.LINK` or ` SWITCH+VALUE.LINK`.
-fn push_hop(out: &mut Vec<u8>, plan: &Plan, hop: &Hop) -> Result<(), Memory>
+/// Adds a passage through a switch to a text, as ` SWITCH.LINK` or ` SWITCH+VALUE.LINK`. It fails for want of memory alone.
+pub fn push_hop(out: &mut Vec<u8>, plan: &Plan, hop: &Hop) -> Result<(), Memory>
     ensures { OnOk result (out.new.items ≡ out.old.items ++ hop_text plan.now hop.now) }
 {
     out.extend_from_slice(b" ")?;
-    push_switch(out, plan, hop.switch)?;
+    out.extend_from_slice(plan.switch_name(usize::from(hop.switch)))?;
     push_value(out, hop.value)?;
     out.extend_from_slice(b".")?;
     push_number(out, hop.link as u64)
@@ -108,20 +63,20 @@ pub(crate) fn push_way(out: &mut Vec<u8>, from_a: bool) -> Result<(), Memory>
 fn push_start(out: &mut Vec<u8>, plan: &Plan, fault: &PathFault) -> Result<(), Memory>
     ensures { OnOk result (out.new.items ≡ out.old.items ++ start_text plan.now fault.now) }
 {
-    push_vlink(out, plan, fault.vlink)?;
+    out.extend_from_slice(plan.vlink_name(usize::from(fault.vlink)))?;
     out.extend_from_slice(b" ")?;
     push_way(out, fault.from_a)?;
     out.extend_from_slice(b" ")?;
     push_port(out, plan, fault.start)
 }
 
-/// The place where the fault of a path shows.
+/// Adds the place where the fault of a path shows to a text. It fails for want of memory alone.
 #[tactic(auto, using(std::proofs::Common::append_assoc))]
-fn push_last(out: &mut Vec<u8>, plan: &Plan, fault: &PathFault) -> Result<(), Memory>
+pub fn push_last(out: &mut Vec<u8>, plan: &Plan, fault: &PathFault) -> Result<(), Memory>
     ensures { OnOk result (out.new.items ≡ out.old.items ++ last_text plan.now fault.now) }
 {
     out.extend_from_slice(b" ")?;
-    push_spot(out, plan, fault.last)?;
+    out.extend_from_slice(plan.spot_name(fault.last))?;
     push_value(out, fault.value)
 }
 

@@ -6,7 +6,8 @@ use crate::number::push_number;
 use vc_packets::Memory;
 use vc_reader::{Path, ReadRefused, Step};
 
-fn push_step(out: &mut Vec<u8>, step: Step) -> Result<(), Memory>
+/// Adds a step of a path to a text: `/`, and the field or the index. It fails for want of memory alone.
+pub fn push_step(out: &mut Vec<u8>, step: Step) -> Result<(), Memory>
     ensures { OnOk result (out.new.items ≡ out.old.items ++ step_text step) }
 {
     out.extend_from_slice(b"/")?;

@@ -4,16 +4,17 @@ ghost use Rattle.vc_plan.specs.declared.channel.Channel.{Channel};
 ghost use Rattle.vc_plan.specs.declared.plan.Plan.{Plan};
 ghost use Rattle.vc_core.specs.State.{shown, state_of, IsNetworkOf};
 ghost use Rattle.vc_core.specs.declared.event.Event.{Event};
-ghost use Rattle.vc_text.specs.Running.{ClosesBy, IsRunWithin, RunsPlan, Steps, StepsTogether};
+ghost use Rattle.vc_text.specs.Running.{IsRunWithin, RunsPlan, Steps, StepsTogether};
 ghost use Rattle.vc_text.specs.Shown.{channel_of, channels_of};
 ghost use Rattle.vc_text.specs.Streams.{Writes};
 ghost use Rattle.vc_text.specs.Traffic.{traffic};
 ghost use Rattle.vc_text.specs.Views.{AreViews, shown as traffic_of};
 
 use crate::check::read_accepted;
-use crate::event_sink::{EventSink, Unlogged};
+use crate::event_sink::EventSink;
 use crate::fault::RunFault;
 use crate::one_node::read_together;
+use crate::schedule::Schedule;
 use crate::simulation::Simulation;
 use crate::traffic::{ChannelView, traffic_text, write_channels};
 use std::alloc::Global;
@@ -84,12 +85,14 @@ pub fn write_traffic<W: Write>(
     write_channels(alloc, views.as_slice(), close, writer)
 }
 
-/// Runs a network in rounds, to its end or up to so many events.
-pub(crate) fn run<K: EventSink>(
+/// Runs an accepted network event by event, until no event is enabled or there are `limit` events, which go to a sink. The answer is the
+/// network after it, and how the run ended. It fails for want of memory alone.
+pub fn run<K: EventSink>(
     alloc: Global,
     accepted: &Accepted,
     events: &mut K,
     limit: u64,
+    schedule: Schedule,
 ) -> Result<(Network, Close), Memory>
     requires { K.holds events.old [] }
     ensures is { IfOk result (λ r. IsNetworkOf accepted.now (state_of r.0)) }
@@ -97,7 +100,7 @@ pub(crate) fn run<K: EventSink>(
         IsRunWithin accepted.now limit es (shown (state_of r.0)) r.1) }
 {
     let mut run = Simulation::new(alloc, accepted)?;
-    run.rounds(events, limit)?;
+    run.make_events(events, limit, schedule)?;
     let close = run.close(limit)?;
     Ok((run.network, close))
 }
@@ -114,7 +117,7 @@ pub fn run_accepted(
         IsRunWithin accepted.now limit (r.1).events (shown (state_of r.0)) (r.1).close) }
 {
     let mut events = EventLog::new(alloc);
-    let (network, close) = run(alloc, accepted, &mut events, limit)?;
+    let (network, close) = run(alloc, accepted, &mut events, limit, Schedule::InTurn)?;
     Ok((network, StepReport { events, close }))
 }
 
@@ -128,27 +131,8 @@ fn run_plan<W: Write>(
     ensures { RunsPlan accepted.now (W.contents writer.old) (W.contents writer.new) limit result }
 {
     let (network, report) = run_accepted(alloc, accepted, limit)?;
-    match write_traffic(alloc, &network, report.close, writer) {
-        Ok(()) => Ok(report),
-        Err(fault) => Err(fault),
-    }
-}
-
-/// Does the same, and keeps no events.
-fn run_unlogged<W: Write>(
-    alloc: Global,
-    accepted: &Accepted,
-    writer: &mut W,
-    limit: u64,
-) -> Result<Close, RunFault>
-    ensures { ClosesBy (RunsPlan accepted.now
-        (W.contents writer.old) (W.contents writer.new) limit) result }
-{
-    let (network, close) = run(alloc, accepted, &mut Unlogged, limit)?;
-    match write_traffic(alloc, &network, close, writer) {
-        Ok(()) => Ok(close),
-        Err(fault) => Err(fault),
-    }
+    write_traffic(alloc, &network, report.close, writer)?;
+    Ok(report)
 }
 
 /// Reads a network file, runs the network event by event, and writes its traffic. The run goes in rounds over the actors, and ends
@@ -166,20 +150,6 @@ pub fn run_step<R: Read, W: Write>(
     run_plan(alloc, &accepted, writer, limit)
 }
 
-/// Does the same as [`run_step`], and keeps no events: its memory does not grow with their number. There are events that [`run_step`]
-/// could have reported.
-pub fn run_step_unlogged<R: Read, W: Write>(
-    alloc: Global,
-    reader: &mut R,
-    writer: &mut W,
-    limit: u64,
-) -> Result<Close, RunFault>
-    ensures { ClosesBy (Steps (R.remaining reader.old) (W.contents writer.old) (W.contents writer.new) limit) result }
-{
-    let accepted = read_accepted(alloc, reader)?;
-    run_unlogged(alloc, &accepted, writer, limit)
-}
-
 /// Reads a network file, runs all its processes side by side on one node, with every channel inside it, and writes the traffic. A
 /// network too large for one node is refused. It reports the events of that node.
 pub fn run_together<R: Read, W: Write>(
@@ -193,18 +163,4 @@ pub fn run_together<R: Read, W: Write>(
 {
     let accepted = read_together(alloc, reader)?;
     run_plan(alloc, &accepted, writer, limit)
-}
-
-/// Does the same as [`run_together`], and keeps no events: its memory does not grow with their number.
-pub fn run_together_unlogged<R: Read, W: Write>(
-    alloc: Global,
-    reader: &mut R,
-    writer: &mut W,
-    limit: u64,
-) -> Result<Close, RunFault>
-    ensures { ClosesBy (StepsTogether (R.remaining reader.old)
-        (W.contents writer.old) (W.contents writer.new) limit) result }
-{
-    let one_node = read_together(alloc, reader)?;
-    run_unlogged(alloc, &one_node, writer, limit)
 }

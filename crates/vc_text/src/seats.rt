@@ -1,5 +1,5 @@
 //! What a run keeps of each actor.
-ghost use Rattle.std.specs.Prelude.{◌≡◌, ◌≢◌, ◌<◌, ◌+◌, ◌-◌, ◌^◌, ℕ, Some, IfOk, MatchOption};
+ghost use Rattle.std.specs.Prelude.{◌≡◌, ◌≢◌, ◌<◌, ◌+◌, ◌-◌, ◌^◌, ℕ, Some, IfOk, IfSome, MatchOption};
 ghost use Rattle.std.specs.Int.{bit_at};
 ghost use Rattle.vc_text.specs.Quiet.{active_at, IsIdle};
 ghost use Rattle.vc_text.specs.Seated.{DrawsFor, generator_of};
@@ -35,9 +35,19 @@ impl Seats {
 
     /// The least of some actors that may have an event, where these are awake. `among` has a bit for each of them.
     pub(crate) fn next_of(&self, awake: u64, among: u64) -> Option<u8>
-        ensures { MatchOption result ((k : ℕ) → k < 64 → bit_at among k ≡ 1 → IsIdle self.now awake k) (λ next. (next < 64) × (bit_at among next ≡ 1) × ((k : ℕ) → k < next → bit_at among k ≡ 1 → IsIdle self.now awake k)) }
+        ensures { MatchOption result
+            ((k : ℕ) → k < 64 → bit_at among k ≡ 1 → IsIdle self.now awake k)
+            (λ next. (next < 64) × (bit_at among next ≡ 1)
+            × ((k : ℕ) → k < next → bit_at among k ≡ 1 → IsIdle self.now awake k)) }
     {
         lowest((awake | self.active) & among)
+    }
+
+    /// One of the actors that may have an event, where these are awake: which, a word says.
+    pub(crate) fn drawn(&self, awake: u64, word: u32) -> Option<u8>
+        ensures { IfSome result (λ next. next < 64) }
+    {
+        drawn_bit(awake | self.active, word)
     }
 
     /// From now on an actor is known to have no event but takes.
@@ -80,9 +90,27 @@ pub(crate) fn after(actor: u8) -> u64
     u64::MAX << actor << 1
 }
 
+// A bit of a mask: the word says which, each as often as any other.
+fn drawn_bit(mask: u64, word: u32) -> Option<u8>
+    ensures { IfSome result (λ bit. bit < 64) }
+{
+    let bits = mask.count_ones();
+    if bits == 0 {
+        return None;
+    }
+    let mut left = mask;
+    for _ in 0..word % bits {
+        left &= left.wrapping_sub(1);
+    }
+    lowest(left)
+}
+
 // The least bit of a mask.
 fn lowest(mask: u64) -> Option<u8>
-    ensures { MatchOption result ((k : ℕ) → k < 64 → bit_at mask k ≡ 0) (λ least. (least < 64) × (bit_at mask least ≡ 1) × ((k : ℕ) → k < least → bit_at mask k ≡ 0)) }
+    ensures { MatchOption result
+        ((k : ℕ) → k < 64 → bit_at mask k ≡ 0)
+        (λ least. (least < 64) × (bit_at mask least ≡ 1)
+        × ((k : ℕ) → k < least → bit_at mask k ≡ 0)) }
 {
     if mask == 0 {
         return None;

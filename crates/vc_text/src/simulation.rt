@@ -7,12 +7,17 @@ ghost use Rattle.vc_core.specs.declared.event.Event.{Event};
 ghost use Rattle.vc_text.specs.Closing.{HasEvent, Closes};
 ghost use Rattle.vc_text.specs.Simulating.{HasRun, LeadsOn, counted};
 
+use crate::draws::Draws;
 use crate::event_sink::EventSink;
+use crate::schedule::Schedule;
 use crate::seats::{Seats, after};
 use std::alloc::Global;
-use vc_core::{Act, Close, Event, Network};
+use vc_core::{Act, ActKind, Close, Event, Network};
 use vc_packets::Memory;
 use vc_plan::Accepted;
+
+/// How many actors are drawn before all of them are asked in turn.
+const TRIES: u8 = 64;
 
 /// A run under way: its network, what is known of the actors, and how many events were made.
 #[derive(Drop)]
@@ -43,9 +48,11 @@ impl Simulation {
         requires few { self.old.made < 2 ^ 64 - 1 }
         ensures made { IfOk result (λ had. self.new.made ≡ counted had self.old.made) }
         ensures runs { OnOk result (LeadsOn K.holds self.old events.old self.new events.new) }
-        ensures still { result ≡ Ok false → (p : Plan) → IsNetworkOf p (state_of self.old.network) →
+        ensures still { result ≡ Ok false → (p : Plan) →
+            IsNetworkOf p (state_of self.old.network) →
             state_of self.new.network ≡ state_of self.old.network }
-        ensures rests { result ≡ Ok false → (p : Plan) → IsNetworkOf p (state_of self.old.network) →
+        ensures rests { result ≡ Ok false → (p : Plan) →
+            IsNetworkOf p (state_of self.old.network) →
             FindsEvent p (state_of self.old.network) actor None }
     {
         let Some(event) = self.network.turn(actor)? else {
@@ -64,9 +71,11 @@ impl Simulation {
         requires few { self.old.made < 2 ^ 64 - 1 }
         ensures made { IfOk result (λ had. self.new.made ≡ counted had self.old.made) }
         ensures runs { OnOk result (LeadsOn K.holds self.old events.old self.new events.new) }
-        ensures still { result ≡ Ok false → (p : Plan) → IsNetworkOf p (state_of self.old.network) →
+        ensures still { result ≡ Ok false → (p : Plan) →
+            IsNetworkOf p (state_of self.old.network) →
             state_of self.new.network ≡ state_of self.old.network }
-        ensures rests { result ≡ Ok false → (p : Plan) → IsNetworkOf p (state_of self.old.network) →
+        ensures rests { result ≡ Ok false → (p : Plan) →
+            IsNetworkOf p (state_of self.old.network) →
             actor < actors p → Rests p (state_of self.old.network) actor }
     {
         let Some(link) = self.network.link_to_take(actor) else {
@@ -87,7 +96,8 @@ impl Simulation {
     fn round<K: EventSink>(&mut self, events: &mut K, limit: u64) -> Result<bool, Memory>
         requires { self.old.made ≤ limit }
         ensures few { OnOk result (self.new.made ≤ limit) }
-        ensures more { result ≡ Ok true → (self.new.made ≡ limit) ⊎ (self.old.made < self.new.made) }
+        ensures more { result ≡ Ok true →
+            (self.new.made ≡ limit) ⊎ (self.old.made < self.new.made) }
         ensures runs { OnOk result (LeadsOn K.holds self.old events.old self.new events.new) }
         ensures rests { result ≡ Ok false → (p : Plan) (es : List Event) →
             K.holds events.old es → HasRun p es self.old → IsAtRest p (state_of self.new.network) }
@@ -107,11 +117,12 @@ impl Simulation {
     }
 
     /// Rounds over the actors, until none has an event or there are so many events.
-    pub(crate) fn rounds<K: EventSink>(&mut self, events: &mut K, limit: u64) -> Result<(), Memory>
+    fn rounds<K: EventSink>(&mut self, events: &mut K, limit: u64) -> Result<(), Memory>
         requires { self.old.made ≤ limit }
         ensures few { OnOk result (self.new.made ≤ limit) }
         ensures runs { OnOk result (LeadsOn K.holds self.old events.old self.new events.new) }
-        ensures ends { OnOk result ((p : Plan) (es : List Event) → K.holds events.old es → HasRun p es self.old →
+        ensures ends { OnOk result ((p : Plan) (es : List Event) →
+            K.holds events.old es → HasRun p es self.old →
             (self.new.made ≡ limit) ⊎ IsAtRest p (state_of self.new.network)) }
     {
         for _ in 0..limit {
@@ -123,6 +134,113 @@ impl Simulation {
             }
         }
         Ok(())
+    }
+
+    /// An actor makes an event of this kind, if it has one. The answer is whether it had one.
+    fn act_by<K: EventSink>(
+        &mut self,
+        events: &mut K,
+        actor: u8,
+        kind: ActKind,
+    ) -> Result<bool, Memory>
+        requires few { self.old.made < 2 ^ 64 - 1 }
+        ensures made { IfOk result (λ had. self.new.made ≡ counted had self.old.made) }
+        ensures runs { OnOk result (LeadsOn K.holds self.old events.old self.new events.new) }
+    {
+        let Some(event) = self.network.turn_by(actor, kind)? else {
+            return Ok(false);
+        };
+        events.record(event)?;
+        self.made += 1;
+        Ok(true)
+    }
+
+    /// An event of the actor whose turn it is by some draws: of a kind that they say, or else what the actor makes next. The answer is
+    /// whether it had one.
+    fn draw_event<K: EventSink>(
+        &mut self,
+        events: &mut K,
+        draws: &mut Draws,
+    ) -> Result<bool, Memory>
+        requires few { self.old.made < 2 ^ 64 - 1 }
+        ensures made { IfOk result (λ had. self.new.made ≡ counted had self.old.made) }
+        ensures runs { OnOk result (LeadsOn K.holds self.old events.old self.new events.new) }
+    {
+        let awake = self.network.awake();
+        let Some(actor) = draws.next_actor(&self.seats, awake) else {
+            return Ok(false);
+        };
+        if let Some(kind) = draws.kind() {
+            if self.act_by(events, actor, kind)? {
+                return Ok(true);
+            }
+        }
+        self.act(events, actor)
+    }
+
+    /// Tries at an event by some draws. The answer is whether one was made.
+    fn try_events<K: EventSink>(
+        &mut self,
+        events: &mut K,
+        draws: &mut Draws,
+    ) -> Result<bool, Memory>
+        requires few { self.old.made < 2 ^ 64 - 1 }
+        ensures made { IfOk result (λ had. self.new.made ≡ counted had self.old.made) }
+        ensures runs { OnOk result (LeadsOn K.holds self.old events.old self.new events.new) }
+    {
+        for _ in 0..TRIES {
+            if self.draw_event(events, draws)? {
+                return Ok(true);
+            }
+            draws.pass_on();
+        }
+        Ok(false)
+    }
+
+    /// Events of actors that a generator of this seed draws, until none has an event or there are so many events.
+    fn draw_events<K: EventSink>(
+        &mut self,
+        events: &mut K,
+        limit: u64,
+        seed: u32,
+    ) -> Result<(), Memory>
+        requires { self.old.made ≤ limit }
+        ensures few { OnOk result (self.new.made ≤ limit) }
+        ensures runs { OnOk result (LeadsOn K.holds self.old events.old self.new events.new) }
+        ensures ends { OnOk result ((p : Plan) (es : List Event) →
+            K.holds events.old es → HasRun p es self.old →
+            (self.new.made ≡ limit) ⊎ IsAtRest p (state_of self.new.network)) }
+    {
+        let mut draws = Draws::new(seed);
+        for _ in 0..limit {
+            if self.made >= limit {
+                return Ok(());
+            }
+            if !self.try_events(events, &mut draws)? && !self.round(events, limit)? {
+                return Ok(());
+            }
+        }
+        Ok(())
+    }
+
+    /// Events in the order of a schedule, until no actor has an event or there are so many events.
+    pub(crate) fn make_events<K: EventSink>(
+        &mut self,
+        events: &mut K,
+        limit: u64,
+        schedule: Schedule,
+    ) -> Result<(), Memory>
+        requires { self.old.made ≤ limit }
+        ensures few { OnOk result (self.new.made ≤ limit) }
+        ensures runs { OnOk result (LeadsOn K.holds self.old events.old self.new events.new) }
+        ensures ends { OnOk result ((p : Plan) (es : List Event) →
+            K.holds events.old es → HasRun p es self.old →
+            (self.new.made ≡ limit) ⊎ IsAtRest p (state_of self.new.network)) }
+    {
+        match schedule {
+            Schedule::InTurn => self.rounds(events, limit),
+            Schedule::Random(seed) => self.draw_events(events, limit, seed),
+        }
     }
 
     /// How the run ends, of at most so many events.
@@ -143,7 +261,8 @@ impl Simulation {
 
 /// Whether an actor has an event.
 fn has_event(network: &mut Network, actor: u8) -> Result<bool, Memory>
-    ensures has { (p : Plan) → IsNetworkOf p (state_of network.old) → actor < actors p → IfOk result (HasEvent p (state_of network.old) actor) }
+    ensures has { (p : Plan) → IsNetworkOf p (state_of network.old) → actor < actors p →
+        IfOk result (HasEvent p (state_of network.old) actor) }
     ensures same { state_of network.new ≡ state_of network.old }
 {
     if network.link_to_take(actor).is_some() {
@@ -154,7 +273,8 @@ fn has_event(network: &mut Network, actor: u8) -> Result<bool, Memory>
 
 /// Whether some actor has an event.
 fn goes_on(network: &mut Network) -> Result<bool, Memory>
-    ensures goes_on { (p : Plan) → IsNetworkOf p (state_of network.old) → IfOk result (GoesOn p (state_of network.old)) }
+    ensures goes_on { (p : Plan) → IsNetworkOf p (state_of network.old) →
+        IfOk result (GoesOn p (state_of network.old)) }
     ensures same { state_of network.new ≡ state_of network.old }
 {
     for actor in 0..network.actors().min(255) as u8 {

@@ -1,9 +1,12 @@
 //! Running a network in threads.
-ghost use Rattle.vc_text.specs.Threading.{EndsInThreads, RunsInThreads};
+ghost use Rattle.vc_text.specs.Tail.{IsTail};
+ghost use Rattle.vc_text.specs.Threading.{RunsInThreads, WritesThreads};
 
 use crate::check::read_accepted;
 use crate::fault::RunFault;
 use crate::run::write_traffic;
+use crate::tail::write_tail;
+use crate::thread_options::ThreadOptions;
 use std::alloc::Global;
 use std::io::{Read, Write};
 use std::sync::Wait;
@@ -27,35 +30,39 @@ pub fn run_net<T: Threads + Wait, R: Read, W: Write>(
     turns: u64,
     seed: u32,
 ) -> Result<Report, RunFault>
-    ensures { RunsInThreads turns seed (R.remaining reader.old) (W.contents writer.old) (W.contents writer.new) result }
+    ensures { RunsInThreads turns seed (R.remaining reader.old)
+        (W.contents writer.old) (W.contents writer.new) result }
 {
     let accepted = read_accepted(alloc, reader)?;
     let gate = gate_of(&accepted);
     let report = run_threads(rt, alloc, &accepted, &gate, turns, seed)?;
-    match write_traffic(alloc, &report.state, report.close, writer) {
-        Ok(()) => Ok(report),
-        Err(fault) => Err(fault),
-    }
+    write_traffic(alloc, &report.state, report.close, writer)?;
+    Ok(report)
 }
 
-/// Does the same as [`run_net`], and keeps no events: its memory does not grow with their number. There are events that [`run_net`]
-/// could have reported.
+/// Reads a network file, runs the network with a thread for each node and each switch as the options say, and writes its traffic. It keeps
+/// no events: its memory does not grow with their number. Where it fails, a front of the text was written if the writer failed, and else
+/// nothing.
 pub fn run_net_unlogged<T: Threads + Wait, R: Read, W: Write>(
     rt: &T,
     alloc: Global,
     reader: &mut R,
     writer: &mut W,
-    turns: u64,
-    seed: u32,
+    options: ThreadOptions,
 ) -> Result<Ending, RunFault>
-    ensures { EndsInThreads turns seed (R.remaining reader.old)
-        (W.contents writer.old) (W.contents writer.new) result }
+    ensures { WritesThreads (IsTail options.is_why) options.turns options.seed
+        (R.remaining reader.old) (W.contents writer.old) (W.contents writer.new) result }
 {
     let accepted = read_accepted(alloc, reader)?;
     let gate = gate_of(&accepted);
-    let ending = run_threads_unlogged(rt, alloc, &accepted, &gate, turns, seed)?;
-    match write_traffic(alloc, &ending.state, ending.close, writer) {
-        Ok(()) => Ok(ending),
-        Err(fault) => Err(fault),
-    }
+    let ending = run_threads_unlogged(rt, alloc, &accepted, &gate, options.turns, options.seed)?;
+    write_tail(
+        alloc,
+        accepted.plan(),
+        &ending.state,
+        ending.close,
+        options.is_why,
+        writer,
+    )?;
+    Ok(ending)
 }

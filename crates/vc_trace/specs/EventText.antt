@@ -1,20 +1,16 @@
 -- The text of an event: its words, behind the word `event`, on one line.
-use Rattle.std.specs.Prelude.{ℕ, List, [], ◌∷◌, ◌++◌, length, nat_lt, if◌then◌else◌, ◌-◌, codes, decimal, Option, Some, None}
+use Rattle.std.specs.Prelude.{ℕ, List, [], ◌∷◌, ◌++◌, codes, decimal, Option, Some, None}
 use Rattle.std.specs.List.{flat_map}
 use Rattle.vc_actor.specs.declared.act.Act.{Act}
 use Rattle.vc_actor.specs.declared.act.Act.TheVariants.{Proc, Take, Put, Route, Fct, Pass}
 use Rattle.vc_core.specs.declared.event.Event.{Event}
 use Rattle.vc_occam.specs.declared.moves.Move.{Move}
 use Rattle.vc_occam.specs.declared.moves.Move.TheVariants.{Offer, Want, Choose, Stopch, Inner, Quiet}
+use Rattle.vc_plan.specs.Names.{actor_name, channel_name}
 use Rattle.vc_plan.specs.declared.plan.Plan.{Plan}
-use Rattle.vc_text.specs.FaultLine.{node_name, switch_name, channel_name}
 use Rattle.vc_text.specs.Traffic.{newline}
 use Rattle.vc_trace.specs.declared.word.Word.{Word}
 use Rattle.vc_trace.specs.declared.word.Word.TheVariants.{Text, Number}
-
--- the name of a node, or behind the nodes of a switch
-abbrev pub actor_name : Plan → ℕ → List ℕ
-actor_name p k = if nat_lt k (length p.nodes) then node_name p k else switch_name p (k - length p.nodes)
 
 -- the place of a guard, and - where an input meets the output
 abbrev pub guard_word : Option ℕ → List ℕ

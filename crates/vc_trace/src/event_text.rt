@@ -1,8 +1,8 @@
 //! The text of an event.
 ghost use Rattle.std.specs.Prelude.{◌≡◌, ◌++◌, ◌∷◌, codes, decimal, OnOk, OnErr};
-ghost use Rattle.vc_text.specs.FaultLine.{channel_name as name_of_channel, switch_name as name_of_switch};
+ghost use Rattle.vc_plan.specs.Names.{channel_name};
 ghost use Rattle.vc_text.specs.Traffic.{newline};
-ghost use Rattle.vc_trace.specs.EventText.{act_words, actor_name as name_of_actor, event_line, guard_word as word_of_guard, move_words, spaced, spaced_word, word_text, words_text};
+ghost use Rattle.vc_trace.specs.EventText.{act_words, event_line, guard_word as word_of_guard, move_words, spaced, spaced_word, word_text, words_text};
 ghost use Rattle.vc_text.specs.Streams.{AppendsFront};
 ghost use Rattle.vc_trace.specs.Pieces.{Passes};
 
@@ -13,40 +13,6 @@ use std::io::Write;
 use vc_core::{Act, Event};
 use vc_occam::Move;
 use vc_plan::Plan;
-
-fn switch_name(plan: &Plan, switch: usize) -> &[u8]
-    ensures { result.now ≡ name_of_switch plan.now switch }
-{
-    match plan.switches.get(switch) {
-        Some(switch) => switch.name.as_slice(),
-        None => &[],
-    }
-}
-
-/// The name of an actor of the plan; no bytes where there is none of this number.
-fn actor_name(plan: &Plan, actor: u8) -> &[u8]
-    ensures { result.now ≡ name_of_actor plan.now actor }
-{
-    let place = usize::from(actor);
-    let nodes = plan.nodes.len();
-    if place >= nodes {
-        return switch_name(plan, place - nodes);
-    }
-    match plan.nodes.get(place) {
-        Some(node) => node.name.as_slice(),
-        None => &[],
-    }
-}
-
-/// The name of a channel of the plan; no bytes where there is none of this number.
-fn channel_name(plan: &Plan, chan: u16) -> &[u8]
-    ensures { result.now ≡ name_of_channel plan.now chan }
-{
-    match plan.channels.get(usize::from(chan)) {
-        Some(channel) => channel.name.as_slice(),
-        None => &[],
-    }
-}
 
 fn number<'a>(n: u16) -> Word<'a>
     ensures { word_text result ≡ decimal n }
@@ -61,9 +27,9 @@ fn link_word<'a>(link: u8) -> Word<'a>
 }
 
 fn channel_word(plan: &Plan, chan: u16) -> Word<'_>
-    ensures { word_text result ≡ name_of_channel plan.now chan }
+    ensures { word_text result ≡ channel_name plan.now chan }
 {
-    Word::Text(channel_name(plan, chan))
+    Word::Text(plan.channel_name(usize::from(chan)))
 }
 
 /// The place of a guard, or `-` for none.
@@ -244,7 +210,7 @@ pub(crate) fn put_event<W: Write>(
         (W.contents writer.new) (piece.old.items ++ (event_line plan.now event.now))) }
 {
     put(piece, writer, b"event ")?;
-    put(piece, writer, actor_name(plan, event.actor))?;
+    put(piece, writer, plan.actor_name(usize::from(event.actor)))?;
     put_act(piece, writer, plan, event.act)?;
     put(piece, writer, b"\n")
 }

@@ -12,5 +12,5 @@ mod threading;
 mod word;
 mod writing;
 
-pub use stepping::{trace_step, trace_together};
+pub use stepping::trace_step;
 pub use threading::trace_net;

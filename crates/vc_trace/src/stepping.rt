@@ -1,13 +1,15 @@
 //! Running a network event by event, with its events written.
-ghost use Rattle.vc_text.specs.Running.{ClosesBy};
-ghost use Rattle.vc_trace.specs.Tracing.{Traces, TracesPlan, TracesTogether};
+ghost use Rattle.vc_text.specs.OneNode.{ReadsAs};
+ghost use Rattle.vc_text.specs.Running.{WritesRun, WritesRunBy};
+ghost use Rattle.vc_trace.specs.Tracing.{IsTracedText};
 
 use crate::writing::write_log;
 use std::alloc::Global;
 use std::io::{Read, Write};
 use vc_core::Close;
+use vc_log::EventLog;
 use vc_plan::Accepted;
-use vc_text::{RunFault, StepReport, read_accepted, read_together, run_accepted, tail_of};
+use vc_text::{RunFault, StepOptions, read_as, run, tail_of};
 
 /// Runs an accepted network event by event, and writes its events and its traffic. The traffic's text is made first, so want of memory
 /// writes nothing.
@@ -15,52 +17,37 @@ fn trace_plan<W: Write>(
     alloc: Global,
     accepted: &Accepted,
     writer: &mut W,
-    limit: u64,
-    is_why: bool,
-) -> Result<StepReport, RunFault>
-    ensures { TracesPlan is_why accepted.now (W.contents writer.old) (W.contents writer.new) limit result }
+    options: StepOptions,
+) -> Result<Close, RunFault>
+    ensures { WritesRun (IsTracedText options.is_why) accepted.now
+        (W.contents writer.old) (W.contents writer.new) options.limit result }
 {
     let plan = accepted.plan();
-    let (network, report) = run_accepted(alloc, accepted, limit)?;
-    let tail = tail_of(alloc, plan, &network, report.close, is_why)?;
-    match write_log(writer, plan, &report.events, tail.as_slice()) {
-        Ok(()) => Ok(report),
-        Err(fault) => Err(fault),
-    }
+    let mut events = EventLog::new(alloc);
+    let (network, close) = run(
+        alloc,
+        accepted,
+        &mut events,
+        options.limit,
+        options.schedule,
+    )?;
+    let tail = tail_of(alloc, plan, &network, close, options.is_why)?;
+    write_log(writer, plan, &events, tail.as_slice())?;
+    Ok(close)
 }
 
-/// Does what [`run_step`](vc_text::run_step) does, and writes the run's events in front of the traffic, a line each.
+/// Does what [`run_step_unlogged`](vc_text::run_step_unlogged) does, and writes the run's events in front of the traffic, a line each.
+/// They are kept until the run has ended.
 pub fn trace_step<R: Read, W: Write>(
     alloc: Global,
     reader: &mut R,
     writer: &mut W,
-    limit: u64,
-    is_why: bool,
+    options: StepOptions,
 ) -> Result<Close, RunFault>
-    ensures { ClosesBy (Traces is_why (R.remaining reader.old)
-        (W.contents writer.old) (W.contents writer.new) limit) result }
+    ensures { WritesRunBy (IsTracedText options.is_why)
+        (ReadsAs options.is_together (R.remaining reader.old))
+        (W.contents writer.old) (W.contents writer.new) options.limit result }
 {
-    let accepted = read_accepted(alloc, reader)?;
-    match trace_plan(alloc, &accepted, writer, limit, is_why) {
-        Ok(report) => Ok(report.close),
-        Err(fault) => Err(fault),
-    }
-}
-
-/// Does what [`run_together`](vc_text::run_together) does, and writes the run's events in front of the traffic, a line each.
-pub fn trace_together<R: Read, W: Write>(
-    alloc: Global,
-    reader: &mut R,
-    writer: &mut W,
-    limit: u64,
-    is_why: bool,
-) -> Result<Close, RunFault>
-    ensures { ClosesBy (TracesTogether is_why (R.remaining reader.old)
-        (W.contents writer.old) (W.contents writer.new) limit) result }
-{
-    let accepted = read_together(alloc, reader)?;
-    match trace_plan(alloc, &accepted, writer, limit, is_why) {
-        Ok(report) => Ok(report.close),
-        Err(fault) => Err(fault),
-    }
+    let accepted = read_as(alloc, reader, options.is_together)?;
+    trace_plan(alloc, &accepted, writer, options)
 }

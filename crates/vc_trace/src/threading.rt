@@ -1,19 +1,19 @@
 //! Running a network in threads, with its events written.
 ghost use Rattle.std.specs.Prelude.{◌≡◌};
-ghost use Rattle.vc_text.specs.Threading.{EndsBy, ending_of as ending_in};
-ghost use Rattle.vc_trace.specs.Tracing.{TracesThreads};
+ghost use Rattle.vc_text.specs.Threading.{WritesThreads};
+ghost use Rattle.vc_trace.specs.Tracing.{IsTracedText};
 
 use crate::writing::write_steps;
 use std::alloc::Global;
 use std::io::{Read, Write};
 use std::sync::Wait;
 use std::thread::Threads;
-use vc_text::{RunFault, gate_of, read_accepted, tail_of};
+use vc_text::{RunFault, ThreadOptions, gate_of, read_accepted, tail_of};
 use vc_threads::{Ending, Report, run_threads};
 
 /// What a report says without its events.
 fn ending_of(report: Report) -> Ending
-    ensures { result ≡ ending_in report }
+    ensures { result ≡ record { state = report.state; stops = report.stops; close = report.close } }
 {
     let Report {
         steps: _,
@@ -28,26 +28,23 @@ fn ending_of(report: Report) -> Ending
     }
 }
 
-/// Does what [`run_net`](vc_text::run_net) does, and writes the events that the threads report in front of the traffic, a line each.
+/// Does what [`run_net_unlogged`](vc_text::run_net_unlogged) does, and writes the events that the threads report in front of the traffic,
+/// a line each.
 pub fn trace_net<T: Threads + Wait, R: Read, W: Write>(
     rt: &T,
     alloc: Global,
     reader: &mut R,
     writer: &mut W,
-    turns: u64,
-    seed: u32,
-    is_why: bool,
+    options: ThreadOptions,
 ) -> Result<Ending, RunFault>
-    ensures { EndsBy (TracesThreads is_why turns seed (R.remaining reader.old)
-        (W.contents writer.old) (W.contents writer.new)) result }
+    ensures { WritesThreads (IsTracedText options.is_why) options.turns options.seed
+        (R.remaining reader.old) (W.contents writer.old) (W.contents writer.new) result }
 {
     let accepted = read_accepted(alloc, reader)?;
     let gate = gate_of(&accepted);
-    let report = run_threads(rt, alloc, &accepted, &gate, turns, seed)?;
+    let report = run_threads(rt, alloc, &accepted, &gate, options.turns, options.seed)?;
     let plan = accepted.plan();
-    let tail = tail_of(alloc, plan, &report.state, report.close, is_why)?;
-    match write_steps(writer, plan, report.steps.as_slice(), tail.as_slice()) {
-        Ok(()) => Ok(ending_of(report)),
-        Err(fault) => Err(fault),
-    }
+    let tail = tail_of(alloc, plan, &report.state, report.close, options.is_why)?;
+    write_steps(writer, plan, report.steps.as_slice(), tail.as_slice())?;
+    Ok(ending_of(report))
 }

@@ -1,5 +1,5 @@
 pub mod Meaning
-pub mod Names
+pub mod Ports
 pub mod Packets
 pub mod Paths
 pub mod Waits

@@ -15,14 +15,18 @@ PathsAt = List ℕ → List (List ℕ)
 abbrev pub each_at : List ℕ → List ℕ → ℕ × PathsAt → List (List ℕ)
 each_at list step (k, paths_of) = paths_of (list ++ decimal k ++ step)
 
+-- those of a list that stands at a path
+abbrev pub list_paths : List ℕ → List ℕ → List PathsAt → List (List ℕ)
+list_paths list step all = flat_map (each_at list step) (enumerate_from 0 all)
+
 -- a process comes first, and then those within it; in a branch and in a guard the process is the last of the list
 abbrev pub layer_paths : layer.Process-F PathsAt PathsAt PathsAt → PathsAt
-layer_paths (layer.Seq ps) at = at ∷ flat_map (each_at (at ++ codes "/seq/") []) (enumerate_from 0 ps)
-layer_paths (layer.Par ps) at = at ∷ flat_map (each_at (at ++ codes "/par/") []) (enumerate_from 0 ps)
-layer_paths (layer.If bs) at = at ∷ flat_map (each_at (at ++ codes "/if/") (codes "/1")) (enumerate_from 0 bs)
+layer_paths (layer.Seq ps) at = at ∷ list_paths (at ++ codes "/seq/") [] ps
+layer_paths (layer.Par ps) at = at ∷ list_paths (at ++ codes "/par/") [] ps
+layer_paths (layer.If bs) at = at ∷ list_paths (at ++ codes "/if/") (codes "/1") bs
 layer_paths (layer.While b p) at = at ∷ p (at ++ codes "/while/1")
 layer_paths (layer.Count v a n p) at = at ∷ p (at ++ codes "/for/3")
-layer_paths (layer.Alt gs) at = at ∷ flat_map (each_at (at ++ codes "/alt/") (codes "/3")) (enumerate_from 0 gs)
+layer_paths (layer.Alt gs) at = at ∷ list_paths (at ++ codes "/alt/") (codes "/3") gs
 layer_paths p at = at ∷ []
 
 abbrev pub branch_layer : layer.Branch-F PathsAt PathsAt PathsAt → PathsAt

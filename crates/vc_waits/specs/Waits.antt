@@ -5,12 +5,18 @@ use Rattle.std.specs.Option.{option_map_or}
 use Rattle.vc_accepted.specs.NetworkOf.{network_of}
 use Rattle.vc_core.specs.Blocking.{blocked_in}
 use Rattle.vc_core.specs.Enabled.{NetworkState}
+use Rattle.vc_core.specs.State.{shown, state_of}
+use Rattle.vc_core.specs.declared.network.Network.{Network}
 use Rattle.vc_network.specs.Views.{view}
 use Rattle.vc_occam.specs.declared.blocked.Blocked.{Blocked}
 use Rattle.vc_occam.specs.declared.blocked.Blocked.TheVariants.{Output, Input, Guard, Closed, Undecided, Stop, Stopped}
 use Rattle.vc_plan.specs.declared.node_plan.NodePlan.{NodePlan}
 use Rattle.vc_plan.specs.declared.plan.Plan.{Plan}
 use Rattle.vc_waits.specs.Paths.{paths}
+
+-- the state that a network shows
+abbrev pub state_in : Network → NetworkState
+state_in network = shown (state_of network)
 
 abbrev pub newline : List ℕ
 newline = 10 ∷ []
@@ -26,15 +32,23 @@ channel_text plan x c = option_map_or (λ k. k.name ++ stop_text (view (network_
 abbrev pub path_text : List (List ℕ) → ℕ → List ℕ
 path_text paths i = option_map_or (λ path. path) (slice_get paths i) []
 
+-- the words of a line up to what is behind the path
+abbrev pub head_text : List ℕ → NodePlan → List ℕ → List ℕ → List ℕ
+head_text word node path behind = word ++ node.name ++ codes " " ++ path ++ behind
+
 -- a part of a node's process that waits, at a site, for something on a channel
 abbrev pub waits_line : NodePlan → List ℕ → List ℕ → List ℕ → List ℕ
-waits_line node path what channel = codes "waits " ++ node.name ++ codes " " ++ path ++ what ++ channel ++ newline
+waits_line node path what channel = head_text (codes "waits ") node path what ++ channel ++ newline
 
 -- one that has stopped, at a site
 abbrev pub stopped_line : NodePlan → List ℕ → List ℕ → List ℕ
-stopped_line node path how = codes "stopped " ++ node.name ++ codes " " ++ path ++ how ++ newline
+stopped_line node path how = head_text (codes "stopped ") node path how ++ newline
 
--- what blocks a part of a node's process; the site of a fault is not kept
+-- one that has stopped by a fault, whose site is not kept
+abbrev pub faulted_line : NodePlan → List ℕ
+faulted_line node = codes "stopped " ++ node.name ++ codes " by a fault or in an IF" ++ newline
+
+-- what blocks a part of a node's process
 unfoldable pub blocked_line : Plan → NetworkState → NodePlan → List (List ℕ) → Blocked → List ℕ
 blocked_line plan x node paths (Output i c) = waits_line node (path_text paths i) (codes " for the end of its output on ") (channel_text plan x c)
 blocked_line plan x node paths (Input i c) = waits_line node (path_text paths i) (codes " for an input on ") (channel_text plan x c)
@@ -42,7 +56,10 @@ blocked_line plan x node paths (Guard i c) = waits_line node (path_text paths i)
 blocked_line plan x node paths (Closed i) = stopped_line node (path_text paths i) (codes " at an ALT without an open guard")
 blocked_line plan x node paths (Undecided i) = stopped_line node (path_text paths i) (codes " by a fault")
 blocked_line plan x node paths (Stop i) = stopped_line node (path_text paths i) (codes " by STOP")
-blocked_line plan x node paths Stopped = codes "stopped " ++ node.name ++ codes " by a fault or in an IF" ++ newline
+blocked_line plan x node paths Stopped = faulted_line node
+
+abbrev pub blocked_lines : Plan → NetworkState → NodePlan → List (List ℕ) → List Blocked → List ℕ
+blocked_lines plan x node paths = flat_map (blocked_line plan x node paths)
 
 -- the path of the n-th node's process
 abbrev pub process_path : ℕ → List ℕ
@@ -50,7 +67,7 @@ process_path n = codes "/nodes/" ++ decimal n ++ codes "/process"
 
 -- the n-th node, with a line for each part of its process that does not go on by itself
 abbrev pub node_lines : Plan → NetworkState → ℕ × NodePlan → List ℕ
-node_lines plan x (n, node) = flat_map (blocked_line plan x node (paths node.process (process_path n))) (blocked_in x n)
+node_lines plan x (n, node) = blocked_lines plan x node (paths node.process (process_path n)) (blocked_in x n)
 
 -- all nodes
 abbrev pub processes_text : Plan → NetworkState → List ℕ

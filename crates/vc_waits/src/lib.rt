@@ -6,10 +6,10 @@
 #![tactic(auto)]
 
 mod laws;
-mod names;
 mod number;
 mod packets;
 mod paths;
+mod port;
 mod waits;
 
 pub use laws::words_are_so;

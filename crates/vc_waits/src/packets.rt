@@ -1,13 +1,13 @@
 //! The text of where the packets of a network are.
-ghost use Rattle.std.specs.Prelude.{◌≡◌, ◌++◌, ℕ, List, IfOk, OnOk, Option};
+ghost use Rattle.std.specs.Prelude.{◌≡◌, ◌++◌, ℕ, List, IfOk, OnOk, Option, codes};
 ghost use Rattle.std.specs.List.{enumerate_from, flat_map};
 ghost use Rattle.vc_core.specs.Replaying.{Reached};
 ghost use Rattle.vc_core.specs.State.{shown, state_of};
 ghost use Rattle.vc_core.specs.declared.event.Event.{Event};
-ghost use Rattle.vc_waits.specs.Packets.{ArePlaces, IsWaitsText, packet_line, packets_text, place_text, ports_text};
+ghost use Rattle.vc_waits.specs.Packets.{AddsWaits, ArePlaces, packet_line, packets_text, place_text, ports_text, wire_text};
 
-use crate::names::{push_channel_name, push_node_name, push_port_name, push_switch_name};
 use crate::number::push_number;
+use crate::port::push_port;
 use crate::waits::push_processes;
 use std::alloc::Global;
 use vc_core::{Network, Place};
@@ -29,27 +29,37 @@ fn places(alloc: Global, network: &Network) -> Result<Vec<Option<Place>>, Memory
 /// The two ports of a wire, from the one where the packet went in.
 #[tactic(auto, using(std::proofs::Common::append_assoc))]
 fn push_ports(out: &mut Vec<u8>, plan: &Plan, wire: &Wire, from_one: bool) -> Result<(), Memory>
-    ensures { OnOk result (out.new.items ≡ out.old.items ++ ports_text plan.now wire.now from_one) }
+    ensures { OnOk result (out.new.items
+        ≡ out.old.items ++ ports_text plan.now wire.now from_one) }
 {
     let (from, to) = if from_one {
         (wire.one, wire.two)
     } else {
         (wire.two, wire.one)
     };
-    push_port_name(out, plan, from)?;
+    push_port(out, plan, from)?;
     out.extend_from_slice(b" ")?;
-    push_port_name(out, plan, to)
+    push_port(out, plan, to)
 }
 
 /// A wire by its ports.
+#[tactic(auto, using(std::proofs::Common::append_assoc))]
 fn push_wire(out: &mut Vec<u8>, plan: &Plan, number: u16, from_one: bool) -> Result<(), Memory>
-    ensures { OnOk result (out.new.items ≡ out.old.items ++ place_text plan.now (Place.Wire number from_one)) }
+    ensures { OnOk result (out.new.items
+        ≡ out.old.items ++ codes " on the wire " ++ wire_text plan.now number from_one) }
 {
     out.extend_from_slice(b" on the wire ")?;
     match plan.wires.get(usize::from(number)) {
         Some(wire) => push_ports(out, plan, wire, from_one),
         None => Ok(()),
     }
+}
+
+fn push_name(out: &mut Vec<u8>, name: &[u8]) -> Result<(), Memory>
+    ensures { OnOk result (out.new.items ≡ out.old.items ++ name.now) }
+{
+    out.extend_from_slice(name)?;
+    Ok(())
 }
 
 #[tactic(auto, using(std::proofs::Common::append_assoc))]
@@ -59,18 +69,18 @@ fn push_place(out: &mut Vec<u8>, plan: &Plan, place: Place) -> Result<(), Memory
     match place {
         Place::Queue(node) => {
             out.extend_from_slice(b" queued at ")?;
-            push_node_name(out, plan, node)
+            push_name(out, plan.node_name(usize::from(node)))
         }
         Place::Wire(number, from_one) => push_wire(out, plan, number, from_one),
         Place::Inside(switch, link) => {
             out.extend_from_slice(b" in ")?;
-            push_switch_name(out, plan, switch)?;
+            out.extend_from_slice(plan.switch_name(usize::from(switch)))?;
             out.extend_from_slice(b" at link ")?;
             push_number(out, link as u64)
         }
         Place::Held(node) => {
             out.extend_from_slice(b" held at ")?;
-            push_node_name(out, plan, node)
+            push_name(out, plan.node_name(usize::from(node)))
         }
     }
 }
@@ -87,7 +97,7 @@ fn push_packet(
 {
     if let Some(place) = place {
         out.extend_from_slice(b"packet ")?;
-        push_channel_name(out, plan, chan)?;
+        out.extend_from_slice(plan.channel_name(chan))?;
         push_place(out, plan, place)?;
         out.push(10)?;
     }
@@ -113,7 +123,8 @@ pub fn push_waits(
     network: &Network,
 ) -> Result<(), Memory>
     requires { (events : List Event) × Reached plan.now events (state_of network.now) }
-    ensures { OnOk result ((text : List ℕ) × IsWaitsText plan.now (shown (state_of network.now)) text × (out.new.items ≡ out.old.items ++ text)) }
+    ensures { AddsWaits plan.now (shown (state_of network.now))
+        out.old.items out.new.items result }
 {
     let places = places(alloc, network)?;
     push_processes(alloc, out, plan, network)?;

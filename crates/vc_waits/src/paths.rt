@@ -1,7 +1,6 @@
 //! The paths of processes in the network file.
 ghost use Rattle.std.specs.Prelude.{◌≡◌, ◌++◌, ◌∷◌, [], IfOk, OnOk, codes, decimal, map};
-ghost use Rattle.std.specs.List.{enumerate_from, flat_map};
-ghost use Rattle.vc_waits.specs.Paths.{branch_paths, each_at, guard_paths, paths};
+ghost use Rattle.vc_waits.specs.Paths.{branch_paths, guard_paths, list_paths, paths};
 
 use crate::number::push_number;
 use sqlite_items::Items;
@@ -85,7 +84,8 @@ fn push_parts(
     step: &[u8],
     parts: &Items<Process>,
 ) -> Result<(), Memory>
-    ensures { OnOk result (found.new ≡ found.old ++ flat_map (each_at (at.now ++ step.now) []) (enumerate_from 0 (map paths parts.now))) }
+    ensures { OnOk result (found.new ≡ found.old
+        ++ list_paths (at.now ++ step.now) [] (map paths parts.now)) }
 {
     let list = longer(alloc, at, step)?;
     for (k, part) in parts.as_slice().iter().enumerate() {
@@ -105,7 +105,8 @@ fn push_branches(
     at: &[u8],
     branches: &Items<Branch>,
 ) -> Result<(), Memory>
-    ensures { OnOk result (found.new ≡ found.old ++ flat_map (each_at (at.now ++ codes "/if/") (codes "/1")) (enumerate_from 0 (map branch_paths branches.now))) }
+    ensures { OnOk result (found.new ≡ found.old
+        ++ list_paths (at.now ++ codes "/if/") (codes "/1") (map branch_paths branches.now)) }
 {
     let list = longer(alloc, at, b"/if/")?;
     for (k, branch) in branches.as_slice().iter().enumerate() {
@@ -125,7 +126,8 @@ fn push_guards(
     at: &[u8],
     guards: &Items<Guard>,
 ) -> Result<(), Memory>
-    ensures { OnOk result (found.new ≡ found.old ++ flat_map (each_at (at.now ++ codes "/alt/") (codes "/3")) (enumerate_from 0 (map guard_paths guards.now))) }
+    ensures { OnOk result (found.new ≡ found.old
+        ++ list_paths (at.now ++ codes "/alt/") (codes "/3") (map guard_paths guards.now)) }
 {
     let list = longer(alloc, at, b"/alt/")?;
     for (k, guard) in guards.as_slice().iter().enumerate() {

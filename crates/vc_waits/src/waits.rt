@@ -1,8 +1,8 @@
 //! The text of who waits for what.
 ghost use Rattle.std.specs.Prelude.{◌≡◌, ◌++◌, IfOk, OnOk, codes};
 ghost use Rattle.std.specs.List.{enumerate_from, flat_map};
-ghost use Rattle.vc_core.specs.State.{IsNetworkOf, shown, state_of};
-ghost use Rattle.vc_waits.specs.Waits.{blocked_line, channel_text, newline, node_lines, path_text, process_path, processes_text, stopped_line, waits_line};
+ghost use Rattle.vc_core.specs.State.{IsNetworkOf, state_of};
+ghost use Rattle.vc_waits.specs.Waits.{blocked_line, blocked_lines, channel_text, faulted_line, head_text, node_lines, path_text, process_path, processes_text, state_in, stopped_line, waits_line};
 ghost use Rattle.vc_waits.specs.Paths.{paths as paths_of};
 
 use crate::number::push_number;
@@ -17,7 +17,8 @@ use vc_plan::{NodePlan, Plan};
 /// A channel's name, and whether a process has stopped it.
 fn push_channel(out: &mut Vec<u8>, plan: &Plan, network: &Network, chan: u16) -> Result<(), Memory>
     requires { IsNetworkOf plan.now (state_of network.now) }
-    ensures { OnOk result (out.new.items ≡ out.old.items ++ channel_text plan.now (shown (state_of network.now)) chan) }
+    ensures { OnOk result (out.new.items
+        ≡ out.old.items ++ channel_text plan.now (state_in network.now) chan) }
 {
     if let Some(channel) = plan.channels.get(usize::from(chan)) {
         out.extend_from_slice(channel.name.as_slice())?;
@@ -29,13 +30,13 @@ fn push_channel(out: &mut Vec<u8>, plan: &Plan, network: &Network, chan: u16) ->
 }
 
 /// The path of the process that has a site.
-fn push_site(out: &mut Vec<u8>, paths: &[Bytes], site: u16) -> Result<(), Memory>
-    ensures { OnOk result (out.new.items ≡ out.old.items ++ path_text paths.now site) }
+fn path_of(paths: &[Bytes], site: u16) -> &[u8]
+    ensures { result.now ≡ path_text paths.now site }
 {
-    if let Some(path) = paths.get(usize::from(site)) {
-        out.extend_from_slice(path.as_slice())?;
+    match paths.get(usize::from(site)) {
+        Some(path) => path.as_slice(),
+        None => &[],
     }
-    Ok(())
 }
 
 /// The words of a line up to what is behind the path.
@@ -44,16 +45,16 @@ fn push_head(
     out: &mut Vec<u8>,
     word: &[u8],
     node: &NodePlan,
-    paths: &[Bytes],
-    site: u16,
+    path: &[u8],
     behind: &[u8],
 ) -> Result<(), Memory>
-    ensures { OnOk result (out.new.items ≡ out.old.items ++ word.now ++ node.now.name ++ codes " " ++ path_text paths.now site ++ behind.now) }
+    ensures { OnOk result (out.new.items
+        ≡ out.old.items ++ head_text word.now node.now path.now behind.now) }
 {
     out.extend_from_slice(word)?;
     out.extend_from_slice(node.name.as_slice())?;
     out.extend_from_slice(b" ")?;
-    push_site(out, paths, site)?;
+    out.extend_from_slice(path)?;
     out.extend_from_slice(behind)?;
     Ok(())
 }
@@ -65,15 +66,16 @@ fn push_waits(
     plan: &Plan,
     network: &Network,
     node: &NodePlan,
-    paths: &[Bytes],
-    site: u16,
+    path: &[u8],
     what: &[u8],
     chan: u16,
 ) -> Result<(), Memory>
     requires { IsNetworkOf plan.now (state_of network.now) }
-    ensures { OnOk result (out.new.items ≡ out.old.items ++ waits_line node.now (path_text paths.now site) what.now (channel_text plan.now (shown (state_of network.now)) chan)) }
+    ensures { OnOk result (out.new.items ≡ out.old.items
+        ++ waits_line node.now path.now what.now
+        (channel_text plan.now (state_in network.now) chan)) }
 {
-    push_head(out, b"waits ", node, paths, site, what)?;
+    push_head(out, b"waits ", node, path, what)?;
     push_channel(out, plan, network, chan)?;
     out.push(10)?;
     Ok(())
@@ -84,13 +86,13 @@ fn push_waits(
 fn push_stopped(
     out: &mut Vec<u8>,
     node: &NodePlan,
-    paths: &[Bytes],
-    site: u16,
+    path: &[u8],
     how: &[u8],
 ) -> Result<(), Memory>
-    ensures { OnOk result (out.new.items ≡ out.old.items ++ stopped_line node.now (path_text paths.now site) how.now) }
+    ensures { OnOk result (out.new.items
+        ≡ out.old.items ++ stopped_line node.now path.now how.now) }
 {
-    push_head(out, b"stopped ", node, paths, site, how)?;
+    push_head(out, b"stopped ", node, path, how)?;
     out.push(10)?;
     Ok(())
 }
@@ -98,7 +100,7 @@ fn push_stopped(
 /// The line of a part that has stopped by a fault, whose site is not kept.
 #[tactic(auto, using(std::proofs::Common::append_assoc))]
 fn push_faulted(out: &mut Vec<u8>, node: &NodePlan) -> Result<(), Memory>
-    ensures { OnOk result (out.new.items ≡ out.old.items ++ codes "stopped " ++ node.now.name ++ codes " by a fault or in an IF" ++ newline) }
+    ensures { OnOk result (out.new.items ≡ out.old.items ++ faulted_line node.now) }
 {
     out.extend_from_slice(b"stopped ")?;
     out.extend_from_slice(node.name.as_slice())?;
@@ -117,26 +119,30 @@ fn push_blocked(
     blocked: Blocked,
 ) -> Result<(), Memory>
     requires { IsNetworkOf plan.now (state_of network.now) }
-    ensures { OnOk result (out.new.items ≡ out.old.items ++ blocked_line plan.now (shown (state_of network.now)) node.now paths.now blocked) }
+    ensures { OnOk result (out.new.items ≡ out.old.items
+        ++ blocked_line plan.now (state_in network.now) node.now paths.now blocked) }
 {
     match blocked {
         Blocked::Output { site, chan } => {
             let what = b" for the end of its output on ";
-            push_waits(out, plan, network, node, paths, site, what, chan)
+            push_waits(out, plan, network, node, path_of(paths, site), what, chan)
         }
         Blocked::Input { site, chan } => {
             let what = b" for an input on ";
-            push_waits(out, plan, network, node, paths, site, what, chan)
+            push_waits(out, plan, network, node, path_of(paths, site), what, chan)
         }
         Blocked::Guard { site, chan } => {
             let what = b" for a guard on ";
-            push_waits(out, plan, network, node, paths, site, what, chan)
+            push_waits(out, plan, network, node, path_of(paths, site), what, chan)
         }
         Blocked::Closed { site } => {
-            push_stopped(out, node, paths, site, b" at an ALT without an open guard")
+            let how = b" at an ALT without an open guard";
+            push_stopped(out, node, path_of(paths, site), how)
         }
-        Blocked::Undecided { site } => push_stopped(out, node, paths, site, b" by a fault"),
-        Blocked::Stop { site } => push_stopped(out, node, paths, site, b" by STOP"),
+        Blocked::Undecided { site } => {
+            push_stopped(out, node, path_of(paths, site), b" by a fault")
+        }
+        Blocked::Stop { site } => push_stopped(out, node, path_of(paths, site), b" by STOP"),
         Blocked::Stopped => push_faulted(out, node),
     }
 }
@@ -151,7 +157,8 @@ fn push_all(
     all: &[Blocked],
 ) -> Result<(), Memory>
     requires { IsNetworkOf plan.now (state_of network.now) }
-    ensures { OnOk result (out.new.items ≡ out.old.items ++ flat_map (blocked_line plan.now (shown (state_of network.now)) node.now paths.now) all.now) }
+    ensures { OnOk result (out.new.items ≡ out.old.items
+        ++ blocked_lines plan.now (state_in network.now) node.now paths.now all.now) }
 {
     for blocked in all {
         push_blocked(out, plan, network, node, paths, *blocked)?;
@@ -183,7 +190,8 @@ fn push_node(
     node: &NodePlan,
 ) -> Result<(), Memory>
     requires { IsNetworkOf plan.now (state_of network.now) }
-    ensures { OnOk result (out.new.items ≡ out.old.items ++ node_lines plan.now (shown (state_of network.now)) (n, node.now)) }
+    ensures { OnOk result (out.new.items
+        ≡ out.old.items ++ node_lines plan.now (state_in network.now) (n, node.now)) }
 {
     let all = network.blocked(alloc, n)?;
     let paths = paths_in(alloc, n, node)?;
@@ -199,7 +207,8 @@ pub(crate) fn push_processes(
     network: &Network,
 ) -> Result<(), Memory>
     requires { IsNetworkOf plan.now (state_of network.now) }
-    ensures { OnOk result (out.new.items ≡ out.old.items ++ processes_text plan.now (shown (state_of network.now))) }
+    ensures { OnOk result (out.new.items
+        ≡ out.old.items ++ processes_text plan.now (state_in network.now)) }
 {
     for (n, node) in plan.nodes.as_slice().iter().enumerate() {
         push_node(alloc, out, plan, network, n, node)?;

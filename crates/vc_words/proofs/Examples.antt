@@ -15,6 +15,7 @@ lines = record {
   together = (refl, refl);
   why = (refl, refl);
   trace = (refl, refl);
+  schedule = (refl, refl);
   run = (refl, refl);
   run_trace = (refl, refl);
   help = refl;

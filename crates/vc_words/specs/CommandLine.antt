@@ -1,5 +1,5 @@
 -- The command line: what `clap` is told of it, and what its matches ask for.
-use Rattle.std.specs.Prelude.{◌≡◌, ◌&&◌, ℕ, Bool, true, false, Option, Some, None, List, [], ◌∷◌, codes, if◌then◌else◌, nat_lt, nat_le, length, option_and_then, option_map, unwrap_or, pos, ⊤, ◌≢◌, ◌≤◌}
+use Rattle.std.specs.Prelude.{◌≡◌, ◌==◌, ◌&&◌, ℕ, Bool, true, false, Option, Some, None, List, [], ◌∷◌, codes, if◌then◌else◌, nat_lt, nat_le, length, option_and_then, option_map, unwrap_or, pos, ⊤, ◌≢◌, ◌≤◌}
 use Rattle.std.specs.List.{list_all}
 use Rattle.std.specs.Option.{option_map_or}
 use Rattle.std.specs.Char.{digit_value}
@@ -14,6 +14,10 @@ use Rattle.clap.specs.declared.builder.value_parser.ValueParser.{ValueParser}
 use Rattle.clap.specs.declared.builder.value_parser.ValueParser.TheVariants.{Signed, Unsigned}
 use Rattle.clap.specs.declared.error.kind.ErrorKind.{ErrorKind}
 use Rattle.clap.specs.declared.error.kind.ErrorKind.TheVariants.{DisplayHelp, DisplayVersion, OutOfMemory}
+use Rattle.vc_text.specs.declared.schedule.Schedule.{Schedule}
+use Rattle.vc_text.specs.declared.schedule.Schedule.TheVariants.{InTurn, Random}
+use Rattle.vc_text.specs.declared.step_options.StepOptions.{StepOptions}
+use Rattle.vc_text.specs.declared.thread_options.ThreadOptions.{ThreadOptions}
 use Rattle.vc_words.specs.declared.line.Line.{Line}
 use Rattle.vc_words.specs.declared.line.Line.TheVariants.{Check, Explain, Deadlock, Draw, Step, Run}
 use Rattle.vc_words.specs.declared.line_fault.LineFault.{LineFault}
@@ -40,6 +44,9 @@ why_flag = flag_of (codes "why")
 abbrev pub trace_flag : Rule
 trace_flag = flag_of (codes "trace")
 
+abbrev pub schedule_option : Rule
+schedule_option = option_of (codes "schedule") (Signed (pos 0) (pos 4294967295)) (codes "0")
+
 abbrev pub turns_option : Rule
 turns_option = option_of (codes "turns") (Unsigned 0 1000000000) (codes "10000000")
 
@@ -60,7 +67,7 @@ abbrev pub draw_shape : Shape
 draw_shape = new_shape (codes "draw")
 
 abbrev pub step_shape : Shape
-step_shape = record (new_shape (codes "step")) { rules = limit_option ∷ together_flag ∷ why_flag ∷ trace_flag ∷ [] }
+step_shape = record (new_shape (codes "step")) { rules = limit_option ∷ schedule_option ∷ together_flag ∷ why_flag ∷ trace_flag ∷ [] }
 
 abbrev pub run_shape : Shape
 run_shape = record (new_shape (codes "run")) { rules = turns_option ∷ seed_option ∷ why_flag ∷ trace_flag ∷ [] }
@@ -86,13 +93,31 @@ number_of id most usual rows = unwrap_or (option_and_then (number_in most) (one_
 abbrev pub has_flag : Text → List Row → Bool
 has_flag id rows = option_map_or (λ text. bytes_eq text (codes "true")) (one_of id rows) false
 
+-- 0 names rounds over all actors, and any other number is the seed of a random order
+abbrev pub schedule_of : ℕ → Schedule
+schedule_of n = if n == 0 then InTurn else Random n
+
+-- how the options of `step` and of `run` say that the network is run
+abbrev pub step_options_of : List Row → StepOptions
+step_options_of rows = record {
+  limit = number_of (codes "limit") 1000000000 1000000 rows;
+  schedule = schedule_of (number_of (codes "schedule") 4294967295 0 rows);
+  is_together = has_flag (codes "together") rows;
+  is_why = has_flag (codes "why") rows;
+}
+
+abbrev pub thread_options_of : List Row → ThreadOptions
+thread_options_of rows = record {
+  turns = number_of (codes "turns") 1000000000 10000000 rows;
+  seed = number_of (codes "seed") 4294967295 0 rows;
+  is_why = has_flag (codes "why") rows;
+}
+
 -- what a subcommand and what was found of its options ask for
 abbrev pub line_of : Text × List Row → Line
 line_of (name, rows) =
-    if bytes_eq name (codes "step")
-    then Step (number_of (codes "limit") 1000000000 1000000 rows) (has_flag (codes "together") rows) (has_flag (codes "why") rows) (has_flag (codes "trace") rows)
-    else (if bytes_eq name (codes "run")
-    then Run (number_of (codes "turns") 1000000000 10000000 rows) (number_of (codes "seed") 4294967295 0 rows) (has_flag (codes "why") rows) (has_flag (codes "trace") rows)
+    if bytes_eq name (codes "step") then Step (step_options_of rows) (has_flag (codes "trace") rows)
+    else (if bytes_eq name (codes "run") then Run (thread_options_of rows) (has_flag (codes "trace") rows)
     else (if bytes_eq name (codes "explain") then Explain
     else (if bytes_eq name (codes "deadlock") then Deadlock
     else (if bytes_eq name (codes "draw") then Draw else Check))))
@@ -127,5 +152,5 @@ IsInRange Check = ⊤
 IsInRange Explain = ⊤
 IsInRange Deadlock = ⊤
 IsInRange Draw = ⊤
-IsInRange (Step limit together why trace) = limit ≤ 1000000000
-IsInRange (Run turns seed why trace) = turns ≤ 1000000000
+IsInRange (Step options is_traced) = options.limit ≤ 1000000000
+IsInRange (Run options is_traced) = options.turns ≤ 1000000000

@@ -6,14 +6,17 @@ use Rattle.vc_text.specs.Deadlock.{TellsDeadlock}
 use Rattle.vc_text.specs.FaultLine.{fault_text}
 use Rattle.vc_text.specs.Graph.{WritesGraph}
 use Rattle.vc_core.specs.declared.close.Close.{Close}
-use Rattle.vc_text.specs.Running.{ClosesBy, Steps, StepsTogether}
+use Rattle.vc_text.specs.OneNode.{ReadsAs}
+use Rattle.vc_text.specs.Running.{RunText, WritesRunBy}
 use Rattle.vc_text.specs.Streams.{Writes}
-use Rattle.vc_text.specs.Threading.{EndsBy, EndsInThreads}
-use Rattle.vc_text.specs.Why.{EndsInThreadsWhy, StepsTogetherWhy, StepsWhy}
+use Rattle.vc_text.specs.Tail.{IsTail}
+use Rattle.vc_text.specs.Threading.{WritesThreads}
+use Rattle.vc_text.specs.declared.step_options.StepOptions.{StepOptions}
+use Rattle.vc_text.specs.declared.thread_options.ThreadOptions.{ThreadOptions}
 use Rattle.vc_threads.specs.declared.report.Ending.{Ending}
 use Rattle.vc_text.specs.declared.fault.RunFault.{RunFault}
 use Rattle.vc_text.specs.declared.fault.RunFault.TheVariants.{Memory}
-use Rattle.vc_trace.specs.Tracing.{Traces, TracesThreads, TracesTogether}
+use Rattle.vc_trace.specs.Tracing.{IsTracedText}
 use Rattle.clap.specs.Walk.{Text}
 use Rattle.clap.specs.Kinds.{IsAmong}
 use Rattle.clap.specs.declared.error.kind.ErrorKind.{ErrorKind}
@@ -61,33 +64,24 @@ FindsDeadlock known old new status =
 abbrev pub DrawsNetwork : Option (List ℕ) → Option (List ℕ) → Option (List ℕ) → ℕ → Type 0
 DrawsNetwork = WritesOrTells WritesGraph
 
--- as its plan says, or all its processes side by side on one node; who waits for what is written behind the traffic, or not; and the
--- events are written before it, or not
-abbrev pub StepsAs : (together why trace : Bool) → Option (List ℕ) → Option (List ℕ) → Option (List ℕ) → ℕ → Result Close RunFault → Type 0
-StepsAs false false false known old new limit = ClosesBy (Steps known old new limit)
-StepsAs true false false known old new limit = ClosesBy (StepsTogether known old new limit)
-StepsAs false true false known old new limit = StepsWhy known old new limit
-StepsAs true true false known old new limit = StepsTogetherWhy known old new limit
-StepsAs false why true known old new limit = ClosesBy (Traces why known old new limit)
-StepsAs true why true known old new limit = ClosesBy (TracesTogether why known old new limit)
+-- the text of a run: its traffic, with who waits for what or without, and its events in front of it, or not
+abbrev pub IsTextOf : (is_traced is_why : Bool) → RunText
+IsTextOf false is_why = IsTail is_why
+IsTextOf true is_why = IsTracedText is_why
 
--- it is run so for at most so many events, or a fault of it is told
-abbrev pub StepsNetwork : (together why trace : Bool) → Option (List ℕ) → Option (List ℕ) → Option (List ℕ) → ℕ → ℕ → Type 0
-StepsNetwork together why trace known old new limit status =
-    ((close : Close) × StepsAs together why trace known old new limit (Ok close) × (status ≡ status_of_end close))
-    ⊎ ((fault : RunFault) × (mid : Option (List ℕ)) × StepsAs together why trace known old mid limit (Err fault) × TellsFault mid new fault status)
+-- it is run event by event, as the options say, or a fault of it is told
+abbrev pub StepsNetwork : StepOptions → (is_traced : Bool) → Option (List ℕ) → Option (List ℕ) → Option (List ℕ) → ℕ → Type 0
+StepsNetwork options is_traced known old new status =
+    let Steps = WritesRunBy (IsTextOf is_traced options.is_why) (ReadsAs options.is_together known) in
+    ((close : Close) × Steps old new options.limit (Ok close) × (status ≡ status_of_end close))
+    ⊎ ((fault : RunFault) × (mid : Option (List ℕ)) × Steps old mid options.limit (Err fault) × TellsFault mid new fault status)
 
 -- in threads, so too
-abbrev pub ThreadsAs : (why trace : Bool) → ℕ → ℕ → Option (List ℕ) → Option (List ℕ) → Option (List ℕ) → Result Ending RunFault → Type 0
-ThreadsAs false false turns seed known old new = EndsInThreads turns seed known old new
-ThreadsAs true false turns seed known old new = EndsInThreadsWhy turns seed known old new
-ThreadsAs why true turns seed known old new = EndsBy (TracesThreads why turns seed known old new)
-
--- it is run so, of so many turns at most and with this seed, or a fault of it is told
-abbrev pub RunsNetwork : (why trace : Bool) → ℕ → ℕ → Option (List ℕ) → Option (List ℕ) → Option (List ℕ) → ℕ → Type 0
-RunsNetwork why trace turns seed known old new status =
-    ((ending : Ending) × ThreadsAs why trace turns seed known old new (Ok ending) × (status ≡ status_of_end ending.close))
-    ⊎ ((fault : RunFault) × (mid : Option (List ℕ)) × ThreadsAs why trace turns seed known old mid (Err fault) × TellsFault mid new fault status)
+abbrev pub RunsNetwork : ThreadOptions → (is_traced : Bool) → Option (List ℕ) → Option (List ℕ) → Option (List ℕ) → ℕ → Type 0
+RunsNetwork options is_traced known old new status =
+    let RunsThreads = WritesThreads (IsTextOf is_traced options.is_why) options.turns options.seed known in
+    ((ending : Ending) × RunsThreads old new (Ok ending) × (status ≡ status_of_end ending.close))
+    ⊎ ((fault : RunFault) × (mid : Option (List ℕ)) × RunsThreads old mid (Err fault) × TellsFault mid new fault status)
 
 -- what is wrong with the words, or the help that they ask for, is told, or want of memory
 abbrev pub TellsLine : List Text → Option (List ℕ) → Option (List ℕ) → ℕ → Type 0
@@ -101,10 +95,10 @@ pub data Runs (words : List Text) (known rest old new : Option (List ℕ)) (stat
   explains : Asks words Explain → ExplainsNetwork known old new status → Runs words known rest old new status
   finds : Asks words Deadlock → FindsDeadlock known old new status → Runs words known rest old new status
   draws : Asks words Draw → DrawsNetwork known old new status → Runs words known rest old new status
-  steps : (limit : ℕ) (together why trace : Bool) → limit ≤ 1000000000 → Asks words (Step limit together why trace)
-      → StepsNetwork together why trace known old new limit status
+  steps : (options : StepOptions) (is_traced : Bool) → options.limit ≤ 1000000000 → Asks words (Step options is_traced)
+      → StepsNetwork options is_traced known old new status
       → Runs words known rest old new status
-  runs : (turns seed : ℕ) (why trace : Bool) → turns ≤ 1000000000 → Asks words (Run turns seed why trace)
-      → RunsNetwork why trace turns seed known old new status
+  runs : (options : ThreadOptions) (is_traced : Bool) → options.turns ≤ 1000000000 → Asks words (Run options is_traced)
+      → RunsNetwork options is_traced known old new status
       → Runs words known rest old new status
   tells : rest ≡ known → TellsLine words old new status → Runs words known rest old new status

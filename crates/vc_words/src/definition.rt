@@ -1,5 +1,5 @@
 //! What `clap` is told of the command line.
-ghost use Rattle.std.specs.Prelude.{◌≡◌, false, IfOk};
+ghost use Rattle.std.specs.Prelude.{◌≡◌, false, codes, IfOk};
 ghost use Rattle.clap.specs.Words.{app_of};
 ghost use Rattle.clap.specs.Walk.{rule_of};
 ghost use Rattle.clap.specs.Simple.{shape_of};
@@ -60,7 +60,8 @@ Example: vcnet draw < examples/ring.json | dot -Tsvg > ring.svg";
 const STEP_HELP: &str = "\
 Prints what each channel carried, and how the run ended: `end done` where every process ended, `end quiet` where nothing can happen any more, \
 `end limit` where more events can happen. A number over one wire takes some 47 events; give a long run a greater --limit. With --why each \
-part of a process that waits or has stopped has a line behind these, and so has each packet. With --trace the events stand in front, one a line.
+part of a process that waits or has stopped has a line behind these, and so has each packet. With --trace the events stand in front, one a line. \
+A network can end in more than one way where an ALT has several guards: each --schedule N is another order of its events.
 
 Exit status: 0 done; 1 quiet; 2 refused; 3 limit; 4 no memory; 6 a stream failed.
 
@@ -114,6 +115,30 @@ fn flag<'a>(alloc: Global, name: &'a str, help: &'a str) -> Arg<'a>
         .action(ArgAction::SetTrue)
 }
 
+/// The flag that asks who waits for what.
+fn why_flag<'a>(alloc: Global) -> Arg<'a>
+    ensures rule { rule_of result ≡ flag_of (codes "why") }
+    ensures local { result.global ≡ false }
+{
+    flag(
+        alloc,
+        "why",
+        "Prints, behind the traffic, who waits for what and where the packets are",
+    )
+}
+
+/// The flag that asks for the events.
+fn trace_flag<'a>(alloc: Global) -> Arg<'a>
+    ensures rule { rule_of result ≡ flag_of (codes "trace") }
+    ensures local { result.global ≡ false }
+{
+    flag(
+        alloc,
+        "trace",
+        "Prints the events of the run, a line each, in front of its traffic",
+    )
+}
+
 /// The subcommand that runs the network event by event.
 fn step_definition<'a>(alloc: Global) -> Result<Command<'a>, AllocError>
     ensures shape { IfOk result (λ c. shape_of c ≡ step_shape) }
@@ -126,28 +151,26 @@ fn step_definition<'a>(alloc: Global) -> Result<Command<'a>, AllocError>
         counts(),
         "1000000",
     );
+    let schedule = number_option(
+        alloc,
+        "schedule",
+        "Makes the events in a random order that N repeats, or in turn where N is 0",
+        value_parser!(u32),
+        "0",
+    );
     let together = flag(
         alloc,
         "together",
         "Runs all processes on one node, with every channel inside it",
     );
-    let why = flag(
-        alloc,
-        "why",
-        "Prints, behind the traffic, who waits for what and where the packets are",
-    );
-    let trace = flag(
-        alloc,
-        "trace",
-        "Prints the events of the run, a line each, in front of its traffic",
-    );
     Command::new(alloc, "step")
         .about("Runs the network on standard input and prints its traffic")
         .after_help(STEP_HELP)
         .arg(limit)?
+        .arg(schedule)?
         .arg(together)?
-        .arg(why)?
-        .arg(trace)
+        .arg(why_flag(alloc))?
+        .arg(trace_flag(alloc))
 }
 
 /// The subcommand that runs the network in threads.
@@ -169,23 +192,13 @@ fn run_definition<'a>(alloc: Global) -> Result<Command<'a>, AllocError>
         value_parser!(u32),
         "0",
     );
-    let why = flag(
-        alloc,
-        "why",
-        "Prints, behind the traffic, who waits for what and where the packets are",
-    );
-    let trace = flag(
-        alloc,
-        "trace",
-        "Prints the events of the run, a line each, in front of its traffic",
-    );
     Command::new(alloc, "run")
         .about("Runs the network on standard input in threads and prints its traffic")
         .after_help(RUN_HELP)
         .arg(turns)?
         .arg(seed)?
-        .arg(why)?
-        .arg(trace)
+        .arg(why_flag(alloc))?
+        .arg(trace_flag(alloc))
 }
 
 /// What the program takes.

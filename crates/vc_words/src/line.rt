@@ -1,4 +1,5 @@
 //! A command line.
+use vc_text::{StepOptions, ThreadOptions};
 
 /// What the words ask for.
 #[derive(Clone, Copy, Debug, PartialEq, Eq, Drop)]
@@ -13,24 +14,17 @@ pub enum Line {
     Draw,
     /// To run the network event by event, and to print its traffic.
     Step {
-        /// The most events that are made: at most 1,000,000,000, and 1,000,000 where the words say nothing.
-        limit: u64,
-        /// Whether all processes run side by side on one node.
-        together: bool,
-        /// Whether it is printed, too, who waits for what.
-        why: bool,
+        /// How it is run: at most 1,000,000,000 events are made, and 1,000,000 where the words say nothing.
+        options: StepOptions,
         /// Whether its events are written in front of the traffic.
-        trace: bool,
+        is_traced: bool,
     },
     /// To run the network with a thread for each node and each switch, and to print its traffic.
     Run {
-        /// The most turns that each thread makes: at most 1,000,000,000, and 10,000,000 where the words say nothing.
-        turns: u64,
-        /// The seed of the words that random headers are made of: 0 where the words say nothing.
-        seed: u32,
-        /// Whether it is printed, too, who waits for what.
-        why: bool,
+        /// How it is run: each thread makes at most 1,000,000,000 turns, and 10,000,000 where the words say nothing; the seed is 0 where
+        /// they say nothing.
+        options: ThreadOptions,
         /// Whether its events are written in front of the traffic.
-        trace: bool,
+        is_traced: bool,
     },
 }

@@ -2,7 +2,7 @@
 ghost use Rattle.std.specs.Prelude.{◌≡◌, ◌≤◌, IfOk, IfErr, IfSome};
 ghost use Rattle.clap.specs.Words.{found_of, kind_of, rows_of, subcommand_rows_of};
 ghost use Rattle.clap.specs.Walk.{texts};
-ghost use Rattle.vc_words.specs.CommandLine.{has_flag, line_of as line_for, number_of, faults, Asks, IsFaultOf, IsInRange, IsToldAs};
+ghost use Rattle.vc_words.specs.CommandLine.{has_flag, line_of as line_for, number_of, schedule_of, step_options_of, thread_options_of, faults, Asks, IsFaultOf, IsInRange, IsToldAs};
 
 use crate::definition::definition;
 use crate::line::Line;
@@ -10,6 +10,7 @@ use crate::line_fault::LineFault;
 use clap::error::ErrorKind;
 use clap::{ArgMatches, Error};
 use std::alloc::Global;
+use vc_text::{Schedule, StepOptions, ThreadOptions};
 
 /// The most events of a run, and the most turns of each thread, that a line may allow.
 const MOST: u64 = 1_000_000_000;
@@ -48,6 +49,42 @@ fn is_set(matches: &ArgMatches<'_>, id: &str) -> bool
     }
 }
 
+/// The order of events that a number names: 0 names rounds over all actors, and any other number is the seed of a random order.
+fn schedule(number: u32) -> Schedule
+    ensures { result ≡ schedule_of number }
+{
+    if number == 0 {
+        Schedule::InTurn
+    } else {
+        Schedule::Random(number)
+    }
+}
+
+/// How the matches of `step` say that the network is run.
+fn step_options(matches: &ArgMatches<'_>) -> StepOptions
+    ensures options { result ≡ step_options_of (rows_of (found_of matches.now)) }
+    ensures range { result.limit ≤ 1000000000 }
+{
+    StepOptions {
+        limit: number(matches, "limit", MOST, USUAL_EVENTS),
+        schedule: schedule(number(matches, "schedule", u64::from(u32::MAX), 0) as u32),
+        is_together: is_set(matches, "together"),
+        is_why: is_set(matches, "why"),
+    }
+}
+
+/// How the matches of `run` say that the network is run.
+fn thread_options(matches: &ArgMatches<'_>) -> ThreadOptions
+    ensures options { result ≡ thread_options_of (rows_of (found_of matches.now)) }
+    ensures range { result.turns ≤ 1000000000 }
+{
+    ThreadOptions {
+        turns: number(matches, "turns", MOST, USUAL_TURNS),
+        seed: number(matches, "seed", u64::from(u32::MAX), 0) as u32,
+        is_why: is_set(matches, "why"),
+    }
+}
+
 /// What the matches ask for.
 fn line_of(matches: &ArgMatches<'_>) -> Line
     ensures line { IfSome (subcommand_rows_of matches.now) (λ found. result ≡ line_for found) }
@@ -55,16 +92,12 @@ fn line_of(matches: &ArgMatches<'_>) -> Line
 {
     match matches.subcommand() {
         Some(("step", inner)) => Line::Step {
-            limit: number(inner, "limit", MOST, USUAL_EVENTS),
-            together: is_set(inner, "together"),
-            why: is_set(inner, "why"),
-            trace: is_set(inner, "trace"),
+            options: step_options(inner),
+            is_traced: is_set(inner, "trace"),
         },
         Some(("run", inner)) => Line::Run {
-            turns: number(inner, "turns", MOST, USUAL_TURNS),
-            seed: number(inner, "seed", u64::from(u32::MAX), 0) as u32,
-            why: is_set(inner, "why"),
-            trace: is_set(inner, "trace"),
+            options: thread_options(inner),
+            is_traced: is_set(inner, "trace"),
         },
         Some(("explain", _)) => Line::Explain,
         Some(("deadlock", _)) => Line::Deadlock,

@@ -2,8 +2,11 @@
 ghost use Rattle.std.specs.Prelude.{◌≡◌, ℕ, List};
 ghost use Rattle.vc_text.specs.declared.fault.RunFault.TheVariants.{Memory as OutOfMemory};
 ghost use Rattle.clap.specs.Walk.{Text, texts};
+ghost use Rattle.vc_text.specs.OneNode.{ReadsAs};
+ghost use Rattle.vc_text.specs.Running.{WritesRunBy};
+ghost use Rattle.vc_text.specs.Threading.{WritesThreads};
 ghost use Rattle.vc_words.specs.CommandLine.{faults, IsFaultOf};
-ghost use Rattle.vc_words.specs.Program.{ChecksNetwork, DrawsNetwork, ExplainsNetwork, FindsDeadlock, Runs, RunsNetwork, StepsAs, StepsNetwork, Tells, TellsFault, TellsLine, ThreadsAs};
+ghost use Rattle.vc_words.specs.Program.{ChecksNetwork, DrawsNetwork, ExplainsNetwork, FindsDeadlock, IsTextOf, Runs, RunsNetwork, StepsNetwork, Tells, TellsFault, TellsLine};
 ghost use Rattle.vc_words.specs.Status.{status_of_acceptance as status_for_acceptance, status_of_check as status_for_check, status_of_text as status_for_text, status_of_fault, status_of_freedom as status_for_freedom, status_of_end};
 
 use crate::line::Line;
@@ -18,11 +21,11 @@ use vc_explain::run_explain;
 use vc_plan::CheckRefused;
 use vc_reader::ReadRefused;
 use vc_text::{
-    RunFault, run_check, run_deadlock, run_draw, run_net_unlogged, run_net_why, run_step_unlogged,
-    run_step_why, run_together_unlogged, run_together_why, write_fault, write_text,
+    RunFault, StepOptions, ThreadOptions, run_check, run_deadlock, run_draw, run_net_unlogged,
+    run_step_unlogged, write_fault, write_text,
 };
 use vc_threads::Ending;
-use vc_trace::{trace_net, trace_step, trace_together};
+use vc_trace::{trace_net, trace_step};
 
 /// The status for a network that is accepted, or drawn, or without a cycle, or whose processes have all ended.
 const DONE: u8 = 0;
@@ -193,26 +196,22 @@ fn draw_by<R: Read, W: Write>(alloc: Global, reader: &mut R, writer: &mut W) -> 
     }
 }
 
-/// Runs the network that the reader has, as its plan says, or all its processes on one node, and without its events or with them.
-fn stepped<R: Read, W: Write>(
+/// Runs the network that the reader has event by event, and writes its text, without its events or with them.
+fn write_step<R: Read, W: Write>(
     alloc: Global,
     reader: &mut R,
     writer: &mut W,
-    limit: u64,
-    is_together: bool,
-    is_why: bool,
+    options: StepOptions,
     is_traced: bool,
 ) -> Result<Close, RunFault>
-    ensures { StepsAs is_together is_why is_traced (R.remaining reader.old)
-        (W.contents writer.old) (W.contents writer.new) limit result }
+    ensures { WritesRunBy (IsTextOf is_traced options.is_why)
+        (ReadsAs options.is_together (R.remaining reader.old))
+        (W.contents writer.old) (W.contents writer.new) options.limit result }
 {
-    match (is_together, is_why, is_traced) {
-        (false, false, false) => run_step_unlogged(alloc, reader, writer, limit),
-        (true, false, false) => run_together_unlogged(alloc, reader, writer, limit),
-        (false, true, false) => run_step_why(alloc, reader, writer, limit),
-        (true, true, false) => run_together_why(alloc, reader, writer, limit),
-        (false, _, true) => trace_step(alloc, reader, writer, limit, is_why),
-        (true, _, true) => trace_together(alloc, reader, writer, limit, is_why),
+    if is_traced {
+        trace_step(alloc, reader, writer, options)
+    } else {
+        run_step_unlogged(alloc, reader, writer, options)
     }
 }
 
@@ -221,38 +220,34 @@ fn step_by<R: Read, W: Write>(
     alloc: Global,
     reader: &mut R,
     writer: &mut W,
-    limit: u64,
-    is_together: bool,
-    is_why: bool,
+    options: StepOptions,
     is_traced: bool,
 ) -> u8
-    ensures { StepsNetwork is_together is_why is_traced (R.remaining reader.old)
-        (W.contents writer.old) (W.contents writer.new) limit result }
+    ensures { StepsNetwork options is_traced (R.remaining reader.old)
+        (W.contents writer.old) (W.contents writer.new) result }
 {
-    match stepped(alloc, reader, writer, limit, is_together, is_why, is_traced) {
+    match write_step(alloc, reader, writer, options, is_traced) {
         Ok(close) => status_of_close(close),
         Err(fault) => told(alloc, fault, writer),
     }
 }
 
-/// Runs the network that the reader has, in threads.
-fn threaded<T: Threads + Wait, R: Read, W: Write>(
+/// Runs the network that the reader has in threads, and writes its text, without its events or with them.
+fn write_net<T: Threads + Wait, R: Read, W: Write>(
     rt: &T,
     alloc: Global,
     reader: &mut R,
     writer: &mut W,
-    turns: u64,
-    seed: u32,
-    is_why: bool,
+    options: ThreadOptions,
     is_traced: bool,
 ) -> Result<Ending, RunFault>
-    ensures { ThreadsAs is_why is_traced turns seed (R.remaining reader.old)
-        (W.contents writer.old) (W.contents writer.new) result }
+    ensures { WritesThreads (IsTextOf is_traced options.is_why) options.turns options.seed
+        (R.remaining reader.old) (W.contents writer.old) (W.contents writer.new) result }
 {
-    match (is_why, is_traced) {
-        (false, false) => run_net_unlogged(rt, alloc, reader, writer, turns, seed),
-        (true, false) => run_net_why(rt, alloc, reader, writer, turns, seed),
-        (_, true) => trace_net(rt, alloc, reader, writer, turns, seed, is_why),
+    if is_traced {
+        trace_net(rt, alloc, reader, writer, options)
+    } else {
+        run_net_unlogged(rt, alloc, reader, writer, options)
     }
 }
 
@@ -262,15 +257,13 @@ fn run_by<T: Threads + Wait, R: Read, W: Write>(
     alloc: Global,
     reader: &mut R,
     writer: &mut W,
-    turns: u64,
-    seed: u32,
-    is_why: bool,
+    options: ThreadOptions,
     is_traced: bool,
 ) -> u8
-    ensures { RunsNetwork is_why is_traced turns seed (R.remaining reader.old)
+    ensures { RunsNetwork options is_traced (R.remaining reader.old)
         (W.contents writer.old) (W.contents writer.new) result }
 {
-    match threaded(rt, alloc, reader, writer, turns, seed, is_why, is_traced) {
+    match write_net(rt, alloc, reader, writer, options, is_traced) {
         Ok(ending) => status_of_close(ending.close),
         Err(fault) => told(alloc, fault, writer),
     }
@@ -292,22 +285,12 @@ pub fn run_words<T: Threads + Wait, R: Read, W: Write>(
         Ok(Line::Explain) => explain_by(alloc, reader, writer),
         Ok(Line::Deadlock) => deadlock_by(alloc, reader, writer),
         Ok(Line::Draw) => draw_by(alloc, reader, writer),
-        Ok(
-            Line::Step {
-                limit,
-                together,
-                why,
-                trace,
-            },
-        ) => step_by(alloc, reader, writer, limit, together, why, trace),
-        Ok(
-            Line::Run {
-                turns,
-                seed,
-                why,
-                trace,
-            },
-        ) => run_by(rt, alloc, reader, writer, turns, seed, why, trace),
+        Ok(Line::Step { options, is_traced }) => {
+            step_by(alloc, reader, writer, options, is_traced)
+        }
+        Ok(Line::Run { options, is_traced }) => {
+            run_by(rt, alloc, reader, writer, options, is_traced)
+        }
         Err(fault) => told_of_line(alloc, &fault, writer),
     }
 }

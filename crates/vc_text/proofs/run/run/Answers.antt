@@ -11,7 +11,7 @@ use Rattle.vc_text.proofs.run.run.Goals as goal
 pub returns-clause-is : goal.returns-clause-is
 returns-clause-is g c =
     let p = c.args.accepted.now in
-    let ran = c.in_ok-rounds.ensures.runs p [] c.requires c.in_ok-run.ensures.opens in
+    let ran = c.in_ok-make_events.ensures.runs p [] c.requires c.in_ok-run.ensures.opens in
     subst (IsNetworkOf p) (sym c.in_ok-close.ensures.same) ran.2.reached.is
 
 pub returns-clause-run : goal.returns-clause-run
@@ -19,11 +19,11 @@ returns-clause-run g c =
     let p = c.args.accepted.now in
     let begun = c.in_ok-run.ensures.opens in
     let t = state_of c.close.new.self.network in
-    let mid = c.rounds.new.self in
-    let ran = c.in_ok-rounds.ensures.runs p [] c.requires begun in
+    let mid = c.make_events.new.self in
+    let ran = c.in_ok-make_events.ensures.runs p [] c.requires begun in
     let events = ran.0 in
-    let ends = c.in_ok-rounds.ensures.ends p [] c.requires begun in
-    let few = c.in_ok-rounds.ensures.few in
+    let ends = c.in_ok-make_events.ensures.ends p [] c.requires begun in
+    let few = c.in_ok-make_events.ensures.few in
     let many = ran.2.many in
     let there = subst (Replays p events) (sym c.in_ok-close.ensures.same) (replays p events (state_of mid.network) ran.2.reached) in
     let closes = subst (λ z. Closes p (shown z) (length events) c.args.limit c.in_ok-close.close) (sym c.in_ok-close.ensures.same)
@@ -40,8 +40,8 @@ returns-clause-run g c =
       },
     )
 
-pub rounds-requires : goal.rounds-requires
-rounds-requires g c = let none = c.in_ok-run.ensures.none in omega (arith, none)
+pub make_events-requires : goal.make_events-requires
+make_events-requires g c = let none = c.in_ok-run.ensures.none in omega (arith, none)
 
 pub close-requires : goal.close-requires
-close-requires g c = c.in_ok-rounds.ensures.few
+close-requires g c = c.in_ok-make_events.ensures.few

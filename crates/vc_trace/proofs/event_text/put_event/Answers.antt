@@ -4,7 +4,8 @@ use Rattle.vc_core.specs.declared.event.Event.{Event}
 use Rattle.vc_plan.specs.declared.plan.Plan.{Plan}
 use Rattle.vc_text.specs.Streams.{AppendsFront}
 use Rattle.vc_text.specs.Traffic.{newline}
-use Rattle.vc_trace.specs.EventText.{act_words, actor_name, event_line, spaced}
+use Rattle.vc_plan.specs.Names.{actor_name}
+use Rattle.vc_trace.specs.EventText.{act_words, event_line, spaced}
 use Rattle.vc_trace.specs.Pieces.{Passes}
 use Rattle.vc_trace.proofs.Passing.{any_err, front_first, passes_front, passes_two}
 use Rattle.vc_trace.proofs.event_text.put_event.Goals as goal

@@ -11,14 +11,16 @@ pub returns-clause-shape : goal.returns-clause-shape
 returns-clause-shape c =
     let top : app_of c.after_help.result ≡ new_app (codes "step") = ap app_of_fields c.after_help.ensures ∙ ap app_of_fields c.about.ensures ∙ c.new.ensures.app in
     let one = c.in_ok-arg.ensures.shape c.number_option-limit.ensures.local ∙ ap₂ with_rule top (c.number_option-limit.ensures.rule ∙ ap (λ n. option_of (codes "limit") n (codes "1000000")) c.counts.ensures) in
-    let two = c.in_ok-arg-2.ensures.shape c.flag-together.ensures.local ∙ ap₂ with_rule one c.flag-together.ensures.rule in
-    let three = c.in_ok-arg-3.ensures.shape c.flag-why.ensures.local ∙ ap₂ with_rule two c.flag-why.ensures.rule in
-    IfOk-weaker c.arg-4.result _ _ (λ r h. ap (λ (a : App). a.top) (h.shape c.flag-trace.ensures.local ∙ ap₂ with_rule three c.flag-trace.ensures.rule)) c.arg-4.ensures
+    let two = c.in_ok-arg-2.ensures.shape c.number_option-schedule.ensures.local ∙ ap₂ with_rule one (c.number_option-schedule.ensures.rule ∙ ap (λ n. option_of (codes "schedule") n (codes "0")) c.value_parser.ensures) in
+    let three = c.in_ok-arg-3.ensures.shape c.flag-together.ensures.local ∙ ap₂ with_rule two c.flag-together.ensures.rule in
+    let four = c.in_ok-arg-4.ensures.shape c.why_flag.ensures.local ∙ ap₂ with_rule three c.why_flag.ensures.rule in
+    IfOk-weaker c.arg-5.result _ _ (λ r h. ap (λ (a : App). a.top) (h.shape c.trace_flag.ensures.local ∙ ap₂ with_rule four c.trace_flag.ensures.rule)) c.arg-5.ensures
 
 pub returns-clause-local : goal.returns-clause-local
 returns-clause-local c =
     let top : (out-Command c.after_help.result).has_globals ≡ false = ap globals c.after_help.ensures ∙ ap globals c.about.ensures ∙ c.new.ensures.local in
     let one = neither _ _ _ c.in_ok-arg.ensures.globals top c.number_option-limit.ensures.local in
-    let two = neither _ _ _ c.in_ok-arg-2.ensures.globals one c.flag-together.ensures.local in
-    let three = neither _ _ _ c.in_ok-arg-3.ensures.globals two c.flag-why.ensures.local in
-    IfOk-weaker c.arg-4.result _ _ (λ r h. neither _ _ _ h.globals three c.flag-trace.ensures.local) c.arg-4.ensures
+    let two = neither _ _ _ c.in_ok-arg-2.ensures.globals one c.number_option-schedule.ensures.local in
+    let three = neither _ _ _ c.in_ok-arg-3.ensures.globals two c.flag-together.ensures.local in
+    let four = neither _ _ _ c.in_ok-arg-4.ensures.globals three c.why_flag.ensures.local in
+    IfOk-weaker c.arg-5.result _ _ (λ r h. neither _ _ _ h.globals four c.trace_flag.ensures.local) c.arg-5.ensures

@@ -1,0 +1,12 @@
+use Rattle.vc_text.specs.OneNode.{ReadsAs}
+use Rattle.vc_text.specs.Tail.{IsTail}
+use Rattle.vc_text.proofs.Checked.{memory_as}
+use Rattle.vc_text.proofs.Stepped.{writes_by}
+use Rattle.vc_text.proofs.unlogged.run_step_unlogged.Goals as goal
+
+pub returns : goal.returns
+returns g c =
+    let options = c.args.options in
+    let known = g.R.Read.remaining c.args.reader.now in
+    writes_by (IsTail options.is_why) (ReadsAs options.is_together known) (memory_as options.is_together known) c.in_ok-accepted.accepted
+    (g.W.Write.contents c.args.writer.now) _ options.limit _ c.in_ok-accepted.ensures c.run_plan.ensures

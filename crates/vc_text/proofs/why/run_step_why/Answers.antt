@@ -1,9 +1,0 @@
-use Rattle.vc_text.specs.Checking.{ReadsAccepted}
-use Rattle.vc_text.proofs.Asked.{steps_why_by}
-use Rattle.vc_text.proofs.Checked.{memory_any}
-use Rattle.vc_text.proofs.why.run_step_why.Goals as goal
-
-pub returns : goal.returns
-returns g c =
-    let known = g.R.Read.remaining c.args.reader.now in
-    steps_why_by (ReadsAccepted known) (memory_any known) c.in_ok-accepted.accepted (g.W.Write.contents c.args.writer.now) _ c.args.limit _ c.in_ok-accepted.ensures c.run_plan_why.ensures

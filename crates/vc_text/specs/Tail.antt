@@ -1,0 +1,12 @@
+-- The traffic of a run, and behind it, where it is asked for, who waits for what.
+use Rattle.std.specs.Prelude.{◌≡◌, ℕ, Bool, true, false, List, ◌++◌}
+use Rattle.vc_text.specs.Running.{RunText}
+use Rattle.vc_text.specs.Shown.{channels_of}
+use Rattle.vc_text.specs.Traffic.{traffic}
+use Rattle.vc_waits.specs.Packets.{IsWaitsText}
+
+-- the traffic, with who waits for what and where the packets are, or without
+abbrev pub IsTail : (why : Bool) → RunText
+IsTail false plan events x close text = text ≡ traffic (channels_of plan x) close
+IsTail true plan events x close text =
+    (waits : List ℕ) × IsWaitsText plan x waits × (text ≡ traffic (channels_of plan x) close ++ waits)
