@@ -1,5 +1,7 @@
 -- A plan that was read and its run, together.
-use Rattle.std.proofs.Common.{ℕ, List, Option, Result, Ok, Err, inr}
+use Rattle.std.proofs.Common.{◌≡◌, ℕ, List, Option, Result, Ok, Err, ap, inr}
+use Rattle.std.specs.Result.{IsErr, IsErrAnd}
+use Rattle.std.proofs.lemmas.Bool.{false≢true}
 use Rattle.vc_core.specs.Enabled.{NetworkState}
 use Rattle.vc_core.specs.declared.close.Close.{Close}
 use Rattle.vc_core.specs.declared.event.Event.{Event}
@@ -13,6 +15,11 @@ use Rattle.vc_text.specs.Traffic.{traffic}
 use Rattle.vc_text.specs.declared.fault.RunFault.{RunFault}
 use Rattle.vc_text.specs.declared.fault.RunFault.TheVariants.{Read, Write, Text, Plan, Threads, Memory}
 use Rattle.vc_text.specs.declared.run.StepReport.{StepReport}
+
+-- a fault that is handed on stays as it is
+pub handed_on : {A : Type 0} (result : Result A RunFault) (fault : RunFault) → IsErr result × IsErrAnd result (λ e. e ≡ fault) → result ≡ Err fault
+handed_on (Ok a) fault is = absurd (false≢true is.0)
+handed_on (Err e) fault is = ap Err is.1
 
 -- the traffic could not be written, or there was no memory for it
 pub unwritten : (old new : Option (List ℕ)) (limit : ℕ) (plan : Network) (events : List Event) (x : NetworkState) (close : Close) (fault : RunFault) →

@@ -1,13 +1,24 @@
 //! Who makes the next event of a run in a random order.
-ghost use Rattle.std.specs.Prelude.{◌<◌, IfSome};
+ghost use Rattle.std.specs.Prelude.{◌≡◌, ◌⊎◌, ◌<◌, ◌≤◌, ◌-◌, ◌^◌, List, IfOk, IfSome, OnOk};
+ghost use Rattle.vc_core.specs.State.{state_of};
+ghost use Rattle.vc_core.specs.Turns.{IsAtRest};
+ghost use Rattle.vc_core.specs.declared.event.Event.{Event};
+ghost use Rattle.vc_plan.specs.declared.plan.Plan.{Plan};
+ghost use Rattle.vc_text.specs.Simulating.{HasRun, LeadsOn, counted};
 
+use crate::event_sink::EventSink;
 use crate::seats::Seats;
+use crate::simulation::Simulation;
 use rand_core::utils::NextWord;
 use rand_pcg::Lcg64Xsh32;
 use vc_core::ActKind;
+use vc_packets::Memory;
 
 /// The stream of the generator that draws actors: no actor has this number.
 const STREAM: u64 = u64::MAX;
+
+/// How many actors are drawn before all of them are asked in turn.
+const TRIES: u8 = 64;
 
 /// Who makes the next event of a run in a random order: an actor makes some events after another, and then another one is drawn.
 #[derive(Drop)]
@@ -58,5 +69,94 @@ impl Draws {
     /// It has no such event: another one is drawn.
     pub(crate) fn pass_on(&mut self) {
         self.left = 0;
+    }
+}
+
+impl Simulation {
+    /// An actor makes an event of this kind, if it has one. The answer is whether it had one.
+    fn act_by<K: EventSink>(
+        &mut self,
+        events: &mut K,
+        actor: u8,
+        kind: ActKind,
+    ) -> Result<bool, Memory>
+        requires few { self.old.made < 2 ^ 64 - 1 }
+        ensures made { IfOk result (λ had. self.new.made ≡ counted had self.old.made) }
+        ensures runs { OnOk result (LeadsOn K.holds self.old events.old self.new events.new) }
+    {
+        let Some(event) = self.network.turn_by(actor, kind)? else {
+            return Ok(false);
+        };
+        events.record(event)?;
+        self.made += 1;
+        Ok(true)
+    }
+
+    /// An event of the actor whose turn it is by some draws: of a kind that they say, or else what the actor makes next. The answer is
+    /// whether it had one.
+    fn draw_event<K: EventSink>(
+        &mut self,
+        events: &mut K,
+        draws: &mut Draws,
+    ) -> Result<bool, Memory>
+        requires few { self.old.made < 2 ^ 64 - 1 }
+        ensures made { IfOk result (λ had. self.new.made ≡ counted had self.old.made) }
+        ensures runs { OnOk result (LeadsOn K.holds self.old events.old self.new events.new) }
+    {
+        let awake = self.network.awake();
+        let Some(actor) = draws.next_actor(&self.seats, awake) else {
+            return Ok(false);
+        };
+        if let Some(kind) = draws.kind() {
+            if self.act_by(events, actor, kind)? {
+                return Ok(true);
+            }
+        }
+        self.act(events, actor)
+    }
+
+    /// Tries at an event by some draws. The answer is whether one was made.
+    fn try_events<K: EventSink>(
+        &mut self,
+        events: &mut K,
+        draws: &mut Draws,
+    ) -> Result<bool, Memory>
+        requires few { self.old.made < 2 ^ 64 - 1 }
+        ensures made { IfOk result (λ had. self.new.made ≡ counted had self.old.made) }
+        ensures runs { OnOk result (LeadsOn K.holds self.old events.old self.new events.new) }
+    {
+        for _ in 0..TRIES {
+            if self.draw_event(events, draws)? {
+                return Ok(true);
+            }
+            draws.pass_on();
+        }
+        Ok(false)
+    }
+
+    /// Events of actors that a generator of this seed draws, until none has an event or there are so many events.
+    pub(crate) fn draw_events<K: EventSink>(
+        &mut self,
+        events: &mut K,
+        limit: u64,
+        seed: u32,
+    ) -> Result<(), Memory>
+        requires { self.old.made ≤ limit }
+        ensures few { OnOk result (self.new.made ≤ limit) }
+        ensures runs { OnOk result (LeadsOn K.holds self.old events.old self.new events.new) }
+        ensures ends { OnOk result ((p : Plan) (es : List Event) →
+            K.holds events.old es → HasRun p es self.old →
+            (self.new.made ≡ limit) ⊎ IsAtRest p (state_of self.new.network)) }
+    {
+        let mut draws = Draws::new(seed);
+        for _ in 0..limit {
+            if self.made >= limit {
+                return Ok(());
+            }
+            if !self.try_events(events, &mut draws)? && !self.round(events, limit)? {
+                return Ok(());
+            }
+        }
+        Ok(())
     }
 }

@@ -30,15 +30,15 @@ mod unlogged;
 
 pub use check::{accepted_text, read_accepted, run_check};
 pub use deadlock::{cycle_text, run_deadlock};
+pub use event_sink::EventSink;
 pub use fault::RunFault;
 pub use fault_line::{fault_text, write_fault};
 pub use graph::run_draw;
-pub use event_sink::EventSink;
 pub use number::push_number;
 pub use one_node::{read_as, read_together};
 pub use plan_text::{push_hop, push_last, push_port};
 pub use read_line::push_step;
-pub use run::{StepReport, run, run_accepted, run_step, run_together, write_traffic};
+pub use run::{StepReport, run_accepted, run_into, run_step, run_together, write_traffic};
 pub use schedule::Schedule;
 pub use step_options::StepOptions;
 pub use streams::{read_all, write_text};

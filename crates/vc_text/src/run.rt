@@ -87,7 +87,7 @@ pub fn write_traffic<W: Write>(
 
 /// Runs an accepted network event by event, until no event is enabled or there are `limit` events, which go to a sink. The answer is the
 /// network after it, and how the run ended. It fails for want of memory alone.
-pub fn run<K: EventSink>(
+pub fn run_into<K: EventSink>(
     alloc: Global,
     accepted: &Accepted,
     events: &mut K,
@@ -117,7 +117,7 @@ pub fn run_accepted(
         IsRunWithin accepted.now limit (r.1).events (shown (state_of r.0)) (r.1).close) }
 {
     let mut events = EventLog::new(alloc);
-    let (network, close) = run(alloc, accepted, &mut events, limit, Schedule::InTurn)?;
+    let (network, close) = run_into(alloc, accepted, &mut events, limit, Schedule::InTurn)?;
     Ok((network, StepReport { events, close }))
 }
 

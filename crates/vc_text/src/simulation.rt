@@ -7,24 +7,20 @@ ghost use Rattle.vc_core.specs.declared.event.Event.{Event};
 ghost use Rattle.vc_text.specs.Closing.{HasEvent, Closes};
 ghost use Rattle.vc_text.specs.Simulating.{HasRun, LeadsOn, counted};
 
-use crate::draws::Draws;
 use crate::event_sink::EventSink;
 use crate::schedule::Schedule;
 use crate::seats::{Seats, after};
 use std::alloc::Global;
-use vc_core::{Act, ActKind, Close, Event, Network};
+use vc_core::{Act, Close, Event, Network};
 use vc_packets::Memory;
 use vc_plan::Accepted;
-
-/// How many actors are drawn before all of them are asked in turn.
-const TRIES: u8 = 64;
 
 /// A run under way: its network, what is known of the actors, and how many events were made.
 #[derive(Drop)]
 pub(crate) struct Simulation {
     pub(crate) network: Network,
-    seats: Seats,
-    made: u64,
+    pub(crate) seats: Seats,
+    pub(crate) made: u64,
 }
 
 impl Simulation {
@@ -66,7 +62,7 @@ impl Simulation {
 
     /// An actor makes the event that it makes next, if it has one: a take from the least link that has a token, else what it does
     /// where every way has room. The answer is whether it had one.
-    fn act<K: EventSink>(&mut self, events: &mut K, actor: u8) -> Result<bool, Memory>
+    pub(crate) fn act<K: EventSink>(&mut self, events: &mut K, actor: u8) -> Result<bool, Memory>
         requires actor { actor < 64 }
         requires few { self.old.made < 2 ^ 64 - 1 }
         ensures made { IfOk result (λ had. self.new.made ≡ counted had self.old.made) }
@@ -93,7 +89,7 @@ impl Simulation {
     }
 
     /// One round over the actors: each makes at most one event, up to so many events in all. The answer is whether an event was made.
-    fn round<K: EventSink>(&mut self, events: &mut K, limit: u64) -> Result<bool, Memory>
+    pub(crate) fn round<K: EventSink>(&mut self, events: &mut K, limit: u64) -> Result<bool, Memory>
         requires { self.old.made ≤ limit }
         ensures few { OnOk result (self.new.made ≤ limit) }
         ensures more { result ≡ Ok true →
@@ -130,93 +126,6 @@ impl Simulation {
                 return Ok(());
             }
             if self.made >= limit {
-                return Ok(());
-            }
-        }
-        Ok(())
-    }
-
-    /// An actor makes an event of this kind, if it has one. The answer is whether it had one.
-    fn act_by<K: EventSink>(
-        &mut self,
-        events: &mut K,
-        actor: u8,
-        kind: ActKind,
-    ) -> Result<bool, Memory>
-        requires few { self.old.made < 2 ^ 64 - 1 }
-        ensures made { IfOk result (λ had. self.new.made ≡ counted had self.old.made) }
-        ensures runs { OnOk result (LeadsOn K.holds self.old events.old self.new events.new) }
-    {
-        let Some(event) = self.network.turn_by(actor, kind)? else {
-            return Ok(false);
-        };
-        events.record(event)?;
-        self.made += 1;
-        Ok(true)
-    }
-
-    /// An event of the actor whose turn it is by some draws: of a kind that they say, or else what the actor makes next. The answer is
-    /// whether it had one.
-    fn draw_event<K: EventSink>(
-        &mut self,
-        events: &mut K,
-        draws: &mut Draws,
-    ) -> Result<bool, Memory>
-        requires few { self.old.made < 2 ^ 64 - 1 }
-        ensures made { IfOk result (λ had. self.new.made ≡ counted had self.old.made) }
-        ensures runs { OnOk result (LeadsOn K.holds self.old events.old self.new events.new) }
-    {
-        let awake = self.network.awake();
-        let Some(actor) = draws.next_actor(&self.seats, awake) else {
-            return Ok(false);
-        };
-        if let Some(kind) = draws.kind() {
-            if self.act_by(events, actor, kind)? {
-                return Ok(true);
-            }
-        }
-        self.act(events, actor)
-    }
-
-    /// Tries at an event by some draws. The answer is whether one was made.
-    fn try_events<K: EventSink>(
-        &mut self,
-        events: &mut K,
-        draws: &mut Draws,
-    ) -> Result<bool, Memory>
-        requires few { self.old.made < 2 ^ 64 - 1 }
-        ensures made { IfOk result (λ had. self.new.made ≡ counted had self.old.made) }
-        ensures runs { OnOk result (LeadsOn K.holds self.old events.old self.new events.new) }
-    {
-        for _ in 0..TRIES {
-            if self.draw_event(events, draws)? {
-                return Ok(true);
-            }
-            draws.pass_on();
-        }
-        Ok(false)
-    }
-
-    /// Events of actors that a generator of this seed draws, until none has an event or there are so many events.
-    fn draw_events<K: EventSink>(
-        &mut self,
-        events: &mut K,
-        limit: u64,
-        seed: u32,
-    ) -> Result<(), Memory>
-        requires { self.old.made ≤ limit }
-        ensures few { OnOk result (self.new.made ≤ limit) }
-        ensures runs { OnOk result (LeadsOn K.holds self.old events.old self.new events.new) }
-        ensures ends { OnOk result ((p : Plan) (es : List Event) →
-            K.holds events.old es → HasRun p es self.old →
-            (self.new.made ≡ limit) ⊎ IsAtRest p (state_of self.new.network)) }
-    {
-        let mut draws = Draws::new(seed);
-        for _ in 0..limit {
-            if self.made >= limit {
-                return Ok(());
-            }
-            if !self.try_events(events, &mut draws)? && !self.round(events, limit)? {
                 return Ok(());
             }
         }

@@ -9,7 +9,7 @@ ghost use Rattle.vc_text.specs.Tail.{IsTail};
 use crate::event_sink::Unlogged;
 use crate::fault::RunFault;
 use crate::one_node::read_as;
-use crate::run::run;
+use crate::run::run_into;
 use crate::schedule::Schedule;
 use crate::step_options::StepOptions;
 use crate::tail::write_tail;
@@ -31,7 +31,7 @@ pub fn run_unlogged(
     ensures run { IfOk result (λ r. (events : List Event) ×
         IsRunWithin accepted.now limit events (shown (state_of r.0)) r.1) }
 {
-    run(alloc, accepted, &mut Unlogged, limit, schedule)
+    run_into(alloc, accepted, &mut Unlogged, limit, schedule)
 }
 
 /// Runs an accepted network so, and writes its traffic.

@@ -9,7 +9,7 @@ use std::io::{Read, Write};
 use vc_core::Close;
 use vc_log::EventLog;
 use vc_plan::Accepted;
-use vc_text::{RunFault, StepOptions, read_as, run, tail_of};
+use vc_text::{RunFault, StepOptions, read_as, run_into, tail_of};
 
 /// Runs an accepted network event by event, and writes its events and its traffic. The traffic's text is made first, so want of memory
 /// writes nothing.
@@ -24,7 +24,7 @@ fn trace_plan<W: Write>(
 {
     let plan = accepted.plan();
     let mut events = EventLog::new(alloc);
-    let (network, close) = run(
+    let (network, close) = run_into(
         alloc,
         accepted,
         &mut events,

@@ -1,29 +1,21 @@
-use Rattle.std.proofs.Common.{subst}
+use Rattle.std.proofs.Common.{subst, sym}
 use Rattle.vc_core.specs.State.{shown, state_of}
-use Rattle.vc_text.specs.Shown.{channels_of}
-use Rattle.vc_text.specs.Streams.{Writes}
-use Rattle.vc_text.specs.Traffic.{traffic}
-use Rattle.vc_text.proofs.Stepped.{unwritten}
+use Rattle.vc_text.specs.Running.{RunsPlan}
+use Rattle.vc_text.proofs.Stepped.{handed_on, unwritten}
 use Rattle.vc_text.proofs.run.run_plan.Goals as goal
 
-pub returns-in-Ok : goal.returns-in-Ok
-returns-in-Ok g c =
-    let p = c.args.accepted.now in
-    let ran = c.in_ok-network.ensures.run in
-    let x = shown (state_of c.in_ok-network.network) in
-    let text = traffic (channels_of p x) c.in_ok-network.report.close in (
-      x,
-      ran,
-      subst (Writes (g.W.Write.contents c.args.writer.now) (g.W.Write.contents c.write_traffic.new.writer) text) c.in-Ok.is (c.write_traffic.ensures p c.in_ok-network.ensures.is),
-    )
-
-pub returns : goal.returns
-returns g c =
+pub returns-in_err-write_traffic : goal.returns-in_err-write_traffic
+returns-in_err-write_traffic g c =
     let p = c.args.accepted.now in
     let ran = c.in_ok-network.ensures.run in
     let x = shown (state_of c.in_ok-network.network) in
     let report = c.in_ok-network.report in
     let old = g.W.Write.contents c.args.writer.now in
     let new = g.W.Write.contents c.write_traffic.new.writer in
-    unwritten old new c.args.limit p report.events x report.close c.in-Err.fault ran
-    (subst (Writes old new (traffic (channels_of p x) report.close)) c.in-Err.is (c.write_traffic.ensures p c.in_ok-network.ensures.is))
+    subst (RunsPlan p old new c.args.limit) (sym (handed_on c.from_residual-in_err-write_traffic.result c.in_err-write_traffic.field-0.0 c.from_residual-in_err-write_traffic.ensures))
+    (unwritten old new c.args.limit p report.events x report.close c.in_err-write_traffic.field-0.0 ran (c.in_err-write_traffic.ensures p c.in_ok-network.ensures.is))
+
+pub returns : goal.returns
+returns g c =
+    let p = c.args.accepted.now in
+    (shown (state_of c.in_ok-network.network), c.in_ok-network.ensures.run, c.in_ok-write_traffic.ensures p c.in_ok-network.ensures.is)

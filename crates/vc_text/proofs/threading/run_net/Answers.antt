@@ -1,22 +1,31 @@
-use Rattle.std.proofs.Common.{subst}
-use Rattle.vc_text.specs.Streams.{Writes}
-use Rattle.vc_text.specs.Threading.{ending_of, ending_text}
-use Rattle.vc_text.proofs.Threaded.{unwritten}
+use Rattle.std.proofs.Common.{Err, false, refl, subst, sym}
+use Rattle.vc_core.specs.State.{shown, state_of}
+use Rattle.vc_threads.specs.declared.report.Ending.{Ending}
+use Rattle.vc_text.specs.Shown.{channels_of}
+use Rattle.vc_text.specs.Tail.{IsTail}
+use Rattle.vc_text.specs.Threading.{RunsInThreads}
+use Rattle.vc_text.specs.Traffic.{traffic}
+use Rattle.vc_text.proofs.Stepped.{handed_on, writes_one}
+use Rattle.vc_text.proofs.Threaded.{threads_unwritten}
 use Rattle.vc_text.proofs.threading.run_net.Goals as goal
 
-pub returns-in-Ok : goal.returns-in-Ok
-returns-in-Ok g c =
+pub returns-in_err-write_traffic : goal.returns-in_err-write_traffic
+returns-in_err-write_traffic g c =
     let p = c.in_ok-accepted.accepted in
-    let r = c.in_ok-report.report in (
-      p,
-      c.in_ok-accepted.ensures,
-      c.in_ok-report.ensures,
-      subst (Writes (g.W.Write.contents c.args.writer.now) (g.W.Write.contents c.write_traffic.new.writer) (ending_text p (ending_of r))) c.in-Ok.is (c.write_traffic.ensures p c.in_ok-report.ensures.replays.is),
-    )
+    let r = c.in_ok-report.report in
+    let e : Ending = record { state = r.state; stops = r.stops; close = r.close } in
+    let x = shown (state_of r.state) in
+    let known = g.R.Read.remaining c.args.reader.now in
+    let old = g.W.Write.contents c.args.writer.now in
+    let new = g.W.Write.contents c.write_traffic.new.writer in
+    let fault = c.in_err-write_traffic.field-0.0 in
+    let wrote = writes_one (IsTail false p r.steps.items x r.close) old new (traffic (channels_of p x) r.close) (Err fault) refl (c.in_err-write_traffic.ensures p c.in_ok-report.ensures.replays.is) in
+    subst (RunsInThreads c.args.turns c.args.seed known old new) (sym (handed_on c.from_residual-in_err-write_traffic.result c.in_err-write_traffic.field-0.0 c.from_residual-in_err-write_traffic.ensures))
+    (threads_unwritten (IsTail false) c.args.turns c.args.seed known old new p e r.steps.items fault c.in_ok-accepted.ensures c.in_ok-report.ensures wrote)
 
 pub returns : goal.returns
 returns g c =
     let p = c.in_ok-accepted.accepted in
     let r = c.in_ok-report.report in
-    unwritten c.args.turns c.args.seed (g.R.Read.remaining c.args.reader.now) (g.W.Write.contents c.args.writer.now) (g.W.Write.contents c.write_traffic.new.writer) p (ending_of r) c.in-Err.fault c.in_ok-accepted.ensures (r.steps.items, c.in_ok-report.ensures)
-    (subst (Writes (g.W.Write.contents c.args.writer.now) (g.W.Write.contents c.write_traffic.new.writer) (ending_text p (ending_of r))) c.in-Err.is (c.write_traffic.ensures p c.in_ok-report.ensures.replays.is))
+    let x = shown (state_of r.state) in
+    (p, c.in_ok-accepted.ensures, c.in_ok-report.ensures, (traffic (channels_of p x) r.close, refl, c.in_ok-write_traffic.ensures p c.in_ok-report.ensures.replays.is))

@@ -1,22 +1,37 @@
-use Rattle.std.proofs.Common.{subst}
-use Rattle.vc_text.specs.Streams.{Writes}
-use Rattle.vc_text.specs.Threading.{ending_text}
-use Rattle.vc_text.proofs.Threaded.{unwritten}
+use Rattle.std.proofs.Common.{Err, Ok, subst, sym}
+use Rattle.vc_core.specs.State.{shown, state_of}
+use Rattle.vc_plan.specs.declared.plan.Plan.{Plan}
+use Rattle.vc_text.specs.Streams.{WritesOne}
+use Rattle.vc_text.specs.Tail.{IsTail}
+use Rattle.vc_text.specs.Threading.{WritesThreads}
+use Rattle.vc_text.proofs.Stepped.{handed_on}
+use Rattle.vc_text.proofs.Threaded.{threads_unwritten}
 use Rattle.vc_text.proofs.threading.run_net_unlogged.Goals as goal
 
-pub returns-in-Ok : goal.returns-in-Ok
-returns-in-Ok g c =
+pub returns-in_err-write_tail : goal.returns-in_err-write_tail
+returns-in_err-write_tail g c =
+    let options = c.args.options in
+    let why = options.is_why in
     let p = c.in_ok-accepted.accepted in
-    let e = c.in_ok-ending.ending in (
-      p,
-      c.in_ok-accepted.ensures,
-      c.in_ok-ending.ensures,
-      subst (Writes (g.W.Write.contents c.args.writer.now) (g.W.Write.contents c.write_traffic.new.writer) (ending_text p e)) c.in-Ok.is (c.write_traffic.ensures p c.in_ok-ending.ensures.1.replays.is),
-    )
+    let e = c.in_ok-ending.ending in
+    let x = shown (state_of e.state) in
+    let ran = c.in_ok-ending.ensures in
+    let known = g.R.Read.remaining c.args.reader.now in
+    let old = g.W.Write.contents c.args.writer.now in
+    let new = g.W.Write.contents c.write_tail.new.writer in
+    let fault = c.in_err-write_tail.field-0.0 in
+    let wrote = subst (λ (q : Plan). WritesOne (IsTail why q ran.0 x e.close) old new (Err fault)) c.plan.ensures.plan (c.in_err-write_tail.ensures ran.0) in
+    subst (WritesThreads (IsTail why) options.turns options.seed known old new) (sym (handed_on c.from_residual-in_err-write_tail.result c.in_err-write_tail.field-0.0 c.from_residual-in_err-write_tail.ensures))
+    (threads_unwritten (IsTail why) options.turns options.seed known old new p e ran.0 fault c.in_ok-accepted.ensures ran.1 wrote)
 
 pub returns : goal.returns
 returns g c =
+    let why = c.args.options.is_why in
     let p = c.in_ok-accepted.accepted in
     let e = c.in_ok-ending.ending in
-    unwritten c.args.turns c.args.seed (g.R.Read.remaining c.args.reader.now) (g.W.Write.contents c.args.writer.now) (g.W.Write.contents c.write_traffic.new.writer) p e c.in-Err.fault c.in_ok-accepted.ensures c.in_ok-ending.ensures
-    (subst (Writes (g.W.Write.contents c.args.writer.now) (g.W.Write.contents c.write_traffic.new.writer) (ending_text p e)) c.in-Err.is (c.write_traffic.ensures p c.in_ok-ending.ensures.1.replays.is))
+    let x = shown (state_of e.state) in
+    let ran = c.in_ok-ending.ensures in
+    let old = g.W.Write.contents c.args.writer.now in
+    let new = g.W.Write.contents c.write_tail.new.writer in
+    let wrote = subst (λ (q : Plan). WritesOne (IsTail why q ran.0 x e.close) old new (Ok tt)) c.plan.ensures.plan (c.in_ok-write_tail.ensures ran.0) in
+    (p, c.in_ok-accepted.ensures, (wrote.0, (ran.0, ran.1, wrote.1), wrote.2))

@@ -1,4 +1,4 @@
-use Rattle.std.proofs.Common.{[], arith, refl, subst}
+use Rattle.std.proofs.Common.{[], arith, refl}
 use Rattle.vc_core.specs.State.{state_of}
 use Rattle.vc_core.proofs.Replayed.{reached_first}
 use Rattle.vc_text.proofs.Drawing.{none_given}

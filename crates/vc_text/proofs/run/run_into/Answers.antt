@@ -1,12 +1,11 @@
-use Rattle.std.proofs.Common.{◌≡◌, ◌⊎◌, [], arith, length, sym, subst}
+use Rattle.std.proofs.Common.{[], arith, length, sym, subst}
 use Rattle.vc_core.specs.Replaying.{Replays}
 use Rattle.vc_core.specs.State.{shown, state_of, IsNetworkOf}
-use Rattle.vc_core.specs.Turns.{IsAtRest}
 use Rattle.vc_text.specs.Closing.{Closes}
 use Rattle.vc_core.proofs.Replayed.{replays}
 use Rattle.vc_text.proofs.Closing.{processes_wait}
 use Rattle.vc_text.proofs.Drawing.{given_words}
-use Rattle.vc_text.proofs.run.run.Goals as goal
+use Rattle.vc_text.proofs.run.run_into.Goals as goal
 
 pub returns-clause-is : goal.returns-clause-is
 returns-clause-is g c =

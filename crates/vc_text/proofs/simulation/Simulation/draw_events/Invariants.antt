@@ -1,0 +1,10 @@
+use Rattle.std.proofs.Common.{◌≤◌}
+use Rattle.vc_text.specs.Simulating.{LeadsOn}
+use Rattle.vc_text.proofs.simulation.Simulation.draw_events.Given as goal
+
+abbrev pub invariant-loop : goal.invariant-loop
+invariant-loop g l = record {
+  few : l.self.made ≤ l.limit;
+  runs : LeadsOn g.K.EventSink.holds l.fn.self l.fn.events l.self l.events;
+  more : l.counter ≤ l.self.made;
+}
