@@ -21,9 +21,7 @@ use vc_cycles::find_cycle;
 use vc_packets::Memory;
 use vc_plan::{Accepted, CheckRefused, Plan, Port, Refusal, check};
 use vc_reader::{Path, ReadRefused, Step, read_network};
-use vc_text::{
-    RunFault, accepted_text, cycle_text, fault_text, push_number, read_all, write_text,
-};
+use vc_text::{RunFault, accepted_text, cycle_text, fault_text, push_number, read_all, write_text};
 
 /// What is told of a network file.
 #[derive(Drop)]

@@ -83,12 +83,7 @@ fn push_waits(
 
 /// The line of a part that has stopped at a site.
 #[tactic(auto, using(std::proofs::Common::append_assoc))]
-fn push_stopped(
-    out: &mut Vec<u8>,
-    node: &NodePlan,
-    path: &[u8],
-    how: &[u8],
-) -> Result<(), Memory>
+fn push_stopped(out: &mut Vec<u8>, node: &NodePlan, path: &[u8], how: &[u8]) -> Result<(), Memory>
     ensures { OnOk result (out.new.items
         ≡ out.old.items ++ stopped_line node.now path.now how.now) }
 {

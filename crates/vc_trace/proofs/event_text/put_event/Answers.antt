@@ -38,7 +38,7 @@ returns-in_err-put-2-clause-err g c =
     let e = c.args.event.now in
     any_err c.from_residual-in_err-put-2.result (fails_at _ _ _ _ _ (line_is p e)
     (passes_front _ _ _ c.args.piece.now.items _ (codes "event ") (actor_name p e.actor ++ (spaced (act_words p e.act) ++ newline)) c.in_ok-put.ensures.ok
-    (front_first _ _ _ (actor_name p e.actor) (spaced (act_words p e.act) ++ newline) (rw c.actor_name.ensures at c.in_err-put-2.ensures.err))))
+    (front_first _ _ _ (actor_name p e.actor) (spaced (act_words p e.act) ++ newline) (rw (c.actor_name.ensures ∙ ap (λ k. actor_name p k) c.from.ensures) at c.in_err-put-2.ensures.err))))
 
 -- the word `event` and the name were put
 named : (p : Plan) (e : Event) (old mid new : Option (List ℕ)) (held left after name : List ℕ) → name ≡ actor_name p e.actor → Passes old held mid left (codes "event ") → Passes mid left new after name →
@@ -50,7 +50,7 @@ pub returns-in_err-put_act-clause-err : goal.returns-in_err-put_act-clause-err
 returns-in_err-put_act-clause-err g c =
     let p = c.args.plan.now in
     let e = c.args.event.now in
-    let front = named p e _ _ _ c.args.piece.now.items _ _ _ c.actor_name.ensures c.in_ok-put.ensures.ok c.in_ok-put-2.ensures.ok in
+    let front = named p e _ _ _ c.args.piece.now.items _ _ _ (c.actor_name.ensures ∙ ap (λ k. actor_name p k) c.from.ensures) c.in_ok-put.ensures.ok c.in_ok-put-2.ensures.ok in
     any_err c.from_residual-in_err-put_act.result (fails_at _ _ _ _ _ (named_is p e)
     (passes_front _ _ _ c.args.piece.now.items _ (codes "event " ++ actor_name p e.actor) (spaced (act_words p e.act) ++ newline) front
     (front_first _ _ _ (spaced (act_words p e.act)) newline c.in_err-put_act.ensures.err)))
@@ -60,7 +60,7 @@ returns-clause-ok g c =
     let p = c.args.plan.now in
     let e = c.args.event.now in
     let held = c.args.piece.now.items in
-    let front = named p e _ _ _ held _ _ _ c.actor_name.ensures c.in_ok-put.ensures.ok c.in_ok-put-2.ensures.ok in
+    let front = named p e _ _ _ held _ _ _ (c.actor_name.ensures ∙ ap (λ k. actor_name p k) c.from.ensures) c.in_ok-put.ensures.ok c.in_ok-put-2.ensures.ok in
     let words = spaced (act_words p e.act) in
     let body = passes_two _ _ _ held _ _ (codes "event " ++ actor_name p e.actor) words front c.in_ok-put_act.ensures.ok in
     let old = g.W.Write.contents c.args.writer.now in
@@ -73,7 +73,7 @@ returns-clause-err g c =
     let p = c.args.plan.now in
     let e = c.args.event.now in
     let held = c.args.piece.now.items in
-    let front = named p e _ _ _ held _ _ _ c.actor_name.ensures c.in_ok-put.ensures.ok c.in_ok-put-2.ensures.ok in
+    let front = named p e _ _ _ held _ _ _ (c.actor_name.ensures ∙ ap (λ k. actor_name p k) c.from.ensures) c.in_ok-put.ensures.ok c.in_ok-put-2.ensures.ok in
     let words = spaced (act_words p e.act) in
     let body = passes_two _ _ _ held _ _ (codes "event " ++ actor_name p e.actor) words front c.in_ok-put_act.ensures.ok in
     on_err_weaker c.put-3.result (λ last. fails_at _ _ _ _ _ (done_is p e)
