@@ -1,9 +1,10 @@
 #!/usr/bin/env python3
 """Tells whether Graphviz takes what `vcnet draw` prints: bench/drawings.py VCNET [FOLDER].
 
-It hands each network of examples/ to `VCNET draw`, and what that prints to `dot -Tsvg`. A network is printed, and the script fails, where
-VCNET ends with another status than 0, where dot fails or warns, or where the drawing has not one place for each node and switch and one
-edge for each wire, virtual link and channel inside a node. With FOLDER it keeps the drawings there. It wants Graphviz.
+It hands each network of examples/ that `VCNET check` accepts to `VCNET draw`, and to `VCNET draw --after N` for some N, and what that prints
+to `dot -Tsvg`. A network is printed, and the script fails, where VCNET ends with another status than 0, where dot fails or warns, or where
+the drawing has not one place for each node and switch and one edge for each wire, virtual link and channel inside a node. With FOLDER it
+keeps the drawings there. It wants Graphviz.
 
 Made with rattle-kit-13f, logic dac8208d650f15bf.
 """
@@ -15,6 +16,14 @@ import sys
 
 ROOT = os.path.dirname(os.path.dirname(os.path.abspath(__file__)))
 
+# after how many events a network is drawn: none, a few while credit comes and packets are under way, and more than an example has
+AFTER = (0, 5, 40, 200, 1000000)
+
+
+def is_accepted(vcnet, text):
+    """Whether the network is one that can be drawn."""
+    return subprocess.run([vcnet, "check"], input=text, capture_output=True, check=False).returncode == 0
+
 
 def wanted(text):
     """How many places and edges the drawing of a network has."""
@@ -24,9 +33,9 @@ def wanted(text):
     return places, edges + inside
 
 
-def fault_of(vcnet, text, to):
-    """What is wrong with the drawing of a network, or nothing; a drawing that is well is kept in the file `to`, if there is one."""
-    drawn = subprocess.run([vcnet, "draw"], input=text, capture_output=True, check=False)
+def fault_of(vcnet, words, text, to):
+    """What is wrong with the drawing of a network by these words, or nothing; one that is well is kept in the file `to`, if there is one."""
+    drawn = subprocess.run([vcnet, "draw", *words], input=text, capture_output=True, check=False)
     if drawn.returncode:
         return f"status {drawn.returncode}"
     svg = subprocess.run(["dot", "-Tsvg"], input=drawn.stdout, capture_output=True, check=False)
@@ -41,16 +50,24 @@ def fault_of(vcnet, text, to):
     return ""
 
 
-def main(vcnet, folder=""):
-    files = sorted(glob.glob(f"{ROOT}/examples/*.json"))
-    told = []
-    for file in files:
-        name = os.path.basename(file).removesuffix(".json")
+def texts(vcnet):
+    """The name and the text of each example that can be drawn."""
+    for file in sorted(glob.glob(f"{ROOT}/examples/*.json")):
         with open(file, "rb") as it:
-            fault = fault_of(vcnet, it.read(), folder and f"{folder}/{name}.svg")
-        told += [f"{name}: {fault}"] if fault else []
-    print("\n".join([*told, f"{len(files)} networks, {len(told)} faults"]))
-    return 1 if told or not files else 0
+            text = it.read()
+        if is_accepted(vcnet, text):
+            yield os.path.basename(file).removesuffix(".json"), text
+
+
+def main(vcnet, folder=""):
+    networks = dict(texts(vcnet))
+    ways = [("", []), *((f"_{after}", ["--after", str(after)]) for after in AFTER)]
+    told = []
+    for name, text in networks.items():
+        faults = [(end, fault_of(vcnet, words, text, folder and f"{folder}/{name}{end}.svg")) for end, words in ways]
+        told += [f"{name}{end}: {fault}" for end, fault in faults if fault]
+    print("\n".join([*told, f"{len(networks)} networks, {len(told)} faults"]))
+    return 1 if told or not networks else 0
 
 
 if __name__ == "__main__":

@@ -40,9 +40,13 @@ def options(function, source):
     for shared in re.findall(r"\.arg\((\w+_flag)\(alloc\)\)", function):
         function += re.search(rf"\nfn {shared}<.*?\n}}\n", source, re.S)[0]
     numbered = re.findall(rf"number_option\(\s*alloc,\s*{TEXT},\s*{TEXT},\s*([^,]+?),\s*{TEXT},?\s*\)", function)
+    optional = re.findall(rf"optional_number\(\s*alloc,\s*{TEXT},\s*{TEXT},\s*(\w+!?\(\w*\)),?\s*\)", function)
+    files = re.findall(rf"file_option\(\s*alloc,\s*{TEXT},\s*{TEXT},?\s*\)", function)
     flags = re.findall(rf"\bflag\(\s*alloc,\s*{TEXT},\s*{TEXT},?\s*\)", function)
     rows = [(name, "N", text, NUMBERS[numbers], usual) for name, text, numbers, usual in numbered]
-    return rows + [(name, "", text, "", "") for name, text in flags]
+    rows += [(name, "N", text, NUMBERS[numbers], None) for name, text, numbers in optional]
+    rows += [(name, "FILE", text, None, None) for name, text in files]
+    return rows + [(name, "", text, "", None) for name, text in flags]
 
 
 def commands(source):
@@ -79,7 +83,15 @@ def spelled(option, takes):
 
 
 def synopsis(name, rows):
-    return bold(f"vcnet {name}") + "".join(f" [{spelled(*it[:2])}]" for it in rows) + r" < \fInetwork\fR"
+    words = "".join(f" {spelled(*it[:2])}" if it[1] == "FILE" else f" [{spelled(*it[:2])}]" for it in rows)
+    return bold(f"vcnet {name}") + words + r" < \fInetwork\fR"
+
+
+def numbers_of(numbers, usual):
+    """Which numbers an option takes, and what it is where it is not written."""
+    if not numbers:
+        return ""
+    return f" ({numbers}; {int(usual):,} where it is not given)" if usual is not None else f" ({numbers})"
 
 
 def entries(rows):
@@ -88,7 +100,7 @@ def entries(rows):
 
 
 def about_command(name, about, paragraphs, rows):
-    told = [(spelled(*it[:2]), roff(it[2]) + (f" ({it[3]}; {int(it[4]):,} where it is not given)." if it[1] else ".")) for it in rows]
+    told = [(spelled(*it[:2]), roff(it[2]) + numbers_of(*it[3:5]) + ".") for it in rows]
     lines = [f".SS {synopsis(name, rows)}", f"{roff(about)}.", ".PP", roff(paragraphs[0]), *entries(told)]
     return [*lines, ".PP", f"Exit status: {roff(part(paragraphs, 'Exit status'))}"]
 

@@ -2,72 +2,108 @@
 use crate::networks::{HELLO, HELLO_TRAFFIC};
 use crate::streams::Kept;
 use std::alloc::Global;
+use std::rt::Files;
 use std::sync::Wait;
 use std::thread::Threads;
-use vc_words::{Line, LineFault, command, run_words};
+use vc_stats::Form;
+use vc_text::{Schedule, StepOptions, ThreadOptions};
+use vc_words::{Account, Line, LineFault, command, run_words};
+
+/// How `step` runs a network where the words say nothing.
+const USUAL: StepOptions = StepOptions {
+    limit: 1_000_000,
+    schedule: Schedule::InTurn,
+    is_together: false,
+    is_why: false,
+};
+
+/// How `run` runs a network where the words say nothing.
+const USUAL_THREADS: ThreadOptions = ThreadOptions {
+    turns: 10_000_000,
+    seed: 0,
+    is_why: false,
+};
 
 /// Command lines, and what they ask for, or the status of one that asks for nothing.
 const LINES: &[(&[&str], Result<Line, u8>)] = &[
     (&["vcnet", "check"], Ok(Line::Check)),
     (&["vcnet", "deadlock"], Ok(Line::Deadlock)),
-    (&["vcnet", "draw"], Ok(Line::Draw)),
+    (&["vcnet", "draw"], Ok(Line::Draw { after: None })),
+    (
+        &["vcnet", "draw", "--after", "0"],
+        Ok(Line::Draw { after: Some(0) }),
+    ),
     (&["vcnet", "explain"], Ok(Line::Explain)),
     (
         &["vcnet", "step"],
         Ok(Line::Step {
-            limit: 1_000_000,
-            together: false,
-            why: false,
-            trace: false,
+            options: USUAL,
+            account: Account::Traffic,
         }),
     ),
     (
         &["vcnet", "step", "--together", "--limit", "1000000000"],
         Ok(Line::Step {
-            limit: 1_000_000_000,
-            together: true,
-            why: false,
-            trace: false,
+            options: StepOptions {
+                limit: 1_000_000_000,
+                schedule: Schedule::InTurn,
+                is_together: true,
+                is_why: false,
+            },
+            account: Account::Traffic,
         }),
     ),
     (
-        &["vcnet", "step", "--trace"],
+        &["vcnet", "step", "--schedule=4294967295", "--trace"],
         Ok(Line::Step {
-            limit: 1_000_000,
-            together: false,
-            why: false,
-            trace: true,
+            options: StepOptions {
+                limit: 1_000_000,
+                schedule: Schedule::Random(4_294_967_295),
+                is_together: false,
+                is_why: false,
+            },
+            account: Account::Events,
+        }),
+    ),
+    (
+        &["vcnet", "step", "--stats", "--json"],
+        Ok(Line::Step {
+            options: USUAL,
+            account: Account::Counts(Form::Json),
         }),
     ),
     (
         &["vcnet", "run"],
         Ok(Line::Run {
-            turns: 10_000_000,
-            seed: 0,
-            why: false,
-            trace: false,
+            options: USUAL_THREADS,
+            account: Account::Traffic,
         }),
     ),
     (
         &["vcnet", "run", "--seed=4294967295", "--turns", "0", "--why"],
         Ok(Line::Run {
-            turns: 0,
-            seed: 4_294_967_295,
-            why: true,
-            trace: false,
+            options: ThreadOptions {
+                turns: 0,
+                seed: 4_294_967_295,
+                is_why: true,
+            },
+            account: Account::Traffic,
         }),
     ),
     (
-        &["vcnet", "run", "--why", "--trace"],
+        &["vcnet", "run", "--json"],
         Ok(Line::Run {
-            turns: 10_000_000,
-            seed: 0,
-            why: true,
-            trace: true,
+            options: USUAL_THREADS,
+            account: Account::Json,
         }),
     ),
     (&["vcnet", "step", "--limit", "1000000001"], Err(5)),
     (&["vcnet", "check", "--limit", "1"], Err(5)),
+    (
+        &["vcnet", "replay", "--why", "--events", "hello.trace"],
+        Ok(Line::Replay { is_why: true }),
+    ),
+    (&["vcnet", "replay"], Err(5)),
     (&["vcnet", "--help"], Err(0)),
 ];
 
@@ -83,12 +119,15 @@ fn asked(alloc: Global, words: &[&str]) -> Option<Result<Line, u8>> {
 #[test]
 fn command_lines_ask(rt: HostRuntime) {
     for (words, wanted) in LINES {
-        assert!(rt; asked(rt.alloc(), words) == Some(*wanted), "{wanted:?}");
+        assert!(rt;
+            asked(rt.alloc(), words).as_ref() == Some(wanted),
+            "{wanted:?}"
+        );
     }
 }
 
 /// Whether the program prints the traffic of the hello network with status 0, or that memory is short with status 4.
-fn prints<T: Threads + Wait>(rt: &T, alloc: Global) -> bool {
+fn prints<T: Files + Threads + Wait>(rt: &T, alloc: Global) -> bool {
     let mut kept = Kept::new();
     let status = run_words(
         rt,

@@ -27,3 +27,11 @@ Closes p x made limit Done = IsAtRestIn p x × HaveEndedIn p x
 Closes p x made limit Quiet = IsAtRestIn p x × (HaveEndedIn p x → ⊥)
 Closes p x made limit Limit = (made ≡ limit) × ((e : Event) × CanHappenIn p x e)
 Closes p x made limit close = ⊥
+
+-- a state of which it is not known how it was come to closes Done where every process has ended, Quiet where no event can happen, and else
+-- Limit
+abbrev pub ClosesIn : Plan → NetworkState → Close → Type 0
+ClosesIn p x Done = HaveEndedIn p x
+ClosesIn p x Quiet = IsAtRestIn p x × (HaveEndedIn p x → ⊥)
+ClosesIn p x Limit = (HaveEndedIn p x → ⊥) × ((e : Event) × CanHappenIn p x e)
+ClosesIn p x close = ⊥

@@ -5,7 +5,6 @@ pub mod FaultLine
 pub mod Checking
 pub mod Closing
 pub mod Deadlock
-pub mod Graph
 pub mod Quiet
 pub mod Running
 pub mod Seated

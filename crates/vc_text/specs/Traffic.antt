@@ -41,10 +41,13 @@ message_lines kind n (m ∷ ms) = message_line kind n m ++ message_lines kind (n
 abbrev pub stop_text : Bool → List ℕ
 stop_text is_stopped = if is_stopped then codes " stopped" else []
 
+-- how many of its messages were offered, taken and finished, and whether it was stopped
+abbrev pub counts_text : ChannelTraffic → List ℕ
+counts_text c =
+    codes "offered " ++ decimal c.offered ++ codes " taken " ++ decimal (length c.taken) ++ codes " finished " ++ decimal c.finished ++ stop_text c.is_stopped
+
 abbrev pub channel_line : ChannelTraffic → List ℕ
-channel_line c =
-    codes "channel " ++ c.name ++ codes " offered " ++ decimal c.offered ++ codes " taken " ++ decimal (length c.taken) ++ codes " finished " ++ decimal c.finished
-    ++ stop_text c.is_stopped ++ newline
+channel_line c = codes "channel " ++ c.name ++ codes " " ++ counts_text c ++ newline
 
 -- a channel's line, and one for each message that was taken
 abbrev pub channel_lines : ChannelTraffic → List ℕ

@@ -6,12 +6,12 @@
 
 mod check;
 mod check_line;
+mod close;
 mod deadlock;
 mod draws;
 mod event_sink;
 mod fault;
 mod fault_line;
-mod graph;
 mod number;
 mod one_node;
 mod plan_text;
@@ -29,22 +29,24 @@ mod traffic;
 mod unlogged;
 
 pub use check::{accepted_text, read_accepted, run_check};
+pub use close::close_of;
 pub use deadlock::{cycle_text, run_deadlock};
 pub use event_sink::EventSink;
 pub use fault::RunFault;
 pub use fault_line::{fault_text, write_fault};
-pub use graph::run_draw;
 pub use number::push_number;
 pub use one_node::{read_as, read_together};
-pub use plan_text::{push_hop, push_last, push_port};
+pub use plan_text::{push_hop, push_last, push_port, push_way};
 pub use read_line::push_step;
-pub use run::{StepReport, run_accepted, run_into, run_step, run_together, write_traffic};
+pub use run::{
+    StepReport, run_accepted, run_into, run_step, run_together, view_of, views, write_traffic,
+};
 pub use schedule::Schedule;
 pub use step_options::StepOptions;
 pub use streams::{read_all, write_text};
 pub use tail::tail_of;
 pub use thread_options::ThreadOptions;
-pub use threading::{gate_of, run_net, run_net_unlogged};
-pub use traffic::{ChannelView, write_channels};
+pub use threading::{ending_of, gate_of, run_net, run_net_unlogged};
+pub use traffic::{ChannelView, push_counts, push_value, write_channels};
 pub use unlogged::{run_step_unlogged, run_unlogged};
 pub use vc_reader::{Path, ReadRefused, Step, Word, read_network};

@@ -47,7 +47,8 @@ fn push_hops(out: &mut Vec<u8>, plan: &Plan, hops: &[Hop]) -> Result<(), Memory>
     Ok(())
 }
 
-pub(crate) fn push_way(out: &mut Vec<u8>, from_a: bool) -> Result<(), Memory>
+/// Adds a way of a virtual link to a text: `ab` from its end a to its end b, or `ba` back.
+pub fn push_way(out: &mut Vec<u8>, from_a: bool) -> Result<(), Memory>
     ensures { OnOk result (out.new.items ≡ out.old.items ++ way_text from_a) }
 {
     if from_a {

@@ -33,8 +33,8 @@ pub struct StepReport {
     pub close: Close,
 }
 
-/// The channels of a network, in order.
-fn views(alloc: Global, network: &Network) -> Result<Vec<ChannelView<'_>>, Memory>
+/// What the channels of a network are and have done, in order. It fails for want of memory alone.
+pub fn views(alloc: Global, network: &Network) -> Result<Vec<ChannelView<'_>>, Memory>
     ensures { (p : Plan) → IsNetworkOf p (state_of network.now) →
         IfOk result (λ views. AreViews p (shown (state_of network.now)) views.items) }
 {
@@ -46,7 +46,7 @@ fn views(alloc: Global, network: &Network) -> Result<Vec<ChannelView<'_>>, Memor
 }
 
 /// What a channel of a network is and has done.
-fn view_of(network: &Network, chan: u16) -> ChannelView<'_>
+pub fn view_of(network: &Network, chan: u16) -> ChannelView<'_>
     ensures { (p : Plan) (x : Channel) →
         IsNetworkOf p (state_of network.now) → slice_get p.channels chan ≡ Some x →
         traffic_of result ≡ channel_of p (shown (state_of network.now)) chan x }

@@ -181,7 +181,7 @@ fn has_event(network: &mut Network, actor: u8) -> Result<bool, Memory>
 }
 
 /// Whether some actor has an event.
-fn goes_on(network: &mut Network) -> Result<bool, Memory>
+pub(crate) fn goes_on(network: &mut Network) -> Result<bool, Memory>
     ensures goes_on { (p : Plan) → IsNetworkOf p (state_of network.old) →
         IfOk result (GoesOn p (state_of network.old)) }
     ensures same { state_of network.new ≡ state_of network.old }

@@ -1,4 +1,5 @@
 //! Running a network in threads.
+ghost use Rattle.std.specs.Prelude.{◌≡◌};
 ghost use Rattle.vc_text.specs.Tail.{IsTail};
 ghost use Rattle.vc_text.specs.Threading.{RunsInThreads, WritesThreads};
 
@@ -17,6 +18,27 @@ use vc_threads::{EndGate, Ending, Report, run_threads, run_threads_unlogged};
 /// The gate that closes once the process of each node has ended; a plan has at most 32 nodes.
 pub fn gate_of(accepted: &Accepted) -> EndGate {
     EndGate::new(accepted.plan().nodes.len().min(64) as u8)
+}
+
+/// What a report says without its events.
+pub fn ending_of(report: Report) -> Ending
+    ensures { result ≡ record {
+      state = report.state;
+      stops = report.stops;
+      close = report.close;
+    } }
+{
+    let Report {
+        steps: _,
+        state,
+        stops,
+        close,
+    } = report;
+    Ending {
+        state,
+        stops,
+        close,
+    }
 }
 
 /// Reads a network file, runs the network with a thread for each node and each switch, and writes its traffic. Each thread makes at

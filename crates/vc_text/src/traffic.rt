@@ -3,7 +3,7 @@ ghost use Rattle.std.specs.Prelude.{◌≡◌, ◌++◌, ◌+◌, map, OnOk, IfO
 ghost use Rattle.std.specs.Int.{w64, from_le_bytes, cast_signed};
 ghost use Rattle.vc_text.specs.Streams.{Writes};
 ghost use Rattle.vc_text.specs.Views.{shown};
-ghost use Rattle.vc_text.specs.Traffic.{bytes_text, value_text, message_line, message_lines, stop_text, channel_line, channel_lines, close_text, traffic};
+ghost use Rattle.vc_text.specs.Traffic.{bytes_text, value_text, message_line, message_lines, stop_text, channel_line, channel_lines, close_text, counts_text, traffic};
 
 use crate::fault::RunFault;
 use crate::number::push_number;
@@ -77,7 +77,8 @@ fn push_int(out: &mut Vec<u8>, message: &[u8]) -> Result<(), Memory>
     Ok(())
 }
 
-fn push_value(
+/// Adds a message to a text: an int in decimal, and bytes in hexadecimal, or `-` for none. It fails for want of memory alone.
+pub fn push_value(
     alloc: Global,
     out: &mut Vec<u8>,
     kind: ValueKind,
@@ -131,19 +132,28 @@ fn push_stopped(out: &mut Vec<u8>, is_stopped: bool) -> Result<(), Memory>
     Ok(())
 }
 
+/// Adds to a text how many messages of a channel were offered, taken and finished, and whether it was stopped.
+#[tactic(auto, using(std::proofs::Common::append_assoc))]
+pub fn push_counts(out: &mut Vec<u8>, view: &ChannelView<'_>) -> Result<(), Memory>
+    ensures { OnOk result (out.new.items ≡ out.old.items ++ counts_text (shown view.now)) }
+{
+    out.extend_from_slice(b"offered ")?;
+    push_number(out, view.offered as u64)?;
+    out.extend_from_slice(b" taken ")?;
+    push_number(out, view.taken.len() as u64)?;
+    out.extend_from_slice(b" finished ")?;
+    push_number(out, view.finished)?;
+    push_stopped(out, view.is_stopped)
+}
+
 #[tactic(auto, using(std::proofs::Common::append_assoc))]
 fn push_channel(out: &mut Vec<u8>, view: &ChannelView<'_>) -> Result<(), Memory>
     ensures { OnOk result (out.new.items ≡ out.old.items ++ channel_line (shown view.now)) }
 {
     out.extend_from_slice(b"channel ")?;
     out.extend_from_slice(view.name.as_bytes())?;
-    out.extend_from_slice(b" offered ")?;
-    push_number(out, view.offered as u64)?;
-    out.extend_from_slice(b" taken ")?;
-    push_number(out, view.taken.len() as u64)?;
-    out.extend_from_slice(b" finished ")?;
-    push_number(out, view.finished)?;
-    push_stopped(out, view.is_stopped)?;
+    out.extend_from_slice(b" ")?;
+    push_counts(out, view)?;
     out.push(10)?;
     Ok(())
 }

@@ -1,2 +1,9 @@
+pub mod Found
+pub mod Making
+pub mod Naming
+pub mod Parting
 pub mod Passing
+pub mod Replaying
+pub mod Spelling
 pub mod Traced
+pub mod Verbs

@@ -1,3 +1,10 @@
+pub mod EventOf
 pub mod EventText
+pub mod Lines
+pub mod Named
 pub mod Pieces
+pub mod Reading
+pub mod Replay
 pub mod Tracing
+pub mod Verbs
+pub mod Words

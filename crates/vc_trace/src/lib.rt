@@ -3,14 +3,33 @@
 //! The layer above knows that a traced run writes the text of its events and then its traffic (`specs/Tracing`, `specs/EventText`), or
 //! a front of that where the writer failed, over any reader and any writer that tell their bytes. The text goes through a buffer of
 //! 4,096 bytes, so it takes no memory of its own.
+//!
+//! A replay reads such lines, makes their events, and writes the traffic of the state that they lead to, or the first line that is not
+//! that of an event which can happen (`specs/Replay`). What it reads from a line counts only where the line is exactly the one that the
+//! trace writes for it. No line of an event that can happen is refused, in a network whose names differ, as those of files do.
 #![tactic(auto)]
 
+mod event_line;
+mod event_reader;
 mod event_text;
+mod fields;
+mod line;
+mod line_buffer;
+mod move_verb;
+mod names;
+mod number;
 mod pieces;
+mod refused_line;
+mod replay;
+mod replayed;
 mod stepping;
 mod threading;
+mod verb;
 mod word;
+mod words;
 mod writing;
 
+pub use replay::run_replay;
+pub use replayed::Replayed;
 pub use stepping::trace_step;
 pub use threading::trace_net;

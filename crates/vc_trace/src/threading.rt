@@ -1,5 +1,4 @@
 //! Running a network in threads, with its events written.
-ghost use Rattle.std.specs.Prelude.{◌≡◌};
 ghost use Rattle.vc_text.specs.Threading.{WritesThreads};
 ghost use Rattle.vc_trace.specs.Tracing.{IsTracedText};
 
@@ -8,25 +7,8 @@ use std::alloc::Global;
 use std::io::{Read, Write};
 use std::sync::Wait;
 use std::thread::Threads;
-use vc_text::{RunFault, ThreadOptions, gate_of, read_accepted, tail_of};
-use vc_threads::{Ending, Report, run_threads};
-
-/// What a report says without its events.
-fn ending_of(report: Report) -> Ending
-    ensures { result ≡ record { state = report.state; stops = report.stops; close = report.close } }
-{
-    let Report {
-        steps: _,
-        state,
-        stops,
-        close,
-    } = report;
-    Ending {
-        state,
-        stops,
-        close,
-    }
-}
+use vc_text::{RunFault, ThreadOptions, ending_of, gate_of, read_accepted, tail_of};
+use vc_threads::{Ending, run_threads};
 
 /// Does what [`run_net_unlogged`](vc_text::run_net_unlogged) does, and writes the events that the threads report in front of the traffic,
 /// a line each.

@@ -1,3 +1,4 @@
+pub mod Blocking
 pub mod Folded
 pub mod Meaning
 pub mod Placed

@@ -28,35 +28,33 @@ stop_text is_stopped = if is_stopped then codes " stopped" else []
 abbrev pub channel_text : Plan → NetworkState → ℕ → List ℕ
 channel_text plan x c = option_map_or (λ k. k.name ++ stop_text (view (network_of plan) x c).stopped) (slice_get plan.channels c) []
 
--- the path of the process that has a site
+-- the path of the process that has a site, and what is said of it
 abbrev pub path_text : List (List ℕ) → ℕ → List ℕ
 path_text paths i = option_map_or (λ path. path) (slice_get paths i) []
 
--- the words of a line up to what is behind the path
-abbrev pub head_text : List ℕ → NodePlan → List ℕ → List ℕ → List ℕ
-head_text word node path behind = word ++ node.name ++ codes " " ++ path ++ behind
+abbrev pub site_text : List (List ℕ) → ℕ → List ℕ → List ℕ
+site_text paths i what = codes " " ++ path_text paths i ++ what
 
--- a part of a node's process that waits, at a site, for something on a channel
-abbrev pub waits_line : NodePlan → List ℕ → List ℕ → List ℕ → List ℕ
-waits_line node path what channel = head_text (codes "waits ") node path what ++ channel ++ newline
+-- a part that waits, or one that has stopped
+abbrev pub blocked_word : Blocked → List ℕ
+blocked_word (Output i c) = codes "waits"
+blocked_word (Input i c) = codes "waits"
+blocked_word (Guard i c) = codes "waits"
+blocked_word b = codes "stopped"
 
--- one that has stopped, at a site
-abbrev pub stopped_line : NodePlan → List ℕ → List ℕ → List ℕ
-stopped_line node path how = head_text (codes "stopped ") node path how ++ newline
-
--- one that has stopped by a fault, whose site is not kept
-abbrev pub faulted_line : NodePlan → List ℕ
-faulted_line node = codes "stopped " ++ node.name ++ codes " by a fault or in an IF" ++ newline
+-- where a part of a process is, and what it waits for or how it has stopped; the site of a fault is not kept
+unfoldable pub blocked_text : Plan → NetworkState → List (List ℕ) → Blocked → List ℕ
+blocked_text plan x paths (Output i c) = site_text paths i (codes " for the end of its output on ") ++ channel_text plan x c
+blocked_text plan x paths (Input i c) = site_text paths i (codes " for an input on ") ++ channel_text plan x c
+blocked_text plan x paths (Guard i c) = site_text paths i (codes " for a guard on ") ++ channel_text plan x c
+blocked_text plan x paths (Closed i) = site_text paths i (codes " at an ALT without an open guard")
+blocked_text plan x paths (Undecided i) = site_text paths i (codes " by a fault")
+blocked_text plan x paths (Stop i) = site_text paths i (codes " by STOP")
+blocked_text plan x paths Stopped = codes " by a fault or in an IF"
 
 -- what blocks a part of a node's process
-unfoldable pub blocked_line : Plan → NetworkState → NodePlan → List (List ℕ) → Blocked → List ℕ
-blocked_line plan x node paths (Output i c) = waits_line node (path_text paths i) (codes " for the end of its output on ") (channel_text plan x c)
-blocked_line plan x node paths (Input i c) = waits_line node (path_text paths i) (codes " for an input on ") (channel_text plan x c)
-blocked_line plan x node paths (Guard i c) = waits_line node (path_text paths i) (codes " for a guard on ") (channel_text plan x c)
-blocked_line plan x node paths (Closed i) = stopped_line node (path_text paths i) (codes " at an ALT without an open guard")
-blocked_line plan x node paths (Undecided i) = stopped_line node (path_text paths i) (codes " by a fault")
-blocked_line plan x node paths (Stop i) = stopped_line node (path_text paths i) (codes " by STOP")
-blocked_line plan x node paths Stopped = faulted_line node
+abbrev pub blocked_line : Plan → NetworkState → NodePlan → List (List ℕ) → Blocked → List ℕ
+blocked_line plan x node paths b = blocked_word b ++ codes " " ++ node.name ++ blocked_text plan x paths b ++ newline
 
 abbrev pub blocked_lines : Plan → NetworkState → NodePlan → List (List ℕ) → List Blocked → List ℕ
 blocked_lines plan x node paths = flat_map (blocked_line plan x node paths)

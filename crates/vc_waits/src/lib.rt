@@ -13,4 +13,5 @@ mod port;
 mod waits;
 
 pub use laws::words_are_so;
-pub use packets::push_waits;
+pub use packets::{places, push_place, push_ports, push_waits};
+pub use waits::{blocked_word, process_paths, push_blocked};

@@ -15,7 +15,7 @@ use vc_packets::Memory;
 use vc_plan::{Plan, Wire};
 
 /// Where the packet of each channel stands, in order.
-fn places(alloc: Global, network: &Network) -> Result<Vec<Option<Place>>, Memory>
+pub fn places(alloc: Global, network: &Network) -> Result<Vec<Option<Place>>, Memory>
     ensures { (p : Plan) (events : List Event) → Reached p events (state_of network.now) →
         IfOk result (λ places. ArePlaces p (shown (state_of network.now)) places.items) }
 {
@@ -26,9 +26,9 @@ fn places(alloc: Global, network: &Network) -> Result<Vec<Option<Place>>, Memory
     Ok(places)
 }
 
-/// The two ports of a wire, from the one where the packet went in.
+/// Adds to a text the two ports of a wire, from the one where the packet went in.
 #[tactic(auto, using(std::proofs::Common::append_assoc))]
-fn push_ports(out: &mut Vec<u8>, plan: &Plan, wire: &Wire, from_one: bool) -> Result<(), Memory>
+pub fn push_ports(out: &mut Vec<u8>, plan: &Plan, wire: &Wire, from_one: bool) -> Result<(), Memory>
     ensures { OnOk result (out.new.items
         ≡ out.old.items ++ ports_text plan.now wire.now from_one) }
 {
@@ -62,8 +62,9 @@ fn push_name(out: &mut Vec<u8>, name: &[u8]) -> Result<(), Memory>
     Ok(())
 }
 
+/// Adds to a text where a packet is.
 #[tactic(auto, using(std::proofs::Common::append_assoc))]
-fn push_place(out: &mut Vec<u8>, plan: &Plan, place: Place) -> Result<(), Memory>
+pub fn push_place(out: &mut Vec<u8>, plan: &Plan, place: Place) -> Result<(), Memory>
     ensures { OnOk result (out.new.items ≡ out.old.items ++ place_text plan.now place) }
 {
     match place {

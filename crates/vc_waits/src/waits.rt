@@ -1,8 +1,8 @@
 //! The text of who waits for what.
-ghost use Rattle.std.specs.Prelude.{◌≡◌, ◌++◌, IfOk, OnOk, codes};
+ghost use Rattle.std.specs.Prelude.{◌≡◌, ◌++◌, IfOk, OnOk};
 ghost use Rattle.std.specs.List.{enumerate_from, flat_map};
 ghost use Rattle.vc_core.specs.State.{IsNetworkOf, state_of};
-ghost use Rattle.vc_waits.specs.Waits.{blocked_line, blocked_lines, channel_text, faulted_line, head_text, node_lines, path_text, process_path, processes_text, state_in, stopped_line, waits_line};
+ghost use Rattle.vc_waits.specs.Waits.{blocked_line, blocked_lines, blocked_text, blocked_word as word_of, channel_text, node_lines, path_text, process_path, processes_text, site_text, state_in};
 ghost use Rattle.vc_waits.specs.Paths.{paths as paths_of};
 
 use crate::number::push_number;
@@ -39,73 +39,72 @@ fn path_of(paths: &[Bytes], site: u16) -> &[u8]
     }
 }
 
-/// The words of a line up to what is behind the path.
+/// The path of the process that has a site, between a space and what is said of it.
 #[tactic(auto, using(std::proofs::Common::append_assoc))]
-fn push_head(
-    out: &mut Vec<u8>,
-    word: &[u8],
-    node: &NodePlan,
-    path: &[u8],
-    behind: &[u8],
-) -> Result<(), Memory>
+fn push_site(out: &mut Vec<u8>, paths: &[Bytes], site: u16, what: &[u8]) -> Result<(), Memory>
     ensures { OnOk result (out.new.items
-        ≡ out.old.items ++ head_text word.now node.now path.now behind.now) }
+        ≡ out.old.items ++ site_text paths.now site what.now) }
 {
-    out.extend_from_slice(word)?;
-    out.extend_from_slice(node.name.as_slice())?;
     out.extend_from_slice(b" ")?;
-    out.extend_from_slice(path)?;
-    out.extend_from_slice(behind)?;
+    out.extend_from_slice(path_of(paths, site))?;
+    out.extend_from_slice(what)?;
     Ok(())
 }
 
-/// The line of a part that waits for something on a channel.
-#[tactic(auto, using(std::proofs::Common::append_assoc))]
-fn push_waits(
+/// The word for a part of a process that does not go on by itself: it waits, or it has stopped.
+pub fn blocked_word(blocked: Blocked) -> &'static str
+    ensures { result.now ≡ word_of blocked }
+{
+    match blocked {
+        Blocked::Output { .. } | Blocked::Input { .. } | Blocked::Guard { .. } => "waits",
+        Blocked::Closed { .. }
+        | Blocked::Undecided { .. }
+        | Blocked::Stop { .. }
+        | Blocked::Stopped => "stopped",
+    }
+}
+
+/// Adds to a text where a part of a process is that does not go on by itself, and what it waits for or how it has stopped.
+#[tactic(auto, unfolding(crate::specs::Waits::blocked_text))]
+pub fn push_blocked(
     out: &mut Vec<u8>,
     plan: &Plan,
     network: &Network,
-    node: &NodePlan,
-    path: &[u8],
-    what: &[u8],
-    chan: u16,
+    paths: &[Bytes],
+    blocked: Blocked,
 ) -> Result<(), Memory>
     requires { IsNetworkOf plan.now (state_of network.now) }
-    ensures { OnOk result (out.new.items ≡ out.old.items
-        ++ waits_line node.now path.now what.now
-        (channel_text plan.now (state_in network.now) chan)) }
-{
-    push_head(out, b"waits ", node, path, what)?;
-    push_channel(out, plan, network, chan)?;
-    out.push(10)?;
-    Ok(())
-}
-
-/// The line of a part that has stopped at a site.
-#[tactic(auto, using(std::proofs::Common::append_assoc))]
-fn push_stopped(out: &mut Vec<u8>, node: &NodePlan, path: &[u8], how: &[u8]) -> Result<(), Memory>
     ensures { OnOk result (out.new.items
-        ≡ out.old.items ++ stopped_line node.now path.now how.now) }
+        ≡ out.old.items ++ blocked_text plan.now (state_in network.now) paths.now blocked) }
 {
-    push_head(out, b"stopped ", node, path, how)?;
-    out.push(10)?;
-    Ok(())
-}
-
-/// The line of a part that has stopped by a fault, whose site is not kept.
-#[tactic(auto, using(std::proofs::Common::append_assoc))]
-fn push_faulted(out: &mut Vec<u8>, node: &NodePlan) -> Result<(), Memory>
-    ensures { OnOk result (out.new.items ≡ out.old.items ++ faulted_line node.now) }
-{
-    out.extend_from_slice(b"stopped ")?;
-    out.extend_from_slice(node.name.as_slice())?;
-    out.extend_from_slice(b" by a fault or in an IF\n")?;
-    Ok(())
+    match blocked {
+        Blocked::Output { site, chan } => {
+            push_site(out, paths, site, b" for the end of its output on ")?;
+            push_channel(out, plan, network, chan)
+        }
+        Blocked::Input { site, chan } => {
+            push_site(out, paths, site, b" for an input on ")?;
+            push_channel(out, plan, network, chan)
+        }
+        Blocked::Guard { site, chan } => {
+            push_site(out, paths, site, b" for a guard on ")?;
+            push_channel(out, plan, network, chan)
+        }
+        Blocked::Closed { site } => {
+            push_site(out, paths, site, b" at an ALT without an open guard")
+        }
+        Blocked::Undecided { site } => push_site(out, paths, site, b" by a fault"),
+        Blocked::Stop { site } => push_site(out, paths, site, b" by STOP"),
+        Blocked::Stopped => {
+            out.extend_from_slice(b" by a fault or in an IF")?;
+            Ok(())
+        }
+    }
 }
 
 /// The line of what blocks a part of a node's process.
-#[tactic(auto, unfolding(crate::specs::Waits::blocked_line))]
-fn push_blocked(
+#[tactic(auto, using(std::proofs::Common::append_assoc))]
+fn push_line(
     out: &mut Vec<u8>,
     plan: &Plan,
     network: &Network,
@@ -117,29 +116,12 @@ fn push_blocked(
     ensures { OnOk result (out.new.items ≡ out.old.items
         ++ blocked_line plan.now (state_in network.now) node.now paths.now blocked) }
 {
-    match blocked {
-        Blocked::Output { site, chan } => {
-            let what = b" for the end of its output on ";
-            push_waits(out, plan, network, node, path_of(paths, site), what, chan)
-        }
-        Blocked::Input { site, chan } => {
-            let what = b" for an input on ";
-            push_waits(out, plan, network, node, path_of(paths, site), what, chan)
-        }
-        Blocked::Guard { site, chan } => {
-            let what = b" for a guard on ";
-            push_waits(out, plan, network, node, path_of(paths, site), what, chan)
-        }
-        Blocked::Closed { site } => {
-            let how = b" at an ALT without an open guard";
-            push_stopped(out, node, path_of(paths, site), how)
-        }
-        Blocked::Undecided { site } => {
-            push_stopped(out, node, path_of(paths, site), b" by a fault")
-        }
-        Blocked::Stop { site } => push_stopped(out, node, path_of(paths, site), b" by STOP"),
-        Blocked::Stopped => push_faulted(out, node),
-    }
+    out.extend_from_slice(blocked_word(blocked).as_bytes())?;
+    out.extend_from_slice(b" ")?;
+    out.extend_from_slice(node.name.as_slice())?;
+    push_blocked(out, plan, network, paths, blocked)?;
+    out.push(10)?;
+    Ok(())
 }
 
 /// The lines of all that blocks a node's process.
@@ -156,14 +138,14 @@ fn push_all(
         ++ blocked_lines plan.now (state_in network.now) node.now paths.now all.now) }
 {
     for blocked in all {
-        push_blocked(out, plan, network, node, paths, *blocked)?;
+        push_line(out, plan, network, node, paths, *blocked)?;
     }
     Ok(())
 }
 
-/// The paths of the n-th node's process and of those within it.
+/// The paths of the n-th node's process and of those within it, in order of site.
 #[tactic(auto, using(std::proofs::Common::append_assoc))]
-fn paths_in(alloc: Global, n: usize, node: &NodePlan) -> Result<Items<Bytes>, Memory>
+pub fn process_paths(alloc: Global, n: usize, node: &NodePlan) -> Result<Items<Bytes>, Memory>
     ensures { IfOk result (λ found. found ≡ paths_of node.now.process (process_path n)) }
 {
     let mut path = Vec::new(alloc);
@@ -189,7 +171,7 @@ fn push_node(
         ≡ out.old.items ++ node_lines plan.now (state_in network.now) (n, node.now)) }
 {
     let all = network.blocked(alloc, n)?;
-    let paths = paths_in(alloc, n, node)?;
+    let paths = process_paths(alloc, n, node)?;
     push_all(out, plan, network, node, paths.as_slice(), all.as_slice())
 }
 

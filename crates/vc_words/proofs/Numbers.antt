@@ -10,7 +10,7 @@ use Rattle.clap.specs.Walk.{Text, rows_of}
 use Rattle.clap.specs.Matches.{one_text}
 use Rattle.clap.specs.declared.parser.matches.Found.{Found}
 use Rattle.clap.proofs.WalkLemmas.{one_text-rows}
-use Rattle.vc_words.specs.CommandLine.{number_in, number_of}
+use Rattle.vc_words.specs.CommandLine.{number_at, number_in, number_of}
 
 digits_pass : (ds : List ℕ) → AllDigits 10 ds → list_all (λ d. nat_lt (digit_value d) 10) ds ≡ true
 digits_pass [] h = refl
@@ -82,5 +82,30 @@ module _ (f : Found) (id : Text) (most usual : ℕ) where
   absent value fits = go (one_text f id) value ∙ ap (λ o. unwrap_or (option_and_then (number_in most) o) usual) (one_text-rows f id)
     where
       go : (o : Option Text) → ((t : Text) → o ≡ Some t → ParsesUnsigned {E = ⊤} 64 10 t (Err tt)) → usual ≡ unwrap_or (option_and_then (number_in most) o) usual
+      go None value = refl
+      go (Some t) value = rw (out_of_range most t (Err tt) (value t refl) fits (λ m e. absurd (true≢false (sym (ap is_ok e))))) refl
+
+  -- and so where there is no usual one
+  pub found_at : (n : ℕ) → (one_text f id ≡ None → Some n ≡ None) → ((t : Text) → one_text f id ≡ Some t → ParsesUnsigned {E = ⊤} 64 10 t (Ok n))
+      → n ≤ most → Some n ≡ number_at id most (rows_of f)
+  found_at n none value le = go (one_text f id) none value ∙ ap (λ o. option_and_then (number_in most) o) (one_text-rows f id)
+    where
+      go : (o : Option Text) → (o ≡ None → Some n ≡ None) → ((t : Text) → o ≡ Some t → ParsesUnsigned {E = ⊤} 64 10 t (Ok n)) → Some n ≡ option_and_then (number_in most) o
+      go None none value = absurd (true≢false (ap is_some (none refl)))
+      go (Some t) none value = rw (in_range most n t (value t refl) le) refl
+
+  pub beyond_at : (n : ℕ) → (one_text f id ≡ None → Some n ≡ None) → ((t : Text) → one_text f id ≡ Some t → ParsesUnsigned {E = ⊤} 64 10 t (Ok n))
+      → most < 2 ^ 64 → most < n → None ≡ number_at id most (rows_of f)
+  beyond_at n none value fits lt = go (one_text f id) none value ∙ ap (λ o. option_and_then (number_in most) o) (one_text-rows f id)
+    where
+      go : (o : Option Text) → (o ≡ None → Some n ≡ None) → ((t : Text) → o ≡ Some t → ParsesUnsigned {E = ⊤} 64 10 t (Ok n)) → None ≡ option_and_then (number_in most) o
+      go None none value = refl
+      go (Some t) none value = rw (out_of_range most t (Ok n) (value t refl) fits (λ m e. rw (← ap (λ r. result_unwrap_or r 0) e) lt)) refl
+
+  pub absent_at : ((t : Text) → one_text f id ≡ Some t → ParsesUnsigned {E = ⊤} 64 10 t (Err tt))
+      → most < 2 ^ 64 → None ≡ number_at id most (rows_of f)
+  absent_at value fits = go (one_text f id) value ∙ ap (λ o. option_and_then (number_in most) o) (one_text-rows f id)
+    where
+      go : (o : Option Text) → ((t : Text) → o ≡ Some t → ParsesUnsigned {E = ⊤} 64 10 t (Err tt)) → None ≡ option_and_then (number_in most) o
       go None value = refl
       go (Some t) value = rw (out_of_range most t (Err tt) (value t refl) fits (λ m e. absurd (true≢false (sym (ap is_ok e))))) refl

@@ -18,8 +18,11 @@ use Rattle.vc_text.specs.declared.schedule.Schedule.{Schedule}
 use Rattle.vc_text.specs.declared.schedule.Schedule.TheVariants.{InTurn, Random}
 use Rattle.vc_text.specs.declared.step_options.StepOptions.{StepOptions}
 use Rattle.vc_text.specs.declared.thread_options.ThreadOptions.{ThreadOptions}
+use Rattle.vc_stats.specs.declared.form.Form.TheVariants.{Lines, Json as FormJson}
+use Rattle.vc_words.specs.declared.account.Account.{Account}
+use Rattle.vc_words.specs.declared.account.Account.TheVariants.{Traffic, Events, Counts, Json}
 use Rattle.vc_words.specs.declared.line.Line.{Line}
-use Rattle.vc_words.specs.declared.line.Line.TheVariants.{Check, Explain, Deadlock, Draw, Step, Run}
+use Rattle.vc_words.specs.declared.line.Line.TheVariants.{Check, Explain, Deadlock, Draw, Step, Run, Replay}
 use Rattle.vc_words.specs.declared.line_fault.LineFault.{LineFault}
 use Rattle.vc_words.specs.declared.line_fault.LineFault.TheVariants.{Bad, Memory}
 
@@ -47,6 +50,26 @@ trace_flag = flag_of (codes "trace")
 abbrev pub schedule_option : Rule
 schedule_option = option_of (codes "schedule") (Signed (pos 0) (pos 4294967295)) (codes "0")
 
+-- an option `--name N` that may be left out
+abbrev pub optional_of : Text → ValueParser → Rule
+optional_of name numbers = record (new_rule name) { long = Some name; value_names = 1; parser = Some numbers }
+
+abbrev pub after_option : Rule
+after_option = optional_of (codes "after") (Unsigned 0 1000000000)
+
+-- an option `--name FILE` that has to be written
+abbrev pub needed_of : Text → Rule
+needed_of name = record (new_rule name) { long = Some name; value_names = 1; required = true }
+
+abbrev pub events_option : Rule
+events_option = needed_of (codes "events")
+
+abbrev pub stats_flag : Rule
+stats_flag = flag_of (codes "stats")
+
+abbrev pub json_flag : Rule
+json_flag = flag_of (codes "json")
+
 abbrev pub turns_option : Rule
 turns_option = option_of (codes "turns") (Unsigned 0 1000000000) (codes "10000000")
 
@@ -64,19 +87,22 @@ abbrev pub deadlock_shape : Shape
 deadlock_shape = new_shape (codes "deadlock")
 
 abbrev pub draw_shape : Shape
-draw_shape = new_shape (codes "draw")
+draw_shape = record (new_shape (codes "draw")) { rules = after_option ∷ [] }
 
 abbrev pub step_shape : Shape
-step_shape = record (new_shape (codes "step")) { rules = limit_option ∷ schedule_option ∷ together_flag ∷ why_flag ∷ trace_flag ∷ [] }
+step_shape = record (new_shape (codes "step")) { rules = limit_option ∷ schedule_option ∷ together_flag ∷ why_flag ∷ trace_flag ∷ stats_flag ∷ json_flag ∷ [] }
 
 abbrev pub run_shape : Shape
-run_shape = record (new_shape (codes "run")) { rules = turns_option ∷ seed_option ∷ why_flag ∷ trace_flag ∷ [] }
+run_shape = record (new_shape (codes "run")) { rules = turns_option ∷ seed_option ∷ why_flag ∷ trace_flag ∷ stats_flag ∷ json_flag ∷ [] }
+
+abbrev pub replay_shape : Shape
+replay_shape = record (new_shape (codes "replay")) { rules = events_option ∷ why_flag ∷ [] }
 
 abbrev pub vcnet : App
 vcnet =
-    with_subcommand (with_subcommand (with_subcommand (with_subcommand (with_subcommand (with_subcommand
+    with_subcommand (with_subcommand (with_subcommand (with_subcommand (with_subcommand (with_subcommand (with_subcommand
     (on_top (λ s. record s { subcommand_required = true; has_version = true }) (new_app (codes "vcnet")))
-    check_shape) explain_shape) deadlock_shape) draw_shape) step_shape) run_shape
+    check_shape) explain_shape) deadlock_shape) draw_shape) step_shape) run_shape) replay_shape
 
 -- the number that a text is, where it is one of at most `most`
 abbrev pub number_in : ℕ → Text → Option ℕ
@@ -88,6 +114,10 @@ number_in most text =
 -- the number of an option among what was found, else the usual one
 abbrev pub number_of : Text → ℕ → ℕ → List Row → ℕ
 number_of id most usual rows = unwrap_or (option_and_then (number_in most) (one_of id rows)) usual
+
+-- and none where there is none
+abbrev pub number_at : Text → ℕ → List Row → Option ℕ
+number_at id most rows = option_and_then (number_in most) (one_of id rows)
 
 -- whether a flag is among what was found
 abbrev pub has_flag : Text → List Row → Bool
@@ -113,14 +143,22 @@ thread_options_of rows = record {
   is_why = has_flag (codes "why") rows;
 }
 
+-- what is written of a run: where the events are asked for, these and the traffic alone
+abbrev pub account_of : List Row → Account
+account_of rows =
+    if has_flag (codes "trace") rows then Events
+    else (if has_flag (codes "stats") rows then Counts (if has_flag (codes "json") rows then FormJson else Lines)
+    else (if has_flag (codes "json") rows then Json else Traffic))
+
 -- what a subcommand and what was found of its options ask for
 abbrev pub line_of : Text × List Row → Line
 line_of (name, rows) =
-    if bytes_eq name (codes "step") then Step (step_options_of rows) (has_flag (codes "trace") rows)
-    else (if bytes_eq name (codes "run") then Run (thread_options_of rows) (has_flag (codes "trace") rows)
+    if bytes_eq name (codes "step") then Step (step_options_of rows) (account_of rows)
+    else (if bytes_eq name (codes "run") then Run (thread_options_of rows) (account_of rows)
+    else (if bytes_eq name (codes "replay") then Replay (has_flag (codes "why") rows)
+    else (if bytes_eq name (codes "draw") then Draw (number_at (codes "after") 1000000000 rows)
     else (if bytes_eq name (codes "explain") then Explain
-    else (if bytes_eq name (codes "deadlock") then Deadlock
-    else (if bytes_eq name (codes "draw") then Draw else Check))))
+    else (if bytes_eq name (codes "deadlock") then Deadlock else Check)))))
 
 -- the kinds of fault that the words have: none where they are a command line
 abbrev pub faults : List Text → Kinds
@@ -151,6 +189,8 @@ abbrev pub IsInRange : Line → Type 0
 IsInRange Check = ⊤
 IsInRange Explain = ⊤
 IsInRange Deadlock = ⊤
-IsInRange Draw = ⊤
-IsInRange (Step options is_traced) = options.limit ≤ 1000000000
-IsInRange (Run options is_traced) = options.turns ≤ 1000000000
+IsInRange (Draw None) = ⊤
+IsInRange (Draw (Some after)) = after ≤ 1000000000
+IsInRange (Step options account) = options.limit ≤ 1000000000
+IsInRange (Run options account) = options.turns ≤ 1000000000
+IsInRange (Replay is_why) = ⊤

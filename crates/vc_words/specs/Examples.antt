@@ -1,12 +1,14 @@
 -- Some command lines, and what they ask for.
-use Rattle.std.specs.Prelude.{◌≡◌, true, false, List, [], ◌∷◌, codes}
+use Rattle.std.specs.Prelude.{◌≡◌, true, false, Some, None, List, [], ◌∷◌, codes}
 use Rattle.clap.specs.Walk.{Text}
-use Rattle.clap.specs.declared.error.kind.ErrorKind.TheVariants.{DisplayHelp, DisplayVersion, ValueValidation}
+use Rattle.clap.specs.declared.error.kind.ErrorKind.TheVariants.{DisplayHelp, DisplayVersion, MissingRequiredArgument, ValueValidation}
 use Rattle.vc_text.specs.declared.schedule.Schedule.TheVariants.{InTurn, Random}
 use Rattle.vc_text.specs.declared.step_options.StepOptions.{StepOptions}
 use Rattle.vc_text.specs.declared.thread_options.ThreadOptions.{ThreadOptions}
 use Rattle.vc_words.specs.CommandLine.{Asks, faults}
-use Rattle.vc_words.specs.declared.line.Line.TheVariants.{Check, Explain, Deadlock, Draw, Step, Run}
+use Rattle.vc_stats.specs.declared.form.Form.TheVariants.{Lines}
+use Rattle.vc_words.specs.declared.account.Account.TheVariants.{Traffic, Events, Counts}
+use Rattle.vc_words.specs.declared.line.Line.TheVariants.{Check, Explain, Deadlock, Draw, Step, Run, Replay}
 
 -- the program's name, and then the other words
 abbrev pub line : List Text → List Text
@@ -23,15 +25,19 @@ pub record LinesAreRead : Type 0 where
   pub check : Asks (line (codes "check" ∷ [])) Check
   pub explain : Asks (line (codes "explain" ∷ [])) Explain
   pub deadlock : Asks (line (codes "deadlock" ∷ [])) Deadlock
-  pub draw : Asks (line (codes "draw" ∷ [])) Draw
-  pub step : Asks (line (codes "step" ∷ [])) (Step usual false)
-  pub limit : Asks (line (codes "step" ∷ codes "--limit" ∷ codes "7" ∷ [])) (Step (record usual { limit = 7 }) false)
-  pub together : Asks (line (codes "step" ∷ codes "--together" ∷ [])) (Step (record usual { is_together = true }) false)
-  pub why : Asks (line (codes "step" ∷ codes "--why" ∷ [])) (Step (record usual { is_why = true }) false)
-  pub trace : Asks (line (codes "step" ∷ codes "--trace" ∷ [])) (Step usual true)
-  pub schedule : Asks (line (codes "step" ∷ codes "--schedule" ∷ codes "5" ∷ [])) (Step (record usual { schedule = Random 5 }) false)
-  pub run : Asks (line (codes "run" ∷ codes "--seed=3" ∷ codes "--turns=9" ∷ [])) (Run (record usual_threads { turns = 9; seed = 3 }) false)
-  pub run_trace : Asks (line (codes "run" ∷ codes "--trace" ∷ [])) (Run usual_threads true)
+  pub draw : Asks (line (codes "draw" ∷ [])) (Draw None)
+  pub after : Asks (line (codes "draw" ∷ codes "--after" ∷ codes "9" ∷ [])) (Draw (Some 9))
+  pub step : Asks (line (codes "step" ∷ [])) (Step usual Traffic)
+  pub limit : Asks (line (codes "step" ∷ codes "--limit" ∷ codes "7" ∷ [])) (Step (record usual { limit = 7 }) Traffic)
+  pub together : Asks (line (codes "step" ∷ codes "--together" ∷ [])) (Step (record usual { is_together = true }) Traffic)
+  pub why : Asks (line (codes "step" ∷ codes "--why" ∷ [])) (Step (record usual { is_why = true }) Traffic)
+  pub trace : Asks (line (codes "step" ∷ codes "--trace" ∷ [])) (Step usual Events)
+  pub schedule : Asks (line (codes "step" ∷ codes "--schedule" ∷ codes "5" ∷ [])) (Step (record usual { schedule = Random 5 }) Traffic)
+  pub run : Asks (line (codes "run" ∷ codes "--seed=3" ∷ codes "--turns=9" ∷ [])) (Run (record usual_threads { turns = 9; seed = 3 }) Traffic)
+  pub run_trace : Asks (line (codes "run" ∷ codes "--trace" ∷ [])) (Run usual_threads Events)
+  pub stats : Asks (line (codes "step" ∷ codes "--stats" ∷ [])) (Step usual (Counts Lines))
+  pub replay : Asks (line (codes "replay" ∷ codes "--events" ∷ codes "a" ∷ [])) (Replay false)
+  pub no_events : faults (line (codes "replay" ∷ [])) ≡ MissingRequiredArgument ∷ []
   pub help : faults (line (codes "--help" ∷ [])) ≡ DisplayHelp ∷ []
   pub version : faults (line (codes "--version" ∷ [])) ≡ DisplayVersion ∷ []
   pub beyond : faults (line (codes "step" ∷ codes "--limit" ∷ codes "1000000001" ∷ [])) ≡ ValueValidation ∷ []

@@ -1,10 +1,10 @@
 -- What the program does, over streams that tell their bytes.
-use Rattle.std.specs.Prelude.{◌≡◌, ◌⊎◌, ℕ, ◌≤◌, Bool, true, false, List, Option, Result, Ok, Err, ⊤}
+use Rattle.std.specs.Prelude.{◌≡◌, ◌⊎◌, ℕ, ◌≤◌, Bool, true, false, List, Option, Some, None, Result, Ok, Err, ⊤}
 use Rattle.vc_explain.specs.Explaining.{Explains}
-use Rattle.vc_text.specs.Checking.{Checks}
+use Rattle.vc_text.specs.Checking.{Checks, ReadsAccepted}
 use Rattle.vc_text.specs.Deadlock.{TellsDeadlock}
 use Rattle.vc_text.specs.FaultLine.{fault_text}
-use Rattle.vc_text.specs.Graph.{WritesGraph}
+use Rattle.vc_draw.specs.Graph.{WritesGraph}
 use Rattle.vc_core.specs.declared.close.Close.{Close}
 use Rattle.vc_text.specs.OneNode.{ReadsAs}
 use Rattle.vc_text.specs.Running.{RunText, WritesRunBy}
@@ -15,14 +15,20 @@ use Rattle.vc_text.specs.declared.step_options.StepOptions.{StepOptions}
 use Rattle.vc_text.specs.declared.thread_options.ThreadOptions.{ThreadOptions}
 use Rattle.vc_threads.specs.declared.report.Ending.{Ending}
 use Rattle.vc_text.specs.declared.fault.RunFault.{RunFault}
-use Rattle.vc_text.specs.declared.fault.RunFault.TheVariants.{Memory}
+use Rattle.vc_text.specs.declared.fault.RunFault.TheVariants.{Memory, Read}
+use Rattle.vc_draw.specs.State.{IsStateDrawing}
+use Rattle.vc_stats.specs.Texts.{IsStatsText, IsTrafficJson}
+use Rattle.vc_trace.specs.Replay.{Replays}
 use Rattle.vc_trace.specs.Tracing.{IsTracedText}
+use Rattle.vc_trace.specs.declared.replayed.Replayed.{Replayed}
+use Rattle.vc_words.specs.declared.account.Account.{Account}
+use Rattle.vc_words.specs.declared.account.Account.TheVariants.{Traffic, Events, Counts, Json}
 use Rattle.clap.specs.Walk.{Text}
 use Rattle.clap.specs.Kinds.{IsAmong}
 use Rattle.clap.specs.declared.error.kind.ErrorKind.{ErrorKind}
-use Rattle.vc_words.specs.declared.line.Line.TheVariants.{Check, Explain, Deadlock, Draw, Step, Run}
+use Rattle.vc_words.specs.declared.line.Line.TheVariants.{Check, Explain, Deadlock, Draw, Step, Run, Replay}
 use Rattle.vc_words.specs.CommandLine.{Asks, faults, status_of_kind}
-use Rattle.vc_words.specs.Status.{status_of_acceptance, status_of_fault, status_of_freedom, status_of_end}
+use Rattle.vc_words.specs.Status.{status_of_acceptance, status_of_fault, status_of_freedom, status_of_end, status_of_replay}
 
 -- the status that was wanted, or that of a fault in writing
 abbrev pub status_after : ℕ → Result ⊤ RunFault → ℕ
@@ -60,28 +66,41 @@ FindsDeadlock known old new status =
     ((free : Bool) × TellsDeadlock known old new (Ok free) × (status ≡ status_of_freedom free))
     ⊎ ((fault : RunFault) × (mid : Option (List ℕ)) × TellsDeadlock known old mid (Err fault) × TellsFault mid new fault status)
 
--- it is written as Graphviz text
-abbrev pub DrawsNetwork : Option (List ℕ) → Option (List ℕ) → Option (List ℕ) → ℕ → Type 0
-DrawsNetwork = WritesOrTells WritesGraph
+-- it is written as Graphviz text: as its plan says, or with its state after at most so many events, or a fault of it is told
+abbrev pub DrawsNetwork : Option ℕ → Option (List ℕ) → Option (List ℕ) → Option (List ℕ) → ℕ → Type 0
+DrawsNetwork None known old new status = WritesOrTells WritesGraph known old new status
+DrawsNetwork (Some after) known old new status =
+    let Draws = WritesRunBy IsStateDrawing (ReadsAccepted known) in
+    ((close : Close) × Draws old new after (Ok close) × (status ≡ 0))
+    ⊎ ((fault : RunFault) × (mid : Option (List ℕ)) × Draws old mid after (Err fault) × TellsFault mid new fault status)
 
--- the text of a run: its traffic, with who waits for what or without, and its events in front of it, or not
-abbrev pub IsTextOf : (is_traced is_why : Bool) → RunText
-IsTextOf false is_why = IsTail is_why
-IsTextOf true is_why = IsTracedText is_why
+-- the text of a run: its traffic, its events and then its traffic, its traffic and then its counts, or its traffic as JSON
+abbrev pub IsTextOf : Account → (is_why : Bool) → RunText
+IsTextOf Traffic is_why = IsTail is_why
+IsTextOf Events is_why = IsTracedText is_why
+IsTextOf (Counts form) is_why = IsStatsText form is_why
+IsTextOf Json is_why = IsTrafficJson
 
 -- it is run event by event, as the options say, or a fault of it is told
-abbrev pub StepsNetwork : StepOptions → (is_traced : Bool) → Option (List ℕ) → Option (List ℕ) → Option (List ℕ) → ℕ → Type 0
-StepsNetwork options is_traced known old new status =
-    let Steps = WritesRunBy (IsTextOf is_traced options.is_why) (ReadsAs options.is_together known) in
+abbrev pub StepsNetwork : StepOptions → Account → Option (List ℕ) → Option (List ℕ) → Option (List ℕ) → ℕ → Type 0
+StepsNetwork options account known old new status =
+    let Steps = WritesRunBy (IsTextOf account options.is_why) (ReadsAs options.is_together known) in
     ((close : Close) × Steps old new options.limit (Ok close) × (status ≡ status_of_end close))
     ⊎ ((fault : RunFault) × (mid : Option (List ℕ)) × Steps old mid options.limit (Err fault) × TellsFault mid new fault status)
 
 -- in threads, so too
-abbrev pub RunsNetwork : ThreadOptions → (is_traced : Bool) → Option (List ℕ) → Option (List ℕ) → Option (List ℕ) → ℕ → Type 0
-RunsNetwork options is_traced known old new status =
-    let RunsThreads = WritesThreads (IsTextOf is_traced options.is_why) options.turns options.seed known in
+abbrev pub RunsNetwork : ThreadOptions → Account → Option (List ℕ) → Option (List ℕ) → Option (List ℕ) → ℕ → Type 0
+RunsNetwork options account known old new status =
+    let RunsThreads = WritesThreads (IsTextOf account options.is_why) options.turns options.seed known in
     ((ending : Ending) × RunsThreads old new (Ok ending) × (status ≡ status_of_end ending.close))
     ⊎ ((fault : RunFault) × (mid : Option (List ℕ)) × RunsThreads old mid (Err fault) × TellsFault mid new fault status)
+
+-- the events that a file has are made, or a fault of that is told; where the file can't be opened, nothing is read
+abbrev pub ReplaysNetwork : (is_why : Bool) → Option (List ℕ) → Option (List ℕ) → Option (List ℕ) → ℕ → Type 0
+ReplaysNetwork is_why known old new status =
+    ((file : Option (List ℕ)) × (replayed : Replayed) × Replays is_why known file old new (Ok replayed) × (status ≡ status_of_replay replayed))
+    ⊎ (((file : Option (List ℕ)) × (fault : RunFault) × (mid : Option (List ℕ)) × Replays is_why known file old mid (Err fault) × TellsFault mid new fault status)
+    ⊎ TellsFault old new Read status)
 
 -- what is wrong with the words, or the help that they ask for, is told, or want of memory
 abbrev pub TellsLine : List Text → Option (List ℕ) → Option (List ℕ) → ℕ → Type 0
@@ -94,11 +113,14 @@ pub data Runs (words : List Text) (known rest old new : Option (List ℕ)) (stat
   checks : Asks words Check → ChecksNetwork known old new status → Runs words known rest old new status
   explains : Asks words Explain → ExplainsNetwork known old new status → Runs words known rest old new status
   finds : Asks words Deadlock → FindsDeadlock known old new status → Runs words known rest old new status
-  draws : Asks words Draw → DrawsNetwork known old new status → Runs words known rest old new status
-  steps : (options : StepOptions) (is_traced : Bool) → options.limit ≤ 1000000000 → Asks words (Step options is_traced)
-      → StepsNetwork options is_traced known old new status
+  draws : (after : Option ℕ) → Asks words (Draw after) → DrawsNetwork after known old new status → Runs words known rest old new status
+  steps : (options : StepOptions) (account : Account) → options.limit ≤ 1000000000 → Asks words (Step options account)
+      → StepsNetwork options account known old new status
       → Runs words known rest old new status
-  runs : (options : ThreadOptions) (is_traced : Bool) → options.turns ≤ 1000000000 → Asks words (Run options is_traced)
-      → RunsNetwork options is_traced known old new status
+  runs : (options : ThreadOptions) (account : Account) → options.turns ≤ 1000000000 → Asks words (Run options account)
+      → RunsNetwork options account known old new status
+      → Runs words known rest old new status
+  replays : (is_why : Bool) → Asks words (Replay is_why)
+      → ReplaysNetwork is_why known old new status
       → Runs words known rest old new status
   tells : rest ≡ known → TellsLine words old new status → Runs words known rest old new status

@@ -6,6 +6,8 @@ use Rattle.vc_plan.specs.declared.check_refused.CheckRefused.{CheckRefused}
 use Rattle.vc_plan.specs.declared.check_refused.CheckRefused.TheVariants as check
 use Rattle.vc_reader.specs.declared.refused.ReadRefused.{ReadRefused}
 use Rattle.vc_reader.specs.declared.refused.ReadRefused.TheVariants as read
+use Rattle.vc_trace.specs.declared.replayed.Replayed.{Replayed}
+use Rattle.vc_trace.specs.declared.replayed.Replayed.TheVariants.{Ended, Refused}
 use Rattle.vc_text.specs.declared.fault.RunFault.{RunFault}
 use Rattle.vc_text.specs.declared.fault.RunFault.TheVariants.{Read, Write, Text, Plan, Threads, Memory}
 
@@ -45,3 +47,8 @@ status_of_end Limit = 3
 status_of_end GateClosed = 3
 status_of_end ClockFull = 3
 status_of_end (Failed actor) = 4
+
+-- that of the end of a run, and 2 for an event that is refused
+abbrev pub status_of_replay : Replayed → ℕ
+status_of_replay (Ended close) = status_of_end close
+status_of_replay Refused = 2

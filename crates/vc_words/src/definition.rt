@@ -5,7 +5,7 @@ ghost use Rattle.clap.specs.Walk.{rule_of};
 ghost use Rattle.clap.specs.Simple.{shape_of};
 ghost use Rattle.clap.specs.declared.builder.command.Command.TheViews.{out-Command};
 ghost use Rattle.clap.specs.declared.builder.value_parser.ValueParser.TheVariants.{Unsigned};
-ghost use Rattle.vc_words.specs.CommandLine.{flag_of, option_of, vcnet, step_shape, run_shape};
+ghost use Rattle.vc_words.specs.CommandLine.{flag_of, needed_of, option_of, optional_of, draw_shape, replay_shape, run_shape, step_shape, vcnet};
 
 use clap::builder::ValueParser;
 use clap::{Arg, ArgAction, Command, value_parser};
@@ -50,18 +50,29 @@ Example: vcnet deadlock < examples/ring.json";
 /// What stands at the end of the help of `draw`.
 const DRAW_HELP: &str = "\
 Prints the network for `dot`, a program of Graphviz, which makes a drawing of it: nodes as boxes, switches as ellipses, a line for each wire, \
-a dashed one for each virtual link with its channels, and a dotted one for each channel inside a node.
+a dashed one for each virtual link with its channels, and a dotted one for each channel inside a node. With --after the labels show the state \
+after so many events of `step`: who waits for what, the tokens on the wires, and where the packets are.
 
 Exit status: 0 drawn; 2 refused; 4 no memory; 6 a stream failed.
 
 Example: vcnet draw < examples/ring.json | dot -Tsvg > ring.svg";
+
+/// What stands at the end of the help of `replay`.
+const REPLAY_HELP: &str = "\
+Makes each event of the file in turn, as `step --trace` and `run --trace` print them, and prints the traffic of the state that they lead to. What \
+stands behind the events is not read. A line that is not that of an event that can happen then is refused: its number and the line are \
+printed. With --why each part of a process that waits or has stopped has a line behind the traffic, and so has each packet.
+
+Exit status: 0 done; 1 quiet; 2 refused; 3 more events can happen; 4 no memory; 6 a stream failed, or the file can't be opened.
+
+Example: vcnet replay --events hello.trace < examples/hello.json";
 
 /// What stands at the end of the help of `step`.
 const STEP_HELP: &str = "\
 Prints what each channel carried, and how the run ended: `end done` where every process ended, `end quiet` where nothing can happen any more, \
 `end limit` where more events can happen. A number over one wire takes some 47 events; give a long run a greater --limit. With --why each \
 part of a process that waits or has stopped has a line behind these, and so has each packet. With --trace the events stand in front, one a line. \
-A network can end in more than one way where an ALT has several guards: each --schedule N is another order of its events.
+With --stats counts stand behind the traffic. A network can end in more than one way where an ALT has several guards: each --schedule N is another order of its events.
 
 Exit status: 0 done; 1 quiet; 2 refused; 3 limit; 4 no memory; 6 a stream failed.
 
@@ -83,6 +94,35 @@ fn counts<'a>() -> ValueParser<'a>
     ensures { result ≡ Unsigned 0 1000000000 }
 {
     value_parser!(u64).range(0..=1_000_000_000)
+}
+
+/// An option `--name N` that may be left out, and which numbers it takes.
+fn optional_number<'a>(
+    alloc: Global,
+    name: &'a str,
+    help: &'a str,
+    numbers: ValueParser<'a>,
+) -> Arg<'a>
+    ensures rule { rule_of result ≡ optional_of name.entry.now numbers.entry }
+    ensures local { result.global ≡ false }
+{
+    Arg::new(alloc, name)
+        .long(name)
+        .value_name("N")
+        .help(help)
+        .value_parser(numbers)
+}
+
+/// An option `--name FILE` that has to be written.
+fn file_option<'a>(alloc: Global, name: &'a str, help: &'a str) -> Arg<'a>
+    ensures rule { rule_of result ≡ needed_of name.entry.now }
+    ensures local { result.global ≡ false }
+{
+    Arg::new(alloc, name)
+        .long(name)
+        .value_name("FILE")
+        .help(help)
+        .required(true)
 }
 
 /// An option `--name N`, which numbers it takes, and what it is where it is not written.
@@ -139,6 +179,64 @@ fn trace_flag<'a>(alloc: Global) -> Arg<'a>
     )
 }
 
+/// The flag that asks for counts.
+fn stats_flag<'a>(alloc: Global) -> Arg<'a>
+    ensures rule { rule_of result ≡ flag_of (codes "stats") }
+    ensures local { result.global ≡ false }
+{
+    flag(
+        alloc,
+        "stats",
+        "Prints, behind the traffic, how many events there were, by kind, actor, wire and channel",
+    )
+}
+
+/// The flag that asks for JSON.
+fn json_flag<'a>(alloc: Global) -> Arg<'a>
+    ensures rule { rule_of result ≡ flag_of (codes "json") }
+    ensures local { result.global ≡ false }
+{
+    flag(
+        alloc,
+        "json",
+        "Prints the traffic, and the counts of --stats, as JSON",
+    )
+}
+
+/// The subcommand that draws the network.
+fn draw_definition<'a>(alloc: Global) -> Result<Command<'a>, AllocError>
+    ensures shape { IfOk result (λ c. shape_of c ≡ draw_shape) }
+    ensures local { IfOk result (λ c. (out-Command c).has_globals ≡ false) }
+{
+    let after = optional_number(
+        alloc,
+        "after",
+        "Draws the network with its state after N events",
+        counts(),
+    );
+    Command::new(alloc, "draw")
+        .about("Writes the network on standard input as Graphviz text")
+        .after_help(DRAW_HELP)
+        .arg(after)
+}
+
+/// The subcommand that makes the events of a file.
+fn replay_definition<'a>(alloc: Global) -> Result<Command<'a>, AllocError>
+    ensures shape { IfOk result (λ c. shape_of c ≡ replay_shape) }
+    ensures local { IfOk result (λ c. (out-Command c).has_globals ≡ false) }
+{
+    let events = file_option(
+        alloc,
+        "events",
+        "Makes the events of this file, as --trace prints them",
+    );
+    Command::new(alloc, "replay")
+        .about("Makes the events of a file in the network on standard input and prints its traffic")
+        .after_help(REPLAY_HELP)
+        .arg(events)?
+        .arg(why_flag(alloc))
+}
+
 /// The subcommand that runs the network event by event.
 fn step_definition<'a>(alloc: Global) -> Result<Command<'a>, AllocError>
     ensures shape { IfOk result (λ c. shape_of c ≡ step_shape) }
@@ -170,7 +268,9 @@ fn step_definition<'a>(alloc: Global) -> Result<Command<'a>, AllocError>
         .arg(schedule)?
         .arg(together)?
         .arg(why_flag(alloc))?
-        .arg(trace_flag(alloc))
+        .arg(trace_flag(alloc))?
+        .arg(stats_flag(alloc))?
+        .arg(json_flag(alloc))
 }
 
 /// The subcommand that runs the network in threads.
@@ -198,7 +298,9 @@ fn run_definition<'a>(alloc: Global) -> Result<Command<'a>, AllocError>
         .arg(turns)?
         .arg(seed)?
         .arg(why_flag(alloc))?
-        .arg(trace_flag(alloc))
+        .arg(trace_flag(alloc))?
+        .arg(stats_flag(alloc))?
+        .arg(json_flag(alloc))
 }
 
 /// What the program takes.
@@ -215,9 +317,6 @@ pub(crate) fn definition<'a>(alloc: Global) -> Result<Command<'a>, AllocError>
     let deadlock = Command::new(alloc, "deadlock")
         .about("Tells whether packets of the network on standard input can wait in a circle")
         .after_help(DEADLOCK_HELP);
-    let draw = Command::new(alloc, "draw")
-        .about("Writes the network on standard input as Graphviz text")
-        .after_help(DRAW_HELP);
     Command::new(alloc, "vcnet")
         .about("The virtual channel network of the T9000 and the C104, with occam processes")
         .after_help(PROGRAM_HELP)
@@ -226,7 +325,8 @@ pub(crate) fn definition<'a>(alloc: Global) -> Result<Command<'a>, AllocError>
         .subcommand(check)?
         .subcommand(explain)?
         .subcommand(deadlock)?
-        .subcommand(draw)?
+        .subcommand(draw_definition(alloc)?)?
         .subcommand(step_definition(alloc)?)?
-        .subcommand(run_definition(alloc)?)
+        .subcommand(run_definition(alloc)?)?
+        .subcommand(replay_definition(alloc)?)
 }

@@ -5,6 +5,7 @@
 //! (`specs/Program`, `specs/Status`), over any reader and any writer that tell their bytes.
 #![tactic(auto)]
 
+mod account;
 mod definition;
 mod laws;
 mod line;
@@ -12,6 +13,7 @@ mod line_fault;
 mod reading;
 mod words;
 
+pub use account::Account;
 pub use laws::lines_are_read;
 pub use line::Line;
 pub use line_fault::LineFault;

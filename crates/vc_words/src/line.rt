@@ -1,4 +1,5 @@
 //! A command line.
+use crate::account::Account;
 use vc_text::{StepOptions, ThreadOptions};
 
 /// What the words ask for.
@@ -11,20 +12,29 @@ pub enum Line {
     /// To tell whether packets of the network can come to wait for one another in a circle.
     Deadlock,
     /// To write the network as Graphviz text.
-    Draw,
+    Draw {
+        /// The most events that are made before it is drawn, with the state after them: at most 1,000,000,000. None draws the network
+        /// alone.
+        after: Option<u64>,
+    },
     /// To run the network event by event, and to print its traffic.
     Step {
         /// How it is run: at most 1,000,000,000 events are made, and 1,000,000 where the words say nothing.
         options: StepOptions,
-        /// Whether its events are written in front of the traffic.
-        is_traced: bool,
+        /// What is written of it.
+        account: Account,
     },
     /// To run the network with a thread for each node and each switch, and to print its traffic.
     Run {
         /// How it is run: each thread makes at most 1,000,000,000 turns, and 10,000,000 where the words say nothing; the seed is 0 where
         /// they say nothing.
         options: ThreadOptions,
-        /// Whether its events are written in front of the traffic.
-        is_traced: bool,
+        /// What is written of it.
+        account: Account,
+    },
+    /// To make the events of a file, and to print the traffic of the state that they lead to.
+    Replay {
+        /// Whether it is printed, too, who waits for what.
+        is_why: bool,
     },
 }

@@ -2,14 +2,16 @@
 ghost use Rattle.std.specs.Prelude.{◌≡◌, ◌≤◌, IfOk, IfErr, IfSome};
 ghost use Rattle.clap.specs.Words.{found_of, kind_of, rows_of, subcommand_rows_of};
 ghost use Rattle.clap.specs.Walk.{texts};
-ghost use Rattle.vc_words.specs.CommandLine.{has_flag, line_of as line_for, number_of, schedule_of, step_options_of, thread_options_of, faults, Asks, IsFaultOf, IsInRange, IsToldAs};
+ghost use Rattle.vc_words.specs.CommandLine.{account_of, has_flag, line_of as line_for, number_at, number_of, schedule_of, step_options_of, thread_options_of, faults, Asks, IsFaultOf, IsInRange, IsToldAs};
 
+use crate::account::Account;
 use crate::definition::definition;
 use crate::line::Line;
 use crate::line_fault::LineFault;
 use clap::error::ErrorKind;
 use clap::{ArgMatches, Error};
 use std::alloc::Global;
+use vc_stats::Form;
 use vc_text::{Schedule, StepOptions, ThreadOptions};
 
 /// The most events of a run, and the most turns of each thread, that a line may allow.
@@ -36,6 +38,17 @@ fn number(matches: &ArgMatches<'_>, id: &str, most: u64, usual: u64) -> u64
     match matches.get_one::<u64>(id) {
         Some(number) if number <= most => number,
         _ => usual,
+    }
+}
+
+/// The number that the matches have for an option, if they have one.
+fn number_if_any(matches: &ArgMatches<'_>, id: &str, most: u64) -> Option<u64>
+    ensures number { result ≡ number_at id.now most (rows_of (found_of matches.now)) }
+    ensures range { IfSome result (λ n. n ≤ most) }
+{
+    match matches.get_one::<u64>(id) {
+        Some(number) if number <= most => Some(number),
+        _ => None,
     }
 }
 
@@ -85,6 +98,21 @@ fn thread_options(matches: &ArgMatches<'_>) -> ThreadOptions
     }
 }
 
+/// What the matches of `step` or `run` say is written of the run. Where they ask for the events, these and the traffic alone.
+fn account(matches: &ArgMatches<'_>) -> Account
+    ensures { result ≡ account_of (rows_of (found_of matches.now)) }
+{
+    if is_set(matches, "trace") {
+        return Account::Events;
+    }
+    match (is_set(matches, "stats"), is_set(matches, "json")) {
+        (true, true) => Account::Counts(Form::Json),
+        (true, false) => Account::Counts(Form::Lines),
+        (false, true) => Account::Json,
+        (false, false) => Account::Traffic,
+    }
+}
+
 /// What the matches ask for.
 fn line_of(matches: &ArgMatches<'_>) -> Line
     ensures line { IfSome (subcommand_rows_of matches.now) (λ found. result ≡ line_for found) }
@@ -93,15 +121,20 @@ fn line_of(matches: &ArgMatches<'_>) -> Line
     match matches.subcommand() {
         Some(("step", inner)) => Line::Step {
             options: step_options(inner),
-            is_traced: is_set(inner, "trace"),
+            account: account(inner),
         },
         Some(("run", inner)) => Line::Run {
             options: thread_options(inner),
-            is_traced: is_set(inner, "trace"),
+            account: account(inner),
+        },
+        Some(("replay", inner)) => Line::Replay {
+            is_why: is_set(inner, "why"),
+        },
+        Some(("draw", inner)) => Line::Draw {
+            after: number_if_any(inner, "after", MOST),
         },
         Some(("explain", _)) => Line::Explain,
         Some(("deadlock", _)) => Line::Deadlock,
-        Some(("draw", _)) => Line::Draw,
         _ => Line::Check,
     }
 }
@@ -133,4 +166,11 @@ pub fn command(alloc: Global, words: &[&str]) -> Result<Line, LineFault>
         Ok(matches) => Ok(line_of(&matches)),
         Err(error) => Err(fault_of(alloc, &error)),
     }
+}
+
+/// The file of events that the words of a replay name.
+pub(crate) fn events_of<'a>(alloc: Global, words: &'a [&'a str]) -> Option<&'a str> {
+    let matches = definition(alloc).ok()?.try_get_matches_from(words).ok()?;
+    let (_, found) = matches.subcommand()?;
+    found.get_str("events")
 }

@@ -1,31 +1,36 @@
 //! From the words of the command line to the program's status.
-ghost use Rattle.std.specs.Prelude.{◌≡◌, ℕ, List};
+ghost use Rattle.std.specs.Prelude.{◌≡◌, ℕ, List, Some, None};
 ghost use Rattle.vc_text.specs.declared.fault.RunFault.TheVariants.{Memory as OutOfMemory};
 ghost use Rattle.clap.specs.Walk.{Text, texts};
 ghost use Rattle.vc_text.specs.OneNode.{ReadsAs};
 ghost use Rattle.vc_text.specs.Running.{WritesRunBy};
 ghost use Rattle.vc_text.specs.Threading.{WritesThreads};
 ghost use Rattle.vc_words.specs.CommandLine.{faults, IsFaultOf};
-ghost use Rattle.vc_words.specs.Program.{ChecksNetwork, DrawsNetwork, ExplainsNetwork, FindsDeadlock, IsTextOf, Runs, RunsNetwork, StepsNetwork, Tells, TellsFault, TellsLine};
-ghost use Rattle.vc_words.specs.Status.{status_of_acceptance as status_for_acceptance, status_of_check as status_for_check, status_of_text as status_for_text, status_of_fault, status_of_freedom as status_for_freedom, status_of_end};
+ghost use Rattle.vc_words.specs.Program.{ChecksNetwork, DrawsNetwork, ExplainsNetwork, FindsDeadlock, IsTextOf, ReplaysNetwork, Runs, RunsNetwork, StepsNetwork, Tells, TellsFault, TellsLine};
+ghost use Rattle.vc_words.specs.Status.{status_of_acceptance as status_for_acceptance, status_of_check as status_for_check, status_of_text as status_for_text, status_of_fault, status_of_freedom as status_for_freedom, status_of_end, status_of_replay as status_for_replay};
 
+use crate::account::Account;
 use crate::line::Line;
 use crate::line_fault::LineFault;
-use crate::reading::command;
+use crate::reading::{command, events_of};
 use std::alloc::Global;
+use std::fs::File;
 use std::io::{Read, Write};
+use std::rt::Files;
 use std::sync::Wait;
 use std::thread::Threads;
 use vc_core::Close;
+use vc_draw::{run_draw, run_draw_after};
 use vc_explain::run_explain;
 use vc_plan::CheckRefused;
 use vc_reader::ReadRefused;
+use vc_stats::{json_net, json_step, stats_net, stats_step};
 use vc_text::{
-    RunFault, StepOptions, ThreadOptions, run_check, run_deadlock, run_draw, run_net_unlogged,
+    RunFault, StepOptions, ThreadOptions, run_check, run_deadlock, run_net_unlogged,
     run_step_unlogged, write_fault, write_text,
 };
 use vc_threads::Ending;
-use vc_trace::{trace_net, trace_step};
+use vc_trace::{Replayed, run_replay, trace_net, trace_step};
 
 /// The status for a network that is accepted, or drawn, or without a cycle, or whose processes have all ended.
 const DONE: u8 = 0;
@@ -138,7 +143,8 @@ pub fn tell_no_text<W: Write>(writer: &mut W) -> u8
 
 /// What a bad line or a request for help prints.
 fn told_of_line<W: Write>(alloc: Global, fault: &LineFault, writer: &mut W) -> u8
-    ensures { (words : List Text) → IsFaultOf (faults words) fault.now → TellsLine words (W.contents writer.old) (W.contents writer.new) result }
+    ensures { (words : List Text) → IsFaultOf (faults words) fault.now →
+        TellsLine words (W.contents writer.old) (W.contents writer.new) result }
 {
     match fault {
         LineFault::Bad { text, status } => told_text(text.as_bytes(), *status, writer),
@@ -186,8 +192,8 @@ fn deadlock_by<R: Read, W: Write>(alloc: Global, reader: &mut R, writer: &mut W)
 }
 
 /// Writes the network that the reader has as Graphviz text.
-fn draw_by<R: Read, W: Write>(alloc: Global, reader: &mut R, writer: &mut W) -> u8
-    ensures { DrawsNetwork (R.remaining reader.old)
+fn draw_plan_by<R: Read, W: Write>(alloc: Global, reader: &mut R, writer: &mut W) -> u8
+    ensures { DrawsNetwork None (R.remaining reader.old)
         (W.contents writer.old) (W.contents writer.new) result }
 {
     match run_draw(alloc, reader, writer) {
@@ -196,58 +202,87 @@ fn draw_by<R: Read, W: Write>(alloc: Global, reader: &mut R, writer: &mut W) -> 
     }
 }
 
-/// Runs the network that the reader has event by event, and writes its text, without its events or with them.
+/// Writes the network that the reader has as Graphviz text, with its state after at most so many events.
+fn draw_state_by<R: Read, W: Write>(alloc: Global, reader: &mut R, writer: &mut W, after: u64) -> u8
+    ensures { DrawsNetwork (Some after) (R.remaining reader.old)
+        (W.contents writer.old) (W.contents writer.new) result }
+{
+    match run_draw_after(alloc, reader, writer, after) {
+        Ok(_) => DONE,
+        Err(fault) => told(alloc, fault, writer),
+    }
+}
+
+/// Writes the network that the reader has as Graphviz text, with its state after so many events or without.
+fn draw_by<R: Read, W: Write>(
+    alloc: Global,
+    reader: &mut R,
+    writer: &mut W,
+    after: Option<u64>,
+) -> u8
+    ensures { DrawsNetwork after (R.remaining reader.old)
+        (W.contents writer.old) (W.contents writer.new) result }
+{
+    match after {
+        Some(after) => draw_state_by(alloc, reader, writer, after),
+        None => draw_plan_by(alloc, reader, writer),
+    }
+}
+
+/// Runs the network that the reader has event by event, and writes what is wanted of it.
 fn write_step<R: Read, W: Write>(
     alloc: Global,
     reader: &mut R,
     writer: &mut W,
     options: StepOptions,
-    is_traced: bool,
+    account: Account,
 ) -> Result<Close, RunFault>
-    ensures { WritesRunBy (IsTextOf is_traced options.is_why)
+    ensures { WritesRunBy (IsTextOf account options.is_why)
         (ReadsAs options.is_together (R.remaining reader.old))
         (W.contents writer.old) (W.contents writer.new) options.limit result }
 {
-    if is_traced {
-        trace_step(alloc, reader, writer, options)
-    } else {
-        run_step_unlogged(alloc, reader, writer, options)
+    match account {
+        Account::Traffic => run_step_unlogged(alloc, reader, writer, options),
+        Account::Events => trace_step(alloc, reader, writer, options),
+        Account::Counts(form) => stats_step(alloc, reader, writer, form, options),
+        Account::Json => json_step(alloc, reader, writer, options),
     }
 }
 
-/// Runs the network that the reader has, event by event.
+/// Runs the network that the reader has, event by event, and answers the status.
 fn step_by<R: Read, W: Write>(
     alloc: Global,
     reader: &mut R,
     writer: &mut W,
     options: StepOptions,
-    is_traced: bool,
+    account: Account,
 ) -> u8
-    ensures { StepsNetwork options is_traced (R.remaining reader.old)
+    ensures { StepsNetwork options account (R.remaining reader.old)
         (W.contents writer.old) (W.contents writer.new) result }
 {
-    match write_step(alloc, reader, writer, options, is_traced) {
+    match write_step(alloc, reader, writer, options, account) {
         Ok(close) => status_of_close(close),
         Err(fault) => told(alloc, fault, writer),
     }
 }
 
-/// Runs the network that the reader has in threads, and writes its text, without its events or with them.
+/// Runs the network that the reader has in threads, and writes what is wanted of it.
 fn write_net<T: Threads + Wait, R: Read, W: Write>(
     rt: &T,
     alloc: Global,
     reader: &mut R,
     writer: &mut W,
     options: ThreadOptions,
-    is_traced: bool,
+    account: Account,
 ) -> Result<Ending, RunFault>
-    ensures { WritesThreads (IsTextOf is_traced options.is_why) options.turns options.seed
+    ensures { WritesThreads (IsTextOf account options.is_why) options.turns options.seed
         (R.remaining reader.old) (W.contents writer.old) (W.contents writer.new) result }
 {
-    if is_traced {
-        trace_net(rt, alloc, reader, writer, options)
-    } else {
-        run_net_unlogged(rt, alloc, reader, writer, options)
+    match account {
+        Account::Traffic => run_net_unlogged(rt, alloc, reader, writer, options),
+        Account::Events => trace_net(rt, alloc, reader, writer, options),
+        Account::Counts(form) => stats_net(rt, alloc, reader, writer, form, options),
+        Account::Json => json_net(rt, alloc, reader, writer, options),
     }
 }
 
@@ -258,39 +293,71 @@ fn run_by<T: Threads + Wait, R: Read, W: Write>(
     reader: &mut R,
     writer: &mut W,
     options: ThreadOptions,
-    is_traced: bool,
+    account: Account,
 ) -> u8
-    ensures { RunsNetwork options is_traced (R.remaining reader.old)
+    ensures { RunsNetwork options account (R.remaining reader.old)
         (W.contents writer.old) (W.contents writer.new) result }
 {
-    match write_net(rt, alloc, reader, writer, options, is_traced) {
+    match write_net(rt, alloc, reader, writer, options, account) {
         Ok(ending) => status_of_close(ending.close),
+        Err(fault) => told(alloc, fault, writer),
+    }
+}
+
+/// The status of a replay.
+fn status_of_replay(replayed: Replayed) -> u8
+    ensures { result ≡ status_for_replay replayed }
+{
+    match replayed {
+        Replayed::Ended(close) => status_of_close(close),
+        Replayed::Refused => REFUSED,
+    }
+}
+
+/// Makes the events of the file that the words name in the network that the reader has, and answers the status.
+fn replay_by<T: Files, R: Read, W: Write>(
+    rt: &T,
+    alloc: Global,
+    words: &[&str],
+    reader: &mut R,
+    writer: &mut W,
+    is_why: bool,
+) -> u8
+    ensures { ReplaysNetwork is_why (R.remaining reader.old)
+        (W.contents writer.old) (W.contents writer.new) result }
+{
+    let Some(name) = events_of(alloc, words) else {
+        return told(alloc, RunFault::Read, writer);
+    };
+    let Ok(mut file) = File::open(rt, name) else {
+        return told(alloc, RunFault::Read, writer);
+    };
+    match run_replay(alloc, reader, &mut file, writer, is_why) {
+        Ok(replayed) => status_of_replay(replayed),
         Err(fault) => told(alloc, fault, writer),
     }
 }
 
 /// Does what the words ask for, over any reader and any writer; the first word is the program's name. The words are read before
 /// the reader, and a bad line reads nothing. The answer is the program's status.
-pub fn run_words<T: Threads + Wait, R: Read, W: Write>(
+pub fn run_words<T: Files + Threads + Wait, R: Read, W: Write>(
     rt: &T,
     alloc: Global,
     words: &[&str],
     reader: &mut R,
     writer: &mut W,
 ) -> u8
-    ensures { Runs (texts words.now) (R.remaining reader.old) (R.remaining reader.new) (W.contents writer.old) (W.contents writer.new) result }
+    ensures { Runs (texts words.now) (R.remaining reader.old) (R.remaining reader.new)
+        (W.contents writer.old) (W.contents writer.new) result }
 {
     match command(alloc, words) {
         Ok(Line::Check) => check_by(alloc, reader, writer),
         Ok(Line::Explain) => explain_by(alloc, reader, writer),
         Ok(Line::Deadlock) => deadlock_by(alloc, reader, writer),
-        Ok(Line::Draw) => draw_by(alloc, reader, writer),
-        Ok(Line::Step { options, is_traced }) => {
-            step_by(alloc, reader, writer, options, is_traced)
-        }
-        Ok(Line::Run { options, is_traced }) => {
-            run_by(rt, alloc, reader, writer, options, is_traced)
-        }
+        Ok(Line::Draw { after }) => draw_by(alloc, reader, writer, after),
+        Ok(Line::Step { options, account }) => step_by(alloc, reader, writer, options, account),
+        Ok(Line::Run { options, account }) => run_by(rt, alloc, reader, writer, options, account),
+        Ok(Line::Replay { is_why }) => replay_by(rt, alloc, words, reader, writer, is_why),
         Err(fault) => told_of_line(alloc, &fault, writer),
     }
 }

@@ -5,6 +5,7 @@ use std::alloc::{AllocError, Global};
 use std::io;
 use std::io::{Read, Write};
 use std::process::ExitCode;
+use std::rt::Files;
 use std::sync::Wait;
 use std::thread::Threads;
 use vc_words::{run_words, tell_memory, tell_no_text};
@@ -15,7 +16,7 @@ fn words_of(rt: &HostRuntime, alloc: Global) -> io::Result<Vec<String>> {
 }
 
 /// Does what these words ask for; the answer is the program's status.
-fn status_of<T: Threads + Wait, R: Read, W: Write>(
+fn status_of<T: Files + Threads + Wait, R: Read, W: Write>(
     rt: &T,
     alloc: Global,
     texts: &[String],

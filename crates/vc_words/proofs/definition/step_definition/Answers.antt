@@ -14,7 +14,9 @@ returns-clause-shape c =
     let two = c.in_ok-arg-2.ensures.shape c.number_option-schedule.ensures.local ∙ ap₂ with_rule one (c.number_option-schedule.ensures.rule ∙ ap (λ n. option_of (codes "schedule") n (codes "0")) c.value_parser.ensures) in
     let three = c.in_ok-arg-3.ensures.shape c.flag-together.ensures.local ∙ ap₂ with_rule two c.flag-together.ensures.rule in
     let four = c.in_ok-arg-4.ensures.shape c.why_flag.ensures.local ∙ ap₂ with_rule three c.why_flag.ensures.rule in
-    IfOk-weaker c.arg-5.result _ _ (λ r h. ap (λ (a : App). a.top) (h.shape c.trace_flag.ensures.local ∙ ap₂ with_rule four c.trace_flag.ensures.rule)) c.arg-5.ensures
+    let traced = c.in_ok-arg-5.ensures.shape c.trace_flag.ensures.local ∙ ap₂ with_rule four c.trace_flag.ensures.rule in
+    let counted = c.in_ok-arg-6.ensures.shape c.stats_flag.ensures.local ∙ ap₂ with_rule traced c.stats_flag.ensures.rule in
+    IfOk-weaker c.arg-7.result _ _ (λ r h. ap (λ (a : App). a.top) (h.shape c.json_flag.ensures.local ∙ ap₂ with_rule counted c.json_flag.ensures.rule)) c.arg-7.ensures
 
 pub returns-clause-local : goal.returns-clause-local
 returns-clause-local c =
@@ -23,4 +25,6 @@ returns-clause-local c =
     let two = neither _ _ _ c.in_ok-arg-2.ensures.globals one c.number_option-schedule.ensures.local in
     let three = neither _ _ _ c.in_ok-arg-3.ensures.globals two c.flag-together.ensures.local in
     let four = neither _ _ _ c.in_ok-arg-4.ensures.globals three c.why_flag.ensures.local in
-    IfOk-weaker c.arg-5.result _ _ (λ r h. neither _ _ _ h.globals four c.trace_flag.ensures.local) c.arg-5.ensures
+    let traced = neither _ _ _ c.in_ok-arg-5.ensures.globals four c.trace_flag.ensures.local in
+    let counted = neither _ _ _ c.in_ok-arg-6.ensures.globals traced c.stats_flag.ensures.local in
+    IfOk-weaker c.arg-7.result _ _ (λ r h. neither _ _ _ h.globals counted c.json_flag.ensures.local) c.arg-7.ensures

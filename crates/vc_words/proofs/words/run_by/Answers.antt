@@ -1,11 +1,13 @@
 use Rattle.std.proofs.Common.{inl, subst}
-use Rattle.vc_words.specs.Program.{ThreadsAs}
+use Rattle.vc_text.specs.Threading.{WritesThreads}
+use Rattle.vc_words.specs.Program.{IsTextOf}
 use Rattle.vc_words.proofs.words.run_by.Goals as goal
 
 pub returns-in-Ok : goal.returns-in-Ok
 returns-in-Ok g c =
+    let options = c.args.options in
     inl (
       c.in-Ok.ending,
-      subst (ThreadsAs c.args.is_why c.args.is_traced c.args.turns c.args.seed (g.R.Read.remaining c.args.reader.now) (g.W.Write.contents c.args.writer.now) (g.W.Write.contents c.threaded.new.writer)) c.in-Ok.is c.threaded.ensures,
+      subst (WritesThreads (IsTextOf c.args.account options.is_why) options.turns options.seed (g.R.Read.remaining c.args.reader.now) (g.W.Write.contents c.args.writer.now) (g.W.Write.contents c.write_net.new.writer)) c.in-Ok.is c.write_net.ensures,
       c.status_of_close.ensures,
     )

@@ -1,0 +1,8 @@
+use Rattle.std.proofs.Common.{◌≡◌, ◌++◌, drop}
+use Rattle.std.specs.List.{enumerate_from, flat_map}
+use Rattle.vc_draw.specs.Graph.{inside_line_at}
+use Rattle.vc_draw.proofs.graph.push_insides.Given as goal
+
+abbrev pub invariant-loop-number : goal.invariant-loop-number
+invariant-loop-number l =
+    l.out.items ++ flat_map (inside_line_at l.plan l.labels) (enumerate_from l.number (drop l.number l.plan.channels)) ≡ l.fn.out.items ++ flat_map (inside_line_at l.plan l.labels) (enumerate_from 0 l.plan.channels)

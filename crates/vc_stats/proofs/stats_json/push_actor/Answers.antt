@@ -1,0 +1,12 @@
+use Rattle.std.proofs.Common.{Some, codes}
+use Rattle.vc_stats.specs.Fields.{kinds_text}
+use Rattle.vc_stats.specs.Json.{actor_json, named}
+use Rattle.vc_stats.specs.declared.form.Form.TheVariants.{Json}
+use Rattle.vc_stats.proofs.Texts.{three_more}
+use Rattle.vc_stats.proofs.stats_json.push_actor.Goals as goal
+
+pub returns : goal.returns
+unfolding actor_json
+returns c = λ es counts.
+    three_more _ _ _ _ (named c.args.actor c.args.name.now) (kinds_text Json (Some c.args.actor) es) (codes "}") c.in_ok-push_named.ensures (c.in_ok-push_kinds.ensures es counts)
+    c.in_ok-extend_from_slice.ensures.items

@@ -1,0 +1,62 @@
+-- Counts with their names.
+use Rattle.std.specs.Prelude.{ℕ, ◌+◌, ◌-◌, ◌^◌, List, ◌++◌, length, min, sum_by, codes, decimal, Option}
+use Rattle.std.specs.List.{flat_map}
+use Rattle.vc_core.specs.declared.event.Event.{Event}
+use Rattle.vc_plan.specs.declared.port.Spot.{Spot}
+use Rattle.vc_plan.specs.declared.port.Spot.TheVariants.{Node, Switch}
+use Rattle.vc_stats.specs.Counting.{actor_count_at, count_at, fct_in, kind_count, offer_in, output_in, put_in, want_in}
+use Rattle.vc_stats.specs.Kinds.{kinds, word_of}
+use Rattle.vc_stats.specs.declared.form.Form.{Form}
+use Rattle.vc_stats.specs.declared.form.Form.TheVariants.{Lines, Json}
+use Rattle.vc_stats.specs.declared.kind.Kind.{Kind}
+
+-- what stands before the name of a count
+abbrev pub before : Form → List ℕ
+before Lines = codes " "
+before Json = codes ",\""
+
+-- what stands between the name of a count and its number
+abbrev pub between : Form → List ℕ
+between Lines = codes " "
+between Json = codes "\":"
+
+-- a count with its name
+abbrev pub field_text : Form → List ℕ → ℕ → List ℕ
+field_text form name n = before form ++ name ++ between form ++ decimal n
+
+-- how many events of a kind there are, of all actors' or of one's
+abbrev pub kind_text : Form → Option ℕ → List Event → Kind → List ℕ
+kind_text form actor events kind = field_text form (word_of kind) (kind_count actor kind events)
+
+-- so of each kind
+unfoldable pub kinds_text : Form → Option ℕ → List Event → List ℕ
+kinds_text form actor events = flat_map (kind_text form actor events) kinds
+
+-- tokens of packets and flow control tokens that an actor put by a link
+abbrev pub tokens_text : Form → List Event → ℕ → ℕ → List ℕ
+tokens_text form events actor link =
+    field_text form (codes "tokens") (actor_count_at put_in actor link events)
+    ++ field_text form (codes "fcts") (actor_count_at fct_in actor link events)
+
+-- so of a switch, and the packets that it bound to the link
+abbrev pub switch_text : Form → List Event → ℕ → ℕ → List ℕ
+switch_text form events actor link =
+    tokens_text form events actor link ++ field_text form (codes "packets") (actor_count_at output_in actor link events)
+
+-- so of the actor at a spot of a plan of so many nodes
+abbrev pub puts_text : Form → List Event → (nodes : ℕ) → Spot → ℕ → List ℕ
+puts_text form events nodes (Node n) link = tokens_text form events n link
+puts_text form events nodes (Switch n) link = switch_text form events (nodes + n) link
+
+-- outputs and inputs that began on a channel
+abbrev pub begun_text : Form → List Event → ℕ → List ℕ
+begun_text form events chan =
+    field_text form (codes "outputs") (count_at offer_in chan events) ++ field_text form (codes "inputs") (count_at want_in chan events)
+
+-- how many bytes messages have together; of more than 2^64 - 1 so many are told
+abbrev pub bytes_of : List (List ℕ) → ℕ
+bytes_of messages = min (sum_by length messages) (2 ^ 64 - 1)
+
+-- messages that were taken, with their bytes
+abbrev pub taken_text : Form → List (List ℕ) → List ℕ
+taken_text form messages = field_text form (codes "messages") (length messages) ++ field_text form (codes "bytes") (bytes_of messages)

@@ -1,0 +1,24 @@
+//! The counts of a run, and a run's traffic as JSON.
+//!
+//! The layer above knows that what is written is exactly the text of the traffic and of the counts (`specs/Texts`), where each count is how
+//! many events of the run are so (`specs/Counting`), or a front of that where the writer failed, over any reader and any writer that tell
+//! their bytes. The counts take no memory that grows with the events.
+#![tactic(auto)]
+
+mod fields;
+mod form;
+mod json;
+mod kind;
+mod lines;
+mod stats;
+mod stats_json;
+mod stepping;
+mod table;
+mod tally;
+mod text;
+mod threading;
+mod traffic_json;
+
+pub use form::Form;
+pub use stepping::{json_step, stats_step};
+pub use threading::{json_net, stats_net};

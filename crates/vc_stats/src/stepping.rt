@@ -1,0 +1,88 @@
+//! Running a network event by event, with its counts or as JSON.
+ghost use Rattle.vc_text.specs.OneNode.{ReadsAs};
+ghost use Rattle.vc_text.specs.Running.{WritesRun, WritesRunBy};
+ghost use Rattle.vc_stats.specs.Texts.{IsStatsText, IsTrafficJson};
+
+use crate::form::Form;
+use crate::stats::Stats;
+use crate::text::{stats_text, traffic_text};
+use std::alloc::Global;
+use std::io::{Read, Write};
+use vc_core::Close;
+use vc_plan::Accepted;
+use vc_text::{RunFault, StepOptions, read_as, run_into, run_unlogged, write_text};
+
+/// Runs an accepted network event by event, and writes its traffic and its counts. The text is made first, so want of memory writes
+/// nothing.
+fn stats_plan<W: Write>(
+    alloc: Global,
+    accepted: &Accepted,
+    writer: &mut W,
+    form: Form,
+    options: StepOptions,
+) -> Result<Close, RunFault>
+    ensures { WritesRun (IsStatsText form options.is_why) accepted.now
+        (W.contents writer.old) (W.contents writer.new) options.limit result }
+{
+    let mut stats = Stats::new(alloc);
+    let (network, close) = run_into(alloc, accepted, &mut stats, options.limit, options.schedule)?;
+    let text = stats_text(
+        alloc,
+        accepted.plan(),
+        &network,
+        close,
+        &stats,
+        form,
+        options.is_why,
+    )?;
+    write_text(writer, text.as_slice())?;
+    Ok(close)
+}
+
+/// Reads a network file, runs the network event by event as the options say, and writes its traffic and then the counts of its events. It
+/// keeps no events. Where it fails, a front of the text was written if the writer failed, and else nothing.
+pub fn stats_step<R: Read, W: Write>(
+    alloc: Global,
+    reader: &mut R,
+    writer: &mut W,
+    form: Form,
+    options: StepOptions,
+) -> Result<Close, RunFault>
+    ensures { WritesRunBy (IsStatsText form options.is_why)
+        (ReadsAs options.is_together (R.remaining reader.old))
+        (W.contents writer.old) (W.contents writer.new) options.limit result }
+{
+    let accepted = read_as(alloc, reader, options.is_together)?;
+    stats_plan(alloc, &accepted, writer, form, options)
+}
+
+/// Runs an accepted network event by event, and writes its traffic as JSON.
+fn json_plan<W: Write>(
+    alloc: Global,
+    accepted: &Accepted,
+    writer: &mut W,
+    options: StepOptions,
+) -> Result<Close, RunFault>
+    ensures { WritesRun IsTrafficJson accepted.now
+        (W.contents writer.old) (W.contents writer.new) options.limit result }
+{
+    let (network, close) = run_unlogged(alloc, accepted, options.limit, options.schedule)?;
+    let text = traffic_text(alloc, &network, close)?;
+    write_text(writer, text.as_slice())?;
+    Ok(close)
+}
+
+/// Reads a network file, runs the network event by event as the options say, and writes its traffic as JSON, without who waits for what. It
+/// keeps no events. Where it fails, a front of the text was written if the writer failed, and else nothing.
+pub fn json_step<R: Read, W: Write>(
+    alloc: Global,
+    reader: &mut R,
+    writer: &mut W,
+    options: StepOptions,
+) -> Result<Close, RunFault>
+    ensures { WritesRunBy IsTrafficJson (ReadsAs options.is_together (R.remaining reader.old))
+        (W.contents writer.old) (W.contents writer.new) options.limit result }
+{
+    let accepted = read_as(alloc, reader, options.is_together)?;
+    json_plan(alloc, &accepted, writer, options)
+}

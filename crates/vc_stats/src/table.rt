@@ -1,0 +1,58 @@
+//! How often numbers came in each row.
+ghost use Rattle.std.specs.Prelude.{◌≡◌, ◌==◌, ◌&&◌, ◌<◌, ℕ, length, OnOk};
+ghost use Rattle.vc_stats.specs.Tallies.{cell, counted, is_at};
+
+use crate::tally::Tally;
+use std::alloc::Global;
+use vc_packets::Memory;
+
+/// A tally for each of some rows. In a row past the last one no number came.
+#[derive(Drop)]
+pub(crate) struct Table {
+    alloc: Global,
+    rows: Vec<Tally>,
+}
+
+impl Table {
+    /// No number came yet.
+    pub(crate) fn new(alloc: Global) -> Table
+        ensures { (row n : ℕ) → cell result row n ≡ 0 }
+    {
+        Table {
+            alloc,
+            rows: Vec::new(alloc),
+        }
+    }
+
+    /// A number came in a row, if there is one. It fails for want of memory alone.
+    pub(crate) fn count(&mut self, row: u8, number: Option<u16>) -> Result<(), Memory>
+        ensures { OnOk result ((k n : ℕ) →
+            cell self.new k n ≡ counted (row == k && is_at n number) (cell self.old k n)) }
+    {
+        let place = usize::from(row);
+        self.reach(place)?;
+        self.rows[place].count(number)
+    }
+
+    // There is such a row.
+    fn reach(&mut self, place: usize) -> Result<(), Memory>
+        requires { place < 256 }
+        ensures within { OnOk result (place < length self.new.rows.items) }
+        ensures same { OnOk result ((k n : ℕ) → cell self.new k n ≡ cell self.old k n) }
+    {
+        for _ in self.rows.len()..place + 1 {
+            self.rows.push(Tally::new(self.alloc))?;
+        }
+        Ok(())
+    }
+
+    /// How often a number came in a row.
+    pub(crate) fn get(&self, row: usize, number: usize) -> u64
+        ensures { result ≡ cell self.now row number }
+    {
+        match self.rows.get(row) {
+            Some(tally) => tally.get(number),
+            None => 0,
+        }
+    }
+}

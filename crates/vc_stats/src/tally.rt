@@ -1,0 +1,67 @@
+//! How often numbers came.
+ghost use Rattle.std.specs.Prelude.{◌≡◌, ◌==◌, ◌<◌, ℕ, length, OnOk};
+ghost use Rattle.vc_stats.specs.Tallies.{counted, entry, is_at};
+
+use std::alloc::Global;
+use vc_packets::Memory;
+
+/// How often each number came. A number past the last entry never came, and an entry stays at 2^64 - 1.
+#[derive(Drop)]
+pub(crate) struct Tally {
+    entries: Vec<u64>,
+}
+
+impl Tally {
+    /// No number came yet.
+    pub(crate) fn new(alloc: Global) -> Tally
+        ensures { (n : ℕ) → entry result n ≡ 0 }
+    {
+        Tally {
+            entries: Vec::new(alloc),
+        }
+    }
+
+    /// A number came, if there is one. It fails for want of memory alone.
+    pub(crate) fn count(&mut self, number: Option<u16>) -> Result<(), Memory>
+        ensures { OnOk result ((n : ℕ) →
+            entry self.new n ≡ counted (is_at n number) (entry self.old n)) }
+    {
+        match number {
+            Some(number) => self.add(number),
+            None => Ok(()),
+        }
+    }
+
+    // A number came once more.
+    fn add(&mut self, number: u16) -> Result<(), Memory>
+        ensures { OnOk result ((n : ℕ) →
+            entry self.new n ≡ counted (number == n) (entry self.old n)) }
+    {
+        let place = usize::from(number);
+        self.reach(place)?;
+        self.entries[place] = self.entries[place].saturating_add(1);
+        Ok(())
+    }
+
+    // There is an entry at this place.
+    fn reach(&mut self, place: usize) -> Result<(), Memory>
+        requires { place < 65536 }
+        ensures within { OnOk result (place < length self.new.entries.items) }
+        ensures same { OnOk result ((n : ℕ) → entry self.new n ≡ entry self.old n) }
+    {
+        if place >= self.entries.len() {
+            self.entries.resize(place + 1, 0)?;
+        }
+        Ok(())
+    }
+
+    /// How often a number came.
+    pub(crate) fn get(&self, number: usize) -> u64
+        ensures { result ≡ entry self.now number }
+    {
+        match self.entries.get(number) {
+            Some(entry) => *entry,
+            None => 0,
+        }
+    }
+}

@@ -1,7 +1,0 @@
-use Rattle.std.proofs.Common.{◌≡◌, ◌++◌, take}
-use Rattle.std.specs.List.{flat_map}
-use Rattle.vc_text.specs.Graph.{place_line}
-use Rattle.vc_text.proofs.graph.push_switches.Given as goal
-
-abbrev pub invariant-loop-switch : goal.invariant-loop-switch
-invariant-loop-switch l = l.out.items ≡ l.fn.out.items ++ flat_map (λ switch. place_line switch.name) (take l.switch-index l.switches)

@@ -1,7 +1,0 @@
-use Rattle.std.proofs.Common.{◌≡◌, ◌++◌, take}
-use Rattle.std.specs.List.{flat_map}
-use Rattle.vc_text.specs.Graph.{way_label}
-use Rattle.vc_text.proofs.graph.push_way_labels.Given as goal
-
-abbrev pub invariant-loop-channel : goal.invariant-loop-channel
-invariant-loop-channel l = l.out.items ≡ l.fn.out.items ++ flat_map (λ c. way_label l.n c c.home) (take l.channel-index l.channels)

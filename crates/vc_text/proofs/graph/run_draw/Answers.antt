@@ -1,6 +1,0 @@
-use Rattle.vc_text.specs.Graph.{graph_text}
-use Rattle.vc_text.proofs.Checked.{tells_accepted}
-use Rattle.vc_text.proofs.graph.run_draw.Goals as goal
-
-pub returns : goal.returns
-returns g c = tells_accepted graph_text _ _ _ c.in_ok-accepted.accepted _ c.in_ok-accepted.ensures (rw c.plan.ensures.plan at c.write_graph.ensures)

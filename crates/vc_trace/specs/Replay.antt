@@ -1,0 +1,96 @@
+-- What a replay of event lines answers.
+use Rattle.std.specs.Prelude.{◌≡◌, ℕ, ◌+◌, Bool, true, false, List, ◌++◌, length, codes, decimal, Option, Some, None, Result, Ok, Err, ⊤}
+use Rattle.std.specs.Io.KnownBytes.{Appends}
+use Rattle.vc_core.specs.Enabled.{NetworkState, CanHappenIn}
+use Rattle.vc_core.specs.Replaying.{Reached, RunsTo}
+use Rattle.vc_core.specs.State.{State, shown, MakesEvent}
+use Rattle.vc_core.specs.declared.close.Close.{Close}
+use Rattle.vc_core.specs.declared.event.Event.{Event}
+use Rattle.vc_plan.specs.declared.plan.Plan.{Plan}
+use Rattle.vc_reader.specs.Laws.{HasDistinctNames}
+use Rattle.vc_text.specs.Checking.{ReadsAccepted}
+use Rattle.vc_text.specs.Closing.{ClosesIn, OnlyProcessesWait}
+use Rattle.vc_text.specs.Streams.{AppendsFront, IsAllOf, IsReadFault}
+use Rattle.vc_text.specs.Tail.{IsTail}
+use Rattle.vc_text.specs.Traffic.{newline}
+use Rattle.vc_text.specs.declared.fault.RunFault.{RunFault}
+use Rattle.vc_text.specs.declared.fault.RunFault.TheVariants.{Write}
+use Rattle.vc_trace.specs.EventOf.{IsEventOf}
+use Rattle.vc_trace.specs.EventText.{event_line, events_text}
+use Rattle.vc_trace.specs.Lines.{IsLineBefore}
+use Rattle.vc_trace.specs.declared.refused_line.RefusedLine.{RefusedLine}
+use Rattle.vc_trace.specs.declared.replayed.Replayed.{Replayed}
+use Rattle.vc_trace.specs.declared.replayed.Replayed.TheVariants.{Ended, Refused}
+
+-- the text begins as an event's line does
+abbrev pub BeginsAsEvent : List ℕ → Type 0
+BeginsAsEvent text = (rest : List ℕ) × (text ≡ codes "event " ++ rest)
+
+-- no event of the plan that can happen in the state has this line
+abbrev pub IsNoEvent : Plan → NetworkState → List ℕ → Type 0
+IsNoEvent p x line = (e : Event) → IsEventOf p e → CanHappenIn p x e → event_line p e ≡ line → ⊥
+
+-- the event of the line was made; or no event that can happen has the line, in a plan whose names differ, as a file's do
+abbrev pub MakesLine : Plan → State → List ℕ → State → Bool → Type 0
+MakesLine p old line new true = (e : Event) × (event_line p e ≡ line) × MakesEvent p old e new
+MakesLine p old line new false = (new ≡ old) × (HasDistinctNames p → IsNoEvent p (shown old) line)
+
+-- the text has the lines of these events, and behind them no line of an event
+pub record EndsBehind (known : Option (List ℕ)) (p : Plan) (events : List Event) : Type 0 where
+  pub rest : List ℕ
+  pub text : IsAllOf known (events_text p events ++ rest)
+  pub none : BeginsAsEvent rest → ⊥
+
+-- the text has the lines of these events, and behind them a line that begins as an event's does, which is that of no event that can happen
+pub record RefusesBehind (known : Option (List ℕ)) (p : Plan) (events : List Event) (x : NetworkState) (line : List ℕ) : Type 0 where
+  pub rest : List ℕ
+  pub text : IsAllOf known (events_text p events ++ line ++ rest)
+  pub begins : BeginsAsEvent line
+  pub whole : IsLineBefore rest line
+  pub none : HasDistinctNames p → IsNoEvent p x line
+
+-- the events of the text were made, all of them, or those in front of the line that is refused
+abbrev pub MakesEvents : Option (List ℕ) → Plan → State → Option RefusedLine → Type 0
+MakesEvents known p s None = (events : List Event) × Reached p events s × EndsBehind known p events
+MakesEvents known p s (Some refused) =
+    (events : List Event) × Reached p events s × (refused.number ≡ length events + 1) × RefusesBehind known p events (shown s) refused.line.items
+
+-- these events lead to the state, where a run closes so
+pub record IsReplay (p : Plan) (events : List Event) (x : NetworkState) (close : Close) : Type 0 where
+  pub runs : RunsTo p events x
+  pub closes : ClosesIn p x close
+  pub waits : OnlyProcessesWait p x close
+
+-- the number of a line that is refused, and the line
+abbrev pub refused_text : ℕ → List ℕ → List ℕ
+refused_text number line = codes "refused event " ++ decimal number ++ newline ++ line
+
+-- the text of the state that the events of a text lead to, or of the line of it that is refused there
+abbrev pub IsReplayText : (why : Bool) → Option (List ℕ) → Plan → Replayed → List ℕ → Type 0
+IsReplayText why known p (Ended close) text =
+    (events : List Event) × EndsBehind known p events × ((x : NetworkState) × IsReplay p events x close × IsTail why p events x close text)
+IsReplayText why known p Refused text =
+    (events : List Event) × (x : NetworkState) × RunsTo p events x
+    × ((line : List ℕ) × RefusesBehind known p events x line × (text ≡ refused_text (length events + 1) line))
+
+-- the text was written, or a front of it before a fault of the writer; else nothing was
+abbrev pub ReplaysPlan : (why : Bool) → Option (List ℕ) → Plan → Option (List ℕ) → Option (List ℕ) → Result Replayed RunFault → Type 0
+ReplaysPlan why known p old new (Ok answer) = (text : List ℕ) × IsReplayText why known p answer text × Appends old new text
+ReplaysPlan why known p old new (Err Write) =
+    (answer : Replayed) × ((text : List ℕ) × IsReplayText why known p answer text × AppendsFront old new text)
+ReplaysPlan why known p old new (Err fault) = IsReadFault fault × (new ≡ old)
+
+-- the names of a network file differ, where the reader tells it
+abbrev pub NamesDiffer : Option (List ℕ) → Plan → Type 0
+NamesDiffer None p = ⊤
+NamesDiffer (Some text) p = HasDistinctNames p
+
+-- the reader has this network
+abbrev pub ReadsNamed : Option (List ℕ) → Plan → Type 0
+ReadsNamed network p = ReadsAccepted network (Ok p) × NamesDiffer network p
+
+-- the reader's network makes the events of the other reader's text
+abbrev pub Replays : (why : Bool) → Option (List ℕ) → Option (List ℕ) → Option (List ℕ) → Option (List ℕ) → Result Replayed RunFault → Type 0
+Replays why network known old new (Ok answer) = (p : Plan) × ReadsNamed network p × ReplaysPlan why known p old new (Ok answer)
+Replays why network known old new (Err Write) = (p : Plan) × ReadsNamed network p × ReplaysPlan why known p old new (Err Write)
+Replays why network known old new (Err fault) = ReadsAccepted network (Err fault) × (new ≡ old)
