@@ -104,7 +104,9 @@ impl Actor {
     /// Whether an act is one that the actor can make now, whatever stands on its ways.
     pub fn can(&self, act: &Act) -> bool
         ensures may { IsTrue result ↔ MayAct self.now act.now }
-        ensures can { (plan : Plan) (k : ℕ) → IsActorOf plan k self.now → IsTrue result ↔ CanAct plan k self.now act.now }
+        ensures can { (plan : Plan) (k : ℕ) →
+            IsActorOf plan k self.now →
+            IsTrue result ↔ CanAct plan k self.now act.now }
     {
         match &self.part {
             Part::Node(node) => node.can(act),
@@ -118,7 +120,9 @@ impl Actor {
         requires { HasLink self.old link }
         ensures taken { IsOk result }
         ensures act { IfOk result (λ act. act ≡ Act.Take link word) }
-        ensures ok { (plan : Plan) (k : ℕ) → IsActorOf plan k self.old → OnOk result (MakesTake plan k self.old link word (token item.now) self.new) }
+        ensures ok { (plan : Plan) (k : ℕ) →
+            IsActorOf plan k self.old →
+            OnOk result (MakesTake plan k self.old link word (token item.now) self.new) }
         ensures err { OnErr result (self.new ≡ self.old) }
     {
         self.accept(link, *item, word);
@@ -129,7 +133,9 @@ impl Actor {
     #[inline(always)]
     pub fn accept(&mut self, link: u8, came: Token, word: u32)
         requires { HasLink self.old link }
-        ensures { (plan : Plan) (k : ℕ) → IsActorOf plan k self.old → MakesTake plan k self.old link word (token came) self.new }
+        ensures { (plan : Plan) (k : ℕ) →
+            IsActorOf plan k self.old →
+            MakesTake plan k self.old link word (token came) self.new }
     {
         match &mut self.part {
             Part::Node(node) => node.accept(link, came),
@@ -142,7 +148,9 @@ impl Actor {
     pub fn make(&mut self, act: &Act) -> Result<(), Memory>
         requires may { MayAct self.old act.now }
         requires own { IsOwn act.now }
-        ensures ok { (plan : Plan) (k : ℕ) → IsActorOf plan k self.old → OnOk result (MakesOwn plan k self.old act.now self.new) }
+        ensures ok { (plan : Plan) (k : ℕ) →
+            IsActorOf plan k self.old →
+            OnOk result (MakesOwn plan k self.old act.now self.new) }
         ensures err { OnErr result (self.new ≡ self.old) }
     {
         match &mut self.part {
@@ -155,7 +163,9 @@ impl Actor {
     #[inline(always)]
     pub fn put(&mut self, link: u8) -> Token
         requires { MayAct self.old (Act.Put link) }
-        ensures { (plan : Plan) (k : ℕ) → IsActorOf plan k self.old → MakesPut plan k self.old link (token result) self.new }
+        ensures { (plan : Plan) (k : ℕ) →
+            IsActorOf plan k self.old →
+            MakesPut plan k self.old link (token result) self.new }
     {
         match &mut self.part {
             Part::Node(node) => node.put(link),
@@ -167,7 +177,9 @@ impl Actor {
     #[inline(always)]
     pub fn grant(&mut self, link: u8)
         requires { MayAct self.old (Act.Fct link) }
-        ensures { (plan : Plan) (k : ℕ) → IsActorOf plan k self.old → MakesGrant plan k self.old link self.new }
+        ensures { (plan : Plan) (k : ℕ) →
+            IsActorOf plan k self.old →
+            MakesGrant plan k self.old link self.new }
     {
         match &mut self.part {
             Part::Node(node) => node.grant(link),
@@ -181,7 +193,9 @@ impl Actor {
     /// put on such a link alone. An idle turn changes nothing.
     #[inline(always)]
     pub fn turn(&mut self, room: u32) -> Result<Turn, Memory>
-        ensures makes { (plan : Plan) (k : ℕ) → IsActorOf plan k self.old → IfOk result (λ turn. MakesTurn plan k self.old room turn self.new) }
+        ensures makes { (plan : Plan) (k : ℕ) →
+            IsActorOf plan k self.old →
+            IfOk result (λ turn. MakesTurn plan k self.old room turn self.new) }
         ensures room { IfOk result (PutsWithRoom room) }
         ensures idle { IfOk result (λ turn. turn ≡ Turn.Idle → self.new ≡ self.old) }
         ensures refused { OnErr result (self.new ≡ self.old) }
@@ -196,7 +210,9 @@ impl Actor {
     #[inline(always)]
     fn turn_by(&mut self, act: Act) -> Result<Turn, Memory>
         requires { MayAct self.old act }
-        ensures makes { (plan : Plan) (k : ℕ) → IsActorOf plan k self.old → IfOk result (λ turn. IsTold plan k self.old act turn self.new) }
+        ensures makes { (plan : Plan) (k : ℕ) →
+            IsActorOf plan k self.old →
+            IfOk result (λ turn. IsTold plan k self.old act turn self.new) }
         ensures room { (room : ℕ) → RoomLets room act → IfOk result (PutsWithRoom room) }
         ensures idle { IfOk result (λ turn. turn ≡ Turn.Idle → self.new ≡ self.old) }
         ensures refused { OnErr result (self.new ≡ self.old) }
@@ -225,7 +241,9 @@ impl Actor {
         ensures same { self.new ≡ self.old }
         ensures may { IfOk result (λ act. IfSome act (λ a. MayAct self.old a)) }
         ensures lets { IfOk result (λ act. IfSome act (RoomLets room)) }
-        ensures finds { (plan : Plan) (k : ℕ) → IsActorOf plan k self.old → IfOk result (FindsTurn plan k self.old room) }
+        ensures finds { (plan : Plan) (k : ℕ) →
+            IsActorOf plan k self.old →
+            IfOk result (FindsTurn plan k self.old room) }
     {
         if let Some(act) = self.next_of(ActKind::Pass, room)? {
             return Ok(Some(act));
@@ -248,7 +266,9 @@ impl Actor {
         ensures same { self.new ≡ self.old }
         ensures may { IfOk result (λ act. IfSome act (λ a. MayAct self.old a)) }
         ensures lets { IfOk result (λ act. IfSome act (RoomLets room)) }
-        ensures finds { (plan : Plan) (k : ℕ) → IsActorOf plan k self.old → IfOk result (FindsOf kind plan k self.old room) }
+        ensures finds { (plan : Plan) (k : ℕ) →
+            IsActorOf plan k self.old →
+            IfOk result (FindsOf kind plan k self.old room) }
     {
         match &mut self.part {
             Part::Node(node) => node.next_of(kind, room),
@@ -261,7 +281,9 @@ impl Actor {
     pub fn only_step(&self) -> Option<Act>
         ensures may { IfSome result (λ a. MayAct self.now a) }
         ensures quiet { IfSome result IsQuiet }
-        ensures finds { (plan : Plan) (k room : ℕ) → IsActorOf plan k self.now → IfSome result (λ a. IsTurn plan k self.now room a) }
+        ensures finds { (plan : Plan) (k room : ℕ) →
+            IsActorOf plan k self.now →
+            IfSome result (λ a. IsTurn plan k self.now room a) }
     {
         match &self.part {
             Part::Node(node) => node.only_step(),
@@ -274,7 +296,9 @@ impl Actor {
     pub fn still_step(&self) -> Option<Act>
         ensures may { IfSome result (λ a. MayAct self.now a) }
         ensures quiet { IfSome result IsQuiet }
-        ensures finds { (plan : Plan) (k room : ℕ) → IsActorOf plan k self.now → IfSome result (λ a. IsTurn plan k self.now room a) }
+        ensures finds { (plan : Plan) (k room : ℕ) →
+            IsActorOf plan k self.now →
+            IfSome result (λ a. IsTurn plan k self.now room a) }
     {
         match &self.part {
             Part::Node(node) => node.still_step(),

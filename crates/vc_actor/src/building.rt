@@ -115,7 +115,8 @@ fn push_end(
     output: Option<u16>,
     input: Option<u16>,
 ) -> Result<(), Memory>
-    ensures { OnOk result (ends.new.items ≡ ends.old.items ++ given_to number end.now output input) }
+    ensures { OnOk result
+        (ends.new.items ≡ ends.old.items ++ given_to number end.now output input) }
 {
     if end.node == number {
         let end = end_of(alloc, end, output, input)?;
@@ -126,7 +127,8 @@ fn push_end(
 
 // A node's ends of virtual links.
 fn ends_of(alloc: Global, plan: &Plan, number: u8, ways: &[Ways]) -> Result<Vec<End>, Memory>
-    ensures { IfOk result (λ ends. ends.items ≡ ends_among (on_link ways.now) number 0 plan.now.vlinks) }
+    ensures { IfOk result
+        (λ ends. ends.items ≡ ends_among (on_link ways.now) number 0 plan.now.vlinks) }
 {
     let mut ends = Vec::new(alloc);
     for (i, vlink) in plan.vlinks.as_slice().iter().enumerate() {

@@ -87,9 +87,11 @@ impl Inside {
     /// A message is offered, taken and finished at once.
     pub(crate) fn exchange(&mut self, chan: u16, message: Bytes) -> Result<(), Memory>
         requires { IsOpen self.old chan }
-        ensures ok { OnOk result (views_of self.new ≡ exchanged_on (views_of self.old) chan message) }
+        ensures ok { OnOk result
+            (views_of self.new ≡ exchanged_on (views_of self.old) chan message) }
         ensures err { OnErr result (self.new ≡ self.old) }
-        ensures names { (c : ℕ) → IsSome (named (λ x. x.chan) c self.new) ↔ IsSome (named (λ x. x.chan) c self.old) }
+        ensures names { (c : ℕ) →
+            IsSome (named (λ x. x.chan) c self.new) ↔ IsSome (named (λ x. x.chan) c self.old) }
     {
         match self.place(chan) {
             Some(at) => {
@@ -104,7 +106,8 @@ impl Inside {
     pub(crate) fn stop(&mut self, chan: u16)
         requires { IsSome (named (λ x. x.chan) chan self.old) }
         ensures stops { views_of self.new ≡ stopped_on (views_of self.old) chan }
-        ensures names { (c : ℕ) → IsSome (named (λ x. x.chan) c self.new) ↔ IsSome (named (λ x. x.chan) c self.old) }
+        ensures names { (c : ℕ) →
+            IsSome (named (λ x. x.chan) c self.new) ↔ IsSome (named (λ x. x.chan) c self.old) }
     {
         match self.place(chan) {
             Some(at) => self.channels[at].stopped = true,
@@ -134,7 +137,8 @@ impl Inside {
 
     // The place of a channel.
     fn place(&self, chan: u16) -> Option<usize>
-        ensures found { MatchOption result (named (λ x. x.chan) chan self.now ≡ None) (λ i. slice_get self.now i ≡ named (λ x. x.chan) chan self.now) }
+        ensures found { MatchOption result (named (λ x. x.chan) chan self.now ≡ None)
+            (λ i. slice_get self.now i ≡ named (λ x. x.chan) chan self.now) }
         ensures within { IfSome result (λ i. i < length self.now) }
     {
         for (i, channel) in self.channels.iter().enumerate() {

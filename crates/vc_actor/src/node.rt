@@ -62,7 +62,9 @@ impl Node {
     /// Whether a move is one that the process can make now.
     pub(crate) fn can_move(&self, made: &Move) -> bool
         ensures may { IsTrue result ↔ MayMove self.now made.now }
-        ensures can { (plan : Plan) (k : ℕ) → IsNodeOf plan k self.now → IsTrue result ↔ CanMove plan k self.now made.now }
+        ensures can { (plan : Plan) (k : ℕ) →
+            IsNodeOf plan k self.now →
+            IsTrue result ↔ CanMove plan k self.now made.now }
     {
         self.process.lists(made) && self.channel_lets(made)
     }
@@ -85,8 +87,10 @@ impl Node {
     // Whether a guard's piece is there, and no input waits on its channel.
     #[inline]
     fn may_choose(&self, chan: u16) -> bool
-        ensures lets { IsTrue result ↔ (IsOpen self.now.vcp chan × (((seen self.now.vcp).carrier.into chan).held ≢ None)) }
-        ensures can { IsTrue result ↔ CanFetch (ends_of self.now.vcp) (seen self.now.vcp).carrier chan }
+        ensures lets { IsTrue result ↔
+            (IsOpen self.now.vcp chan × (((seen self.now.vcp).carrier.into chan).held ≢ None)) }
+        ensures can { IsTrue result ↔
+            CanFetch (ends_of self.now.vcp) (seen self.now.vcp).carrier chan }
     {
         self.vcp.may_want(chan) && self.vcp.ready(chan)
     }
@@ -96,7 +100,9 @@ impl Node {
     pub(crate) fn next_pass(&self) -> Option<Act>
         ensures may { IfSome result (λ a. NodeMay self.now a) }
         ensures lets { IfSome result NeedsNoRoom }
-        ensures finds { (plan : Plan) (k : ℕ) → IsNodeOf plan k self.now → FindsAt (λ link. Act.Pass link) (NodeCan plan k self.now) result }
+        ensures finds { (plan : Plan) (k : ℕ) →
+            IsNodeOf plan k self.now →
+            FindsAt (λ link. Act.Pass link) (NodeCan plan k self.now) result }
     {
         prove!(self.vcp.links() == NODE_LINKS);
         for link in 0..NODE_LINKS {
@@ -112,7 +118,9 @@ impl Node {
     pub(crate) fn next_put(&self, room: u32) -> Option<Act>
         ensures may { IfSome result (λ a. NodeMay self.now a) }
         ensures lets { IfSome result (RoomLets room) }
-        ensures finds { (plan : Plan) (k : ℕ) → IsNodeOf plan k self.now → FindsAt (λ link. Act.Put link) (IsTurn plan k (OfNode self.now) room) result }
+        ensures finds { (plan : Plan) (k : ℕ) →
+            IsNodeOf plan k self.now →
+            FindsAt (λ link. Act.Put link) (IsTurn plan k (OfNode self.now) room) result }
     {
         for link in 0..NODE_LINKS {
             if has_room(room, link) && self.vcp.may_put(link) {
@@ -127,7 +135,9 @@ impl Node {
     pub(crate) fn next_grant(&self, room: u32) -> Option<Act>
         ensures may { IfSome result (λ a. NodeMay self.now a) }
         ensures lets { IfSome result (RoomLets room) }
-        ensures finds { (plan : Plan) (k : ℕ) → IsNodeOf plan k self.now → FindsAt (λ link. Act.Fct link) (IsTurn plan k (OfNode self.now) room) result }
+        ensures finds { (plan : Plan) (k : ℕ) →
+            IsNodeOf plan k self.now →
+            FindsAt (λ link. Act.Fct link) (IsTurn plan k (OfNode self.now) room) result }
     {
         for link in 0..NODE_LINKS {
             if has_room(room, link) && self.vcp.may_grant(link) {
@@ -143,7 +153,9 @@ impl Node {
         ensures may { IfSome result (λ a. NodeMay self.now a) }
         ensures lets { IfSome result NeedsNoRoom }
         ensures quiet { IfSome result IsQuiet }
-        ensures finds { (plan : Plan) (k : ℕ) → IsNodeOf plan k self.now → IfSome result (λ a. FindsMove plan k self.now (Some a)) }
+        ensures finds { (plan : Plan) (k : ℕ) →
+            IsNodeOf plan k self.now →
+            IfSome result (λ a. FindsMove plan k self.now (Some a)) }
     {
         let site = self.process.only_step()?;
         Some(Act::Proc(Move::Quiet { site }))
@@ -153,7 +165,9 @@ impl Node {
     /// inside the node, it is found if there is one.
     pub(crate) fn first_round(&self, site: u16) -> Option<Move>
         ensures listed { IfSome result (λ made. Contains (moves_of self.now.process) made) }
-        ensures none { ((c : ℕ) → inner_channels self.now.process c ≡ false) → result ≡ None → moves_of self.now.process ≡ [] }
+        ensures none { ((c : ℕ) → inner_channels self.now.process c ≡ false) →
+            result ≡ None →
+            moves_of self.now.process ≡ [] }
     {
         match self.process.first_from(site) {
             Some(made) => Some(made),
@@ -166,7 +180,9 @@ impl Node {
         requires { Contains (moves_of self.now.process) made }
         ensures may { IfSome result (λ a. NodeMay self.now a) }
         ensures lets { IfSome result NeedsNoRoom }
-        ensures finds { (plan : Plan) (k : ℕ) → IsNodeOf plan k self.now → IfSome result (λ a. FindsMove plan k self.now (Some a)) }
+        ensures finds { (plan : Plan) (k : ℕ) →
+            IsNodeOf plan k self.now →
+            IfSome result (λ a. FindsMove plan k self.now (Some a)) }
     {
         if self.channel_lets(&made) {
             return Some(Act::Proc(made));
@@ -179,7 +195,9 @@ impl Node {
         requires { moves.now ≡ moves_of self.now.process }
         ensures may { IfSome result (λ a. NodeMay self.now a) }
         ensures lets { IfSome result NeedsNoRoom }
-        ensures finds { (plan : Plan) (k : ℕ) → IsNodeOf plan k self.now → FindsMove plan k self.now result }
+        ensures finds { (plan : Plan) (k : ℕ) →
+            IsNodeOf plan k self.now →
+            FindsMove plan k self.now result }
     {
         let (before, rest) = moves.split_at(first_from(moves, site));
         match self.first_let(rest) {
@@ -193,8 +211,14 @@ impl Node {
         requires { (m : SpeltMove) → Contains moves.now m → Contains (moves_of self.now.process) m }
         ensures may { IfSome result (λ a. NodeMay self.now a) }
         ensures lets { IfSome result NeedsNoRoom }
-        ensures some { (plan : Plan) (k : ℕ) → IsNodeOf plan k self.now → IfSome result (λ a. FindsMove plan k self.now (Some a)) }
-        ensures none { (plan : Plan) (k : ℕ) (m : SpeltMove) → IsNodeOf plan k self.now → result ≡ None → Contains moves.now m → CanMove plan k self.now m → ⊥ }
+        ensures some { (plan : Plan) (k : ℕ) →
+            IsNodeOf plan k self.now →
+            IfSome result (λ a. FindsMove plan k self.now (Some a)) }
+        ensures none { (plan : Plan) (k : ℕ) (m : SpeltMove) →
+            IsNodeOf plan k self.now →
+            result ≡ None →
+            Contains moves.now m →
+            CanMove plan k self.now m → ⊥ }
     {
         for made in moves {
             if self.channel_lets(made) {
@@ -260,7 +284,8 @@ impl Node {
 
     /// The tokens that wait in a link's buffer, in two parts: those of the first came before those of the second.
     pub fn tokens_at(&self, link: u8) -> (&[Token], &[Token])
-        ensures { tokens (result.0.now ++ result.1.now) ≡ ((seen self.now.vcp).link link).receiver.buffer }
+        ensures { tokens (result.0.now ++ result.1.now) ≡
+            ((seen self.now.vcp).link link).receiver.buffer }
     {
         if link >= self.vcp.links() {
             return (&[], &[]);
@@ -314,8 +339,14 @@ impl Node {
     #[inline(always)]
     pub(crate) fn make(&mut self, made: &Move) -> Result<bool, Memory>
         requires { MayMove self.old made.now }
-        ensures ok { (plan : Plan) (k : ℕ) → IsNodeOf plan k self.old → OnOk result (MakesMove plan k self.old made.now self.new) }
-        ensures waits { IfOk result (λ waits. waits ≡ true → moves_of self.new.process ≡ without (its_site made.now) (moves_of self.old.process)) }
+        ensures ok { (plan : Plan) (k : ℕ) →
+            IsNodeOf plan k self.old →
+            OnOk result (MakesMove plan k self.old made.now self.new) }
+        ensures waits { IfOk result
+            (λ waits.
+            waits ≡ true →
+            moves_of self.new.process ≡
+            without (its_site made.now) (moves_of self.old.process)) }
         ensures err { OnErr result (self.new ≡ self.old) }
     {
         match *made {
@@ -344,8 +375,14 @@ impl Node {
     fn offer(&mut self, made: &Move, chan: u16) -> Result<bool, Memory>
         requires may { MayMove self.old made.now }
         requires is { (site : ℕ) × (made.now ≡ Move.Offer site chan) }
-        ensures ok { (plan : Plan) (k : ℕ) → IsNodeOf plan k self.old → OnOk result (MakesMove plan k self.old made.now self.new) }
-        ensures waits { IfOk result (λ waits. waits ≡ true → moves_of self.new.process ≡ without (its_site made.now) (moves_of self.old.process)) }
+        ensures ok { (plan : Plan) (k : ℕ) →
+            IsNodeOf plan k self.old →
+            OnOk result (MakesMove plan k self.old made.now self.new) }
+        ensures waits { IfOk result
+            (λ waits.
+            waits ≡ true →
+            moves_of self.new.process ≡
+            without (its_site made.now) (moves_of self.old.process)) }
         ensures err { OnErr result (self.new ≡ self.old) }
     {
         let Some(message) = self.process.value(made)? else {
@@ -361,8 +398,14 @@ impl Node {
     fn want(&mut self, made: &Move, chan: u16) -> Result<bool, Memory>
         requires may { MayMove self.old made.now }
         requires is { (site : ℕ) × (made.now ≡ Move.Want site chan) }
-        ensures ok { (plan : Plan) (k : ℕ) → IsNodeOf plan k self.old → OnOk result (MakesMove plan k self.old made.now self.new) }
-        ensures waits { IfOk result (λ waits. waits ≡ true → moves_of self.new.process ≡ without (its_site made.now) (moves_of self.old.process)) }
+        ensures ok { (plan : Plan) (k : ℕ) →
+            IsNodeOf plan k self.old →
+            OnOk result (MakesMove plan k self.old made.now self.new) }
+        ensures waits { IfOk result
+            (λ waits.
+            waits ≡ true →
+            moves_of self.new.process ≡
+            without (its_site made.now) (moves_of self.old.process)) }
         ensures err { OnErr result (self.new ≡ self.old) }
     {
         let answer = answer_of(self.vcp.want(chan)?);
@@ -375,7 +418,9 @@ impl Node {
     fn choose(&mut self, made: &Move, chan: u16) -> Result<(), Memory>
         requires may { MayMove self.old made.now }
         requires is { (site : ℕ) × (guard : ℕ) × (made.now ≡ Move.Choose site guard chan) }
-        ensures ok { (plan : Plan) (k : ℕ) → IsNodeOf plan k self.old → OnOk result (MakesMove plan k self.old made.now self.new) }
+        ensures ok { (plan : Plan) (k : ℕ) →
+            IsNodeOf plan k self.old →
+            OnOk result (MakesMove plan k self.old made.now self.new) }
         ensures err { OnErr result (self.new ≡ self.old) }
     {
         let answer = answer_of(self.vcp.want(chan)?);
@@ -386,7 +431,9 @@ impl Node {
     fn stopch(&mut self, made: &Move, chan: u16) -> Result<(), Memory>
         requires may { MayMove self.old made.now }
         requires is { (site : ℕ) × (made.now ≡ Move.Stopch site chan) }
-        ensures ok { (plan : Plan) (k : ℕ) → IsNodeOf plan k self.old → OnOk result (MakesMove plan k self.old made.now self.new) }
+        ensures ok { (plan : Plan) (k : ℕ) →
+            IsNodeOf plan k self.old →
+            OnOk result (MakesMove plan k self.old made.now self.new) }
         ensures err { OnErr result (self.new ≡ self.old) }
     {
         self.process.act(made, Answer::Nothing)?;
@@ -401,8 +448,13 @@ impl Node {
     // An output meets an input, or a guard, on a channel inside the node.
     fn meet(&mut self, made: &Move, chan: u16) -> Result<(), Memory>
         requires may { MayMove self.old made.now }
-        requires is { (sender : ℕ) × (receiver : ℕ) × (guard : Option ℕ) × (made.now ≡ Move.Inner sender receiver guard chan) }
-        ensures ok { (plan : Plan) (k : ℕ) → IsNodeOf plan k self.old → OnOk result (MakesMove plan k self.old made.now self.new) }
+        requires is { (sender : ℕ) ×
+            (receiver : ℕ) ×
+            (guard : Option ℕ) ×
+            (made.now ≡ Move.Inner sender receiver guard chan) }
+        ensures ok { (plan : Plan) (k : ℕ) →
+            IsNodeOf plan k self.old →
+            OnOk result (MakesMove plan k self.old made.now self.new) }
         ensures err { OnErr result (self.new ≡ self.old) }
     {
         let Some(message) = self.process.value(made)? else {
@@ -417,7 +469,9 @@ impl Node {
     #[inline(always)]
     fn rest(&mut self, site: u16) -> Result<(), Memory>
         requires may { MayMove self.old (Move.Quiet site) }
-        ensures ok { (plan : Plan) (k : ℕ) → IsNodeOf plan k self.old → OnOk result (MakesMove plan k self.old (Move.Quiet site) self.new) }
+        ensures ok { (plan : Plan) (k : ℕ) →
+            IsNodeOf plan k self.old →
+            OnOk result (MakesMove plan k self.old (Move.Quiet site) self.new) }
         ensures err { OnErr result (self.new ≡ self.old) }
     {
         self.process.act_quietly(site)
@@ -429,8 +483,11 @@ impl Node {
     pub(crate) fn pass(&mut self, link: u8) -> Result<bool, Memory>
         requires link { link < 4 }
         requires waits { ((seen self.old.vcp).link link).receiver.buffer ≢ [] }
-        ensures ok { (plan : Plan) (k : ℕ) → IsNodeOf plan k self.old → OnOk result (MakesPass plan k self.old link self.new) }
-        ensures rests { IfOk result (λ goes_on. goes_on ≡ false → self.new.process ≡ self.old.process) }
+        ensures ok { (plan : Plan) (k : ℕ) →
+            IsNodeOf plan k self.old →
+            OnOk result (MakesPass plan k self.old link self.new) }
+        ensures rests { IfOk result
+            (λ goes_on. goes_on ≡ false → self.new.process ≡ self.old.process) }
         ensures err { OnErr result (self.new ≡ self.old) }
     {
         match self.vcp.receiving(link).front() {
@@ -444,8 +501,11 @@ impl Node {
     fn pass_mark(&mut self, link: u8) -> Result<bool, Memory>
         requires link { link < 4 }
         requires waits { ((seen self.old.vcp).link link).receiver.buffer ≢ [] }
-        ensures ok { (plan : Plan) (k : ℕ) → IsNodeOf plan k self.old → OnOk result (MakesPass plan k self.old link self.new) }
-        ensures rests { IfOk result (λ goes_on. goes_on ≡ false → self.new.process ≡ self.old.process) }
+        ensures ok { (plan : Plan) (k : ℕ) →
+            IsNodeOf plan k self.old →
+            OnOk result (MakesPass plan k self.old link self.new) }
+        ensures rests { IfOk result
+            (λ goes_on. goes_on ≡ false → self.new.process ≡ self.old.process) }
         ensures err { OnErr result (self.new ≡ self.old) }
     {
         self.pass_token(link)
@@ -456,8 +516,11 @@ impl Node {
     fn pass_token(&mut self, link: u8) -> Result<bool, Memory>
         requires link { link < 4 }
         requires waits { ((seen self.old.vcp).link link).receiver.buffer ≢ [] }
-        ensures ok { (plan : Plan) (k : ℕ) → IsNodeOf plan k self.old → OnOk result (MakesPass plan k self.old link self.new) }
-        ensures rests { IfOk result (λ goes_on. goes_on ≡ false → self.new.process ≡ self.old.process) }
+        ensures ok { (plan : Plan) (k : ℕ) →
+            IsNodeOf plan k self.old →
+            OnOk result (MakesPass plan k self.old link self.new) }
+        ensures rests { IfOk result
+            (λ goes_on. goes_on ≡ false → self.new.process ≡ self.old.process) }
         ensures err { OnErr result (self.new ≡ self.old) }
     {
         match self.vcp.pass(link)? {
@@ -469,7 +532,8 @@ impl Node {
 
 // The process goes on where its message is whole or its output finished. The answer is whether it may have.
 fn go_on(process: &mut Running, taken: Taken) -> bool
-    ensures goes_on { IsAwaited (process_of process.old) (passed_of (Some taken)) → GoesOn does (process_of process.old) (passed_of (Some taken)) (process_of process.new) }
+    ensures goes_on { IsAwaited (process_of process.old) (passed_of (Some taken)) →
+        GoesOn does (process_of process.old) (passed_of (Some taken)) (process_of process.new) }
     ensures rests { result ≡ false → process.new ≡ process.old }
 {
     match taken {
@@ -487,7 +551,9 @@ fn go_on(process: &mut Running, taken: Taken) -> bool
 
 // The input on a channel, if there is one, has its message.
 fn receive(process: &mut Running, chan: u16, message: Bytes)
-    ensures { IsAwaited (process_of process.old) (Some (Complete chan message)) → GoesOn does (process_of process.old) (Some (Complete chan message)) (process_of process.new) }
+    ensures { IsAwaited (process_of process.old) (Some (Complete chan message)) →
+        GoesOn does (process_of process.old) (Some (Complete chan message))
+        (process_of process.new) }
 {
     if let Some(site) = process.input_on(chan) {
         process.resume(site, Some(message));
@@ -496,7 +562,8 @@ fn receive(process: &mut Running, chan: u16, message: Bytes)
 
 // The output on a channel, if there is one, is finished.
 fn finish(process: &mut Running, chan: u16)
-    ensures { IsAwaited (process_of process.old) (Some (Finished chan)) → GoesOn does (process_of process.old) (Some (Finished chan)) (process_of process.new) }
+    ensures { IsAwaited (process_of process.old) (Some (Finished chan)) →
+        GoesOn does (process_of process.old) (Some (Finished chan)) (process_of process.new) }
 {
     if let Some(site) = process.output_on(chan) {
         process.resume(site, None);

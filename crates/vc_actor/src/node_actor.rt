@@ -75,7 +75,9 @@ impl NodeActor {
     /// Whether an act is one that the node can make now, whatever stands on its ways.
     pub(crate) fn can(&self, act: &Act) -> bool
         ensures may { IsTrue result ↔ NodeMay self.now act.now }
-        ensures can { (plan : Plan) (k : ℕ) → IsNodeOf plan k self.now → IsTrue result ↔ NodeCan plan k self.now act.now }
+        ensures can { (plan : Plan) (k : ℕ) →
+            IsNodeOf plan k self.now →
+            IsTrue result ↔ NodeCan plan k self.now act.now }
     {
         prove!(self.node.vcp.links() == NODE_LINKS);
         match act {
@@ -92,7 +94,9 @@ impl NodeActor {
     #[inline(always)]
     pub(crate) fn accept(&mut self, link: u8, came: Token)
         requires { link < 4 }
-        ensures { (plan : Plan) (k word : ℕ) → IsActorOf plan k (OfNode self.old) → MakesTake plan k (OfNode self.old) link word (token came) (OfNode self.new) }
+        ensures { (plan : Plan) (k word : ℕ) →
+            IsActorOf plan k (OfNode self.old) →
+            MakesTake plan k (OfNode self.old) link word (token came) (OfNode self.new) }
     {
         self.node.vcp.accept(link, came);
         self.is_still = false;
@@ -103,7 +107,9 @@ impl NodeActor {
     pub(crate) fn make(&mut self, act: &Act) -> Result<(), Memory>
         requires may { NodeMay self.old act.now }
         requires own { IsOwn act.now }
-        ensures ok { (plan : Plan) (k : ℕ) → IsActorOf plan k (OfNode self.old) → OnOk result (MakesOwn plan k (OfNode self.old) act.now (OfNode self.new)) }
+        ensures ok { (plan : Plan) (k : ℕ) →
+            IsActorOf plan k (OfNode self.old) →
+            OnOk result (MakesOwn plan k (OfNode self.old) act.now (OfNode self.new)) }
         ensures err { OnErr result (self.new ≡ self.old) }
     {
         match *act {
@@ -134,7 +140,9 @@ impl NodeActor {
     #[inline(always)]
     pub(crate) fn put(&mut self, link: u8) -> Token
         requires { NodeMay self.old (Act.Put link) }
-        ensures { (plan : Plan) (k : ℕ) → IsActorOf plan k (OfNode self.old) → MakesPut plan k (OfNode self.old) link (token result) (OfNode self.new) }
+        ensures { (plan : Plan) (k : ℕ) →
+            IsActorOf plan k (OfNode self.old) →
+            MakesPut plan k (OfNode self.old) link (token result) (OfNode self.new) }
     {
         self.node.vcp.put(link)
     }
@@ -143,7 +151,9 @@ impl NodeActor {
     #[inline(always)]
     pub(crate) fn grant(&mut self, link: u8)
         requires { NodeMay self.old (Act.Fct link) }
-        ensures { (plan : Plan) (k : ℕ) → IsActorOf plan k (OfNode self.old) → MakesGrant plan k (OfNode self.old) link (OfNode self.new) }
+        ensures { (plan : Plan) (k : ℕ) →
+            IsActorOf plan k (OfNode self.old) →
+            MakesGrant plan k (OfNode self.old) link (OfNode self.new) }
     {
         self.node.vcp.grant(link);
     }
@@ -155,7 +165,9 @@ impl NodeActor {
         ensures same { self.new ≡ self.old }
         ensures may { IfOk result (λ act. IfSome act (λ a. NodeMay self.old a)) }
         ensures lets { IfOk result (λ act. IfSome act (RoomLets room)) }
-        ensures finds { (plan : Plan) (k : ℕ) → IsNodeOf plan k self.old → IfOk result (FindsOf kind plan k (OfNode self.old) room) }
+        ensures finds { (plan : Plan) (k : ℕ) →
+            IsNodeOf plan k self.old →
+            IfOk result (FindsOf kind plan k (OfNode self.old) room) }
     {
         match kind {
             ActKind::Pass => Ok(self.node.next_pass()),
@@ -172,7 +184,9 @@ impl NodeActor {
         ensures may { IfSome result (λ a. NodeMay self.now a) }
         ensures lets { IfSome result NeedsNoRoom }
         ensures quiet { IfSome result IsQuiet }
-        ensures finds { (plan : Plan) (k : ℕ) → IsNodeOf plan k self.now → IfSome result (λ a. FindsMove plan k self.now (Some a)) }
+        ensures finds { (plan : Plan) (k : ℕ) →
+            IsNodeOf plan k self.now →
+            IfSome result (λ a. FindsMove plan k self.now (Some a)) }
     {
         self.node.only_step()
     }
@@ -182,7 +196,9 @@ impl NodeActor {
     pub(crate) fn still_step(&self) -> Option<Act>
         ensures may { IfSome result (λ a. NodeMay self.now a) }
         ensures quiet { IfSome result IsQuiet }
-        ensures finds { (plan : Plan) (k : ℕ) → IsNodeOf plan k self.now → IfSome result (λ a. FindsMove plan k self.now (Some a)) }
+        ensures finds { (plan : Plan) (k : ℕ) →
+            IsNodeOf plan k self.now →
+            IfSome result (λ a. FindsMove plan k self.now (Some a)) }
     {
         if !self.is_still {
             return None;
@@ -204,7 +220,9 @@ impl NodeActor {
         ensures same { self.new ≡ self.old }
         ensures may { IfOk result (λ act. IfSome act (λ a. NodeMay self.old a)) }
         ensures lets { IfOk result (λ act. IfSome act NeedsNoRoom) }
-        ensures finds { (plan : Plan) (k : ℕ) → IsNodeOf plan k self.old → IfOk result (FindsMove plan k self.old) }
+        ensures finds { (plan : Plan) (k : ℕ) →
+            IsNodeOf plan k self.old →
+            IfOk result (FindsMove plan k self.old) }
     {
         if let Some(act) = self.only_step() {
             return Ok(Some(act));
@@ -221,7 +239,9 @@ impl NodeActor {
         ensures same { self.new ≡ self.old }
         ensures may { IfSome result (λ a. NodeMay self.old a) }
         ensures lets { IfSome result NeedsNoRoom }
-        ensures finds { (plan : Plan) (k : ℕ) → IsNodeOf plan k self.old → IfSome result (λ a. FindsMove plan k self.old (Some a)) }
+        ensures finds { (plan : Plan) (k : ℕ) →
+            IsNodeOf plan k self.old →
+            IfSome result (λ a. FindsMove plan k self.old (Some a)) }
     {
         if self.is_listed || !self.are_many {
             return None;
@@ -237,7 +257,8 @@ impl NodeActor {
 
     // Where no channel is inside the node, the process has no move.
     fn list_none(&mut self)
-        requires { ((c : ℕ) → inner_channels self.old.process c ≡ false) → moves_of self.old.process ≡ [] }
+        requires { ((c : ℕ) → inner_channels self.old.process c ≡ false) →
+            moves_of self.old.process ≡ [] }
         ensures { self.new ≡ self.old }
     {
         if self.node.process.is_unjoined() {
@@ -253,7 +274,9 @@ impl NodeActor {
         ensures same { self.new ≡ self.old }
         ensures may { IfOk result (λ act. IfSome act (λ a. NodeMay self.old a)) }
         ensures lets { IfOk result (λ act. IfSome act NeedsNoRoom) }
-        ensures finds { (plan : Plan) (k : ℕ) → IsNodeOf plan k self.old → IfOk result (FindsMove plan k self.old) }
+        ensures finds { (plan : Plan) (k : ℕ) →
+            IsNodeOf plan k self.old →
+            IfOk result (FindsMove plan k self.old) }
     {
         if !self.is_listed {
             self.node.process.list_actions(&mut self.moves)?;
@@ -281,7 +304,8 @@ impl NodeActor {
 // Where moves are listed and the site that made one waits, the others stay listed; answers whether that is so.
 #[inline(always)]
 fn stay_listed(moves: &mut Items<Move>, are_listed: bool, waits: bool, site: u16) -> bool
-    ensures { result ≡ true → (are_listed ≡ true) × (waits ≡ true) × (moves.new ≡ without site moves.old) }
+    ensures { result ≡ true →
+        (are_listed ≡ true) × (waits ≡ true) × (moves.new ≡ without site moves.old) }
 {
     if !are_listed || !waits {
         return false;

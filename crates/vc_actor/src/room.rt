@@ -13,7 +13,9 @@ pub fn has_room(room: u32, link: u8) -> bool
 /// The least of so many links that has its bit.
 pub fn lowest(mask: u32, links: u8) -> Option<u8>
     requires { links ≤ 32 }
-    ensures { MatchOption result ((l : ℕ) → l < links → bit_at mask l ≡ 0) (λ link. (link < links) × (bit_at mask link ≡ 1) × ((l : ℕ) → l < link → bit_at mask l ≡ 0)) }
+    ensures { MatchOption result ((l : ℕ) → l < links → bit_at mask l ≡ 0)
+        (λ link.
+        (link < links) × (bit_at mask link ≡ 1) × ((l : ℕ) → l < link → bit_at mask l ≡ 0)) }
 {
     let link = mask.trailing_zeros();
     if link < u32::from(links) {

@@ -57,7 +57,10 @@ impl SwitchActor {
     #[inline(always)]
     pub(crate) fn accept(&mut self, link: u8, came: Token, word: u32)
         requires { link < 32 }
-        ensures { (plan : Plan) (k : ℕ) → IsActorOf plan k (OfSwitch self.old.switch) → MakesTake plan k (OfSwitch self.old.switch) link word (token came) (OfSwitch self.new.switch) }
+        ensures { (plan : Plan) (k : ℕ) →
+            IsActorOf plan k (OfSwitch self.old.switch) →
+            MakesTake plan k (OfSwitch self.old.switch) link word (token came)
+            (OfSwitch self.new.switch) }
     {
         let _taken = self.switch.take(link, came, word);
     }
@@ -67,7 +70,9 @@ impl SwitchActor {
     pub(crate) fn make(&mut self, act: &Act) -> Result<(), Memory>
         requires may { SwitchMay self.old.switch act.now }
         requires own { IsOwn act.now }
-        ensures makes { (plan : Plan) (k : ℕ) → IsActorOf plan k (OfSwitch self.old.switch) → MakesOwn plan k (OfSwitch self.old.switch) act.now (OfSwitch self.new.switch) }
+        ensures makes { (plan : Plan) (k : ℕ) →
+            IsActorOf plan k (OfSwitch self.old.switch) →
+            MakesOwn plan k (OfSwitch self.old.switch) act.now (OfSwitch self.new.switch) }
         ensures ok { IsOk result }
     {
         match *act {
@@ -84,7 +89,10 @@ impl SwitchActor {
     #[inline(always)]
     pub(crate) fn put(&mut self, link: u8) -> Token
         requires { SwitchMay self.old.switch (Act.Put link) }
-        ensures { (plan : Plan) (k : ℕ) → IsActorOf plan k (OfSwitch self.old.switch) → MakesPut plan k (OfSwitch self.old.switch) link (token result) (OfSwitch self.new.switch) }
+        ensures { (plan : Plan) (k : ℕ) →
+            IsActorOf plan k (OfSwitch self.old.switch) →
+            MakesPut plan k (OfSwitch self.old.switch) link (token result)
+            (OfSwitch self.new.switch) }
     {
         self.switch.put(link)
     }
@@ -93,7 +101,9 @@ impl SwitchActor {
     #[inline(always)]
     pub(crate) fn grant(&mut self, link: u8)
         requires { SwitchMay self.old.switch (Act.Fct link) }
-        ensures { (plan : Plan) (k : ℕ) → IsActorOf plan k (OfSwitch self.old.switch) → MakesGrant plan k (OfSwitch self.old.switch) link (OfSwitch self.new.switch) }
+        ensures { (plan : Plan) (k : ℕ) →
+            IsActorOf plan k (OfSwitch self.old.switch) →
+            MakesGrant plan k (OfSwitch self.old.switch) link (OfSwitch self.new.switch) }
     {
         self.switch.grant(link);
     }
@@ -104,7 +114,8 @@ impl SwitchActor {
     pub(crate) fn next_of(&self, kind: ActKind, room: u32) -> Option<Act>
         ensures may { IfSome result (λ a. SwitchMay self.now.switch a) }
         ensures lets { IfSome result (RoomLets room) }
-        ensures finds { (plan : Plan) (k : ℕ) → FindsOf kind plan k (OfSwitch self.now.switch) room result }
+        ensures finds { (plan : Plan) (k : ℕ) →
+            FindsOf kind plan k (OfSwitch self.now.switch) room result }
     {
         match kind {
             ActKind::Pass => self.next_pass(),
@@ -161,7 +172,8 @@ impl SwitchActor {
         requires { input < 32 }
         ensures may { IfSome result (λ a. SwitchMay self.now.switch a) }
         ensures lets { IfSome result NeedsNoRoom }
-        ensures finds { FindsAt (λ output. Act.Route input output) (SwitchCan self.now.switch) result }
+        ensures finds { FindsAt (λ output. Act.Route input output) (SwitchCan self.now.switch)
+            result }
     {
         match self.switch.switch().choices(input) {
             None => None,
@@ -173,10 +185,13 @@ impl SwitchActor {
     fn route_within(&self, input: u8, first: u8, last: u8) -> Option<Act>
         requires input { input < 32 }
         requires few { last < 32 }
-        requires group { (output : ℕ) → CanLeave (plan_of self.now.switch) (seen self.now.switch) input output ↔ ((first ≤ output) × (output ≤ last)) }
+        requires group { (output : ℕ) →
+            CanLeave (plan_of self.now.switch) (seen self.now.switch) input output ↔
+            ((first ≤ output) × (output ≤ last)) }
         ensures may { IfSome result (λ a. SwitchMay self.now.switch a) }
         ensures lets { IfSome result NeedsNoRoom }
-        ensures finds { FindsAt (λ output. Act.Route input output) (SwitchCan self.now.switch) result }
+        ensures finds { FindsAt (λ output. Act.Route input output) (SwitchCan self.now.switch)
+            result }
     {
         for output in first..last + 1 {
             if self.switch.switch().free(output) {
@@ -191,7 +206,8 @@ impl SwitchActor {
     fn next_put(&self, room: u32) -> Option<Act>
         ensures may { IfSome result (λ a. SwitchMay self.now.switch a) }
         ensures lets { IfSome result (RoomLets room) }
-        ensures finds { (plan : Plan) (k : ℕ) → FindsAt (λ link. Act.Put link) (IsTurn plan k (OfSwitch self.now.switch) room) result }
+        ensures finds { (plan : Plan) (k : ℕ) →
+            FindsAt (λ link. Act.Put link) (IsTurn plan k (OfSwitch self.now.switch) room) result }
     {
         let links = self.switch.switch().links();
         let mut left = self.switch.puts() & room;
@@ -210,7 +226,8 @@ impl SwitchActor {
     fn next_grant(&self, room: u32) -> Option<Act>
         ensures may { IfSome result (λ a. SwitchMay self.now.switch a) }
         ensures lets { IfSome result (RoomLets room) }
-        ensures finds { (plan : Plan) (k : ℕ) → FindsAt (λ link. Act.Fct link) (IsTurn plan k (OfSwitch self.now.switch) room) result }
+        ensures finds { (plan : Plan) (k : ℕ) →
+            FindsAt (λ link. Act.Fct link) (IsTurn plan k (OfSwitch self.now.switch) room) result }
     {
         let link = lowest(self.switch.grants() & room, self.switch.switch().links())?;
         Some(Act::Fct { link })

@@ -138,8 +138,12 @@ impl InHalf {
     pub fn arrive_body(&mut self, body: &[u8], mark: Mark) -> Result<Arrival, Memory>
         requires empty { self.old.held ≡ None }
         requires piece { IsPiece (record { body = body.now; mark = mark }) }
-        ensures ok { OnOk result (self.new ≡ after_arrival self.old (record { body = body.now; mark = mark }) self.old.wants) }
-        ensures arrival { IfOk result (λ a. a ≡ arrival_of self.old (record { body = body.now; mark = mark }) self.old.wants) }
+        ensures ok { OnOk result
+            (self.new ≡
+            after_arrival self.old (record { body = body.now; mark = mark }) self.old.wants) }
+        ensures arrival { IfOk result
+            (λ a.
+            a ≡ arrival_of self.old (record { body = body.now; mark = mark }) self.old.wants) }
         ensures err { OnErr result (self.new ≡ self.old) }
     {
         if !self.wants {

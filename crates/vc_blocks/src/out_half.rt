@@ -103,7 +103,8 @@ impl OutHalf {
     /// The packet of the piece behind the one under way.
     pub fn next_packet(&self, alloc: Global) -> Result<Packet, Memory>
         requires { later_than self.now.unacked ≢ [] }
-        ensures { IfOk result (λ packet. packet ≡ piece_packet self.now.route (later_than self.now.unacked)) }
+        ensures { IfOk result
+            (λ packet. packet ≡ piece_packet self.now.route (later_than self.now.unacked)) }
     {
         piece(
             alloc,

@@ -133,7 +133,8 @@ fn ends_of(plan: &Plan, home: Home) -> Option<Ends>
 
 // The block of end a or end b of a virtual link.
 fn block_at(plan: &Plan, vlink: u16, is_a: bool) -> BlockAt
-    ensures { result ≡ block_of (network.end_of (network.virtual_link (network_of plan.now) vlink) is_a) }
+    ensures { result ≡
+        block_of (network.end_of (network.virtual_link (network_of plan.now) vlink) is_a) }
 {
     match plan.vlinks.as_slice().get(usize::from(vlink)) {
         Some(link) if is_a => block_of(&link.a),
@@ -154,7 +155,8 @@ fn block_of(end: &End) -> BlockAt
 
 // The node at end a or end b of a virtual link.
 fn node_at(plan: &Plan, vlink: u16, is_a: bool) -> usize
-    ensures { result ≡ (network.end_of (network.virtual_link (network_of plan.now) vlink) is_a).node }
+    ensures { result ≡
+        (network.end_of (network.virtual_link (network_of plan.now) vlink) is_a).node }
 {
     match plan.vlinks.as_slice().get(usize::from(vlink)) {
         Some(link) if is_a => usize::from(link.a.node),

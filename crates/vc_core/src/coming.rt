@@ -24,7 +24,9 @@ impl Coming {
 
     /// What is kept where one byte more has come.
     pub(crate) fn with(self, byte: u8) -> Coming
-        ensures { (got : List ℕ) → self.bytes.items ≡ take 45 got → result.bytes.items ≡ take 45 (got ++ byte ∷ []) }
+        ensures { (got : List ℕ) →
+            self.bytes.items ≡ take 45 got →
+            result.bytes.items ≡ take 45 (got ++ byte ∷ []) }
     {
         let mut bytes = self.bytes;
         if !bytes.is_full() {

@@ -13,8 +13,10 @@ use vc_plan::{Plan, Port, Spot};
 /// The way that goes out by each link of each actor of an accepted plan, 32 places an actor.
 pub(crate) fn ways_out(alloc: Global, plan: &Plan) -> Result<Vec<Option<u16>>, Memory>
     requires { IsAccepted plan.now }
-    ensures tells { IfOk result (λ out. (actor link : ℕ) → out_at out.items actor link ≡ outgoing plan.now actor link) }
-    ensures long { IfOk result (λ out. length out.items ≡ (length plan.now.nodes + length plan.now.switches) * 32) }
+    ensures tells { IfOk result
+        (λ out. (actor link : ℕ) → out_at out.items actor link ≡ outgoing plan.now actor link) }
+    ensures long { IfOk result
+        (λ out. length out.items ≡ (length plan.now.nodes + length plan.now.switches) * 32) }
 {
     let nodes = plan.nodes.len();
     let actors = nodes + plan.switches.len();

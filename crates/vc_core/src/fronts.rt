@@ -49,7 +49,11 @@ impl Fronts {
 
     /// A bit for each of the first 64 actors to which a token comes.
     pub(crate) fn awake(&self) -> u64
-        ensures told { (k l : ℕ) → k < 64 → l < 32 → bit_at (get_or self.now k 0) l ≡ 1 → bit_at result k ≡ 1 }
+        ensures told { (k l : ℕ) →
+            k < 64 →
+            l < 32 →
+            bit_at (get_or self.now k 0) l ≡ 1 →
+            bit_at result k ≡ 1 }
         ensures only { (k : ℕ) → k < 64 → bit_at result k ≡ 1 → HasBit self.now k }
     {
         self.awake

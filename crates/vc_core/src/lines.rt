@@ -68,7 +68,8 @@ impl Lines {
         requires plan { IsAccepted plan.now }
         requires count { length tokens.now ≡ 2 * length plan.now.wires }
         ensures wired { IfOk result (λ lines. AreWaysAt plan.now lines.wiring) }
-        ensures ways { IfOk result (λ lines. lines.ways ≡ map (λ line. all_spelt line.items) tokens.now) }
+        ensures ways { IfOk result
+            (λ lines. lines.ways ≡ map (λ line. all_spelt line.items) tokens.now) }
     {
         let mut lines = Lines::new(alloc, plan)?;
         for (way, line) in tokens.iter().enumerate() {
@@ -80,7 +81,9 @@ impl Lines {
     // These tokens come to the end of a way, one after another.
     fn lay(&mut self, way: usize, tokens: &[Token]) -> Result<(), Memory>
         requires { way < length self.old.ways }
-        ensures { (ts : List SpeltToken) → slice_get self.old.ways way ≡ Some ts → OnOk result (self.new ≡ with_way self.old way (ts ++ all_spelt tokens.now)) }
+        ensures { (ts : List SpeltToken) →
+            slice_get self.old.ways way ≡ Some ts →
+            OnOk result (self.new ≡ with_way self.old way (ts ++ all_spelt tokens.now)) }
     {
         for token in tokens {
             self.push(way, *token)?;
@@ -105,22 +108,32 @@ impl Lines {
 
     /// A bit for each link of an actor by which a way goes out.
     pub(crate) fn room(&self, actor: u8) -> u32
-        ensures { (link : ℕ) → link < 32 → (bit_at result link ≡ 1) ↔ Goes self.now.wiring self.now.ways actor link }
+        ensures { (link : ℕ) →
+            link < 32 →
+            (bit_at result link ≡ 1) ↔ Goes self.now.wiring self.now.ways actor link }
     {
         self.wiring.room(actor)
     }
 
     /// A bit for each link of an actor by which a token comes.
     pub(crate) fn fronts(&self, actor: u8) -> u32
-        ensures { (link : ℕ) → link < 32 → (bit_at result link ≡ 1) ↔ Comes self.now.wiring self.now.ways actor link }
+        ensures { (link : ℕ) →
+            link < 32 →
+            (bit_at result link ≡ 1) ↔ Comes self.now.wiring self.now.ways actor link }
     {
         self.fronts.links(actor)
     }
 
     /// A bit for each of the first 64 actors to which a token comes.
     pub(crate) fn awake(&self) -> u64
-        ensures told { (actor link : ℕ) → actor < 64 → Comes self.now.wiring self.now.ways actor link → bit_at result actor ≡ 1 }
-        ensures only { (actor : ℕ) → actor < 64 → bit_at result actor ≡ 1 → (link : ℕ) × Comes self.now.wiring self.now.ways actor link }
+        ensures told { (actor link : ℕ) →
+            actor < 64 →
+            Comes self.now.wiring self.now.ways actor link →
+            bit_at result actor ≡ 1 }
+        ensures only { (actor : ℕ) →
+            actor < 64 →
+            bit_at result actor ≡ 1 →
+            (link : ℕ) × Comes self.now.wiring self.now.ways actor link }
     {
         self.fronts.awake()
     }
@@ -143,7 +156,9 @@ impl Lines {
     #[inline(always)]
     pub(crate) fn push(&mut self, way: usize, token: Token) -> Result<(), Memory>
         requires { way < length self.old.ways }
-        ensures ok { (ts : List SpeltToken) → slice_get self.old.ways way ≡ Some ts → OnOk result (self.new ≡ with_way self.old way (ts ++ spelt token ∷ [])) }
+        ensures ok { (ts : List SpeltToken) →
+            slice_get self.old.ways way ≡ Some ts →
+            OnOk result (self.new ≡ with_way self.old way (ts ++ spelt token ∷ [])) }
         ensures err { OnErr result (self.new ≡ self.old) }
     {
         self.ways[way].push(token)?;

@@ -86,12 +86,16 @@ impl Network {
         actors: Vec<Actor>,
         tokens: &[Vec<Token>],
     ) -> Result<Network, Memory>
-        requires count { length actors.items ≡ length accepted.now.nodes + length accepted.now.switches }
-        requires actors { (k : ℕ) (a : Acting) → slice_get actors.items k ≡ Some a → IsActorOf (network_of accepted.now) k a }
+        requires count { length actors.items ≡
+            length accepted.now.nodes + length accepted.now.switches }
+        requires actors { (k : ℕ) (a : Acting) →
+            slice_get actors.items k ≡ Some a →
+            IsActorOf (network_of accepted.now) k a }
         requires ways { length tokens.now ≡ 2 * length accepted.now.wires }
         ensures is { IfOk result (λ network. IsNetworkOf accepted.now (state_of network)) }
         ensures actors { IfOk result (λ network. (state_of network).actors ≡ actors.items) }
-        ensures ways { IfOk result (λ network. (state_of network).ways ≡ map (λ line. all_spelt line.items) tokens.now) }
+        ensures ways { IfOk result
+            (λ network. (state_of network).ways ≡ map (λ line. all_spelt line.items) tokens.now) }
     {
         let plan = accepted.plan();
         Ok(Network {
@@ -106,7 +110,9 @@ impl Network {
     /// Whether an event can be made: exactly where it leads to some state.
     pub fn enabled(&self, event: &Event) -> bool
         ensures may { IsTrue result ↔ MayHappen (state_of self.now) event.now }
-        ensures can { (p : Plan) → IsNetworkOf p (state_of self.now) → IsTrue result ↔ CanHappen p (state_of self.now) event.now }
+        ensures can { (p : Plan) →
+            IsNetworkOf p (state_of self.now) →
+            IsTrue result ↔ CanHappen p (state_of self.now) event.now }
     {
         match at(self.actors.as_slice(), usize::from(event.actor)) {
             Some(acting) => acting.can(&event.act) && self.ways_let(event.actor, &event.act),
@@ -141,9 +147,16 @@ impl Network {
 
     /// Makes an event. It is refused where it is not enabled, or there is no memory for it; the network is then as it was.
     pub fn step(&mut self, event: &Event) -> Result<(), StepRefused>
-        ensures makes { (p : Plan) → IsNetworkOf p (state_of self.old) → OnOk result (MakesEvent p (state_of self.old) event.now (state_of self.new)) }
+        ensures makes { (p : Plan) →
+            IsNetworkOf p (state_of self.old) →
+            OnOk result (MakesEvent p (state_of self.old) event.now (state_of self.new)) }
         ensures refused { OnErr result (state_of self.new ≡ state_of self.old) }
-        ensures not_enabled { (p : Plan) → IsNetworkOf p (state_of self.old) → MatchResult result (λ _. CanHappen p (state_of self.old) event.now) (λ why. why ≡ StepRefused.NotEnabled ↔ (CanHappen p (state_of self.old) event.now → ⊥)) }
+        ensures not_enabled { (p : Plan) →
+            IsNetworkOf p (state_of self.old) →
+            MatchResult result (λ _. CanHappen p (state_of self.old) event.now)
+            (λ why.
+            why ≡ StepRefused.NotEnabled ↔
+            (CanHappen p (state_of self.old) event.now → ⊥)) }
     {
         if let Act::Take { link, word } = event.act {
             return self.take_only(event.actor, link, word);
@@ -158,9 +171,23 @@ impl Network {
 
     // A token is taken, if one can be.
     fn take_only(&mut self, actor: u8, link: u8, word: u32) -> Result<(), StepRefused>
-        ensures makes { (p : Plan) → IsNetworkOf p (state_of self.old) → OnOk result (MakesEvent p (state_of self.old) (record { actor = actor; act = Act.Take link word }) (state_of self.new)) }
+        ensures makes { (p : Plan) →
+            IsNetworkOf p (state_of self.old) →
+            OnOk result
+            (MakesEvent p (state_of self.old)
+            (record { actor = actor; act = Act.Take link word }) (state_of self.new)) }
         ensures refused { OnErr result (state_of self.new ≡ state_of self.old) }
-        ensures not_enabled { (p : Plan) → IsNetworkOf p (state_of self.old) → MatchResult result (λ _. CanHappen p (state_of self.old) (record { actor = actor; act = Act.Take link word })) (λ why. why ≡ StepRefused.NotEnabled ↔ (CanHappen p (state_of self.old) (record { actor = actor; act = Act.Take link word }) → ⊥)) }
+        ensures not_enabled { (p : Plan) →
+            IsNetworkOf p (state_of self.old) →
+            MatchResult result
+            (λ _.
+            CanHappen p (state_of self.old)
+            (record { actor = actor; act = Act.Take link word }))
+            (λ why.
+            why ≡ StepRefused.NotEnabled ↔
+            (CanHappen p (state_of self.old)
+            (record { actor = actor; act = Act.Take link word }) →
+            ⊥)) }
     {
         if !self.take(actor, link, word) {
             return Err(StepRefused::NotEnabled);
@@ -172,7 +199,10 @@ impl Network {
     #[inline(always)]
     fn make(&mut self, event: &Event) -> Result<(), Memory>
         requires { MayActAt (state_of self.old) event.now.actor event.now.act }
-        ensures makes { (p : Plan) → IsNetworkOf p (state_of self.old) → WaysLet (state_of self.old) event.now.actor event.now.act → OnOk result (MakesEvent p (state_of self.old) event.now (state_of self.new)) }
+        ensures makes { (p : Plan) →
+            IsNetworkOf p (state_of self.old) →
+            WaysLet (state_of self.old) event.now.actor event.now.act →
+            OnOk result (MakesEvent p (state_of self.old) event.now (state_of self.new)) }
         ensures refused { OnErr result (state_of self.new ≡ state_of self.old) }
     {
         match event.act {
@@ -191,7 +221,9 @@ impl Network {
     fn act(&mut self, event: &Event) -> Result<(), Memory>
         requires may { MayActAt (state_of self.old) event.now.actor event.now.act }
         requires own { IsOwn event.now.act }
-        ensures makes { (p : Plan) → IsNetworkOf p (state_of self.old) → OnOk result (MakesEvent p (state_of self.old) event.now (state_of self.new)) }
+        ensures makes { (p : Plan) →
+            IsNetworkOf p (state_of self.old) →
+            OnOk result (MakesEvent p (state_of self.old) event.now (state_of self.new)) }
         ensures refused { OnErr result (state_of self.new ≡ state_of self.old) }
     {
         self.actors[usize::from(event.actor)].make(&event.act)
@@ -200,9 +232,18 @@ impl Network {
     /// An actor takes the front token of the way that comes in by a link. The answer is whether it can.
     #[inline(always)]
     pub fn take(&mut self, actor: u8, link: u8, word: u32) -> bool
-        ensures may { IsTrue result ↔ MayHappen (state_of self.old) (record { actor = actor; act = Act.Take link word }) }
-        ensures can { (p : Plan) → IsNetworkOf p (state_of self.old) → IsTrue result ↔ CanHappen p (state_of self.old) (record { actor = actor; act = Act.Take link word }) }
-        ensures makes { (p : Plan) → IsNetworkOf p (state_of self.old) → result ≡ true → MakesEvent p (state_of self.old) (record { actor = actor; act = Act.Take link word }) (state_of self.new) }
+        ensures may { IsTrue result ↔
+            MayHappen (state_of self.old) (record { actor = actor; act = Act.Take link word }) }
+        ensures can { (p : Plan) →
+            IsNetworkOf p (state_of self.old) →
+            IsTrue result ↔
+            CanHappen p (state_of self.old)
+            (record { actor = actor; act = Act.Take link word }) }
+        ensures makes { (p : Plan) →
+            IsNetworkOf p (state_of self.old) →
+            result ≡ true →
+            MakesEvent p (state_of self.old) (record { actor = actor; act = Act.Take link word })
+            (state_of self.new) }
         ensures refused { result ≡ false → state_of self.new ≡ state_of self.old }
     {
         if !self.has_link(actor, link) {
@@ -217,7 +258,8 @@ impl Network {
 
     // Whether an actor is there, and has a link.
     fn has_link(&self, actor: u8, link: u8) -> bool
-        ensures { (word : ℕ) → IsTrue result ↔ MayActAt (state_of self.now) actor (Act.Take link word) }
+        ensures { (word : ℕ) →
+            IsTrue result ↔ MayActAt (state_of self.now) actor (Act.Take link word) }
     {
         match at(self.actors.as_slice(), usize::from(actor)) {
             Some(acting) => acting.may_take(link),
@@ -239,7 +281,10 @@ impl Network {
     fn put(&mut self, event: &Event, link: u8) -> Result<(), Memory>
         requires may { MayActAt (state_of self.old) event.now.actor event.now.act }
         requires is { event.now.act ≡ Act.Put link }
-        ensures makes { (p : Plan) → IsNetworkOf p (state_of self.old) → HasWay (state_of self.old) event.now.actor link → OnOk result (MakesEvent p (state_of self.old) event.now (state_of self.new)) }
+        ensures makes { (p : Plan) →
+            IsNetworkOf p (state_of self.old) →
+            HasWay (state_of self.old) event.now.actor link →
+            OnOk result (MakesEvent p (state_of self.old) event.now (state_of self.new)) }
         ensures refused { OnErr result (state_of self.new ≡ state_of self.old) }
     {
         let Some(way) = self.lines.outgoing(event.actor, link) else {
@@ -254,7 +299,10 @@ impl Network {
     fn grant(&mut self, event: &Event, link: u8) -> Result<(), Memory>
         requires may { MayActAt (state_of self.old) event.now.actor event.now.act }
         requires is { event.now.act ≡ Act.Fct link }
-        ensures makes { (p : Plan) → IsNetworkOf p (state_of self.old) → HasWay (state_of self.old) event.now.actor link → OnOk result (MakesEvent p (state_of self.old) event.now (state_of self.new)) }
+        ensures makes { (p : Plan) →
+            IsNetworkOf p (state_of self.old) →
+            HasWay (state_of self.old) event.now.actor link →
+            OnOk result (MakesEvent p (state_of self.old) event.now (state_of self.new)) }
         ensures refused { OnErr result (state_of self.new ≡ state_of self.old) }
     {
         let Some(way) = self.lines.outgoing(event.actor, link) else {
@@ -276,15 +324,23 @@ impl Network {
     /// The least link of an actor by which a token can be taken.
     pub fn link_to_take(&self, actor: u8) -> Option<u8>
         ensures least { FindsFront (state_of self.now) actor result }
-        ensures takes { (p : Plan) → IsNetworkOf p (state_of self.now) → FindsTake p (state_of self.now) actor result }
+        ensures takes { (p : Plan) →
+            IsNetworkOf p (state_of self.now) →
+            FindsTake p (state_of self.now) actor result }
     {
         lowest(self.lines.fronts(actor), LINKS)
     }
 
     /// A mask that has a bit for each of the first 64 actors to which a token comes, and no other.
     pub fn awake(&self) -> u64
-        ensures told { (actor link : ℕ) → actor < 64 → HasFront (state_of self.now) actor link → bit_at result actor ≡ 1 }
-        ensures only { (actor : ℕ) → actor < 64 → bit_at result actor ≡ 1 → (link : ℕ) × HasFront (state_of self.now) actor link }
+        ensures told { (actor link : ℕ) →
+            actor < 64 →
+            HasFront (state_of self.now) actor link →
+            bit_at result actor ≡ 1 }
+        ensures only { (actor : ℕ) →
+            actor < 64 →
+            bit_at result actor ≡ 1 →
+            (link : ℕ) × HasFront (state_of self.now) actor link }
     {
         self.lines.awake()
     }
@@ -293,8 +349,11 @@ impl Network {
     #[inline(always)]
     pub fn next(&mut self, actor: u8) -> Result<Option<Event>, Memory>
         ensures same { state_of self.new ≡ state_of self.old }
-        ensures may { IfOk result (λ found. IfSome found (λ e. MayActAt (state_of self.old) e.actor e.act)) }
-        ensures finds { (p : Plan) → IsNetworkOf p (state_of self.old) → IfOk result (FindsEvent p (state_of self.old) actor) }
+        ensures may { IfOk result
+            (λ found. IfSome found (λ e. MayActAt (state_of self.old) e.actor e.act)) }
+        ensures finds { (p : Plan) →
+            IsNetworkOf p (state_of self.old) →
+            IfOk result (FindsEvent p (state_of self.old) actor) }
     {
         let place = usize::from(actor);
         if place >= self.actors.len() {
@@ -310,8 +369,12 @@ impl Network {
     /// An actor makes the event, but a take, that it makes next where every way has room; nothing where it has none.
     #[inline(always)]
     pub fn turn(&mut self, actor: u8) -> Result<Option<Event>, Memory>
-        ensures finds { (p : Plan) → IsNetworkOf p (state_of self.old) → IfOk result (FindsEvent p (state_of self.old) actor) }
-        ensures makes { (p : Plan) → IsNetworkOf p (state_of self.old) → IfOk result (λ made. MakesOne p (state_of self.old) made (state_of self.new)) }
+        ensures finds { (p : Plan) →
+            IsNetworkOf p (state_of self.old) →
+            IfOk result (FindsEvent p (state_of self.old) actor) }
+        ensures makes { (p : Plan) →
+            IsNetworkOf p (state_of self.old) →
+            IfOk result (λ made. MakesOne p (state_of self.old) made (state_of self.new)) }
         ensures refused { OnErr result (state_of self.new ≡ state_of self.old) }
     {
         if let Some(event) = self.still_turn(actor)? {
@@ -341,8 +404,13 @@ impl Network {
     // have nothing to do.
     #[inline(always)]
     fn still_turn(&mut self, actor: u8) -> Result<Option<Event>, Memory>
-        ensures finds { (p : Plan) → IsNetworkOf p (state_of self.old) → IfOk result (λ made. IfSome made (λ e. FindsEvent p (state_of self.old) actor (Some e))) }
-        ensures makes { (p : Plan) → IsNetworkOf p (state_of self.old) → IfOk result (λ made. MakesOne p (state_of self.old) made (state_of self.new)) }
+        ensures finds { (p : Plan) →
+            IsNetworkOf p (state_of self.old) →
+            IfOk result
+            (λ made. IfSome made (λ e. FindsEvent p (state_of self.old) actor (Some e))) }
+        ensures makes { (p : Plan) →
+            IsNetworkOf p (state_of self.old) →
+            IfOk result (λ made. MakesOne p (state_of self.old) made (state_of self.new)) }
         ensures none { IfOk result (λ made. made ≡ None → state_of self.new ≡ state_of self.old) }
         ensures refused { OnErr result (state_of self.new ≡ state_of self.old) }
     {
@@ -358,7 +426,9 @@ impl Network {
     #[inline(always)]
     fn still_step(&self, actor: u8) -> Option<Event>
         ensures may { IfSome result (λ e. MayActAt (state_of self.now) e.actor e.act) }
-        ensures finds { (p : Plan) → IsNetworkOf p (state_of self.now) → IfSome result (λ e. FindsEvent p (state_of self.now) actor (Some e)) }
+        ensures finds { (p : Plan) →
+            IsNetworkOf p (state_of self.now) →
+            IfSome result (λ e. FindsEvent p (state_of self.now) actor (Some e)) }
     {
         let place = usize::from(actor);
         if place >= self.actors.len() {
@@ -372,7 +442,10 @@ impl Network {
     #[inline(always)]
     fn make_quietly(&mut self, event: &Event) -> Result<(), Memory>
         requires { MayActAt (state_of self.old) event.now.actor event.now.act }
-        ensures makes { (p : Plan) → IsNetworkOf p (state_of self.old) → WaysLet (state_of self.old) event.now.actor event.now.act → OnOk result (MakesEvent p (state_of self.old) event.now (state_of self.new)) }
+        ensures makes { (p : Plan) →
+            IsNetworkOf p (state_of self.old) →
+            WaysLet (state_of self.old) event.now.actor event.now.act →
+            OnOk result (MakesEvent p (state_of self.old) event.now (state_of self.new)) }
         ensures refused { OnErr result (state_of self.new ≡ state_of self.old) }
     {
         self.make(event)?;
@@ -394,8 +467,12 @@ impl Network {
     // The same, where its links may have something to do.
     #[inline(always)]
     fn whole_turn(&mut self, actor: u8) -> Result<Option<Event>, Memory>
-        ensures finds { (p : Plan) → IsNetworkOf p (state_of self.old) → IfOk result (FindsEvent p (state_of self.old) actor) }
-        ensures makes { (p : Plan) → IsNetworkOf p (state_of self.old) → IfOk result (λ made. MakesOne p (state_of self.old) made (state_of self.new)) }
+        ensures finds { (p : Plan) →
+            IsNetworkOf p (state_of self.old) →
+            IfOk result (FindsEvent p (state_of self.old) actor) }
+        ensures makes { (p : Plan) →
+            IsNetworkOf p (state_of self.old) →
+            IfOk result (λ made. MakesOne p (state_of self.old) made (state_of self.new)) }
         ensures refused { OnErr result (state_of self.new ≡ state_of self.old) }
     {
         let place = usize::from(actor);
@@ -427,8 +504,12 @@ impl Network {
     fn turn_of(&mut self, actor: u8, kind: ActKind, room: u32) -> Result<Option<Event>, Memory>
         requires here { actor < length (state_of self.old).actors }
         requires room { IsRoom (state_of self.old) actor room }
-        ensures finds { (p : Plan) → IsNetworkOf p (state_of self.old) → IfOk result (FindsEventOf kind p (state_of self.old) actor) }
-        ensures makes { (p : Plan) → IsNetworkOf p (state_of self.old) → IfOk result (λ made. MakesOne p (state_of self.old) made (state_of self.new)) }
+        ensures finds { (p : Plan) →
+            IsNetworkOf p (state_of self.old) →
+            IfOk result (FindsEventOf kind p (state_of self.old) actor) }
+        ensures makes { (p : Plan) →
+            IsNetworkOf p (state_of self.old) →
+            IfOk result (λ made. MakesOne p (state_of self.old) made (state_of self.new)) }
         ensures none { IfOk result (λ made. made ≡ None → state_of self.new ≡ state_of self.old) }
         ensures refused { OnErr result (state_of self.new ≡ state_of self.old) }
     {
@@ -445,8 +526,11 @@ impl Network {
         requires here { actor < length (state_of self.old).actors }
         requires room { IsRoom (state_of self.old) actor room }
         ensures same { state_of self.new ≡ state_of self.old }
-        ensures may { IfOk result (λ found. IfSome found (λ e. MayActAt (state_of self.old) e.actor e.act)) }
-        ensures finds { (p : Plan) → IsNetworkOf p (state_of self.old) → IfOk result (FindsEventOf kind p (state_of self.old) actor) }
+        ensures may { IfOk result
+            (λ found. IfSome found (λ e. MayActAt (state_of self.old) e.actor e.act)) }
+        ensures finds { (p : Plan) →
+            IsNetworkOf p (state_of self.old) →
+            IfOk result (FindsEventOf kind p (state_of self.old) actor) }
     {
         match self.actors[usize::from(actor)].next_of(kind, room)? {
             Some(act) => Ok(Some(Event { actor, act })),
@@ -458,8 +542,13 @@ impl Network {
     #[inline(always)]
     fn only_turn(&mut self, actor: u8) -> Result<Option<Event>, Memory>
         requires { actor < length (state_of self.old).actors }
-        ensures finds { (p : Plan) → IsNetworkOf p (state_of self.old) → IfOk result (λ made. IfSome made (λ e. FindsEvent p (state_of self.old) actor (Some e))) }
-        ensures makes { (p : Plan) → IsNetworkOf p (state_of self.old) → IfOk result (λ made. MakesOne p (state_of self.old) made (state_of self.new)) }
+        ensures finds { (p : Plan) →
+            IsNetworkOf p (state_of self.old) →
+            IfOk result
+            (λ made. IfSome made (λ e. FindsEvent p (state_of self.old) actor (Some e))) }
+        ensures makes { (p : Plan) →
+            IsNetworkOf p (state_of self.old) →
+            IfOk result (λ made. MakesOne p (state_of self.old) made (state_of self.new)) }
         ensures none { IfOk result (λ made. made ≡ None → state_of self.new ≡ state_of self.old) }
         ensures refused { OnErr result (state_of self.new ≡ state_of self.old) }
     {
@@ -475,7 +564,9 @@ impl Network {
     fn only_step(&self, actor: u8) -> Option<Event>
         requires { actor < length (state_of self.now).actors }
         ensures may { IfSome result (λ e. MayActAt (state_of self.now) e.actor e.act) }
-        ensures finds { (p : Plan) → IsNetworkOf p (state_of self.now) → IfSome result (λ e. FindsEvent p (state_of self.now) actor (Some e)) }
+        ensures finds { (p : Plan) →
+            IsNetworkOf p (state_of self.now) →
+            IfSome result (λ e. FindsEvent p (state_of self.now) actor (Some e)) }
     {
         let act = self.actors[usize::from(actor)].only_step()?;
         Some(Event { actor, act })
@@ -483,7 +574,9 @@ impl Network {
 
     /// Whether every process has ended.
     pub fn ended(&self) -> bool
-        ensures { (p : Plan) → IsNetworkOf p (state_of self.now) → IsTrue result ↔ HaveEnded p (state_of self.now) }
+        ensures { (p : Plan) →
+            IsNetworkOf p (state_of self.now) →
+            IsTrue result ↔ HaveEnded p (state_of self.now) }
     {
         for actor in &self.actors {
             if !is_done(actor) {
@@ -541,7 +634,10 @@ impl Network {
 
     /// The name of a channel: 1 to 16 ASCII letters, digits, `_` and `-`. It is empty where the network has no such channel.
     pub fn name(&self, chan: u16) -> &str
-        ensures { (p : Plan) (x : Channel) → IsNetworkOf p (state_of self.now) → slice_get p.channels chan ≡ Some x → result.now ≡ x.name }
+        ensures { (p : Plan) (x : Channel) →
+            IsNetworkOf p (state_of self.now) →
+            slice_get p.channels chan ≡ Some x →
+            result.now ≡ x.name }
     {
         match at(self.channels.as_slice(), usize::from(chan)) {
             Some(channel) => channel.name.as_str(),
@@ -551,7 +647,10 @@ impl Network {
 
     /// The kind of a channel.
     pub fn kind(&self, chan: u16) -> ValueKind
-        ensures { (p : Plan) (x : Channel) → IsNetworkOf p (state_of self.now) → slice_get p.channels chan ≡ Some x → result ≡ x.kind }
+        ensures { (p : Plan) (x : Channel) →
+            IsNetworkOf p (state_of self.now) →
+            slice_get p.channels chan ≡ Some x →
+            result ≡ x.kind }
     {
         match at(self.channels.as_slice(), usize::from(chan)) {
             Some(channel) => channel.kind,
@@ -561,7 +660,10 @@ impl Network {
 
     /// The messages offered on a channel, the first one first.
     pub fn offered(&self, chan: u16) -> &[Bytes]
-        ensures { (p : Plan) → IsNetworkOf p (state_of self.now) → chan < length p.channels → result.now ≡ (view (network_of p) (shown (state_of self.now)) chan).offered }
+        ensures { (p : Plan) →
+            IsNetworkOf p (state_of self.now) →
+            chan < length p.channels →
+            result.now ≡ (view (network_of p) (shown (state_of self.now)) chan).offered }
     {
         match self.source(chan) {
             Some(node) => node.offered(chan),
@@ -571,7 +673,10 @@ impl Network {
 
     /// The messages taken on a channel, the first one first.
     pub fn taken(&self, chan: u16) -> &[Bytes]
-        ensures { (p : Plan) → IsNetworkOf p (state_of self.now) → chan < length p.channels → result.now ≡ (view (network_of p) (shown (state_of self.now)) chan).taken }
+        ensures { (p : Plan) →
+            IsNetworkOf p (state_of self.now) →
+            chan < length p.channels →
+            result.now ≡ (view (network_of p) (shown (state_of self.now)) chan).taken }
     {
         match self.sink(chan) {
             Some(node) => node.taken(chan),
@@ -581,7 +686,10 @@ impl Network {
 
     /// How many outputs on a channel are finished.
     pub fn finished(&self, chan: u16) -> u64
-        ensures { (p : Plan) → IsNetworkOf p (state_of self.now) → chan < length p.channels → result ≡ (view (network_of p) (shown (state_of self.now)) chan).finished }
+        ensures { (p : Plan) →
+            IsNetworkOf p (state_of self.now) →
+            chan < length p.channels →
+            result ≡ (view (network_of p) (shown (state_of self.now)) chan).finished }
     {
         match self.source(chan) {
             Some(node) => node.finished(chan),
@@ -591,7 +699,10 @@ impl Network {
 
     /// Whether a channel was stopped.
     pub fn stopped(&self, chan: u16) -> bool
-        ensures { (p : Plan) → IsNetworkOf p (state_of self.now) → chan < length p.channels → result ≡ (view (network_of p) (shown (state_of self.now)) chan).stopped }
+        ensures { (p : Plan) →
+            IsNetworkOf p (state_of self.now) →
+            chan < length p.channels →
+            result ≡ (view (network_of p) (shown (state_of self.now)) chan).stopped }
     {
         match self.sink(chan) {
             Some(node) => node.stopped(chan),
@@ -603,8 +714,13 @@ impl Network {
     /// exactly where an output on it is not finished, and has only that one; a channel inside a node never has one. It takes no
     /// memory. Whose a packet is, the tables tell by which it goes.
     pub fn place(&self, chan: u16) -> Option<Place>
-        ensures finds { (p : Plan) (events : List Happening) → Reached p events (state_of self.now) → FindsPlace p (state_of self.now) chan result }
-        ensures unfinished { (p : Plan) (events : List Happening) → Replays p events (state_of self.now) → chan < length p.channels → IsSome result ↔ IsUnfinished p (state_of self.now) chan }
+        ensures finds { (p : Plan) (events : List Happening) →
+            Reached p events (state_of self.now) →
+            FindsPlace p (state_of self.now) chan result }
+        ensures unfinished { (p : Plan) (events : List Happening) →
+            Replays p events (state_of self.now) →
+            chan < length p.channels →
+            IsSome result ↔ IsUnfinished p (state_of self.now) chan }
     {
         let ends = self.ends(chan)?;
         self.place_by(chan, &ends)
@@ -612,7 +728,9 @@ impl Network {
 
     // The ends of the virtual link that a channel is on.
     fn ends(&self, chan: u16) -> Option<Ends>
-        ensures { (p : Plan) → IsNetworkOf p (state_of self.now) → result ≡ ends_at (network_of p) (home (network_of p) chan) }
+        ensures { (p : Plan) →
+            IsNetworkOf p (state_of self.now) →
+            result ≡ ends_at (network_of p) (home (network_of p) chan) }
     {
         match at(self.channels.as_slice(), usize::from(chan)) {
             Some(channel) => channel.ends,
@@ -622,7 +740,11 @@ impl Network {
 
     // Where a packet of the channel with these ends stands: held, or at one of the ways.
     fn place_by(&self, chan: u16, ends: &Ends) -> Option<Place>
-        ensures { (p : Plan) → IsNetworkOf p (state_of self.now) → AreOwned (network_of p) (shown (state_of self.now)) → ends_at (network_of p) (home (network_of p) chan) ≡ Some ends.now → FindsPlace p (state_of self.now) chan result }
+        ensures { (p : Plan) →
+            IsNetworkOf p (state_of self.now) →
+            AreOwned (network_of p) (shown (state_of self.now)) →
+            ends_at (network_of p) (home (network_of p) chan) ≡ Some ends.now →
+            FindsPlace p (state_of self.now) chan result }
     {
         let node = ends.to.node;
         if self.holds(node, chan) {
@@ -638,7 +760,8 @@ impl Network {
 
     // Whether a node holds a piece on a channel.
     fn holds(&self, node: u8, chan: u16) -> bool
-        ensures { IsTrue result ↔ ((vcps (shown (state_of self.now)) node).carrier.into chan).held ≢ None }
+        ensures { IsTrue result ↔
+            ((vcps (shown (state_of self.now)) node).carrier.into chan).held ≢ None }
     {
         match self.node(node) {
             Some(node) => node.holds(chan),
@@ -659,7 +782,9 @@ impl Network {
     /// How many packets and tokens the nodes dropped: none, after any events from the opening state on.
     pub fn strays(&self) -> u64
         ensures counts { result ≡ saturated (sum_by strays_of (state_of self.now).actors) }
-        ensures none { (p : Plan) (events : List Happening) → Replays p events (state_of self.now) → result ≡ 0 }
+        ensures none { (p : Plan) (events : List Happening) →
+            Replays p events (state_of self.now) →
+            result ≡ 0 }
     {
         let mut all = 0u64;
         for actor in &self.actors {
@@ -671,7 +796,9 @@ impl Network {
     /// How many packets and tokens the switches dropped: none, after any events from the opening state on.
     pub fn lost(&self) -> u64
         ensures counts { result ≡ saturated (sum_by lost_of (state_of self.now).actors) }
-        ensures none { (p : Plan) (events : List Happening) → Replays p events (state_of self.now) → result ≡ 0 }
+        ensures none { (p : Plan) (events : List Happening) →
+            Replays p events (state_of self.now) →
+            result ≡ 0 }
     {
         let mut all = 0u64;
         for actor in &self.actors {
@@ -682,7 +809,13 @@ impl Network {
 
     // The node that outputs on a channel.
     fn source(&self, chan: u16) -> Option<&Node>
-        ensures { (p : Plan) → IsNetworkOf p (state_of self.now) → chan < length p.channels → node_at (slice_get self.now.actors.items (source_node (network_of p) (home (network_of p) chan))) ≡ option_copied result }
+        ensures { (p : Plan) →
+            IsNetworkOf p (state_of self.now) →
+            chan < length p.channels →
+            node_at
+            (slice_get self.now.actors.items
+            (source_node (network_of p) (home (network_of p) chan))) ≡
+            option_copied result }
     {
         match at(self.channels.as_slice(), usize::from(chan)) {
             Some(channel) => match at(self.actors.as_slice(), channel.source) {
@@ -695,7 +828,13 @@ impl Network {
 
     // The node that inputs on a channel.
     fn sink(&self, chan: u16) -> Option<&Node>
-        ensures { (p : Plan) → IsNetworkOf p (state_of self.now) → chan < length p.channels → node_at (slice_get self.now.actors.items (sink_node (network_of p) (home (network_of p) chan))) ≡ option_copied result }
+        ensures { (p : Plan) →
+            IsNetworkOf p (state_of self.now) →
+            chan < length p.channels →
+            node_at
+            (slice_get self.now.actors.items
+            (sink_node (network_of p) (home (network_of p) chan))) ≡
+            option_copied result }
     {
         match at(self.channels.as_slice(), usize::from(chan)) {
             Some(channel) => match at(self.actors.as_slice(), channel.sink) {

@@ -29,7 +29,10 @@ impl Reader {
     /// A reader of a way in search of a packet of the channel with these ends, which begins within a packet, of which these bytes
     /// have come.
     pub(crate) fn new(way: usize, ends: Ends, passed: &[u8]) -> Reader
-        ensures { (p : Plan) (c : ℕ) → way < ways (network_of p) → ends_at (network_of p) (home (network_of p) c) ≡ Some ends → HasRead p c way [] passed.now result }
+        ensures { (p : Plan) (c : ℕ) →
+            way < ways (network_of p) →
+            ends_at (network_of p) (home (network_of p) c) ≡ Some ends →
+            HasRead p c way [] passed.now result }
     {
         Reader {
             way,
@@ -41,7 +44,11 @@ impl Reader {
 
     /// The same, when these tokens have been read as well.
     pub(crate) fn through(self, network: &Network, tokens: &[Token]) -> Reader
-        ensures { (p : Plan) (c w : ℕ) (ps : List Packet) (got : List ℕ) → IsNetworkOf p (state_of network.now) → HasRead p c w ps got self → HasRead p c w (ps ++ read got (all_spelt tokens.now)) (left got (all_spelt tokens.now)) result }
+        ensures { (p : Plan) (c w : ℕ) (ps : List Packet) (got : List ℕ) →
+            IsNetworkOf p (state_of network.now) →
+            HasRead p c w ps got self →
+            HasRead p c w (ps ++ read got (all_spelt tokens.now)) (left got (all_spelt tokens.now))
+            result }
     {
         let mut reader = self;
         for token in tokens {
@@ -59,7 +66,11 @@ impl Reader {
 
     // The same, when one token more has been read.
     fn with(self, network: &Network, token: &Token) -> Reader
-        ensures { (p : Plan) (c w : ℕ) (ps : List Packet) (got : List ℕ) → IsNetworkOf p (state_of network.now) → HasRead p c w ps got self → HasRead p c w (ps ++ read got (spelt token.now ∷ [])) (left got (spelt token.now ∷ [])) result }
+        ensures { (p : Plan) (c w : ℕ) (ps : List Packet) (got : List ℕ) →
+            IsNetworkOf p (state_of network.now) →
+            HasRead p c w ps got self →
+            HasRead p c w (ps ++ read got (spelt token.now ∷ [])) (left got (spelt token.now ∷ []))
+            result }
     {
         match *token {
             Token::Byte(byte) => Reader {
@@ -76,7 +87,10 @@ impl Reader {
 
     // The same, when the packet that comes has ended with this mark.
     fn ended(self, network: &Network, mark: Mark) -> Reader
-        ensures { (p : Plan) (c w : ℕ) (ps : List Packet) (got : List ℕ) → IsNetworkOf p (state_of network.now) → HasRead p c w ps got self → HasRead p c w (ps ++ record { body = got; mark = mark } ∷ []) [] result }
+        ensures { (p : Plan) (c w : ℕ) (ps : List Packet) (got : List ℕ) →
+            IsNetworkOf p (state_of network.now) →
+            HasRead p c w ps got self →
+            HasRead p c w (ps ++ record { body = got; mark = mark } ∷ []) [] result }
     {
         let found = self.found || network.is_its(self.way, self.coming.bytes(), mark, &self.ends);
         Reader {

@@ -30,7 +30,12 @@ use vc_tokens::Token;
 impl Network {
     /// Where at a way a packet of the channel with these ends stands.
     pub(crate) fn place_on(&self, way: usize, ends: &Ends) -> Option<Place>
-        ensures { (p : Plan) (c : ℕ) → IsNetworkOf p (state_of self.now) → AreOwned (network_of p) (shown (state_of self.now)) → ends_at (network_of p) (home (network_of p) c) ≡ Some ends.now → way < length self.now.lines.ways → FindsOn (network_of p) (shown (state_of self.now)) c way result }
+        ensures { (p : Plan) (c : ℕ) →
+            IsNetworkOf p (state_of self.now) →
+            AreOwned (network_of p) (shown (state_of self.now)) →
+            ends_at (network_of p) (home (network_of p) c) ≡ Some ends.now →
+            way < length self.now.lines.ways →
+            FindsOn (network_of p) (shown (state_of self.now)) c way result }
     {
         let wire = at(self.wires.as_slice(), way / 2)?;
         let from_one = way % 2 == 0;
@@ -46,7 +51,13 @@ impl Network {
 
     // Where one stands that is on the way, or in the buffer at its far end.
     fn place_along(&self, way: usize, far: Port, ends: &Ends) -> Option<Place>
-        ensures { (p : Plan) (c : ℕ) → IsNetworkOf p (state_of self.now) → AreOwned (network_of p) (shown (state_of self.now)) → ends_at (network_of p) (home (network_of p) c) ≡ Some ends.now → way < length self.now.lines.ways → far_port (network_of p) way ≡ named_port far → FindsAt (network_of p) (shown (state_of self.now)) c (places.OnWire way) result }
+        ensures { (p : Plan) (c : ℕ) →
+            IsNetworkOf p (state_of self.now) →
+            AreOwned (network_of p) (shown (state_of self.now)) →
+            ends_at (network_of p) (home (network_of p) c) ≡ Some ends.now →
+            way < length self.now.lines.ways →
+            far_port (network_of p) way ≡ named_port far →
+            FindsAt (network_of p) (shown (state_of self.now)) c (places.OnWire way) result }
     {
         let Ok(number) = u16::try_from(way / 2) else {
             return None;
@@ -60,7 +71,14 @@ impl Network {
 
     // Whether one is on the way, or in the buffer at its far end.
     fn carries(&self, way: usize, far: Port, ends: &Ends) -> bool
-        ensures { (p : Plan) (c : ℕ) → IsNetworkOf p (state_of self.now) → AreOwned (network_of p) (shown (state_of self.now)) → ends_at (network_of p) (home (network_of p) c) ≡ Some ends.now → way < length self.now.lines.ways → far_port (network_of p) way ≡ named_port far → IsTrue result ↔ HasIts (network_of p) (shown (state_of self.now)) c (places.OnWire way) }
+        ensures { (p : Plan) (c : ℕ) →
+            IsNetworkOf p (state_of self.now) →
+            AreOwned (network_of p) (shown (state_of self.now)) →
+            ends_at (network_of p) (home (network_of p) c) ≡ Some ends.now →
+            way < length self.now.lines.ways →
+            far_port (network_of p) way ≡ named_port far →
+            IsTrue result ↔
+            HasIts (network_of p) (shown (state_of self.now)) c (places.OnWire way) }
     {
         let (first, second) = self.tokens_at(far);
         let reader = Reader::new(way, *ends, self.passed_at(far))
@@ -80,7 +98,12 @@ impl Network {
 
     // The tokens that wait in the buffer at a port.
     fn tokens_at(&self, port: Port) -> (&[Token], &[Token])
-        ensures { (p : Plan) → IsNetworkOf p (state_of self.now) → tokens (result.0.now ++ result.1.now) ≡ (arrived (vcps (shown (state_of self.now))) (switches (network_of p) (shown (state_of self.now))) (named_port port)).buffer }
+        ensures { (p : Plan) →
+            IsNetworkOf p (state_of self.now) →
+            tokens (result.0.now ++ result.1.now) ≡
+            (arrived (vcps (shown (state_of self.now)))
+            (switches (network_of p) (shown (state_of self.now)))
+            (named_port port)).buffer }
     {
         match port.spot {
             Spot::Node(number) => match self.node(number) {
@@ -96,7 +119,15 @@ impl Network {
 
     // The bytes that have passed at a port of a packet whose mark has not.
     fn passed_at(&self, port: Port) -> &[u8]
-        ensures { (p : Plan) → IsNetworkOf p (state_of self.now) → result.now ≡ passed_on (net_of (network_of p)) (named_port port) (arrived (vcps (shown (state_of self.now))) (switches (network_of p) (shown (state_of self.now))) (named_port port)).got (arrived (vcps (shown (state_of self.now))) (switches (network_of p) (shown (state_of self.now))) (named_port port)).mark }
+        ensures { (p : Plan) →
+            IsNetworkOf p (state_of self.now) →
+            result.now ≡
+            passed_on (net_of (network_of p)) (named_port port)
+            (arrived (vcps (shown (state_of self.now)))
+            (switches (network_of p) (shown (state_of self.now))) (named_port port)).got
+            (arrived (vcps (shown (state_of self.now)))
+            (switches (network_of p) (shown (state_of self.now)))
+            (named_port port)).mark }
     {
         match port.spot {
             Spot::Node(number) => match self.node(number) {
@@ -112,7 +143,13 @@ impl Network {
 
     // Where one stands that is whole in the switch at a port.
     fn place_inside(&self, far: Port, ends: &Ends) -> Option<Place>
-        ensures { (p : Plan) (c way : ℕ) → IsNetworkOf p (state_of self.now) → AreOwned (network_of p) (shown (state_of self.now)) → ends_at (network_of p) (home (network_of p) c) ≡ Some ends.now → way < length self.now.lines.ways → far_port (network_of p) way ≡ named_port far → FindsAt (network_of p) (shown (state_of self.now)) c (places.Inside way) result }
+        ensures { (p : Plan) (c way : ℕ) →
+            IsNetworkOf p (state_of self.now) →
+            AreOwned (network_of p) (shown (state_of self.now)) →
+            ends_at (network_of p) (home (network_of p) c) ≡ Some ends.now →
+            way < length self.now.lines.ways →
+            far_port (network_of p) way ≡ named_port far →
+            FindsAt (network_of p) (shown (state_of self.now)) c (places.Inside way) result }
     {
         match far.spot {
             Spot::Switch(number) if self.has_whole(number, far.link, ends) => {
@@ -124,7 +161,14 @@ impl Network {
 
     // Whether one is whole at an input of a switch.
     fn has_whole(&self, number: u8, link: u8, ends: &Ends) -> bool
-        ensures { (p : Plan) (c way : ℕ) → IsNetworkOf p (state_of self.now) → AreOwned (network_of p) (shown (state_of self.now)) → ends_at (network_of p) (home (network_of p) c) ≡ Some ends.now → way < length self.now.lines.ways → far_port (network_of p) way ≡ AtSwitch number link → IsTrue result ↔ HasIts (network_of p) (shown (state_of self.now)) c (places.Inside way) }
+        ensures { (p : Plan) (c way : ℕ) →
+            IsNetworkOf p (state_of self.now) →
+            AreOwned (network_of p) (shown (state_of self.now)) →
+            ends_at (network_of p) (home (network_of p) c) ≡ Some ends.now →
+            way < length self.now.lines.ways →
+            far_port (network_of p) way ≡ AtSwitch number link →
+            IsTrue result ↔
+            HasIts (network_of p) (shown (state_of self.now)) c (places.Inside way) }
     {
         let Some(switch) = self.switch(number) else {
             return false;
@@ -137,7 +181,13 @@ impl Network {
 
     // Where one stands that waits to go by the way, in the queue at a port.
     fn place_before(&self, way: usize, near: Port, ends: &Ends) -> Option<Place>
-        ensures { (p : Plan) (c : ℕ) → IsNetworkOf p (state_of self.now) → AreOwned (network_of p) (shown (state_of self.now)) → ends_at (network_of p) (home (network_of p) c) ≡ Some ends.now → way < length self.now.lines.ways → near_port (network_of p) way ≡ named_port near → FindsAt (network_of p) (shown (state_of self.now)) c (places.Queue way) result }
+        ensures { (p : Plan) (c : ℕ) →
+            IsNetworkOf p (state_of self.now) →
+            AreOwned (network_of p) (shown (state_of self.now)) →
+            ends_at (network_of p) (home (network_of p) c) ≡ Some ends.now →
+            way < length self.now.lines.ways →
+            near_port (network_of p) way ≡ named_port near →
+            FindsAt (network_of p) (shown (state_of self.now)) c (places.Queue way) result }
     {
         match near.spot {
             Spot::Node(number) if self.queues(number, near.link, way, ends) => {
@@ -149,7 +199,16 @@ impl Network {
 
     // Whether one waits in the queue of a node's link to go by the way.
     fn queues(&self, number: u8, link: u8, way: usize, ends: &Ends) -> bool
-        ensures { (p : Plan) (c : ℕ) → IsNetworkOf p (state_of self.now) → way < ways (network_of p) → ends_at (network_of p) (home (network_of p) c) ≡ Some ends.now → ((q : Packet) → Contains ((vcps (shown (state_of self.now)) number).carrier.queue link) q → IsOwned (network_of p) (places.OnWire way, q)) → IsTrue result ↔ Has (λ q. IsOf (net_of (network_of p)) way None q c) ((vcps (shown (state_of self.now)) number).carrier.queue link) }
+        ensures { (p : Plan) (c : ℕ) →
+            IsNetworkOf p (state_of self.now) →
+            way < ways (network_of p) →
+            ends_at (network_of p) (home (network_of p) c) ≡ Some ends.now →
+            ((q : Packet) →
+            Contains ((vcps (shown (state_of self.now)) number).carrier.queue link) q →
+            IsOwned (network_of p) (places.OnWire way, q)) →
+            IsTrue result ↔
+            Has (λ q. IsOf (net_of (network_of p)) way None q c)
+            ((vcps (shown (state_of self.now)) number).carrier.queue link) }
     {
         let Some(node) = self.node(number) else {
             return false;
@@ -161,7 +220,11 @@ impl Network {
 
 // The bytes that have passed at an input of a packet whose mark has not, without the random header.
 fn passed_into(switch: &Switch, link: u8) -> &[u8]
-    ensures { (net : Net) (k : ℕ) → plan_of switch.now ≡ net.switch k → result.now ≡ passed_on net (AtSwitch k link) ((seen switch.now).input link).got ((seen switch.now).input link).mark }
+    ensures { (net : Net) (k : ℕ) →
+        plan_of switch.now ≡ net.switch k →
+        result.now ≡
+        passed_on net (AtSwitch k link) ((seen switch.now).input link).got
+        ((seen switch.now).input link).mark }
 {
     if switch.mark(link).is_some() {
         return &[];

@@ -56,7 +56,8 @@ impl Way {
     /// The front token is taken off, if there is one.
     #[inline(always)]
     pub(crate) fn take(&mut self) -> Option<Token>
-        ensures { MatchOption result ((self.old ≡ []) × (self.new ≡ [])) (λ k. self.old ≡ token k ∷ self.new) }
+        ensures { MatchOption result ((self.old ≡ []) × (self.new ≡ []))
+            (λ k. self.old ≡ token k ∷ self.new) }
     {
         self.queue.pop_front()
     }

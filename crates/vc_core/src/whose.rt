@@ -41,7 +41,12 @@ type Headed = ArrayVec<u8, 108>;
 impl Network {
     /// Whether one of these packets, which go by a way, is of the channel with these ends.
     pub(crate) fn has_its(&self, way: usize, packets: &[Packet], ends: &Ends) -> bool
-        ensures { (p : Plan) (c : ℕ) → IsNetworkOf p (state_of self.now) → way < ways (network_of p) → ends_at (network_of p) (home (network_of p) c) ≡ Some ends.now → ((q : Made) → Contains packets.now q → IsOwned (network_of p) (OnWire way, q)) → IsTrue result ↔ Has (λ q. IsOf (net_of (network_of p)) way None q c) packets.now }
+        ensures { (p : Plan) (c : ℕ) →
+            IsNetworkOf p (state_of self.now) →
+            way < ways (network_of p) →
+            ends_at (network_of p) (home (network_of p) c) ≡ Some ends.now →
+            ((q : Made) → Contains packets.now q → IsOwned (network_of p) (OnWire way, q)) →
+            IsTrue result ↔ Has (λ q. IsOf (net_of (network_of p)) way None q c) packets.now }
     {
         for packet in packets {
             if self.is_its(way, packet.body.as_slice(), packet.mark, ends) {
@@ -53,14 +58,27 @@ impl Network {
 
     /// Whether a packet with this body and mark, which goes by a way, is of the channel with these ends.
     pub(crate) fn is_its(&self, way: usize, body: &[u8], mark: Mark, ends: &Ends) -> bool
-        ensures { (p : Plan) (c : ℕ) → IsNetworkOf p (state_of self.now) → way < ways (network_of p) → ends_at (network_of p) (home (network_of p) c) ≡ Some ends.now → IsOwned (network_of p) (OnWire way, record { body = body.now; mark = mark }) → IsTrue result ↔ IsOf (net_of (network_of p)) way None (record { body = body.now; mark = mark }) c }
+        ensures { (p : Plan) (c : ℕ) →
+            IsNetworkOf p (state_of self.now) →
+            way < ways (network_of p) →
+            ends_at (network_of p) (home (network_of p) c) ≡ Some ends.now →
+            IsOwned (network_of p) (OnWire way, record { body = body.now; mark = mark }) →
+            IsTrue result ↔
+            IsOf (net_of (network_of p)) way None (record { body = body.now; mark = mark }) c }
     {
         body.len() <= LONGEST && self.leads(way, body, mark, ends, HOPS)
     }
 
     /// Whether a packet with this body and mark, which is whole at an input of a switch, is of the channel with these ends.
     pub(crate) fn is_its_inside(&self, switch: u8, body: &[u8], mark: Mark, ends: &Ends) -> bool
-        ensures { (p : Plan) (c w link : ℕ) → IsNetworkOf p (state_of self.now) → ends_at (network_of p) (home (network_of p) c) ≡ Some ends.now → far (network_of p) w ≡ AtSwitch switch link → IsOwned (network_of p) (Inside w, record { body = body.now; mark = mark }) → IsTrue result ↔ BelongsTo (net_of (network_of p)) c (Inside w, record { body = body.now; mark = mark }) }
+        ensures { (p : Plan) (c w link : ℕ) →
+            IsNetworkOf p (state_of self.now) →
+            ends_at (network_of p) (home (network_of p) c) ≡ Some ends.now →
+            far (network_of p) w ≡ AtSwitch switch link →
+            IsOwned (network_of p) (Inside w, record { body = body.now; mark = mark }) →
+            IsTrue result ↔
+            BelongsTo (net_of (network_of p)) c
+            (Inside w, record { body = body.now; mark = mark }) }
     {
         if body.len() > LONGEST {
             return false;
@@ -77,7 +95,11 @@ impl Network {
     // Whether a body on a way, with this mark behind it, is sought at the end to which its headers lead it in so many hops.
     fn leads(&self, way: usize, body: &[u8], mark: Mark, ends: &Ends, hops: u8) -> bool
         requires { length body.now + 2 * hops ≤ 108 }
-        ensures { (p : Plan) (e : End) (load : List ℕ) → IsNetworkOf p (state_of self.now) → way < ways (network_of p) → ComesTo (net_of (network_of p)) hops way body.now e load → IsTrue result ↔ IsSoughtAt ends.now e load mark }
+        ensures { (p : Plan) (e : End) (load : List ℕ) →
+            IsNetworkOf p (state_of self.now) →
+            way < ways (network_of p) →
+            ComesTo (net_of (network_of p)) hops way body.now e load →
+            IsTrue result ↔ IsSoughtAt ends.now e load mark }
     {
         let Some(wire) = at(self.wires.as_slice(), way / 2) else {
             return false;
@@ -104,7 +126,9 @@ impl Network {
 
     // The least header that an input of a switch puts in front of a packet, if it has a range.
     fn least_header(&self, switch: u8, link: u8) -> Option<u16>
-        ensures { (p : Plan) → IsNetworkOf p (state_of self.now) → IsDrawn ((switch_plan (network_of p) switch).random link) result }
+        ensures { (p : Plan) →
+            IsNetworkOf p (state_of self.now) →
+            IsDrawn ((switch_plan (network_of p) switch).random link) result }
     {
         match self.switch(switch) {
             Some(switch) => switch.least_header(link),
@@ -116,7 +140,14 @@ impl Network {
     // it may leave by none.
     fn way_on(&self, switch: u8, body: &[u8]) -> Option<(usize, usize)>
         ensures within { IfSome result (λ way. way.1 ≤ length body.now) }
-        ensures leaves { (p : Plan) → IsNetworkOf p (state_of self.now) → MatchOption result ((out : ℕ) (left : List ℕ) → BodyLeaves (net_of (network_of p)) switch body.now out left → ⊥) (λ way. BodyLeaves (net_of (network_of p)) switch body.now way.0 (drop way.1 body.now)) }
+        ensures leaves { (p : Plan) →
+            IsNetworkOf p (state_of self.now) →
+            MatchOption result
+            ((out : ℕ) (left : List ℕ) →
+            BodyLeaves (net_of (network_of p)) switch body.now out left → ⊥)
+            (λ way.
+            BodyLeaves (net_of (network_of p)) switch body.now way.0
+            (drop way.1 body.now)) }
     {
         let (link, from) = self.switch(switch)?.first_way(body)?;
         Some((self.way_out(switch, link)?, from))
@@ -124,7 +155,9 @@ impl Network {
 
     // The way that goes out by a link of a switch, if the link is on a wire.
     fn way_out(&self, switch: u8, link: u8) -> Option<usize>
-        ensures { (p : Plan) → IsNetworkOf p (state_of self.now) → result ≡ out_at self.now.lines.wiring (self.now.nodes + switch) link }
+        ensures { (p : Plan) →
+            IsNetworkOf p (state_of self.now) →
+            result ≡ out_at self.now.lines.wiring (self.now.nodes + switch) link }
     {
         match self.nodes.checked_add(switch) {
             Some(actor) => self.lines.outgoing(actor, link),
@@ -134,7 +167,8 @@ impl Network {
 
     /// The switch of this number, if there is one.
     pub(crate) fn switch(&self, number: u8) -> Option<&Switch>
-        ensures { switch_at (slice_get self.now.actors.items (self.now.nodes + number)) ≡ option_copied result }
+        ensures { switch_at (slice_get self.now.actors.items (self.now.nodes + number)) ≡
+            option_copied result }
     {
         match at(
             self.actors.as_slice(),

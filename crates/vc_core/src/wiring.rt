@@ -44,8 +44,14 @@ impl Wiring {
     pub(crate) fn new(alloc: Global, plan: &Plan) -> Result<Wiring, Memory>
         requires { IsAccepted plan.now }
         ensures tells { IfOk result (λ wiring. AreWaysAt plan.now wiring) }
-        ensures long { IfOk result (λ wiring. length wiring ≡ (length plan.now.nodes + length plan.now.switches) * 32) }
-        ensures one { IfOk result (λ wiring. (k l j i way : ℕ) → in_at wiring k l ≡ Some way → in_at wiring j i ≡ Some way → (j ≡ k) × (i ≡ l)) }
+        ensures long { IfOk result
+            (λ wiring. length wiring ≡ (length plan.now.nodes + length plan.now.switches) * 32) }
+        ensures one { IfOk result
+            (λ wiring.
+            (k l j i way : ℕ) →
+            in_at wiring k l ≡ Some way →
+            in_at wiring j i ≡ Some way →
+            (j ≡ k) × (i ≡ l)) }
     {
         let out = ways_out(alloc, plan)?;
         let rooms = rooms_of(alloc, out.as_slice())?;
@@ -65,7 +71,9 @@ impl Wiring {
 
     /// The port to which a way leads.
     pub(crate) fn end(&self, way: usize) -> Option<End>
-        ensures { (actor link : ℕ) → (in_at self.now actor link ≡ Some way) ↔ (result ≡ Some (record { actor = actor; link = link })) }
+        ensures { (actor link : ℕ) →
+            (in_at self.now actor link ≡ Some way) ↔
+            (result ≡ Some (record { actor = actor; link = link })) }
     {
         match at(self.ends.as_slice(), way) {
             Some(end) => Some(*end),

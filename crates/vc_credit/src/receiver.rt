@@ -71,7 +71,8 @@ impl Receiver {
 
     /// The token that came first of those that wait, which stays.
     pub fn front(&self) -> Option<Token>
-        ensures { MatchOption result (self.now.buffer ≡ []) (λ front. IsFront self.now (token front)) }
+        ensures { MatchOption result (self.now.buffer ≡ [])
+            (λ front. IsFront self.now (token front)) }
     {
         self.buffer.front().copied()
     }
@@ -85,7 +86,8 @@ impl Receiver {
 
     /// The token that came first of those that wait, which passes on.
     pub fn pop(&mut self) -> Option<Token>
-        ensures { MatchOption result ((self.old.buffer ≡ []) × (self.new ≡ self.old)) (λ front. Passes self.old (token front) self.new) }
+        ensures { MatchOption result ((self.old.buffer ≡ []) × (self.new ≡ self.old))
+            (λ front. Passes self.old (token front) self.new) }
     {
         self.buffer.pop_front()
     }

@@ -43,7 +43,8 @@ pub fn find_action(rows: &[Row], header: u16) -> Option<Action>
 /// The place of the first row whose limit is above the header, by halving.
 fn place_of(rows: &[Row], header: u16) -> usize
     requires { IsLawful rows.now }
-    ensures { IsPartitionPoint (λ row. nat_le row.limit header ≡ true) (λ row. nat_le row.limit header ≡ false) rows.now result }
+    ensures { IsPartitionPoint (λ row. nat_le row.limit header ≡ true)
+        (λ row. nat_le row.limit header ≡ false) rows.now result }
 {
     rows.partition_point(|row| row.limit <= u32::from(header))
 }
@@ -100,7 +101,8 @@ impl Table {
     /// The action of the one row that holds the header, if there is such a row.
     pub fn find(&self, header: u16) -> Option<Action>
         ensures action { result ≡ action_for self.now header }
-        ensures one { MatchOption result (NoRowHolds self.now header) (λ action. IsOnlyAction self.now header action) }
+        ensures one { MatchOption result (NoRowHolds self.now header)
+            (λ action. IsOnlyAction self.now header action) }
     {
         find_by_halving(self.rows.as_slice(), header)
     }

@@ -17,7 +17,8 @@ pub(crate) struct Entry {
 impl Entry {
     /// The event, of which these are the next words and moves.
     pub(crate) fn event(&self, words: &[u32], moves: &[Move]) -> Event
-        ensures { result ≡ record { actor = self.now.actor; act = act_of self.now.brief words.now moves.now } }
+        ensures { result ≡
+            record { actor = self.now.actor; act = act_of self.now.brief words.now moves.now } }
     {
         Event {
             actor: self.actor,

@@ -82,7 +82,8 @@ impl EventLog {
     fn enter(&mut self, actor: u8, brief: Brief) -> Result<(), AllocError>
         requires words { words_of brief ≡ 0 }
         requires moves { moves_of brief ≡ 0 }
-        ensures ok { OnOk result (self.new ≡ self.old ++ record { actor = actor; act = act_of brief [] [] } ∷ []) }
+        ensures ok { OnOk result
+            (self.new ≡ self.old ++ record { actor = actor; act = act_of brief [] [] } ∷ []) }
         ensures err { OnErr result (self.new ≡ self.old) }
     {
         self.entries.push(Entry { actor, brief })?;
@@ -92,7 +93,8 @@ impl EventLog {
     // A take, with its word.
     #[inline(always)]
     fn enter_take(&mut self, actor: u8, link: u8, word: u32) -> Result<(), AllocError>
-        ensures ok { OnOk result (self.new ≡ self.old ++ record { actor = actor; act = Take link word } ∷ []) }
+        ensures ok { OnOk result
+            (self.new ≡ self.old ++ record { actor = actor; act = Take link word } ∷ []) }
         ensures err { OnErr result (self.new ≡ self.old) }
     {
         self.words.push(word)?;
@@ -106,7 +108,8 @@ impl EventLog {
 
     // A move that communicates.
     fn enter_move(&mut self, actor: u8, made: Move) -> Result<(), AllocError>
-        ensures ok { OnOk result (self.new ≡ self.old ++ record { actor = actor; act = Proc made } ∷ []) }
+        ensures ok { OnOk result
+            (self.new ≡ self.old ++ record { actor = actor; act = Proc made } ∷ []) }
         ensures err { OnErr result (self.new ≡ self.old) }
     {
         self.moves.push(made)?;

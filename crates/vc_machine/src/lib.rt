@@ -25,25 +25,38 @@ ghost use Rattle.vc_machine.specs.Still.{StillIsClear};
 /// taken; and while an output is unfinished exactly one of its packets is in exactly one place. Nothing is dropped.
 #[tactic(auto, using(crate::proofs::Main::headline))]
 pub fn first_in_first_out_over_packets()
-    ensures { (net : Net) (es : List Event) (s : State) → IsAccepted net → Run net start es s → Headline net es s }
+    ensures { (net : Net) (es : List Event) (s : State) →
+        IsAccepted net →
+        Run net start es s →
+        Headline net es s }
 {}
 
 /// On an accepted network an event leads from a state to one state only.
 #[tactic(auto, using(crate::proofs::OneStep::step_same))]
 pub fn a_packet_event_leads_to_one_state()
-    ensures { (net : Net) (s : State) (e : Event) (t u : State) → IsAccepted net → Step net s e t → Step net s e u → t ≡ u }
+    ensures { (net : Net) (s : State) (e : Event) (t u : State) →
+        IsAccepted net →
+        Step net s e t →
+        Step net s e u →
+        t ≡ u }
 {}
 
 /// A network with a switch, a random range and a portal is accepted, and a message goes over it and is acknowledged.
 #[tactic(auto, using(crate::proofs::ExampleHolds::accepted, crate::proofs::ExampleHolds::exchanged))]
 pub fn an_exchange_of_packets()
     ensures accepted { IsAccepted example }
-    ensures runs { (s : State) × Run example start exchange s × ((s.chans 0).taken ≡ (104 ∷ 105 ∷ []) ∷ []) × ((s.chans 0).finished ≡ 1) }
+    ensures runs { (s : State) ×
+        Run example start exchange s ×
+        ((s.chans 0).taken ≡ (104 ∷ 105 ∷ []) ∷ []) ×
+        ((s.chans 0).finished ≡ 1) }
 {}
 
 /// Tokens stand for one state of the packet machine only.
 pub fn tokens_stand_for_one_state()
-    ensures { (net : Net) (t : Tokens) (s v : State) → TokenView net t s → TokenView net t v → s ≡ v }
+    ensures { (net : Net) (t : Tokens) (s v : State) →
+        TokenView net t s →
+        TokenView net t v →
+        s ≡ v }
 {}
 
 /// The state that tokens stand for, as a function of them.
@@ -54,18 +67,24 @@ pub fn the_state_is_seen()
 /// Where each random range has a value, each step of the token machine from tokens with each output bound to one input is no step, one
 /// step, or Enter and then Route of the packet machine, whichever the waiting rule.
 pub fn each_token_step_is_at_most_two()
-    ensures { (net : Net) (back : ℕ → ℕ) (waiting : Waiting) → Ranges net → StepsAreSteps net back waiting }
+    ensures { (net : Net) (back : ℕ → ℕ) (waiting : Waiting) →
+        Ranges net →
+        StepsAreSteps net back waiting }
 {}
 
 /// Where each random range has a value, each run of the token machine stands for a run of the packet machine, of at most twice its events.
 #[tactic(auto, using(crate::proofs::Refinement::runs_are_runs))]
 pub fn each_token_run_is_a_run()
-    ensures { (net : Net) (back : ℕ → ℕ) (waiting : Waiting) → Ranges net → RunsAreRuns net back waiting }
+    ensures { (net : Net) (back : ℕ → ℕ) (waiting : Waiting) →
+        Ranges net →
+        RunsAreRuns net back waiting }
 {}
 
 /// Where each way is one direction of a wire, no buffer overflows, and no FCT finds a credit above 8.
 pub fn buffers_hold()
-    ensures { (net : Net) (back : ℕ → ℕ) (waiting : Waiting) → Wires net back → BuffersHold net back waiting }
+    ensures { (net : Net) (back : ℕ → ℕ) (waiting : Waiting) →
+        Wires net back →
+        BuffersHold net back waiting }
 {}
 
 /// On an accepted plan no packet grows past the limit, and where there is credit and a token to put, it can be put.
@@ -82,8 +101,13 @@ pub fn first_in_first_out_over_tokens()
 /// On an accepted network an event leads from tokens, with each output bound to one input, to one state only.
 #[tactic(auto, using(crate::proofs::OneToken::token_step_same))]
 pub fn a_token_event_leads_to_one_state()
-    ensures { (net : Net) (back : ℕ → ℕ) (waiting : Waiting) (t : Tokens) (e : TokenEvent) (u v : Tokens) → IsAccepted net → Bindings net t
-        → TokenStep net back waiting t e u → TokenStep net back waiting t e v → u ≡ v }
+    ensures { (net : Net) (back : ℕ → ℕ) (waiting : Waiting) (t : Tokens) (e : TokenEvent)
+        (u v : Tokens) →
+        IsAccepted net →
+        Bindings net t →
+        TokenStep net back waiting t e u →
+        TokenStep net back waiting t e v →
+        u ≡ v }
 {}
 
 /// On an accepted network, after any list of steps, each packet in a queue, on a way or in a switch belongs to a channel, and no packet
@@ -109,7 +133,10 @@ pub fn no_packet_is_longer()
 /// the same afterwards.
 #[tactic(auto, using(crate::proofs::Atoms::steps_are_atomic, crate::proofs::LinkLocal::steps_are_local))]
 pub fn a_step_is_one_actors()
-    ensures atomic { (net : Net) (back : ℕ → ℕ) (waiting : Waiting) → Wires net back → Homes net → StepsAreAtomic net back waiting }
+    ensures atomic { (net : Net) (back : ℕ → ℕ) (waiting : Waiting) →
+        Wires net back →
+        Homes net →
+        StepsAreAtomic net back waiting }
     ensures own { (net : Net) (back : ℕ → ℕ) (waiting : Waiting) → StepsAreLocal net back waiting }
 {}
 
@@ -117,15 +144,24 @@ pub fn a_step_is_one_actors()
 /// packet's first byte passes.
 #[tactic(auto, using(crate::proofs::FirstBytes::drawn_header))]
 pub fn a_header_is_drawn()
-    ensures { (waiting : Waiting) → (u : Tokens) × TokenRun example example_back waiting no_tokens first_passes u × ((u.receiver 0).got ≡ spelled (102 ∷ []) ++ 0 ∷ []) }
+    ensures { (waiting : Waiting) →
+        (u : Tokens) ×
+        TokenRun example example_back waiting no_tokens first_passes u ×
+        ((u.receiver 0).got ≡ spelled (102 ∷ []) ++ 0 ∷ []) }
 {}
 
 /// In wormhole a packet goes on before its mark: in the example's network a switch puts its first byte while no mark has come, and the
 /// packet still stands in its sender's queue. In store and forward no packet is bound before its mark has come.
 #[tactic(auto, using(crate::proofs::FirstBytes::goes_before_its_mark, crate::proofs::FirstBytes::waits_for_its_mark))]
 pub fn a_packet_goes_on_before_its_mark()
-    ensures wormhole { (u : Tokens) × TokenRun example example_back Wormhole no_tokens (first_passes ++ goes_on) u × (u.wire 2 ≡ Byte 0 ∷ []) × ((u.receiver 0).mark ≡ None) × ((u.nodes.ways 0).queue ≡ piece ∷ []) }
-    ensures store { (net : Net) (back : ℕ → ℕ) (t u : Tokens) (w out : ℕ) → TokenStep net back StoreAndForward t (Route w out) u → (t.receiver w).mark ≡ None → ⊥ }
+    ensures wormhole { (u : Tokens) ×
+        TokenRun example example_back Wormhole no_tokens (first_passes ++ goes_on) u ×
+        (u.wire 2 ≡ Byte 0 ∷ []) ×
+        ((u.receiver 0).mark ≡ None) ×
+        ((u.nodes.ways 0).queue ≡ piece ∷ []) }
+    ensures store { (net : Net) (back : ℕ → ℕ) (t u : Tokens) (w out : ℕ) →
+        TokenStep net back StoreAndForward t (Route w out) u →
+        (t.receiver w).mark ≡ None → ⊥ }
 {}
 
 /// The network's ways have ranks that rise along each dependency, and a run has come to a state in which no event can happen but moves

@@ -68,7 +68,8 @@ fn a_token_without_a_place_is_counted(rt: HostRuntime) -> Result<(), Fail> {
 
 /// The run of one act.
 fn run(rt: &impl Abort, alloc: Global, id: u8, at: u64) -> Result<ActorRun, Fail>
-    ensures { IfOk result (λ r. (r.id ≡ id) × ((act : SpeltAct) × (r.acts.items ≡ (at, act) ∷ []))) }
+    ensures { IfOk result
+        (λ r. (r.id ≡ id) × ((act : SpeltAct) × (r.acts.items ≡ (at, act) ∷ []))) }
 {
     let mut acts = Vec::new(alloc);
     acts.push((at, Act::Pass { link: 0 }))?;

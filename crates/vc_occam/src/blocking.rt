@@ -78,7 +78,8 @@ impl GuardedInputs {
         vars: &[Datum],
     ) -> Result<(), Memory>
         ensures { Adds found.old found.new
-            (or_closed site (flat_map (open_gate site (store vars.now)) (map gate self.now.inputs))) result }
+            (or_closed site (flat_map (open_gate site (store vars.now)) (map gate self.now.inputs)))
+            result }
     {
         let before = found.len();
         self.push_open_guards(found, site, vars)?;
@@ -142,7 +143,8 @@ fn push_fresh(
     vars: &[Datum],
 ) -> Result<(), Memory>
     ensures { Adds found.old found.new
-        (blocked_at (Fresh (plan_at kind.now site (views parts.now.items))) (store vars.now)) result }
+        (blocked_at (Fresh (plan_at kind.now site (views parts.now.items))) (store vars.now))
+        result }
 {
     match kind {
         Kind::Stop => push_one(found, Blocked::Stop { site }),
@@ -196,7 +198,8 @@ fn push_alt(
 ) -> Result<(), Memory>
     ensures { (vs : List View) →
         Adds found.old found.new
-        (blocked_fresh (ALT site (guards_of (map gate guards.now.inputs) vs)) (store vars.now)) result }
+        (blocked_fresh (ALT site (guards_of (map gate guards.now.inputs) vs)) (store vars.now))
+        result }
 {
     if guards.are_decided(vars) {
         return guards.push_guards(found, site, vars);

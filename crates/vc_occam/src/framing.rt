@@ -35,7 +35,8 @@ pub(crate) struct FramedParts {
 /// A frame with these parts, about to begin.
 fn with_parts(site: u32, kind: Kind, parts: Vec<Frame>, next: u32) -> Framed
     requires { site < 65536 }
-    ensures frame { view result.frame ≡ (plan_at kind site (views parts.items), Fresh (plan_at kind site (views parts.items))) }
+    ensures frame { view result.frame ≡
+        (plan_at kind site (views parts.items), Fresh (plan_at kind site (views parts.items))) }
     ensures next { result.next ≡ next }
 {
     Framed {
@@ -62,7 +63,13 @@ fn without_parts(alloc: Global, site: u32, kind: Kind) -> Framed
 /// A frame with this body, about to begin.
 fn with_body(alloc: Global, site: u32, kind: Kind, body: Framed) -> Result<Framed, Memory>
     requires { site < 65536 }
-    ensures frame { IfOk result (λ made. view made.frame ≡ (plan_at kind site (view body.frame ∷ []), Fresh (plan_at kind site (view body.frame ∷ [])))) }
+    ensures frame { IfOk result
+        (λ made.
+        view made.frame ≡ (
+          plan_at kind site (view body.frame ∷ []),
+          Fresh
+              (plan_at kind site (view body.frame ∷ [])),
+        )) }
     ensures next { IfOk result (λ made. made.next ≡ body.next) }
 {
     let mut parts = Vec::new(alloc);
@@ -152,7 +159,10 @@ pub(crate) fn frame_of(alloc: Global, process: &Process, site: u32) -> Result<Fr
 
 /// What a replicated SEQ is, without its body.
 fn count_kind(alloc: Global, var: u8, base: &Expr, count: &Expr) -> Result<Kind, Memory>
-    ensures { IfOk result (λ kind. (site : ℕ) (vs : List View) → plan_at kind site vs ≡ plan_at (Kind.Count var base.now count.now) site vs) }
+    ensures { IfOk result
+        (λ kind.
+        (site : ℕ) (vs : List View) →
+        plan_at kind site vs ≡ plan_at (Kind.Count var base.now count.now) site vs) }
 {
     let base = base.copy(alloc)?;
     let count = count.copy(alloc)?;
@@ -193,8 +203,10 @@ fn inputs_of(alloc: Global, guards: &Items<Guard>) -> Result<Items<GuardedInput>
 #[tactic(auto, unfolding(vc_process::specs::InOrder::number, vc_process::specs::InOrder::number_guard))]
 fn frames_of_guards(alloc: Global, guards: &Items<Guard>, site: u32) -> Result<FramedParts, Memory>
     requires sites { site + guard_sites (map number_guard guards.now) ≤ 65536 }
-    ensures parts { IfOk result (λ made. views made.parts.items ≡ guard_wholes_from site (map number_guard guards.now)) }
-    ensures next { IfOk result (λ made. made.next ≡ site + guard_sites (map number_guard guards.now)) }
+    ensures parts { IfOk result
+        (λ made. views made.parts.items ≡ guard_wholes_from site (map number_guard guards.now)) }
+    ensures next { IfOk result
+        (λ made. made.next ≡ site + guard_sites (map number_guard guards.now)) }
 {
     let mut frames = Vec::new(alloc);
     let mut next = site;
@@ -218,8 +230,11 @@ fn frames_of_branches(
     site: u32,
 ) -> Result<FramedParts, Memory>
     requires sites { site + branch_sites (map number_branch branches.now) ≤ 65536 }
-    ensures parts { IfOk result (λ made. views made.parts.items ≡ branch_wholes_from site (map number_branch branches.now)) }
-    ensures next { IfOk result (λ made. made.next ≡ site + branch_sites (map number_branch branches.now)) }
+    ensures parts { IfOk result
+        (λ made.
+        views made.parts.items ≡ branch_wholes_from site (map number_branch branches.now)) }
+    ensures next { IfOk result
+        (λ made. made.next ≡ site + branch_sites (map number_branch branches.now)) }
 {
     let mut frames = Vec::new(alloc);
     let mut next = site;
@@ -238,7 +253,8 @@ fn frames_of_branches(
 #[cycle(framing)]
 fn frames_of(alloc: Global, parts: &Items<Process>, site: u32) -> Result<FramedParts, Memory>
     requires sites { site + part_sites (map number parts.now) ≤ 65536 }
-    ensures parts { IfOk result (λ made. views made.parts.items ≡ wholes_from site (map number parts.now)) }
+    ensures parts { IfOk result
+        (λ made. views made.parts.items ≡ wholes_from site (map number parts.now)) }
     ensures next { IfOk result (λ made. made.next ≡ site + part_sites (map number parts.now)) }
 {
     let mut frames = Vec::new(alloc);
@@ -257,7 +273,8 @@ fn frames_of(alloc: Global, parts: &Items<Process>, site: u32) -> Result<FramedP
 /// The frame of a process that has begun.
 pub(crate) fn begin_frame(alloc: Global, process: &Process) -> Result<Frame, Memory>
     requires sites { (number process.now).sites ≤ 65536 }
-    ensures { IfOk result (λ frame. view frame ≡ (written process.now, begin (written process.now))) }
+    ensures { IfOk result
+        (λ frame. view frame ≡ (written process.now, begin (written process.now))) }
 {
     let mut frame = frame_of(alloc, process, 0)?.frame;
     frame.start();

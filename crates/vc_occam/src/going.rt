@@ -51,9 +51,15 @@ pub(crate) fn begin_alone(
 ) -> Phase
     requires alone { goes_on_at_one_part kind.now ≡ false }
     requires uncounted { is_counted kind.now ≡ false }
-    requires assigned { doing.old.deed ≡ Quiet → doing.old.assigned ≡ assigned_at doing.old.site (Fresh (plan_at kind.now own [])) (store vars.old.items) }
+    requires assigned { doing.old.deed ≡ Quiet →
+        doing.old.assigned ≡
+        assigned_at doing.old.site (Fresh (plan_at kind.now own [])) (store vars.old.items) }
     requires variables { HasVariables (plan_at kind.now own []) (length vars.old.items) }
-    ensures did { (vs : List View) (at : ℕ) → Able (Fresh (plan_at kind.now own vs)) (store vars.old.items) doing.old.site doing.old.deed → Did (Fresh (plan_at kind.now own vs)) (store vars.old.items) doing.old.site doing.old.deed (rest_at kind.now result own vs at) (store vars.new.items) }
+    ensures did { (vs : List View) (at : ℕ) →
+        Able (Fresh (plan_at kind.now own vs)) (store vars.old.items) doing.old.site
+        doing.old.deed →
+        Did (Fresh (plan_at kind.now own vs)) (store vars.old.items) doing.old.site doing.old.deed
+        (rest_at kind.now result own vs at) (store vars.new.items) }
     ensures length { length vars.new.items ≡ length vars.old.items }
 {
     match kind {
@@ -89,7 +95,10 @@ pub(crate) fn begin_alone(
 pub(crate) fn end_alone(own: u16, kind: &Kind, doing: &mut SiteDeed, vars: &mut Vec<Datum>) -> Phase
     requires alone { goes_on_at_one_part kind.now ≡ false }
     requires variables { HasVariables (plan_at kind.now own []) (length vars.old.items) }
-    ensures did { (vs : List View) (at : ℕ) → Able (going_at kind.now own vs at) (store vars.old.items) doing.old.site doing.old.deed → Did (going_at kind.now own vs at) (store vars.old.items) doing.old.site doing.old.deed (rest_at kind.now result own vs at) (store vars.new.items) }
+    ensures did { (vs : List View) (at : ℕ) →
+        Able (going_at kind.now own vs at) (store vars.old.items) doing.old.site doing.old.deed →
+        Did (going_at kind.now own vs at) (store vars.old.items) doing.old.site doing.old.deed
+        (rest_at kind.now result own vs at) (store vars.new.items) }
     ensures length { length vars.new.items ≡ length vars.old.items }
 {
     match kind {
@@ -107,7 +116,9 @@ pub(crate) fn end_alone(own: u16, kind: &Kind, doing: &mut SiteDeed, vars: &mut 
 
 /// How a replicated SEQ begins: with which index, and which is the last one.
 fn counted(base: &Expr, count: &Expr, vars: &[Datum]) -> Phase
-    ensures phase { result ≡ count_phase (value_of (exp base.now) (store vars.now)) (value_of (exp count.now) (store vars.now)) }
+    ensures phase { result ≡
+        count_phase (value_of (exp base.now) (store vars.now))
+        (value_of (exp count.now) (store vars.now)) }
     ensures range { (x : ℤ) → value_of (exp base.now) (store vars.now) ≡ Some x → mag x < 2 ^ 63 }
 {
     let Some(index) = base.value(vars) else {
@@ -209,7 +220,10 @@ fn chosen(conds: &[Cond], vars: &[Datum]) -> Option<usize>
 fn begin_composed(own: u16, kind: &Kind, parts: &mut Vec<Frame>, vars: &[Datum]) -> Next
     requires composed { goes_on_at_one_part kind.now ≡ true }
     requires unchosen { is_choice kind.now ≡ false }
-    ensures did { (site : ℕ) (deed : Deed) → Able (Fresh (plan_at kind.now own (views parts.old.items))) (store vars.now) site deed → Did (Fresh (plan_at kind.now own (views parts.old.items))) (store vars.now) site deed (rest_at kind.now result.phase own (views parts.new.items) result.at) (store vars.now) }
+    ensures did { (site : ℕ) (deed : Deed) →
+        Able (Fresh (plan_at kind.now own (views parts.old.items))) (store vars.now) site deed →
+        Did (Fresh (plan_at kind.now own (views parts.old.items))) (store vars.now) site deed
+        (rest_at kind.now result.phase own (views parts.new.items) result.at) (store vars.now) }
     ensures plans { plans (views parts.new.items) ≡ plans (views parts.old.items) }
 {
     match kind {
@@ -237,8 +251,13 @@ fn begin_composed(own: u16, kind: &Kind, parts: &mut Vec<Frame>, vars: &[Datum])
 /// A replicated SEQ evaluates its base and its count, and begins its first turn.
 fn begin_count(own: u16, kind: &Kind, parts: &mut Vec<Frame>, vars: &mut Vec<Datum>) -> Phase
     requires counted { is_counted kind.now ≡ true }
-    requires variables { HasVariables (plan_at kind.now own (views parts.old.items)) (length vars.old.items) }
-    ensures did { (site : ℕ) (deed : Deed) (at : ℕ) → Able (Fresh (plan_at kind.now own (views parts.old.items))) (store vars.old.items) site deed → Did (Fresh (plan_at kind.now own (views parts.old.items))) (store vars.old.items) site deed (rest_at kind.now result own (views parts.new.items) at) (store vars.new.items) }
+    requires variables { HasVariables (plan_at kind.now own (views parts.old.items))
+        (length vars.old.items) }
+    ensures did { (site : ℕ) (deed : Deed) (at : ℕ) →
+        Able (Fresh (plan_at kind.now own (views parts.old.items))) (store vars.old.items) site
+        deed →
+        Did (Fresh (plan_at kind.now own (views parts.old.items))) (store vars.old.items) site deed
+        (rest_at kind.now result own (views parts.new.items) at) (store vars.new.items) }
     ensures plans { plans (views parts.new.items) ≡ plans (views parts.old.items) }
     ensures length { length vars.new.items ≡ length vars.old.items }
 {
@@ -296,8 +315,14 @@ fn begin_choice(
     vars: &mut Vec<Datum>,
 ) -> Next
     requires choice { is_choice kind.now ≡ true }
-    requires variables { HasVariables (plan_at kind.now own (views parts.old.items)) (length vars.old.items) }
-    ensures did { (site : ℕ) → Able (Fresh (plan_at kind.now own (views parts.old.items))) (store vars.old.items) site doing.old.deed → Did (Fresh (plan_at kind.now own (views parts.old.items))) (store vars.old.items) site doing.old.deed (rest_at kind.now result.phase own (views parts.new.items) result.at) (store vars.new.items) }
+    requires variables { HasVariables (plan_at kind.now own (views parts.old.items))
+        (length vars.old.items) }
+    ensures did { (site : ℕ) →
+        Able (Fresh (plan_at kind.now own (views parts.old.items))) (store vars.old.items) site
+        doing.old.deed →
+        Did (Fresh (plan_at kind.now own (views parts.old.items))) (store vars.old.items) site
+        doing.old.deed (rest_at kind.now result.phase own (views parts.new.items) result.at)
+        (store vars.new.items) }
     ensures plans { plans (views parts.new.items) ≡ plans (views parts.old.items) }
     ensures length { length vars.new.items ≡ length vars.old.items }
 {
@@ -322,8 +347,14 @@ fn end_choice(
     doing: &mut SiteDeed,
     vars: &mut Vec<Datum>,
 ) -> Phase
-    requires variables { HasVariables (plan_at kind.now own (views parts.old.items)) (length vars.old.items) }
-    ensures did { (site : ℕ) → Able (awaiting kind.now own (views parts.old.items) at) (store vars.old.items) site doing.old.deed → Did (awaiting kind.now own (views parts.old.items) at) (store vars.old.items) site doing.old.deed (rest_at kind.now result own (views parts.new.items) at) (store vars.new.items) }
+    requires variables { HasVariables (plan_at kind.now own (views parts.old.items))
+        (length vars.old.items) }
+    ensures did { (site : ℕ) →
+        Able (awaiting kind.now own (views parts.old.items) at) (store vars.old.items) site
+        doing.old.deed →
+        Did (awaiting kind.now own (views parts.old.items) at) (store vars.old.items) site
+        doing.old.deed (rest_at kind.now result own (views parts.new.items) at)
+        (store vars.new.items) }
     ensures plans { plans (views parts.new.items) ≡ plans (views parts.old.items) }
     ensures length { length vars.new.items ≡ length vars.old.items }
 {
@@ -358,8 +389,10 @@ fn take_guard(
 ) -> Next
     requires { GateHasVariable (slice_get (map gate inputs.now) place) (length vars.old.items) }
     ensures next { result ≡ gate_next (slice_get (map gate inputs.now) place) message place }
-    ensures parts { views parts.new.items ≡ gate_begun (slice_get (map gate inputs.now) place) message place (views parts.old.items) }
-    ensures value { store vars.new.items ≡ gate_store (slice_get (map gate inputs.now) place) message (store vars.old.items) }
+    ensures parts { views parts.new.items ≡
+        gate_begun (slice_get (map gate inputs.now) place) message place (views parts.old.items) }
+    ensures value { store vars.new.items ≡
+        gate_store (slice_get (map gate inputs.now) place) message (store vars.old.items) }
     ensures length { length vars.new.items ≡ length vars.old.items }
 {
     if place >= inputs.len() {
@@ -402,11 +435,15 @@ impl Frame {
     /// A site does something; answers whether nothing remains then, and what it begins with.
     #[cycle(go)]
     pub(crate) fn go(&mut self, doing: &mut SiteDeed, vars: &mut Vec<Datum>) -> Went
-        requires able { Able (view self.old).1 (store vars.old.items) doing.old.site doing.old.deed }
-        requires assigned { doing.old.deed ≡ Quiet → doing.old.assigned ≡ assigned_at doing.old.site (view self.old).1 (store vars.old.items) }
+        requires able { Able (view self.old).1 (store vars.old.items) doing.old.site
+            doing.old.deed }
+        requires assigned { doing.old.deed ≡ Quiet →
+            doing.old.assigned ≡
+            assigned_at doing.old.site (view self.old).1 (store vars.old.items) }
         requires variables { HasVariables (view self.old).0 (length vars.old.items) }
         requires in_preorder { InPreorder (view self.old).0 }
-        ensures did { Did (view self.old).1 (store vars.old.items) doing.old.site doing.old.deed (view self.new).1 (store vars.new.items) }
+        ensures did { Did (view self.old).1 (store vars.old.items) doing.old.site doing.old.deed
+            (view self.new).1 (store vars.new.items) }
         ensures plan { (view self.new).0 ≡ (view self.old).0 }
         ensures ended { has_ended result ≡ is_done (view self.new).1 }
         ensures begins { BeginsWith (then_begins result) (view self.new).1 }
@@ -433,12 +470,17 @@ impl Frame {
     #[inline(never)]
     fn go_apart(&mut self, doing: &mut SiteDeed, vars: &mut Vec<Datum>) -> Went
         requires begun { (out-Frame self.old).phase ≡ Ready → ⊥ }
-        requires apart { (out-Frame self.old).phase ≡ Waiting → goes_on_at_one_part (out-Frame self.old).kind ≡ false }
-        requires able { Able (view self.old).1 (store vars.old.items) doing.old.site doing.old.deed }
-        requires assigned { doing.old.deed ≡ Quiet → doing.old.assigned ≡ assigned_at doing.old.site (view self.old).1 (store vars.old.items) }
+        requires apart { (out-Frame self.old).phase ≡ Waiting →
+            goes_on_at_one_part (out-Frame self.old).kind ≡ false }
+        requires able { Able (view self.old).1 (store vars.old.items) doing.old.site
+            doing.old.deed }
+        requires assigned { doing.old.deed ≡ Quiet →
+            doing.old.assigned ≡
+            assigned_at doing.old.site (view self.old).1 (store vars.old.items) }
         requires variables { HasVariables (view self.old).0 (length vars.old.items) }
         requires in_preorder { InPreorder (view self.old).0 }
-        ensures did { Did (view self.old).1 (store vars.old.items) doing.old.site doing.old.deed (view self.new).1 (store vars.new.items) }
+        ensures did { Did (view self.old).1 (store vars.old.items) doing.old.site doing.old.deed
+            (view self.new).1 (store vars.new.items) }
         ensures plan { (view self.new).0 ≡ (view self.old).0 }
         ensures ended { has_ended result ≡ is_done (view self.new).1 }
         ensures begins { BeginsWith (then_begins result) (view self.new).1 }
@@ -479,9 +521,11 @@ impl Frame {
     #[inline(always)]
     fn go_resting(&mut self, doing: &mut SiteDeed, vars: &mut Vec<Datum>) -> Went
         requires resting { (out-Frame self.old).phase ≡ Resting }
-        requires able { Able (view self.old).1 (store vars.old.items) doing.old.site doing.old.deed }
+        requires able { Able (view self.old).1 (store vars.old.items) doing.old.site
+            doing.old.deed }
         requires variables { HasVariables (view self.old).0 (length vars.old.items) }
-        ensures did { Did (view self.old).1 (store vars.old.items) doing.old.site doing.old.deed (view self.new).1 (store vars.new.items) }
+        ensures did { Did (view self.old).1 (store vars.old.items) doing.old.site doing.old.deed
+            (view self.new).1 (store vars.new.items) }
         ensures plan { (view self.new).0 ≡ (view self.old).0 }
         ensures ended { has_ended result ≡ is_done (view self.new).1 }
         ensures begins { BeginsWith (then_begins result) (view self.new).1 }
@@ -503,10 +547,14 @@ impl Frame {
     #[inline(never)]
     fn begin_itself(&mut self, doing: &mut SiteDeed, vars: &mut Vec<Datum>) -> Went
         requires ready { (out-Frame self.old).phase ≡ Ready }
-        requires able { Able (view self.old).1 (store vars.old.items) doing.old.site doing.old.deed }
-        requires assigned { doing.old.deed ≡ Quiet → doing.old.assigned ≡ assigned_at doing.old.site (view self.old).1 (store vars.old.items) }
+        requires able { Able (view self.old).1 (store vars.old.items) doing.old.site
+            doing.old.deed }
+        requires assigned { doing.old.deed ≡ Quiet →
+            doing.old.assigned ≡
+            assigned_at doing.old.site (view self.old).1 (store vars.old.items) }
         requires variables { HasVariables (view self.old).0 (length vars.old.items) }
-        ensures did { Did (view self.old).1 (store vars.old.items) doing.old.site doing.old.deed (view self.new).1 (store vars.new.items) }
+        ensures did { Did (view self.old).1 (store vars.old.items) doing.old.site doing.old.deed
+            (view self.new).1 (store vars.new.items) }
         ensures plan { (view self.new).0 ≡ (view self.old).0 }
         ensures ended { has_ended result ≡ is_done (view self.new).1 }
         ensures begins { BeginsWith (then_begins result) (view self.new).1 }
@@ -524,9 +572,11 @@ impl Frame {
     fn go_itself(&mut self, doing: &mut SiteDeed, vars: &mut Vec<Datum>) -> Went
         requires begun { (out-Frame self.old).phase ≡ Ready → ⊥ }
         requires itself { goes_within (out-Frame self.old).kind (out-Frame self.old).phase ≡ false }
-        requires able { Able (view self.old).1 (store vars.old.items) doing.old.site doing.old.deed }
+        requires able { Able (view self.old).1 (store vars.old.items) doing.old.site
+            doing.old.deed }
         requires variables { HasVariables (view self.old).0 (length vars.old.items) }
-        ensures did { Did (view self.old).1 (store vars.old.items) doing.old.site doing.old.deed (view self.new).1 (store vars.new.items) }
+        ensures did { Did (view self.old).1 (store vars.old.items) doing.old.site doing.old.deed
+            (view self.new).1 (store vars.new.items) }
         ensures plan { (view self.new).0 ≡ (view self.old).0 }
         ensures ended { has_ended result ≡ is_done (view self.new).1 }
         ensures begins { BeginsWith (then_begins result) (view self.new).1 }
@@ -561,9 +611,11 @@ impl Frame {
     /// An output or input that has begun and hasn't ended goes on; answers whether nothing remains then.
     #[inline(never)]
     fn end_begun(&mut self, doing: &mut SiteDeed, vars: &mut Vec<Datum>) -> bool
-        requires able { Able (as_begun (view self.old).0) (store vars.old.items) doing.old.site doing.old.deed }
+        requires able { Able (as_begun (view self.old).0) (store vars.old.items) doing.old.site
+            doing.old.deed }
         requires variables { HasVariables (view self.old).0 (length vars.old.items) }
-        ensures did { Did (as_begun (view self.old).0) (store vars.old.items) doing.old.site doing.old.deed (view self.new).1 (store vars.new.items) }
+        ensures did { Did (as_begun (view self.old).0) (store vars.old.items) doing.old.site
+            doing.old.deed (view self.new).1 (store vars.new.items) }
         ensures plan { (view self.new).0 ≡ (view self.old).0 }
         ensures ended { result ≡ is_done (view self.new).1 }
         ensures length { length vars.new.items ≡ length vars.old.items }
@@ -608,8 +660,13 @@ impl Frame {
     #[inline(never)]
     fn leave_part(&mut self) -> Went
         requires composed { goes_on_at_one_part (out-Frame self.old).kind ≡ true }
-        requires ended { part_done (slice_get (views (out-Frame self.old).parts.items) (place_of (out-Frame self.old).kind (out-Frame self.old).at)) ≡ true }
-        ensures rest { (view self.new).1 ≡ gone_on (out-Frame self.old).kind (out-Frame self.old).site (views (out-Frame self.old).parts.items) (out-Frame self.old).at }
+        requires ended { part_done
+            (slice_get (views (out-Frame self.old).parts.items)
+            (place_of (out-Frame self.old).kind (out-Frame self.old).at)) ≡
+            true }
+        ensures rest { (view self.new).1 ≡
+            gone_on (out-Frame self.old).kind (out-Frame self.old).site
+            (views (out-Frame self.old).parts.items) (out-Frame self.old).at }
         ensures plan { (view self.new).0 ≡ (view self.old).0 }
         ensures ended { has_ended result ≡ is_done (view self.new).1 }
         ensures begins { BeginsWith (then_begins result) (view self.new).1 }
@@ -626,7 +683,9 @@ impl Frame {
     fn leave_turn(&mut self, vars: &mut Vec<Datum>) -> Went
         requires variables { HasVariables (view self.old).0 (length vars.old.items) }
         requires ended { part_done (slice_get (views (out-Frame self.old).parts.items) 0) ≡ true }
-        ensures turned { TurnEnded (out-Frame self.old).kind (out-Frame self.old).phase (out-Frame self.old).site (views (out-Frame self.old).parts.items) (store vars.old.items) (view self.new).1 (store vars.new.items) }
+        ensures turned { TurnEnded (out-Frame self.old).kind (out-Frame self.old).phase
+            (out-Frame self.old).site (views (out-Frame self.old).parts.items)
+            (store vars.old.items) (view self.new).1 (store vars.new.items) }
         ensures plan { (view self.new).0 ≡ (view self.old).0 }
         ensures ended { has_ended result ≡ is_done (view self.new).1 }
         ensures begins { BeginsWith (then_begins result) (view self.new).1 }
@@ -645,7 +704,8 @@ impl Frame {
     /// What a PAR comes to, one of whose parts has ended: it ends when all have.
     #[inline(never)]
     fn went_beside(&self) -> Went
-        ensures ended { has_ended result ≡ is_done (besides (views (out-Frame self.now).parts.items)) }
+        ensures ended { has_ended result ≡
+            is_done (besides (views (out-Frame self.now).parts.items)) }
         ensures begins { then_begins result ≡ Other }
     {
         if all_ended(&self.parts) {
@@ -666,9 +726,18 @@ fn begin(
     doing: &mut SiteDeed,
     vars: &mut Vec<Datum>,
 ) -> Next
-    requires assigned { doing.old.deed ≡ Quiet → doing.old.assigned ≡ assigned_at doing.old.site (Fresh (plan_at kind.now own (views parts.old.items))) (store vars.old.items) }
-    requires variables { HasVariables (plan_at kind.now own (views parts.old.items)) (length vars.old.items) }
-    ensures did { Able (Fresh (plan_at kind.now own (views parts.old.items))) (store vars.old.items) doing.old.site doing.old.deed → Did (Fresh (plan_at kind.now own (views parts.old.items))) (store vars.old.items) doing.old.site doing.old.deed (rest_at kind.now result.phase own (views parts.new.items) result.at) (store vars.new.items) }
+    requires assigned { doing.old.deed ≡ Quiet →
+        doing.old.assigned ≡
+        assigned_at doing.old.site (Fresh (plan_at kind.now own (views parts.old.items)))
+        (store vars.old.items) }
+    requires variables { HasVariables (plan_at kind.now own (views parts.old.items))
+        (length vars.old.items) }
+    ensures did { Able (Fresh (plan_at kind.now own (views parts.old.items))) (store vars.old.items)
+        doing.old.site doing.old.deed →
+        Did (Fresh (plan_at kind.now own (views parts.old.items))) (store vars.old.items)
+        doing.old.site doing.old.deed
+        (rest_at kind.now result.phase own (views parts.new.items) result.at)
+        (store vars.new.items) }
     ensures plans { plans (views parts.new.items) ≡ plans (views parts.old.items) }
     ensures length { length vars.new.items ≡ length vars.old.items }
 {
@@ -698,11 +767,17 @@ fn go_on(
 ) -> Progress
     requires begun { phase ≡ Ready → ⊥ }
     requires itself { goes_within kind.now phase ≡ false }
-    requires able { Able (rest_at kind.now phase own (views parts.old.items) at) (store vars.old.items) doing.old.site doing.old.deed }
-    requires variables { HasVariables (plan_at kind.now own (views parts.old.items)) (length vars.old.items) }
-    ensures did { Did (rest_at kind.now phase own (views parts.old.items) at) (store vars.old.items) doing.old.site doing.old.deed (rest_at kind.now result.next.phase own (views parts.new.items) result.next.at) (store vars.new.items) }
+    requires able { Able (rest_at kind.now phase own (views parts.old.items) at)
+        (store vars.old.items) doing.old.site doing.old.deed }
+    requires variables { HasVariables (plan_at kind.now own (views parts.old.items))
+        (length vars.old.items) }
+    ensures did { Did (rest_at kind.now phase own (views parts.old.items) at) (store vars.old.items)
+        doing.old.site doing.old.deed
+        (rest_at kind.now result.next.phase own (views parts.new.items) result.next.at)
+        (store vars.new.items) }
     ensures plans { plans (views parts.new.items) ≡ plans (views parts.old.items) }
-    ensures ended { result.ended ≡ is_done (rest_at kind.now result.next.phase own (views parts.new.items) result.next.at) }
+    ensures ended { result.ended ≡
+        is_done (rest_at kind.now result.next.phase own (views parts.new.items) result.next.at) }
     ensures length { length vars.new.items ≡ length vars.old.items }
 {
     match phase {
@@ -721,7 +796,8 @@ fn go_on(
 /// How far a frame is, and whether nothing remains then.
 fn reached(kind: &Kind, next: Next, parts: &Vec<Frame>) -> Progress
     ensures next { result.next ≡ next }
-    ensures ended { (own : ℕ) → result.ended ≡ is_done (rest_at kind.now next.phase own (views parts.now.items) next.at) }
+    ensures ended { (own : ℕ) →
+        result.ended ≡ is_done (rest_at kind.now next.phase own (views parts.now.items) next.at) }
 {
     let ended = is_ended(kind, next.phase, parts, next.at);
     Progress { next, ended }
@@ -731,15 +807,23 @@ fn reached(kind: &Kind, next: Next, parts: &Vec<Frame>) -> Progress
 #[cycle(go)]
 #[inline(always)]
 fn go_within(at: usize, parts: &mut Vec<Frame>, doing: &mut SiteDeed, vars: &mut Vec<Datum>) -> Went
-    requires able { Able (part_rest (slice_get (views parts.old.items) at)) (store vars.old.items) doing.old.site doing.old.deed }
-    requires assigned { doing.old.deed ≡ Quiet → doing.old.assigned ≡ part_assigned doing.old.site (slice_get (views parts.old.items) at) (store vars.old.items) }
-    requires variables { PartHasVariables (slice_get (views parts.old.items) at) (length vars.old.items) }
+    requires able { Able (part_rest (slice_get (views parts.old.items) at)) (store vars.old.items)
+        doing.old.site doing.old.deed }
+    requires assigned { doing.old.deed ≡ Quiet →
+        doing.old.assigned ≡
+        part_assigned doing.old.site (slice_get (views parts.old.items) at)
+        (store vars.old.items) }
+    requires variables { PartHasVariables (slice_get (views parts.old.items) at)
+        (length vars.old.items) }
     requires in_preorder { PartInPreorder (slice_get (views parts.old.items) at) }
-    ensures did { Did (part_rest (slice_get (views parts.old.items) at)) (store vars.old.items) doing.old.site doing.old.deed (part_rest (slice_get (views parts.new.items) at)) (store vars.new.items) }
+    ensures did { Did (part_rest (slice_get (views parts.old.items) at)) (store vars.old.items)
+        doing.old.site doing.old.deed (part_rest (slice_get (views parts.new.items) at))
+        (store vars.new.items) }
     ensures plans { plans (views parts.new.items) ≡ plans (views parts.old.items) }
     ensures others { ChangedAt at (views parts.old.items) (views parts.new.items) }
     ensures ended { has_ended result ≡ part_done (slice_get (views parts.new.items) at) }
-    ensures begins { BeginsWith (then_begins result) (part_rest (slice_get (views parts.new.items) at)) }
+    ensures begins { BeginsWith (then_begins result)
+        (part_rest (slice_get (views parts.new.items) at)) }
     ensures length { length vars.new.items ≡ length vars.old.items }
 {
     if at < parts.len() {
@@ -750,9 +834,13 @@ fn go_within(at: usize, parts: &mut Vec<Frame>, doing: &mut SiteDeed, vars: &mut
 
 /// The part at a place goes on, which is an output or input that has begun.
 fn end_part(at: usize, parts: &mut Vec<Frame>, doing: &mut SiteDeed, vars: &mut Vec<Datum>) -> bool
-    requires able { Able (part_rest (slice_get (resting_at at (views parts.old.items)) at)) (store vars.old.items) doing.old.site doing.old.deed }
-    requires variables { PartHasVariables (slice_get (views parts.old.items) at) (length vars.old.items) }
-    ensures did { Did (part_rest (slice_get (resting_at at (views parts.old.items)) at)) (store vars.old.items) doing.old.site doing.old.deed (part_rest (slice_get (views parts.new.items) at)) (store vars.new.items) }
+    requires able { Able (part_rest (slice_get (resting_at at (views parts.old.items)) at))
+        (store vars.old.items) doing.old.site doing.old.deed }
+    requires variables { PartHasVariables (slice_get (views parts.old.items) at)
+        (length vars.old.items) }
+    ensures did { Did (part_rest (slice_get (resting_at at (views parts.old.items)) at))
+        (store vars.old.items) doing.old.site doing.old.deed
+        (part_rest (slice_get (views parts.new.items) at)) (store vars.new.items) }
     ensures plans { plans (views parts.new.items) ≡ plans (views parts.old.items) }
     ensures ended { result ≡ part_done (slice_get (views parts.new.items) at) }
     ensures length { length vars.new.items ≡ length vars.old.items }
@@ -786,7 +874,9 @@ fn settle_part(at: usize, parts: &mut Vec<Frame>)
 fn after_part(kind: &Kind, at: usize, parts: &mut Vec<Frame>) -> Progress
     requires composed { goes_on_at_one_part kind.now ≡ true }
     requires ended { part_done (slice_get (views parts.old.items) (place_of kind.now at)) ≡ true }
-    ensures rest { (own : ℕ) → rest_at kind.now result.next.phase own (views parts.new.items) result.next.at ≡ gone_on kind.now own (views parts.old.items) at }
+    ensures rest { (own : ℕ) →
+        rest_at kind.now result.next.phase own (views parts.new.items) result.next.at ≡
+        gone_on kind.now own (views parts.old.items) at }
     ensures plans { plans (views parts.new.items) ≡ plans (views parts.old.items) }
     ensures ended { result.ended ≡ is_last kind.now at (length (views parts.old.items)) }
 {

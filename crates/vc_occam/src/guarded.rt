@@ -46,7 +46,8 @@ impl GuardedInput {
         place: u16,
         vars: &[Datum],
     ) -> Result<(), Memory>
-        ensures { OnOk result (found.new ≡ found.old ++ open_one site place (gate self.now) (store vars.now)) }
+        ensures { OnOk result
+            (found.new ≡ found.old ++ open_one site place (gate self.now) (store vars.now)) }
     {
         if self.is_open(vars) {
             found.push(Move::Choose {
@@ -60,7 +61,8 @@ impl GuardedInput {
 
     /// Whether the move takes it, its condition being true.
     fn is_taken(&self, made: &Move, site: u16, place: u16, vars: &[Datum]) -> bool
-        ensures { IsTrue result ↔ Contains (open_one site place (gate self.now) (store vars.now)) made.now }
+        ensures { IsTrue result ↔
+            Contains (open_one site place (gate self.now) (store vars.now)) made.now }
     {
         let choice = Move::Choose {
             site,
@@ -99,7 +101,8 @@ impl GuardedInputs {
         site: u16,
         vars: &[Datum],
     ) -> Result<(), Memory>
-        ensures { OnOk result (found.new ≡ found.old ++ choices_at site (map gate self.now.inputs) (store vars.now)) }
+        ensures { OnOk result
+            (found.new ≡ found.old ++ choices_at site (map gate self.now.inputs) (store vars.now)) }
     {
         if !self.are_decided(vars) {
             return Ok(());
@@ -109,7 +112,9 @@ impl GuardedInputs {
 
     /// Adds the moves that take one whose condition is true.
     fn push_open(&self, found: &mut Items<Move>, site: u16, vars: &[Datum]) -> Result<(), Memory>
-        ensures { OnOk result (found.new ≡ found.old ++ open_from site 0 (map gate self.now.inputs) (store vars.now)) }
+        ensures { OnOk result
+            (found.new ≡
+            found.old ++ open_from site 0 (map gate self.now.inputs) (store vars.now)) }
     {
         let inputs = self.inputs.as_slice();
         for place in 0..inputs.len() {
@@ -120,7 +125,8 @@ impl GuardedInputs {
 
     /// The first move that takes one whose condition is true, where no condition is a fault, if their ALT's site is not before `from`.
     pub(crate) fn first_choice(&self, from: u16, site: u16, vars: &[Datum]) -> Option<Move>
-        ensures { result ≡ from_site from (choices_at site (map gate self.now.inputs) (store vars.now)) }
+        ensures { result ≡
+            from_site from (choices_at site (map gate self.now.inputs) (store vars.now)) }
     {
         if site < from {
             return None;
@@ -134,7 +140,8 @@ impl GuardedInputs {
     /// The first move that takes one whose condition is true.
     fn first_open(&self, from: u16, site: u16, vars: &[Datum]) -> Option<Move>
         requires { from ≤ site }
-        ensures { result ≡ from_site from (open_from site 0 (map gate self.now.inputs) (store vars.now)) }
+        ensures { result ≡
+            from_site from (open_from site 0 (map gate self.now.inputs) (store vars.now)) }
     {
         let inputs = self.inputs.as_slice();
         for place in 0..inputs.len() {
@@ -151,7 +158,8 @@ impl GuardedInputs {
 
     /// Whether the move takes one whose condition is true, where no condition is a fault.
     pub(crate) fn has_choice(&self, made: &Move, site: u16, vars: &[Datum]) -> bool
-        ensures { IsTrue result ↔ Contains (choices_at site (map gate self.now.inputs) (store vars.now)) made.now }
+        ensures { IsTrue result ↔
+            Contains (choices_at site (map gate self.now.inputs) (store vars.now)) made.now }
     {
         if !self.are_decided(vars) {
             return false;
@@ -161,7 +169,8 @@ impl GuardedInputs {
 
     /// Whether the move takes one whose condition is true.
     fn has_open(&self, made: &Move, site: u16, vars: &[Datum]) -> bool
-        ensures { IsTrue result ↔ Contains (open_from site 0 (map gate self.now.inputs) (store vars.now)) made.now }
+        ensures { IsTrue result ↔
+            Contains (open_from site 0 (map gate self.now.inputs) (store vars.now)) made.now }
     {
         let inputs = self.inputs.as_slice();
         for place in 0..inputs.len() {

@@ -26,9 +26,15 @@ impl Hints {
 
     /// Notes the site of an output or input that begins.
     pub(crate) fn note(&mut self, made: &Move)
-        ensures output { (i c : ℕ) → made.now ≡ Offer i c → slice_index self.new.outputs (c % 256) ≡ i }
-        ensures input { (i c : ℕ) → made.now ≡ Want i c → slice_index self.new.inputs (c % 256) ≡ i }
-        ensures guard { (i k c : ℕ) → made.now ≡ Choose i k c → slice_index self.new.inputs (c % 256) ≡ i }
+        ensures output { (i c : ℕ) →
+            made.now ≡ Offer i c →
+            slice_index self.new.outputs (c % 256) ≡ i }
+        ensures input { (i c : ℕ) →
+            made.now ≡ Want i c →
+            slice_index self.new.inputs (c % 256) ≡ i }
+        ensures guard { (i k c : ℕ) →
+            made.now ≡ Choose i k c →
+            slice_index self.new.inputs (c % 256) ≡ i }
     {
         match made {
             Move::Offer { site, chan } => self.outputs[usize::from(*chan % 256)] = *site,

@@ -93,7 +93,9 @@ impl Frame {
 
     /// The frame that goes on alone: this one, or one within it, down the parts that go on; a PAR's parts go on side by side.
     fn innermost(&self) -> &Frame
-        ensures begins { (b : Begins) → BeginsWith b (view result.now).1 → BeginsWith b (view self.now).1 }
+        ensures begins { (b : Begins) →
+            BeginsWith b (view result.now).1 →
+            BeginsWith b (view self.now).1 }
         ensures moves { (e : Store) → own (view self.now).1 e ≡ own (view result.now).1 e }
     {
         match self.part_alone() {
@@ -105,7 +107,8 @@ impl Frame {
     /// The place of the part that goes on alone; None where none does.
     #[inline(always)]
     fn part_alone(&self) -> Option<usize>
-        ensures { IfSome result (λ at. BeginsAs at (views (out-Frame self.now).parts.items) (view self.now).1) }
+        ensures { IfSome result
+            (λ at. BeginsAs at (views (out-Frame self.now).parts.items) (view self.now).1) }
     {
         if let Phase::Waiting = self.phase {
             if self.kind.goes_on_at_one_part() {
@@ -224,9 +227,13 @@ impl Frame {
     /// The frame that a site is at: this one, or one within it, down the parts that go on.
     pub(crate) fn find(&self, site: u16) -> &Frame
         requires { InPreorder (view self.now).0 }
-        ensures begins { BeginsAt (out-Frame result.now).phase (view result.now).0 site (view self.now).1 }
-        ensures moves { MovesAt (out-Frame result.now).phase (view result.now).0 site (view self.now).1 }
-        ensures waits { (w : Waiting) → Contains (waiting (view result.now).1) w → Contains (waiting (view self.now).1) w }
+        ensures begins { BeginsAt (out-Frame result.now).phase (view result.now).0 site
+            (view self.now).1 }
+        ensures moves { MovesAt (out-Frame result.now).phase (view result.now).0 site
+            (view self.now).1 }
+        ensures waits { (w : Waiting) →
+            Contains (waiting (view result.now).1) w →
+            Contains (waiting (view self.now).1) w }
     {
         match self.part_with_site(site) {
             Some(at) => self.parts[at].find(site),
@@ -238,7 +245,10 @@ impl Frame {
     /// part goes on.
     fn part_with_site(&self, site: u16) -> Option<usize>
         requires { InPreorder (view self.now).0 }
-        ensures { MatchOption result (BeginsAt (out-Frame self.now).phase (view self.now).0 site (view self.now).1 × MovesAt (out-Frame self.now).phase (view self.now).0 site (view self.now).1) (λ at. HasSiteIn site (views (out-Frame self.now).parts.items) at (view self.now).1) }
+        ensures { MatchOption result
+            (BeginsAt (out-Frame self.now).phase (view self.now).0 site (view self.now).1 ×
+            MovesAt (out-Frame self.now).phase (view self.now).0 site (view self.now).1)
+            (λ at. HasSiteIn site (views (out-Frame self.now).parts.items) at (view self.now).1) }
     {
         match self.phase {
             Phase::Waiting => {
@@ -275,7 +285,8 @@ impl Frame {
         vars: &[Datum],
     ) -> Result<Option<Bytes>, Memory>
         requires { InPreorder (view self.now).0 }
-        ensures { IfOk result (λ sent. sent ≡ carried (output_at site (view self.now).1 (store vars.now))) }
+        ensures { IfOk result
+            (λ sent. sent ≡ carried (output_at site (view self.now).1 (store vars.now))) }
     {
         let frame = self.find(site);
         match frame.phase {
@@ -293,7 +304,8 @@ impl Frame {
         vars: &[Datum],
     ) -> Result<Option<Datum>, Memory>
         requires { InPreorder (view self.now).0 }
-        ensures { IfOk result (λ value. value ≡ assigned_at site (view self.now).1 (store vars.now)) }
+        ensures { IfOk result
+            (λ value. value ≡ assigned_at site (view self.now).1 (store vars.now)) }
     {
         let frame = self.find(site);
         match frame.phase {
@@ -312,7 +324,8 @@ impl Frame {
 
 /// The place, if there is a part at it.
 fn place_among(parts: &Vec<Frame>, at: usize) -> Option<usize>
-    ensures { MatchOption result (slice_get (views parts.now.items) at ≡ None) (λ place. (place ≡ at) × (place < length (views parts.now.items))) }
+    ensures { MatchOption result (slice_get (views parts.now.items) at ≡ None)
+        (λ place. (place ≡ at) × (place < length (views parts.now.items))) }
 {
     if at < parts.len() {
         return Some(at);
@@ -332,7 +345,8 @@ fn if_waits(site: u16, waits: Waits, wanted: Waits) -> Option<u16>
 
 /// The site of an ALT that took the guard at a place, if the message that it waits for is wanted.
 fn chosen_waits(site: u16, kind: &Kind, at: usize, wanted: Waits) -> Option<u16>
-    ensures { (vs : List View) → result ≡ first_waits wanted (waiting (awaiting kind.now site vs at)) }
+    ensures { (vs : List View) →
+        result ≡ first_waits wanted (waiting (awaiting kind.now site vs at)) }
 {
     match kind {
         Kind::Alt { guards } => input_waits(site, guards.inputs.as_slice(), at, wanted),
@@ -342,7 +356,9 @@ fn chosen_waits(site: u16, kind: &Kind, at: usize, wanted: Waits) -> Option<u16>
 
 /// The site of the guarded input at a place, if its message is wanted.
 fn input_waits(site: u16, inputs: &[GuardedInput], at: usize, wanted: Waits) -> Option<u16>
-    ensures { (v : Option View) → result ≡ first_waits wanted (waiting (chosen_at site (slice_get (map gate inputs.now) at) v)) }
+    ensures { (v : Option View) →
+        result ≡
+        first_waits wanted (waiting (chosen_at site (slice_get (map gate inputs.now) at) v)) }
 {
     if at < inputs.len() {
         return if_waits(
@@ -363,7 +379,9 @@ fn push_part(
     at: usize,
     vars: &[Datum],
 ) -> Result<(), Memory>
-    ensures { OnOk result (found.new ≡ found.old ++ part_own (slice_get (views parts.now.items) at) (store vars.now)) }
+    ensures { OnOk result
+        (found.new ≡
+        found.old ++ part_own (slice_get (views parts.now.items) at) (store vars.now)) }
 {
     if at < parts.len() {
         return parts[at].push_moves(found, vars);
@@ -374,7 +392,8 @@ fn push_part(
 /// Adds the moves that parts side by side can begin with.
 #[cycle(moves)]
 fn push_parts(found: &mut Items<Move>, parts: &Vec<Frame>, vars: &[Datum]) -> Result<(), Memory>
-    ensures { OnOk result (found.new ≡ found.old ++ own (besides (views parts.now.items)) (store vars.now)) }
+    ensures { OnOk result
+        (found.new ≡ found.old ++ own (besides (views parts.now.items)) (store vars.now)) }
 {
     for part in parts.as_slice() {
         if let Look::One(made) = part.look(vars) {
@@ -388,7 +407,8 @@ fn push_parts(found: &mut Items<Move>, parts: &Vec<Frame>, vars: &[Datum]) -> Re
 
 /// The site of the part at a place, if that is an output or input that waits for this once it has begun.
 fn part_waits_begun(parts: &Vec<Frame>, at: usize, wanted: Waits) -> Option<u16>
-    ensures { result ≡ first_waits wanted (part_waits (slice_get (resting_at at (views parts.now.items)) at)) }
+    ensures { result ≡
+        first_waits wanted (part_waits (slice_get (resting_at at (views parts.now.items)) at)) }
 {
     if at < parts.len() {
         return parts[at].waits_begun(wanted);
@@ -473,7 +493,10 @@ fn push_ready(
     parts: &Vec<Frame>,
     vars: &[Datum],
 ) -> Result<(), Memory>
-    ensures { OnOk result (found.new ≡ found.old ++ own (Fresh (plan_at kind.now site (views parts.now.items))) (store vars.now)) }
+    ensures { OnOk result
+        (found.new ≡
+        found.old ++
+        own (Fresh (plan_at kind.now site (views parts.now.items))) (store vars.now)) }
 {
     match kind {
         Kind::Alt { guards } => guards.push_choices(found, site, vars),
@@ -494,7 +517,9 @@ fn push_move(found: &mut Items<Move>, made: Option<Move>) -> Result<(), Memory>
 
 /// Whether the move is one of a process that hasn't begun.
 fn ready_begins(made: &Move, site: u16, kind: &Kind, parts: &Vec<Frame>, vars: &[Datum]) -> bool
-    ensures { IsTrue result ↔ Contains (own (Fresh (plan_at kind.now site (views parts.now.items))) (store vars.now)) made.now }
+    ensures { IsTrue result ↔
+        Contains (own (Fresh (plan_at kind.now site (views parts.now.items))) (store vars.now))
+        made.now }
 {
     match kind {
         Kind::Alt { guards } => guards.has_choice(made, site, vars),
@@ -512,7 +537,8 @@ fn is_listed(made: &Move, one: Option<Move>) -> bool
 /// The move of a process that hasn't begun and is no ALT.
 pub(crate) fn ready_move(site: u16, kind: &Kind, parts: &Vec<Frame>, vars: &[Datum]) -> Option<Move>
     requires { is_choice kind.now ≡ false }
-    ensures { own (Fresh (plan_at kind.now site (views parts.now.items))) (store vars.now) ≡ listed result }
+    ensures { own (Fresh (plan_at kind.now site (views parts.now.items))) (store vars.now) ≡
+        listed result }
 {
     match kind {
         Kind::Stop => None,
@@ -532,7 +558,8 @@ pub(crate) fn ready_move(site: u16, kind: &Kind, parts: &Vec<Frame>, vars: &[Dat
 
 /// What a look at a process that hasn't begun tells of its moves.
 fn ready_look(site: u16, kind: &Kind, parts: &Vec<Frame>, vars: &[Datum]) -> Look
-    ensures { Tells result (own (Fresh (plan_at kind.now site (views parts.now.items))) (store vars.now)) }
+    ensures { Tells result
+        (own (Fresh (plan_at kind.now site (views parts.now.items))) (store vars.now)) }
 {
     if kind.is_choice() {
         return Look::More;
@@ -568,7 +595,12 @@ fn ready_message(
     site: u16,
     vars: &[Datum],
 ) -> Result<Option<Bytes>, Memory>
-    ensures { IfOk result (λ sent. sent ≡ carried (output_at site (Fresh (plan_at kind.now own (views parts.now.items))) (store vars.now))) }
+    ensures { IfOk result
+        (λ sent.
+        sent ≡
+        carried
+        (output_at site (Fresh (plan_at kind.now own (views parts.now.items)))
+        (store vars.now))) }
 {
     if site != own {
         return Ok(None);
@@ -591,7 +623,11 @@ fn ready_assigned(
     site: u16,
     vars: &[Datum],
 ) -> Result<Option<Datum>, Memory>
-    ensures { IfOk result (λ value. value ≡ assigned_at site (Fresh (plan_at kind.now own (views parts.now.items))) (store vars.now)) }
+    ensures { IfOk result
+        (λ value.
+        value ≡
+        assigned_at site (Fresh (plan_at kind.now own (views parts.now.items)))
+        (store vars.now)) }
 {
     if site != own {
         return Ok(None);

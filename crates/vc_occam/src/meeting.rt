@@ -85,7 +85,9 @@ fn push_joined(
     inside: &[u16],
 ) -> Result<(), Memory>
     requires { count ≤ length found.old }
-    ensures { OnOk result (found.new ≡ found.old ++ as_joined (among inside.now) (take count found.old) (made.now ∷ [])) }
+    ensures { OnOk result
+        (found.new ≡
+        found.old ++ as_joined (among inside.now) (take count found.old) (made.now ∷ [])) }
 {
     if is_outside(made, inside) {
         found.push(*made)?;
@@ -101,7 +103,10 @@ fn push_joined(
 /// each input or guard on its channel.
 fn push_all_joined(found: &mut Items<Move>, count: usize, inside: &[u16]) -> Result<(), Memory>
     requires { count ≤ length found.old }
-    ensures { OnOk result (found.new ≡ found.old ++ as_joined (among inside.now) (take count found.old) (take count found.old)) }
+    ensures { OnOk result
+        (found.new ≡
+        found.old ++
+        as_joined (among inside.now) (take count found.old) (take count found.old)) }
 {
     for place in 0..count {
         let made = found.as_slice()[place];
@@ -113,7 +118,8 @@ fn push_all_joined(found: &mut Items<Move>, count: usize, inside: &[u16]) -> Res
 /// Moves all but so many moves of the list to its front.
 fn move_front(found: &mut Items<Move>, count: usize)
     requires { count ≤ length found.old }
-    ensures { (length found.new ≡ length found.old) × (take (length found.old - count) found.new ≡ drop count found.old) }
+    ensures { (length found.new ≡ length found.old) ×
+        (take (length found.old - count) found.new ≡ drop count found.old) }
 {
     for place in 0..found.len() - count {
         let made = found.as_slice()[place + count];
@@ -142,7 +148,11 @@ fn drop_front(found: &mut Items<Move>, count: usize)
 
 /// Where an output and an input meet on a channel inside the node, what they come to.
 fn meet_alone(sender: u16, chan: u16, receiver: u16, on: u16, inside: &[u16]) -> Option<Move>
-    ensures { IfSome result (λ met. (chan ≡ on) × (among inside.now chan ≡ true) × (met ≡ Inner sender receiver None chan)) }
+    ensures { IfSome result
+        (λ met.
+        (chan ≡ on) ×
+        (among inside.now chan ≡ true) ×
+        (met ≡ Inner sender receiver None chan)) }
 {
     if chan == on && inside.contains(&chan) {
         return Some(Move::Inner {
@@ -157,7 +167,11 @@ fn meet_alone(sender: u16, chan: u16, receiver: u16, on: u16, inside: &[u16]) ->
 
 /// The meeting that two moves come to, if one is an output and the other the input that it meets inside the node.
 fn meeting_of(first: &Move, second: &Move, inside: &[u16]) -> Option<Move>
-    ensures { IfSome result (λ met. as_joined (among inside.now) (first.now ∷ second.now ∷ []) (first.now ∷ second.now ∷ []) ≡ met ∷ []) }
+    ensures { IfSome result
+        (λ met.
+        as_joined (among inside.now) (first.now ∷ second.now ∷ [])
+        (first.now ∷ second.now ∷ []) ≡
+        met ∷ []) }
 {
     match *first {
         Move::Offer { site: sender, chan } => match *second {

@@ -14,7 +14,9 @@ impl Frame {
     #[cycle(offer)]
     pub(crate) fn offer(&mut self, site: u16)
         requires in_preorder { InPreorder (view self.old).0 }
-        ensures did { (e : Store) (c : ℕ) → Able (view self.old).1 e site (Offer c) → Did (view self.old).1 e site (Offer c) (view self.new).1 e }
+        ensures did { (e : Store) (c : ℕ) →
+            Able (view self.old).1 e site (Offer c) →
+            Did (view self.old).1 e site (Offer c) (view self.new).1 e }
         ensures plan { (view self.new).0 ≡ (view self.old).0 }
     {
         match self.phase {
@@ -55,7 +57,10 @@ impl Frame {
 #[inline(always)]
 fn offer_within(at: usize, parts: &mut Vec<Frame>, site: u16)
     requires in_preorder { PartInPreorder (slice_get (views parts.old.items) at) }
-    ensures did { (e : Store) (c : ℕ) → Able (part_rest (slice_get (views parts.old.items) at)) e site (Offer c) → Did (part_rest (slice_get (views parts.old.items) at)) e site (Offer c) (part_rest (slice_get (views parts.new.items) at)) e }
+    ensures did { (e : Store) (c : ℕ) →
+        Able (part_rest (slice_get (views parts.old.items) at)) e site (Offer c) →
+        Did (part_rest (slice_get (views parts.old.items) at)) e site (Offer c)
+        (part_rest (slice_get (views parts.new.items) at)) e }
     ensures plans { plans (views parts.new.items) ≡ plans (views parts.old.items) }
     ensures others { ChangedAt at (views parts.old.items) (views parts.new.items) }
 {

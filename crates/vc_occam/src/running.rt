@@ -96,12 +96,15 @@ fn meet(
     taken: &Move,
     answer: Answer,
 ) -> Begins
-    requires meets { CanBegin (own (view frame.old).1 (store vars.old.items)) sender chan taken.now }
-    requires fits { came answer ≡ carried (output_at sender (view frame.old).1 (store vars.old.items)) }
+    requires meets { CanBegin (own (view frame.old).1 (store vars.old.items)) sender chan
+        taken.now }
+    requires fits { came answer ≡
+        carried (output_at sender (view frame.old).1 (store vars.old.items)) }
     requires variables { HasVariables (view frame.old).0 (length vars.old.items) }
     requires in_preorder { InPreorder (view frame.old).0 }
     requires own_sites { OwnSites (view frame.old).1 }
-    ensures met { HasMet (at (view frame.old).1 (store vars.old.items)) sender chan taken.now answer (at (view frame.new).1 (store vars.new.items)) }
+    ensures met { HasMet (at (view frame.old).1 (store vars.old.items)) sender chan taken.now answer
+        (at (view frame.new).1 (store vars.new.items)) }
     ensures plan { (view frame.new).0 ≡ (view frame.old).0 }
     ensures length { length vars.new.items ≡ length vars.old.items }
     ensures begins { BeginsWith result (view frame.new).1 }
@@ -225,7 +228,8 @@ impl Running {
     #[tactic(auto, unfolding(crate::specs::Runnings::state, crate::specs::Runnings::inner_channels))]
     pub fn first_from(&self, site: u16) -> Option<Move>
         ensures listed { IfSome result (λ made. Contains (moves self.now) made) }
-        ensures first { ((c : ℕ) → inner_channels self.now c ≡ false) → result ≡ from_site site (moves self.now) }
+        ensures first { ((c : ℕ) → inner_channels self.now c ≡ false) →
+            result ≡ from_site site (moves self.now) }
         ensures joined { (c : ℕ) → inner_channels self.now c ≡ true → result ≡ None }
     {
         if !self.inside.is_empty() {
@@ -276,7 +280,9 @@ impl Running {
     /// Whether an output and an input or guard can begin that meet on this channel inside the node.
     #[tactic(auto, unfolding(crate::specs::Runnings::state, crate::specs::Runnings::inner_channels))]
     fn meet_now(&self, sender: u16, receiver: u16, guard: Option<u16>, chan: u16) -> bool
-        ensures { IsTrue result ↔ CanMeet (inner_channels self.now) (own (state self.now).rest (state self.now).store) sender receiver guard chan }
+        ensures { IsTrue result ↔
+            CanMeet (inner_channels self.now) (own (state self.now).rest (state self.now).store)
+            sender receiver guard chan }
     {
         let offer = Move::Offer { site: sender, chan };
         let taken = partner(receiver, guard, chan);
@@ -306,10 +312,15 @@ impl Running {
     pub fn act(&mut self, made: &Move, answer: Answer) -> Result<(), Memory>
         requires listed { Contains (moves self.old) made.now }
         requires fits { FitsMove made.now (sent_by (state self.old) made.now) answer }
-        ensures made { OnOk result (Acts (state self.old) (doing made.now (sent_by (state self.old) made.now) answer) (state self.new)) }
+        ensures made { OnOk result
+            (Acts (state self.old) (doing made.now (sent_by (state self.old) made.now) answer)
+            (state self.new)) }
         ensures unchanged { OnErr result ((self.new ≡ self.old) × IsQuiet made.now) }
         ensures inside { inner_channels self.new ≡ inner_channels self.old }
-        ensures waits { OnOk result (BeginsToWait made.now answer → ((c : ℕ) → inner_channels self.old c ≡ false) → moves self.new ≡ without (site_of made.now) (moves self.old)) }
+        ensures waits { OnOk result
+            (BeginsToWait made.now answer →
+            ((c : ℕ) → inner_channels self.old c ≡ false) →
+            moves self.new ≡ without (site_of made.now) (moves self.old)) }
     {
         match made {
             Move::Inner {
@@ -343,7 +354,8 @@ impl Running {
         requires listed { Contains (own (state self.old).rest (state self.old).store) made.now }
         requires loud { IsQuiet made.now → ⊥ }
         requires fits { FitsMove made.now (sent_by (state self.old) made.now) answer }
-        ensures made { Acts (state self.old) (doing made.now (sent_by (state self.old) made.now) answer) (state self.new) }
+        ensures made { Acts (state self.old)
+            (doing made.now (sent_by (state self.old) made.now) answer) (state self.new) }
         ensures inside { inner_channels self.new ≡ inner_channels self.old }
     {
         let mut doing = SiteDeed {
@@ -391,7 +403,8 @@ impl Running {
     #[tactic(auto, unfolding(crate::specs::Runnings::state, crate::specs::Runnings::inner_channels))]
     fn step(&mut self, site: u16, assigned: Option<Datum>)
         requires listed { Contains (moves self.old) (Move.Quiet site) }
-        requires assigned { assigned ≡ assigned_at site (view self.old.frame).1 (store self.old.vars.items) }
+        requires assigned { assigned ≡
+            assigned_at site (view self.old.frame).1 (store self.old.vars.items) }
         ensures made { Acts (state self.old) (Rests site) (state self.new) }
         ensures inside { inner_channels self.new ≡ inner_channels self.old }
     {
@@ -422,7 +435,9 @@ impl Running {
 
     /// A site that waits for this, if one does; it is looked for first at the hint.
     fn waits_on(&self, hint: u16, wanted: Waits) -> Option<u16>
-        ensures { MatchOption result ((i : ℕ) → Contains (waiting (view self.now.frame).1) (waits_at wanted i) → ⊥) (λ i. Contains (waiting (view self.now.frame).1) (waits_at wanted i)) }
+        ensures { MatchOption result
+            ((i : ℕ) → Contains (waiting (view self.now.frame).1) (waits_at wanted i) → ⊥)
+            (λ i. Contains (waiting (view self.now.frame).1) (waits_at wanted i)) }
     {
         match self.frame.find(hint).waits_on(wanted) {
             Some(site) => Some(site),
@@ -433,7 +448,9 @@ impl Running {
     /// The site whose output on the channel waits to be finished, if there is one.
     #[tactic(auto, unfolding(crate::specs::Runnings::state))]
     pub fn output_on(&self, chan: u16) -> Option<u16>
-        ensures { MatchOption result ((i : ℕ) → Contains (waiting (state self.now).rest) (output i chan) → ⊥) (λ i. Contains (waiting (state self.now).rest) (output i chan)) }
+        ensures { MatchOption result
+            ((i : ℕ) → Contains (waiting (state self.now).rest) (output i chan) → ⊥)
+            (λ i. Contains (waiting (state self.now).rest) (output i chan)) }
     {
         self.waits_on(self.hints.output_on(chan), Waits::Output { chan })
     }
@@ -441,7 +458,9 @@ impl Running {
     /// The site whose input on the channel waits for a message, if there is one.
     #[tactic(auto, unfolding(crate::specs::Runnings::state))]
     pub fn input_on(&self, chan: u16) -> Option<u16>
-        ensures { MatchOption result ((i : ℕ) → Contains (waiting (state self.now).rest) (input i chan) → ⊥) (λ i. Contains (waiting (state self.now).rest) (input i chan)) }
+        ensures { MatchOption result
+            ((i : ℕ) → Contains (waiting (state self.now).rest) (input i chan) → ⊥)
+            (λ i. Contains (waiting (state self.now).rest) (input i chan)) }
     {
         self.waits_on(self.hints.input_on(chan), Waits::Input { chan })
     }

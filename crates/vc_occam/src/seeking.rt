@@ -62,7 +62,8 @@ impl Frame {
 #[cycle(first)]
 fn part_from(site: u16, parts: &Vec<Frame>, at: usize, vars: &[Datum]) -> Option<Move>
     requires { PartInPreorder (slice_get (views parts.now.items) at) }
-    ensures { result ≡ from_site site (part_own (slice_get (views parts.now.items) at) (store vars.now)) }
+    ensures { result ≡
+        from_site site (part_own (slice_get (views parts.now.items) at) (store vars.now)) }
 {
     if at < parts.len() {
         return parts[at].first_from(site, vars);
@@ -95,7 +96,9 @@ fn ready_from(
     parts: &Vec<Frame>,
     vars: &[Datum],
 ) -> Option<Move>
-    ensures { result ≡ from_site site (own (Fresh (plan_at kind.now begins (views parts.now.items))) (store vars.now)) }
+    ensures { result ≡
+        from_site site
+        (own (Fresh (plan_at kind.now begins (views parts.now.items))) (store vars.now)) }
 {
     match kind {
         Kind::Alt { guards } => guards.first_choice(site, begins, vars),

@@ -37,7 +37,8 @@ pub(crate) fn set_variable(vars: &mut Vec<Datum>, var: u8, datum: Datum)
 #[inline(always)]
 pub(crate) fn put(vars: &mut Vec<Datum>, var: u8, message: Bytes)
     requires { var < length vars.old.items }
-    ensures value { store vars.new.items ≡ set (store vars.old.items) var (received (store vars.old.items var) message) }
+    ensures value { store vars.new.items ≡
+        set (store vars.old.items) var (received (store vars.old.items var) message) }
     ensures length { length vars.new.items ≡ length vars.old.items }
 {
     let place = usize::from(var);

@@ -10,7 +10,8 @@ use std::alloc::Global;
 /// The header that a packet's body begins with, or nothing where the body has fewer than two bytes.
 pub fn front_header(packet: &Packet) -> Option<u16>
     ensures header { result ≡ front_header_of packet.now.body }
-    ensures spelled { IfSome result (λ header. packet.now.body ≡ spelled (header ∷ []) ++ drop 2 packet.now.body) }
+    ensures spelled { IfSome result
+        (λ header. packet.now.body ≡ spelled (header ∷ []) ++ drop 2 packet.now.body) }
 {
     match packet.body.as_slice() {
         [high, low, ..] => Some(u16::from_be_bytes([*high, *low])),

@@ -15,7 +15,10 @@ const FULL: usize = 32;
 /// The number of pieces of a message of `len` bytes: one for each 32 bytes that it begins, and one if it is empty.
 pub fn pieces(len: usize) -> usize
     ensures count { result ≡ piece_count len }
-    ensures pieces { (message : List ℕ) (cs : List (List ℕ)) → length message ≡ len → Pieces message cs → length cs ≡ result }
+    ensures pieces { (message : List ℕ) (cs : List (List ℕ)) →
+        length message ≡ len →
+        Pieces message cs →
+        length cs ≡ result }
 {
     len.saturating_sub(1) / FULL + 1
 }
@@ -23,7 +26,11 @@ pub fn pieces(len: usize) -> usize
 /// The packet of a message's piece number `k`, counted from 0, behind a route's headers.
 pub fn piece(alloc: Global, route: &[u16], msg: &[u8], k: usize) -> Result<Packet, Memory>
     requires { k < piece_count (length msg.now) }
-    ensures { IfOk result (λ packet. (cs : List (List ℕ)) → Pieces msg.now cs → packet ≡ piece_packet route.now (drop k cs)) }
+    ensures { IfOk result
+        (λ packet.
+        (cs : List (List ℕ)) →
+        Pieces msg.now cs →
+        packet ≡ piece_packet route.now (drop k cs)) }
 {
     let rest = &msg[FULL * k..];
     let is_last = rest.len() <= FULL;

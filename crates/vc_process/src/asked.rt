@@ -90,7 +90,8 @@ fn is_in_length_itself(process: &Process) -> bool
 /// Whether its own channel is among so many, and its own variables are there and of the kinds that it wants.
 #[tactic(auto, unfolding(crate::specs::InOrder::number))]
 fn fits_itself(process: &Process, kinds: &[ValueKind], channels: usize) -> bool
-    ensures { (site : ℕ) → result ≡ names_itself kinds.now channels ((number process.now).tree site) }
+    ensures { (site : ℕ) →
+        result ≡ names_itself kinds.now channels ((number process.now).tree site) }
 {
     match process {
         Process::Set { var, value } => holds_kind(kinds, *var, value.kind()) && value.fits(kinds),
@@ -125,7 +126,8 @@ fn keeps_itself(process: &Process, kept: u8) -> bool
 impl Asked {
     /// Whether it is so of a process, apart from its parts.
     fn itself(self, process: &Process, kinds: &[ValueKind]) -> bool
-        ensures { (site : ℕ) → result ≡ (asking self kinds.now).itself ((number process.now).tree site) }
+        ensures { (site : ℕ) →
+            result ≡ (asking self kinds.now).itself ((number process.now).tree site) }
     {
         match self {
             Asked::Expressions { depth } => is_within_itself(process, depth),
@@ -169,7 +171,10 @@ impl Asked {
 
     /// Whether it is so of a guard, apart from its body.
     fn guard(self, guard: &Guard, kinds: &[ValueKind]) -> bool
-        ensures { result ≡ ((asking self kinds.now).condition (as_test guard.now.cond) && (asking self kinds.now).channel guard.now.chan && (asking self kinds.now).variable guard.now.var) }
+        ensures { result ≡
+            ((asking self kinds.now).condition (as_test guard.now.cond) &&
+            (asking self kinds.now).channel guard.now.chan &&
+            (asking self kinds.now).variable guard.now.var) }
     {
         self.condition(&guard.cond, kinds)
             && self.channel(guard.chan, kinds)
@@ -180,7 +185,8 @@ impl Asked {
     #[cycle(everywhere)]
     #[tactic(auto, unfolding(crate::specs::InOrder::number))]
     pub(crate) fn everywhere(self, process: &Process, kinds: &[ValueKind]) -> bool
-        ensures { (site : ℕ) → result ≡ is_everywhere (asking self kinds.now) ((number process.now).tree site) }
+        ensures { (site : ℕ) →
+            result ≡ is_everywhere (asking self kinds.now) ((number process.now).tree site) }
     {
         if !self.itself(process, kinds) {
             return false;
@@ -198,7 +204,8 @@ impl Asked {
 
     #[cycle(everywhere)]
     fn in_parts(self, parts: &Items<Process>, kinds: &[ValueKind]) -> bool
-        ensures { (site : ℕ) → result ≡ is_in_parts (asking self kinds.now) (parts_from site (map number parts.now)) }
+        ensures { (site : ℕ) →
+            result ≡ is_in_parts (asking self kinds.now) (parts_from site (map number parts.now)) }
     {
         for part in parts.as_slice() {
             if !self.everywhere(part, kinds) {
@@ -211,7 +218,10 @@ impl Asked {
     #[cycle(everywhere)]
     #[tactic(auto, unfolding(crate::specs::InOrder::number_branch))]
     fn in_branches(self, branches: &Items<Branch>, kinds: &[ValueKind]) -> bool
-        ensures { (site : ℕ) → result ≡ is_in_branches (asking self kinds.now) (branches_from site (map number_branch branches.now)) }
+        ensures { (site : ℕ) →
+            result ≡
+            is_in_branches (asking self kinds.now)
+            (branches_from site (map number_branch branches.now)) }
     {
         for branch in branches.as_slice() {
             if !self.in_branch(branch, kinds) {
@@ -224,14 +234,21 @@ impl Asked {
     #[cycle(everywhere)]
     #[tactic(auto, unfolding(crate::specs::InOrder::number_branch))]
     fn in_branch(self, branch: &Branch, kinds: &[ValueKind]) -> bool
-        ensures { (site : ℕ) → result ≡ ((asking self kinds.now).condition (number_branch branch.now).when && is_everywhere (asking self kinds.now) ((number_branch branch.now).then_do.tree site)) }
+        ensures { (site : ℕ) →
+            result ≡
+            ((asking self kinds.now).condition (number_branch branch.now).when &&
+            is_everywhere (asking self kinds.now)
+            ((number_branch branch.now).then_do.tree site)) }
     {
         self.condition(&branch.cond, kinds) && self.everywhere(&branch.body, kinds)
     }
 
     #[cycle(everywhere)]
     fn in_guards(self, guards: &Items<Guard>, kinds: &[ValueKind]) -> bool
-        ensures { (site : ℕ) → result ≡ is_in_guards (asking self kinds.now) (guards_from site (map number_guard guards.now)) }
+        ensures { (site : ℕ) →
+            result ≡
+            is_in_guards (asking self kinds.now)
+            (guards_from site (map number_guard guards.now)) }
     {
         for guard in guards.as_slice() {
             if !self.in_guard(guard, kinds) {
@@ -244,7 +261,13 @@ impl Asked {
     #[cycle(everywhere)]
     #[tactic(auto, unfolding(crate::specs::InOrder::number_guard))]
     fn in_guard(self, guard: &Guard, kinds: &[ValueKind]) -> bool
-        ensures { (site : ℕ) → result ≡ ((asking self kinds.now).condition (number_guard guard.now).when && (asking self kinds.now).channel (number_guard guard.now).chan && (asking self kinds.now).variable (number_guard guard.now).var && is_everywhere (asking self kinds.now) ((number_guard guard.now).then_do.tree site)) }
+        ensures { (site : ℕ) →
+            result ≡
+            ((asking self kinds.now).condition (number_guard guard.now).when &&
+            (asking self kinds.now).channel (number_guard guard.now).chan &&
+            (asking self kinds.now).variable (number_guard guard.now).var &&
+            is_everywhere (asking self kinds.now)
+            ((number_guard guard.now).then_do.tree site)) }
     {
         self.guard(guard, kinds) && self.everywhere(&guard.body, kinds)
     }

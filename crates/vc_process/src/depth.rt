@@ -30,7 +30,8 @@ pub(crate) fn depth_within(process: &Process, depth: u32) -> bool
 #[cycle(depth)]
 #[tactic(auto, unfolding(crate::specs::InOrder::number, crate::specs::InOrder::number_branch, crate::specs::InOrder::number_guard))]
 fn parts_within(parts: &Items<Process>, depth: u32) -> bool
-    ensures { (site : ℕ) → result ≡ parts_depth_within (parts_from site (map number parts.now)) depth }
+    ensures { (site : ℕ) →
+        result ≡ parts_depth_within (parts_from site (map number parts.now)) depth }
 {
     for part in parts.as_slice() {
         if !depth_within(part, depth) {
@@ -43,7 +44,8 @@ fn parts_within(parts: &Items<Process>, depth: u32) -> bool
 #[cycle(depth)]
 #[tactic(auto, unfolding(crate::specs::InOrder::number, crate::specs::InOrder::number_branch, crate::specs::InOrder::number_guard))]
 fn branches_within(branches: &Items<Branch>, depth: u32) -> bool
-    ensures { (site : ℕ) → result ≡ branches_depth_within (branches_from site (map number_branch branches.now)) depth }
+    ensures { (site : ℕ) →
+        result ≡ branches_depth_within (branches_from site (map number_branch branches.now)) depth }
 {
     for branch in branches.as_slice() {
         if !depth_within(&branch.body, depth) {
@@ -56,7 +58,8 @@ fn branches_within(branches: &Items<Branch>, depth: u32) -> bool
 #[cycle(depth)]
 #[tactic(auto, unfolding(crate::specs::InOrder::number, crate::specs::InOrder::number_branch, crate::specs::InOrder::number_guard))]
 fn guards_within(guards: &Items<Guard>, depth: u32) -> bool
-    ensures { (site : ℕ) → result ≡ guards_depth_within (guards_from site (map number_guard guards.now)) depth }
+    ensures { (site : ℕ) →
+        result ≡ guards_depth_within (guards_from site (map number_guard guards.now)) depth }
 {
     for guard in guards.as_slice() {
         if !depth_within(&guard.body, depth) {

@@ -185,7 +185,8 @@ impl Value {
     /// Its value, or None where it is a fault, where these are its bytes, which may be taken out.
     #[inline(always)]
     pub fn assigned(&self, bytes: &mut Option<Datum>, vars: &[Datum]) -> Option<Datum>
-        ensures { bytes.old ≡ assigned_bytes (given self.now) (store vars.now) → result ≡ datum_of (given self.now) (store vars.now) }
+        ensures { bytes.old ≡ assigned_bytes (given self.now) (store vars.now) →
+            result ≡ datum_of (given self.now) (store vars.now) }
     {
         match self {
             Value::Int(number) => number.value(vars).map(Datum::Int),

@@ -36,7 +36,10 @@ fn push_uses_of(
     process: &Process,
     part: usize,
 ) -> Result<(), Memory>
-    ensures { OnOk result ((site : ℕ) → uses.new.items ≡ uses.old.items ++ map (by_part part) (usages ((number process.now).tree site))) }
+    ensures { OnOk result
+        ((site : ℕ) →
+        uses.new.items ≡
+        uses.old.items ++ map (by_part part) (usages ((number process.now).tree site))) }
 {
     let mut own = Items::new(alloc);
     push_usages(&mut own, process)?;
@@ -45,7 +48,8 @@ fn push_uses_of(
 
 /// The uses of all parts.
 fn uses_of(alloc: Global, parts: &Items<Process>) -> Result<Vec<PartUsage>, Memory>
-    ensures { IfOk result (λ uses. (site : ℕ) → uses.items ≡ part_usages 0 (parts_from site (map number parts.now))) }
+    ensures { IfOk result
+        (λ uses. (site : ℕ) → uses.items ≡ part_usages 0 (parts_from site (map number parts.now))) }
 {
     let mut uses = Vec::new(alloc);
     let parts = parts.as_slice();
@@ -74,7 +78,8 @@ fn clashes(first: &PartUsage, second: &PartUsage) -> bool
 
 /// The first of the uses of the same thing, of which `first` is one, or this is where the next ones begin.
 fn first_of_same(first: &PartUsage, next: &PartUsage) -> PartUsage
-    ensures { ((first.now.used ≡ next.now.used) × (result ≡ first.now)) ⊎ ((first.now.used ≡ next.now.used → ⊥) × (result ≡ next.now)) }
+    ensures { ((first.now.used ≡ next.now.used) × (result ≡ first.now)) ⊎
+        ((first.now.used ≡ next.now.used → ⊥) × (result ≡ next.now)) }
 {
     if first.used == next.used {
         *first
@@ -115,7 +120,9 @@ fn fault_by(used: Used) -> UseFault
 /// Accepts exactly the parts that may run side by side, else tells the least channel that two of them output on, else the least
 /// that two input on, else the least variable that one changes and another uses.
 pub(crate) fn check_parts(alloc: Global, parts: &Items<Process>) -> Result<(), UseFault>
-    ensures { (site : ℕ) → Judges result (SideBySide (parts_from site (map number parts.now))) (Offends (parts_from site (map number parts.now))) }
+    ensures { (site : ℕ) →
+        Judges result (SideBySide (parts_from site (map number parts.now)))
+        (Offends (parts_from site (map number parts.now))) }
 {
     let mut uses = uses_of(alloc, parts)?;
     sort_uses(&mut uses);

@@ -52,7 +52,8 @@ fn push_expression(uses: &mut Items<Usage>, expression: &Expr) -> Result<(), Mem
 
 /// Adds the uses of two expressions.
 fn push_expressions(uses: &mut Items<Usage>, left: &Expr, right: &Expr) -> Result<(), Memory>
-    ensures { OnOk result (uses.new ≡ uses.old ++ (exp_usages (exp left.now) ++ exp_usages (exp right.now))) }
+    ensures { OnOk result
+        (uses.new ≡ uses.old ++ (exp_usages (exp left.now) ++ exp_usages (exp right.now))) }
 {
     push_expression(uses, left)?;
     push_expression(uses, right)
@@ -92,7 +93,8 @@ fn push_value(uses: &mut Items<Usage>, value: &Value) -> Result<(), Memory>
 
 /// Adds the uses of an assignment or an output.
 fn push_given(uses: &mut Items<Usage>, used: Used, value: &Value) -> Result<(), Memory>
-    ensures { OnOk result (uses.new ≡ uses.old ++ (as_changing used ∷ given_usages (given value.now))) }
+    ensures { OnOk result
+        (uses.new ≡ uses.old ++ (as_changing used ∷ given_usages (given value.now))) }
 {
     push_changing(uses, used)?;
     push_value(uses, value)
@@ -108,7 +110,12 @@ fn push_input(uses: &mut Items<Usage>, chan: u16, var: u8) -> Result<(), Memory>
 
 /// Adds the uses of a replicated SEQ, apart from its body.
 fn push_count(uses: &mut Items<Usage>, var: u8, base: &Expr, count: &Expr) -> Result<(), Memory>
-    ensures { OnOk result (uses.new ≡ uses.old ++ (as_changing (of.Variable var) ∷ exp_usages (exp base.now) ++ exp_usages (exp count.now))) }
+    ensures { OnOk result
+        (uses.new ≡
+        uses.old ++
+        (as_changing (of.Variable var) ∷
+        exp_usages (exp base.now) ++
+        exp_usages (exp count.now))) }
 {
     push_changing(uses, Used::Variable(var))?;
     push_expressions(uses, base, count)
@@ -118,7 +125,8 @@ fn push_count(uses: &mut Items<Usage>, var: u8, base: &Expr, count: &Expr) -> Re
 #[cycle(usages)]
 #[tactic(auto, unfolding(crate::specs::InOrder::number, crate::specs::InOrder::number_branch, crate::specs::InOrder::number_guard))]
 pub(crate) fn push_usages(uses: &mut Items<Usage>, process: &Process) -> Result<(), Memory>
-    ensures { OnOk result ((site : ℕ) → uses.new ≡ uses.old ++ usages ((number process.now).tree site)) }
+    ensures { OnOk result
+        ((site : ℕ) → uses.new ≡ uses.old ++ usages ((number process.now).tree site)) }
 {
     match process {
         Process::Set { var, value } => push_given(uses, Used::Variable(*var), value),
@@ -145,7 +153,9 @@ pub(crate) fn push_usages(uses: &mut Items<Usage>, process: &Process) -> Result<
 
 #[cycle(usages)]
 fn push_parts(uses: &mut Items<Usage>, parts: &Items<Process>) -> Result<(), Memory>
-    ensures { OnOk result ((site : ℕ) → uses.new ≡ uses.old ++ usages_of_parts (parts_from site (map number parts.now))) }
+    ensures { OnOk result
+        ((site : ℕ) →
+        uses.new ≡ uses.old ++ usages_of_parts (parts_from site (map number parts.now))) }
 {
     for part in parts.as_slice() {
         if let Err(memory) = push_usages(uses, part) {
@@ -157,7 +167,11 @@ fn push_parts(uses: &mut Items<Usage>, parts: &Items<Process>) -> Result<(), Mem
 
 #[cycle(usages)]
 fn push_branches(uses: &mut Items<Usage>, branches: &Items<Branch>) -> Result<(), Memory>
-    ensures { OnOk result ((site : ℕ) → uses.new ≡ uses.old ++ usages_of_branches (branches_from site (map number_branch branches.now))) }
+    ensures { OnOk result
+        ((site : ℕ) →
+        uses.new ≡
+        uses.old ++
+        usages_of_branches (branches_from site (map number_branch branches.now))) }
 {
     for branch in branches.as_slice() {
         if let Err(memory) = push_conditional(uses, &branch.cond, &branch.body) {
@@ -170,7 +184,11 @@ fn push_branches(uses: &mut Items<Usage>, branches: &Items<Branch>) -> Result<()
 /// Adds the uses of a condition and of what is done under it.
 #[cycle(usages)]
 fn push_conditional(uses: &mut Items<Usage>, cond: &Cond, body: &Process) -> Result<(), Memory>
-    ensures { OnOk result ((site : ℕ) → uses.new ≡ uses.old ++ (test_usages (as_test cond.now) ++ usages ((number body.now).tree site))) }
+    ensures { OnOk result
+        ((site : ℕ) →
+        uses.new ≡
+        uses.old ++
+        (test_usages (as_test cond.now) ++ usages ((number body.now).tree site))) }
 {
     push_condition(uses, cond)?;
     push_usages(uses, body)
@@ -178,7 +196,10 @@ fn push_conditional(uses: &mut Items<Usage>, cond: &Cond, body: &Process) -> Res
 
 #[cycle(usages)]
 fn push_guards(uses: &mut Items<Usage>, guards: &Items<Guard>) -> Result<(), Memory>
-    ensures { OnOk result ((site : ℕ) → uses.new ≡ uses.old ++ usages_of_guards (guards_from site (map number_guard guards.now))) }
+    ensures { OnOk result
+        ((site : ℕ) →
+        uses.new ≡
+        uses.old ++ usages_of_guards (guards_from site (map number_guard guards.now))) }
 {
     for guard in guards.as_slice() {
         if let Err(memory) = push_guarded(uses, guard) {
@@ -191,7 +212,13 @@ fn push_guards(uses: &mut Items<Usage>, guards: &Items<Guard>) -> Result<(), Mem
 #[cycle(usages)]
 #[tactic(auto, unfolding(crate::specs::InOrder::number, crate::specs::InOrder::number_branch, crate::specs::InOrder::number_guard))]
 fn push_guarded(uses: &mut Items<Usage>, guard: &Guard) -> Result<(), Memory>
-    ensures { OnOk result ((site : ℕ) → uses.new ≡ uses.old ++ ((input_usages (number_guard guard.now).chan (number_guard guard.now).var ++ test_usages (number_guard guard.now).when) ++ usages ((number_guard guard.now).then_do.tree site))) }
+    ensures { OnOk result
+        ((site : ℕ) →
+        uses.new ≡
+        uses.old ++
+        ((input_usages (number_guard guard.now).chan (number_guard guard.now).var ++
+        test_usages (number_guard guard.now).when) ++
+        usages ((number_guard guard.now).then_do.tree site))) }
 {
     push_input(uses, guard.chan, guard.var)?;
     push_conditional(uses, &guard.cond, &guard.body)

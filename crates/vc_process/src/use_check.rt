@@ -40,7 +40,9 @@ fn changes(process: &Process, var: u8) -> bool
 #[cycle(check)]
 #[tactic(auto, unfolding(crate::specs::InOrder::number, crate::specs::InOrder::number_branch, crate::specs::InOrder::number_guard))]
 fn check_process(alloc: Global, process: &Process) -> Result<(), UseFault>
-    ensures { (site : ℕ) → Judges result (Lawfully ((number process.now).tree site)) (FirstOffence ((number process.now).tree site)) }
+    ensures { (site : ℕ) →
+        Judges result (Lawfully ((number process.now).tree site))
+        (FirstOffence ((number process.now).tree site)) }
 {
     match process {
         Process::Seq(parts) => check_all(alloc, parts),
@@ -55,7 +57,9 @@ fn check_process(alloc: Global, process: &Process) -> Result<(), UseFault>
 
 #[cycle(check)]
 fn check_par(alloc: Global, parts: &Items<Process>) -> Result<(), UseFault>
-    ensures { (i site : ℕ) → Judges result (Lawfully (PAR i (parts_from site (map number parts.now)))) (FirstOffence (PAR i (parts_from site (map number parts.now)))) }
+    ensures { (i site : ℕ) →
+        Judges result (Lawfully (PAR i (parts_from site (map number parts.now))))
+        (FirstOffence (PAR i (parts_from site (map number parts.now)))) }
 {
     if let Err(fault) = check_parts(alloc, parts) {
         return Err(fault);
@@ -65,7 +69,9 @@ fn check_par(alloc: Global, parts: &Items<Process>) -> Result<(), UseFault>
 
 #[cycle(check)]
 fn check_count(alloc: Global, var: u8, body: &Process) -> Result<(), UseFault>
-    ensures { (i site : ℕ) (a n : Exp) → Judges result (Lawfully (COUNT i var a n ((number body.now).tree site))) (FirstOffence (COUNT i var a n ((number body.now).tree site))) }
+    ensures { (i site : ℕ) (a n : Exp) →
+        Judges result (Lawfully (COUNT i var a n ((number body.now).tree site)))
+        (FirstOffence (COUNT i var a n ((number body.now).tree site))) }
 {
     if changes(body, var) {
         return Err(UseFault::Var(var));
@@ -75,7 +81,9 @@ fn check_count(alloc: Global, var: u8, body: &Process) -> Result<(), UseFault>
 
 #[cycle(check)]
 fn check_all(alloc: Global, parts: &Items<Process>) -> Result<(), UseFault>
-    ensures { (site : ℕ) → Judges result (LawfullyAll (parts_from site (map number parts.now))) (FirstOfAll (parts_from site (map number parts.now))) }
+    ensures { (site : ℕ) →
+        Judges result (LawfullyAll (parts_from site (map number parts.now)))
+        (FirstOfAll (parts_from site (map number parts.now))) }
 {
     for part in parts.as_slice() {
         if let Err(fault) = check_process(alloc, part) {
@@ -87,7 +95,9 @@ fn check_all(alloc: Global, parts: &Items<Process>) -> Result<(), UseFault>
 
 #[cycle(check)]
 fn check_branches(alloc: Global, branches: &Items<Branch>) -> Result<(), UseFault>
-    ensures { (site : ℕ) → Judges result (LawfullyBranches (branches_from site (map number_branch branches.now))) (FirstOfBranches (branches_from site (map number_branch branches.now))) }
+    ensures { (site : ℕ) →
+        Judges result (LawfullyBranches (branches_from site (map number_branch branches.now)))
+        (FirstOfBranches (branches_from site (map number_branch branches.now))) }
 {
     for branch in branches.as_slice() {
         if let Err(fault) = check_process(alloc, &branch.body) {
@@ -99,7 +109,9 @@ fn check_branches(alloc: Global, branches: &Items<Branch>) -> Result<(), UseFaul
 
 #[cycle(check)]
 fn check_guards(alloc: Global, guards: &Items<Guard>) -> Result<(), UseFault>
-    ensures { (site : ℕ) → Judges result (LawfullyGuards (guards_from site (map number_guard guards.now))) (FirstOfGuards (guards_from site (map number_guard guards.now))) }
+    ensures { (site : ℕ) →
+        Judges result (LawfullyGuards (guards_from site (map number_guard guards.now)))
+        (FirstOfGuards (guards_from site (map number_guard guards.now))) }
 {
     for guard in guards.as_slice() {
         if let Err(fault) = check_process(alloc, &guard.body) {

@@ -19,7 +19,9 @@ pub(crate) fn push_uses(
     process: &Process,
     kinds: &[ValueKind],
 ) -> Result<(), Memory>
-    ensures { OnOk result ((site : ℕ) → uses.new ≡ uses.old ++ channel_uses kinds.now ((number process.now).tree site)) }
+    ensures { OnOk result
+        ((site : ℕ) →
+        uses.new ≡ uses.old ++ channel_uses kinds.now ((number process.now).tree site)) }
 {
     match process {
         Process::Send { chan, value } => push_output(uses, *chan, value.kind()),
@@ -37,7 +39,8 @@ pub(crate) fn push_uses(
 
 /// Adds an output.
 fn push_output(uses: &mut Items<ChannelUse>, chan: u16, kind: ValueKind) -> Result<(), Memory>
-    ensures { OnOk result (uses.new ≡ uses.old ++ record { chan = chan; is_output = true; kind = Some kind } ∷ []) }
+    ensures { OnOk result
+        (uses.new ≡ uses.old ++ record { chan = chan; is_output = true; kind = Some kind } ∷ []) }
 {
     uses.push(ChannelUse {
         chan,
@@ -70,7 +73,9 @@ fn push_parts(
     parts: &Items<Process>,
     kinds: &[ValueKind],
 ) -> Result<(), Memory>
-    ensures { OnOk result ((site : ℕ) → uses.new ≡ uses.old ++ uses_of_all kinds.now (parts_from site (map number parts.now))) }
+    ensures { OnOk result
+        ((site : ℕ) →
+        uses.new ≡ uses.old ++ uses_of_all kinds.now (parts_from site (map number parts.now))) }
 {
     for part in parts.as_slice() {
         if let Err(memory) = push_uses(uses, part, kinds) {
@@ -87,7 +92,12 @@ fn push_branches(
     branches: &Items<Branch>,
     kinds: &[ValueKind],
 ) -> Result<(), Memory>
-    ensures { OnOk result ((site : ℕ) → uses.new ≡ uses.old ++ uses_of_branches kinds.now (branches_from site (map number_branch branches.now))) }
+    ensures { OnOk result
+        ((site : ℕ) →
+        uses.new ≡
+        uses.old ++
+        uses_of_branches kinds.now
+        (branches_from site (map number_branch branches.now))) }
 {
     for branch in branches.as_slice() {
         if let Err(memory) = push_uses(uses, &branch.body, kinds) {
@@ -104,7 +114,11 @@ fn push_bodies(
     guards: &Items<Guard>,
     kinds: &[ValueKind],
 ) -> Result<(), Memory>
-    ensures { OnOk result ((site : ℕ) → uses.new ≡ uses.old ++ uses_of_bodies kinds.now (guards_from site (map number_guard guards.now))) }
+    ensures { OnOk result
+        ((site : ℕ) →
+        uses.new ≡
+        uses.old ++
+        uses_of_bodies kinds.now (guards_from site (map number_guard guards.now))) }
 {
     for guard in guards.as_slice() {
         if let Err(memory) = push_uses(uses, &guard.body, kinds) {
@@ -121,7 +135,13 @@ fn push_alternatives(
     guards: &Items<Guard>,
     kinds: &[ValueKind],
 ) -> Result<(), Memory>
-    ensures { OnOk result ((site : ℕ) → uses.new ≡ uses.old ++ (guard_uses kinds.now (guards_from site (map number_guard guards.now)) ++ uses_of_bodies kinds.now (guards_from site (map number_guard guards.now)))) }
+    ensures { OnOk result
+        ((site : ℕ) →
+        uses.new ≡
+        uses.old ++
+        (guard_uses kinds.now (guards_from site (map number_guard guards.now)) ++
+        uses_of_bodies kinds.now
+        (guards_from site (map number_guard guards.now)))) }
 {
     push_guards(uses, guards, kinds)?;
     push_bodies(uses, guards, kinds)
@@ -133,7 +153,10 @@ fn push_guards(
     guards: &Items<Guard>,
     kinds: &[ValueKind],
 ) -> Result<(), Memory>
-    ensures { OnOk result ((site : ℕ) → uses.new ≡ uses.old ++ guard_uses kinds.now (guards_from site (map number_guard guards.now))) }
+    ensures { OnOk result
+        ((site : ℕ) →
+        uses.new ≡
+        uses.old ++ guard_uses kinds.now (guards_from site (map number_guard guards.now))) }
 {
     for guard in guards.as_slice() {
         if let Err(memory) = push_input(uses, guard.chan, kind_at(kinds, guard.var)) {

@@ -10,7 +10,8 @@ impl Process {
     /// How many sites it has, itself and those within it; None where these are more than so many.
     #[cycle(sites)]
     pub fn sites(&self, most: u32) -> Option<u32>
-        ensures { MatchOption result (most < (number self.now).sites) (λ n. (n ≡ (number self.now).sites) × (n ≤ most)) }
+        ensures { MatchOption result (most < (number self.now).sites)
+            (λ n. (n ≡ (number self.now).sites) × (n ≤ most)) }
     {
         if most == 0 {
             return None;
@@ -23,7 +24,8 @@ impl Process {
     #[cycle(sites)]
     #[tactic(auto, unfolding(crate::specs::InOrder::number, crate::specs::InOrder::number_branch, crate::specs::InOrder::number_guard))]
     fn sites_within(&self, most: u32) -> Option<u32>
-        ensures { MatchOption result (most + 1 < (number self.now).sites) (λ n. (n + 1 ≡ (number self.now).sites) × (n ≤ most)) }
+        ensures { MatchOption result (most + 1 < (number self.now).sites)
+            (λ n. (n + 1 ≡ (number self.now).sites) × (n ≤ most)) }
     {
         match self {
             Process::Seq(parts) => sites_of(parts, most),
@@ -40,7 +42,8 @@ impl Process {
 #[cycle(sites)]
 #[tactic(auto, unfolding(crate::specs::InOrder::number, crate::specs::InOrder::number_branch, crate::specs::InOrder::number_guard))]
 fn sites_of(parts: &Items<Process>, most: u32) -> Option<u32>
-    ensures { MatchOption result (most < part_sites (map number parts.now)) (λ n. (n ≡ part_sites (map number parts.now)) × (n ≤ most)) }
+    ensures { MatchOption result (most < part_sites (map number parts.now))
+        (λ n. (n ≡ part_sites (map number parts.now)) × (n ≤ most)) }
 {
     let mut found = 0;
     for part in parts.as_slice() {
@@ -55,7 +58,8 @@ fn sites_of(parts: &Items<Process>, most: u32) -> Option<u32>
 #[cycle(sites)]
 #[tactic(auto, unfolding(crate::specs::InOrder::number, crate::specs::InOrder::number_branch, crate::specs::InOrder::number_guard))]
 fn sites_of_branches(branches: &Items<Branch>, most: u32) -> Option<u32>
-    ensures { MatchOption result (most < branch_sites (map number_branch branches.now)) (λ n. (n ≡ branch_sites (map number_branch branches.now)) × (n ≤ most)) }
+    ensures { MatchOption result (most < branch_sites (map number_branch branches.now))
+        (λ n. (n ≡ branch_sites (map number_branch branches.now)) × (n ≤ most)) }
 {
     let mut found = 0;
     for branch in branches.as_slice() {
@@ -70,7 +74,8 @@ fn sites_of_branches(branches: &Items<Branch>, most: u32) -> Option<u32>
 #[cycle(sites)]
 #[tactic(auto, unfolding(crate::specs::InOrder::number, crate::specs::InOrder::number_branch, crate::specs::InOrder::number_guard))]
 fn sites_of_guards(guards: &Items<Guard>, most: u32) -> Option<u32>
-    ensures { MatchOption result (most < guard_sites (map number_guard guards.now)) (λ n. (n ≡ guard_sites (map number_guard guards.now)) × (n ≤ most)) }
+    ensures { MatchOption result (most < guard_sites (map number_guard guards.now))
+        (λ n. (n ≡ guard_sites (map number_guard guards.now)) × (n ≤ most)) }
 {
     let mut found = 0;
     for guard in guards.as_slice() {

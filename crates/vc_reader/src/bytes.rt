@@ -81,7 +81,9 @@ fn hex_pair(alloc: Global, a: u8, b: u8) -> Result<u8, Stop>
 
 /// The bytes before, with the one that was read behind them.
 fn with_byte(before: Items<u8>, byte: Result<u8, Stop>) -> Result<Items<u8>, Stop>
-    ensures { (meant : Result ℕ FaultData) → Gives (λ x. x) byte meant → Gives (λ x. x) result (pushed before meant) }
+    ensures { (meant : Result ℕ FaultData) →
+        Gives (λ x. x) byte meant →
+        Gives (λ x. x) result (pushed before meant) }
 {
     let byte = byte?;
     let mut bytes = before;

@@ -107,7 +107,8 @@ fn worded(
     word: CondWord,
     value: &Value,
 ) -> Result<Cond, Stop>
-    ensures { Gives (λ x. x) result (worded_cond (cond_of depth vars.now) vars.now word (view value.now)) }
+    ensures { Gives (λ x. x) result
+        (worded_cond (cond_of depth vars.now) vars.now word (view value.now)) }
 {
     match word {
         CondWord::Compare(rel) => comparison(alloc, vars, rel, value),

@@ -139,7 +139,8 @@ fn worded(
     word: ExprWord,
     value: &Value,
 ) -> Result<Expr, Stop>
-    ensures { Gives (λ x. x) result (worded_expr (expr_of depth vars.now) vars.now word (view value.now)) }
+    ensures { Gives (λ x. x) result
+        (worded_expr (expr_of depth vars.now) vars.now word (view value.now)) }
 {
     match word {
         ExprWord::SizeOf => size(alloc, vars, value),

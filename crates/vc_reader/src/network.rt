@@ -70,7 +70,9 @@ fn process_at(
     channels: &Register<Channel>,
     value: &Value,
 ) -> Result<Process, Stop>
-    ensures { Gives (λ x. x) result (field_of Word.Process (whole_process (vars_of (option_copied head.entry)) channels.now) (view value.now)) }
+    ensures { Gives (λ x. x) result
+        (field_of Word.Process (whole_process (vars_of (option_copied head.entry)) channels.now)
+        (view value.now)) }
 {
     match head {
         Some(head) => {
@@ -250,7 +252,8 @@ fn plan(alloc: Global, value: &Value) -> Result<Plan, Stop>
 /// The JSON value of a text.
 fn parse(alloc: Global, text: &[u8]) -> Result<Value, ReadRefused>
     ensures ok { IfOk result (λ v. IsUtf8 text.now × (read text.now ≡ Some (view v))) }
-    ensures err { IfErr result (λ e. (e ≡ OutOfMemory) ⊎ ((e ≡ Json) × (IsUtf8 text.now → read text.now ≡ None))) }
+    ensures err { IfErr result
+        (λ e. (e ≡ OutOfMemory) ⊎ ((e ≡ Json) × (IsUtf8 text.now → read text.now ≡ None))) }
 {
     match Value::from_slice(alloc, text) {
         Ok(value) => Ok(value),

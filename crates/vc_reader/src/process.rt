@@ -247,7 +247,9 @@ fn step(
     channels: &Register<Channel>,
     value: &Json,
 ) -> Result<Process, Stop>
-    ensures { Gives (λ x. x) result (process_step (process_of depth vars.now channels.now) vars.now channels.now (view value.now)) }
+    ensures { Gives (λ x. x) result
+        (process_step (process_of depth vars.now channels.now) vars.now channels.now
+        (view value.now)) }
 {
     if let Json::String(word) = value {
         return plain(alloc, word.as_str());
@@ -268,7 +270,9 @@ fn named(
     name: &str,
     value: &Json,
 ) -> Result<Process, Stop>
-    ensures { Gives (λ x. x) result (named_process (process_of depth vars.now channels.now) vars.now channels.now name.now (view value.now)) }
+    ensures { Gives (λ x. x) result
+        (named_process (process_of depth vars.now channels.now) vars.now channels.now name.now
+        (view value.now)) }
 {
     let word = process_word(alloc, name)?;
     let read = worded(alloc, depth, vars, channels, word, value);
@@ -285,7 +289,9 @@ fn worded(
     word: ProcessWord,
     value: &Json,
 ) -> Result<Process, Stop>
-    ensures { Gives (λ x. x) result (worded_process (process_of depth vars.now channels.now) vars.now channels.now word (view value.now)) }
+    ensures { Gives (λ x. x) result
+        (worded_process (process_of depth vars.now channels.now) vars.now channels.now word
+        (view value.now)) }
 {
     match word {
         ProcessWord::Set => set(alloc, vars, value),
@@ -310,7 +316,8 @@ fn parts(
     channels: &Register<Channel>,
     value: &Json,
 ) -> Result<Items<Process>, Stop>
-    ensures { Gives (λ x. x) result (list_of (λ _. process_of depth vars.now channels.now) (view value.now)) }
+    ensures { Gives (λ x. x) result
+        (list_of (λ _. process_of depth vars.now channels.now) (view value.now)) }
 {
     let Json::Array(items) = value else {
         return Err(wrong(alloc, Why::Kind));
@@ -335,7 +342,9 @@ fn branches(
     channels: &Register<Channel>,
     value: &Json,
 ) -> Result<Items<Branch>, Stop>
-    ensures { Gives (λ x. x) result (list_of (λ _. branch_of (process_of depth vars.now channels.now) vars.now) (view value.now)) }
+    ensures { Gives (λ x. x) result
+        (list_of (λ _. branch_of (process_of depth vars.now channels.now) vars.now)
+        (view value.now)) }
 {
     let Json::Array(items) = value else {
         return Err(wrong(alloc, Why::Kind));
@@ -360,7 +369,8 @@ fn branch(
     channels: &Register<Channel>,
     value: &Json,
 ) -> Result<Branch, Stop>
-    ensures { Gives (λ x. x) result (branch_of (process_of depth vars.now channels.now) vars.now (view value.now)) }
+    ensures { Gives (λ x. x) result
+        (branch_of (process_of depth vars.now channels.now) vars.now (view value.now)) }
 {
     let cond = cond_first(alloc, 2, vars, value)?;
     let body = part(alloc, depth, vars, channels, 1, value);
@@ -379,7 +389,8 @@ fn repeated(
     channels: &Register<Channel>,
     value: &Json,
 ) -> Result<Process, Stop>
-    ensures { Gives (λ x. x) result (while_of (process_of depth vars.now channels.now) vars.now (view value.now)) }
+    ensures { Gives (λ x. x) result
+        (while_of (process_of depth vars.now channels.now) vars.now (view value.now)) }
 {
     let cond = cond_first(alloc, 2, vars, value)?;
     let body = boxed_part(alloc, depth, vars, channels, 1, value);
@@ -398,7 +409,8 @@ fn counted(
     channels: &Register<Channel>,
     value: &Json,
 ) -> Result<Process, Stop>
-    ensures { Gives (λ x. x) result (count_of (process_of depth vars.now channels.now) vars.now (view value.now)) }
+    ensures { Gives (λ x. x) result
+        (count_of (process_of depth vars.now channels.now) vars.now (view value.now)) }
 {
     let index = VariableOf {
         kind: ValueKind::Int,
@@ -426,7 +438,9 @@ fn guards(
     channels: &Register<Channel>,
     value: &Json,
 ) -> Result<Items<Guard>, Stop>
-    ensures { Gives (λ x. x) result (list_of (λ _. guard_of (process_of depth vars.now channels.now) vars.now channels.now) (view value.now)) }
+    ensures { Gives (λ x. x) result
+        (list_of (λ _. guard_of (process_of depth vars.now channels.now) vars.now channels.now)
+        (view value.now)) }
 {
     let Json::Array(items) = value else {
         return Err(wrong(alloc, Why::Kind));
@@ -451,7 +465,8 @@ fn guard(
     channels: &Register<Channel>,
     value: &Json,
 ) -> Result<Guard, Stop>
-    ensures { Gives (λ x. x) result (guard_of (process_of depth vars.now channels.now) vars.now channels.now (view value.now)) }
+    ensures { Gives (λ x. x) result
+        (guard_of (process_of depth vars.now channels.now) vars.now channels.now (view value.now)) }
 {
     let head = guard_head(alloc, vars, channels, value)?;
     let body = part(alloc, depth, vars, channels, 3, value);
@@ -479,7 +494,8 @@ fn part(
     index: usize,
     value: &Json,
 ) -> Result<Process, Stop>
-    ensures { Gives (λ x. x) result (cell_of index (process_of depth vars.now channels.now) (view value.now)) }
+    ensures { Gives (λ x. x) result
+        (cell_of index (process_of depth vars.now channels.now) (view value.now)) }
 {
     let read = match value.get(index) {
         Some(item) => process(alloc, depth, vars, channels, item),
@@ -498,7 +514,8 @@ fn boxed_part(
     index: usize,
     value: &Json,
 ) -> Result<Boxed<Process>, Stop>
-    ensures { Gives (λ x. x) result (cell_of index (process_of depth vars.now channels.now) (view value.now)) }
+    ensures { Gives (λ x. x) result
+        (cell_of index (process_of depth vars.now channels.now) (view value.now)) }
 {
     boxed(alloc, part(alloc, depth, vars, channels, index, value))
 }

@@ -62,7 +62,9 @@ pub(crate) fn wrong(alloc: Global, why: Why) -> Stop
 
 /// What is wrong at a path, or want of memory for the path.
 fn fault_at(why: Why, path: Result<Path, Memory>) -> Stop
-    ensures { (p : List StepData) → IfOk path (λ q. q ≡ p) → (result ≡ Stop.Memory) ⊎ (result ≡ Stop.Fault (record { why = why; path = p })) }
+    ensures { (p : List StepData) →
+        IfOk path (λ q. q ≡ p) →
+        (result ≡ Stop.Memory) ⊎ (result ≡ Stop.Fault (record { why = why; path = p })) }
 {
     match path {
         Ok(path) => Stop::Fault(Fault { why, path }),
@@ -72,7 +74,9 @@ fn fault_at(why: Why, path: Result<Path, Memory>) -> Stop
 
 /// The same answer, seen from one step further up.
 pub(crate) fn under<T: Drop>(step: Step, read: Result<T, Stop>) -> Result<T, Stop>
-    ensures { (meant : Result T FaultData) → Gives (λ x. x) read meant → Gives (λ x. x) result (under_step step meant) }
+    ensures { (meant : Result T FaultData) →
+        Gives (λ x. x) read meant →
+        Gives (λ x. x) result (under_step step meant) }
 {
     match read {
         Ok(x) => Ok(x),
@@ -86,7 +90,9 @@ pub(crate) fn under<T: Drop>(step: Step, read: Result<T, Stop>) -> Result<T, Sto
 
 /// What was read before, beside what was read next.
 pub(crate) fn beside<A: Drop, B: Drop>(before: A, next: Result<B, Stop>) -> Result<(A, B), Stop>
-    ensures { (meant : Result B FaultData) → Gives (λ x. x) next meant → Gives (λ x. x) result (put_beside before meant) }
+    ensures { (meant : Result B FaultData) →
+        Gives (λ x. x) next meant →
+        Gives (λ x. x) result (put_beside before meant) }
 {
     match next {
         Ok(next) => Ok((before, next)),
@@ -96,7 +102,9 @@ pub(crate) fn beside<A: Drop, B: Drop>(before: A, next: Result<B, Stop>) -> Resu
 
 /// What was read, in a box of its own.
 pub(crate) fn boxed<T: Drop>(alloc: Global, read: Result<T, Stop>) -> Result<Boxed<T>, Stop>
-    ensures { (meant : Result T FaultData) → Gives (λ x. x) read meant → Gives (λ x. x) result meant }
+    ensures { (meant : Result T FaultData) →
+        Gives (λ x. x) read meant →
+        Gives (λ x. x) result meant }
 {
     match read {
         Ok(x) => Ok(Boxed::new(alloc, x)?),
@@ -170,7 +178,9 @@ pub(crate) fn number(alloc: Global, least: u64, most: u64, value: &Value) -> Res
 
 /// What was read of a list, with the item that was read behind it.
 pub(crate) fn with_item<T: Drop>(before: Items<T>, item: Result<T, Stop>) -> Result<Items<T>, Stop>
-    ensures { (meant : Result T FaultData) → Gives (λ x. x) item meant → Gives (λ x. x) result (joins before meant) }
+    ensures { (meant : Result T FaultData) →
+        Gives (λ x. x) item meant →
+        Gives (λ x. x) result (joins before meant) }
 {
     let item = under(Step::Index(before.len()), item)?;
     let mut read = before;
@@ -222,7 +232,9 @@ fn with_named<T: Named + Drop>(
     before: Register<T>,
     item: Result<T, Stop>,
 ) -> Result<Register<T>, Stop>
-    ensures { (meant : Result T FaultData) → Gives (λ x. x) item meant → Gives (λ x. x) result (joins before meant) }
+    ensures { (meant : Result T FaultData) →
+        Gives (λ x. x) item meant →
+        Gives (λ x. x) result (joins before meant) }
 {
     let item = under(Step::Index(before.len()), item)?;
     Ok(before.with(alloc, item)?)

@@ -121,7 +121,8 @@ fn place_name(
     switches: &Register<SwitchPlan>,
     text: &str,
 ) -> Result<Name, Stop>
-    ensures { Gives (λ x. x) result (own_name_of (is_place_name nodes.now switches.now text.now) text.now) }
+    ensures { Gives (λ x. x) result
+        (own_name_of (is_place_name nodes.now switches.now text.now) text.now) }
 {
     let text = text.as_bytes();
     own_name(alloc, is_place(nodes, switches, text), text)

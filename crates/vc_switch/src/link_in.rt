@@ -70,7 +70,10 @@ impl LinkIn {
     /// A token comes with a word: it goes to the buffer, where a place was promised, and else is dropped.
     pub(crate) fn accept(&mut self, came: Token, word: u32) -> bool
         ensures due { IsTrue result ↔ (0 < self.old.receiver.promised) }
-        ensures added { OnTrue result (self.new ≡ record self.old { receiver = received self.old.receiver (token came); word = word }) }
+        ensures added { OnTrue result
+            (self.new ≡
+            record self.old
+            { receiver = received self.old.receiver (token came); word = word }) }
         ensures dropped { OnFalse result (self.new ≡ record self.old { word = word }) }
     {
         self.draw(word);
@@ -107,7 +110,9 @@ impl LinkIn {
     // The random header goes before a packet's first token.
     fn begin(&mut self, header: Option<u16>)
         requires { 2 ≤ self.old.got.limit }
-        ensures { self.new ≡ record self.old { got = record self.old.got { passed = headed header self.old.got.passed } } }
+        ensures { self.new ≡
+            record self.old
+            { got = record self.old.got { passed = headed header self.old.got.passed } } }
     {
         if self.got.is_empty() {
             if let Some(header) = header {
@@ -124,9 +129,22 @@ impl LinkIn {
         requires limit { 2 ≤ self.old.got.limit }
         requires front { IsFront self.old.receiver (Byte byte) }
         ensures front { Passes self.old.receiver (Byte byte) self.new.receiver }
-        ensures room { IsTrue result ↔ (length (headed header self.old.got.passed) < self.old.got.limit) }
-        ensures added { OnTrue result (self.new ≡ record self.old { receiver = self.new.receiver; got = record self.old.got { passed = headed header self.old.got.passed ++ byte ∷ [] } }) }
-        ensures dropped { OnFalse result (self.new ≡ record self.old { receiver = self.new.receiver; got = record self.old.got { passed = headed header self.old.got.passed } }) }
+        ensures room { IsTrue result ↔
+            (length (headed header self.old.got.passed) < self.old.got.limit) }
+        ensures added { OnTrue result
+            (self.new ≡
+            record self.old {
+              receiver = self.new.receiver;
+              got = record self.old.got
+                  { passed = headed header self.old.got.passed ++ byte ∷ [] };
+            }) }
+        ensures dropped { OnFalse result
+            (self.new ≡
+            record self.old {
+              receiver = self.new.receiver;
+              got = record self.old.got
+                  { passed = headed header self.old.got.passed };
+            }) }
     {
         let _byte = self.receiver.pop();
         self.begin(header);
@@ -138,10 +156,22 @@ impl LinkIn {
         requires limit { 2 ≤ self.old.got.limit }
         requires front { IsFront self.old.receiver (EndMark mark) }
         ensures front { Passes self.old.receiver (EndMark mark) self.new.receiver }
-        ensures group { OnTrue result ((front : Front) × HasFront table.now (headed header self.old.got.passed) front) }
-        ensures none { OnFalse result (front_of table.now (headed header self.old.got.passed) ≡ None) }
-        ensures whole { OnTrue result (self.new ≡ record self.old { receiver = self.new.receiver; got = record self.old.got { passed = headed header self.old.got.passed }; mark = Some mark }) }
-        ensures dropped { OnFalse result (self.new ≡ record self.old { receiver = self.new.receiver; got = record self.old.got { passed = [] } }) }
+        ensures group { OnTrue result
+            ((front : Front) × HasFront table.now (headed header self.old.got.passed) front) }
+        ensures none { OnFalse result
+            (front_of table.now (headed header self.old.got.passed) ≡ None) }
+        ensures whole { OnTrue result
+            (self.new ≡
+            record self.old {
+              receiver = self.new.receiver;
+              got = record self.old.got
+                  { passed = headed header self.old.got.passed };
+              mark = Some mark;
+            }) }
+        ensures dropped { OnFalse result
+            (self.new ≡
+            record self.old
+            { receiver = self.new.receiver; got = record self.old.got { passed = [] } }) }
     {
         let _mark = self.receiver.pop();
         self.begin(header);
@@ -170,7 +200,8 @@ impl LinkIn {
 
     /// The packet is bound to an output, to leave from this byte on.
     pub(crate) fn bind(&mut self, output: u8, from: usize)
-        ensures { self.new ≡ record self.old { bound = Some (record { output = output; from = from; sent = 0 }) } }
+        ensures { self.new ≡
+            record self.old { bound = Some (record { output = output; from = from; sent = 0 }) } }
     {
         self.bound = Some(Bound {
             output,
@@ -199,7 +230,8 @@ impl LinkIn {
     /// A byte was put.
     pub(crate) fn advance(&mut self, bound: Bound)
         requires { bound.from + bound.sent < length self.old.got.passed }
-        ensures { self.new ≡ record self.old { bound = Some (record bound { sent = bound.sent + 1 }) } }
+        ensures { self.new ≡
+            record self.old { bound = Some (record bound { sent = bound.sent + 1 }) } }
     {
         let length = self.got.len();
         prove!(bound.sent < length);
@@ -212,7 +244,9 @@ impl LinkIn {
 
     /// The mark was put, and the packet is gone.
     pub(crate) fn release(&mut self)
-        ensures { self.new ≡ record self.old { got = record self.old.got { passed = [] }; mark = None; bound = None } }
+        ensures { self.new ≡
+            record self.old
+            { got = record self.old.got { passed = [] }; mark = None; bound = None } }
     {
         self.got.clear();
         self.mark = None;

@@ -34,7 +34,8 @@ impl LinkOut {
     /// A flow control token comes: eight more tokens may be put, where the credit is at most 8. Else nothing changes.
     pub(crate) fn accept(&mut self) -> bool
         ensures due { IsTrue result ↔ (self.old.credit ≤ 8) }
-        ensures credited { OnTrue result (self.new ≡ record self.old { credit = self.old.credit + 8 }) }
+        ensures credited { OnTrue result
+            (self.new ≡ record self.old { credit = self.old.credit + 8 }) }
         ensures dropped { OnFalse result (self.new ≡ self.old) }
     {
         let is_due = self.credit.may_fct();

@@ -76,7 +76,8 @@ fn does_delete(delete: &[u8], link: u8) -> bool
 
 /// The two ends of each link, for packets of at most `limit` bytes.
 pub(crate) fn links(alloc: Global, limit: usize) -> Result<(Vec<LinkIn>, Vec<LinkOut>), Memory>
-    ensures inputs { IfOk result (λ all. all.0.items ≡ listed (λ link. new_link_in limit) link_count) }
+    ensures inputs { IfOk result
+        (λ all. all.0.items ≡ listed (λ link. new_link_in limit) link_count) }
     ensures outputs { IfOk result (λ all. all.1.items ≡ listed (λ link. new_link_out) link_count) }
 {
     let outputs = outputs(alloc)?;

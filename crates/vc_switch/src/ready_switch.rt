@@ -113,7 +113,10 @@ impl ReadySwitch {
 
     /// A bit for each link from whose buffer a token may pass.
     pub fn passes(&self) -> u32
-        ensures { (l : ℕ) → l < 32 → (bit_at result l ≡ 1) ↔ CanPass (limit_of self.now.inputs) (plan_of self.now) (seen self.now) l }
+        ensures { (l : ℕ) →
+            l < 32 →
+            (bit_at result l ≡ 1) ↔
+            CanPass (limit_of self.now.inputs) (plan_of self.now) (seen self.now) l }
     {
         self.ready.passes
     }
@@ -122,7 +125,10 @@ impl ReadySwitch {
     /// bound to no output.
     pub fn routes(&self) -> u32
         ensures waits { (l : ℕ) → l < 32 → bit_at result l ≡ 1 → Waits ((seen self.now).input l) }
-        ensures can { (l output : ℕ) → l < 32 → CanRoute (plan_of self.now) (seen self.now) l output → bit_at result l ≡ 1 }
+        ensures can { (l output : ℕ) →
+            l < 32 →
+            CanRoute (plan_of self.now) (seen self.now) l output →
+            bit_at result l ≡ 1 }
     {
         self.routes
     }
@@ -130,7 +136,10 @@ impl ReadySwitch {
     /// A bit for each output to which a packet is bound, and so for each on which a token may be put.
     pub fn puts(&self) -> u32
         ensures bound { (l : ℕ) → l < 32 → (bit_at result l ≡ 1) ↔ (IsFree (seen self.now) l → ⊥) }
-        ensures can { (l : ℕ) → l < 32 → CanPut (plan_of self.now) (seen self.now) l → bit_at result l ≡ 1 }
+        ensures can { (l : ℕ) →
+            l < 32 →
+            CanPut (plan_of self.now) (seen self.now) l →
+            bit_at result l ≡ 1 }
     {
         self.ready.puts
     }
@@ -160,7 +169,8 @@ impl ReadySwitch {
     pub fn pass(&mut self, link: u8) -> Result<(), Memory>
         requires link { link < 32 }
         requires may { CanPass (limit_of self.old.inputs) (plan_of self.old) (seen self.old) link }
-        ensures passes { Passes (limit_of self.old.inputs) (plan_of self.old) (seen self.old) link (seen self.new) }
+        ensures passes { Passes (limit_of self.old.inputs) (plan_of self.old) (seen self.old) link
+            (seen self.new) }
         ensures kept { IsKept self.old self.new }
         ensures ok { IsOk result }
     {
@@ -177,7 +187,8 @@ impl ReadySwitch {
         requires input { input < 32 }
         requires output { output < 32 }
         requires may { CanRoute (plan_of self.old) (seen self.old) input output }
-        ensures routes { Routes (plan_of self.old) Wormhole (seen self.old) input output (seen self.new) }
+        ensures routes { Routes (plan_of self.old) Wormhole (seen self.old) input output
+            (seen self.new) }
         ensures kept { IsKept self.old self.new }
     {
         self.switch.route(input, output);
@@ -193,7 +204,8 @@ impl ReadySwitch {
     pub fn put(&mut self, output: u8) -> Token
         requires output { output < 32 }
         requires may { CanPut (plan_of self.old) (seen self.old) output }
-        ensures sends { Sends (plan_of self.old) Wormhole (seen self.old) output (token result) (seen self.new) }
+        ensures sends { Sends (plan_of self.old) Wormhole (seen self.old) output (token result)
+            (seen self.new) }
         ensures kept { IsKept self.old self.new }
     {
         let Some(source) = self.switch.source(output) else {
@@ -227,7 +239,9 @@ impl ReadySwitch {
 fn asked(switch: &Switch, link: u8, known: u32) -> u32
     requires { link < 32 }
     ensures known { Waits ((seen switch.now).input link) → known ≢ 0 → result ≡ known }
-    ensures told { Waits ((seen switch.now).input link) → known ≡ 0 → result ≡ links_of (front_of switch.now.table ((seen switch.now).input link).got) }
+    ensures told { Waits ((seen switch.now).input link) →
+        known ≡ 0 →
+        result ≡ links_of (front_of switch.now.table ((seen switch.now).input link).got) }
     ensures others { (Waits ((seen switch.now).input link) → ⊥) → result ≡ 0 }
     ensures waits { result ≢ 0 → Waits ((seen switch.now).input link) }
 {
@@ -243,7 +257,12 @@ fn asked(switch: &Switch, link: u8, known: u32) -> u32
 // The inputs that wait, but those that ask for busy outputs alone.
 fn asking(asks: &Asks, waits: u32, busy: u32) -> u32
     ensures only { (l : ℕ) → l < 32 → bit_at result l ≡ 1 → bit_at waits l ≡ 1 }
-    ensures all { (l output : ℕ) → l < 32 → bit_at waits l ≡ 1 → bit_at (get_or asks.now l 0) output ≡ 1 → bit_at busy output ≡ 0 → bit_at result l ≡ 1 }
+    ensures all { (l output : ℕ) →
+        l < 32 →
+        bit_at waits l ≡ 1 →
+        bit_at (get_or asks.now l 0) output ≡ 1 →
+        bit_at busy output ≡ 0 →
+        bit_at result l ≡ 1 }
 {
     let mut routes = waits;
     let mut left = waits;

@@ -126,7 +126,8 @@ impl Switch {
 
     /// Whether a token may pass from a link's buffer: one waits, and no packet is whole in the input.
     pub fn may_pass(&self, link: u8) -> bool
-        ensures { IsTrue result ↔ CanPass (limit_of self.now.inputs) (plan_of self.now) (seen self.now) link }
+        ensures { IsTrue result ↔
+            CanPass (limit_of self.now.inputs) (plan_of self.now) (seen self.now) link }
     {
         match self.inputs.get(usize::from(link)) {
             Some(input) => input.may_pass(),
@@ -140,7 +141,8 @@ impl Switch {
     pub fn pass(&mut self, link: u8) -> Result<(), Memory>
         requires link { link < 32 }
         requires may { CanPass (limit_of self.old.inputs) (plan_of self.old) (seen self.old) link }
-        ensures passes { Passes (limit_of self.old.inputs) (plan_of self.old) (seen self.old) link (seen self.new) }
+        ensures passes { Passes (limit_of self.old.inputs) (plan_of self.old) (seen self.old) link
+            (seen self.new) }
         ensures kept { IsKept self.old self.new }
         ensures ok { IsOk result }
     {
@@ -158,7 +160,8 @@ impl Switch {
         requires link { link < 32 }
         requires open { ((seen self.old).input link).mark ≡ None }
         requires front { IsFront ((seen self.old).input link).receiver (Byte byte) }
-        ensures passes { Passes (limit_of self.old.inputs) (plan_of self.old) (seen self.old) link (seen self.new) }
+        ensures passes { Passes (limit_of self.old.inputs) (plan_of self.old) (seen self.old) link
+            (seen self.new) }
         ensures kept { IsKept self.old self.new }
     {
         let at = usize::from(link);
@@ -173,7 +176,8 @@ impl Switch {
         requires link { link < 32 }
         requires open { ((seen self.old).input link).mark ≡ None }
         requires front { IsFront ((seen self.old).input link).receiver (EndMark mark) }
-        ensures passes { Passes (limit_of self.old.inputs) (plan_of self.old) (seen self.old) link (seen self.new) }
+        ensures passes { Passes (limit_of self.old.inputs) (plan_of self.old) (seen self.old) link
+            (seen self.new) }
         ensures kept { IsKept self.old self.new }
     {
         let at = usize::from(link);
@@ -206,7 +210,14 @@ impl Switch {
     /// The group of links by which an input's packet may leave, its first and its last: it is bound to none yet, and its front
     /// header is there and has this group.
     pub fn choices(&self, input: u8) -> Option<(u8, u8)>
-        ensures { MatchOption result ((output : ℕ) → CanLeave (plan_of self.now) (seen self.now) input output → ⊥) (λ group. (group.0 ≤ group.1) × (group.1 < 32) × ((output : ℕ) → CanLeave (plan_of self.now) (seen self.now) input output ↔ ((group.0 ≤ output) × (output ≤ group.1)))) }
+        ensures { MatchOption result
+            ((output : ℕ) → CanLeave (plan_of self.now) (seen self.now) input output → ⊥)
+            (λ group.
+            (group.0 ≤ group.1) ×
+            (group.1 < 32) ×
+            ((output : ℕ) →
+            CanLeave (plan_of self.now) (seen self.now) input output ↔
+            ((group.0 ≤ output) × (output ≤ group.1)))) }
     {
         let waiting = self.inputs.get(usize::from(input))?;
         if !waiting.is_idle() {
@@ -239,7 +250,8 @@ impl Switch {
 
     /// The input whose packet is bound to an output.
     pub(crate) fn source(&self, output: u8) -> Option<u8>
-        ensures { MatchOption result (IsFree (seen self.now) output) (λ input. (input < 32) × (((seen self.now).input input).bound ≡ Some output)) }
+        ensures { MatchOption result (IsFree (seen self.now) output)
+            (λ input. (input < 32) × (((seen self.now).input input).bound ≡ Some output)) }
     {
         match self.outputs.get(usize::from(output)) {
             Some(link) => link.source,
@@ -272,7 +284,8 @@ impl Switch {
         requires input { input < 32 }
         requires output { output < 32 }
         requires may { CanRoute (plan_of self.old) (seen self.old) input output }
-        ensures routes { Routes (plan_of self.old) Wormhole (seen self.old) input output (seen self.new) }
+        ensures routes { Routes (plan_of self.old) Wormhole (seen self.old) input output
+            (seen self.new) }
         ensures kept { IsKept self.old self.new }
     {
         let at = usize::from(input);
@@ -289,7 +302,8 @@ impl Switch {
 
     // The input whose packet is bound to an output, and how it leaves by it.
     fn bound_to(&self, output: u8) -> Option<(u8, Bound)>
-        ensures { MatchOption result (IsFree (seen self.now) output) (λ r. IsBoundTo self.now output r.0 r.1) }
+        ensures { MatchOption result (IsFree (seen self.now) output)
+            (λ r. IsBoundTo self.now output r.0 r.1) }
     {
         match self.source(output) {
             None => None,
@@ -318,7 +332,8 @@ impl Switch {
     pub fn put(&mut self, output: u8) -> Token
         requires output { output < 32 }
         requires may { CanPut (plan_of self.old) (seen self.old) output }
-        ensures sends { Sends (plan_of self.old) Wormhole (seen self.old) output (token result) (seen self.new) }
+        ensures sends { Sends (plan_of self.old) Wormhole (seen self.old) output (token result)
+            (seen self.new) }
         ensures kept { IsKept self.old self.new }
     {
         match self.bound_to(output) {
@@ -336,7 +351,8 @@ impl Switch {
         requires bound { IsBoundTo self.old output source bound }
         requires next { IsNext self.old source bound (Some byte) }
         requires may { CanPut (plan_of self.old) (seen self.old) output }
-        ensures sends { Sends (plan_of self.old) Wormhole (seen self.old) output (token result) (seen self.new) }
+        ensures sends { Sends (plan_of self.old) Wormhole (seen self.old) output (token result)
+            (seen self.new) }
         ensures kept { IsKept self.old self.new }
     {
         self.inputs[usize::from(source)].advance(bound);
@@ -350,7 +366,8 @@ impl Switch {
         requires bound { IsBoundTo self.old output source bound }
         requires next { IsNext self.old source bound None }
         requires may { CanPut (plan_of self.old) (seen self.old) output }
-        ensures sends { Sends (plan_of self.old) Wormhole (seen self.old) output (token result) (seen self.new) }
+        ensures sends { Sends (plan_of self.old) Wormhole (seen self.old) output (token result)
+            (seen self.new) }
         ensures kept { IsKept self.old self.new }
     {
         let at = usize::from(source);
@@ -377,7 +394,8 @@ impl Switch {
     /// The tokens that wait in a link's buffer, in two parts: those of the first came before those of the second. No link beyond
     /// the 32 has any.
     pub fn tokens(&self, link: u8) -> (&[Token], &[Token])
-        ensures { tokens (result.0.now ++ result.1.now) ≡ ((seen self.now).input link).receiver.buffer }
+        ensures { tokens (result.0.now ++ result.1.now) ≡
+            ((seen self.now).input link).receiver.buffer }
     {
         match self.inputs.get(usize::from(link)) {
             Some(input) => input.receiver.tokens(),
@@ -419,7 +437,12 @@ impl Switch {
     /// The first link by which a packet with this body may leave, and at which of its bytes begins what leaves; nothing where it may
     /// leave by none.
     pub fn first_way(&self, body: &[u8]) -> Option<(u8, usize)>
-        ensures { MatchOption result ((output : ℕ) (left : List ℕ) → BodyLeaves (plan_of self.now) body.now output left → ⊥) (λ way. (way.1 ≤ length body.now) × BodyLeaves (plan_of self.now) body.now way.0 (drop way.1 body.now) × IsFirst (plan_of self.now) body.now way.0) }
+        ensures { MatchOption result
+            ((output : ℕ) (left : List ℕ) → BodyLeaves (plan_of self.now) body.now output left → ⊥)
+            (λ way.
+            (way.1 ≤ length body.now) ×
+            BodyLeaves (plan_of self.now) body.now way.0 (drop way.1 body.now) ×
+            IsFirst (plan_of self.now) body.now way.0) }
     {
         match find_front(&self.table, body) {
             Some(front) => Some((

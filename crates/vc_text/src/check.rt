@@ -41,7 +41,8 @@ pub fn accepted_text(alloc: Global, plan: &Plan) -> Result<Vec<u8>, Memory>
 }
 
 fn write_accepted<W: Write>(alloc: Global, plan: &Plan, writer: &mut W) -> Result<(), RunFault>
-    ensures { Writes (W.contents writer.old) (W.contents writer.new) (text_of_accepted plan.now) result }
+    ensures { Writes (W.contents writer.old) (W.contents writer.new) (text_of_accepted plan.now)
+        result }
 {
     let text = accepted_text(alloc, plan)?;
     write_text(writer, text.as_slice())
@@ -53,7 +54,8 @@ pub fn run_check<R: Read, W: Write>(
     reader: &mut R,
     writer: &mut W,
 ) -> Result<(), RunFault>
-    ensures { Checks (R.remaining reader.old) (W.contents writer.old) (W.contents writer.new) result }
+    ensures { Checks (R.remaining reader.old) (W.contents writer.old) (W.contents writer.new)
+        result }
 {
     let accepted = read_accepted(alloc, reader)?;
     write_accepted(alloc, accepted.plan(), writer)

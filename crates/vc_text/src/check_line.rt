@@ -77,7 +77,8 @@ fn push_switch_fault(
     switch: u8,
     fault: TableFault,
 ) -> Result<(), Memory>
-    ensures { OnOk result (out.new.items ≡ out.old.items ++ switch_fault_text plan.now switch fault) }
+    ensures { OnOk result
+        (out.new.items ≡ out.old.items ++ switch_fault_text plan.now switch fault) }
 {
     out.extend_from_slice(plan.switch_name(usize::from(switch)))?;
     out.extend_from_slice(b" ")?;

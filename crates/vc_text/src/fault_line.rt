@@ -55,7 +55,8 @@ pub fn write_fault<W: Write>(
     fault: &RunFault,
     writer: &mut W,
 ) -> Result<(), RunFault>
-    ensures { Writes (W.contents writer.old) (W.contents writer.new) (text_of_fault fault.now) result }
+    ensures { Writes (W.contents writer.old) (W.contents writer.new) (text_of_fault fault.now)
+        result }
 {
     let text = fault_text(alloc, fault)?;
     write_text(writer, text.as_slice())

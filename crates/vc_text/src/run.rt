@@ -63,8 +63,10 @@ pub fn view_of(network: &Network, chan: u16) -> ChannelView<'_>
 
 /// The text of a network's traffic.
 pub(crate) fn traffic_of(alloc: Global, network: &Network, close: Close) -> Result<Vec<u8>, Memory>
-    ensures { (p : Plan) → IsNetworkOf p (state_of network.now) →
-        IfOk result (λ text. text.items ≡ traffic (channels_of p (shown (state_of network.now))) close) }
+    ensures { (p : Plan) →
+        IsNetworkOf p (state_of network.now) →
+        IfOk result
+        (λ text. text.items ≡ traffic (channels_of p (shown (state_of network.now))) close) }
 {
     let views = views(alloc, network)?;
     traffic_text(alloc, views.as_slice(), close)
@@ -144,7 +146,8 @@ pub fn run_step<R: Read, W: Write>(
     writer: &mut W,
     limit: u64,
 ) -> Result<StepReport, RunFault>
-    ensures { Steps (R.remaining reader.old) (W.contents writer.old) (W.contents writer.new) limit result }
+    ensures { Steps (R.remaining reader.old) (W.contents writer.old) (W.contents writer.new) limit
+        result }
 {
     let accepted = read_accepted(alloc, reader)?;
     run_plan(alloc, &accepted, writer, limit)

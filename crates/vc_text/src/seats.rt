@@ -55,7 +55,10 @@ impl Seats {
         requires { actor < 64 }
         ensures it { active_at self.new actor ≡ 0 }
         ensures words { self.new.words ≡ self.old.words }
-        ensures others { (k : ℕ) → k < 64 → k ≢ actor → active_at self.new k ≡ active_at self.old k }
+        ensures others { (k : ℕ) →
+            k < 64 →
+            k ≢ actor →
+            active_at self.new k ≡ active_at self.old k }
     {
         self.active &= !(1u64 << actor);
     }

@@ -195,7 +195,8 @@ pub fn write_channels<W: Write>(
     close: Close,
     writer: &mut W,
 ) -> Result<(), RunFault>
-    ensures { Writes (W.contents writer.old) (W.contents writer.new) (traffic (map shown views.now) close) result }
+    ensures { Writes (W.contents writer.old) (W.contents writer.new)
+        (traffic (map shown views.now) close) result }
 {
     let text = traffic_text(alloc, views, close)?;
     write_text(writer, text.as_slice())

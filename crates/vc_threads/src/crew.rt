@@ -111,7 +111,8 @@ fn run_all<'s, E, J: Given + Send + Drop + 's, G: Closes, R: Threads>(
     seed: u32,
 ) -> Result<Vec<ActorRun>, ThreadFault>
     requires { All (λ j. IsFit (J.job j)) jobs.items }
-    ensures { IfOk result (λ runs. AllZip (λ j r. Ran turns seed (J.job j) r) jobs.items runs.items) }
+    ensures { IfOk result
+        (λ runs. AllZip (λ j r. Ran turns seed (J.job j) r) jobs.items runs.items) }
 {
     let mut jobs = jobs;
     let Some(job) = jobs.pop() else {

@@ -128,7 +128,8 @@ fn look(actor: &Actor, ins: &mut [(u8, In)], k: usize, least: Option<Found>) -> 
 // The place of the least link from which the actor may take and whose ring has an item.
 fn find_in(actor: &Actor, ins: &mut [(u8, In)]) -> Option<usize>
     ensures looked { AllZip InLooked ins.old ins.new }
-    ensures can { IfSome result (λ k. (k < length ins.new) × HoldsAt (CanTake actor.now) ins.new k) }
+    ensures can { IfSome result
+        (λ k. (k < length ins.new) × HoldsAt (CanTake actor.now) ins.new k) }
     ensures least { TakesLeast actor.now ins.new result }
 {
     let mut least = None;
@@ -159,7 +160,10 @@ fn take_front(
     word: u32,
 ) -> Result<(u64, Act), Stop>
     requires { CanTake actor.old end.old }
-    ensures ok { (plan : Plan) (k : ℕ) → IsActorOf plan k actor.old → IfOk result (λ made. TakesFront plan k actor.old clock word end.old made actor.new end.new) }
+    ensures ok { (plan : Plan) (k : ℕ) →
+        IsActorOf plan k actor.old →
+        IfOk result
+        (λ made. TakesFront plan k actor.old clock word end.old made actor.new end.new) }
     ensures err { OnErr result ((actor.new ≡ actor.old) × (end.new ≡ end.old)) }
     ensures link { end.new.0 ≡ end.old.0 }
     ensures why { IfErr result (λ why. why ≢ Stop.Turns) }
@@ -285,12 +289,17 @@ impl Desk {
         requires within { k < length self.old.ends.ins.items }
         requires can { HoldsAt (CanTake self.old.actor) self.old.ends.ins.items k }
         requires room { vec_len self.old.acts < vec_capacity self.old.acts }
-        ensures done { (plan : Plan) (n : ℕ) → IsActorOf plan n self.old.actor → OnOk result (Uses plan n 1 (desk self.old) (desk self.new)) }
+        ensures done { (plan : Plan) (n : ℕ) →
+            IsActorOf plan n self.old.actor →
+            OnOk result (Uses plan n 1 (desk self.old) (desk self.new)) }
         ensures stopped { OnErr result (Stays (desk self.old) (desk self.new)) }
         ensures ends { SameLinks (desk self.old) (desk self.new) }
         ensures why { IfErr result (λ why. why ≢ Stop.Turns) }
-        ensures full { IfErr result (λ why. why ≡ Stop.Clock → IsFull self.new.clock self.new.ends.ins.items) }
-        ensures rests { (plan : Plan) (n : ℕ) → IsActorOf plan n self.new.actor → IfOk result (λ rested. IfSome rested (λ room. HasNoStep plan n self.new.actor)) }
+        ensures full { IfErr result
+            (λ why. why ≡ Stop.Clock → IsFull self.new.clock self.new.ends.ins.items) }
+        ensures rests { (plan : Plan) (n : ℕ) →
+            IsActorOf plan n self.new.actor →
+            IfOk result (λ rested. IfSome rested (λ room. HasNoStep plan n self.new.actor)) }
     {
         let word = self.words.next_word();
         let (stamp, act) = take_front(&mut self.actor, &mut self.ends.ins[k], self.clock, word)?;
@@ -303,13 +312,20 @@ impl Desk {
         requires links { Distinct (out_links self.old.ends.outs.items) }
         requires low { All (λ o. o.0 < 32) self.old.ends.outs.items }
         requires room { vec_len self.old.acts < vec_capacity self.old.acts }
-        requires rests { (plan : Plan) (n : ℕ) → IsActorOf plan n self.old.actor → IfSome rested (λ room. HasNoStep plan n self.old.actor) }
-        ensures done { (plan : Plan) (n : ℕ) → IsActorOf plan n self.old.actor → OnOk result (Uses plan n 1 (desk self.old) (desk self.new)) }
+        requires rests { (plan : Plan) (n : ℕ) →
+            IsActorOf plan n self.old.actor →
+            IfSome rested (λ room. HasNoStep plan n self.old.actor) }
+        ensures done { (plan : Plan) (n : ℕ) →
+            IsActorOf plan n self.old.actor →
+            OnOk result (Uses plan n 1 (desk self.old) (desk self.new)) }
         ensures stopped { OnErr result (Stays (desk self.old) (desk self.new)) }
         ensures ends { SameLinks (desk self.old) (desk self.new) }
         ensures why { IfErr result (λ why. why ≢ Stop.Turns) }
-        ensures full { IfErr result (λ why. why ≡ Stop.Clock → IsFull self.new.clock self.new.ends.ins.items) }
-        ensures rests { (plan : Plan) (n : ℕ) → IsActorOf plan n self.new.actor → IfOk result (λ rested. IfSome rested (λ room. HasNoStep plan n self.new.actor)) }
+        ensures full { IfErr result
+            (λ why. why ≡ Stop.Clock → IsFull self.new.clock self.new.ends.ins.items) }
+        ensures rests { (plan : Plan) (n : ℕ) →
+            IsActorOf plan n self.new.actor →
+            IfOk result (λ rested. IfSome rested (λ room. HasNoStep plan n self.new.actor)) }
     {
         let Some(stamp) = next_stamp(self.clock, None) else {
             return Err(Stop::Clock);
@@ -344,13 +360,20 @@ impl Desk {
         requires outs { Distinct (out_links self.old.ends.outs.items) }
         requires ins { Distinct (in_links self.old.ends.ins.items) }
         requires low { All (λ o. o.0 < 32) self.old.ends.outs.items }
-        requires rests { (plan : Plan) (n : ℕ) → IsActorOf plan n self.old.actor → IfSome rested (λ room. HasNoStep plan n self.old.actor) }
-        ensures done { (plan : Plan) (n : ℕ) → IsActorOf plan n self.old.actor → OnOk result (Uses plan n 1 (desk self.old) (desk self.new)) }
+        requires rests { (plan : Plan) (n : ℕ) →
+            IsActorOf plan n self.old.actor →
+            IfSome rested (λ room. HasNoStep plan n self.old.actor) }
+        ensures done { (plan : Plan) (n : ℕ) →
+            IsActorOf plan n self.old.actor →
+            OnOk result (Uses plan n 1 (desk self.old) (desk self.new)) }
         ensures stopped { OnErr result (Stays (desk self.old) (desk self.new)) }
         ensures ends { SameLinks (desk self.old) (desk self.new) }
         ensures why { IfErr result (λ why. why ≢ Stop.Turns) }
-        ensures full { IfErr result (λ why. why ≡ Stop.Clock → IsFull self.new.clock self.new.ends.ins.items) }
-        ensures rests { (plan : Plan) (n : ℕ) → IsActorOf plan n self.new.actor → IfOk result (λ rested. IfSome rested (λ room. HasNoStep plan n self.new.actor)) }
+        ensures full { IfErr result
+            (λ why. why ≡ Stop.Clock → IsFull self.new.clock self.new.ends.ins.items) }
+        ensures rests { (plan : Plan) (n : ℕ) →
+            IsActorOf plan n self.new.actor →
+            IfOk result (λ rested. IfSome rested (λ room. HasNoStep plan n self.new.actor)) }
     {
         if self.acts.capacity() <= self.acts.len() {
             return Err(Stop::Memory);

@@ -140,8 +140,10 @@ fn add_rings(alloc: Global, jobs: &mut Vec<Job>, plan: &Plan) -> Result<(), Memo
 pub(crate) fn make_jobs(alloc: Global, accepted: &Accepted, keeps: bool) -> Result<Vec<Job>, Memory>
     ensures fit { IfOk result (λ jobs. All IsFit jobs.items) }
     ensures numbered { IfOk result (λ jobs. AreNumbered 0 (map who jobs.items)) }
-    ensures begins { IfOk result (λ jobs. AreFirst accepted.now (actors_in accepted.now) (map actor_in jobs.items)) }
-    ensures wired { IfOk result (λ jobs. AreWired accepted.now (length accepted.now.wires) jobs.items) }
+    ensures begins { IfOk result
+        (λ jobs. AreFirst accepted.now (actors_in accepted.now) (map actor_in jobs.items)) }
+    ensures wired { IfOk result
+        (λ jobs. AreWired accepted.now (length accepted.now.wires) jobs.items) }
     ensures keep { IfOk result (λ jobs. AllKeep keeps (map who jobs.items)) }
 {
     let plan = accepted.plan();

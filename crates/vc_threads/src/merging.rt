@@ -43,7 +43,9 @@ fn first_fronts(alloc: Global, runs: &[ActorRun]) -> Result<Vec<Front>, AllocErr
 fn comes_before(runs: &[ActorRun], k: usize, at: u64, first: Option<(u64, usize)>) -> bool
     requires within { k < length runs.now }
     requires first { IfSome first (λ f. f.1 < length runs.now) }
-    ensures { MatchOption first (IsTrue result) (λ f. IsTrue result ↔ ((at < f.0) ⊎ ((at ≡ f.0) × (id_at runs.now k < id_at runs.now f.1)))) }
+    ensures { MatchOption first (IsTrue result)
+        (λ f.
+        IsTrue result ↔ ((at < f.0) ⊎ ((at ≡ f.0) × (id_at runs.now k < id_at runs.now f.1)))) }
 {
     match first {
         Some((least, other)) => at < least || at == least && runs[k].id < runs[other].id,
@@ -141,7 +143,11 @@ fn next_of(
 pub fn merge(alloc: Global, runs: &[ActorRun]) -> Result<Vec<Event>, Memory>
     requires distinct { AreDistinct (map numbered runs.now) }
     requires rising { AllByRecursion RunRises (map numbered runs.now) }
-    ensures { IfOk result (λ events. (merged : List (Made SpeltAct)) × IsMerge (run_of (map numbered runs.now)) merged × (events.items ≡ map event_of merged)) }
+    ensures { IfOk result
+        (λ events.
+        (merged : List (Made SpeltAct)) ×
+        IsMerge (run_of (map numbered runs.now)) merged ×
+        (events.items ≡ map event_of merged)) }
 {
     let mut events = Vec::new(alloc);
     let mut fronts = first_fronts(alloc, runs)?;

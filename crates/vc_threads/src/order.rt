@@ -33,8 +33,10 @@ fn parts_of(run: ActorRun) -> (Actor, Ends)
 /// The actors and the ends that the runs leave.
 pub(crate) fn all_parts(alloc: Global, runs: Vec<ActorRun>) -> Result<(Vec<Actor>, AllEnds), Memory>
     ensures actors { IfOk result (λ parts. parts.0.items ≡ map actor_left runs.items) }
-    ensures outs { IfOk result (λ parts. map (λ v. v.items) parts.1.outs.items ≡ map outs_left runs.items) }
-    ensures ins { IfOk result (λ parts. map (λ v. v.items) parts.1.ins.items ≡ map ins_left runs.items) }
+    ensures outs { IfOk result
+        (λ parts. map (λ v. v.items) parts.1.outs.items ≡ map outs_left runs.items) }
+    ensures ins { IfOk result
+        (λ parts. map (λ v. v.items) parts.1.ins.items ≡ map ins_left runs.items) }
 {
     let mut actors = Vec::new(alloc);
     let mut outs = Vec::new(alloc);
@@ -112,7 +114,8 @@ fn take_between(
     requires { Meet outs.old.items ins.old.items from to }
     ensures outs { AllZip OutLooked outs.old.items outs.new.items }
     ensures ins { AllZip (TakenBy (λ link. link ≡ to)) ins.old.items ins.new.items }
-    ensures left { IfOk result (λ tokens. AtLinks (IsLeft tokens.items) outs.old.items ins.old.items from to) }
+    ensures left { IfOk result
+        (λ tokens. AtLinks (IsLeft tokens.items) outs.old.items ins.old.items from to) }
 {
     let a = place_out(outs.as_slice(), from);
     let b = place_in(ins.as_slice(), to);
@@ -146,9 +149,13 @@ fn take_way(
 /// What is left in the ring of each way, the ways in their order: what was received there, and then this, is what was sent.
 pub(crate) fn take_all(alloc: Global, ends: AllEnds, plan: &Plan) -> Result<Vec<Vec<Token>>, Memory>
     requires plan { IsAccepted plan.now }
-    requires rings { OnWires (MeetAt (length plan.now.nodes) ends) plan.now.wires (length plan.now.wires) }
+    requires rings { OnWires (MeetAt (length plan.now.nodes) ends) plan.now.wires
+        (length plan.now.wires) }
     ensures count { IfOk result (λ left. length left.items ≡ 2 * length plan.now.wires) }
-    ensures left { IfOk result (λ left. OnWays (LeftOn (length plan.now.nodes) ends left.items) plan.now.wires (length plan.now.wires)) }
+    ensures left { IfOk result
+        (λ left.
+        OnWays (LeftOn (length plan.now.nodes) ends left.items) plan.now.wires
+        (length plan.now.wires)) }
 {
     let mut ends = ends;
     let mut left = Vec::new(alloc);

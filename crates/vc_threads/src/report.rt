@@ -49,7 +49,11 @@ pub(crate) fn stops_of(alloc: Global, runs: &[ActorRun]) -> Result<Vec<Stop>, Me
 // The first worker that ended so.
 fn first_stop(runs: &[ActorRun], stop: Stop) -> Option<usize>
     ensures none { IsNone result → NoneStopped (length runs.now) (stop_at runs.now) stop }
-    ensures first { IfSome result (λ k. (k < length runs.now) × (stop_at runs.now k ≡ stop) × NoneStopped k (stop_at runs.now) stop) }
+    ensures first { IfSome result
+        (λ k.
+        (k < length runs.now) ×
+        (stop_at runs.now k ≡ stop) ×
+        NoneStopped k (stop_at runs.now) stop) }
 {
     for k in 0..runs.len() {
         if runs[k].stop == stop {
@@ -79,7 +83,9 @@ pub(crate) fn stopped(runs: &[ActorRun]) -> Close
 /// How a run ended, where it ended as `otherwise` says if not every process has.
 pub(crate) fn close_of(otherwise: Close, state: &Network) -> Close
     requires { otherwise ≢ Done }
-    ensures done { (p : Plan) → IsNetworkOf p (state_of state.now) → result ≡ Done ↔ HaveEnded p (state_of state.now) }
+    ensures done { (p : Plan) →
+        IsNetworkOf p (state_of state.now) →
+        result ≡ Done ↔ HaveEnded p (state_of state.now) }
     ensures other { result ≢ Done → result ≡ otherwise }
 {
     if state.ended() {

@@ -79,7 +79,8 @@ impl Assembler {
     /// Adds a byte, and says whether there was room: a byte past the limit is dropped. It takes no memory.
     pub fn push(&mut self, byte: u8) -> bool
         ensures room { IsTrue result ↔ (length self.old.passed < self.old.limit) }
-        ensures added { OnTrue result (self.new ≡ record self.old { passed = self.old.passed ++ byte ∷ [] }) }
+        ensures added { OnTrue result
+            (self.new ≡ record self.old { passed = self.old.passed ++ byte ∷ [] }) }
         ensures dropped { OnFalse result (self.new ≡ self.old) }
     {
         let has_room = self.passed.len() < self.limit;
@@ -91,7 +92,8 @@ impl Assembler {
 
     /// The packet of the bytes that have passed, with its mark; the next packet begins. For want of memory nothing changes.
     pub fn take(&mut self, mark: Mark) -> Result<Packet, Memory>
-        ensures packet { IfOk result (λ packet. packet ≡ record { body = self.old.passed; mark = mark }) }
+        ensures packet { IfOk result
+            (λ packet. packet ≡ record { body = self.old.passed; mark = mark }) }
         ensures begun { OnOk result (self.new ≡ record self.old { passed = [] }) }
         ensures err { OnErr result (self.new ≡ self.old) }
     {

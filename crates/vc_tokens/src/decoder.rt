@@ -35,7 +35,10 @@ impl Model for Decoder {
 
 /// Ends the packet that is being read, and adds it to those read.
 fn end_packet(reading: &mut Assembler, packets: &mut Vec<Packet>, mark: Mark) -> Result<(), Why>
-    ensures ok { OnOk result ((packets.new.items ≡ packets.old.items ++ record { body = reading.old.passed; mark = mark } ∷ []) × (reading.new ≡ record reading.old { passed = [] })) }
+    ensures ok { OnOk result
+        ((packets.new.items ≡
+        packets.old.items ++ record { body = reading.old.passed; mark = mark } ∷ []) ×
+        (reading.new ≡ record reading.old { passed = [] })) }
     ensures err { IfErr result (λ e. e ≡ why.Memory) }
     ensures limit { reading.new.limit ≡ reading.old.limit }
 {
@@ -48,8 +51,14 @@ fn end_packet(reading: &mut Assembler, packets: &mut Vec<Packet>, mark: Mark) ->
 fn read_token(reading: &mut Assembler, packets: &mut Vec<Packet>, next: Token) -> Result<(), Why>
     requires { length reading.old.passed ≤ reading.old.limit }
     ensures limit { reading.new.limit ≡ reading.old.limit }
-    ensures ok { OnOk result (ReadsOn reading.old.limit packets.old.items reading.old.passed (token next) packets.new.items reading.new.passed) }
-    ensures err { IfErr result (λ e. (e ≡ why.Memory) ⊎ (IsBreak reading.old.limit reading.old.passed (token next) e × (packets.new.items ≡ packets.old.items))) }
+    ensures ok { OnOk result
+        (ReadsOn reading.old.limit packets.old.items reading.old.passed (token next)
+        packets.new.items reading.new.passed) }
+    ensures err { IfErr result
+        (λ e.
+        (e ≡ why.Memory) ⊎
+        (IsBreak reading.old.limit reading.old.passed (token next) e ×
+        (packets.new.items ≡ packets.old.items))) }
 {
     match next {
         Token::Byte(byte) if reading.push(byte) => Ok(()),
@@ -64,8 +73,14 @@ fn read_token(reading: &mut Assembler, packets: &mut Vec<Packet>, next: Token) -
 fn read(alloc: Global, reading: &mut Assembler, next: &[Token]) -> Result<Vec<Packet>, Refused>
     requires { length reading.old.passed ≤ reading.old.limit }
     ensures limit { reading.new.limit ≡ reading.old.limit }
-    ensures ok { IfOk result (λ packets. Whole reading.old.limit (bytes reading.old.passed ++ tokens next.now) packets.items reading.new.passed) }
-    ensures err { IfErr result (λ refused. ((refused.why ≡ why.Memory) × (refused.before.items ≡ [])) ⊎ Breaks reading.old.limit (bytes reading.old.passed ++ tokens next.now) refused.before.items refused.why) }
+    ensures ok { IfOk result
+        (λ packets.
+        Whole reading.old.limit (bytes reading.old.passed ++ tokens next.now) packets.items
+        reading.new.passed) }
+    ensures err { IfErr result
+        (λ refused.
+        ((refused.why ≡ why.Memory) × (refused.before.items ≡ [])) ⊎ Breaks reading.old.limit
+        (bytes reading.old.passed ++ tokens next.now) refused.before.items refused.why) }
 {
     let mut packets = Vec::new(alloc);
     for token in next {
@@ -90,7 +105,8 @@ impl Decoder {
 
     /// A decoder of packets whose bodies have at most `body_limit` bytes.
     pub fn new(alloc: Global, body_limit: usize) -> Result<Decoder, Memory>
-        ensures { IfOk result (λ decoder. decoder ≡ record { rest = []; limit = body_limit; broken = None }) }
+        ensures { IfOk result
+            (λ decoder. decoder ≡ record { rest = []; limit = body_limit; broken = None }) }
     {
         Ok(Decoder {
             alloc,
@@ -105,8 +121,11 @@ impl Decoder {
     /// Once a token has broken the spelling, every later feed is refused for the same reason, with no packets. For want of memory
     /// the decoder is unchanged.
     pub fn feed(&mut self, next: &[Token]) -> Result<Vec<Packet>, Refused>
-        ensures ok { IfOk result (λ packets. IsRead self.old (tokens next.now) packets.items self.new) }
-        ensures refused { IfErr result (λ refused. IsRefused self.old (tokens next.now) refused.before.items refused.why self.new) }
+        ensures ok { IfOk result
+            (λ packets. IsRead self.old (tokens next.now) packets.items self.new) }
+        ensures refused { IfErr result
+            (λ refused.
+            IsRefused self.old (tokens next.now) refused.before.items refused.why self.new) }
     {
         if let Some(why) = self.broken {
             return Err(Refused {

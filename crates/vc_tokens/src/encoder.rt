@@ -59,7 +59,8 @@ impl Encoder {
 
     /// The next token of the spelling, or nothing once all were given.
     pub fn encode_next(&mut self) -> Option<Token>
-        ensures { MatchOption result ((self.old ≡ []) × (self.new ≡ [])) (λ next. self.old ≡ token next ∷ self.new) }
+        ensures { MatchOption result ((self.old ≡ []) × (self.new ≡ []))
+            (λ next. self.old ≡ token next ∷ self.new) }
     {
         if self.given < self.body.len() {
             let byte = self.body.as_slice()[self.given];

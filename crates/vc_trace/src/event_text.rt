@@ -156,10 +156,12 @@ fn put_proc<W: Write>(
     plan: &Plan,
     made: Move,
 ) -> Result<(), WriteFailed>
-    ensures ok { OnOk result (Passes (W.contents writer.old) piece.old.items
-        (W.contents writer.new) piece.new.items (spaced (codes "proc" ∷ move_words plan.now made))) }
-    ensures err { OnErr result (AppendsFront (W.contents writer.old)
-        (W.contents writer.new) (piece.old.items ++ (spaced (codes "proc" ∷ move_words plan.now made)))) }
+    ensures ok { OnOk result
+        (Passes (W.contents writer.old) piece.old.items (W.contents writer.new) piece.new.items
+        (spaced (codes "proc" ∷ move_words plan.now made))) }
+    ensures err { OnErr result
+        (AppendsFront (W.contents writer.old) (W.contents writer.new)
+        (piece.old.items ++ (spaced (codes "proc" ∷ move_words plan.now made)))) }
 {
     put(piece, writer, b" proc")?;
     put_move(piece, writer, plan, made)

@@ -14,7 +14,9 @@ pub fn try_event(
     made: &mut Vec<Event>,
     event: &Event,
 ) -> Result<bool, Memory>
-    ensures { (p : Plan) → Reached p made.old.items (state_of network.old) → Reached p made.new.items (state_of network.new) }
+    ensures { (p : Plan) →
+        Reached p made.old.items (state_of network.old) →
+        Reached p made.new.items (state_of network.new) }
 {
     events_lead_on();
     made.reserve(1)?;

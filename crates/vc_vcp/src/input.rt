@@ -45,9 +45,23 @@ impl Input {
         requires piece { IsPiece (record { body = body.now; mark = mark }) }
         ensures sender { queue.new.sender ≡ queue.old.sender }
         ensures stays { StaysInput self.old self.new }
-        ensures is { IsInput self.old → IsPieceOf self.old.block (record { body = body.now; mark = mark }) → IsInput self.new }
-        ensures arrival { IfOk result (λ a. a ≡ arrival_of self.old.half (record { body = body.now; mark = mark }) self.old.half.wants) }
-        ensures input { IfOk result (λ a. self.new ≡ record self.old { half = after_arrival self.old.half (record { body = body.now; mark = mark }) self.old.half.wants; taken = logged self.old.taken a }) }
+        ensures is { IsInput self.old →
+            IsPieceOf self.old.block (record { body = body.now; mark = mark }) →
+            IsInput self.new }
+        ensures arrival { IfOk result
+            (λ a.
+            a ≡
+            arrival_of self.old.half (record { body = body.now; mark = mark })
+            self.old.half.wants) }
+        ensures input { IfOk result
+            (λ a.
+            self.new ≡
+            record self.old {
+              half = after_arrival self.old.half
+                  (record { body = body.now; mark = mark }) self.old.half.wants;
+              taken
+                  = logged self.old.taken a;
+            }) }
         ensures queue { IfOk result (λ a. queue.new ≡ acknowledged queue.old self.old.route a) }
         ensures err { OnErr result (self.new ≡ self.old) }
         ensures err_queue { OnErr result (queue.new ≡ queue.old) }
@@ -66,7 +80,14 @@ impl Input {
         ensures stays { StaysInput self.old self.new }
         ensures is { IsInput self.old → IsInput self.new }
         ensures want { IfOk result (λ w. w ≡ want_of self.old.half self.old.half.held) }
-        ensures input { IfOk result (λ w. self.new ≡ record self.old { half = after_want self.old.half self.old.half.held; taken = logged_by self.old.taken w }) }
+        ensures input { IfOk result
+            (λ w.
+            self.new ≡
+            record self.old {
+              half = after_want self.old.half self.old.half.held;
+              taken = logged_by
+                  self.old.taken w;
+            }) }
         ensures queue { IfOk result (λ w. queue.new ≡ acknowledged_by queue.old self.old.route w) }
         ensures err { OnErr result (self.new ≡ self.old) }
         ensures err_queue { OnErr result (queue.new ≡ queue.old) }
@@ -98,8 +119,17 @@ impl Input {
         ensures sender { queue.new.sender ≡ queue.old.sender }
         ensures stays { StaysInput self.old self.new }
         ensures is { IsInput self.old → IsInput self.new }
-        ensures arrival { IfOk result (λ a. a ≡ arrival_of self.old.half (record { body = body.now; mark = mark }) true) }
-        ensures input { IfOk result (λ a. self.new ≡ record self.old { half = after_arrival self.old.half (record { body = body.now; mark = mark }) true; taken = logged self.old.taken a }) }
+        ensures arrival { IfOk result
+            (λ a. a ≡ arrival_of self.old.half (record { body = body.now; mark = mark }) true) }
+        ensures input { IfOk result
+            (λ a.
+            self.new ≡
+            record self.old {
+              half = after_arrival self.old.half
+                  (record { body = body.now; mark = mark }) true;
+              taken = logged
+                  self.old.taken a;
+            }) }
         ensures queue { IfOk result (λ a. queue.new ≡ acknowledged queue.old self.old.route a) }
         ensures err { OnErr result (self.new ≡ self.old) }
         ensures err_queue { OnErr result (queue.new ≡ queue.old) }
@@ -121,7 +151,8 @@ impl Input {
         alloc: Global,
         message: Option<Bytes>,
     ) -> Result<(), Memory>
-        ensures input { OnOk result (self.new ≡ record self.old { taken = self.old.taken ++ option_to_list message }) }
+        ensures input { OnOk result
+            (self.new ≡ record self.old { taken = self.old.taken ++ option_to_list message }) }
         ensures queue { OnOk result (queue.new ≡ queued queue.old (ack_packet self.old.route)) }
         ensures begun { OnOk result (queue.old.queue ≡ [] → queue.old.sender.sent ≡ []) }
         ensures err { OnErr result (self.new ≡ self.old) }
@@ -141,7 +172,10 @@ impl Input {
     // What was prepared is taken back.
     fn undo(&mut self, queue: &mut LinkOut, is_whole: bool)
         ensures queue { Unqueues queue.old queue.new }
-        ensures input { (taken : List (List ℕ)) (more : List (List ℕ)) → length more ≡ (if is_whole then 1 else 0) → self.old.taken ≡ taken ++ more → self.new ≡ record self.old { taken = taken } }
+        ensures input { (taken : List (List ℕ)) (more : List (List ℕ)) →
+            length more ≡ (if is_whole then 1 else 0) →
+            self.old.taken ≡ taken ++ more →
+            self.new ≡ record self.old { taken = taken } }
     {
         queue.unqueue();
         if is_whole {
@@ -163,7 +197,10 @@ pub(crate) fn arrive(
     requires inputs { AllByRecursion IsInput inputs.old }
     requires four { length outs.old ≡ 4 }
     ensures stays { StaysWith inputs.old outs.old inputs.new outs.new }
-    ensures arrives { IfOk result (λ t. ArrivesWith inputs.old outs.old (record { body = body.now; mark = mark }) (taken_of t) inputs.new outs.new) }
+    ensures arrives { IfOk result
+        (λ t.
+        ArrivesWith inputs.old outs.old (record { body = body.now; mark = mark }) (taken_of t)
+        inputs.new outs.new) }
     ensures err { OnErr result (inputs.new ≡ inputs.old) }
     ensures err_outs { OnErr result (outs.new ≡ outs.old) }
 {
@@ -176,7 +213,8 @@ pub(crate) fn arrive(
 // The message that the piece completes, where it is a message's last.
 fn whole(half: &InHalf, body: &[u8], mark: Mark) -> Result<Option<Bytes>, Memory>
     requires { 2 ≤ length body.now }
-    ensures { IfOk result (λ message. message ≡ completed half.now.stored (record { body = body.now; mark = mark })) }
+    ensures { IfOk result
+        (λ message. message ≡ completed half.now.stored (record { body = body.now; mark = mark })) }
 {
     match mark {
         Mark::Eop => Ok(None),

@@ -32,7 +32,8 @@ impl LinkIn {
 
     /// An empty end for packets of at most `limit` bytes.
     pub(crate) fn new(alloc: Global, limit: usize) -> Result<LinkIn, Memory>
-        ensures { IfOk result (λ x. x ≡ record { receiver = new_receiver; passed = []; limit = limit }) }
+        ensures { IfOk result
+            (λ x. x ≡ record { receiver = new_receiver; passed = []; limit = limit }) }
     {
         let receiver = Receiver::new(alloc)?;
         let packet = Assembler::new(alloc, limit)?;
@@ -49,7 +50,8 @@ impl LinkIn {
     /// A token comes, and takes a place that was promised.
     pub(crate) fn accept(&mut self, came: Token)
         requires { 0 < self.old.receiver.promised }
-        ensures { self.new ≡ record self.old { receiver = received self.old.receiver (token came) } }
+        ensures { self.new ≡
+            record self.old { receiver = received self.old.receiver (token came) } }
     {
         self.receiver.accept(came);
     }
@@ -63,7 +65,8 @@ impl LinkIn {
 
     /// The token that waits at the front.
     pub fn front(&self) -> Option<Token>
-        ensures { MatchOption result (self.now.receiver.buffer ≡ []) (λ front. IsFront self.now.receiver (token front)) }
+        ensures { MatchOption result (self.now.receiver.buffer ≡ [])
+            (λ front. IsFront self.now.receiver (token front)) }
     {
         self.receiver.front()
     }
@@ -100,7 +103,10 @@ impl LinkIn {
 
     /// The front token leaves the buffer.
     pub(crate) fn pop(&mut self) -> Option<Token>
-        ensures { MatchOption result ((self.old.receiver.buffer ≡ []) × (self.new ≡ self.old)) (λ front. Passes self.old.receiver (token front) self.new.receiver × (self.new ≡ record self.old { receiver = self.new.receiver })) }
+        ensures { MatchOption result ((self.old.receiver.buffer ≡ []) × (self.new ≡ self.old))
+            (λ front.
+            Passes self.old.receiver (token front) self.new.receiver ×
+            (self.new ≡ record self.old { receiver = self.new.receiver })) }
     {
         self.receiver.pop()
     }
@@ -108,7 +114,8 @@ impl LinkIn {
     /// A byte joins the packet, or is dropped where the packet has as many as it may; whether it joined.
     pub(crate) fn push(&mut self, byte: u8) -> bool
         ensures room { IsTrue result ↔ (length self.old.passed < self.old.limit) }
-        ensures added { OnTrue result (self.new ≡ record self.old { passed = self.old.passed ++ byte ∷ [] }) }
+        ensures added { OnTrue result
+            (self.new ≡ record self.old { passed = self.old.passed ++ byte ∷ [] }) }
         ensures dropped { OnFalse result (self.new ≡ self.old) }
     {
         self.packet.push(byte)
@@ -126,8 +133,12 @@ impl LinkIn {
         requires { IsFront self.old.receiver (Byte byte) }
         ensures front { Passes self.old.receiver (Byte byte) self.new.receiver }
         ensures room { IsTrue result ↔ (length self.old.passed < self.old.limit) }
-        ensures added { OnTrue result (self.new ≡ record self.old { receiver = self.new.receiver; passed = self.old.passed ++ byte ∷ [] }) }
-        ensures dropped { OnFalse result (self.new ≡ record self.old { receiver = self.new.receiver }) }
+        ensures added { OnTrue result
+            (self.new ≡
+            record self.old
+            { receiver = self.new.receiver; passed = self.old.passed ++ byte ∷ [] }) }
+        ensures dropped { OnFalse result
+            (self.new ≡ record self.old { receiver = self.new.receiver }) }
     {
         let _byte = self.pop();
         self.push(byte)
@@ -136,7 +147,9 @@ impl LinkIn {
     /// The mark at the front passes, and the next packet begins.
     pub(crate) fn pass_mark(&mut self)
         requires { (mark : Mark) × IsFront self.old.receiver (EndMark mark) }
-        ensures front { (mark : Mark) → IsFront self.old.receiver (EndMark mark) → Passes self.old.receiver (EndMark mark) self.new.receiver }
+        ensures front { (mark : Mark) →
+            IsFront self.old.receiver (EndMark mark) →
+            Passes self.old.receiver (EndMark mark) self.new.receiver }
         ensures after { self.new ≡ record self.old { receiver = self.new.receiver; passed = [] } }
     {
         let _mark = self.pop();

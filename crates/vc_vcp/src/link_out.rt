@@ -48,7 +48,8 @@ impl LinkOut {
 
     /// A packet more at the end of the queue.
     pub(crate) fn enqueue(&mut self, packet: Packet) -> Result<(), Memory>
-        ensures ok { OnOk result (self.new ≡ record self.old { queue = self.old.queue ++ packet ∷ [] }) }
+        ensures ok { OnOk result
+            (self.new ≡ record self.old { queue = self.old.queue ++ packet ∷ [] }) }
         ensures err { OnErr result (self.new ≡ self.old) }
         ensures begun { self.old.queue ≡ [] → self.old.sender.sent ≡ [] }
     {
@@ -149,7 +150,9 @@ impl LinkOut {
 
     // The packet at the front leaves the queue.
     fn leave(&mut self)
-        ensures { self.new ≡ record self.old { queue = drop 1 self.old.queue; sender = record self.old.sender { sent = [] } } }
+        ensures { self.new ≡
+            record self.old
+            { queue = drop 1 self.old.queue; sender = record self.old.sender { sent = [] } } }
     {
         self.sent = 0;
         let _sent = self.queue.pop_front();

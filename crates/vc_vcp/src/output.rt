@@ -54,9 +54,17 @@ impl Output {
         ensures sender { queue.new.sender ≡ queue.old.sender }
         ensures stays { StaysOutput self.old self.new }
         ensures is { IsOutput self.old → IsOutput self.new }
-        ensures advance { IfOk result (λ advance. advance ≡ advanced (later_than self.old.half.unacked)) }
-        ensures output { OnOk result (self.new ≡ record self.old { half = record self.old.half { unacked = later_than self.old.half.unacked } }) }
-        ensures queue { OnOk result (queue.new ≡ queued_next queue.old self.old.half.route (later_than self.old.half.unacked)) }
+        ensures advance { IfOk result
+            (λ advance. advance ≡ advanced (later_than self.old.half.unacked)) }
+        ensures output { OnOk result
+            (self.new ≡
+            record self.old {
+              half = record self.old.half
+                  { unacked = later_than self.old.half.unacked };
+            }) }
+        ensures queue { OnOk result
+            (queue.new ≡
+            queued_next queue.old self.old.half.route (later_than self.old.half.unacked)) }
         ensures err { OnErr result (self.new ≡ self.old) }
         ensures err_queue { OnErr result (queue.new ≡ queue.old) }
     {
@@ -81,8 +89,12 @@ impl Output {
 
     // A message's first piece is queued, and the message logged.
     fn prepare(&mut self, queue: &mut LinkOut, alloc: Global, message: &[u8]) -> Result<(), Memory>
-        ensures output { OnOk result (self.new ≡ record self.old { offered = self.old.offered ++ message.now ∷ [] }) }
-        ensures queue { OnOk result ((cs : List (List ℕ)) → Pieces message.now cs → queue.new ≡ queued queue.old (piece_packet self.old.half.route cs)) }
+        ensures output { OnOk result
+            (self.new ≡ record self.old { offered = self.old.offered ++ message.now ∷ [] }) }
+        ensures queue { OnOk result
+            ((cs : List (List ℕ)) →
+            Pieces message.now cs →
+            queue.new ≡ queued queue.old (piece_packet self.old.half.route cs)) }
         ensures err { OnErr result (self.new ≡ self.old) }
         ensures err_queue { OnErr result (queue.new ≡ queue.old) }
     {

@@ -9,7 +9,8 @@ use crate::output::Output;
 /// The place of the output on a channel.
 pub(crate) fn output_on(outputs: &[Output], hint: usize, chan: u16) -> Option<usize>
     requires { NamesDiffer (λ x. x.chan) outputs.now }
-    ensures found { MatchOption result (named (λ x. x.chan) chan outputs.now ≡ None) (λ i. slice_get outputs.now i ≡ named (λ x. x.chan) chan outputs.now) }
+    ensures found { MatchOption result (named (λ x. x.chan) chan outputs.now ≡ None)
+        (λ i. slice_get outputs.now i ≡ named (λ x. x.chan) chan outputs.now) }
     ensures within { IfSome result (λ i. i < length outputs.now) }
 {
     if hint < outputs.len() && outputs[hint].chan == chan {
@@ -21,7 +22,8 @@ pub(crate) fn output_on(outputs: &[Output], hint: usize, chan: u16) -> Option<us
 /// The same, looked for from the first on.
 #[inline(never)]
 fn search_output_on(outputs: &[Output], chan: u16) -> Option<usize>
-    ensures found { MatchOption result (named (λ x. x.chan) chan outputs.now ≡ None) (λ i. slice_get outputs.now i ≡ named (λ x. x.chan) chan outputs.now) }
+    ensures found { MatchOption result (named (λ x. x.chan) chan outputs.now ≡ None)
+        (λ i. slice_get outputs.now i ≡ named (λ x. x.chan) chan outputs.now) }
     ensures within { IfSome result (λ i. i < length outputs.now) }
 {
     for (i, output) in outputs.iter().enumerate() {
@@ -35,7 +37,8 @@ fn search_output_on(outputs: &[Output], chan: u16) -> Option<usize>
 /// The place of the output whose acknowledges come to a block.
 pub(crate) fn output_of(outputs: &[Output], hint: usize, block: u16) -> Option<usize>
     requires { NamesDiffer (λ x. x.block) outputs.now }
-    ensures found { MatchOption result (named (λ x. x.block) block outputs.now ≡ None) (λ i. slice_get outputs.now i ≡ named (λ x. x.block) block outputs.now) }
+    ensures found { MatchOption result (named (λ x. x.block) block outputs.now ≡ None)
+        (λ i. slice_get outputs.now i ≡ named (λ x. x.block) block outputs.now) }
     ensures within { IfSome result (λ i. i < length outputs.now) }
 {
     if hint < outputs.len() && outputs[hint].block == block {
@@ -47,7 +50,8 @@ pub(crate) fn output_of(outputs: &[Output], hint: usize, block: u16) -> Option<u
 /// The same, looked for from the first on.
 #[inline(never)]
 fn search_output_of(outputs: &[Output], block: u16) -> Option<usize>
-    ensures found { MatchOption result (named (λ x. x.block) block outputs.now ≡ None) (λ i. slice_get outputs.now i ≡ named (λ x. x.block) block outputs.now) }
+    ensures found { MatchOption result (named (λ x. x.block) block outputs.now ≡ None)
+        (λ i. slice_get outputs.now i ≡ named (λ x. x.block) block outputs.now) }
     ensures within { IfSome result (λ i. i < length outputs.now) }
 {
     for (i, output) in outputs.iter().enumerate() {
@@ -61,7 +65,8 @@ fn search_output_of(outputs: &[Output], block: u16) -> Option<usize>
 /// The place of the input on a channel.
 pub(crate) fn input_on(inputs: &[Input], hint: usize, chan: u16) -> Option<usize>
     requires { NamesDiffer (λ x. x.chan) inputs.now }
-    ensures found { MatchOption result (named (λ x. x.chan) chan inputs.now ≡ None) (λ i. slice_get inputs.now i ≡ named (λ x. x.chan) chan inputs.now) }
+    ensures found { MatchOption result (named (λ x. x.chan) chan inputs.now ≡ None)
+        (λ i. slice_get inputs.now i ≡ named (λ x. x.chan) chan inputs.now) }
     ensures within { IfSome result (λ i. i < length inputs.now) }
 {
     if hint < inputs.len() && inputs[hint].chan == chan {
@@ -73,7 +78,8 @@ pub(crate) fn input_on(inputs: &[Input], hint: usize, chan: u16) -> Option<usize
 /// The same, looked for from the first on.
 #[inline(never)]
 fn search_input_on(inputs: &[Input], chan: u16) -> Option<usize>
-    ensures found { MatchOption result (named (λ x. x.chan) chan inputs.now ≡ None) (λ i. slice_get inputs.now i ≡ named (λ x. x.chan) chan inputs.now) }
+    ensures found { MatchOption result (named (λ x. x.chan) chan inputs.now ≡ None)
+        (λ i. slice_get inputs.now i ≡ named (λ x. x.chan) chan inputs.now) }
     ensures within { IfSome result (λ i. i < length inputs.now) }
 {
     for (i, input) in inputs.iter().enumerate() {
@@ -87,7 +93,8 @@ fn search_input_on(inputs: &[Input], chan: u16) -> Option<usize>
 /// The place of the input whose pieces come to a block.
 pub(crate) fn input_of(inputs: &[Input], hint: usize, block: u16) -> Option<usize>
     requires { NamesDiffer (λ x. x.block) inputs.now }
-    ensures found { MatchOption result (named (λ x. x.block) block inputs.now ≡ None) (λ i. slice_get inputs.now i ≡ named (λ x. x.block) block inputs.now) }
+    ensures found { MatchOption result (named (λ x. x.block) block inputs.now ≡ None)
+        (λ i. slice_get inputs.now i ≡ named (λ x. x.block) block inputs.now) }
     ensures within { IfSome result (λ i. i < length inputs.now) }
 {
     if hint < inputs.len() && inputs[hint].block == block {
@@ -99,7 +106,8 @@ pub(crate) fn input_of(inputs: &[Input], hint: usize, block: u16) -> Option<usiz
 /// The same, looked for from the first on.
 #[inline(never)]
 fn search_input_of(inputs: &[Input], block: u16) -> Option<usize>
-    ensures found { MatchOption result (named (λ x. x.block) block inputs.now ≡ None) (λ i. slice_get inputs.now i ≡ named (λ x. x.block) block inputs.now) }
+    ensures found { MatchOption result (named (λ x. x.block) block inputs.now ≡ None)
+        (λ i. slice_get inputs.now i ≡ named (λ x. x.block) block inputs.now) }
     ensures within { IfSome result (λ i. i < length inputs.now) }
 {
     for (i, input) in inputs.iter().enumerate() {

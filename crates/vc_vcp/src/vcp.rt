@@ -102,7 +102,9 @@ impl Vcp {
     /// A message is offered on a channel that the node outputs on and on which nothing is under way: its first piece is queued.
     pub fn offer(&mut self, chan: u16, message: &[u8]) -> Result<(), Memory>
         requires { IsIdle self.old chan }
-        ensures offers { OnOk result (Offers (ends_of self.old) (seen self.old).carrier chan message.now (seen self.new).carrier) }
+        ensures offers { OnOk result
+            (Offers (ends_of self.old) (seen self.old).carrier chan message.now
+            (seen self.new).carrier) }
         ensures links { (seen self.new).link ≡ (seen self.old).link }
         ensures kept { IsKept self.old self.new }
         ensures err { OnErr result (self.new ≡ self.old) }
@@ -120,7 +122,9 @@ impl Vcp {
     /// queued, or waits.
     pub fn want(&mut self, chan: u16) -> Result<Want, Memory>
         requires { IsOpen self.old chan }
-        ensures inputs { IfOk result (λ w. Inputs (ends_of self.old) (seen self.old).carrier chan w (seen self.new).carrier) }
+        ensures inputs { IfOk result
+            (λ w.
+            Inputs (ends_of self.old) (seen self.old).carrier chan w (seen self.new).carrier) }
         ensures links { (seen self.new).link ≡ (seen self.old).link }
         ensures kept { IsKept self.old self.new }
         ensures err { OnErr result (self.new ≡ self.old) }
@@ -137,7 +141,8 @@ impl Vcp {
     /// Whether a message may be offered on a channel: the node outputs on it, and nothing is under way. If so, any message may.
     pub fn may_offer(&self, chan: u16) -> bool
         ensures idle { IsTrue result ↔ IsIdle self.now chan }
-        ensures can { (m : List ℕ) → IsTrue result ↔ CanOffer (ends_of self.now) (seen self.now).carrier chan m }
+        ensures can { (m : List ℕ) →
+            IsTrue result ↔ CanOffer (ends_of self.now) (seen self.now).carrier chan m }
     {
         match self.output(chan) {
             Some(output) => output.half.is_idle(),
@@ -159,7 +164,8 @@ impl Vcp {
     /// Whether a piece is held on a channel that is not stopped, so that an input that may begin would take it at once.
     pub fn ready(&self, chan: u16) -> bool
         ensures ready { IsTrue result ↔ IsReady ((seen self.now).carrier.into chan) }
-        ensures can { IsOpen self.now chan → IsTrue result ↔ CanFetch (ends_of self.now) (seen self.now).carrier chan }
+        ensures can { IsOpen self.now chan →
+            IsTrue result ↔ CanFetch (ends_of self.now) (seen self.now).carrier chan }
     {
         match self.input(chan) {
             Some(input) => input.half.ready(),
@@ -170,7 +176,8 @@ impl Vcp {
     /// A channel is stopped: nothing more is taken on it.
     pub fn stopch(&mut self, chan: u16)
         requires { IsUnwanted self.old chan }
-        ensures stops { Stops (ends_of self.old) (seen self.old).carrier chan (seen self.new).carrier }
+        ensures stops { Stops (ends_of self.old) (seen self.old).carrier chan
+            (seen self.new).carrier }
         ensures links { (seen self.new).link ≡ (seen self.old).link }
         ensures kept { IsKept self.old self.new }
     {
@@ -280,7 +287,8 @@ impl Vcp {
     /// Whether a token may pass from a link's buffer: one waits.
     pub fn may_pass(&self, link: u8) -> bool
         ensures waits { IsTrue result ↔ (((seen self.now).link link).receiver.buffer ≢ []) }
-        ensures can { IsTrue result ↔ CanPass (limit_of self.now.ins) (ends_of self.now) (seen self.now) link }
+        ensures can { IsTrue result ↔
+            CanPass (limit_of self.now.ins) (ends_of self.now) (seen self.now) link }
     {
         match self.ins.get(usize::from(link)) {
             Some(into) => !into.is_empty(),
@@ -406,9 +414,16 @@ impl Vcp {
     #[inline(always)]
     pub fn pass(&mut self, link: u8) -> Result<Option<Taken>, Memory>
         requires { link < 4 }
-        ensures passes { ((seen self.old).link link).receiver.buffer ≢ [] → IfOk result (λ t. Passes (limit_of self.old.ins) (ends_of self.old) (seen self.old) link (passed_of t) (seen self.new)) }
-        ensures bytes { (byte : ℕ) → IsFront ((seen self.old).link link).receiver (Byte byte) → IsOk result }
-        ensures quiet { ((seen self.old).link link).receiver.buffer ≡ [] → (result ≡ Ok None) × (self.new ≡ self.old) }
+        ensures passes { ((seen self.old).link link).receiver.buffer ≢ [] →
+            IfOk result
+            (λ t.
+            Passes (limit_of self.old.ins) (ends_of self.old) (seen self.old) link
+            (passed_of t) (seen self.new)) }
+        ensures bytes { (byte : ℕ) →
+            IsFront ((seen self.old).link link).receiver (Byte byte) →
+            IsOk result }
+        ensures quiet { ((seen self.old).link link).receiver.buffer ≡ [] →
+            (result ≡ Ok None) × (self.new ≡ self.old) }
         ensures kept { IsKept self.old self.new }
         ensures err { OnErr result (self.new ≡ self.old) }
     {
@@ -428,7 +443,8 @@ impl Vcp {
     fn pass_byte(&mut self, link: u8, byte: u8)
         requires link { link < 4 }
         requires front { IsFront ((seen self.old).link link).receiver (Byte byte) }
-        ensures passes { Passes (limit_of self.old.ins) (ends_of self.old) (seen self.old) link None (seen self.new) }
+        ensures passes { Passes (limit_of self.old.ins) (ends_of self.old) (seen self.old) link None
+            (seen self.new) }
         ensures kept { IsKept self.old self.new }
     {
         let at = usize::from(link);
@@ -441,7 +457,10 @@ impl Vcp {
     fn pass_mark(&mut self, link: u8, mark: Mark) -> Result<Option<Taken>, Memory>
         requires link { link < 4 }
         requires front { IsFront ((seen self.old).link link).receiver (EndMark mark) }
-        ensures passes { IfOk result (λ t. Passes (limit_of self.old.ins) (ends_of self.old) (seen self.old) link (passed_of t) (seen self.new)) }
+        ensures passes { IfOk result
+            (λ t.
+            Passes (limit_of self.old.ins) (ends_of self.old) (seen self.old) link (passed_of t)
+            (seen self.new)) }
         ensures kept { IsKept self.old self.new }
         ensures err { OnErr result (self.new ≡ self.old) }
     {
@@ -454,7 +473,11 @@ impl Vcp {
     // The packet whose bytes have passed at a link reaches, with its mark, the half that it is bound for.
     fn take_passed(&mut self, at: usize, mark: Mark) -> Result<Taken, Memory>
         requires { at < 4 }
-        ensures arrives { IfOk result (λ t. Arrives (ends_of self.old) (seen self.old).carrier (record { body = ((seen self.old).link at).passed; mark = mark }) (taken_of t) (seen self.new).carrier) }
+        ensures arrives { IfOk result
+            (λ t.
+            Arrives (ends_of self.old) (seen self.old).carrier
+            (record { body = ((seen self.old).link at).passed; mark = mark }) (taken_of t)
+            (seen self.new).carrier) }
         ensures links { (seen self.new).link ≡ (seen self.old).link }
         ensures kept { IsKept self.old self.new }
         ensures err { OnErr result (self.new ≡ self.old) }
@@ -473,7 +496,10 @@ impl Vcp {
     /// acknowledge has the next piece queued, or finishes the output. What no half may take is dropped and counted: a packet of
     /// no block here, a malformed one, an acknowledge for an idle half, a piece for a full one.
     pub fn take(&mut self, packet: &Packet) -> Result<Taken, Memory>
-        ensures arrives { IfOk result (λ t. Arrives (ends_of self.old) (seen self.old).carrier packet.now (taken_of t) (seen self.new).carrier) }
+        ensures arrives { IfOk result
+            (λ t.
+            Arrives (ends_of self.old) (seen self.old).carrier packet.now (taken_of t)
+            (seen self.new).carrier) }
         ensures links { (seen self.new).link ≡ (seen self.old).link }
         ensures kept { IsKept self.old self.new }
         ensures err { OnErr result (self.new ≡ self.old) }

@@ -136,7 +136,8 @@ pub fn tell_memory<W: Write>(alloc: Global, writer: &mut W) -> u8
 
 /// Writes that the words of the command line are no text, as a bad line.
 pub fn tell_no_text<W: Write>(writer: &mut W) -> u8
-    ensures { (text : List ℕ) × Tells (W.contents writer.old) (W.contents writer.new) text 5 result }
+    ensures { (text : List ℕ) ×
+        Tells (W.contents writer.old) (W.contents writer.new) text 5 result }
 {
     told_text(b"error: the command line is no UTF-8\n", BAD_LINE, writer)
 }
@@ -154,7 +155,8 @@ fn told_of_line<W: Write>(alloc: Global, fault: &LineFault, writer: &mut W) -> u
 
 /// Checks the network that the reader has.
 fn check_by<R: Read, W: Write>(alloc: Global, reader: &mut R, writer: &mut W) -> u8
-    ensures { ChecksNetwork (R.remaining reader.old) (W.contents writer.old) (W.contents writer.new) result }
+    ensures { ChecksNetwork (R.remaining reader.old) (W.contents writer.old) (W.contents writer.new)
+        result }
 {
     match run_check(alloc, reader, writer) {
         Ok(()) => DONE,
