@@ -11,3 +11,14 @@ pub mod Giving
 pub mod Wired
 pub mod Filling
 pub mod Ranked
+pub mod Bounded
+pub mod Stepped
+pub mod Joined
+pub mod Taken
+pub mod Planned
+pub mod Main
+pub mod Sending
+pub mod Swapped
+pub mod Determinate
+pub mod Threaded
+pub mod Versions

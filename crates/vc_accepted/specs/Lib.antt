@@ -1,3 +1,12 @@
 pub mod NetworkOf
 pub mod Given
 pub mod Outgoing
+pub mod Begin
+pub mod Bounds
+pub mod OneList
+pub mod Sent
+pub mod Swapping
+pub mod Process
+pub mod Determinate
+pub mod Threads
+pub mod Versions

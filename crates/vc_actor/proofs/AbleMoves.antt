@@ -29,7 +29,7 @@ use Rattle.vc_vcp.proofs.Passing.{less_put, less_grant}
 use Rattle.vc_actor.specs.Able.{HalfCan, CanMove}
 use Rattle.vc_actor.specs.Inside.{IsOpen, exchanged_on, stopped_on}
 use Rattle.vc_actor.specs.OfPlan.{IsNodeOf}
-use Rattle.vc_told.specs.Process.{Process, Goes}
+use Rattle.vc_accepted.specs.Process.{Process, Goes}
 use Rattle.vc_actor.specs.Shown.{node_of, process_of, view_of, views_of}
 use Rattle.vc_actor.specs.declared.inside.Internal.{Internal}
 use Rattle.vc_actor.specs.declared.node.Node.{Node}

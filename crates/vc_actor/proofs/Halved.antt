@@ -12,7 +12,7 @@ use Rattle.vc_vcp.specs.Carrier.{End, OutHalf, InHalf, Carrier}
 use Rattle.vc_vcp.specs.Steps.{Fetches, store, message}
 use Rattle.vc_vcp.specs.Steps as steps
 use Rattle.vc_actor.specs.OfPlan.{InStep}
-use Rattle.vc_told.specs.Process.{Process}
+use Rattle.vc_accepted.specs.Process.{Process}
 
 -- where a half is busy, a site waits for it
 abbrev pub Has : {X : Type 0} → (X → Type 0) → (ℕ → ℕ → Waiting) → (ℕ → X) → List Waiting → Type 0

@@ -20,7 +20,7 @@ use Rattle.vc_actor.proofs.Halved.{Has, Wants, Sends, has_same, has_put, others}
 use Rattle.vc_actor.specs.OfPlan.{IsNodeOf, InStep, AreInside}
 use Rattle.vc_actor.specs.Shown.{process_of, views_of}
 use Rattle.vc_actor.specs.declared.node.Node.{Node}
-use Rattle.vc_told.specs.Process.{Process, does, Goes}
+use Rattle.vc_accepted.specs.Process.{Process, does, Goes}
 use Rattle.vc_actor.specs.Passing.{IsAwaited, MakesPass}
 
 abbrev left : Process → List Waiting

@@ -11,7 +11,7 @@ use Rattle.vc_switch.specs.Able as switch
 use Rattle.vc_switch.specs.Seen.{seen as seen_switch}
 use Rattle.vc_switch.specs.State.{State as SwitchState, plan_of, limit_of}
 use Rattle.vc_actor.specs.Inside.{IsOpen}
-use Rattle.vc_told.specs.Process.{Process, does}
+use Rattle.vc_accepted.specs.Process.{Process, does}
 use Rattle.vc_actor.specs.Shown.{move_of, node_of, Acting, OfNode, OfSwitch}
 use Rattle.vc_actor.specs.declared.act.Act.{Act}
 use Rattle.vc_actor.specs.declared.act.Act.TheVariants.{Proc, Take, Put, Route, Fct, Pass}

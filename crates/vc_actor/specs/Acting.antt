@@ -1,6 +1,6 @@
 -- When an actor can make an act, and what the act is then: a step of the actor, which stays one of the plan.
 use Rattle.std.specs.Prelude.{◌≢◌, ℕ, ◌-◌, ◌<◌, nat_lt, [], if◌then◌else◌}
-use Rattle.vc_actors.specs.Actors.Label.{Own, Takes, Puts}
+use Rattle.vc_network.specs.Actors.Label.{Own, Takes, Puts}
 use Rattle.vc_machine.specs.Paths.{Port, AtNode, AtSwitch}
 use Rattle.vc_tokens.specs.Tokens.{Token}
 use Rattle.vc_tokens.specs.Tokens as tokens
@@ -14,7 +14,7 @@ use Rattle.vc_vcp.specs.State.{MayPut, MayGrant}
 use Rattle.vc_actor.specs.Able.{SwitchCan}
 use Rattle.vc_actor.specs.MayMove.{MayMove}
 use Rattle.vc_actor.specs.OfPlan.{IsActorOf}
-use Rattle.vc_told.specs.Process.{does}
+use Rattle.vc_accepted.specs.Process.{does}
 use Rattle.vc_actor.specs.Shown.{Acting, OfNode, OfSwitch, actor_of, act_of}
 use Rattle.vc_actor.specs.declared.act.Act.{Act}
 use Rattle.vc_actor.specs.declared.act.Act.TheVariants.{Proc, Take, Put, Route, Fct, Pass}

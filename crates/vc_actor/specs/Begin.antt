@@ -16,7 +16,7 @@ use Rattle.vc_switch.specs.State.{State as SwitchState, plan_of, limit_of}
 use Rattle.vc_switch.specs.Switch.{new_switch}
 use Rattle.vc_actor.specs.OfPlan.{IsActorOf}
 use Rattle.vc_actor.specs.Shown.{Acting, actor_of}
-use Rattle.vc_told.specs.Begin.{begin_of}
+use Rattle.vc_accepted.specs.Begin.{begin_of}
 use Rattle.vc_actor.specs.declared.building.Ways.{Ways}
 
 -- the code's actor is actor k of the plan, and begins

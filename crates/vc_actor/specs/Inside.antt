@@ -5,7 +5,7 @@ use Rattle.vc_packets.specs.Functions.{put}
 use Rattle.vc_machine.specs.Rendezvous.{View}
 use Rattle.vc_network.specs.Network.{exchanged}
 use Rattle.vc_vcp.specs.Keyed.{named}
-use Rattle.vc_told.specs.Begin.{is_inside}
+use Rattle.vc_accepted.specs.Begin.{is_inside}
 use Rattle.vc_actor.specs.declared.inside.Internal.{Internal}
 
 -- the node has the channel, and it is not stopped

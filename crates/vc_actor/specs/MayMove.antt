@@ -11,7 +11,7 @@ use Rattle.vc_network.specs.Network.{Moves}
 use Rattle.vc_network.specs.Plan.{Plan}
 use Rattle.vc_actor.specs.Inside.{IsOpen as IsGoing}
 use Rattle.vc_actor.specs.OfPlan.{IsNodeOf}
-use Rattle.vc_told.specs.Process.{does}
+use Rattle.vc_accepted.specs.Process.{does}
 use Rattle.vc_actor.specs.Shown.{move_of, node_of}
 use Rattle.vc_actor.specs.declared.node.Node.{Node}
 

@@ -10,7 +10,7 @@ use Rattle.vc_switch.specs.State.{State as SwitchState, plan_of as plan_of_switc
 use Rattle.vc_occam.specs.Runnings.{state}
 use Rattle.vc_occam.specs.Sites.{OwnSites}
 use Rattle.vc_occam.specs.States.{output, input}
-use Rattle.vc_told.specs.Process.{Process, Awaits}
+use Rattle.vc_accepted.specs.Process.{Process, Awaits}
 use Rattle.vc_actor.specs.Shown.{process_of, Acting, OfNode, OfSwitch}
 use Rattle.vc_actor.specs.declared.inside.Internal.{Internal}
 use Rattle.vc_actor.specs.declared.node.Node.{Node}

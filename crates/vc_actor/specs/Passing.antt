@@ -3,10 +3,10 @@ use Rattle.std.specs.Prelude.{ℕ, Option, Some, None}
 use Rattle.vc_occam.specs.States.{output, input}
 use Rattle.vc_vcp.specs.Steps.{Taken, Held, Stored, Complete, More, Finished, Stray}
 use Rattle.vc_network.specs.Network.{NodeStep, Pass}
-use Rattle.vc_actors.specs.Actors.Label.{Own}
+use Rattle.vc_network.specs.Actors.Label.{Own}
 use Rattle.vc_network.specs.Plan.{Plan}
 use Rattle.vc_actor.specs.OfPlan.{IsNodeOf}
-use Rattle.vc_told.specs.Process.{Process, Awaits, does}
+use Rattle.vc_accepted.specs.Process.{Process, Awaits, does}
 use Rattle.vc_actor.specs.Shown.{node_of}
 use Rattle.vc_actor.specs.declared.node.Node.{Node}
 

@@ -8,7 +8,7 @@ ghost use Rattle.vc_actor.specs.Turns.{actors as actors_in};
 ghost use Rattle.vc_network.specs.Plan as network;
 ghost use Rattle.vc_plan.specs.Accepted.{IsAccepted};
 ghost use Rattle.vc_plan.specs.Limits.{kinds_of};
-ghost use Rattle.vc_told.specs.Begin.{numbers_inside};
+ghost use Rattle.vc_accepted.specs.Begin.{numbers_inside};
 
 use crate::actor::Actor;
 use crate::inside::Inside;

@@ -14,7 +14,7 @@ ghost use Rattle.vc_vcp.specs.Seen.{seen, answered, ends_of, passed_of};
 ghost use Rattle.vc_vcp.specs.State.{IsOpen};
 ghost use Rattle.vc_vcp.specs.Steps.{Complete, Finished};
 ghost use Rattle.vc_network.specs.Network.{GoesOn};
-ghost use Rattle.vc_told.specs.Process.{does};
+ghost use Rattle.vc_accepted.specs.Process.{does};
 ghost use Rattle.vc_actor.specs.Shown.{process_of, OfNode};
 ghost use Rattle.vc_actor.specs.Passing.{IsAwaited, MakesPass};
 ghost use Rattle.vc_actor.specs.Viewed.{node_view};

@@ -3,8 +3,8 @@ use Rattle.std.proofs.Common.{◌≡◌, ℕ, zero, suc, ◌+◌, ◌/◌, ◌%�
 use Rattle.std.proofs.lemmas.Bool.Decides.{nat_tests}
 use Rattle.std.specs.List.{list_all}
 use Rattle.std.specs.Option.{option_map}
-use Rattle.vc_actors.specs.Actors.{Step, Label, act_of as label_act}
-use Rattle.vc_actors.specs.Actors.Label.{Own, Takes, Puts}
+use Rattle.vc_network.specs.Actors.{Step, Label, act_of as label_act}
+use Rattle.vc_network.specs.Actors.Label.{Own, Takes, Puts}
 use Rattle.vc_accepted.specs.NetworkOf.{network_of, wire_of, port_at}
 use Rattle.vc_accepted.proofs.Crossing.{wire_is}
 use Rattle.vc_accepted.proofs.Limited.{kept}
@@ -39,7 +39,7 @@ use Rattle.vc_actor.specs.Able.{NodeCan, SwitchCan, CanAct}
 use Rattle.vc_actor.specs.Acting.{port}
 use Rattle.vc_core.specs.Enabled.{CanHappen}
 use Rattle.vc_actor.specs.OfPlan.{IsSwitchOf, IsActorOf}
-use Rattle.vc_told.specs.Process.{Process, does}
+use Rattle.vc_accepted.specs.Process.{Process, does}
 use Rattle.vc_actor.specs.Shown.{Acting, OfNode, OfSwitch, actor_of, node_of, process_of, views_of, act_of}
 use Rattle.vc_core.specs.State.{State, shown, IsNetworkOf, HasFront, HasWay, WaysLet}
 use Rattle.vc_actor.specs.Turns.{actors}

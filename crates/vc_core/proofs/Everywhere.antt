@@ -3,7 +3,7 @@ use Rattle.std.proofs.Common.{◌≡◌, ℕ, zero, suc, ◌<◌, List, [], ◌�
 use Rattle.std.specs.List.{Contains}
 use Rattle.std.proofs.lemmas.Bool.{cases_lt}
 use Rattle.std.proofs.lemmas.List.Elements.{Contains-append_left, Contains-append_right, Contains-append_cases}
-use Rattle.vc_actors.specs.Actors.{Network}
+use Rattle.vc_network.specs.Actors.{Network}
 use Rattle.vc_packets.specs.declared.packet.Packet.{Packet}
 use Rattle.vc_tokens.specs.Tokens.{Token}
 use Rattle.vc_machine.specs.Places.{Place, Queue, OnWire, Inside, Held, at_place, of_held, Number}

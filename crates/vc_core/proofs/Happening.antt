@@ -4,8 +4,8 @@ use Rattle.std.proofs.lemmas.Bool.{cases_eq}
 use Rattle.std.proofs.lemmas.Option.{slice_get_within}
 use Rattle.std.proofs.lemmas.List.{length-set}
 use Rattle.std.specs.Option.{option_map}
-use Rattle.vc_actors.specs.Actors.{Step}
-use Rattle.vc_actors.specs.Actors.Label.{Own, Takes, Puts}
+use Rattle.vc_network.specs.Actors.{Step}
+use Rattle.vc_network.specs.Actors.Label.{Own, Takes, Puts}
 use Rattle.vc_packets.specs.Functions.{put}
 use Rattle.vc_network.specs.Network as net
 use Rattle.vc_network.specs.Plan.{IsOutOf, IsInto, back}
@@ -22,7 +22,7 @@ use Rattle.vc_vcp.specs.Keyed.{shown_or}
 use Rattle.vc_vcp.proofs.Placed.{place-set_same, place-set_other, by_place-set}
 use Rattle.vc_actor.specs.Acting.{port, MakesOwn, MakesTake, MakesPut, MakesGrant}
 use Rattle.vc_actor.specs.OfPlan.{IsActorOf}
-use Rattle.vc_told.specs.Process.{does}
+use Rattle.vc_accepted.specs.Process.{does}
 use Rattle.vc_actor.specs.Shown.{Acting, actor_of, act_of}
 use Rattle.vc_core.specs.State.{State, shown, IsNetworkOf, HasFront, HasWay, MakesEvent, Accepts, GrantsBy, with_actor, with_line}
 use Rattle.vc_core.specs.Wired.{out_at}

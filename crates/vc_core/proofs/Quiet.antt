@@ -1,7 +1,7 @@
 -- An actor that can do nothing but take can do no more until it takes: what others do leaves it as it is.
 use Rattle.std.proofs.Common.{◌≡◌, ◌≢◌, ℕ, None, subst}
-use Rattle.vc_actors.specs.Actors.{Network, Label, act_of as label_act}
-use Rattle.vc_actors.specs.Actors.Label.{Own, Takes, Puts}
+use Rattle.vc_network.specs.Actors.{Network, Label, act_of as label_act}
+use Rattle.vc_network.specs.Actors.Label.{Own, Takes, Puts}
 use Rattle.vc_accepted.specs.NetworkOf.{network_of}
 use Rattle.vc_network.specs.Enabled.{IsEnabled}
 use Rattle.vc_network.specs.Network as net
@@ -10,7 +10,7 @@ use Rattle.vc_network.proofs.Writes.{own_step, put_step}
 use Rattle.vc_plan.specs.declared.plan.Plan.{Plan}
 use Rattle.vc_switch.specs.Switch.{Switch}
 use Rattle.vc_switch.specs.Waiting.{Wormhole}
-use Rattle.vc_told.specs.Process.{Process, does}
+use Rattle.vc_accepted.specs.Process.{Process, does}
 use Rattle.vc_tokens.specs.Tokens.{Token}
 use Rattle.vc_actor.specs.Shown.{act_of}
 use Rattle.vc_core.specs.State.{State, shown, MakesEvent}

@@ -4,7 +4,7 @@ use Rattle.std.specs.List.{AllByRecursion}
 use Rattle.std.proofs.lemmas.Bool.Decides.{nat_tests}
 use Rattle.std.proofs.lemmas.List.{length-map, map-append}
 use mathlib.Core.Path.{fun_ext}
-use Rattle.vc_actors.specs.Actors.{Network, ActBy}
+use Rattle.vc_network.specs.Actors.{Network, ActBy}
 use Rattle.vc_network.specs.Headline.{AreTold, HeadlineAndList}
 use Rattle.vc_network.specs.Views.{Said}
 use Rattle.vc_network.specs.Network as net
@@ -25,9 +25,9 @@ use Rattle.vc_vcp.specs.Links.{new_vcp}
 use Rattle.vc_machine.specs.Rendezvous.{nothing_yet}
 use Rattle.vc_actor.specs.Begin.{AreFirst}
 use Rattle.vc_placement.proofs.Networks.{invisible}
-use Rattle.vc_told.specs.Begin.{begin_of}
+use Rattle.vc_accepted.specs.Begin.{begin_of}
 use Rattle.vc_core.specs.Channels.{AreChannelsOf}
-use Rattle.vc_told.specs.Process.{Process, does}
+use Rattle.vc_accepted.specs.Process.{Process, does}
 use Rattle.vc_core.specs.Replaying.{IsOpening, Replays, Reached}
 use Rattle.vc_actor.specs.Shown.{Acting, actor_of}
 use Rattle.vc_core.specs.State.{State, shown, event_of, MakesEvent}

@@ -21,8 +21,8 @@ use Rattle.vc_accepted.proofs.Accepting.{accepted}
 use Rattle.vc_accepted.proofs.Listed.{made, made_or}
 use Rattle.vc_switch.specs.Switch.{new_switch}
 use Rattle.vc_switch.specs.Waiting.{Wormhole}
-use Rattle.vc_told.specs.Begin.{begin_of}
-use Rattle.vc_told.specs.Process.{does}
+use Rattle.vc_accepted.specs.Begin.{begin_of}
+use Rattle.vc_accepted.specs.Process.{does}
 use Rattle.vc_vcp.specs.Keyed.{named, shown_or}
 use Rattle.vc_core.specs.Channels.{ends_at, block_of}
 use Rattle.vc_core.specs.Placed.{AreOwned, FindsPlace, FindsOn, IsAt, IsUnfinished, packets_at}

@@ -24,7 +24,7 @@ use Rattle.vc_machine.specs.TokenMachine.{TokenEvent, TokenStep}
 use Rattle.vc_machine.proofs.Labels.{Phase, Calm, Coming, Waiting, Returning, PhaseFits}
 use Rattle.vc_machine.proofs.Owned.{all_both}
 use Rattle.vc_machine.proofs.Still.{still_is_clear}
-use Rattle.vc_actors.specs.Actors.{Network}
+use Rattle.vc_network.specs.Actors.{Network}
 use Rattle.vc_network.specs.Network.{Actor, begins}
 use Rattle.vc_network.specs.Plan.{Way, back, body_limit, ends, home, near, far, ways, switch_plan, net_of, IsOutOf, IsInto}
 use Rattle.vc_network.specs.Plan as network
@@ -48,8 +48,8 @@ use Rattle.vc_switch.specs.State.{State as SwitchState, plan_of}
 use Rattle.vc_switch.specs.Seen.{seen as seen_switch}
 use Rattle.vc_switch.specs.Able as switch_able
 use Rattle.vc_switch.specs.Waiting.{Wormhole}
-use Rattle.vc_told.specs.Begin.{begin_of}
-use Rattle.vc_told.specs.Process.{Process, does}
+use Rattle.vc_accepted.specs.Begin.{begin_of}
+use Rattle.vc_accepted.specs.Process.{Process, does}
 use Rattle.vc_vcp.specs.Able as node_able
 use Rattle.vc_vcp.specs.Seen.{seen as seen_node}
 use Rattle.vc_actor.specs.Acting.{port}

@@ -15,7 +15,7 @@ use Rattle.vc_actor.specs.Acting.{MayAct}
 use Rattle.vc_core.specs.Enabled.{CanHappen}
 use Rattle.vc_actor.specs.OfPlan.{IsActorOf}
 use Rattle.vc_actor.specs.Parts.{IsDone, strays_of, lost_of}
-use Rattle.vc_told.specs.Process.{Process}
+use Rattle.vc_accepted.specs.Process.{Process}
 use Rattle.vc_core.specs.Replaying.{Replays}
 use Rattle.vc_actor.specs.Shown.{Acting, OfNode, OfSwitch, node_of}
 use Rattle.vc_core.specs.State.{State, shown, IsNetworkOf, HasFront, HasWay, WaysLet}

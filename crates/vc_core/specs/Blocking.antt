@@ -3,7 +3,7 @@ use Rattle.std.specs.Prelude.{ℕ, List, []}
 use Rattle.vc_network.specs.Network.{Actor, IsNode, IsSwitch}
 use Rattle.vc_occam.specs.Blocking.{blocked}
 use Rattle.vc_occam.specs.declared.blocked.Blocked.{Blocked}
-use Rattle.vc_told.specs.Process.{Process}
+use Rattle.vc_accepted.specs.Process.{Process}
 use Rattle.vc_core.specs.Enabled.{NetworkState}
 
 -- of an actor's process, if it is a node

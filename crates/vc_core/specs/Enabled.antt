@@ -3,10 +3,10 @@ use Rattle.vc_accepted.specs.NetworkOf.{network_of}
 use Rattle.vc_network.specs.Enabled.{IsEnabled}
 use Rattle.vc_plan.specs.declared.plan.Plan.{Plan}
 use Rattle.vc_switch.specs.Waiting.{Wormhole}
-use Rattle.vc_actors.specs.Actors.{Network}
+use Rattle.vc_network.specs.Actors.{Network}
 use Rattle.vc_network.specs.Network.{Actor}
 use Rattle.vc_tokens.specs.Tokens.{Token}
-use Rattle.vc_told.specs.Process.{Process, does}
+use Rattle.vc_accepted.specs.Process.{Process, does}
 use Rattle.vc_core.specs.State.{State, shown, event_of}
 use Rattle.vc_core.specs.declared.event.Event.{Event}
 

@@ -1,7 +1,7 @@
 -- What stands at the links of a network: tokens on the wires, and credit at their ends.
 use Rattle.std.specs.Prelude.{ℕ, Bool, true, false, suc, ◌*◌}
 use Rattle.vc_network.specs.Network.{Actor, IsNode, IsSwitch}
-use Rattle.vc_told.specs.Process.{Process}
+use Rattle.vc_accepted.specs.Process.{Process}
 use Rattle.vc_core.specs.Enabled.{NetworkState}
 
 -- each wire is two ways: from its port one, and from its port two

@@ -1,7 +1,7 @@
 -- Where the packet of a channel stands, and how the place is named.
 use Rattle.std.specs.Prelude.{◌≡◌, ◌⊎◌, ℕ, suc, ◌/◌, ◌%◌, ◌==◌, true, List, length, Option, Some, None}
 use Rattle.std.specs.List.{Contains}
-use Rattle.vc_actors.specs.Actors.{Network}
+use Rattle.vc_network.specs.Actors.{Network}
 use Rattle.vc_packets.specs.declared.packet.Packet.{Packet}
 use Rattle.vc_tokens.specs.Tokens.{Token}
 use Rattle.vc_machine.specs.Paths.{AtNode, AtSwitch}

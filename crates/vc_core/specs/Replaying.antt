@@ -6,10 +6,10 @@ use Rattle.vc_placement.specs.Placement.{Linearizes}
 use Rattle.vc_plan.specs.declared.plan.Plan.{Plan}
 use Rattle.vc_accepted.specs.NetworkOf.{network_of}
 use Rattle.vc_switch.specs.Waiting.{Wormhole}
-use Rattle.vc_told.specs.Begin.{begin_of}
+use Rattle.vc_accepted.specs.Begin.{begin_of}
 use Rattle.vc_core.specs.Enabled.{NetworkState, CanHappen}
 use Rattle.vc_plan.specs.Accepted.{IsAccepted}
-use Rattle.vc_told.specs.Process.{does}
+use Rattle.vc_accepted.specs.Process.{does}
 use Rattle.vc_core.specs.State.{State, shown, event_of, state_of, IsNetworkOf}
 use Rattle.vc_core.specs.declared.event.Event.{Event}
 use Rattle.vc_core.specs.declared.network.Network.{Network}

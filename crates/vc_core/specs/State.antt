@@ -1,7 +1,7 @@
 -- What the code's network is: its actors, and the ways between them; and when an event can be made.
 use Rattle.std.specs.Prelude.{◌≡◌, ℕ, ◌+◌, List, [], Option, Some, None, slice_get, slice_set, length}
-use Rattle.vc_actors.specs.Actors.{ActBy}
-use Rattle.vc_actors.specs.Actors as actors
+use Rattle.vc_network.specs.Actors.{ActBy}
+use Rattle.vc_network.specs.Actors as actors
 use Rattle.vc_network.specs.Network as net
 use Rattle.vc_network.specs.Plan.{ways}
 use Rattle.vc_network.specs.Plan as network
@@ -16,7 +16,7 @@ use Rattle.vc_vcp.specs.Keyed.{shown_or}
 use Rattle.vc_core.specs.Channels.{AreChannelsOf}
 use Rattle.vc_actor.specs.Acting.{MayAct, MakesTake, MakesGrant}
 use Rattle.vc_actor.specs.OfPlan.{IsActorOf}
-use Rattle.vc_told.specs.Process.{Process, does}
+use Rattle.vc_accepted.specs.Process.{Process, does}
 use Rattle.vc_actor.specs.Shown.{Acting, actor_of, act_of}
 use Rattle.vc_core.specs.Wired.{AreWaysAt, Comes, Goes}
 use Rattle.vc_actor.specs.declared.act.Act.{Act}

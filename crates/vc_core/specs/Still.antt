@@ -1,7 +1,7 @@
 -- Where no event can happen but moves of processes, and where the packets are then.
 use Rattle.std.specs.Prelude.{◌≡◌, ℕ, ◌<◌, Bool, false, List, [], length, Some}
 use Rattle.std.specs.List.{Contains}
-use Rattle.vc_actors.specs.Actors.{Network}
+use Rattle.vc_network.specs.Actors.{Network}
 use Rattle.vc_packets.specs.declared.packet.Packet.{Packet}
 use Rattle.vc_tokens.specs.Tokens.{Token}
 use Rattle.vc_machine.specs.Places.{Place, Queue, OnWire, Inside, Held}

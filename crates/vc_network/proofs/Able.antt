@@ -1,7 +1,7 @@
 -- What the token machine of ways can do its actors can do: each step of tokens is there for the node or the switch at which it is made.
 use Rattle.std.proofs.Common.{◌≡◌, ℕ, ◌+◌, ◌<◌, ◌≤◌, inl, inr, List, ◌∷◌, ◌++◌, length, Option, Some, None, refl, sym, ap, subst, ◌∙◌}
 use Rattle.std.proofs.lemmas.Bool.{cases_lt}
-use Rattle.vc_actors.specs.Actors.{Network}
+use Rattle.vc_network.specs.Actors.{Network}
 use Rattle.vc_tokens.specs.Tokens.{Token, Byte, EndMark}
 use Rattle.vc_credit.specs.Ends.{Sender, Puts, puts_byte, puts_mark}
 use Rattle.vc_machine.specs.Paths.{AtNode, AtSwitch}

@@ -1,7 +1,7 @@
 -- A message goes over one wire in tokens, and its acknowledge back.
 use Rattle.std.proofs.Common.{◌≡◌, ℕ, true, [], ◌∷◌, ◌++◌, Some, None, refl, arith}
-use Rattle.vc_actors.specs.Actors.{Steps, Network}
-use Rattle.vc_actors.specs.Actors.Label.{Own, Takes, Puts}
+use Rattle.vc_network.specs.Actors.{Steps, Network}
+use Rattle.vc_network.specs.Actors.Label.{Own, Takes, Puts}
 use Rattle.vc_packets.specs.declared.packet.Packet.{Packet}
 use Rattle.vc_packets.specs.declared.mark.Mark.TheVariants.{Eop, Eom}
 use Rattle.vc_packets.specs.Spellings.{piece_packet, ack_packet}

@@ -1,3 +1,10 @@
+pub mod Interleaving
+pub mod Merging
+pub mod Lifting
+pub mod Determined
+pub mod Relabelled
+pub mod Growing
+pub mod Replaying
 pub mod Backs
 pub mod Crediting
 pub mod Determinate

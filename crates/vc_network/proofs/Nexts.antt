@@ -1,8 +1,8 @@
 -- Each step of the network keeps what is good, and what it says is its process's part and each channel's part.
 use Rattle.std.proofs.Common.{◌≡◌, ◌≢◌, ℕ, ◌+◌, ◌<◌, ◌≤◌, inl, inr, true, false, List, [], ◌∷◌, ◌++◌, length, Option, Some, None, refl, sym, ap, subst, ◌∙◌, arith, append-nil, length-append, slice_get}
 use Rattle.std.proofs.lemmas.Bool.{cases_eq}
-use Rattle.vc_actors.specs.Actors.{Label, Network, Step, taken_off, put_on}
-use Rattle.vc_actors.specs.Actors.Label.{Own, Takes, Puts}
+use Rattle.vc_network.specs.Actors.{Label, Network, Step, taken_off, put_on}
+use Rattle.vc_network.specs.Actors.Label.{Own, Takes, Puts}
 use Rattle.vc_machine.specs.Paths.{Net, AtNode, AtSwitch}
 use Rattle.vc_machine.specs.Rendezvous.{View, Comm, Out, In, Fin, Stp, DoesAll, part}
 use Rattle.vc_packets.specs.Functions.{put}

@@ -1,6 +1,6 @@
 -- The packets of a network go as the packet machine has it.
 use Rattle.std.proofs.Common.{◌≡◌, ℕ, ◌<◌, ◌≤◌, List, [], ◌∷◌, length, Option, Some, None, refl, sym, ap, subst, ◌∙◌, arith}
-use Rattle.vc_actors.specs.Actors.{Network, ActBy}
+use Rattle.vc_network.specs.Actors.{Network, ActBy}
 use Rattle.vc_packets.specs.declared.mark.Mark.{Mark}
 use Rattle.vc_machine.specs.Links.{Receiver, Tokens, no_tokens}
 use Rattle.vc_machine.specs.Machine.{State, Event, Enter, Route, Run, Step}

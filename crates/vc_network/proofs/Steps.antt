@@ -1,7 +1,7 @@
 -- One step of the network, as a step of the ways' machine and of one process.
 use Rattle.std.proofs.Common.{◌≡◌, ◌≢◌, ℕ, ◌+◌, ◌<◌, ◌⊎◌, inl, inr, true, false, List, [], ◌∷◌, ◌++◌, length, refl, sym, ap, subst, ◌∙◌, arith, append-nil, if◌then◌else◌, ◌==◌, eq-eqb, ne_eqb}
 use Rattle.std.proofs.lemmas.Bool.{cases_eq}
-use Rattle.vc_actors.specs.Actors.{Network}
+use Rattle.vc_network.specs.Actors.{Network}
 use Rattle.vc_tokens.specs.Tokens.{Token}
 use Rattle.vc_machine.specs.Links.{Tokens, no_tokens}
 use Rattle.vc_switch.specs.Waiting.{Waiting, Wormhole}

@@ -1,12 +1,12 @@
 -- The threads' own runs, merged, are a run of the network.
 use Rattle.std.proofs.Common.{◌≡◌, ℕ, ◌+◌, ◌<◌, ◌≤◌, List, [], ◌∷◌, ◌++◌, refl, sym, ap, ap₂, subst, arith, if◌then◌else◌, ne_eqb}
-use Rattle.vc_actors.specs.Actors.{Label, KeepsTo, taken_off, put_on}
-use Rattle.vc_actors.specs.Actors.Label.{Own, Takes, Puts}
-use Rattle.vc_actors.proofs.Replaying.{threads_run}
+use Rattle.vc_network.specs.Actors.{Label, KeepsTo, taken_off, put_on}
+use Rattle.vc_network.specs.Actors.Label.{Own, Takes, Puts}
+use Rattle.vc_network.proofs.Replaying.{threads_run}
 use Rattle.vc_tokens.specs.Tokens.{Token}
 use Rattle.vc_switch.specs.Waiting.{Waiting}
 use Rattle.vc_network.specs.Plan.{Plan, ways}
-use Rattle.vc_actors.specs.LocalRun.{Stamped, Turn, LocalRun, plain, all_taken, all_put}
+use Rattle.vc_network.specs.LocalRun.{Stamped, Turn, LocalRun, plain, all_taken, all_put}
 use Rattle.vc_network.specs.Processes.{Doing}
 use Rattle.vc_network.specs.Network.{Act, Proc, Take, Put, Route, Fct, Pass, Node, Actor, IsNode, IsSwitch, NodeStep, SwitchStep, Local, first, begins, actor_at, HappenAll}
 use Rattle.vc_network.specs.Threads.{source, sink, ended, ThreadsKeepHeadline}

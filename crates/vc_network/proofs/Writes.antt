@@ -1,7 +1,7 @@
 -- Steps whose new state is written as a change at one actor and one way.
 use Rattle.std.proofs.Common.{◌≡◌, ℕ, List, [], ◌∷◌, ◌++◌, refl, sym, ap, subst, ◌∙◌, append-nil, if◌then◌else◌, ◌==◌, eq-eqb, ne_eqb}
-use Rattle.vc_actors.specs.Actors.{Steps, Network, Step}
-use Rattle.vc_actors.specs.Actors.Label.{Own, Takes, Puts}
+use Rattle.vc_network.specs.Actors.{Steps, Network, Step}
+use Rattle.vc_network.specs.Actors.Label.{Own, Takes, Puts}
 use Rattle.vc_packets.specs.Functions.{put}
 use Rattle.vc_machine.proofs.Basics.{put-same, put-other, every_put}
 

@@ -1,6 +1,6 @@
 -- Under credit: what comes over a way finds its place, and no packet grows past the limit.
 use Rattle.std.specs.Prelude.{ℕ, ◌≤◌, ◌<◌, List, length}
-use Rattle.vc_actors.specs.Actors.{Network, ActBy}
+use Rattle.vc_network.specs.Actors.{Network, ActBy}
 use Rattle.vc_machine.specs.Paths.{Port, AtNode, AtSwitch}
 use Rattle.vc_tokens.specs.Tokens.{Token}
 use Rattle.vc_credit.specs.Credit.{IsUnderCredit}

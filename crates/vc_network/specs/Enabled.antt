@@ -1,5 +1,5 @@
 -- Which events a state has.
-use Rattle.vc_actors.specs.Actors.{Network, Alike, ActBy}
+use Rattle.vc_network.specs.Actors.{Network, Alike, ActBy}
 use Rattle.vc_tokens.specs.Tokens.{Token}
 use Rattle.vc_switch.specs.Waiting.{Waiting}
 use Rattle.vc_network.specs.Plan.{Plan, IsAccepted}

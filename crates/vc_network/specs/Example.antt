@@ -1,6 +1,6 @@
 -- Two nodes, one wire, one virtual link and one channel, with a process that outputs once and one that inputs once.
 use Rattle.std.specs.Prelude.{ℕ, ◌*◌, Bool, true, false, ◌&&◌, ◌==◌, List, [], ◌∷◌, Some, None}
-use Rattle.vc_actors.specs.Actors.{ActBy}
+use Rattle.vc_network.specs.Actors.{ActBy}
 use Rattle.vc_machine.specs.Paths.{AtNode}
 use Rattle.vc_network.specs.Plan.{Plan, Way}
 use Rattle.vc_network.specs.Processes.{Offer, Want, Deed, Offers, Wants, Finishes, Receives}

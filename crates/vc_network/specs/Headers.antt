@@ -1,6 +1,6 @@
 -- A network whose packets may have more headers on the way.
 use Rattle.std.specs.Prelude.{◌↔◌, ℕ, ◌≤◌, List}
-use Rattle.vc_actors.specs.Actors.{Network, ActBy}
+use Rattle.vc_network.specs.Actors.{Network, ActBy}
 use Rattle.vc_tokens.specs.Tokens.{Token}
 use Rattle.vc_switch.specs.Waiting.{Waiting}
 use Rattle.vc_network.specs.Plan.{Plan, IsAccepted}

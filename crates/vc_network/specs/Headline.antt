@@ -1,6 +1,6 @@
 -- The headline: first in, first out, each once.
 use Rattle.std.specs.Prelude.{◌≡◌, ◌⊎◌, ℕ, suc, ◌≤◌, ◌<◌, Bool, true, List, [], ◌∷◌, length, Some, Contains}
-use Rattle.vc_actors.specs.Actors.{Network, ActBy}
+use Rattle.vc_network.specs.Actors.{Network, ActBy}
 use Rattle.vc_packets.specs.declared.packet.Packet.{Packet}
 use Rattle.vc_tokens.specs.Tokens.{Token}
 use Rattle.vc_switch.specs.Waiting.{Waiting}

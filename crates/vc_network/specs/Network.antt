@@ -1,7 +1,7 @@
 -- The network as actors and ways that carry tokens: nodes with their processes, then switches.
 use Rattle.std.specs.Prelude.{◌≡◌, ◌⊎◌, ℕ, suc, ◌+◌, ◌<◌, true, false, nat_lt, List, [], ◌∷◌, ◌++◌, Option, Some, None, if◌then◌else◌}
-use Rattle.vc_actors.specs.Actors.{Label, Steps, Step, Network, Alike, ActBy, act_of, opening}
-use Rattle.vc_actors.specs.Actors.Label.{Own, Takes, Puts}
+use Rattle.vc_network.specs.Actors.{Label, Steps, Step, Network, Alike, ActBy, act_of, opening}
+use Rattle.vc_network.specs.Actors.Label.{Own, Takes, Puts}
 use Rattle.vc_machine.specs.Paths.{Port, AtNode, AtSwitch}
 use Rattle.vc_machine.specs.Rendezvous.{View, nothing_yet}
 use Rattle.vc_packets.specs.Functions.{put}

@@ -1,7 +1,7 @@
 -- Whose each packet of the network is, and how long it is at most.
 use Rattle.std.specs.Prelude.{ℕ, ◌≤◌, List, length}
 use Rattle.std.specs.List.{Contains}
-use Rattle.vc_actors.specs.Actors.{Network, ActBy}
+use Rattle.vc_network.specs.Actors.{Network, ActBy}
 use Rattle.vc_packets.specs.declared.packet.Packet.{Packet}
 use Rattle.vc_tokens.specs.Tokens.{Token}
 use Rattle.vc_switch.specs.Waiting.{Waiting}

@@ -1,6 +1,6 @@
 -- The packets of a network: the state of the packet machine that its tokens stand for. A packet stands where its mark stands.
 use Rattle.std.specs.Prelude.{◌≡◌, ℕ, ◌<◌, List, [], ◌∷◌, Option, Some, None}
-use Rattle.vc_actors.specs.Actors.{Network, ActBy}
+use Rattle.vc_network.specs.Actors.{Network, ActBy}
 use Rattle.vc_machine.specs.Machine.{State, ChanState, Input, Empty, Full, Event, Enter, Route, Run, start}
 use Rattle.vc_machine.specs.Paths.{Port, AtNode, AtSwitch}
 use Rattle.vc_packets.specs.declared.mark.Mark.{Mark}

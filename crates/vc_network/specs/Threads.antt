@@ -1,8 +1,8 @@
 -- What actors in threads of their own do is a run of the network.
 use Rattle.std.specs.Prelude.{◌≡◌, ℕ, List, ◌∷◌, ◌++◌, map}
-use Rattle.vc_actors.specs.Actors.{Network, Alike, ActBy, act_of}
-use Rattle.vc_actors.specs.LocalRun.{Stamped, Turn, LocalRuns, items, restamped}
-use Rattle.vc_actors.specs.Merge.{Made, IsMerge}
+use Rattle.vc_network.specs.Actors.{Network, Alike, ActBy, act_of}
+use Rattle.vc_network.specs.LocalRun.{Stamped, Turn, LocalRuns, items, restamped}
+use Rattle.vc_network.specs.Merge.{Made, IsMerge}
 use Rattle.vc_tokens.specs.Tokens.{Token}
 use Rattle.vc_switch.specs.Waiting.{Waiting}
 use Rattle.vc_network.specs.Plan.{Plan, near, far, IsAccepted}

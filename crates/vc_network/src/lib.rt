@@ -1,11 +1,17 @@
-//! The whole network over tokens: nodes with processes and switches, joined by ways. Definitions and laws. The laws here are of
-//! processes that are numbered by their states, with steps that a test tells; vc_told has them of processes of occam.
+//! The whole network over tokens: nodes with processes and switches, joined by ways. Definitions and laws.
+//!
+//! A network of actors is joined by one-way ways that keep the order of their items (`specs/Actors`). What an actor does by itself is a
+//! local run (`specs/LocalRun`), and the merge of what all did by themselves is a run of the network (`specs/Merge`). These laws are
+//! lemmas over any actors, acts and items, since a clause cannot range over a type.
+//!
+//! The laws of this file are of processes that are numbered by their states, with steps that a test tells; `vc_accepted` has them of
+//! processes of occam.
 #![tactic(auto)]
 
 ghost use Rattle.std.specs.Prelude.{◌≡◌, ℕ, List, [], ◌∷◌};
-ghost use Rattle.vc_actors.specs.Actors.{Network};
-ghost use Rattle.vc_actors.specs.LocalRun.{Stamped};
-ghost use Rattle.vc_actors.specs.Merge.{Made, IsMerge};
+ghost use Rattle.vc_network.specs.Actors.{Network};
+ghost use Rattle.vc_network.specs.LocalRun.{Stamped};
+ghost use Rattle.vc_network.specs.Merge.{Made, IsMerge};
 ghost use Rattle.vc_tokens.specs.Tokens.{Token};
 ghost use Rattle.vc_switch.specs.Waiting.{Waiting};
 ghost use Rattle.vc_network.specs.Numbered.{OfNumbered};

@@ -1,10 +1,8 @@
 //! What the parts of a process are at that do not go on by themselves.
 ghost use Rattle.std.specs.Prelude.{◌∷◌, [], ℤ, ℕ, List, Option, map, slice_get};
-ghost use Rattle.std.specs.List.{flat_map};
-ghost use Rattle.vc_occam.specs.Blocking.{Adds, blocked as blocked_at, blocked_fresh, open_gate, or_closed};
+ghost use Rattle.vc_occam.specs.Blocking.{Adds, blocked as blocked_at, blocked_fresh, open_gate, open_gates, or_closed};
 ghost use Rattle.vc_occam.specs.Frames.{View, as_begun, awaiting, besides, chosen_at, count_of, guards_of, part_rest, plan_at, resting_at, turn_of, view, views, while_of};
 ghost use Rattle.vc_occam.specs.Gates.{gate};
-ghost use Rattle.vc_occam.specs.Remains.{Fresh};
 ghost use Rattle.vc_process.specs.Syntax.{ALT, Exp, Output, Test};
 ghost use Rattle.vc_process.specs.Terms.{given, store};
 ghost use Rattle.vc_process.specs.Values.{Store};
@@ -78,7 +76,7 @@ impl GuardedInputs {
         vars: &[Datum],
     ) -> Result<(), Memory>
         ensures { Adds found.old found.new
-            (or_closed site (flat_map (open_gate site (store vars.now)) (map gate self.now.inputs)))
+            (or_closed site (open_gates site (store vars.now) (map gate self.now.inputs)))
             result }
     {
         let before = found.len();
@@ -97,7 +95,7 @@ impl GuardedInputs {
         vars: &[Datum],
     ) -> Result<(), Memory>
         ensures { Adds found.old found.new
-            (flat_map (open_gate site (store vars.now)) (map gate self.now.inputs)) result }
+            (open_gates site (store vars.now) (map gate self.now.inputs)) result }
     {
         for input in self.inputs.as_slice() {
             input.push_guard(found, site, vars)?;
@@ -143,7 +141,7 @@ fn push_fresh(
     vars: &[Datum],
 ) -> Result<(), Memory>
     ensures { Adds found.old found.new
-        (blocked_at (Fresh (plan_at kind.now site (views parts.now.items))) (store vars.now))
+        (blocked_fresh (plan_at kind.now site (views parts.now.items)) (store vars.now))
         result }
 {
     match kind {

@@ -2,7 +2,7 @@
 use Rattle.std.proofs.Common.{◌≡◌, ◌≢◌, ℕ, Bool, true, false, ◌==◌, refl, sym, ap, subst, ◌∙◌, List, [], ◌∷◌, ◌++◌, eq-eqb, ne_eqb, if◌then◌else◌}
 use Rattle.vc_process.specs.declared.datum.Datum.{Datum}
 use Rattle.vc_process.specs.Messages.{message}
-use Rattle.vc_told.specs.OneList.{to_channel}
+use Rattle.vc_accepted.specs.OneList.{to_channel}
 use Rattle.vc_occam.specs.Traces.{Comm, Out, Fin, In, Stp}
 
 -- what a list consists of on the way to its linearization: a message that passes, a stop, an input or an end whose output stands before

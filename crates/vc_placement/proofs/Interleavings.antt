@@ -3,7 +3,7 @@ use Rattle.std.proofs.Common.{◌≡◌, ℕ, zero, suc, ◌+◌, ◌≤◌, ◌
 use Rattle.std.proofs.lemmas.Bool.{cases_eq, cases_lt, lt-leb}
 use Rattle.vc_placement.specs.Linearization.{Atomic, Exchange, Stop, all_comms, AreFaithful}
 use Rattle.vc_occam.specs.NodeTraces.{Meets}
-use Rattle.vc_told.specs.OneList.{by}
+use Rattle.vc_accepted.specs.OneList.{by}
 use Rattle.vc_placement.specs.Parallel.{parts_of, without_nodes, IsEnded, AllIsOneTrace}
 use Rattle.vc_process.specs.Syntax.{Proc}
 use Rattle.vc_occam.specs.Traces.{Comm, End, Ended, Merge, neither, from_left, from_right, join, both_ended, Trace, par, TracePar, par_end, par_more}

@@ -9,3 +9,7 @@ pub mod Interleavings
 pub mod Networks
 pub mod OneNode
 pub mod SameProgram
+pub mod Kept
+pub mod LawfulKept
+pub mod Ends
+pub mod Main

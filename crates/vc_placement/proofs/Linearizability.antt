@@ -2,7 +2,7 @@
 use Rattle.std.proofs.Common.{◌≡◌, ℕ, refl, sym, ap, subst, ◌∙◌, List, [], ◌∷◌, ◌++◌, arith}
 use Rattle.vc_placement.specs.Linearization.{Atomic, Exchange, Stop, comms_of, all_comms, points, AreFaithful, completed, EveryHistoryLinearizes}
 use Rattle.vc_machine.specs.Rendezvous.{DoesAll, nothing_yet}
-use Rattle.vc_told.specs.OneList.{by, on}
+use Rattle.vc_accepted.specs.OneList.{by, on}
 use Rattle.vc_process.specs.Syntax.{Proc}
 use Rattle.vc_occam.specs.Traces.{Comm, End, Trace}
 use Rattle.vc_process.specs.Values.{Store}

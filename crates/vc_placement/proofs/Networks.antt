@@ -2,7 +2,7 @@
 use Rattle.std.proofs.Common.{◌≡◌, ℕ, ◌≤◌, ◌<◌, sym, ap, subst, List, length, inl, inr, ◌⊎◌, arith}
 use Rattle.std.proofs.lemmas.Bool.{cases_lt}
 use Rattle.vc_accepted.specs.NetworkOf.{network_of}
-use Rattle.vc_actors.specs.Actors.{Network}
+use Rattle.vc_network.specs.Actors.{Network}
 use Rattle.vc_network.specs.Network.{Node, Actor, IsNode}
 use Rattle.vc_network.specs.Views.{view}
 use Rattle.vc_occam.specs.NodeTraces.{so_far}
@@ -12,10 +12,10 @@ use Rattle.vc_plan.specs.declared.plan.Plan.{Plan}
 use Rattle.vc_placement.specs.Linearization.{all_comms, StaysEnded}
 use Rattle.vc_placement.specs.Placement.{CanPerform, Linearizes, PlacementIsInvisible}
 use Rattle.vc_placement.proofs.Linearizability.{linearizes}
-use Rattle.vc_told.specs.Begin.{node_plan, begin_of}
-use Rattle.vc_told.specs.OneList.{by, IsTold}
-use Rattle.vc_told.specs.Process.{Process}
-use Rattle.vc_told.proofs.Main.{all_told}
+use Rattle.vc_accepted.specs.Begin.{node_plan, begin_of}
+use Rattle.vc_accepted.specs.OneList.{by, IsTold}
+use Rattle.vc_accepted.specs.Process.{Process}
+use Rattle.vc_accepted.proofs.Main.{all_told}
 use Rattle.vc_tokens.specs.Tokens.{Token}
 
 module _ (p : Plan) (s : Network (Actor Process) Token) (ks : List (ℕ × Comm)) (told : IsTold p s ks) where

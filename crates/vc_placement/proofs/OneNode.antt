@@ -2,7 +2,7 @@
 use Rattle.std.proofs.Common.{◌≡◌, ℕ, zero, suc, ◌+◌, ◌≤◌, ◌<◌, true, nat_lt, length-append, refl, sym, ap, subst, ◌∙◌, List, [], ◌∷◌, ◌++◌, length, map, get_or, slice_get, Some, inl, inr, arith}
 use Rattle.std.proofs.lemmas.Bool.{cases_lt, lt-ltb, ltb-true}
 use Rattle.std.proofs.lemmas.List.{length-map, map-append}
-use Rattle.vc_actors.specs.Actors.{Network}
+use Rattle.vc_network.specs.Actors.{Network}
 use Rattle.vc_network.specs.Network.{Node, Actor, IsNode}
 use Rattle.vc_process.specs.declared.value_kind.ValueKind.{ValueKind}
 use Rattle.vc_process.specs.ProcessLimits.{names_fit}
@@ -28,10 +28,10 @@ use Rattle.vc_occam.proofs.Fitting.{uses_there}
 use Rattle.vc_occam.proofs.Renamings.{EndsAgree, trace_renamed}
 use Rattle.vc_occam.specs.Remains.{Done}
 use Rattle.vc_placement.proofs.Interleavings.{from, joined, from_first, from_none, both, all_meet}
-use Rattle.vc_told.specs.Begin.{node_plan, no_node, begin_of}
-use Rattle.vc_told.specs.OneList.{by}
-use Rattle.vc_told.specs.Process.{Process}
-use Rattle.vc_told.proofs.Planned.{named}
+use Rattle.vc_accepted.specs.Begin.{node_plan, no_node, begin_of}
+use Rattle.vc_accepted.specs.OneList.{by}
+use Rattle.vc_accepted.specs.Process.{Process}
+use Rattle.vc_accepted.proofs.Planned.{named}
 use Rattle.vc_tokens.specs.Tokens.{Token}
 
 -- what variables of these kinds hold at first

@@ -2,7 +2,7 @@
 use Rattle.std.proofs.Common.{◌≡◌, ◌≢◌, ℕ, Bool, true, false, ◌==◌, refl, sym, ap, subst, ◌∙◌, List, [], ◌∷◌, ◌++◌, inl, inr, ◌⊎◌, arith, eq-eqb, ne_eqb, if◌then◌else◌}
 use Rattle.std.proofs.lemmas.Bool.{cases_eq}
 use Rattle.vc_process.specs.declared.datum.Datum.{Datum}
-use Rattle.vc_told.specs.OneList.{by}
+use Rattle.vc_accepted.specs.OneList.{by}
 use Rattle.vc_occam.specs.Traces.{Comm, Out, Fin, In, Stp}
 use Rattle.vc_occam.proofs.Counts.{out_of, fin_of, outs, fins, fins_append}
 use Rattle.vc_occam.proofs.Responses.{insertion_here, insertion_later}

@@ -6,7 +6,7 @@ use Rattle.vc_process.specs.declared.datum.Datum.{Datum}
 use Rattle.vc_machine.specs.Rendezvous as rendezvous
 use Rattle.vc_machine.specs.Rendezvous.{View, Does, DoesAll}
 use Rattle.vc_process.specs.Messages.{message}
-use Rattle.vc_told.specs.OneList.{by, to_channel, on}
+use Rattle.vc_accepted.specs.OneList.{by, to_channel, on}
 use Rattle.vc_occam.specs.Traces.{Comm, Out, Fin, In, Stp}
 use Rattle.vc_occam.proofs.Counts.{out_of, fin_of, outs, fins}
 use Rattle.vc_occam.proofs.Prefixes.{Prefix, prefix_none, prefix_more}

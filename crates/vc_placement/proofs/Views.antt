@@ -5,7 +5,7 @@ use Rattle.vc_process.specs.declared.datum.Datum.{Datum}
 use Rattle.vc_machine.specs.Rendezvous as rendezvous
 use Rattle.vc_machine.specs.Rendezvous.{View, Does, DoesAll}
 use Rattle.vc_process.specs.Messages.{message}
-use Rattle.vc_told.specs.OneList.{to_channel, on}
+use Rattle.vc_accepted.specs.OneList.{to_channel, on}
 use Rattle.vc_occam.specs.Traces.{Comm, Out, Fin, In, Stp}
 use Rattle.vc_placement.proofs.Turns.{at_end}
 use Rattle.vc_placement.proofs.Elements.{Element, Exchanged, Stopped, Received, Finished, spell, chan_of, without, exchanged, linearized, Idle, ElementsInTurn, passes, stops, other, AreMet}

@@ -3,3 +3,4 @@ pub mod Parallel
 pub mod Placement
 pub mod OneNode
 pub mod SameProgram
+pub mod Fits

@@ -9,7 +9,7 @@ use Rattle.vc_process.specs.Messages.{message}
 use Rattle.vc_process.specs.Syntax.{Proc}
 use Rattle.vc_process.specs.Values.{Store}
 use Rattle.vc_process.specs.declared.datum.Datum.{Datum}
-use Rattle.vc_told.specs.OneList.{by, on}
+use Rattle.vc_accepted.specs.OneList.{by, on}
 
 -- an atomic communication: a message passes from one process to another, or the channel is stopped
 pub data Atomic : Type 0 where

@@ -1,6 +1,6 @@
 -- What the plan of one node can do, which runs all processes of another plan side by side.
 use Rattle.std.specs.Prelude.{◌≡◌, ℕ, ◌<◌, List, length}
-use Rattle.vc_actors.specs.Actors.{Network}
+use Rattle.vc_network.specs.Actors.{Network}
 use Rattle.vc_network.specs.Network.{Node, Actor, IsNode}
 use Rattle.vc_occam.specs.NodeTraces.{NodeTrace}
 use Rattle.vc_occam.specs.Remains.{Done}
@@ -12,8 +12,8 @@ use Rattle.vc_plan.specs.Accepted.{IsAccepted}
 use Rattle.vc_plan.specs.OneNode.{IsOnOneNode}
 use Rattle.vc_plan.specs.declared.plan.Plan.{Plan}
 use Rattle.vc_process.specs.Numbering.{written}
-use Rattle.vc_told.specs.Begin.{node_plan, begin_of}
-use Rattle.vc_told.specs.Process.{Process}
+use Rattle.vc_accepted.specs.Begin.{node_plan, begin_of}
+use Rattle.vc_accepted.specs.Process.{Process}
 use Rattle.vc_tokens.specs.Tokens.{Token}
 
 -- every process of the plan has ended

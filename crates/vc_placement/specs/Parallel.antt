@@ -5,7 +5,7 @@ use Rattle.vc_occam.specs.Traces.{Comm, End, Ended, Trace}
 use Rattle.vc_placement.specs.Linearization.{Atomic, all_comms, AreFaithful}
 use Rattle.vc_process.specs.Syntax.{Proc, PAR, Procs, no_parts, part}
 use Rattle.vc_process.specs.Values.{Store}
-use Rattle.vc_told.specs.OneList.{by}
+use Rattle.vc_accepted.specs.OneList.{by}
 
 -- so many processes, from the n-th on
 abbrev pub parts_of : (ℕ → Proc) → ℕ → ℕ → Procs

@@ -1,7 +1,7 @@
 -- Placement is invisible: whatever the network of a plan did, one transputer that runs the same processes side by side could have done.
 use Rattle.std.specs.Prelude.{◌≡◌, ℕ, ◌≤◌, ◌<◌, List, [], length}
 use Rattle.vc_accepted.specs.NetworkOf.{network_of}
-use Rattle.vc_actors.specs.Actors.{Network, ActBy}
+use Rattle.vc_network.specs.Actors.{Network, ActBy}
 use Rattle.vc_machine.specs.Rendezvous.{DoesAll, nothing_yet}
 use Rattle.vc_network.specs.Network.{Act, Node, Actor, IsNode, begins, HappenAll}
 use Rattle.vc_network.specs.Views.{view}
@@ -13,9 +13,9 @@ use Rattle.vc_plan.specs.Accepted.{IsAccepted}
 use Rattle.vc_plan.specs.declared.plan.Plan.{Plan}
 use Rattle.vc_process.specs.Numbering.{written}
 use Rattle.vc_switch.specs.Waiting.{Waiting}
-use Rattle.vc_told.specs.Begin.{node_plan, begin_of}
-use Rattle.vc_told.specs.OneList.{by, on, IsTold}
-use Rattle.vc_told.specs.Process.{Process, does}
+use Rattle.vc_accepted.specs.Begin.{node_plan, begin_of}
+use Rattle.vc_accepted.specs.OneList.{by, on, IsTold}
+use Rattle.vc_accepted.specs.Process.{Process, does}
 use Rattle.vc_tokens.specs.Tokens.{Token}
 
 -- node n can perform this list by its process, from its empty variables on, and has ended as it has on the network, if it has there

@@ -5,7 +5,7 @@ use Rattle.vc_occam.specs.Traces.{Comm}
 use Rattle.vc_placement.specs.Placement.{CanPerform}
 use Rattle.vc_plan.specs.Limits.{kinds_of}
 use Rattle.vc_plan.specs.declared.plan.Plan.{Plan}
-use Rattle.vc_told.specs.Begin.{node_plan}
+use Rattle.vc_accepted.specs.Begin.{node_plan}
 
 -- each node has the same process, over variables of the same kinds
 pub record SameProgram (p q : Plan) : Type 0 where

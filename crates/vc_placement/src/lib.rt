@@ -7,6 +7,7 @@
 //! exchanging neighbours that are independent: an output moves forward to its input, and its end moves back to it.
 #![tactic(auto)]
 
+ghost use Rattle.vc_placement.specs.Fits.{OneNodeIsAccepted, OnlySizesRefuseIt};
 ghost use Rattle.vc_placement.specs.Linearization.{EveryHistoryLinearizes};
 ghost use Rattle.vc_placement.specs.OneNode.{OneNodeCanDoIt};
 ghost use Rattle.vc_placement.specs.Parallel.{AllIsOneTrace};
@@ -40,4 +41,15 @@ pub fn one_node_can_do_it()
 /// of the other can perform.
 pub fn one_program_one_meaning()
     ensures { OneProgramOneMeaning }
+{}
+
+/// The checker accepts the plan of one node exactly where the nodes have at most 64 variables together, where at most 4,095 processes
+/// are written in them, and where each nests at most 31 deep: no other test can refuse it.
+pub fn one_node_is_accepted()
+    ensures { OneNodeIsAccepted }
+{}
+
+/// It is refused for nothing else, but for want of memory: for its variables, for a process that nests too deep, or for its processes.
+pub fn only_sizes_refuse_it()
+    ensures { OnlySizesRefuseIt }
 {}

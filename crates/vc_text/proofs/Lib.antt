@@ -8,3 +8,4 @@ pub mod Quieting
 pub mod Threaded
 pub mod Simulated
 pub mod Stepped
+pub mod Entering

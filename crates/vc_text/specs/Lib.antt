@@ -14,3 +14,4 @@ pub mod Shown
 pub mod Threading
 pub mod OneNode
 pub mod Tail
+pub mod Kept

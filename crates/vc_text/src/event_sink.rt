@@ -1,8 +1,8 @@
 //! What takes the events of a run.
 ghost use Rattle.std.specs.Prelude.{◌≡◌, [], ◌∷◌, ◌++◌, OnOk, ⊤};
 
+use crate::event_log::EventLog;
 use vc_core::Event;
-use vc_log::EventLog;
 use vc_packets::Memory;
 
 /// What takes the events of a run, in order. Contracts know of each list whether it may be the one of the events that were taken.

@@ -11,6 +11,7 @@ ghost use Rattle.vc_text.specs.Traffic.{traffic};
 ghost use Rattle.vc_text.specs.Views.{AreViews, shown as traffic_of};
 
 use crate::check::read_accepted;
+use crate::event_log::EventLog;
 use crate::event_sink::EventSink;
 use crate::fault::RunFault;
 use crate::one_node::read_together;
@@ -20,7 +21,6 @@ use crate::traffic::{ChannelView, traffic_text, write_channels};
 use std::alloc::Global;
 use std::io::{Read, Write};
 use vc_core::{Close, Network};
-use vc_log::EventLog;
 use vc_packets::Memory;
 use vc_plan::Accepted;
 

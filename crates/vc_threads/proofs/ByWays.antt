@@ -7,9 +7,9 @@ use Rattle.vc_accepted.specs.NetworkOf.{network_of}
 use Rattle.vc_accepted.specs.Outgoing.{link_port, outgoing, incoming}
 use Rattle.vc_accepted.proofs.Crossing.{Joins, joined_way, way_of}
 use Rattle.vc_accepted.proofs.Wired.{link_is_at, wired, outgoing_is, incoming_is}
-use Rattle.vc_actors.specs.Actors.{Label, taken_off, put_on}
-use Rattle.vc_actors.specs.Actors.Label.{Own, Takes, Puts}
-use Rattle.vc_actors.specs.LocalRun.{Stamped, Turn, LocalRun, CarriesStamp, next_stamp, plain, all_put, all_taken, restamped}
+use Rattle.vc_network.specs.Actors.{Label, taken_off, put_on}
+use Rattle.vc_network.specs.Actors.Label.{Own, Takes, Puts}
+use Rattle.vc_network.specs.LocalRun.{Stamped, Turn, LocalRun, CarriesStamp, next_stamp, plain, all_put, all_taken, restamped}
 use Rattle.vc_core.specs.Shown.{Acting, actor_of, act_of}
 use Rattle.vc_core.specs.Turns.{IsPut}
 use Rattle.vc_actor.specs.declared.act.Act.{Act}
@@ -21,7 +21,7 @@ use Rattle.vc_network.specs.Plan.{ways, near, far, back, IsOutOf, IsInto}
 use Rattle.vc_plan.specs.Accepted.{IsAccepted, port_of}
 use Rattle.vc_plan.specs.declared.plan.Plan.{Plan}
 use Rattle.vc_switch.specs.Waiting.{Wormhole}
-use Rattle.vc_told.specs.Process.{does}
+use Rattle.vc_accepted.specs.Process.{does}
 use Rattle.vc_tokens.specs.Spelt.{token}
 use Rattle.vc_tokens.specs.Tokens as tokens
 use Rattle.vc_tokens.specs.declared.token.Token.{Token}

@@ -2,9 +2,9 @@
 use Rattle.std.proofs.Common.{◌≡◌, ◌==◌, ℕ, zero, suc, ◌<◌, ◌≤◌, ◌⊎◌, inl, inr, Bool, true, false, if◌then◌else◌, List, [], ◌∷◌, refl, ap, sym, subst, ◌∙◌, arith, eq-eqb, ne_eqb}
 use Rattle.std.specs.List.{AllByRecursion}
 use Rattle.std.proofs.lemmas.Bool.{cases_eq, cases_lt, cases_order}
-use Rattle.vc_actors.specs.LocalRun.{Stamped}
-use Rattle.vc_actors.specs.Merge.{IsMerge, IsOrdered, Made, NotAfter, Rises, StampsRise, part}
-use Rattle.vc_actors.proofs.Merging.{part-other, part-own}
+use Rattle.vc_network.specs.LocalRun.{Stamped}
+use Rattle.vc_network.specs.Merge.{IsMerge, IsOrdered, Made, NotAfter, Rises, StampsRise, part}
+use Rattle.vc_network.proofs.Merging.{part-other, part-own}
 
 module _ {A : Type 0} where
   not_after : (x m n : Made A) → NotAfter x m → NotAfter m n → NotAfter x n

@@ -4,8 +4,8 @@ use Rattle.std.specs.List.{AllZip, AllByRecursion}
 use Rattle.std.proofs.Math.ListN.{set}
 use Rattle.std.proofs.lemmas.Bool.{cases_eq, cases_order}
 use Rattle.std.proofs.lemmas.Option.{slice_get_within}
-use Rattle.vc_actors.specs.LocalRun.{Stamped}
-use Rattle.vc_actors.specs.Merge.{Numbered, NotAfter}
+use Rattle.vc_network.specs.LocalRun.{Stamped}
+use Rattle.vc_network.specs.Merge.{Numbered, NotAfter}
 use Rattle.vc_actor.specs.declared.act.Act.{Act}
 use Rattle.vc_threads.specs.Merged.{of_pair, numbered, stamp_at, front_of, id_at, IsNext, NotLater, FindsFirst}
 use Rattle.vc_threads.specs.declared.merging.Front.{Front}

@@ -10,10 +10,10 @@ use Rattle.rtrb.specs.Ring.{sent, received, known_items}
 use Rattle.vc_accepted.specs.NetworkOf.{network_of}
 use Rattle.vc_accepted.specs.Outgoing.{actor_of}
 use Rattle.vc_accepted.proofs.Listed.{both}
-use Rattle.vc_actors.specs.Actors.{Label, Steps, put_on}
-use Rattle.vc_actors.specs.Actors.Label.{Own, Takes, Puts}
-use Rattle.vc_actors.specs.LocalRun as local
-use Rattle.vc_actors.specs.LocalRun.{Turn, LocalRun, CarriesStamp, all_put, clock_after}
+use Rattle.vc_network.specs.Actors.{Label, Steps, put_on}
+use Rattle.vc_network.specs.Actors.Label.{Own, Takes, Puts}
+use Rattle.vc_network.specs.LocalRun as local
+use Rattle.vc_network.specs.LocalRun.{Turn, LocalRun, CarriesStamp, all_put, clock_after}
 use Rattle.vc_core.specs.Begin.{AreFirst}
 use Rattle.vc_core.specs.Shown.{Acting}
 use Rattle.vc_core.specs.Turns.{actors}

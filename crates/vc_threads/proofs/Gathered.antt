@@ -4,9 +4,9 @@ use Rattle.std.specs.Global.{Vec}
 use Rattle.std.specs.List.{AllZip}
 use Rattle.std.proofs.lemmas.List.{length-map}
 use Rattle.vc_accepted.specs.NetworkOf.{network_of, wire_of}
-use Rattle.vc_actors.specs.Actors.{act_of}
-use Rattle.vc_actors.specs.LocalRun.{restamped}
-use Rattle.vc_actors.specs.Merge.{Made, IsMerge}
+use Rattle.vc_network.specs.Actors.{act_of}
+use Rattle.vc_network.specs.LocalRun.{restamped}
+use Rattle.vc_network.specs.Merge.{Made, IsMerge}
 use Rattle.vc_core.specs.Begin.{AreFirst}
 use Rattle.vc_core.specs.Shown.{actor_of}
 use Rattle.vc_core.specs.State.{State, shown, IsNetworkOf}

@@ -8,7 +8,7 @@ use Rattle.std.proofs.lemmas.Option.{slice_get-map, get_or_from_slice_get}
 use Rattle.std.proofs.lemmas.Simd.{map-map}
 use Rattle.rtrb.specs.Ring.{sent, received, IsPair}
 use Rattle.vc_accepted.specs.Outgoing.{actor_of}
-use Rattle.vc_actors.specs.LocalRun.{all_put, all_taken}
+use Rattle.vc_network.specs.LocalRun.{all_put, all_taken}
 use Rattle.vc_core.specs.Begin.{AreFirst}
 use Rattle.vc_core.specs.Turns.{actors}
 use Rattle.vc_plan.specs.declared.plan.Plan.{Plan}

@@ -1,9 +1,9 @@
 -- What goes over the links of an actor's ends goes over the plan's wires.
 use Rattle.std.proofs.Common.{ℕ, zero, suc, List, [], ◌∷◌, length, map, refl, subst, arith}
 use Rattle.std.specs.List.{AllByRecursion, Contains}
-use Rattle.vc_actors.specs.Actors.{Label}
-use Rattle.vc_actors.specs.Actors.Label.{Own, Takes, Puts}
-use Rattle.vc_actors.specs.LocalRun.{Stamped, Turn}
+use Rattle.vc_network.specs.Actors.{Label}
+use Rattle.vc_network.specs.Actors.Label.{Own, Takes, Puts}
+use Rattle.vc_network.specs.LocalRun.{Stamped, Turn}
 use Rattle.vc_actor.specs.declared.act.Act.{Act}
 use Rattle.vc_plan.specs.declared.plan.Plan.{Plan}
 use Rattle.vc_tokens.specs.declared.token.Token.{Token}

@@ -4,7 +4,7 @@ use Rattle.std.specs.List.{AllByRecursion}
 use Rattle.std.proofs.Math.ListN.{set}
 use Rattle.std.proofs.lemmas.Bool.{cases_eq, cases_order}
 use Rattle.std.proofs.lemmas.Option.{slice_get_within}
-use Rattle.vc_actors.specs.Merge.{RunRises, StampsRise}
+use Rattle.vc_network.specs.Merge.{RunRises, StampsRise}
 use Rattle.vc_actor.specs.declared.act.Act.{Act}
 use Rattle.vc_threads.specs.Merged.{of_pair, front_of, id_at, IsNext, NotLater, FindsFirst, FindsWith, HavePassed, IdsRise}
 use Rattle.vc_threads.specs.declared.merging.Front.{Front}

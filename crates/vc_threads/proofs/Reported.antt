@@ -9,9 +9,9 @@ use Rattle.std.proofs.lemmas.Simd.{map-map}
 use Rattle.rand_pcg.specs.Lcg.{started, increment_of}
 use Rattle.rand_pcg.specs.Pcg.{multiplier_64}
 use Rattle.vc_accepted.specs.NetworkOf.{network_of}
-use Rattle.vc_actors.specs.Actors.{act_of}
-use Rattle.vc_actors.specs.LocalRun.{Turn, restamped}
-use Rattle.vc_actors.specs.Merge.{Made, IsMerge, StampsRise, run_of}
+use Rattle.vc_network.specs.Actors.{act_of}
+use Rattle.vc_network.specs.LocalRun.{Turn, restamped}
+use Rattle.vc_network.specs.Merge.{Made, IsMerge, StampsRise, run_of}
 use Rattle.vc_core.specs.Begin.{AreFirst, BeginsAs}
 use Rattle.vc_core.specs.OfPlan.{IsActorOf}
 use Rattle.vc_core.specs.Shown.{Acting, actor_of}
@@ -21,8 +21,8 @@ use Rattle.vc_machine.specs.Rendezvous.{nothing_yet}
 use Rattle.vc_network.specs.Network.{Actor, IsNode, IsSwitch, first as begun}
 use Rattle.vc_plan.specs.declared.plan.Plan.{Plan}
 use Rattle.vc_switch.specs.Switch.{new_switch}
-use Rattle.vc_told.specs.Begin.{begin_of}
-use Rattle.vc_told.specs.Process.{Process}
+use Rattle.vc_accepted.specs.Begin.{begin_of}
+use Rattle.vc_accepted.specs.Process.{Process}
 use Rattle.vc_tokens.specs.declared.token.Token.{Token}
 use Rattle.vc_vcp.specs.Keyed.{shown_or}
 use Rattle.vc_vcp.specs.Links.{new_vcp}

@@ -1,10 +1,10 @@
 -- The runs that workers give back can be merged: their stamps rise, and no two are of one actor.
 use Rattle.std.proofs.Common.{◌≡◌, ℕ, ◌+◌, ◌<◌, Bool, true, false, List, [], ◌∷◌, map, sym, subst, ◌∙◌, arith}
 use Rattle.std.specs.List.{AllZip, AllByRecursion}
-use Rattle.vc_actors.specs.Actors.{Label}
-use Rattle.vc_actors.specs.Actors.Label.{Own, Takes, Puts}
-use Rattle.vc_actors.specs.LocalRun.{Stamped, Turn, LocalRun, next_stamp}
-use Rattle.vc_actors.specs.Merge.{Rises, RunRises, StampsRise, AreDistinct, Numbered}
+use Rattle.vc_network.specs.Actors.{Label}
+use Rattle.vc_network.specs.Actors.Label.{Own, Takes, Puts}
+use Rattle.vc_network.specs.LocalRun.{Stamped, Turn, LocalRun, next_stamp}
+use Rattle.vc_network.specs.Merge.{Rises, RunRises, StampsRise, AreDistinct, Numbered}
 use Rattle.vc_core.specs.Shown.{Acting}
 use Rattle.vc_actor.specs.declared.act.Act.{Act}
 use Rattle.vc_network.specs.Plan.{Plan}

@@ -3,9 +3,9 @@ use Rattle.std.proofs.Common.{◌≡◌, ℕ, ◌+◌, List, [], ◌∷◌, ◌+
 use Rattle.std.proofs.lemmas.List.Concat.{flat_map-append}
 use Rattle.rand_pcg.specs.Lcg.{Lcg}
 use Rattle.rand_pcg.specs.Pcg.{pcg32}
-use Rattle.vc_actors.specs.Actors.{Label, Steps, taken_off, put_on}
-use Rattle.vc_actors.specs.Actors.Label.{Own, Takes, Puts}
-use Rattle.vc_actors.specs.LocalRun.{Turn, LocalRun, clock_after, all_taken, all_put, plain}
+use Rattle.vc_network.specs.Actors.{Label, Steps, taken_off, put_on}
+use Rattle.vc_network.specs.Actors.Label.{Own, Takes, Puts}
+use Rattle.vc_network.specs.LocalRun.{Turn, LocalRun, clock_after, all_taken, all_put, plain}
 use Rattle.vc_network.specs.Plan.{Plan}
 use Rattle.vc_tokens.specs.declared.token.Token.{Token}
 use Rattle.vc_core.specs.OfPlan.{IsActorOf}

@@ -13,10 +13,10 @@ use Rattle.vc_accepted.proofs.Crossing.{wire_is}
 use Rattle.vc_accepted.proofs.Listed.{there}
 use Rattle.vc_accepted.proofs.Ported.{side_of}
 use Rattle.vc_accepted.proofs.Wired.{link_is_at, wired}
-use Rattle.vc_actors.specs.Actors.{Label, act_of}
-use Rattle.vc_actors.specs.Actors.Label.{Own, Takes, Puts}
-use Rattle.vc_actors.specs.LocalRun.{Stamped, Turn, LocalRun, all_put, all_taken, items, restamped}
-use Rattle.vc_actors.specs.Merge.{Made, part, NotAfter, IsOrdered, IsMerge, remade}
+use Rattle.vc_network.specs.Actors.{Label, act_of}
+use Rattle.vc_network.specs.Actors.Label.{Own, Takes, Puts}
+use Rattle.vc_network.specs.LocalRun.{Stamped, Turn, LocalRun, all_put, all_taken, items, restamped}
+use Rattle.vc_network.specs.Merge.{Made, part, NotAfter, IsOrdered, IsMerge, remade}
 use Rattle.vc_core.specs.Replaying.{Replays}
 use Rattle.vc_core.specs.Shown.{actor_of as net_actor, act_of as code_act}
 use Rattle.vc_core.specs.State.{State, shown, IsNetworkOf}
@@ -37,8 +37,8 @@ use Rattle.vc_plan.specs.declared.port.Spot.{Spot}
 use Rattle.vc_plan.specs.declared.port.Spot.TheVariants.{Node, Switch}
 use Rattle.vc_plan.specs.declared.port.Wire.{Wire}
 use Rattle.vc_switch.specs.Waiting.{Wormhole}
-use Rattle.vc_told.specs.Begin.{begin_of}
-use Rattle.vc_told.specs.Process.{Process, does}
+use Rattle.vc_accepted.specs.Begin.{begin_of}
+use Rattle.vc_accepted.specs.Process.{Process, does}
 use Rattle.vc_tokens.specs.Spelt.{token}
 use Rattle.vc_tokens.specs.Tokens as tokens
 use Rattle.vc_tokens.specs.declared.token.Token.{Token}

@@ -2,8 +2,8 @@
 use Rattle.std.proofs.Common.{◌≡◌, ℕ, zero, suc, ◌+◌, ◌<◌, ◌≤◌, inl, inr, Bool, true, false, if◌then◌else◌, ◌==◌, List, [], ◌∷◌, length, drop, slice_get, Some, refl, sym, ap, subst, ◌∙◌, arith, eqb-true, eq-eqb}
 use Rattle.std.specs.List.{AllByRecursion}
 use Rattle.std.proofs.lemmas.Bool.{ne_eqb}
-use Rattle.vc_actors.specs.LocalRun.{Stamped}
-use Rattle.vc_actors.specs.Merge.{Made, Numbered, part, NotAfter, IsMerge, AreDistinct, Rises, StampsRise, RunRises, run_of}
+use Rattle.vc_network.specs.LocalRun.{Stamped}
+use Rattle.vc_network.specs.Merge.{Made, Numbered, part, NotAfter, IsMerge, AreDistinct, Rises, StampsRise, RunRises, run_of}
 
 pub all_get : {X : Type 0} (P : X → Type 0) (xs : List X) (k : ℕ) (x : X) → AllByRecursion P xs → slice_get xs k ≡ Some x → P x
 all_get P [] k x h e = absurd (cc)

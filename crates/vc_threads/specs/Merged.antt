@@ -1,8 +1,8 @@
 -- The runs of the code, in the words of merges, and which of them comes next.
 use Rattle.std.specs.Prelude.{◌≡◌, ◌⊎◌, ℕ, ◌<◌, ◌≤◌, Bool, IsTrue, List, length, map, get_or, slice_get, Option, Some, None}
 use Rattle.std.specs.Option.{option_map}
-use Rattle.vc_actors.specs.LocalRun.{Stamped}
-use Rattle.vc_actors.specs.Merge.{Made, Numbered}
+use Rattle.vc_network.specs.LocalRun.{Stamped}
+use Rattle.vc_network.specs.Merge.{Made, Numbered}
 use Rattle.vc_actor.specs.declared.act.Act.{Act}
 use Rattle.vc_core.specs.declared.event.Event.{Event}
 use Rattle.vc_threads.specs.declared.run.ActorRun.{ActorRun}

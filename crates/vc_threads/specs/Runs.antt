@@ -1,9 +1,9 @@
 -- What an actor does by itself, with its ways named by its links.
 use Rattle.std.specs.Prelude.{◌≡◌, ◌⊎◌, ℕ, List, [], ◌∷◌, ◌++◌, length}
 use Rattle.std.specs.List.{flat_map}
-use Rattle.vc_actors.specs.Actors.{Label, Steps}
-use Rattle.vc_actors.specs.Actors.Label.{Own, Takes, Puts}
-use Rattle.vc_actors.specs.LocalRun.{Stamped, Turn, LocalRun, clock_after}
+use Rattle.vc_network.specs.Actors.{Label, Steps}
+use Rattle.vc_network.specs.Actors.Label.{Own, Takes, Puts}
+use Rattle.vc_network.specs.LocalRun.{Stamped, Turn, LocalRun, clock_after}
 use Rattle.vc_network.specs.Plan.{Plan}
 use Rattle.vc_tokens.specs.Spelt.{token}
 use Rattle.vc_tokens.specs.declared.token.Token.{Token}

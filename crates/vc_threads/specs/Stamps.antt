@@ -1,8 +1,8 @@
 -- Stamps and stamped items of the code, in the words of local runs.
 use Rattle.std.specs.Prelude.{ℕ, List, map, Option, Some, None}
-use Rattle.vc_actors.specs.Actors.{Label}
-use Rattle.vc_actors.specs.Actors.Label.{Own, Takes}
-use Rattle.vc_actors.specs.LocalRun as local
+use Rattle.vc_network.specs.Actors.{Label}
+use Rattle.vc_network.specs.Actors.Label.{Own, Takes}
+use Rattle.vc_network.specs.LocalRun as local
 use Rattle.vc_tokens.specs.declared.token.Token.{Token}
 use Rattle.vc_threads.specs.declared.link.Stamped.{Stamped}
 

@@ -4,10 +4,10 @@ use Rattle.std.specs.List.{AllByRecursion, Contains}
 use Rattle.rand_pcg.specs.Lcg.{Lcg}
 use Rattle.vc_accepted.specs.NetworkOf.{network_of}
 use Rattle.vc_accepted.specs.Outgoing.{actor_of as port_actor}
-use Rattle.vc_actors.specs.Actors.{Label, act_of}
-use Rattle.vc_actors.specs.Actors.Label.{Own, Takes, Puts}
-use Rattle.vc_actors.specs.LocalRun.{Stamped, Turn, LocalRun, all_put, all_taken, items, restamped}
-use Rattle.vc_actors.specs.Merge.{Made, IsMerge}
+use Rattle.vc_network.specs.Actors.{Label, act_of}
+use Rattle.vc_network.specs.Actors.Label.{Own, Takes, Puts}
+use Rattle.vc_network.specs.LocalRun.{Stamped, Turn, LocalRun, all_put, all_taken, items, restamped}
+use Rattle.vc_network.specs.Merge.{Made, IsMerge}
 use Rattle.vc_core.specs.Begin.{BeginsAs}
 use Rattle.vc_core.specs.Replaying.{Replays}
 use Rattle.vc_core.specs.Shown.{Acting, actor_of}
@@ -23,7 +23,7 @@ use Rattle.vc_plan.specs.declared.port.Port.{Port}
 use Rattle.vc_tokens.specs.Spelt.{tokens}
 use Rattle.vc_tokens.specs.Tokens.{Token as Item}
 use Rattle.vc_tokens.specs.declared.token.Token.{Token}
-use Rattle.vc_told.specs.Process.{Process}
+use Rattle.vc_accepted.specs.Process.{Process}
 use Rattle.vc_threads.specs.Closing.{ClosesBy, stop_among}
 use Rattle.vc_threads.specs.Merged.{event_of}
 use Rattle.vc_threads.specs.Order.{OnWays}

@@ -4,7 +4,7 @@ use Rattle.std.specs.List.{HoldsAt}
 use Rattle.rtrb.specs.Ring.{sent, received, known_free, known_items, SameProducer, SameConsumer, ProducerLooked, ConsumerLooked}
 use Rattle.rtrb.specs.declared.producer.Producer.{Producer}
 use Rattle.rtrb.specs.declared.consumer.Consumer.{Consumer}
-use Rattle.vc_actors.specs.LocalRun.{Turn, all_put, all_taken}
+use Rattle.vc_network.specs.LocalRun.{Turn, all_put, all_taken}
 use Rattle.vc_actor.specs.declared.act.Act.{Act}
 use Rattle.vc_tokens.specs.declared.token.Token.{Token}
 use Rattle.vc_threads.specs.declared.link.Stamped.{Stamped}

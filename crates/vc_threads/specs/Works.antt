@@ -7,11 +7,11 @@ use Rattle.rand_pcg.specs.Lcg.{Lcg}
 use Rattle.rtrb.specs.Ring.{received, known_items, SameConsumer}
 use Rattle.rtrb.specs.declared.producer.Producer.{Producer}
 use Rattle.rtrb.specs.declared.consumer.Consumer.{Consumer}
-use Rattle.vc_actors.specs.Actors.{Label}
-use Rattle.vc_actors.specs.Actors.Label.{Own, Takes, Puts}
-use Rattle.vc_actors.specs.LocalRun as local
-use Rattle.vc_actors.specs.LocalRun.{Turn, LocalRun, clock_after}
-use Rattle.vc_actors.specs.Actors.{act_of}
+use Rattle.vc_network.specs.Actors.{Label}
+use Rattle.vc_network.specs.Actors.Label.{Own, Takes, Puts}
+use Rattle.vc_network.specs.LocalRun as local
+use Rattle.vc_network.specs.LocalRun.{Turn, LocalRun, clock_after}
+use Rattle.vc_network.specs.Actors.{act_of}
 use Rattle.vc_network.specs.Plan.{Plan}
 use Rattle.vc_tokens.specs.declared.token.Token.{Token}
 use Rattle.vc_core.specs.Acting.{HasLink}

@@ -1,6 +1,6 @@
 //! Stamps of acts.
 ghost use Rattle.std.specs.Prelude.{◌≡◌, ℕ, ◌<◌, MatchOption};
-ghost use Rattle.vc_actors.specs.LocalRun as local;
+ghost use Rattle.vc_network.specs.LocalRun as local;
 ghost use Rattle.vc_threads.specs.Stamps.{step_with};
 
 /// The stamp of the next act, after an act with the stamp `clock`: one more. For a take it is one more than the greater of that and

@@ -7,9 +7,8 @@ use crate::writing::write_log;
 use std::alloc::Global;
 use std::io::{Read, Write};
 use vc_core::Close;
-use vc_log::EventLog;
 use vc_plan::Accepted;
-use vc_text::{RunFault, StepOptions, read_as, run_into, tail_of};
+use vc_text::{EventLog, RunFault, StepOptions, read_as, run_into, tail_of};
 
 /// Runs an accepted network event by event, and writes its events and its traffic. The traffic's text is made first, so want of memory
 /// writes nothing.

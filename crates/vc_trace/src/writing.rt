@@ -9,9 +9,8 @@ use crate::event_text::put_event;
 use crate::pieces::{Piece, WriteFailed, flush, put};
 use std::io::Write;
 use vc_core::Event;
-use vc_log::EventLog;
 use vc_plan::Plan;
-use vc_text::RunFault;
+use vc_text::{EventLog, RunFault};
 
 // The lines of the events of a log.
 fn put_log<W: Write>(

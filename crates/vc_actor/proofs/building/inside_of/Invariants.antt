@@ -1,5 +1,5 @@
 use Rattle.std.proofs.Common.{◌≡◌, ◌++◌, drop}
-use Rattle.vc_told.specs.Begin.{numbers_inside}
+use Rattle.vc_accepted.specs.Begin.{numbers_inside}
 use Rattle.vc_actor.proofs.building.inside_of.Given as goal
 
 abbrev pub invariant-loop-chan : goal.invariant-loop-chan

@@ -1,6 +1,6 @@
 use Rattle.std.proofs.Common.{Some, sym, subst}
 use Rattle.vc_network.specs.Network.{GoesOn}
-use Rattle.vc_told.specs.Process.{does}
+use Rattle.vc_accepted.specs.Process.{does}
 use Rattle.vc_vcp.specs.Seen.{passed_of}
 use Rattle.vc_actor.specs.Passing.{IsAwaited}
 use Rattle.vc_actor.specs.Shown.{process_of}

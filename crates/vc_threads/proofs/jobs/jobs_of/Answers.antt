@@ -2,7 +2,7 @@ use Rattle.std.proofs.Common.{◌≡◌, ◌≤◌, [], ◌∷◌, ◌++◌, len
 use Rattle.std.specs.List.{All, AllByRecursion}
 use Rattle.std.proofs.lemmas.List.{map-append, length-map}
 use Rattle.std.proofs.lemmas.List.Elements.{All-push}
-use Rattle.vc_actors.proofs.Merging.{both_lists}
+use Rattle.vc_network.proofs.Merging.{both_lists}
 use Rattle.vc_threads.specs.Crews.{IsFit}
 use Rattle.vc_threads.specs.Threads.{AllKeep, AreNumbered, who}
 use Rattle.vc_threads.specs.Works.{IsOfSomePlan}

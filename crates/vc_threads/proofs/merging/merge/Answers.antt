@@ -3,7 +3,7 @@ use Rattle.std.specs.List.{AllByRecursion, AllZip}
 use Rattle.std.proofs.Math.ListN.{set}
 use Rattle.std.proofs.lemmas.List.{append-nil, length-map, length-set}
 use Rattle.std.proofs.lemmas.Option.{slice_get_read, slice_get_within}
-use Rattle.vc_actors.specs.Merge.{IsMerge, AreDistinct, RunRises, run_of}
+use Rattle.vc_network.specs.Merge.{IsMerge, AreDistinct, RunRises, run_of}
 use Rattle.vc_actor.specs.declared.act.Act.{Act}
 use Rattle.vc_threads.specs.Merged.{of_pair, event_of, front_of, FindsFirst, HavePassed}
 use Rattle.vc_threads.proofs.Fronts.{StandsAt, left_in, left_of, stand_first, left_first, left_next, stand_next, coming, run_at, not_after, none_left}

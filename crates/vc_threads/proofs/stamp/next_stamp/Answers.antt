@@ -1,6 +1,6 @@
 use Rattle.std.proofs.Common.{◌≡◌, ℕ, ◌+◌, ◌<◌, Option, Some, None, MatchOption, arith, sym, ap, ◌∙◌}
 use Rattle.std.specs.Option.{SomeIff}
-use Rattle.vc_actors.specs.LocalRun as local
+use Rattle.vc_network.specs.LocalRun as local
 use Rattle.vc_threads.specs.Stamps.{step_with}
 use Rattle.vc_threads.proofs.stamp.next_stamp.Goals as goal
 

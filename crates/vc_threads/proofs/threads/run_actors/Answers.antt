@@ -2,9 +2,9 @@ use Rattle.std.proofs.Common.{◌≡◌, ◌*◌, ℕ, Bool, true, false, List, 
 use Rattle.std.specs.List.{AllByRecursion, AllZip}
 use Rattle.std.proofs.lemmas.List.{length-map}
 use Rattle.vc_actor.specs.declared.act.Act.{Act}
-use Rattle.vc_actors.specs.Actors.{act_of}
-use Rattle.vc_actors.specs.LocalRun.{restamped}
-use Rattle.vc_actors.specs.Merge.{AreDistinct, IsMerge, Made, RunRises, run_of}
+use Rattle.vc_network.specs.Actors.{act_of}
+use Rattle.vc_network.specs.LocalRun.{restamped}
+use Rattle.vc_network.specs.Merge.{AreDistinct, IsMerge, Made, RunRises, run_of}
 use Rattle.vc_core.specs.Begin.{AreFirst}
 use Rattle.vc_core.specs.State.{state_of}
 use Rattle.vc_core.specs.Turns.{actors}

@@ -1,8 +1,8 @@
 use Rattle.std.proofs.Common.{◌≡◌, ℕ, refl, sym, subst, get_or, ap, ◌∙◌, ◌++◌, ◌∷◌, [], take, drop, length, ◌<◌}
 use Rattle.std.proofs.Math.ListN.{set}
 use Rattle.std.proofs.Math.Seq.{map-set_same}
-use Rattle.vc_actors.specs.Actors.Label.{Own, Puts}
-use Rattle.vc_actors.specs.LocalRun.{Turn}
+use Rattle.vc_network.specs.Actors.Label.{Own, Puts}
+use Rattle.vc_network.specs.LocalRun.{Turn}
 use Rattle.vc_actor.specs.Turns.{PutsWithRoom}
 use Rattle.vc_core.specs.Turns.{MakesTurn, IsPut}
 use Rattle.vc_actor.specs.declared.act.Act.{Act}

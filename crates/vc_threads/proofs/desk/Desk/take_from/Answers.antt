@@ -1,5 +1,5 @@
 use Rattle.rand_pcg.specs.Lcg.{Lcg}
-use Rattle.vc_actors.specs.Actors.Label.{Takes}
+use Rattle.vc_network.specs.Actors.Label.{Takes}
 use Rattle.vc_threads.specs.Stamps.{stamped}
 use Rattle.vc_threads.specs.Runs.{Draws, word_of}
 use Rattle.vc_actor.specs.declared.act.Act.{Act}

@@ -1,0 +1,183 @@
+-- What a process does, step by step, is a trace of it, and tells the communications that its node makes.
+use Rattle.std.proofs.Common.{◌≡◌, ℕ, false, refl, sym, ap, subst, ◌∙◌, List, [], ◌∷◌, ◌++◌, Some, None}
+use Rattle.vc_machine.specs.Rendezvous as rendezvous
+use Rattle.vc_network.specs.Processes.{Deed, Offers, Wants, Chooses, Stops, Meets, Rests, Finishes, Receives, comms, Trace, none, more}
+use Rattle.std.specs.List.{Contains}
+use Rattle.vc_occam.specs.declared.moves.Move.{Move}
+use Rattle.vc_occam.specs.declared.moves.Move.TheVariants as move
+use Rattle.vc_process.specs.declared.value_kind.ValueKind.{ValueKind}
+use Rattle.vc_occam.specs.InUse.{UsesLawfully}
+use Rattle.vc_occam.specs.Messages.{message}
+use Rattle.vc_occam.specs.NodeTraces as node
+use Rattle.vc_occam.specs.First.{first_moves}
+use Rattle.vc_occam.specs.Moving.{deed_on}
+use Rattle.vc_occam.specs.Remains.{Rest, Done, Step, TraceRest}
+use Rattle.vc_occam.specs.States.{State}
+use Rattle.vc_occam.specs.States as occam
+use Rattle.vc_occam.specs.Traces.{Comm, Out, In, Fin, Stp, End}
+use Rattle.vc_occam.specs.Usage.{Set}
+use Rattle.vc_occam.specs.Values.{Store}
+use Rattle.vc_occam.proofs.Keeping.{doing_keeps_use, doing_is_traced}
+use Rattle.vc_occam.proofs.Kinded.{kind_of, value_as, carries, StoreHasKinds, Sound, Tells, doing_tells, doing_stays}
+use Rattle.vc_occam.proofs.Openly.{offers_outside}
+use Rattle.vc_occam.proofs.Sites.{clash}
+use Rattle.vc_process.proofs.Lists.{none as empty}
+use Rattle.vc_accepted.specs.Process.{Process, Goes, does}
+
+-- a communication that carries this value, as its node makes it: an input's value is what the message is worth on the channel
+abbrev pub IsSaid : (ℕ → ValueKind) → ℕ × rendezvous.Comm → Comm → Type 0
+IsSaid kinds (c, rendezvous.Out m) (Out d x) = (c ≡ d) × (m ≡ message x) × (kind_of x ≡ kinds c)
+IsSaid kinds (c, rendezvous.In m) (In d x) = (c ≡ d) × (x ≡ value_as (kinds c) m)
+IsSaid kinds (c, rendezvous.Fin) (Fin d) = c ≡ d
+IsSaid kinds (c, rendezvous.Stp) (Stp d) = c ≡ d
+IsSaid kinds k x = ⊥
+
+abbrev pub AreSaid : (ℕ → ValueKind) → List (ℕ × rendezvous.Comm) → List Comm → Type 0
+AreSaid kinds [] [] = Unit {0}
+AreSaid kinds (k ∷ ks) (x ∷ xs) = IsSaid kinds k x × AreSaid kinds ks xs
+AreSaid kinds [] (x ∷ xs) = ⊥
+AreSaid kinds (k ∷ ks) [] = ⊥
+
+pub said_append : (kinds : ℕ → ValueKind) (ks ls : List (ℕ × rendezvous.Comm)) (xs ys : List Comm) → AreSaid kinds ks xs → AreSaid kinds ls ys → AreSaid kinds (ks ++ ls) (xs ++ ys)
+said_append kinds [] ls [] ys h k = k
+said_append kinds (l ∷ ks) ls (x ∷ xs) ys h k = (h.0, said_append kinds ks ls xs ys h.1 k)
+said_append kinds [] ls (x ∷ xs) ys h k = absurd h
+said_append kinds (l ∷ ks) ls [] ys h k = absurd h
+
+-- these communications can stand before any that a node makes
+abbrev Leads : Set → List Comm → Type 0
+Leads inside ks = (t : List Comm) → node.Meets inside t → node.Meets inside (ks ++ t)
+
+module _ (channel : ℕ → ValueKind) (kinds : List ValueKind) where
+  -- a process that keeps to lawful use and to kinds
+  pub record IsGood (p : Process) : Type 0 where
+    pub lawful : UsesLawfully p.state.rest
+    pub sound : Sound channel kinds p.state.rest
+    pub store : StoreHasKinds channel kinds p.state.store
+
+  goes_good : (old new : Process) (d : occam.Doing) → Goes old d new → IsGood old → IsGood new
+  goes_good old new d g o =
+      let k = doing_stays channel kinds old.state new.state d g.comms g.does (o.sound, o.store) in
+      record { lawful = doing_keeps_use old.state new.state d g.comms g.does o.lawful; sound = k.0; store = k.1 }
+
+  -- one step: what it makes, and what the node says of it
+  record Made (old : Process) (d : Deed) (new : Process) : Type 0 where
+    pub made : List Comm
+    pub said : AreSaid channel (comms d) made
+    pub leads : Leads old.inside made
+    pub traced : occam.IsTraced old.state made new.state
+    pub good : IsGood new
+    pub inside : new.inside ≡ old.inside
+
+  made_by : (old new : Process) (d : Deed) (e : occam.Doing) (g : Goes old e new) → IsGood old → AreSaid channel (comms d) g.comms → Leads old.inside g.comms → Made old d new
+  made_by old new d e g o said leads = record {
+    made = g.comms;
+    said = said;
+    leads = leads;
+    traced = doing_is_traced old.state new.state e g.comms g.does o.lawful;
+    good = goes_good old new e g o;
+    inside = g.inside;
+  }
+
+  told : (old new : Process) (e : occam.Doing) (g : Goes old e new) → IsGood old → Tells channel kinds e g.comms
+  told old new e g o = doing_tells channel kinds old.state new.state e g.comms g.does o.sound o.store
+
+  quiet : (inside : Set) → Leads inside []
+  quiet inside t h = h
+
+  inputs : (inside : Set) (c : ℕ) (x : _) → Leads inside (In c x ∷ [])
+  inputs inside c x t h = h
+
+  finishes : (inside : Set) (c : ℕ) → Leads inside (Fin c ∷ [])
+  finishes inside c t h = h
+
+  stops : (inside : Set) (c : ℕ) → Leads inside (Stp c ∷ [])
+  stops inside c t h = h
+
+  outputs : (inside : Set) (c : ℕ) (x : _) → inside c ≡ false → Leads inside (Out c x ∷ [])
+  outputs inside c x o (In d y ∷ Fin f ∷ t) h = (λ e. absurd (clash e o), h)
+  outputs inside c x o t h = (o, h)
+
+  exchanges : (inside : Set) (c : ℕ) (x y : _) → message x ≡ message y → Leads inside (Out c x ∷ In c y ∷ Fin c ∷ [])
+  exchanges inside c x y e t h = (λ i. (refl, e, refl), h)
+
+  by_message : {inside : Set} {ks ls : List Comm} (d : Deed) → ks ≡ ls → AreSaid channel (comms d) ls → Leads inside ls → AreSaid channel (comms d) ks × Leads inside ks
+  by_message {inside} d e h k = (subst (AreSaid channel (comms d)) (sym e) h, subst (Leads inside) (sym e) k)
+
+  step_made : (old new : Process) (d : Deed) → does old d new → IsGood old → Made old d new
+  step_made old new (Offers i c m) h o =
+      let t = told old new (occam.Offers i c m) h.1 o in
+      let q = by_message (Offers i c m) t.1 ((refl, t.2, t.3), tt) (outputs old.inside c t.0 (offers_outside old.inside old.state.rest old.state.store i c h.0)) in
+      made_by old new (Offers i c m) (occam.Offers i c m) h.1 o q.0 q.1
+  step_made old new (Wants i c None) h o =
+      let q = by_message (Wants i c None) (told old new (occam.Wants i c None) h.1 o) tt (quiet old.inside) in
+      made_by old new (Wants i c None) (occam.Wants i c None) h.1 o q.0 q.1
+  step_made old new (Wants i c (Some m)) h o =
+      let q = by_message (Wants i c (Some m)) (told old new (occam.Wants i c (Some m)) h.1 o) ((refl, refl), tt) (inputs old.inside c (value_as (channel c) m)) in
+      made_by old new (Wants i c (Some m)) (occam.Wants i c (Some m)) h.1 o q.0 q.1
+  step_made old new (Chooses i k c None) h o =
+      let q = by_message (Chooses i k c None) (told old new (occam.Chooses i k c None) h.1 o) tt (quiet old.inside) in
+      made_by old new (Chooses i k c None) (occam.Chooses i k c None) h.1 o q.0 q.1
+  step_made old new (Chooses i k c (Some m)) h o =
+      let q = by_message (Chooses i k c (Some m)) (told old new (occam.Chooses i k c (Some m)) h.1 o) ((refl, refl), tt) (inputs old.inside c (value_as (channel c) m)) in
+      made_by old new (Chooses i k c (Some m)) (occam.Chooses i k c (Some m)) h.1 o q.0 q.1
+  step_made old new (Stops i c) h o =
+      let q = by_message (Stops i c) (told old new (occam.Stops i c) h.1 o) (refl, tt) (stops old.inside c) in
+      made_by old new (Stops i c) (occam.Stops i c) h.1 o q.0 q.1
+  step_made old new (Meets i j k c m) h o =
+      let t = told old new (occam.Meets i j k c m) h.1 o in
+      let y = value_as (channel c) m in
+      let same : message t.0 ≡ message y = sym (carries (channel c) t.0 t.3) ∙ ap (λ z. message (value_as (channel c) z)) (sym t.2) in
+      let q = by_message (Meets i j k c m) t.1 ((refl, t.2, t.3), ((refl, refl), (refl, tt))) (exchanges old.inside c t.0 y same) in
+      made_by old new (Meets i j k c m) (occam.Meets i j k c m) h.1 o q.0 q.1
+  step_made old new (Rests i) h o =
+      let q = by_message (Rests i) (told old new (occam.Rests i) h.1 o) tt (quiet old.inside) in
+      made_by old new (Rests i) (occam.Rests i) h.1 o q.0 q.1
+  step_made old new (Finishes c) h o =
+      let q = by_message (Finishes c) (told old new (occam.Finishes c) h o) (refl, tt) (finishes old.inside c) in
+      made_by old new (Finishes c) (occam.Finishes c) h o q.0 q.1
+  step_made old new (Receives c m) h o =
+      let q = by_message (Receives c m) (told old new (occam.Receives c m) h o) ((refl, refl), tt) (inputs old.inside c (value_as (channel c) m)) in
+      made_by old new (Receives c m) (occam.Receives c m) h o q.0 q.1
+
+  -- all its steps
+  pub record Told (old : Process) (ks : List (ℕ × rendezvous.Comm)) (new : Process) : Type 0 where
+    pub made : List Comm
+    pub said : AreSaid channel ks made
+    pub meets : node.Meets old.inside made
+    pub traced : (x : End) → TraceRest new.state.rest new.state.store [] x → TraceRest old.state.rest old.state.store made x
+    pub good : IsGood new
+
+  pub trace_told : (old new : Process) {ks : List (ℕ × rendezvous.Comm)} → Trace does old ks new → IsGood old → Told old ks new
+  trace_told old new none o = record { made = []; said = tt; meets = tt; traced = λ x h. h; good = o }
+  trace_told old new (more {q = q} {d = d} {ks = ks} h t) o =
+      let a = step_made old q d h o in
+      let b = trace_told q new t a.good in
+      record {
+        made = a.made ++ b.made;
+        said = said_append channel (comms d) ks a.made b.made a.said b.said;
+        meets = a.leads b.made (subst (λ z. node.Meets z b.made) a.inside b.meets);
+        traced = λ x e. a.traced b.made x (b.traced x e);
+        good = b.good;
+      }
+
+-- where nothing remains nothing is said
+no_step : {e e' : Store} {i : ℕ} {d : _} {m : List Comm} {r : Rest} → Step Done e i d m r e' → ⊥
+no_step st = elim st [ ]
+
+no_move : (p : Process) (m : Move) → p.state.rest ≡ Done → Contains (first_moves p.inside p.state.rest p.state.store) m → ⊥
+no_move p m e h = empty m (subst (λ r. Contains (first_moves p.inside r p.state.store) m) e h)
+
+idle : (p q : Process) (d : Deed) → does p d q → p.state.rest ≡ Done → ⊥
+idle p q (Offers i c m) h e = no_move p (move.Offer i c) e h.0
+idle p q (Wants i c a) h e = no_move p (move.Want i c) e h.0
+idle p q (Chooses i k c a) h e = no_move p (move.Choose i k c) e h.0
+idle p q (Stops i c) h e = no_move p (move.Stopch i c) e h.0
+idle p q (Meets i j k c m) h e = no_move p (move.Inner i j k c) e h.0
+idle p q (Rests i) h e = no_move p (move.Quiet i) e h.0
+idle p q (Finishes c) h e = no_step (subst (λ r. Step r p.state.store h.does.0 (deed_on None) h.comms q.state.rest q.state.store) e h.does.2)
+idle p q (Receives c m) h e = no_step (subst (λ r. Step r p.state.store h.does.0 (deed_on (Some m)) h.comms q.state.rest q.state.store) e h.does.3)
+
+pub still : (p q : Process) {ks : List (ℕ × rendezvous.Comm)} → Trace does p ks q → p.state.rest ≡ Done → ks ≡ []
+still p q none e = refl
+still p q (more {q = r} {d = d} h t) e = absurd (idle p r d h e)

@@ -1,4 +1,0 @@
-pub mod Kept
-pub mod LawfulKept
-pub mod Ends
-pub mod Main

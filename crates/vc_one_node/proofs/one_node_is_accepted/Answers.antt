@@ -1,5 +1,0 @@
-use Rattle.vc_one_node.proofs.Main.{one_accepted}
-use Rattle.vc_one_node.proofs.one_node_is_accepted.Goals as goal
-
-pub returns : goal.returns
-returns c = one_accepted

@@ -1,5 +1,0 @@
-use Rattle.vc_told.proofs.Sending.{nothing_unsent}
-use Rattle.vc_told.proofs.nothing_is_got_before_it_is_sent.Goals as goal
-
-pub returns : goal.returns
-returns c = nothing_unsent

@@ -1,5 +1,0 @@
-use Rattle.vc_told.proofs.Swapped.{nothing_swapped}
-use Rattle.vc_told.proofs.nothing_unsent_is_swapped.Goals as goal
-
-pub returns : goal.returns
-returns c = nothing_swapped

@@ -1,9 +1,0 @@
-pub mod Begin
-pub mod Bounds
-pub mod OneList
-pub mod Sent
-pub mod Swapping
-pub mod Process
-pub mod Determinate
-pub mod Threads
-pub mod Versions
