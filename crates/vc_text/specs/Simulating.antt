@@ -1,7 +1,8 @@
 -- A run under way.
-use Rattle.std.specs.Prelude.{◌≡◌, ℕ, ◌+◌, Bool, true, false, List, length}
+use Rattle.std.specs.Prelude.{◌≡◌, ◌⊎◌, ℕ, ◌+◌, Bool, true, false, List, length}
 use Rattle.vc_core.specs.Replaying.{Reached}
 use Rattle.vc_core.specs.State.{state_of}
+use Rattle.vc_core.specs.Turns.{IsAtRest}
 use Rattle.vc_core.specs.declared.event.Event.{Event}
 use Rattle.vc_plan.specs.declared.plan.Plan.{Plan}
 use Rattle.vc_text.specs.Quiet.{AreQuiet}
@@ -20,6 +21,11 @@ pub record HasRun (p : Plan) (events : List Event) (run : Simulation) : Type 0 w
 abbrev pub LeadsOn : {K : Type 0} → (K → List Event → Type 0) → Simulation → K → Simulation → K → Type 0
 LeadsOn holds old taken new taken' =
     (p : Plan) (events : List Event) → holds taken events → HasRun p events old → (events' : List Event) × holds taken' events' × HasRun p events' new
+
+-- so many events were made, or none can happen any more, for whatever events led to the old run and were taken
+abbrev pub RunsOut : {K : Type 0} → (K → List Event → Type 0) → ℕ → Simulation → K → Simulation → Type 0
+RunsOut holds limit old taken new =
+    (p : Plan) (events : List Event) → holds taken events → HasRun p events old → (new.made ≡ limit) ⊎ IsAtRest p (state_of new.network)
 
 -- how many events there are after one more, or none
 abbrev pub counted : Bool → ℕ → ℕ

@@ -1,10 +1,6 @@
 //! Who makes the next event of a run in a random order.
-ghost use Rattle.std.specs.Prelude.{◌≡◌, ◌⊎◌, ◌<◌, ◌≤◌, ◌-◌, ◌^◌, List, IfOk, IfSome, OnOk};
-ghost use Rattle.vc_core.specs.State.{state_of};
-ghost use Rattle.vc_core.specs.Turns.{IsAtRest};
-ghost use Rattle.vc_core.specs.declared.event.Event.{Event};
-ghost use Rattle.vc_plan.specs.declared.plan.Plan.{Plan};
-ghost use Rattle.vc_text.specs.Simulating.{HasRun, LeadsOn, counted};
+ghost use Rattle.std.specs.Prelude.{◌≡◌, ◌<◌, ◌≤◌, ◌-◌, ◌^◌, IfOk, IfSome, OnOk};
+ghost use Rattle.vc_text.specs.Simulating.{LeadsOn, RunsOut, counted};
 
 use crate::event_sink::EventSink;
 use crate::seats::Seats;
@@ -144,9 +140,7 @@ impl Simulation {
         requires { self.old.made ≤ limit }
         ensures few { OnOk result (self.new.made ≤ limit) }
         ensures runs { OnOk result (LeadsOn K.holds self.old events.old self.new events.new) }
-        ensures ends { OnOk result ((p : Plan) (es : List Event) →
-            K.holds events.old es → HasRun p es self.old →
-            (self.new.made ≡ limit) ⊎ IsAtRest p (state_of self.new.network)) }
+        ensures ends { OnOk result (RunsOut K.holds limit self.old events.old self.new) }
     {
         let mut draws = Draws::new(seed);
         for _ in 0..limit {

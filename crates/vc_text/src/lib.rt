@@ -40,12 +40,10 @@ pub use events::Events;
 pub use fault::RunFault;
 pub use fault_line::{fault_text, write_fault};
 pub use number::push_number;
-pub use one_node::{read_as, read_together};
+pub use one_node::read_as;
 pub use plan_text::{push_hop, push_last, push_port, push_way};
 pub use read_line::push_step;
-pub use run::{
-    StepReport, run_accepted, run_into, run_step, run_together, view_of, views, write_traffic,
-};
+pub use run::{StepReport, run_into, run_step, run_together, view_of, views, write_traffic};
 pub use schedule::Schedule;
 pub use step_options::StepOptions;
 pub use streams::{read_all, write_text};

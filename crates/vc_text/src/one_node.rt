@@ -25,7 +25,7 @@ fn joined(alloc: Global, accepted: Accepted) -> Result<Accepted, RunFault>
 }
 
 /// The plan of one node for the network that the reader has, where the checker accepts both.
-pub fn read_together<R: Read>(alloc: Global, reader: &mut R) -> Result<Accepted, RunFault>
+pub(crate) fn read_together<R: Read>(alloc: Global, reader: &mut R) -> Result<Accepted, RunFault>
     ensures { ReadsTogether (R.remaining reader.old) result }
 {
     let accepted = read_accepted(alloc, reader)?;

@@ -109,7 +109,7 @@ pub fn run_into<K: EventSink>(
 
 /// Runs an accepted network event by event. The run goes in rounds over the actors, and ends where no event is enabled, or else after
 /// `limit` events. The answer is the network after it, and what the run made.
-pub fn run_accepted(
+fn run_accepted(
     alloc: Global,
     accepted: &Accepted,
     limit: u64,

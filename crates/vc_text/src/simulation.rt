@@ -5,7 +5,7 @@ ghost use Rattle.vc_core.specs.State.{shown, state_of, IsNetworkOf};
 ghost use Rattle.vc_core.specs.Turns.{Rests, IsAtRest, GoesOn, FindsEvent, actors};
 ghost use Rattle.vc_core.specs.declared.event.Event.{Event};
 ghost use Rattle.vc_text.specs.Closing.{HasEvent, Closes};
-ghost use Rattle.vc_text.specs.Simulating.{HasRun, LeadsOn, counted};
+ghost use Rattle.vc_text.specs.Simulating.{HasRun, LeadsOn, RunsOut, counted};
 
 use crate::event_sink::EventSink;
 use crate::schedule::Schedule;
@@ -117,9 +117,7 @@ impl Simulation {
         requires { self.old.made ≤ limit }
         ensures few { OnOk result (self.new.made ≤ limit) }
         ensures runs { OnOk result (LeadsOn K.holds self.old events.old self.new events.new) }
-        ensures ends { OnOk result ((p : Plan) (es : List Event) →
-            K.holds events.old es → HasRun p es self.old →
-            (self.new.made ≡ limit) ⊎ IsAtRest p (state_of self.new.network)) }
+        ensures ends { OnOk result (RunsOut K.holds limit self.old events.old self.new) }
     {
         for _ in 0..limit {
             if !self.round(events, limit)? {
@@ -142,9 +140,7 @@ impl Simulation {
         requires { self.old.made ≤ limit }
         ensures few { OnOk result (self.new.made ≤ limit) }
         ensures runs { OnOk result (LeadsOn K.holds self.old events.old self.new events.new) }
-        ensures ends { OnOk result ((p : Plan) (es : List Event) →
-            K.holds events.old es → HasRun p es self.old →
-            (self.new.made ≡ limit) ⊎ IsAtRest p (state_of self.new.network)) }
+        ensures ends { OnOk result (RunsOut K.holds limit self.old events.old self.new) }
     {
         match schedule {
             Schedule::InTurn => self.rounds(events, limit),

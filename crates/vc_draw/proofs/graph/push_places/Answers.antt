@@ -1,7 +1,7 @@
 use Rattle.std.proofs.Common.{codes, []}
 use Rattle.std.specs.List.{enumerate_from, flat_map}
 use Rattle.vc_draw.specs.Graph.{node_line, place_line, places_text}
-use Rattle.vc_draw.proofs.Texts.{four_more}
+use Rattle.vc_text.proofs.Texts.{four_more}
 use Rattle.vc_draw.proofs.graph.push_places.Goals as goal
 
 pub returns : goal.returns

@@ -2,7 +2,7 @@ use Rattle.std.proofs.Common.{Some, codes}
 use Rattle.vc_stats.specs.Fields.{kinds_text}
 use Rattle.vc_stats.specs.Json.{actor_json, named}
 use Rattle.vc_stats.specs.declared.form.Form.TheVariants.{Json}
-use Rattle.vc_stats.proofs.Texts.{three_more}
+use Rattle.vc_text.proofs.Texts.{three_more}
 use Rattle.vc_stats.proofs.stats_json.push_actor.Goals as goal
 
 pub returns : goal.returns

@@ -1,7 +1,7 @@
 use Rattle.std.proofs.Common.{codes, length}
 use Rattle.std.proofs.lemmas.Result.{on_ok_weaker}
 use Rattle.std.specs.List.{enumerate_from, flat_map}
-use Rattle.vc_stats.proofs.Texts.{three_more}
+use Rattle.vc_text.proofs.Texts.{three_more}
 use Rattle.vc_stats.specs.Json.{actors_json, node_json, switch_json}
 use Rattle.vc_stats.proofs.stats_json.push_actors.Goals as goal
 

@@ -1,7 +1,7 @@
 use Rattle.std.proofs.Common.{codes, map}
 use Rattle.std.specs.List.{enumerate_from, flat_map}
 use Rattle.vc_text.specs.Views.{shown}
-use Rattle.vc_stats.proofs.Texts.{three_more}
+use Rattle.vc_text.proofs.Texts.{three_more}
 use Rattle.vc_stats.specs.Json.{count_json, counts_json}
 use Rattle.vc_stats.proofs.stats_json.push_channels.Goals as goal
 
