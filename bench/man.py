@@ -30,15 +30,15 @@ def text_of(path):
 
 def constants(source):
     """The texts that have a name, with the lines joined that a backslash joins."""
-    found = re.findall(rf"const (\w+): &str = {TEXT};", source)
+    found = re.findall(rf"const (\w+): &str =\s+{TEXT};", source)
     return {name: re.sub(r"\\\n\s*", "", text) for name, text in found}
 
 
 def options(function, source):
     """Each option of the command that the function makes: its name, what it takes, what it does, its numbers, and what it is at first.
-    A flag that several commands have is made by a function of its own."""
-    for shared in re.findall(r"\.arg\((\w+_flag)\(alloc\)\)", function):
-        function += re.search(rf"\nfn {shared}<.*?\n}}\n", source, re.S)[0]
+    The text of a flag that several commands have is a constant."""
+    for name, text in constants(source).items():
+        function = re.sub(rf"\b{name}\b", lambda _: f'"{text}"', function)
     numbered = re.findall(rf"number_option\(\s*alloc,\s*{TEXT},\s*{TEXT},\s*([^,]+?),\s*{TEXT},?\s*\)", function)
     optional = re.findall(rf"optional_number\(\s*alloc,\s*{TEXT},\s*{TEXT},\s*(\w+!?\(\w*\)),?\s*\)", function)
     files = re.findall(rf"file_option\(\s*alloc,\s*{TEXT},\s*{TEXT},?\s*\)", function)

@@ -89,6 +89,19 @@ Exit status: 0 done; 2 refused; 3 limit; 4 no memory or no thread; 6 a stream fa
 
 Example: vcnet run --seed 7 < examples/universal.json";
 
+/// What `--why` asks for.
+const WHY: &str = "Prints, behind the traffic, who waits for what and where the packets are";
+
+/// What `--trace` asks for.
+const TRACE: &str = "Prints the events of the run, a line each, in front of its traffic";
+
+/// What `--stats` asks for.
+const STATS: &str =
+    "Prints, behind the traffic, how many events there were, by kind, actor, wire and channel";
+
+/// What `--json` asks for.
+const JSON: &str = "Prints the traffic, and the counts of --stats, as JSON";
+
 /// How many events or turns a run may be allowed: at most 1,000,000,000.
 fn counts<'a>() -> ValueParser<'a>
     ensures { result ≡ Unsigned 0 1000000000 }
@@ -155,54 +168,6 @@ fn flag<'a>(alloc: Global, name: &'a str, help: &'a str) -> Arg<'a>
         .action(ArgAction::SetTrue)
 }
 
-/// The flag that asks who waits for what.
-fn why_flag<'a>(alloc: Global) -> Arg<'a>
-    ensures rule { rule_of result ≡ flag_of (codes "why") }
-    ensures local { result.global ≡ false }
-{
-    flag(
-        alloc,
-        "why",
-        "Prints, behind the traffic, who waits for what and where the packets are",
-    )
-}
-
-/// The flag that asks for the events.
-fn trace_flag<'a>(alloc: Global) -> Arg<'a>
-    ensures rule { rule_of result ≡ flag_of (codes "trace") }
-    ensures local { result.global ≡ false }
-{
-    flag(
-        alloc,
-        "trace",
-        "Prints the events of the run, a line each, in front of its traffic",
-    )
-}
-
-/// The flag that asks for counts.
-fn stats_flag<'a>(alloc: Global) -> Arg<'a>
-    ensures rule { rule_of result ≡ flag_of (codes "stats") }
-    ensures local { result.global ≡ false }
-{
-    flag(
-        alloc,
-        "stats",
-        "Prints, behind the traffic, how many events there were, by kind, actor, wire and channel",
-    )
-}
-
-/// The flag that asks for JSON.
-fn json_flag<'a>(alloc: Global) -> Arg<'a>
-    ensures rule { rule_of result ≡ flag_of (codes "json") }
-    ensures local { result.global ≡ false }
-{
-    flag(
-        alloc,
-        "json",
-        "Prints the traffic, and the counts of --stats, as JSON",
-    )
-}
-
 /// The subcommand that draws the network.
 fn draw_definition<'a>(alloc: Global) -> Result<Command<'a>, AllocError>
     ensures shape { IfOk result (λ c. shape_of c ≡ draw_shape) }
@@ -234,7 +199,7 @@ fn replay_definition<'a>(alloc: Global) -> Result<Command<'a>, AllocError>
         .about("Makes the events of a file in the network on standard input and prints its traffic")
         .after_help(REPLAY_HELP)
         .arg(events)?
-        .arg(why_flag(alloc))
+        .arg(flag(alloc, "why", WHY))
 }
 
 /// The subcommand that runs the network event by event.
@@ -267,10 +232,10 @@ fn step_definition<'a>(alloc: Global) -> Result<Command<'a>, AllocError>
         .arg(limit)?
         .arg(schedule)?
         .arg(together)?
-        .arg(why_flag(alloc))?
-        .arg(trace_flag(alloc))?
-        .arg(stats_flag(alloc))?
-        .arg(json_flag(alloc))
+        .arg(flag(alloc, "why", WHY))?
+        .arg(flag(alloc, "trace", TRACE))?
+        .arg(flag(alloc, "stats", STATS))?
+        .arg(flag(alloc, "json", JSON))
 }
 
 /// The subcommand that runs the network in threads.
@@ -297,10 +262,10 @@ fn run_definition<'a>(alloc: Global) -> Result<Command<'a>, AllocError>
         .after_help(RUN_HELP)
         .arg(turns)?
         .arg(seed)?
-        .arg(why_flag(alloc))?
-        .arg(trace_flag(alloc))?
-        .arg(stats_flag(alloc))?
-        .arg(json_flag(alloc))
+        .arg(flag(alloc, "why", WHY))?
+        .arg(flag(alloc, "trace", TRACE))?
+        .arg(flag(alloc, "stats", STATS))?
+        .arg(flag(alloc, "json", JSON))
 }
 
 /// What the program takes.
