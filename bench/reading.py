@@ -3,7 +3,8 @@
 
 From the clauses of a public function it follows each name to its definition in specs/, and the names in that, and so on. It counts the
 lines of those definitions, without imports, comments and blank lines. Types that the code declares are not counted, and not those of the
-toolchain. It compares what it finds with docs/READING.md and fails where a figure there is exceeded; with --write it writes the page's
+toolchain. What only a view leads to is counted apart: how a value of the code is seen as one of the definitions nobody has to believe
+(docs/READING.md). It compares what it finds with that page and fails where a figure there is exceeded; with --write it writes the page's
 tables anew. A name counts where it stands, so the figures are a little too large.
 
 Made with rattle-kit-13f, logic dac8208d650f15bf.
@@ -23,6 +24,14 @@ PROMISES = [
     ("read_network", "vc_reader/src/network.rt"),
     ("run_step", "vc_text/src/run.rt"),
 ]
+# How a network and an actor of the code are seen, and that they are those of a plan.
+VIEWS = {
+    ("vc_core/specs/State.antt", "state_of"),
+    ("vc_core/specs/State.antt", "shown"),
+    ("vc_core/specs/State.antt", "IsNetworkOf"),
+    ("vc_actor/specs/Shown.antt", "actor_of"),
+    ("vc_actor/specs/OfPlan.antt", "IsActorOf"),
+}
 ORDER = re.findall(r"^(\w+)(?: \w+=\S+)*:", open(f"{ROOT}/crates.txt", encoding="utf-8").read(), re.M)
 HEAD = re.compile(r"^ *(?:abbrev |unfoldable )*(?:pub )?(?:record |data )?([^\s:({]+)(?=[\s:({])")
 NAME = re.compile(r"[^\s(){}\[\];,:=→×λ]+")
@@ -87,8 +96,8 @@ def clauses(function, path):
     return (signature[1][at.start() :] if at else ""), names
 
 
-def reached(found, text, names, own, seen):
-    """Adds to `seen` the definitions that a text's names lead to."""
+def reached(found, text, names, own, seen, views):
+    """Adds to `seen` the definitions that a text's names lead to, but not beyond these views."""
     for token in NAME.findall(text):
         parts = token.strip(".").split(".")
         target = names.get(parts[0])
@@ -99,22 +108,37 @@ def reached(found, text, names, own, seen):
         if not target or target[1] is None:
             continue
         module = own if target[0] is None else found.get(target[0])
-        if not module or target[1] not in module.lines or (module.path, target[1]) in seen:
+        # a `pub use` hands a name on
+        while module and target[1] not in module.lines and module.names.get(target[1], (None, None))[1]:
+            target = module.names[target[1]]
+            module = found.get(target[0])
+        if not module or target[1] not in module.lines or (module.path, target[1]) in seen or (module.path, target[1]) in views:
             continue
         seen[module.path, target[1]] = len(module.lines[target[1]])
-        reached(found, "\n".join(module.lines[target[1]]), module.names, module, seen)
+        reached(found, "\n".join(module.lines[target[1]]), module.names, module, seen, views)
+
+
+class Row:
+    """A promise: the definitions that it reaches, those that only views lead to, and what the promises before it reach."""
+
+    def __init__(self, function, path, found, before):
+        text, names = clauses(function, path)
+        self.function, self.before = function, before
+        self.believed, reached_in_all = {}, {}
+        reached(found, text, names, None, self.believed, VIEWS)
+        reached(found, text, names, None, reached_in_all, set())
+        self.seen_by = {k: n for k, n in reached_in_all.items() if k not in self.believed}
+        self.together = {**before, **self.believed}
+        self.lines, self.views = sum(self.believed.values()), sum(self.seen_by.values())
+        self.files = len({path for path, _ in self.believed})
 
 
 def table(found):
-    """Each promise, with the files that it reaches and no promise before it."""
-    rows, before, seen = [], {}, {}
+    """Each promise, behind what the promises before it reach."""
+    rows, before = [], {}
     for function, path in PROMISES:
-        text, names = clauses(function, path)
-        alone = {}
-        reached(found, text, names, None, alone)
-        seen = {**before, **alone}
-        rows.append((function, sum(alone.values()), len({k[0] for k in alone}), sum(seen.values()), alone, before))
-        before = seen
+        rows.append(Row(function, path, found, before))
+        before = rows[-1].together
     return rows
 
 
@@ -122,16 +146,19 @@ def by_file(lines):
     files = {}
     for (path, _), count in lines.items():
         files[path] = files.get(path, 0) + count
-    return files
+    return sorted(files.items(), key=lambda it: (ORDER.index(it[0].split("/")[0]), it[0]))
 
 
 def page(rows):
-    out = ["| Promise | Lines reached | Files | Lines with those above |", "|---|---|---|---|"]
-    out += [f"| `{name}` | {lines} | {files} | {together} |" for name, lines, files, together, _, _ in rows]
-    for name, _, _, _, alone, before in rows:
-        more = by_file({k: n for k, n in alone.items() if k not in before})
-        out += ["", f"### `{name}`", "", "| File | Lines reached |", "|---|---|"]
-        out += [f"| {path} | {count} |" for path, count in sorted(more.items(), key=lambda it: (ORDER.index(it[0].split("/")[0]), it[0]))]
+    out = ["| Promise | Lines to believe | Files | Lines with those above | Lines of views |", "|---|---|---|---|---|"]
+    out += [f"| `{it.function}` | {it.lines} | {it.files} | {sum(it.together.values())} | {it.views} |" for it in rows]
+    for it in rows:
+        more = by_file({k: n for k, n in it.believed.items() if k not in it.before})
+        out += ["", f"### `{it.function}`", "", "| File | Lines to believe |", "|---|---|"]
+        out += [f"| {path} | {count} |" for path, count in more]
+    views = {k: n for it in rows for k, n in it.seen_by.items() if k not in rows[-1].together}
+    out += ["", "### Views", "", "| File | Lines |", "|---|---|"]
+    out += [f"| {path} | {count} |" for path, count in by_file(views)]
     return "\n".join(out) + "\n"
 
 
@@ -144,8 +171,8 @@ def main():
             it.write(front + mark + "\n" + page(rows))
         return 0
     told = {m[1]: int(m[2]) for m in re.finditer(r"^\| `(\w+)` \| (\d+) \|", old, re.M)}
-    wrong = [f"{name}: {lines} lines, and the page says {told.get(name)}" for name, lines, *_ in rows if lines > told.get(name, 0)]
-    print("\n".join([*wrong, *(f"{name}: {lines} lines in {files} files" for name, lines, files, *_ in rows)]))
+    wrong = [f"{it.function}: {it.lines} lines, and the page says {told.get(it.function)}" for it in rows if it.lines > told.get(it.function, 0)]
+    print("\n".join([*wrong, *(f"{it.function}: {it.lines} lines in {it.files} files, and {it.views} of views" for it in rows)]))
     return 1 if wrong else 0
 
 

@@ -1,7 +1,7 @@
 -- What a process does, step by step, is a trace of it, and tells the communications that its node makes.
 use Rattle.std.proofs.Common.{◌≡◌, ℕ, false, refl, sym, ap, subst, ◌∙◌, List, [], ◌∷◌, ◌++◌, Some, None}
 use Rattle.vc_machine.specs.Rendezvous as rendezvous
-use Rattle.vc_network.specs.Processes.{Deed, Offers, Wants, Chooses, Stops, Meets, Rests, Finishes, Receives, comms, Trace, none, more}
+use Rattle.vc_network.specs.Processes.{ProcessStep, Offers, Wants, Chooses, Stops, Meets, Rests, Finishes, Receives, comms, Trace, none, more}
 use Rattle.std.specs.List.{Contains}
 use Rattle.vc_occam.specs.declared.moves.Move.{Move}
 use Rattle.vc_occam.specs.declared.moves.Move.TheVariants as move
@@ -55,13 +55,13 @@ module _ (channel : ℕ → ValueKind) (kinds : List ValueKind) where
     pub sound : Sound channel kinds p.state.rest
     pub store : StoreHasKinds channel kinds p.state.store
 
-  goes_good : (old new : Process) (d : occam.Doing) → Goes old d new → IsGood old → IsGood new
+  goes_good : (old new : Process) (d : ProcessStep) → Goes old d new → IsGood old → IsGood new
   goes_good old new d g o =
       let k = doing_stays channel kinds old.state new.state d g.comms g.does (o.sound, o.store) in
       record { lawful = doing_keeps_use old.state new.state d g.comms g.does o.lawful; sound = k.0; store = k.1 }
 
   -- one step: what it makes, and what the node says of it
-  record Made (old : Process) (d : Deed) (new : Process) : Type 0 where
+  record Made (old : Process) (d : ProcessStep) (new : Process) : Type 0 where
     pub made : List Comm
     pub said : AreSaid channel (comms d) made
     pub leads : Leads old.inside made
@@ -69,7 +69,7 @@ module _ (channel : ℕ → ValueKind) (kinds : List ValueKind) where
     pub good : IsGood new
     pub inside : new.inside ≡ old.inside
 
-  made_by : (old new : Process) (d : Deed) (e : occam.Doing) (g : Goes old e new) → IsGood old → AreSaid channel (comms d) g.comms → Leads old.inside g.comms → Made old d new
+  made_by : (old new : Process) (d : ProcessStep) (e : ProcessStep) (g : Goes old e new) → IsGood old → AreSaid channel (comms d) g.comms → Leads old.inside g.comms → Made old d new
   made_by old new d e g o said leads = record {
     made = g.comms;
     said = said;
@@ -79,7 +79,7 @@ module _ (channel : ℕ → ValueKind) (kinds : List ValueKind) where
     inside = g.inside;
   }
 
-  told : (old new : Process) (e : occam.Doing) (g : Goes old e new) → IsGood old → Tells channel kinds e g.comms
+  told : (old new : Process) (e : ProcessStep) (g : Goes old e new) → IsGood old → Tells channel kinds e g.comms
   told old new e g o = doing_tells channel kinds old.state new.state e g.comms g.does o.sound o.store
 
   quiet : (inside : Set) → Leads inside []
@@ -101,44 +101,44 @@ module _ (channel : ℕ → ValueKind) (kinds : List ValueKind) where
   exchanges : (inside : Set) (c : ℕ) (x y : _) → message x ≡ message y → Leads inside (Out c x ∷ In c y ∷ Fin c ∷ [])
   exchanges inside c x y e t h = (λ i. (refl, e, refl), h)
 
-  by_message : {inside : Set} {ks ls : List Comm} (d : Deed) → ks ≡ ls → AreSaid channel (comms d) ls → Leads inside ls → AreSaid channel (comms d) ks × Leads inside ks
+  by_message : {inside : Set} {ks ls : List Comm} (d : ProcessStep) → ks ≡ ls → AreSaid channel (comms d) ls → Leads inside ls → AreSaid channel (comms d) ks × Leads inside ks
   by_message {inside} d e h k = (subst (AreSaid channel (comms d)) (sym e) h, subst (Leads inside) (sym e) k)
 
-  step_made : (old new : Process) (d : Deed) → does old d new → IsGood old → Made old d new
+  step_made : (old new : Process) (d : ProcessStep) → does old d new → IsGood old → Made old d new
   step_made old new (Offers i c m) h o =
-      let t = told old new (occam.Offers i c m) h.1 o in
+      let t = told old new (Offers i c m) h.1 o in
       let q = by_message (Offers i c m) t.1 ((refl, t.2, t.3), tt) (outputs old.inside c t.0 (offers_outside old.inside old.state.rest old.state.store i c h.0)) in
-      made_by old new (Offers i c m) (occam.Offers i c m) h.1 o q.0 q.1
+      made_by old new (Offers i c m) (Offers i c m) h.1 o q.0 q.1
   step_made old new (Wants i c None) h o =
-      let q = by_message (Wants i c None) (told old new (occam.Wants i c None) h.1 o) tt (quiet old.inside) in
-      made_by old new (Wants i c None) (occam.Wants i c None) h.1 o q.0 q.1
+      let q = by_message (Wants i c None) (told old new (Wants i c None) h.1 o) tt (quiet old.inside) in
+      made_by old new (Wants i c None) (Wants i c None) h.1 o q.0 q.1
   step_made old new (Wants i c (Some m)) h o =
-      let q = by_message (Wants i c (Some m)) (told old new (occam.Wants i c (Some m)) h.1 o) ((refl, refl), tt) (inputs old.inside c (value_as (channel c) m)) in
-      made_by old new (Wants i c (Some m)) (occam.Wants i c (Some m)) h.1 o q.0 q.1
+      let q = by_message (Wants i c (Some m)) (told old new (Wants i c (Some m)) h.1 o) ((refl, refl), tt) (inputs old.inside c (value_as (channel c) m)) in
+      made_by old new (Wants i c (Some m)) (Wants i c (Some m)) h.1 o q.0 q.1
   step_made old new (Chooses i k c None) h o =
-      let q = by_message (Chooses i k c None) (told old new (occam.Chooses i k c None) h.1 o) tt (quiet old.inside) in
-      made_by old new (Chooses i k c None) (occam.Chooses i k c None) h.1 o q.0 q.1
+      let q = by_message (Chooses i k c None) (told old new (Chooses i k c None) h.1 o) tt (quiet old.inside) in
+      made_by old new (Chooses i k c None) (Chooses i k c None) h.1 o q.0 q.1
   step_made old new (Chooses i k c (Some m)) h o =
-      let q = by_message (Chooses i k c (Some m)) (told old new (occam.Chooses i k c (Some m)) h.1 o) ((refl, refl), tt) (inputs old.inside c (value_as (channel c) m)) in
-      made_by old new (Chooses i k c (Some m)) (occam.Chooses i k c (Some m)) h.1 o q.0 q.1
+      let q = by_message (Chooses i k c (Some m)) (told old new (Chooses i k c (Some m)) h.1 o) ((refl, refl), tt) (inputs old.inside c (value_as (channel c) m)) in
+      made_by old new (Chooses i k c (Some m)) (Chooses i k c (Some m)) h.1 o q.0 q.1
   step_made old new (Stops i c) h o =
-      let q = by_message (Stops i c) (told old new (occam.Stops i c) h.1 o) (refl, tt) (stops old.inside c) in
-      made_by old new (Stops i c) (occam.Stops i c) h.1 o q.0 q.1
+      let q = by_message (Stops i c) (told old new (Stops i c) h.1 o) (refl, tt) (stops old.inside c) in
+      made_by old new (Stops i c) (Stops i c) h.1 o q.0 q.1
   step_made old new (Meets i j k c m) h o =
-      let t = told old new (occam.Meets i j k c m) h.1 o in
+      let t = told old new (Meets i j k c m) h.1 o in
       let y = value_as (channel c) m in
       let same : message t.0 ≡ message y = sym (carries (channel c) t.0 t.3) ∙ ap (λ z. message (value_as (channel c) z)) (sym t.2) in
       let q = by_message (Meets i j k c m) t.1 ((refl, t.2, t.3), ((refl, refl), (refl, tt))) (exchanges old.inside c t.0 y same) in
-      made_by old new (Meets i j k c m) (occam.Meets i j k c m) h.1 o q.0 q.1
+      made_by old new (Meets i j k c m) (Meets i j k c m) h.1 o q.0 q.1
   step_made old new (Rests i) h o =
-      let q = by_message (Rests i) (told old new (occam.Rests i) h.1 o) tt (quiet old.inside) in
-      made_by old new (Rests i) (occam.Rests i) h.1 o q.0 q.1
+      let q = by_message (Rests i) (told old new (Rests i) h.1 o) tt (quiet old.inside) in
+      made_by old new (Rests i) (Rests i) h.1 o q.0 q.1
   step_made old new (Finishes c) h o =
-      let q = by_message (Finishes c) (told old new (occam.Finishes c) h o) (refl, tt) (finishes old.inside c) in
-      made_by old new (Finishes c) (occam.Finishes c) h o q.0 q.1
+      let q = by_message (Finishes c) (told old new (Finishes c) h o) (refl, tt) (finishes old.inside c) in
+      made_by old new (Finishes c) (Finishes c) h o q.0 q.1
   step_made old new (Receives c m) h o =
-      let q = by_message (Receives c m) (told old new (occam.Receives c m) h o) ((refl, refl), tt) (inputs old.inside c (value_as (channel c) m)) in
-      made_by old new (Receives c m) (occam.Receives c m) h o q.0 q.1
+      let q = by_message (Receives c m) (told old new (Receives c m) h o) ((refl, refl), tt) (inputs old.inside c (value_as (channel c) m)) in
+      made_by old new (Receives c m) (Receives c m) h o q.0 q.1
 
   -- all its steps
   pub record Told (old : Process) (ks : List (ℕ × rendezvous.Comm)) (new : Process) : Type 0 where
@@ -168,7 +168,7 @@ no_step st = elim st [ ]
 no_move : (p : Process) (m : Move) → p.state.rest ≡ Done → Contains (first_moves p.inside p.state.rest p.state.store) m → ⊥
 no_move p m e h = empty m (subst (λ r. Contains (first_moves p.inside r p.state.store) m) e h)
 
-idle : (p q : Process) (d : Deed) → does p d q → p.state.rest ≡ Done → ⊥
+idle : (p q : Process) (d : ProcessStep) → does p d q → p.state.rest ≡ Done → ⊥
 idle p q (Offers i c m) h e = no_move p (move.Offer i c) e h.0
 idle p q (Wants i c a) h e = no_move p (move.Want i c) e h.0
 idle p q (Chooses i k c a) h e = no_move p (move.Choose i k c) e h.0

@@ -5,6 +5,7 @@ use Rattle.std.proofs.lemmas.Bool.{cases_lt}
 use Rattle.vc_machine.specs.Rendezvous.{nothing_yet}
 use Rattle.vc_network.specs.Network as net
 use Rattle.vc_network.specs.Plan.{Plan}
+use Rattle.vc_process.specs.ProcessStep.{ProcessStep, Offers, Wants, Chooses, Stops, Meets, Rests}
 use Rattle.vc_occam.specs.declared.answer.Answer.{Answer}
 use Rattle.vc_occam.specs.declared.answer.Answer.TheVariants.{Nothing, Waits, Got}
 use Rattle.vc_occam.specs.declared.moves.Move.{Move}
@@ -41,7 +42,7 @@ after n s = record { inside = inner_channels n.process; state = s }
 abbrev with_halves : Node → Carrier → occam.State → net.Node Process
 with_halves n b s = record { vcp = record (seen n.vcp) { carrier = b }; process = after n s; inner = views_of n.inside }
 
-goes : (n : Node) (d : occam.Doing) (ks : List Comm) (s : occam.State) → occam.Does (state n.process) d ks s → Goes (process_of n.process) d (after n s)
+goes : (n : Node) (d : ProcessStep) (ks : List Comm) (s : occam.State) → occam.Does (state n.process) d ks s → Goes (process_of n.process) d (after n s)
 goes n d ks s h = record { comms = ks; does = h; inside = refl }
 
 -- the answer that brings this message, or none
@@ -58,29 +59,29 @@ told_some (Some m) e = absurd (cc)
 told_some None e = absurd (cc)
 
 -- what is listed is done, whatever answer fits
-abbrev CanDo : Node → occam.Doing → Type 0
+abbrev CanDo : Node → ProcessStep → Type 0
 CanDo n d = (ks : List Comm) × (s : occam.State) × occam.Does (state n.process) d ks s
 
 made : (plan : Plan) (k : ℕ) (n : Node) (m : Move) (a : Answer) → IsNodeOf plan k n → Contains (moves n.process) m → FitsMove m (sent_by (state n.process) m) a → CanDo n (doing m (sent_by (state n.process) m) a)
 made plan k n m a is listed fits = can_be_made (state n.process) (inner_channels n.process) m a is.own listed fits
 
-input_made : (plan : Plan) (k : ℕ) (n : Node) (i c : ℕ) (o : Option (List ℕ)) → IsNodeOf plan k n → Contains (moves n.process) (move.Want i c) → CanDo n (occam.Wants i c o)
-input_made plan k n i c o is listed = subst (λ z. CanDo n (occam.Wants i c z)) (told_came o) (made plan k n (move.Want i c) (told o) is listed (told_some o))
+input_made : (plan : Plan) (k : ℕ) (n : Node) (i c : ℕ) (o : Option (List ℕ)) → IsNodeOf plan k n → Contains (moves n.process) (move.Want i c) → CanDo n (Wants i c o)
+input_made plan k n i c o is listed = subst (λ z. CanDo n (Wants i c z)) (told_came o) (made plan k n (move.Want i c) (told o) is listed (told_some o))
 
-guard_made : (plan : Plan) (k : ℕ) (n : Node) (i g c : ℕ) (o : Option (List ℕ)) → IsNodeOf plan k n → Contains (moves n.process) (move.Choose i g c) → CanDo n (occam.Chooses i g c o)
-guard_made plan k n i g c o is listed = subst (λ z. CanDo n (occam.Chooses i g c z)) (told_came o) (made plan k n (move.Choose i g c) (told o) is listed (told_some o))
+guard_made : (plan : Plan) (k : ℕ) (n : Node) (i g c : ℕ) (o : Option (List ℕ)) → IsNodeOf plan k n → Contains (moves n.process) (move.Choose i g c) → CanDo n (Chooses i g c o)
+guard_made plan k n i g c o is listed = subst (λ z. CanDo n (Chooses i g c z)) (told_came o) (made plan k n (move.Choose i g c) (told o) is listed (told_some o))
 
 -- a channel is stopped, in its half or inside the node
 stops : (plan : Plan) (k : ℕ) (n : Node) (i c : ℕ) → IsNodeOf plan k n → Contains (moves n.process) (move.Stopch i c) → HalfCan n (move.Stopch i c) → CanMove plan k n (move.Stopch i c)
 stops plan k n i c is listed (inl can) =
     let d = made plan k n (move.Stopch i c) Nothing is listed refl in (
       with_halves n can.0 d.1,
-      ((listed, goes n (occam.Stops i c) d.0 d.1 d.2), inl (subst (λ z. node.Stops z (seen n.vcp).carrier c can.0) is.ends can.1, record { link = refl; inner = refl })),
+      ((listed, goes n (Stops i c) d.0 d.1 d.2), inl (subst (λ z. node.Stops z (seen n.vcp).carrier c can.0) is.ends can.1, record { link = refl; inner = refl })),
     )
 stops plan k n i c is listed (inr has) =
     let d = made plan k n (move.Stopch i c) Nothing is listed refl in (
       record { vcp = seen n.vcp; process = after n d.1; inner = stopped_on (views_of n.inside) c },
-      ((listed, goes n (occam.Stops i c) d.0 d.1 d.2), inr ((is.inside c).0 has, refl, refl)),
+      ((listed, goes n (Stops i c) d.0 d.1 d.2), inr ((is.inside c).0 has, refl, refl)),
     )
 
 pub half_can : (plan : Plan) (k : ℕ) (n : Node) (m : Move) → IsNodeOf plan k n → Contains (moves n.process) m → HalfCan n m → CanMove plan k n m
@@ -89,17 +90,17 @@ half_can plan k n (move.Offer i c) is listed can =
     let d = made plan k n (move.Offer i c) Nothing is listed refl in
     let o = can m in (
       with_halves n o.0 d.1,
-      (m, (listed, goes n (occam.Offers i c m) d.0 d.1 d.2), subst (λ z. node.Offers z (seen n.vcp).carrier c m o.0) is.ends o.1, record { link = refl; inner = refl }),
+      (m, (listed, goes n (Offers i c m) d.0 d.1 d.2), subst (λ z. node.Offers z (seen n.vcp).carrier c m o.0) is.ends o.1, record { link = refl; inner = refl }),
     )
 half_can plan k n (move.Want i c) is listed can =
     let d = input_made plan k n i c can.answer is listed in (
       with_halves n can.new d.1,
-      (can.answer, can.end, (listed, goes n (occam.Wants i c can.answer) d.0 d.1 d.2), subst (λ z. node.IsOpen z (seen n.vcp).carrier c can.end) is.ends can.may, can.wants, record { link = refl; inner = refl }),
+      (can.answer, can.end, (listed, goes n (Wants i c can.answer) d.0 d.1 d.2), subst (λ z. node.IsOpen z (seen n.vcp).carrier c can.end) is.ends can.may, can.wants, record { link = refl; inner = refl }),
     )
 half_can plan k n (move.Choose i g c) is listed can =
     let d = guard_made plan k n i g c can.answer is listed in (
       with_halves n can.new d.1,
-      (can.answer, can.end, (listed, goes n (occam.Chooses i g c can.answer) d.0 d.1 d.2), subst (λ z. node.IsOpen z (seen n.vcp).carrier c can.end) is.ends can.may, can.fetches, record { link = refl; inner = refl }),
+      (can.answer, can.end, (listed, goes n (Chooses i g c can.answer) d.0 d.1 d.2), subst (λ z. node.IsOpen z (seen n.vcp).carrier c can.end) is.ends can.may, can.fetches, record { link = refl; inner = refl }),
     )
 half_can plan k n (move.Stopch i c) is listed can = stops plan k n i c is listed can
 half_can plan k n (move.Inner i j g c) is listed can =
@@ -107,11 +108,11 @@ half_can plan k n (move.Inner i j g c) is listed can =
     let o = sent_by (state n.process) (move.Inner i j g c) in
     let d = made plan k n (move.Inner i j g c) (told o) is listed (told_came o) in (
       record { vcp = seen n.vcp; process = after n d.1; inner = exchanged_on (views_of n.inside) c m },
-      (m, (listed, goes n (occam.Meets i j g c m) d.0 d.1 d.2), (is.inside c).0 (ap is_some can.here), ap (λ x. (shown_or nothing_yet view_of x).stopped) can.here ∙ can.going, refl, refl),
+      (m, (listed, goes n (Meets i j g c m) d.0 d.1 d.2), (is.inside c).0 (ap is_some can.here), ap (λ x. (shown_or nothing_yet view_of x).stopped) can.here ∙ can.going, refl, refl),
     )
 half_can plan k n (move.Quiet i) is listed can =
     let d = made plan k n (move.Quiet i) Nothing is listed refl in
-    (record { vcp = seen n.vcp; process = after n d.1; inner = views_of n.inside }, ((listed, goes n (occam.Rests i) d.0 d.1 d.2), refl, refl))
+    (record { vcp = seen n.vcp; process = after n d.1; inner = views_of n.inside }, ((listed, goes n (Rests i) d.0 d.1 d.2), refl, refl))
 
 -- and the other way round
 

@@ -2,6 +2,7 @@
 use Rattle.std.proofs.Common.{◌≡◌, ◌≢◌, ℕ, Bool, true, false, List, [], ◌∷◌, ◌++◌, Option, Some, None, refl, sym, ap, ◌∙◌, subst}
 use Rattle.std.specs.List.{Contains}
 use Rattle.vc_packets.specs.declared.packet.Packet.{Packet}
+use Rattle.vc_process.specs.ProcessStep.{Finishes, Receives}
 use Rattle.vc_occam.specs.States.{Waiting, output, input, waiting}
 use Rattle.vc_occam.specs.States as occam
 use Rattle.vc_occam.specs.Laws.{IsOutputOn, IsInputOn}
@@ -39,9 +40,9 @@ not_output : (c j d : ℕ) → IsInputOn c (output j d) → ⊥
 not_output c j d h = h
 
 -- the last piece: the process has its message
-completes : (a b : Carrier) (p q : Process) (c : ℕ) (end : End) (load : List ℕ) (m : List ℕ) → b.into ≡ put a.into c (store (a.into c) load true) → b.out ≡ a.out → Goes p (occam.Receives c m) q → InStep a p → InStep b q
+completes : (a b : Carrier) (p q : Process) (c : ℕ) (end : End) (load : List ℕ) (m : List ℕ) → b.into ≡ put a.into c (store (a.into c) load true) → b.out ≡ a.out → Goes p (Receives c m) q → InStep a p → InStep b q
 completes a b p q c end load m i o goes h =
-    let w = waits_after p.state q.state (occam.Receives c m) goes.comms goes.does in
+    let w = waits_after p.state q.state (Receives c m) goes.comms goes.does in
     by_halves b q
     (has_put Wants input a.into b.into (left p) (left q) c (store (a.into c) load true) i h.inputs (λ t. absurd (cc)) (λ j d ne. others (IsInputOn c) (left p) (left q) w (input j d) ne))
     (has_same Sends output a.out b.out (left p) (left q) o h.outputs (λ j d. others (IsInputOn c) (left p) (left q) w (output j d) (not_output c j d)))
@@ -72,8 +73,8 @@ not_input c j d h = h
 acked : (a b : Carrier) (p q : Process) (what : Taken) (c : ℕ) (end : End) (now : List ℕ) (later : List (List ℕ)) → (a.out c).unacked ≡ now ∷ later → what ≡ acked_by c later →
     b ≡ advance a c end later → GoesOn does p (Some what) q → InStep a p → InStep b q
 acked a b p q what c end now [] under is after goes h =
-    let g : Goes p (occam.Finishes c) q = goes_on p q what (Finished c) is goes in
-    let w = waits_after p.state q.state (occam.Finishes c) g.comms g.does in
+    let g : Goes p (Finishes c) q = goes_on p q what (Finished c) is goes in
+    let w = waits_after p.state q.state (Finishes c) g.comms g.does in
     by_halves b q
     (has_same Wants input a.into b.into (left p) (left q) (ap (λ z. z.into) after) h.inputs (λ j d. others (IsOutputOn c) (left p) (left q) w (input j d) (not_input c j d)))
     (has_put Sends output a.out b.out (left p) (left q) c _ (ap (λ z. z.out) after) h.outputs (λ t. absurd (t refl)) (λ j d ne. others (IsOutputOn c) (left p) (left q) w (output j d) ne))
@@ -126,8 +127,8 @@ awaited limit ends old new l taken p (passes_mark m rest what carrier front is a
 
 -- where the process goes on, its sites stay its own
 own_after : (p q : Process) (taken : Option Taken) → GoesOn does p taken q → OwnSites p.state.rest → OwnSites q.state.rest
-own_after p q (Some (Complete c m)) goes own = doing_keeps p.state q.state (occam.Receives c m) goes.comms goes.does own
-own_after p q (Some (Finished c)) goes own = doing_keeps p.state q.state (occam.Finishes c) goes.comms goes.does own
+own_after p q (Some (Complete c m)) goes own = doing_keeps p.state q.state (Receives c m) goes.comms goes.does own
+own_after p q (Some (Finished c)) goes own = doing_keeps p.state q.state (Finishes c) goes.comms goes.does own
 own_after p q (Some (Held c)) goes own = subst (λ z. OwnSites z.state.rest) (sym goes) own
 own_after p q (Some (Stored c)) goes own = subst (λ z. OwnSites z.state.rest) (sym goes) own
 own_after p q (Some (More c)) goes own = subst (λ z. OwnSites z.state.rest) (sym goes) own

@@ -17,7 +17,7 @@ use Rattle.vc_switch.specs.Switch.{new_switch}
 use Rattle.vc_actor.specs.OfPlan.{IsActorOf}
 use Rattle.vc_actor.specs.Shown.{Acting, actor_of}
 use Rattle.vc_accepted.specs.Begin.{begin_of}
-use Rattle.vc_actor.specs.declared.building.Ways.{Ways}
+use Rattle.vc_actor.specs.declared.plan_actors.Ways.{Ways}
 
 -- the code's actor is actor k of the plan, and begins
 pub record BeginsAs (p : Plan) (k : ℕ) (a : Acting) : Type 0 where

@@ -8,18 +8,18 @@
 
 mod act;
 mod actor;
-mod building;
 mod inside;
 mod node;
 mod node_actor;
+mod plan_actors;
+mod plan_switches;
 mod room;
 mod switch_actor;
-mod switch_building;
 mod turn;
 
 pub use act::{Act, ActKind};
 pub use actor::Actor;
-pub use building::actors;
 pub use node::Node;
+pub use plan_actors::actors;
 pub use room::{has_room, lowest, without};
 pub use turn::Turn;

@@ -20,7 +20,7 @@ use Rattle.vc_network.specs.Plan as network
 use Rattle.vc_network.proofs.Wiring.{carried, net_accepted}
 use Rattle.vc_vcp.specs.State.{IsPieceOf, IsAckOf}
 use Rattle.vc_core.specs.Channels.{ends_at, block_of}
-use Rattle.vc_core.specs.Sought.{IsSoughtAt, ComesTo, IsOwned}
+use Rattle.vc_core.specs.Targets.{IsTargetAt, ComesTo, IsOwned}
 use Rattle.vc_core.specs.declared.channels.BlockAt.{BlockAt}
 use Rattle.vc_core.specs.declared.channels.Ends.{Ends}
 use Rattle.vc_core.proofs.Following.{goes_on}
@@ -112,7 +112,7 @@ wanted_is x n block h = by_test (x.node == n) refl h
 
 -- whether a packet that belongs to channel d, and is sought where its headers lead it, is channel c's
 pub one_sought : (plan : Plan) (c d w : ℕ) (v : Option ℕ) (e : Ends) (q : Packet) (t : Bool) → IsAcceptedNet (net_of plan) → AreEnds plan c e → Carries (net_of plan) c → Carries (net_of plan) d → IsOf (net_of plan) w v q d →
-    ((to : End) (load : List ℕ) → LeadsTo (net_of plan) w v q to load → IsTrue t ↔ IsSoughtAt e to load q.mark) → (IsTrue t → c ≡ d) × (c ≡ d → IsTrue t)
+    ((to : End) (load : List ℕ) → LeadsTo (net_of plan) w v q to load → IsTrue t ↔ IsTargetAt e to load q.mark) → (IsTrue t → c ≡ d) × (c ≡ d → IsTrue t)
 one_sought plan c d w v e q t acc ends rc rd (inl (load, last, leads, piece)) told = (
   (λ h. by_kind (tells.0 h)),
   (λ same.
@@ -126,10 +126,10 @@ one_sought plan c d w v e q t acc ends rc rd (inl (load, last, leads, piece)) to
     here : Packet
     here = record { body = spelled (to.block ∷ []) ++ load; mark = q.mark }
 
-    tells : IsTrue t ↔ IsSoughtAt e to load q.mark
+    tells : IsTrue t ↔ IsTargetAt e to load q.mark
     tells = told to load leads
 
-    by_kind : IsSoughtAt e to load q.mark → c ≡ d
+    by_kind : IsTargetAt e to load q.mark → c ≡ d
     by_kind (inl (block, at_block, is)) =
         let at = wanted_is e.to to.node block at_block in
         let same = header_same to.block block load (load_of here) is.body in
@@ -150,10 +150,10 @@ one_sought plan c d w v e q t acc ends rc rd (inr (load, leads, ack)) told = (
     here : Packet
     here = record { body = spelled (to.block ∷ []) ++ load; mark = q.mark }
 
-    tells : IsTrue t ↔ IsSoughtAt e to load q.mark
+    tells : IsTrue t ↔ IsTargetAt e to load q.mark
     tells = told to load leads
 
-    by_kind : IsSoughtAt e to load q.mark → c ≡ d
+    by_kind : IsTargetAt e to load q.mark → c ≡ d
     by_kind (inl (block, at_block, is)) =
         let rest : load ≡ load_of here = header_rest_same to.block block load (load_of here) is.body in
         absurd (piece_ack (load_of here) q.mark (ends_message q.mark) is.piece.kind (ap (λ z. kind z q.mark) (sym rest) ∙ ack))
@@ -168,7 +168,7 @@ tells_whose net c d x t acc rc rd its told = ((λ h. subst (λ k. BelongsTo net 
 
 -- of a packet on a way
 pub its_on : (plan : Plan) (c w : ℕ) (e : Ends) (q : Packet) (t : Bool) → IsAccepted plan → ends_at plan (home plan c) ≡ Some e → IsOwned plan (OnWire w, q) →
-    ((to : End) (load : List ℕ) → ComesTo (net_of plan) 32 w q.body to load → IsTrue t ↔ IsSoughtAt e to load q.mark) → IsTrue t ↔ IsOf (net_of plan) w None q c
+    ((to : End) (load : List ℕ) → ComesTo (net_of plan) 32 w q.body to load → IsTrue t ↔ IsTargetAt e to load q.mark) → IsTrue t ↔ IsOf (net_of plan) w None q c
 its_on plan c w e q t acc at owned told =
     let net = net_of plan in
     let ok = net_accepted plan acc in
@@ -179,7 +179,7 @@ its_on plan c w e q t acc at owned told =
 
 -- and of one that is whole in a switch
 pub its_inside : (plan : Plan) (c w k i : ℕ) (e : Ends) (q : Packet) (t : Bool) → IsAccepted plan → ends_at plan (home plan c) ≡ Some e → far plan w ≡ AtSwitch k i → IsOwned plan (Inside w, q) →
-    ((to : End) (load stack : List ℕ) → q.body ≡ spelled stack ++ load → GoesOn (net_of plan) (λ w2 s2. Delivers (net_of plan) 31 w2 s2 to) k stack → IsTrue t ↔ IsSoughtAt e to load q.mark) →
+    ((to : End) (load stack : List ℕ) → q.body ≡ spelled stack ++ load → GoesOn (net_of plan) (λ w2 s2. Delivers (net_of plan) 31 w2 s2 to) k stack → IsTrue t ↔ IsTargetAt e to load q.mark) →
     IsTrue t ↔ BelongsTo (net_of plan) c (Inside w, q)
 its_inside plan c w k i e q t acc at there owned told =
     let net = net_of plan in

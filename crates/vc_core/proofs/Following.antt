@@ -6,16 +6,16 @@ use Rattle.vc_switch.specs.Forward.{IsDrawn, behind}
 use Rattle.vc_machine.specs.Machine.{BodyLeaves}
 use Rattle.vc_machine.specs.Paths.{AtNode, AtSwitch, End, Net, Delivers, GoesOn, IsWellAt, IsAccepted}
 use Rattle.vc_machine.proofs.Cover.{at_node, follows, spelled_behind}
-use Rattle.vc_core.specs.Sought.{IsSought, IsSoughtAt, ComesTo, sought_at}
+use Rattle.vc_core.specs.Targets.{IsTarget, IsTargetAt, ComesTo, target_at}
 use Rattle.vc_core.specs.declared.channels.Ends.{Ends}
 
 -- at a node
 pub sought_there : (net : Net) (hops w : ℕ) (body load : List ℕ) (e : End) (n i : ℕ) (ends : Ends) (m : Mark) (t : Bool) → net.far w ≡ AtNode n i → ComesTo net hops w body e load →
-    IsTrue t ↔ IsSought (sought_at ends n) (record { body = body; mark = m }) → IsTrue t ↔ IsSoughtAt ends e load m
+    IsTrue t ↔ IsTarget (target_at ends n) (record { body = body; mark = m }) → IsTrue t ↔ IsTargetAt ends e load m
 sought_there net hops w body load e n i ends m t far c told =
     let at = at_node net hops w c.stack e n i far c.delivers in
     let is : body ≡ spelled (e.block ∷ []) ++ load = c.is ∙ ap (λ z. spelled z ++ load) at.1 in
-    subst (λ b. IsTrue t ↔ IsSought (sought_at ends e.node) (record { body = b; mark = m })) is (subst (λ k. IsTrue t ↔ IsSought (sought_at ends k) (record { body = body; mark = m })) at.0 told)
+    subst (λ b. IsTrue t ↔ IsTarget (target_at ends e.node) (record { body = b; mark = m })) is (subst (λ k. IsTrue t ↔ IsTarget (target_at ends k) (record { body = body; mark = m })) at.0 told)
 
 -- at a switch, behind what is put in front
 pub goes_on : (net : Net) (hops w : ℕ) (s : List ℕ) (e : End) (k i : ℕ) (v : Option ℕ) → net.far w ≡ AtSwitch k i → IsDrawn ((net.switch k).random i) v → Delivers net (suc hops) w s e →

@@ -87,7 +87,7 @@ by_way p s k link way x b left is here leaves out =
     }
 
 -- no way goes out of an actor past them all
-few_actors : (p : Plan) → IsAccepted p → length p.nodes + length p.switches ≤ 64
+pub few_actors : (p : Plan) → IsAccepted p → length p.nodes + length p.switches ≤ 64
 few_actors p acc = let k = kept p acc in let n = k.nodes in let m = k.switches in grind (arith, nat_tests)
 
 pub none_far : (p : Plan) (s : State) (k link : ℕ) → IsNetworkOf p s → 256 ≤ s.nodes + k → None ≡ out_at s.wiring (s.nodes + k) link

@@ -11,7 +11,7 @@ pub mod State
 pub mod Replaying
 pub mod Enabled
 pub mod Turns
-pub mod Sought
+pub mod Targets
 pub mod Placed
 pub use Rattle.vc_actor.specs.Able
 pub use Rattle.vc_actor.specs.Acting

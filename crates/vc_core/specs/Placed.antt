@@ -12,7 +12,7 @@ use Rattle.vc_network.specs.Network.{Actor}
 use Rattle.vc_network.specs.Views.{view, sink_node, vcps, switches, queue_at, arrived, on_wire, inside, in_ways}
 use Rattle.vc_plan.specs.declared.plan.Plan.{Plan as Given}
 use Rattle.vc_accepted.specs.NetworkOf.{network_of}
-use Rattle.vc_core.specs.Sought.{Has, IsOwned}
+use Rattle.vc_core.specs.Targets.{Has, IsOwned}
 use Rattle.vc_core.specs.Enabled.{NetworkState}
 use Rattle.vc_core.specs.State.{State, shown}
 use Rattle.vc_core.specs.declared.place.Place.{Place as Name}

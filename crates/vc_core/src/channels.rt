@@ -4,13 +4,13 @@ ghost use Rattle.std.specs.Str.{IsUtf8};
 ghost use Rattle.std.specs.String.{string_bytes};
 ghost use Rattle.vc_accepted.specs.NetworkOf.{network_of, home_of};
 ghost use Rattle.vc_core.specs.Channels.{AreChannelsOf, IsInfoOf, block_of, ends_at};
-ghost use Rattle.vc_core.specs.Sought.{sought_at};
+ghost use Rattle.vc_core.specs.Targets.{target_at};
 ghost use Rattle.vc_network.specs.Plan as network;
 ghost use Rattle.vc_network.specs.Views.{source_node, sink_node};
 ghost use Rattle.vc_plan.specs.Accepted.{IsAccepted};
 ghost use Rattle.vc_plan.specs.KeptLimits.{IsName};
 
-use crate::sought::Sought;
+use crate::target::Target;
 use std::alloc::Global;
 use vc_occam::ValueKind;
 use vc_packets::Memory;
@@ -51,10 +51,10 @@ pub(crate) struct Ends {
 
 impl Ends {
     /// The channel's packets among those that reach a node.
-    pub(crate) fn sought_at(&self, node: u8) -> Sought
-        ensures { result ≡ sought_at self.now node }
+    pub(crate) fn target_at(&self, node: u8) -> Target
+        ensures { result ≡ target_at self.now node }
     {
-        Sought {
+        Target {
             pieces: (self.to.node == node).then_some(self.to.block),
             acks: (self.from.node == node).then_some(self.from.block),
         }

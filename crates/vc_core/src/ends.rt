@@ -2,7 +2,7 @@
 ghost use Rattle.std.specs.Prelude.{◌≡◌, ◌≤◌, IfOk, length};
 ghost use Rattle.vc_core.specs.Wired.{end_at as port_end, ends_of as ends_along};
 
-use crate::filling::actor_of;
+use crate::outgoing_ways::actor_of;
 use std::alloc::Global;
 use vc_packets::Memory;
 use vc_plan::{Plan, Port};

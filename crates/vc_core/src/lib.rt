@@ -9,22 +9,22 @@
 
 mod channels;
 mod close;
-mod coming;
 mod ends;
 mod event;
-mod filling;
 mod fronts;
 mod laws;
 mod lines;
 mod network;
+mod outgoing_ways;
+mod owner;
 mod place;
+mod prefix;
 mod reader;
 mod refused;
 mod rooms;
 mod search;
-mod sought;
+mod target;
 mod way;
-mod whose;
 mod wiring;
 
 pub use close::Close;

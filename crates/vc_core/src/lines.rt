@@ -99,6 +99,7 @@ impl Lines {
     }
 
     /// The way that goes out by a link of an actor, if the link is on a wire.
+    #[inline(always)]
     pub(crate) fn outgoing(&self, actor: u8, link: u8) -> Option<usize>
         ensures way { result ≡ out_at self.now.wiring actor link }
         ensures real { IfSome result (λ way. way < length self.now.ways) }
@@ -181,6 +182,7 @@ impl Lines {
 }
 
 // From now on a token comes by the link to which a way leads.
+#[inline(always)]
 fn wake(wiring: &Wiring, fronts: &mut Fronts, way: usize)
     requires { (k l : ℕ) → in_at wiring.now k l ≡ Some way → k < length fronts.old }
     ensures { Wakes wiring.now fronts.old way fronts.new }

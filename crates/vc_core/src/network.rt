@@ -314,6 +314,7 @@ impl Network {
     }
 
     // An actor grants eight places.
+    #[inline(always)]
     fn grant_by(&mut self, actor: u8, link: u8)
         requires { MayActAt (state_of self.old) actor (Act.Fct link) }
         ensures { GrantsBy (state_of self.old) actor link (state_of self.new) }
@@ -619,17 +620,17 @@ impl Network {
     }
 
     /// How many actors there are: the nodes, and then the switches.
-    pub fn actors(&self) -> usize
+    pub fn actors(&self) -> u8
         ensures { (p : Plan) → IsNetworkOf p (state_of self.now) → result ≡ actors p }
     {
-        self.actors.len()
+        self.actors.len().min(255) as u8
     }
 
     /// How many channels there are.
-    pub fn channels(&self) -> usize
+    pub fn channels(&self) -> u16
         ensures { (p : Plan) → IsNetworkOf p (state_of self.now) → result ≡ length p.channels }
     {
-        self.channels.len()
+        self.channels.len().min(65535) as u16
     }
 
     /// The name of a channel: 1 to 16 ASCII letters, digits, `_` and `-`. It is empty where the network has no such channel.

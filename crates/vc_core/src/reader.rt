@@ -2,7 +2,7 @@
 ghost use Rattle.std.specs.Prelude.{◌≡◌, ◌<◌, ◌++◌, [], ◌∷◌, ℕ, List, Some};
 ghost use Rattle.vc_accepted.specs.NetworkOf.{network_of};
 ghost use Rattle.vc_core.specs.Channels.{ends_at};
-ghost use Rattle.vc_core.specs.Sought.{HasRead, left};
+ghost use Rattle.vc_core.specs.Targets.{HasRead, left};
 ghost use Rattle.vc_core.specs.State.{state_of, IsNetworkOf};
 ghost use Rattle.vc_machine.specs.Seen.{read};
 ghost use Rattle.vc_network.specs.Plan.{home, ways};
@@ -11,8 +11,8 @@ ghost use Rattle.vc_plan.specs.declared.plan.Plan.{Plan};
 ghost use Rattle.vc_tokens.specs.Spelt.{token as spelt, tokens as all_spelt};
 
 use crate::channels::Ends;
-use crate::coming::Coming;
 use crate::network::Network;
+use crate::prefix::Prefix;
 use vc_packets::Mark;
 use vc_tokens::Token;
 
@@ -21,7 +21,7 @@ use vc_tokens::Token;
 pub(crate) struct Reader {
     way: usize,
     ends: Ends,
-    coming: Coming,
+    prefix: Prefix,
     found: bool,
 }
 
@@ -37,7 +37,7 @@ impl Reader {
         Reader {
             way,
             ends,
-            coming: Coming::of(passed),
+            prefix: Prefix::of(passed),
             found: false,
         }
     }
@@ -76,7 +76,7 @@ impl Reader {
             Token::Byte(byte) => Reader {
                 way: self.way,
                 ends: self.ends,
-                coming: self.coming.with(byte),
+                prefix: self.prefix.with(byte),
                 found: self.found,
             },
             Token::Eop => self.ended(network, Mark::Eop),
@@ -92,11 +92,11 @@ impl Reader {
             HasRead p c w ps got self →
             HasRead p c w (ps ++ record { body = got; mark = mark } ∷ []) [] result }
     {
-        let found = self.found || network.is_its(self.way, self.coming.bytes(), mark, &self.ends);
+        let found = self.found || network.is_its(self.way, self.prefix.bytes(), mark, &self.ends);
         Reader {
             way: self.way,
             ends: self.ends,
-            coming: Coming::of(&[]),
+            prefix: Prefix::of(&[]),
             found,
         }
     }

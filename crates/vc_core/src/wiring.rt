@@ -6,7 +6,7 @@ ghost use Rattle.vc_network.specs.Plan.{back as other_way};
 ghost use Rattle.vc_plan.specs.Accepted.{IsAccepted};
 
 use crate::ends::{End, ends_of};
-use crate::filling::ways_out;
+use crate::outgoing_ways::ways_out;
 use crate::rooms::rooms_of;
 use sqlite_items::at;
 use std::alloc::Global;
@@ -70,6 +70,7 @@ impl Wiring {
     }
 
     /// The port to which a way leads.
+    #[inline(always)]
     pub(crate) fn end(&self, way: usize) -> Option<End>
         ensures { (actor link : ℕ) →
             (in_at self.now actor link ≡ Some way) ↔
@@ -82,6 +83,7 @@ impl Wiring {
     }
 
     /// The way that goes out by a link of an actor, if the link is on a wire.
+    #[inline(always)]
     pub(crate) fn outgoing(&self, actor: u8, link: u8) -> Option<usize>
         ensures way { result ≡ out_at self.now actor link }
         ensures small { IfSome result (λ way. way < 65536) }

@@ -5,7 +5,7 @@ use Rattle.vc_switch.specs.Waiting.{Waiting}
 use Rattle.vc_machine.proofs.Refinement.{buffers_hold}
 use Rattle.vc_credit.specs.Ends.{Receiver}
 use Rattle.vc_network.specs.Plan.{body_limit, Plan, far, back, net_of}
-use Rattle.vc_network.specs.Processes.{Doing}
+use Rattle.vc_network.specs.Processes.{StepRelation}
 use Rattle.vc_network.specs.Network.{begins}
 use Rattle.vc_network.specs.Views.{vcps, switches}
 use Rattle.vc_credit.specs.Credit.{IsUnderCredit}
@@ -16,7 +16,7 @@ use Rattle.vc_network.proofs.Fitting.{fits}
 use Rattle.vc_network.proofs.Replays.{replayed}
 use Rattle.vc_network.proofs.Main.{ran, good_start, same_arrived}
 
-pub credit_holds : {P : Type 0} (plan : Plan) (waiting : Waiting) (Does : Doing P) (begin : ℕ → P) → CreditHolds plan waiting Does begin
+pub credit_holds : {P : Type 0} (plan : Plan) (waiting : Waiting) (Does : StepRelation P) (begin : ℕ → P) → CreditHolds plan waiting Does begin
 credit_holds plan waiting Does begin es s acc all w real =
     let q = replayed plan waiting Does (begins plan begin) s es all in
     let r = ran plan waiting Does acc q.0 (begins plan begin) s no_tokens (good_start plan begin) q.1 in
@@ -35,7 +35,7 @@ credit_holds plan waiting Does begin es s acc all w real =
     } in
     subst (λ z. z) (λ i. IsUnderCredit (a i) (wire_back i) (wire i) (same i)) here
 
-pub bodies_fit : {P : Type 0} (plan : Plan) (waiting : Waiting) (Does : Doing P) (begin : ℕ → P) → BodiesFit plan waiting Does begin
+pub bodies_fit : {P : Type 0} (plan : Plan) (waiting : Waiting) (Does : StepRelation P) (begin : ℕ → P) → BodiesFit plan waiting Does begin
 bodies_fit plan waiting Does begin es s acc all w real =
     let q = replayed plan waiting Does (begins plan begin) s es all in
     let r = ran plan waiting Does acc q.0 (begins plan begin) s no_tokens (good_start plan begin) q.1 in

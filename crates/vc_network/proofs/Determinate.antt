@@ -23,7 +23,7 @@ use Rattle.vc_vcp.specs.Steps as node
 use Rattle.vc_switch.specs.Switch as switch
 use Rattle.vc_switch.specs.Switch.{Switch, set_input}
 use Rattle.vc_network.specs.Plan.{body_limit, Plan, Inside, home, ends, input_end, switch_plan, net_of, way_from, IsAccepted}
-use Rattle.vc_network.specs.Processes.{Move, Offer, Want, Choose, Stopch, Inner, Quiet, Doing, IsDeterminate}
+use Rattle.vc_network.specs.Processes.{Move, Offer, Want, Choose, Stopch, Inner, Quiet, StepRelation, IsDeterminate}
 use Rattle.vc_network.specs.Processes.{Offers, Wants, Chooses, Stops, Meets, Rests, Finishes, Receives}
 use Rattle.vc_network.specs.Network.{Node, exchanged, ByHalves, Moves, GoesOn}
 use Rattle.vc_network.proofs.Wiring.{net_accepted, inputs_here, outputs_here}
@@ -192,7 +192,7 @@ leaves_same plan k o waiting a b b' c c' acc h h' =
 pub switch_fct_same : (a : Switch) (l : ℕ) (b b' : Switch) → switch.SendsFct a l b → switch.SendsFct a l b' → b ≡ b'
 switch_fct_same a l b b' h h' = h.after ∙ ap (λ z. set_input a l (record (a.input l) { receiver = z })) (h.grants.after ∙ sym h'.grants.after) ∙ sym h'.after
 
-module _ {P : Type 0} (plan : Plan) (Does : Doing P) (acc : IsAccepted plan) (det : IsDeterminate Does) (n : ℕ) (a b b' : Node P) where
+module _ {P : Type 0} (plan : Plan) (Does : StepRelation P) (acc : IsAccepted plan) (det : IsDeterminate Does) (n : ℕ) (a b b' : Node P) where
   pub same_node : b.vcp ≡ b'.vcp → b.process ≡ b'.process → b.inner ≡ b'.inner → b ≡ b'
   same_node c p i = λ j. record { vcp = c j; process = p j; inner = i j }
 

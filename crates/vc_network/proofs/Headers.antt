@@ -17,7 +17,7 @@ use Rattle.vc_vcp.specs.Carrier.{Ends, End as NodeEnd}
 use Rattle.vc_vcp.specs.Links.{Vcp, Passes, passes_byte, drops_byte, passes_mark}
 use Rattle.vc_vcp.specs.Steps as node
 use Rattle.vc_network.specs.Plan.{Plan, Home, Way, Inside, home, body_limit, ends, input_end, output_end, switch_plan, IsAccepted}
-use Rattle.vc_network.specs.Processes.{Doing, Move, Offer, Want, Choose, Stopch, Inner, Quiet}
+use Rattle.vc_network.specs.Processes.{StepRelation, Move, Offer, Want, Choose, Stopch, Inner, Quiet}
 use Rattle.vc_network.specs.Network.{Act, Proc, Take, Put, Route, Fct, Pass, Node, Actor, IsNode, IsSwitch, Moves, NodeStep, SwitchStep, Local, StopsChannel, begins, HappenAll}
 use Rattle.vc_network.specs.Views.{vcp_of, switch_of}
 use Rattle.vc_network.specs.Headers.{with_headers, MoreHeadersChangeNothing}
@@ -83,7 +83,7 @@ ends_same plan most n =
     ∙ ap (ends_of (λ c. output_end plan n (home plan c))) (fun_ext (λ c. input_same plan most n (home plan c)))
 
 -- and the same steps, but for a token that passes
-module _ {P : Type 0} (plan : Plan) (most : ℕ) (waiting : Waiting) (Does : Doing P) where
+module _ {P : Type 0} (plan : Plan) (most : ℕ) (waiting : Waiting) (Does : StepRelation P) where
   stops_same : (n : ℕ) (old : Node P) (c : ℕ) (new : Node P) → StopsChannel plan n old c new → StopsChannel (with_headers plan most) n old c new
   stops_same n old c new (inl (s, by)) = inl (subst (λ e. node.Stops e old.vcp.carrier c new.vcp.carrier) (sym (ends_same plan most n)) s, by)
   stops_same n old c new (inr within) = inr within
@@ -121,10 +121,10 @@ record IsClean {P : Type 0} (plan : Plan) (actor : ℕ) (x : Actor P) : Type 0 w
   strays : (vcp_of x).carrier.strays ≡ 0
   lost : (i : ℕ) → actor ≡ plan.nodes + i → (switch_of x).lost ≡ 0
 
-all_clean : {P : Type 0} (plan : Plan) (waiting : Waiting) (Does : Doing P) (s : Network (Actor P) Token) → Headline plan waiting Does s → (k : ℕ) → IsClean plan k (s.state k)
+all_clean : {P : Type 0} (plan : Plan) (waiting : Waiting) (Does : StepRelation P) (s : Network (Actor P) Token) → Headline plan waiting Does s → (k : ℕ) → IsClean plan k (s.state k)
 all_clean plan waiting Does s h k = record { strays = h.no_strays k; lost = λ i e. subst (λ z. (switch_of (s.state z)).lost ≡ 0) (sym e) (h.none_lost i) }
 
-module _ {P : Type 0} (plan : Plan) (most : ℕ) (waiting : Waiting) (Does : Doing P) (le : plan.headers ≤ most) where
+module _ {P : Type 0} (plan : Plan) (most : ℕ) (waiting : Waiting) (Does : StepRelation P) (le : plan.headers ≤ most) where
   limits : body_limit plan ≤ body_limit (with_headers plan most)
   limits = omega arith
 
@@ -188,7 +188,7 @@ module _ {P : Type 0} (plan : Plan) (most : ℕ) (waiting : Waiting) (Does : Doi
         } in
         (next, step, run_down (done ++ e ∷ []) next es s (Run-more (Local plan waiting Does) (begins plan begin) mid next done e r step) rest)
 
-pub more_headers : {P : Type 0} (plan : Plan) (waiting : Waiting) (Does : Doing P) (begin : ℕ → P) → MoreHeadersChangeNothing plan waiting Does begin
+pub more_headers : {P : Type 0} (plan : Plan) (waiting : Waiting) (Does : StepRelation P) (begin : ℕ → P) → MoreHeadersChangeNothing plan waiting Does begin
 more_headers {P} plan waiting Does begin most es s acc le =
     let still : Run (Local plan waiting Does) (begins plan begin) [] (begins plan begin) = record { states = λ k. refl; ways = λ w. refl } in (
       λ h. (let r = replayed plan waiting Does (begins plan begin) s es h in

@@ -23,7 +23,7 @@ use Rattle.vc_machine.proofs.Exactly.{exactly, offered_at_most}
 use Rattle.vc_vcp.specs.Links.{Vcp, new_vcp}
 use Rattle.vc_switch.specs.Switch.{Switch, new_switch}
 use Rattle.vc_network.specs.Plan.{back, Plan, Home, Way, Inside, home, ways, near, far, is_virtual, net_of, IsAccepted}
-use Rattle.vc_network.specs.Processes.{Doing, Trace, none, more, comms}
+use Rattle.vc_network.specs.Processes.{StepRelation, Trace, none, more, comms}
 use Rattle.vc_network.specs.Network.{Act, Actor, IsNode, IsSwitch, Local, first, begins, HappenAll}
 use Rattle.vc_network.specs.Views.{vcp_of, halves_view, inner_of, switch_of, vcps, switches, source_node, sink_node, view_at, view, queue_at, Arrived, arrived, on_wire, marked, inside, in_ways, in_halves, everywhere, Said, said_by, all_said}
 use Rattle.vc_network.proofs.Replays.{replayed}
@@ -70,7 +70,7 @@ does_append : (v w u : View) (xs ys : List Comm) → DoesAll v xs w → DoesAll 
 does_append v w u [] ys a b = subst (λ z. DoesAll z ys u) a b
 does_append v w u (k ∷ xs) ys a b = (a.0, a.1, does_append a.0 w u xs ys a.2 b)
 
-trace_append : {P : Type 0} (Does : Doing P) (p q r : P) (xs ys : List (ℕ × Comm)) → Trace Does p xs q → Trace Does q ys r → Trace Does p (xs ++ ys) r
+trace_append : {P : Type 0} (Does : StepRelation P) (p q r : P) (xs ys : List (ℕ × Comm)) → Trace Does p xs q → Trace Does q ys r → Trace Does p (xs ++ ys) r
 trace_append Does p q r xs ys none b = b
 trace_append Does p q r xs ys (more {q = m} {d = d} {ks = ks} h a) b = subst (λ z. Trace Does p z r) (sym (append_assoc (comms d) ks ys)) (more h (trace_append Does m q r ks ys a b))
 
@@ -129,7 +129,7 @@ good_start plan begin =
     }
 
 -- a run
-pub record Ran {P : Type 0} (plan : Plan) (waiting : Waiting) (Does : Doing P) (s u : Network (Actor P) Token) (t : Tokens) : Type 0 where
+pub record Ran {P : Type 0} (plan : Plan) (waiting : Waiting) (Does : StepRelation P) (s u : Network (Actor P) Token) (t : Tokens) : Type 0 where
   pub ks : List Said
   pub new : Tokens
   pub events : List TokenEvent
@@ -139,7 +139,7 @@ pub record Ran {P : Type 0} (plan : Plan) (waiting : Waiting) (Does : Doing P) (
   pub traces : (n : ℕ) (d : P) → Trace Does (process_of d (s.state n)) (said_by n ks) (process_of d (u.state n))
   pub by_no_other : (n : ℕ) → plan.nodes ≤ n → said_by n ks ≡ []
 
-pub ran : {P : Type 0} (plan : Plan) (waiting : Waiting) (Does : Doing P) (acc : IsAccepted plan) (es : List (Event Act Token)) (s u : Network (Actor P) Token) (t : Tokens) → Good plan s t → Run (Local plan waiting Does) s es u → Ran plan waiting Does s u t
+pub ran : {P : Type 0} (plan : Plan) (waiting : Waiting) (Does : StepRelation P) (acc : IsAccepted plan) (es : List (Event Act Token)) (s u : Network (Actor P) Token) (t : Tokens) → Good plan s t → Run (Local plan waiting Does) s es u → Ran plan waiting Does s u t
 ran plan waiting Does acc [] s u t g run =
     let same : s ≡ u = λ i. record { state = λ n. sym (run.states n) i; way = λ w. sym (run.ways w) i } in
     record {
@@ -246,7 +246,7 @@ module _ {P : Type 0} (plan : Plan) (s : Network (Actor P) Token) (t : Tokens) (
             (exactly (net_of plan) (seen (net_of plan) t) c 0 (net_accepted plan acc) g.sound.inv r (let m = subst (λ z. length z.offered ≡ z.finished) q n in omega arith));
       }
 
-pub run_headline : {P : Type 0} (plan : Plan) (waiting : Waiting) (Does : Doing P) (begin : ℕ → P) (es : List (Event Act Token)) (s : Network (Actor P) Token) → IsAccepted plan →
+pub run_headline : {P : Type 0} (plan : Plan) (waiting : Waiting) (Does : StepRelation P) (begin : ℕ → P) (es : List (Event Act Token)) (s : Network (Actor P) Token) → IsAccepted plan →
     Run (Local plan waiting Does) (begins plan begin) es s → Headline plan waiting Does s
 run_headline {P} plan waiting Does begin es s acc run =
     let r = ran plan waiting Does acc es (begins plan begin) s no_tokens (good_start plan begin) run in
@@ -272,7 +272,7 @@ run_headline {P} plan waiting Does begin es s acc run =
         let p = replayed plan waiting Does s t fs goes in
         ran plan waiting Does acc p.0 s t _ (ran plan waiting Does acc es (begins plan begin) s no_tokens (good_start plan begin) run).good p.1
 
-pub run_list : {P : Type 0} (plan : Plan) (waiting : Waiting) (Does : Doing P) (begin : ℕ → P) (es : List (Event Act Token)) (s : Network (Actor P) Token) → IsAccepted plan →
+pub run_list : {P : Type 0} (plan : Plan) (waiting : Waiting) (Does : StepRelation P) (begin : ℕ → P) (es : List (Event Act Token)) (s : Network (Actor P) Token) → IsAccepted plan →
     Run (Local plan waiting Does) (begins plan begin) es s → (ks : List Said) × AreTold plan Does begin s ks
 run_list plan waiting Does begin es s acc run =
     let r = ran plan waiting Does acc es (begins plan begin) s no_tokens (good_start plan begin) run in
@@ -290,6 +290,6 @@ run_list plan waiting Does begin es s acc run =
       },
     )
 
-pub headline : {P : Type 0} (plan : Plan) (waiting : Waiting) (Does : Doing P) (begin : ℕ → P) → HeadlineHolds plan waiting Does begin
+pub headline : {P : Type 0} (plan : Plan) (waiting : Waiting) (Does : StepRelation P) (begin : ℕ → P) → HeadlineHolds plan waiting Does begin
 headline plan waiting Does begin es s acc h =
     let r = replayed plan waiting Does (begins plan begin) s es h in (run_headline plan waiting Does begin r.0 s acc r.1, run_list plan waiting Does begin r.0 s acc r.1)

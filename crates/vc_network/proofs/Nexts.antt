@@ -23,7 +23,7 @@ use Rattle.vc_vcp.specs.Links.{Vcp}
 use Rattle.vc_switch.specs.Switch.{Switch}
 use Rattle.vc_switch.specs.Switch as switch
 use Rattle.vc_network.specs.Plan.{body_limit, Plan, Inside, home, ends, way_from, back, switch_plan, net_of, IsAccepted, IsInto}
-use Rattle.vc_network.specs.Processes.{Move, Offer, Want, Choose, Stopch, Inner, Quiet, Deed, Doing, Trace, none, more, comms, input_of}
+use Rattle.vc_network.specs.Processes.{Move, Offer, Want, Choose, Stopch, Inner, Quiet, ProcessStep, StepRelation, Trace, none, more, comms, input_of}
 use Rattle.vc_network.specs.Processes.{Offers, Wants, Chooses, Stops, Meets, Rests, Finishes, Receives}
 use Rattle.vc_network.specs.Network.{Act, Proc, Take, Put, Route, Fct, Pass, Node, Actor, IsNode, IsSwitch, exchanged, ByHalves, Moves, GoesOn, NodeStep, SwitchStep, Local}
 use Rattle.vc_network.specs.Views.{vcp_of, inner_of, switch_of, vcps, switches, view}
@@ -45,7 +45,7 @@ process_of d (IsNode a) = a.process
 process_of d (IsSwitch s) = d
 
 -- the step of an actor, and what it says
-pub record Next {P : Type 0} (plan : Plan) (waiting : Waiting) (Does : Doing P) (s u : Network (Actor P) Token) (t : Tokens) (n : ℕ) : Type 0 where
+pub record Next {P : Type 0} (plan : Plan) (waiting : Waiting) (Does : StepRelation P) (s u : Network (Actor P) Token) (t : Tokens) (n : ℕ) : Type 0 where
   pub ks : List (ℕ × Comm)
   pub new : Tokens
   pub events : List TokenEvent
@@ -128,9 +128,9 @@ in_switch plan waiting acc s t g k l w c rest into unmarked front long =
     let e = subst (λ p. SameReceiver plan (vcps s) (put (switches plan s) k b) p (f.new.receiver w)) into.1 (f.shows.receiver w into.0) in
     past_limit (body_limit plan) got c (subst (λ z. length z ≤ body_limit plan) (e.got ∙ ap (λ z. z.got) (input_here (switches plan s) k l b y refl)) short) long
 
-module _ {P : Type 0} (plan : Plan) (waiting : Waiting) (Does : Doing P) (acc : IsAccepted plan) (s u : Network (Actor P) Token) (t : Tokens) (g : Good plan s t) (n : ℕ) (others : (m : ℕ) → m ≢ n → u.state m ≡ s.state m) where
+module _ {P : Type 0} (plan : Plan) (waiting : Waiting) (Does : StepRelation P) (acc : IsAccepted plan) (s u : Network (Actor P) Token) (t : Tokens) (g : Good plan s t) (n : ℕ) (others : (m : ℕ) → m ≢ n → u.state m ≡ s.state m) where
   module _ (less : n < plan.nodes) (a b : Node P) (ea : s.state n ≡ IsNode a) (eb : u.state n ≡ IsNode b) where
-    did : (d : Deed) → Does a.process d b.process → Trace Does a.process (comms d) b.process
+    did : (d : ProcessStep) → Does a.process d b.process → Trace Does a.process (comms d) b.process
     did d h = subst (λ z. Trace Does a.process z b.process) (append-nil (comms d)) (more h none)
 
     traced : (ks : List (ℕ × Comm)) → Trace Does a.process ks b.process → (d : P) → Trace Does (process_of d (s.state n)) ks (process_of d (u.state n))
@@ -453,7 +453,7 @@ module _ {P : Type 0} (plan : Plan) (waiting : Waiting) (Does : Doing P) (acc : 
     switch_next (Puts (Pass l) w p) ways h = absurd h
 
 -- each step of the network
-pub next : {P : Type 0} (plan : Plan) (waiting : Waiting) (Does : Doing P) (acc : IsAccepted plan) (s u : Network (Actor P) Token) (t : Tokens) (n : ℕ) (label : Label Act Token) → Good plan s t → Step (Local plan waiting Does) s n label u → Next plan waiting Does s u t n
+pub next : {P : Type 0} (plan : Plan) (waiting : Waiting) (Does : StepRelation P) (acc : IsAccepted plan) (s u : Network (Actor P) Token) (t : Tokens) (n : ℕ) (label : Label Act Token) → Good plan s t → Step (Local plan waiting Does) s n label u → Next plan waiting Does s u t n
 next {P} plan waiting Does acc s u t n label g h = by_kind (s.state n) (u.state n) refl refl h.local
   where
     by_kind : (x y : Actor P) → s.state n ≡ x → u.state n ≡ y → Local plan waiting Does n x label y → Next plan waiting Does s u t n

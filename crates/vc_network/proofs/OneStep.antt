@@ -11,7 +11,7 @@ use Rattle.vc_switch.specs.Switch as switch
 use Rattle.vc_switch.specs.Switch.{Switch}
 use Rattle.vc_network.proofs.Wires.{one_near, one_far}
 use Rattle.vc_network.specs.Plan.{Plan, IsAccepted}
-use Rattle.vc_network.specs.Processes.{Doing, IsDeterminate}
+use Rattle.vc_network.specs.Processes.{StepRelation, IsDeterminate}
 use Rattle.vc_network.specs.Network.{Act, Proc, Take, Put, Route, Fct, Pass, Node, Actor, IsNode, IsSwitch, GoesOn, NodeStep, SwitchStep, Local, begins}
 use Rattle.vc_network.specs.Threads.{ended, made_by, ReplaysReach}
 use Rattle.vc_network.proofs.Replays.{replayed}
@@ -33,7 +33,7 @@ data Form (label : Label Act Token) : Type 0 where
   takes : (act : Act) (w : ℕ) (k : Token) → label ≡ Takes act w k → kind_of act ≡ 1 → Form label
   puts : (act : Act) (w : ℕ) (k : Token) → label ≡ Puts act w k → kind_of act ≡ 2 → Form label
 
-node_form : {P : Type 0} (plan : Plan) (Does : Doing P) (n : ℕ) (a b : Node P) (label : Label Act Token) → NodeStep plan Does n a label b → Form label
+node_form : {P : Type 0} (plan : Plan) (Does : StepRelation P) (n : ℕ) (a b : Node P) (label : Label Act Token) → NodeStep plan Does n a label b → Form label
 node_form plan Does n a b (Own (Proc move)) h = own (Proc move) refl refl
 node_form plan Does n a b (Own (Take l w)) h = absurd h
 node_form plan Does n a b (Own (Put l)) h = absurd h
@@ -107,7 +107,7 @@ module _ {State : Type 0} (Makes : Label Act Token → State → Type 0) (b b' :
       both (puts x v k p i) (own y q j) = absurd (kinds 0 2 (omega arith) (sym j ∙ sym (ap kind_of (acts p q)) ∙ i))
       both (puts x v k p i) (takes y w m q j) = absurd (kinds 1 2 (omega arith) (sym j ∙ sym (ap kind_of (acts p q)) ∙ i))
 
-module _ {P : Type 0} (plan : Plan) (Does : Doing P) (acc : IsAccepted plan) (det : IsDeterminate Does) (n : ℕ) (a b b' : Node P) where
+module _ {P : Type 0} (plan : Plan) (Does : StepRelation P) (acc : IsAccepted plan) (det : IsDeterminate Does) (n : ℕ) (a b b' : Node P) where
   node_own : (act act' : Act) → NodeStep plan Does n a (Own act) b → NodeStep plan Does n a (Own act') b' → act ≡ act' → b ≡ b'
   node_own (Proc move) act' h h' e = moves_same plan Does acc det n a b b' move h (subst (λ z. NodeStep plan Does n a (Own z) b') (sym e) h')
   node_own (Pass l) act' h h0 e =
@@ -194,7 +194,7 @@ module _ (plan : Plan) (waiting : Waiting) (acc : IsAccepted plan) (i : ℕ) (a 
   to_switch P (Puts act v p) (Puts act' w q) h = (h.0, h.1, ap IsSwitch h.2)
   to_switch P _ _ h = absurd h
 
-pub determined : {P : Type 0} (plan : Plan) (waiting : Waiting) (Does : Doing P) → IsAccepted plan → IsDeterminate Does → IsDetermined (Local plan waiting Does)
+pub determined : {P : Type 0} (plan : Plan) (waiting : Waiting) (Does : StepRelation P) → IsAccepted plan → IsDeterminate Does → IsDetermined (Local plan waiting Does)
 determined plan waiting Does acc det n (IsNode a) l l' (IsNode b) (IsNode b') h h' e = to_node plan Does acc det n a b b' l l' (node_one plan Does acc det n a b b' l l' h.1 h'.1 e)
 determined {P} plan waiting Does acc det n (IsSwitch a) l l' (IsSwitch b) (IsSwitch b') h h' e =
     let k : h'.0 ≡ h.0 = (let p = h.1 in let q = h'.1 in omega arith) in
@@ -204,11 +204,11 @@ determined plan waiting Does acc det n (IsNode a) l l' (IsSwitch b) b' h h' e = 
 determined plan waiting Does acc det n (IsSwitch a) l l' (IsSwitch b) (IsNode b') h h' e = absurd h'
 determined plan waiting Does acc det n (IsSwitch a) l l' (IsNode b) b' h h' e = absurd h
 
-pub events_are_one : {P : Type 0} (plan : Plan) (waiting : Waiting) (Does : Doing P) → EventsAreOne plan waiting Does
+pub events_are_one : {P : Type 0} (plan : Plan) (waiting : Waiting) (Does : StepRelation P) → EventsAreOne plan waiting Does
 events_are_one plan waiting Does acc det old new new' e h h' =
     (step_determined (Local plan waiting Does) (determined plan waiting Does acc det) old old new new' e.actor h.0 h'.0 (record { states = λ n. refl; ways = λ w. refl }) h.2 h'.2 (h.1 ∙ sym h'.1)).1
 
-pub replays_reach : {P : Type 0} (plan : Plan) (waiting : Waiting) (Does : Doing P) (begin : ℕ → P) → ReplaysReach plan waiting Does begin
+pub replays_reach : {P : Type 0} (plan : Plan) (waiting : Waiting) (Does : StepRelation P) (begin : ℕ → P) → ReplaysReach plan waiting Does begin
 replays_reach plan waiting Does begin last runs left acts acc det h =
     let start = begins plan begin in
     let alike : Alike start start = record { states = λ n. refl; ways = λ w. refl } in

@@ -12,7 +12,7 @@ use Rattle.vc_machine.proofs.Owned.{owned}
 use Rattle.vc_machine.proofs.Reading.{seen_is}
 use Rattle.vc_machine.proofs.Short.{packets_short}
 use Rattle.vc_network.specs.Plan.{Plan, back, ways, net_of}
-use Rattle.vc_network.specs.Processes.{Doing}
+use Rattle.vc_network.specs.Processes.{StepRelation}
 use Rattle.vc_network.specs.Network.{begins}
 use Rattle.vc_network.specs.Owners.{EachHasOwner, PacketsAreShort}
 use Rattle.vc_network.proofs.Fitting.{has_headers}
@@ -20,13 +20,13 @@ use Rattle.vc_network.proofs.Wiring.{net_accepted}
 use Rattle.vc_network.proofs.Main.{good_start, ran, same_ways}
 use Rattle.vc_network.proofs.Replays.{replayed}
 
-pub each_owned : {P : Type 0} (plan : Plan) (waiting : Waiting) (Does : Doing P) (begin : ℕ → P) → EachHasOwner plan waiting Does begin
+pub each_owned : {P : Type 0} (plan : Plan) (waiting : Waiting) (Does : StepRelation P) (begin : ℕ → P) → EachHasOwner plan waiting Does begin
 each_owned plan waiting Does begin es s acc h x here =
     let run = replayed plan waiting Does (begins plan begin) s es h in
     let r = ran plan waiting Does acc run.0 (begins plan begin) s no_tokens (good_start plan begin) run.1 in
     owned (net_of plan) (seen (net_of plan) r.new) r.good.sound.inv x (subst (λ xs. Contains xs x) (sym (same_ways plan s r.new r.good (ways plan) (le_refl (ways plan)))) here)
 
-pub packets_are_short : {P : Type 0} (plan : Plan) (waiting : Waiting) (Does : Doing P) (begin : ℕ → P) → PacketsAreShort plan waiting Does begin
+pub packets_are_short : {P : Type 0} (plan : Plan) (waiting : Waiting) (Does : StepRelation P) (begin : ℕ → P) → PacketsAreShort plan waiting Does begin
 packets_are_short plan waiting Does begin es s acc h x here =
     let run = replayed plan waiting Does (begins plan begin) s es h in
     let r = ran plan waiting Does acc run.0 (begins plan begin) s no_tokens (good_start plan begin) run.1 in

@@ -18,7 +18,7 @@ use Rattle.vc_vcp.specs.Links.{Vcp}
 use Rattle.vc_network.specs.Network.{Actor, begins, Happens}
 use Rattle.vc_network.specs.Packets.{SameBound, IsMarked, IsInputAt, StandsForPackets, AtMostTwoSteps, no_step, one_step, enters_bound, IsRunOfPackets, EventsAreSteps}
 use Rattle.vc_network.specs.Plan.{Plan, ways, near, far, back, net_of, IsAccepted}
-use Rattle.vc_network.specs.Processes.{Doing}
+use Rattle.vc_network.specs.Processes.{StepRelation}
 use Rattle.vc_network.specs.Views.{vcps, switches, Arrived, arrived, on_wire}
 use Rattle.vc_network.proofs.Main.{ran, good_start, same_arrived}
 use Rattle.vc_network.proofs.Nexts.{next}
@@ -77,7 +77,7 @@ module _ (plan : Plan) (waiting : Waiting) (acc : IsAccepted plan) where
         (two_steps t run.0 (step_view (net_of plan) back waiting (net_accepted plan acc).ranges t (seen (net_of plan) t) e run.0 g.sound.bindings g.sound.view run.1))
     goes (e ∷ f ∷ es) u few run = absurd (omega arith)
 
-pub events_are_steps : {P : Type 0} (plan : Plan) (waiting : Waiting) (Does : Doing P) (begin : ℕ → P) → EventsAreSteps plan waiting Does begin
+pub events_are_steps : {P : Type 0} (plan : Plan) (waiting : Waiting) (Does : StepRelation P) (begin : ℕ → P) → EventsAreSteps plan waiting Does begin
 events_are_steps plan waiting Does begin es s acc h =
     let q = replayed plan waiting Does (begins plan begin) s es h in
     let r = ran plan waiting Does acc q.0 (begins plan begin) s no_tokens (good_start plan begin) q.1 in

@@ -7,14 +7,14 @@ use Rattle.vc_tokens.specs.Tokens.{Token}
 use Rattle.vc_switch.specs.Waiting.{Waiting}
 use Rattle.vc_network.specs.Plan.{Plan, ways}
 use Rattle.vc_network.specs.LocalRun.{Stamped, Turn, LocalRun, plain, all_taken, all_put}
-use Rattle.vc_network.specs.Processes.{Doing}
+use Rattle.vc_network.specs.Processes.{StepRelation}
 use Rattle.vc_network.specs.Network.{Act, Proc, Take, Put, Route, Fct, Pass, Node, Actor, IsNode, IsSwitch, NodeStep, SwitchStep, Local, first, begins, actor_at, HappenAll}
 use Rattle.vc_network.specs.Threads.{source, sink, ended, ThreadsKeepHeadline}
 use Rattle.vc_network.proofs.Replays.{happened}
 use Rattle.vc_network.proofs.Main.{run_headline, run_list}
 use Rattle.vc_switch.specs.Switch.{Switch}
 
-node_keeps : {P : Type 0} (plan : Plan) (Does : Doing P) (n : ℕ) (a b : Node P) (label : Label Act Token) → NodeStep plan Does n a label b → KeepsTo (source plan) (sink plan) n label
+node_keeps : {P : Type 0} (plan : Plan) (Does : StepRelation P) (n : ℕ) (a b : Node P) (label : Label Act Token) → NodeStep plan Does n a label b → KeepsTo (source plan) (sink plan) n label
 node_keeps plan Does n a b (Own act) h = tt
 node_keeps plan Does n a b (Takes (Take link word) w p) h = ap (actor_at plan) h.0.1
 node_keeps plan Does n a b (Takes (Proc move) w p) h = absurd h
@@ -44,13 +44,13 @@ switch_keeps plan waiting k a b (Puts (Route i o) w p) h = absurd h
 switch_keeps plan waiting k a b (Puts (Fct l) w p) h = ap (actor_at plan) h.0.1
 switch_keeps plan waiting k a b (Puts (Pass l) w p) h = absurd h
 
-pub keeps : {P : Type 0} (plan : Plan) (waiting : Waiting) (Does : Doing P) (actor : ℕ) (old : Actor P) (label : Label Act Token) (new : Actor P) → Local plan waiting Does actor old label new → KeepsTo (source plan) (sink plan) actor label
+pub keeps : {P : Type 0} (plan : Plan) (waiting : Waiting) (Does : StepRelation P) (actor : ℕ) (old : Actor P) (label : Label Act Token) (new : Actor P) → Local plan waiting Does actor old label new → KeepsTo (source plan) (sink plan) actor label
 keeps plan waiting Does actor (IsNode a) label (IsNode b) h = node_keeps plan Does actor a b label h.1
 keeps plan waiting Does actor (IsSwitch a) label (IsSwitch b) h = subst (λ z. KeepsTo (source plan) (sink plan) z label) (sym h.1) (switch_keeps plan waiting h.0 a b label h.2)
 keeps plan waiting Does actor (IsNode a) label (IsSwitch b) h = absurd h
 keeps plan waiting Does actor (IsSwitch a) label (IsNode b) h = absurd h
 
-pub threads_headline : {P : Type 0} (plan : Plan) (waiting : Waiting) (Does : Doing P) (begin : ℕ → P) → ThreadsKeepHeadline plan waiting Does begin
+pub threads_headline : {P : Type 0} (plan : Plan) (waiting : Waiting) (Does : StepRelation P) (begin : ℕ → P) → ThreadsKeepHeadline plan waiting Does begin
 threads_headline plan waiting Does begin last runs left acts acc h =
     let r = threads_run (Local plan waiting Does) (source plan) (sink plan) (keeps plan waiting Does) (first plan begin) last runs left acts h.fit h.merged in (
       subst (λ es. HappenAll plan waiting Does (begins plan begin) es (ended last left)) r.1 (happened plan waiting Does (begins plan begin) (ended last left) r.0 r.2),
@@ -63,7 +63,7 @@ IsOnPlan plan (Own act) = Unit {0}
 IsOnPlan plan (Takes act w p) = w < ways plan
 IsOnPlan plan (Puts act w p) = w < ways plan
 
-node_on : {P : Type 0} (plan : Plan) (Does : Doing P) (n : ℕ) (a b : Node P) (label : Label Act Token) → NodeStep plan Does n a label b → IsOnPlan plan label
+node_on : {P : Type 0} (plan : Plan) (Does : StepRelation P) (n : ℕ) (a b : Node P) (label : Label Act Token) → NodeStep plan Does n a label b → IsOnPlan plan label
 node_on plan Does n a b (Own act) h = tt
 node_on plan Does n a b (Takes (Proc move) w p) h = absurd h
 node_on plan Does n a b (Takes (Take l w0) w p) h = h.0.0
@@ -93,7 +93,7 @@ switch_on plan waiting k a b (Puts (Route i o) w p) h = absurd h
 switch_on plan waiting k a b (Puts (Fct l) w p) h = h.0.0
 switch_on plan waiting k a b (Puts (Pass l) w p) h = absurd h
 
-pub on_plan : {P : Type 0} (plan : Plan) (waiting : Waiting) (Does : Doing P) (actor : ℕ) (old : Actor P) (label : Label Act Token) (new : Actor P) → Local plan waiting Does actor old label new → IsOnPlan plan label
+pub on_plan : {P : Type 0} (plan : Plan) (waiting : Waiting) (Does : StepRelation P) (actor : ℕ) (old : Actor P) (label : Label Act Token) (new : Actor P) → Local plan waiting Does actor old label new → IsOnPlan plan label
 on_plan plan waiting Does actor (IsNode a) label (IsNode b) h = node_on plan Does actor a b label h.1
 on_plan plan waiting Does actor (IsSwitch a) label (IsSwitch b) h = switch_on plan waiting h.0 a b label h.2
 on_plan plan waiting Does actor (IsNode a) label (IsSwitch b) h = absurd h
@@ -105,7 +105,7 @@ past plan w (Takes act v s) h k = (ap (λ b. if b then s ∷ [] else []) (ne_eqb
 past plan w (Puts act v s) h k = (refl, ap (λ b. if b then s ∷ [] else []) (ne_eqb v w (λ e. omega arith)))
 
 -- past the plan's ways nothing passes: so `LocalRuns.ways` is to be shown below `ways plan` only
-pub past_ways : {P : Type 0} (plan : Plan) (waiting : Waiting) (Does : Doing P) (actor clock w : ℕ) (old new : Actor P) (ts : List (Turn Act Token)) → ways plan ≤ w → LocalRun (Local plan waiting Does) actor clock old ts new →
+pub past_ways : {P : Type 0} (plan : Plan) (waiting : Waiting) (Does : StepRelation P) (actor clock w : ℕ) (old new : Actor P) (ts : List (Turn Act Token)) → ways plan ≤ w → LocalRun (Local plan waiting Does) actor clock old ts new →
     (all_taken w ts ≡ []) × (all_put w ts ≡ [])
 past_ways plan waiting Does actor clock w old new [] h r = (refl, refl)
 past_ways plan waiting Does actor clock w old new (t ∷ ts) h r =

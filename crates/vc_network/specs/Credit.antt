@@ -10,7 +10,7 @@ use Rattle.vc_credit.specs.Ends.{Receiver}
 use Rattle.vc_vcp.specs.Links.{Vcp}
 use Rattle.vc_switch.specs.Switch.{Switch}
 use Rattle.vc_network.specs.Plan.{Plan, body_limit, ways, near, far, back, IsAccepted}
-use Rattle.vc_network.specs.Processes.{Doing}
+use Rattle.vc_network.specs.Processes.{StepRelation}
 use Rattle.vc_network.specs.Network.{Act, Actor, begins, HappenAll}
 use Rattle.vc_network.specs.Views.{vcps, switches, arrived}
 
@@ -33,10 +33,10 @@ abbrev pub AreWithinLimit : {P : Type 0} → Plan → Network (Actor P) Token �
 AreWithinLimit plan s = (w : ℕ) → w < ways plan → length (arrived (vcps s) (switches plan s) (far plan w)).got ≤ body_limit plan
 
 -- so it is after any list of events
-abbrev pub CreditHolds : {P : Type 0} → Plan → Waiting → Doing P → (ℕ → P) → Type 0
+abbrev pub CreditHolds : {P : Type 0} → Plan → Waiting → StepRelation P → (ℕ → P) → Type 0
 CreditHolds {P} plan waiting Does begin =
     (es : List (ActBy Act)) (s : Network (Actor P) Token) → IsAccepted plan → HappenAll plan waiting Does (begins plan begin) es s → AreUnderCredit plan s
 
-abbrev pub BodiesFit : {P : Type 0} → Plan → Waiting → Doing P → (ℕ → P) → Type 0
+abbrev pub BodiesFit : {P : Type 0} → Plan → Waiting → StepRelation P → (ℕ → P) → Type 0
 BodiesFit {P} plan waiting Does begin =
     (es : List (ActBy Act)) (s : Network (Actor P) Token) → IsAccepted plan → HappenAll plan waiting Does (begins plan begin) es s → AreWithinLimit plan s

@@ -3,7 +3,7 @@ use Rattle.std.specs.Prelude.{ℕ, ◌*◌, Bool, true, false, ◌&&◌, ◌==�
 use Rattle.vc_network.specs.Actors.{ActBy}
 use Rattle.vc_machine.specs.Paths.{AtNode}
 use Rattle.vc_network.specs.Plan.{Plan, Way}
-use Rattle.vc_network.specs.Processes.{Offer, Want, Deed, Offers, Wants, Finishes, Receives}
+use Rattle.vc_network.specs.Processes.{Offer, Want, ProcessStep, Offers, Wants, Finishes, Receives}
 use Rattle.vc_network.specs.Network.{Act, Proc, Take, Put, Fct, Pass}
 
 abbrev pub example : Plan
@@ -20,7 +20,7 @@ abbrev pub hello : List ℕ
 hello = 104 ∷ 101 ∷ 108 ∷ 108 ∷ 111 ∷ []
 
 -- states 0 to 2 are the output's, and 3 to 5 the input's
-abbrev pub does : ℕ → Deed → ℕ → Bool
+abbrev pub does : ℕ → ProcessStep → ℕ → Bool
 does p (Offers site c m) q = (p == 0) && (q == 1)
 does p (Finishes c) q = (p == 1) && (q == 2)
 does p (Wants site c None) q = (p == 3) && (q == 4)

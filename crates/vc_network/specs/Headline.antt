@@ -10,7 +10,7 @@ use Rattle.vc_machine.specs.Paths.{AtNode, AtSwitch}
 use Rattle.vc_switch.specs.Switch.{new_input}
 use Rattle.vc_machine.specs.Places.{Place, BelongsTo, Number}
 use Rattle.vc_network.specs.Plan.{Plan, Home, Way, Inside, home, net_of, IsOutOf, IsInto, IsAccepted}
-use Rattle.vc_network.specs.Processes.{Doing, Trace}
+use Rattle.vc_network.specs.Processes.{StepRelation, Trace}
 use Rattle.vc_network.specs.Network.{Act, Node, Actor, IsNode, begins, Happens, HappenAll}
 use Rattle.vc_network.specs.Views.{vcps, switches, sink_node, view, everywhere, Said, said_by, all_said}
 
@@ -31,7 +31,7 @@ abbrev pub IsPlaceOf : {P : Type 0} → Plan → Network (Actor P) Token → ℕ
 IsPlaceOf plan s c place = (p : Packet) × Contains (everywhere plan s) (place, p) × BelongsTo (net_of plan) c (place, p)
 
 -- one list of all communications: each node's part is a trace of its process, nobody else has a part, and each channel's part is a run of the channel
-pub record AreTold {P : Type 0} (plan : Plan) (Does : Doing P) (begin : ℕ → P) (s : Network (Actor P) Token) (ks : List Said) : Type 0 where
+pub record AreTold {P : Type 0} (plan : Plan) (Does : StepRelation P) (begin : ℕ → P) (s : Network (Actor P) Token) (ks : List Said) : Type 0 where
   pub by_node : (n : ℕ) → n < plan.nodes → (a : Node P) × (s.state n ≡ IsNode a) × Trace Does (begin n) (said_by n ks) a.process
   pub by_no_other : (n : ℕ) → plan.nodes ≤ n → said_by n ks ≡ []
   pub on_channel : (c : ℕ) → c < length plan.channels → DoesAll nothing_yet (part c (all_said ks)) (view plan s c)
@@ -49,7 +49,7 @@ pub data ByOneEvent (h : Home) : List Comm → Type 0 where
   one_step : (k : Comm) → ByOneEvent h (k ∷ [])
   exchange : (n : ℕ) (m : List ℕ) → h ≡ Inside n → ByOneEvent h (Out m ∷ In m ∷ Fin ∷ [])
 
-pub record Headline {P : Type 0} (plan : Plan) (waiting : Waiting) (Does : Doing P) (s : Network (Actor P) Token) : Type 0 where
+pub record Headline {P : Type 0} (plan : Plan) (waiting : Waiting) (Does : StepRelation P) (s : Network (Actor P) Token) : Type 0 where
   pub faithful : (c : ℕ) → c < length plan.channels → IsFaithful plan s c
   pub packets : (c v : ℕ) (ab : Bool) → c < length plan.channels → home plan c ≡ Way v ab → HasItsPacket plan s c
   pub nowhere_else : NowhereElse plan s
@@ -64,10 +64,10 @@ pub record Headline {P : Type 0} (plan : Plan) (waiting : Waiting) (Does : Doing
   pub none_lost : (k : ℕ) → (switches plan s k).lost ≡ 0
 
 -- the headline, and one list of all communications
-abbrev pub HeadlineAndList : {P : Type 0} → Plan → Waiting → Doing P → (ℕ → P) → Network (Actor P) Token → Type 0
+abbrev pub HeadlineAndList : {P : Type 0} → Plan → Waiting → StepRelation P → (ℕ → P) → Network (Actor P) Token → Type 0
 HeadlineAndList plan waiting Does begin s = Headline plan waiting Does s × ((ks : List Said) × AreTold plan Does begin s ks)
 
 -- after any list of events that happens from the opening state of an accepted network
-abbrev pub HeadlineHolds : {P : Type 0} → Plan → Waiting → Doing P → (ℕ → P) → Type 0
+abbrev pub HeadlineHolds : {P : Type 0} → Plan → Waiting → StepRelation P → (ℕ → P) → Type 0
 HeadlineHolds {P} plan waiting Does begin =
     (es : List (ActBy Act)) (s : Network (Actor P) Token) → IsAccepted plan → HappenAll plan waiting Does (begins plan begin) es s → HeadlineAndList plan waiting Does begin s

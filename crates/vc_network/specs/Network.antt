@@ -15,7 +15,7 @@ use Rattle.vc_vcp.specs.Links.{Vcp, new_vcp}
 use Rattle.vc_switch.specs.Switch.{Switch, new_switch}
 use Rattle.vc_switch.specs.Switch as switch
 use Rattle.vc_network.specs.Plan.{Plan, Inside, body_limit, home, ends, switch_plan, IsOutOf, IsInto}
-use Rattle.vc_network.specs.Processes.{Move, Offer, Want, Choose, Stopch, Inner, Quiet, Doing}
+use Rattle.vc_network.specs.Processes.{Move, Offer, Want, Choose, Stopch, Inner, Quiet, StepRelation}
 use Rattle.vc_network.specs.Processes.{Offers, Wants, Chooses, Stops, Meets, Rests, Finishes, Receives}
 
 -- what an actor does in one step; a switch's Put names the output
@@ -57,7 +57,7 @@ StopsChannel plan n old c new =
     ⊎ (IsInside plan n c × (new.vcp ≡ old.vcp) × (new.inner ≡ put old.inner c (record (old.inner c) { stopped = true })))
 
 -- a move of the node's process
-abbrev pub Moves : {P : Type 0} → Plan → Doing P → ℕ → Node P → Move → Node P → Type 0
+abbrev pub Moves : {P : Type 0} → Plan → StepRelation P → ℕ → Node P → Move → Node P → Type 0
 Moves plan Does n old (Offer site c) new =
     (m : List ℕ) × Does old.process (Offers site c m) new.process × node.Offers (ends plan n) old.vcp.carrier c m new.vcp.carrier × ByHalves old new
 Moves plan Does n old (Want site c) new =
@@ -73,7 +73,7 @@ Moves plan Does n old (Inner sender receiver guard c) new =
 Moves plan Does n old (Quiet site) new = Does old.process (Rests site) new.process × (new.vcp ≡ old.vcp) × (new.inner ≡ old.inner)
 
 -- the process goes on where its message came or its output finished
-abbrev pub GoesOn : {P : Type 0} → Doing P → P → Option node.Taken → P → Type 0
+abbrev pub GoesOn : {P : Type 0} → StepRelation P → P → Option node.Taken → P → Type 0
 GoesOn Does old (Some (node.Complete c m)) new = Does old (Receives c m) new
 GoesOn Does old (Some (node.Finished c)) new = Does old (Finishes c) new
 GoesOn Does old (Some (node.Held c)) new = new ≡ old
@@ -88,7 +88,7 @@ pub record ByLinks {P : Type 0} (old new : Node P) : Type 0 where
   pub inner : new.inner ≡ old.inner
 
 -- one step of node n
-abbrev pub NodeStep : {P : Type 0} → Plan → Doing P → ℕ → Node P → Label Act Token → Node P → Type 0
+abbrev pub NodeStep : {P : Type 0} → Plan → StepRelation P → ℕ → Node P → Label Act Token → Node P → Type 0
 NodeStep plan Does n old (Own (Proc move)) new = Moves plan Does n old move new
 NodeStep plan Does n old (Own (Pass l)) new =
     (taken : Option node.Taken) × links.Passes (body_limit plan) (ends plan n) old.vcp l taken new.vcp × GoesOn Does old.process taken new.process × (new.inner ≡ old.inner)
@@ -107,7 +107,7 @@ SwitchStep plan waiting i old (Puts (Fct l) way k) new = IsOutOf plan way (AtSwi
 SwitchStep plan waiting i old _ new = ⊥
 
 -- the steps of all actors
-abbrev pub Local : {P : Type 0} → Plan → Waiting → Doing P → Steps (Actor P) Act Token
+abbrev pub Local : {P : Type 0} → Plan → Waiting → StepRelation P → Steps (Actor P) Act Token
 Local plan waiting Does actor (IsNode old) label (IsNode new) = (actor < plan.nodes) × NodeStep plan Does actor old label new
 Local plan waiting Does actor (IsSwitch old) label (IsSwitch new) = (i : ℕ) × (actor ≡ plan.nodes + i) × SwitchStep plan waiting i old label new
 Local plan waiting Does actor _ label _ = ⊥
@@ -127,10 +127,10 @@ actor_at plan (AtNode n link) = n
 actor_at plan (AtSwitch i link) = plan.nodes + i
 
 -- A step of the network by an event: one actor's act, whatever item it takes or puts.
-abbrev pub Happens : {P : Type 0} → Plan → Waiting → Doing P → Network (Actor P) Token → ActBy Act → Network (Actor P) Token → Type 0
+abbrev pub Happens : {P : Type 0} → Plan → Waiting → StepRelation P → Network (Actor P) Token → ActBy Act → Network (Actor P) Token → Type 0
 Happens plan waiting Does old e new = (label : Label Act Token) × (act_of label ≡ e.act) × Step (Local plan waiting Does) old e.actor label new
 
 -- a list of events, each in its turn
-abbrev pub HappenAll : {P : Type 0} → Plan → Waiting → Doing P → Network (Actor P) Token → List (ActBy Act) → Network (Actor P) Token → Type 0
+abbrev pub HappenAll : {P : Type 0} → Plan → Waiting → StepRelation P → Network (Actor P) Token → List (ActBy Act) → Network (Actor P) Token → Type 0
 HappenAll plan waiting Does old [] new = Alike old new
 HappenAll {P} plan waiting Does old (e ∷ es) new = (mid : Network (Actor P) Token) × Happens plan waiting Does old e mid × HappenAll plan waiting Does mid es new

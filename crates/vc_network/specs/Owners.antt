@@ -8,7 +8,7 @@ use Rattle.vc_switch.specs.Waiting.{Waiting}
 use Rattle.vc_machine.specs.Owners.{HasOwner}
 use Rattle.vc_machine.specs.Places.{Place}
 use Rattle.vc_network.specs.Plan.{Plan, body_limit, ways, net_of, IsAccepted}
-use Rattle.vc_network.specs.Processes.{Doing}
+use Rattle.vc_network.specs.Processes.{StepRelation}
 use Rattle.vc_network.specs.Network.{Act, Actor, begins, HappenAll}
 use Rattle.vc_network.specs.Views.{in_ways}
 
@@ -21,10 +21,10 @@ abbrev pub AreShort : {P : Type 0} → Plan → Network (Actor P) Token → Type
 AreShort plan s = (x : Place × Packet) → Contains (in_ways plan s (ways plan)) x → length x.1.body ≤ body_limit plan
 
 -- so it is after any list of events
-abbrev pub EachHasOwner : {P : Type 0} → Plan → Waiting → Doing P → (ℕ → P) → Type 0
+abbrev pub EachHasOwner : {P : Type 0} → Plan → Waiting → StepRelation P → (ℕ → P) → Type 0
 EachHasOwner {P} plan waiting Does begin =
     (es : List (ActBy Act)) (s : Network (Actor P) Token) → IsAccepted plan → HappenAll plan waiting Does (begins plan begin) es s → HaveOwners plan s
 
-abbrev pub PacketsAreShort : {P : Type 0} → Plan → Waiting → Doing P → (ℕ → P) → Type 0
+abbrev pub PacketsAreShort : {P : Type 0} → Plan → Waiting → StepRelation P → (ℕ → P) → Type 0
 PacketsAreShort {P} plan waiting Does begin =
     (es : List (ActBy Act)) (s : Network (Actor P) Token) → IsAccepted plan → HappenAll plan waiting Does (begins plan begin) es s → AreShort plan s

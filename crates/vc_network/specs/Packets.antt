@@ -11,7 +11,7 @@ use Rattle.vc_tokens.specs.Tokens.{Token}
 use Rattle.vc_vcp.specs.Carrier.{OutHalf, InHalf}
 use Rattle.vc_network.specs.Network.{Act, Actor, begins, Happens, HappenAll}
 use Rattle.vc_network.specs.Plan.{Plan, home, ways, near, far, net_of, IsOutOf, IsAccepted}
-use Rattle.vc_network.specs.Processes.{Doing}
+use Rattle.vc_network.specs.Processes.{StepRelation}
 use Rattle.vc_network.specs.Views.{vcps, switches, source_node, sink_node, queue_at, arrived, on_wire}
 
 -- a channel from its two halves
@@ -56,7 +56,7 @@ pub data AtMostTwoSteps : List Event → Type 0 where
   enters_bound : (w out : ℕ) (drawn : Option ℕ) → AtMostTwoSteps (Enter w drawn ∷ Route w out ∷ [])
 
 -- the network's packets are where a run of the packet machine leads, and one event more is at most two steps more
-pub record IsRunOfPackets {P : Type 0} (plan : Plan) (waiting : Waiting) (Does : Doing P) (s : Network (Actor P) Token) : Type 0 where
+pub record IsRunOfPackets {P : Type 0} (plan : Plan) (waiting : Waiting) (Does : StepRelation P) (s : Network (Actor P) Token) : Type 0 where
   pub state : State
   pub events : List Event
   pub run : Run (net_of plan) start events state
@@ -65,6 +65,6 @@ pub record IsRunOfPackets {P : Type 0} (plan : Plan) (waiting : Waiting) (Does :
       (y : State) × (steps : List Event) × AtMostTwoSteps steps × Run (net_of plan) state steps y × StandsForPackets plan u y
 
 -- so it is after any list of events
-abbrev pub EventsAreSteps : {P : Type 0} → Plan → Waiting → Doing P → (ℕ → P) → Type 0
+abbrev pub EventsAreSteps : {P : Type 0} → Plan → Waiting → StepRelation P → (ℕ → P) → Type 0
 EventsAreSteps {P} plan waiting Does begin =
     (es : List (ActBy Act)) (s : Network (Actor P) Token) → IsAccepted plan → HappenAll plan waiting Does (begins plan begin) es s → IsRunOfPackets plan waiting Does s

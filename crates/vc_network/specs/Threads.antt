@@ -6,7 +6,7 @@ use Rattle.vc_network.specs.Merge.{Made, IsMerge}
 use Rattle.vc_tokens.specs.Tokens.{Token}
 use Rattle.vc_switch.specs.Waiting.{Waiting}
 use Rattle.vc_network.specs.Plan.{Plan, near, far, IsAccepted}
-use Rattle.vc_network.specs.Processes.{Doing, IsDeterminate}
+use Rattle.vc_network.specs.Processes.{StepRelation, IsDeterminate}
 use Rattle.vc_network.specs.Network.{Act, Actor, Local, first, begins, actor_at, HappenAll}
 use Rattle.vc_network.specs.Enabled.{IsEnabled}
 use Rattle.vc_network.specs.Headline.{HeadlineAndList}
@@ -27,13 +27,13 @@ abbrev pub ended : {P : Type 0} → (ℕ → Actor P) → (ℕ → List (Stamped
 ended last left = record { state = last; way = λ way. items (left way) }
 
 -- the actors' runs fit together on each way, and these are all their acts, by stamp, then actor
-pub record AreThreads {P : Type 0} (plan : Plan) (waiting : Waiting) (Does : Doing P) (begin : ℕ → P) (runs : ℕ → List (Turn Act Token)) (last : ℕ → Actor P) (left : ℕ → List (Stamped Token)) (acts : List (Made Act)) : Type 0 where
+pub record AreThreads {P : Type 0} (plan : Plan) (waiting : Waiting) (Does : StepRelation P) (begin : ℕ → P) (runs : ℕ → List (Turn Act Token)) (last : ℕ → Actor P) (left : ℕ → List (Stamped Token)) (acts : List (Made Act)) : Type 0 where
   pub fit : LocalRuns (Local plan waiting Does) (source plan) (sink plan) (first plan begin) runs last left
   pub merged : IsMerge (λ actor. map (restamped act_of) (runs actor)) acts
 
 -- Whatever the actors did by themselves: their acts, by stamp, then actor, happen in the network from its opening state to
 -- the last states, and the headline holds there.
-abbrev pub ThreadsKeepHeadline : {P : Type 0} → Plan → Waiting → Doing P → (ℕ → P) → Type 0
+abbrev pub ThreadsKeepHeadline : {P : Type 0} → Plan → Waiting → StepRelation P → (ℕ → P) → Type 0
 ThreadsKeepHeadline {P} plan waiting Does begin =
     (last : ℕ → Actor P) (runs : ℕ → List (Turn Act Token)) (left : ℕ → List (Stamped Token)) (acts : List (Made Act))
     → IsAccepted plan
@@ -41,7 +41,7 @@ ThreadsKeepHeadline {P} plan waiting Does begin =
     → HappenAll plan waiting Does (begins plan begin) (map made_by acts) (ended last left) × HeadlineAndList plan waiting Does begin (ended last left)
 
 -- A replay of these acts: wherever it has come, the next event is enabled, and at the end it is where the threads ended.
-abbrev pub ReplaysReach : {P : Type 0} → Plan → Waiting → Doing P → (ℕ → P) → Type 0
+abbrev pub ReplaysReach : {P : Type 0} → Plan → Waiting → StepRelation P → (ℕ → P) → Type 0
 ReplaysReach {P} plan waiting Does begin =
     (last : ℕ → Actor P) (runs : ℕ → List (Turn Act Token)) (left : ℕ → List (Stamped Token)) (acts : List (Made Act))
     → IsAccepted plan

@@ -46,7 +46,7 @@ fn make(network: &mut Network, event: &Event) -> bool {
 /// Whether each actor makes what it does next, in rounds, until all has ended.
 fn ends(network: &mut Network) -> Result<bool, Memory> {
     for _ in 0..1000 {
-        for actor in 0..network.actors().min(64) as u8 {
+        for actor in 0..network.actors() {
             if let Some(event) = next_event(network, actor)? {
                 if !make(network, &event) {
                     return Ok(false);

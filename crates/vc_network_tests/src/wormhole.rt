@@ -63,7 +63,7 @@ fn go_on(play: &mut Play, actor: u8) -> Result<(), Fail> {
 /// Whether the packet of channel 0 comes to a place, where the act is not enabled before.
 fn waits(play: &mut Play, actor: u8, act: Act, place: Place) -> Result<bool, Fail> {
     for _ in 0..200 {
-        for next in 0..play.network.actors().min(8) as u8 {
+        for next in 0..play.network.actors().min(8) {
             if play.network.place(0) == Some(place) {
                 return Ok(true);
             }

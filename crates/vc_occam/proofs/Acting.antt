@@ -7,8 +7,8 @@ use Rattle.std.specs.List.{Contains}
 use Rattle.std.specs.Option.{option_or}
 use Rattle.vc_occam.specs.declared.answer.Answer.{Answer}
 use Rattle.vc_process.specs.declared.datum.Datum.{Datum}
-use Rattle.vc_occam.specs.declared.deed.Deed.{Deed}
-use Rattle.vc_occam.specs.declared.deed.Deed.TheVariants as deed
+use Rattle.vc_occam.specs.declared.site_action.SiteAction.{SiteAction}
+use Rattle.vc_occam.specs.declared.site_action.SiteAction.TheVariants as action
 use Rattle.vc_occam.specs.declared.moves.Move.{Move}
 use Rattle.vc_occam.specs.declared.moves.Move.TheVariants.{Offer, Want, Choose, Stopch, Inner, Quiet}
 use Rattle.vc_process.specs.Syntax.{Proc, STOP}
@@ -22,7 +22,7 @@ use Rattle.vc_occam.specs.Remains.{Rest, Done, Stopped, Fresh, Finishing, Gettin
 use Rattle.vc_occam.specs.declared.waits.Waits.{Waits}
 use Rattle.vc_occam.specs.declared.waits.Waits.TheVariants as waits
 use Rattle.vc_occam.specs.Frames.{Did, first_waits, waits_at, waits_there}
-use Rattle.vc_occam.specs.Moving.{IsAlone, site_of, deed_for, deed_on}
+use Rattle.vc_occam.specs.Moving.{IsAlone, site_of, action_for, action_on}
 use Rattle.vc_occam.specs.Sites.{sites, sites_all, sites_rest, OwnSites}
 use Rattle.vc_occam.specs.States.{State, Acts, Wants, Chooses, IsTraced, Resumes, StepsTo, bytes_or_none, came, carried, doing, output_at, sent_by, Waiting, output, input, waiting}
 use Rattle.vc_occam.proofs.Keeping.{lawful}
@@ -54,18 +54,18 @@ doers_rest (Beside mine r q) = λ k e. elim (either (doers r k) (doers q k) e) [
 ]
 
 -- a deed's communications
-abbrev pub Says : Deed → List Comm → Type 0
-Says deed.Quiet ks = ks ≡ []
-Says (deed.Offer c) ks = (x : Datum) × (ks ≡ Out c x ∷ [])
-Says deed.Finish ks = (c : ℕ) × (ks ≡ Fin c ∷ [])
-Says (deed.Want c None) ks = ks ≡ []
-Says (deed.Want c (Some m)) ks = (x : Datum) × (ks ≡ In c x ∷ [])
-Says (deed.Choose k c None) ks = ks ≡ []
-Says (deed.Choose k c (Some m)) ks = (x : Datum) × (ks ≡ In c x ∷ [])
-Says (deed.Message m) ks = (c : ℕ) × (x : Datum) × (ks ≡ In c x ∷ [])
-Says (deed.StopChannel c) ks = ks ≡ Stp c ∷ []
+abbrev pub Says : SiteAction → List Comm → Type 0
+Says action.Quiet ks = ks ≡ []
+Says (action.Offer c) ks = (x : Datum) × (ks ≡ Out c x ∷ [])
+Says action.Finish ks = (c : ℕ) × (ks ≡ Fin c ∷ [])
+Says (action.Want c None) ks = ks ≡ []
+Says (action.Want c (Some m)) ks = (x : Datum) × (ks ≡ In c x ∷ [])
+Says (action.Choose k c None) ks = ks ≡ []
+Says (action.Choose k c (Some m)) ks = (x : Datum) × (ks ≡ In c x ∷ [])
+Says (action.Message m) ks = (c : ℕ) × (x : Datum) × (ks ≡ In c x ∷ [])
+Says (action.StopChannel c) ks = ks ≡ Stp c ∷ []
 
-pub says : {r r' : Rest} {e e' : Store} {i : ℕ} {d : Deed} {m : List Comm} → Step r e i d m r' e' → Says d m
+pub says : {r r' : Rest} {e e' : Store} {i : ℕ} {d : SiteAction} {m : List Comm} → Step r e i d m r' e' → Says d m
 says does_skip = refl
 says does_empty_seq = refl
 says does_empty_par = refl
@@ -96,7 +96,7 @@ out_same : (c d : ℕ) (x y : Datum) → Out c x ∷ [] ≡ Out d y ∷ [] → x
 out_same c d x y h = cc
 
 -- the value that an output sends is the one that stands at its site
-pub sends : {r r' : Rest} {e e' : Store} {i c : ℕ} {m : List Comm} (x : Datum) → Step r e i (deed.Offer c) m r' e' → OwnSites r → m ≡ Out c x ∷ [] → output_at i r e ≡ Some x
+pub sends : {r r' : Rest} {e e' : Store} {i c : ℕ} {m : List Comm} (x : Datum) → Step r e i (action.Offer c) m r' e' → OwnSites r → m ≡ Out c x ∷ [] → output_at i r e ≡ Some x
 sends x (does_offer {s = s} {c = c} {x = y} k) o q =
     let on : (s == s) ≡ true = grind (arith, nat_tests) in
     rw on (k ∙ ap Some (out_same c c y x q))
@@ -107,27 +107,27 @@ sends x (in_right {i = i} {r = r} {q = q} {e = e} st) o h =
     let away : sites_rest r i ≡ false = not_true (sites_rest r i) (λ k. clash (doers_rest q i (step_site st)) (o.0 i k)) in
     ap (λ y. option_or y (output_at i q e)) (not_there i r e away) ∙ sends x st o.2 h
 
-traced : (s s' : State) (i : ℕ) (d : Deed) (ks : List Comm) → UsesLawfully s.rest → StepsTo s i d ks s' → IsTraced s ks s'
+traced : (s s' : State) (i : ℕ) (d : SiteAction) (ks : List Comm) → UsesLawfully s.rest → StepsTo s i d ks s' → IsTraced s ks s'
 traced s s' i d ks u st = λ t x k. law st (lawful s.rest u) k
 
-wanted : (s s' : State) (i c : ℕ) → UsesLawfully s.rest → (o : Option (List ℕ)) (ks : List Comm) → Step s.rest s.store i (deed.Want c o) ks s'.rest s'.store → Acts s (Wants i c o) s'
-wanted s s' i c u None ks st = (ks, (says st, st), traced s s' i (deed.Want c None) ks u st)
-wanted s s' i c u (Some m) ks st = let n = says st in (ks, (n.0, n.1, st), traced s s' i (deed.Want c (Some m)) ks u st)
+wanted : (s s' : State) (i c : ℕ) → UsesLawfully s.rest → (o : Option (List ℕ)) (ks : List Comm) → Step s.rest s.store i (action.Want c o) ks s'.rest s'.store → Acts s (Wants i c o) s'
+wanted s s' i c u None ks st = (ks, (says st, st), traced s s' i (action.Want c None) ks u st)
+wanted s s' i c u (Some m) ks st = let n = says st in (ks, (n.0, n.1, st), traced s s' i (action.Want c (Some m)) ks u st)
 
-chose : (s s' : State) (i k c : ℕ) → UsesLawfully s.rest → (o : Option (List ℕ)) (ks : List Comm) → Step s.rest s.store i (deed.Choose k c o) ks s'.rest s'.store → Acts s (Chooses i k c o) s'
-chose s s' i k c u None ks st = (ks, (says st, st), traced s s' i (deed.Choose k c None) ks u st)
-chose s s' i k c u (Some m) ks st = let n = says st in (ks, (n.0, n.1, st), traced s s' i (deed.Choose k c (Some m)) ks u st)
+chose : (s s' : State) (i k c : ℕ) → UsesLawfully s.rest → (o : Option (List ℕ)) (ks : List Comm) → Step s.rest s.store i (action.Choose k c o) ks s'.rest s'.store → Acts s (Chooses i k c o) s'
+chose s s' i k c u None ks st = (ks, (says st, st), traced s s' i (action.Choose k c None) ks u st)
+chose s s' i k c u (Some m) ks st = let n = says st in (ks, (n.0, n.1, st), traced s s' i (action.Choose k c (Some m)) ks u st)
 
 -- a move that was made
-pub acts : (s s' : State) (m : Move) (a : Answer) → OwnSites s.rest → UsesLawfully s.rest → IsAlone m → Did s.rest s.store (site_of m) (deed_for m a) s'.rest s'.store → Acts s (doing m (sent_by s m) a) s'
+pub acts : (s s' : State) (m : Move) (a : Answer) → OwnSites s.rest → UsesLawfully s.rest → IsAlone m → Did s.rest s.store (site_of m) (action_for m a) s'.rest s'.store → Acts s (doing m (sent_by s m) a) s'
 acts s s' (Offer i c) a o u al (ks, st) =
     let n = says st in
     let sent : bytes_or_none (carried (output_at i s.rest s.store)) ≡ message n.0 = ap (λ y. bytes_or_none (carried y)) (sends n.0 st o n.1) in
-    (ks, (n.0, sent, n.1, st), traced s s' i (deed.Offer c) ks u st)
+    (ks, (n.0, sent, n.1, st), traced s s' i (action.Offer c) ks u st)
 acts s s' (Want i c) a o u al (ks, st) = wanted s s' i c u (came a) ks st
 acts s s' (Choose i k c) a o u al (ks, st) = chose s s' i k c u (came a) ks st
-acts s s' (Stopch i c) a o u al (ks, st) = (ks, (says st, st), traced s s' i (deed.StopChannel c) ks u st)
-acts s s' (Quiet i) a o u al (ks, st) = (ks, (says st, st), traced s s' i deed.Quiet ks u st)
+acts s s' (Stopch i c) a o u al (ks, st) = (ks, (says st, st), traced s s' i (action.StopChannel c) ks u st)
+acts s s' (Quiet i) a o u al (ks, st) = (ks, (says st, st), traced s s' i action.Quiet ks u st)
 acts s s' (Inner i j k c) a o u al st = absurd al
 
 -- one site's own move is no meeting
@@ -185,16 +185,16 @@ input_chan : (i j c d : ℕ) → input i c ≡ input j d → c ≡ d
 input_chan i j c d h = cc
 
 -- a site that went on
-pub resumes : (s s' : State) (i : ℕ) (m : Option (List ℕ)) → OwnSites s.rest → UsesLawfully s.rest → Did s.rest s.store i (deed_on m) s'.rest s'.store → Resumes s i m s'
+pub resumes : (s s' : State) (i : ℕ) (m : Option (List ℕ)) → OwnSites s.rest → UsesLawfully s.rest → Did s.rest s.store i (action_on m) s'.rest s'.store → Resumes s i m s'
 unfolding waits_site
 resumes s s' i None o u (ks, st) = λ c w.
     let n = step_waits st in
     let same : n.0 ≡ c = output_chan i i n.0 c (one_waits s.rest (output i n.0) (output i c) o refl (is_inserted n.2) w) in
-    (ks, (i, n.1 ∙ ap (λ d. Fin d ∷ []) same, st), traced s s' i deed.Finish ks u st)
+    (ks, (i, n.1 ∙ ap (λ d. Fin d ∷ []) same, st), traced s s' i action.Finish ks u st)
 resumes s s' i (Some m) o u (ks, st) = λ c w.
     let n = step_waits st in
     let same : n.0 ≡ c = input_chan i i n.0 c (one_waits s.rest (input i n.0) (input i c) o refl (is_inserted n.3) w) in
-    (ks, (i, n.1, n.2 ∙ ap (λ d. In d n.1 ∷ []) same, st), traced s s' i (deed.Message m) ks u st)
+    (ks, (i, n.1, n.2 ∙ ap (λ d. In d n.1 ∷ []) same, st), traced s s' i (action.Message m) ks u st)
 
 -- the first site that is found to wait for something does
 found_there : (w : Waits) (x : Waiting) (i : ℕ) → waits_there w x ≡ Some i → x ≡ waits_at w i

@@ -4,9 +4,9 @@ use Rattle.std.proofs.lemmas.Bool.Decides.{nat_tests}
 use Rattle.std.specs.Prelude.{slice_get, nat_lt}
 use Rattle.vc_process.specs.declared.condition.Cond.{Cond}
 use Rattle.vc_occam.specs.declared.begins.Begins.TheVariants as begins
-use Rattle.vc_occam.specs.declared.deed.Deed.{Deed}
+use Rattle.vc_occam.specs.declared.site_action.SiteAction.{SiteAction}
 use Rattle.vc_occam.specs.declared.frame.Frame.{Frame}
-use Rattle.vc_occam.specs.declared.going.Next.{Next}
+use Rattle.vc_occam.specs.declared.progress.Next.{Next}
 use Rattle.vc_occam.specs.declared.kind.Kind.{Kind}
 use Rattle.vc_occam.specs.declared.kind.Kind.TheVariants as kind
 use Rattle.vc_occam.specs.declared.phase.Phase.{Phase}
@@ -103,25 +103,25 @@ branch_is (v ∷ vs) zero false h = absurd (grind (arith, nat_tests))
 branch_is (v ∷ vs) (suc k) true h = branch_is vs k true (grind (arith, nat_tests))
 branch_is (v ∷ vs) (suc k) false h = branch_is vs k false (grind (arith, nat_tests))
 
-if_did : (i : ℕ) (cs : List Cond) (vs : List View) (e : Store) (s : ℕ) (d : Deed) (r : Rest) → chosen (branches_of (map as_test cs) vs) e ≡ r → Able (Fresh (IF i (branches_of (map as_test cs) vs))) e s d → Did (Fresh (IF i (branches_of (map as_test cs) vs))) e s d r e
+if_did : (i : ℕ) (cs : List Cond) (vs : List View) (e : Store) (s : ℕ) (d : SiteAction) (r : Rest) → chosen (branches_of (map as_test cs) vs) e ≡ r → Able (Fresh (IF i (branches_of (map as_test cs) vs))) e s d → Did (Fresh (IF i (branches_of (map as_test cs) vs))) e s d r e
 if_did i cs vs e s d r h (ks, q, f, does_if) = subst (λ x. Did (Fresh (IF i (branches_of (map as_test cs) vs))) e s d x e) h ([], does_if)
 
-placed : (i : ℕ) (cs : List Cond) (vs : List View) (e : Store) (s : ℕ) (d : Deed) (k : ℕ) (b : Bool) → b ≡ nat_lt k (length vs) → chosen (branches_of (map as_test cs) vs) e ≡ branch_rest (slice_get vs k) → Able (Fresh (plan_at (kind.If cs) i vs)) e s d →
+placed : (i : ℕ) (cs : List Cond) (vs : List View) (e : Store) (s : ℕ) (d : SiteAction) (k : ℕ) (b : Bool) → b ≡ nat_lt k (length vs) → chosen (branches_of (map as_test cs) vs) e ≡ branch_rest (slice_get vs k) → Able (Fresh (plan_at (kind.If cs) i vs)) e s d →
     Did (Fresh (plan_at (kind.If cs) i vs)) e s d (rest_at (kind.If cs) (branch_next k b).phase i (begun_at k vs) (branch_next k b).at) e
 placed i cs vs e s d k true h c a = if_did i cs vs e s d _ (c ∙ branch_is vs k true h) a
 placed i cs vs e s d k false h c a = if_did i cs vs e s d _ (c ∙ branch_is vs k false h) a
 
-pub branch_did : (i : ℕ) (cs : List Cond) (vs ws : List View) (e : Store) (s : ℕ) (d : Deed) (k : ℕ) (n : Next) → Some k ≡ chosen_from 0 (map as_test cs) e → ws ≡ begun_at k vs → n ≡ branch_next k (nat_lt k (length vs)) → Able (Fresh (plan_at (kind.If cs) i vs)) e s d →
+pub branch_did : (i : ℕ) (cs : List Cond) (vs ws : List View) (e : Store) (s : ℕ) (d : SiteAction) (k : ℕ) (n : Next) → Some k ≡ chosen_from 0 (map as_test cs) e → ws ≡ begun_at k vs → n ≡ branch_next k (nat_lt k (length vs)) → Able (Fresh (plan_at (kind.If cs) i vs)) e s d →
     Did (Fresh (plan_at (kind.If cs) i vs)) e s d (rest_at (kind.If cs) n.phase i ws n.at) e
 branch_did i cs vs ws e s d k n h w g a =
     subst (λ m. Did (Fresh (plan_at (kind.If cs) i vs)) e s d (rest_at (kind.If cs) m.phase i ws m.at) e) (sym g)
     (subst (λ us. Did (Fresh (plan_at (kind.If cs) i vs)) e s d (rest_at (kind.If cs) (branch_next k (nat_lt k (length vs))).phase i us (branch_next k (nat_lt k (length vs))).at) e) (sym w)
     (placed i cs vs e s d k (nat_lt k (length vs)) refl (chosen_at (map as_test cs) vs e k (sym h)) a))
 
-pub fault_did : (i : ℕ) (cs : List Cond) (vs : List View) (e : Store) (s : ℕ) (d : Deed) → None ≡ chosen_from 0 (map as_test cs) e → Able (Fresh (plan_at (kind.If cs) i vs)) e s d → Did (Fresh (plan_at (kind.If cs) i vs)) e s d Stopped e
+pub fault_did : (i : ℕ) (cs : List Cond) (vs : List View) (e : Store) (s : ℕ) (d : SiteAction) → None ≡ chosen_from 0 (map as_test cs) e → Able (Fresh (plan_at (kind.If cs) i vs)) e s d → Did (Fresh (plan_at (kind.If cs) i vs)) e s d Stopped e
 fault_did i cs vs e s d h a = if_did i cs vs e s d Stopped (chosen_none (map as_test cs) vs e 0 (sym h)) a
 
-pub empty_par : (i : ℕ) (vs : List View) (e : Store) (s : ℕ) (d : Deed) → Able (Fresh (PAR i (plans_of vs))) e s d → Did (Fresh (PAR i (plans_of vs))) e s d Done e
+pub empty_par : (i : ℕ) (vs : List View) (e : Store) (s : ℕ) (d : SiteAction) → Able (Fresh (PAR i (plans_of vs))) e s d → Did (Fresh (PAR i (plans_of vs))) e s d Done e
 empty_par i [] e s d (ks, q, f, does_empty_par) = ([], does_empty_par)
 empty_par i (v ∷ vs) e s d (ks, q, f, st) = elim st [ ]
 

@@ -2,7 +2,7 @@
 use Rattle.std.proofs.Common.{◌≡◌, ℕ, zero, suc, true, false, ◌&&◌, refl, ap, sym, ◌∙◌, subst, List, [], ◌∷◌, ◌++◌, Option, Some, None, length, set, drop, get_or, ◌+◌, ◌≤◌, ◌<◌, arith, ◌⊎◌, inl, inr}
 use Rattle.std.specs.Prelude.{slice_get}
 use Rattle.std.specs.Option.{option_or}
-use Rattle.vc_occam.specs.declared.deed.Deed.{Deed}
+use Rattle.vc_occam.specs.declared.site_action.SiteAction.{SiteAction}
 use Rattle.vc_occam.specs.declared.frame.Frame.{Frame}
 use Rattle.vc_occam.specs.declared.waits.Waits.{Waits}
 use Rattle.vc_process.specs.Syntax.{Proc, SKIP, STOP, Assign, Output, Input, StopChan, SEQ, PAR, IF, WHILE, COUNT, ALT, Procs, no_parts, part}
@@ -105,7 +105,7 @@ first_append w (x ∷ xs) ys = ap (option_or (waits_there w x)) (first_append w 
     first_of (Some x) b c = refl
 
 -- what one of two side by side can do, and what it did
-pub beside_able : (mine : Set) (r q : Rest) (e : Store) (i : ℕ) (d : Deed) → Able (beside_on mine r q) e i d → Able r e i d ⊎ Able q e i d
+pub beside_able : (mine : Set) (r q : Rest) (e : Store) (i : ℕ) (d : SiteAction) → Able (beside_on mine r q) e i d → Able r e i d ⊎ Able q e i d
 beside_able mine r q e i d a = elim (beside_is mine r q) [
   | inl h ↦ either (subst (λ x. Able x e i d) h a)
   | inr h ↦ inl (subst (λ x. Able x e i d) (sym h.0) (subst (λ x. Able x e i d) (ap (λ x. beside_on mine x q) h.0 ∙ ap (beside_on mine Done) h.1) a))
@@ -115,16 +115,16 @@ beside_able mine r q e i d a = elim (beside_is mine r q) [
     either (ks, x, f, in_left {r' = r'} {e' = e'} st) = inl (ks, r', e', st)
     either (ks, x, f, in_right {q' = q'} {e' = e'} st) = inr (ks, q', e', st)
 
-ended_still : (e f : Store) (i : ℕ) (d : Deed) (r : Rest) → Did Done e i d r f → ⊥
+ended_still : (e f : Store) (i : ℕ) (d : SiteAction) (r : Rest) → Did Done e i d r f → ⊥
 ended_still e f i d r (ks, st) = elim st [ ]
 
-pub left_did : (mine : Set) (r s q : Rest) (e f : Store) (i : ℕ) (d : Deed) → Did r e i d s f → Did (beside_on mine r q) e i d (beside_on mine s q) f
+pub left_did : (mine : Set) (r s q : Rest) (e f : Store) (i : ℕ) (d : SiteAction) → Did r e i d s f → Did (beside_on mine r q) e i d (beside_on mine s q) f
 left_did mine r s q e f i d h = elim (beside_is mine r q) [
   | inl g ↦ subst (λ x. Did x e i d (beside_on mine s q) f) (sym g) (h.0, in_left h.1)
   | inr g ↦ absurd (ended_still e f i d s (subst (λ x. Did x e i d s f) g.0 h))
 ]
 
-pub right_did : (mine : Set) (r q s : Rest) (e f : Store) (i : ℕ) (d : Deed) → Did q e i d s f → Did (beside_on mine r q) e i d (beside_on mine r s) f
+pub right_did : (mine : Set) (r q s : Rest) (e f : Store) (i : ℕ) (d : SiteAction) → Did q e i d s f → Did (beside_on mine r q) e i d (beside_on mine r s) f
 right_did mine r q s e f i d h = elim (beside_is mine r q) [
   | inl g ↦ subst (λ x. Did x e i d (beside_on mine r s) f) (sym g) (h.0, in_right h.1)
   | inr g ↦ absurd (ended_still e f i d s (subst (λ x. Did x e i d s f) g.1 h))
@@ -136,11 +136,11 @@ heads p q ps qs h = cc
 tails : (p q : Proc) (ps qs : List Proc) → p ∷ ps ≡ q ∷ qs → ps ≡ qs
 tails p q ps qs h = cc
 
-stopped_still : (e f : Store) (i : ℕ) (d : Deed) (r : Rest) → Did (part_rest None) e i d r f → ⊥
+stopped_still : (e f : Store) (i : ℕ) (d : SiteAction) (r : Rest) → Did (part_rest None) e i d r f → ⊥
 stopped_still e f i d r (ks, st) = elim st [ ]
 
 -- what one part did, all did
-pub besides_did : (vs : List View) (k : ℕ) (w : View) (e f : Store) (i : ℕ) (d : Deed) → plans (set vs k w) ≡ plans vs → Did (part_rest (slice_get vs k)) e i d (part_rest (slice_get (set vs k w) k)) f → Did (besides vs) e i d (besides (set vs k w)) f
+pub besides_did : (vs : List View) (k : ℕ) (w : View) (e f : Store) (i : ℕ) (d : SiteAction) → plans (set vs k w) ≡ plans vs → Did (part_rest (slice_get vs k)) e i d (part_rest (slice_get (set vs k w) k)) f → Did (besides vs) e i d (besides (set vs k w)) f
 besides_did [] k w e f i d h a = absurd (stopped_still e f i d _ a)
 besides_did (v ∷ vs) zero w e f i d h a =
     let same : changes w.0 ≡ changes v.0 = ap changes (heads w.0 v.0 (plans vs) (plans vs) h) in

@@ -11,7 +11,7 @@ use Rattle.vc_occam.specs.declared.blocked.Blocked.{Blocked}
 use Rattle.vc_occam.specs.declared.blocked.Blocked.TheVariants as at
 use Rattle.vc_occam.specs.declared.frame.Frame.{Frame}
 use Rattle.vc_occam.specs.declared.frame.Frame.TheViews.{out-Frame}
-use Rattle.vc_occam.specs.declared.guarded.GuardedInputs.{GuardedInputs}
+use Rattle.vc_occam.specs.declared.guards.GuardedInputs.{GuardedInputs}
 use Rattle.vc_occam.specs.declared.kind.Kind.{Kind}
 use Rattle.vc_occam.specs.declared.kind.Kind.TheVariants as kind
 use Rattle.vc_occam.specs.declared.phase.Phase.TheVariants as phase

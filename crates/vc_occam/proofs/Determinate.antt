@@ -3,14 +3,14 @@ use Rattle.std.proofs.Common.{◌≡◌, ℕ, suc, ℤ, pos, ◌+ℤ◌, true, f
 use Rattle.std.proofs.lemmas.Option.{same_Some}
 use Rattle.vc_process.specs.declared.datum.Datum.{Datum}
 use Rattle.vc_process.specs.declared.datum.Datum.TheVariants as datum
-use Rattle.vc_occam.specs.declared.deed.Deed.{Deed}
-use Rattle.vc_occam.specs.declared.deed.Deed.TheVariants.{Quiet, Offer, Finish, Want, Choose, Message, StopChannel}
+use Rattle.vc_occam.specs.declared.site_action.SiteAction.{SiteAction}
+use Rattle.vc_occam.specs.declared.site_action.SiteAction.TheVariants.{Quiet, Offer, Finish, Want, Choose, Message, StopChannel}
 use Rattle.vc_occam.specs.InUse.{UsesLawfully, outputs_rest, inputs_rest}
 use Rattle.vc_process.specs.Lawful.{outputs_all, inputs_all, outputs, inputs}
 use Rattle.vc_process.specs.Messages.{message, received}
 use Rattle.vc_occam.specs.Remains.{Rest, Done, Finishing, Getting, Then, Turns, begin, then_on, turns_on, index_on, beside_on, GuardAt, first, later, Step, does_skip, does_empty_seq, does_empty_par, does_assign, faults_assign, faults_out, does_if, does_turn, does_leave, faults_while, does_count, does_count_none, faults_count, does_offer, does_finish, does_input, waits_input, gets, does_stop, does_choose, waits_choose, in_then, in_turns, in_left, in_right}
 use Rattle.vc_occam.specs.Sites.{sites, sites_all, sites_guards, sites_branches, sites_rest, OwnSites}
-use Rattle.vc_occam.specs.States.{State, StepsTo, Doing, Offers, Wants, Chooses, Stops, Meets, Rests, Finishes, Receives, Does, meeting}
+use Rattle.vc_occam.specs.States.{State, StepsTo, ProcessStep, Offers, Wants, Chooses, Stops, Meets, Rests, Finishes, Receives, Does, meeting}
 use Rattle.vc_process.specs.Syntax.{Test, Proc, Guards, no_parts, part}
 use Rattle.vc_occam.specs.Traces.{Comm, Out, Fin, In, set, Counts}
 use Rattle.vc_process.specs.Usage.{just}
@@ -37,7 +37,7 @@ site_there : (i : ℕ) → just i i ≡ true
 site_there i = eq-eqb i i refl
 
 -- a step is made at a site of what remains
-step_site : {r r' : Rest} {e e' : Store} {i : ℕ} {d : Deed} {ks : List Comm} → Step r e i d ks r' e' → sites_rest r i ≡ true
+step_site : {r r' : Rest} {e e' : Store} {i : ℕ} {d : SiteAction} {ks : List Comm} → Step r e i d ks r' e' → sites_rest r i ≡ true
 step_site {i = i} does_skip = site_there i
 step_site {i = i} does_empty_seq = or_left (just i i) false (site_there i)
 step_site {i = i} does_empty_par = or_left (just i i) false (site_there i)
@@ -65,7 +65,7 @@ step_site {i = i} (in_left {r = r} {q = q} st) = or_left (sites_rest r i) (sites
 step_site {i = i} (in_right {r = r} {q = q} st) = or_right (sites_rest r i) (sites_rest q i) (step_site st)
 
 -- where parts side by side have sites of their own, what a site does leads to one state
-step_one : {r r' r'' : Rest} {e e' e'' : Store} {i j : ℕ} {d f : Deed} {ks ls : List Comm} → Step r e i d ks r' e' → Step r e j f ls r'' e'' → i ≡ j → d ≡ f → OwnSites r → ◌≡◌ {A = Outcome} (ks, r', e') (ls, r'', e'')
+step_one : {r r' r'' : Rest} {e e' e'' : Store} {i j : ℕ} {d f : SiteAction} {ks ls : List Comm} → Step r e i d ks r' e' → Step r e j f ls r'' e'' → i ≡ j → d ≡ f → OwnSites r → ◌≡◌ {A = Outcome} (ks, r', e') (ls, r'', e'')
 step_one does_skip does_skip at it o = refl
 step_one does_empty_seq does_empty_seq at it o = refl
 step_one does_empty_par does_empty_par at it o = refl
@@ -167,7 +167,7 @@ getting_one (in_right st) (in_right st') on u = getting_one st st' on u.2
 getting_one {c = c} (in_left {q = q} st) (in_right st') on u = absurd (clash (getting_on st') (subst (λ z. inputs_rest q z ≡ false) on (u.0.inputs c (getting_on st))))
 getting_one {d = d} (in_right {q = q} st) (in_left st') on u = absurd (clash (getting_on st) (subst (λ z. inputs_rest q z ≡ false) (sym on) (u.0.inputs d (getting_on st'))))
 
-state_one : (s t u : State) (i : ℕ) (d : Deed) (ks ls : List Comm) → StepsTo s i d ks t → StepsTo s i d ls u → OwnSites s.rest → (ks ≡ ls) × (t ≡ u)
+state_one : (s t u : State) (i : ℕ) (d : SiteAction) (ks ls : List Comm) → StepsTo s i d ks t → StepsTo s i d ls u → OwnSites s.rest → (ks ≡ ls) × (t ≡ u)
 state_one s t u i d ks ls h k o =
     let n = step_one h k refl refl o in
     (ap (λ z. z.0) n, λ j. record { rest = (n j).1; store = (n j).2 })
@@ -191,12 +191,12 @@ receive_one s t u c m ks ls (i, x, e, h) (j, y, f, k) lawful o =
     (state_one s t u i (Message m) (In c x ∷ []) (In c y ∷ []) one (subst (λ z. StepsTo s z (Message m) (In c y ∷ []) u) same two) o).1
 
 -- an exchange inside the node: its three steps, one after another
-record Three (s : State) (i j : ℕ) (a b : Deed) (c : ℕ) (x y : Datum) (t u v : State) : Type 0 where
+record Three (s : State) (i j : ℕ) (a b : SiteAction) (c : ℕ) (x y : Datum) (t u v : State) : Type 0 where
   first : StepsTo s i a (Out c x ∷ []) t
   second : StepsTo t j b (In c y ∷ []) u
   third : StepsTo u i Finish (Fin c ∷ []) v
 
-three_one : (s : State) (i j : ℕ) (a b : Deed) (c : ℕ) (x y x' y' : Datum) (t u v t' u' v' : State) → Three s i j a b c x y t u v → Three s i j a b c x' y' t' u' v' → OwnSites s.rest → v ≡ v'
+three_one : (s : State) (i j : ℕ) (a b : SiteAction) (c : ℕ) (x y x' y' : Datum) (t u v t' u' v' : State) → Three s i j a b c x y t u v → Three s i j a b c x' y' t' u' v' → OwnSites s.rest → v ≡ v'
 three_one s i j a b c x y x' y' t u v t' u' v' h k o =
     let at = (state_one s t t' i a (Out c x ∷ []) (Out c x' ∷ []) h.first k.first o).1 in
     let own = (step_keeps h.first o).1 in
@@ -204,7 +204,7 @@ three_one s i j a b c x y x' y' t u v t' u' v' h k o =
     let own' = (step_keeps h.second own).1 in
     (state_one u v v' i Finish (Fin c ∷ []) (Fin c ∷ []) h.third (subst (λ z. StepsTo z i Finish (Fin c ∷ []) v') (sym au) k.third) own').1
 
-pub doing_one : (s t u : State) (d : Doing) (ks ls : List Comm) → Does s d ks t → Does s d ls u → UsesLawfully s.rest → OwnSites s.rest → t ≡ u
+pub doing_one : (s t u : State) (d : ProcessStep) (ks ls : List Comm) → Does s d ks t → Does s d ls u → UsesLawfully s.rest → OwnSites s.rest → t ≡ u
 doing_one s t u (Offers i c m) ks ls (x, e, f, h) (y, e', f', k) lawful o = (state_one s t u i (Offer c) ks ls h k o).1
 doing_one s t u (Wants i c (Some m)) ks ls (x, f, h) (y, f', k) lawful o = (state_one s t u i (Want c (Some m)) ks ls h k o).1
 doing_one s t u (Wants i c None) ks ls (f, h) (f', k) lawful o = (state_one s t u i (Want c None) ks ls h k o).1

@@ -1,7 +1,7 @@
 -- When what remains of a PAR has ended, by one of its parts.
 use Rattle.std.proofs.Common.{◌≡◌, ℕ, zero, suc, ◌<◌, Bool, true, false, ◌&&◌, refl, ap, sym, ◌∙◌, List, [], ◌∷◌, length, arith}
 use Rattle.std.specs.Prelude.{slice_get}
-use Rattle.vc_occam.specs.declared.deed.Deed.{Deed}
+use Rattle.vc_occam.specs.declared.site_action.SiteAction.{SiteAction}
 use Rattle.vc_occam.specs.Frames.{Able, View, besides, is_done, part_done, part_rest, plans}
 use Rattle.vc_process.specs.Usage.{changes}
 use Rattle.vc_process.specs.Values.{Store}
@@ -18,7 +18,7 @@ besides_goes (v ∷ vs) zero l h = beside_done (changes v.0) v.1 (besides vs) �
 besides_goes (v ∷ vs) (suc k) l h = beside_done (changes v.0) v.1 (besides vs) ∙ ap (λ b. is_done v.1 && b) (besides_goes vs k (omega arith) h) ∙ and_no (is_done v.1)
 
 -- a part that can do something is there
-pub able_there : (vs : List View) (k : ℕ) (e : Store) (s : ℕ) (d : Deed) → Able (part_rest (slice_get vs k)) e s d → k < length vs
+pub able_there : (vs : List View) (k : ℕ) (e : Store) (s : ℕ) (d : SiteAction) → Able (part_rest (slice_get vs k)) e s d → k < length vs
 able_there [] k e s d (ks, q, f, st) = elim st [ ]
 able_there (v ∷ vs) zero e s d a = omega arith
 able_there (v ∷ vs) (suc k) e s d a =

@@ -15,7 +15,7 @@ use Rattle.vc_process.specs.Values.{Store}
 use Rattle.vc_process.specs.Usage.{changes}
 use Rattle.vc_occam.specs.Remains.{Rest, Done, Fresh}
 use Rattle.vc_occam.specs.First.{own}
-use Rattle.vc_occam.specs.Moving.{deed_for, site_of}
+use Rattle.vc_occam.specs.Moving.{action_for, site_of}
 use Rattle.vc_occam.specs.Sites.{PartsInPreorder, site}
 use Rattle.vc_occam.specs.States.{Waiting, output_at, waiting}
 use Rattle.vc_occam.specs.Frames.{BeginsAt, GoesOnIn, HasSiteIn, MovesAt, PartInPreorder, View, assigned_at, behind, besides, goes_on_at_one_part, is_counted, is_par, part_assigned, part_output, part_own, part_waits, place_of, place_with, plan_at, plans_of, view, views}
@@ -119,7 +119,7 @@ besides_own (v ∷ vs) (suc k) e m c = subst (λ (ms : List Move). Contains ms m
 
 -- the site of a move is one that may do something
 pub mover : (r : Rest) (e : Store) (m : Move) (i : ℕ) → site_of m ≡ i → Contains (own r e) m → doers r i ≡ true
-mover r e m i s c = subst (λ (j : ℕ). doers r j ≡ true) s (able_site r e (site_of m) (deed_for m Nothing) (able r e m Nothing c))
+mover r e m i s c = subst (λ (j : ℕ). doers r j ≡ true) s (able_site r e (site_of m) (action_for m Nothing) (able r e m Nothing c))
 
 -- a move of a site is found in the part at its place
 found_own : (i : ℕ) (vs : List View) (e : Store) (m : Move) → PartsInPreorder (plans_of vs) → AllWithin vs → site_of m ≡ i → Contains (own (besides vs) e) m → Contains (part_own (slice_get vs (place_with i vs)) e) m

@@ -4,10 +4,10 @@ use Rattle.std.proofs.lemmas.Bool.Decides.{nat_tests}
 use Rattle.std.proofs.lemmas.List.Elements.{Contains-append_left, Contains-append_right, Contains-append_cases}
 use Rattle.std.specs.List.{Contains}
 use Rattle.std.specs.Prelude.{slice_get, is_some}
-use Rattle.vc_occam.specs.declared.deed.Deed.{Deed}
-use Rattle.vc_occam.specs.declared.deed.Deed.TheVariants as deed
-use Rattle.vc_occam.specs.declared.guarded.GuardedInput.{GuardedInput}
-use Rattle.vc_occam.specs.declared.guarded.GuardedInputs.{GuardedInputs}
+use Rattle.vc_occam.specs.declared.site_action.SiteAction.{SiteAction}
+use Rattle.vc_occam.specs.declared.site_action.SiteAction.TheVariants as action
+use Rattle.vc_occam.specs.declared.guards.GuardedInput.{GuardedInput}
+use Rattle.vc_occam.specs.declared.guards.GuardedInputs.{GuardedInputs}
 use Rattle.vc_occam.specs.declared.kind.Kind.{Kind}
 use Rattle.vc_occam.specs.declared.kind.Kind.TheVariants as kind
 use Rattle.vc_occam.specs.declared.moves.Move.{Move}
@@ -107,7 +107,7 @@ body_begun (v ∷ vs) zero = refl
 body_begun (v ∷ vs) (suc k) = body_begun vs k
 
 -- the guard that is taken
-guard_taken : (i : ℕ) (hs : Guards) (e : Store) (s place c : ℕ) (m : Option (List ℕ)) → Able (Fresh (ALT i hs)) e s (deed.Choose place c m) →
+guard_taken : (i : ℕ) (hs : Guards) (e : Store) (s place c : ℕ) (m : Option (List ℕ)) → Able (Fresh (ALT i hs)) e s (action.Choose place c m) →
     (b : Test) × (v : ℕ) × (p : Proc) × (i ≡ s) × Decided hs e × GuardAt hs place b c v p × (holds b e ≡ Some true)
 guard_taken i hs e s place c m (ks, q, f, does_choose {v = v} {b = b} {p = p} dec at h x) = (b, v, p, refl, dec, at, h)
 guard_taken i hs e s place c m (ks, q, f, waits_choose {v = v} {b = b} {p = p} dec at h) = (b, v, p, refl, dec, at, h)
@@ -116,12 +116,12 @@ guard_taken i hs e s place c m (ks, q, f, waits_choose {v = v} {b = b} {p = p} d
 module _ (i : ℕ) (gs : GuardedInputs) (vs : List View) (e : Store) (s place c : ℕ) where
   abbrev Takes : Option Gate → Option (List ℕ) → Type 0
   Takes o m =
-      Did (Fresh (plan_at (kind.Alt gs) i vs)) e s (deed.Choose place c m) (rest_at (kind.Alt gs) (gate_next o m place).phase i (gate_begun o m place vs) (gate_next o m place).at) (gate_store o m e)
+      Did (Fresh (plan_at (kind.Alt gs) i vs)) e s (action.Choose place c m) (rest_at (kind.Alt gs) (gate_next o m place).phase i (gate_begun o m place vs) (gate_next o m place).at) (gate_store o m e)
 
-  takes : (m : Option (List ℕ)) → Able (Fresh (plan_at (kind.Alt gs) i vs)) e s (deed.Choose place c m) → Takes (slice_get (map gate gs.inputs) place) m
+  takes : (m : Option (List ℕ)) → Able (Fresh (plan_at (kind.Alt gs) i vs)) e s (action.Choose place c m) → Takes (slice_get (map gate gs.inputs) place) m
   takes (Some m) able =
       let F = Fresh (plan_at (kind.Alt gs) i vs) in
-      let d : Deed = deed.Choose place c (Some m) in
+      let d : SiteAction = action.Choose place c (Some m) in
       let (b, v, p, here, dec, at, h) = guard_taken i (guards_of (map gate gs.inputs) vs) e s place c (Some m) able in
       let (g, there, same, is, body) = at_gate (map gate gs.inputs) vs e at h in
       subst (λ o. Takes o (Some m)) (sym there)
@@ -130,7 +130,7 @@ module _ (i : ℕ) (gs : GuardedInputs) (vs : List View) (e : Store) (s place c 
       (subst (λ w. Did F e i d (begin p) (set e w (received (e w) m))) is (In c (received (e v) m) ∷ [], does_choose dec at h refl))))
   takes None able =
       let F = Fresh (plan_at (kind.Alt gs) i vs) in
-      let d : Deed = deed.Choose place c None in
+      let d : SiteAction = action.Choose place c None in
       let (b, v, p, here, dec, at, h) = guard_taken i (guards_of (map gate gs.inputs) vs) e s place c None able in
       let (g, there, same, is, body) = at_gate (map gate gs.inputs) vs e at h in
       subst (λ o. Takes o None) (sym there)
@@ -140,7 +140,7 @@ module _ (i : ℕ) (gs : GuardedInputs) (vs : List View) (e : Store) (s place c 
       (subst (λ w. Did F e i d (Then (Getting i g.chan w) (part p no_parts)) e) is
       (subst (λ w. Did F e i d (Then (Getting i w v) (part p no_parts)) e) same ([], waits_choose dec at h))))))
 
-pub choice_did : (k : Kind) (i : ℕ) (gs : GuardedInputs) (vs ws : List View) (e f : Store) (s : ℕ) (d : Deed) (at place c : ℕ) (m : Option (List ℕ)) (n : _) (xs : List GuardedInput) → k ≡ kind.Alt gs → d ≡ deed.Choose place c m → at ≡ place → xs ≡ gs.inputs →
+pub choice_did : (k : Kind) (i : ℕ) (gs : GuardedInputs) (vs ws : List View) (e f : Store) (s : ℕ) (d : SiteAction) (at place c : ℕ) (m : Option (List ℕ)) (n : _) (xs : List GuardedInput) → k ≡ kind.Alt gs → d ≡ action.Choose place c m → at ≡ place → xs ≡ gs.inputs →
     n ≡ gate_next (slice_get (map gate xs) at) m at → ws ≡ gate_begun (slice_get (map gate xs) at) m at vs → f ≡ gate_store (slice_get (map gate xs) at) m e →
     Able (Fresh (plan_at k i vs)) e s d → Did (Fresh (plan_at k i vs)) e s d (rest_at k n.phase i ws n.at) f
 choice_did k i gs vs ws e f s d at place c m n xs h g p q a b t able =
@@ -148,19 +148,19 @@ choice_did k i gs vs ws e f s d at place c m n xs h g p q a b t able =
     let next = a ∙ ap (λ y. gate_next (slice_get (map gate xs) at) m y) p ∙ ap (λ y. gate_next y m place) o in
     let begun = b ∙ ap (λ y. gate_begun (slice_get (map gate xs) at) m y vs) p ∙ ap (λ y. gate_begun y m place vs) o in
     let stored = t ∙ ap (λ y. gate_store y m e) o in
-    let able-2 = subst (λ (y : Deed). Able (Fresh (plan_at (kind.Alt gs) i vs)) e s y) g (subst (λ (j : Kind). Able (Fresh (plan_at j i vs)) e s d) h able) in
+    let able-2 = subst (λ (y : SiteAction). Able (Fresh (plan_at (kind.Alt gs) i vs)) e s y) g (subst (λ (j : Kind). Able (Fresh (plan_at j i vs)) e s d) h able) in
     let made = takes i gs vs e s place c m able-2 in
-    let by_store = subst (λ y. Did (Fresh (plan_at (kind.Alt gs) i vs)) e s (deed.Choose place c m) (rest_at (kind.Alt gs) (gate_next (slice_get (map gate gs.inputs) place) m place).phase i (gate_begun (slice_get (map gate gs.inputs) place) m place vs) (gate_next (slice_get (map gate gs.inputs) place) m place).at) y) (sym stored) made in
-    let by_parts = subst (λ y. Did (Fresh (plan_at (kind.Alt gs) i vs)) e s (deed.Choose place c m) (rest_at (kind.Alt gs) (gate_next (slice_get (map gate gs.inputs) place) m place).phase i y (gate_next (slice_get (map gate gs.inputs) place) m place).at) f) (sym begun) by_store in
-    let by_next = subst (λ y. Did (Fresh (plan_at (kind.Alt gs) i vs)) e s (deed.Choose place c m) (rest_at (kind.Alt gs) y.phase i ws y.at) f) (sym next) by_parts in
-    subst (λ (j : Kind). Did (Fresh (plan_at j i vs)) e s d (rest_at j n.phase i ws n.at) f) (sym h) (subst (λ (y : Deed). Did (Fresh (plan_at (kind.Alt gs) i vs)) e s y (rest_at (kind.Alt gs) n.phase i ws n.at) f) (sym g) by_next)
+    let by_store = subst (λ y. Did (Fresh (plan_at (kind.Alt gs) i vs)) e s (action.Choose place c m) (rest_at (kind.Alt gs) (gate_next (slice_get (map gate gs.inputs) place) m place).phase i (gate_begun (slice_get (map gate gs.inputs) place) m place vs) (gate_next (slice_get (map gate gs.inputs) place) m place).at) y) (sym stored) made in
+    let by_parts = subst (λ y. Did (Fresh (plan_at (kind.Alt gs) i vs)) e s (action.Choose place c m) (rest_at (kind.Alt gs) (gate_next (slice_get (map gate gs.inputs) place) m place).phase i y (gate_next (slice_get (map gate gs.inputs) place) m place).at) f) (sym begun) by_store in
+    let by_next = subst (λ y. Did (Fresh (plan_at (kind.Alt gs) i vs)) e s (action.Choose place c m) (rest_at (kind.Alt gs) y.phase i ws y.at) f) (sym next) by_parts in
+    subst (λ (j : Kind). Did (Fresh (plan_at j i vs)) e s d (rest_at j n.phase i ws n.at) f) (sym h) (subst (λ (y : SiteAction). Did (Fresh (plan_at (kind.Alt gs) i vs)) e s y (rest_at (kind.Alt gs) n.phase i ws n.at) f) (sym g) by_next)
 
 -- it is taken by a choice alone
-only_choice : (i : ℕ) (gs : Guards) (e f : Store) (s : ℕ) (d : Deed) (r : Rest) → ((k c : ℕ) (m : Option (List ℕ)) → d ≡ deed.Choose k c m → ⊥) → Able (Fresh (ALT i gs)) e s d → Did (Fresh (ALT i gs)) e s d r f
+only_choice : (i : ℕ) (gs : Guards) (e f : Store) (s : ℕ) (d : SiteAction) (r : Rest) → ((k c : ℕ) (m : Option (List ℕ)) → d ≡ action.Choose k c m → ⊥) → Able (Fresh (ALT i gs)) e s d → Did (Fresh (ALT i gs)) e s d r f
 only_choice i gs e f s d r h (ks, q, x, does_choose {k = k} {c = c} {m = m} a b y z) = absurd (h k c (Some m) refl)
 only_choice i gs e f s d r h (ks, q, x, waits_choose {k = k} {c = c} a b y) = absurd (h k c None refl)
 
-pub no_choice_did : (k : Kind) (i : ℕ) (gs : GuardedInputs) (vs : List View) (e f : Store) (s : ℕ) (d : Deed) (r : Rest) → k ≡ kind.Alt gs → ((p c : ℕ) (m : Option (List ℕ)) → d ≡ deed.Choose p c m → ⊥) → Able (Fresh (plan_at k i vs)) e s d → Did (Fresh (plan_at k i vs)) e s d r f
+pub no_choice_did : (k : Kind) (i : ℕ) (gs : GuardedInputs) (vs : List View) (e f : Store) (s : ℕ) (d : SiteAction) (r : Rest) → k ≡ kind.Alt gs → ((p c : ℕ) (m : Option (List ℕ)) → d ≡ action.Choose p c m → ⊥) → Able (Fresh (plan_at k i vs)) e s d → Did (Fresh (plan_at k i vs)) e s d r f
 no_choice_did k i gs vs e f s d r h g able =
     subst (λ (j : Kind). Did (Fresh (plan_at j i vs)) e s d r f) (sym h) (only_choice i (guards_of (map gate gs.inputs) vs) e f s d r g (subst (λ (j : Kind). Able (Fresh (plan_at j i vs)) e s d) h able))
 
@@ -170,13 +170,13 @@ gate_plans (Some g) None k vs = refl
 gate_plans (Some g) (Some m) k vs = begun_plans k vs
 
 -- an ALT that has its message
-got : (gs : GuardedInputs) (o : Option Gate) (i : ℕ) (vs : List View) (e : Store) (s at : ℕ) (m : List ℕ) → Able (chosen_at i o (slice_get vs at)) e s (deed.Message m) →
-    Did (chosen_at i o (slice_get vs at)) e s (deed.Message m) (rest_at (kind.Alt gs) (gate_next o (Some m) at).phase i (gate_begun o (Some m) at vs) at) (gate_store o (Some m) e)
-got gs None i vs e s at m able = never _ _ _ _ s (deed.Message m) able
+got : (gs : GuardedInputs) (o : Option Gate) (i : ℕ) (vs : List View) (e : Store) (s at : ℕ) (m : List ℕ) → Able (chosen_at i o (slice_get vs at)) e s (action.Message m) →
+    Did (chosen_at i o (slice_get vs at)) e s (action.Message m) (rest_at (kind.Alt gs) (gate_next o (Some m) at).phase i (gate_begun o (Some m) at vs) at) (gate_store o (Some m) e)
+got gs None i vs e s at m able = never _ _ _ _ s (action.Message m) able
 got gs (Some g) i vs e s at m (ks, q, f, in_then (gets x)) =
-    subst (λ r. Did (chosen_at i (Some g) (slice_get vs at)) e s (deed.Message m) r (set e g.var (received (e g.var) m))) (body_begun vs at) (_, in_then (gets refl))
+    subst (λ r. Did (chosen_at i (Some g) (slice_get vs at)) e s (action.Message m) r (set e g.var (received (e g.var) m))) (body_begun vs at) (_, in_then (gets refl))
 
-pub message_did : (k : Kind) (i : ℕ) (gs : GuardedInputs) (vs ws : List View) (e f : Store) (s : ℕ) (d : Deed) (at : ℕ) (m : List ℕ) (n : _) (xs : List GuardedInput) → k ≡ kind.Alt gs → d ≡ deed.Message m → xs ≡ gs.inputs →
+pub message_did : (k : Kind) (i : ℕ) (gs : GuardedInputs) (vs ws : List View) (e f : Store) (s : ℕ) (d : SiteAction) (at : ℕ) (m : List ℕ) (n : _) (xs : List GuardedInput) → k ≡ kind.Alt gs → d ≡ action.Message m → xs ≡ gs.inputs →
     n ≡ gate_next (slice_get (map gate xs) at) (Some m) at → ws ≡ gate_begun (slice_get (map gate xs) at) (Some m) at vs → f ≡ gate_store (slice_get (map gate xs) at) (Some m) e →
     Able (awaiting k i vs at) e s d → Did (awaiting k i vs at) e s d (rest_at k n.phase i ws at) f
 message_did k i gs vs ws e f s d at m n xs h g q a b t able =
@@ -185,18 +185,18 @@ message_did k i gs vs ws e f s d at m n xs h g q a b t able =
     let next = a ∙ ap (λ y. gate_next y (Some m) at) o in
     let begun = b ∙ ap (λ y. gate_begun y (Some m) at vs) o in
     let stored = t ∙ ap (λ y. gate_store y (Some m) e) o in
-    let made = got gs w i vs e s at m (subst (λ (y : Deed). Able (chosen_at i w (slice_get vs at)) e s y) g (subst (λ (j : Kind). Able (awaiting j i vs at) e s d) h able)) in
-    let by_store = subst (λ y. Did (chosen_at i w (slice_get vs at)) e s (deed.Message m) (rest_at (kind.Alt gs) (gate_next w (Some m) at).phase i (gate_begun w (Some m) at vs) at) y) (sym stored) made in
-    let by_parts = subst (λ y. Did (chosen_at i w (slice_get vs at)) e s (deed.Message m) (rest_at (kind.Alt gs) (gate_next w (Some m) at).phase i y at) f) (sym begun) by_store in
-    let by_next = subst (λ y. Did (chosen_at i w (slice_get vs at)) e s (deed.Message m) (rest_at (kind.Alt gs) y.phase i ws at) f) (sym next) by_parts in
-    subst (λ (j : Kind). Did (awaiting j i vs at) e s d (rest_at j n.phase i ws at) f) (sym h) (subst (λ (y : Deed). Did (awaiting (kind.Alt gs) i vs at) e s y (rest_at (kind.Alt gs) n.phase i ws at) f) (sym g) by_next)
+    let made = got gs w i vs e s at m (subst (λ (y : SiteAction). Able (chosen_at i w (slice_get vs at)) e s y) g (subst (λ (j : Kind). Able (awaiting j i vs at) e s d) h able)) in
+    let by_store = subst (λ y. Did (chosen_at i w (slice_get vs at)) e s (action.Message m) (rest_at (kind.Alt gs) (gate_next w (Some m) at).phase i (gate_begun w (Some m) at vs) at) y) (sym stored) made in
+    let by_parts = subst (λ y. Did (chosen_at i w (slice_get vs at)) e s (action.Message m) (rest_at (kind.Alt gs) (gate_next w (Some m) at).phase i y at) f) (sym begun) by_store in
+    let by_next = subst (λ y. Did (chosen_at i w (slice_get vs at)) e s (action.Message m) (rest_at (kind.Alt gs) y.phase i ws at) f) (sym next) by_parts in
+    subst (λ (j : Kind). Did (awaiting j i vs at) e s d (rest_at j n.phase i ws at) f) (sym h) (subst (λ (y : SiteAction). Did (awaiting (kind.Alt gs) i vs at) e s y (rest_at (kind.Alt gs) n.phase i ws at) f) (sym g) by_next)
 
 -- it goes on by a message alone
-only_message : (o : Option Gate) (i : ℕ) (v : Option View) (e f : Store) (s : ℕ) (d : Deed) (r : Rest) → ((m : List ℕ) → d ≡ deed.Message m → ⊥) → Able (chosen_at i o v) e s d → Did (chosen_at i o v) e s d r f
+only_message : (o : Option Gate) (i : ℕ) (v : Option View) (e f : Store) (s : ℕ) (d : SiteAction) (r : Rest) → ((m : List ℕ) → d ≡ action.Message m → ⊥) → Able (chosen_at i o v) e s d → Did (chosen_at i o v) e s d r f
 only_message None i v e f s d r h able = never _ _ _ _ s d able
 only_message (Some g) i v e f s d r h (ks, q, x, in_then (gets {m = m} y)) = absurd (h m refl)
 
-pub no_message_did : (k : Kind) (i : ℕ) (gs : GuardedInputs) (vs : List View) (e f : Store) (s : ℕ) (d : Deed) (at : ℕ) (r : Rest) → k ≡ kind.Alt gs → ((m : List ℕ) → d ≡ deed.Message m → ⊥) → Able (awaiting k i vs at) e s d → Did (awaiting k i vs at) e s d r f
+pub no_message_did : (k : Kind) (i : ℕ) (gs : GuardedInputs) (vs : List View) (e f : Store) (s : ℕ) (d : SiteAction) (at : ℕ) (r : Rest) → k ≡ kind.Alt gs → ((m : List ℕ) → d ≡ action.Message m → ⊥) → Able (awaiting k i vs at) e s d → Did (awaiting k i vs at) e s d r f
 no_message_did k i gs vs e f s d at r h g able =
     let w = slice_get (map gate gs.inputs) at in
     subst (λ (j : Kind). Did (awaiting j i vs at) e s d r f) (sym h) (only_message w i (slice_get vs at) e f s d r g (subst (λ (j : Kind). Able (awaiting j i vs at) e s d) h able))

@@ -3,7 +3,7 @@ use Rattle.std.proofs.Common.{◌≡◌, ℕ, List, [], ◌∷◌, refl, subst, 
 use Rattle.std.specs.List.{Contains}
 use Rattle.std.proofs.lemmas.List.Elements.{Contains-append_cases}
 use Rattle.vc_process.specs.declared.datum.Datum.{Datum}
-use Rattle.vc_occam.specs.declared.deed.Deed.TheVariants as deed
+use Rattle.vc_occam.specs.declared.site_action.SiteAction.TheVariants as action
 use Rattle.vc_process.specs.Messages.{received}
 use Rattle.vc_occam.specs.Remains.{Rest, Done, Stopped, Fresh, Finishing, Getting, Then, Turns, Beside, then_on, turns_on, index_on, beside_on, Step, does_finish, gets, in_then, in_turns, in_left, in_right}
 use Rattle.vc_occam.specs.States.{State, Finishes, Receives, Does, output, input, waiting}
@@ -13,7 +13,7 @@ use Rattle.vc_process.proofs.Lists.{none, only}
 
 -- the site's output on the channel can be finished
 abbrev CanFinish : Rest → Store → ℕ → ℕ → Type 0
-CanFinish r e i c = (q : Rest) × (f : Store) × Step r e i deed.Finish (Fin c ∷ []) q f
+CanFinish r e i c = (q : Rest) × (f : Store) × Step r e i action.Finish (Fin c ∷ []) q f
 
 finish : (j d : ℕ) (e : Store) (i c : ℕ) → output j d ≡ output i c → CanFinish (Finishing j d) e i c
 finish j d e i c h =
@@ -36,7 +36,7 @@ finishes (Beside mine r q) e i c h = elim (Contains-append_cases (waiting r) (wa
 
 -- the site's input on the channel can have the message
 abbrev CanGet : Rest → Store → ℕ → ℕ → List ℕ → Type 0
-CanGet r e i c m = (x : Datum) × (q : Rest) × (f : Store) × Step r e i (deed.Message m) (In c x ∷ []) q f
+CanGet r e i c m = (x : Datum) × (q : Rest) × (f : Store) × Step r e i (action.Message m) (In c x ∷ []) q f
 
 get : (j d v : ℕ) (e : Store) (i c : ℕ) (m : List ℕ) → input j d ≡ input i c → CanGet (Getting j d v) e i c m
 get j d v e i c m h =

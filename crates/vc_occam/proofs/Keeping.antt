@@ -1,6 +1,6 @@
 -- No step loses lawful use.
 use Rattle.std.proofs.Common.{◌≡◌, ℕ, zero, suc, ℤ, Bool, true, false, sym, subst, List, ◌∷◌, ◌++◌, Option, Some, None, ◌⊎◌, inl, inr, ◌||◌, ◌&&◌}
-use Rattle.vc_occam.specs.declared.deed.Deed.{Deed}
+use Rattle.vc_occam.specs.declared.site_action.SiteAction.{SiteAction}
 use Rattle.vc_process.specs.Syntax.{Test, Proc, SKIP, STOP, Assign, Output, Input, StopChan, SEQ, PAR, IF, WHILE, COUNT, ALT, Procs, no_parts, part, Branches, no_branches, branch, Guards, no_guards, guard}
 use Rattle.vc_process.specs.Values.{Store, holds}
 use Rattle.vc_process.specs.Usage.{Set, just, ◌∪◌, in_exp, in_test, in_given, changes, changes_all, changes_branches, changes_guards, uses, uses_all, uses_branches, uses_guards}
@@ -8,7 +8,7 @@ use Rattle.vc_process.specs.Lawful.{outputs, outputs_all, inputs, inputs_all, Wi
 use Rattle.vc_occam.specs.Traces.{Comm, Fin, In, End}
 use Rattle.vc_occam.specs.Remains.{Rest, Done, Stopped, Fresh, Finishing, Getting, Then, Turns, Beside, and_then, begin, begin_seq, begin_par, begin_all, then_on, turns_on, beside_on, branch_on, chosen, GuardAt, first, later, Step, does_skip, does_empty_seq, does_empty_par, does_assign, faults_assign, faults_out, does_if, does_turn, does_leave, faults_while, does_count, does_count_none, faults_count, does_offer, does_finish, does_input, waits_input, gets, does_stop, does_choose, waits_choose, in_then, in_turns, in_left, in_right, changes_rest, uses_rest, Apart, KeepsVariablesApart, TraceRest}
 use Rattle.vc_occam.specs.Sites.{Disjoint}
-use Rattle.vc_occam.specs.States.{State, StepsTo, Doing, Offers, Wants, Chooses, Stops, Meets, Rests, Finishes, Receives, Does, IsTraced}
+use Rattle.vc_occam.specs.States.{State, StepsTo, ProcessStep, Offers, Wants, Chooses, Stops, Meets, Rests, Finishes, Receives, Does, IsTraced}
 use Rattle.vc_occam.proofs.Sites.{Within, either, not_true, clash}
 use Rattle.vc_occam.proofs.Law.{law}
 use Rattle.vc_occam.proofs.Stores.{or_left, or_right}
@@ -204,7 +204,7 @@ guard_uses : {gs : Guards} {n c v : ℕ} {b : Test} {p : Proc} → GuardAt gs n 
 guard_uses first h = h.0
 guard_uses (later g) h = guard_uses g h.1
 
-pub step_uses : {r r' : Rest} {e e' : Store} {i : ℕ} {d : Deed} {m : List Comm} → Step r e i d m r' e' → UsesLawfully r → UsesLawfully r'
+pub step_uses : {r r' : Rest} {e e' : Store} {i : ℕ} {d : SiteAction} {m : List Comm} → Step r e i d m r' e' → UsesLawfully r → UsesLawfully r'
 step_uses does_skip o = tt
 step_uses does_empty_seq o = tt
 step_uses does_empty_par o = tt
@@ -242,10 +242,10 @@ lawful (Then r ps) h = lawful r h.0
 lawful (Turns r v b n p) h = lawful r h.0
 lawful (Beside mine r q) h = (h.0.variables, lawful r h.1, lawful q h.2)
 
-pub steps_keep_use : (s s' : State) (i : ℕ) (d : Deed) (ks : List Comm) → StepsTo s i d ks s' → UsesLawfully s.rest → UsesLawfully s'.rest
+pub steps_keep_use : (s s' : State) (i : ℕ) (d : SiteAction) (ks : List Comm) → StepsTo s i d ks s' → UsesLawfully s.rest → UsesLawfully s'.rest
 steps_keep_use s s' i d ks h o = step_uses h o
 
-pub doing_keeps_use : (s s' : State) (d : Doing) (ks : List Comm) → Does s d ks s' → UsesLawfully s.rest → UsesLawfully s'.rest
+pub doing_keeps_use : (s s' : State) (d : ProcessStep) (ks : List Comm) → Does s d ks s' → UsesLawfully s.rest → UsesLawfully s'.rest
 doing_keeps_use s s' (Offers i c m) ks h o = step_uses h.3 o
 doing_keeps_use s s' (Wants i c None) ks h o = step_uses h.1 o
 doing_keeps_use s s' (Wants i c (Some m)) ks h o = step_uses h.2 o
@@ -257,10 +257,10 @@ doing_keeps_use s s' (Rests i) ks h o = step_uses h.1 o
 doing_keeps_use s s' (Finishes c) ks h o = step_uses h.2 o
 doing_keeps_use s s' (Receives c m) ks h o = step_uses h.3 o
 
-step_traced : {r r' : Rest} {e e' : Store} {i : ℕ} {d : Deed} {m : List Comm} → Step r e i d m r' e' → UsesLawfully r → (t : List Comm) (x : End) → TraceRest r' e' t x → TraceRest r e (m ++ t) x
+step_traced : {r r' : Rest} {e e' : Store} {i : ℕ} {d : SiteAction} {m : List Comm} → Step r e i d m r' e' → UsesLawfully r → (t : List Comm) (x : End) → TraceRest r' e' t x → TraceRest r e (m ++ t) x
 step_traced {r} st o t x h = law st (lawful r o) h
 
-pub doing_is_traced : (s s' : State) (d : Doing) (ks : List Comm) → Does s d ks s' → UsesLawfully s.rest → IsTraced s ks s'
+pub doing_is_traced : (s s' : State) (d : ProcessStep) (ks : List Comm) → Does s d ks s' → UsesLawfully s.rest → IsTraced s ks s'
 doing_is_traced s s' (Offers i c m) ks h o = step_traced h.3 o
 doing_is_traced s s' (Wants i c None) ks h o = step_traced h.1 o
 doing_is_traced s s' (Wants i c (Some m)) ks h o = step_traced h.2 o

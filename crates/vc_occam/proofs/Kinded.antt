@@ -4,8 +4,8 @@ use Rattle.std.proofs.lemmas.Bool.Decides.{nat_tests}
 use Rattle.std.specs.Prelude.{option_and_then}
 use Rattle.vc_process.specs.declared.datum.Datum.{Datum}
 use Rattle.vc_process.specs.declared.datum.Datum.TheVariants as datum
-use Rattle.vc_occam.specs.declared.deed.Deed.{Deed}
-use Rattle.vc_occam.specs.declared.deed.Deed.TheVariants as deed
+use Rattle.vc_occam.specs.declared.site_action.SiteAction.{SiteAction}
+use Rattle.vc_occam.specs.declared.site_action.SiteAction.TheVariants as action
 use Rattle.vc_process.specs.declared.value_kind.ValueKind.{ValueKind}
 use Rattle.vc_process.specs.declared.value_kind.ValueKind.TheVariants as kind
 use Rattle.vc_process.specs.Limits.{given_kind}
@@ -14,7 +14,7 @@ use Rattle.vc_process.specs.Syntax.{Test, Given, Whole, Bytes, Proc, SKIP, STOP,
 use Rattle.vc_process.specs.Values.{Store, value_of, holds, text_of, datum_of}
 use Rattle.vc_occam.specs.Traces.{Comm, Out, In, Fin, Stp, set}
 use Rattle.vc_occam.specs.Remains.{Rest, Done, Stopped, Fresh, Finishing, Getting, Then, Turns, Beside, and_then, begin, begin_seq, begin_par, begin_all, then_on, turns_on, index_on, beside_on, branch_on, chosen, GuardAt, first, later, Step, does_skip, does_empty_seq, does_empty_par, does_assign, faults_assign, faults_out, does_if, does_turn, does_leave, faults_while, does_count, does_count_none, faults_count, does_offer, does_finish, does_input, waits_input, gets, does_stop, does_choose, waits_choose, in_then, in_turns, in_left, in_right}
-use Rattle.vc_occam.specs.States.{State, StepsTo, meeting, Doing, Offers, Wants, Chooses, Stops, Meets, Rests, Finishes, Receives, Does}
+use Rattle.vc_occam.specs.States.{State, StepsTo, meeting, ProcessStep, Offers, Wants, Chooses, Stops, Meets, Rests, Finishes, Receives, Does}
 use Rattle.vc_process.proofs.Bytes.{number_again}
 
 abbrev pub kind_of : Datum → ValueKind
@@ -179,7 +179,7 @@ module _ (channel : ℕ → ValueKind) (kinds : List ValueKind) where
   guard_sound (later g) h = guard_sound g h.2
 
   -- each step leaves it so
-  pub step_sound : {r r' : Rest} {e e' : Store} {i : ℕ} {d : Deed} {m : List Comm} → Step r e i d m r' e' → Sound r → Sound r'
+  pub step_sound : {r r' : Rest} {e e' : Store} {i : ℕ} {d : SiteAction} {m : List Comm} → Step r e i d m r' e' → Sound r → Sound r'
   step_sound does_skip o = tt
   step_sound does_empty_seq o = tt
   step_sound does_empty_par o = tt
@@ -228,7 +228,7 @@ module _ (channel : ℕ → ValueKind) (kinds : List ValueKind) where
   index_kinds Done v b zero e h is = h
   index_kinds r v b n e h is = h
 
-  pub step_kinds : {r r' : Rest} {e e' : Store} {i : ℕ} {d : Deed} {m : List Comm} → Step r e i d m r' e' → Sound r → StoreHasKinds e → StoreHasKinds e'
+  pub step_kinds : {r r' : Rest} {e e' : Store} {i : ℕ} {d : SiteAction} {m : List Comm} → Step r e i d m r' e' → Sound r → StoreHasKinds e → StoreHasKinds e'
   step_kinds does_skip o h = h
   step_kinds does_empty_seq o h = h
   step_kinds does_empty_par o h = h
@@ -261,7 +261,7 @@ module _ (channel : ℕ → ValueKind) (kinds : List ValueKind) where
   OutputsKinded (Out c x ∷ t) = (kind_of x ≡ channel c) × OutputsKinded t
   OutputsKinded (k ∷ t) = OutputsKinded t
 
-  step_outputs : {r r' : Rest} {e e' : Store} {i : ℕ} {d : Deed} {m : List Comm} → Step r e i d m r' e' → Sound r → OutputsKinded m
+  step_outputs : {r r' : Rest} {e e' : Store} {i : ℕ} {d : SiteAction} {m : List Comm} → Step r e i d m r' e' → Sound r → OutputsKinded m
   step_outputs does_skip o = tt
   step_outputs does_empty_seq o = tt
   step_outputs does_empty_par o = tt
@@ -295,10 +295,10 @@ module _ (channel : ℕ → ValueKind) (kinds : List ValueKind) where
   IsAlone (Getting s c v) = Unit {0}
   IsAlone r = ⊥
 
-  abbrev Alone : Store → ℕ → Deed → List Comm → Type 0
+  abbrev Alone : Store → ℕ → SiteAction → List Comm → Type 0
   Alone e i d m = (r : Rest) × (r' : Rest) × (e' : Store) × Step r e i d m r' e' × IsAlone r × Sound r
 
-  alone : (r : Rest) {r' : Rest} {e e' : Store} {i : ℕ} {d : Deed} {m : List Comm} → Step r e i d m r' e' → Sound r → Alone e i d m
+  alone : (r : Rest) {r' : Rest} {e e' : Store} {i : ℕ} {d : SiteAction} {m : List Comm} → Step r e i d m r' e' → Sound r → Alone e i d m
   alone Done st o = elim st [ ]
   alone Stopped st o = elim st [ ]
   alone (Fresh p) {r' = r'} {e' = e'} st o = (Fresh p, r', e', st, tt, o)
@@ -313,31 +313,31 @@ module _ (channel : ℕ → ValueKind) (kinds : List ValueKind) where
   input_is e c v m x h there is = ap (λ y. In c y ∷ []) (is ∙ received_as (e v) m ∙ ap (λ k. value_as k m) (h v (channel c) there))
 
   -- an input that has its message gets what the message is worth on the channel
-  wants_alone : {r r' : Rest} {e e' : Store} {i : ℕ} {ks : List Comm} (c : ℕ) (m : List ℕ) → Step r e i (deed.Want c (Some m)) ks r' e' → IsAlone r → Sound r → StoreHasKinds e → ks ≡ In c (value_as (channel c) m) ∷ []
+  wants_alone : {r r' : Rest} {e e' : Store} {i : ℕ} {ks : List Comm} (c : ℕ) (m : List ℕ) → Step r e i (action.Want c (Some m)) ks r' e' → IsAlone r → Sound r → StoreHasKinds e → ks ≡ In c (value_as (channel c) m) ∷ []
   wants_alone c m (does_input {v = v} {e = e} {x = x} k) a o h = input_is e c v m x h o k
   wants_alone c m (in_then st) a o h = absurd a
   wants_alone c m (in_turns st) a o h = absurd a
   wants_alone c m (in_left st) a o h = absurd a
   wants_alone c m (in_right st) a o h = absurd a
 
-  chooses_alone : {r r' : Rest} {e e' : Store} {i : ℕ} {ks : List Comm} (n c : ℕ) (m : List ℕ) → Step r e i (deed.Choose n c (Some m)) ks r' e' → IsAlone r → Sound r → StoreHasKinds e → ks ≡ In c (value_as (channel c) m) ∷ []
+  chooses_alone : {r r' : Rest} {e e' : Store} {i : ℕ} {ks : List Comm} (n c : ℕ) (m : List ℕ) → Step r e i (action.Choose n c (Some m)) ks r' e' → IsAlone r → Sound r → StoreHasKinds e → ks ≡ In c (value_as (channel c) m) ∷ []
   chooses_alone n c m (does_choose {v = v} {e = e} {x = x} dec g t k) a o h = input_is e c v m x h (guard_sound g o).0 k
   chooses_alone n c m (in_then st) a o h = absurd a
   chooses_alone n c m (in_turns st) a o h = absurd a
   chooses_alone n c m (in_left st) a o h = absurd a
   chooses_alone n c m (in_right st) a o h = absurd a
 
-  gets_alone : {r r' : Rest} {e e' : Store} {i : ℕ} {ks : List Comm} (m : List ℕ) → Step r e i (deed.Message m) ks r' e' → IsAlone r → Sound r → StoreHasKinds e → (c : ℕ) × (ks ≡ In c (value_as (channel c) m) ∷ [])
+  gets_alone : {r r' : Rest} {e e' : Store} {i : ℕ} {ks : List Comm} (m : List ℕ) → Step r e i (action.Message m) ks r' e' → IsAlone r → Sound r → StoreHasKinds e → (c : ℕ) × (ks ≡ In c (value_as (channel c) m) ∷ [])
   gets_alone m (gets {c = c} {v = v} {e = e} {x = x} k) a o h = (c, input_is e c v m x h o k)
   gets_alone m (in_then st) a o h = absurd a
   gets_alone m (in_turns st) a o h = absurd a
   gets_alone m (in_left st) a o h = absurd a
   gets_alone m (in_right st) a o h = absurd a
 
-  wants_value : {r r' : Rest} {e e' : Store} {i : ℕ} {ks : List Comm} (c : ℕ) (m : List ℕ) → Step r e i (deed.Want c (Some m)) ks r' e' → Sound r → StoreHasKinds e → ks ≡ In c (value_as (channel c) m) ∷ []
+  wants_value : {r r' : Rest} {e e' : Store} {i : ℕ} {ks : List Comm} (c : ℕ) (m : List ℕ) → Step r e i (action.Want c (Some m)) ks r' e' → Sound r → StoreHasKinds e → ks ≡ In c (value_as (channel c) m) ∷ []
   wants_value {r} c m st o h = let n = alone r st o in wants_alone c m n.3 n.4 n.5 h
 
-  chooses_value : {r r' : Rest} {e e' : Store} {i : ℕ} {ks : List Comm} (n c : ℕ) (m : List ℕ) → Step r e i (deed.Choose n c (Some m)) ks r' e' → Sound r → StoreHasKinds e → ks ≡ In c (value_as (channel c) m) ∷ []
+  chooses_value : {r r' : Rest} {e e' : Store} {i : ℕ} {ks : List Comm} (n c : ℕ) (m : List ℕ) → Step r e i (action.Choose n c (Some m)) ks r' e' → Sound r → StoreHasKinds e → ks ≡ In c (value_as (channel c) m) ∷ []
   chooses_value {r} n c m st o h = let s = alone r st o in chooses_alone n c m s.3 s.4 s.5 h
 
   meets_value : {r r' : Rest} {e e' : Store} {i : ℕ} {ks : List Comm} (g : Option ℕ) (c : ℕ) (m : List ℕ) → Step r e i (meeting g c m) ks r' e' → Sound r → StoreHasKinds e → ks ≡ In c (value_as (channel c) m) ∷ []
@@ -347,14 +347,14 @@ module _ (channel : ℕ → ValueKind) (kinds : List ValueKind) where
   same_chan : (c d : ℕ) (x y : Datum) → In c x ∷ [] ≡ In d y ∷ [] → c ≡ d
   same_chan c d x y e = cc
 
-  gets_value : {r r' : Rest} {e e' : Store} {i : ℕ} {ks : List Comm} (c : ℕ) (m : List ℕ) (x : Datum) → ks ≡ In c x ∷ [] → Step r e i (deed.Message m) ks r' e' → Sound r → StoreHasKinds e → ks ≡ In c (value_as (channel c) m) ∷ []
+  gets_value : {r r' : Rest} {e e' : Store} {i : ℕ} {ks : List Comm} (c : ℕ) (m : List ℕ) (x : Datum) → ks ≡ In c x ∷ [] → Step r e i (action.Message m) ks r' e' → Sound r → StoreHasKinds e → ks ≡ In c (value_as (channel c) m) ∷ []
   gets_value {r} {ks = ks} c m x is st o h =
       let s = alone r st o in
       let n = gets_alone m s.3 s.4 s.5 h in
       subst (λ d. ks ≡ In d (value_as (channel d) m) ∷ []) (same_chan n.0 c (value_as (channel n.0) m) x (sym n.1 ∙ is)) n.1
 
   -- the communications of what a process does: an output's value is of its channel's kind, and an input gets what its message is worth
-  abbrev pub Tells : Doing → List Comm → Type 0
+  abbrev pub Tells : ProcessStep → List Comm → Type 0
   Tells (Offers i c m) ks = (x : Datum) × (ks ≡ Out c x ∷ []) × (m ≡ message x) × (kind_of x ≡ channel c)
   Tells (Wants i c None) ks = ks ≡ []
   Tells (Wants i c (Some m)) ks = ks ≡ In c (value_as (channel c) m) ∷ []
@@ -369,7 +369,7 @@ module _ (channel : ℕ → ValueKind) (kinds : List ValueKind) where
   same_value : (c d : ℕ) (x y : Datum) → In c x ∷ [] ≡ In d y ∷ [] → x ≡ y
   same_value c d x y e = cc
 
-  pub doing_tells : (s s' : State) (d : Doing) (ks : List Comm) → Does s d ks s' → Sound s.rest → StoreHasKinds s.store → Tells d ks
+  pub doing_tells : (s s' : State) (d : ProcessStep) (ks : List Comm) → Does s d ks s' → Sound s.rest → StoreHasKinds s.store → Tells d ks
   doing_tells s s' (Offers i c m) ks h o k = (h.0, h.2, h.1, (subst OutputsKinded h.2 (step_outputs h.3 o)).0)
   doing_tells s s' (Wants i c None) ks h o k = h.0
   doing_tells s s' (Wants i c (Some m)) ks h o k = wants_value c m h.2 o k
@@ -386,11 +386,11 @@ module _ (channel : ℕ → ValueKind) (kinds : List ValueKind) where
   abbrev Stays : State → Type 0
   Stays s = Sound s.rest × StoreHasKinds s.store
 
-  stays : {s s' : State} {i : ℕ} {d : Deed} {ks : List Comm} → StepsTo s i d ks s' → Stays s → Stays s'
+  stays : {s s' : State} {i : ℕ} {d : SiteAction} {ks : List Comm} → StepsTo s i d ks s' → Stays s → Stays s'
   stays st o = (step_sound st o.0, step_kinds st o.0 o.1)
 
   -- whatever a process does leaves it so
-  pub doing_stays : (s s' : State) (d : Doing) (ks : List Comm) → Does s d ks s' → Sound s.rest × StoreHasKinds s.store → Sound s'.rest × StoreHasKinds s'.store
+  pub doing_stays : (s s' : State) (d : ProcessStep) (ks : List Comm) → Does s d ks s' → Sound s.rest × StoreHasKinds s.store → Sound s'.rest × StoreHasKinds s'.store
   doing_stays s s' (Offers i c m) ks h o = stays h.3 o
   doing_stays s s' (Wants i c None) ks h o = stays h.1 o
   doing_stays s s' (Wants i c (Some m)) ks h o = stays h.2 o

@@ -4,7 +4,7 @@ use Rattle.std.specs.Prelude.{if◌then◌else◌}
 use Rattle.vc_process.specs.declared.datum.Datum.{Datum}
 use Rattle.vc_process.specs.declared.datum.Datum.TheVariants as datum
 use Rattle.vc_process.proofs.Bytes.{number_within}
-use Rattle.vc_occam.specs.declared.deed.Deed.{Deed}
+use Rattle.vc_occam.specs.declared.site_action.SiteAction.{SiteAction}
 use Rattle.vc_process.specs.Syntax.{Exp, Test, Proc, IF, WHILE, COUNT, Procs, no_parts, part, Branches, no_branches, branch, Guards}
 use Rattle.vc_process.specs.Values.{Store, value_of, holds}
 use Rattle.vc_process.specs.Messages.{received}
@@ -41,7 +41,7 @@ index_moves Done v b zero h m = m
 index_moves r v b n h m = m
 
 -- a step sets only variables that what remains may change
-pub moves : {r r' : Rest} {e e' : Store} {i : ℕ} {d : Deed} {m : List Comm} → Step r e i d m r' e' → Reaches (changes_rest r) e e'
+pub moves : {r r' : Rest} {e e' : Store} {i : ℕ} {d : SiteAction} {m : List Comm} → Step r e i d m r' e' → Reaches (changes_rest r) e e'
 moves does_skip = same
 moves does_empty_seq = same
 moves does_empty_par = same
@@ -181,7 +181,7 @@ received_kind : (d : Datum) (m : List ℕ) (x : Datum) → x ≡ received d m �
 received_kind (datum.Int z) m x h = subst (λ y. SameKind y (datum.Int z)) (sym h) (number_within m)
 received_kind (datum.Bytes xs) m x h = subst (λ y. SameKind y (datum.Bytes xs)) (sym h) tt
 
-pub law : {r r' : Rest} {e e' : Store} {i : ℕ} {d : Deed} {m : List Comm} → Step r e i d m r' e' → KeepsVariablesApart r → {t : List Comm} {x : End} → TraceRest r' e' t x → TraceRest r e (m ++ t) x
+pub law : {r r' : Rest} {e e' : Store} {i : ℕ} {d : SiteAction} {m : List Comm} → Step r e i d m r' e' → KeepsVariablesApart r → {t : List Comm} {x : End} → TraceRest r' e' t x → TraceRest r e (m ++ t) x
 law does_skip l done = fresh skip
 law does_empty_seq l done = fresh (seq seq_end)
 law does_empty_par l done = fresh (par par_end)

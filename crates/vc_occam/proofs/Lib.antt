@@ -4,7 +4,7 @@ pub mod Beginning
 pub mod Besides
 pub mod Blocks
 pub mod Checked
-pub mod Doing
+pub mod ProcessStep
 pub mod Fitting
 pub mod Found
 pub mod Frames

@@ -8,8 +8,8 @@ use Rattle.std.specs.List.{Contains}
 use Rattle.std.specs.Option.{option_or}
 use Rattle.vc_occam.specs.declared.answer.Answer.{Answer}
 use Rattle.vc_process.specs.declared.datum.Datum.{Datum}
-use Rattle.vc_occam.specs.declared.deed.Deed.{Deed}
-use Rattle.vc_occam.specs.declared.deed.Deed.TheVariants as deed
+use Rattle.vc_occam.specs.declared.site_action.SiteAction.{SiteAction}
+use Rattle.vc_occam.specs.declared.site_action.SiteAction.TheVariants as action
 use Rattle.vc_occam.specs.declared.moves.Move.{Move}
 use Rattle.vc_occam.specs.declared.moves.Move.TheVariants.{Offer, Want, Choose, Stopch, Inner, Quiet}
 use Rattle.vc_process.specs.Syntax.{Exp, Test, Given, Proc, SKIP, STOP, Assign, Output, Input, StopChan, SEQ, PAR, IF, WHILE, COUNT, ALT, Procs, no_parts, part, Guards, no_guards, guard}
@@ -20,7 +20,7 @@ use Rattle.vc_occam.specs.Traces.{set, Comm, Out, Fin, In, Stp, Decided}
 use Rattle.vc_occam.specs.Remains.{Rest, Done, Stopped, Fresh, Finishing, Getting, Then, Turns, Beside, then_on, turns_on, index_on, beside_on, GuardAt, first, later, Step, does_skip, does_empty_seq, does_empty_par, does_assign, faults_assign, faults_out, does_if, does_turn, does_leave, faults_while, does_count, does_count_none, faults_count, does_offer, does_finish, does_input, waits_input, gets, does_stop, does_choose, waits_choose, in_then, in_turns, in_left, in_right}
 use Rattle.vc_occam.specs.First.{all_decided, choices, own, meetings, joined}
 use Rattle.vc_occam.specs.Frames.{Able}
-use Rattle.vc_occam.specs.Moving.{site_of, deed_for, deed_on, partner}
+use Rattle.vc_occam.specs.Moving.{site_of, action_for, action_on, partner}
 use Rattle.vc_occam.specs.Laws.{ListedMovesCanBeMade}
 use Rattle.vc_occam.specs.Sites.{sites, sites_all, sites_rest, OwnSites}
 use Rattle.vc_occam.specs.States.{IsAwaited, State, Wants, Chooses, Does, meeting, output_at, carried, sent_by, bytes_or_none, came, doing, output, input, waiting}
@@ -53,7 +53,7 @@ own_stands (Beside mine r q) e m h = elim (Contains-append_cases (own r e) (own 
 ]
 
 -- what a process that hasn't begun does, what remains does with it
-lift : {p : Proc} {r r' : Rest} {e e' : Store} {i : ℕ} {d : Deed} {m : List Comm} → Stands p r → Step (Fresh p) e i d m r' e' → (q : Rest) × (f : Store) × Step r e i d m q f
+lift : {p : Proc} {r r' : Rest} {e e' : Store} {i : ℕ} {d : SiteAction} {m : List Comm} → Stands p r → Step (Fresh p) e i d m r' e' → (q : Rest) × (f : Store) × Step r e i d m q f
 lift {r' = r'} {e' = e'} itself st = (r', e', st)
 lift (within_then {ps = ps} s) st = let n = lift s st in (then_on n.0 ps, n.1, in_then n.2)
 lift (within_turns {v = v} {b = b} {n = k} {q = q} s) st = let n = lift s st in (turns_on n.0 v b k q, index_on n.0 v b k n.1, in_turns n.2)
@@ -62,14 +62,14 @@ lift (on_right {mine = mine} {r = r} s) st = let n = lift s st in (beside_on min
 
 -- how a process that hasn't begun begins with a move
 abbrev pub Begins : Move → Proc → Store → Type 0
-Begins (Quiet i) p e = (r : Rest) × (f : Store) × Step (Fresh p) e i deed.Quiet [] r f
+Begins (Quiet i) p e = (r : Rest) × (f : Store) × Step (Fresh p) e i action.Quiet [] r f
 Begins (Offer i c) p e = (a : Given) × (x : Datum) × (p ≡ Output i c a) × (datum_of a e ≡ Some x)
 Begins (Want i c) p e = (v : ℕ) × (p ≡ Input i c v)
 Begins (Choose i k c) p e = (gs : Guards) × (b : Test) × (v : ℕ) × (q : Proc) × (p ≡ ALT i gs) × Decided gs e × GuardAt gs k b c v q × (holds b e ≡ Some true)
 Begins (Stopch i c) p e = p ≡ StopChan i c
 Begins (Inner i j k c) p e = ⊥
 
-quiet : {p : Proc} {e : Store} {r : Rest} {f : Store} {i : ℕ} {m : Move} → Contains (Quiet i ∷ []) m → Step (Fresh p) e i deed.Quiet [] r f → Begins m p e
+quiet : {p : Proc} {e : Store} {r : Rest} {f : Store} {i : ℕ} {m : Move} → Contains (Quiet i ∷ []) m → Step (Fresh p) e i action.Quiet [] r f → Begins m p e
 quiet {p} {e} {r} {f} {i} {m} h st = subst (λ x. Begins x p e) (only (Quiet i) m h) (r, f, st)
 
 assigns : (i v : ℕ) (a : Given) (e : Store) (m : Move) (o : Option Datum) → datum_of a e ≡ o → Contains (Quiet i ∷ []) m → Begins m (Assign i v a) e
@@ -369,7 +369,7 @@ pub record Began (r r' : Rest) (e e' : Store) : Type 0 where
   pub goes : Goes r'
   pub taking : (w : Move) → IsTaking w → Contains (own r e) w → Contains (own r' e) w
 
-pub began : {r r' : Rest} {e e' : Store} {i c : ℕ} {m : List Comm} → Step r e i (deed.Offer c) m r' e' → Began r r' e e'
+pub began : {r r' : Rest} {e e' : Store} {i c : ℕ} {m : List Comm} → Step r e i (action.Offer c) m r' e' → Began r r' e e'
 began (does_offer {s = s} {c = c} {a = a} {e = e} h) = record { store = refl; goes = λ k. cc; taking = λ w t k. absurd (not_taking (is_some (datum_of a e)) s c w t k) }
 began (in_then {r' = r'} {e = e} {ps = ps} st) =
     let n = began st in
@@ -399,9 +399,9 @@ began (in_right {r = r} {q = q} {q' = q'} {e = e} {mine = mine} st) =
       ]);
     }
 
-finish : (j d : ℕ) (e : Store) (i c : ℕ) → j ≡ i → d ≡ c → (q : Rest) × (f : Store) × Step (Finishing j d) e i deed.Finish (Fin c ∷ []) q f
+finish : (j d : ℕ) (e : Store) (i c : ℕ) → j ≡ i → d ≡ c → (q : Rest) × (f : Store) × Step (Finishing j d) e i action.Finish (Fin c ∷ []) q f
 finish j d e i c h k =
-    (Done, e, subst (λ y. Step (Finishing j d) e y deed.Finish (Fin c ∷ []) Done e) h (subst (λ y. Step (Finishing j d) e j deed.Finish (Fin y ∷ []) Done e) k does_finish))
+    (Done, e, subst (λ y. Step (Finishing j d) e y action.Finish (Fin c ∷ []) Done e) h (subst (λ y. Step (Finishing j d) e j action.Finish (Fin y ∷ []) Done e) k does_finish))
 
 output_site_same : (j i d c : ℕ) → output j d ≡ output i c → j ≡ i
 output_site_same j i d c h = cc
@@ -410,7 +410,7 @@ output_chan_same : (j i d c : ℕ) → output j d ≡ output i c → d ≡ c
 output_chan_same j i d c h = cc
 
 -- an output that waits can be finished
-finishes : (r : Rest) (e : Store) (i c : ℕ) → Contains (waiting r) (output i c) → (q : Rest) × (f : Store) × Step r e i deed.Finish (Fin c ∷ []) q f
+finishes : (r : Rest) (e : Store) (i c : ℕ) → Contains (waiting r) (output i c) → (q : Rest) × (f : Store) × Step r e i action.Finish (Fin c ∷ []) q f
 finishes Done e i c h = absurd (none (output i c) h)
 finishes Stopped e i c h = absurd (none (output i c) h)
 finishes (Fresh p) e i c h = absurd (none (output i c) h)
@@ -476,7 +476,7 @@ record Sends (s : State) (i c : ℕ) : Type 0 where
   sent : bytes_or_none (carried (output_at i s.rest s.store)) ≡ message value
   rest : Rest
   store : Store
-  step : Step s.rest s.store i (deed.Offer c) (Out c value ∷ []) rest store
+  step : Step s.rest s.store i (action.Offer c) (Out c value ∷ []) rest store
 
 sends : (s : State) (i c : ℕ) → OwnSites s.rest → Contains (own s.rest s.store) (Offer i c) → Sends s i c
 sends s i c o h =
@@ -522,14 +522,14 @@ made s (Offer i c) a o (inr k) = absurd k
 pub can_be_made : ListedMovesCanBeMade
 can_be_made s inside m a o h f = made s m a o (listed inside (own s.rest s.store) (own s.rest s.store) m h)
 
-able_want : (r : Rest) (e : Store) (i c : ℕ) (o : Option (List ℕ)) → Contains (own r e) (Want i c) → Able r e i (deed.Want c o)
+able_want : (r : Rest) (e : Store) (i c : ℕ) (o : Option (List ℕ)) → Contains (own r e) (Want i c) → Able r e i (action.Want c o)
 able_want r e i c (Some m) h = let n = takes r e i None c m h in (In c n.0 ∷ [], n.1, n.2, n.3)
 able_want r e i c None h =
     let n = own_begins r e (Want i c) h in
     let l = lift (subst (λ z. Stands z r) n.2.1 n.1) (waits_input {s = i} {c = c} {v = n.2.0} {e = e}) in
     ([], l.0, l.1, l.2)
 
-able_choose : (r : Rest) (e : Store) (i k c : ℕ) (o : Option (List ℕ)) → Contains (own r e) (Choose i k c) → Able r e i (deed.Choose k c o)
+able_choose : (r : Rest) (e : Store) (i k c : ℕ) (o : Option (List ℕ)) → Contains (own r e) (Choose i k c) → Able r e i (action.Choose k c o)
 able_choose r e i k c (Some m) h = let n = takes r e i (Some k) c m h in (In c n.0 ∷ [], n.1, n.2, n.3)
 able_choose r e i k c None h =
     let n = own_begins r e (Choose i k c) h in
@@ -539,13 +539,13 @@ able_choose r e i k c None h =
 input_site : (j i d c : ℕ) → input j d ≡ input i c → j ≡ i
 input_site j i d c h = cc
 
-receive : (j d v : ℕ) (e : Store) (i c : ℕ) (m : List ℕ) → input j d ≡ input i c → Able (Getting j d v) e i (deed.Message m)
+receive : (j d v : ℕ) (e : Store) (i c : ℕ) (m : List ℕ) → input j d ≡ input i c → Able (Getting j d v) e i (action.Message m)
 receive j d v e i c m h =
     let site : j ≡ i = input_site j i d c h in
-    subst (λ y. Able (Getting j d v) e y (deed.Message m)) site (In d (received (e v) m) ∷ [], Done, set e v (received (e v) m), gets refl)
+    subst (λ y. Able (Getting j d v) e y (action.Message m)) site (In d (received (e v) m) ∷ [], Done, set e v (received (e v) m), gets refl)
 
 -- an input that waits can have any message
-receives : (r : Rest) (e : Store) (i c : ℕ) (m : List ℕ) → Contains (waiting r) (input i c) → Able r e i (deed.Message m)
+receives : (r : Rest) (e : Store) (i c : ℕ) (m : List ℕ) → Contains (waiting r) (input i c) → Able r e i (action.Message m)
 receives Done e i c m h = absurd (none (input i c) h)
 receives Stopped e i c m h = absurd (none (input i c) h)
 receives (Fresh p) e i c m h = absurd (none (input i c) h)
@@ -559,7 +559,7 @@ receives (Beside mine r q) e i c m h = elim (Contains-append_cases (waiting r) (
 ]
 
 -- what is listed and meets nothing can be done by its site
-pub able : (r : Rest) (e : Store) (m : Move) (a : Answer) → Contains (own r e) m → Able r e (site_of m) (deed_for m a)
+pub able : (r : Rest) (e : Store) (m : Move) (a : Answer) → Contains (own r e) m → Able r e (site_of m) (action_for m a)
 able r e (Quiet i) a h = let n = own_begins r e (Quiet i) h in let l = lift n.1 n.2.2 in ([], l.0, l.1, l.2)
 able r e (Stopch i c) a h =
     let n = own_begins r e (Stopch i c) h in
@@ -574,7 +574,7 @@ able r e (Choose i k c) a h = able_choose r e i k c (came a) h
 able r e (Inner i j k c) a h = absurd (own_begins r e (Inner i j k c) h).2
 
 -- a site that waits can go on
-pub able_on : (r : Rest) (e : Store) (i : ℕ) (m : Option (List ℕ)) → IsAwaited r i m → Able r e i (deed_on m)
+pub able_on : (r : Rest) (e : Store) (i : ℕ) (m : Option (List ℕ)) → IsAwaited r i m → Able r e i (action_on m)
 able_on r e i None (c, h) = let n = finishes r e i c h in (Fin c ∷ [], n.0, n.1, n.2)
 able_on r e i (Some m) (c, h) = receives r e i c m h
 

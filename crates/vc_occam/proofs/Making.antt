@@ -4,8 +4,8 @@ use Rattle.std.proofs.lemmas.List.{at_drop_all, map-append}
 use Rattle.vc_process.specs.declared.condition.Cond.{Cond}
 use Rattle.vc_process.specs.declared.expression.Expr.{Expr}
 use Rattle.vc_occam.specs.declared.frame.Frame.{Frame}
-use Rattle.vc_occam.specs.declared.guarded.GuardedInput.{GuardedInput}
-use Rattle.vc_occam.specs.declared.guarded.GuardedInputs.{GuardedInputs}
+use Rattle.vc_occam.specs.declared.guards.GuardedInput.{GuardedInput}
+use Rattle.vc_occam.specs.declared.guards.GuardedInputs.{GuardedInputs}
 use Rattle.vc_process.specs.declared.process.Branch.{Branch}
 use Rattle.vc_process.specs.declared.process.Guard.{Guard}
 use Rattle.vc_process.specs.declared.process.Process.{Process}

@@ -6,15 +6,15 @@ use Rattle.std.specs.Prelude.{◌==◌, if◌then◌else◌, not}
 use Rattle.std.specs.List.{Contains}
 use Rattle.vc_occam.specs.declared.answer.Answer.{Answer}
 use Rattle.vc_process.specs.declared.datum.Datum.{Datum}
-use Rattle.vc_occam.specs.declared.deed.Deed.{Deed}
-use Rattle.vc_occam.specs.declared.deed.Deed.TheVariants as deed
+use Rattle.vc_occam.specs.declared.site_action.SiteAction.{SiteAction}
+use Rattle.vc_occam.specs.declared.site_action.SiteAction.TheVariants as action
 use Rattle.vc_occam.specs.declared.moves.Move.{Move}
 use Rattle.vc_occam.specs.declared.moves.Move.TheVariants.{Offer, Want, Choose, Stopch, Inner, Quiet}
 use Rattle.vc_occam.specs.First.{own, first_moves, joined, meetings}
 use Rattle.vc_occam.specs.Frames.{Able, Did, is_outside}
 use Rattle.vc_occam.specs.InUse.{UsesLawfully}
 use Rattle.vc_process.specs.Messages.{message}
-use Rattle.vc_occam.specs.Moving.{CanBegin, CanMeet, HasMet, at, deed_for, partner, site_of}
+use Rattle.vc_occam.specs.Moving.{CanBegin, CanMeet, HasMet, at, action_for, partner, site_of}
 use Rattle.vc_occam.specs.Remains.{Rest, Step}
 use Rattle.vc_occam.specs.Sites.{OwnSites}
 use Rattle.vc_occam.specs.States.{State, Acts, Does, FitsMove, doing, sent_by, Meets, bytes_or_none, came, carried, meeting, output_at, output, waiting}
@@ -181,7 +181,7 @@ pub lists_other : (inside : Set) (r : Rest) (e : Store) (m : Move) → is_outsid
 lists_other inside r e m o h = outside_joined inside (own r e) (own r e) m o h
 
 -- after the output began, what it meets still can
-pub able_taking : {r q : Rest} {e f : Store} {i c : ℕ} {ks : List Comm} (j : ℕ) (k : Option ℕ) (a : Answer) → Step r e i (deed.Offer c) ks q f → Contains (own r e) (partner j k c) → Able q f (site_of (partner j k c)) (deed_for (partner j k c) a)
+pub able_taking : {r q : Rest} {e f : Store} {i c : ℕ} {ks : List Comm} (j : ℕ) (k : Option ℕ) (a : Answer) → Step r e i (action.Offer c) ks q f → Contains (own r e) (partner j k c) → Able q f (site_of (partner j k c)) (action_for (partner j k c) a)
 able_taking {q = q} {f = f} {c = c} j k a st h =
     let b = began st in
     able q f (partner j k c) a (subst (λ e. Contains (own q e) (partner j k c)) (sym b.store) (b.taking (partner j k c) (taking_partner j k c) h))
@@ -196,9 +196,9 @@ taken_says j None c m st = says st
 taken_says j (Some k) c m st = says st
 
 -- the receiver's deed, with the message
-meeting_deed : (j : ℕ) (k : Option ℕ) (c : ℕ) (a : Answer) (m : List ℕ) → came a ≡ Some m → deed_for (partner j k c) a ≡ meeting k c m
-meeting_deed j None c a m h = ap (deed.Want c) h
-meeting_deed j (Some k) c a m h = ap (deed.Choose k c) h
+meeting_deed : (j : ℕ) (k : Option ℕ) (c : ℕ) (a : Answer) (m : List ℕ) → came a ≡ Some m → action_for (partner j k c) a ≡ meeting k c m
+meeting_deed j None c a m h = ap (action.Want c) h
+meeting_deed j (Some k) c a m h = ap (action.Choose k c) h
 
 partner_site : (j : ℕ) (k : Option ℕ) (c : ℕ) → site_of (partner j k c) ≡ j
 partner_site j None c = refl
@@ -212,11 +212,11 @@ record Took (r : Rest) (e : Store) (i : ℕ) (j : ℕ) (k : Option ℕ) (c : ℕ
   value : Datum
   got : Datum
   sent : bytes_or_none (came a) ≡ message value
-  begins : Step r e i (deed.Offer c) (Out c value ∷ []) q f
+  begins : Step r e i (action.Offer c) (Out c value ∷ []) q f
   takes : Step q f j (meeting k c (bytes_or_none (came a))) (In c got ∷ []) s g
   waits : Contains (waiting s) (output i c)
 
-took : {r q s : Rest} {e f g : Store} (i j : ℕ) (k : Option ℕ) (c : ℕ) (a : Answer) → OwnSites r → came a ≡ carried (output_at i r e) → Did r e i (deed.Offer c) q f → Did q f (site_of (partner j k c)) (deed_for (partner j k c) a) s g → Took r e i j k c a q f s g
+took : {r q s : Rest} {e f g : Store} (i j : ℕ) (k : Option ℕ) (c : ℕ) (a : Answer) → OwnSites r → came a ≡ carried (output_at i r e) → Did r e i (action.Offer c) q f → Did q f (site_of (partner j k c)) (action_for (partner j k c) a) s g → Took r e i j k c a q f s g
 took {r} {q} {s} {e} {f} {g} i j k c a o fits (ks, st) (ls, tk) =
     let n = says st in
     let x = n.0 in
@@ -225,30 +225,30 @@ took {r} {q} {s} {e} {f} {g} i j k c a o fits (ks, st) (ls, tk) =
     let m = bytes_or_none (came a) in
     let same : m ≡ message x = ap bytes_or_none came_is in
     let came_m : came a ≡ Some m = came_is ∙ ap Some (sym same) in
-    let step : Step q f j (meeting k c m) ls s g = subst (λ (d : Deed). Step q f j d ls s g) (meeting_deed j k c a m came_m) (subst (λ (l : ℕ). Step q f l (deed_for (partner j k c) a) ls s g) (partner_site j k c) tk) in
+    let step : Step q f j (meeting k c m) ls s g = subst (λ (d : SiteAction). Step q f j d ls s g) (meeting_deed j k c a m came_m) (subst (λ (l : ℕ). Step q f l (action_for (partner j k c) a) ls s g) (partner_site j k c) tk) in
     let y = taken_says j k c m step in
     record {
       value = x;
       got = y.0;
       sent = same;
-      begins = subst (λ (cs : List Comm). Step r e i (deed.Offer c) cs q f) n.1 st;
+      begins = subst (λ (cs : List Comm). Step r e i (action.Offer c) cs q f) n.1 st;
       takes = subst (λ (cs : List Comm). Step q f j (meeting k c m) cs s g) y.1 step;
       waits = subst (λ ws. Contains ws (output i c)) (sym (taken_waits j k c m step)) (is_inserted (step_waits st));
     }
 
 -- then the output can be finished
-pub able_finish : {r q s : Rest} {e f g : Store} (i j : ℕ) (k : Option ℕ) (c : ℕ) (a : Answer) → OwnSites r → came a ≡ carried (output_at i r e) → Did r e i (deed.Offer c) q f → Did q f (site_of (partner j k c)) (deed_for (partner j k c) a) s g → Able s g i deed.Finish
+pub able_finish : {r q s : Rest} {e f g : Store} (i j : ℕ) (k : Option ℕ) (c : ℕ) (a : Answer) → OwnSites r → came a ≡ carried (output_at i r e) → Did r e i (action.Offer c) q f → Did q f (site_of (partner j k c)) (action_for (partner j k c) a) s g → Able s g i action.Finish
 able_finish {s = s} {g = g} i j k c a o fits st tk = able_on s g i None (c, (took i j k c a o fits st tk).waits)
 
 -- and it has met its partner
-pub has_met : {r q s t : Rest} {e f g h : Store} (i j : ℕ) (k : Option ℕ) (c : ℕ) (a : Answer) → OwnSites r → came a ≡ carried (output_at i r e) → Did r e i (deed.Offer c) q f → Did q f (site_of (partner j k c)) (deed_for (partner j k c) a) s g → Did s g i deed.Finish t h → (ks : List Comm) × Does (at r e) (Meets i j k c (bytes_or_none (came a))) ks (at t h)
+pub has_met : {r q s t : Rest} {e f g h : Store} (i j : ℕ) (k : Option ℕ) (c : ℕ) (a : Answer) → OwnSites r → came a ≡ carried (output_at i r e) → Did r e i (action.Offer c) q f → Did q f (site_of (partner j k c)) (action_for (partner j k c) a) s g → Did s g i action.Finish t h → (ks : List Comm) × Does (at r e) (Meets i j k c (bytes_or_none (came a))) ks (at t h)
 unfolding waits_site
 has_met {r} {q} {s} {t} {e} {f} {g} {h} i j k c a o fits st tk (ms, fin) =
     let n = took i j k c a o fits st tk in
     let own_sites = (step_keeps n.takes (step_keeps n.begins o).1).1 in
     let w = step_waits fin in
     let same : w.0 ≡ c = output_chan i w.0 c (one_waits s (output i w.0) (output i c) own_sites refl (is_inserted w.2) n.waits) in
-    let ends : Step s g i deed.Finish (Fin c ∷ []) t h = subst (λ (cs : List Comm). Step s g i deed.Finish cs t h) (w.1 ∙ ap (λ d. Fin d ∷ []) same) fin in (
+    let ends : Step s g i action.Finish (Fin c ∷ []) t h = subst (λ (cs : List Comm). Step s g i action.Finish cs t h) (w.1 ∙ ap (λ d. Fin d ∷ []) same) fin in (
       Out c n.value ∷ In c n.got ∷ Fin c ∷ [],
       (n.value, n.got, at q f, at s g, n.sent, refl, n.begins, n.takes, ends),
     )

@@ -5,7 +5,7 @@ use Rattle.std.specs.Prelude.{slice_get, slice_index_or, nat_le, if◌then◌els
 use Rattle.std.proofs.lemmas.Bool.Decides.{nat_tests}
 use Rattle.std.specs.Option.{option_or}
 use lib.ListN.{get_or}
-use Rattle.vc_occam.specs.declared.deed.Deed.{Deed}
+use Rattle.vc_occam.specs.declared.site_action.SiteAction.{SiteAction}
 use Rattle.vc_occam.specs.declared.frame.Frame.{Frame}
 use Rattle.vc_occam.specs.declared.frame.Frame.TheViews.{out-Frame}
 use Rattle.vc_occam.specs.declared.kind.Kind.{Kind}
@@ -103,7 +103,7 @@ doers (Turns r v b n p) = doers r
 doers (Beside mine r q) = doers r ∪ doers q
 
 -- the site that makes a step is one of them
-pub step_site : {r r' : Rest} {e e' : Store} {i : ℕ} {d : Deed} {m : List Comm} → Step r e i d m r' e' → doers r i ≡ true
+pub step_site : {r r' : Rest} {e e' : Store} {i : ℕ} {d : SiteAction} {m : List Comm} → Step r e i d m r' e' → doers r i ≡ true
 step_site (does_skip {s = s}) = itself s
 step_site (does_empty_seq {s = s}) = own_site (SEQ s no_parts)
 step_site (does_empty_par {s = s}) = own_site (PAR s no_parts)
@@ -130,7 +130,7 @@ step_site (in_turns st) = step_site st
 step_site (in_left {i = i} {r = r} {q = q} st) = or_left (doers r i) (doers q i) (step_site st)
 step_site (in_right {i = i} {r = r} {q = q} st) = or_right (doers r i) (doers q i) (step_site st)
 
-pub able_site : (r : Rest) (e : Store) (i : ℕ) (d : Deed) → Able r e i d → doers r i ≡ true
+pub able_site : (r : Rest) (e : Store) (i : ℕ) (d : SiteAction) → Able r e i d → doers r i ≡ true
 able_site r e i d (ks, q, f, st) = step_site st
 
 none_of : {A : Type 0} (x y : Option A) → x ≡ None → y ≡ None → option_or x y ≡ None
@@ -251,7 +251,7 @@ found_output i vs e h w = found i (λ r. output_at i r e) (λ m r q. beside_outp
 pub found_assigned : (i : ℕ) (vs : List View) (e : Store) → PartsInPreorder (plans_of vs) → AllWithin vs → assigned_at i (besides vs) e ≡ part_assigned i (slice_get vs (place_with i vs)) e
 found_assigned i vs e h w = found i (λ r. assigned_at i r e) (λ m r q. beside_assigned i m r q e) (λ r k. none_assigned i e r k) vs h w ∙ assigned_part i (slice_get vs (place_with i vs)) e
 
-pub found_able : (i : ℕ) (vs : List View) (e : Store) (d : Deed) → PartsInPreorder (plans_of vs) → AllWithin vs → Able (besides vs) e i d → Able (part_rest (slice_get vs (place_with i vs))) e i d
+pub found_able : (i : ℕ) (vs : List View) (e : Store) (d : SiteAction) → PartsInPreorder (plans_of vs) → AllWithin vs → Able (besides vs) e i d → Able (part_rest (slice_get vs (place_with i vs))) e i d
 found_able i [] e d h w (ks, q, f, st) = elim st [ ]
 found_able i (v ∷ []) e d h w a = elim (beside_able (changes v.0) v.1 Done e i d a) [
   | inl b ↦ b
@@ -301,7 +301,7 @@ halved (x ∷ y ∷ fs) (suc (suc m)) i l p =
     rw e (t ∙ ap suc r)
 
 -- what a site of a PAR does is done by the part at its place
-pub together_able : (k : Kind) (i : ℕ) (fs : List Frame) (p : ℕ) (e : Store) (s : ℕ) (d : Deed) → k ≡ kind.Par → InPreorder (plan_at k i (views fs)) → AllWithin (views fs) → p ≡ place_with s (views fs) → Able (together k (views fs)) e s d → Able (part_rest (slice_get (views fs) p)) e s d
+pub together_able : (k : Kind) (i : ℕ) (fs : List Frame) (p : ℕ) (e : Store) (s : ℕ) (d : SiteAction) → k ≡ kind.Par → InPreorder (plan_at k i (views fs)) → AllWithin (views fs) → p ≡ place_with s (views fs) → Able (together k (views fs)) e s d → Able (part_rest (slice_get (views fs) p)) e s d
 together_able k i fs p e s d h g w q a =
     let vs = views fs in
     let pre : PartsInPreorder (plans_of vs) = (subst (λ (j : Kind). InPreorder (plan_at j i vs)) h g).1 in
@@ -319,7 +319,7 @@ together_variables k i vs p n h g = all_variables vs p n (subst (λ (j : Kind). 
 pub together_preorder : (k : Kind) (i : ℕ) (vs : List View) (p : ℕ) → k ≡ kind.Par → InPreorder (plan_at k i vs) → PartInPreorder (slice_get vs p)
 together_preorder k i vs p h g = parts_preorder vs p (subst (λ (j : Kind). InPreorder (plan_at j i vs)) h g).1
 
-pub together_did : (k : Kind) (i : ℕ) (vs ws : List View) (p at : ℕ) (e f : Store) (s : ℕ) (d : Deed) → k ≡ kind.Par → plans ws ≡ plans vs → ChangedAt p vs ws → Did (part_rest (slice_get vs p)) e s d (part_rest (slice_get ws p)) f →
+pub together_did : (k : Kind) (i : ℕ) (vs ws : List View) (p at : ℕ) (e f : Store) (s : ℕ) (d : SiteAction) → k ≡ kind.Par → plans ws ≡ plans vs → ChangedAt p vs ws → Did (part_rest (slice_get vs p)) e s d (part_rest (slice_get ws p)) f →
     Did (together k vs) e s d (rest_at k phase.Together i ws at) f
 together_did k i vs ws p at e f s d h q c a =
     subst (λ (j : Kind). Did (together j vs) e s d (together j ws) f) (sym h)

@@ -1,6 +1,6 @@
 -- What remains after a step changes and uses no more variables, and outputs and inputs on no more channels, than what remained before.
 use Rattle.std.proofs.Common.{◌≡◌, ℕ, zero, suc, ℤ, Bool, true, false, List, Option, Some, None, inl, inr}
-use Rattle.vc_occam.specs.declared.deed.Deed.{Deed}
+use Rattle.vc_occam.specs.declared.site_action.SiteAction.{SiteAction}
 use Rattle.vc_process.specs.Syntax.{Test, Proc, SKIP, STOP, Assign, Output, Input, StopChan, SEQ, PAR, IF, WHILE, COUNT, ALT, Procs, no_parts, part, Branches, no_branches, branch, Guards, guard}
 use Rattle.vc_process.specs.Values.{Store, holds}
 use Rattle.vc_process.specs.Usage.{Set, nothing, just, ◌∪◌, in_exp, in_test, changes, changes_all, changes_branches, changes_guards, uses, uses_all, uses_branches, uses_guards}
@@ -213,7 +213,7 @@ beside_in mine r q a h = h
 in_output : (s c : ℕ) (a : _) → IsPart (of_rest (Finishing s c)) (of (Output s c a))
 in_output s c a = record { changed = itself nothing; used = none_of (uses (Output s c a)); output = itself (just c); input = itself nothing }
 
-pub step_in : {r r' : Rest} {e e' : Store} {i : ℕ} {d : Deed} {m : List Comm} → Step r e i d m r' e' → IsPart (of_rest r') (of_rest r)
+pub step_in : {r r' : Rest} {e e' : Store} {i : ℕ} {d : SiteAction} {m : List Comm} → Step r e i d m r' e' → IsPart (of_rest r') (of_rest r)
 step_in (does_skip {s = s}) = none_in (of (SKIP s))
 step_in (does_empty_seq {s = s}) = none_in (of (SEQ s no_parts))
 step_in (does_empty_par {s = s}) = none_in (of (PAR s no_parts))

@@ -1,13 +1,13 @@
 -- Parts side by side keep sites of their own.
 use Rattle.std.proofs.Common.{◌≡◌, ℕ, zero, suc, ℤ, Bool, true, false, refl, sym, ◌∙◌, List, Option, Some, None, ◌⊎◌, inl, inr, ◌||◌}
-use Rattle.vc_occam.specs.declared.deed.Deed.{Deed}
+use Rattle.vc_occam.specs.declared.site_action.SiteAction.{SiteAction}
 use Rattle.vc_process.specs.Syntax.{Test, Proc, SKIP, STOP, Assign, Output, Input, StopChan, SEQ, PAR, IF, WHILE, COUNT, ALT, Procs, no_parts, part, Branches, no_branches, branch, Guards}
 use Rattle.vc_process.specs.Values.{Store, holds}
 use Rattle.vc_process.specs.Usage.{Set, nothing, just, ◌∪◌}
 use Rattle.vc_occam.specs.Traces.{Comm}
 use Rattle.vc_occam.specs.Remains.{Rest, Done, Stopped, Fresh, Finishing, Getting, Then, Turns, Beside, and_then, begin, begin_seq, begin_par, begin_all, then_on, turns_on, beside_on, branch_on, chosen, GuardAt, first, later, Step, does_skip, does_empty_seq, does_empty_par, does_assign, faults_assign, faults_out, does_if, does_turn, does_leave, faults_while, does_count, does_count_none, faults_count, does_offer, does_finish, does_input, waits_input, gets, does_stop, does_choose, waits_choose, in_then, in_turns, in_left, in_right}
 use Rattle.vc_occam.specs.Sites.{sites, sites_all, sites_branches, sites_guards, Disjoint, HasOwnSites, AllHaveOwnSites, PartsHaveOwnSites, BranchesHaveOwnSites, GuardsHaveOwnSites, sites_rest, OwnSites}
-use Rattle.vc_occam.specs.States.{State, StepsTo, Doing, Offers, Wants, Chooses, Stops, Meets, Rests, Finishes, Receives, Does}
+use Rattle.vc_occam.specs.States.{State, StepsTo, ProcessStep, Offers, Wants, Chooses, Stops, Meets, Rests, Finishes, Receives, Does}
 use Rattle.vc_occam.proofs.Stores.{or_left, or_right}
 
 -- the first set is a part of the second
@@ -159,7 +159,7 @@ guard_keeps (later {p = p} {p' = q} {gs = gs} g) h =
     let n = guard_keeps g h.1 in
     (through {b = sites_guards gs} n.0 (within_right (sites p) (sites_guards gs)), n.1)
 
-pub step_keeps : {r r' : Rest} {e e' : Store} {i : ℕ} {d : Deed} {m : List Comm} → Step r e i d m r' e' → OwnSites r → Keeps r r'
+pub step_keeps : {r r' : Rest} {e e' : Store} {i : ℕ} {d : SiteAction} {m : List Comm} → Step r e i d m r' e' → OwnSites r → Keeps r r'
 step_keeps (does_skip {s = s}) o = ends (Fresh (SKIP s))
 step_keeps (does_empty_seq {s = s}) o = ends (Fresh (SEQ s no_parts))
 step_keeps (does_empty_par {s = s}) o = ends (Fresh (PAR s no_parts))
@@ -206,13 +206,13 @@ step_keeps (in_right {r = r} {q = q} {q' = q'} {mine = mine} st) o =
     beside_keeps mine (Beside mine r q) r q' (joined {a = sites_rest r} {b = sites_rest q'} {c = sites_rest r} {d = sites_rest q} (λ k e. e) n.0)
     (apart_within {a = sites_rest r} {b = sites_rest q'} {c = sites_rest r} {d = sites_rest q} (λ k e. e) n.0 o.0, o.1, n.1)
 
-pub steps_keep : (s s' : State) (i : ℕ) (d : Deed) (ks : List Comm) → StepsTo s i d ks s' → OwnSites s.rest → OwnSites s'.rest
+pub steps_keep : (s s' : State) (i : ℕ) (d : SiteAction) (ks : List Comm) → StepsTo s i d ks s' → OwnSites s.rest → OwnSites s'.rest
 steps_keep s s' i d ks h o = (step_keeps h o).1
 
-meets_keeps : {s t u s' : Rest} {e f g e' : Store} {ks ls ms : List Comm} {i j n : ℕ} {a b c : Deed} → Step s e i a ks t f → Step t f j b ls u g → Step u g n c ms s' e' → OwnSites s → OwnSites s'
+meets_keeps : {s t u s' : Rest} {e f g e' : Store} {ks ls ms : List Comm} {i j n : ℕ} {a b c : SiteAction} → Step s e i a ks t f → Step t f j b ls u g → Step u g n c ms s' e' → OwnSites s → OwnSites s'
 meets_keeps a b c o = (step_keeps c (step_keeps b (step_keeps a o).1).1).1
 
-pub doing_keeps : (s s' : State) (d : Doing) (ks : List Comm) → Does s d ks s' → OwnSites s.rest → OwnSites s'.rest
+pub doing_keeps : (s s' : State) (d : ProcessStep) (ks : List Comm) → Does s d ks s' → OwnSites s.rest → OwnSites s'.rest
 doing_keeps s s' (Offers i c m) ks h o = (step_keeps h.3 o).1
 doing_keeps s s' (Wants i c None) ks h o = (step_keeps h.1 o).1
 doing_keeps s s' (Wants i c (Some m)) ks h o = (step_keeps h.2 o).1

@@ -2,7 +2,7 @@
 use Rattle.std.proofs.Common.{◌≡◌, ℕ, zero, suc, ◌≤◌, ◌<◌, Bool, true, false, ◌&&◌, ◌||◌, refl, ap, sym, ◌∙◌, subst, List, [], ◌∷◌, map, length, get_or, set, drop, arith, Option, Some, None}
 use Rattle.std.proofs.lemmas.Bool.Decides.{nat_tests}
 use Rattle.std.specs.Prelude.{slice_get, nat_lt, is_some, if◌then◌else◌}
-use Rattle.vc_occam.specs.declared.deed.Deed.{Deed}
+use Rattle.vc_occam.specs.declared.site_action.SiteAction.{SiteAction}
 use Rattle.vc_occam.specs.declared.frame.Frame.{Frame}
 use Rattle.vc_occam.specs.declared.kind.Kind.{Kind}
 use Rattle.vc_occam.specs.declared.kind.Kind.TheVariants as kind
@@ -21,19 +21,19 @@ use Rattle.vc_occam.proofs.Beginning.{begun_plans}
 use Rattle.vc_occam.proofs.Frames.{going_part, follow_assigned, resting_goes, resting_stops, went_done}
 use Rattle.vc_occam.proofs.Stores.{or_left, or_right}
 
-then_able : (r : Rest) (ps : Procs) (e : Store) (s : ℕ) (d : Deed) → Able (and_then r ps) e s d → Able r e s d
+then_able : (r : Rest) (ps : Procs) (e : Store) (s : ℕ) (d : SiteAction) → Able (and_then r ps) e s d → Able r e s d
 then_able r no_parts e s d a = a
 then_able r (part p ps) e s d (ks, q, f, in_then {r' = r'} {e' = e'} st) = (ks, r', e', st)
 
-follow_able : (o : Option View) (ps : Procs) (e : Store) (s : ℕ) (d : Deed) → Able (follow o ps) e s d → Able (part_rest o) e s d
+follow_able : (o : Option View) (ps : Procs) (e : Store) (s : ℕ) (d : SiteAction) → Able (follow o ps) e s d → Able (part_rest o) e s d
 follow_able None ps e s d a = a
 follow_able (Some v) ps e s d a = then_able v.1 ps e s d a
 
-then_did : (r q : Rest) (ps : Procs) (e f : Store) (s : ℕ) (d : Deed) → Did r e s d q f → Did (and_then r ps) e s d (on_part q ps) f
+then_did : (r q : Rest) (ps : Procs) (e f : Store) (s : ℕ) (d : SiteAction) → Did r e s d q f → Did (and_then r ps) e s d (on_part q ps) f
 then_did r q no_parts e f s d h = h
 then_did r q (part p ps) e f s d h = (h.0, in_then h.1)
 
-follow_did : (o w : Option View) (ps : Procs) (e f : Store) (s : ℕ) (d : Deed) → is_some w ≡ is_some o → Did (part_rest o) e s d (part_rest w) f → Did (follow o ps) e s d (follow_on w ps) f
+follow_did : (o w : Option View) (ps : Procs) (e f : Store) (s : ℕ) (d : SiteAction) → is_some w ≡ is_some o → Did (part_rest o) e s d (part_rest w) f → Did (follow o ps) e s d (follow_on w ps) f
 follow_did None None ps e f s d h k = k
 follow_did None (Some w) ps e f s d h k = absurd (let z : true ≡ false = h in cc)
 follow_did (Some v) None ps e f s d h k = absurd (let z : false ≡ true = h in cc)
@@ -137,7 +137,7 @@ same_some vs ws k h = some_plans ws k ∙ ap (λ ps. is_some (slice_get ps k)) h
 going_rest : (k : Kind) (i : ℕ) (ph : Phase) (vs : List View) (at p : ℕ) → ph ≡ phase.Waiting → goes_on_at_one_part k ≡ true → p ≡ place_of k at → rest_at k ph i vs at ≡ follow (slice_get vs p) (behind k i vs at)
 going_rest k i ph vs at p h t e = ap (λ q. rest_at k q i vs at) h ∙ going_part k i vs at t ∙ ap (λ q. follow (slice_get vs q) (behind k i vs at)) (sym e)
 
-pub within_able : (k : Kind) (i : ℕ) (ph : Phase) (vs : List View) (at p : ℕ) (e : Store) (s : ℕ) (d : Deed) → ph ≡ phase.Waiting → goes_on_at_one_part k ≡ true → p ≡ place_of k at → Able (rest_at k ph i vs at) e s d → Able (part_rest (slice_get vs p)) e s d
+pub within_able : (k : Kind) (i : ℕ) (ph : Phase) (vs : List View) (at p : ℕ) (e : Store) (s : ℕ) (d : SiteAction) → ph ≡ phase.Waiting → goes_on_at_one_part k ≡ true → p ≡ place_of k at → Able (rest_at k ph i vs at) e s d → Able (part_rest (slice_get vs p)) e s d
 within_able k i ph vs at p e s d h t g a = follow_able (slice_get vs p) (behind k i vs at) e s d (subst (λ r. Able r e s d) (going_rest k i ph vs at p h t g) a)
 
 pub within_assigned : (k : Kind) (i j : ℕ) (ph : Phase) (vs : List View) (at p : ℕ) (e : Store) → ph ≡ phase.Waiting → goes_on_at_one_part k ≡ true → p ≡ place_of k at → assigned_at j (rest_at k ph i vs at) e ≡ part_assigned j (slice_get vs p) e
@@ -190,7 +190,7 @@ place_variables (kind.Alt gs) i vs at n h g = guard_variables (map gate gs.input
 pub within_variables : (k : Kind) (i : ℕ) (vs : List View) (at p n : ℕ) → goes_on_at_one_part k ≡ true → p ≡ place_of k at → HasVariables (plan_at k i vs) n → PartHasVariables (slice_get vs p) n
 within_variables k i vs at p n h e g = subst (λ q. PartHasVariables (slice_get vs q) n) (sym e) (place_variables k i vs at n h g)
 
-pub within_did : (k : Kind) (i : ℕ) (ph : Phase) (vs ws : List View) (at p : ℕ) (e f : Store) (s : ℕ) (d : Deed) (r : Rest) → ph ≡ phase.Waiting → goes_on_at_one_part k ≡ true → p ≡ place_of k at → plans ws ≡ plans vs →
+pub within_did : (k : Kind) (i : ℕ) (ph : Phase) (vs ws : List View) (at p : ℕ) (e f : Store) (s : ℕ) (d : SiteAction) (r : Rest) → ph ≡ phase.Waiting → goes_on_at_one_part k ≡ true → p ≡ place_of k at → plans ws ≡ plans vs →
     r ≡ follow_on (slice_get ws (place_of k at)) (behind k i ws at) → Did (part_rest (slice_get vs p)) e s d (part_rest (slice_get ws p)) f → Did (rest_at k ph i vs at) e s d r f
 within_did k i ph vs ws at p e f s d r h t g q z y =
     let b = behind k i vs at in
@@ -303,19 +303,19 @@ par_preorder (kind.Count v a m) i vs h g = absurd (let z : false ≡ true = h in
 par_preorder (kind.Alt gs) i vs h g = absurd (let z : false ≡ true = h in cc)
 
 -- by how far it is
-pub phase_able : (k : Kind) (i : ℕ) (ph q : Phase) (vs : List View) (at : ℕ) (e : Store) (s : ℕ) (d : Deed) → ph ≡ q → Able (rest_at k ph i vs at) e s d → Able (rest_at k q i vs at) e s d
+pub phase_able : (k : Kind) (i : ℕ) (ph q : Phase) (vs : List View) (at : ℕ) (e : Store) (s : ℕ) (d : SiteAction) → ph ≡ q → Able (rest_at k ph i vs at) e s d → Able (rest_at k q i vs at) e s d
 phase_able k i ph q vs at e s d h a = subst (λ x. Able (rest_at k x i vs at) e s d) h a
 
-pub phase_did : (k : Kind) (i : ℕ) (ph q : Phase) (vs : List View) (at : ℕ) (e f : Store) (s : ℕ) (d : Deed) (r : Rest) → ph ≡ q → Did (rest_at k q i vs at) e s d r f → Did (rest_at k ph i vs at) e s d r f
+pub phase_did : (k : Kind) (i : ℕ) (ph q : Phase) (vs : List View) (at : ℕ) (e f : Store) (s : ℕ) (d : SiteAction) (r : Rest) → ph ≡ q → Did (rest_at k q i vs at) e s d r f → Did (rest_at k ph i vs at) e s d r f
 phase_did k i ph q vs at e f s d r h a = subst (λ x. Did (rest_at k x i vs at) e s d r f) (sym h) a
 
-pub never : (r q : Rest) (e f : Store) (s : ℕ) (d : Deed) → Able Stopped e s d → Did r e s d q f
+pub never : (r q : Rest) (e f : Store) (s : ℕ) (d : SiteAction) → Able Stopped e s d → Did r e s d q f
 never r q e f s d (ks, p, g, st) = elim st [ ]
 
-pub never_there : (r q : Rest) (e f : Store) (s : ℕ) (d : Deed) → Able (Fresh (STOP 0)) e s d → Did r e s d q f
+pub never_there : (r q : Rest) (e f : Store) (s : ℕ) (d : SiteAction) → Able (Fresh (STOP 0)) e s d → Did r e s d q f
 never_there r q e f s d (ks, p, g, st) = elim st [ ]
 
-pub never_done : (r q : Rest) (e f : Store) (s : ℕ) (d : Deed) → Able Done e s d → Did r e s d q f
+pub never_done : (r q : Rest) (e f : Store) (s : ℕ) (d : SiteAction) → Able Done e s d → Did r e s d q f
 never_done r q e f s d (ks, p, g, st) = elim st [ ]
 
 -- what one changes that goes on at none of its parts
@@ -422,13 +422,13 @@ resting_plans zero (v ∷ vs) = refl
 resting_plans (suc k) (v ∷ vs) = ap (λ (ps : List Proc). v.0 ∷ ps) (resting_plans k vs)
 
 -- the part of a process that rests can do what the process can
-pub resting_able : (k : Kind) (i : ℕ) (ph : Phase) (vs : List View) (at p : ℕ) (e : Store) (s : ℕ) (d : Deed) → ph ≡ phase.Resting → goes_on_at_one_part k ≡ true → p ≡ place_of k at → Able (rest_at k ph i vs at) e s d → Able (part_rest (slice_get (resting_at p vs) p)) e s d
+pub resting_able : (k : Kind) (i : ℕ) (ph : Phase) (vs : List View) (at p : ℕ) (e : Store) (s : ℕ) (d : SiteAction) → ph ≡ phase.Resting → goes_on_at_one_part k ≡ true → p ≡ place_of k at → Able (rest_at k ph i vs at) e s d → Able (part_rest (slice_get (resting_at p vs) p)) e s d
 resting_able k i ph vs at p e s d h t g a =
     let q = place_of k at in
     let b = subst (λ (r : Rest). Able r e s d) (ap (λ (x : Phase). rest_at k x i vs at) h ∙ resting_goes k i vs at t) a in
     subst (λ (n : ℕ). Able (part_rest (slice_get (resting_at n vs) n)) e s d) (sym g) (within_able k i phase.Waiting (resting_at q vs) at q e s d refl t refl b)
 
-pub resting_did : (k : Kind) (i : ℕ) (ph : Phase) (vs ws : List View) (at p : ℕ) (e f : Store) (s : ℕ) (d : Deed) (r : Rest) → ph ≡ phase.Resting → goes_on_at_one_part k ≡ true → p ≡ place_of k at → plans ws ≡ plans vs →
+pub resting_did : (k : Kind) (i : ℕ) (ph : Phase) (vs ws : List View) (at p : ℕ) (e f : Store) (s : ℕ) (d : SiteAction) (r : Rest) → ph ≡ phase.Resting → goes_on_at_one_part k ≡ true → p ≡ place_of k at → plans ws ≡ plans vs →
     r ≡ follow_on (slice_get ws (place_of k at)) (behind k i ws at) → Did (part_rest (slice_get (resting_at p vs) p)) e s d (part_rest (slice_get ws p)) f → Did (rest_at k ph i vs at) e s d r f
 resting_did k i ph vs ws at p e f s d r h t g q z y =
     let n = place_of k at in
@@ -437,12 +437,12 @@ resting_did k i ph vs ws at p e f s d r h t g q z y =
     subst (λ (x : Rest). Did x e s d r f) (sym (ap (λ (x : Phase). rest_at k x i vs at) h ∙ resting_goes k i vs at t))
     (within_did k i phase.Waiting us ws at n e f s d r refl t refl (q ∙ sym (resting_plans n vs)) z st)
 
-pub resting_never : (k : Kind) (i : ℕ) (ph : Phase) (vs : List View) (at : ℕ) (e : Store) (s : ℕ) (d : Deed) (r : Rest) → ph ≡ phase.Resting → goes_on_at_one_part k ≡ false → Able (rest_at k ph i vs at) e s d → Did (rest_at k ph i vs at) e s d r e
+pub resting_never : (k : Kind) (i : ℕ) (ph : Phase) (vs : List View) (at : ℕ) (e : Store) (s : ℕ) (d : SiteAction) (r : Rest) → ph ≡ phase.Resting → goes_on_at_one_part k ≡ false → Able (rest_at k ph i vs at) e s d → Did (rest_at k ph i vs at) e s d r e
 resting_never k i ph vs at e s d r h t a =
     never _ r e e s d (subst (λ (x : Rest). Able x e s d) (ap (λ (x : Phase). rest_at k x i vs at) h ∙ resting_stops k i vs at t) a)
 
-stopped_never : (e : Store) (s : ℕ) (d : Deed) → Able Stopped e s d → ⊥
+stopped_never : (e : Store) (s : ℕ) (d : SiteAction) → Able Stopped e s d → ⊥
 stopped_never e s d (ks, q, f, st) = elim st [ ]
 
-pub never_able : (r : Rest) (e : Store) (s : ℕ) (d : Deed) → r ≡ Stopped → Able r e s d → ⊥
+pub never_able : (r : Rest) (e : Store) (s : ℕ) (d : SiteAction) → r ≡ Stopped → Able r e s d → ⊥
 never_able r e s d h a = stopped_never e s d (subst (λ (x : Rest). Able x e s d) h a)

@@ -5,8 +5,8 @@ use Rattle.std.proofs.lemmas.Bool.Decides.{nat_tests}
 use Rattle.std.proofs.lemmas.Int.{ints}
 use lib.Signed.{mag}
 use Rattle.vc_process.specs.declared.datum.Datum.TheVariants as datum
-use Rattle.vc_occam.specs.declared.deed.Deed.{Deed}
-use Rattle.vc_occam.specs.declared.deed.Deed.TheVariants as deed
+use Rattle.vc_occam.specs.declared.site_action.SiteAction.{SiteAction}
+use Rattle.vc_occam.specs.declared.site_action.SiteAction.TheVariants as action
 use Rattle.vc_process.specs.declared.expression.Expr.{Expr}
 use Rattle.vc_occam.specs.declared.kind.Kind.{Kind}
 use Rattle.vc_occam.specs.declared.kind.Kind.TheVariants as kind
@@ -62,7 +62,7 @@ no_none z h k = let e : Some z ≡ None = sym (in_range z h) ∙ k in absurd cc
 module _ (i v : ℕ) (a n : Exp) (p t : Proc) (r : Rest) (vs : List View) (e : Store) where
   abbrev Counted : Option ℤ → Option ℤ → Type 0
   Counted o w =
-      Did (Fresh (COUNT i v a n p)) e i deed.Quiet (so_far (count_phase o w) t Stopped Stopped Stopped Stopped (turn_of v (count_begun (count_phase o w) ((p, r) ∷ vs)))) (count_store v (count_phase o w) e)
+      Did (Fresh (COUNT i v a n p)) e i action.Quiet (so_far (count_phase o w) t Stopped Stopped Stopped Stopped (turn_of v (count_begun (count_phase o w) ((p, r) ∷ vs)))) (count_store v (count_phase o w) e)
 
   pub counted : (o w : Option ℤ) → value_of a e ≡ o → value_of n e ≡ w → ((x : ℤ) → o ≡ Some x → mag x < 2 ^ 63) → Counted o w
   counted None w g h l = ([], faults_count (λ b m c. let z : None ≡ Some b = sym g ∙ c.0 in absurd cc))
@@ -71,7 +71,7 @@ module _ (i v : ℕ) (a n : Exp) (p t : Proc) (r : Rest) (vs : List View) (e : S
   counted (Some x) (Some (pos zero)) g h l = ([], does_count_none (g, h, λ k m. absurd (omega arith)))
   counted (Some x) (Some (pos (suc m))) g h l = by (within (x +ℤ pos m)) refl
     where
-      by : (o : Option ℤ) → within (x +ℤ pos m) ≡ o → Did (Fresh (COUNT i v a n p)) e i deed.Quiet (so_far (last_phase x o) t Stopped Stopped Stopped Stopped (turn_of v (count_begun (last_phase x o) ((p, r) ∷ vs)))) (count_store v (last_phase x o) e)
+      by : (o : Option ℤ) → within (x +ℤ pos m) ≡ o → Did (Fresh (COUNT i v a n p)) e i action.Quiet (so_far (last_phase x o) t Stopped Stopped Stopped Stopped (turn_of v (count_begun (last_phase x o) ((p, r) ∷ vs)))) (count_store v (last_phase x o) e)
       by None q = (
         [],
         faults_count (λ b k c.
@@ -85,7 +85,7 @@ module _ (i v : ℕ) (a n : Exp) (p t : Proc) (r : Rest) (vs : List View) (e : S
           let u = has_range (x +ℤ pos m) y q in
           let c : Counts (value_of a e) (value_of n e) x (suc m) = (g, h, λ k b. no_none (x +ℤ pos k) (between x k m (omega arith) (l x refl) u.0)) in
           let many : turns_left x y ≡ m = ap (turns_left x) (sym u.1) ∙ left_of x m in
-          ([], subst (λ k. Step (Fresh (COUNT i v a n p)) e i deed.Quiet [] (Turns (begin p) v (x +ℤ pos 1) k p) (set e v (datum.Int x))) (sym many) (does_count c))
+          ([], subst (λ k. Step (Fresh (COUNT i v a n p)) e i action.Quiet [] (Turns (begin p) v (x +ℤ pos 1) k p) (set e v (datum.Int x))) (sym many) (does_count c))
 
 -- a turn that did something
 turn_went : (w : Proc) (q : Rest) (v : ℕ) (x y : ℤ) (p : Proc) (d : Bool) (vs : List View) (f : Store) → is_done q ≡ d →
@@ -122,13 +122,13 @@ count_variable k i v a n vs m h l g = on vs l (subst (λ (j : Kind). HasVariable
     on [] l g = absurd (l refl)
     on (w ∷ vs) l g = g v (or_left (just v v) (changes w.0 v) (itself v))
 
-same : (i v : ℕ) (a n : Exp) (q : Proc) (e : Store) (s : ℕ) (d : Deed) → Able (Fresh (COUNT i v a n q)) e s d → (x : Rest) (y : Store) → Did (Fresh (COUNT i v a n q)) e i deed.Quiet x y → Did (Fresh (COUNT i v a n q)) e s d x y
+same : (i v : ℕ) (a n : Exp) (q : Proc) (e : Store) (s : ℕ) (d : SiteAction) → Able (Fresh (COUNT i v a n q)) e s d → (x : Rest) (y : Store) → Did (Fresh (COUNT i v a n q)) e i action.Quiet x y → Did (Fresh (COUNT i v a n q)) e s d x y
 same i v a n q e s d (ks, x', y', does_count c) x y z = z
 same i v a n q e s d (ks, x', y', does_count_none c) x y z = z
 same i v a n q e s d (ks, x', y', faults_count c) x y z = z
 
 pub count_did : (k : Kind) (i v : ℕ) (a n : Expr) (vs ws : List View) (e f : Store) (ph : Phase) → k ≡ kind.Count v a n → (length vs ≡ 0 → ⊥) → ph ≡ count_phase (value_of (exp a) e) (value_of (exp n) e) → ((x : ℤ) → value_of (exp a) e ≡ Some x → mag x < 2 ^ 63) →
-    ws ≡ count_begun ph vs → f ≡ count_store v ph e → (s : ℕ) (d : Deed) (at : ℕ) → Able (Fresh (plan_at k i vs)) e s d → Did (Fresh (plan_at k i vs)) e s d (rest_at k ph i ws at) f
+    ws ≡ count_begun ph vs → f ≡ count_store v ph e → (s : ℕ) (d : SiteAction) (at : ℕ) → Able (Fresh (plan_at k i vs)) e s d → Did (Fresh (plan_at k i vs)) e s d (rest_at k ph i ws at) f
 count_did k i v a n vs ws e f ph h l p r w g s d at able =
     subst (λ (j : Kind). Did (Fresh (plan_at j i vs)) e s d (rest_at j ph i ws at) f) (sym h) (on vs l w (subst (λ (j : Kind). Able (Fresh (plan_at j i vs)) e s d) h able))
   where
@@ -137,16 +137,16 @@ count_did k i v a n vs ws e f ph h l p r w g s d at able =
     on (u ∷ vs) l w able =
         let t = count_of i v (exp a) (exp n) ws in
         let made = counted i v (exp a) (exp n) u.0 t u.1 vs e (value_of (exp a) e) (value_of (exp n) e) refl refl r in
-        let by_phase = subst (λ o. Did (Fresh (COUNT i v (exp a) (exp n) u.0)) e i deed.Quiet (so_far o t Stopped Stopped Stopped Stopped (turn_of v (count_begun o (u ∷ vs)))) (count_store v o e)) (sym p) made in
-        let by_parts = subst (λ us. Did (Fresh (COUNT i v (exp a) (exp n) u.0)) e i deed.Quiet (so_far ph t Stopped Stopped Stopped Stopped (turn_of v us)) (count_store v ph e)) (sym w) by_phase in
-        let by_store = subst (λ y. Did (Fresh (COUNT i v (exp a) (exp n) u.0)) e i deed.Quiet (so_far ph t Stopped Stopped Stopped Stopped (turn_of v ws)) y) (sym g) by_parts in
+        let by_phase = subst (λ o. Did (Fresh (COUNT i v (exp a) (exp n) u.0)) e i action.Quiet (so_far o t Stopped Stopped Stopped Stopped (turn_of v (count_begun o (u ∷ vs)))) (count_store v o e)) (sym p) made in
+        let by_parts = subst (λ us. Did (Fresh (COUNT i v (exp a) (exp n) u.0)) e i action.Quiet (so_far ph t Stopped Stopped Stopped Stopped (turn_of v us)) (count_store v ph e)) (sym w) by_phase in
+        let by_store = subst (λ y. Did (Fresh (COUNT i v (exp a) (exp n) u.0)) e i action.Quiet (so_far ph t Stopped Stopped Stopped Stopped (turn_of v ws)) y) (sym g) by_parts in
         same i v (exp a) (exp n) u.0 e s d able _ f by_store
 
-turn_able : (v : ℕ) (vs : List View) (x y : ℤ) (e : Store) (s : ℕ) (d : Deed) → Able (turn_of v vs x y) e s d → Able (part_rest (slice_get vs 0)) e s d
+turn_able : (v : ℕ) (vs : List View) (x y : ℤ) (e : Store) (s : ℕ) (d : SiteAction) → Able (turn_of v vs x y) e s d → Able (part_rest (slice_get vs 0)) e s d
 turn_able v [] x y e s d (ks, q, f, st) = elim st [ ]
 turn_able v (w ∷ vs) x y e s d (ks, q, f, in_turns {r' = r'} {e' = e'} st) = (ks, r', e', st)
 
-pub turning_able : (k : Kind) (v : ℕ) (a n : Expr) (vs : List View) (x y : ℤ) (e : Store) (s : ℕ) (d : Deed) → k ≡ kind.Count v a n → Able (turning k vs x y) e s d → Able (part_rest (slice_get vs 0)) e s d
+pub turning_able : (k : Kind) (v : ℕ) (a n : Expr) (vs : List View) (x y : ℤ) (e : Store) (s : ℕ) (d : SiteAction) → k ≡ kind.Count v a n → Able (turning k vs x y) e s d → Able (part_rest (slice_get vs 0)) e s d
 turning_able k v a n vs x y e s d h g = turn_able v vs x y e s d (subst (λ (j : Kind). Able (turning j vs x y) e s d) h g)
 
 turn_value : (i v : ℕ) (vs : List View) (x y : ℤ) (e : Store) → assigned_at i (turn_of v vs x y) e ≡ part_assigned i (slice_get vs 0) e
@@ -166,7 +166,7 @@ turning_variables k i v a n vs m h g = on vs (subst (λ (j : Kind). HasVariables
 plan_first : (p q : Proc) (ps qs : List Proc) → p ∷ ps ≡ q ∷ qs → p ≡ q
 plan_first p q ps qs h = cc
 
-pub turning_did : (k : Kind) (i v : ℕ) (a n : Expr) (vs ws us : List View) (x y : ℤ) (e f g : Store) (s : ℕ) (d : Deed) (ph : Phase) → k ≡ kind.Count v a n → (length vs ≡ 0 → ⊥) → plans ws ≡ plans vs →
+pub turning_did : (k : Kind) (i v : ℕ) (a n : Expr) (vs ws us : List View) (x y : ℤ) (e f g : Store) (s : ℕ) (d : SiteAction) (ph : Phase) → k ≡ kind.Count v a n → (length vs ≡ 0 → ⊥) → plans ws ≡ plans vs →
     Did (part_rest (slice_get vs 0)) e s d (part_rest (slice_get ws 0)) f → ph ≡ turn_phase (part_done (slice_get ws 0)) x y → us ≡ turn_views (part_done (slice_get ws 0)) x y ws → g ≡ turn_store (part_done (slice_get ws 0)) v x y f → (at : ℕ) →
     Did (turning k vs x y) e s d (rest_at k ph i us at) g
 turning_did k i v a n vs ws us x y e f g s d ph h l same st p w z at =
@@ -185,7 +185,7 @@ turning_did k i v a n vs ws us x y e f g s d ph h l same st p w z at =
         let by_store : g ≡ index_on c.1 v (x +ℤ pos 1) (turns_left x y) f = z ∙ sym m.1 in
         subst (λ r. Did (turn_of v (b ∷ vs) x y) e s d r g) (sym by_rest) (subst (λ q. Did (turn_of v (b ∷ vs) x y) e s d (turns_on c.1 v (x +ℤ pos 1) (turns_left x y) b.0) q) (sym by_store) (ks, in_turns st))
 
-counted_did : (b : Bool) (i v : ℕ) (a n : Expr) (x y : ℤ) (vs ws : List View) (e f : Store) (s : ℕ) (d : Deed) (at : ℕ) → plans ws ≡ plans vs → Did (part_rest (slice_get vs 0)) e s d (part_rest (slice_get ws 0)) f → part_done (slice_get ws 0) ≡ b →
+counted_did : (b : Bool) (i v : ℕ) (a n : Expr) (x y : ℤ) (vs ws : List View) (e f : Store) (s : ℕ) (d : SiteAction) (at : ℕ) → plans ws ≡ plans vs → Did (part_rest (slice_get vs 0)) e s d (part_rest (slice_get ws 0)) f → part_done (slice_get ws 0) ≡ b →
     Did (turn_of v vs x y) e s d (rest_at (kind.Count v a n) (turn_phase b x y) i (turn_views b x y ws) at) (turn_store b v x y f)
 counted_did b i v a n x y [] ws e f s d at same (ks, st) h = elim st [ ]
 counted_did b i v a n x y (u ∷ us) ws e f s d at same st h =
@@ -220,7 +220,7 @@ turns_not (kind.While b) vs x y h = refl
 turns_not (kind.Alt gs) vs x y h = refl
 
 -- no other process turns
-pub none_turns : (k : Kind) (i : ℕ) (ph : Phase) (x y : ℤ) (vs : List View) (at : ℕ) (e : Store) (s : ℕ) (d : Deed) (r : Rest) → ph ≡ phase.Turning x y → is_counted k ≡ false → Able (rest_at k ph i vs at) e s d → Did (rest_at k ph i vs at) e s d r e
+pub none_turns : (k : Kind) (i : ℕ) (ph : Phase) (x y : ℤ) (vs : List View) (at : ℕ) (e : Store) (s : ℕ) (d : SiteAction) (r : Rest) → ph ≡ phase.Turning x y → is_counted k ≡ false → Able (rest_at k ph i vs at) e s d → Did (rest_at k ph i vs at) e s d r e
 none_turns k i ph x y vs at e s d r h c a = never _ r e e s d (subst (λ (q : Rest). Able q e s d) (ap (λ (q : Phase). rest_at k q i vs at) h ∙ turns_not k vs x y c) a)
 
 turn_goes_on : (v : ℕ) (vs : List View) (x y : ℤ) → is_done (turn_of v vs x y) ≡ false
@@ -241,7 +241,7 @@ turns_over k i q x y vs at c h = subst (λ (p : Phase). over p ≡ is_done (rest
     on false = refl
 
 -- a turn goes on
-pub turn_goes : (k : Kind) (i : ℕ) (ph : Phase) (x y : ℤ) (vs ws : List View) (e f : Store) (s : ℕ) (d : Deed) (at : ℕ) → ph ≡ phase.Turning x y → is_counted k ≡ true → plans ws ≡ plans vs → Did (part_rest (slice_get vs 0)) e s d (part_rest (slice_get ws 0)) f → part_done (slice_get ws 0) ≡ false →
+pub turn_goes : (k : Kind) (i : ℕ) (ph : Phase) (x y : ℤ) (vs ws : List View) (e f : Store) (s : ℕ) (d : SiteAction) (at : ℕ) → ph ≡ phase.Turning x y → is_counted k ≡ true → plans ws ≡ plans vs → Did (part_rest (slice_get vs 0)) e s d (part_rest (slice_get ws 0)) f → part_done (slice_get ws 0) ≡ false →
     Did (rest_at k ph i vs at) e s d (rest_at k ph i ws at) f
 turn_goes k i ph x y vs ws e f s d at h c same st g =
     let is = counted_is k c in
@@ -249,7 +249,7 @@ turn_goes k i ph x y vs ws e f s d at h c same st g =
     (subst (λ (j : Kind). Did (turning j vs x y) e s d (turning j ws x y) f) (sym is.3) (counted_did false i is.0 is.1 is.2 x y vs ws e f s d at same st g))
 
 -- a turn has ended
-pub turn_gone : (k : Kind) (i : ℕ) (ph : Phase) (x y : ℤ) (vs ws : List View) (e f g : Store) (s : ℕ) (d : Deed) (at : ℕ) (r : Rest) → ph ≡ phase.Turning x y → is_counted k ≡ true → plans ws ≡ plans vs → Did (part_rest (slice_get vs 0)) e s d (part_rest (slice_get ws 0)) f → part_done (slice_get ws 0) ≡ true →
+pub turn_gone : (k : Kind) (i : ℕ) (ph : Phase) (x y : ℤ) (vs ws : List View) (e f g : Store) (s : ℕ) (d : SiteAction) (at : ℕ) (r : Rest) → ph ≡ phase.Turning x y → is_counted k ≡ true → plans ws ≡ plans vs → Did (part_rest (slice_get vs 0)) e s d (part_rest (slice_get ws 0)) f → part_done (slice_get ws 0) ≡ true →
     TurnEnded k ph i ws f r g → Did (rest_at k ph i vs at) e s d r g
 turn_gone k i ph x y vs ws e f g s d at r h c same st done t =
     let is = counted_is k c in

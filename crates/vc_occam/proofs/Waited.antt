@@ -5,7 +5,7 @@ use Rattle.std.proofs.lemmas.List.Elements.{Contains-append_left, Contains-appen
 use Rattle.std.specs.List.{Contains}
 use Rattle.std.specs.Prelude.{◌==◌, if◌then◌else◌, is_some}
 use Rattle.vc_occam.specs.declared.answer.Answer.{Answer}
-use Rattle.vc_occam.specs.declared.deed.Deed.TheVariants as deed
+use Rattle.vc_occam.specs.declared.site_action.SiteAction.TheVariants as action
 use Rattle.vc_occam.specs.declared.moves.Move.{Move}
 use Rattle.vc_occam.specs.declared.moves.Move.TheVariants.{Offer, Want, Choose, Stopch, Inner, Quiet}
 use Rattle.vc_process.specs.Syntax.{Proc, Procs, Output}
@@ -90,23 +90,23 @@ right_waits i m mine r q q' e e' away w = (
 )
 
 -- an output begins
-pub offer_waits : {r r' : Rest} {e e' : Store} {i c : ℕ} {ks : List Comm} → Step r e i (deed.Offer c) ks r' e' → OwnSites r → Waited i (Offer i c) r e r' e'
+pub offer_waits : {r r' : Rest} {e e' : Store} {i c : ℕ} {ks : List Comm} → Step r e i (action.Offer c) ks r' e' → OwnSites r → Waited i (Offer i c) r e r' e'
 offer_waits (does_offer {s = s} {c = c} {a = a} {e = e} h) o =
     let one : own (Fresh (Output s c a)) e ≡ Offer s c ∷ [] = ap (λ d. (if is_some d then Offer s c else Quiet s) ∷ []) h in
     (refl, subst (λ ms. Contains ms (Offer s c)) (sym one) (alone (Offer s c)), refl, tt, sym (ap (without s) one ∙ without_one s (Offer s c) refl))
-offer_waits (in_then {i = i} {d = deed.Offer c} {r = r} {r' = r'} {e = e} {e' = e'} {ps = ps} st) o = then_waits i (Offer i c) r r' ps e e' (offer_waits st o.0)
-offer_waits (in_turns {i = i} {d = deed.Offer c} {r = r} {r' = r'} {e = e} {e' = e'} {v = v} {b = b} {n = n} {p = p} st) o = turns_waits i (Offer i c) r r' v b n p e e' (offer_waits st o.0)
-offer_waits (in_left {i = i} {d = deed.Offer c} {r = r} {r' = r'} {q = q} {e = e} {e' = e'} {mine = mine} st) o = left_waits i (Offer i c) mine r r' q e e' (offer_waits st o.1)
-offer_waits (in_right {i = i} {d = deed.Offer c} {r = r} {q = q} {q' = q'} {e = e} {e' = e'} {mine = mine} st) o =
+offer_waits (in_then {i = i} {d = action.Offer c} {r = r} {r' = r'} {e = e} {e' = e'} {ps = ps} st) o = then_waits i (Offer i c) r r' ps e e' (offer_waits st o.0)
+offer_waits (in_turns {i = i} {d = action.Offer c} {r = r} {r' = r'} {e = e} {e' = e'} {v = v} {b = b} {n = n} {p = p} st) o = turns_waits i (Offer i c) r r' v b n p e e' (offer_waits st o.0)
+offer_waits (in_left {i = i} {d = action.Offer c} {r = r} {r' = r'} {q = q} {e = e} {e' = e'} {mine = mine} st) o = left_waits i (Offer i c) mine r r' q e e' (offer_waits st o.1)
+offer_waits (in_right {i = i} {d = action.Offer c} {r = r} {q = q} {q' = q'} {e = e} {e' = e'} {mine = mine} st) o =
     right_waits i (Offer i c) mine r q q' e e' (λ h. clash (doers_rest q i (step_site st)) (o.0 i h)) (offer_waits st o.2)
 
 -- an input begins that finds no message
-pub want_waits : {r r' : Rest} {e e' : Store} {i c : ℕ} {ks : List Comm} → Step r e i (deed.Want c None) ks r' e' → OwnSites r → Waited i (Want i c) r e r' e'
+pub want_waits : {r r' : Rest} {e e' : Store} {i c : ℕ} {ks : List Comm} → Step r e i (action.Want c None) ks r' e' → OwnSites r → Waited i (Want i c) r e r' e'
 want_waits (waits_input {s = s} {c = c}) o = (refl, alone (Want s c), refl, tt, sym (without_one s (Want s c) refl))
-want_waits (in_then {i = i} {d = deed.Want c None} {r = r} {r' = r'} {e = e} {e' = e'} {ps = ps} st) o = then_waits i (Want i c) r r' ps e e' (want_waits st o.0)
-want_waits (in_turns {i = i} {d = deed.Want c None} {r = r} {r' = r'} {e = e} {e' = e'} {v = v} {b = b} {n = n} {p = p} st) o = turns_waits i (Want i c) r r' v b n p e e' (want_waits st o.0)
-want_waits (in_left {i = i} {d = deed.Want c None} {r = r} {r' = r'} {q = q} {e = e} {e' = e'} {mine = mine} st) o = left_waits i (Want i c) mine r r' q e e' (want_waits st o.1)
-want_waits (in_right {i = i} {d = deed.Want c None} {r = r} {q = q} {q' = q'} {e = e} {e' = e'} {mine = mine} st) o =
+want_waits (in_then {i = i} {d = action.Want c None} {r = r} {r' = r'} {e = e} {e' = e'} {ps = ps} st) o = then_waits i (Want i c) r r' ps e e' (want_waits st o.0)
+want_waits (in_turns {i = i} {d = action.Want c None} {r = r} {r' = r'} {e = e} {e' = e'} {v = v} {b = b} {n = n} {p = p} st) o = turns_waits i (Want i c) r r' v b n p e e' (want_waits st o.0)
+want_waits (in_left {i = i} {d = action.Want c None} {r = r} {r' = r'} {q = q} {e = e} {e' = e'} {mine = mine} st) o = left_waits i (Want i c) mine r r' q e e' (want_waits st o.1)
+want_waits (in_right {i = i} {d = action.Want c None} {r = r} {q = q} {q' = q'} {e = e} {e' = e'} {mine = mine} st) o =
     right_waits i (Want i c) mine r q q' e e' (λ h. clash (doers_rest q i (step_site st)) (o.0 i h)) (want_waits st o.2)
 
 -- a move was made by which its site waits

@@ -2,14 +2,14 @@
 use Rattle.std.proofs.Common.{◌≡◌, ℕ, zero, suc, ℤ, Bool, true, false, refl, sym, ap, ◌∙◌, subst, List, [], ◌∷◌, ◌++◌, Option, Some, None, inl, inr}
 use Rattle.std.specs.List.{Contains}
 use Rattle.vc_process.specs.declared.datum.Datum.{Datum}
-use Rattle.vc_occam.specs.declared.deed.Deed.{Deed}
-use Rattle.vc_occam.specs.declared.deed.Deed.TheVariants as deed
+use Rattle.vc_occam.specs.declared.site_action.SiteAction.{SiteAction}
+use Rattle.vc_occam.specs.declared.site_action.SiteAction.TheVariants as action
 use Rattle.vc_process.specs.Syntax.{Proc, SKIP, STOP, Assign, Output, Input, StopChan, SEQ, PAR, IF, WHILE, COUNT, ALT, Procs, no_parts, part, Branches, no_branches, branch}
 use Rattle.vc_process.specs.Values.{Store, holds}
 use Rattle.vc_process.specs.Usage.{Set}
 use Rattle.vc_occam.specs.Traces.{Comm, Fin, In}
 use Rattle.vc_occam.specs.Remains.{and_then, Rest, Done, begin, begin_seq, begin_par, begin_all, then_on, turns_on, beside_on, branch_on, chosen, Step, does_skip, does_empty_seq, does_empty_par, does_assign, faults_assign, faults_out, does_if, does_turn, does_leave, faults_while, does_count, does_count_none, faults_count, does_offer, does_finish, does_input, waits_input, gets, does_stop, does_choose, waits_choose, in_then, in_turns, in_left, in_right}
-use Rattle.vc_occam.specs.States.{State, Doing, Offers, Wants, Chooses, Stops, Meets, Rests, Finishes, Receives, Does, meeting, Waiting, output, input, waiting}
+use Rattle.vc_occam.specs.States.{State, ProcessStep, Offers, Wants, Chooses, Stops, Meets, Rests, Finishes, Receives, Does, meeting, Waiting, output, input, waiting}
 use Rattle.vc_occam.specs.Laws.{IsAdded, IsKept, Inserted, inserted_here, WaitsAfter}
 use Rattle.vc_occam.proofs.Insertion.{inserted_left, inserted_right, is_inserted, inserted_keeps, inserted_or, same_without}
 
@@ -72,40 +72,40 @@ chosen_waits no_branches e = refl
 chosen_waits (branch b p bs) e = branch_waits (holds b e) (begin p) (chosen bs e) (begin_waits p) (chosen_waits bs e)
 
 -- what a site's deed changes of what waits
-abbrev pub Changed : ℕ → Deed → List Comm → List Waiting → List Waiting → Type 0
-Changed i (deed.Offer c) m old new = Inserted (output i c) old new
-Changed i (deed.Want c None) m old new = Inserted (input i c) old new
-Changed i (deed.Want c (Some x)) m old new = new ≡ old
-Changed i (deed.Choose k c None) m old new = Inserted (input i c) old new
-Changed i (deed.Choose k c (Some x)) m old new = new ≡ old
-Changed i deed.Finish m old new = (c : ℕ) × (m ≡ Fin c ∷ []) × Inserted (output i c) new old
-Changed i (deed.Message x) m old new = (c : ℕ) × (d : Datum) × (m ≡ In c d ∷ []) × Inserted (input i c) new old
-Changed i deed.Quiet m old new = new ≡ old
-Changed i (deed.StopChannel c) m old new = new ≡ old
+abbrev pub Changed : ℕ → SiteAction → List Comm → List Waiting → List Waiting → Type 0
+Changed i (action.Offer c) m old new = Inserted (output i c) old new
+Changed i (action.Want c None) m old new = Inserted (input i c) old new
+Changed i (action.Want c (Some x)) m old new = new ≡ old
+Changed i (action.Choose k c None) m old new = Inserted (input i c) old new
+Changed i (action.Choose k c (Some x)) m old new = new ≡ old
+Changed i action.Finish m old new = (c : ℕ) × (m ≡ Fin c ∷ []) × Inserted (output i c) new old
+Changed i (action.Message x) m old new = (c : ℕ) × (d : Datum) × (m ≡ In c d ∷ []) × Inserted (input i c) new old
+Changed i action.Quiet m old new = new ≡ old
+Changed i (action.StopChannel c) m old new = new ≡ old
 
-changed_left : (i : ℕ) (d : Deed) (m : List Comm) (old new : List Waiting) (ws : List Waiting) → Changed i d m old new → Changed i d m (old ++ ws) (new ++ ws)
-changed_left i (deed.Offer c) m old new ws h = inserted_left ws h
-changed_left i (deed.Want c None) m old new ws h = inserted_left ws h
-changed_left i (deed.Want c (Some x)) m old new ws h = ap (λ xs. xs ++ ws) h
-changed_left i (deed.Choose k c None) m old new ws h = inserted_left ws h
-changed_left i (deed.Choose k c (Some x)) m old new ws h = ap (λ xs. xs ++ ws) h
-changed_left i deed.Finish m old new ws h = (h.0, h.1, inserted_left ws h.2)
-changed_left i (deed.Message x) m old new ws h = (h.0, h.1, h.2, inserted_left ws h.3)
-changed_left i deed.Quiet m old new ws h = ap (λ xs. xs ++ ws) h
-changed_left i (deed.StopChannel c) m old new ws h = ap (λ xs. xs ++ ws) h
+changed_left : (i : ℕ) (d : SiteAction) (m : List Comm) (old new : List Waiting) (ws : List Waiting) → Changed i d m old new → Changed i d m (old ++ ws) (new ++ ws)
+changed_left i (action.Offer c) m old new ws h = inserted_left ws h
+changed_left i (action.Want c None) m old new ws h = inserted_left ws h
+changed_left i (action.Want c (Some x)) m old new ws h = ap (λ xs. xs ++ ws) h
+changed_left i (action.Choose k c None) m old new ws h = inserted_left ws h
+changed_left i (action.Choose k c (Some x)) m old new ws h = ap (λ xs. xs ++ ws) h
+changed_left i action.Finish m old new ws h = (h.0, h.1, inserted_left ws h.2)
+changed_left i (action.Message x) m old new ws h = (h.0, h.1, h.2, inserted_left ws h.3)
+changed_left i action.Quiet m old new ws h = ap (λ xs. xs ++ ws) h
+changed_left i (action.StopChannel c) m old new ws h = ap (λ xs. xs ++ ws) h
 
-changed_right : (i : ℕ) (d : Deed) (m : List Comm) (old new : List Waiting) (ws : List Waiting) → Changed i d m old new → Changed i d m (ws ++ old) (ws ++ new)
-changed_right i (deed.Offer c) m old new ws h = inserted_right ws h
-changed_right i (deed.Want c None) m old new ws h = inserted_right ws h
-changed_right i (deed.Want c (Some x)) m old new ws h = ap (λ xs. ws ++ xs) h
-changed_right i (deed.Choose k c None) m old new ws h = inserted_right ws h
-changed_right i (deed.Choose k c (Some x)) m old new ws h = ap (λ xs. ws ++ xs) h
-changed_right i deed.Finish m old new ws h = (h.0, h.1, inserted_right ws h.2)
-changed_right i (deed.Message x) m old new ws h = (h.0, h.1, h.2, inserted_right ws h.3)
-changed_right i deed.Quiet m old new ws h = ap (λ xs. ws ++ xs) h
-changed_right i (deed.StopChannel c) m old new ws h = ap (λ xs. ws ++ xs) h
+changed_right : (i : ℕ) (d : SiteAction) (m : List Comm) (old new : List Waiting) (ws : List Waiting) → Changed i d m old new → Changed i d m (ws ++ old) (ws ++ new)
+changed_right i (action.Offer c) m old new ws h = inserted_right ws h
+changed_right i (action.Want c None) m old new ws h = inserted_right ws h
+changed_right i (action.Want c (Some x)) m old new ws h = ap (λ xs. ws ++ xs) h
+changed_right i (action.Choose k c None) m old new ws h = inserted_right ws h
+changed_right i (action.Choose k c (Some x)) m old new ws h = ap (λ xs. ws ++ xs) h
+changed_right i action.Finish m old new ws h = (h.0, h.1, inserted_right ws h.2)
+changed_right i (action.Message x) m old new ws h = (h.0, h.1, h.2, inserted_right ws h.3)
+changed_right i action.Quiet m old new ws h = ap (λ xs. ws ++ xs) h
+changed_right i (action.StopChannel c) m old new ws h = ap (λ xs. ws ++ xs) h
 
-pub step_waits : {r r' : Rest} {e e' : Store} {i : ℕ} {d : Deed} {m : List Comm} → Step r e i d m r' e' → Changed i d m (waiting r) (waiting r')
+pub step_waits : {r r' : Rest} {e e' : Store} {i : ℕ} {d : SiteAction} {m : List Comm} → Step r e i d m r' e' → Changed i d m (waiting r) (waiting r')
 step_waits does_skip = refl
 step_waits does_empty_seq = refl
 step_waits does_empty_par = refl
@@ -153,7 +153,7 @@ taken_back {x} {y} {old} {between} {after} {new} h e k same w =
     (λ m. same_without i h same w m, λ m. same_without h i (sym same) w m)
 
 -- an output that begins and is finished at once leaves nothing that waits
-meets_keep : {s t u s' : Rest} {e f g e' : Store} {ks ls : List Comm} (i j : ℕ) (k : Option ℕ) (c : ℕ) (m : List ℕ) → Step s e i (deed.Offer c) ks t f → Step t f j (meeting k c m) ls u g → Step u g i deed.Finish (Fin c ∷ []) s' e' → IsKept (waiting s) (waiting s')
+meets_keep : {s t u s' : Rest} {e f g e' : Store} {ks ls : List Comm} (i j : ℕ) (k : Option ℕ) (c : ℕ) (m : List ℕ) → Step s e i (action.Offer c) ks t f → Step t f j (meeting k c m) ls u g → Step u g i action.Finish (Fin c ∷ []) s' e' → IsKept (waiting s) (waiting s')
 meets_keep i j None c m a b z =
     let n = step_waits z in
     taken_back (step_waits a) (step_waits b) n.2 (ap (output i) (fin_chan c n.0 n.1))
@@ -161,7 +161,7 @@ meets_keep i j (Some k) c m a b z =
     let n = step_waits z in
     taken_back (step_waits a) (step_waits b) n.2 (ap (output i) (fin_chan c n.0 n.1))
 
-pub waits_after : (s s' : State) (d : Doing) (ks : List Comm) → Does s d ks s' → WaitsAfter d (waiting s.rest) (waiting s'.rest)
+pub waits_after : (s s' : State) (d : ProcessStep) (ks : List Comm) → Does s d ks s' → WaitsAfter d (waiting s.rest) (waiting s'.rest)
 waits_after s s' (Offers i c m) ks h = added (step_waits h.3)
 waits_after s s' (Wants i c None) ks h = added (step_waits h.1)
 waits_after s s' (Wants i c (Some m)) ks h = kept (step_waits h.2)

@@ -17,7 +17,7 @@ use Rattle.vc_occam.specs.declared.begins.Begins.TheVariants as begins
 use Rattle.vc_occam.specs.declared.look.Look.{Look}
 use Rattle.vc_occam.specs.declared.look.Look.TheVariants as look
 use Rattle.vc_process.specs.declared.datum.Datum.{Datum}
-use Rattle.vc_occam.specs.declared.deed.Deed.{Deed}
+use Rattle.vc_occam.specs.declared.site_action.SiteAction.{SiteAction}
 use Rattle.vc_occam.specs.declared.waits.Waits.{Waits}
 use Rattle.vc_occam.specs.declared.waits.Waits.TheVariants as waits
 use Rattle.vc_process.specs.Values.{Store, assigned_bytes, holds}
@@ -297,11 +297,11 @@ waits_at (waits.Output c) i = output i c
 waits_at (waits.Input c) i = input i c
 
 -- a site can do this
-abbrev pub Able : Rest → Store → ℕ → Deed → Type 0
+abbrev pub Able : Rest → Store → ℕ → SiteAction → Type 0
 Able r e i d = (ks : List Comm) × (q : Rest) × (f : Store) × Step r e i d ks q f
 
 -- a site did this
-abbrev pub Did : Rest → Store → ℕ → Deed → Rest → Store → Type 0
+abbrev pub Did : Rest → Store → ℕ → SiteAction → Rest → Store → Type 0
 Did r e i d q f = (ks : List Comm) × Step r e i d ks q f
 
 -- the variables that a process changes are among so many

@@ -1,6 +1,6 @@
 -- The guards of an ALT without their bodies, and the moves that take one.
 use Rattle.std.specs.Prelude.{ℕ, suc, Bool, true, ◌&&◌, List, [], ◌∷◌, ◌++◌, is_some, if◌then◌else◌}
-use Rattle.vc_occam.specs.declared.guarded.GuardedInput.{GuardedInput}
+use Rattle.vc_occam.specs.declared.guards.GuardedInput.{GuardedInput}
 use Rattle.vc_occam.specs.declared.moves.Move.{Move}
 use Rattle.vc_occam.specs.declared.moves.Move.TheVariants.{Choose}
 use Rattle.vc_occam.specs.First.{is_true}

@@ -1,10 +1,10 @@
 -- Lawful use of what remains of a process: no step loses it.
 use Rattle.std.specs.Prelude.{◌≡◌, ℕ, false, List}
-use Rattle.vc_occam.specs.declared.deed.Deed.{Deed}
+use Rattle.vc_occam.specs.declared.site_action.SiteAction.{SiteAction}
 use Rattle.vc_process.specs.Lawful.{outputs, outputs_all, inputs, inputs_all, Lawfully, LawfullyAll}
 use Rattle.vc_occam.specs.Remains.{Rest, Done, Stopped, Fresh, Finishing, Getting, Then, Turns, Beside, begin, changes_rest, Apart}
 use Rattle.vc_occam.specs.Sites.{Disjoint}
-use Rattle.vc_occam.specs.States.{State, StepsTo, Doing, Does, IsTraced}
+use Rattle.vc_occam.specs.States.{State, StepsTo, ProcessStep, Does, IsTraced}
 use Rattle.vc_process.specs.Syntax.{Proc}
 use Rattle.vc_occam.specs.Traces.{Comm}
 use Rattle.vc_process.specs.Usage.{Set, nothing, just, ◌∪◌, changes}
@@ -54,11 +54,11 @@ LawfulAtFirst = (p : Proc) → Lawfully p → UsesLawfully (begin p)
 
 -- a step of one site, and what a process does at once, leave it so
 abbrev pub StepsKeepUse : Type 0
-StepsKeepUse = (s s' : State) (i : ℕ) (d : Deed) (ks : List Comm) → StepsTo s i d ks s' → UsesLawfully s.rest → UsesLawfully s'.rest
+StepsKeepUse = (s s' : State) (i : ℕ) (d : SiteAction) (ks : List Comm) → StepsTo s i d ks s' → UsesLawfully s.rest → UsesLawfully s'.rest
 
 abbrev pub DoingKeepsUse : Type 0
-DoingKeepsUse = (s s' : State) (d : Doing) (ks : List Comm) → Does s d ks s' → UsesLawfully s.rest → UsesLawfully s'.rest
+DoingKeepsUse = (s s' : State) (d : ProcessStep) (ks : List Comm) → Does s d ks s' → UsesLawfully s.rest → UsesLawfully s'.rest
 
 -- where use is lawful, what a process does, followed by any trace of what remains, is a trace of what remained before
 abbrev pub DoingIsTraced : Type 0
-DoingIsTraced = (s s' : State) (d : Doing) (ks : List Comm) → Does s d ks s' → UsesLawfully s.rest → IsTraced s ks s'
+DoingIsTraced = (s s' : State) (d : ProcessStep) (ks : List Comm) → Does s d ks s' → UsesLawfully s.rest → IsTraced s ks s'

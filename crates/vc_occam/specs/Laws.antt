@@ -2,7 +2,7 @@
 use Rattle.std.specs.Prelude.{◌≡◌, ◌↔◌, ◌⊎◌, ℕ, List, ◌∷◌, Some, None}
 use Rattle.std.specs.List.{Contains}
 use Rattle.vc_occam.specs.declared.answer.Answer.{Answer}
-use Rattle.vc_occam.specs.declared.deed.Deed.{Deed}
+use Rattle.vc_occam.specs.declared.site_action.SiteAction.{SiteAction}
 use Rattle.vc_occam.specs.declared.moves.Move.{Move}
 use Rattle.vc_process.specs.declared.process.Process.{Process}
 use Rattle.vc_process.specs.Numbering.{written}
@@ -11,7 +11,7 @@ use Rattle.vc_occam.specs.Traces.{Comm}
 use Rattle.vc_occam.specs.Remains.{begin}
 use Rattle.vc_occam.specs.First.{first_moves}
 use Rattle.vc_occam.specs.Sites.{OwnSites}
-use Rattle.vc_occam.specs.States.{State, StepsTo, Doing, Offers, Wants, Chooses, Stops, Meets, Rests, Finishes, Receives, Does, sent_by, doing, FitsMove, Waiting, output, input, waiting}
+use Rattle.vc_occam.specs.States.{State, StepsTo, ProcessStep, Offers, Wants, Chooses, Stops, Meets, Rests, Finishes, Receives, Does, sent_by, doing, FitsMove, Waiting, output, input, waiting}
 
 -- a process begins with sites of its own side by side
 abbrev pub SitesAreOwnAtFirst : Type 0
@@ -19,10 +19,10 @@ SitesAreOwnAtFirst = (p : Process) → OwnSites (begin (written p))
 
 -- a step of one site, and what a process does at once, leave them so
 abbrev pub StepsKeepSites : Type 0
-StepsKeepSites = (s s' : State) (i : ℕ) (d : Deed) (ks : List Comm) → StepsTo s i d ks s' → OwnSites s.rest → OwnSites s'.rest
+StepsKeepSites = (s s' : State) (i : ℕ) (d : SiteAction) (ks : List Comm) → StepsTo s i d ks s' → OwnSites s.rest → OwnSites s'.rest
 
 abbrev pub DoingKeepsSites : Type 0
-DoingKeepsSites = (s s' : State) (d : Doing) (ks : List Comm) → Does s d ks s' → OwnSites s.rest → OwnSites s'.rest
+DoingKeepsSites = (s s' : State) (d : ProcessStep) (ks : List Comm) → Does s d ks s' → OwnSites s.rest → OwnSites s'.rest
 
 -- each move that is listed can be made, whatever answer it gets that fits it
 abbrev pub ListedMovesCanBeMade : Type 0
@@ -56,7 +56,7 @@ IsInputOn c (output i d) = ⊥
 
 -- what waits after a process did this: an output that began, or an input or guard that has no message yet, waits too; one that is
 -- finished, or has its message, waits no more
-abbrev pub WaitsAfter : Doing → List Waiting → List Waiting → Type 0
+abbrev pub WaitsAfter : ProcessStep → List Waiting → List Waiting → Type 0
 WaitsAfter (Offers i c m) old new = IsAdded (output i c) old new
 WaitsAfter (Wants i c None) old new = IsAdded (input i c) old new
 WaitsAfter (Chooses i k c None) old new = IsAdded (input i c) old new
@@ -69,4 +69,4 @@ WaitsAfter (Meets i j k c m) old new = IsKept old new
 WaitsAfter (Rests i) old new = IsKept old new
 
 abbrev pub WaitingAfter : Type 0
-WaitingAfter = (s s' : State) (d : Doing) (ks : List Comm) → Does s d ks s' → WaitsAfter d (waiting s.rest) (waiting s'.rest)
+WaitingAfter = (s s' : State) (d : ProcessStep) (ks : List Comm) → Does s d ks s' → WaitsAfter d (waiting s.rest) (waiting s'.rest)

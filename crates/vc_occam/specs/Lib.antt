@@ -28,7 +28,7 @@ pub mod Runnings
 pub mod Sites
 pub mod States
 pub mod Traces
-pub mod Went
+pub mod Outcome
 pub mod Wholes
 pub mod InUse
 pub mod NodeTraces

@@ -2,8 +2,8 @@
 use Rattle.std.specs.Prelude.{◌≡◌, ◌==◌, ℕ, true, nat_le, List, [], ◌∷◌, Option, Some, None, if◌then◌else◌}
 use Rattle.std.specs.List.{Contains}
 use Rattle.vc_occam.specs.declared.answer.Answer.{Answer}
-use Rattle.vc_occam.specs.declared.deed.Deed.{Deed}
-use Rattle.vc_occam.specs.declared.deed.Deed.TheVariants as deed
+use Rattle.vc_occam.specs.declared.site_action.SiteAction.{SiteAction}
+use Rattle.vc_occam.specs.declared.site_action.SiteAction.TheVariants as action
 use Rattle.vc_occam.specs.declared.moves.Move.{Move}
 use Rattle.vc_occam.specs.declared.moves.Move.TheVariants.{Offer, Want, Choose, Stopch, Inner, Quiet}
 use Rattle.vc_occam.specs.Remains.{Rest}
@@ -38,18 +38,18 @@ BeginsToWait (Want i c) a = came a ≡ None
 BeginsToWait m a = ⊥
 
 -- what its site does, where the channel gave this answer
-abbrev pub deed_for : Move → Answer → Deed
-deed_for (Offer i c) a = deed.Offer c
-deed_for (Want i c) a = deed.Want c (came a)
-deed_for (Choose i k c) a = deed.Choose k c (came a)
-deed_for (Stopch i c) a = deed.StopChannel c
-deed_for (Inner i j k c) a = deed.Offer c
-deed_for (Quiet i) a = deed.Quiet
+abbrev pub action_for : Move → Answer → SiteAction
+action_for (Offer i c) a = action.Offer c
+action_for (Want i c) a = action.Want c (came a)
+action_for (Choose i k c) a = action.Choose k c (came a)
+action_for (Stopch i c) a = action.StopChannel c
+action_for (Inner i j k c) a = action.Offer c
+action_for (Quiet i) a = action.Quiet
 
 -- an output is finished, or a message comes
-abbrev pub deed_on : Option (List ℕ) → Deed
-deed_on None = deed.Finish
-deed_on (Some m) = deed.Message m
+abbrev pub action_on : Option (List ℕ) → SiteAction
+action_on None = action.Finish
+action_on (Some m) = action.Message m
 
 -- it is no meeting inside the node
 abbrev pub IsAlone : Move → Type 0

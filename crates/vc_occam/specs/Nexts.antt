@@ -3,7 +3,7 @@ use Rattle.std.specs.Prelude.{◌≡◌, ℕ, zero, suc, ℤ, pos, negsuc, ◌+�
 use Rattle.vc_process.specs.declared.datum.Datum.TheVariants as datum
 use Rattle.vc_occam.specs.declared.phase.Phase.{Phase}
 use Rattle.vc_occam.specs.declared.phase.Phase.TheVariants as phase
-use Rattle.vc_occam.specs.declared.going.Next.{Next}
+use Rattle.vc_occam.specs.declared.progress.Next.{Next}
 use Rattle.vc_occam.specs.declared.kind.Kind.{Kind}
 use Rattle.vc_occam.specs.declared.kind.Kind.TheVariants as kind
 use Rattle.vc_occam.specs.Frames.{View, begun_at, part_done, rest_at}

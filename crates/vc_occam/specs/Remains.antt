@@ -2,8 +2,8 @@
 use Rattle.std.specs.Prelude.{◌≡◌, ℕ, zero, suc, ℤ, pos, ◌+ℤ◌, Bool, true, false, List, [], ◌∷◌, ◌++◌, Option, Some, None}
 use Rattle.vc_process.specs.declared.datum.Datum.{Datum}
 use Rattle.vc_process.specs.declared.datum.Datum.TheVariants as datum
-use Rattle.vc_occam.specs.declared.deed.Deed.{Deed}
-use Rattle.vc_occam.specs.declared.deed.Deed.TheVariants.{Quiet, Offer, Finish, Want, Choose, Message, StopChannel}
+use Rattle.vc_occam.specs.declared.site_action.SiteAction.{SiteAction}
+use Rattle.vc_occam.specs.declared.site_action.SiteAction.TheVariants.{Quiet, Offer, Finish, Want, Choose, Message, StopChannel}
 use Rattle.vc_process.specs.Syntax.{Exp, Test, Given, Proc, SKIP, Assign, Output, Input, StopChan, SEQ, PAR, IF, WHILE, COUNT, ALT, Procs, no_parts, part, Branches, no_branches, branch, Guards, guard}
 use Rattle.vc_process.specs.Values.{Store, value_of, holds, datum_of}
 use Rattle.vc_process.specs.Messages.{received}
@@ -106,7 +106,7 @@ pub data GuardAt : Guards → ℕ → Test → ℕ → ℕ → Proc → Type 0 w
   later : {b b' : Test} {c c' v v' : ℕ} {p p' : Proc} {gs : Guards} {k : ℕ} → GuardAt gs k b' c' v' p' → GuardAt (guard b c v p gs) (suc k) b' c' v' p'
 
 -- One site does something, where a Want or Choose with None waits: what remains and the variables, before and after, and the communications made.
-pub data Step : Rest → Store → (site : ℕ) → Deed → List Comm → Rest → Store → Type 0 where
+pub data Step : Rest → Store → (site : ℕ) → SiteAction → List Comm → Rest → Store → Type 0 where
   does_skip : {s : ℕ} {e : Store} → Step (Fresh (SKIP s)) e s Quiet [] Done e
   does_empty_seq : {s : ℕ} {e : Store} → Step (Fresh (SEQ s no_parts)) e s Quiet [] Done e
   does_empty_par : {s : ℕ} {e : Store} → Step (Fresh (PAR s no_parts)) e s Quiet [] Done e
@@ -129,10 +129,10 @@ pub data Step : Rest → Store → (site : ℕ) → Deed → List Comm → Rest 
   does_choose : {s k c v : ℕ} {b : Test} {p : Proc} {gs : Guards} {e : Store} {m : List ℕ} {x : Datum} → Decided gs e → GuardAt gs k b c v p → holds b e ≡ Some true → x ≡ received (e v) m → Step (Fresh (ALT s gs)) e s (Choose k c (Some m)) (In c x ∷ []) (begin p) (set e v x)
   waits_choose : {s k c v : ℕ} {b : Test} {p : Proc} {gs : Guards} {e : Store} → Decided gs e → GuardAt gs k b c v p → holds b e ≡ Some true → Step (Fresh (ALT s gs)) e s (Choose k c None) [] (Then (Getting s c v) (part p no_parts)) e
   -- inside a SEQ or WHILE, a replicated SEQ, a PAR
-  in_then : {i : ℕ} {d : Deed} {m : List Comm} {r r' : Rest} {e e' : Store} {ps : Procs} → Step r e i d m r' e' → Step (Then r ps) e i d m (then_on r' ps) e'
-  in_turns : {i : ℕ} {d : Deed} {m : List Comm} {r r' : Rest} {e e' : Store} {v : ℕ} {b : ℤ} {n : ℕ} {p : Proc} → Step r e i d m r' e' → Step (Turns r v b n p) e i d m (turns_on r' v b n p) (index_on r' v b n e')
-  in_left : {i : ℕ} {d : Deed} {m : List Comm} {r r' q : Rest} {e e' : Store} {mine : Set} → Step r e i d m r' e' → Step (Beside mine r q) e i d m (beside_on mine r' q) e'
-  in_right : {i : ℕ} {d : Deed} {m : List Comm} {r q q' : Rest} {e e' : Store} {mine : Set} → Step q e i d m q' e' → Step (Beside mine r q) e i d m (beside_on mine r q') e'
+  in_then : {i : ℕ} {d : SiteAction} {m : List Comm} {r r' : Rest} {e e' : Store} {ps : Procs} → Step r e i d m r' e' → Step (Then r ps) e i d m (then_on r' ps) e'
+  in_turns : {i : ℕ} {d : SiteAction} {m : List Comm} {r r' : Rest} {e e' : Store} {v : ℕ} {b : ℤ} {n : ℕ} {p : Proc} → Step r e i d m r' e' → Step (Turns r v b n p) e i d m (turns_on r' v b n p) (index_on r' v b n e')
+  in_left : {i : ℕ} {d : SiteAction} {m : List Comm} {r r' q : Rest} {e e' : Store} {mine : Set} → Step r e i d m r' e' → Step (Beside mine r q) e i d m (beside_on mine r' q) e'
+  in_right : {i : ℕ} {d : SiteAction} {m : List Comm} {r q q' : Rest} {e e' : Store} {mine : Set} → Step q e i d m q' e' → Step (Beside mine r q) e i d m (beside_on mine r q') e'
 
 -- the variables that what remains may change, and those that it may use
 abbrev pub changes_rest : Rest → Set
@@ -171,4 +171,4 @@ KeepsVariablesApart r = Unit {0}
 -- remained before
 abbrev pub StepsAreTraces : Type 0
 StepsAreTraces =
-    (r : Rest) (e : Store) (i : ℕ) (d : Deed) (m : List Comm) (r' : Rest) (e' : Store) → Step r e i d m r' e' → KeepsVariablesApart r → (t : List Comm) (x : End) → TraceRest r' e' t x → TraceRest r e (m ++ t) x
+    (r : Rest) (e : Store) (i : ℕ) (d : SiteAction) (m : List Comm) (r' : Rest) (e' : Store) → Step r e i d m r' e' → KeepsVariablesApart r → (t : List Comm) (x : End) → TraceRest r' e' t x → TraceRest r e (m ++ t) x

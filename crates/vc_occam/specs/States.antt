@@ -3,8 +3,9 @@ use Rattle.std.specs.Prelude.{◌≡◌, ◌≢◌, ℕ, ◌==◌, if◌then◌e
 use Rattle.std.specs.List.{Contains}
 use Rattle.std.specs.Option.{option_or}
 use Rattle.vc_process.specs.declared.datum.Datum.{Datum}
-use Rattle.vc_occam.specs.declared.deed.Deed.{Deed}
-use Rattle.vc_occam.specs.declared.deed.Deed.TheVariants as deed
+pub use Rattle.vc_process.specs.ProcessStep.{ProcessStep, Offers, Wants, Chooses, Stops, Meets, Rests, Finishes, Receives}
+use Rattle.vc_occam.specs.declared.site_action.SiteAction.{SiteAction}
+use Rattle.vc_occam.specs.declared.site_action.SiteAction.TheVariants as action
 use Rattle.vc_occam.specs.declared.moves.Move.{Move}
 use Rattle.vc_occam.specs.declared.moves.Move.TheVariants as move
 use Rattle.vc_occam.specs.declared.answer.Answer.{Answer}
@@ -20,48 +21,36 @@ pub record State : Type 0 where
   pub rest : Rest
   pub store : Store
 
--- what a process does at once: a move with its message, where an input or guard without one waits; or an output is finished, or
--- an input has the message that it waited for
-pub data Doing : Type 0 where
-  Offers : (site chan : ℕ) (sent : List ℕ) → Doing
-  Wants : (site chan : ℕ) (came : Option (List ℕ)) → Doing
-  Chooses : (site guard chan : ℕ) (came : Option (List ℕ)) → Doing
-  Stops : (site chan : ℕ) → Doing
-  Meets : (sender receiver : ℕ) (guard : Option ℕ) (chan : ℕ) (sent : List ℕ) → Doing
-  Rests : (site : ℕ) → Doing
-  Finishes : (chan : ℕ) → Doing
-  Receives : (chan : ℕ) (came : List ℕ) → Doing
-
 -- one site does something, and these are the communications that it makes
-abbrev pub StepsTo : State → ℕ → Deed → List Comm → State → Type 0
+abbrev pub StepsTo : State → ℕ → SiteAction → List Comm → State → Type 0
 StepsTo s i d ks s' = Step s.rest s.store i d ks s'.rest s'.store
 
 -- the receiver's deed where an output meets it
-abbrev pub meeting : Option ℕ → ℕ → List ℕ → Deed
-meeting None c m = deed.Want c (Some m)
-meeting (Some k) c m = deed.Choose k c (Some m)
+abbrev pub meeting : Option ℕ → ℕ → List ℕ → SiteAction
+meeting None c m = action.Want c (Some m)
+meeting (Some k) c m = action.Choose k c (Some m)
 
 -- a process does this, and makes these communications
-abbrev pub Does : State → Doing → List Comm → State → Type 0
-Does s (Offers i c m) ks s' = (x : Datum) × (m ≡ message x) × (ks ≡ Out c x ∷ []) × StepsTo s i (deed.Offer c) ks s'
-Does s (Wants i c (Some m)) ks s' = (x : Datum) × (ks ≡ In c x ∷ []) × StepsTo s i (deed.Want c (Some m)) ks s'
-Does s (Wants i c None) ks s' = (ks ≡ []) × StepsTo s i (deed.Want c None) ks s'
-Does s (Chooses i k c (Some m)) ks s' = (x : Datum) × (ks ≡ In c x ∷ []) × StepsTo s i (deed.Choose k c (Some m)) ks s'
-Does s (Chooses i k c None) ks s' = (ks ≡ []) × StepsTo s i (deed.Choose k c None) ks s'
-Does s (Stops i c) ks s' = (ks ≡ Stp c ∷ []) × StepsTo s i (deed.StopChannel c) ks s'
+abbrev pub Does : State → ProcessStep → List Comm → State → Type 0
+Does s (Offers i c m) ks s' = (x : Datum) × (m ≡ message x) × (ks ≡ Out c x ∷ []) × StepsTo s i (action.Offer c) ks s'
+Does s (Wants i c (Some m)) ks s' = (x : Datum) × (ks ≡ In c x ∷ []) × StepsTo s i (action.Want c (Some m)) ks s'
+Does s (Wants i c None) ks s' = (ks ≡ []) × StepsTo s i (action.Want c None) ks s'
+Does s (Chooses i k c (Some m)) ks s' = (x : Datum) × (ks ≡ In c x ∷ []) × StepsTo s i (action.Choose k c (Some m)) ks s'
+Does s (Chooses i k c None) ks s' = (ks ≡ []) × StepsTo s i (action.Choose k c None) ks s'
+Does s (Stops i c) ks s' = (ks ≡ Stp c ∷ []) × StepsTo s i (action.StopChannel c) ks s'
 Does s (Meets i j k c m) ks s' =
     (x : Datum) × (y : Datum) × (t : State) × (u : State) × (m ≡ message x) × (ks ≡ Out c x ∷ In c y ∷ Fin c ∷ [])
-    × StepsTo s i (deed.Offer c) (Out c x ∷ []) t × StepsTo t j (meeting k c m) (In c y ∷ []) u × StepsTo u i deed.Finish (Fin c ∷ []) s'
-Does s (Rests i) ks s' = (ks ≡ []) × StepsTo s i deed.Quiet ks s'
-Does s (Finishes c) ks s' = (i : ℕ) × (ks ≡ Fin c ∷ []) × StepsTo s i deed.Finish ks s'
-Does s (Receives c m) ks s' = (i : ℕ) × (x : Datum) × (ks ≡ In c x ∷ []) × StepsTo s i (deed.Message m) ks s'
+    × StepsTo s i (action.Offer c) (Out c x ∷ []) t × StepsTo t j (meeting k c m) (In c y ∷ []) u × StepsTo u i action.Finish (Fin c ∷ []) s'
+Does s (Rests i) ks s' = (ks ≡ []) × StepsTo s i action.Quiet ks s'
+Does s (Finishes c) ks s' = (i : ℕ) × (ks ≡ Fin c ∷ []) × StepsTo s i action.Finish ks s'
+Does s (Receives c m) ks s' = (i : ℕ) × (x : Datum) × (ks ≡ In c x ∷ []) × StepsTo s i (action.Message m) ks s'
 
 -- these communications, followed by any trace of what remains after, are a trace of what remained before
 abbrev pub IsTraced : State → List Comm → State → Type 0
 IsTraced s ks s' = (t : List Comm) (x : End) → TraceRest s'.rest s'.store t x → TraceRest s.rest s.store (ks ++ t) x
 
 -- a process does this, as a part of its traces
-abbrev pub Acts : State → Doing → State → Type 0
+abbrev pub Acts : State → ProcessStep → State → Type 0
 Acts s d s' = (ks : List Comm) × Does s d ks s' × IsTraced s ks s'
 
 -- the value of the output that can begin at a site
@@ -92,7 +81,7 @@ came Nothing = None
 came Waits = None
 
 -- a move, with what it sends and what comes of it
-abbrev pub doing : Move → Option (List ℕ) → Answer → Doing
+abbrev pub doing : Move → Option (List ℕ) → Answer → ProcessStep
 doing (move.Offer i c) m a = Offers i c (bytes_or_none m)
 doing (move.Want i c) m a = Wants i c (came a)
 doing (move.Choose i k c) m a = Chooses i k c (came a)

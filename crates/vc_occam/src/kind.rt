@@ -1,5 +1,5 @@
 //! What a frame of a running process is.
-use crate::guarded::GuardedInputs;
+use crate::guards::GuardedInputs;
 use sqlite_items::Items;
 use vc_process::{Cond, Expr, Value};
 

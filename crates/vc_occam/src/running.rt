@@ -3,7 +3,7 @@ ghost use Rattle.std.specs.Prelude.{◌≡◌, length};
 ghost use Rattle.vc_occam.specs.Frames.{BeginsWith, HasVariables, view};
 ghost use Rattle.vc_occam.specs.InUse.{UsesLawfully};
 ghost use Rattle.vc_occam.specs.First.{own};
-ghost use Rattle.vc_occam.specs.Moving.{CanBegin, HasMet, at, deed_for as deed_of, deed_on as going_on};
+ghost use Rattle.vc_occam.specs.Moving.{CanBegin, HasMet, at, action_for as action_of, action_on as going_on};
 ghost use Rattle.vc_occam.specs.OneProof.{BeginsWith-prop, InPreorder-prop, OwnSites-prop, UsesLawfully-prop};
 ghost use Rattle.vc_occam.specs.Sites.{InPreorder, OwnSites};
 ghost use Rattle.vc_occam.specs.States.{came, carried, output_at};
@@ -12,13 +12,13 @@ ghost use Rattle.vc_process.specs.Terms.{store};
 use crate::answer::Answer;
 use crate::begins::Begins;
 use crate::blocked::Blocked;
-use crate::deed::Deed;
 use crate::frame::Frame;
-use crate::framing::begin_frame;
+use crate::frame_tree::begin_frame;
 use crate::hints::Hints;
-use crate::meeting::{clear, is_outside, join, partner};
+use crate::meetings::{clear, is_outside, join, partner};
 use crate::moves::{Move, site_of};
-use crate::site_deed::SiteDeed;
+use crate::site_action::SiteAction;
+use crate::site_step::SiteStep;
 use crate::variables::empty_variables;
 use crate::waits::Waits;
 use sqlite_items::Items;
@@ -56,33 +56,33 @@ impl Drop for Running {
 }
 
 /// What the move's site does, where the channel gave this answer.
-fn deed_for(made: &Move, answer: Answer) -> Deed
-    ensures { result ≡ deed_of made.now answer }
+fn action_for(made: &Move, answer: Answer) -> SiteAction
+    ensures { result ≡ action_of made.now answer }
 {
     match made {
-        Move::Offer { chan, .. } => Deed::Offer { chan: *chan },
-        Move::Want { chan, .. } => Deed::Want {
+        Move::Offer { chan, .. } => SiteAction::Offer { chan: *chan },
+        Move::Want { chan, .. } => SiteAction::Want {
             chan: *chan,
             message: answer.message(),
         },
-        Move::Choose { guard, chan, .. } => Deed::Choose {
+        Move::Choose { guard, chan, .. } => SiteAction::Choose {
             place: *guard,
             chan: *chan,
             message: answer.message(),
         },
-        Move::Stopch { chan, .. } => Deed::StopChannel { chan: *chan },
-        Move::Inner { chan, .. } => Deed::Offer { chan: *chan },
-        Move::Quiet { .. } => Deed::Quiet,
+        Move::Stopch { chan, .. } => SiteAction::StopChannel { chan: *chan },
+        Move::Inner { chan, .. } => SiteAction::Offer { chan: *chan },
+        Move::Quiet { .. } => SiteAction::Quiet,
     }
 }
 
 /// An output is finished, or a message comes.
-fn deed_on(message: Option<Bytes>) -> Deed
+fn action_on(message: Option<Bytes>) -> SiteAction
     ensures { result ≡ going_on message }
 {
     match message {
-        Some(message) => Deed::Message(message),
-        None => Deed::Finish,
+        Some(message) => SiteAction::Message(message),
+        None => SiteAction::Finish,
     }
 }
 
@@ -110,15 +110,15 @@ fn meet(
     ensures begins { BeginsWith result (view frame.new).1 }
 {
     frame.offer(sender);
-    let mut takes = SiteDeed {
+    let mut takes = SiteStep {
         site: site_of(taken),
-        deed: deed_for(taken, answer),
+        action: action_for(taken, answer),
         assigned: None,
     };
     frame.go(&mut takes, vars);
-    let mut finishes = SiteDeed {
+    let mut finishes = SiteStep {
         site: sender,
-        deed: Deed::Finish,
+        action: SiteAction::Finish,
         assigned: None,
     };
     frame.go(&mut finishes, vars).begins()
@@ -358,13 +358,13 @@ impl Running {
             (doing made.now (sent_by (state self.old) made.now) answer) (state self.new) }
         ensures inside { inner_channels self.new ≡ inner_channels self.old }
     {
-        let mut doing = SiteDeed {
+        let mut doing = SiteStep {
             site: site_of(made),
-            deed: deed_for(made, answer),
+            action: action_for(made, answer),
             assigned: None,
         };
-        let went = self.frame.go(&mut doing, &mut self.vars);
-        self.begins = went.begins();
+        let outcome = self.frame.go(&mut doing, &mut self.vars);
+        self.begins = outcome.begins();
         self.hints.note(made);
     }
 
@@ -408,13 +408,13 @@ impl Running {
         ensures made { Acts (state self.old) (Rests site) (state self.new) }
         ensures inside { inner_channels self.new ≡ inner_channels self.old }
     {
-        let mut doing = SiteDeed {
+        let mut doing = SiteStep {
             site,
-            deed: Deed::Quiet,
+            action: SiteAction::Quiet,
             assigned,
         };
-        let went = self.frame.go(&mut doing, &mut self.vars);
-        self.begins = went.begins();
+        let outcome = self.frame.go(&mut doing, &mut self.vars);
+        self.begins = outcome.begins();
     }
 
     /// The site goes on: its output was finished, or here is the message for its input.
@@ -424,13 +424,13 @@ impl Running {
         ensures resumed { Resumes (state self.old) site message (state self.new) }
         ensures inside { inner_channels self.new ≡ inner_channels self.old }
     {
-        let mut doing = SiteDeed {
+        let mut doing = SiteStep {
             site,
-            deed: deed_on(message),
+            action: action_on(message),
             assigned: None,
         };
-        let went = self.frame.go(&mut doing, &mut self.vars);
-        self.begins = went.begins();
+        let outcome = self.frame.go(&mut doing, &mut self.vars);
+        self.begins = outcome.begins();
     }
 
     /// A site that waits for this, if one does; it is looked for first at the hint.

@@ -16,3 +16,4 @@ pub mod Usage
 pub mod Values
 pub mod Renaming
 pub mod Moved
+pub mod ProcessStep

@@ -10,4 +10,4 @@ pub mod Beyond
 pub mod Putting
 pub mod Opened
 pub mod Readying
-pub mod Asking
+pub mod Requested

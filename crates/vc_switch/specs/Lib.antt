@@ -7,4 +7,4 @@ pub mod Opening
 pub mod State
 pub mod Seen
 pub mod Ready
-pub mod Asking
+pub mod Requested

@@ -14,7 +14,6 @@
 //! each input has the same limit.
 #![tactic(auto)]
 
-mod asks;
 mod bits;
 mod front;
 mod laws;
@@ -23,6 +22,7 @@ mod link_out;
 mod opening;
 mod random_range;
 mod ready_switch;
+mod requests;
 mod switch;
 mod switch_plan;
 

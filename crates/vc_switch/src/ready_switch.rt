@@ -7,15 +7,15 @@ ghost use Rattle.vc_switch.specs.Waiting.{Wormhole};
 ghost use Rattle.vc_switch.specs.Switch.{new_switch, Comes, Passes, Routes, Sends, SendsFct};
 ghost use Rattle.vc_switch.specs.Able.{CanPass, CanRoute, CanPut, CanGrant, IsFree};
 ghost use Rattle.vc_switch.specs.Opening.{plan_given, IsRandomInput};
-ghost use Rattle.vc_switch.specs.Asking.{links_of};
+ghost use Rattle.vc_switch.specs.Requested.{links_of};
 ghost use Rattle.vc_switch.specs.Front.{front_of};
 ghost use Rattle.vc_switch.specs.Ready.{Looks, Waits};
 ghost use Rattle.vc_switch.specs.State.{plan_of, limit_of};
 ghost use Rattle.vc_switch.specs.Seen.{seen, IsKept};
 
-use crate::asks::Asks;
 use crate::bits::{has_more, told};
 use crate::opening::LINKS;
+use crate::requests::Requests;
 use crate::switch::Switch;
 use crate::switch_plan::SwitchPlan;
 use std::alloc::Global;
@@ -53,7 +53,7 @@ pub struct ReadySwitch {
     switch: Switch,
     ready: Ready,
     // what the packets ask for that are bound to no output
-    asks: Asks,
+    requests: Requests,
     // a bit for each input whose packet asks for a free output
     routes: u32,
 }
@@ -64,7 +64,7 @@ impl Drop for ReadySwitch {
         let ReadySwitch {
             switch: _,
             ready: _,
-            asks: _,
+            requests: _,
             routes: _,
         } = self;
     }
@@ -72,13 +72,13 @@ impl Drop for ReadySwitch {
 
 impl Model for ReadySwitch {
     ghost use Rattle.vc_switch.specs.State.{State};
-    ghost use Rattle.vc_switch.specs.Asking.{IsKnown};
+    ghost use Rattle.vc_switch.specs.Requested.{IsKnown};
 
     ghost Value = { State };
 
     ghost view = { λ x. x.switch };
 
-    ghost invariant = { λ x. IsKnown x.switch x.ready x.asks x.routes };
+    ghost invariant = { λ x. IsKnown x.switch x.ready x.requests x.routes };
 }
 
 impl ReadySwitch {
@@ -99,7 +99,7 @@ impl ReadySwitch {
                 puts: 0,
                 grants: u32::MAX,
             },
-            asks: Asks::new(alloc)?,
+            requests: Requests::new(alloc)?,
             routes: 0,
         })
     }
@@ -176,9 +176,9 @@ impl ReadySwitch {
     {
         let passed = self.switch.pass(link);
         self.ready.look(&self.switch, link);
-        let asks = asked(&self.switch, link, self.asks.of(link));
-        self.asks.set(link, asks);
-        self.routes = told(self.routes, link, has_more(asks, self.ready.puts));
+        let requests = asked(&self.switch, link, self.requests.of(link));
+        self.requests.set(link, requests);
+        self.routes = told(self.routes, link, has_more(requests, self.ready.puts));
         passed
     }
 
@@ -194,8 +194,8 @@ impl ReadySwitch {
         self.switch.route(input, output);
         self.ready.look(&self.switch, input);
         self.ready.puts = told(self.ready.puts, output, true);
-        self.asks.set(input, 0);
-        self.routes = asking(&self.asks, self.ready.waits, self.ready.puts);
+        self.requests.set(input, 0);
+        self.routes = asking(&self.requests, self.ready.waits, self.ready.puts);
     }
 
     /// Puts the next token of the packet that is bound to an output; with its mark the packet leaves its input, and the output is
@@ -217,7 +217,7 @@ impl ReadySwitch {
             Token::Eop | Token::Eom => {
                 self.ready.look(&self.switch, source);
                 self.ready.puts = told(self.ready.puts, output, false);
-                self.routes = asking(&self.asks, self.ready.waits, self.ready.puts);
+                self.routes = asking(&self.requests, self.ready.waits, self.ready.puts);
             }
         }
         token
@@ -250,17 +250,17 @@ fn asked(switch: &Switch, link: u8, known: u32) -> u32
     } else if known != 0 {
         known
     } else {
-        switch.asks(link)
+        switch.requests(link)
     }
 }
 
 // The inputs that wait, but those that ask for busy outputs alone.
-fn asking(asks: &Asks, waits: u32, busy: u32) -> u32
+fn asking(requests: &Requests, waits: u32, busy: u32) -> u32
     ensures only { (l : ℕ) → l < 32 → bit_at result l ≡ 1 → bit_at waits l ≡ 1 }
     ensures all { (l output : ℕ) →
         l < 32 →
         bit_at waits l ≡ 1 →
-        bit_at (get_or asks.now l 0) output ≡ 1 →
+        bit_at (get_or requests.now l 0) output ≡ 1 →
         bit_at busy output ≡ 0 →
         bit_at result l ≡ 1 }
 {
@@ -272,7 +272,7 @@ fn asking(asks: &Asks, waits: u32, busy: u32) -> u32
             return routes;
         }
         let link = link as u8;
-        if !has_more(asks.of(link), busy) {
+        if !has_more(requests.of(link), busy) {
             routes = told(routes, link, false);
         }
         left = told(left, link, false);

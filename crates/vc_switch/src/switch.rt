@@ -14,7 +14,7 @@ ghost use Rattle.vc_switch.specs.Forward.{IsDrawn, least_of};
 ghost use Rattle.vc_switch.specs.Switch.{new_switch, BodyLeaves, Comes, Passes, Routes, Sends, SendsFct};
 ghost use Rattle.vc_switch.specs.Able.{CanPass, CanRoute, CanPut, CanGrant, CanLeave, IsFirst, IsFree};
 ghost use Rattle.vc_switch.specs.Opening.{plan_given, IsRandomInput};
-ghost use Rattle.vc_switch.specs.Asking.{links_of};
+ghost use Rattle.vc_switch.specs.Requested.{links_of};
 ghost use Rattle.vc_switch.specs.Front.{front_of};
 ghost use Rattle.vc_switch.specs.Ready.{Waits};
 ghost use Rattle.vc_switch.specs.State.{plan_of, limit_of, IsSwitch};
@@ -230,7 +230,7 @@ impl Switch {
     }
 
     /// A bit for each link of the group that the front header of an input's packet has; none where it has no group yet.
-    pub(crate) fn asks(&self, input: u8) -> u32
+    pub(crate) fn requests(&self, input: u8) -> u32
         requires { input < 32 }
         ensures { result ≡ links_of (front_of self.now.table ((seen self.now).input input).got) }
     {

@@ -18,10 +18,11 @@ use Rattle.vc_reader.specs.declared.path.Step.TheVariants.{Field, Index}
 use Rattle.vc_reader.specs.declared.refused.ReadRefused.{ReadRefused}
 use Rattle.vc_reader.specs.declared.refused.ReadRefused.TheVariants as read
 use Rattle.vc_reader.specs.Words.{word_text}
-use Rattle.vc_threads.specs.declared.crew.ThreadFault.{ThreadFault}
-use Rattle.vc_threads.specs.declared.crew.ThreadFault.TheVariants as thread
+use Rattle.vc_threads.specs.declared.spawn.ThreadFault.{ThreadFault}
+use Rattle.vc_threads.specs.declared.spawn.ThreadFault.TheVariants as thread
 use Rattle.vc_text.specs.declared.fault.RunFault.{RunFault}
 use Rattle.vc_text.specs.declared.fault.RunFault.TheVariants as fault
+pub use Rattle.vc_waits.specs.Ports.{port_text}
 use Rattle.vc_text.specs.Traffic.{newline}
 
 -- ---- the network file
@@ -44,9 +45,6 @@ read_line (read.Unknown path) = codes "refused 24 Unknown " ++ steps_text path
 read_line read.Memory = codes "fault memory"
 
 -- ---- the plan
-
-abbrev pub port_text : Plan → Port → List ℕ
-port_text plan p = spot_name plan p.spot ++ codes "." ++ decimal p.link
 
 -- the random header that was put in front, where one was
 abbrev pub value_text : Option ℕ → List ℕ

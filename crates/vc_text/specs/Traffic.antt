@@ -8,6 +8,7 @@ use Rattle.vc_process.specs.declared.value_kind.ValueKind.{ValueKind}
 use Rattle.vc_process.specs.declared.value_kind.ValueKind.TheVariants.{Int, Bytes}
 use Rattle.vc_core.specs.declared.close.Close.{Close}
 use Rattle.vc_core.specs.declared.close.Close.TheVariants.{Done, Quiet, Limit, GateClosed, ClockFull, Failed}
+pub use Rattle.vc_waits.specs.Waits.{newline, stop_text}
 
 -- what a channel is and has done
 pub record ChannelTraffic : Type 0 where
@@ -17,9 +18,6 @@ pub record ChannelTraffic : Type 0 where
   pub taken : List (List ℕ)
   pub finished : ℕ
   pub is_stopped : Bool
-
-abbrev pub newline : List ℕ
-newline = 10 ∷ []
 
 -- bytes in hexadecimal, and - for none
 abbrev pub bytes_text : List ℕ → List ℕ
@@ -37,9 +35,6 @@ message_line kind n m = codes "  " ++ decimal n ++ codes " " ++ value_text kind 
 abbrev pub message_lines : ValueKind → ℕ → List (List ℕ) → List ℕ
 message_lines kind n [] = []
 message_lines kind n (m ∷ ms) = message_line kind n m ++ message_lines kind (n + 1) ms
-
-abbrev pub stop_text : Bool → List ℕ
-stop_text is_stopped = if is_stopped then codes " stopped" else []
 
 -- how many of its messages were offered, taken and finished, and whether it was stopped
 abbrev pub counts_text : ChannelTraffic → List ℕ

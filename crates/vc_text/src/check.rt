@@ -4,12 +4,12 @@ ghost use Rattle.vc_text.specs.Streams.{Writes};
 ghost use Rattle.vc_text.specs.Checking.{ReadsAccepted, Checks, accepted_text as text_of_accepted};
 
 use crate::fault::RunFault;
-use crate::number::push_number;
 use crate::streams::{read_plan, write_text};
 use std::alloc::Global;
 use std::io::{Read, Write};
 use vc_packets::Memory;
 use vc_plan::{Accepted, Plan, check};
+use vc_waits::push_number;
 
 /// The network that the reader has, where the checker accepts it.
 pub fn read_accepted<R: Read>(alloc: Global, reader: &mut R) -> Result<Accepted, RunFault>

@@ -2,11 +2,11 @@
 ghost use Rattle.std.specs.Prelude.{◌≡◌, ◌++◌, OnOk};
 ghost use Rattle.vc_text.specs.FaultLine.{limit_text as text_of_limit, table_text as text_of_table, check_head, block_text, switch_fault_text, usage_text, offender_text, check_line as line_of_check};
 
-use crate::number::push_number;
-use crate::plan_text::{push_path, push_port};
+use crate::plan_text::push_path;
 use vc_labels::TableFault;
 use vc_packets::Memory;
 use vc_plan::{CheckRefused, LimitWord, Plan};
+use vc_waits::{push_number, push_port};
 
 fn limit_text(word: LimitWord) -> &'static str
     ensures { result.now ≡ text_of_limit word }

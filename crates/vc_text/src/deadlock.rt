@@ -5,13 +5,13 @@ ghost use Rattle.vc_text.specs.Streams.{Writes};
 
 use crate::check::read_accepted;
 use crate::fault::RunFault;
-use crate::plan_text::push_port;
 use crate::streams::write_text;
 use std::alloc::Global;
 use std::io::{Read, Write};
 use vc_cycles::find_cycle;
 use vc_packets::Memory;
 use vc_plan::{Plan, Port};
+use vc_waits::push_port;
 
 /// A port behind a space.
 fn push_next(out: &mut Vec<u8>, plan: &Plan, port: Port) -> Result<(), Memory>

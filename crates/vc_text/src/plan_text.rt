@@ -1,20 +1,11 @@
 //! Names and paths of a plan.
 ghost use Rattle.std.specs.Prelude.{◌≡◌, ◌++◌, OnOk};
-ghost use Rattle.vc_text.specs.FaultLine.{port_text, value_text, hop_text, way_text, start_text, last_text, path_text};
+ghost use Rattle.vc_text.specs.FaultLine.{value_text, hop_text, way_text, start_text, last_text, path_text};
 ghost use Rattle.std.specs.List.{flat_map};
 
-use crate::number::push_number;
 use vc_packets::Memory;
-use vc_plan::{Hop, PathFault, Plan, Port};
-
-/// Adds a port to a text, as `PLACE.LINK`. It fails for want of memory alone.
-pub fn push_port(out: &mut Vec<u8>, plan: &Plan, port: Port) -> Result<(), Memory>
-    ensures { OnOk result (out.new.items ≡ out.old.items ++ port_text plan.now port) }
-{
-    out.extend_from_slice(plan.spot_name(port.spot))?;
-    out.extend_from_slice(b".")?;
-    push_number(out, port.link as u64)
-}
+use vc_plan::{Hop, PathFault, Plan};
+use vc_waits::{push_number, push_port};
 
 /// The random header that was put in front, where one was.
 fn push_value(out: &mut Vec<u8>, value: Option<u16>) -> Result<(), Memory>

@@ -2,9 +2,9 @@
 ghost use Rattle.std.specs.Prelude.{◌≡◌, ◌++◌, OnOk};
 ghost use Rattle.vc_text.specs.FaultLine.{step_text, steps_text, read_line as line_of_refused};
 
-use crate::number::push_number;
 use vc_packets::Memory;
 use vc_reader::{Path, ReadRefused, Step};
+use vc_waits::push_number;
 
 /// Adds a step of a path to a text: `/`, and the field or the index. It fails for want of memory alone.
 pub fn push_step(out: &mut Vec<u8>, step: Step) -> Result<(), Memory>

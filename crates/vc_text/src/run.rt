@@ -39,7 +39,7 @@ pub fn views(alloc: Global, network: &Network) -> Result<Vec<ChannelView<'_>>, M
         IfOk result (λ views. AreViews p (shown (state_of network.now)) views.items) }
 {
     let mut views = Vec::new(alloc);
-    for chan in 0..network.channels().min(65535) as u16 {
+    for chan in 0..network.channels() {
         views.push(view_of(network, chan))?;
     }
     Ok(views)

@@ -30,7 +30,7 @@ impl Simulation {
         ensures opens { IfOk result (HasRun accepted.now []) }
     {
         let network = Network::new(alloc, accepted)?;
-        let seats = Seats::new(alloc, network.actors())?;
+        let seats = Seats::new(alloc, usize::from(network.actors()))?;
         Ok(Simulation {
             network,
             seats,
@@ -182,7 +182,7 @@ pub(crate) fn goes_on(network: &mut Network) -> Result<bool, Memory>
         IfOk result (GoesOn p (state_of network.old)) }
     ensures same { state_of network.new ≡ state_of network.old }
 {
-    for actor in 0..network.actors().min(255) as u8 {
+    for actor in 0..network.actors() {
         if has_event(network, actor)? {
             return Ok(true);
         }

@@ -6,7 +6,6 @@ ghost use Rattle.vc_text.specs.Views.{shown};
 ghost use Rattle.vc_text.specs.Traffic.{bytes_text, value_text, message_line, message_lines, stop_text, channel_line, channel_lines, close_text, counts_text, traffic};
 
 use crate::fault::RunFault;
-use crate::number::push_number;
 use crate::streams::write_text;
 use itoa::Buffer;
 use std::alloc::Global;
@@ -14,6 +13,7 @@ use std::io::Write;
 use vc_core::Close;
 use vc_occam::ValueKind;
 use vc_packets::{Bytes, Memory};
+use vc_waits::push_number;
 
 /// What a channel is and has done.
 #[derive(Clone, Copy, Drop)]

@@ -19,7 +19,7 @@ use Rattle.vc_plan.proofs.Limited.{passes}
 use Rattle.vc_threads.specs.Rings.{outs_of, ins_of, AddsRing, AreWired, CanAddRing, IsOnWire}
 use Rattle.vc_threads.specs.Threads.{who}
 use Rattle.vc_threads.specs.Works.{Out, In}
-use Rattle.vc_threads.specs.declared.crew.Job.{Job}
+use Rattle.vc_threads.specs.declared.spawn.Job.{Job}
 use Rattle.vc_threads.proofs.Goings.{any_default}
 use Rattle.vc_threads.proofs.Ringed.{is_at, only}
 

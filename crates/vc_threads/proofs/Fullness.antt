@@ -23,7 +23,7 @@ use Rattle.vc_plan.specs.declared.plan.Plan.{Plan}
 use Rattle.vc_plan.specs.declared.port.Wire.{Wire}
 use Rattle.vc_tokens.specs.declared.token.Token.{Token}
 use Rattle.vc_threads.specs.Closing.{stop_at}
-use Rattle.vc_threads.specs.Crews.{Ran}
+use Rattle.vc_threads.specs.Jobs.{Ran}
 use Rattle.vc_threads.specs.Order.{outs_left, ins_left, outs_at, ins_at, LeftOn, OnWays}
 use Rattle.vc_threads.specs.Rings.{outs_of, ins_of, AreWired, HasRing, IsOnWire}
 use Rattle.vc_threads.specs.Runs.{StepsByLink}
@@ -31,7 +31,7 @@ use Rattle.vc_threads.specs.Stamps.{stamped, all_stamped}
 use Rattle.vc_threads.specs.Threads.{AreNumbered, HasGreatest, actor_in, who}
 use Rattle.vc_threads.specs.Wires.{Sends, Receives}
 use Rattle.vc_threads.specs.Works.{In, IsFull, IsGreatest, IsLate}
-use Rattle.vc_threads.specs.declared.crew.Job.{Job}
+use Rattle.vc_threads.specs.declared.spawn.Job.{Job}
 use Rattle.vc_threads.specs.declared.link.Stamped.{Stamped}
 use Rattle.vc_threads.specs.declared.order.AllEnds.{AllEnds}
 use Rattle.vc_threads.specs.declared.run.ActorRun.{ActorRun}

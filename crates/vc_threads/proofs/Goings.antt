@@ -1,4 +1,4 @@
--- How a turn of a desk is put together.
+-- How a turn of a worker_state is put together.
 use Rattle.std.proofs.Common.{◌≡◌, ◌≢◌, ℕ, zero, suc, ◌+◌, ◌<◌, ◌≤◌, List, [], ◌∷◌, ◌++◌, length, get_or, Bool, true, false, eqb, inl, inr, refl, ap, sym, subst, arith, map, ◌∙◌, append_assoc, length-append, eq-eqb}
 use Rattle.std.specs.List.{AllZip, All, AllByRecursion}
 use Rattle.std.proofs.Math.ListN.{set}
@@ -16,7 +16,7 @@ use Rattle.vc_tokens.specs.declared.token.Token.{Token}
 use Rattle.vc_core.specs.OfPlan.{IsActorOf}
 use Rattle.vc_actor.specs.declared.act.Act.{Act}
 use Rattle.vc_core.specs.Shown.{Acting}
-use Rattle.vc_threads.specs.declared.desk.Desk.{Desk}
+use Rattle.vc_threads.specs.declared.worker_state.WorkerState.{WorkerState}
 use Rattle.vc_threads.specs.declared.link.Ends.{Ends}
 use Rattle.vc_threads.specs.declared.link.Stamped.{Stamped}
 use Rattle.vc_threads.specs.declared.run.ActorRun.{ActorRun}
@@ -24,7 +24,7 @@ use Rattle.vc_threads.specs.declared.run.Stop.TheVariants.{Turns, Clock}
 use Rattle.vc_threads.specs.Stamps.{stamped, all_stamped}
 use Rattle.vc_threads.specs.Wires.{OutLooked, InLooked, Distinct, IsAmong, Sends, Receives, out_links, in_links}
 use Rattle.vc_threads.specs.Runs.{StepsByLink, HasNoStep, Used, Draws, words_of}
-use Rattle.vc_threads.specs.Works.{Out, In, Seen, desk, kept, logged, GoesOver, GoOver, IsFull, Uses, Stays, HasRun}
+use Rattle.vc_threads.specs.Works.{Out, In, Seen, worker_state, kept, logged, GoesOver, GoOver, IsFull, Uses, Stays, HasRun}
 use Rattle.vc_threads.proofs.Zips.{zip_weaker, zip_then, zip_one, zip_map, zip_same, zip_length, zip_at}
 use Rattle.vc_threads.proofs.Looks.{producer_then, consumer_then, looked_same, in_looked_same, in_looked_then}
 use Rattle.vc_threads.proofs.Steps.{clock_then, run_then, put_then, taken_then, words_then, draws_then, used_then, run_kept}
@@ -279,8 +279,8 @@ pub actor_kept : (plan : Plan) (k n : ℕ) (a b : Seen) → Uses plan k n a b �
 actor_kept plan k n a b p h = run_kept plan k a.clock a.actor p.steps b.actor p.goes.run h
 
 -- what a worker gives back
-pub has_run : (plan : Plan) (k n m id seed : ℕ) (a b c : Desk) (actor : Acting) (ends : Ends) (keeps : Bool) (r : ActorRun)
-    → Uses plan k n (desk a) (desk b) → Stays (desk b) (desk c) → n ≤ m
+pub has_run : (plan : Plan) (k n m id seed : ℕ) (a b c : WorkerState) (actor : Acting) (ends : Ends) (keeps : Bool) (r : ActorRun)
+    → Uses plan k n (worker_state a) (worker_state b) → Stays (worker_state b) (worker_state c) → n ≤ m
     → a.actor ≡ actor → a.clock ≡ 0 → a.keeps ≡ keeps → a.acts.items ≡ [] → a.ends ≡ ends → a.words ≡ started 64 multiplier_64 seed (increment_of 64 id)
     → r.actor ≡ c.actor → r.acts ≡ c.acts → r.ends ≡ c.ends → (r.stop ≡ Turns → n ≡ m) → (r.stop ≡ Clock → IsFull c.clock c.ends.ins.items)
     → HasRun plan k m id seed actor ends keeps r

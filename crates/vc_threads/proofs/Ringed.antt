@@ -12,7 +12,7 @@ use Rattle.vc_plan.specs.declared.port.Port.{Port}
 use Rattle.vc_plan.specs.declared.port.Wire.{Wire}
 use Rattle.vc_threads.specs.Rings.{outs_of, ins_of, OneMore, IsRing, AddsRing, HasRing, IsOnWire, AreWired, AreBare, outs_in, ins_in}
 use Rattle.vc_threads.specs.Works.{Out, In}
-use Rattle.vc_threads.specs.declared.crew.Job.{Job}
+use Rattle.vc_threads.specs.declared.spawn.Job.{Job}
 
 -- the ends of one job change, and those of the others stay
 module _ {Y : Type 0} (f : Job → List Y) where

@@ -15,8 +15,8 @@ use Rattle.vc_occam.proofs.frame.Frame.TheLaws.TheKnot as frame
 use Rattle.vc_process.specs.contracts.expression.Expr as Expr
 use Rattle.vc_process.specs.contracts.condition.Cond as Cond
 use Rattle.vc_process.specs.contracts.value.Value as Value
-use Rattle.vc_occam.specs.contracts.guarded.GuardedInput as GuardedInput
-use Rattle.vc_occam.specs.contracts.guarded.GuardedInputs as GuardedInputs
+use Rattle.vc_occam.specs.contracts.guards.GuardedInput as GuardedInput
+use Rattle.vc_occam.specs.contracts.guards.GuardedInputs as GuardedInputs
 use Rattle.vc_occam.specs.contracts.kind.Kind as Kind
 use Rattle.vc_process.proofs.expression.Expr.TheLaws.TheKnot as expr
 use Rattle.vc_process.proofs.condition.Cond.TheLaws.TheKnot as cond
@@ -27,7 +27,7 @@ use Rattle.vc_process.proofs.datum.Datum.TheSendSync as datum
 use Rattle.vc_occam.specs.contracts.moves.Move as Move
 use Rattle.vc_occam.proofs.moves.Move.TheSendSync as move
 use Rattle.vc_actor.proofs.act.Act.TheSendSync as act
-use Rattle.vc_threads.specs.contracts.crew.Job as Job
+use Rattle.vc_threads.specs.contracts.spawn.Job as Job
 use Rattle.vc_threads.specs.contracts.run.ActorRun as ActorRun
 use Rattle.vc_threads.proofs.link.Ends.TheSendSync as ends
 use Rattle.vc_threads.proofs.run.Stop.TheSendSync as stop

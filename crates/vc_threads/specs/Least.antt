@@ -2,7 +2,7 @@
 use Rattle.std.specs.Prelude.{◌≡◌, ℕ, ◌≤◌, ◌<◌, List, length, Option, Some, IfSome, slice_index_or}
 use Rattle.vc_core.specs.Shown.{Acting}
 use Rattle.vc_threads.specs.Works.{In, CanTake}
-use Rattle.vc_threads.specs.declared.desk.Found.{Found}
+use Rattle.vc_threads.specs.declared.worker_state.Found.{Found}
 
 -- what was found is one of the first n ends, with its link, and the actor can take from it
 abbrev pub IsFound : Acting → List In → ℕ → Option Found → Type 0

@@ -3,7 +3,7 @@ pub mod Merged
 pub mod Wires
 pub mod Runs
 pub mod Works
-pub mod Crews
+pub mod Jobs
 pub mod Rings
 pub mod Order
 pub mod Closing

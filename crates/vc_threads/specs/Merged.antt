@@ -6,7 +6,7 @@ use Rattle.vc_network.specs.Merge.{Made, Numbered}
 use Rattle.vc_actor.specs.declared.act.Act.{Act}
 use Rattle.vc_core.specs.declared.event.Event.{Event}
 use Rattle.vc_threads.specs.declared.run.ActorRun.{ActorRun}
-use Rattle.vc_threads.specs.declared.merging.Front.{Front}
+use Rattle.vc_threads.specs.declared.merged_runs.Front.{Front}
 
 abbrev pub of_pair : ℕ × Act → Stamped Act
 of_pair p = record { at = p.0; it = p.1 }

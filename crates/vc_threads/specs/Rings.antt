@@ -8,7 +8,7 @@ use Rattle.vc_plan.specs.declared.plan.Plan.{Plan}
 use Rattle.vc_plan.specs.declared.port.Port.{Port}
 use Rattle.vc_plan.specs.declared.port.Wire.{Wire}
 use Rattle.vc_threads.specs.Works.{Out, In}
-use Rattle.vc_threads.specs.declared.crew.Job.{Job}
+use Rattle.vc_threads.specs.declared.spawn.Job.{Job}
 
 abbrev pub outs_in : Job → List Out
 outs_in j = j.ends.outs.items

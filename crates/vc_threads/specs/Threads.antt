@@ -30,7 +30,7 @@ use Rattle.vc_threads.specs.Order.{OnWays}
 use Rattle.vc_threads.specs.Rings.{IsOnWire}
 use Rattle.vc_threads.specs.Runs.{StepsByLink, Used, Draws, generator, words_of}
 use Rattle.vc_threads.specs.Works.{IsGreatest}
-use Rattle.vc_threads.specs.declared.crew.Job.{Job}
+use Rattle.vc_threads.specs.declared.spawn.Job.{Job}
 use Rattle.vc_threads.specs.declared.report.Ending.{Ending}
 use Rattle.vc_threads.specs.declared.report.Report.{Report}
 use Rattle.vc_threads.specs.declared.run.Stop.{Stop}

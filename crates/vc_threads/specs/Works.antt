@@ -19,7 +19,7 @@ use Rattle.vc_core.specs.OfPlan.{IsActorOf}
 use Rattle.vc_actor.specs.declared.act.Act.{Act}
 use Rattle.vc_actor.specs.declared.act.Act.TheVariants.{Take}
 use Rattle.vc_core.specs.Shown.{Acting}
-use Rattle.vc_threads.specs.declared.desk.Desk.{Desk}
+use Rattle.vc_threads.specs.declared.worker_state.WorkerState.{WorkerState}
 use Rattle.vc_threads.specs.declared.link.Ends.{Ends}
 use Rattle.vc_threads.specs.declared.link.LinkRule.{LinkRule}
 use Rattle.vc_threads.specs.declared.link.Stamped.{Stamped}
@@ -43,7 +43,7 @@ In = ℕ × Consumer Stamped Global LinkRule
 abbrev pub CanTake : Acting → In → Type 0
 CanTake x i = HasLink x i.0 × IsReady i
 
--- what is seen of a desk: also whether its acts are kept in the log
+-- what is seen of a worker_state: also whether its acts are kept in the log
 pub record Seen : Type 0 where
   pub actor : Acting
   pub clock : ℕ
@@ -53,8 +53,8 @@ pub record Seen : Type 0 where
   pub ins : List In
   pub words : Lcg
 
-abbrev pub desk : Desk → Seen
-desk d = record { actor = d.actor; clock = d.clock; keeps = d.keeps; log = d.acts.items; outs = d.ends.outs.items; ins = d.ends.ins.items; words = d.words }
+abbrev pub worker_state : WorkerState → Seen
+worker_state d = record { actor = d.actor; clock = d.clock; keeps = d.keeps; log = d.acts.items; outs = d.ends.outs.items; ins = d.ends.ins.items; words = d.words }
 
 -- the ends are of the same links, in order
 abbrev pub SameLinks : Seen → Seen → Type 0
@@ -79,7 +79,7 @@ GoesOver outs ins (Puts act link s) = IsAmong outs link
 abbrev pub GoOver : List Out → List In → List (Turn Act Token) → Type 0
 GoOver outs ins = AllByRecursion (λ t. GoesOver (out_links outs) (in_links ins) t.it)
 
--- Some steps lead from one desk to the other: they are a run of actor k by itself, they are logged where acts are kept, the rings show what they took and
+-- Some steps lead from one worker_state to the other: they are a run of actor k by itself, they are logged where acts are kept, the rings show what they took and
 -- put, all over the links of these rings, and the words of their takes were drawn.
 pub record Goes (plan : Plan) (k : ℕ) (a : Seen) (ts : List (Turn Act Token)) (b : Seen) : Type 0 where
   pub run : LocalRun (StepsByLink plan) k a.clock a.actor ts b.actor
@@ -91,7 +91,7 @@ pub record Goes (plan : Plan) (k : ℕ) (a : Seen) (ts : List (Turn Act Token)) 
   pub links : GoOver a.outs a.ins ts
   pub words : Draws a.words (words_of ts) b.words
 
--- at most n steps lead from one desk to the other, which use n turns
+-- at most n steps lead from one worker_state to the other, which use n turns
 pub record Uses (plan : Plan) (k n : ℕ) (a b : Seen) : Type 0 where
   pub steps : List (Turn Act Token)
   pub few : length steps ≤ n

@@ -5,13 +5,13 @@ ghost use Rattle.vc_accepted.specs.Outgoing.{actor_of};
 ghost use Rattle.vc_core.specs.Begin.{AreFirst};
 ghost use Rattle.vc_core.specs.Turns.{actors as actors_in};
 ghost use Rattle.vc_plan.specs.Accepted.{IsAccepted};
-ghost use Rattle.vc_threads.specs.Crews.{IsFit};
+ghost use Rattle.vc_threads.specs.Jobs.{IsFit};
 ghost use Rattle.vc_threads.specs.Rings.{AddsRing, AreBare, AreWired, CanAddRing, outs_in, ins_in};
 ghost use Rattle.vc_threads.specs.Threads.{AllKeep, AreNumbered, actor_in, who};
 ghost use Rattle.vc_threads.specs.Works.{IsOfSomePlan};
 
-use crate::crew::Job;
 use crate::link::{Ends, In, LinkRule, Out, PLACES};
+use crate::spawn::Job;
 use rtrb::RingBuffer;
 use std::alloc::Global;
 use vc_core::{Actor, actors};

@@ -8,25 +8,25 @@
 //! network, which leads to the state that is put together from the actors and from what is left in the rings (`specs/Threads`).
 #![tactic(auto)]
 
-mod crew;
-mod desk;
 mod gate;
 mod jobs;
 mod link;
-mod merging;
+mod merged_runs;
 mod order;
 mod report;
 mod run;
+mod spawn;
 mod stamp;
 mod threads;
 mod work;
+mod worker_state;
 
-pub use crew::ThreadFault;
 pub use gate::{ClosableGate, EndGate, Gate};
 pub use link::{Ends, In, LinkRule, Out, Stamped};
-pub use merging::merge;
+pub use merged_runs::merge;
 pub use report::{Ending, Report};
 pub use run::{ActorRun, Stop};
+pub use spawn::ThreadFault;
 pub use stamp::next_stamp;
 pub use threads::{run_threads, run_threads_unlogged};
 pub use work::worker;

@@ -4,12 +4,12 @@ ghost use Rattle.vc_core.specs.State.{state_of};
 ghost use Rattle.vc_core.specs.declared.event.Event.{Event};
 ghost use Rattle.vc_threads.specs.Threads.{EndsRun, IsThreadRun, Reports};
 
-use crate::crew::{ThreadFault, run_jobs};
 use crate::gate::{ClosableGate, Gate};
 use crate::jobs::make_jobs;
-use crate::merging::merge;
+use crate::merged_runs::merge;
 use crate::order::{all_parts, take_all};
 use crate::report::{Ending, Report, close_of, stopped, stops_of};
+use crate::spawn::{ThreadFault, run_jobs};
 use std::alloc::Global;
 use std::sync::Wait;
 use std::thread::Threads;

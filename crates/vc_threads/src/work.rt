@@ -3,15 +3,15 @@ ghost use Rattle.std.specs.Prelude.{◌≡◌, ℕ, ◌<◌, true};
 ghost use Rattle.std.specs.List.{All};
 ghost use Rattle.vc_core.specs.OfPlan.{IsActorOf};
 ghost use Rattle.vc_network.specs.Plan.{Plan};
-ghost use Rattle.vc_threads.specs.Crews.{Ran};
+ghost use Rattle.vc_threads.specs.Jobs.{Ran};
 ghost use Rattle.vc_threads.specs.Wires.{Distinct, out_links, in_links};
 ghost use Rattle.vc_threads.specs.Works.{HasRun};
 
-use crate::crew::Job;
-use crate::desk::Desk;
 use crate::gate::Gate;
 use crate::link::Ends;
 use crate::run::{ActorRun, Stop};
+use crate::spawn::Job;
+use crate::worker_state::WorkerState;
 use std::alloc::Global;
 use std::thread;
 use vc_core::Actor;
@@ -32,26 +32,26 @@ pub(crate) fn run_job<G: Gate>(alloc: Global, job: Job, gate: &G, turns: u64, se
         ends,
         keeps,
     } = job;
-    let mut desk = Desk::new(alloc, id, actor, ends, keeps, seed);
+    let mut worker_state = WorkerState::new(alloc, id, actor, ends, keeps, seed);
     let mut told = false;
     let mut rested = None;
     for turn in 0..turns {
         if !gate.pass(id, turn) {
-            return desk.into_run(id, Stop::Gate);
+            return worker_state.into_run(id, Stop::Gate);
         }
-        match desk.turn(rested) {
+        match worker_state.turn(rested) {
             Ok(room) => rested = room,
-            Err(why) => return desk.into_run(id, why),
+            Err(why) => return worker_state.into_run(id, why),
         }
-        if !told && desk.idle() < 2 && desk.actor.ended() {
+        if !told && worker_state.idle() < 2 && worker_state.actor.ended() {
             gate.ended(id);
             told = true;
         }
-        if desk.idle() >= SPINS {
+        if worker_state.idle() >= SPINS {
             thread::yield_now();
         }
     }
-    desk.into_run(id, Stop::Turns)
+    worker_state.into_run(id, Stop::Turns)
 }
 
 /// Runs an actor for at most so many turns, as long as the gate lets it. In a turn it takes the item of the least link from which it

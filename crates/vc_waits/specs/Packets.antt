@@ -14,7 +14,7 @@ use Rattle.vc_packets.specs.declared.memory.Memory.{Memory}
 use Rattle.vc_plan.specs.Names.{channel_name, node_name, switch_name}
 use Rattle.vc_plan.specs.declared.plan.Plan.{Plan}
 use Rattle.vc_plan.specs.declared.port.Wire.{Wire as PlanWire}
-use Rattle.vc_waits.specs.Ports.{port_name}
+use Rattle.vc_waits.specs.Ports.{port_text}
 use Rattle.vc_waits.specs.Waits.{newline, processes_text}
 
 -- a packet of channel c stands there, and the channel is on a virtual link
@@ -34,8 +34,8 @@ pub record ArePlaces (p : Plan) (x : NetworkState) (places : List (Option Name))
 
 -- a wire from the port where the packet went in
 abbrev pub ports_text : Plan → PlanWire → Bool → List ℕ
-ports_text plan w true = port_name plan w.one ++ codes " " ++ port_name plan w.two
-ports_text plan w false = port_name plan w.two ++ codes " " ++ port_name plan w.one
+ports_text plan w true = port_text plan w.one ++ codes " " ++ port_text plan w.two
+ports_text plan w false = port_text plan w.two ++ codes " " ++ port_text plan w.one
 
 -- the wire of a number, by its ports
 abbrev pub wire_text : Plan → ℕ → Bool → List ℕ

@@ -4,5 +4,5 @@ use Rattle.vc_plan.specs.Names.{spot_name}
 use Rattle.vc_plan.specs.declared.plan.Plan.{Plan}
 use Rattle.vc_plan.specs.declared.port.Port.{Port}
 
-abbrev pub port_name : Plan → Port → List ℕ
-port_name plan p = spot_name plan p.spot ++ codes "." ++ decimal p.link
+abbrev pub port_text : Plan → Port → List ℕ
+port_text plan p = spot_name plan p.spot ++ codes "." ++ decimal p.link

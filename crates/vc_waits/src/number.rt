@@ -4,8 +4,8 @@ ghost use Rattle.std.specs.Prelude.{◌≡◌, ◌++◌, decimal, OnOk};
 use itoa::Buffer;
 use vc_packets::Memory;
 
-/// A number in decimal, at the end of a text.
-pub(crate) fn push_number(out: &mut Vec<u8>, n: u64) -> Result<(), Memory>
+/// Adds a number to a text, in decimal. It fails for want of memory alone.
+pub fn push_number(out: &mut Vec<u8>, n: u64) -> Result<(), Memory>
     ensures { OnOk result (out.new.items ≡ out.old.items ++ decimal n) }
 {
     let mut buffer = Buffer::new();

@@ -20,7 +20,7 @@ pub fn places(alloc: Global, network: &Network) -> Result<Vec<Option<Place>>, Me
         IfOk result (λ places. ArePlaces p (shown (state_of network.now)) places.items) }
 {
     let mut places = Vec::new(alloc);
-    for chan in 0..network.channels().min(65535) as u16 {
+    for chan in 0..network.channels() {
         places.push(network.place(chan))?;
     }
     Ok(places)

@@ -1,14 +1,14 @@
 //! Ports in texts.
 ghost use Rattle.std.specs.Prelude.{◌≡◌, ◌++◌, OnOk};
-ghost use Rattle.vc_waits.specs.Ports.{port_name};
+ghost use Rattle.vc_waits.specs.Ports.{port_text};
 
 use crate::number::push_number;
 use vc_packets::Memory;
 use vc_plan::{Plan, Port};
 
-/// A port, as `PLACE.LINK`.
-pub(crate) fn push_port(out: &mut Vec<u8>, plan: &Plan, port: Port) -> Result<(), Memory>
-    ensures { OnOk result (out.new.items ≡ out.old.items ++ port_name plan.now port) }
+/// Adds a port to a text, as `PLACE.LINK`. It fails for want of memory alone.
+pub fn push_port(out: &mut Vec<u8>, plan: &Plan, port: Port) -> Result<(), Memory>
+    ensures { OnOk result (out.new.items ≡ out.old.items ++ port_text plan.now port) }
 {
     out.extend_from_slice(plan.spot_name(port.spot))?;
     out.extend_from_slice(b".")?;

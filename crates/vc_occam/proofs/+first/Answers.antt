@@ -88,34 +88,34 @@ frame::Frame::first_from-returns-in-Stuck t c =
     let F = λ (r : Rest). from_site c.args.site (own r (store c.args.vars.now)) in
     sym (ap F (rest_stuck c.args.self.now c.in-Stuck.is))
 
-pub seeking::parts_from-loop-place-init : goal.seeking::parts_from-loop-place-init
-seeking::parts_from-loop-place-init t c =
+pub first_move::parts_from-loop-place-init : goal.first_move::parts_from-loop-place-init
+first_move::parts_from-loop-place-init t c =
     let fs = c.args.parts.now.items in
     let e = store c.args.vars.now in
     let i = c.args.site in
     ap (λ (k : ℕ). from_site i (own (besides (views (drop k fs))) e)) c.part_with-place.ensures ∙ from_part i fs e c.requires (frames_inside fs)
 
-pub seeking::parts_from-first_from-requires : goal.seeking::parts_from-first_from-requires
-seeking::parts_from-first_from-requires t c =
+pub first_move::parts_from-first_from-requires : goal.first_move::parts_from-first_from-requires
+first_move::parts_from-first_from-requires t c =
     let fs = c.args.parts.now.items in
     let l : c.loop-place.place < length fs = search rules in
     let pre = subst PartInPreorder (get_view fs c.loop-place.place c.index-in-loop-place.result.now l c.index-in-loop-place.ensures) (parts_preorder (views fs) c.loop-place.place c.requires) in
     (search (rules, the_lemmas), pre)
 
-pub seeking::parts_from-returns-in-Some : goal.seeking::parts_from-returns-in-Some
-seeking::parts_from-returns-in-Some t c =
+pub first_move::parts_from-returns-in-Some : goal.first_move::parts_from-returns-in-Some
+first_move::parts_from-returns-in-Some t c =
     let fs = c.args.parts.now.items in
     let l : c.loop-place.place < length fs = search rules in
     seek_found c.args.site fs c.loop-place.place c.index-in-loop-place.result.now (store c.args.vars.now) _ c.in-Some.made l c.index-in-loop-place.ensures (sym c.first_from.ensures ∙ c.in-Some.is) c.loop-place.invariant
 
-pub seeking::parts_from-loop-place-preserved : goal.seeking::parts_from-loop-place-preserved
-seeking::parts_from-loop-place-preserved t c =
+pub first_move::parts_from-loop-place-preserved : goal.first_move::parts_from-loop-place-preserved
+first_move::parts_from-loop-place-preserved t c =
     let fs = c.args.parts.now.items in
     let l : c.loop-place.place < length fs = search rules in
     seek_more c.args.site fs c.loop-place.place c.index-in-loop-place.result.now (store c.args.vars.now) _ l c.index-in-loop-place.ensures (sym c.first_from.ensures ∙ c.in_default.is) c.loop-place.invariant
 
-pub seeking::parts_from-loop-place-preserved-then-rests : goal.seeking::parts_from-loop-place-preserved-then-rests
-seeking::parts_from-loop-place-preserved-then-rests t c =
+pub first_move::parts_from-loop-place-preserved-then-rests : goal.first_move::parts_from-loop-place-preserved-then-rests
+first_move::parts_from-loop-place-preserved-then-rests t c =
     let fs = c.args.parts.now.items in
     let e = store c.args.vars.now in
     let l : c.loop-place.place < length fs = search rules in

@@ -7,5 +7,5 @@ decreases-frame::Frame::go l = 3 * goal.size-frame::Frame::go l + 1
 abbrev pub decreases-frame::Frame::go_apart : goal.decreases-frame::Frame::go_apart
 decreases-frame::Frame::go_apart l = 3 * goal.size-frame::Frame::go_apart l
 
-abbrev pub decreases-going::go_within : goal.decreases-going::go_within
-decreases-going::go_within l = 3 * goal.size-going::go_within l + 2
+abbrev pub decreases-progress::go_within : goal.decreases-progress::go_within
+decreases-progress::go_within l = 3 * goal.size-progress::go_within l + 2

@@ -51,8 +51,8 @@ frame::Frame::push_moves-returns-else-is_counted t c =
     let k = sym c.is_counted.ensures ∙ c.if-is_counted.false in
     pushed_none _ _ (ap (λ (r : Rest). own r (store c.args.vars.now)) (turning_none f c.in-Turning.index c.in-Turning.last c.in-Turning.is k))
 
-pub looking::push_part-returns : goal.looking::push_part-returns
-looking::push_part-returns t c =
+pub frame_moves::push_part-returns : goal.frame_moves::push_part-returns
+frame_moves::push_part-returns t c =
     let o = c.args.parts.now.ok.0 in
     pushed_none _ _ (ap (λ (v : Option View). part_own v (store c.args.vars.now)) (none_view c.args.parts.now.items c.args.at (omega (arith, c.len.ensures))))
 

@@ -4,6 +4,6 @@ use Rattle.vc_occam.specs.Frames.{besides, views}
 use Rattle.vc_process.specs.Terms.{store}
 use Rattle.vc_occam.proofs.+moves.Given as goal
 
-abbrev pub invariant-looking::push_parts-loop-part : goal.invariant-looking::push_parts-loop-part
-invariant-looking::push_parts-loop-part l =
+abbrev pub invariant-frame_moves::push_parts-loop-part : goal.invariant-frame_moves::push_parts-loop-part
+invariant-frame_moves::push_parts-loop-part l =
     l.found ++ own (besides (views (drop l.part-index l.parts.items))) (store l.vars) ≡ l.initial.found ++ own (besides (views l.parts.items)) (store l.vars)

@@ -2,7 +2,7 @@ use Rattle.std.proofs.Common.{◌≡◌, ◌∙◌, List, refl, rules, sym, ap, 
 use Rattle.std.specs.Prelude.{slice_get}
 use Rattle.vc_occam.specs.declared.frame.Frame.TheViews.{the_lemmas, out-Frame, roll-Frame}
 use Rattle.vc_occam.specs.declared.phase.Phase.TheVariants.{Ready}
-use Rattle.vc_occam.specs.declared.deed.Deed.TheVariants.{Offer}
+use Rattle.vc_occam.specs.declared.site_action.SiteAction.TheVariants.{Offer}
 use Rattle.vc_occam.specs.First.{own}
 use Rattle.vc_occam.specs.Frames.{Able, Did, View, part_rest, plans, view, views}
 use Rattle.vc_occam.specs.Remains.{Done, Rest}
@@ -139,28 +139,28 @@ frame::Frame::offer-returns-in-Ended-clause-did t c = λ e d a. never_offers _ _
 pub frame::Frame::offer-returns-in-Stuck-clause-did : goal.frame::Frame::offer-returns-in-Stuck-clause-did
 frame::Frame::offer-returns-in-Stuck-clause-did t c = λ e d a. never_offers _ _ e e c.args.site d (ap (λ (r : Rest). own r e) (rest_stuck c.args.self.now c.in-Stuck.is)) a
 
-pub offering::offer_within-returns-then-at-len-clause-did : goal.offering::offer_within-returns-then-at-len-clause-did
-offering::offer_within-returns-then-at-len-clause-did t c = λ e d.
+pub offers::offer_within-returns-then-at-len-clause-did : goal.offers::offer_within-returns-then-at-len-clause-did
+offers::offer_within-returns-then-at-len-clause-did t c = λ e d.
     let fs = c.args.parts.now.items in
     let o = c.args.parts.now.ok.0 in
     let l : c.args.at < length fs = omega (arith, c.len.ensures) in
     subst (λ (r : Rest). Offers r e c.args.site d (part_rest (slice_get (views (set fs c.args.at c.offer.new.self)) c.args.at))) (sym (ap part_rest (get_view fs c.args.at _ l c.index_mut.ensures.value)))
     (subst (λ (r : Rest). Offers (view c.index_mut.result.now).1 e c.args.site d r) (sym (ap part_rest (set_view fs c.args.at c.offer.new.self l))) (c.offer.ensures.did e d))
 
-pub offering::offer_within-returns-then-at-len-clause-plans : goal.offering::offer_within-returns-then-at-len-clause-plans
-offering::offer_within-returns-then-at-len-clause-plans t c = set_plans c.args.parts.now.items c.args.at _ c.offer.new.self c.index_mut.ensures.value c.offer.ensures.plan
+pub offers::offer_within-returns-then-at-len-clause-plans : goal.offers::offer_within-returns-then-at-len-clause-plans
+offers::offer_within-returns-then-at-len-clause-plans t c = set_plans c.args.parts.now.items c.args.at _ c.offer.new.self c.index_mut.ensures.value c.offer.ensures.plan
 
-pub offering::offer_within-returns-then-at-len-clause-others : goal.offering::offer_within-returns-then-at-len-clause-others
-offering::offer_within-returns-then-at-len-clause-others t c = (view c.offer.new.self, set_changed c.args.parts.now.items c.args.at c.offer.new.self)
+pub offers::offer_within-returns-then-at-len-clause-others : goal.offers::offer_within-returns-then-at-len-clause-others
+offers::offer_within-returns-then-at-len-clause-others t c = (view c.offer.new.self, set_changed c.args.parts.now.items c.args.at c.offer.new.self)
 
-pub offering::offer_within-returns-else-at-len-clause-did : goal.offering::offer_within-returns-else-at-len-clause-did
-offering::offer_within-returns-else-at-len-clause-did t c = λ e d a.
+pub offers::offer_within-returns-else-at-len-clause-did : goal.offers::offer_within-returns-else-at-len-clause-did
+offers::offer_within-returns-else-at-len-clause-did t c = λ e d a.
     let o = c.args.parts.now.ok.0 in
     let n = none_view c.args.parts.now.items c.args.at (omega (arith, c.len.ensures)) in
     never_offers _ _ e e c.args.site d (ap (λ v. own (part_rest v) e) n) a
 
-pub offering::offer_within-returns-else-at-len-clause-others : goal.offering::offer_within-returns-else-at-len-clause-others
-offering::offer_within-returns-else-at-len-clause-others t c =
+pub offers::offer_within-returns-else-at-len-clause-others : goal.offers::offer_within-returns-else-at-len-clause-others
+offers::offer_within-returns-else-at-len-clause-others t c =
     let o = parts_len c.args.parts.now in
     let nothing : View = (STOP 0, Done) in
     (nothing, none_changed (views c.args.parts.now.items) c.args.at nothing (omega (arith, c.len.ensures)))

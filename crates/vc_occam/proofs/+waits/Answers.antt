@@ -73,14 +73,14 @@ frame::Frame::waits_on-returns-in-Chosen t c =
     let f = c.args.self.now in
     c.chosen_waits.ensures (views (out-Frame f).parts.items) ∙ sym (ap (λ (r : Rest). first_waits c.args.wanted (waiting r)) (rest_chosen f c.in-Chosen.is))
 
-pub looking::parts_wait_on-returns-in-Some : goal.looking::parts_wait_on-returns-in-Some
-looking::parts_wait_on-returns-in-Some t c =
+pub frame_moves::parts_wait_on-returns-in-Some : goal.frame_moves::parts_wait_on-returns-in-Some
+frame_moves::parts_wait_on-returns-in-Some t c =
     let fs = c.args.parts.now.items in
     let l : c.loop-place.place < length fs = search rules in
     waits_found fs c.loop-place.place c.index.result.now c.args.wanted _ c.in-Some.site l c.index.ensures (sym c.in-Some.is ∙ c.waits_on.ensures) c.loop-place.invariant
 
-pub looking::parts_wait_on-loop-place-preserved : goal.looking::parts_wait_on-loop-place-preserved
-looking::parts_wait_on-loop-place-preserved t c =
+pub frame_moves::parts_wait_on-loop-place-preserved : goal.frame_moves::parts_wait_on-loop-place-preserved
+frame_moves::parts_wait_on-loop-place-preserved t c =
     let fs = c.args.parts.now.items in
     let l : c.loop-place.place < length fs = search rules in
     waits_more fs c.loop-place.place c.index.result.now c.args.wanted _ l c.index.ensures (sym c.in_default.is ∙ c.waits_on.ensures) c.loop-place.invariant

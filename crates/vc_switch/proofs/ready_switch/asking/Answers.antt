@@ -1,7 +1,7 @@
 use Rattle.std.proofs.Common.{◌≡◌, subst, arith}
 use Rattle.std.proofs.lemmas.Grind.{common_steps}
 use Rattle.std.specs.Int.{bit_at}
-use Rattle.vc_switch.proofs.Asking.{fewer}
+use Rattle.vc_switch.proofs.Requested.{fewer}
 use Rattle.vc_switch.proofs.ready_switch.asking.Goals as goal
 use Rattle.vc_switch.proofs.ready_switch.asking.Goals.{then-not-has_more, else-not-has_more}
 

@@ -3,7 +3,7 @@ use Rattle.std.specs.List.{All}
 use Rattle.std.proofs.Math.ListN.{set}
 use Rattle.std.proofs.Math.Seq.{map-set_same}
 use Rattle.std.proofs.lemmas.List.Elements.{All-set}
-use Rattle.vc_threads.specs.Crews.{IsFit}
+use Rattle.vc_threads.specs.Jobs.{IsFit}
 use Rattle.vc_threads.specs.Rings.{outs_of, ins_of, outs_in, ins_in}
 use Rattle.vc_threads.specs.Threads.{who}
 use Rattle.vc_threads.specs.Works.{Out, In}

@@ -1,6 +1,6 @@
 use Rattle.std.proofs.Common.{◌≡◌, map}
 use Rattle.std.specs.List.{All}
-use Rattle.vc_threads.specs.Crews.{IsFit}
+use Rattle.vc_threads.specs.Jobs.{IsFit}
 use Rattle.vc_threads.specs.Rings.{AreWired}
 use Rattle.vc_threads.specs.Threads.{who}
 use Rattle.vc_threads.proofs.jobs.add_rings.Given as goal

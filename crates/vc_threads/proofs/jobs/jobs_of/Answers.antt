@@ -3,7 +3,7 @@ use Rattle.std.specs.List.{All, AllByRecursion}
 use Rattle.std.proofs.lemmas.List.{map-append, length-map}
 use Rattle.std.proofs.lemmas.List.Elements.{All-push}
 use Rattle.vc_network.proofs.Merging.{both_lists}
-use Rattle.vc_threads.specs.Crews.{IsFit}
+use Rattle.vc_threads.specs.Jobs.{IsFit}
 use Rattle.vc_threads.specs.Threads.{AllKeep, AreNumbered, who}
 use Rattle.vc_threads.specs.Works.{IsOfSomePlan}
 use Rattle.vc_threads.proofs.Fitting.{numbered_push, actors_step}

@@ -1,6 +1,6 @@
 use Rattle.std.proofs.Common.{◌≡◌, ◌+◌, ◌≤◌, ◌++◌, length, map}
 use Rattle.std.specs.List.{All, AllByRecursion}
-use Rattle.vc_threads.specs.Crews.{IsFit}
+use Rattle.vc_threads.specs.Jobs.{IsFit}
 use Rattle.vc_threads.specs.Rings.{AreBare}
 use Rattle.vc_threads.specs.Threads.{AllKeep, AreNumbered, actor_in, who}
 use Rattle.vc_threads.specs.Works.{IsOfSomePlan}

@@ -12,11 +12,11 @@ use Rattle.vc_core.specs.declared.event.Event.{Event}
 use Rattle.vc_plan.specs.declared.plan.Plan.{Plan}
 use Rattle.vc_tokens.specs.Spelt.{tokens}
 use Rattle.vc_threads.specs.Closing.{AreInOrder, ClosesBy, stop_at, stop_in}
-use Rattle.vc_threads.specs.Crews.{IsFit, Ran}
+use Rattle.vc_threads.specs.Jobs.{IsFit, Ran}
 use Rattle.vc_threads.specs.Merged.{event_of, numbered}
 use Rattle.vc_threads.specs.Order.{actor_left, MeetAt, LeftOn, OnWires, OnWays}
 use Rattle.vc_threads.specs.Threads.{AllKeep, AreNumbered, actor_in, who}
-use Rattle.vc_threads.specs.declared.crew.Job.{Job}
+use Rattle.vc_threads.specs.declared.spawn.Job.{Job}
 use Rattle.vc_threads.specs.declared.run.ActorRun.{ActorRun}
 use Rattle.vc_threads.proofs.Closings.{not_done}
 use Rattle.vc_threads.proofs.Fitting.{by_recursion}

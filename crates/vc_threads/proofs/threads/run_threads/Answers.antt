@@ -3,7 +3,7 @@ use Rattle.vc_core.specs.State.{state_of}
 use Rattle.vc_core.specs.declared.event.Event.{Event}
 use Rattle.vc_plan.specs.declared.plan.Plan.{Plan}
 use Rattle.vc_threads.specs.Threads.{IsThreadRun, Reports}
-use Rattle.vc_threads.specs.declared.crew.ThreadFault.{ThreadFault}
+use Rattle.vc_threads.specs.declared.spawn.ThreadFault.{ThreadFault}
 use Rattle.vc_threads.specs.declared.report.Report.{Report}
 use Rattle.vc_threads.proofs.threads.run_threads.Goals as goal
 

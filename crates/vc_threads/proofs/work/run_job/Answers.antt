@@ -2,36 +2,36 @@ use Rattle.std.proofs.Common.{◌≡◌, ◌<◌, refl, sym, ◌∙◌, subst, a
 use Rattle.std.specs.List.{All}
 use Rattle.vc_core.specs.OfPlan.{IsActorOf}
 use Rattle.vc_threads.specs.Wires.{Distinct, out_links, in_links}
-use Rattle.vc_threads.specs.Works.{desk}
+use Rattle.vc_threads.specs.Works.{worker_state}
 use Rattle.vc_threads.specs.declared.run.Stop.TheVariants.{Turns, Gate, Clock}
 use Rattle.vc_threads.proofs.Goings.{uses_zero, uses_then, low_kept, actor_kept, stays_same, has_run}
 use Rattle.vc_threads.proofs.work.run_job.Goals as goal
 
 pub loop-turn-init : goal.loop-turn-init
-loop-turn-init g c = record { run = λ plan n of. uses_zero plan n (desk c.new-desk.result); ends = (refl, refl); rests = λ plan n of. tt }
+loop-turn-init g c = record { run = λ plan n of. uses_zero plan n (worker_state c.new-worker_state.result); ends = (refl, refl); rests = λ plan n of. tt }
 
 pub turn-requires-clause-outs : goal.turn-requires-clause-outs
 turn-requires-clause-outs g c =
-    subst Distinct (sym c.loop-turn.invariant.ends.0) (subst (λ e. Distinct (out_links e.outs.items)) (sym c.new-desk.ensures.ends) c.requires.outs)
+    subst Distinct (sym c.loop-turn.invariant.ends.0) (subst (λ e. Distinct (out_links e.outs.items)) (sym c.new-worker_state.ensures.ends) c.requires.outs)
 
 pub turn-requires-clause-ins : goal.turn-requires-clause-ins
 turn-requires-clause-ins g c =
-    subst Distinct (sym c.loop-turn.invariant.ends.1) (subst (λ e. Distinct (in_links e.ins.items)) (sym c.new-desk.ensures.ends) c.requires.ins)
+    subst Distinct (sym c.loop-turn.invariant.ends.1) (subst (λ e. Distinct (in_links e.ins.items)) (sym c.new-worker_state.ensures.ends) c.requires.ins)
 
 pub turn-requires-clause-low : goal.turn-requires-clause-low
 turn-requires-clause-low g c =
-    low_kept (desk c.new-desk.result).outs (desk c.loop-turn.desk).outs c.loop-turn.invariant.ends.0
-    (subst (λ e. All (λ o. o.0 < 32) e.outs.items) (sym c.new-desk.ensures.ends) c.requires.low)
+    low_kept (worker_state c.new-worker_state.result).outs (worker_state c.loop-turn.worker_state).outs c.loop-turn.invariant.ends.0
+    (subst (λ e. All (λ o. o.0 < 32) e.outs.items) (sym c.new-worker_state.ensures.ends) c.requires.low)
 
 pub returns-then-not-pass : goal.returns-then-not-pass
 returns-then-not-pass g c = (
   c.into_run.ensures.id,
   λ plan n of.
-      let d = c.new-desk.ensures in
+      let d = c.new-worker_state.ensures in
       let e = c.into_run.ensures in
       let less = c.loop-turn-test.true in
-      has_run plan n c.loop-turn.turn c.args.turns c.args.job.id c.args.seed c.new-desk.result c.loop-turn.desk c.loop-turn.desk c.args.job.actor c.args.job.ends c.args.job.keeps c.into_run.result
-      (c.loop-turn.invariant.run plan n (subst (λ a. IsActorOf plan n a) (sym d.actor) of)) (stays_same (desk c.loop-turn.desk)) (omega (arith, less))
+      has_run plan n c.loop-turn.turn c.args.turns c.args.job.id c.args.seed c.new-worker_state.result c.loop-turn.worker_state c.loop-turn.worker_state c.args.job.actor c.args.job.ends c.args.job.keeps c.into_run.result
+      (c.loop-turn.invariant.run plan n (subst (λ a. IsActorOf plan n a) (sym d.actor) of)) (stays_same (worker_state c.loop-turn.worker_state)) (omega (arith, less))
       d.actor d.clock d.keeps d.acts d.ends d.words e.actor e.acts e.ends (λ h. let f : Gate ≡ Turns = sym e.stop ∙ h in cc) (λ h. let f : Gate ≡ Clock = sym e.stop ∙ h in cc),
 )
 
@@ -39,10 +39,10 @@ pub returns-in-Err : goal.returns-in-Err
 returns-in-Err g c = (
   c.into_run-in-Err.ensures.id,
   λ plan n of.
-      let d = c.new-desk.ensures in
+      let d = c.new-worker_state.ensures in
       let e = c.into_run-in-Err.ensures in
       let less = c.loop-turn-test.true in
-      has_run plan n c.loop-turn.turn c.args.turns c.args.job.id c.args.seed c.new-desk.result c.loop-turn.desk c.turn.new.self c.args.job.actor c.args.job.ends c.args.job.keeps c.into_run-in-Err.result
+      has_run plan n c.loop-turn.turn c.args.turns c.args.job.id c.args.seed c.new-worker_state.result c.loop-turn.worker_state c.turn.new.self c.args.job.actor c.args.job.ends c.args.job.keeps c.into_run-in-Err.result
       (c.loop-turn.invariant.run plan n (subst (λ a. IsActorOf plan n a) (sym d.actor) of)) c.in-Err.ensures.stopped (omega (arith, less))
       d.actor d.clock d.keeps d.acts d.ends d.words e.actor e.acts e.ends (λ h. absurd (c.in-Err.ensures.why (sym e.stop ∙ h))) (λ h. c.in-Err.ensures.full (sym e.stop ∙ h)),
 )
@@ -51,8 +51,8 @@ pub loop-turn-preserved : goal.loop-turn-preserved
 loop-turn-preserved g c = record {
   run = λ plan n of.
       let p = c.loop-turn.invariant.run plan n of in
-      uses_then plan n c.loop-turn.turn 1 (desk c.new-desk.result) (desk c.loop-turn.desk) (desk c.turn.new.self) p
-      (c.in-Ok.ensures.done plan n (actor_kept plan n c.loop-turn.turn (desk c.new-desk.result) (desk c.loop-turn.desk) p of));
+      uses_then plan n c.loop-turn.turn 1 (worker_state c.new-worker_state.result) (worker_state c.loop-turn.worker_state) (worker_state c.turn.new.self) p
+      (c.in-Ok.ensures.done plan n (actor_kept plan n c.loop-turn.turn (worker_state c.new-worker_state.result) (worker_state c.loop-turn.worker_state) p of));
   ends = (c.in-Ok.ensures.ends.0 ∙ c.loop-turn.invariant.ends.0, c.in-Ok.ensures.ends.1 ∙ c.loop-turn.invariant.ends.1);
   rests = λ plan n of. c.in-Ok.ensures.rests plan n of;
 }
@@ -64,11 +64,11 @@ pub returns : goal.returns
 returns g c = (
   c.into_run-2.ensures.id,
   λ plan n of.
-      let d = c.new-desk.ensures in
+      let d = c.new-worker_state.ensures in
       let e = c.into_run-2.ensures in
       let all = c.loop-turn-test.false in
       let end = c.loop-turn.auto.turn-end in
-      has_run plan n c.loop-turn.turn c.args.turns c.args.job.id c.args.seed c.new-desk.result c.loop-turn.desk c.loop-turn.desk c.args.job.actor c.args.job.ends c.args.job.keeps c.into_run-2.result
-      (c.loop-turn.invariant.run plan n (subst (λ a. IsActorOf plan n a) (sym d.actor) of)) (stays_same (desk c.loop-turn.desk)) (omega (arith, end))
+      has_run plan n c.loop-turn.turn c.args.turns c.args.job.id c.args.seed c.new-worker_state.result c.loop-turn.worker_state c.loop-turn.worker_state c.args.job.actor c.args.job.ends c.args.job.keeps c.into_run-2.result
+      (c.loop-turn.invariant.run plan n (subst (λ a. IsActorOf plan n a) (sym d.actor) of)) (stays_same (worker_state c.loop-turn.worker_state)) (omega (arith, end))
       d.actor d.clock d.keeps d.acts d.ends d.words e.actor e.acts e.ends (λ h. omega (arith, all, end)) (λ h. let f : Turns ≡ Clock = sym e.stop ∙ h in cc),
 )

@@ -2,13 +2,13 @@ use Rattle.std.proofs.Common.{ℕ, IfSome}
 use Rattle.vc_core.specs.OfPlan.{IsActorOf}
 use Rattle.vc_network.specs.Plan.{Plan}
 use Rattle.vc_threads.specs.Runs.{HasNoStep}
-use Rattle.vc_threads.specs.Works.{SameLinks, Uses, desk}
+use Rattle.vc_threads.specs.Works.{SameLinks, Uses, worker_state}
 use Rattle.vc_threads.proofs.work.run_job.Given as goal
 
 -- so far each turn was used, and the ends are of the same links; and where the actor is known to have no step of its own, it has none
 abbrev pub invariant-loop-turn : goal.invariant-loop-turn
 invariant-loop-turn g l = record {
-  run : (plan : Plan) (n : ℕ) → IsActorOf plan n l.initial.desk.actor → Uses plan n l.turn (desk l.initial.desk) (desk l.desk);
-  ends : SameLinks (desk l.initial.desk) (desk l.desk);
-  rests : (plan : Plan) (n : ℕ) → IsActorOf plan n l.desk.actor → IfSome l.rested (λ room. HasNoStep plan n l.desk.actor);
+  run : (plan : Plan) (n : ℕ) → IsActorOf plan n l.initial.worker_state.actor → Uses plan n l.turn (worker_state l.initial.worker_state) (worker_state l.worker_state);
+  ends : SameLinks (worker_state l.initial.worker_state) (worker_state l.worker_state);
+  rests : (plan : Plan) (n : ℕ) → IsActorOf plan n l.worker_state.actor → IfSome l.rested (λ room. HasNoStep plan n l.worker_state.actor);
 }

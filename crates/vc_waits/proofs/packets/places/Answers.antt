@@ -14,7 +14,6 @@ pub returns : goal.returns
 returns c = λ p events reached.
     let many = c.channels.ensures p reached.is in
     let few = few_channels p reached.is.accepted in
-    let most = c.min-chan-end.ensures in
     let test = c.loop-chan-test.false in
     let s = state_of c.args.network.now in
     let to = c.loop-chan.invariant p events reached in

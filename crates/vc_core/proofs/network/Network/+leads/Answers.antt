@@ -6,7 +6,7 @@ use Rattle.vc_network.proofs.Wiring.{net_accepted}
 use Rattle.vc_accepted.specs.NetworkOf.{network_of, port_at}
 use Rattle.vc_accepted.specs.NetworkOf as to
 use Rattle.vc_accepted.proofs.Accepting.{accepted}
-use Rattle.vc_core.specs.Sought.{IsSought, ComesTo}
+use Rattle.vc_core.specs.Targets.{IsTarget, ComesTo}
 use Rattle.vc_core.specs.State.{state_of}
 use Rattle.vc_core.proofs.Following.{sought_there, no_hop, hop_for, some_hop}
 use Rattle.vc_core.proofs.Placing.{far_is, no_wire}
@@ -26,7 +26,7 @@ returns-in-Node t c = λ p e load is less comes.
     let link = c.port_of-far.result.link in
     let real : slice_get s.wires (w / 2) ≡ Some x = ap (λ z. slice_get z (w / 2)) (sym c.as_slice.ensures) ∙ sym c.in-Some.ensures in
     let at = far_is p s w x is real ∙ ap to.port_of (sym c.port_of-far.ensures) ∙ ap (λ z. port_at z link) c.in-Node.is in
-    let told = subst (λ q. IsTrue c.is.result ↔ IsSought q (record { body = c.args.body.now; mark = c.args.mark })) c.sought_at.ensures c.is.ensures in
+    let told = subst (λ q. IsTrue c.is.result ↔ IsTarget q (record { body = c.args.body.now; mark = c.args.mark })) c.target_at.ensures c.is.ensures in
     sought_there (net_of (network_of p)) c.args.hops w c.args.body.now load e c.in-Node.node link c.args.ends.now c.args.mark c.is.result at comes told
 
 pub returns-then-hops-eq0 : goal.returns-then-hops-eq0

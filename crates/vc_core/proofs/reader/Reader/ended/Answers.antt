@@ -3,7 +3,7 @@ use Rattle.vc_machine.specs.Places.{IsOf, OnWire}
 use Rattle.vc_network.specs.Plan.{net_of, ways}
 use Rattle.vc_packets.specs.declared.packet.Packet.{Packet}
 use Rattle.vc_accepted.specs.NetworkOf.{network_of}
-use Rattle.vc_core.specs.Sought.{Has, IsOwned}
+use Rattle.vc_core.specs.Targets.{Has, IsOwned}
 use Rattle.vc_core.proofs.Finding.{read_already, last_read}
 use Rattle.vc_core.proofs.reader.Reader.ended.Goals.{then-self, else-self}
 use Rattle.vc_core.proofs.reader.Reader.ended.Goals as goal
@@ -13,7 +13,7 @@ returns c = λ p c' w ps got is h. record {
   way = h.way;
   real = h.real;
   ends = h.ends;
-  coming = c.of.ensures;
+  prefix = c.of.ensures;
   found = λ all.
       let net = net_of (network_of p) in
       let m = c.args.mark in
@@ -22,7 +22,7 @@ returns c = λ p c' w ps got is h. record {
       elim c.if-self.branch [
         | then-self x ↦ subst (λ t. IsTrue t ↔ Has Its (ps ++ q ∷ [])) (sym (x.found-is ∙ x.if-self.true)) (read_already p c' w ps q c.args.self.found x.if-self.true h.found all)
         | else-self x ↦
-            let bytes : x.bytes.result.now ≡ take 45 got = x.bytes.ensures ∙ h.coming in
+            let bytes : x.bytes.result.now ≡ take 45 got = x.bytes.ensures ∙ h.prefix in
             let here = x.is_its-found.ensures p c' is (subst (λ v. v < ways (network_of p)) (sym h.way) h.real) h.ends in
             let told = subst (λ v. IsOwned (network_of p) (OnWire v, record { body = take 45 got; mark = m }) → IsTrue x.is_its-found.result ↔ IsOf net v None (record { body = take 45 got; mark = m }) c') h.way
             (subst (λ (b : List ℕ). IsOwned (network_of p) (OnWire c.args.self.way, record { body = b; mark = m }) → IsTrue x.is_its-found.result ↔ IsOf net c.args.self.way None (record { body = b; mark = m }) c') bytes here) in

@@ -1,6 +1,6 @@
 use Rattle.std.proofs.Common.{◌≡◌, ◌∙◌, ap, refl, subst, sym, length}
 use Rattle.vc_occam.specs.declared.frame.Frame.TheViews.{the_lemmas, out-Frame}
-use Rattle.vc_occam.specs.declared.going.Next.{Next}
+use Rattle.vc_occam.specs.declared.progress.Next.{Next}
 use Rattle.vc_occam.specs.declared.phase.Phase.{Phase}
 use Rattle.vc_occam.specs.declared.phase.Phase.TheVariants.{Ready}
 use Rattle.vc_occam.specs.Frames.{Able, Did, HasVariables, View, assigned_at, is_done, rest_at, views}
@@ -28,7 +28,7 @@ returns-clause-did c =
     let e = store c.args.vars.now.items in
     let f = store c.begin-next.new.vars.items in
     let s = c.args.doing.now.site in
-    let d = c.args.doing.now.deed in
+    let d = c.args.doing.now.action in
     let able = subst (λ (v : View). Able v.1 e s d) (view_out c.args.self.now) c.requires.able in
     let did = phase_did o.kind o.site _ Ready vs o.at e f s d _ c.requires.ready (c.begin-next.ensures.did (phase_able o.kind o.site _ Ready vs o.at e s d c.requires.ready able)) in
     simp (the_lemmas, view_roll, view_out) (subst (λ (n : Next). Did (rest_at o.kind o.phase o.site vs o.at) e s d (rest_at o.kind n.phase o.site ws n.at) f) (sym c.reached-progress.ensures.next) did)
@@ -43,4 +43,4 @@ returns-clause-ended c =
     let o = out-Frame c.args.self.now in
     let ws = views c.begin-next.new.parts.items in
     let reached : c.reached-progress.result.ended ≡ is_done (rest_at o.kind c.begin-next.result.phase o.site ws c.begin-next.result.at) = c.reached-progress.ensures.ended o.site ∙ simp the_lemmas refl in
-    simp (the_lemmas, view_roll, view_out) (c.went.ensures.ended ∙ reached ∙ ap (λ (n : Next). is_done (rest_at o.kind n.phase o.site ws n.at)) (sym c.reached-progress.ensures.next))
+    simp (the_lemmas, view_roll, view_out) (c.outcome.ensures.ended ∙ reached ∙ ap (λ (n : Next). is_done (rest_at o.kind n.phase o.site ws n.at)) (sym c.reached-progress.ensures.next))

@@ -8,7 +8,7 @@ use Rattle.vc_occam.proofs.frame.Frame.go_itself.Goals as goal
 
 pub go_on-progress-requires-clause-able : goal.go_on-progress-requires-clause-able
 go_on-progress-requires-clause-able c =
-    subst (λ (v : View). Able v.1 (store c.args.vars.now.items) c.args.doing.now.site c.args.doing.now.deed) (view_out c.args.self.now) c.requires.able
+    subst (λ (v : View). Able v.1 (store c.args.vars.now.items) c.args.doing.now.site c.args.doing.now.action) (view_out c.args.self.now) c.requires.able
 
 pub go_on-progress-requires-clause-variables : goal.go_on-progress-requires-clause-variables
 go_on-progress-requires-clause-variables c =
@@ -23,4 +23,4 @@ returns-clause-plan c =
     simp (the_lemmas, view_roll, view_out) (same_plan o.kind o.site (views o.parts.items) (views c.go_on-progress.new.parts.items) c.go_on-progress.ensures.plans)
 
 pub returns-clause-ended : goal.returns-clause-ended
-returns-clause-ended c = simp (the_lemmas, view_roll, view_out) (c.went.ensures.ended ∙ c.go_on-progress.ensures.ended)
+returns-clause-ended c = simp (the_lemmas, view_roll, view_out) (c.outcome.ensures.ended ∙ c.go_on-progress.ensures.ended)

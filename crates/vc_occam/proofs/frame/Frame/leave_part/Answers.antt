@@ -17,5 +17,5 @@ pub returns-clause-ended : goal.returns-clause-ended
 returns-clause-ended c =
     let o = out-Frame c.args.self.now in
     let vs = views o.parts.items in
-    let is = c.went.ensures.ended ∙ c.after_part-progress.ensures.ended ∙ sym (gone_done o.kind o.site vs o.at c.requires.composed c.requires.ended) ∙ sym (ap is_done (c.after_part-progress.ensures.rest o.site)) in
+    let is = c.outcome.ensures.ended ∙ c.after_part-progress.ensures.ended ∙ sym (gone_done o.kind o.site vs o.at c.requires.composed c.requires.ended) ∙ sym (ap is_done (c.after_part-progress.ensures.rest o.site)) in
     simp (the_lemmas, view_roll, view_out) is

@@ -50,4 +50,4 @@ returns-in-Turning-clause-ended c =
     let x = to_z w64 (of_z w64 c.in-Turning.index) in
     let y = to_z w64 (of_z w64 c.in-Turning.last) in
     let is = ap is_counted c.in-Count.is in
-    simp (the_lemmas, view_roll, view_out) (c.went.ensures.ended ∙ c.is_over.ensures ∙ turns_over o.kind o.site c.after_turn-phase.result x y (views c.after_turn-phase.new.parts.items) o.at is c.after_turn-phase.ensures.phase)
+    simp (the_lemmas, view_roll, view_out) (c.outcome.ensures.ended ∙ c.is_over.ensures ∙ turns_over o.kind o.site c.after_turn-phase.result x y (views c.after_turn-phase.new.parts.items) o.at is c.after_turn-phase.ensures.phase)

@@ -1,5 +1,5 @@
 use Rattle.std.proofs.Common.{sym, subst}
-use Rattle.vc_occam.specs.declared.deed.Deed.{Deed}
+use Rattle.vc_occam.specs.declared.site_action.SiteAction.{SiteAction}
 use Rattle.vc_occam.specs.Frames.{Able, Did, view}
 use Rattle.vc_occam.specs.Runnings.{state}
 use Rattle.vc_occam.specs.States.{State}
@@ -10,13 +10,13 @@ use Rattle.vc_occam.proofs.Made.{able_on}
 use Rattle.vc_occam.proofs.Sites.{step_keeps}
 use Rattle.vc_occam.proofs.running.Running.resume.Goals as goal
 
-pub go-went-requires-clause-able : goal.go-went-requires-clause-able
+pub go-outcome-requires-clause-able : goal.go-outcome-requires-clause-able
 unfolding state
-go-went-requires-clause-able c =
+go-outcome-requires-clause-able c =
     let self = c.args.self.now in
     let r = (view self.frame).1 in
     let e = store self.vars.items in
-    subst (λ (d : Deed). Able r e c.args.site d) (sym c.deed_on.ensures) (able_on r e c.args.site c.args.message c.requires)
+    subst (λ (d : SiteAction). Able r e c.args.site d) (sym c.action_on.ensures) (able_on r e c.args.site c.args.message c.requires)
 
 pub returns-clause-resumed : goal.returns-clause-resumed
 unfolding state
@@ -24,15 +24,15 @@ returns-clause-resumed c =
     let self = c.args.self.now in
     let r = (view self.frame).1 in
     let e = store self.vars.items in
-    let q = (view c.go-went.new.self).1 in
-    let f = store c.go-went.new.vars.items in
+    let q = (view c.go-outcome.new.self).1 in
+    let f = store c.go-outcome.new.vars.items in
     let before : State = record { rest = r; store = e } in
     let after : State = record { rest = q; store = f } in
     resumes before after c.args.site c.args.message self.own_sites self.uses_lawfully
-    (subst (λ (d : Deed). Did r e c.args.site d q f) c.deed_on.ensures c.go-went.ensures.did)
+    (subst (λ (d : SiteAction). Did r e c.args.site d q f) c.action_on.ensures c.go-outcome.ensures.did)
 
 pub invariant_of-self-clause-own_sites : goal.invariant_of-self-clause-own_sites
-invariant_of-self-clause-own_sites c = (step_keeps c.go-went.ensures.did.1 c.args.self.now.own_sites).1
+invariant_of-self-clause-own_sites c = (step_keeps c.go-outcome.ensures.did.1 c.args.self.now.own_sites).1
 
 pub invariant_of-self-clause-uses_lawfully : goal.invariant_of-self-clause-uses_lawfully
-invariant_of-self-clause-uses_lawfully c = step_uses c.go-went.ensures.did.1 c.args.self.now.uses_lawfully
+invariant_of-self-clause-uses_lawfully c = step_uses c.go-outcome.ensures.did.1 c.args.self.now.uses_lawfully

@@ -12,9 +12,9 @@ use Rattle.vc_occam.proofs.Meets.{other_listed}
 use Rattle.vc_occam.proofs.Sites.{step_keeps}
 use Rattle.vc_occam.proofs.running.Running.step.Goals as goal
 
-pub go-went-requires-clause-able : goal.go-went-requires-clause-able
+pub go-outcome-requires-clause-able : goal.go-outcome-requires-clause-able
 unfolding state inner_channels
-go-went-requires-clause-able c =
+go-outcome-requires-clause-able c =
     let self = c.args.self.now in
     let r = (view self.frame).1 in
     let e = store self.vars.items in
@@ -28,11 +28,11 @@ returns-clause-made c =
     let r = (view self.frame).1 in
     let e = store self.vars.items in
     let before : State = record { rest = r; store = e } in
-    let after : State = record { rest = (view c.go-went.new.self).1; store = store c.go-went.new.vars.items } in
-    acts before after (move.Quiet c.args.site) Nothing self.own_sites self.uses_lawfully tt c.go-went.ensures.did
+    let after : State = record { rest = (view c.go-outcome.new.self).1; store = store c.go-outcome.new.vars.items } in
+    acts before after (move.Quiet c.args.site) Nothing self.own_sites self.uses_lawfully tt c.go-outcome.ensures.did
 
 pub invariant_of-self-clause-own_sites : goal.invariant_of-self-clause-own_sites
-invariant_of-self-clause-own_sites c = (step_keeps c.go-went.ensures.did.1 c.args.self.now.own_sites).1
+invariant_of-self-clause-own_sites c = (step_keeps c.go-outcome.ensures.did.1 c.args.self.now.own_sites).1
 
 pub invariant_of-self-clause-uses_lawfully : goal.invariant_of-self-clause-uses_lawfully
-invariant_of-self-clause-uses_lawfully c = step_uses c.go-went.ensures.did.1 c.args.self.now.uses_lawfully
+invariant_of-self-clause-uses_lawfully c = step_uses c.go-outcome.ensures.did.1 c.args.self.now.uses_lawfully

@@ -1,5 +1,5 @@
 use Rattle.std.proofs.Common.{refl}
-use Rattle.vc_switch.proofs.Asking.{asked_first, routed_first, only_first}
+use Rattle.vc_switch.proofs.Requested.{asked_first, routed_first, only_first}
 use Rattle.vc_switch.proofs.Readying.{ready_first}
 use Rattle.vc_switch.proofs.ready_switch.ReadySwitch.new.Goals as goal
 

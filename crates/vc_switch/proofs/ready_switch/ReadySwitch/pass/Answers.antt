@@ -4,7 +4,7 @@ use Rattle.vc_switch.specs.Able.{CanPass}
 use Rattle.vc_switch.specs.Seen.{seen}
 use Rattle.vc_switch.specs.State.{plan_of, limit_of}
 use Rattle.vc_switch.specs.Switch.{Passes}
-use Rattle.vc_switch.proofs.Asking.{asked_passed, routed_passed, only_passed}
+use Rattle.vc_switch.proofs.Requested.{asked_passed, routed_passed, only_passed}
 use Rattle.vc_switch.proofs.Readying.{ready_else, passes_else}
 use Rattle.vc_switch.proofs.ready_switch.ReadySwitch.pass.Goals as goal
 
@@ -19,14 +19,14 @@ invariant_of-self c =
     let passes = c.pass-passed.ensures.passes in
     let one = passes_else (limit_of s.inputs) (plan_of s) (seen s) c.args.link (seen t) passes in
     let masks = ready_else s t c.args.link c.self.inside.ready c.look.new.self kept one c.self.invariant.masks c.look.ensures in
-    let now = asked_passed s t c.args.link c.of.result c.asked-asks.result c.self.inside.asks c.set.new.self kept passes c.self.invariant.asked c.requires.link c.of.ensures c.asked-asks.ensures.known c.asked-asks.ensures.told
-    c.asked-asks.ensures.others c.set.ensures.it c.set.ensures.others in
+    let now = asked_passed s t c.args.link c.of.result c.asked-requests.result c.self.inside.requests c.set.new.self kept passes c.self.invariant.asked c.requires.link c.of.ensures c.asked-requests.ensures.known c.asked-requests.ensures.told
+    c.asked-requests.ensures.others c.set.ensures.it c.set.ensures.others in
     record {
       masks = masks;
       asked = now;
-      routed = routed_passed s t c.look.new.self c.args.link c.self.inside.routes c.told-self-inside.result c.set.new.self c.has_more.result kept one masks now (subst (λ m. m < 2 ^ 32) (sym c.set.ensures.it) c.asked-asks.type_inv) c.self.invariant.routed
-          (λ o asks free. c.has_more.ensures.more o (subst (λ m. bit_at m o ≡ 1) c.set.ensures.it asks) free) c.told-self-inside.ensures;
-      only = only_passed s t c.args.link c.self.inside.routes c.told-self-inside.result c.has_more.result one.others c.self.invariant.only (λ more. c.asked-asks.ensures.waits (c.has_more.ensures.some more)) c.told-self-inside.ensures;
+      routed = routed_passed s t c.look.new.self c.args.link c.self.inside.routes c.told-self-inside.result c.set.new.self c.has_more.result kept one masks now (subst (λ m. m < 2 ^ 32) (sym c.set.ensures.it) c.asked-requests.type_inv) c.self.invariant.routed
+          (λ o requests free. c.has_more.ensures.more o (subst (λ m. bit_at m o ≡ 1) c.set.ensures.it requests) free) c.told-self-inside.ensures;
+      only = only_passed s t c.args.link c.self.inside.routes c.told-self-inside.result c.has_more.result one.others c.self.invariant.only (λ more. c.asked-requests.ensures.waits (c.has_more.ensures.some more)) c.told-self-inside.ensures;
     }
 
 pub returns-clause-passes : goal.returns-clause-passes

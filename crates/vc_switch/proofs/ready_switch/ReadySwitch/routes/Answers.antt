@@ -1,5 +1,5 @@
 use Rattle.std.proofs.Common.{subst}
-use Rattle.vc_switch.specs.Asking.{AreRouted, OnlyWaiting}
+use Rattle.vc_switch.specs.Requested.{AreRouted, OnlyWaiting}
 use Rattle.vc_switch.proofs.ready_switch.ReadySwitch.routes.Goals as goal
 
 pub returns-clause-waits : goal.returns-clause-waits

@@ -1,5 +1,0 @@
-use Rattle.vc_actor.specs.Begin.{AreFirst}
-use Rattle.vc_actor.proofs.building.add_nodes.Given as goal
-
-abbrev pub invariant-loop-i : goal.invariant-loop-i
-invariant-loop-i l = AreFirst l.plan l.i l.actors.items

@@ -1,9 +1,0 @@
-use Rattle.std.proofs.Common.{◌≡◌, ◌++◌, drop, map}
-use Rattle.vc_occam.specs.Gates.{gate}
-use Rattle.vc_process.specs.InOrder.{number_guard}
-use Rattle.vc_occam.specs.Wholes.{gates}
-use Rattle.vc_occam.proofs.framing.inputs_of.Given as goal
-
-abbrev pub invariant-loop-guard : goal.invariant-loop-guard
-invariant-loop-guard l =
-    map gate l.inputs ++ gates (map number_guard (drop l.guard-index l.guard-items)) ≡ gates (map number_guard l.guard-items)

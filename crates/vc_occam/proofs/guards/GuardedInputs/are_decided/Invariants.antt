@@ -1,0 +1,7 @@
+use Rattle.std.proofs.Common.{◌≡◌, map, drop}
+use Rattle.vc_occam.specs.Gates.{are_decided, gate}
+use Rattle.vc_process.specs.Terms.{store}
+use Rattle.vc_occam.proofs.guards.GuardedInputs.are_decided.Given as goal
+
+abbrev pub invariant-loop-input : goal.invariant-loop-input
+invariant-loop-input l = are_decided (map gate (drop l.input-index l.input-items)) (store l.vars) ≡ are_decided (map gate l.input-items) (store l.vars)

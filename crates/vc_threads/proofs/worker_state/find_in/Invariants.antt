@@ -1,0 +1,10 @@
+use Rattle.std.specs.List.{AllZip}
+use Rattle.vc_threads.specs.Wires.{InLooked}
+use Rattle.vc_threads.specs.Least.{IsFound, IsLeast}
+use Rattle.vc_threads.proofs.worker_state.find_in.Given as goal
+
+abbrev pub invariant-loop-k : goal.invariant-loop-k
+invariant-loop-k l =
+    AllZip InLooked l.fn.ins l.ins
+    × IsFound l.fn.actor l.ins l.k l.least
+    × IsLeast l.fn.actor l.ins l.k l.least

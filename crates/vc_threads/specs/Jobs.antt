@@ -1,0 +1,30 @@
+-- What the workers are given, and what they give back.
+use Rattle.std.specs.Prelude.{◌≡◌, ℕ, ◌<◌, Bool}
+use Rattle.std.specs.List.{All}
+use Rattle.vc_core.specs.OfPlan.{IsActorOf}
+use Rattle.vc_core.specs.Shown.{Acting}
+use Rattle.vc_network.specs.Plan.{Plan}
+use Rattle.vc_threads.specs.Wires.{Distinct, out_links, in_links}
+use Rattle.vc_threads.specs.Works.{HasRun, IsOfSomePlan}
+use Rattle.vc_threads.specs.declared.spawn.Job.{Job}
+use Rattle.vc_threads.specs.declared.link.Ends.{Ends}
+use Rattle.vc_threads.specs.declared.run.ActorRun.{ActorRun}
+
+-- a worker can run the actor over the ends: it is one of some plan, no link stands twice, and each that goes out is below 32
+pub record IsFitFor (x : Acting) (e : Ends) : Type 0 where
+  pub actor : IsOfSomePlan x
+  pub outs : Distinct (out_links e.outs.items)
+  pub ins : Distinct (in_links e.ins.items)
+  pub low : All (λ o. o.0 < 32) e.outs.items
+
+abbrev pub IsFit : Job → Type 0
+IsFit j = IsFitFor j.actor j.ends
+
+-- the run is one of this actor over these ends, of at most so many turns, with its acts or without
+abbrev pub RanFrom : ℕ → ℕ → ℕ → Acting → Ends → Bool → ActorRun → Type 0
+RanFrom turns seed id actor ends keeps r =
+    (r.id ≡ id) × ((plan : Plan) (n : ℕ) → IsActorOf plan n actor → HasRun plan n turns id seed actor ends keeps r)
+
+-- the run of this job
+abbrev pub Ran : ℕ → ℕ → Job → ActorRun → Type 0
+Ran turns seed j r = RanFrom turns seed j.id j.actor j.ends j.keeps r

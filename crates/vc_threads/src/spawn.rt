@@ -1,0 +1,165 @@
+//! Starting a thread for each actor, and joining them all.
+ghost use Rattle.std.specs.Prelude.{◌≡◌, ◌++◌, [], ◌∷◌, IfOk, OnOk};
+ghost use Rattle.std.specs.List.{All, AllZip};
+ghost use Rattle.vc_threads.specs.Jobs.{IsFit, Ran};
+
+use crate::gate::{Closes, Gate};
+use crate::link::Ends;
+use crate::run::ActorRun;
+use crate::work::run_job;
+use std::alloc::Global;
+use std::snapshot::Snapshot;
+use std::sync::Wait;
+use std::thread;
+use std::thread::{Promise, Scope, Threads};
+use thiserror::Error;
+use vc_core::Actor;
+use vc_packets::Memory;
+
+/// What a worker begins with.
+#[derive(Drop)]
+pub(crate) struct Job {
+    /// The actor's number.
+    pub(crate) id: u8,
+    /// The actor.
+    pub(crate) actor: Actor,
+    /// The actor's ends of the rings.
+    pub(crate) ends: Ends,
+    /// Whether its acts are kept.
+    pub(crate) keeps: bool,
+}
+
+/// Why a run in threads gives no report.
+#[derive(Clone, Copy, Debug, PartialEq, Eq, Drop, Error)]
+pub enum ThreadFault {
+    /// There was no memory.
+    #[error("there is no memory")]
+    Memory,
+    /// A thread was not started.
+    #[error("a thread was not started")]
+    Start,
+}
+
+/// A job, as it is given to a thread.
+pub(crate) trait HasJob {
+    ghost use Rattle.std.specs.Prelude.{◌≡◌};
+    ghost use Rattle.vc_threads.specs.declared.spawn.Job.{Job};
+
+    // the job
+    ghost job: { Self → Job };
+
+    fn job(self) -> Job
+        ensures { result ≡ Self.job self };
+}
+
+impl HasJob for Job {
+    ghost job = { λ j. j };
+
+    fn job(self) -> Job {
+        self
+    }
+}
+
+// That a run is one of this job.
+#[derive(Drop)]
+struct RunOf<J> {
+    turns: u64,
+    seed: u32,
+    job: Snapshot<J>,
+}
+
+impl<J: HasJob> Promise<ActorRun> for RunOf<J> {
+    ghost kept_by = { λ p r. Ran p.turns p.seed (J.job p.job.value) r };
+}
+
+impl From<Memory> for ThreadFault {
+    ghost use Rattle.std.specs.Prelude.{◌≡◌};
+    ghost use Rattle.vc_threads.specs.declared.spawn.ThreadFault.TheVariants as fault;
+
+    ghost from_gives = { λ _ why. why ≡ fault.Memory };
+
+    fn from(_error: Memory) -> ThreadFault {
+        ThreadFault::Memory
+    }
+}
+
+// One run more.
+fn add_run(runs: &mut Vec<ActorRun>, run: ActorRun) -> Result<(), Memory>
+    ensures { OnOk result (runs.new.items ≡ runs.old.items ++ run ∷ []) }
+{
+    runs.push(run)?;
+    Ok(())
+}
+
+// Does a job.
+fn work<G: Gate>(alloc: Global, job: Job, gate: &G, turns: u64, seed: u32) -> ActorRun
+    requires { IsFit job }
+    ensures { Ran turns seed job result }
+{
+    run_job(alloc, job, gate, turns, seed)
+}
+
+// Starts a thread for the last job, then those of the others, and joins it, whether the others started or not. Where a thread is not
+// started the gate is closed, so that those that run end at their next turns.
+fn run_all<'s, E, J: HasJob + Send + Drop + 's, G: Closes, R: Threads>(
+    rt: &R,
+    scope: &Scope<'s, E>,
+    alloc: Global,
+    jobs: Vec<J>,
+    gate: &'s G,
+    turns: u64,
+    seed: u32,
+) -> Result<Vec<ActorRun>, ThreadFault>
+    requires { All (λ j. IsFit (J.job j)) jobs.items }
+    ensures { IfOk result
+        (λ runs. AllZip (λ j r. Ran turns seed (J.job j) r) jobs.items runs.items) }
+{
+    let mut jobs = jobs;
+    let Some(job) = jobs.pop() else {
+        return Ok(Vec::new(alloc));
+    };
+    let promise = RunOf {
+        turns,
+        seed,
+        job: Snapshot::of(&job),
+    };
+    let started = scope.spawn_with(
+        promise,
+        move || -> ActorRun
+            requires { IsFit (J.job job) }
+            ensures { Ran turns seed (J.job job) result }
+        { work(alloc, job.job(), gate, turns, seed) },
+    );
+    let Ok(child) = started else {
+        gate.close();
+        return Err(ThreadFault::Start);
+    };
+    let others = run_all(rt, scope, alloc, jobs, gate, turns, seed);
+    let run = child.join(rt);
+    let mut runs = others?;
+    add_run(&mut runs, run)?;
+    Ok(runs)
+}
+
+/// Runs each job in a thread of its own, and gives the runs in the jobs' order once all threads have ended. Where a thread is not
+/// started it closes the gate.
+pub(crate) fn run_jobs<G: Closes, R: Threads + Wait>(
+    rt: &R,
+    alloc: Global,
+    jobs: Vec<Job>,
+    gate: &G,
+    turns: u64,
+    seed: u32,
+) -> Result<Vec<ActorRun>, ThreadFault>
+    requires { All IsFit jobs.items }
+    ensures { IfOk result (λ runs. AllZip (Ran turns seed) jobs.items runs.items) }
+{
+    thread::scope(
+        thread::scope_env(),
+        rt,
+        move |scope| -> Result<Vec<ActorRun>, ThreadFault>
+            requires { All IsFit jobs.items }
+            ensures { IfOk result (λ runs. AllZip (Ran turns seed) jobs.items runs.items) }
+        { run_all(rt, scope, alloc, jobs, gate, turns, seed) },
+    )
+}

@@ -1,0 +1,386 @@
+//! An actor at work, with its ends of the rings.
+ghost use Rattle.std.specs.Prelude.{◌≡◌, ◌≢◌, ℕ, ◌+◌, ◌<◌, ◌≤◌, ◌++◌, ◌⊎◌, [], ◌∷◌, length, OnErr, IfOk, IfSome, IfErr, IsSome, IsTrue, ◌↔◌};
+ghost use Rattle.std.specs.List.{All, AllZip, HoldsAt};
+ghost use Rattle.std.specs.Int.{bit_at};
+ghost use Rattle.rtrb.specs.Ring.{sent, known_free, SameProducer};
+ghost use Rattle.vc_core.specs.OfPlan.{IsActorOf};
+ghost use Rattle.vc_network.specs.Plan.{Plan};
+ghost use Rattle.vc_threads.specs.Wires.{OutLooked, InLooked, HasRoom, IsFree, IsReady};
+ghost use Rattle.vc_threads.specs.Works.{CanTake, IsGreatest, IsLate, TakesFront};
+ghost use Rattle.vc_threads.specs.Least.{IsFound, IsLeast, TakesLeast};
+
+use crate::link::{Ends, In, Out, Stamped};
+use crate::run::{ActorRun, Stop};
+use crate::stamp::next_stamp;
+use rand_core::utils::NextWord;
+use rand_pcg::Lcg64Xsh32;
+use std::alloc::Global;
+use vc_core::{Act, Actor, Turn};
+
+/// An actor at work.
+#[derive(Drop)]
+pub(crate) struct WorkerState {
+    pub(crate) actor: Actor,
+    clock: u64,
+    // whether its acts are kept
+    keeps: bool,
+    acts: Vec<(u64, Act)>,
+    ends: Ends,
+    words: Lcg64Xsh32,
+    idle: u32,
+}
+
+// Whether a link's ring has room.
+fn has_room(out: &mut (u8, Out)) -> bool
+    ensures looked { OutLooked out.old out.new }
+    ensures room { IsTrue result → 0 < known_free out.new.1 }
+{
+    let (_, producer) = out;
+    !producer.is_full()
+}
+
+// The outgoing links whose rings have room, a bit for each.
+fn room_of(outs: &mut [(u8, Out)]) -> u32
+    requires { All (λ o. o.0 < 32) outs.old }
+    ensures looked { AllZip OutLooked outs.old outs.new }
+    ensures room { (link : ℕ) → bit_at result link ≡ 1 → HasRoom outs.new link }
+{
+    let mut room = 0u32;
+    for k in 0..outs.len() {
+        let out = &mut outs[k];
+        let link = out.0;
+        if has_room(out) {
+            room |= 1u32 << link;
+        }
+    }
+    room
+}
+
+// The place of the link whose ring has room.
+fn find_out(outs: &[(u8, Out)], link: u8) -> usize
+    requires { HasRoom outs.now link }
+    ensures within { result < length outs.now }
+    ensures free { HoldsAt (IsFree link) outs.now result }
+{
+    for k in 0..outs.len() {
+        let (of, producer) = &outs[k];
+        if *of == link && producer.cached_slots() > 0 {
+            return k;
+        }
+    }
+    unreachable!()
+}
+
+// Whether a link's ring has an item.
+fn is_ready(end: &mut (u8, In)) -> bool
+    ensures looked { InLooked end.old end.new }
+    ensures ready { IsTrue result ↔ IsReady end.new }
+{
+    let (_, consumer) = end;
+    !consumer.is_empty()
+}
+
+// Whether the actor may take from a link, and its ring has an item.
+fn can_take(actor: &Actor, end: &mut (u8, In)) -> bool
+    ensures looked { InLooked end.old end.new }
+    ensures can { IsTrue result ↔ CanTake actor.now end.new }
+{
+    is_ready(end) && actor.may_take(end.0)
+}
+
+// An end from which the actor can take, and its link.
+#[derive(Clone, Copy, Drop)]
+struct Found {
+    place: usize,
+    link: u8,
+}
+
+// Whether a link is below that of the end that was found, if one was.
+fn is_below(link: u8, least: Option<Found>) -> bool
+    ensures { IsTrue result ↔ IfSome least (λ found. link < found.link) }
+{
+    match least {
+        Some(found) => link < found.link,
+        None => true,
+    }
+}
+
+// The end of the least link among one more, the k-th. Its ring is asked only where its link is below that of the others.
+fn look(actor: &Actor, ins: &mut [(u8, In)], k: usize, least: Option<Found>) -> Option<Found>
+    requires within { k < length ins.old }
+    requires found { IsFound actor.now ins.old k least }
+    requires least { IsLeast actor.now ins.old k least }
+    ensures looked { AllZip InLooked ins.old ins.new }
+    ensures found { IsFound actor.now ins.new (k + 1) result }
+    ensures least { IsLeast actor.now ins.new (k + 1) result }
+{
+    let link = ins[k].0;
+    if !is_below(link, least) {
+        return least;
+    }
+    if can_take(actor, &mut ins[k]) {
+        Some(Found { place: k, link })
+    } else {
+        least
+    }
+}
+
+// The place of the least link from which the actor may take and whose ring has an item.
+fn find_in(actor: &Actor, ins: &mut [(u8, In)]) -> Option<usize>
+    ensures looked { AllZip InLooked ins.old ins.new }
+    ensures can { IfSome result
+        (λ k. (k < length ins.new) × HoldsAt (CanTake actor.now) ins.new k) }
+    ensures least { TakesLeast actor.now ins.new result }
+{
+    let mut least = None;
+    for k in 0..ins.len() {
+        least = look(actor, ins, k, least);
+    }
+    match least {
+        Some(found) => Some(found.place),
+        None => None,
+    }
+}
+
+// Whether this was the room when the actor had no step.
+fn is_same(rested: Option<u32>, room: u32) -> bool
+    ensures { IsTrue result → IsSome rested }
+{
+    match rested {
+        Some(then) => then == room,
+        None => false,
+    }
+}
+
+// Takes the front item. It is popped only once the actor took it.
+fn take_front(
+    actor: &mut Actor,
+    end: &mut (u8, In),
+    clock: u64,
+    word: u32,
+) -> Result<(u64, Act), Stop>
+    requires { CanTake actor.old end.old }
+    ensures ok { (plan : Plan) (k : ℕ) →
+        IsActorOf plan k actor.old →
+        IfOk result
+        (λ made. TakesFront plan k actor.old clock word end.old made actor.new end.new) }
+    ensures err { OnErr result ((actor.new ≡ actor.old) × (end.new ≡ end.old)) }
+    ensures link { end.new.0 ≡ end.old.0 }
+    ensures why { IfErr result (λ why. why ≢ Stop.Turns) }
+    ensures full { IfErr result (λ why. why ≡ Stop.Clock → IsGreatest clock ⊎ IsLate end.new) }
+{
+    let (link, consumer) = end;
+    let front = consumer.peek_known();
+    let Some(stamp) = next_stamp(clock, Some(front.at)) else {
+        return Err(Stop::Clock);
+    };
+    let Ok(act) = actor.take(*link, &front.item, word) else {
+        return Err(Stop::Memory);
+    };
+    consumer.pop_known();
+    Ok((stamp, act))
+}
+
+// Puts an item on a ring with room.
+fn put_item(end: &mut (u8, Out), item: Stamped)
+    requires room { 0 < known_free end.old.1 }
+    requires stamp { 1 ≤ item.at }
+    ensures link { end.new.0 ≡ end.old.0 }
+    ensures ring { SameProducer end.old.1 end.new.1 }
+    ensures sent { sent end.new.1 ≡ sent end.old.1 ++ item ∷ [] }
+{
+    let (_, producer) = end;
+    producer.push_reserved(item);
+}
+
+impl WorkerState {
+    ghost use Rattle.std.specs.Prelude.{◌≡◌, ◌≢◌, ◌<◌, ◌++◌, ℕ, [], ◌∷◌, length, OnOk, OnErr, IfOk, IfErr, IfSome};
+    ghost use Rattle.std.specs.List.{All, HoldsAt};
+    ghost use Rattle.std.specs.Vec.{vec_len, vec_capacity};
+    ghost use Rattle.vc_core.specs.OfPlan.{IsActorOf};
+    ghost use Rattle.vc_network.specs.Plan.{Plan};
+    ghost use Rattle.vc_threads.specs.Runs.{HasNoStep, generator};
+    ghost use Rattle.vc_threads.specs.Wires.{Distinct, in_links, out_links};
+    ghost use Rattle.vc_threads.specs.Works.{CanTake, IsFull, SameLinks, Uses, Stays, worker_state, kept};
+
+    /// An actor that did nothing yet. Its words are those of the generator of this seed and number.
+    pub(crate) fn new(
+        alloc: Global,
+        id: u8,
+        actor: Actor,
+        ends: Ends,
+        keeps: bool,
+        seed: u32,
+    ) -> WorkerState
+        ensures actor { result.actor ≡ actor }
+        ensures clock { result.clock ≡ 0 }
+        ensures keeps { result.keeps ≡ keeps }
+        ensures acts { result.acts.items ≡ [] }
+        ensures ends { result.ends ≡ ends }
+        ensures words { result.words ≡ generator seed id }
+    {
+        let mut acts = Vec::new(alloc);
+        let _room = acts.reserve(1);
+        WorkerState {
+            actor,
+            clock: 0,
+            keeps,
+            acts,
+            ends,
+            words: Lcg64Xsh32::new(u64::from(seed), u64::from(id)),
+            idle: 0,
+        }
+    }
+
+    /// What the worker gives back.
+    pub(crate) fn into_run(self, id: u8, stop: Stop) -> ActorRun
+        ensures id { result.id ≡ id }
+        ensures actor { result.actor ≡ self.actor }
+        ensures acts { result.acts ≡ self.acts }
+        ensures ends { result.ends ≡ self.ends }
+        ensures stop { result.stop ≡ stop }
+    {
+        let WorkerState {
+            actor,
+            clock: _,
+            keeps: _,
+            acts,
+            ends,
+            words: _,
+            idle: _,
+        } = self;
+        ActorRun {
+            id,
+            actor,
+            acts,
+            ends,
+            stop,
+        }
+    }
+
+    /// How many turns one after another were idle until now.
+    pub(crate) fn idle(&self) -> u32
+        ensures { result ≡ self.now.idle }
+    {
+        self.idle
+    }
+
+    // Logs an act, where acts are kept, for which there is room, and makes room for the next one. Where memory is wanting, the next turn
+    // says so.
+    fn log(&mut self, stamp: u64, act: Act)
+        requires room { vec_len self.old.acts < vec_capacity self.old.acts }
+        ensures { worker_state self.new ≡ record (worker_state self.old) {
+          clock = stamp;
+          log = (worker_state self.old).log ++ kept self.old.keeps ((stamp, act) ∷ []);
+        } }
+    {
+        self.clock = stamp;
+        self.idle = 0;
+        if !self.keeps {
+            return;
+        }
+        self.acts.push_reserved((stamp, act));
+        let _room = self.acts.reserve(1);
+    }
+
+    // Takes the front item of the k-th incoming link.
+    fn take_from(&mut self, k: usize) -> Result<Option<u32>, Stop>
+        requires links { Distinct (in_links self.old.ends.ins.items) }
+        requires within { k < length self.old.ends.ins.items }
+        requires can { HoldsAt (CanTake self.old.actor) self.old.ends.ins.items k }
+        requires room { vec_len self.old.acts < vec_capacity self.old.acts }
+        ensures done { (plan : Plan) (n : ℕ) →
+            IsActorOf plan n self.old.actor →
+            OnOk result (Uses plan n 1 (worker_state self.old) (worker_state self.new)) }
+        ensures stopped { OnErr result (Stays (worker_state self.old) (worker_state self.new)) }
+        ensures ends { SameLinks (worker_state self.old) (worker_state self.new) }
+        ensures why { IfErr result (λ why. why ≢ Stop.Turns) }
+        ensures full { IfErr result
+            (λ why. why ≡ Stop.Clock → IsFull self.new.clock self.new.ends.ins.items) }
+        ensures rests { (plan : Plan) (n : ℕ) →
+            IsActorOf plan n self.new.actor →
+            IfOk result (λ rested. IfSome rested (λ room. HasNoStep plan n self.new.actor)) }
+    {
+        let word = self.words.next_word();
+        let (stamp, act) = take_front(&mut self.actor, &mut self.ends.ins[k], self.clock, word)?;
+        self.log(stamp, act);
+        Ok(None)
+    }
+
+    // What the actor does where it takes nothing. It is not asked where it had no step with this room before.
+    fn make_turn(&mut self, rested: Option<u32>) -> Result<Option<u32>, Stop>
+        requires links { Distinct (out_links self.old.ends.outs.items) }
+        requires low { All (λ o. o.0 < 32) self.old.ends.outs.items }
+        requires room { vec_len self.old.acts < vec_capacity self.old.acts }
+        requires rests { (plan : Plan) (n : ℕ) →
+            IsActorOf plan n self.old.actor →
+            IfSome rested (λ room. HasNoStep plan n self.old.actor) }
+        ensures done { (plan : Plan) (n : ℕ) →
+            IsActorOf plan n self.old.actor →
+            OnOk result (Uses plan n 1 (worker_state self.old) (worker_state self.new)) }
+        ensures stopped { OnErr result (Stays (worker_state self.old) (worker_state self.new)) }
+        ensures ends { SameLinks (worker_state self.old) (worker_state self.new) }
+        ensures why { IfErr result (λ why. why ≢ Stop.Turns) }
+        ensures full { IfErr result
+            (λ why. why ≡ Stop.Clock → IsFull self.new.clock self.new.ends.ins.items) }
+        ensures rests { (plan : Plan) (n : ℕ) →
+            IsActorOf plan n self.new.actor →
+            IfOk result (λ rested. IfSome rested (λ room. HasNoStep plan n self.new.actor)) }
+    {
+        let Some(stamp) = next_stamp(self.clock, None) else {
+            return Err(Stop::Clock);
+        };
+        let room = room_of(self.ends.outs.as_mut_slice());
+        if is_same(rested, room) {
+            self.idle = self.idle.saturating_add(1);
+            return Ok(rested);
+        }
+        match self.actor.turn(room) {
+            Ok(Turn::Idle) => {
+                self.idle = self.idle.saturating_add(1);
+                Ok(Some(room))
+            }
+            Ok(Turn::Local(act)) => {
+                self.log(stamp, act);
+                Ok(None)
+            }
+            Ok(Turn::Put { link, act, item }) => {
+                let k = find_out(self.ends.outs.as_slice(), link);
+                put_item(&mut self.ends.outs[k], Stamped { at: stamp, item });
+                self.log(stamp, act);
+                Ok(None)
+            }
+            Err(_) => Err(Stop::Memory),
+        }
+    }
+
+    /// One turn: the take of an item from the least link that may take one and whose ring has one, or else what the actor does. The
+    /// answer is the room with which the actor has no step, where that is known, and the next turn is given it.
+    pub(crate) fn turn(&mut self, rested: Option<u32>) -> Result<Option<u32>, Stop>
+        requires outs { Distinct (out_links self.old.ends.outs.items) }
+        requires ins { Distinct (in_links self.old.ends.ins.items) }
+        requires low { All (λ o. o.0 < 32) self.old.ends.outs.items }
+        requires rests { (plan : Plan) (n : ℕ) →
+            IsActorOf plan n self.old.actor →
+            IfSome rested (λ room. HasNoStep plan n self.old.actor) }
+        ensures done { (plan : Plan) (n : ℕ) →
+            IsActorOf plan n self.old.actor →
+            OnOk result (Uses plan n 1 (worker_state self.old) (worker_state self.new)) }
+        ensures stopped { OnErr result (Stays (worker_state self.old) (worker_state self.new)) }
+        ensures ends { SameLinks (worker_state self.old) (worker_state self.new) }
+        ensures why { IfErr result (λ why. why ≢ Stop.Turns) }
+        ensures full { IfErr result
+            (λ why. why ≡ Stop.Clock → IsFull self.new.clock self.new.ends.ins.items) }
+        ensures rests { (plan : Plan) (n : ℕ) →
+            IsActorOf plan n self.new.actor →
+            IfOk result (λ rested. IfSome rested (λ room. HasNoStep plan n self.new.actor)) }
+    {
+        if self.acts.capacity() <= self.acts.len() {
+            return Err(Stop::Memory);
+        }
+        match find_in(&self.actor, self.ends.ins.as_mut_slice()) {
+            Some(k) => self.take_from(k),
+            None => self.make_turn(rested),
+        }
+    }
+}
