@@ -10,7 +10,7 @@ use Rattle.vc_occam.specs.InUse.{UsesLawfully}
 use Rattle.vc_occam.specs.Messages.{message}
 use Rattle.vc_occam.specs.NodeTraces as node
 use Rattle.vc_occam.specs.First.{first_moves}
-use Rattle.vc_occam.specs.Moving.{deed_on}
+use Rattle.vc_occam.specs.Moving.{action_on}
 use Rattle.vc_occam.specs.Remains.{Rest, Done, Step, TraceRest}
 use Rattle.vc_occam.specs.States.{State}
 use Rattle.vc_occam.specs.States as occam
@@ -175,8 +175,8 @@ idle p q (Chooses i k c a) h e = no_move p (move.Choose i k c) e h.0
 idle p q (Stops i c) h e = no_move p (move.Stopch i c) e h.0
 idle p q (Meets i j k c m) h e = no_move p (move.Inner i j k c) e h.0
 idle p q (Rests i) h e = no_move p (move.Quiet i) e h.0
-idle p q (Finishes c) h e = no_step (subst (λ r. Step r p.state.store h.does.0 (deed_on None) h.comms q.state.rest q.state.store) e h.does.2)
-idle p q (Receives c m) h e = no_step (subst (λ r. Step r p.state.store h.does.0 (deed_on (Some m)) h.comms q.state.rest q.state.store) e h.does.3)
+idle p q (Finishes c) h e = no_step (subst (λ r. Step r p.state.store h.does.0 (action_on None) h.comms q.state.rest q.state.store) e h.does.2)
+idle p q (Receives c m) h e = no_step (subst (λ r. Step r p.state.store h.does.0 (action_on (Some m)) h.comms q.state.rest q.state.store) e h.does.3)
 
 pub still : (p q : Process) {ks : List (ℕ × rendezvous.Comm)} → Trace does p ks q → p.state.rest ≡ Done → ks ≡ []
 still p q none e = refl

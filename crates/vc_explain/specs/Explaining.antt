@@ -1,20 +1,23 @@
 -- What is told of a network file.
-use Rattle.std.specs.Prelude.{◌≡◌, ◌≢◌, ℕ, ◌+◌, ◌-◌, ◌*◌, ◌≤◌, Bool, true, false, List, [], ◌++◌, length, take, codes, decimal, Option, Some, Result, Ok, Err, ⊤}
+use Rattle.std.specs.Prelude.{◌≡◌, ◌≢◌, ℕ, ◌+◌, ◌-◌, ◌*◌, ◌≤◌, Bool, true, false, List, [], ◌++◌, length, take, codes, decimal, Option, Some, Result, Ok, Err}
 use Rattle.std.specs.Io.KnownBytes.{Appends}
-use Rattle.std.specs.List.{flat_map}
+use Rattle.std.specs.List.{AllZip, flat_map}
 use Rattle.vc_plan.specs.declared.check_refused.CheckRefused.TheVariants as check
 use Rattle.vc_plan.specs.declared.check_refused.Refusal.{Refusal}
 use Rattle.vc_plan.specs.declared.plan.Plan.{Plan as Network}
 use Rattle.vc_plan.specs.declared.port.Port.{Port}
+use Rattle.vc_plan.specs.declared.vlink_length.VlinkLength.{VlinkLength}
+use Rattle.vc_plan.specs.WayLengths.{IsVlinkLength}
 use Rattle.vc_reader.specs.declared.refused.ReadRefused.{ReadRefused}
 use Rattle.vc_reader.specs.declared.refused.ReadRefused.TheVariants as read
 use Rattle.vc_text.specs.Checking.{ReadsAccepted, accepted_text}
 use Rattle.vc_text.specs.Deadlock.{IsFound, deadlock_text}
 use Rattle.vc_text.specs.FaultLine.{fault_text}
-use Rattle.vc_text.specs.Streams.{AppendsFront, IsAllOf, most_bytes}
+use Rattle.vc_text.specs.Streams.{AppendsFront, IsAllOf}
 use Rattle.vc_text.specs.Traffic.{newline}
 use Rattle.vc_text.specs.declared.fault.RunFault.{RunFault}
 use Rattle.vc_text.specs.declared.fault.RunFault.TheVariants.{Read, Write, Text, Plan, Memory}
+use Rattle.vc_explain.specs.Lengths.{lengths_text}
 use Rattle.vc_explain.specs.Offenders.{offenders, path_of}
 use Rattle.vc_explain.specs.Place.{byte_line, path_line}
 use Rattle.vc_explain.specs.Sentences.{plan_sentence, text_sentence}
@@ -25,9 +28,10 @@ unfoldable pub summary_text : Network → List ℕ
 summary_text plan =
     codes "actors " ++ decimal (length plan.nodes + length plan.switches) ++ codes " wires " ++ decimal (length plan.wires) ++ codes " links " ++ decimal (2 * length plan.wires) ++ newline
 
--- an accepted network, and whether its packets can come to wait for one another in a circle
-unfoldable pub accepted_told : Network → Option (List Port) → List ℕ
-accepted_told plan found = accepted_text plan ++ summary_text plan ++ deadlock_text plan found
+-- an accepted network, how many switches the packets of each virtual link pass, and whether packets can come to wait for one another in
+-- a circle
+unfoldable pub accepted_told : Network → List VlinkLength → Option (List Port) → List ℕ
+accepted_told plan lengths found = accepted_text plan ++ summary_text plan ++ lengths_text plan lengths ++ deadlock_text plan found
 
 -- Where a text is refused: the value to which the path leads; where a field is missing, the object that lacks it; and where the text
 -- is no JSON, byte n.
@@ -57,7 +61,8 @@ IsRefusal fault = ⊥
 
 -- what is told of an accepted network
 abbrev pub IsToldOfAccepted : Network → List ℕ → Type 0
-IsToldOfAccepted plan told = (found : Option (List Port)) × IsFound plan found × (told ≡ accepted_told plan found)
+IsToldOfAccepted plan told =
+    (lengths : List VlinkLength) × (found : Option (List Port)) × AllZip (IsVlinkLength plan) plan.vlinks lengths × IsFound plan found × (told ≡ accepted_told plan lengths found)
 
 -- What is told of a refusal. Of the byte at which a text stops being JSON no more is said here than that it is in the text, or that the
 -- text ends there.

@@ -1,6 +1,11 @@
 pub mod Parts
 pub mod Place
 pub mod Sentences
+pub mod Uses
+pub mod Offences
+pub mod Laws
+pub mod Misuses
 pub mod Offenders
 pub mod Walk
+pub mod Lengths
 pub mod Explaining

@@ -1,6 +1,7 @@
 -- What a refusal names, by its path in the network file.
-use Rattle.std.specs.Prelude.{ℕ, ◌==◌, ◌&&◌, ◌||◌, Bool, true, false, if◌then◌else◌, List, [], ◌∷◌, ◌++◌, take, Option, Some, None}
+use Rattle.std.specs.Prelude.{ℕ, ◌==◌, ◌&&◌, ◌||◌, Bool, true, false, if◌then◌else◌, List, [], ◌∷◌, ◌++◌, take, Option, Some, None, slice_get}
 use Rattle.std.specs.List.{enumerate_from, flat_map}
+use Rattle.vc_plan.specs.declared.channel.Channel.{Channel}
 use Rattle.vc_plan.specs.declared.check_refused.CheckRefused.{CheckRefused}
 use Rattle.vc_plan.specs.declared.check_refused.CheckRefused.TheVariants as check
 use Rattle.vc_plan.specs.declared.limit_word.LimitWord.{LimitWord}
@@ -18,14 +19,18 @@ use Rattle.vc_reader.specs.declared.path.Step.{Step}
 use Rattle.vc_reader.specs.declared.path.Step.TheVariants.{Field, Index}
 use Rattle.vc_reader.specs.declared.word.Word.{Word}
 use Rattle.vc_reader.specs.declared.word.Word.TheVariants as word
+use Rattle.vc_explain.specs.declared.offence.Places.{Places}
 use Rattle.vc_explain.specs.declared.offender.Offender.{Offender}
-use Rattle.vc_explain.specs.declared.offender.Offender.TheVariants.{All, Item, Part}
+use Rattle.vc_explain.specs.declared.offender.Offender.TheVariants.{All, Item, Part, Place}
+use Rattle.vc_explain.specs.Misuses.{earlier_on_way, misuse}
+use Rattle.vc_explain.specs.Offences.{offence_of}
 
--- a list of the file, an item of it, or a field of an item
+-- a list of the file, an item of it, a field of an item, or a place in a process
 abbrev pub path_of : Offender → List Step
 path_of (All list) = Field list ∷ []
 path_of (Item list n) = Field list ∷ Index n ∷ []
 path_of (Part list n field) = Field list ∷ Index n ∷ Field field ∷ []
+path_of (Place path) = path
 
 -- the field of the file that breaks a limit, where it is one of the file and not of a part
 abbrev pub limited_field : LimitWord → Option Word
@@ -75,6 +80,25 @@ end_field false = word.B
 abbrev pub of_path : PathFault → List Offender
 of_path f = Part word.Vlinks f.vlink (end_field f.from_a) ∷ of_spot f.last ∷ []
 
+-- where a process uses the channel as it may not
+abbrev pub of_misuse : Option (List Step) → List Offender
+of_misuse None = []
+of_misuse (Some path) = Place path ∷ []
+
+-- the earlier channel on its way, or else a use that is wrong
+abbrev pub beside_or_misuse : Plan → ℕ → Channel → Option ℕ → List Offender
+beside_or_misuse plan c channel (Some d) = Item word.Channels d ∷ []
+beside_or_misuse plan c channel None = of_misuse (misuse plan c channel 0 plan.nodes)
+
+abbrev pub of_channel : Plan → ℕ → Option Channel → List Offender
+of_channel plan c None = []
+of_channel plan c (Some channel) = beside_or_misuse plan c channel (earlier_on_way plan.channels c channel.home)
+
+-- the two places of a use that is not lawful, or else the process of the node
+abbrev pub of_usage : ℕ → Option Places → List Offender
+of_usage node None = Part word.Nodes node word.Process ∷ []
+of_usage node (Some places) = Place places.first ∷ Place places.second ∷ []
+
 -- what a refusal names, in the order in which it is told
 abbrev pub offenders : Plan → CheckRefused → List Offender
 offenders plan (check.Limit word) = of_limit (limited_field word)
@@ -88,6 +112,6 @@ offenders plan (check.StackEmpty path) = of_path path
 offenders plan (check.StackFull path) = of_path path
 offenders plan (check.Hops path) = of_path path
 offenders plan (check.SameNode vlink) = Item word.Vlinks vlink ∷ []
-offenders plan (check.Channel channel) = Item word.Channels channel ∷ []
-offenders plan (check.Usage node name) = Part word.Nodes node word.Process ∷ []
+offenders plan (check.Channel c) = Item word.Channels c ∷ of_channel plan c (slice_get plan.channels c)
+offenders plan (check.Usage node name) = of_usage node (offence_of plan node name)
 offenders plan check.Memory = []

@@ -10,6 +10,7 @@ ghost use Rattle.vc_text.specs.Checking.{ReadsAccepted};
 ghost use Rattle.vc_text.specs.Deadlock.{deadlock_text};
 ghost use Rattle.vc_text.specs.Streams.{most_bytes};
 
+use crate::lengths::push_lengths;
 use crate::offender::{Offender, offenders, push_offender_line};
 use crate::place::{push_byte_line, push_path_line};
 use crate::sentence::{plan_sentence, text_sentence};
@@ -19,7 +20,7 @@ use std::alloc::Global;
 use std::io::{Read, Write};
 use vc_cycles::find_cycle;
 use vc_packets::Memory;
-use vc_plan::{Accepted, CheckRefused, Plan, Port, Refusal, check};
+use vc_plan::{Accepted, CheckRefused, Plan, Port, Refusal, VlinkLength, check, vlink_lengths};
 use vc_reader::{Path, ReadRefused, Step, read_network};
 use vc_text::{RunFault, accepted_text, cycle_text, fault_text, push_number, read_all, write_text};
 
@@ -66,15 +67,21 @@ fn push_deadlock(
     Ok(())
 }
 
-/// What is told of an accepted network in which these ports of a cycle were found, or none.
+/// What is told of an accepted network whose packets pass so many switches, and in which these ports of a cycle were found, or none.
 #[tactic(auto, using(std::proofs::Common::append_assoc), unfolding(crate::specs::Explaining::accepted_told))]
-fn tell_found(alloc: Global, plan: &Plan, found: Option<&[Port]>) -> Result<Vec<u8>, Memory>
+fn tell_found(
+    alloc: Global,
+    plan: &Plan,
+    lengths: &[VlinkLength],
+    found: Option<&[Port]>,
+) -> Result<Vec<u8>, Memory>
     requires { KeepsLimits plan.now }
-    ensures { IfOk result (λ told.
-        told.items ≡ accepted_told plan.now (option_map (λ ports. ports.now) found.entry)) }
+    ensures { IfOk result (λ told. told.items
+        ≡ accepted_told plan.now lengths.now (option_map (λ ports. ports.now) found.entry)) }
 {
     let mut out = accepted_text(alloc, plan)?;
     push_summary(&mut out, plan)?;
+    push_lengths(&mut out, plan, lengths)?;
     push_deadlock(alloc, &mut out, plan, found)?;
     Ok(out)
 }
@@ -83,9 +90,11 @@ fn tell_found(alloc: Global, plan: &Plan, found: Option<&[Port]>) -> Result<Vec<
 fn tell_accepted(alloc: Global, accepted: &Accepted) -> Result<Vec<u8>, Memory>
     ensures { IfOk result (λ told. IsToldOfAccepted accepted.now told.items) }
 {
+    let plan = accepted.plan();
+    let lengths = vlink_lengths(alloc, accepted)?;
     match find_cycle(alloc, accepted)? {
-        None => tell_found(alloc, accepted.plan(), None),
-        Some(ports) => tell_found(alloc, accepted.plan(), Some(ports.as_slice())),
+        None => tell_found(alloc, plan, &lengths, None),
+        Some(ports) => tell_found(alloc, plan, &lengths, Some(ports.as_slice())),
     }
 }
 
@@ -188,7 +197,7 @@ fn push_offender_lines(out: &mut Vec<u8>, text: &[u8], offenders: &[Offender]) -
         ≡ out.old.items ++ flat_map (λ o. path_line text.now (path_of o)) offenders.now) }
 {
     for offender in offenders {
-        push_offender_line(out, text, *offender)?;
+        push_offender_line(out, text, offender)?;
     }
     Ok(())
 }

@@ -2,18 +2,29 @@
 //!
 //! [`explain`] tells of a text the line that `check` answers, and behind it a sentence with what to change and the line and column of
 //! what is at fault; or, of a network that is accepted, what it has. The layer above knows exactly what is told (`specs/Explaining`):
-//! the sentence of each refusal (`specs/Sentences`), what a refusal names (`specs/Offenders`), and where the value stands in the text
-//! to which a path leads (`specs/Parts`, `specs/Place`). Of a text that is no JSON it knows only that the place is in the text.
+//! the sentence of each refusal (`specs/Sentences`), what a refusal names (`specs/Offenders`), where the value stands in the text to
+//! which a path leads (`specs/Parts`, `specs/Place`), and how many switches packets pass (`specs/Lengths`). Of a text that is no JSON
+//! it knows only that the place is in the text.
+//!
+//! Of a use of a channel or a variable that is refused the places in the processes are told (`specs/Uses`, `specs/Offences`,
+//! `specs/Misuses`). Of each use that is not lawful there are two: that is a law ([`offences_are_found`]).
 #![tactic(auto)]
 
 mod explanation;
+mod laws;
+mod lengths;
+mod misuse;
+mod offence;
 mod offender;
 mod parts;
 mod place;
+mod place_of_use;
 mod quoting;
 mod sentence;
 mod walk;
+mod wanted;
 
 pub use explanation::{Explanation, explain, run_explain};
+pub use laws::offences_are_found;
 pub use offender::Offender;
 pub use quoting::Quoting;

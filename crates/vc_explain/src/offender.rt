@@ -1,18 +1,21 @@
 //! What a refusal names.
-ghost use Rattle.std.specs.Prelude.{◌≡◌, ◌++◌, ◌∷◌, [], IfOk, OnOk};
+ghost use Rattle.std.specs.Prelude.{◌≡◌, ◌++◌, ◌∷◌, [], IfOk, OnOk, Some, slice_get};
 ghost use Rattle.std.specs.List.{enumerate_from, flat_map};
-ghost use Rattle.vc_explain.specs.Offenders.{end_field as field_of_end, has_block as has_block_of, of_block, limited_field as limited_field_of, of_limit, of_path, of_port, of_spot, of_vlink, of_wire, offenders as offenders_of, path_of};
+ghost use Rattle.vc_explain.specs.Offenders.{end_field as field_of_end, has_block as has_block_of, of_block, limited_field as limited_field_of, of_channel, of_limit, of_misuse, of_path, of_port, of_spot, of_usage, of_vlink, of_wire, offenders as offenders_of, path_of};
 ghost use Rattle.vc_explain.specs.Place.{path_line};
 ghost use Rattle.vc_plan.specs.Wires.{same_port, same_spot};
 
+use crate::misuse::{earlier_on_way, misuse};
+use crate::offence::{Places, offence_of};
 use crate::place::push_path_line;
+use sqlite_items::Items;
 use std::alloc::Global;
 use vc_packets::Memory;
-use vc_plan::{CheckRefused, End, LimitWord, PathFault, Plan, Port, Spot, Vlink, Wire};
+use vc_plan::{Channel, CheckRefused, End, LimitWord, PathFault, Plan, Port, Spot, Vlink, Wire};
 use vc_reader::{Step, Word};
 
 /// A part of the network file that a refusal names.
-#[derive(Clone, Copy, Debug, PartialEq, Eq, Drop)]
+#[derive(Debug, Drop)]
 pub enum Offender {
     /// A field of the file.
     All(Word),
@@ -20,6 +23,8 @@ pub enum Offender {
     Item(Word, usize),
     /// A field of such an item.
     Part(Word, usize, Word),
+    /// A place in a process, by the steps to it from the top of the file.
+    Place(Items<Step>),
 }
 
 /// The field of the file that breaks a limit, where it is one of the file and not of a part.
@@ -147,6 +152,67 @@ fn push_path_ends(found: &mut Vec<Offender>, fault: &PathFault) -> Result<(), Me
     Ok(())
 }
 
+fn push_misuse(found: &mut Vec<Offender>, path: Option<Items<Step>>) -> Result<(), Memory>
+    ensures { OnOk result (found.new.items ≡ found.old.items ++ of_misuse path) }
+{
+    if let Some(path) = path {
+        found.push(Offender::Place(path))?;
+    }
+    Ok(())
+}
+
+/// The earlier channel on the way of this one, or else the first use of it that is wrong.
+fn push_beside(
+    alloc: Global,
+    found: &mut Vec<Offender>,
+    plan: &Plan,
+    chan: usize,
+    channel: &Channel,
+) -> Result<(), Memory>
+    ensures { OnOk result (found.new.items
+        ≡ found.old.items ++ of_channel plan.now chan (Some channel.now)) }
+{
+    match earlier_on_way(plan.channels.as_slice(), chan, channel.home) {
+        Some(earlier) => {
+            found.push(Offender::Item(Word::Channels, earlier))?;
+            Ok(())
+        }
+        None => push_misuse(found, misuse(alloc, plan, chan, channel)?),
+    }
+}
+
+/// A channel, and what it is at odds with.
+#[tactic(auto, using(std::proofs::Common::append_assoc))]
+fn push_channel(
+    alloc: Global,
+    found: &mut Vec<Offender>,
+    plan: &Plan,
+    chan: usize,
+) -> Result<(), Memory>
+    ensures { OnOk result (found.new.items ≡ found.old.items ++ Offender.Item Word.Channels chan
+        ∷ of_channel plan.now chan (slice_get plan.now.channels chan)) }
+{
+    found.push(Offender::Item(Word::Channels, chan))?;
+    match plan.channels.get(chan) {
+        Some(channel) => push_beside(alloc, found, plan, chan, channel),
+        None => Ok(()),
+    }
+}
+
+/// The two places of a use that is not lawful, or else the process of the node.
+fn push_usage(found: &mut Vec<Offender>, node: usize, places: Option<Places>) -> Result<(), Memory>
+    ensures { OnOk result (found.new.items ≡ found.old.items ++ of_usage node places) }
+{
+    match places {
+        Some(Places { first, second }) => {
+            found.push(Offender::Place(first))?;
+            found.push(Offender::Place(second))?;
+        }
+        None => found.push(Offender::Part(Word::Nodes, node, Word::Process))?,
+    }
+    Ok(())
+}
+
 /// What a refusal names, in the order in which it is told.
 pub(crate) fn offenders(
     alloc: Global,
@@ -160,17 +226,12 @@ pub(crate) fn offenders(
         CheckRefused::Limit(word) => push_limited(&mut found, limited_field(*word))?,
         CheckRefused::PortTwice(port) => {
             found.push(spot_item(port.spot))?;
-            found.extend_from_slice(wires_at(alloc, plan.wires.as_slice(), *port)?.as_slice())?;
+            found.append(&mut wires_at(alloc, plan.wires.as_slice(), *port)?)?;
         }
         CheckRefused::PortMissing(port) => found.push(spot_item(port.spot))?,
         CheckRefused::BlockTwice { node, block } => {
             found.push(Offender::Item(Word::Nodes, usize::from(*node)))?;
-            found.extend_from_slice(ends_at(
-                alloc,
-                plan.vlinks.as_slice(),
-                *node,
-                *block,
-            )?.as_slice())?;
+            found.append(&mut ends_at(alloc, plan.vlinks.as_slice(), *node, *block)?)?;
         }
         CheckRefused::Table { switch, fault: _ } => {
             found.push(Offender::Part(Word::Switches, usize::from(*switch), Word::Table))?;
@@ -181,9 +242,10 @@ pub(crate) fn offenders(
         | CheckRefused::StackFull(path)
         | CheckRefused::Hops(path) => push_path_ends(&mut found, path)?,
         CheckRefused::SameNode(n) => found.push(Offender::Item(Word::Vlinks, usize::from(*n)))?,
-        CheckRefused::Channel(n) => found.push(Offender::Item(Word::Channels, usize::from(*n)))?,
-        CheckRefused::Usage { node, name: _ } => {
-            found.push(Offender::Part(Word::Nodes, usize::from(*node), Word::Process))?;
+        CheckRefused::Channel(n) => push_channel(alloc, &mut found, plan, usize::from(*n))?,
+        CheckRefused::Usage { node, name } => {
+            let places = offence_of(alloc, plan, usize::from(*node), name.as_slice())?;
+            push_usage(&mut found, usize::from(*node), places)?;
         }
         CheckRefused::Memory => {}
     }
@@ -194,18 +256,20 @@ pub(crate) fn offenders(
 pub(crate) fn push_offender_line(
     out: &mut Vec<u8>,
     text: &[u8],
-    offender: Offender,
+    offender: &Offender,
 ) -> Result<(), Memory>
-    ensures { OnOk result (out.new.items ≡ out.old.items ++ path_line text.now (path_of offender)) }
+    ensures { OnOk result (out.new.items
+        ≡ out.old.items ++ path_line text.now (path_of offender.now)) }
 {
     match offender {
-        Offender::All(list) => push_path_line(out, text, &[Step::Field(list)]),
+        Offender::All(list) => push_path_line(out, text, &[Step::Field(*list)]),
         Offender::Item(list, n) => {
-            push_path_line(out, text, &[Step::Field(list), Step::Index(n)])
+            push_path_line(out, text, &[Step::Field(*list), Step::Index(*n)])
         }
         Offender::Part(list, n, field) => {
-            let path = [Step::Field(list), Step::Index(n), Step::Field(field)];
+            let path = [Step::Field(*list), Step::Index(*n), Step::Field(*field)];
             push_path_line(out, text, &path)
         }
+        Offender::Place(path) => push_path_line(out, text, path.as_slice()),
     }
 }

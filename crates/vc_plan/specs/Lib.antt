@@ -11,6 +11,7 @@ pub mod Places
 pub mod Refusals
 pub mod Search
 pub mod Versions
+pub mod WayLengths
 pub mod Wires
 pub mod Dependencies
 pub mod OneNode

@@ -11,7 +11,8 @@
 //! of the first virtual link in order, way ab before ba, with the fewest hops, then the least by its choices (`specs/Faults`).
 //!
 //! The search keeps the places reached after equally many hops, each once, in the order of their least paths; the definitions
-//! speak of all paths.
+//! speak of all paths. Of an accepted plan it also finds how many switches the packets of each virtual link pass, at least and at
+//! most ([`vlink_lengths`]).
 //!
 //! The plan of one node that runs all processes of a plan side by side, with every channel inside it, is made by [`together`].
 //!
@@ -42,6 +43,8 @@ mod switch_plan;
 mod usage;
 mod version;
 mod vlink;
+mod vlink_length;
+mod way_length;
 mod wiring;
 
 pub use accepted::Accepted;
@@ -62,3 +65,5 @@ pub use search::next_places;
 pub use switch_plan::{RandomInput, SwitchPlan};
 pub use version::{as_version_two, versions_agree};
 pub use vlink::{End, Vlink};
+pub use vlink_length::{VlinkLength, vlink_lengths};
+pub use way_length::WayLength;

@@ -1,2 +1,13 @@
+pub mod Acting
+pub mod Busy
 pub mod Cells
+pub mod Filling
+pub mod Following
+pub mod Framed
+pub mod Lined
+pub mod Numbers
+pub mod Opening
 pub mod Pieces
+pub mod Rowed
+pub mod Visiting
+pub mod Watched

@@ -1,7 +1,9 @@
 -- Counts with their names.
-use Rattle.std.specs.Prelude.{ℕ, ◌+◌, ◌-◌, ◌^◌, List, ◌++◌, length, min, sum_by, codes, decimal, Option}
-use Rattle.std.specs.List.{flat_map}
+use Rattle.std.specs.Prelude.{ℕ, ◌+◌, ◌-◌, ◌^◌, List, [], ◌++◌, length, min, slice_get, sum_by, codes, decimal, Option}
+use Rattle.std.specs.List.{flat_map, range_with_len}
+use Rattle.std.specs.Option.{option_map_or}
 use Rattle.vc_core.specs.declared.event.Event.{Event}
+use Rattle.vc_plan.specs.declared.plan.Plan.{Plan}
 use Rattle.vc_plan.specs.declared.port.Spot.{Spot}
 use Rattle.vc_plan.specs.declared.port.Spot.TheVariants.{Node, Switch}
 use Rattle.vc_stats.specs.Counting.{actor_count_at, count_at, fct_in, kind_count, offer_in, output_in, put_in, want_in}
@@ -47,6 +49,22 @@ switch_text form events actor link =
 abbrev pub puts_text : Form → List Event → (nodes : ℕ) → Spot → ℕ → List ℕ
 puts_text form events nodes (Node n) link = tokens_text form events n link
 puts_text form events nodes (Switch n) link = switch_text form events (nodes + n) link
+
+-- the numbers of a plan's actors: the nodes, and behind them the switches
+abbrev pub actors_of : Plan → List ℕ
+actors_of p = range_with_len 0 (length p.nodes + length p.switches)
+
+-- the count of this number, if it is known
+abbrev pub known_text : Form → List ℕ → List ℕ → ℕ → List ℕ
+known_text form name counts n = option_map_or (field_text form name) (slice_get counts n) []
+
+-- the most tokens that stood on the way at once, if that is known
+abbrev pub most_text : Form → List ℕ → ℕ → List ℕ
+most_text form = known_text form (codes "most")
+
+-- after how many events of the run an output on the channel was not finished, if that is known
+abbrev pub unfinished_text : Form → List ℕ → ℕ → List ℕ
+unfinished_text form = known_text form (codes "unfinished")
 
 -- outputs and inputs that began on a channel
 abbrev pub begun_text : Form → List Event → ℕ → List ℕ

@@ -3,5 +3,10 @@ pub mod Fields
 pub mod Json
 pub mod Kinds
 pub mod Lines
+pub mod Peaks
+pub mod Rows
 pub mod Tallies
 pub mod Texts
+pub mod Times
+pub mod Visited
+pub mod Watching

@@ -3,7 +3,7 @@ ghost use Rattle.std.specs.Prelude.{◌≡◌, ◌≤◌, ◌++◌, codes, List,
 ghost use Rattle.std.specs.List.{flat_map};
 ghost use Rattle.vc_core.specs.declared.event.Event.{Event};
 ghost use Rattle.vc_stats.specs.Counting.{AreCounts};
-ghost use Rattle.vc_stats.specs.Fields.{begun_text, bytes_of as bytes_in, field_text, kind_text, kinds_text, puts_text, switch_text, taken_text, tokens_text};
+ghost use Rattle.vc_stats.specs.Fields.{begun_text, bytes_of as bytes_in, field_text, kind_text, kinds_text, known_text, most_text, puts_text, switch_text, taken_text, tokens_text, unfinished_text};
 
 use crate::form::Form;
 use crate::kind::{KINDS, Kind};
@@ -119,6 +119,48 @@ pub(crate) fn push_begun(
 {
     push_field(out, form, b"outputs", stats.outputs(chan))?;
     push_field(out, form, b"inputs", stats.inputs(chan))
+}
+
+/// Adds the count of this number with its name, if it is known.
+fn push_known(
+    out: &mut Vec<u8>,
+    form: Form,
+    name: &[u8],
+    counts: &[u64],
+    n: usize,
+) -> Result<(), Memory>
+    ensures { OnOk result (out.new.items ≡
+        out.old.items ++ known_text form name.now counts.now n) }
+{
+    match counts.get(n) {
+        Some(count) => push_field(out, form, name, *count),
+        None => Ok(()),
+    }
+}
+
+/// Adds how many tokens stood on a way at most, if that is known.
+pub(crate) fn push_most(
+    out: &mut Vec<u8>,
+    form: Form,
+    most: &[u64],
+    way: usize,
+) -> Result<(), Memory>
+    ensures { OnOk result (out.new.items ≡ out.old.items ++ most_text form most.now way) }
+{
+    push_known(out, form, b"most", most, way)
+}
+
+/// Adds after how many events of the run an output on a channel was not finished, if that is known.
+pub(crate) fn push_unfinished(
+    out: &mut Vec<u8>,
+    form: Form,
+    unfinished: &[u64],
+    chan: usize,
+) -> Result<(), Memory>
+    ensures { OnOk result (out.new.items ≡
+        out.old.items ++ unfinished_text form unfinished.now chan) }
+{
+    push_known(out, form, b"unfinished", unfinished, chan)
 }
 
 /// How many bytes messages have together.

@@ -1,15 +1,20 @@
 //! The counts of a run, and a run's traffic as JSON.
 //!
-//! The layer above knows that what is written is exactly the text of the traffic and of the counts (`specs/Texts`), where each count is how
-//! many events of the run are so (`specs/Counting`), or a front of that where the writer failed, over any reader and any writer that tell
-//! their bytes. The counts take no memory that grows with the events.
+//! The layer above knows that what is written is exactly the text of the traffic and of the counts (`specs/Texts`), or a front of that where
+//! the writer failed, over any reader and any writer that tell their bytes. Each count is how many events of the run are so
+//! (`specs/Counting`), or is one over the states that the events visit (`specs/Visited`). The counts take no memory that grows with the
+//! events.
 #![tactic(auto)]
 
+mod channel_time;
 mod fields;
 mod form;
 mod json;
 mod kind;
 mod lines;
+mod peaks;
+mod rows;
+mod state_counts;
 mod stats;
 mod stats_json;
 mod stepping;
@@ -18,6 +23,8 @@ mod tally;
 mod text;
 mod threading;
 mod traffic_json;
+mod unfinished;
+mod watch;
 
 pub use form::Form;
 pub use stepping::{json_step, stats_step};

@@ -10,7 +10,6 @@ use std::alloc::Global;
 use vc_core::{Act, Event};
 use vc_occam::Move;
 use vc_packets::Memory;
-use vc_text::EventSink;
 
 /// How many events of a run are of each kind, by actor, by link and by channel.
 #[derive(Drop)]
@@ -176,8 +175,8 @@ impl Stats {
         self.wants.get(chan)
     }
 
-    // One event more.
-    fn count(&mut self, event: &Event) -> Result<(), Memory>
+    /// One event more. It fails for want of memory alone.
+    pub(crate) fn count(&mut self, event: &Event) -> Result<(), Memory>
         ensures { OnOk result ((es : List Event) → Counts self.old es →
             Counts self.new (es ++ event.now ∷ [])) }
     {
@@ -189,14 +188,5 @@ impl Stats {
         self.routes.count(event.actor, output_of(&event.act))?;
         self.offers.count(offer_of(&event.act))?;
         self.wants.count(want_of(&event.act))
-    }
-}
-
-/// Each event is counted, and none is kept.
-impl EventSink for Stats {
-    ghost holds = { λ stats es. Counts stats es };
-
-    fn record(&mut self, event: Event) -> Result<(), Memory> {
-        self.count(&event)
     }
 }

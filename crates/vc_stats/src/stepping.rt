@@ -4,8 +4,8 @@ ghost use Rattle.vc_text.specs.Running.{WritesRun, WritesRunBy};
 ghost use Rattle.vc_stats.specs.Texts.{IsStatsText, IsTrafficJson};
 
 use crate::form::Form;
-use crate::stats::Stats;
 use crate::text::{stats_text, traffic_text};
+use crate::watch::Watch;
 use std::alloc::Global;
 use std::io::{Read, Write};
 use vc_core::Close;
@@ -24,14 +24,16 @@ fn stats_plan<W: Write>(
     ensures { WritesRun (IsStatsText form options.is_why) accepted.now
         (W.contents writer.old) (W.contents writer.new) options.limit result }
 {
-    let mut stats = Stats::new(alloc);
-    let (network, close) = run_into(alloc, accepted, &mut stats, options.limit, options.schedule)?;
+    let mut watch = Watch::new(alloc, accepted.plan())?;
+    let (network, close) = run_into(alloc, accepted, &mut watch, options.limit, options.schedule)?;
+    let states = watch.states(alloc)?;
     let text = stats_text(
         alloc,
         accepted.plan(),
         &network,
         close,
-        &stats,
+        watch.stats(),
+        &states,
         form,
         options.is_why,
     )?;
@@ -39,8 +41,9 @@ fn stats_plan<W: Write>(
     Ok(close)
 }
 
-/// Reads a network file, runs the network event by event as the options say, and writes its traffic and then the counts of its events. It
-/// keeps no events. Where it fails, a front of the text was written if the writer failed, and else nothing.
+/// Reads a network file, runs the network event by event as the options say, and writes its traffic and then the counts of its events, and of
+/// the states between them. It keeps neither. For these counts an event costs time in the number of the links of its node or switch, and of
+/// the channels that the node outputs. Where it fails, a front of the text was written if the writer failed, and else nothing.
 pub fn stats_step<R: Read, W: Write>(
     alloc: Global,
     reader: &mut R,

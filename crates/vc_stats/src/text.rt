@@ -5,10 +5,12 @@ ghost use Rattle.vc_core.specs.State.{IsNetworkOf, shown, state_of};
 ghost use Rattle.vc_core.specs.declared.event.Event.{Event};
 ghost use Rattle.vc_plan.specs.Accepted.{IsAccepted};
 ghost use Rattle.vc_stats.specs.Counting.{AreCounts};
-ghost use Rattle.vc_stats.specs.Texts.{IsStatsJson, IsStatsLines, IsStatsText, IsTrafficJson};
+ghost use Rattle.vc_stats.specs.Texts.{IsCountedJson, IsCountedLines, IsCountedText, IsTrafficJson};
+ghost use Rattle.vc_stats.specs.Watching.{told};
 
 use crate::form::Form;
 use crate::lines::push_lines;
+use crate::state_counts::StateCounts;
 use crate::stats::Stats;
 use crate::stats_json::push_stats;
 use crate::traffic_json::push_traffic;
@@ -25,15 +27,17 @@ fn stats_lines(
     network: &Network,
     close: Close,
     stats: &Stats,
+    states: &StateCounts,
     is_why: bool,
 ) -> Result<Vec<u8>, Memory>
     requires { (events : List Event) × Reached plan.now events (state_of network.now) }
     ensures { (es : List Event) → AreCounts stats.now es → IfOk result (λ text.
-        IsStatsLines is_why plan.now es (shown (state_of network.now)) close text.items) }
+        IsCountedLines is_why (told states.now) plan.now es
+        (shown (state_of network.now)) close text.items) }
 {
     let views = views(alloc, network)?;
     let mut text = tail_of(alloc, plan, network, close, is_why)?;
-    push_lines(&mut text, plan, stats, views.as_slice())?;
+    push_lines(&mut text, plan, stats, states, views.as_slice())?;
     Ok(text)
 }
 
@@ -44,15 +48,17 @@ fn stats_json(
     network: &Network,
     close: Close,
     stats: &Stats,
+    states: &StateCounts,
 ) -> Result<Vec<u8>, Memory>
     requires { IsNetworkOf plan.now (state_of network.now) }
     ensures { (es : List Event) → AreCounts stats.now es → IfOk result (λ text.
-        IsStatsJson plan.now es (shown (state_of network.now)) close text.items) }
+        IsCountedJson (told states.now) plan.now es
+        (shown (state_of network.now)) close text.items) }
 {
     let views = views(alloc, network)?;
     let mut text = Vec::new(alloc);
     push_traffic(alloc, &mut text, views.as_slice(), close)?;
-    push_stats(&mut text, plan, stats, views.as_slice())?;
+    push_stats(&mut text, plan, stats, states, views.as_slice())?;
     text.extend_from_slice(b"}\n")?;
     Ok(text)
 }
@@ -65,16 +71,18 @@ pub(crate) fn stats_text(
     network: &Network,
     close: Close,
     stats: &Stats,
+    states: &StateCounts,
     form: Form,
     is_why: bool,
 ) -> Result<Vec<u8>, Memory>
     requires { (events : List Event) × Reached plan.now events (state_of network.now) }
     ensures { (es : List Event) → AreCounts stats.now es → IfOk result (λ text.
-        IsStatsText form is_why plan.now es (shown (state_of network.now)) close text.items) }
+        IsCountedText form is_why (told states.now) plan.now es
+        (shown (state_of network.now)) close text.items) }
 {
     match form {
-        Form::Lines => stats_lines(alloc, plan, network, close, stats, is_why),
-        Form::Json => stats_json(alloc, plan, network, close, stats),
+        Form::Lines => stats_lines(alloc, plan, network, close, stats, states, is_why),
+        Form::Json => stats_json(alloc, plan, network, close, stats, states),
     }
 }
 

@@ -1,8 +1,9 @@
 //! Running a network in threads, with its counts or as JSON.
 ghost use Rattle.vc_text.specs.Threading.{WritesThreads};
-ghost use Rattle.vc_stats.specs.Texts.{IsStatsText, IsTrafficJson};
+ghost use Rattle.vc_stats.specs.Texts.{IsEventsText, IsTrafficJson};
 
 use crate::form::Form;
+use crate::state_counts::StateCounts;
 use crate::stats::Stats;
 use crate::text::{stats_text, traffic_text};
 use std::alloc::Global;
@@ -13,7 +14,7 @@ use vc_text::{RunFault, ThreadOptions, ending_of, gate_of, read_accepted, write_
 use vc_threads::{Ending, run_threads, run_threads_unlogged};
 
 /// Reads a network file, runs the network in threads as the options say, and writes its traffic and then the counts of the events that the
-/// threads report. Where it fails, a front of the text was written if the writer failed, and else nothing.
+/// threads report; the states between them are not known. Where it fails, a front of the text was written if the writer failed, and else nothing.
 pub fn stats_net<T: Threads + Wait, R: Read, W: Write>(
     rt: &T,
     alloc: Global,
@@ -22,7 +23,7 @@ pub fn stats_net<T: Threads + Wait, R: Read, W: Write>(
     form: Form,
     options: ThreadOptions,
 ) -> Result<Ending, RunFault>
-    ensures { WritesThreads (IsStatsText form options.is_why) options.turns options.seed
+    ensures { WritesThreads (IsEventsText form options.is_why) options.turns options.seed
         (R.remaining reader.old) (W.contents writer.old) (W.contents writer.new) result }
 {
     let accepted = read_accepted(alloc, reader)?;
@@ -35,6 +36,7 @@ pub fn stats_net<T: Threads + Wait, R: Read, W: Write>(
         &report.state,
         report.close,
         &stats,
+        &StateCounts::unknown(alloc),
         form,
         options.is_why,
     )?;

@@ -9,13 +9,13 @@ use Rattle.vc_core.proofs.Replayed.{reached_next}
 use Rattle.vc_plan.specs.declared.plan.Plan.{Plan}
 use Rattle.vc_text.specs.Seated.{DrawsFor, HaveGiven}
 use Rattle.vc_text.specs.Quiet.{AreQuiet}
-use Rattle.vc_text.specs.Simulating.{HasRun, LeadsOn, counted}
+use Rattle.vc_text.specs.Simulating.{HasRun, HasTaken, LeadsOn, counted}
 use Rattle.vc_text.specs.declared.simulation.Simulation.{Simulation}
 
 -- one event more
-pub one_more : {K : Type 0} (holds : K → List Event → Type 0) (p : Plan) (es : List Event) (e : Event) (old new : Simulation) (taken : K) →
-    holds taken (es ++ e ∷ []) → new.made ≡ old.made + 1 → MakesEvent p (state_of old.network) e (state_of new.network) → HaveGiven p (es ++ e ∷ []) new.seats →
-    AreQuiet p (state_of new.network) new.seats → HasRun p es old → (es' : List Event) × holds taken es' × HasRun p es' new
+pub one_more : {K : Type 0} (holds : K → Plan → List Event → State → Type 0) (p : Plan) (es : List Event) (e : Event) (old new : Simulation) (taken : K) →
+    HasTaken holds taken p (es ++ e ∷ []) new → new.made ≡ old.made + 1 → MakesEvent p (state_of old.network) e (state_of new.network) → HaveGiven p (es ++ e ∷ []) new.seats →
+    AreQuiet p (state_of new.network) new.seats → HasRun p es old → (es' : List Event) × HasTaken holds taken p es' new × HasRun p es' new
 one_more holds p es e old new taken kept made makes words quiet run = (
   es ++ e ∷ [],
   kept,
@@ -28,8 +28,8 @@ one_more holds p es e old new taken kept made makes words quiet run = (
 )
 
 -- what is done in two parts
-pub then_on : {K : Type 0} (holds : K → List Event → Type 0) (a b c : Simulation) (x y z : K) → LeadsOn holds a x b y → LeadsOn holds b y c z → LeadsOn holds a x c z
+pub then_on : {K : Type 0} (holds : K → Plan → List Event → State → Type 0) (a b c : Simulation) (x y z : K) → LeadsOn holds a x b y → LeadsOn holds b y c z → LeadsOn holds a x c z
 then_on holds a b c x y z first second = λ p es kept run. let mid = first p es kept run in second p mid.0 mid.1 mid.2
 
-pub stays_on : {K : Type 0} (holds : K → List Event → Type 0) (a : Simulation) (x : K) → LeadsOn holds a x a x
+pub stays_on : {K : Type 0} (holds : K → Plan → List Event → State → Type 0) (a : Simulation) (x : K) → LeadsOn holds a x a x
 stays_on holds a x = λ p es kept run. (es, kept, run)

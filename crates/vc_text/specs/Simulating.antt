@@ -1,7 +1,7 @@
 -- A run under way.
 use Rattle.std.specs.Prelude.{◌≡◌, ◌⊎◌, ℕ, ◌+◌, Bool, true, false, List, length}
 use Rattle.vc_core.specs.Replaying.{Reached}
-use Rattle.vc_core.specs.State.{state_of}
+use Rattle.vc_core.specs.State.{State, state_of}
 use Rattle.vc_core.specs.Turns.{IsAtRest}
 use Rattle.vc_core.specs.declared.event.Event.{Event}
 use Rattle.vc_plan.specs.declared.plan.Plan.{Plan}
@@ -17,15 +17,20 @@ pub record HasRun (p : Plan) (events : List Event) (run : Simulation) : Type 0 w
   pub words : HaveGiven p events run.seats
   pub quiet : AreQuiet p (state_of run.network) run.seats
 
+-- these events were taken, and led to where the run is
+abbrev pub HasTaken : {K : Type 0} → (K → Plan → List Event → State → Type 0) → K → Plan → List Event → Simulation → Type 0
+HasTaken holds taken p events run = holds taken p events (state_of run.network)
+
 -- whatever events led to the old run and were taken, some lead to the new one and were taken
-abbrev pub LeadsOn : {K : Type 0} → (K → List Event → Type 0) → Simulation → K → Simulation → K → Type 0
+abbrev pub LeadsOn : {K : Type 0} → (K → Plan → List Event → State → Type 0) → Simulation → K → Simulation → K → Type 0
 LeadsOn holds old taken new taken' =
-    (p : Plan) (events : List Event) → holds taken events → HasRun p events old → (events' : List Event) × holds taken' events' × HasRun p events' new
+    (p : Plan) (events : List Event) → HasTaken holds taken p events old → HasRun p events old
+    → (events' : List Event) × HasTaken holds taken' p events' new × HasRun p events' new
 
 -- so many events were made, or none can happen any more, for whatever events led to the old run and were taken
-abbrev pub RunsOut : {K : Type 0} → (K → List Event → Type 0) → ℕ → Simulation → K → Simulation → Type 0
+abbrev pub RunsOut : {K : Type 0} → (K → Plan → List Event → State → Type 0) → ℕ → Simulation → K → Simulation → Type 0
 RunsOut holds limit old taken new =
-    (p : Plan) (events : List Event) → holds taken events → HasRun p events old → (new.made ≡ limit) ⊎ IsAtRest p (state_of new.network)
+    (p : Plan) (events : List Event) → HasTaken holds taken p events old → HasRun p events old → (new.made ≡ limit) ⊎ IsAtRest p (state_of new.network)
 
 -- how many events there are after one more, or none
 abbrev pub counted : Bool → ℕ → ℕ

@@ -83,7 +83,7 @@ impl Simulation {
         let Some(event) = self.network.turn_by(actor, kind)? else {
             return Ok(false);
         };
-        events.record(event)?;
+        events.record(&self.network, event)?;
         self.made += 1;
         Ok(true)
     }

@@ -1,29 +1,34 @@
 //! What takes the events of a run.
 ghost use Rattle.std.specs.Prelude.{◌≡◌, [], ◌∷◌, ◌++◌, OnOk, ⊤};
+ghost use Rattle.vc_core.specs.State.{MakesEvent, state_of};
 
 use crate::event_log::EventLog;
-use vc_core::Event;
+use vc_core::{Event, Network};
 use vc_packets::Memory;
 
-/// What takes the events of a run, in order. Contracts know of each list whether it may be the one of the events that were taken.
+/// What takes the events of a run, in order, and sees the network after each. Contracts know of each list of a plan's events, and of each
+/// state, whether they may be the events that were taken and the state to which they led.
 pub trait EventSink {
     ghost use Rattle.std.specs.Prelude.{List};
+    ghost use Rattle.vc_core.specs.State.{State};
     ghost use Rattle.vc_core.specs.declared.event.Event.{Event};
+    ghost use Rattle.vc_plan.specs.declared.plan.Plan.{Plan};
 
-    ghost holds: { Self → List Event → Type 0 };
+    ghost holds: { Self → Plan → List Event → State → Type 0 };
 
-    /// Takes the next event.
-    fn record(&mut self, event: Event) -> Result<(), Memory>
-        ensures { (es : List Event) → holds self.old es →
-            OnOk result (holds self.new (es ++ event ∷ [])) };
+    /// Takes the next event. The network is the one after it.
+    fn record(&mut self, network: &Network, event: Event) -> Result<(), Memory>
+        ensures { (p : Plan) (es : List Event) (s : State) →
+            holds self.old p es s → MakesEvent p s event (state_of network.now) →
+            OnOk result (holds self.new p (es ++ event ∷ []) (state_of network.now)) };
 }
 
 /// A log keeps them.
 impl EventSink for EventLog {
-    ghost holds = { λ log es. log ≡ es };
+    ghost holds = { λ log p es s. log ≡ es };
 
     #[inline(always)]
-    fn record(&mut self, event: Event) -> Result<(), Memory> {
+    fn record(&mut self, _network: &Network, event: Event) -> Result<(), Memory> {
         self.push(event)?;
         Ok(())
     }
@@ -34,10 +39,10 @@ impl EventSink for EventLog {
 pub(crate) struct Unlogged;
 
 impl EventSink for Unlogged {
-    ghost holds = { λ _ _. ⊤ };
+    ghost holds = { λ _ _ _ _. ⊤ };
 
     #[inline(always)]
-    fn record(&mut self, _event: Event) -> Result<(), Memory> {
+    fn record(&mut self, _network: &Network, _event: Event) -> Result<(), Memory> {
         Ok(())
     }
 }

@@ -2,7 +2,8 @@
 ghost use Rattle.std.specs.Prelude.{◌≡◌, [], List, slice_get, IfOk};
 ghost use Rattle.vc_plan.specs.declared.channel.Channel.{Channel};
 ghost use Rattle.vc_plan.specs.declared.plan.Plan.{Plan};
-ghost use Rattle.vc_core.specs.State.{shown, state_of, IsNetworkOf};
+ghost use Rattle.vc_core.specs.Replaying.{IsOpening};
+ghost use Rattle.vc_core.specs.State.{State, shown, state_of, IsNetworkOf};
 ghost use Rattle.vc_core.specs.declared.event.Event.{Event};
 ghost use Rattle.vc_text.specs.Running.{IsRunWithin, RunsPlan, Steps, StepsTogether};
 ghost use Rattle.vc_text.specs.Shown.{channel_of, channels_of};
@@ -87,8 +88,8 @@ pub fn write_traffic<W: Write>(
     write_channels(alloc, views.as_slice(), close, writer)
 }
 
-/// Runs an accepted network event by event, until no event is enabled or there are `limit` events, which go to a sink. The answer is the
-/// network after it, and how the run ended. It fails for want of memory alone.
+/// Runs an accepted network event by event, until no event is enabled or there are `limit` events, which go to a sink with the network
+/// after each. The answer is the network after the run, and how it ended. It fails for want of memory alone.
 pub fn run_into<K: EventSink>(
     alloc: Global,
     accepted: &Accepted,
@@ -96,9 +97,10 @@ pub fn run_into<K: EventSink>(
     limit: u64,
     schedule: Schedule,
 ) -> Result<(Network, Close), Memory>
-    requires { K.holds events.old [] }
+    requires { (s : State) → IsOpening accepted.now s → K.holds events.old accepted.now [] s }
     ensures is { IfOk result (λ r. IsNetworkOf accepted.now (state_of r.0)) }
-    ensures run { IfOk result (λ r. (es : List Event) × K.holds events.new es ×
+    ensures run { IfOk result (λ r. (es : List Event) ×
+        K.holds events.new accepted.now es (state_of r.0) ×
         IsRunWithin accepted.now limit es (shown (state_of r.0)) r.1) }
 {
     let mut run = Simulation::new(alloc, accepted)?;

@@ -1,11 +1,12 @@
 //! A network run event by event, in rounds over its actors.
 ghost use Rattle.std.specs.Prelude.{◌≡◌, ◌⊎◌, ◌<◌, ◌≤◌, ◌+◌, ◌^◌, ◌-◌, ◌∷◌, ◌++◌, [], ℕ, true, false, List, length, None, Ok, IfOk, OnOk};
 ghost use Rattle.vc_plan.specs.declared.plan.Plan.{Plan};
+ghost use Rattle.vc_core.specs.Replaying.{IsOpening};
 ghost use Rattle.vc_core.specs.State.{shown, state_of, IsNetworkOf};
 ghost use Rattle.vc_core.specs.Turns.{Rests, IsAtRest, GoesOn, FindsEvent, actors};
 ghost use Rattle.vc_core.specs.declared.event.Event.{Event};
 ghost use Rattle.vc_text.specs.Closing.{HasEvent, Closes};
-ghost use Rattle.vc_text.specs.Simulating.{HasRun, LeadsOn, RunsOut, counted};
+ghost use Rattle.vc_text.specs.Simulating.{HasRun, HasTaken, LeadsOn, RunsOut, counted};
 
 use crate::event_sink::EventSink;
 use crate::schedule::Schedule;
@@ -27,6 +28,7 @@ impl Simulation {
     /// The network of an accepted plan, in its opening state.
     pub(crate) fn new(alloc: Global, accepted: &Accepted) -> Result<Simulation, Memory>
         ensures none { IfOk result (λ run. run.made ≡ 0) }
+        ensures opening { IfOk result (λ run. IsOpening accepted.now (state_of run.network)) }
         ensures opens { IfOk result (HasRun accepted.now []) }
     {
         let network = Network::new(alloc, accepted)?;
@@ -55,7 +57,7 @@ impl Simulation {
             self.seats.rest(actor);
             return Ok(false);
         };
-        events.record(event)?;
+        events.record(&self.network, event)?;
         self.made += 1;
         Ok(true)
     }
@@ -83,7 +85,7 @@ impl Simulation {
         }
         self.seats.wake(actor);
         let act = Act::Take { link, word };
-        events.record(Event { actor, act })?;
+        events.record(&self.network, Event { actor, act })?;
         self.made += 1;
         Ok(true)
     }
@@ -96,7 +98,8 @@ impl Simulation {
             (self.new.made ≡ limit) ⊎ (self.old.made < self.new.made) }
         ensures runs { OnOk result (LeadsOn K.holds self.old events.old self.new events.new) }
         ensures rests { result ≡ Ok false → (p : Plan) (es : List Event) →
-            K.holds events.old es → HasRun p es self.old → IsAtRest p (state_of self.new.network) }
+            HasTaken K.holds events.old p es self.old → HasRun p es self.old →
+            IsAtRest p (state_of self.new.network) }
     {
         let mut moved = false;
         let mut left = u64::MAX;

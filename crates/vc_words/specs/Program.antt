@@ -17,7 +17,7 @@ use Rattle.vc_threads.specs.declared.report.Ending.{Ending}
 use Rattle.vc_text.specs.declared.fault.RunFault.{RunFault}
 use Rattle.vc_text.specs.declared.fault.RunFault.TheVariants.{Memory, Read}
 use Rattle.vc_draw.specs.State.{IsStateDrawing}
-use Rattle.vc_stats.specs.Texts.{IsStatsText, IsTrafficJson}
+use Rattle.vc_stats.specs.Texts.{IsEventsText, IsStatsText, IsTrafficJson}
 use Rattle.vc_trace.specs.Replay.{Replays}
 use Rattle.vc_trace.specs.Tracing.{IsTracedText}
 use Rattle.vc_trace.specs.declared.replayed.Replayed.{Replayed}
@@ -81,6 +81,11 @@ IsTextOf Events is_why = IsTracedText is_why
 IsTextOf (Counts form) is_why = IsStatsText form is_why
 IsTextOf Json is_why = IsTrafficJson
 
+-- the same of a run in threads, whose counts are of its events alone
+abbrev pub IsThreadTextOf : Account → (is_why : Bool) → RunText
+IsThreadTextOf (Counts form) is_why = IsEventsText form is_why
+IsThreadTextOf account is_why = IsTextOf account is_why
+
 -- it is run event by event, as the options say, or a fault of it is told
 abbrev pub StepsNetwork : StepOptions → Account → Option (List ℕ) → Option (List ℕ) → Option (List ℕ) → ℕ → Type 0
 StepsNetwork options account known old new status =
@@ -91,7 +96,7 @@ StepsNetwork options account known old new status =
 -- in threads, so too
 abbrev pub RunsNetwork : ThreadOptions → Account → Option (List ℕ) → Option (List ℕ) → Option (List ℕ) → ℕ → Type 0
 RunsNetwork options account known old new status =
-    let RunsThreads = WritesThreads (IsTextOf account options.is_why) options.turns options.seed known in
+    let RunsThreads = WritesThreads (IsThreadTextOf account options.is_why) options.turns options.seed known in
     ((ending : Ending) × RunsThreads old new (Ok ending) × (status ≡ status_of_end ending.close))
     ⊎ ((fault : RunFault) × (mid : Option (List ℕ)) × RunsThreads old mid (Err fault) × TellsFault mid new fault status)
 

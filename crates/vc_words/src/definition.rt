@@ -33,7 +33,8 @@ Example: vcnet check < examples/squares.json";
 /// What stands at the end of the help of `explain`.
 const EXPLAIN_HELP: &str = "\
 Prints, where the network is refused, the line that `check` prints, a sentence that says what to change, and the line and column of what is at \
-fault. Else it prints the line of `check`, what the network has, and the line of `deadlock`.
+fault. Else it prints the line of `check`, what the network has, how many switches the packets of each virtual link pass, and the line of \
+`deadlock`.
 
 Exit status: 0 accepted; 2 refused; 4 no memory; 6 a stream failed.
 

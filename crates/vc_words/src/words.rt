@@ -6,7 +6,7 @@ ghost use Rattle.vc_text.specs.OneNode.{ReadsAs};
 ghost use Rattle.vc_text.specs.Running.{WritesRunBy};
 ghost use Rattle.vc_text.specs.Threading.{WritesThreads};
 ghost use Rattle.vc_words.specs.CommandLine.{faults, IsFaultOf};
-ghost use Rattle.vc_words.specs.Program.{ChecksNetwork, DrawsNetwork, ExplainsNetwork, FindsDeadlock, IsTextOf, ReplaysNetwork, Runs, RunsNetwork, StepsNetwork, Tells, TellsFault, TellsLine};
+ghost use Rattle.vc_words.specs.Program.{ChecksNetwork, DrawsNetwork, ExplainsNetwork, FindsDeadlock, IsTextOf, IsThreadTextOf, ReplaysNetwork, Runs, RunsNetwork, StepsNetwork, Tells, TellsFault, TellsLine};
 ghost use Rattle.vc_words.specs.Status.{status_of_acceptance as status_for_acceptance, status_of_check as status_for_check, status_of_text as status_for_text, status_of_fault, status_of_freedom as status_for_freedom, status_of_end, status_of_replay as status_for_replay};
 
 use crate::account::Account;
@@ -277,7 +277,7 @@ fn write_net<T: Threads + Wait, R: Read, W: Write>(
     options: ThreadOptions,
     account: Account,
 ) -> Result<Ending, RunFault>
-    ensures { WritesThreads (IsTextOf account options.is_why) options.turns options.seed
+    ensures { WritesThreads (IsThreadTextOf account options.is_why) options.turns options.seed
         (R.remaining reader.old) (W.contents writer.old) (W.contents writer.new) result }
 {
     match account {

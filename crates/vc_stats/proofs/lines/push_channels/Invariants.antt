@@ -9,4 +9,4 @@ use Rattle.vc_stats.proofs.lines.push_channels.Given as goal
 abbrev pub invariant-loop-n : goal.invariant-loop-n
 invariant-loop-n l =
     (es : List Event) → AreCounts l.stats es →
-    l.out.items ++ flat_map (channel_line es) (enumerate_from l.n (map shown (drop l.n l.views))) ≡ l.fn.out.items ++ flat_map (channel_line es) (enumerate_from 0 (map shown l.views))
+    l.out.items ++ flat_map (channel_line es l.unfinished) (enumerate_from l.n (map shown (drop l.n l.views))) ≡ l.fn.out.items ++ flat_map (channel_line es l.unfinished) (enumerate_from 0 (map shown l.views))

@@ -1,9 +1,11 @@
-use Rattle.std.proofs.Common.{◌≡◌, ◌++◌, List, take}
-use Rattle.std.specs.List.{flat_map}
+use Rattle.std.proofs.Common.{◌≡◌, ◌++◌, List, drop}
+use Rattle.std.specs.List.{enumerate_from, flat_map}
 use Rattle.vc_core.specs.declared.event.Event.{Event}
 use Rattle.vc_stats.specs.Counting.{AreCounts}
 use Rattle.vc_stats.specs.Lines.{wire_lines}
 use Rattle.vc_stats.proofs.lines.push_wires.Given as goal
 
-abbrev pub invariant-loop-wire : goal.invariant-loop-wire
-invariant-loop-wire l = (es : List Event) → AreCounts l.stats es → l.out.items ≡ l.fn.out.items ++ flat_map (wire_lines l.plan es) (take l.wire-index l.wires)
+abbrev pub invariant-loop-n : goal.invariant-loop-n
+invariant-loop-n l =
+    (es : List Event) → AreCounts l.stats es →
+    l.out.items ++ flat_map (wire_lines l.plan es l.most) (enumerate_from l.n (drop l.n l.wires)) ≡ l.fn.out.items ++ flat_map (wire_lines l.plan es l.most) (enumerate_from 0 l.wires)

@@ -8,5 +8,5 @@ use Rattle.vc_stats.proofs.stats_json.push_channels.Goals as goal
 pub returns : goal.returns
 unfolding counts_json
 returns c = λ es counts.
-    let items = flat_map (count_json es) (enumerate_from 0 (map shown c.args.views.now)) in
+    let items = flat_map (count_json es c.args.unfinished.now) (enumerate_from 0 (map shown c.args.views.now)) in
     three_more _ _ _ _ (codes "],\"channels\":[") items (codes "]}") c.in_ok-extend_from_slice.ensures.items (c.in_ok-push_counts.ensures es counts) c.in_ok-extend_from_slice-2.ensures.items

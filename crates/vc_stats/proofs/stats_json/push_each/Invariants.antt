@@ -8,4 +8,4 @@ use Rattle.vc_stats.proofs.stats_json.push_each.Given as goal
 abbrev pub invariant-loop-n : goal.invariant-loop-n
 invariant-loop-n l =
     (es : List Event) → AreCounts l.stats es →
-    l.out.items ++ flat_map (wire_json l.plan es) (enumerate_from l.n (drop l.n l.wires)) ≡ l.fn.out.items ++ flat_map (wire_json l.plan es) (enumerate_from 0 l.wires)
+    l.out.items ++ flat_map (wire_json l.plan es l.most) (enumerate_from l.n (drop l.n l.wires)) ≡ l.fn.out.items ++ flat_map (wire_json l.plan es l.most) (enumerate_from 0 l.wires)

@@ -8,5 +8,5 @@ use Rattle.vc_stats.proofs.stats_json.push_wires.Goals as goal
 pub returns : goal.returns
 unfolding wires_json
 returns c = λ es counts.
-    let items = flat_map (wire_json c.args.plan.now es) (enumerate_from 0 c.args.plan.now.wires) in
+    let items = flat_map (wire_json c.args.plan.now es c.args.most.now) (enumerate_from 0 c.args.plan.now.wires) in
     on_ok_weaker c.push_each.result (λ last. two_more _ _ _ (codes "],\"wires\":[") items c.in_ok-extend_from_slice.ensures.items last) (rw c.as_slice.ensures at (c.push_each.ensures es counts))

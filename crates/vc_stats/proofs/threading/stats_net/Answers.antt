@@ -9,7 +9,7 @@ use Rattle.vc_text.proofs.Stepped.{handed_on, writes_one}
 use Rattle.vc_text.proofs.Threaded.{threads_unwritten}
 use Rattle.vc_threads.specs.declared.report.Ending.{Ending}
 use Rattle.vc_stats.specs.Counting.{most_events}
-use Rattle.vc_stats.specs.Texts.{IsStatsText}
+use Rattle.vc_stats.specs.Texts.{IsCountedText, IsEventsText}
 use Rattle.vc_stats.proofs.threading.stats_net.Goals as goal
 
 pub returns-in_err-stats : goal.returns-in_err-stats
@@ -26,7 +26,7 @@ returns-in_err-write_text g c =
     let e : Ending = record { state = r.state; stops = r.stops; close = r.close } in
     let events = r.steps.items in
     let x = shown (state_of r.state) in
-    let IsText : RunText = IsStatsText c.args.form options.is_why in
+    let IsText : RunText = IsEventsText c.args.form options.is_why in
     let known = g.R.Read.remaining c.args.reader.now in
     let old = g.W.Write.contents c.args.writer.now in
     let new = g.W.Write.contents c.write_text.new.writer in
@@ -36,7 +36,8 @@ returns-in_err-write_text g c =
     let small = r.steps.small in
     let few : length events ≤ most_events = omega (arith, long, small) in
     let counts = (rw c.as_slice.ensures.value at c.in_ok-stats.ensures) few in
-    let is = subst (λ (q : Plan). IsText q events x r.close text) c.plan.ensures.plan (c.in_ok-text.ensures events counts) in
+    let made = subst (λ states. IsCountedText c.args.form options.is_why states c.plan.result.now events x r.close text) c.unknown.ensures (c.in_ok-text.ensures events counts) in
+    let is = subst (λ (q : Plan). IsText q events x r.close text) c.plan.ensures.plan made in
     let wrote = subst (λ t. Writes old new t (Err fault)) c.as_slice-2.ensures.value c.in_err-write_text.ensures in
     subst (WritesThreads IsText options.turns options.seed known old new) (sym (handed_on c.from_residual-in_err-write_text.result fault c.from_residual-in_err-write_text.ensures))
     (threads_unwritten IsText options.turns options.seed known old new p e events fault c.in_ok-accepted.ensures c.in_ok-report.ensures (writes_one (IsText p events x r.close) old new text (Err fault) is wrote))

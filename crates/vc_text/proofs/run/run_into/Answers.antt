@@ -10,18 +10,19 @@ use Rattle.vc_text.proofs.run.run_into.Goals as goal
 pub returns-clause-is : goal.returns-clause-is
 returns-clause-is g c =
     let p = c.args.accepted.now in
-    let ran = c.in_ok-make_events.ensures.runs p [] c.requires c.in_ok-run.ensures.opens in
+    let ran = c.in_ok-make_events.ensures.runs p [] (c.requires _ c.in_ok-run.ensures.opening) c.in_ok-run.ensures.opens in
     subst (IsNetworkOf p) (sym c.in_ok-close.ensures.same) ran.2.reached.is
 
 pub returns-clause-run : goal.returns-clause-run
 returns-clause-run g c =
     let p = c.args.accepted.now in
     let begun = c.in_ok-run.ensures.opens in
+    let empty = c.requires _ c.in_ok-run.ensures.opening in
     let t = state_of c.close.new.self.network in
     let mid = c.make_events.new.self in
-    let ran = c.in_ok-make_events.ensures.runs p [] c.requires begun in
+    let ran = c.in_ok-make_events.ensures.runs p [] empty begun in
     let events = ran.0 in
-    let ends = c.in_ok-make_events.ensures.ends p [] c.requires begun in
+    let ends = c.in_ok-make_events.ensures.ends p [] empty begun in
     let few = c.in_ok-make_events.ensures.few in
     let many = ran.2.many in
     let there = subst (Replays p events) (sym c.in_ok-close.ensures.same) (replays p events (state_of mid.network) ran.2.reached) in
@@ -29,7 +30,7 @@ returns-clause-run g c =
     (subst (λ n. Closes p (shown (state_of mid.network)) n c.args.limit c.in_ok-close.close) (sym many)
     (c.in_ok-close.ensures.closes p ran.2.reached.is ends)) in (
       events,
-      ran.1,
+      subst (g.K.EventSink.holds c.make_events.new.events p events) (sym c.in_ok-close.ensures.same) ran.1,
       record {
         few = omega (arith, few, many);
         runs = there.runs;

@@ -7,7 +7,7 @@ use Rattle.vc_text.proofs.run.views.Goals as goal
 
 pub loop-chan-preserved : goal.loop-chan-preserved
 loop-chan-preserved c = λ p is.
-    let many = c.channels.ensures p is in
+    let many = c.channels-chan-end.ensures p is in
     let test = c.loop-chan-test.true in
     let less : c.loop-chan.chan < length p.channels = omega arith in
     let x = some_at p.channels c.loop-chan.chan less in
@@ -15,7 +15,7 @@ loop-chan-preserved c = λ p is.
 
 pub returns : goal.returns
 returns c = λ p is.
-    let many = c.channels.ensures p is in
+    let many = c.channels-chan-end.ensures p is in
     let few = few_channels p is.accepted in
     let test = c.loop-chan-test.false in
     let past : length p.channels ≤ c.loop-chan.chan = omega arith in

@@ -12,7 +12,7 @@ returns-then-branch-clause-goes_on c = λ p is.
     let inv = c.loop-actor.invariant in
     let a = c.loop-actor.actor in
     let s = state_of c.loop-actor.network in
-    let many = c.actors.ensures p is in
+    let many = c.actors-actor-end.ensures p is in
     let test = c.loop-actor-test.true in
     let node : a < actors p = omega arith in
     let event = subst (HasEvent p s a) c.if-branch.true (c.in_ok-has_event.ensures.has p (subst (IsNetworkOf p) (sym inv.same) is) node) in
@@ -26,7 +26,7 @@ loop-actor-preserved c =
       rest = λ p is k less.
           let a = c.loop-actor.actor in
           let s = state_of c.loop-actor.network in
-          let many = c.actors.ensures p is in
+          let many = c.actors-actor-end.ensures p is in
           let test = c.loop-actor-test.true in
           let node : a < actors p = omega arith in
           elim (cases_lt k a) [
@@ -39,7 +39,7 @@ loop-actor-preserved c =
 
 pub returns-clause-goes_on : goal.returns-clause-goes_on
 returns-clause-goes_on c = λ p is.
-    let many = c.actors.ensures p is in
+    let many = c.actors-actor-end.ensures p is in
     let test = c.loop-actor-test.false in
     let nodes = (few p is.accepted).0 in
     let switches = (few p is.accepted).1 in

@@ -12,7 +12,7 @@ loop-chan-preserved c = λ p events reached.
 
 pub returns : goal.returns
 returns c = λ p events reached.
-    let many = c.channels.ensures p reached.is in
+    let many = c.channels-chan-end.ensures p reached.is in
     let few = few_channels p reached.is.accepted in
     let test = c.loop-chan-test.false in
     let s = state_of c.args.network.now in

@@ -38,7 +38,7 @@ returns-then-not-take-clause-runs g c = λ p es kept run.
     let takes = subst (FindsTake p s c.args.actor) c.in-Some.is (c.link_to_take.ensures.takes p run.reached.is) in
     let same = c.take.ensures.refused c.if-not-take.true in (
       es,
-      kept,
+      subst (g.K.EventSink.holds c.args.events.now p es) (sym same) kept,
       record {
         reached = subst (Reached p es) (sym same) run.reached;
         many = run.many;
@@ -53,7 +53,7 @@ returns-clause-runs g c = λ p es kept run.
     let a = c.args.self.now in
     let s = state_of a.network in
     let makes = c.take.ensures.makes p run.reached.is c.if-not-take.false in
-    one_more g.K.EventSink.holds p es (record { actor = c.args.actor; act = Take c.in-Some.link c.next_word-word.result }) a _ _ (c.in_ok-record.ensures es kept) refl makes
+    one_more g.K.EventSink.holds p es (record { actor = c.args.actor; act = Take c.in-Some.link c.next_word-word.result }) a _ _ (c.in_ok-record.ensures p es s kept makes) refl makes
     (given_take p es a.seats c.next_word-word.new.self c.wake.new.self c.args.actor c.in-Some.link c.next_word-word.result c.next_word-word.ensures.word c.wake.ensures.words run.words)
     (one_acts p s (state_of c.take.new.self) (record { actor = c.args.actor; act = Take c.in-Some.link c.next_word-word.result }) c.next_word-word.new.self c.wake.new.self c.args.actor refl
     makes c.wake.ensures.others (λ low. c.wake.ensures.it) (same_quiet p s a.seats c.next_word-word.new.self c.next_word-word.ensures.active run.quiet)) run

@@ -14,6 +14,6 @@ returns-clause-opens c =
     record {
       reached = reached;
       many = refl;
-      words = none_given p c.actors.result c.in_ok-seats.seats (omega (arith, many)) c.in_ok-seats.ensures.words;
+      words = none_given p c.from.result c.in_ok-seats.seats (omega (arith, many, c.from.ensures)) c.in_ok-seats.ensures.words;
       quiet = none_quiet p s c.in_ok-seats.seats c.in_ok-seats.ensures.active;
     }

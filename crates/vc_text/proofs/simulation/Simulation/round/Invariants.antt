@@ -4,7 +4,7 @@ use Rattle.vc_plan.specs.declared.plan.Plan.{Plan}
 use Rattle.vc_core.specs.State.{state_of}
 use Rattle.vc_core.specs.Turns.{Rests, actors}
 use Rattle.vc_core.specs.declared.event.Event.{Event}
-use Rattle.vc_text.specs.Simulating.{HasRun, LeadsOn}
+use Rattle.vc_text.specs.Simulating.{HasRun, HasTaken, LeadsOn}
 use Rattle.vc_text.proofs.simulation.Simulation.round.Given as goal
 
 abbrev pub invariant-loop-actor : goal.invariant-loop-actor
@@ -14,9 +14,9 @@ invariant-loop-actor g l = record {
   runs : LeadsOn g.K.EventSink.holds l.fn.self l.fn.events l.self l.events;
   some : l.fn.self.made ≤ l.self.made;
   more : l.moved ≡ true → l.fn.self.made < l.self.made;
-  same : l.moved ≡ false → (p : Plan) (es : List Event) → g.K.EventSink.holds l.fn.events es → HasRun p es l.fn.self →
+  same : l.moved ≡ false → (p : Plan) (es : List Event) → HasTaken g.K.EventSink.holds l.fn.events p es l.fn.self → HasRun p es l.fn.self →
       state_of l.self.network ≡ state_of l.fn.self.network;
-  rests : l.moved ≡ false → (p : Plan) (es : List Event) → g.K.EventSink.holds l.fn.events es → HasRun p es l.fn.self →
+  rests : l.moved ≡ false → (p : Plan) (es : List Event) → HasTaken g.K.EventSink.holds l.fn.events p es l.fn.self → HasRun p es l.fn.self →
       (k : ℕ) → k < 64 → bit_at l.left k ≡ 0 → k < actors p → Rests p (state_of l.fn.self.network) k;
 }
 

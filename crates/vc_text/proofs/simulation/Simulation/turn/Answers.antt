@@ -19,7 +19,7 @@ returns-clause-runs g c = λ p es kept run.
     let t = state_of c.turn.new.self in
     let found = subst (FindsEvent p s c.args.actor) c.in-Some.is (c.in_ok-event.ensures.finds p run.reached.is) in
     let makes = subst (λ m. MakesOne p s m t) c.in-Some.is (c.in_ok-event.ensures.makes p run.reached.is) in
-    one_more g.K.EventSink.holds p es c.in-Some.event a _ _ (c.in_ok-record.ensures es kept) refl makes
+    one_more g.K.EventSink.holds p es c.in-Some.event a _ _ (c.in_ok-record.ensures p es s kept makes) refl makes
     (given_still p es c.in-Some.event a.seats a.seats found.1 refl run.words)
     (acts_quiet p s t c.in-Some.event a.seats c.args.actor found.0 found.1 found.2 makes run.quiet) run
 
@@ -30,7 +30,7 @@ returns-in_default-clause-runs g c = λ p es kept run.
     let t = state_of c.turn.new.self in
     let same : t ≡ s = subst (λ o. MakesOne p s o t) c.in_default.is (c.in_ok-event.ensures.makes p run.reached.is) in (
       es,
-      kept,
+      subst (g.K.EventSink.holds c.args.events.now p es) (sym same) kept,
       record {
         reached = subst (Reached p es) (sym same) run.reached;
         many = run.many;

@@ -1,0 +1,47 @@
+//! How many switches the packets of virtual links pass.
+ghost use Rattle.std.specs.Prelude.{◌≡◌, ℕ, Some, IfOk, slice_get};
+ghost use Rattle.std.specs.List.{AllZip};
+ghost use Rattle.vc_plan.specs.Accepted.{IsAccepted};
+ghost use Rattle.vc_plan.specs.WayLengths.{IsVlinkLength};
+
+use crate::accepted::Accepted;
+use crate::searched_plan::SearchedPlan;
+use crate::vlink::Vlink;
+use crate::way_length::{WayLength, way_length};
+use std::alloc::Global;
+use vc_packets::Memory;
+
+/// How many switches the packets of a virtual link pass, each way.
+#[derive(Clone, Copy, Debug, PartialEq, Eq, Drop)]
+pub struct VlinkLength {
+    /// From end a to end b.
+    pub there: WayLength,
+    /// From end b to end a.
+    pub back: WayLength,
+}
+
+fn vlink_length(alloc: Global, net: &SearchedPlan<'_>, vlink: &Vlink) -> Result<VlinkLength, Memory>
+    requires accepted { IsAccepted net.now }
+    requires there { (k : ℕ) × (slice_get net.now.vlinks k ≡ Some vlink.now) }
+    ensures { IfOk result (λ length. IsVlinkLength net.now vlink.now length) }
+{
+    Ok(VlinkLength {
+        there: way_length(alloc, net, &vlink.a, &vlink.b)?,
+        back: way_length(alloc, net, &vlink.b, &vlink.a)?,
+    })
+}
+
+/// Tells of each virtual link of an accepted plan, in order, how many switches its packets pass at least and at most, each way. It
+/// fails for want of memory alone.
+pub fn vlink_lengths(alloc: Global, accepted: &Accepted) -> Result<Vec<VlinkLength>, Memory>
+    ensures { IfOk result (λ lengths.
+        AllZip (IsVlinkLength accepted.now) accepted.now.vlinks lengths.items) }
+{
+    let plan = accepted.plan();
+    let net = SearchedPlan::new(alloc, plan)?;
+    let mut lengths = Vec::new(alloc);
+    for vlink in plan.vlinks.as_slice() {
+        lengths.push(vlink_length(alloc, &net, vlink)?)?;
+    }
+    Ok(lengths)
+}

@@ -1,0 +1,31 @@
+-- Acts in the words of the network's steps.
+use Rattle.std.proofs.Common.{◌≡◌, refl}
+use Rattle.vc_actor.specs.Shown.{act_of}
+use Rattle.vc_actor.specs.declared.act.Act.{Act}
+use Rattle.vc_actor.specs.declared.act.Act.TheVariants.{Proc, Take, Put, Route, Fct, Pass}
+use Rattle.vc_occam.specs.declared.moves.Move.TheVariants.{Offer, Want, Choose, Stopch, Inner, Quiet}
+use Rattle.vc_stats.specs.Peaks.{may_put}
+use Rattle.vc_stats.specs.Times.{may_turn}
+use Rattle.vc_stats.proofs.Filling.{puts}
+use Rattle.vc_stats.proofs.Framed.{turns}
+
+pub turns_by : (a : Act) → turns (act_of a) ≡ may_turn a
+turns_by (Proc (Offer site chan)) = refl
+turns_by (Proc (Want site chan)) = refl
+turns_by (Proc (Choose site guard chan)) = refl
+turns_by (Proc (Stopch site chan)) = refl
+turns_by (Proc (Inner sender receiver guard chan)) = refl
+turns_by (Proc (Quiet site)) = refl
+turns_by (Take link word) = refl
+turns_by (Put link) = refl
+turns_by (Route input output) = refl
+turns_by (Fct link) = refl
+turns_by (Pass link) = refl
+
+pub puts_by : (a : Act) → puts (act_of a) ≡ may_put a
+puts_by (Proc made) = refl
+puts_by (Take link word) = refl
+puts_by (Put link) = refl
+puts_by (Route input output) = refl
+puts_by (Fct link) = refl
+puts_by (Pass link) = refl

@@ -1,0 +1,5 @@
+use Rattle.vc_stats.specs.Peaks.{AreZero}
+use Rattle.vc_stats.proofs.peaks.zeros.Given as goal
+
+abbrev pub invariant-loop : goal.invariant-loop
+invariant-loop l = AreZero l.counter l.most.items

@@ -1,0 +1,51 @@
+-- How it is kept how many tokens stand on ways at most.
+use Rattle.std.specs.Prelude.{◌≡◌, ℕ, ◌*◌, ◌<◌, ◌≤◌, Bool, true, false, cond, List, length, max, get_or}
+use Rattle.vc_accepted.specs.NetworkOf.{network_of}
+use Rattle.vc_actor.specs.declared.act.Act.{Act}
+use Rattle.vc_actor.specs.declared.act.Act.TheVariants.{Put, Fct}
+use Rattle.vc_core.specs.Enabled.{NetworkState}
+use Rattle.vc_network.specs.Network.{actor_at}
+use Rattle.vc_network.specs.Plan.{near}
+use Rattle.vc_plan.specs.declared.plan.Plan.{Plan}
+use Rattle.vc_stats.specs.Rows.{has, is_in}
+use Rattle.vc_stats.specs.Visited.{most_on}
+use Rattle.vc_stats.specs.declared.peaks.Peaks.{Peaks}
+use Rattle.vc_stats.specs.declared.rows.Rows.{Rows}
+
+abbrev pub peak_at : List ℕ → ℕ → ℕ
+peak_at most way = get_or most way 0
+
+-- a number for each of so many ways, and each is 0
+pub record AreZero (ways : ℕ) (most : List ℕ) : Type 0 where
+  pub count : length most ≡ ways
+  pub each : (way : ℕ) → peak_at most way ≡ 0
+
+-- the first ways are each in the row of the actor that puts tokens on it
+abbrev pub AreWaysTo : ℕ → Plan → Rows → Type 0
+AreWaysTo count p ways = (way : ℕ) → way < count → has ways (actor_at (network_of p) (near (network_of p) way)) way ≡ true
+
+-- and so are all
+abbrev pub AreWaysOf : Plan → Rows → Type 0
+AreWaysOf p = AreWaysTo (2 * length p.wires) p
+
+-- a token may be put by the act
+abbrev pub may_put : Act → Bool
+may_put (Put link) = true
+may_put (Fct link) = true
+may_put act = false
+
+-- the numbers of those of these ways on which more tokens stand in state x were raised, and no other
+pub record AreRaised (x : NetworkState) (ways : List ℕ) (old new : List ℕ) : Type 0 where
+  pub count : length new ≡ length old
+  pub each : (way : ℕ) → way < length old → peak_at new way ≡ cond (is_in way ways) (max (peak_at old way) (length (x.way way))) (peak_at old way)
+
+-- the number is that of the way in these states, of which x is the last
+pub record IsPeakOf (xs : List NetworkState) (x : NetworkState) (way n : ℕ) : Type 0 where
+  pub told : n ≡ most_on xs way
+  pub over : length (x.way way) ≤ n
+
+-- and so of all ways
+pub record ArePeaksOf (all : Peaks) (p : Plan) (xs : List NetworkState) (x : NetworkState) : Type 0 where
+  pub ways : AreWaysOf p all.ways
+  pub count : length all.most.items ≡ 2 * length p.wires
+  pub each : (way : ℕ) → way < 2 * length p.wires → IsPeakOf xs x way (peak_at all.most.items way)
