@@ -76,7 +76,7 @@ fresh_output None m i j d h s = alone (Quiet j) m i refl h s
 
 own_sends : (r : Rest) (e : Store) (m : Move) (i : ℕ) → Contains (own r e) m → sender m ≡ Some i → is_some (output_at i r e) ≡ true
 own_sends Done e m i h s = absurd (none m h)
-own_sends Stopped e m i h s = absurd (none m h)
+own_sends (Stopped j) e m i h s = absurd (none m h)
 own_sends (Fresh (STOP j)) e m i h s = absurd (none m h)
 own_sends (Fresh (Output j d a)) e m i h s = fresh_output (datum_of a e) m i j d h s
 own_sends (Fresh (Input j d v)) e m i h s = alone (Want j d) m i refl h s

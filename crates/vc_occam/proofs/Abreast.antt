@@ -10,7 +10,7 @@ use Rattle.vc_occam.specs.declared.phase.Phase.TheVariants as phase
 use Rattle.vc_process.specs.Values.{Store}
 use Rattle.vc_occam.specs.Remains.{Rest, Stopped}
 use Rattle.vc_occam.specs.Sites.{InPreorder}
-use Rattle.vc_occam.specs.Frames.{Able, ChangedAt, Did, HasVariables, PartHasVariables, PartInPreorder, View, assigned_at, besides, is_par, part_assigned, part_rest, place_with, plan_at, plans, rest_at, together, views}
+use Rattle.vc_occam.specs.Frames.{impossible, Able, ChangedAt, Did, HasVariables, PartHasVariables, PartInPreorder, View, assigned_at, besides, is_par, part_assigned, part_rest, place_with, plan_at, plans, rest_at, together, views}
 use Rattle.vc_occam.proofs.Inside.{frames_inside}
 use Rattle.vc_occam.proofs.Places.{together_able, together_did, together_preorder, together_value, together_variables}
 use Rattle.vc_occam.proofs.Stepping.{never}
@@ -29,7 +29,7 @@ par_is (kind.If bs) h = absurd (let z : false ≡ true = h in cc)
 par_is (kind.While b) h = absurd (let z : false ≡ true = h in cc)
 par_is (kind.Alt gs) h = absurd (let z : false ≡ true = h in cc)
 
-not_beside : (k : Kind) (vs : List View) → is_par k ≡ false → together k vs ≡ Stopped
+not_beside : (k : Kind) (vs : List View) → is_par k ≡ false → together k vs ≡ impossible
 not_beside kind.Par vs h = absurd (let z : true ≡ false = h in cc)
 not_beside (kind.Count v a n) vs h = refl
 not_beside kind.Skip vs h = refl

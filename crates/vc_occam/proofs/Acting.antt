@@ -42,7 +42,7 @@ fresh_doers p = λ k e. e
 
 pub doers_rest : (r : Rest) → Within (doers r) (sites_rest r)
 doers_rest Done = within_none nothing
-doers_rest Stopped = within_none nothing
+doers_rest (Stopped i) = within_none nothing
 doers_rest (Fresh p) = fresh_doers p
 doers_rest (Finishing s c) = λ k e. e
 doers_rest (Getting s c v) = λ k e. e
@@ -53,7 +53,7 @@ doers_rest (Beside mine r q) = λ k e. elim (either (doers r k) (doers q k) e) [
   | inr h ↦ or_right (sites_rest r k) (sites_rest q k) (doers_rest q k h)
 ]
 
--- a deed's communications
+-- an action's communications
 abbrev pub Says : SiteAction → List Comm → Type 0
 Says action.Quiet ks = ks ≡ []
 Says (action.Offer c) ks = (x : Datum) × (ks ≡ Out c x ∷ [])
@@ -147,7 +147,7 @@ waits_site (input i c) = i
 its_site : (r : Rest) (w : Waiting) → Contains (waiting r) w → sites_rest r (waits_site w) ≡ true
 unfolding waits_site
 its_site Done w h = absurd (none w h)
-its_site Stopped w h = absurd (none w h)
+its_site (Stopped s) w h = absurd (none w h)
 its_site (Fresh p) w h = absurd (none w h)
 its_site (Finishing i c) w h = subst (λ x. just i (waits_site x) ≡ true) (only (output i c) w h) (itself i)
 its_site (Getting i c v) w h = subst (λ x. just i (waits_site x) ≡ true) (only (input i c) w h) (itself i)
@@ -161,7 +161,7 @@ its_site (Beside mine r q) w h = elim (Contains-append_cases (waiting r) (waitin
 -- one thing waits at a site
 pub one_waits : (r : Rest) (w x : Waiting) → OwnSites r → waits_site w ≡ waits_site x → Contains (waiting r) w → Contains (waiting r) x → w ≡ x
 one_waits Done w x o e a b = absurd (none w a)
-one_waits Stopped w x o e a b = absurd (none w a)
+one_waits (Stopped s) w x o e a b = absurd (none w a)
 one_waits (Fresh p) w x o e a b = absurd (none w a)
 one_waits (Finishing i c) w x o e a b = sym (only (output i c) w a) ∙ only (output i c) x b
 one_waits (Getting i c v) w x o e a b = sym (only (input i c) w a) ∙ only (input i c) x b

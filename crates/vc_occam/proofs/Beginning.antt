@@ -15,7 +15,7 @@ use Rattle.vc_process.specs.Syntax.{Test, PAR, IF, no_parts}
 use Rattle.vc_process.specs.Terms.{as_test}
 use Rattle.vc_process.specs.Values.{Store, holds}
 use Rattle.vc_occam.specs.Remains.{Rest, Done, Stopped, Fresh, begin, branch_on, chosen, does_empty_par, does_if}
-use Rattle.vc_occam.specs.Frames.{Able, BeginsWith, Did, View, begun_at, branches_of, chosen_from, follow, plan_at, plans, plans_of, place_on, rest_at, view, views}
+use Rattle.vc_occam.specs.Frames.{impossible, Able, BeginsWith, Did, View, begun_at, branches_of, chosen_from, follow, plan_at, plans, plans_of, place_on, rest_at, view, views}
 use Rattle.vc_occam.specs.Nexts.{branch_next, turn_begun}
 
 -- the frame at a place has begun
@@ -41,19 +41,19 @@ chosen_more (d ∷ cs) zero k c e l h = ap (λ x. place_on (holds (as_test x) e)
 chosen_more (d ∷ cs) (suc i) k c e l h = chosen_more cs i k c e (omega arith) h
 
 -- a branch that begins
-abbrev pub branch_rest : Option View → Rest
-branch_rest None = Stopped
-branch_rest (Some v) = begin v.0
+abbrev pub branch_rest : (site : ℕ) → Option View → Rest
+branch_rest s None = Stopped s
+branch_rest s (Some v) = begin v.0
 
-abbrev Chosen : List Test → List View → Store → ℕ → ℕ → Type 0
-Chosen bs vs e j k = (m : ℕ) × (k ≡ j + m) × (chosen (branches_of bs vs) e ≡ branch_rest (slice_get vs m))
+abbrev Chosen : ℕ → List Test → List View → Store → ℕ → ℕ → Type 0
+Chosen i bs vs e j k = (m : ℕ) × (k ≡ j + m) × (chosen i (branches_of bs vs) e ≡ branch_rest i (slice_get vs m))
 
-chosen_none : (bs : List Test) (vs : List View) (e : Store) (j : ℕ) → chosen_from j bs e ≡ None → chosen (branches_of bs vs) e ≡ Stopped
-chosen_none bs [] e j h = refl
-chosen_none [] (v ∷ vs) e j h = chosen_none [] vs e j h
-chosen_none (b ∷ bs) (v ∷ vs) e j h = on (holds b e) refl h (chosen_none bs vs e (suc j))
+chosen_none : (i : ℕ) (bs : List Test) (vs : List View) (e : Store) (j : ℕ) → chosen_from j bs e ≡ None → chosen i (branches_of bs vs) e ≡ Stopped i
+chosen_none i bs [] e j h = refl
+chosen_none i [] (v ∷ vs) e j h = chosen_none i [] vs e j h
+chosen_none i (b ∷ bs) (v ∷ vs) e j h = on (holds b e) refl h (chosen_none i bs vs e (suc j))
   where
-    on : (o : Option Bool) → holds b e ≡ o → place_on o j (chosen_from (suc j) bs e) ≡ None → (chosen_from (suc j) bs e ≡ None → chosen (branches_of bs vs) e ≡ Stopped) → branch_on (holds b e) (begin v.0) (chosen (branches_of bs vs) e) ≡ Stopped
+    on : (o : Option Bool) → holds b e ≡ o → place_on o j (chosen_from (suc j) bs e) ≡ None → (chosen_from (suc j) bs e ≡ None → chosen i (branches_of bs vs) e ≡ Stopped i) → branch_on i (holds b e) (begin v.0) (chosen i (branches_of bs vs) e) ≡ Stopped i
     on (Some true) g k f = absurd cc
     on (Some false) g k f = rw g (f k)
     on None g k f = rw g refl
@@ -61,65 +61,65 @@ chosen_none (b ∷ bs) (v ∷ vs) e j h = on (holds b e) refl h (chosen_none bs 
 same_place : (j k : ℕ) → Some j ≡ Some k → k ≡ j
 same_place j k h = cc
 
-chosen_some : (bs : List Test) (vs : List View) (e : Store) (j k : ℕ) → chosen_from j bs e ≡ Some k → Chosen bs vs e j k
-chosen_some [] vs e j k h = absurd cc
-chosen_some (b ∷ bs) [] e j k h = on (holds b e) h (chosen_some bs [] e (suc j) k)
+chosen_some : (i : ℕ) (bs : List Test) (vs : List View) (e : Store) (j k : ℕ) → chosen_from j bs e ≡ Some k → Chosen i bs vs e j k
+chosen_some i [] vs e j k h = absurd cc
+chosen_some i (b ∷ bs) [] e j k h = on (holds b e) h (chosen_some i bs [] e (suc j) k)
   where
-    on : (o : Option Bool) → place_on o j (chosen_from (suc j) bs e) ≡ Some k → (chosen_from (suc j) bs e ≡ Some k → Chosen bs [] e (suc j) k) → Chosen (b ∷ bs) [] e j k
+    on : (o : Option Bool) → place_on o j (chosen_from (suc j) bs e) ≡ Some k → (chosen_from (suc j) bs e ≡ Some k → Chosen i bs [] e (suc j) k) → Chosen i (b ∷ bs) [] e j k
     on (Some true) g f = let z = same_place j k g in (0, omega arith, refl)
     on (Some false) g f = let n = f g in let z = n.1 in (suc n.0, omega arith, refl)
     on None g f = absurd cc
-chosen_some (b ∷ bs) (v ∷ vs) e j k h = on (holds b e) refl h (chosen_some bs vs e (suc j) k)
+chosen_some i (b ∷ bs) (v ∷ vs) e j k h = on (holds b e) refl h (chosen_some i bs vs e (suc j) k)
   where
-    on : (o : Option Bool) → holds b e ≡ o → place_on o j (chosen_from (suc j) bs e) ≡ Some k → (chosen_from (suc j) bs e ≡ Some k → Chosen bs vs e (suc j) k) → Chosen (b ∷ bs) (v ∷ vs) e j k
+    on : (o : Option Bool) → holds b e ≡ o → place_on o j (chosen_from (suc j) bs e) ≡ Some k → (chosen_from (suc j) bs e ≡ Some k → Chosen i bs vs e (suc j) k) → Chosen i (b ∷ bs) (v ∷ vs) e j k
     on (Some true) q g f = let z = same_place j k g in (0, omega arith, rw q refl)
     on (Some false) q g f = let n = f g in let z = n.1 in (suc n.0, omega arith, rw q n.2)
     on None q g f = absurd cc
 
-chosen_at : (bs : List Test) (vs : List View) (e : Store) (k : ℕ) → chosen_from 0 bs e ≡ Some k → chosen (branches_of bs vs) e ≡ branch_rest (slice_get vs k)
-chosen_at bs vs e k h =
-    let n = chosen_some bs vs e 0 k h in
+chosen_at : (i : ℕ) (bs : List Test) (vs : List View) (e : Store) (k : ℕ) → chosen_from 0 bs e ≡ Some k → chosen i (branches_of bs vs) e ≡ branch_rest i (slice_get vs k)
+chosen_at i bs vs e k h =
+    let n = chosen_some i bs vs e 0 k h in
     let z : n.0 ≡ k = let y = n.1 in omega arith in
-    n.2 ∙ ap (λ m. branch_rest (slice_get vs m)) z
+    n.2 ∙ ap (λ m. branch_rest i (slice_get vs m)) z
 
-abbrev after_phase : Phase → Rest → Rest
-after_phase phase.Ready r = Stopped
-after_phase phase.Waiting r = r
-after_phase phase.Resting r = Stopped
-after_phase (phase.Turning x y) r = Stopped
-after_phase phase.Together r = Stopped
-after_phase phase.Chosen r = Stopped
-after_phase phase.Ended r = Done
-after_phase phase.Stuck r = Stopped
+abbrev after_phase : ℕ → Phase → Rest → Rest
+after_phase i phase.Ready r = impossible
+after_phase i phase.Waiting r = r
+after_phase i phase.Resting r = impossible
+after_phase i (phase.Turning x y) r = impossible
+after_phase i phase.Together r = impossible
+after_phase i phase.Chosen r = impossible
+after_phase i phase.Ended r = Done
+after_phase i phase.Stuck r = Stopped i
 
-abbrev after : Next → List View → Rest
-after n vs = after_phase n.phase (follow (slice_get vs n.at) no_parts)
+abbrev after : ℕ → Next → List View → Rest
+after i n vs = after_phase i n.phase (follow (slice_get vs n.at) no_parts)
 
-branch_is : (vs : List View) (k : ℕ) (b : Bool) → b ≡ nat_lt k (length vs) → branch_rest (slice_get vs k) ≡ after (branch_next k b) (begun_at k vs)
-branch_is [] k true h = absurd (grind (arith, nat_tests))
-branch_is [] k false h = refl
-branch_is (v ∷ vs) zero true h = refl
-branch_is (v ∷ vs) zero false h = absurd (grind (arith, nat_tests))
-branch_is (v ∷ vs) (suc k) true h = branch_is vs k true (grind (arith, nat_tests))
-branch_is (v ∷ vs) (suc k) false h = branch_is vs k false (grind (arith, nat_tests))
+branch_is : (i : ℕ) (vs : List View) (k : ℕ) (b : Bool) → b ≡ nat_lt k (length vs) → branch_rest i (slice_get vs k) ≡ after i (branch_next k b) (begun_at k vs)
+branch_is i [] k true h = absurd (grind (arith, nat_tests))
+branch_is i [] k false h = refl
+branch_is i (v ∷ vs) zero true h = refl
+branch_is i (v ∷ vs) zero false h = absurd (grind (arith, nat_tests))
+branch_is i (v ∷ vs) (suc k) true h = branch_is i vs k true (grind (arith, nat_tests))
+branch_is i (v ∷ vs) (suc k) false h = branch_is i vs k false (grind (arith, nat_tests))
 
-if_did : (i : ℕ) (cs : List Cond) (vs : List View) (e : Store) (s : ℕ) (d : SiteAction) (r : Rest) → chosen (branches_of (map as_test cs) vs) e ≡ r → Able (Fresh (IF i (branches_of (map as_test cs) vs))) e s d → Did (Fresh (IF i (branches_of (map as_test cs) vs))) e s d r e
+if_did : (i : ℕ) (cs : List Cond) (vs : List View) (e : Store) (s : ℕ) (d : SiteAction) (r : Rest) → chosen i (branches_of (map as_test cs) vs) e ≡ r → Able (Fresh (IF i (branches_of (map as_test cs) vs))) e s d → Did (Fresh (IF i (branches_of (map as_test cs) vs))) e s d r e
 if_did i cs vs e s d r h (ks, q, f, does_if) = subst (λ x. Did (Fresh (IF i (branches_of (map as_test cs) vs))) e s d x e) h ([], does_if)
 
-placed : (i : ℕ) (cs : List Cond) (vs : List View) (e : Store) (s : ℕ) (d : SiteAction) (k : ℕ) (b : Bool) → b ≡ nat_lt k (length vs) → chosen (branches_of (map as_test cs) vs) e ≡ branch_rest (slice_get vs k) → Able (Fresh (plan_at (kind.If cs) i vs)) e s d →
+placed : (i : ℕ) (cs : List Cond) (vs : List View) (e : Store) (s : ℕ) (d : SiteAction) (k : ℕ) (b : Bool) → b ≡ nat_lt k (length vs) → chosen i (branches_of (map as_test cs) vs) e ≡ branch_rest i (slice_get vs k) → Able (Fresh (plan_at (kind.If cs) i vs)) e s d →
     Did (Fresh (plan_at (kind.If cs) i vs)) e s d (rest_at (kind.If cs) (branch_next k b).phase i (begun_at k vs) (branch_next k b).at) e
-placed i cs vs e s d k true h c a = if_did i cs vs e s d _ (c ∙ branch_is vs k true h) a
-placed i cs vs e s d k false h c a = if_did i cs vs e s d _ (c ∙ branch_is vs k false h) a
+placed i cs vs e s d k true h c a = if_did i cs vs e s d _ (c ∙ branch_is i vs k true h) a
+placed i cs vs e s d k false h c a = if_did i cs vs e s d _ (c ∙ branch_is i vs k false h) a
 
 pub branch_did : (i : ℕ) (cs : List Cond) (vs ws : List View) (e : Store) (s : ℕ) (d : SiteAction) (k : ℕ) (n : Next) → Some k ≡ chosen_from 0 (map as_test cs) e → ws ≡ begun_at k vs → n ≡ branch_next k (nat_lt k (length vs)) → Able (Fresh (plan_at (kind.If cs) i vs)) e s d →
     Did (Fresh (plan_at (kind.If cs) i vs)) e s d (rest_at (kind.If cs) n.phase i ws n.at) e
 branch_did i cs vs ws e s d k n h w g a =
     subst (λ m. Did (Fresh (plan_at (kind.If cs) i vs)) e s d (rest_at (kind.If cs) m.phase i ws m.at) e) (sym g)
     (subst (λ us. Did (Fresh (plan_at (kind.If cs) i vs)) e s d (rest_at (kind.If cs) (branch_next k (nat_lt k (length vs))).phase i us (branch_next k (nat_lt k (length vs))).at) e) (sym w)
-    (placed i cs vs e s d k (nat_lt k (length vs)) refl (chosen_at (map as_test cs) vs e k (sym h)) a))
+    (placed i cs vs e s d k (nat_lt k (length vs)) refl (chosen_at i (map as_test cs) vs e k (sym h)) a))
 
-pub fault_did : (i : ℕ) (cs : List Cond) (vs : List View) (e : Store) (s : ℕ) (d : SiteAction) → None ≡ chosen_from 0 (map as_test cs) e → Able (Fresh (plan_at (kind.If cs) i vs)) e s d → Did (Fresh (plan_at (kind.If cs) i vs)) e s d Stopped e
-fault_did i cs vs e s d h a = if_did i cs vs e s d Stopped (chosen_none (map as_test cs) vs e 0 (sym h)) a
+pub fault_did : (i : ℕ) (cs : List Cond) (vs : List View) (e : Store) (s : ℕ) (d : SiteAction) → None ≡ chosen_from 0 (map as_test cs) e → Able (Fresh (plan_at (kind.If cs) i vs)) e s d → Did (Fresh (plan_at (kind.If cs) i vs)) e s d (Stopped i) e
+fault_did i cs vs e s d h a = if_did i cs vs e s d (Stopped i) (chosen_none i (map as_test cs) vs e 0 (sym h)) a
 
 pub empty_par : (i : ℕ) (vs : List View) (e : Store) (s : ℕ) (d : SiteAction) → Able (Fresh (PAR i (plans_of vs))) e s d → Did (Fresh (PAR i (plans_of vs))) e s d Done e
 empty_par i [] e s d (ks, q, f, does_empty_par) = ([], does_empty_par)

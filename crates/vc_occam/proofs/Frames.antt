@@ -17,7 +17,7 @@ use Rattle.vc_process.specs.Values.{Store}
 use Rattle.vc_occam.specs.First.{own}
 use Rattle.vc_occam.specs.States.{waiting, output_at}
 use Rattle.vc_occam.specs.Gates.{Gate, gate}
-use Rattle.vc_occam.specs.Frames.{View, awaiting, chosen_at, is_counted, is_par, all_begun, turn_of, turning, together, besides, plans_of, behind, follow, follow_on, going_at, resting, resting_at, as_begun, gone_on, goes_on_at_one_part, is_last, place_of, so_far, plan_at, rest_at, view_step, view, views, is_done, part_done, part_own, part_waits, part_output, part_assigned, assigned_at, begun_parts, begun_phase}
+use Rattle.vc_occam.specs.Frames.{impossible, View, awaiting, chosen_at, is_counted, is_par, all_begun, turn_of, turning, together, besides, plans_of, behind, follow, follow_on, going_at, resting, resting_at, as_begun, gone_on, goes_on_at_one_part, is_last, place_of, so_far, plan_at, rest_at, view_step, view, views, is_done, part_done, part_own, part_waits, part_output, part_assigned, assigned_at, begun_parts, begun_phase}
 use Rattle.vc_occam.proofs.Besides.{begin_goes, begun_plans_of, besides_begun, goes_then}
 
 pub view_roll : (f : Frame-F Frame) → view (roll-Frame f) ≡ (plan_at f.kind f.site (views f.parts.items), rest_at f.kind f.phase f.site (views f.parts.items) f.at)
@@ -90,7 +90,7 @@ and_no false = refl
 
 -- an ALT that waits for the message of its guard, or none
 pub data IsAwaiting : Rest → Type 0 where
-  awaits_nothing : IsAwaiting Stopped
+  awaits_nothing : {i : ℕ} → IsAwaiting (Stopped i)
   awaits_input : {i c v : ℕ} {ps : Procs} → IsAwaiting (Then (Getting i c v) ps)
 
 chosen_awaits : (i : ℕ) (g : Option Gate) (v : Option View) → IsAwaiting (chosen_at i g v)
@@ -155,21 +155,21 @@ resting_done (suc k) (v ∷ vs) = resting_done k vs
 rests_done : (k : Kind) (i : ℕ) (vs : List View) (at : ℕ) → is_done (resting k i vs at) ≡ false
 rests_done k i vs at = on (goes_on_at_one_part k)
   where
-    on : (b : Bool) → is_done (if b then going_at k i (resting_at (place_of k at) vs) at else Stopped) ≡ false
+    on : (b : Bool) → is_done (if b then going_at k i (resting_at (place_of k at) vs) at else impossible) ≡ false
     on false = refl
     on true =
         let ws = resting_at (place_of k at) vs in
         going_done k i ws at ∙ ap (λ b. is_last k at (length ws) && b) (resting_done (place_of k at) vs) ∙ and_no (is_last k at (length ws))
 
-done_phase : (ph : Phase) (p : Proc) (r z w b : Rest) (t : ℤ → ℤ → Rest) (l d : Bool) → is_done r ≡ (l && d) → is_done z ≡ false → is_done w ≡ false → ((x y : ℤ) → is_done (t x y) ≡ false) → is_done (so_far ph p r z w b t) ≡ done_by ph l d (is_done b)
-done_phase phase.Ready p r z w b t l d h j k g = refl
-done_phase phase.Waiting p r z w b t l d h j k g = h
-done_phase phase.Resting p r z w b t l d h j k g = j
-done_phase (phase.Turning x y) p r z w b t l d h j k g = g x y
-done_phase phase.Together p r z w b t l d h j k g = refl
-done_phase phase.Chosen p r z w b t l d h j k g = k
-done_phase phase.Ended p r z w b t l d h j k g = refl
-done_phase phase.Stuck p r z w b t l d h j k g = refl
+done_phase : (ph : Phase) (i : ℕ) (p : Proc) (r z w b : Rest) (t : ℤ → ℤ → Rest) (l d : Bool) → is_done r ≡ (l && d) → is_done z ≡ false → is_done w ≡ false → ((x y : ℤ) → is_done (t x y) ≡ false) → is_done (so_far ph i p r z w b t) ≡ done_by ph l d (is_done b)
+done_phase phase.Ready i p r z w b t l d h j k g = refl
+done_phase phase.Waiting i p r z w b t l d h j k g = h
+done_phase phase.Resting i p r z w b t l d h j k g = j
+done_phase (phase.Turning x y) i p r z w b t l d h j k g = g x y
+done_phase phase.Together i p r z w b t l d h j k g = refl
+done_phase phase.Chosen i p r z w b t l d h j k g = k
+done_phase phase.Ended i p r z w b t l d h j k g = refl
+done_phase phase.Stuck i p r z w b t l d h j k g = refl
 
 pub length-views : (fs : List Frame) → length (views fs) ≡ length fs
 length-views [] = refl
@@ -182,7 +182,7 @@ pub rest_done : (k : Kind) (i : ℕ) (ph q : Phase) (parts : Vec Frame Global) (
 rest_done k i ph q parts at l d b hp hl hd hb =
     let vs = views parts.items in
     let all = is_done (together k vs) in
-    done_phase ph (plan_at k i vs) (going_at k i vs at) (resting k i vs at) (awaiting k i vs at) (together k vs) (turning k vs) _ _ (going_done k i vs at) (rests_done k i vs at) (awaiting_done (awaiting_is k i vs at)) (turning_done k vs)
+    done_phase ph i (plan_at k i vs) (going_at k i vs at) (resting k i vs at) (awaiting k i vs at) (together k vs) (turning k vs) _ _ (going_done k i vs at) (rests_done k i vs at) (awaiting_done (awaiting_is k i vs at)) (turning_done k vs)
     ∙ ap (λ n. done_by ph (is_last k at n) (part_done (slice_get vs (place_of k at))) all) (sym (parts_len parts)) ∙ rw (hp, hl, hd, hb) refl
 
 -- a process that hasn't ended, and goes on neither at a part nor side by side, remains
@@ -199,7 +199,7 @@ goes_else k i phase.Stuck parts at e w t = rest_done k i _ phase.Stuck parts at 
 -- what remains after a part did something: nothing where nothing remains of the part and nothing comes behind it
 then_goes : (r : Rest) (p : Proc) (ps : Procs) → is_done (then_on r (part p ps)) ≡ false
 then_goes Done p ps = goes_then (begin p) ps (begin_goes p)
-then_goes Stopped p ps = refl
+then_goes (Stopped i) p ps = refl
 then_goes (Fresh q) p ps = refl
 then_goes (Finishing i c) p ps = refl
 then_goes (Getting i c v) p ps = refl
@@ -301,7 +301,7 @@ turning_is (kind.While b) vs x y h = absurd (let e : false ≡ true = h in cc)
 turning_is (kind.Count v a n) vs x y h = (v, refl)
 turning_is (kind.Alt gs) vs x y h = absurd (let e : false ≡ true = h in cc)
 
-pub turning_not : (k : Kind) (vs : List View) (x y : ℤ) → is_counted k ≡ false → turning k vs x y ≡ Stopped
+pub turning_not : (k : Kind) (vs : List View) (x y : ℤ) → is_counted k ≡ false → turning k vs x y ≡ impossible
 turning_not kind.Skip vs x y h = refl
 turning_not kind.Stop vs x y h = refl
 turning_not (kind.Set v a) vs x y h = refl
@@ -339,7 +339,7 @@ turning_assigned i f x y e h k =
     let t = turning_is (out-Frame f).kind vs x y k in
     ap (λ (r : Rest). assigned_at i r e) (rest_turning f x y h ∙ t.1) ∙ turn_assigned i t.0 vs x y e
 
-pub turning_none : (f : Frame) (x y : ℤ) → (out-Frame f).phase ≡ phase.Turning x y → is_counted (out-Frame f).kind ≡ false → (view f).1 ≡ Stopped
+pub turning_none : (f : Frame) (x y : ℤ) → (out-Frame f).phase ≡ phase.Turning x y → is_counted (out-Frame f).kind ≡ false → (view f).1 ≡ impossible
 turning_none f x y h k = rest_turning f x y h ∙ turning_not (out-Frame f).kind (views (out-Frame f).parts.items) x y k
 
 -- a PAR whose parts go on; no other kind is in this phase
@@ -357,7 +357,7 @@ together_is (kind.While b) vs h = absurd (let e : false ≡ true = h in cc)
 together_is (kind.Count v a n) vs h = absurd (let e : false ≡ true = h in cc)
 together_is (kind.Alt gs) vs h = absurd (let e : false ≡ true = h in cc)
 
-pub together_not : (k : Kind) (vs : List View) → is_par k ≡ false → together k vs ≡ Stopped
+pub together_not : (k : Kind) (vs : List View) → is_par k ≡ false → together k vs ≡ impossible
 together_not kind.Skip vs h = refl
 together_not kind.Stop vs h = refl
 together_not (kind.Set v a) vs h = refl
@@ -374,13 +374,13 @@ together_not (kind.Alt gs) vs h = refl
 pub rest_together : (f : Frame) → (out-Frame f).phase ≡ phase.Together → is_par (out-Frame f).kind ≡ true → (view f).1 ≡ besides (views (out-Frame f).parts.items)
 rest_together f h k = rest_by f phase.Together h ∙ together_is (out-Frame f).kind (views (out-Frame f).parts.items) k
 
-pub rest_apart : (f : Frame) → (out-Frame f).phase ≡ phase.Together → is_par (out-Frame f).kind ≡ false → (view f).1 ≡ Stopped
+pub rest_apart : (f : Frame) → (out-Frame f).phase ≡ phase.Together → is_par (out-Frame f).kind ≡ false → (view f).1 ≡ impossible
 rest_apart f h k = rest_by f phase.Together h ∙ together_not (out-Frame f).kind (views (out-Frame f).parts.items) k
 
 pub rest_ended : (f : Frame) → (out-Frame f).phase ≡ phase.Ended → (view f).1 ≡ Done
 rest_ended f h = rest_by f phase.Ended h
 
-pub rest_stuck : (f : Frame) → (out-Frame f).phase ≡ phase.Stuck → (view f).1 ≡ Stopped
+pub rest_stuck : (f : Frame) → (out-Frame f).phase ≡ phase.Stuck → (view f).1 ≡ Stopped (out-Frame f).site
 rest_stuck f h = rest_by f phase.Stuck h
 
 pub rest_chosen : (f : Frame) → (out-Frame f).phase ≡ phase.Chosen → (view f).1 ≡ awaiting (out-Frame f).kind (out-Frame f).site (views (out-Frame f).parts.items) (out-Frame f).at
@@ -408,7 +408,7 @@ going_part (kind.Alt gs) i vs at h = refl
 
 -- one that has none waits, or never goes on
 pub data IsIdle : Rest → Type 0 where
-  idle_stopped : IsIdle Stopped
+  idle_stopped : {i : ℕ} → IsIdle (Stopped i)
   idle_finishing : {i c : ℕ} → IsIdle (Finishing i c)
   idle_getting : {i c v : ℕ} → IsIdle (Getting i c v)
 
@@ -446,7 +446,7 @@ idle_assigned i e idle_stopped = refl
 idle_assigned i e idle_finishing = refl
 idle_assigned i e idle_getting = refl
 
-going_nothing : (k : Kind) (i : ℕ) (vs : List View) (at : ℕ) → goes_on_at_one_part k ≡ false → ((c : ℕ) (a : Value) → k ≡ kind.Send c a → ⊥) → ((c v : ℕ) → k ≡ kind.Receive c v → ⊥) → going_at k i vs at ≡ Stopped
+going_nothing : (k : Kind) (i : ℕ) (vs : List View) (at : ℕ) → goes_on_at_one_part k ≡ false → ((c : ℕ) (a : Value) → k ≡ kind.Send c a → ⊥) → ((c v : ℕ) → k ≡ kind.Receive c v → ⊥) → going_at k i vs at ≡ impossible
 going_nothing kind.Skip i vs at h s r = refl
 going_nothing kind.Stop i vs at h s r = refl
 going_nothing (kind.Set v a) i vs at h s r = refl
@@ -460,7 +460,7 @@ going_nothing (kind.While b) i vs at h s r = absurd (let e : true ≡ false = h 
 going_nothing (kind.Count v a n) i vs at h s r = refl
 going_nothing (kind.Alt gs) i vs at h s r = absurd (let e : true ≡ false = h in cc)
 
-pub rest_nothing : (f : Frame) → (out-Frame f).phase ≡ phase.Waiting → goes_on_at_one_part (out-Frame f).kind ≡ false → ((c : ℕ) (a : Value) → (out-Frame f).kind ≡ kind.Send c a → ⊥) → ((c v : ℕ) → (out-Frame f).kind ≡ kind.Receive c v → ⊥) → (view f).1 ≡ Stopped
+pub rest_nothing : (f : Frame) → (out-Frame f).phase ≡ phase.Waiting → goes_on_at_one_part (out-Frame f).kind ≡ false → ((c : ℕ) (a : Value) → (out-Frame f).kind ≡ kind.Send c a → ⊥) → ((c v : ℕ) → (out-Frame f).kind ≡ kind.Receive c v → ⊥) → (view f).1 ≡ impossible
 rest_nothing f h k s r =
     let o = out-Frame f in
     rest_waiting f h ∙ going_nothing o.kind o.site (views o.parts.items) o.at k s r
@@ -566,7 +566,7 @@ resting_assigned j (suc k) (v ∷ vs) e = resting_assigned j k vs e
 rests_own : (k : Kind) (i : ℕ) (vs : List View) (at : ℕ) (e : Store) → own (resting k i vs at) e ≡ []
 rests_own k i vs at e = on (goes_on_at_one_part k) refl
   where
-    on : (b : Bool) → goes_on_at_one_part k ≡ b → own (if b then going_at k i (resting_at (place_of k at) vs) at else Stopped) e ≡ []
+    on : (b : Bool) → goes_on_at_one_part k ≡ b → own (if b then going_at k i (resting_at (place_of k at) vs) at else impossible) e ≡ []
     on false h = refl
     on true h =
         let ws = resting_at (place_of k at) vs in
@@ -575,7 +575,7 @@ rests_own k i vs at e = on (goes_on_at_one_part k) refl
 rests_output : (j : ℕ) (k : Kind) (i : ℕ) (vs : List View) (at : ℕ) (e : Store) → output_at j (resting k i vs at) e ≡ None
 rests_output j k i vs at e = on (goes_on_at_one_part k) refl
   where
-    on : (b : Bool) → goes_on_at_one_part k ≡ b → output_at j (if b then going_at k i (resting_at (place_of k at) vs) at else Stopped) e ≡ None
+    on : (b : Bool) → goes_on_at_one_part k ≡ b → output_at j (if b then going_at k i (resting_at (place_of k at) vs) at else impossible) e ≡ None
     on false h = refl
     on true h =
         let ws = resting_at (place_of k at) vs in
@@ -584,7 +584,7 @@ rests_output j k i vs at e = on (goes_on_at_one_part k) refl
 rests_assigned : (j : ℕ) (k : Kind) (i : ℕ) (vs : List View) (at : ℕ) (e : Store) → assigned_at j (resting k i vs at) e ≡ None
 rests_assigned j k i vs at e = on (goes_on_at_one_part k) refl
   where
-    on : (b : Bool) → goes_on_at_one_part k ≡ b → assigned_at j (if b then going_at k i (resting_at (place_of k at) vs) at else Stopped) e ≡ None
+    on : (b : Bool) → goes_on_at_one_part k ≡ b → assigned_at j (if b then going_at k i (resting_at (place_of k at) vs) at else impossible) e ≡ None
     on false h = refl
     on true h =
         let ws = resting_at (place_of k at) vs in
@@ -610,10 +610,10 @@ resting_assigns f j e h =
 
 -- a process with parts that rests, and one without
 pub resting_goes : (k : Kind) (i : ℕ) (vs : List View) (at : ℕ) → goes_on_at_one_part k ≡ true → resting k i vs at ≡ going_at k i (resting_at (place_of k at) vs) at
-resting_goes k i vs at h = ap (λ (b : Bool). if b then going_at k i (resting_at (place_of k at) vs) at else Stopped) h
+resting_goes k i vs at h = ap (λ (b : Bool). if b then going_at k i (resting_at (place_of k at) vs) at else impossible) h
 
-pub resting_stops : (k : Kind) (i : ℕ) (vs : List View) (at : ℕ) → goes_on_at_one_part k ≡ false → resting k i vs at ≡ Stopped
-resting_stops k i vs at h = ap (λ (b : Bool). if b then going_at k i (resting_at (place_of k at) vs) at else Stopped) h
+pub resting_stops : (k : Kind) (i : ℕ) (vs : List View) (at : ℕ) → goes_on_at_one_part k ≡ false → resting k i vs at ≡ impossible
+resting_stops k i vs at h = ap (λ (b : Bool). if b then going_at k i (resting_at (place_of k at) vs) at else impossible) h
 
 pub resting_waits : (f : Frame) (k : ℕ) → (out-Frame f).phase ≡ phase.Resting → goes_on_at_one_part (out-Frame f).kind ≡ true → k ≡ place_of (out-Frame f).kind (out-Frame f).at →
     waiting (view f).1 ≡ part_waits (slice_get (resting_at k (views (out-Frame f).parts.items)) k)
@@ -624,7 +624,7 @@ resting_waits f k h p g =
     ap waiting (rest_resting f h ∙ resting_goes o.kind o.site vs o.at p ∙ going_part o.kind o.site ws o.at p) ∙ follow_waits (slice_get ws (place_of o.kind o.at)) (behind o.kind o.site ws o.at)
     ∙ ap (λ (n : ℕ). part_waits (slice_get (resting_at n vs) n)) (sym g)
 
-pub resting_stopped : (f : Frame) → (out-Frame f).phase ≡ phase.Resting → goes_on_at_one_part (out-Frame f).kind ≡ false → (view f).1 ≡ Stopped
+pub resting_stopped : (f : Frame) → (out-Frame f).phase ≡ phase.Resting → goes_on_at_one_part (out-Frame f).kind ≡ false → (view f).1 ≡ impossible
 resting_stopped f h p =
     let o = out-Frame f in
     rest_resting f h ∙ resting_stops o.kind o.site (views o.parts.items) o.at p
@@ -655,7 +655,7 @@ going_begun (kind.Count v a n) i [] at h = refl
 going_begun (kind.Count v a n) i (w ∷ vs) at h = refl
 going_begun (kind.Alt gs) i vs at h = absurd (let e : true ≡ false = h in cc)
 
-pub none_begun : (k : Kind) (i : ℕ) (vs : List View) → goes_on_at_one_part k ≡ true → as_begun (plan_at k i vs) ≡ Stopped
+pub none_begun : (k : Kind) (i : ℕ) (vs : List View) → goes_on_at_one_part k ≡ true → as_begun (plan_at k i vs) ≡ impossible
 none_begun kind.Skip i vs h = absurd (let e : false ≡ true = h in cc)
 none_begun kind.Stop i vs h = absurd (let e : false ≡ true = h in cc)
 none_begun (kind.Set v a) i vs h = absurd (let e : false ≡ true = h in cc)
@@ -670,7 +670,7 @@ none_begun (kind.While b) i (v ∷ vs) h = refl
 none_begun (kind.Count v a n) i vs h = absurd (let e : false ≡ true = h in cc)
 none_begun (kind.Alt gs) i vs h = refl
 
-pub begun_nothing : (k : Kind) (i : ℕ) (vs : List View) → ((c : ℕ) (a : Value) → k ≡ kind.Send c a → ⊥) → ((c v : ℕ) → k ≡ kind.Receive c v → ⊥) → as_begun (plan_at k i vs) ≡ Stopped
+pub begun_nothing : (k : Kind) (i : ℕ) (vs : List View) → ((c : ℕ) (a : Value) → k ≡ kind.Send c a → ⊥) → ((c v : ℕ) → k ≡ kind.Receive c v → ⊥) → as_begun (plan_at k i vs) ≡ impossible
 begun_nothing kind.Skip i vs s r = refl
 begun_nothing kind.Stop i vs s r = refl
 begun_nothing (kind.Set v a) i vs s r = refl

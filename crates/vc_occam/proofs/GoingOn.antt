@@ -23,7 +23,7 @@ finish j d e i c h =
 
 finishes : (r : Rest) (e : Store) (i c : ℕ) → Contains (waiting r) (output i c) → CanFinish r e i c
 finishes Done e i c h = absurd (none (output i c) h)
-finishes Stopped e i c h = absurd (none (output i c) h)
+finishes (Stopped s) e i c h = absurd (none (output i c) h)
 finishes (Fresh p) e i c h = absurd (none (output i c) h)
 finishes (Finishing j d) e i c h = finish j d e i c (only (output j d) (output i c) h)
 finishes (Getting j d v) e i c h = absurd (let same = only (input j d) (output i c) h in cc)
@@ -46,7 +46,7 @@ get j d v e i c m h =
 
 receives : (r : Rest) (e : Store) (i c : ℕ) (m : List ℕ) → Contains (waiting r) (input i c) → CanGet r e i c m
 receives Done e i c m h = absurd (none (input i c) h)
-receives Stopped e i c m h = absurd (none (input i c) h)
+receives (Stopped s) e i c m h = absurd (none (input i c) h)
 receives (Fresh p) e i c m h = absurd (none (input i c) h)
 receives (Finishing j d) e i c m h = absurd (let same = only (output j d) (input i c) h in cc)
 receives (Getting j d v) e i c m h = get j d v e i c m (only (input j d) (input i c) h)

@@ -14,7 +14,7 @@ use Rattle.vc_occam.specs.Remains.{Rest, Stopped, Fresh, and_then}
 use Rattle.vc_process.specs.Terms.{exp, as_test}
 use Rattle.vc_process.specs.Usage.{Set, just, nothing, ◌∪◌}
 use Rattle.vc_occam.specs.Sites.{sites, sites_all, sites_branches, sites_guards}
-use Rattle.vc_occam.specs.Frames.{View, as_begun, awaiting, branches_of, chosen_at, count_of, follow, going_at, guards_of, goes_on_at_one_part, place_of, plan_at, plans_of, rest_at, resting, resting_at, together, turn_of, turning, view, views, while_of}
+use Rattle.vc_occam.specs.Frames.{impossible, View, as_begun, awaiting, branches_of, chosen_at, count_of, follow, going_at, guards_of, goes_on_at_one_part, place_of, plan_at, plans_of, rest_at, resting, resting_at, together, turn_of, turning, view, views, while_of}
 use Rattle.vc_occam.proofs.Frames.{view_roll}
 use Rattle.vc_occam.proofs.Places.{AllWithin, besides_sites, doers}
 use Rattle.vc_occam.proofs.Stepping.{resting_plans, same_plan}
@@ -130,7 +130,7 @@ part_inside (suc k) (v ∷ vs) w = (w.0, part_inside k vs w.1)
 resting_inside : (k : Kind) (i : ℕ) (vs : List View) (at : ℕ) → AllWithin vs → Within (doers (resting k i vs at)) (sites (plan_at k i vs))
 resting_inside k i vs at w = on (goes_on_at_one_part k)
   where
-    on : (b : Bool) → Within (doers (if b then going_at k i (resting_at (place_of k at) vs) at else Stopped)) (sites (plan_at k i vs))
+    on : (b : Bool) → Within (doers (if b then going_at k i (resting_at (place_of k at) vs) at else impossible)) (sites (plan_at k i vs))
     on false = within_none (sites (plan_at k i vs))
     on true =
         let n = place_of k at in

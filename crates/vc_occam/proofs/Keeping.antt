@@ -191,11 +191,11 @@ beside_uses : (mine : Set) (r q : Rest) → UsesLawfully (Beside mine r q) → U
 beside_uses mine Done Done h = tt
 beside_uses mine r q h = h
 
-chosen_uses : (bs : Branches) (e : Store) → LawfullyBranches bs → UsesLawfully (chosen bs e)
-chosen_uses no_branches e h = tt
-chosen_uses (branch b p bs) e h = pick (holds b e) (begin p) (chosen bs e) (begins p h.0) (chosen_uses bs e h.1)
+chosen_uses : (s : ℕ) (bs : Branches) (e : Store) → LawfullyBranches bs → UsesLawfully (chosen s bs e)
+chosen_uses s no_branches e h = tt
+chosen_uses s (branch b p bs) e h = pick (holds b e) (begin p) (chosen s bs e) (begins p h.0) (chosen_uses s bs e h.1)
   where
-    pick : (o : Option Bool) (x y : Rest) → UsesLawfully x → UsesLawfully y → UsesLawfully (branch_on o x y)
+    pick : (o : Option Bool) (x y : Rest) → UsesLawfully x → UsesLawfully y → UsesLawfully (branch_on s o x y)
     pick (Some true) x y h k = h
     pick (Some false) x y h k = k
     pick None x y h k = tt
@@ -211,7 +211,7 @@ step_uses does_empty_par o = tt
 step_uses (does_assign h) o = tt
 step_uses (faults_assign h) o = tt
 step_uses (faults_out h) o = tt
-step_uses (does_if {bs = bs} {e = e}) o = chosen_uses bs e o
+step_uses (does_if {s = s} {bs = bs} {e = e}) o = chosen_uses s bs e o
 step_uses (does_turn {p = p} h) o = (begins p o, (o, tt))
 step_uses (does_leave h) o = tt
 step_uses (faults_while h) o = tt
@@ -234,7 +234,7 @@ step_uses (in_right {r = r} {q = q} {q' = q'} {mine = mine} st) o = beside_uses 
 -- parts side by side are apart
 pub lawful : (r : Rest) → UsesLawfully r → KeepsVariablesApart r
 lawful Done h = tt
-lawful Stopped h = tt
+lawful (Stopped i) h = tt
 lawful (Fresh p) h = tt
 lawful (Finishing s c) h = tt
 lawful (Getting s c v) h = tt

@@ -94,7 +94,7 @@ module _ (channel : ℕ → ValueKind) (kinds : List ValueKind) where
   -- the same of what remains; and where something follows or stands beside, something remains
   abbrev pub Sound : Rest → Type 0
   Sound Done = Unit {0}
-  Sound Stopped = Unit {0}
+  Sound (Stopped i) = Unit {0}
   Sound (Fresh p) = Kinded p
   Sound (Finishing s c) = Unit {0}
   Sound (Getting s c v) = HasKind v (channel c)
@@ -165,11 +165,11 @@ module _ (channel : ℕ → ValueKind) (kinds : List ValueKind) where
   beside_sound mine Done q h k = (inr tt, h, k)
   beside_sound mine r q h k = (inl tt, h, k)
 
-  chosen_sound : (bs : Branches) (e : Store) → BranchesKinded bs → Sound (chosen bs e)
-  chosen_sound no_branches e h = tt
-  chosen_sound (branch b p bs) e h = pick (holds b e) (begin p) (chosen bs e) (begins_sound p h.0) (chosen_sound bs e h.1)
+  chosen_sound : (s : ℕ) (bs : Branches) (e : Store) → BranchesKinded bs → Sound (chosen s bs e)
+  chosen_sound s no_branches e h = tt
+  chosen_sound s (branch b p bs) e h = pick (holds b e) (begin p) (chosen s bs e) (begins_sound p h.0) (chosen_sound s bs e h.1)
     where
-      pick : (o : Option Bool) (x y : Rest) → Sound x → Sound y → Sound (branch_on o x y)
+      pick : (o : Option Bool) (x y : Rest) → Sound x → Sound y → Sound (branch_on s o x y)
       pick (Some true) x y h k = h
       pick (Some false) x y h k = k
       pick None x y h k = tt
@@ -186,7 +186,7 @@ module _ (channel : ℕ → ValueKind) (kinds : List ValueKind) where
   step_sound (does_assign h) o = tt
   step_sound (faults_assign h) o = tt
   step_sound (faults_out h) o = tt
-  step_sound (does_if {bs = bs} {e = e}) o = chosen_sound bs e o
+  step_sound (does_if {s = s} {bs = bs} {e = e}) o = chosen_sound s bs e o
   step_sound (does_turn {p = p} h) o = (begin_remains p, begins_sound p o, (o, tt))
   step_sound (does_leave h) o = tt
   step_sound (faults_while h) o = tt
@@ -300,7 +300,7 @@ module _ (channel : ℕ → ValueKind) (kinds : List ValueKind) where
 
   alone : (r : Rest) {r' : Rest} {e e' : Store} {i : ℕ} {d : SiteAction} {m : List Comm} → Step r e i d m r' e' → Sound r → Alone e i d m
   alone Done st o = elim st [ ]
-  alone Stopped st o = elim st [ ]
+  alone (Stopped i) st o = elim st [ ]
   alone (Fresh p) {r' = r'} {e' = e'} st o = (Fresh p, r', e', st, tt, o)
   alone (Finishing s c) {r' = r'} {e' = e'} st o = (Finishing s c, r', e', st, tt, o)
   alone (Getting s c v) {r' = r'} {e' = e'} st o = (Getting s c v, r', e', st, tt, o)

@@ -147,12 +147,12 @@ further_is : {i : ℕ} {b : Test} {p : Proc} {bs : Branches} {e : Store} {t : Li
 further_is h cut = cut
 further_is h (choose q) = choose (further h q)
 
-chosen_at : {i : ℕ} {b : Test} {p : Proc} {bs : Branches} {r q : Rest} {e : Store} {t : List Comm} {x : End} (o : Option Bool) → holds b e ≡ o → (TraceRest r e t x → Trace p e t x) → (TraceRest q e t x → Trace (IF i bs) e t x) → TraceRest (branch_on o r q) e t x → Trace (IF i (branch b p bs)) e t x
+chosen_at : {i : ℕ} {b : Test} {p : Proc} {bs : Branches} {r q : Rest} {e : Store} {t : List Comm} {x : End} (o : Option Bool) → holds b e ≡ o → (TraceRest r e t x → Trace p e t x) → (TraceRest q e t x → Trace (IF i bs) e t x) → TraceRest (branch_on i o r q) e t x → Trace (IF i (branch b p bs)) e t x
 chosen_at (Some true) h f g k = choose (here h (f k))
 chosen_at (Some false) h f g k = further_is h (g k)
 chosen_at None h f g stopped = cut
 
-chosen_is : (i : ℕ) (bs : Branches) (e : Store) {t : List Comm} {x : End} → TraceRest (chosen bs e) e t x → Trace (IF i bs) e t x
+chosen_is : (i : ℕ) (bs : Branches) (e : Store) {t : List Comm} {x : End} → TraceRest (chosen i bs e) e t x → Trace (IF i bs) e t x
 chosen_is i no_branches e stopped = cut
 chosen_is i (branch b p bs) e h = chosen_at (holds b e) refl (begin_is p) (chosen_is i bs e) h
 

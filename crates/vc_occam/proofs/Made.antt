@@ -41,7 +41,7 @@ pub data Stands (p : Proc) : Rest → Type 0 where
 -- a move is that of a process that hasn't begun
 own_stands : (r : Rest) (e : Store) (m : Move) → Contains (own r e) m → (p : Proc) × Stands p r × Contains (own (Fresh p) e) m
 own_stands Done e m h = absurd (none m h)
-own_stands Stopped e m h = absurd (none m h)
+own_stands (Stopped s) e m h = absurd (none m h)
 own_stands (Fresh p) e m h = (p, itself, h)
 own_stands (Finishing i c) e m h = absurd (none m h)
 own_stands (Getting i c v) e m h = absurd (none m h)
@@ -286,7 +286,7 @@ either_none x y h k = rw (h, k) refl
 -- no output begins at a site that isn't there
 pub not_there : (i : ℕ) (r : Rest) (e : Store) → sites_rest r i ≡ false → output_at i r e ≡ None
 not_there i Done e h = refl
-not_there i Stopped e h = refl
+not_there i (Stopped s) e h = refl
 not_there i (Fresh (SKIP s)) e h = refl
 not_there i (Fresh (STOP s)) e h = refl
 not_there i (Fresh (Assign s v a)) e h = refl
@@ -412,7 +412,7 @@ output_chan_same j i d c h = cc
 -- an output that waits can be finished
 finishes : (r : Rest) (e : Store) (i c : ℕ) → Contains (waiting r) (output i c) → (q : Rest) × (f : Store) × Step r e i action.Finish (Fin c ∷ []) q f
 finishes Done e i c h = absurd (none (output i c) h)
-finishes Stopped e i c h = absurd (none (output i c) h)
+finishes (Stopped s) e i c h = absurd (none (output i c) h)
 finishes (Fresh p) e i c h = absurd (none (output i c) h)
 finishes (Finishing j d) e i c h = let same = only (output j d) (output i c) h in finish j d e i c (output_site_same j i d c same) (output_chan_same j i d c same)
 finishes (Getting j d v) e i c h = absurd (let same = only (input j d) (output i c) h in cc)
@@ -547,7 +547,7 @@ receive j d v e i c m h =
 -- an input that waits can have any message
 receives : (r : Rest) (e : Store) (i c : ℕ) (m : List ℕ) → Contains (waiting r) (input i c) → Able r e i (action.Message m)
 receives Done e i c m h = absurd (none (input i c) h)
-receives Stopped e i c m h = absurd (none (input i c) h)
+receives (Stopped s) e i c m h = absurd (none (input i c) h)
 receives (Fresh p) e i c m h = absurd (none (input i c) h)
 receives (Finishing j d) e i c m h = absurd (let same = only (output j d) (input i c) h in cc)
 receives (Getting j d v) e i c m h = receive j d v e i c m (only (input j d) (input i c) h)

@@ -195,10 +195,10 @@ taken_says : {q s : Rest} {f g : Store} {ks : List Comm} (j : ℕ) (k : Option �
 taken_says j None c m st = says st
 taken_says j (Some k) c m st = says st
 
--- the receiver's deed, with the message
-meeting_deed : (j : ℕ) (k : Option ℕ) (c : ℕ) (a : Answer) (m : List ℕ) → came a ≡ Some m → action_for (partner j k c) a ≡ meeting k c m
-meeting_deed j None c a m h = ap (action.Want c) h
-meeting_deed j (Some k) c a m h = ap (action.Choose k c) h
+-- the receiver's action, with the message
+meeting_action : (j : ℕ) (k : Option ℕ) (c : ℕ) (a : Answer) (m : List ℕ) → came a ≡ Some m → action_for (partner j k c) a ≡ meeting k c m
+meeting_action j None c a m h = ap (action.Want c) h
+meeting_action j (Some k) c a m h = ap (action.Choose k c) h
 
 partner_site : (j : ℕ) (k : Option ℕ) (c : ℕ) → site_of (partner j k c) ≡ j
 partner_site j None c = refl
@@ -225,7 +225,7 @@ took {r} {q} {s} {e} {f} {g} i j k c a o fits (ks, st) (ls, tk) =
     let m = bytes_or_none (came a) in
     let same : m ≡ message x = ap bytes_or_none came_is in
     let came_m : came a ≡ Some m = came_is ∙ ap Some (sym same) in
-    let step : Step q f j (meeting k c m) ls s g = subst (λ (d : SiteAction). Step q f j d ls s g) (meeting_deed j k c a m came_m) (subst (λ (l : ℕ). Step q f l (action_for (partner j k c) a) ls s g) (partner_site j k c) tk) in
+    let step : Step q f j (meeting k c m) ls s g = subst (λ (d : SiteAction). Step q f j d ls s g) (meeting_action j k c a m came_m) (subst (λ (l : ℕ). Step q f l (action_for (partner j k c) a) ls s g) (partner_site j k c) tk) in
     let y = taken_says j k c m step in
     record {
       value = x;

@@ -41,7 +41,7 @@ never_offers r q e f s c h (ks, p, g, st) = absurd (none (move.Offer s c) (subst
 
 undone : (r : Rest) → (r ≡ Done → ⊥) → is_done r ≡ false
 undone Done h = absurd (h refl)
-undone Stopped h = refl
+undone (Stopped i) h = refl
 undone (Fresh p) h = refl
 undone (Finishing i c) h = refl
 undone (Getting i c v) h = refl

@@ -93,7 +93,7 @@ frame_site f = let o = out-Frame f in ap (λ (v : View). site v.0) (view_out f) 
 -- the sites of what remains that may do something now
 abbrev pub doers : Rest → Set
 doers Done = nothing
-doers Stopped = nothing
+doers (Stopped i) = nothing
 doers (Fresh (STOP i)) = nothing
 doers (Fresh p) = sites p
 doers (Finishing s c) = just s
@@ -139,7 +139,7 @@ none_of x y h k = rw (h, k) refl
 -- no assignment begins at another site
 pub none_assigned : (i : ℕ) (e : Store) (r : Rest) → doers r i ≡ false → assigned_at i r e ≡ None
 none_assigned i e Done h = refl
-none_assigned i e Stopped h = refl
+none_assigned i e (Stopped s) h = refl
 none_assigned i e (Fresh (SKIP s)) h = refl
 none_assigned i e (Fresh (STOP s)) h = refl
 none_assigned i e (Fresh (Assign s v a)) h = let off : (i == s) ≡ false = grind (arith, nat_tests) in rw off refl
@@ -163,7 +163,7 @@ none_assigned i e (Beside mine r q) h =
 -- no output begins at another site
 pub none_output : (i : ℕ) (e : Store) (r : Rest) → doers r i ≡ false → output_at i r e ≡ None
 none_output i e Done h = refl
-none_output i e Stopped h = refl
+none_output i e (Stopped s) h = refl
 none_output i e (Fresh (SKIP s)) h = refl
 none_output i e (Fresh (STOP s)) h = refl
 none_output i e (Fresh (Assign s v a)) h = refl

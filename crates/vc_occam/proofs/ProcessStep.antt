@@ -30,7 +30,7 @@ pub set_did : (i v : ℕ) (a : Given) (e : Store) (s : ℕ) (d : SiteAction) (x 
 set_did i v a e s d x h (ks, q, f, does_assign k) = (ks, does_assign (sym (h refl refl)))
 set_did i v a e s d x h (ks, q, f, faults_assign k) = (ks, does_assign (sym (h refl refl)))
 
-pub set_faulted : (i v : ℕ) (a : Given) (e : Store) (s : ℕ) (d : SiteAction) → (d ≡ action.Quiet → s ≡ i → None ≡ datum_of a e) → Able (Fresh (Assign i v a)) e s d → Did (Fresh (Assign i v a)) e s d Stopped e
+pub set_faulted : (i v : ℕ) (a : Given) (e : Store) (s : ℕ) (d : SiteAction) → (d ≡ action.Quiet → s ≡ i → None ≡ datum_of a e) → Able (Fresh (Assign i v a)) e s d → Did (Fresh (Assign i v a)) e s d (Stopped i) e
 set_faulted i v a e s d h (ks, q, f, does_assign k) = (ks, faults_assign (sym (h refl refl)))
 set_faulted i v a e s d h (ks, q, f, faults_assign k) = (ks, faults_assign k)
 
@@ -49,7 +49,7 @@ did_store r e s d q f g h = subst (λ z. Did r e s d q z) (sym h)
 pub just_is : (v w : ℕ) → just w v ≡ true → v ≡ w
 just_is v w h = grind (arith, nat_tests)
 
--- an input begins and goes on by its own deeds alone
+-- an input begins and goes on by its own actions alone
 only_want : (i c v : ℕ) (e f : Store) (s : ℕ) (d : SiteAction) (r : Rest) → ((j : ℕ) (m : Option (List ℕ)) → d ≡ action.Want j m → ⊥) → Able (Fresh (Input i c v)) e s d → Did (Fresh (Input i c v)) e s d r f
 only_want i c v e f s d r h (ks, q, x, does_input {m = m} y) = absurd (h c (Some m) refl)
 only_want i c v e f s d r h (ks, q, x, waits_input) = absurd (h c None refl)

@@ -172,23 +172,23 @@ guard_in (later {b = b} {c = c} {c' = c'} {v = v} {v' = w} {p = p} {p' = q} {gs 
       input = within_right (just c ∪ inputs p) (inputs_guards gs);
     })
 
-chosen_in : (bs : Branches) (e : Store) → IsPart (of_rest (chosen bs e)) (of_branches bs)
-chosen_in no_branches e = same none
-chosen_in (branch b p bs) e = pick (holds b e) (begin p) (chosen bs e)
+chosen_in : (s : ℕ) (bs : Branches) (e : Store) → IsPart (of_rest (chosen s bs e)) (of_branches bs)
+chosen_in s no_branches e = same none
+chosen_in s (branch b p bs) e = pick (holds b e) (begin p) (chosen s bs e)
     (through (of_rest (begin p)) (of p) (of_branches (branch b p bs)) (begin_in p) (record {
       changed = within_left (changes p) (changes_branches bs);
       used = then_of (uses p) (in_test b ∪ uses p) (in_test b ∪ uses p ∪ uses_branches bs) (within_right (in_test b) (uses p)) (within_left (in_test b ∪ uses p) (uses_branches bs));
       output = within_left (outputs p) (outputs_branches bs);
       input = within_left (inputs p) (inputs_branches bs);
     }))
-    (through (of_rest (chosen bs e)) (of_branches bs) (of_branches (branch b p bs)) (chosen_in bs e) (record {
+    (through (of_rest (chosen s bs e)) (of_branches bs) (of_branches (branch b p bs)) (chosen_in s bs e) (record {
       changed = within_right (changes p) (changes_branches bs);
       used = within_right (in_test b ∪ uses p) (uses_branches bs);
       output = within_right (outputs p) (outputs_branches bs);
       input = within_right (inputs p) (inputs_branches bs);
     }))
   where
-    pick : (o : Option Bool) (x y : Rest) → IsPart (of_rest x) (of_branches (branch b p bs)) → IsPart (of_rest y) (of_branches (branch b p bs)) → IsPart (of_rest (branch_on o x y)) (of_branches (branch b p bs))
+    pick : (o : Option Bool) (x y : Rest) → IsPart (of_rest x) (of_branches (branch b p bs)) → IsPart (of_rest y) (of_branches (branch b p bs)) → IsPart (of_rest (branch_on s o x y)) (of_branches (branch b p bs))
     pick (Some true) x y h k = h
     pick (Some false) x y h k = k
     pick None x y h k = none_in (of_branches (branch b p bs))
@@ -220,7 +220,7 @@ step_in (does_empty_par {s = s}) = none_in (of (PAR s no_parts))
 step_in (does_assign {s = s} {v = v} {a = a} h) = none_in (of (Assign s v a))
 step_in (faults_assign {s = s} {v = v} {a = a} h) = none_in (of (Assign s v a))
 step_in (faults_out {s = s} {c = c} {a = a} h) = none_in (of (Output s c a))
-step_in (does_if {s = s} {bs = bs} {e = e}) = chosen_in bs e
+step_in (does_if {s = s} {bs = bs} {e = e}) = chosen_in s bs e
 step_in (does_turn {s = s} {b = b} {p = p} h) =
     let whole = of (WHILE s b p) in
     each (of_rest (begin p)) (two whole none) whole (through (of_rest (begin p)) (of p) whole (begin_in p) (in_while s b p)) (each whole none whole (same whole) (none_in whole))

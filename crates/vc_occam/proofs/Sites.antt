@@ -121,8 +121,8 @@ keeps_begin p r h k = (through {b = sites p} (begin_sites p) h, begin_own p k)
 ends : (r : Rest) → Keeps r Done
 ends r = (within_none (sites_rest r), tt)
 
-stops : (r : Rest) → Keeps r Stopped
-stops r = (within_none (sites_rest r), tt)
+stops : (r : Rest) (i : ℕ) → Keeps r (Stopped i)
+stops r i = (within_none (sites_rest r), tt)
 
 then_keeps : (r r' : Rest) (ps : Procs) → Keeps r r' → AllHaveOwnSites ps → Keeps (Then r ps) (then_on r' ps)
 then_keeps r Done no_parts k h = ends (Then r no_parts)
@@ -142,16 +142,16 @@ beside_keeps : (mine : Set) (s r q : Rest) → Within (sites_rest r ∪ sites_re
 beside_keeps mine s Done Done k h = ends s
 beside_keeps mine s r q k h = (k, h)
 
-chosen_keeps : (r : Rest) (bs : Branches) (e : Store) → Within (sites_branches bs) (sites_rest r) → BranchesHaveOwnSites bs → Keeps r (chosen bs e)
-chosen_keeps r no_branches e h k = stops r
-chosen_keeps r (branch b p bs) e h k = pick (holds b e) (begin p) (chosen bs e)
+chosen_keeps : (s : ℕ) (r : Rest) (bs : Branches) (e : Store) → Within (sites_branches bs) (sites_rest r) → BranchesHaveOwnSites bs → Keeps r (chosen s bs e)
+chosen_keeps s r no_branches e h k = stops r s
+chosen_keeps s r (branch b p bs) e h k = pick (holds b e) (begin p) (chosen s bs e)
     (keeps_begin p r (through {b = sites_branches (branch b p bs)} (within_left (sites p) (sites_branches bs)) h) k.0)
-    (chosen_keeps r bs e (through {b = sites_branches (branch b p bs)} (within_right (sites p) (sites_branches bs)) h) k.1)
+    (chosen_keeps s r bs e (through {b = sites_branches (branch b p bs)} (within_right (sites p) (sites_branches bs)) h) k.1)
   where
-    pick : (o : Option Bool) (x y : Rest) → Keeps r x → Keeps r y → Keeps r (branch_on o x y)
+    pick : (o : Option Bool) (x y : Rest) → Keeps r x → Keeps r y → Keeps r (branch_on s o x y)
     pick (Some true) x y h k = h
     pick (Some false) x y h k = k
-    pick None x y h k = stops r
+    pick None x y h k = stops r s
 
 guard_keeps : {gs : Guards} {n c v : ℕ} {b : Test} {p : Proc} → GuardAt gs n b c v p → GuardsHaveOwnSites gs → Within (sites p) (sites_guards gs) × HasOwnSites p
 guard_keeps (first {p = p} {gs = gs}) h = (within_left (sites p) (sites_guards gs), h.0)
@@ -164,9 +164,9 @@ step_keeps (does_skip {s = s}) o = ends (Fresh (SKIP s))
 step_keeps (does_empty_seq {s = s}) o = ends (Fresh (SEQ s no_parts))
 step_keeps (does_empty_par {s = s}) o = ends (Fresh (PAR s no_parts))
 step_keeps (does_assign {s = s} {v = v} {a = a} h) o = ends (Fresh (Assign s v a))
-step_keeps (faults_assign {s = s} {v = v} {a = a} h) o = stops (Fresh (Assign s v a))
-step_keeps (faults_out {s = s} {c = c} {a = a} h) o = stops (Fresh (Output s c a))
-step_keeps (does_if {s = s} {bs = bs} {e = e}) o = chosen_keeps (Fresh (IF s bs)) bs e (within_right (just s) (sites_branches bs)) o
+step_keeps (faults_assign {s = s} {v = v} {a = a} h) o = stops (Fresh (Assign s v a)) s
+step_keeps (faults_out {s = s} {c = c} {a = a} h) o = stops (Fresh (Output s c a)) s
+step_keeps (does_if {s = s} {bs = bs} {e = e}) o = chosen_keeps s (Fresh (IF s bs)) bs e (within_right (just s) (sites_branches bs)) o
 step_keeps (does_turn {s = s} {b = b} {p = p} h) o =
     let w = within_right (just s) (sites p) in (
       within_both {a = sites_rest (begin p)} {b = sites_all (part (WHILE s b p) no_parts)} {c = just s ∪ sites p} (through {b = sites p} (begin_sites p) w)
@@ -174,12 +174,12 @@ step_keeps (does_turn {s = s} {b = b} {p = p} h) o =
       (begin_own p o, (o, tt)),
     )
 step_keeps (does_leave {s = s} {b = b} {p = p} h) o = ends (Fresh (WHILE s b p))
-step_keeps (faults_while {s = s} {b = b} {p = p} h) o = stops (Fresh (WHILE s b p))
+step_keeps (faults_while {s = s} {b = b} {p = p} h) o = stops (Fresh (WHILE s b p)) s
 step_keeps (does_count {s = s} {v = v} {a = a} {k = k} {p = p} h) o =
     let w = within_right (just s) (sites p) in
     (within_both {a = sites_rest (begin p)} {b = sites p} {c = just s ∪ sites p} (through {b = sites p} (begin_sites p) w) w, (begin_own p o, o))
 step_keeps (does_count_none {s = s} {v = v} {a = a} {k = k} {p = p} h) o = ends (Fresh (COUNT s v a k p))
-step_keeps (faults_count {s = s} {v = v} {a = a} {k = k} {p = p} h) o = stops (Fresh (COUNT s v a k p))
+step_keeps (faults_count {s = s} {v = v} {a = a} {k = k} {p = p} h) o = stops (Fresh (COUNT s v a k p)) s
 step_keeps (does_offer h) o = (λ k e. e, tt)
 step_keeps (does_finish {s = s} {c = c}) o = ends (Finishing s c)
 step_keeps (does_input {s = s} {c = c} {v = v} h) o = ends (Fresh (Input s c v))

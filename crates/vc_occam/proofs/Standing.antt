@@ -12,7 +12,7 @@ use Rattle.vc_occam.proofs.Kinded.{Remains, Sound}
 module _ (channel : ℕ → ValueKind) (kinds : List ValueKind) where
   is_open : (r : Rest) (e : Store) → Remains channel kinds r → so_far r e ≡ Open
   is_open Done e h = absurd h
-  is_open Stopped e h = refl
+  is_open (Stopped i) e h = refl
   is_open (Fresh p) e h = refl
   is_open (Finishing s c) e h = refl
   is_open (Getting s c v) e h = refl
@@ -30,7 +30,7 @@ module _ (channel : ℕ → ValueKind) (kinds : List ValueKind) where
 
   pub stands : (r : Rest) (e : Store) → Sound channel kinds r → TraceRest r e [] (so_far r e)
   stands Done e h = done
-  stands Stopped e h = stopped
+  stands (Stopped i) e h = stopped
   stands (Fresh p) e h = fresh cut
   stands (Finishing s c) e h = finishing_cut
   stands (Getting s c v) e h = getting_cut

@@ -200,7 +200,7 @@ within_did k i ph vs ws at p e f s d r h t g q z y =
 
 not_done : (r : Rest) (p : Proc) (ps : Procs) → is_done r ≡ false → then_on r (part p ps) ≡ Then r (part p ps)
 not_done Done p ps h = absurd (let z : true ≡ false = h in cc)
-not_done Stopped p ps h = refl
+not_done (Stopped i) p ps h = refl
 not_done (Fresh q) p ps h = refl
 not_done (Finishing i c) p ps h = refl
 not_done (Getting i c v) p ps h = refl
@@ -309,7 +309,7 @@ phase_able k i ph q vs at e s d h a = subst (λ x. Able (rest_at k x i vs at) e 
 pub phase_did : (k : Kind) (i : ℕ) (ph q : Phase) (vs : List View) (at : ℕ) (e f : Store) (s : ℕ) (d : SiteAction) (r : Rest) → ph ≡ q → Did (rest_at k q i vs at) e s d r f → Did (rest_at k ph i vs at) e s d r f
 phase_did k i ph q vs at e f s d r h a = subst (λ x. Did (rest_at k x i vs at) e s d r f) (sym h) a
 
-pub never : (r q : Rest) (e f : Store) (s : ℕ) (d : SiteAction) → Able Stopped e s d → Did r e s d q f
+pub never : {i : ℕ} (r q : Rest) (e f : Store) (s : ℕ) (d : SiteAction) → Able (Stopped i) e s d → Did r e s d q f
 never r q e f s d (ks, p, g, st) = elim st [ ]
 
 pub never_there : (r q : Rest) (e f : Store) (s : ℕ) (d : SiteAction) → Able (Fresh (STOP 0)) e s d → Did r e s d q f
@@ -372,7 +372,7 @@ none_view (x ∷ fs) (suc k) l = none_view fs k (omega arith)
 -- a SEQ whose part did something
 begun_is : (p : Proc) (r : Rest) → is_done r ≡ true → r ≡ Done
 begun_is p Done h = refl
-begun_is p Stopped h = absurd (let z : false ≡ true = h in cc)
+begun_is p (Stopped i) h = absurd (let z : false ≡ true = h in cc)
 begun_is p (Fresh q) h = absurd (let z : false ≡ true = h in cc)
 begun_is p (Finishing i c) h = absurd (let z : false ≡ true = h in cc)
 begun_is p (Getting i c v) h = absurd (let z : false ≡ true = h in cc)
@@ -441,8 +441,8 @@ pub resting_never : (k : Kind) (i : ℕ) (ph : Phase) (vs : List View) (at : ℕ
 resting_never k i ph vs at e s d r h t a =
     never _ r e e s d (subst (λ (x : Rest). Able x e s d) (ap (λ (x : Phase). rest_at k x i vs at) h ∙ resting_stops k i vs at t) a)
 
-stopped_never : (e : Store) (s : ℕ) (d : SiteAction) → Able Stopped e s d → ⊥
+stopped_never : {i : ℕ} (e : Store) (s : ℕ) (d : SiteAction) → Able (Stopped i) e s d → ⊥
 stopped_never e s d (ks, q, f, st) = elim st [ ]
 
-pub never_able : (r : Rest) (e : Store) (s : ℕ) (d : SiteAction) → r ≡ Stopped → Able r e s d → ⊥
+pub never_able : {i : ℕ} (r : Rest) (e : Store) (s : ℕ) (d : SiteAction) → r ≡ Stopped i → Able r e s d → ⊥
 never_able r e s d h a = stopped_never e s d (subst (λ (x : Rest). Able x e s d) h a)

@@ -21,7 +21,7 @@ use Rattle.vc_occam.proofs.Stepping.{never}
 use Rattle.vc_occam.proofs.Stores.{or_left, or_right}
 use Rattle.vc_process.specs.Values.{Store, value_of, within}
 use Rattle.vc_occam.specs.Remains.{Rest, Done, Stopped, Fresh, Finishing, Getting, Then, Turns, Beside, Step, begin, index_on, turns_on, in_turns, does_count, does_count_none, faults_count}
-use Rattle.vc_occam.specs.Frames.{Able, Did, HasVariables, PartHasVariables, View, assigned_at, part_assigned, begun_at, count_of, is_counted, is_done, part_done, part_rest, plan_at, plans, rest_at, so_far, turn_of, turning, turns_left}
+use Rattle.vc_occam.specs.Frames.{impossible, Able, Did, HasVariables, PartHasVariables, View, assigned_at, part_assigned, begun_at, count_of, is_counted, is_done, part_done, part_rest, plan_at, plans, rest_at, so_far, turn_of, turning, turns_left}
 use Rattle.vc_occam.specs.Nexts.{count_begun, count_phase, count_store, last_phase, TurnEnded, turn_phase, turn_store, turn_views, over}
 
 pub left_of : (x : ℤ) (m : ℕ) → turns_left x (x +ℤ pos m) ≡ m
@@ -62,7 +62,7 @@ no_none z h k = let e : Some z ≡ None = sym (in_range z h) ∙ k in absurd cc
 module _ (i v : ℕ) (a n : Exp) (p t : Proc) (r : Rest) (vs : List View) (e : Store) where
   abbrev Counted : Option ℤ → Option ℤ → Type 0
   Counted o w =
-      Did (Fresh (COUNT i v a n p)) e i action.Quiet (so_far (count_phase o w) t Stopped Stopped Stopped Stopped (turn_of v (count_begun (count_phase o w) ((p, r) ∷ vs)))) (count_store v (count_phase o w) e)
+      Did (Fresh (COUNT i v a n p)) e i action.Quiet (so_far (count_phase o w) i t impossible impossible impossible impossible (turn_of v (count_begun (count_phase o w) ((p, r) ∷ vs)))) (count_store v (count_phase o w) e)
 
   pub counted : (o w : Option ℤ) → value_of a e ≡ o → value_of n e ≡ w → ((x : ℤ) → o ≡ Some x → mag x < 2 ^ 63) → Counted o w
   counted None w g h l = ([], faults_count (λ b m c. let z : None ≡ Some b = sym g ∙ c.0 in absurd cc))
@@ -71,7 +71,7 @@ module _ (i v : ℕ) (a n : Exp) (p t : Proc) (r : Rest) (vs : List View) (e : S
   counted (Some x) (Some (pos zero)) g h l = ([], does_count_none (g, h, λ k m. absurd (omega arith)))
   counted (Some x) (Some (pos (suc m))) g h l = by (within (x +ℤ pos m)) refl
     where
-      by : (o : Option ℤ) → within (x +ℤ pos m) ≡ o → Did (Fresh (COUNT i v a n p)) e i action.Quiet (so_far (last_phase x o) t Stopped Stopped Stopped Stopped (turn_of v (count_begun (last_phase x o) ((p, r) ∷ vs)))) (count_store v (last_phase x o) e)
+      by : (o : Option ℤ) → within (x +ℤ pos m) ≡ o → Did (Fresh (COUNT i v a n p)) e i action.Quiet (so_far (last_phase x o) i t impossible impossible impossible impossible (turn_of v (count_begun (last_phase x o) ((p, r) ∷ vs)))) (count_store v (last_phase x o) e)
       by None q = (
         [],
         faults_count (λ b k c.
@@ -88,29 +88,29 @@ module _ (i v : ℕ) (a n : Exp) (p t : Proc) (r : Rest) (vs : List View) (e : S
           ([], subst (λ k. Step (Fresh (COUNT i v a n p)) e i action.Quiet [] (Turns (begin p) v (x +ℤ pos 1) k p) (set e v (datum.Int x))) (sym many) (does_count c))
 
 -- a turn that did something
-turn_went : (w : Proc) (q : Rest) (v : ℕ) (x y : ℤ) (p : Proc) (d : Bool) (vs : List View) (f : Store) → is_done q ≡ d →
-    (turns_on q v (x +ℤ pos 1) (turns_left x y) p ≡ so_far (turn_phase d x y) w Stopped Stopped Stopped Stopped (turn_of v (turn_views d x y ((p, q) ∷ vs)))) × (index_on q v (x +ℤ pos 1) (turns_left x y) f ≡ turn_store d v x y f)
-turn_went w Done v x y p true vs f h = by (int_lt x y) refl
+turn_went : (i : ℕ) (w : Proc) (q : Rest) (v : ℕ) (x y : ℤ) (p : Proc) (d : Bool) (vs : List View) (f : Store) → is_done q ≡ d →
+    (turns_on q v (x +ℤ pos 1) (turns_left x y) p ≡ so_far (turn_phase d x y) i w impossible impossible impossible impossible (turn_of v (turn_views d x y ((p, q) ∷ vs)))) × (index_on q v (x +ℤ pos 1) (turns_left x y) f ≡ turn_store d v x y f)
+turn_went i w Done v x y p true vs f h = by (int_lt x y) refl
   where
-    by : (b : Bool) → int_lt x y ≡ b → (turns_on Done v (x +ℤ pos 1) (turns_left x y) p ≡ so_far (if b then phase.Turning (x +ℤ pos 1) y else phase.Ended) w Stopped Stopped Stopped Stopped (turn_of v (if b then begun_at 0 ((p, Done) ∷ vs) else ((p, Done) ∷ vs))))
+    by : (b : Bool) → int_lt x y ≡ b → (turns_on Done v (x +ℤ pos 1) (turns_left x y) p ≡ so_far (if b then phase.Turning (x +ℤ pos 1) y else phase.Ended) i w impossible impossible impossible impossible (turn_of v (if b then begun_at 0 ((p, Done) ∷ vs) else ((p, Done) ∷ vs))))
         × (index_on Done v (x +ℤ pos 1) (turns_left x y) f ≡ (if b then set f v (datum.Int (x +ℤ pos 1)) else f))
     by true k = rw (one_more x y k) (refl, refl)
     by false k = rw (no_more x y k) (refl, refl)
-turn_went w Done v x y p false vs f h = absurd (let z : true ≡ false = h in cc)
-turn_went w Stopped v x y p true vs f h = absurd (let z : false ≡ true = h in cc)
-turn_went w Stopped v x y p false vs f h = (refl, refl)
-turn_went w (Fresh t) v x y p true vs f h = absurd (let z : false ≡ true = h in cc)
-turn_went w (Fresh t) v x y p false vs f h = (refl, refl)
-turn_went w (Finishing i c) v x y p true vs f h = absurd (let z : false ≡ true = h in cc)
-turn_went w (Finishing i c) v x y p false vs f h = (refl, refl)
-turn_went w (Getting i c u) v x y p true vs f h = absurd (let z : false ≡ true = h in cc)
-turn_went w (Getting i c u) v x y p false vs f h = (refl, refl)
-turn_went w (Then t ps) v x y p true vs f h = absurd (let z : false ≡ true = h in cc)
-turn_went w (Then t ps) v x y p false vs f h = (refl, refl)
-turn_went w (Turns t s b n u) v x y p true vs f h = absurd (let z : false ≡ true = h in cc)
-turn_went w (Turns t s b n u) v x y p false vs f h = (refl, refl)
-turn_went w (Beside m t u) v x y p true vs f h = absurd (let z : false ≡ true = h in cc)
-turn_went w (Beside m t u) v x y p false vs f h = (refl, refl)
+turn_went i w Done v x y p false vs f h = absurd (let z : true ≡ false = h in cc)
+turn_went i w (Stopped s) v x y p true vs f h = absurd (let z : false ≡ true = h in cc)
+turn_went i w (Stopped s) v x y p false vs f h = (refl, refl)
+turn_went i w (Fresh t) v x y p true vs f h = absurd (let z : false ≡ true = h in cc)
+turn_went i w (Fresh t) v x y p false vs f h = (refl, refl)
+turn_went i w (Finishing s c) v x y p true vs f h = absurd (let z : false ≡ true = h in cc)
+turn_went i w (Finishing s c) v x y p false vs f h = (refl, refl)
+turn_went i w (Getting s c u) v x y p true vs f h = absurd (let z : false ≡ true = h in cc)
+turn_went i w (Getting s c u) v x y p false vs f h = (refl, refl)
+turn_went i w (Then t ps) v x y p true vs f h = absurd (let z : false ≡ true = h in cc)
+turn_went i w (Then t ps) v x y p false vs f h = (refl, refl)
+turn_went i w (Turns t s b n u) v x y p true vs f h = absurd (let z : false ≡ true = h in cc)
+turn_went i w (Turns t s b n u) v x y p false vs f h = (refl, refl)
+turn_went i w (Beside m t u) v x y p true vs f h = absurd (let z : false ≡ true = h in cc)
+turn_went i w (Beside m t u) v x y p false vs f h = (refl, refl)
 
 itself : (v : ℕ) → just v v ≡ true
 itself v = grind (arith, nat_tests)
@@ -132,14 +132,14 @@ pub count_did : (k : Kind) (i v : ℕ) (a n : Expr) (vs ws : List View) (e f : S
 count_did k i v a n vs ws e f ph h l p r w g s d at able =
     subst (λ (j : Kind). Did (Fresh (plan_at j i vs)) e s d (rest_at j ph i ws at) f) (sym h) (on vs l w (subst (λ (j : Kind). Able (Fresh (plan_at j i vs)) e s d) h able))
   where
-    on : (vs : List View) → (length vs ≡ 0 → ⊥) → ws ≡ count_begun ph vs → Able (Fresh (count_of i v (exp a) (exp n) vs)) e s d → Did (Fresh (count_of i v (exp a) (exp n) vs)) e s d (so_far ph (count_of i v (exp a) (exp n) ws) Stopped Stopped Stopped Stopped (turn_of v ws)) f
+    on : (vs : List View) → (length vs ≡ 0 → ⊥) → ws ≡ count_begun ph vs → Able (Fresh (count_of i v (exp a) (exp n) vs)) e s d → Did (Fresh (count_of i v (exp a) (exp n) vs)) e s d (so_far ph i (count_of i v (exp a) (exp n) ws) impossible impossible impossible impossible (turn_of v ws)) f
     on [] l w able = absurd (l refl)
     on (u ∷ vs) l w able =
         let t = count_of i v (exp a) (exp n) ws in
         let made = counted i v (exp a) (exp n) u.0 t u.1 vs e (value_of (exp a) e) (value_of (exp n) e) refl refl r in
-        let by_phase = subst (λ o. Did (Fresh (COUNT i v (exp a) (exp n) u.0)) e i action.Quiet (so_far o t Stopped Stopped Stopped Stopped (turn_of v (count_begun o (u ∷ vs)))) (count_store v o e)) (sym p) made in
-        let by_parts = subst (λ us. Did (Fresh (COUNT i v (exp a) (exp n) u.0)) e i action.Quiet (so_far ph t Stopped Stopped Stopped Stopped (turn_of v us)) (count_store v ph e)) (sym w) by_phase in
-        let by_store = subst (λ y. Did (Fresh (COUNT i v (exp a) (exp n) u.0)) e i action.Quiet (so_far ph t Stopped Stopped Stopped Stopped (turn_of v ws)) y) (sym g) by_parts in
+        let by_phase = subst (λ o. Did (Fresh (COUNT i v (exp a) (exp n) u.0)) e i action.Quiet (so_far o i t impossible impossible impossible impossible (turn_of v (count_begun o (u ∷ vs)))) (count_store v o e)) (sym p) made in
+        let by_parts = subst (λ us. Did (Fresh (COUNT i v (exp a) (exp n) u.0)) e i action.Quiet (so_far ph i t impossible impossible impossible impossible (turn_of v us)) (count_store v ph e)) (sym w) by_phase in
+        let by_store = subst (λ y. Did (Fresh (COUNT i v (exp a) (exp n) u.0)) e i action.Quiet (so_far ph i t impossible impossible impossible impossible (turn_of v ws)) y) (sym g) by_parts in
         same i v (exp a) (exp n) u.0 e s d able _ f by_store
 
 turn_able : (v : ℕ) (vs : List View) (x y : ℤ) (e : Store) (s : ℕ) (d : SiteAction) → Able (turn_of v vs x y) e s d → Able (part_rest (slice_get vs 0)) e s d
@@ -173,15 +173,15 @@ turning_did k i v a n vs ws us x y e f g s d ph h l same st p w z at =
     subst (λ (j : Kind). Did (turning j vs x y) e s d (rest_at j ph i us at) g) (sym h) (on vs ws l same st p w z)
   where
     on : (vs ws : List View) → (length vs ≡ 0 → ⊥) → plans ws ≡ plans vs → Did (part_rest (slice_get vs 0)) e s d (part_rest (slice_get ws 0)) f → ph ≡ turn_phase (part_done (slice_get ws 0)) x y → us ≡ turn_views (part_done (slice_get ws 0)) x y ws → g ≡ turn_store (part_done (slice_get ws 0)) v x y f →
-        Did (turn_of v vs x y) e s d (so_far ph (count_of i v (exp a) (exp n) us) Stopped Stopped Stopped Stopped (turn_of v us)) g
+        Did (turn_of v vs x y) e s d (so_far ph i (count_of i v (exp a) (exp n) us) impossible impossible impossible impossible (turn_of v us)) g
     on [] ws l same st p w z = absurd (l refl)
     on (b ∷ vs) [] l same st p w z = absurd cc
     on (b ∷ vs) (c ∷ ws) l same (ks, st) p w z =
         let t = count_of i v (exp a) (exp n) us in
         let e1 : c.0 ≡ b.0 = plan_first c.0 b.0 (plans ws) (plans vs) same in
-        let m = turn_went t c.1 v x y c.0 (is_done c.1) ws f refl in
-        let by_rest : so_far ph t Stopped Stopped Stopped Stopped (turn_of v us) ≡ turns_on c.1 v (x +ℤ pos 1) (turns_left x y) b.0 =
-        ap (λ us. so_far ph t Stopped Stopped Stopped Stopped (turn_of v us)) w ∙ ap (λ o. so_far o t Stopped Stopped Stopped Stopped (turn_of v (turn_views (is_done c.1) x y (c ∷ ws)))) p ∙ sym m.0 ∙ ap (turns_on c.1 v (x +ℤ pos 1) (turns_left x y)) e1 in
+        let m = turn_went i t c.1 v x y c.0 (is_done c.1) ws f refl in
+        let by_rest : so_far ph i t impossible impossible impossible impossible (turn_of v us) ≡ turns_on c.1 v (x +ℤ pos 1) (turns_left x y) b.0 =
+        ap (λ us. so_far ph i t impossible impossible impossible impossible (turn_of v us)) w ∙ ap (λ o. so_far o i t impossible impossible impossible impossible (turn_of v (turn_views (is_done c.1) x y (c ∷ ws)))) p ∙ sym m.0 ∙ ap (turns_on c.1 v (x +ℤ pos 1) (turns_left x y)) e1 in
         let by_store : g ≡ index_on c.1 v (x +ℤ pos 1) (turns_left x y) f = z ∙ sym m.1 in
         subst (λ r. Did (turn_of v (b ∷ vs) x y) e s d r g) (sym by_rest) (subst (λ q. Did (turn_of v (b ∷ vs) x y) e s d (turns_on c.1 v (x +ℤ pos 1) (turns_left x y) b.0) q) (sym by_store) (ks, in_turns st))
 
@@ -205,7 +205,7 @@ counted_is (kind.If bs) h = absurd (let z : false ≡ true = h in cc)
 counted_is (kind.While b) h = absurd (let z : false ≡ true = h in cc)
 counted_is (kind.Alt gs) h = absurd (let z : false ≡ true = h in cc)
 
-turns_not : (k : Kind) (vs : List View) (x y : ℤ) → is_counted k ≡ false → turning k vs x y ≡ Stopped
+turns_not : (k : Kind) (vs : List View) (x y : ℤ) → is_counted k ≡ false → turning k vs x y ≡ impossible
 turns_not (kind.Count v a n) vs x y h = absurd (let z : true ≡ false = h in cc)
 turns_not kind.Skip vs x y h = refl
 turns_not kind.Stop vs x y h = refl

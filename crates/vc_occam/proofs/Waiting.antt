@@ -62,16 +62,16 @@ beside_waits : (mine : Set) (r q : Rest) → waiting (beside_on mine r q) ≡ wa
 beside_waits mine Done Done = refl
 beside_waits mine r q = refl
 
-branch_waits : (o : Option Bool) (r q : Rest) → waiting r ≡ [] → waiting q ≡ [] → waiting (branch_on o r q) ≡ []
-branch_waits (Some true) r q h k = h
-branch_waits (Some false) r q h k = k
-branch_waits None r q h k = refl
+branch_waits : (s : ℕ) (o : Option Bool) (r q : Rest) → waiting r ≡ [] → waiting q ≡ [] → waiting (branch_on s o r q) ≡ []
+branch_waits s (Some true) r q h k = h
+branch_waits s (Some false) r q h k = k
+branch_waits s None r q h k = refl
 
-chosen_waits : (bs : Branches) (e : Store) → waiting (chosen bs e) ≡ []
-chosen_waits no_branches e = refl
-chosen_waits (branch b p bs) e = branch_waits (holds b e) (begin p) (chosen bs e) (begin_waits p) (chosen_waits bs e)
+chosen_waits : (s : ℕ) (bs : Branches) (e : Store) → waiting (chosen s bs e) ≡ []
+chosen_waits s no_branches e = refl
+chosen_waits s (branch b p bs) e = branch_waits s (holds b e) (begin p) (chosen s bs e) (begin_waits p) (chosen_waits s bs e)
 
--- what a site's deed changes of what waits
+-- what the action of a site changes of what waits
 abbrev pub Changed : ℕ → SiteAction → List Comm → List Waiting → List Waiting → Type 0
 Changed i (action.Offer c) m old new = Inserted (output i c) old new
 Changed i (action.Want c None) m old new = Inserted (input i c) old new
@@ -112,7 +112,7 @@ step_waits does_empty_par = refl
 step_waits (does_assign h) = refl
 step_waits (faults_assign h) = refl
 step_waits (faults_out h) = refl
-step_waits (does_if {bs = bs} {e = e}) = chosen_waits bs e
+step_waits (does_if {s = s} {bs = bs} {e = e}) = chosen_waits s bs e
 step_waits (does_turn {p = p} h) = begin_waits p
 step_waits (does_leave h) = refl
 step_waits (faults_while h) = refl

@@ -31,7 +31,7 @@ blocked_fresh p e = []
 -- each part that does not go on by itself, in order of site
 abbrev pub blocked : Rest → Store → List Blocked
 blocked Done e = []
-blocked Stopped e = at.Stopped ∷ []
+blocked (Stopped i) e = at.Stopped i ∷ []
 blocked (Fresh p) e = blocked_fresh p e
 blocked (Finishing i c) e = at.Output i c ∷ []
 blocked (Getting i c v) e = at.Input i c ∷ []

@@ -18,13 +18,15 @@ use Rattle.vc_occam.specs.declared.look.Look.{Look}
 use Rattle.vc_occam.specs.declared.look.Look.TheVariants as look
 use Rattle.vc_process.specs.declared.datum.Datum.{Datum}
 use Rattle.vc_occam.specs.declared.site_action.SiteAction.{SiteAction}
+use Rattle.vc_occam.specs.declared.site_action.SiteAction.TheVariants as action
+use Rattle.vc_occam.specs.declared.site_step.SiteStep.{SiteStep}
 use Rattle.vc_occam.specs.declared.waits.Waits.{Waits}
 use Rattle.vc_occam.specs.declared.waits.Waits.TheVariants as waits
 use Rattle.vc_process.specs.Values.{Store, assigned_bytes, holds}
 use Rattle.vc_occam.specs.Traces.{Comm}
 use Rattle.vc_process.specs.Usage.{changes}
 use Rattle.vc_process.specs.Syntax.{Exp, Test, Constant, Proc, SKIP, STOP, Assign, Output, Input, StopChan, SEQ, PAR, IF, WHILE, COUNT, ALT, Procs, no_parts, part, Branches, no_branches, branch, Guards, no_guards, guard}
-use Rattle.vc_process.specs.Terms.{exp, given, as_test}
+use Rattle.vc_process.specs.Terms.{exp, given, as_test, store}
 use Rattle.vc_occam.specs.Remains.{Rest, Done, Stopped, Fresh, Finishing, Getting, Then, Turns, Beside, and_then, then_on, beside_on, begin, Step}
 use Rattle.vc_occam.specs.Sites.{InPreorder, site}
 use Rattle.vc_occam.specs.States.{Waiting, output, input, waiting, output_at}
@@ -119,6 +121,10 @@ abbrev pub place_of : Kind → ℕ → ℕ
 place_of (kind.While b) k = 0
 place_of p k = k
 
+-- a frame that cannot be: its kind and its phase do not go together
+abbrev pub impossible : Rest
+impossible = Stopped 0
+
 -- a process that goes on, at its k-th part
 abbrev pub going_at : Kind → ℕ → List View → ℕ → Rest
 going_at (kind.Send c a) i vs k = Finishing i c
@@ -127,7 +133,7 @@ going_at kind.Seq i vs k = follow (slice_get vs k) (behind kind.Seq i vs k)
 going_at (kind.If bs) i vs k = follow (slice_get vs k) (behind (kind.If bs) i vs k)
 going_at (kind.While b) i vs k = follow (slice_get vs 0) (behind (kind.While b) i vs k)
 going_at (kind.Alt gs) i vs k = follow (slice_get vs k) (behind (kind.Alt gs) i vs k)
-going_at p i vs k = Stopped
+going_at p i vs k = impossible
 
 -- the turns behind the one with index x, where y is the last index
 abbrev pub turns_left : ℤ → ℤ → ℕ
@@ -135,12 +141,12 @@ turns_left x y = if int_lt x y then mag (y -ℤ x) else 0
 
 -- a replicated SEQ in the turn with index x, where y is the last index
 abbrev pub turn_of : ℕ → List View → ℤ → ℤ → Rest
-turn_of v [] x y = Stopped
+turn_of v [] x y = impossible
 turn_of v (w ∷ vs) x y = Turns w.1 v (x +ℤ pos 1) (turns_left x y) w.0
 
 abbrev pub turning : Kind → List View → ℤ → ℤ → Rest
 turning (kind.Count v a n) vs x y = turn_of v vs x y
-turning k vs x y = Stopped
+turning k vs x y = impossible
 
 -- parts that go on side by side
 abbrev pub besides : List View → Rest
@@ -150,7 +156,7 @@ besides (v ∷ vs) = beside_on (changes v.0) v.1 (besides vs)
 -- a PAR whose parts go on
 abbrev pub together : Kind → List View → Rest
 together kind.Par vs = besides vs
-together k vs = Stopped
+together k vs = impossible
 
 -- nothing comes behind the k-th of so many parts
 abbrev pub is_last : Kind → ℕ → ℕ → Bool
@@ -161,18 +167,18 @@ is_last p k n = false
 
 -- an ALT that took its k-th guard and waits for the message; then the guard's body begins
 abbrev pub chosen_at : ℕ → Option Gate → Option View → Rest
-chosen_at i None v = Stopped
+chosen_at i None v = impossible
 chosen_at i (Some g) v = Then (Getting i g.chan g.var) (part (part_plan v) no_parts)
 
 abbrev pub awaiting : Kind → ℕ → List View → ℕ → Rest
 awaiting (kind.Alt gs) i vs k = chosen_at i (slice_get (map gate gs.inputs) k) (slice_get vs k)
-awaiting p i vs k = Stopped
+awaiting p i vs k = impossible
 
 -- an output or input that has begun and hasn't ended; no other process goes on so
 abbrev pub as_begun : Proc → Rest
 as_begun (Output i c a) = Finishing i c
 as_begun (Input i c v) = Getting i c v
-as_begun p = Stopped
+as_begun p = impossible
 
 -- the k-th part has begun and hasn't ended
 abbrev pub resting_at : ℕ → List View → List View
@@ -182,21 +188,21 @@ resting_at (suc k) (v ∷ vs) = v ∷ resting_at k vs
 
 -- a process that goes on at such a part
 abbrev pub resting : Kind → ℕ → List View → ℕ → Rest
-resting k i vs at = if goes_on_at_one_part k then going_at k i (resting_at (place_of k at) vs) at else Stopped
+resting k i vs at = if goes_on_at_one_part k then going_at k i (resting_at (place_of k at) vs) at else impossible
 
 -- what remains of a process that is so far
-abbrev pub so_far : Phase → Proc → Rest → Rest → Rest → Rest → (ℤ → ℤ → Rest) → Rest
-so_far phase.Ready p r z w b t = Fresh p
-so_far phase.Waiting p r z w b t = r
-so_far phase.Resting p r z w b t = z
-so_far (phase.Turning x y) p r z w b t = t x y
-so_far phase.Together p r z w b t = b
-so_far phase.Chosen p r z w b t = w
-so_far phase.Ended p r z w b t = Done
-so_far phase.Stuck p r z w b t = Stopped
+abbrev pub so_far : Phase → ℕ → Proc → Rest → Rest → Rest → Rest → (ℤ → ℤ → Rest) → Rest
+so_far phase.Ready i p r z w b t = Fresh p
+so_far phase.Waiting i p r z w b t = r
+so_far phase.Resting i p r z w b t = z
+so_far (phase.Turning x y) i p r z w b t = t x y
+so_far phase.Together i p r z w b t = b
+so_far phase.Chosen i p r z w b t = w
+so_far phase.Ended i p r z w b t = Done
+so_far phase.Stuck i p r z w b t = Stopped i
 
 abbrev pub rest_at : Kind → Phase → ℕ → List View → ℕ → Rest
-rest_at k ph i vs at = so_far ph (plan_at k i vs) (going_at k i vs at) (resting k i vs at) (awaiting k i vs at) (together k vs) (turning k vs)
+rest_at k ph i vs at = so_far ph i (plan_at k i vs) (going_at k i vs at) (resting k i vs at) (awaiting k i vs at) (together k vs) (turning k vs)
 
 -- one frame, with what its parts stand for in their place
 unfoldable pub view_step : Frame-F View → View
@@ -210,7 +216,7 @@ views = map view
 
 abbrev pub is_done : Rest → Bool
 is_done Done = true
-is_done Stopped = false
+is_done (Stopped i) = false
 is_done (Fresh p) = false
 is_done (Finishing i c) = false
 is_done (Getting i c v) = false
@@ -303,6 +309,22 @@ Able r e i d = (ks : List Comm) × (q : Rest) × (f : Store) × Step r e i d ks 
 -- a site did this
 abbrev pub Did : Rest → Store → ℕ → SiteAction → Rest → Store → Type 0
 Did r e i d q f = (ks : List Comm) × Step r e i d ks q f
+
+-- the step of a site can be made, where the variables hold this
+abbrev pub CanStep : Rest → List Datum → SiteStep → Type 0
+CanStep r vars step = Able r (store vars) step.site step.action
+
+-- it was made
+abbrev pub HasStepped : Rest → List Datum → SiteStep → Rest → List Datum → Type 0
+HasStepped r vars step q vars' = Did r (store vars) step.site step.action q (store vars')
+
+-- where it assigns bytes, it brings them
+abbrev pub BringsBytes : Rest → List Datum → SiteStep → Type 0
+BringsBytes r vars step = step.action ≡ action.Quiet → step.assigned ≡ assigned_at step.site r (store vars)
+
+-- a process as it is written, which has not begun
+abbrev pub fresh_at : Kind → ℕ → List View → Rest
+fresh_at k i vs = Fresh (plan_at k i vs)
 
 -- the variables that a process changes are among so many
 abbrev pub HasVariables : Proc → ℕ → Type 0

@@ -12,7 +12,7 @@ use Rattle.vc_process.specs.Usage.{Set, nothing, just, ◌∪◌, changes}
 -- the channels on which what remains outputs, and those on which it inputs, has a guard or stops
 abbrev pub outputs_rest : Rest → Set
 outputs_rest Done = nothing
-outputs_rest Stopped = nothing
+outputs_rest (Stopped i) = nothing
 outputs_rest (Fresh p) = outputs p
 outputs_rest (Finishing s c) = just c
 outputs_rest (Getting s c v) = nothing
@@ -22,7 +22,7 @@ outputs_rest (Beside mine r q) = outputs_rest r ∪ outputs_rest q
 
 abbrev pub inputs_rest : Rest → Set
 inputs_rest Done = nothing
-inputs_rest Stopped = nothing
+inputs_rest (Stopped i) = nothing
 inputs_rest (Fresh p) = inputs p
 inputs_rest (Finishing s c) = nothing
 inputs_rest (Getting s c v) = just c
@@ -40,7 +40,7 @@ pub record UseApart (mine : Set) (r q : Rest) : Type 0 where
 -- is yet to begin is lawful
 abbrev pub UsesLawfully : Rest → Type 0
 UsesLawfully Done = Unit {0}
-UsesLawfully Stopped = Unit {0}
+UsesLawfully (Stopped i) = Unit {0}
 UsesLawfully (Fresh p) = Lawfully p
 UsesLawfully (Finishing s c) = Unit {0}
 UsesLawfully (Getting s c v) = Unit {0}

@@ -84,7 +84,7 @@ mutual
 
 pub OwnSites-prop : (r : Rest) → IsProp (OwnSites r)
 OwnSites-prop Done = Unit-prop
-OwnSites-prop Stopped = Unit-prop
+OwnSites-prop (Stopped i) = Unit-prop
 OwnSites-prop (Fresh p) = HasOwnSites-prop p
 OwnSites-prop (Finishing s c) = Unit-prop
 OwnSites-prop (Getting s c v) = Unit-prop
@@ -130,7 +130,7 @@ UseApart-prop mine r q = Prim.hlevel logic.props
 
 pub UsesLawfully-prop : (r : Rest) → IsProp (UsesLawfully r)
 UsesLawfully-prop Done = Unit-prop
-UsesLawfully-prop Stopped = Unit-prop
+UsesLawfully-prop (Stopped i) = Unit-prop
 UsesLawfully-prop (Fresh p) = Lawfully-prop p
 UsesLawfully-prop (Finishing s c) = Unit-prop
 UsesLawfully-prop (Getting s c v) = Unit-prop

@@ -14,8 +14,8 @@ use Rattle.vc_occam.specs.Traces.{Comm, Out, Fin, In, Stp, End, Open, Ended, set
 pub data Rest : Type 0 where
   -- nothing
   Done : Rest
-  -- nothing goes on here
-  Stopped : Rest
+  -- nothing goes on here: a fault, or an IF without a true condition, has stopped this site
+  Stopped : (site : ℕ) → Rest
   -- this process, which hasn't begun
   Fresh : Proc → Rest
   -- the end of an output
@@ -57,7 +57,7 @@ abbrev mutual
 pub data TraceRest : Rest → Store → List Comm → End → Type 0 where
   done : {e : Store} → TraceRest Done e [] (Ended e)
   fresh : {p : Proc} {e : Store} {t : List Comm} {x : End} → Trace p e t x → TraceRest (Fresh p) e t x
-  stopped : {e : Store} → TraceRest Stopped e [] Open
+  stopped : {s : ℕ} {e : Store} → TraceRest (Stopped s) e [] Open
   finishing_cut : {s c : ℕ} {e : Store} → TraceRest (Finishing s c) e [] Open
   finishing : {s c : ℕ} {e : Store} → TraceRest (Finishing s c) e (Fin c ∷ []) (Ended e)
   getting_cut : {s c v : ℕ} {e : Store} → TraceRest (Getting s c v) e [] Open
@@ -90,15 +90,15 @@ abbrev pub beside_on : Set → Rest → Rest → Rest
 beside_on mine Done Done = Done
 beside_on mine r q = Beside mine r q
 
--- the first branch whose condition is true begins; there is none, or a condition before it is a fault
-abbrev pub branch_on : Option Bool → Rest → Rest → Rest
-branch_on (Some true) r q = r
-branch_on (Some false) r q = q
-branch_on None r q = Stopped
+-- the first branch of the IF at this site whose condition is true begins; there is none, or a condition before it is a fault
+abbrev pub branch_on : (site : ℕ) → Option Bool → Rest → Rest → Rest
+branch_on s (Some true) r q = r
+branch_on s (Some false) r q = q
+branch_on s None r q = Stopped s
 
-abbrev pub chosen : Branches → Store → Rest
-chosen no_branches e = Stopped
-chosen (branch b p bs) e = branch_on (holds b e) (begin p) (chosen bs e)
+abbrev pub chosen : (site : ℕ) → Branches → Store → Rest
+chosen s no_branches e = Stopped s
+chosen s (branch b p bs) e = branch_on s (holds b e) (begin p) (chosen s bs e)
 
 -- the guard at this place
 pub data GuardAt : Guards → ℕ → Test → ℕ → ℕ → Proc → Type 0 where
@@ -111,15 +111,15 @@ pub data Step : Rest → Store → (site : ℕ) → SiteAction → List Comm →
   does_empty_seq : {s : ℕ} {e : Store} → Step (Fresh (SEQ s no_parts)) e s Quiet [] Done e
   does_empty_par : {s : ℕ} {e : Store} → Step (Fresh (PAR s no_parts)) e s Quiet [] Done e
   does_assign : {s v : ℕ} {a : Given} {e : Store} {x : Datum} → datum_of a e ≡ Some x → Step (Fresh (Assign s v a)) e s Quiet [] Done (set e v x)
-  faults_assign : {s v : ℕ} {a : Given} {e : Store} → datum_of a e ≡ None → Step (Fresh (Assign s v a)) e s Quiet [] Stopped e
-  faults_out : {s c : ℕ} {a : Given} {e : Store} → datum_of a e ≡ None → Step (Fresh (Output s c a)) e s Quiet [] Stopped e
-  does_if : {s : ℕ} {bs : Branches} {e : Store} → Step (Fresh (IF s bs)) e s Quiet [] (chosen bs e) e
+  faults_assign : {s v : ℕ} {a : Given} {e : Store} → datum_of a e ≡ None → Step (Fresh (Assign s v a)) e s Quiet [] (Stopped s) e
+  faults_out : {s c : ℕ} {a : Given} {e : Store} → datum_of a e ≡ None → Step (Fresh (Output s c a)) e s Quiet [] (Stopped s) e
+  does_if : {s : ℕ} {bs : Branches} {e : Store} → Step (Fresh (IF s bs)) e s Quiet [] (chosen s bs e) e
   does_turn : {s : ℕ} {b : Test} {p : Proc} {e : Store} → holds b e ≡ Some true → Step (Fresh (WHILE s b p)) e s Quiet [] (Then (begin p) (part (WHILE s b p) no_parts)) e
   does_leave : {s : ℕ} {b : Test} {p : Proc} {e : Store} → holds b e ≡ Some false → Step (Fresh (WHILE s b p)) e s Quiet [] Done e
-  faults_while : {s : ℕ} {b : Test} {p : Proc} {e : Store} → holds b e ≡ None → Step (Fresh (WHILE s b p)) e s Quiet [] Stopped e
+  faults_while : {s : ℕ} {b : Test} {p : Proc} {e : Store} → holds b e ≡ None → Step (Fresh (WHILE s b p)) e s Quiet [] (Stopped s) e
   does_count : {s v : ℕ} {a k : Exp} {p : Proc} {e : Store} {b : ℤ} {n : ℕ} → Counts (value_of a e) (value_of k e) b (suc n) → Step (Fresh (COUNT s v a k p)) e s Quiet [] (Turns (begin p) v (b +ℤ pos 1) n p) (set e v (datum.Int b))
   does_count_none : {s v : ℕ} {a k : Exp} {p : Proc} {e : Store} {b : ℤ} → Counts (value_of a e) (value_of k e) b 0 → Step (Fresh (COUNT s v a k p)) e s Quiet [] Done e
-  faults_count : {s v : ℕ} {a k : Exp} {p : Proc} {e : Store} → ((b : ℤ) (n : ℕ) → Counts (value_of a e) (value_of k e) b n → ⊥) → Step (Fresh (COUNT s v a k p)) e s Quiet [] Stopped e
+  faults_count : {s v : ℕ} {a k : Exp} {p : Proc} {e : Store} → ((b : ℤ) (n : ℕ) → Counts (value_of a e) (value_of k e) b n → ⊥) → Step (Fresh (COUNT s v a k p)) e s Quiet [] (Stopped s) e
   does_offer : {s c : ℕ} {a : Given} {e : Store} {x : Datum} → datum_of a e ≡ Some x → Step (Fresh (Output s c a)) e s (Offer c) (Out c x ∷ []) (Finishing s c) e
   does_finish : {s c : ℕ} {e : Store} → Step (Finishing s c) e s Finish (Fin c ∷ []) Done e
   does_input : {s c v : ℕ} {e : Store} {m : List ℕ} {x : Datum} → x ≡ received (e v) m → Step (Fresh (Input s c v)) e s (Want c (Some m)) (In c x ∷ []) Done (set e v x)
@@ -137,7 +137,7 @@ pub data Step : Rest → Store → (site : ℕ) → SiteAction → List Comm →
 -- the variables that what remains may change, and those that it may use
 abbrev pub changes_rest : Rest → Set
 changes_rest Done = nothing
-changes_rest Stopped = nothing
+changes_rest (Stopped s) = nothing
 changes_rest (Fresh p) = changes p
 changes_rest (Finishing s c) = nothing
 changes_rest (Getting s c v) = just v
@@ -147,7 +147,7 @@ changes_rest (Beside mine r q) = changes_rest r ∪ changes_rest q
 
 abbrev pub uses_rest : Rest → Set
 uses_rest Done = nothing
-uses_rest Stopped = nothing
+uses_rest (Stopped s) = nothing
 uses_rest (Fresh p) = uses p
 uses_rest (Finishing s c) = nothing
 uses_rest (Getting s c v) = just v

@@ -118,7 +118,7 @@ abbrev mutual
 -- the sites of what remains
 abbrev pub sites_rest : Rest → Set
 sites_rest Done = nothing
-sites_rest Stopped = nothing
+sites_rest (Stopped i) = nothing
 sites_rest (Fresh p) = sites p
 sites_rest (Finishing s c) = just s
 sites_rest (Getting s c v) = just s
@@ -129,7 +129,7 @@ sites_rest (Beside mine r q) = sites_rest r ∪ sites_rest q
 -- side by side, what remains has no site in common
 abbrev pub OwnSites : Rest → Type 0
 OwnSites Done = Unit {0}
-OwnSites Stopped = Unit {0}
+OwnSites (Stopped i) = Unit {0}
 OwnSites (Fresh p) = HasOwnSites p
 OwnSites (Finishing s c) = Unit {0}
 OwnSites (Getting s c v) = Unit {0}

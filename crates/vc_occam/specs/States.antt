@@ -25,7 +25,7 @@ pub record State : Type 0 where
 abbrev pub StepsTo : State → ℕ → SiteAction → List Comm → State → Type 0
 StepsTo s i d ks s' = Step s.rest s.store i d ks s'.rest s'.store
 
--- the receiver's deed where an output meets it
+-- the receiver's action where an output meets it
 abbrev pub meeting : Option ℕ → ℕ → List ℕ → SiteAction
 meeting None c m = action.Want c (Some m)
 meeting (Some k) c m = action.Choose k c (Some m)

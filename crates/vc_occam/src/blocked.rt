@@ -40,5 +40,8 @@ pub enum Blocked {
         site: u16,
     },
     /// A fault, or an IF without a true condition, where the part has stopped.
-    Stopped,
+    Stopped {
+        /// The site of the process that the fault or the IF has stopped.
+        site: u16,
+    },
 }

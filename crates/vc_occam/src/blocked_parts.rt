@@ -1,6 +1,7 @@
 //! What the parts of a process are at that do not go on by themselves.
 ghost use Rattle.std.specs.Prelude.{◌∷◌, [], ℤ, ℕ, List, Option, map, slice_get};
 ghost use Rattle.vc_occam.specs.Blocking.{Adds, blocked as blocked_at, blocked_fresh, open_gate, open_gates, or_closed};
+ghost use Rattle.vc_occam.specs.declared.blocked.Blocked.TheVariants.{Stopped};
 ghost use Rattle.vc_occam.specs.Frames.{View, as_begun, awaiting, besides, chosen_at, count_of, guards_of, part_rest, plan_at, resting_at, turn_of, view, views, while_of};
 ghost use Rattle.vc_occam.specs.Gates.{gate};
 ghost use Rattle.vc_process.specs.Syntax.{ALT, Exp, Output, Test};
@@ -38,23 +39,23 @@ impl Frame {
                 if self.kind.goes_on_at_one_part() {
                     return push_part_begun(found, &self.parts, self.kind.place(self.at));
                 }
-                push_one(found, Blocked::Stopped)
+                push_impossible(found)
             }
             Phase::Turning { .. } => {
                 if self.kind.is_counted() {
                     return push_turn(found, &self.parts, vars);
                 }
-                push_one(found, Blocked::Stopped)
+                push_impossible(found)
             }
             Phase::Together => {
                 if self.kind.is_par() {
                     return push_parts(found, &self.parts, vars);
                 }
-                push_one(found, Blocked::Stopped)
+                push_impossible(found)
             }
             Phase::Chosen => push_chosen(found, self.site, &self.kind, self.at),
             Phase::Ended => Ok(()),
-            Phase::Stuck => push_one(found, Blocked::Stopped),
+            Phase::Stuck => push_one(found, Blocked::Stopped { site: self.site }),
         }
     }
 
@@ -130,6 +131,14 @@ fn push_one(found: &mut Items<Blocked>, one: Blocked) -> Result<(), Memory>
 {
     found.push(one)?;
     Ok(())
+}
+
+/// Adds what stands for a frame whose kind and phase do not go together, of which no process consists that runs.
+#[inline(always)]
+fn push_impossible(found: &mut Items<Blocked>) -> Result<(), Memory>
+    ensures { Adds found.old found.new (Stopped 0 ∷ []) result }
+{
+    push_one(found, Blocked::Stopped { site: 0 })
 }
 
 /// Adds what a process is at that hasn't begun.
@@ -219,7 +228,7 @@ fn push_begun(
     match kind {
         Kind::Send { chan, .. } => push_one(found, Blocked::Output { site, chan: *chan }),
         Kind::Receive { chan, .. } => push_one(found, Blocked::Input { site, chan: *chan }),
-        _ => push_one(found, Blocked::Stopped),
+        _ => push_impossible(found),
     }
 }
 
@@ -260,7 +269,7 @@ fn push_turn(found: &mut Items<Blocked>, parts: &Vec<Frame>, vars: &[Datum]) -> 
         (blocked_at (turn_of v (views parts.now.items) x y) (store vars.now)) result }
 {
     if parts.is_empty() {
-        return push_one(found, Blocked::Stopped);
+        return push_impossible(found);
     }
     parts[0].push_blocked(found, vars)
 }
@@ -284,7 +293,7 @@ fn push_chosen(found: &mut Items<Blocked>, site: u16, kind: &Kind, at: usize) ->
 {
     match kind {
         Kind::Alt { guards } => push_taken(found, site, guards.inputs.as_slice(), at),
-        _ => push_one(found, Blocked::Stopped),
+        _ => push_impossible(found),
     }
 }
 
@@ -303,5 +312,5 @@ fn push_taken(
         let chan = inputs[at].chan;
         return push_one(found, Blocked::Input { site, chan });
     }
-    push_one(found, Blocked::Stopped)
+    push_impossible(found)
 }

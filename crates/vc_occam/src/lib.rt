@@ -17,8 +17,8 @@
 //!
 //! A process runs as a tree of frames (`frame.rt`), one for each process that is written, with how far it is and at which part;
 //! what it stands for is said in `specs/Frames`. A part begins, ends and begins again by a change of its frame, without memory;
-//! what a site does is handed down to it by one borrow (`site_deed.rt`), and each frame answers on the way up what it came to
-//! (`went.rt`): that it has ended, or what it begins with next. The parts of a PAR all go on, and since sites are in preorder the
+//! what a site does is handed down to it by one borrow (`site_step.rt`), and each frame answers on the way up what it came to
+//! (`outcome.rt`): that it has ended, or what it begins with next. The parts of a PAR all go on, and since sites are in preorder the
 //! one that has a site is found by halving. Who waits on a channel is looked for first at the site that last began on it
 //! (`hints.rt`). A part of a PAR that is at an output or input that waits rests, and is passed over at once where moves are listed;
 //! where all that a process begins with is nothing or one step without a communication, that is kept and nothing is listed

@@ -4,11 +4,10 @@ ghost use Rattle.vc_occam.specs.declared.begins.Begins.TheVariants.{Other};
 ghost use Rattle.vc_occam.specs.declared.site_action.SiteAction.TheVariants.{Quiet};
 ghost use Rattle.vc_occam.specs.declared.frame.Frame.TheViews.{out-Frame};
 ghost use Rattle.vc_occam.specs.declared.phase.Phase.TheVariants.{Ready, Resting, Waiting};
-ghost use Rattle.vc_occam.specs.Frames.{Able, ChangedAt, Did, HasVariables, PartHasVariables, PartInPreorder, View, as_begun, assigned_at, awaiting, is_choice, is_counted, part_done, goes_within, gone_on, part_assigned, place_of, begun_at, BeginsWith, behind, chosen_from, going_at, besides, goes_on_at_one_part, is_done, is_last, part_rest, plan_at, plans, rest_at, resting_at, together, view, views};
+ghost use Rattle.vc_occam.specs.Frames.{Able, BringsBytes, CanStep, ChangedAt, Did, HasStepped, HasVariables, PartHasVariables, PartInPreorder, View, as_begun, awaiting, is_choice, is_counted, part_done, goes_within, gone_on, part_assigned, place_of, begun_at, BeginsWith, behind, chosen_from, fresh_at, going_at, besides, goes_on_at_one_part, is_done, is_last, part_rest, plan_at, plans, rest_at, resting_at, together, view, views};
 ghost use Rattle.vc_occam.specs.Gates.{gate};
 ghost use Rattle.vc_occam.specs.Nexts.{GateHasVariable, branch_next, choice_begun, choice_next, choice_store, count_begun, count_phase, count_store, gate_begun, gate_next, gate_store, over, seq_begun, seq_next, stuck_next, TurnEnded, turn_begun, turn_next, turn_phase, turn_store, turn_views};
 ghost use Rattle.vc_occam.specs.declared.site_action.SiteAction.{SiteAction};
-ghost use Rattle.vc_occam.specs.Remains.{Fresh};
 ghost use Rattle.vc_occam.specs.Sites.{InPreorder};
 ghost use Rattle.vc_process.specs.Terms.{exp, store, as_test};
 ghost use Rattle.vc_process.specs.Values.{value_of};
@@ -46,38 +45,35 @@ struct Progress {
 pub(crate) fn begin_alone(
     own: u16,
     kind: &Kind,
-    doing: &mut SiteStep,
+    step: &mut SiteStep,
     vars: &mut Vec<Datum>,
 ) -> Phase
     requires alone { goes_on_at_one_part kind.now ≡ false }
     requires uncounted { is_counted kind.now ≡ false }
-    requires assigned { doing.old.action ≡ Quiet →
-        doing.old.assigned ≡
-        assigned_at doing.old.site (Fresh (plan_at kind.now own [])) (store vars.old.items) }
+    requires assigned { BringsBytes (fresh_at kind.now own []) vars.old.items step.old }
     requires variables { HasVariables (plan_at kind.now own []) (length vars.old.items) }
     ensures did { (vs : List View) (at : ℕ) →
-        Able (Fresh (plan_at kind.now own vs)) (store vars.old.items) doing.old.site
-        doing.old.action →
-        Did (Fresh (plan_at kind.now own vs)) (store vars.old.items) doing.old.site doing.old.action
-        (rest_at kind.now result own vs at) (store vars.new.items) }
+        CanStep (fresh_at kind.now own vs) vars.old.items step.old →
+        HasStepped (fresh_at kind.now own vs) vars.old.items step.old
+        (rest_at kind.now result own vs at) vars.new.items }
     ensures length { length vars.new.items ≡ length vars.old.items }
 {
     match kind {
         Kind::Skip => Phase::Ended,
         Kind::Par => Phase::Ended,
         Kind::Stopch { .. } => Phase::Ended,
-        Kind::Set { var, value } => match value.assigned(&mut doing.assigned, vars) {
+        Kind::Set { var, value } => match value.assigned(&mut step.assigned, vars) {
             Some(datum) => {
                 set_variable(vars, *var, datum);
                 Phase::Ended
             }
             None => Phase::Stuck,
         },
-        Kind::Send { .. } => match &doing.action {
+        Kind::Send { .. } => match &step.action {
             SiteAction::Offer { .. } => Phase::Waiting,
             _ => Phase::Stuck,
         },
-        Kind::Receive { var, .. } => match doing.take_deed() {
+        Kind::Receive { var, .. } => match step.take_action() {
             SiteAction::Want { message, .. } => match message {
                 Some(message) => {
                     put(vars, *var, message);
@@ -92,18 +88,18 @@ pub(crate) fn begin_alone(
 }
 
 /// A process that goes on at none of its parts goes on where it waits.
-pub(crate) fn end_alone(own: u16, kind: &Kind, doing: &mut SiteStep, vars: &mut Vec<Datum>) -> Phase
+pub(crate) fn end_alone(own: u16, kind: &Kind, step: &mut SiteStep, vars: &mut Vec<Datum>) -> Phase
     requires alone { goes_on_at_one_part kind.now ≡ false }
     requires variables { HasVariables (plan_at kind.now own []) (length vars.old.items) }
     ensures did { (vs : List View) (at : ℕ) →
-        Able (going_at kind.now own vs at) (store vars.old.items) doing.old.site doing.old.action →
-        Did (going_at kind.now own vs at) (store vars.old.items) doing.old.site doing.old.action
-        (rest_at kind.now result own vs at) (store vars.new.items) }
+        CanStep (going_at kind.now own vs at) vars.old.items step.old →
+        HasStepped (going_at kind.now own vs at) vars.old.items step.old
+        (rest_at kind.now result own vs at) vars.new.items }
     ensures length { length vars.new.items ≡ length vars.old.items }
 {
     match kind {
         Kind::Send { .. } => Phase::Ended,
-        Kind::Receive { var, .. } => match doing.take_deed() {
+        Kind::Receive { var, .. } => match step.take_action() {
             SiteAction::Message(message) => {
                 put(vars, *var, message);
                 Phase::Ended
@@ -221,8 +217,8 @@ fn begin_composed(own: u16, kind: &Kind, parts: &mut Vec<Frame>, vars: &[Datum])
     requires composed { goes_on_at_one_part kind.now ≡ true }
     requires unchosen { is_choice kind.now ≡ false }
     ensures did { (site : ℕ) (action : SiteAction) →
-        Able (Fresh (plan_at kind.now own (views parts.old.items))) (store vars.now) site action →
-        Did (Fresh (plan_at kind.now own (views parts.old.items))) (store vars.now) site action
+        Able (fresh_at kind.now own (views parts.old.items)) (store vars.now) site action →
+        Did (fresh_at kind.now own (views parts.old.items)) (store vars.now) site action
         (rest_at kind.now result.phase own (views parts.new.items) result.at) (store vars.now) }
     ensures plans { plans (views parts.new.items) ≡ plans (views parts.old.items) }
 {
@@ -254,9 +250,8 @@ fn begin_count(own: u16, kind: &Kind, parts: &mut Vec<Frame>, vars: &mut Vec<Dat
     requires variables { HasVariables (plan_at kind.now own (views parts.old.items))
         (length vars.old.items) }
     ensures did { (site : ℕ) (action : SiteAction) (at : ℕ) →
-        Able (Fresh (plan_at kind.now own (views parts.old.items))) (store vars.old.items) site
-        action →
-        Did (Fresh (plan_at kind.now own (views parts.old.items))) (store vars.old.items) site action
+        Able (fresh_at kind.now own (views parts.old.items)) (store vars.old.items) site action →
+        Did (fresh_at kind.now own (views parts.old.items)) (store vars.old.items) site action
         (rest_at kind.now result own (views parts.new.items) at) (store vars.new.items) }
     ensures plans { plans (views parts.new.items) ≡ plans (views parts.old.items) }
     ensures length { length vars.new.items ≡ length vars.old.items }
@@ -311,23 +306,20 @@ fn begin_choice(
     own: u16,
     kind: &Kind,
     parts: &mut Vec<Frame>,
-    doing: &mut SiteStep,
+    step: &mut SiteStep,
     vars: &mut Vec<Datum>,
 ) -> Next
     requires choice { is_choice kind.now ≡ true }
     requires variables { HasVariables (plan_at kind.now own (views parts.old.items))
         (length vars.old.items) }
-    ensures did { (site : ℕ) →
-        Able (Fresh (plan_at kind.now own (views parts.old.items))) (store vars.old.items) site
-        doing.old.action →
-        Did (Fresh (plan_at kind.now own (views parts.old.items))) (store vars.old.items) site
-        doing.old.action (rest_at kind.now result.phase own (views parts.new.items) result.at)
-        (store vars.new.items) }
+    ensures did { CanStep (fresh_at kind.now own (views parts.old.items)) vars.old.items step.old →
+        HasStepped (fresh_at kind.now own (views parts.old.items)) vars.old.items step.old
+        (rest_at kind.now result.phase own (views parts.new.items) result.at) vars.new.items }
     ensures plans { plans (views parts.new.items) ≡ plans (views parts.old.items) }
     ensures length { length vars.new.items ≡ length vars.old.items }
 {
     match kind {
-        Kind::Alt { guards } => match doing.take_deed() {
+        Kind::Alt { guards } => match step.take_action() {
             SiteAction::Choose { place, message, .. } => {
                 let place = usize::from(place);
                 take_guard(guards.inputs.as_slice(), place, message, parts, vars)
@@ -344,22 +336,20 @@ fn end_choice(
     kind: &Kind,
     at: usize,
     parts: &mut Vec<Frame>,
-    doing: &mut SiteStep,
+    step: &mut SiteStep,
     vars: &mut Vec<Datum>,
 ) -> Phase
     requires variables { HasVariables (plan_at kind.now own (views parts.old.items))
         (length vars.old.items) }
-    ensures did { (site : ℕ) →
-        Able (awaiting kind.now own (views parts.old.items) at) (store vars.old.items) site
-        doing.old.action →
-        Did (awaiting kind.now own (views parts.old.items) at) (store vars.old.items) site
-        doing.old.action (rest_at kind.now result own (views parts.new.items) at)
-        (store vars.new.items) }
+    ensures did { CanStep (awaiting kind.now own (views parts.old.items) at) vars.old.items
+        step.old →
+        HasStepped (awaiting kind.now own (views parts.old.items) at) vars.old.items step.old
+        (rest_at kind.now result own (views parts.new.items) at) vars.new.items }
     ensures plans { plans (views parts.new.items) ≡ plans (views parts.old.items) }
     ensures length { length vars.new.items ≡ length vars.old.items }
 {
     match kind {
-        Kind::Alt { guards } => match doing.take_deed() {
+        Kind::Alt { guards } => match step.take_action() {
             SiteAction::Message(message) => {
                 take_guard(guards.inputs.as_slice(), at, Some(message), parts, vars).phase
             }
@@ -434,53 +424,47 @@ fn take_input(
 impl Frame {
     /// A site does something; answers whether nothing remains then, and what it begins with.
     #[cycle(go)]
-    pub(crate) fn go(&mut self, doing: &mut SiteStep, vars: &mut Vec<Datum>) -> Outcome
-        requires able { Able (view self.old).1 (store vars.old.items) doing.old.site
-            doing.old.action }
-        requires assigned { doing.old.action ≡ Quiet →
-            doing.old.assigned ≡
-            assigned_at doing.old.site (view self.old).1 (store vars.old.items) }
+    pub(crate) fn go(&mut self, step: &mut SiteStep, vars: &mut Vec<Datum>) -> Outcome
+        requires able { CanStep (view self.old).1 vars.old.items step.old }
+        requires assigned { BringsBytes (view self.old).1 vars.old.items step.old }
         requires variables { HasVariables (view self.old).0 (length vars.old.items) }
         requires in_preorder { InPreorder (view self.old).0 }
-        ensures did { Did (view self.old).1 (store vars.old.items) doing.old.site doing.old.action
-            (view self.new).1 (store vars.new.items) }
+        ensures did { HasStepped (view self.old).1 vars.old.items step.old (view self.new).1
+            vars.new.items }
         ensures plan { (view self.new).0 ≡ (view self.old).0 }
         ensures ended { has_ended result ≡ is_done (view self.new).1 }
         ensures begins { BeginsWith (then_begins result) (view self.new).1 }
         ensures length { length vars.new.items ≡ length vars.old.items }
     {
         if let Phase::Ready = self.phase {
-            return self.begin_itself(doing, vars);
+            return self.begin_itself(step, vars);
         }
         if let Phase::Waiting = self.phase {
             if self.kind.goes_on_at_one_part() {
                 let place = self.kind.place(self.at);
-                let outcome = go_within(place, &mut self.parts, doing, vars);
+                let outcome = go_within(place, &mut self.parts, step, vars);
                 if outcome.has_ended() {
                     return self.leave_part();
                 }
                 return outcome;
             }
         }
-        self.go_apart(doing, vars)
+        self.go_apart(step, vars)
     }
 
     /// The same, where it is at no part alone: its own site goes on, or a turn, or a PAR's parts.
     #[cycle(go)]
     #[inline(never)]
-    fn go_apart(&mut self, doing: &mut SiteStep, vars: &mut Vec<Datum>) -> Outcome
+    fn go_apart(&mut self, step: &mut SiteStep, vars: &mut Vec<Datum>) -> Outcome
         requires begun { (out-Frame self.old).phase ≡ Ready → ⊥ }
         requires apart { (out-Frame self.old).phase ≡ Waiting →
             goes_on_at_one_part (out-Frame self.old).kind ≡ false }
-        requires able { Able (view self.old).1 (store vars.old.items) doing.old.site
-            doing.old.action }
-        requires assigned { doing.old.action ≡ Quiet →
-            doing.old.assigned ≡
-            assigned_at doing.old.site (view self.old).1 (store vars.old.items) }
+        requires able { CanStep (view self.old).1 vars.old.items step.old }
+        requires assigned { BringsBytes (view self.old).1 vars.old.items step.old }
         requires variables { HasVariables (view self.old).0 (length vars.old.items) }
         requires in_preorder { InPreorder (view self.old).0 }
-        ensures did { Did (view self.old).1 (store vars.old.items) doing.old.site doing.old.action
-            (view self.new).1 (store vars.new.items) }
+        ensures did { HasStepped (view self.old).1 vars.old.items step.old (view self.new).1
+            vars.new.items }
         ensures plan { (view self.new).0 ≡ (view self.old).0 }
         ensures ended { has_ended result ≡ is_done (view self.new).1 }
         ensures begins { BeginsWith (then_begins result) (view self.new).1 }
@@ -488,10 +472,10 @@ impl Frame {
     {
         match self.phase {
             Phase::Ready => unreachable!(),
-            Phase::Waiting | Phase::Chosen => self.go_itself(doing, vars),
+            Phase::Waiting | Phase::Chosen => self.go_itself(step, vars),
             Phase::Turning { .. } => {
                 if self.kind.is_counted() {
-                    let outcome = go_within(0, &mut self.parts, doing, vars);
+                    let outcome = go_within(0, &mut self.parts, step, vars);
                     if outcome.has_ended() {
                         return self.leave_turn(vars);
                     }
@@ -501,8 +485,8 @@ impl Frame {
             }
             Phase::Together => {
                 if self.kind.is_par() {
-                    let place = part_with(&self.parts, doing.site);
-                    let outcome = go_within(place, &mut self.parts, doing, vars);
+                    let place = part_with(&self.parts, step.site);
+                    let outcome = go_within(place, &mut self.parts, step, vars);
                     settle_part(place, &mut self.parts);
                     if outcome.has_ended() {
                         return self.went_beside();
@@ -511,7 +495,7 @@ impl Frame {
                 }
                 Outcome::Other
             }
-            Phase::Resting => self.go_resting(doing, vars),
+            Phase::Resting => self.go_resting(step, vars),
             Phase::Ended => Outcome::Ended,
             Phase::Stuck => Outcome::Other,
         }
@@ -519,13 +503,12 @@ impl Frame {
 
     /// The output or input that rests goes on; answers whether nothing remains then, and what is begun with.
     #[inline(always)]
-    fn go_resting(&mut self, doing: &mut SiteStep, vars: &mut Vec<Datum>) -> Outcome
+    fn go_resting(&mut self, step: &mut SiteStep, vars: &mut Vec<Datum>) -> Outcome
         requires resting { (out-Frame self.old).phase ≡ Resting }
-        requires able { Able (view self.old).1 (store vars.old.items) doing.old.site
-            doing.old.action }
+        requires able { CanStep (view self.old).1 vars.old.items step.old }
         requires variables { HasVariables (view self.old).0 (length vars.old.items) }
-        ensures did { Did (view self.old).1 (store vars.old.items) doing.old.site doing.old.action
-            (view self.new).1 (store vars.new.items) }
+        ensures did { HasStepped (view self.old).1 vars.old.items step.old (view self.new).1
+            vars.new.items }
         ensures plan { (view self.new).0 ≡ (view self.old).0 }
         ensures ended { has_ended result ≡ is_done (view self.new).1 }
         ensures begins { BeginsWith (then_begins result) (view self.new).1 }
@@ -535,7 +518,7 @@ impl Frame {
             return Outcome::Other;
         }
         let place = self.kind.place(self.at);
-        let ended = end_part(place, &mut self.parts, doing, vars);
+        let ended = end_part(place, &mut self.parts, step, vars);
         self.phase = Phase::Waiting;
         if ended {
             return self.leave_part();
@@ -545,22 +528,19 @@ impl Frame {
 
     /// A frame that hasn't begun begins with what its site does; answers whether nothing remains then, and what it begins with.
     #[inline(never)]
-    fn begin_itself(&mut self, doing: &mut SiteStep, vars: &mut Vec<Datum>) -> Outcome
+    fn begin_itself(&mut self, step: &mut SiteStep, vars: &mut Vec<Datum>) -> Outcome
         requires ready { (out-Frame self.old).phase ≡ Ready }
-        requires able { Able (view self.old).1 (store vars.old.items) doing.old.site
-            doing.old.action }
-        requires assigned { doing.old.action ≡ Quiet →
-            doing.old.assigned ≡
-            assigned_at doing.old.site (view self.old).1 (store vars.old.items) }
+        requires able { CanStep (view self.old).1 vars.old.items step.old }
+        requires assigned { BringsBytes (view self.old).1 vars.old.items step.old }
         requires variables { HasVariables (view self.old).0 (length vars.old.items) }
-        ensures did { Did (view self.old).1 (store vars.old.items) doing.old.site doing.old.action
-            (view self.new).1 (store vars.new.items) }
+        ensures did { HasStepped (view self.old).1 vars.old.items step.old (view self.new).1
+            vars.new.items }
         ensures plan { (view self.new).0 ≡ (view self.old).0 }
         ensures ended { has_ended result ≡ is_done (view self.new).1 }
         ensures begins { BeginsWith (then_begins result) (view self.new).1 }
         ensures length { length vars.new.items ≡ length vars.old.items }
     {
-        let next = begin(self.site, &self.kind, self.at, &mut self.parts, doing, vars);
+        let next = begin(self.site, &self.kind, self.at, &mut self.parts, step, vars);
         let progress = reached(&self.kind, next, &self.parts);
         self.phase = progress.next.phase;
         self.at = progress.next.at;
@@ -569,14 +549,13 @@ impl Frame {
 
     /// The frame's own site, which has begun, goes on; answers whether nothing remains then, and what it begins with.
     #[inline(never)]
-    fn go_itself(&mut self, doing: &mut SiteStep, vars: &mut Vec<Datum>) -> Outcome
+    fn go_itself(&mut self, step: &mut SiteStep, vars: &mut Vec<Datum>) -> Outcome
         requires begun { (out-Frame self.old).phase ≡ Ready → ⊥ }
         requires itself { goes_within (out-Frame self.old).kind (out-Frame self.old).phase ≡ false }
-        requires able { Able (view self.old).1 (store vars.old.items) doing.old.site
-            doing.old.action }
+        requires able { CanStep (view self.old).1 vars.old.items step.old }
         requires variables { HasVariables (view self.old).0 (length vars.old.items) }
-        ensures did { Did (view self.old).1 (store vars.old.items) doing.old.site doing.old.action
-            (view self.new).1 (store vars.new.items) }
+        ensures did { HasStepped (view self.old).1 vars.old.items step.old (view self.new).1
+            vars.new.items }
         ensures plan { (view self.new).0 ≡ (view self.old).0 }
         ensures ended { has_ended result ≡ is_done (view self.new).1 }
         ensures begins { BeginsWith (then_begins result) (view self.new).1 }
@@ -588,7 +567,7 @@ impl Frame {
             self.phase,
             self.at,
             &mut self.parts,
-            doing,
+            step,
             vars,
         );
         self.phase = progress.next.phase;
@@ -610,12 +589,11 @@ impl Frame {
 
     /// An output or input that has begun and hasn't ended goes on; answers whether nothing remains then.
     #[inline(never)]
-    fn end_begun(&mut self, doing: &mut SiteStep, vars: &mut Vec<Datum>) -> bool
-        requires able { Able (as_begun (view self.old).0) (store vars.old.items) doing.old.site
-            doing.old.action }
+    fn end_begun(&mut self, step: &mut SiteStep, vars: &mut Vec<Datum>) -> bool
+        requires able { CanStep (as_begun (view self.old).0) vars.old.items step.old }
         requires variables { HasVariables (view self.old).0 (length vars.old.items) }
-        ensures did { Did (as_begun (view self.old).0) (store vars.old.items) doing.old.site
-            doing.old.action (view self.new).1 (store vars.new.items) }
+        ensures did { HasStepped (as_begun (view self.old).0) vars.old.items step.old
+            (view self.new).1 vars.new.items }
         ensures plan { (view self.new).0 ≡ (view self.old).0 }
         ensures ended { result ≡ is_done (view self.new).1 }
         ensures length { length vars.new.items ≡ length vars.old.items }
@@ -623,7 +601,7 @@ impl Frame {
         if self.kind.goes_on_at_one_part() {
             return false;
         }
-        let phase = end_alone(self.site, &self.kind, doing, vars);
+        let phase = end_alone(self.site, &self.kind, step, vars);
         self.phase = phase;
         self.ended()
     }
@@ -723,26 +701,21 @@ fn begin(
     kind: &Kind,
     at: usize,
     parts: &mut Vec<Frame>,
-    doing: &mut SiteStep,
+    step: &mut SiteStep,
     vars: &mut Vec<Datum>,
 ) -> Next
-    requires assigned { doing.old.action ≡ Quiet →
-        doing.old.assigned ≡
-        assigned_at doing.old.site (Fresh (plan_at kind.now own (views parts.old.items)))
-        (store vars.old.items) }
+    requires assigned { BringsBytes (fresh_at kind.now own (views parts.old.items)) vars.old.items
+        step.old }
     requires variables { HasVariables (plan_at kind.now own (views parts.old.items))
         (length vars.old.items) }
-    ensures did { Able (Fresh (plan_at kind.now own (views parts.old.items))) (store vars.old.items)
-        doing.old.site doing.old.action →
-        Did (Fresh (plan_at kind.now own (views parts.old.items))) (store vars.old.items)
-        doing.old.site doing.old.action
-        (rest_at kind.now result.phase own (views parts.new.items) result.at)
-        (store vars.new.items) }
+    ensures did { CanStep (fresh_at kind.now own (views parts.old.items)) vars.old.items step.old →
+        HasStepped (fresh_at kind.now own (views parts.old.items)) vars.old.items step.old
+        (rest_at kind.now result.phase own (views parts.new.items) result.at) vars.new.items }
     ensures plans { plans (views parts.new.items) ≡ plans (views parts.old.items) }
     ensures length { length vars.new.items ≡ length vars.old.items }
 {
     if kind.is_choice() {
-        return begin_choice(own, kind, parts, doing, vars);
+        return begin_choice(own, kind, parts, step, vars);
     }
     if kind.goes_on_at_one_part() {
         return begin_composed(own, kind, parts, vars);
@@ -751,7 +724,7 @@ fn begin(
         let phase = begin_count(own, kind, parts, vars);
         return Next { phase, at };
     }
-    let phase = begin_alone(own, kind, doing, vars);
+    let phase = begin_alone(own, kind, step, vars);
     Next { phase, at }
 }
 
@@ -762,19 +735,18 @@ fn go_on(
     phase: Phase,
     at: usize,
     parts: &mut Vec<Frame>,
-    doing: &mut SiteStep,
+    step: &mut SiteStep,
     vars: &mut Vec<Datum>,
 ) -> Progress
     requires begun { phase ≡ Ready → ⊥ }
     requires itself { goes_within kind.now phase ≡ false }
-    requires able { Able (rest_at kind.now phase own (views parts.old.items) at)
-        (store vars.old.items) doing.old.site doing.old.action }
+    requires able { CanStep (rest_at kind.now phase own (views parts.old.items) at) vars.old.items
+        step.old }
     requires variables { HasVariables (plan_at kind.now own (views parts.old.items))
         (length vars.old.items) }
-    ensures did { Did (rest_at kind.now phase own (views parts.old.items) at) (store vars.old.items)
-        doing.old.site doing.old.action
-        (rest_at kind.now result.next.phase own (views parts.new.items) result.next.at)
-        (store vars.new.items) }
+    ensures did { HasStepped (rest_at kind.now phase own (views parts.old.items) at) vars.old.items
+        step.old (rest_at kind.now result.next.phase own (views parts.new.items) result.next.at)
+        vars.new.items }
     ensures plans { plans (views parts.new.items) ≡ plans (views parts.old.items) }
     ensures ended { result.ended ≡
         is_done (rest_at kind.now result.next.phase own (views parts.new.items) result.next.at) }
@@ -782,11 +754,11 @@ fn go_on(
 {
     match phase {
         Phase::Waiting => {
-            let phase = end_alone(own, kind, doing, vars);
+            let phase = end_alone(own, kind, step, vars);
             reached(kind, Next { phase, at }, parts)
         }
         Phase::Chosen => {
-            let phase = end_choice(own, kind, at, parts, doing, vars);
+            let phase = end_choice(own, kind, at, parts, step, vars);
             reached(kind, Next { phase, at }, parts)
         }
         _ => reached(kind, Next { phase, at }, parts),
@@ -809,21 +781,20 @@ fn reached(kind: &Kind, next: Next, parts: &Vec<Frame>) -> Progress
 fn go_within(
     at: usize,
     parts: &mut Vec<Frame>,
-    doing: &mut SiteStep,
+    step: &mut SiteStep,
     vars: &mut Vec<Datum>,
 ) -> Outcome
-    requires able { Able (part_rest (slice_get (views parts.old.items) at)) (store vars.old.items)
-        doing.old.site doing.old.action }
-    requires assigned { doing.old.action ≡ Quiet →
-        doing.old.assigned ≡
-        part_assigned doing.old.site (slice_get (views parts.old.items) at)
+    requires able { CanStep (part_rest (slice_get (views parts.old.items) at)) vars.old.items
+        step.old }
+    requires assigned { step.old.action ≡ Quiet →
+        step.old.assigned ≡
+        part_assigned step.old.site (slice_get (views parts.old.items) at)
         (store vars.old.items) }
     requires variables { PartHasVariables (slice_get (views parts.old.items) at)
         (length vars.old.items) }
     requires in_preorder { PartInPreorder (slice_get (views parts.old.items) at) }
-    ensures did { Did (part_rest (slice_get (views parts.old.items) at)) (store vars.old.items)
-        doing.old.site doing.old.action (part_rest (slice_get (views parts.new.items) at))
-        (store vars.new.items) }
+    ensures did { HasStepped (part_rest (slice_get (views parts.old.items) at)) vars.old.items
+        step.old (part_rest (slice_get (views parts.new.items) at)) vars.new.items }
     ensures plans { plans (views parts.new.items) ≡ plans (views parts.old.items) }
     ensures others { ChangedAt at (views parts.old.items) (views parts.new.items) }
     ensures ended { has_ended result ≡ part_done (slice_get (views parts.new.items) at) }
@@ -832,26 +803,25 @@ fn go_within(
     ensures length { length vars.new.items ≡ length vars.old.items }
 {
     if at < parts.len() {
-        return parts[at].go(doing, vars);
+        return parts[at].go(step, vars);
     }
     Outcome::Other
 }
 
 /// The part at a place goes on, which is an output or input that has begun.
-fn end_part(at: usize, parts: &mut Vec<Frame>, doing: &mut SiteStep, vars: &mut Vec<Datum>) -> bool
-    requires able { Able (part_rest (slice_get (resting_at at (views parts.old.items)) at))
-        (store vars.old.items) doing.old.site doing.old.action }
+fn end_part(at: usize, parts: &mut Vec<Frame>, step: &mut SiteStep, vars: &mut Vec<Datum>) -> bool
+    requires able { CanStep (part_rest (slice_get (resting_at at (views parts.old.items)) at))
+        vars.old.items step.old }
     requires variables { PartHasVariables (slice_get (views parts.old.items) at)
         (length vars.old.items) }
-    ensures did { Did (part_rest (slice_get (resting_at at (views parts.old.items)) at))
-        (store vars.old.items) doing.old.site doing.old.action
-        (part_rest (slice_get (views parts.new.items) at)) (store vars.new.items) }
+    ensures did { HasStepped (part_rest (slice_get (resting_at at (views parts.old.items)) at))
+        vars.old.items step.old (part_rest (slice_get (views parts.new.items) at)) vars.new.items }
     ensures plans { plans (views parts.new.items) ≡ plans (views parts.old.items) }
     ensures ended { result ≡ part_done (slice_get (views parts.new.items) at) }
     ensures length { length vars.new.items ≡ length vars.old.items }
 {
     if at < parts.len() {
-        return parts[at].end_begun(doing, vars);
+        return parts[at].end_begun(step, vars);
     }
     false
 }

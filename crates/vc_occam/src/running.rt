@@ -358,12 +358,12 @@ impl Running {
             (doing made.now (sent_by (state self.old) made.now) answer) (state self.new) }
         ensures inside { inner_channels self.new ≡ inner_channels self.old }
     {
-        let mut doing = SiteStep {
+        let mut step = SiteStep {
             site: site_of(made),
             action: action_for(made, answer),
             assigned: None,
         };
-        let outcome = self.frame.go(&mut doing, &mut self.vars);
+        let outcome = self.frame.go(&mut step, &mut self.vars);
         self.begins = outcome.begins();
         self.hints.note(made);
     }
@@ -408,12 +408,12 @@ impl Running {
         ensures made { Acts (state self.old) (Rests site) (state self.new) }
         ensures inside { inner_channels self.new ≡ inner_channels self.old }
     {
-        let mut doing = SiteStep {
+        let mut step = SiteStep {
             site,
             action: SiteAction::Quiet,
             assigned,
         };
-        let outcome = self.frame.go(&mut doing, &mut self.vars);
+        let outcome = self.frame.go(&mut step, &mut self.vars);
         self.begins = outcome.begins();
     }
 
@@ -424,12 +424,12 @@ impl Running {
         ensures resumed { Resumes (state self.old) site message (state self.new) }
         ensures inside { inner_channels self.new ≡ inner_channels self.old }
     {
-        let mut doing = SiteStep {
+        let mut step = SiteStep {
             site,
             action: action_on(message),
             assigned: None,
         };
-        let outcome = self.frame.go(&mut doing, &mut self.vars);
+        let outcome = self.frame.go(&mut step, &mut self.vars);
         self.begins = outcome.begins();
     }
 

@@ -14,8 +14,8 @@ pub(crate) struct SiteStep {
 }
 
 impl SiteStep {
-    /// Takes the deed out.
-    pub(crate) fn take_deed(&mut self) -> SiteAction
+    /// Takes the action out.
+    pub(crate) fn take_action(&mut self) -> SiteAction
         ensures { result ≡ self.old.action }
     {
         mem::replace(&mut self.action, SiteAction::Quiet)

@@ -28,7 +28,7 @@ so_left mine r q e (at.Guard i c) (k, h) = (k, Contains-append_left (own r e) (o
 so_left mine r q e (at.Closed i) h = tt
 so_left mine r q e (at.Undecided i) h = tt
 so_left mine r q e (at.Stop i) h = tt
-so_left mine r q e at.Stopped h = tt
+so_left mine r q e (at.Stopped i) h = tt
 
 so_right : (mine : Set) (r q : Rest) (e : Store) (b : Blocked) → IsSo q e b → IsSo (Beside mine r q) e b
 so_right mine r q e (at.Output i c) (inl h) = inl (Contains-append_right (own r e) (own q e) (move.Offer i c) h)
@@ -39,7 +39,7 @@ so_right mine r q e (at.Guard i c) (k, h) = (k, Contains-append_right (own r e) 
 so_right mine r q e (at.Closed i) h = tt
 so_right mine r q e (at.Undecided i) h = tt
 so_right mine r q e (at.Stop i) h = tt
-so_right mine r q e at.Stopped h = tt
+so_right mine r q e (at.Stopped i) h = tt
 
 -- a guard that is shown is open, and can be taken
 abbrev IsOpenAt : ℕ → ℕ → Guards → Store → Blocked → Type 0
@@ -91,7 +91,7 @@ fresh_so (COUNT i v a n p) e b h = absurd (none b h)
 
 so : (r : Rest) (e : Store) (b : Blocked) → Contains (blocked r e) b → IsSo r e b
 so Done e b h = absurd (none b h)
-so Stopped e b h = subst (IsSo Stopped e) (only at.Stopped b h) tt
+so (Stopped i) e b h = subst (IsSo (Stopped i) e) (only (at.Stopped i) b h) tt
 so (Fresh p) e b h = fresh_so p e b h
 so (Finishing i c) e b h = subst (IsSo (Finishing i c) e) (only (at.Output i c) b h) (inr (at_front (output i c) []))
 so (Getting i c v) e b h = subst (IsSo (Getting i c v) e) (only (at.Input i c) b h) (inr (at_front (input i c) []))
@@ -104,7 +104,7 @@ so (Then r ps) e b h = so_then r ps e b (so r e b h)
     so_then r ps e (at.Closed i) h = tt
     so_then r ps e (at.Undecided i) h = tt
     so_then r ps e (at.Stop i) h = tt
-    so_then r ps e at.Stopped h = tt
+    so_then r ps e (at.Stopped i) h = tt
 so (Turns r v x n p) e b h = so_turns r v x n p e b (so r e b h)
   where
     so_turns : (r : Rest) (v : ℕ) (x : _) (n : ℕ) (p : Proc) (e : Store) (b : Blocked) → IsSo r e b → IsSo (Turns r v x n p) e b
@@ -114,7 +114,7 @@ so (Turns r v x n p) e b h = so_turns r v x n p e b (so r e b h)
     so_turns r v x n p e (at.Closed i) h = tt
     so_turns r v x n p e (at.Undecided i) h = tt
     so_turns r v x n p e (at.Stop i) h = tt
-    so_turns r v x n p e at.Stopped h = tt
+    so_turns r v x n p e (at.Stopped i) h = tt
 so (Beside mine r q) e b h = elim (Contains-append_cases (blocked r e) (blocked q e) b h) [
   | inl k ↦ so_left mine r q e b (so r e b k)
   | inr k ↦ so_right mine r q e b (so q e b k)

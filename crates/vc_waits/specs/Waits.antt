@@ -42,7 +42,7 @@ blocked_word (Input i c) = codes "waits"
 blocked_word (Guard i c) = codes "waits"
 blocked_word b = codes "stopped"
 
--- where a part of a process is, and what it waits for or how it has stopped; the site of a fault is not kept
+-- where a part of a process is, and what it waits for or how it has stopped
 unfoldable pub blocked_text : Plan → NetworkState → List (List ℕ) → Blocked → List ℕ
 blocked_text plan x paths (Output i c) = site_text paths i (codes " for the end of its output on ") ++ channel_text plan x c
 blocked_text plan x paths (Input i c) = site_text paths i (codes " for an input on ") ++ channel_text plan x c
@@ -50,7 +50,7 @@ blocked_text plan x paths (Guard i c) = site_text paths i (codes " for a guard o
 blocked_text plan x paths (Closed i) = site_text paths i (codes " at an ALT without an open guard")
 blocked_text plan x paths (Undecided i) = site_text paths i (codes " by a fault")
 blocked_text plan x paths (Stop i) = site_text paths i (codes " by STOP")
-blocked_text plan x paths Stopped = codes " by a fault or in an IF"
+blocked_text plan x paths (Stopped i) = site_text paths i (codes " by a fault or in an IF")
 
 -- what blocks a part of a node's process
 abbrev pub blocked_line : Plan → NetworkState → NodePlan → List (List ℕ) → Blocked → List ℕ

@@ -60,7 +60,7 @@ pub fn blocked_word(blocked: Blocked) -> &'static str
         Blocked::Closed { .. }
         | Blocked::Undecided { .. }
         | Blocked::Stop { .. }
-        | Blocked::Stopped => "stopped",
+        | Blocked::Stopped { .. } => "stopped",
     }
 }
 
@@ -95,10 +95,7 @@ pub fn push_blocked(
         }
         Blocked::Undecided { site } => push_site(out, paths, site, b" by a fault"),
         Blocked::Stop { site } => push_site(out, paths, site, b" by STOP"),
-        Blocked::Stopped => {
-            out.extend_from_slice(b" by a fault or in an IF")?;
-            Ok(())
-        }
+        Blocked::Stopped { site } => push_site(out, paths, site, b" by a fault or in an IF"),
     }
 }
 

@@ -34,7 +34,7 @@ pub frame::Frame::push_blocked-returns-else-goes_on_at_one_part-2 : goal.frame::
 frame::Frame::push_blocked-returns-else-goes_on_at_one_part-2 t c =
     let F = λ (r : Rest). blocked r (store c.args.vars.now) in
     let k = sym c.goes_on_at_one_part-in-Resting.ensures ∙ c.if-goes_on_at_one_part-2.false in
-    blocks_same _ _ _ _ _ (ap F (resting_stopped c.args.self.now c.in-Resting.is k)) c.push_one.ensures
+    blocks_same _ _ _ _ _ (ap F (resting_stopped c.args.self.now c.in-Resting.is k)) c.push_impossible.ensures
 
 pub frame::Frame::push_blocked-returns-then-is_counted : goal.frame::Frame::push_blocked-returns-then-is_counted
 frame::Frame::push_blocked-returns-then-is_counted t c =
@@ -47,7 +47,7 @@ pub frame::Frame::push_blocked-returns-else-is_counted : goal.frame::Frame::push
 frame::Frame::push_blocked-returns-else-is_counted t c =
     let F = λ (r : Rest). blocked r (store c.args.vars.now) in
     let k = sym c.is_counted.ensures ∙ c.if-is_counted.false in
-    blocks_same _ _ _ _ _ (ap F (turning_none c.args.self.now c.in-Turning.index c.in-Turning.last c.in-Turning.is k)) c.push_one-in-Turning.ensures
+    blocks_same _ _ _ _ _ (ap F (turning_none c.args.self.now c.in-Turning.index c.in-Turning.last c.in-Turning.is k)) c.push_impossible-in-Turning.ensures
 
 pub frame::Frame::push_blocked-returns-then-is_par : goal.frame::Frame::push_blocked-returns-then-is_par
 frame::Frame::push_blocked-returns-then-is_par t c =
@@ -57,7 +57,7 @@ frame::Frame::push_blocked-returns-then-is_par t c =
 pub frame::Frame::push_blocked-returns-else-is_par : goal.frame::Frame::push_blocked-returns-else-is_par
 frame::Frame::push_blocked-returns-else-is_par t c =
     let F = λ (r : Rest). blocked r (store c.args.vars.now) in
-    blocks_same _ _ _ _ _ (ap F (rest_apart c.args.self.now c.in-Together.is (sym c.is_par.ensures ∙ c.if-is_par.false))) c.push_one-in-Together.ensures
+    blocks_same _ _ _ _ _ (ap F (rest_apart c.args.self.now c.in-Together.is (sym c.is_par.ensures ∙ c.if-is_par.false))) c.push_impossible-in-Together.ensures
 
 pub frame::Frame::push_blocked-returns-in-Chosen : goal.frame::Frame::push_blocked-returns-in-Chosen
 frame::Frame::push_blocked-returns-in-Chosen t c =
@@ -72,4 +72,4 @@ frame::Frame::push_blocked-returns-in-Ended t c =
 pub frame::Frame::push_blocked-returns-in-Stuck : goal.frame::Frame::push_blocked-returns-in-Stuck
 frame::Frame::push_blocked-returns-in-Stuck t c =
     let F = λ (r : Rest). blocked r (store c.args.vars.now) in
-    blocks_same _ _ _ _ _ (ap F (rest_stuck c.args.self.now c.in-Stuck.is)) c.push_one-in-Stuck.ensures
+    blocks_same _ _ _ _ _ (ap F (rest_stuck c.args.self.now c.in-Stuck.is)) c.push_one.ensures

@@ -26,8 +26,8 @@ frame::Frame::go-go_within-outcome-requires t c =
     let is = view_out c.args.self.now in
     let vs = views o.parts.items in
     let e = store c.args.vars.now.items in
-    let s = c.args.doing.now.site in
-    let d = c.args.doing.now.action in
+    let s = c.args.step.now.site in
+    let d = c.args.step.now.action in
     let h = sym c.goes_on_at_one_part.ensures ∙ c.if-goes_on_at_one_part.true in
     let able = subst (λ (v : View). Able v.1 e s d) is c.requires.able in
     let has = subst (λ (v : View). HasVariables v.0 (length c.args.vars.now.items)) is c.requires.variables in
@@ -49,8 +49,8 @@ frame::Frame::go-returns-then-has_ended-clause-did t c =
     let ws = views c.go_within-outcome.new.parts.items in
     let us = views (out-Frame (roll-Frame (record { site = o.site; kind = o.kind; phase = o.phase; at = o.at; parts = o.parts }))).parts.items in
     let unrolled : us ≡ vs = simp the_lemmas refl in
-    let s = c.args.doing.now.site in
-    let d = c.args.doing.now.action in
+    let s = c.args.step.now.site in
+    let d = c.args.step.now.action in
     let h = sym c.goes_on_at_one_part.ensures ∙ c.if-goes_on_at_one_part.true in
     let r : (view c.leave_part.new.self).1 ≡ gone_on o.kind o.site ws o.at = c.leave_part.ensures.rest ∙ simp the_lemmas refl in
     let same : plans ws ≡ plans vs = c.go_within-outcome.ensures.plans ∙ ap plans unrolled in
@@ -76,8 +76,8 @@ frame::Frame::go-returns-then-goes_on_at_one_part-clause-did t c =
     let ws = views c.go_within-outcome.new.parts.items in
     let us = views (out-Frame (roll-Frame (record { site = o.site; kind = o.kind; phase = o.phase; at = o.at; parts = o.parts }))).parts.items in
     let unrolled : us ≡ vs = simp the_lemmas refl in
-    let s = c.args.doing.now.site in
-    let d = c.args.doing.now.action in
+    let s = c.args.step.now.site in
+    let d = c.args.step.now.action in
     let h = sym c.goes_on_at_one_part.ensures ∙ c.if-goes_on_at_one_part.true in
     let same : plans ws ≡ plans vs = c.go_within-outcome.ensures.plans ∙ ap plans unrolled in
     let st = subst (λ (xs : List View). Did (part_rest (slice_get xs c.place-place.result)) (store c.args.vars.now.items) s d (part_rest (slice_get ws c.place-place.result)) (store c.go_within-outcome.new.vars.items)) unrolled c.go_within-outcome.ensures.did in
@@ -114,8 +114,8 @@ frame::Frame::go_apart-go_within-outcome-requires t c =
     let is = view_out c.args.self.now in
     let vs = views o.parts.items in
     let e = store c.args.vars.now.items in
-    let s = c.args.doing.now.site in
-    let d = c.args.doing.now.action in
+    let s = c.args.step.now.site in
+    let d = c.args.step.now.action in
     let h = sym c.is_counted.ensures ∙ c.if-is_counted.true in
     let z = counted_is o.kind h in
     let x = c.in-Turning.index in
@@ -148,8 +148,8 @@ frame::Frame::go_apart-returns-then-has_ended-clause-did t c =
     let o = out-Frame c.args.self.now in
     let vs = views o.parts.items in
     let ws = views c.go_within-outcome.new.parts.items in
-    let s = c.args.doing.now.site in
-    let d = c.args.doing.now.action in
+    let s = c.args.step.now.site in
+    let d = c.args.step.now.action in
     let h = sym c.is_counted.ensures ∙ c.if-is_counted.true in
     let g : Frame-F Frame = record { site = o.site; kind = o.kind; phase = o.phase; at = o.at; parts = c.go_within-outcome.new.parts } in
     let unrolled : out-Frame (roll-Frame g) ≡ g = simp the_lemmas refl in
@@ -172,7 +172,7 @@ frame::Frame::go_apart-returns-then-is_counted-clause-did t c =
     let ws = views c.go_within-outcome.new.parts.items in
     let h = sym c.is_counted.ensures ∙ c.if-is_counted.true in
     simp (the_lemmas, view_roll, view_out)
-    (turn_goes o.kind o.site o.phase c.in-Turning.index c.in-Turning.last vs ws _ _ c.args.doing.now.site c.args.doing.now.action o.at c.in-Turning.is h c.go_within-outcome.ensures.plans c.go_within-outcome.ensures.did (sym c.go_within-outcome.ensures.ended ∙ sym c.has_ended.ensures ∙ c.if-has_ended.false))
+    (turn_goes o.kind o.site o.phase c.in-Turning.index c.in-Turning.last vs ws _ _ c.args.step.now.site c.args.step.now.action o.at c.in-Turning.is h c.go_within-outcome.ensures.plans c.go_within-outcome.ensures.did (sym c.go_within-outcome.ensures.ended ∙ sym c.has_ended.ensures ∙ c.if-has_ended.false))
 
 pub frame::Frame::go_apart-returns-then-is_counted-clause-plan : goal.frame::Frame::go_apart-returns-then-is_counted-clause-plan
 frame::Frame::go_apart-returns-then-is_counted-clause-plan t c =
@@ -204,14 +204,14 @@ frame::Frame::go_apart-go_within-outcome-requires-then-is_par t c =
     let is = view_out c.args.self.now in
     let fs = o.parts.items in
     let e = store c.args.vars.now.items in
-    let s = c.args.doing.now.site in
+    let s = c.args.step.now.site in
     let p = c.part_with-place.result in
     let h = sym c.is_par.ensures ∙ c.if-is_par.true in
     let pre = subst (λ (v : View). InPreorder v.0) is c.requires.in_preorder in
     let has = subst (λ (v : View). HasVariables v.0 (length c.args.vars.now.items)) is c.requires.variables in (
       search (rules, the_lemmas),
       (
-        (part_able o.kind o.site o.phase fs o.at p e s c.in-Together.is h pre c.part_with-place.ensures c.args.doing.now.action (subst (λ (v : View). Able v.1 e s c.args.doing.now.action) is c.requires.able)),
+        (part_able o.kind o.site o.phase fs o.at p e s c.in-Together.is h pre c.part_with-place.ensures c.args.step.now.action (subst (λ (v : View). Able v.1 e s c.args.step.now.action) is c.requires.able)),
         (
           λ q. (c.requires.assigned q ∙ ap (λ (v : View). assigned_at s v.1 e) is ∙ part_value o.kind o.site o.phase fs o.at p e s c.in-Together.is h pre c.part_with-place.ensures),
           ((part_variables o.kind o.site (views fs) p _ h has), (part_preorder o.kind o.site (views fs) p h pre)),
@@ -225,8 +225,8 @@ frame::Frame::go_apart-returns-then-has_ended-2-clause-did t c =
     let vs = views o.parts.items in
     let h = sym c.is_par.ensures ∙ c.if-is_par.true in
     let e = store c.args.vars.now.items in
-    let s = c.args.doing.now.site in
-    let d = c.args.doing.now.action in
+    let s = c.args.step.now.site in
+    let d = c.args.step.now.action in
     let settled : views c.settle_part.new.parts.items ≡ views c.go_within-outcome-then-is_par.new.parts.items = c.settle_part.ensures ∙ simp the_lemmas refl in
     let st = part_did o.kind o.site o.phase vs (views c.go_within-outcome-then-is_par.new.parts.items) c.part_with-place.result o.at _ _ s d c.in-Together.is h c.go_within-outcome-then-is_par.ensures.plans c.go_within-outcome-then-is_par.ensures.others c.go_within-outcome-then-is_par.ensures.did in
     simp (the_lemmas, view_roll, view_out) (subst (λ (ws : List View). Did (rest_at o.kind o.phase o.site vs o.at) e s d (rest_at o.kind o.phase o.site ws o.at) (store c.go_within-outcome-then-is_par.new.vars.items)) (sym settled) st)
@@ -251,8 +251,8 @@ frame::Frame::go_apart-returns-then-is_par-clause-did t c =
     let vs = views o.parts.items in
     let h = sym c.is_par.ensures ∙ c.if-is_par.true in
     let e = store c.args.vars.now.items in
-    let s = c.args.doing.now.site in
-    let d = c.args.doing.now.action in
+    let s = c.args.step.now.site in
+    let d = c.args.step.now.action in
     let settled : views c.settle_part.new.parts.items ≡ views c.go_within-outcome-then-is_par.new.parts.items = c.settle_part.ensures ∙ simp the_lemmas refl in
     let st = part_did o.kind o.site o.phase vs (views c.go_within-outcome-then-is_par.new.parts.items) c.part_with-place.result o.at _ _ s d c.in-Together.is h c.go_within-outcome-then-is_par.ensures.plans c.go_within-outcome-then-is_par.ensures.others c.go_within-outcome-then-is_par.ensures.did in
     simp (the_lemmas, view_roll, view_out) (subst (λ (ws : List View). Did (rest_at o.kind o.phase o.site vs o.at) e s d (rest_at o.kind o.phase o.site ws o.at) (store c.go_within-outcome-then-is_par.new.vars.items)) (sym settled) st)
@@ -272,8 +272,8 @@ frame::Frame::go_apart-returns-then-is_par-clause-ended t c =
     let ws = views c.go_within-outcome-then-is_par.new.parts.items in
     let us = views c.settle_part.new.parts.items in
     let e = store c.args.vars.now.items in
-    let s = c.args.doing.now.site in
-    let d = c.args.doing.now.action in
+    let s = c.args.step.now.site in
+    let d = c.args.step.now.action in
     let p = c.part_with-place.result in
     let h = sym c.is_par.ensures ∙ c.if-is_par.true in
     let pre = subst (λ (v : View). InPreorder v.0) is c.requires.in_preorder in
@@ -292,8 +292,8 @@ frame::Frame::go_apart-returns-else-is_counted-clause-did t c =
     let is = view_out c.args.self.now in
     let e = store c.args.vars.now.items in
     let h = sym c.is_counted.ensures ∙ c.if-is_counted.false in
-    let able = subst (λ (v : View). Able v.1 e c.args.doing.now.site c.args.doing.now.action) is c.requires.able in
-    subst (λ (v : View). Did v.1 e c.args.doing.now.site c.args.doing.now.action (view c.args.self.now).1 e) (sym is)
+    let able = subst (λ (v : View). Able v.1 e c.args.step.now.site c.args.step.now.action) is c.requires.able in
+    subst (λ (v : View). Did v.1 e c.args.step.now.site c.args.step.now.action (view c.args.self.now).1 e) (sym is)
     (none_turns o.kind o.site o.phase c.in-Turning.index c.in-Turning.last (views o.parts.items) o.at e _ _ _ c.in-Turning.is h able)
 
 pub frame::Frame::go_apart-returns-else-is_par-clause-did : goal.frame::Frame::go_apart-returns-else-is_par-clause-did
@@ -302,8 +302,8 @@ frame::Frame::go_apart-returns-else-is_par-clause-did t c =
     let is = view_out c.args.self.now in
     let e = store c.args.vars.now.items in
     let h = sym c.is_par.ensures ∙ c.if-is_par.false in
-    let able = subst (λ (v : View). Able v.1 e c.args.doing.now.site c.args.doing.now.action) is c.requires.able in
-    subst (λ (v : View). Did v.1 e c.args.doing.now.site c.args.doing.now.action (view c.args.self.now).1 e) (sym is)
+    let able = subst (λ (v : View). Able v.1 e c.args.step.now.site c.args.step.now.action) is c.requires.able in
+    subst (λ (v : View). Did v.1 e c.args.step.now.site c.args.step.now.action (view c.args.self.now).1 e) (sym is)
     (none_beside o.kind o.site o.phase (views o.parts.items) o.at e _ _ _ c.in-Together.is h able)
 
 pub frame::Frame::go_apart-returns-in-Ended-clause-did : goal.frame::Frame::go_apart-returns-in-Ended-clause-did
@@ -312,8 +312,8 @@ frame::Frame::go_apart-returns-in-Ended-clause-did t c =
     let is = view_out c.args.self.now in
     let vs = views o.parts.items in
     let e = store c.args.vars.now.items in
-    let able = subst (λ (v : View). Able v.1 e c.args.doing.now.site c.args.doing.now.action) is c.requires.able in
-    subst (λ (v : View). Did v.1 e c.args.doing.now.site c.args.doing.now.action (view c.args.self.now).1 e) (sym is)
+    let able = subst (λ (v : View). Able v.1 e c.args.step.now.site c.args.step.now.action) is c.requires.able in
+    subst (λ (v : View). Did v.1 e c.args.step.now.site c.args.step.now.action (view c.args.self.now).1 e) (sym is)
     (phase_did o.kind o.site _ Ended vs o.at e e _ _ _ c.in-Ended.is (never_done _ _ e e _ _ (phase_able o.kind o.site _ Ended vs o.at e _ _ c.in-Ended.is able)))
 
 pub frame::Frame::go_apart-returns-in-Ended-clause-ended : goal.frame::Frame::go_apart-returns-in-Ended-clause-ended
@@ -327,8 +327,8 @@ frame::Frame::go_apart-returns-in-Stuck-clause-did t c =
     let is = view_out c.args.self.now in
     let vs = views o.parts.items in
     let e = store c.args.vars.now.items in
-    let able = subst (λ (v : View). Able v.1 e c.args.doing.now.site c.args.doing.now.action) is c.requires.able in
-    subst (λ (v : View). Did v.1 e c.args.doing.now.site c.args.doing.now.action (view c.args.self.now).1 e) (sym is)
+    let able = subst (λ (v : View). Able v.1 e c.args.step.now.site c.args.step.now.action) is c.requires.able in
+    subst (λ (v : View). Did v.1 e c.args.step.now.site c.args.step.now.action (view c.args.self.now).1 e) (sym is)
     (phase_did o.kind o.site _ Stuck vs o.at e e _ _ _ c.in-Stuck.is (never _ _ e e _ _ (phase_able o.kind o.site _ Stuck vs o.at e _ _ c.in-Stuck.is able)))
 
 pub progress::go_within-returns-then-at-len-clause-did : goal.progress::go_within-returns-then-at-len-clause-did
@@ -336,8 +336,8 @@ progress::go_within-returns-then-at-len-clause-did t c =
     let fs = c.args.parts.now.items in
     let o = c.args.parts.now.ok.0 in
     let l : c.args.at < length fs = omega (arith, c.len.ensures) in
-    subst (λ (r : Rest). Did r (store c.args.vars.now.items) c.args.doing.now.site c.args.doing.now.action (part_rest (slice_get (views (set fs c.args.at c.go.new.self)) c.args.at)) (store c.go.new.vars.items)) (sym (ap part_rest (get_view fs c.args.at _ l c.index_mut.ensures.value)))
-    (subst (λ (r : Rest). Did (view c.index_mut.result.now).1 (store c.args.vars.now.items) c.args.doing.now.site c.args.doing.now.action r (store c.go.new.vars.items)) (sym (ap part_rest (set_view fs c.args.at c.go.new.self l))) c.go.ensures.did)
+    subst (λ (r : Rest). Did r (store c.args.vars.now.items) c.args.step.now.site c.args.step.now.action (part_rest (slice_get (views (set fs c.args.at c.go.new.self)) c.args.at)) (store c.go.new.vars.items)) (sym (ap part_rest (get_view fs c.args.at _ l c.index_mut.ensures.value)))
+    (subst (λ (r : Rest). Did (view c.index_mut.result.now).1 (store c.args.vars.now.items) c.args.step.now.site c.args.step.now.action r (store c.go.new.vars.items)) (sym (ap part_rest (set_view fs c.args.at c.go.new.self l))) c.go.ensures.did)
 
 pub progress::go_within-returns-then-at-len-clause-plans : goal.progress::go_within-returns-then-at-len-clause-plans
 progress::go_within-returns-then-at-len-clause-plans t c = set_plans c.args.parts.now.items c.args.at _ c.go.new.self c.index_mut.ensures.value c.go.ensures.plan
@@ -347,7 +347,7 @@ progress::go_within-returns-clause-did t c =
     let fs = c.args.parts.now.items in
     let o = c.args.parts.now.ok.0 in
     let n = none_view fs c.args.at (omega (arith, c.len.ensures)) in
-    never_there _ _ _ _ c.args.doing.now.site c.args.doing.now.action (subst (λ (r : Rest). Able r (store c.args.vars.now.items) c.args.doing.now.site c.args.doing.now.action) (ap part_rest n) c.requires.able)
+    never_there _ _ _ _ c.args.step.now.site c.args.step.now.action (subst (λ (r : Rest). Able r (store c.args.vars.now.items) c.args.step.now.site c.args.step.now.action) (ap part_rest n) c.requires.able)
 
 pub progress::go_within-returns-then-at-len-clause-others : goal.progress::go_within-returns-then-at-len-clause-others
 progress::go_within-returns-then-at-len-clause-others t c = (view c.go.new.self, set_changed c.args.parts.now.items c.args.at c.go.new.self)
@@ -384,10 +384,10 @@ progress::go_within-go-requires t c =
     let l : c.args.at < length fs = omega (arith, c.len.ensures) in
     let is = get_view fs c.args.at _ l c.index_mut.ensures.value in
     let e = store c.args.vars.now.items in
-    let s = c.args.doing.now.site in (
+    let s = c.args.step.now.site in (
       search (rules, the_lemmas),
       (
-        subst (λ (v : Option View). Able (part_rest v) e s c.args.doing.now.action) is c.requires.able,
+        subst (λ (v : Option View). Able (part_rest v) e s c.args.step.now.action) is c.requires.able,
         (λ q. c.requires.assigned q ∙ ap (λ (v : Option View). part_assigned s v e) is, (subst (λ (v : Option View). PartHasVariables v (length c.args.vars.now.items)) is c.requires.variables, subst PartInPreorder is c.requires.in_preorder)),
       ),
     )

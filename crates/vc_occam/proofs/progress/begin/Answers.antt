@@ -10,5 +10,5 @@ returns-then-goes_on_at_one_part-clause-did c = λ able.
     let k = c.args.kind.now in
     let vs = views c.args.parts.now.items in
     let r = rest_at k c.begin_composed.result.phase c.args.own (views c.begin_composed.new.parts.items) c.begin_composed.result.at in
-    subst (λ (xs : List Datum). Did (Fresh (plan_at k c.args.own vs)) (store xs) c.args.doing.now.site c.args.doing.now.action r (store xs)) c.deref.ensures.value
-    (c.begin_composed.ensures.did c.args.doing.now.site c.args.doing.now.action (subst (λ (xs : List Datum). Able (Fresh (plan_at k c.args.own vs)) (store xs) c.args.doing.now.site c.args.doing.now.action) (sym c.deref.ensures.value) able))
+    subst (λ (xs : List Datum). Did (Fresh (plan_at k c.args.own vs)) (store xs) c.args.step.now.site c.args.step.now.action r (store xs)) c.deref.ensures.value
+    (c.begin_composed.ensures.did c.args.step.now.site c.args.step.now.action (subst (λ (xs : List Datum). Able (Fresh (plan_at k c.args.own vs)) (store xs) c.args.step.now.site c.args.step.now.action) (sym c.deref.ensures.value) able))

@@ -6,4 +6,4 @@ pub put-requires : goal.put-requires
 put-requires c = input_variable_there c.args.kind.now c.args.own _ _ _ c.in-Receive.is c.requires.variables
 
 pub returns-in-Receive : goal.returns-in-Receive
-returns-in-Receive c = record { did = λ vs at. no_message_got c.args.kind.now c.args.own c.in-Receive.chan c.in-Receive.var vs at _ _ c.args.doing.now.site c.args.doing.now.action _ c.in-Receive.is (λ m w. c.in_default-take_deed.not-Message m (c.take_deed.ensures ∙ w)); length = refl }
+returns-in-Receive c = record { did = λ vs at. no_message_got c.args.kind.now c.args.own c.in-Receive.chan c.in-Receive.var vs at _ _ c.args.step.now.site c.args.step.now.action _ c.in-Receive.is (λ m w. c.in_default-take_action.not-Message m (c.take_action.ensures ∙ w)); length = refl }

@@ -12,7 +12,7 @@ end_begun-requires-clause-able c =
     let fs = c.args.parts.now.items in
     let o = c.args.parts.now.ok.0 in
     let l : c.args.at < length fs = omega (arith, c.len.ensures) in
-    subst (λ (v : Option View). Able (part_rest v) (store c.args.vars.now.items) c.args.doing.now.site c.args.doing.now.action) (resting_get c.args.at (views fs) (view c.index_mut.result.now) (get_view fs c.args.at _ l c.index_mut.ensures.value)) c.requires.able
+    subst (λ (v : Option View). Able (part_rest v) (store c.args.vars.now.items) c.args.step.now.site c.args.step.now.action) (resting_get c.args.at (views fs) (view c.index_mut.result.now) (get_view fs c.args.at _ l c.index_mut.ensures.value)) c.requires.able
 
 pub end_begun-requires-clause-variables : goal.end_begun-requires-clause-variables
 end_begun-requires-clause-variables c =
@@ -28,8 +28,8 @@ returns-then-at-len-clause-did c =
     let l : c.args.at < length fs = omega (arith, c.len.ensures) in
     let e = store c.args.vars.now.items in
     let f = store c.end_begun.new.vars.items in
-    let s = c.args.doing.now.site in
-    let d = c.args.doing.now.action in
+    let s = c.args.step.now.site in
+    let d = c.args.step.now.action in
     subst (λ (r : Rest). Did r e s d (part_rest (slice_get (views (set fs c.args.at c.end_begun.new.self)) c.args.at)) f) (sym (ap part_rest (resting_get c.args.at (views fs) (view c.index_mut.result.now) (get_view fs c.args.at _ l c.index_mut.ensures.value))))
     (subst (λ (r : Rest). Did (as_begun (view c.index_mut.result.now).0) e s d r f) (sym (ap part_rest (set_view fs c.args.at c.end_begun.new.self l))) c.end_begun.ensures.did)
 
@@ -48,7 +48,7 @@ returns-clause-did c =
     let fs = c.args.parts.now.items in
     let o = c.args.parts.now.ok.0 in
     let n = none_view fs c.args.at (omega (arith, c.len.ensures)) in
-    never_there _ _ _ _ c.args.doing.now.site c.args.doing.now.action (subst (λ (r : Rest). Able r (store c.args.vars.now.items) c.args.doing.now.site c.args.doing.now.action) (ap part_rest (resting_none c.args.at (views fs) n)) c.requires.able)
+    never_there _ _ _ _ c.args.step.now.site c.args.step.now.action (subst (λ (r : Rest). Able r (store c.args.vars.now.items) c.args.step.now.site c.args.step.now.action) (ap part_rest (resting_none c.args.at (views fs) n)) c.requires.able)
 
 pub returns-clause-ended : goal.returns-clause-ended
 returns-clause-ended c =

@@ -12,8 +12,8 @@ returns-in-Waiting-clause-did c =
     let vs = views c.args.parts.now.items in
     let e = store c.args.vars.now.items in
     let f = store c.end_alone-phase.new.vars.items in
-    let s = c.args.doing.now.site in
-    let d = c.args.doing.now.action in
+    let s = c.args.step.now.site in
+    let d = c.args.step.now.action in
     subst (λ (n : Next). Did (rest_at k c.args.phase c.args.own vs c.args.at) e s d (rest_at k n.phase c.args.own vs n.at) f) (sym c.reached.ensures.next)
     (phase_did k c.args.own _ Waiting vs c.args.at e f s d _ c.in-Waiting.is
     (c.end_alone-phase.ensures.did vs c.args.at (phase_able k c.args.own _ Waiting vs c.args.at e s d c.in-Waiting.is c.requires.able)))
@@ -25,8 +25,8 @@ returns-in-Chosen-clause-did c =
     let ws = views c.end_choice-phase.new.parts.items in
     let e = store c.args.vars.now.items in
     let f = store c.end_choice-phase.new.vars.items in
-    let s = c.args.doing.now.site in
-    let d = c.args.doing.now.action in
+    let s = c.args.step.now.site in
+    let d = c.args.step.now.action in
     subst (λ (n : Next). Did (rest_at k c.args.phase c.args.own vs c.args.at) e s d (rest_at k n.phase c.args.own ws n.at) f) (sym c.reached-in-Chosen.ensures.next)
     (phase_did k c.args.own _ Chosen vs c.args.at e f s d _ c.in-Chosen.is
-    (c.end_choice-phase.ensures.did s (phase_able k c.args.own _ Chosen vs c.args.at e s d c.in-Chosen.is c.requires.able)))
+    (c.end_choice-phase.ensures.did (phase_able k c.args.own _ Chosen vs c.args.at e s d c.in-Chosen.is c.requires.able)))

@@ -14,6 +14,6 @@ pub returns-in-Undecided : goal.returns-in-Undecided
 unfolding blocked_text
 returns-in-Undecided c = rw c.in-Undecided.is c.push_site-in-Undecided.ensures
 
-pub returns-in_ok-extend_from_slice-in-Stopped : goal.returns-in_ok-extend_from_slice-in-Stopped
+pub returns-in-Stopped : goal.returns-in-Stopped
 unfolding blocked_text
-returns-in_ok-extend_from_slice-in-Stopped c = rw c.in-Stopped.is c.in_ok-extend_from_slice-in-Stopped.ensures.items
+returns-in-Stopped c = rw c.in-Stopped.is c.push_site-in-Stopped.ensures

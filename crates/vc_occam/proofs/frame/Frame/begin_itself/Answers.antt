@@ -12,7 +12,7 @@ use Rattle.vc_occam.proofs.frame.Frame.begin_itself.Goals as goal
 pub begin-next-requires-clause-assigned : goal.begin-next-requires-clause-assigned
 begin-next-requires-clause-assigned c = λ q.
     let o = out-Frame c.args.self.now in
-    let s = c.args.doing.now.site in
+    let s = c.args.step.now.site in
     let e = store c.args.vars.now.items in
     c.requires.assigned q ∙ ap (λ (v : View). assigned_at s v.1 e) (view_out c.args.self.now) ∙ ap (λ (p : Phase). assigned_at s (rest_at o.kind p o.site (views o.parts.items) o.at) e) c.requires.ready
 
@@ -27,8 +27,8 @@ returns-clause-did c =
     let ws = views c.begin-next.new.parts.items in
     let e = store c.args.vars.now.items in
     let f = store c.begin-next.new.vars.items in
-    let s = c.args.doing.now.site in
-    let d = c.args.doing.now.action in
+    let s = c.args.step.now.site in
+    let d = c.args.step.now.action in
     let able = subst (λ (v : View). Able v.1 e s d) (view_out c.args.self.now) c.requires.able in
     let did = phase_did o.kind o.site _ Ready vs o.at e f s d _ c.requires.ready (c.begin-next.ensures.did (phase_able o.kind o.site _ Ready vs o.at e s d c.requires.ready able)) in
     simp (the_lemmas, view_roll, view_out) (subst (λ (n : Next). Did (rest_at o.kind o.phase o.site vs o.at) e s d (rest_at o.kind n.phase o.site ws n.at) f) (sym c.reached-progress.ensures.next) did)

@@ -8,7 +8,7 @@ use Rattle.vc_occam.proofs.frame.Frame.go_itself.Goals as goal
 
 pub go_on-progress-requires-clause-able : goal.go_on-progress-requires-clause-able
 go_on-progress-requires-clause-able c =
-    subst (λ (v : View). Able v.1 (store c.args.vars.now.items) c.args.doing.now.site c.args.doing.now.action) (view_out c.args.self.now) c.requires.able
+    subst (λ (v : View). Able v.1 (store c.args.vars.now.items) c.args.step.now.site c.args.step.now.action) (view_out c.args.self.now) c.requires.able
 
 pub go_on-progress-requires-clause-variables : goal.go_on-progress-requires-clause-variables
 go_on-progress-requires-clause-variables c =

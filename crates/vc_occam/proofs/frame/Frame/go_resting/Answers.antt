@@ -12,8 +12,8 @@ pub end_part-ended-requires-clause-able : goal.end_part-ended-requires-clause-ab
 end_part-ended-requires-clause-able c =
     let o = out-Frame c.args.self.now in
     let e = store c.args.vars.now.items in
-    let s = c.args.doing.now.site in
-    let d = c.args.doing.now.action in
+    let s = c.args.step.now.site in
+    let d = c.args.step.now.action in
     let h = sym c.goes_on_at_one_part.ensures ∙ c.if-not-goes_on_at_one_part.false in
     let able = subst (λ (v : View). Able v.1 e s d) (view_out c.args.self.now) c.requires.able in
     simp the_lemmas (resting_able o.kind o.site o.phase (views o.parts.items) o.at c.place-place.result e s d c.requires.resting h c.place-place.ensures able)
@@ -35,8 +35,8 @@ returns-then-ended-clause-did c =
     let p = c.place-place.result in
     let e = store c.args.vars.now.items in
     let f = store c.end_part-ended.new.vars.items in
-    let s = c.args.doing.now.site in
-    let d = c.args.doing.now.action in
+    let s = c.args.step.now.site in
+    let d = c.args.step.now.action in
     let h = sym c.goes_on_at_one_part.ensures ∙ c.if-not-goes_on_at_one_part.false in
     let r : (view c.leave_part.new.self).1 ≡ gone_on o.kind o.site ws o.at = c.leave_part.ensures.rest ∙ simp the_lemmas refl in
     let same : plans ws ≡ plans vs = c.end_part-ended.ensures.plans ∙ ap plans unrolled in
@@ -63,8 +63,8 @@ returns-clause-did c =
     let us = views (out-Frame (roll-Frame (record { site = o.site; kind = o.kind; phase = o.phase; at = o.at; parts = o.parts }))).parts.items in
     let unrolled : us ≡ vs = simp the_lemmas refl in
     let p = c.place-place.result in
-    let s = c.args.doing.now.site in
-    let d = c.args.doing.now.action in
+    let s = c.args.step.now.site in
+    let d = c.args.step.now.action in
     let h = sym c.goes_on_at_one_part.ensures ∙ c.if-not-goes_on_at_one_part.false in
     let same : plans ws ≡ plans vs = c.end_part-ended.ensures.plans ∙ ap plans unrolled in
     let st = subst (λ (xs : List View). Did (part_rest (slice_get (resting_at p xs) p)) (store c.args.vars.now.items) s d (part_rest (slice_get ws p)) (store c.end_part-ended.new.vars.items)) unrolled c.end_part-ended.ensures.did in
@@ -95,6 +95,6 @@ returns-then-not-goes_on_at_one_part-clause-did c =
     let is = view_out c.args.self.now in
     let e = store c.args.vars.now.items in
     let h = sym c.goes_on_at_one_part.ensures ∙ c.if-not-goes_on_at_one_part.true in
-    let able = subst (λ (v : View). Able v.1 e c.args.doing.now.site c.args.doing.now.action) is c.requires.able in
-    subst (λ (v : View). Did v.1 e c.args.doing.now.site c.args.doing.now.action (view c.args.self.now).1 e) (sym is)
+    let able = subst (λ (v : View). Able v.1 e c.args.step.now.site c.args.step.now.action) is c.requires.able in
+    subst (λ (v : View). Did v.1 e c.args.step.now.site c.args.step.now.action (view c.args.self.now).1 e) (sym is)
     (resting_never o.kind o.site o.phase (views o.parts.items) o.at e _ _ _ c.requires.resting h able)

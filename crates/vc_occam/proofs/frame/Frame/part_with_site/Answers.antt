@@ -1,7 +1,7 @@
 use Rattle.std.proofs.Common.{◌≡◌, ◌∙◌, ap, refl, sym, subst}
 use Rattle.vc_occam.specs.declared.frame.Frame.TheViews.{out-Frame}
 use Rattle.vc_occam.specs.declared.phase.Phase.TheVariants as phase
-use Rattle.vc_occam.specs.Frames.{View, view, views}
+use Rattle.vc_occam.specs.Frames.{impossible, View, view, views}
 use Rattle.vc_occam.specs.Remains.{Done, Rest, Stopped}
 use Rattle.vc_occam.specs.First.{own}
 use Rattle.vc_occam.specs.Sites.{InPreorder}
@@ -55,13 +55,13 @@ returns-else-is_counted c =
     let x = c.in-Turning.index in
     let y = c.in-Turning.last in
     let rest = turning_none f x y c.in-Turning.is (sym c.is_counted.ensures ∙ c.if-is_counted.false) in
-    still f c.args.site (λ q. let z : phase.Turning x y ≡ phase.Ready = sym c.in-Turning.is ∙ q in cc) (same_nothing c.args.site (view f).1 Stopped rest (λ e. (refl, refl))) (λ e. ap (λ (r : Rest). own r e) rest)
+    still f c.args.site (λ q. let z : phase.Turning x y ≡ phase.Ready = sym c.in-Turning.is ∙ q in cc) (same_nothing c.args.site (view f).1 impossible rest (λ e. (refl, refl))) (λ e. ap (λ (r : Rest). own r e) rest)
 
 pub returns-else-is_par : goal.returns-else-is_par
 returns-else-is_par c =
     let f = c.args.self.now in
     let rest = rest_apart f c.in-Together.is (sym c.is_par.ensures ∙ c.if-is_par.false) in
-    still f c.args.site (λ q. let z : phase.Together ≡ phase.Ready = sym c.in-Together.is ∙ q in cc) (same_nothing c.args.site (view f).1 Stopped rest (λ e. (refl, refl))) (λ e. ap (λ (r : Rest). own r e) rest)
+    still f c.args.site (λ q. let z : phase.Together ≡ phase.Ready = sym c.in-Together.is ∙ q in cc) (same_nothing c.args.site (view f).1 impossible rest (λ e. (refl, refl))) (λ e. ap (λ (r : Rest). own r e) rest)
 
 pub returns-in-Ready : goal.returns-in-Ready
 returns-in-Ready c = ready_begins c.args.self.now c.args.site c.in-Ready.is
@@ -80,7 +80,7 @@ returns-in-Ended c =
 pub returns-in-Stuck : goal.returns-in-Stuck
 returns-in-Stuck c =
     let f = c.args.self.now in
-    still f c.args.site (λ q. let z : phase.Stuck ≡ phase.Ready = sym c.in-Stuck.is ∙ q in cc) (same_nothing c.args.site (view f).1 Stopped (rest_stuck f c.in-Stuck.is) (λ e. (refl, refl))) (λ e. ap (λ (r : Rest). own r e) (rest_stuck f c.in-Stuck.is))
+    still f c.args.site (λ q. let z : phase.Stuck ≡ phase.Ready = sym c.in-Stuck.is ∙ q in cc) (same_nothing c.args.site (view f).1 (Stopped (out-Frame f).site) (rest_stuck f c.in-Stuck.is) (λ e. (refl, refl))) (λ e. ap (λ (r : Rest). own r e) (rest_stuck f c.in-Stuck.is))
 
 pub returns-in-Resting : goal.returns-in-Resting
 returns-in-Resting c =
