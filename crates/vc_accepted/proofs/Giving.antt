@@ -16,10 +16,9 @@ use Rattle.vc_network.specs.Plan as network
 use Rattle.vc_accepted.specs.NetworkOf.{network_of, link_of, home_of, home_in}
 use Rattle.vc_accepted.specs.NetworkOf as to
 use Rattle.vc_accepted.specs.Given.{chan_on, end_given, with_end, ends_among, ends_of_node}
-use Rattle.vc_accepted.proofs.Listed.{both, made_at}
+use Rattle.vc_accepted.proofs.Listed.{both, made_at, there}
 use Rattle.vc_accepted.proofs.Limited.{kept}
 use Rattle.vc_accepted.proofs.Accepting.{end_is, on_way, on_link}
-use Rattle.vc_accepted.proofs.Listed.{there}
 use Rattle.vc_accepted.proofs.Channelled.{chan_has, has_chan}
 use Rattle.vc_accepted.proofs.Placed.{each_of, Tells, once}
 

@@ -14,7 +14,7 @@ use Rattle.vc_network.proofs.Main.{Ran, ran, good_start, first_node}
 use Rattle.vc_network.proofs.Nexts.{process_of}
 use Rattle.vc_network.proofs.Replays.{replayed}
 use Rattle.vc_occam.specs.NodeTraces.{so_far}
-use Rattle.vc_occam.specs.Numbering.{written}
+use Rattle.vc_process.specs.Numbering.{written}
 use Rattle.vc_occam.specs.Remains.{Done}
 use Rattle.vc_occam.specs.Traces.{Comm}
 use Rattle.vc_occam.proofs.Rests.{begin_is}

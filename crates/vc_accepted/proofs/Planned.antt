@@ -4,8 +4,8 @@ use Rattle.std.specs.List.{list_all}
 use Rattle.vc_process.specs.declared.channel_use.ChannelUse.{ChannelUse}
 use Rattle.vc_process.specs.declared.value_kind.ValueKind.{ValueKind}
 use Rattle.vc_process.specs.declared.value_kind.ValueKind.TheVariants as kind
-use Rattle.vc_occam.specs.Numbering.{written}
-use Rattle.vc_occam.specs.ProcessLimits.{names_fit}
+use Rattle.vc_process.specs.Numbering.{written}
+use Rattle.vc_process.specs.ProcessLimits.{names_fit}
 use Rattle.vc_occam.proofs.Checked.{kinds_same, IsKinded, AreKinded, kinded, empty_kinded}
 use Rattle.vc_occam.proofs.Keeping.{begins}
 use Rattle.vc_occam.proofs.Kinded.{begins_sound}

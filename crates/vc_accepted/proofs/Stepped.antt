@@ -1,13 +1,14 @@
 -- What a process does, step by step, is a trace of it, and tells the communications that its node makes.
 use Rattle.std.proofs.Common.{◌≡◌, ℕ, false, refl, sym, ap, subst, ◌∙◌, List, [], ◌∷◌, ◌++◌, Some, None}
 use Rattle.vc_machine.specs.Rendezvous as rendezvous
-use Rattle.vc_network.specs.Processes.{ProcessStep, Offers, Wants, Chooses, Stops, Meets, Rests, Finishes, Receives, comms, Trace, none, more}
+use Rattle.vc_process.specs.ProcessStep.{ProcessStep, Offers, Wants, Chooses, Stops, Meets, Rests, Finishes, Receives}
+use Rattle.vc_network.specs.Processes.{comms, Trace, none, more}
 use Rattle.std.specs.List.{Contains}
 use Rattle.vc_occam.specs.declared.moves.Move.{Move}
 use Rattle.vc_occam.specs.declared.moves.Move.TheVariants as move
 use Rattle.vc_process.specs.declared.value_kind.ValueKind.{ValueKind}
 use Rattle.vc_occam.specs.InUse.{UsesLawfully}
-use Rattle.vc_occam.specs.Messages.{message}
+use Rattle.vc_process.specs.Messages.{message}
 use Rattle.vc_occam.specs.NodeTraces as node
 use Rattle.vc_occam.specs.First.{first_moves}
 use Rattle.vc_occam.specs.Moving.{action_on}
@@ -15,8 +16,8 @@ use Rattle.vc_occam.specs.Remains.{Rest, Done, Step, TraceRest}
 use Rattle.vc_occam.specs.States.{State}
 use Rattle.vc_occam.specs.States as occam
 use Rattle.vc_occam.specs.Traces.{Comm, Out, In, Fin, Stp, End}
-use Rattle.vc_occam.specs.Usage.{Set}
-use Rattle.vc_occam.specs.Values.{Store}
+use Rattle.vc_process.specs.Usage.{Set}
+use Rattle.vc_process.specs.Values.{Store}
 use Rattle.vc_occam.proofs.Keeping.{doing_keeps_use, doing_is_traced}
 use Rattle.vc_occam.proofs.Kinded.{kind_of, value_as, carries, StoreHasKinds, Sound, Tells, doing_tells, doing_stays}
 use Rattle.vc_occam.proofs.Openly.{offers_outside}

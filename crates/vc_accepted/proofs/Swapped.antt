@@ -2,10 +2,10 @@
 use Rattle.std.proofs.Common.{◌≡◌, ℕ, zero, suc, refl, sym, ap, subst, ◌∙◌, List, [], ◌∷◌, arith, eq-eqb, if◌then◌else◌}
 use Rattle.vc_machine.specs.Rendezvous as rendezvous
 use Rattle.vc_machine.specs.Rendezvous.{View, DoesAll, part, nothing_yet}
-use Rattle.vc_occam.specs.Messages.{message}
-use Rattle.vc_occam.specs.Syntax.{Given}
+use Rattle.vc_process.specs.Messages.{message}
+use Rattle.vc_process.specs.Syntax.{Given}
 use Rattle.vc_occam.specs.Traces.{Comm, In, End, Trace, cut, input, seq, seq_open, seq_next}
-use Rattle.vc_occam.specs.Values.{Store}
+use Rattle.vc_process.specs.Values.{Store}
 use Rattle.vc_accepted.specs.OneList.{by, to_channel}
 use Rattle.vc_accepted.specs.Swapping.{inputs_first, NothingIsSwapped}
 

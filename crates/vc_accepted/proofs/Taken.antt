@@ -5,7 +5,7 @@ use Rattle.vc_machine.specs.Rendezvous as rendezvous
 use Rattle.vc_machine.specs.Rendezvous.{View, Does, DoesAll, part}
 use Rattle.vc_network.specs.Views.{Said, all_said}
 use Rattle.vc_process.specs.declared.value_kind.ValueKind.{ValueKind}
-use Rattle.vc_occam.specs.Messages.{message}
+use Rattle.vc_process.specs.Messages.{message}
 use Rattle.vc_occam.specs.Traces.{Comm, Out, In, Fin, Stp}
 use Rattle.vc_occam.proofs.Kinded.{value_as, carries}
 use Rattle.vc_accepted.specs.OneList.{to_channel, on}

@@ -12,7 +12,8 @@ use Rattle.vc_machine.specs.Rendezvous.{nothing_yet}
 use Rattle.vc_network.specs.Enabled.{IsEnabled}
 use Rattle.vc_network.specs.Network.{Act, Proc, Take, Put, Route, Fct, Pass, Actor, IsNode, IsSwitch, Node, Moves, GoesOn, NodeStep, Local, first, begins, Happens, HappenAll}
 use Rattle.vc_network.specs.Plan as network
-use Rattle.vc_network.specs.Processes.{Move, Offer, Want, Choose, Stopch, Inner, Quiet, Offers, Wants, Chooses, Stops, Meets, Rests, Finishes, Receives}
+use Rattle.vc_network.specs.Processes.{Move, Offer, Want, Choose, Stopch, Inner, Quiet}
+use Rattle.vc_process.specs.ProcessStep.{Offers, Wants, Chooses, Stops, Meets, Rests, Finishes, Receives}
 use Rattle.vc_network.specs.Threads.{AreThreads, made_by, ended}
 use Rattle.vc_network.proofs.OneStep.{replays_reach}
 use Rattle.vc_occam.proofs.Preorder.{at_first}

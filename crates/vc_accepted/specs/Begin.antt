@@ -1,7 +1,7 @@
 -- How the processes of a plan's nodes begin.
 use Rattle.std.specs.Prelude.{ℕ, suc, Bool, false, ◌==◌, List, [], ◌∷◌, ◌++◌, get_or, if◌then◌else◌}
 use Rattle.vc_occam.specs.Opening.{opening}
-use Rattle.vc_occam.specs.Usage.{among}
+use Rattle.vc_process.specs.Usage.{among}
 use Rattle.vc_process.specs.declared.process.Process.TheVariants.{Skip}
 use Rattle.vc_plan.specs.declared.channel.Channel.{Channel}
 use Rattle.vc_plan.specs.declared.channel.Home.{Home}

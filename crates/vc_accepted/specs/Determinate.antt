@@ -1,6 +1,7 @@
 -- Processes that use their channels and variables lawfully, and have sites of their own side by side: what such a process does leads
 -- to one state.
-use Rattle.vc_network.specs.Processes.{StepRelation, ProcessStep, IsDeterminate}
+use Rattle.vc_network.specs.Processes.{StepRelation, IsDeterminate}
+use Rattle.vc_process.specs.ProcessStep.{ProcessStep}
 use Rattle.vc_occam.specs.InUse.{UsesLawfully}
 use Rattle.vc_occam.specs.Sites.{OwnSites}
 use Rattle.vc_accepted.specs.Process.{Process, does}

@@ -5,9 +5,9 @@ use Rattle.vc_machine.specs.Rendezvous as rendezvous
 use Rattle.vc_machine.specs.Rendezvous.{DoesAll, part, nothing_yet}
 use Rattle.vc_network.specs.Network.{Act, Node, Actor, IsNode, begins, HappenAll}
 use Rattle.vc_network.specs.Views.{view}
-use Rattle.vc_occam.specs.Messages.{message}
+use Rattle.vc_process.specs.Messages.{message}
 use Rattle.vc_occam.specs.NodeTraces.{NodeTrace, so_far}
-use Rattle.vc_occam.specs.Numbering.{written}
+use Rattle.vc_process.specs.Numbering.{written}
 use Rattle.vc_occam.specs.States.{State}
 use Rattle.vc_occam.specs.Traces.{Comm, Out, In, Fin, Stp}
 use Rattle.vc_plan.specs.declared.plan.Plan.{Plan}

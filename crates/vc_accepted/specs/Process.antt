@@ -1,13 +1,13 @@
 -- An occam process as its node sees it: what remains of it, and the channels inside its node; and what it does.
 use Rattle.std.specs.Prelude.{◌≡◌, List}
 use Rattle.std.specs.List.{Contains}
-use Rattle.vc_network.specs.Processes.{StepRelation, Offers, Wants, Chooses, Stops, Meets, Rests, Finishes, Receives}
-use Rattle.vc_process.specs.ProcessStep.{ProcessStep}
+use Rattle.vc_network.specs.Processes.{StepRelation}
+use Rattle.vc_process.specs.ProcessStep.{Offers, Wants, Chooses, Stops, Meets, Rests, Finishes, Receives, ProcessStep}
 use Rattle.vc_occam.specs.First.{first_moves}
 use Rattle.vc_occam.specs.States.{State}
 use Rattle.vc_occam.specs.States as occam
 use Rattle.vc_occam.specs.Traces.{Comm}
-use Rattle.vc_occam.specs.Usage.{Set}
+use Rattle.vc_process.specs.Usage.{Set}
 use Rattle.vc_occam.specs.declared.moves.Move.{Move}
 use Rattle.vc_occam.specs.declared.moves.Move.TheVariants as move
 

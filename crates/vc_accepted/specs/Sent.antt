@@ -2,7 +2,7 @@
 use Rattle.std.specs.Prelude.{◌≡◌, ℕ, List, ◌∷◌, ◌++◌}
 use Rattle.std.specs.List.{Contains}
 use Rattle.vc_machine.specs.Rendezvous.{View, DoesAll, nothing_yet}
-use Rattle.vc_occam.specs.Messages.{message}
+use Rattle.vc_process.specs.Messages.{message}
 use Rattle.vc_occam.specs.Traces.{Comm, Out, In}
 use Rattle.vc_accepted.specs.OneList.{on}
 

@@ -2,10 +2,10 @@
 use Rattle.std.specs.Prelude.{◌≡◌, ℕ, ◌≤◌, List, []}
 use Rattle.vc_machine.specs.Rendezvous.{View, DoesAll, nothing_yet}
 use Rattle.vc_occam.specs.NodeTraces.{NodeTrace}
-use Rattle.vc_occam.specs.Syntax.{Given, Proc, Input, Output, SEQ, no_parts, part}
+use Rattle.vc_process.specs.Syntax.{Given, Proc, Input, Output, SEQ, no_parts, part}
 use Rattle.vc_occam.specs.Traces.{Comm, End}
-use Rattle.vc_occam.specs.Usage.{Set}
-use Rattle.vc_occam.specs.Values.{Store}
+use Rattle.vc_process.specs.Usage.{Set}
+use Rattle.vc_process.specs.Values.{Store}
 use Rattle.vc_accepted.specs.OneList.{by, on}
 
 -- an input on channel c, and then an output on channel d

@@ -9,7 +9,7 @@ use Rattle.vc_occam.specs.Opening.{opening}
 use Rattle.vc_occam.specs.Runnings.{state, inner_channels}
 use Rattle.vc_occam.specs.Sites.{OwnSites}
 use Rattle.vc_occam.specs.States.{State}
-use Rattle.vc_occam.specs.Usage.{among}
+use Rattle.vc_process.specs.Usage.{among}
 use Rattle.vc_occam.proofs.Preorder.{at_first}
 use Rattle.vc_plan.specs.declared.channel.Channel.{Channel}
 use Rattle.vc_plan.specs.declared.channel.Home.{Home}

@@ -4,8 +4,8 @@ use Rattle.std.specs.List.{Contains}
 use Rattle.std.proofs.lemmas.Bool.{cases_eq}
 use Rattle.vc_packets.specs.Functions.{put}
 use Rattle.vc_machine.proofs.Basics.{put-same, put-other}
-use Rattle.vc_occam.specs.States.{Waiting, output, input, waiting, Chooses}
-use Rattle.vc_occam.specs.States.{Wants as Inputs}
+use Rattle.vc_occam.specs.States.{Waiting, output, input, waiting}
+use Rattle.vc_process.specs.ProcessStep.{Chooses, Wants as Inputs}
 use Rattle.vc_occam.specs.Laws.{IsKept, IsAdded, IsRemoved, WaitsAfter}
 use Rattle.vc_occam.proofs.Insertion.{inserted_or}
 use Rattle.vc_vcp.specs.Carrier.{End, OutHalf, InHalf, Carrier}

@@ -9,8 +9,8 @@ use Rattle.vc_occam.specs.declared.moves.Move.TheVariants.{Offer, Want, Choose, 
 use Rattle.vc_occam.specs.First.{own, joined, meetings, first_moves, choices, all_decided}
 use Rattle.vc_occam.specs.Remains.{Rest, Done, Stopped, Fresh, Finishing, Getting, Then, Turns, Beside}
 use Rattle.vc_occam.specs.States.{State, output_at, sent_by, carried}
-use Rattle.vc_occam.specs.Syntax.{SKIP, STOP, Assign, Output, Input, StopChan, SEQ, PAR, IF, WHILE, COUNT, ALT, no_parts, part, Guards, no_guards, guard}
-use Rattle.vc_occam.specs.Values.{Store, datum_of}
+use Rattle.vc_process.specs.Syntax.{SKIP, STOP, Assign, Output, Input, StopChan, SEQ, PAR, IF, WHILE, COUNT, ALT, no_parts, part, Guards, no_guards, guard}
+use Rattle.vc_process.specs.Values.{Store, datum_of}
 
 none : {X : Type 0} (y : X) → Contains {X = X} [] y → ⊥
 none y (k, l, h) = omega arith

@@ -4,20 +4,16 @@ use Rattle.std.proofs.lemmas.Bool.{cases_lt}
 use Rattle.std.proofs.lemmas.Bool.Decides.{nat_tests}
 use Rattle.vc_machine.specs.Paths.{AtNode, AtSwitch}
 use Rattle.vc_network.specs.Plan.{Plan, IsOutOf, IsInto, switch_plan}
-use Rattle.vc_tokens.specs.Tokens.{Token}
+use Rattle.vc_tokens.specs.Tokens.{Token, Byte, EndMark}
 use Rattle.vc_switch.specs.Able.{CanPass, CanLeave, IsFree, CanRoute, CanPut}
-use Rattle.vc_switch.specs.Seen.{seen, IsKept}
-use Rattle.vc_switch.specs.State.{State, IsSwitch, plan_of, limit_of, shown_or, source_at}
-use Rattle.vc_switch.specs.Switch.{Switch, Passes, passes_byte, drops_byte, passes_mark, loses, Routes, Sends, SendsFct, Comes}
+use Rattle.vc_switch.specs.Seen.{seen, IsKept, input_of}
+use Rattle.vc_switch.specs.State.{State, IsSwitch, plan_of, limit_of, shown_or, source_at, output_of}
+use Rattle.vc_switch.specs.Switch.{Switch, Passes, passes_byte, drops_byte, passes_mark, loses, Routes, Sends, SendsFct, Comes, new_input, BodyLeaves}
 use Rattle.vc_switch.specs.Waiting.{Wormhole}
 use Rattle.vc_labels.specs.declared.row.Row.{Row}
 use Rattle.vc_labels.specs.Lawful.{starts_at}
 use Rattle.vc_packets.specs.Headers.{spelled}
-use Rattle.vc_tokens.specs.Tokens.{Byte, EndMark}
 use Rattle.vc_switch.specs.Forward.{SwitchPlan, without_portals}
-use Rattle.vc_switch.specs.Seen.{input_of}
-use Rattle.vc_switch.specs.State.{output_of}
-use Rattle.vc_switch.specs.Switch.{new_input, BodyLeaves}
 use Rattle.vc_switch.specs.declared.link_in.LinkIn.{LinkIn}
 use Rattle.vc_switch.proofs.Routing.{links}
 use Rattle.std.proofs.lemmas.Option.{slice_get_past}

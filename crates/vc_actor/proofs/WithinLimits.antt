@@ -1,10 +1,10 @@
 -- What an accepted plan's limits say of its nodes.
 use Rattle.std.proofs.Common.{◌≡◌, ℕ, ◌≤◌, length, slice_get, true, Some, arith}
 use Rattle.std.proofs.lemmas.Bool.Decides.{nat_tests}
-use Rattle.vc_occam.specs.InOrder.{number}
-use Rattle.vc_occam.specs.Numbering.{written}
+use Rattle.vc_process.specs.InOrder.{number}
+use Rattle.vc_process.specs.Numbering.{written}
 use Rattle.vc_occam.specs.Opening.{Fits}
-use Rattle.vc_occam.specs.Lawful.{Lawfully}
+use Rattle.vc_process.specs.Lawful.{Lawfully}
 use Rattle.vc_plan.specs.declared.node_plan.NodePlan.{NodePlan}
 use Rattle.vc_plan.specs.declared.plan.Plan.{Plan}
 use Rattle.vc_plan.specs.Accepted.{IsAccepted}

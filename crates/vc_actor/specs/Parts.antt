@@ -20,6 +20,7 @@ abbrev pub node_in : Acting → Option Node
 node_in (OfNode n) = Some n
 node_in (OfSwitch s) = None
 
+-- the node, if there is such an actor and it is one
 abbrev pub node_at : Option Acting → Option Node
 node_at None = None
 node_at (Some a) = node_in a
@@ -29,6 +30,7 @@ abbrev pub switch_in : Acting → Option SwitchState
 switch_in (OfNode n) = None
 switch_in (OfSwitch s) = Some s
 
+-- the switch, if there is such an actor and it is one
 abbrev pub switch_at : Option Acting → Option SwitchState
 switch_at None = None
 switch_at (Some a) = switch_in a

@@ -9,8 +9,7 @@ use Rattle.vc_packets.specs.Headers.{spelled}
 use Rattle.vc_packets.specs.Kind.{kind}
 use Rattle.vc_blocks.specs.Halves.{load_of, ends_message}
 use Rattle.vc_switch.specs.Forward.{behind}
-use Rattle.vc_machine.specs.Paths.{Net, End, AtSwitch, Carries, Delivers, GoesOn}
-use Rattle.vc_machine.specs.Paths.{IsAccepted as IsAcceptedNet}
+use Rattle.vc_machine.specs.Paths.{Net, End, AtSwitch, Carries, Delivers, GoesOn, IsAccepted as IsAcceptedNet}
 use Rattle.vc_machine.specs.Places.{Place, OnWire, Inside, LeadsTo, IsOf, BelongsTo}
 use Rattle.vc_machine.proofs.Basics.{header_same, header_rest_same}
 use Rattle.vc_machine.proofs.Counts.{piece_ack}

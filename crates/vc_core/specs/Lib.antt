@@ -13,14 +13,4 @@ pub mod Enabled
 pub mod Turns
 pub mod Targets
 pub mod Placed
-pub use Rattle.vc_actor.specs.Able
-pub use Rattle.vc_actor.specs.Acting
-pub use Rattle.vc_actor.specs.Begin
-pub use Rattle.vc_actor.specs.Inside
-pub use Rattle.vc_actor.specs.MayMove
-pub use Rattle.vc_actor.specs.OfPlan
-pub use Rattle.vc_actor.specs.Parts
-pub use Rattle.vc_actor.specs.Passing
-pub use Rattle.vc_actor.specs.Shown
-pub use Rattle.vc_actor.specs.Viewed
 pub mod Still

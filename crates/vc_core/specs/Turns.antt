@@ -4,13 +4,12 @@ use Rattle.vc_plan.specs.declared.plan.Plan.{Plan as Given}
 use Rattle.vc_core.specs.Enabled.{NetworkState, CanHappenIn, CanHappen}
 use Rattle.std.specs.Int.{bit_at}
 use Rattle.vc_core.specs.State.{State, shown, HasFront, HasWay}
-use Rattle.vc_actor.specs.Turns.{kind_of}
+use Rattle.vc_actor.specs.Turns.{kind_of, RoomLets, IsTurn, FindsTurn, TakesNone, actors, IsPut, MakesTurn, PutsWithRoom}
 use Rattle.vc_actor.specs.declared.act.Act.{Act}
 use Rattle.vc_actor.specs.declared.act.Act.TheVariants.{Take}
 use Rattle.vc_actor.specs.declared.act.ActKind.{ActKind}
 use Rattle.vc_core.specs.declared.event.Event.{Event}
 use Rattle.vc_placement.specs.OneNode as one_node
-pub use Rattle.vc_actor.specs.Turns.{RoomLets, IsTurn, FindsTurn, TakesNone, actors, IsPut, MakesTurn, PutsWithRoom}
 
 -- room has a bit for each link by which a way goes out
 abbrev pub IsRoom : State → ℕ → ℕ → Type 0
@@ -45,6 +44,7 @@ pub record Rests (p : Given) (s : State) (k : ℕ) : Type 0 where
 abbrev pub IsAtRestIn : Given → NetworkState → Type 0
 IsAtRestIn p x = (e : Event) → CanHappenIn p x e → ⊥
 
+-- no event of the network can happen
 abbrev pub IsAtRest : Given → State → Type 0
 IsAtRest p s = IsAtRestIn p (shown s)
 

@@ -14,7 +14,7 @@ use Rattle.vc_text.specs.Checking.{ReadsAccepted, accepted_text}
 use Rattle.vc_text.specs.Deadlock.{IsFound, deadlock_text}
 use Rattle.vc_text.specs.FaultLine.{fault_text}
 use Rattle.vc_text.specs.Streams.{AppendsFront, IsAllOf}
-use Rattle.vc_text.specs.Traffic.{newline}
+use Rattle.vc_waits.specs.Waits.{newline}
 use Rattle.vc_text.specs.declared.fault.RunFault.{RunFault}
 use Rattle.vc_text.specs.declared.fault.RunFault.TheVariants.{Read, Write, Text, Plan, Memory}
 use Rattle.vc_explain.specs.Lengths.{lengths_text}

@@ -7,7 +7,7 @@ use Rattle.vc_plan.specs.declared.vlink.Vlink.{Vlink}
 use Rattle.vc_plan.specs.declared.vlink_length.VlinkLength.{VlinkLength}
 use Rattle.vc_plan.specs.declared.way_length.WayLength.{WayLength}
 use Rattle.vc_plan.specs.Names.{node_name}
-use Rattle.vc_text.specs.Traffic.{newline}
+use Rattle.vc_waits.specs.Waits.{newline}
 
 -- the virtual link, and the nodes of its ends
 unfoldable pub ends_text : Plan → List ℕ → End → End → List ℕ

@@ -2,7 +2,7 @@
 use Rattle.std.specs.Prelude.{ℕ, suc, ◌==◌, if◌then◌else◌, List, [], ◌∷◌, ◌++◌, codes, decimal, take}
 use Rattle.vc_reader.specs.declared.path.Step.{Step}
 use Rattle.vc_text.specs.FaultLine.{steps_text}
-use Rattle.vc_text.specs.Traffic.{newline}
+use Rattle.vc_waits.specs.Waits.{newline}
 use Rattle.vc_explain.specs.Parts.{offset}
 
 -- the line and the column behind these bytes, where one stands at line and column n before them: a line feed ends a line

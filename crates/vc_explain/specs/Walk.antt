@@ -15,8 +15,9 @@ use Rattle.vc_plan.specs.declared.vlink.Vlink.{Vlink}
 use Rattle.vc_plan.specs.Accepted.{end_of}
 use Rattle.vc_plan.specs.Hops.{left_by, put_in_front}
 use Rattle.vc_plan.specs.Wires.{switch_at}
-use Rattle.vc_text.specs.FaultLine.{hop_text, last_text, port_text}
-use Rattle.vc_text.specs.Traffic.{newline}
+use Rattle.vc_text.specs.FaultLine.{hop_text, last_text}
+use Rattle.vc_waits.specs.Ports.{port_text}
+use Rattle.vc_waits.specs.Waits.{newline}
 
 -- the headers of a packet, the front one first
 abbrev pub header_text : ℕ → List ℕ

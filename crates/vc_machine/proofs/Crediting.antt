@@ -1,6 +1,5 @@
 -- The credit of a way: no step brings more tokens to a way than its buffer has places.
-use Rattle.std.proofs.Common.{◌≡◌, ℕ, suc, ◌+◌, ◌*◌, ◌-◌, ◌<◌, ◌≤◌, List, [], ◌∷◌, ◌++◌, length, refl, sym, ap, subst, ◌∙◌, arith}
-use Rattle.std.proofs.Common.{length-append}
+use Rattle.std.proofs.Common.{◌≡◌, ℕ, suc, ◌+◌, ◌*◌, ◌-◌, ◌<◌, ◌≤◌, List, [], ◌∷◌, ◌++◌, length, refl, sym, ap, subst, ◌∙◌, arith, length-append}
 use Rattle.vc_packets.specs.declared.mark.Mark.{Mark}
 use Rattle.vc_machine.specs.Paths.{Net}
 use Rattle.vc_packets.specs.Functions.{put}

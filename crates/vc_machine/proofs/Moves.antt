@@ -2,16 +2,13 @@
 use Rattle.std.proofs.Common.{◌≡◌, ℕ, ◌+◌, ◌<◌, List, [], ◌∷◌, ◌++◌, refl, sym, ap, subst, ◌∙◌, arith, Option, Some, None}
 use Rattle.vc_packets.specs.declared.packet.Packet.{Packet}
 use Rattle.vc_packets.specs.Headers.{spelled}
-use Rattle.vc_machine.specs.Paths.{AtSwitch, Net}
-use Rattle.vc_switch.specs.Forward.{behind}
+use Rattle.vc_machine.specs.Paths.{AtSwitch, Net, Leaves}
+use Rattle.vc_switch.specs.Forward.{behind, IsDrawn}
 use Rattle.vc_machine.specs.Machine.{State, WayState, ChanState, Empty, Full, set_way, BodyLeaves, Sends, fills, lost, Enters, Routes, Departs, HasGroup}
 use Rattle.vc_packets.specs.Functions.{put}
-use Rattle.vc_machine.proofs.Labels.{Phase, Label, Labels, number, in_way, tally, On, InputFits, WayFits, ChanFits, Inv, number-append, tally_put}
+use Rattle.vc_machine.proofs.Labels.{Phase, Label, Labels, number, in_way, tally, On, InputFits, WayFits, ChanFits, Inv, number-append, tally_put, goal_end}
 use Rattle.vc_machine.proofs.Ways.{set_fits, zip_push, front_of, push_line}
 use Rattle.vc_machine.proofs.Cover.{load_of, body_is, restacked, spelled_behind, follows, onward}
-use Rattle.vc_switch.specs.Forward.{IsDrawn}
-use Rattle.vc_machine.specs.Paths.{Leaves}
-use Rattle.vc_machine.proofs.Labels.{goal_end}
 
 pub moved : (net : Net) (s : State) (i : Inv net s) (w : ℕ) → w < net.ways → (a : WayState) (b : Labels) → WayFits net i.phases s.chans w a b →
     ((c : ℕ) → in_way c b ≡ in_way c (i.labels w)) → Inv net (set_way s w a)

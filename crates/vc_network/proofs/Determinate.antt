@@ -17,14 +17,13 @@ use Rattle.vc_machine.proofs.Basics.{header_rest_same}
 use Rattle.vc_machine.proofs.NodeSteps.{same_piece, same_ack, not_both}
 use Rattle.vc_packets.proofs.Cutting.{pieces_same}
 use Rattle.vc_machine.proofs.OneStep.{body_same}
-use Rattle.vc_vcp.specs.Carrier.{Carrier, Ends, set_out, set_in, enqueue}
-use Rattle.vc_vcp.specs.Carrier.{End as NodeEnd}
+use Rattle.vc_vcp.specs.Carrier.{Carrier, Ends, set_out, set_in, enqueue, End as NodeEnd}
 use Rattle.vc_vcp.specs.Steps as node
 use Rattle.vc_switch.specs.Switch as switch
 use Rattle.vc_switch.specs.Switch.{Switch, set_input}
 use Rattle.vc_network.specs.Plan.{body_limit, Plan, Inside, home, ends, input_end, switch_plan, net_of, way_from, IsAccepted}
 use Rattle.vc_network.specs.Processes.{Move, Offer, Want, Choose, Stopch, Inner, Quiet, StepRelation, IsDeterminate}
-use Rattle.vc_network.specs.Processes.{Offers, Wants, Chooses, Stops, Meets, Rests, Finishes, Receives}
+use Rattle.vc_process.specs.ProcessStep.{Offers, Wants, Chooses, Stops, Meets, Rests, Finishes, Receives}
 use Rattle.vc_network.specs.Network.{Node, exchanged, ByHalves, Moves, GoesOn}
 use Rattle.vc_network.proofs.Wiring.{net_accepted, inputs_here, outputs_here}
 use Rattle.vc_network.proofs.NodeLift.{piece_is, ack_is}

@@ -12,8 +12,7 @@ use Rattle.vc_tokens.specs.Tokens.{Token, Byte, EndMark}
 use Rattle.vc_tokens.specs.Tokens as tokens
 use Rattle.vc_switch.specs.Waiting.{Waiting}
 use Rattle.vc_credit.specs.Ends.{puts_byte, puts_mark}
-use Rattle.vc_vcp.specs.Carrier.{set_out, set_in, enqueue}
-use Rattle.vc_vcp.specs.Carrier.{End as NodeEnd}
+use Rattle.vc_vcp.specs.Carrier.{set_out, set_in, enqueue, End as NodeEnd}
 use Rattle.vc_vcp.specs.Steps as node
 use Rattle.vc_vcp.specs.Links.{Vcp, new_vcp, set_link, with_token, due, passing, passes_byte, passes_mark, unqueued}
 use Rattle.vc_network.specs.Processes.{Offer, Want, by_test}

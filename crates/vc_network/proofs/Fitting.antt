@@ -1,6 +1,5 @@
 -- No byte past the limit comes to pass: as over the ways.
-use Rattle.std.proofs.Common.{◌≡◌, ℕ, ◌+◌, ◌*◌, ◌≤◌, ◌<◌, true, not, length, refl, sym, subst, arith}
-use Rattle.std.proofs.Common.{Option, Some, None}
+use Rattle.std.proofs.Common.{◌≡◌, ℕ, ◌+◌, ◌*◌, ◌≤◌, ◌<◌, true, not, length, refl, sym, subst, arith, Option, Some, None}
 use Rattle.vc_switch.specs.Forward.{Interval, IsDrawn}
 use Rattle.vc_machine.specs.Links.{Tokens}
 use Rattle.vc_switch.specs.Waiting.{Wormhole}

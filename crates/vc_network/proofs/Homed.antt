@@ -6,8 +6,7 @@ use Rattle.vc_packets.specs.Headers.{spelled}
 use Rattle.vc_machine.specs.Paths.{AtNode, AtSwitch}
 use Rattle.vc_switch.specs.Forward.{without_portals}
 use Rattle.vc_machine.proofs.Basics.{every_put}
-use Rattle.vc_vcp.specs.Carrier.{Carrier, InHalf, set_in, set_out, enqueue, new_carrier}
-use Rattle.vc_vcp.specs.Carrier.{End as NodeEnd}
+use Rattle.vc_vcp.specs.Carrier.{Carrier, InHalf, set_in, set_out, enqueue, new_carrier, End as NodeEnd}
 use Rattle.vc_vcp.specs.Steps as node
 use Rattle.vc_network.specs.Plan.{body_limit, Plan, home, ends, switch_plan, IsWired, IsInto, IsAccepted}
 use Rattle.vc_tokens.specs.Tokens.{Token, Byte, Fct, EndMark}

@@ -23,8 +23,8 @@ use Rattle.vc_vcp.specs.Links.{Vcp}
 use Rattle.vc_switch.specs.Switch.{Switch}
 use Rattle.vc_switch.specs.Switch as switch
 use Rattle.vc_network.specs.Plan.{body_limit, Plan, Inside, home, ends, way_from, back, switch_plan, net_of, IsAccepted, IsInto}
-use Rattle.vc_network.specs.Processes.{Move, Offer, Want, Choose, Stopch, Inner, Quiet, ProcessStep, StepRelation, Trace, none, more, comms, input_of}
-use Rattle.vc_network.specs.Processes.{Offers, Wants, Chooses, Stops, Meets, Rests, Finishes, Receives}
+use Rattle.vc_network.specs.Processes.{Move, Offer, Want, Choose, Stopch, Inner, Quiet, StepRelation, Trace, none, more, comms, input_of}
+use Rattle.vc_process.specs.ProcessStep.{ProcessStep, Offers, Wants, Chooses, Stops, Meets, Rests, Finishes, Receives}
 use Rattle.vc_network.specs.Network.{Act, Proc, Take, Put, Route, Fct, Pass, Node, Actor, IsNode, IsSwitch, exchanged, ByHalves, Moves, GoesOn, NodeStep, SwitchStep, Local}
 use Rattle.vc_network.specs.Views.{vcp_of, inner_of, switch_of, vcps, switches, view}
 use Rattle.vc_network.proofs.Backs.{back_into}

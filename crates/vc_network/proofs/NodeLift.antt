@@ -10,8 +10,7 @@ use Rattle.vc_machine.specs.Machine as net
 use Rattle.vc_machine.specs.Machine.{State, ChanState, set_way, set_chan, view_of, Step, Event}
 use Rattle.vc_packets.specs.Functions.{put}
 use Rattle.vc_machine.proofs.Basics.{put-same, every_put}
-use Rattle.vc_vcp.specs.Carrier.{Carrier, OutHalf, InHalf, set_out, set_in, enqueue}
-use Rattle.vc_vcp.specs.Carrier.{End as NodeEnd}
+use Rattle.vc_vcp.specs.Carrier.{Carrier, OutHalf, InHalf, set_out, set_in, enqueue, End as NodeEnd}
 use Rattle.vc_vcp.specs.Steps as node
 use Rattle.vc_network.specs.Plan.{Plan, home, ends, ways, near, way_from, net_of, IsAccepted}
 use Rattle.vc_network.specs.Processes.{input_of}

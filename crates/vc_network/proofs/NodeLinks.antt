@@ -10,13 +10,12 @@ use Rattle.vc_packets.specs.Functions.{put}
 use Rattle.vc_machine.proofs.Basics.{put-same, put-other, every_put}
 use Rattle.vc_tokens.specs.Tokens.{Token, Byte, EndMark}
 use Rattle.vc_tokens.specs.Tokens as tokens
-use Rattle.vc_credit.specs.Ends.{Sender}
+use Rattle.vc_credit.specs.Ends.{Sender, puts_byte, puts_mark}
 use Rattle.vc_machine.specs.Links.{Receiver, Tokens, set_wire, set_receiver}
 use Rattle.vc_machine.specs.TokenMachine as tok
 use Rattle.vc_switch.specs.Waiting.{Waiting}
 use Rattle.vc_machine.specs.TokenMachine.{TokenEvent, TokenStep, arrive, put_byte, put_mark}
 use Rattle.vc_machine.proofs.Update.{changed, kept}
-use Rattle.vc_credit.specs.Ends.{puts_byte, puts_mark}
 use Rattle.vc_vcp.specs.Carrier.{Carrier}
 use Rattle.vc_vcp.specs.Steps as node
 use Rattle.vc_vcp.specs.Links.{Link, Vcp, set_link, with_token, passing, Sends, SendsFct, unqueued}

@@ -3,8 +3,7 @@ use Rattle.std.proofs.Common.{◌≡◌, ℕ, ◌-◌, List, [], ◌∷◌, ◌+
 use Rattle.vc_packets.specs.declared.mark.Mark.{Mark}
 use Rattle.vc_machine.proofs.Basics.{head_same, append_cancel}
 use Rattle.vc_tokens.specs.Tokens.{Token, Byte, EndMark}
-use Rattle.vc_credit.specs.Ends.{Sender}
-use Rattle.vc_credit.specs.Ends.{Puts, puts_byte, puts_mark}
+use Rattle.vc_credit.specs.Ends.{Sender, Puts, puts_byte, puts_mark}
 
 no_more : (b : ℕ) (more : List ℕ) → b ∷ more ≡ [] → ⊥
 no_more b more e = absurd (cc)

@@ -4,22 +4,17 @@ use Rattle.std.proofs.lemmas.Bool.{cases_eq}
 use Rattle.vc_machine.specs.Paths.{Port, AtNode, AtSwitch}
 use Rattle.vc_packets.specs.Functions.{put}
 use Rattle.vc_machine.proofs.Basics.{put-same, put-other}
-use Rattle.vc_tokens.specs.Tokens.{Token}
-use Rattle.vc_credit.specs.Ends.{Sender}
-use Rattle.vc_machine.specs.Links.{Receiver, Tokens}
+use Rattle.vc_tokens.specs.Tokens.{Token, Byte, Fct, EndMark}
+use Rattle.vc_credit.specs.Ends.{Sender, IsDue, Receiver as LinkReceiver}
+use Rattle.vc_machine.specs.Links.{Receiver, Tokens, Wires}
 use Rattle.vc_machine.proofs.Update.{Changed}
 use Rattle.vc_vcp.specs.Carrier.{Carrier}
 use Rattle.vc_vcp.specs.Links.{Link, Vcp}
 use Rattle.vc_switch.specs.Switch.{Switch, Input}
 use Rattle.vc_network.proofs.Wires.{one_near, one_far}
-use Rattle.vc_network.specs.Plan.{Plan, ways, near, far, IsAccepted, IsOutOf, IsInto}
-use Rattle.vc_tokens.specs.Tokens.{Byte, Fct, EndMark}
-use Rattle.vc_machine.specs.Links.{Wires}
+use Rattle.vc_network.specs.Plan.{Plan, ways, near, far, IsAccepted, IsOutOf, IsInto, back, net_of}
 use Rattle.vc_machine.specs.View.{Credited}
 use Rattle.vc_machine.proofs.Crediting.{place_kept, credit_low}
-use Rattle.vc_credit.specs.Ends.{IsDue}
-use Rattle.vc_credit.specs.Ends.{Receiver as LinkReceiver}
-use Rattle.vc_network.specs.Plan.{back, net_of}
 use Rattle.vc_network.proofs.Backs.{back_back, near_back, back_out}
 use Rattle.vc_network.specs.Credit.{sender_at, receiver_at}
 use Rattle.vc_network.specs.Packets.{SameBound}

@@ -15,9 +15,8 @@ use Rattle.vc_machine.proofs.Refinement.{step_view}
 use Rattle.vc_machine.proofs.Binding.{step_bindings}
 use Rattle.vc_machine.proofs.Crediting.{step_counts}
 use Rattle.vc_machine.specs.Rendezvous.{View, Comm, DoesAll, part}
-use Rattle.vc_machine.specs.Machine.{State, view_of}
+use Rattle.vc_machine.specs.Machine.{State, view_of, view as net_view, Event as NetEvent}
 use Rattle.vc_packets.specs.Functions.{put}
-use Rattle.vc_machine.specs.Machine.{view as net_view, Event as NetEvent}
 use Rattle.vc_machine.proofs.Basics.{put-same, put-other, every_put}
 use Rattle.vc_machine.proofs.Labels.{Inv}
 use Rattle.vc_machine.proofs.Runs.{stepped, part_here, part_other}

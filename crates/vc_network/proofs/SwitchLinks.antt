@@ -6,13 +6,12 @@ use Rattle.vc_packets.specs.Functions.{put}
 use Rattle.vc_machine.proofs.Basics.{every_put}
 use Rattle.vc_tokens.specs.Tokens.{Token, Byte, EndMark}
 use Rattle.vc_tokens.specs.Tokens as tokens
-use Rattle.vc_credit.specs.Ends.{Sender}
+use Rattle.vc_credit.specs.Ends.{Sender, puts_byte, puts_mark, credited}
 use Rattle.vc_machine.specs.Links.{Receiver, Tokens, set_wire, set_receiver}
 use Rattle.vc_machine.specs.TokenMachine as tok
 use Rattle.vc_switch.specs.Waiting.{Waiting, MayGo}
 use Rattle.vc_machine.specs.TokenMachine.{arrive, put_byte, put_mark}
 use Rattle.vc_machine.proofs.Update.{Changed, changed, kept}
-use Rattle.vc_credit.specs.Ends.{puts_byte, puts_mark, credited}
 use Rattle.vc_credit.specs.Ends as link_ends
 use Rattle.vc_vcp.specs.Links.{Vcp}
 use Rattle.vc_switch.specs.Switch as switch

@@ -1,11 +1,9 @@
 -- An accepted plan is an accepted network of ways, and what a node's ends are in it.
 use Rattle.std.proofs.Common.{◌≡◌, ℕ, zero, suc, ◌-◌, ◌<◌, Bool, true, false, not, List, [], ◌∷◌, length, get_or, Option, Some, None, refl, sym, ap, subst, ◌∙◌, arith, if◌then◌else◌, ◌==◌, eqb-true, eq-eqb}
 use Rattle.std.proofs.lemmas.Nat.{mod_below}
-use Rattle.vc_machine.specs.Paths.{AtNode, Carries, Delivers, IsAtBlock}
+use Rattle.vc_machine.specs.Paths.{AtNode, Carries, Delivers, IsAtBlock, IsAccepted as IsAcceptedNet}
 use Rattle.vc_switch.specs.Forward.{Interval, IsDrawn}
-use Rattle.vc_machine.specs.Paths.{IsAccepted as IsAcceptedNet}
-use Rattle.vc_machine.proofs.Links.{Link, On, channel_on, labelled_accepted}
-use Rattle.vc_machine.proofs.Links.{end_of as side_of}
+use Rattle.vc_machine.proofs.Links.{Link, On, channel_on, labelled_accepted, end_of as side_of}
 use Rattle.vc_vcp.specs.Carrier.{End as NodeEnd}
 use Rattle.vc_switch.specs.Switch.{drawn}
 use Rattle.vc_network.specs.Plan.{way_from, Plan, Home, Way, Inside, End, home, ends, end_of, end_here, virtual_link, switch_plan, ways, output_end, input_end, is_virtual, net_end, net_channel, net_of, IsAccepted}

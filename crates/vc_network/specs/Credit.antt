@@ -4,9 +4,8 @@ use Rattle.vc_network.specs.Actors.{Network, ActBy}
 use Rattle.vc_machine.specs.Paths.{Port, AtNode, AtSwitch}
 use Rattle.vc_tokens.specs.Tokens.{Token}
 use Rattle.vc_credit.specs.Credit.{IsUnderCredit}
-use Rattle.vc_credit.specs.Ends.{Sender}
+use Rattle.vc_credit.specs.Ends.{Sender, Receiver}
 use Rattle.vc_switch.specs.Waiting.{Waiting}
-use Rattle.vc_credit.specs.Ends.{Receiver}
 use Rattle.vc_vcp.specs.Links.{Vcp}
 use Rattle.vc_switch.specs.Switch.{Switch}
 use Rattle.vc_network.specs.Plan.{Plan, body_limit, ways, near, far, back, IsAccepted}

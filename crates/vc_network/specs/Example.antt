@@ -3,7 +3,8 @@ use Rattle.std.specs.Prelude.{ℕ, ◌*◌, Bool, true, false, ◌&&◌, ◌==�
 use Rattle.vc_network.specs.Actors.{ActBy}
 use Rattle.vc_machine.specs.Paths.{AtNode}
 use Rattle.vc_network.specs.Plan.{Plan, Way}
-use Rattle.vc_network.specs.Processes.{Offer, Want, ProcessStep, Offers, Wants, Finishes, Receives}
+use Rattle.vc_network.specs.Processes.{Offer, Want}
+use Rattle.vc_process.specs.ProcessStep.{ProcessStep, Offers, Wants, Finishes, Receives}
 use Rattle.vc_network.specs.Network.{Act, Proc, Take, Put, Fct, Pass}
 
 abbrev pub example : Plan

@@ -70,5 +70,6 @@ StampsRise (s ∷ ss) = Rises s.at ss
 abbrev pub RunRises : {A : Type 0} → Numbered A → Type 0
 RunRises r = StampsRise r.run
 
+-- the same, with its act made into another by f
 abbrev pub remade : {A B : Type 0} → (A → B) → Made A → Made B
 remade f m = record { actor = m.actor; act = restamped f m.act }

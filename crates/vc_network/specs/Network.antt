@@ -16,7 +16,7 @@ use Rattle.vc_switch.specs.Switch.{Switch, new_switch}
 use Rattle.vc_switch.specs.Switch as switch
 use Rattle.vc_network.specs.Plan.{Plan, Inside, body_limit, home, ends, switch_plan, IsOutOf, IsInto}
 use Rattle.vc_network.specs.Processes.{Move, Offer, Want, Choose, Stopch, Inner, Quiet, StepRelation}
-use Rattle.vc_network.specs.Processes.{Offers, Wants, Chooses, Stops, Meets, Rests, Finishes, Receives}
+use Rattle.vc_process.specs.ProcessStep.{Offers, Wants, Chooses, Stops, Meets, Rests, Finishes, Receives}
 
 -- what an actor does in one step; a switch's Put names the output
 pub data Act : Type 0 where

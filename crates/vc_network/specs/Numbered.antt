@@ -1,7 +1,8 @@
 -- Laws of processes of any kind, said of processes that are numbered by their states, with steps that a test tells.
 use Rattle.std.specs.Prelude.{ℕ, Bool}
 use Rattle.vc_network.specs.Plan.{Plan}
-use Rattle.vc_network.specs.Processes.{ProcessStep, StepRelation, by_test}
+use Rattle.vc_process.specs.ProcessStep.{ProcessStep}
+use Rattle.vc_network.specs.Processes.{StepRelation, by_test}
 use Rattle.vc_switch.specs.Waiting.{Waiting}
 
 -- of every plan, waiting rule, test and opening states

@@ -1,12 +1,10 @@
 -- The plan of a network, and what it means: its ways, each node's ends, and when it is accepted.
 use Rattle.std.specs.Prelude.{◌≡◌, ℕ, suc, ◌+◌, ◌-◌, ◌*◌, ◌/◌, ◌%◌, ◌≤◌, ◌<◌, Bool, true, false, not, ◌&&◌, ◌==◌, List, [], ◌∷◌, length, get_or, Option, Some, None, if◌then◌else◌}
-use Rattle.vc_machine.specs.Paths.{Port, AtNode, AtSwitch, Delivers, Net, Channel}
+use Rattle.vc_machine.specs.Paths.{Port, AtNode, AtSwitch, Delivers, Net, Channel, End as NetEnd}
 use Rattle.vc_switch.specs.Forward.{SwitchPlan, Interval}
 use Rattle.vc_labels.specs.declared.action.Action.TheVariants.{Out}
 use Rattle.vc_labels.specs.Interval.{action_for}
-use Rattle.vc_machine.specs.Paths.{End as NetEnd}
-use Rattle.vc_vcp.specs.Carrier.{Ends}
-use Rattle.vc_vcp.specs.Carrier.{End as NodeEnd}
+use Rattle.vc_vcp.specs.Carrier.{Ends, End as NodeEnd}
 
 pub record Wire : Type 0 where
   pub one : Port

@@ -1,7 +1,7 @@
 -- Processes of any kind: their moves, and what one step of a process does.
 use Rattle.std.specs.Prelude.{◌≡◌, ℕ, Bool, true, List, [], ◌∷◌, ◌++◌, Option, Some, None}
 use Rattle.vc_machine.specs.Rendezvous.{Comm, Out, In, Fin, Stp}
-pub use Rattle.vc_process.specs.ProcessStep.{ProcessStep, Offers, Wants, Chooses, Stops, Meets, Rests, Finishes, Receives}
+use Rattle.vc_process.specs.ProcessStep.{ProcessStep, Offers, Wants, Chooses, Stops, Meets, Rests, Finishes, Receives}
 
 -- what a process may begin with, by site
 pub data Move : Type 0 where

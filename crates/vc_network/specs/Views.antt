@@ -11,8 +11,7 @@ use Rattle.vc_machine.specs.Seen.{read, passed_on}
 use Rattle.vc_vcp.specs.Carrier.{Carrier, OutHalf, InHalf}
 use Rattle.vc_vcp.specs.Links.{Vcp, new_vcp}
 use Rattle.vc_switch.specs.Switch.{Switch, new_switch}
-use Rattle.vc_network.specs.Plan.{Plan, Home, Way, home, ways, near, far, end_of, virtual_link, net_of}
-use Rattle.vc_network.specs.Plan.{Inside as InNode}
+use Rattle.vc_network.specs.Plan.{Plan, Home, Way, home, ways, near, far, end_of, virtual_link, net_of, Inside as InNode}
 use Rattle.vc_network.specs.Network.{Actor, IsNode, IsSwitch}
 
 abbrev pub vcp_of : {P : Type 0} → Actor P → Vcp

@@ -24,7 +24,8 @@ use Rattle.vc_occam.specs.declared.waits.Waits.TheVariants as waits
 use Rattle.vc_occam.specs.Frames.{Did, first_waits, waits_at, waits_there}
 use Rattle.vc_occam.specs.Moving.{IsAlone, site_of, action_for, action_on}
 use Rattle.vc_occam.specs.Sites.{sites, sites_all, sites_rest, OwnSites}
-use Rattle.vc_occam.specs.States.{State, Acts, Wants, Chooses, IsTraced, Resumes, StepsTo, bytes_or_none, came, carried, doing, output_at, sent_by, Waiting, output, input, waiting}
+use Rattle.vc_occam.specs.States.{State, Acts, IsTraced, Resumes, StepsTo, bytes_or_none, came, carried, doing, output_at, sent_by, Waiting, output, input, waiting}
+use Rattle.vc_process.specs.ProcessStep.{Wants, Chooses}
 use Rattle.vc_occam.proofs.Keeping.{lawful}
 use Rattle.vc_occam.proofs.Law.{law}
 use Rattle.vc_process.proofs.Lists.{at_front, behind, front_or, only, none}

@@ -10,7 +10,8 @@ use Rattle.vc_process.specs.Lawful.{outputs_all, inputs_all, outputs, inputs}
 use Rattle.vc_process.specs.Messages.{message, received}
 use Rattle.vc_occam.specs.Remains.{Rest, Done, Finishing, Getting, Then, Turns, begin, then_on, turns_on, index_on, beside_on, GuardAt, first, later, Step, does_skip, does_empty_seq, does_empty_par, does_assign, faults_assign, faults_out, does_if, does_turn, does_leave, faults_while, does_count, does_count_none, faults_count, does_offer, does_finish, does_input, waits_input, gets, does_stop, does_choose, waits_choose, in_then, in_turns, in_left, in_right}
 use Rattle.vc_occam.specs.Sites.{sites, sites_all, sites_guards, sites_branches, sites_rest, OwnSites}
-use Rattle.vc_occam.specs.States.{State, StepsTo, ProcessStep, Offers, Wants, Chooses, Stops, Meets, Rests, Finishes, Receives, Does, meeting}
+use Rattle.vc_occam.specs.States.{State, StepsTo, Does, meeting}
+use Rattle.vc_process.specs.ProcessStep.{ProcessStep, Offers, Wants, Chooses, Stops, Meets, Rests, Finishes, Receives}
 use Rattle.vc_process.specs.Syntax.{Test, Proc, Guards, no_parts, part}
 use Rattle.vc_occam.specs.Traces.{Comm, Out, Fin, In, set, Counts}
 use Rattle.vc_process.specs.Usage.{just}

@@ -6,7 +6,8 @@ use Rattle.vc_process.specs.declared.datum.Datum.{Datum}
 use Rattle.vc_occam.specs.declared.site_action.SiteAction.TheVariants as action
 use Rattle.vc_process.specs.Messages.{received}
 use Rattle.vc_occam.specs.Remains.{Rest, Done, Stopped, Fresh, Finishing, Getting, Then, Turns, Beside, then_on, turns_on, index_on, beside_on, Step, does_finish, gets, in_then, in_turns, in_left, in_right}
-use Rattle.vc_occam.specs.States.{State, Finishes, Receives, Does, output, input, waiting}
+use Rattle.vc_occam.specs.States.{State, Does, output, input, waiting}
+use Rattle.vc_process.specs.ProcessStep.{Finishes, Receives}
 use Rattle.vc_occam.specs.Traces.{Comm, Fin, In, set}
 use Rattle.vc_process.specs.Values.{Store}
 use Rattle.vc_process.proofs.Lists.{none, only}

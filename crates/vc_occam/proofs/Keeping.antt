@@ -8,7 +8,8 @@ use Rattle.vc_process.specs.Lawful.{outputs, outputs_all, inputs, inputs_all, Wi
 use Rattle.vc_occam.specs.Traces.{Comm, Fin, In, End}
 use Rattle.vc_occam.specs.Remains.{Rest, Done, Stopped, Fresh, Finishing, Getting, Then, Turns, Beside, and_then, begin, begin_seq, begin_par, begin_all, then_on, turns_on, beside_on, branch_on, chosen, GuardAt, first, later, Step, does_skip, does_empty_seq, does_empty_par, does_assign, faults_assign, faults_out, does_if, does_turn, does_leave, faults_while, does_count, does_count_none, faults_count, does_offer, does_finish, does_input, waits_input, gets, does_stop, does_choose, waits_choose, in_then, in_turns, in_left, in_right, changes_rest, uses_rest, Apart, KeepsVariablesApart, TraceRest}
 use Rattle.vc_occam.specs.Sites.{Disjoint}
-use Rattle.vc_occam.specs.States.{State, StepsTo, ProcessStep, Offers, Wants, Chooses, Stops, Meets, Rests, Finishes, Receives, Does, IsTraced}
+use Rattle.vc_occam.specs.States.{State, StepsTo, Does, IsTraced}
+use Rattle.vc_process.specs.ProcessStep.{ProcessStep, Offers, Wants, Chooses, Stops, Meets, Rests, Finishes, Receives}
 use Rattle.vc_occam.proofs.Sites.{Within, either, not_true, clash}
 use Rattle.vc_occam.proofs.Law.{law}
 use Rattle.vc_occam.proofs.Stores.{or_left, or_right}

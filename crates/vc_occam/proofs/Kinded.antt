@@ -14,7 +14,8 @@ use Rattle.vc_process.specs.Syntax.{Test, Given, Whole, Bytes, Proc, SKIP, STOP,
 use Rattle.vc_process.specs.Values.{Store, value_of, holds, text_of, datum_of}
 use Rattle.vc_occam.specs.Traces.{Comm, Out, In, Fin, Stp, set}
 use Rattle.vc_occam.specs.Remains.{Rest, Done, Stopped, Fresh, Finishing, Getting, Then, Turns, Beside, and_then, begin, begin_seq, begin_par, begin_all, then_on, turns_on, index_on, beside_on, branch_on, chosen, GuardAt, first, later, Step, does_skip, does_empty_seq, does_empty_par, does_assign, faults_assign, faults_out, does_if, does_turn, does_leave, faults_while, does_count, does_count_none, faults_count, does_offer, does_finish, does_input, waits_input, gets, does_stop, does_choose, waits_choose, in_then, in_turns, in_left, in_right}
-use Rattle.vc_occam.specs.States.{State, StepsTo, meeting, ProcessStep, Offers, Wants, Chooses, Stops, Meets, Rests, Finishes, Receives, Does}
+use Rattle.vc_occam.specs.States.{State, StepsTo, meeting, Does}
+use Rattle.vc_process.specs.ProcessStep.{ProcessStep, Offers, Wants, Chooses, Stops, Meets, Rests, Finishes, Receives}
 use Rattle.vc_process.proofs.Bytes.{number_again}
 
 abbrev pub kind_of : Datum → ValueKind

@@ -23,7 +23,8 @@ use Rattle.vc_occam.specs.Frames.{Able}
 use Rattle.vc_occam.specs.Moving.{site_of, action_for, action_on, partner}
 use Rattle.vc_occam.specs.Laws.{ListedMovesCanBeMade}
 use Rattle.vc_occam.specs.Sites.{sites, sites_all, sites_rest, OwnSites}
-use Rattle.vc_occam.specs.States.{IsAwaited, State, Wants, Chooses, Does, meeting, output_at, carried, sent_by, bytes_or_none, came, doing, output, input, waiting}
+use Rattle.vc_occam.specs.States.{IsAwaited, State, Does, meeting, output_at, carried, sent_by, bytes_or_none, came, doing, output, input, waiting}
+use Rattle.vc_process.specs.ProcessStep.{Wants, Chooses}
 use Rattle.vc_process.proofs.Lists.{only, none, at_front, behind, front_or}
 use Rattle.vc_occam.proofs.Insertion.{is_inserted}
 use Rattle.vc_occam.proofs.Sites.{not_true, clash}

@@ -17,7 +17,8 @@ use Rattle.vc_process.specs.Messages.{message}
 use Rattle.vc_occam.specs.Moving.{CanBegin, CanMeet, HasMet, at, action_for, partner, site_of}
 use Rattle.vc_occam.specs.Remains.{Rest, Step}
 use Rattle.vc_occam.specs.Sites.{OwnSites}
-use Rattle.vc_occam.specs.States.{State, Acts, Does, FitsMove, doing, sent_by, Meets, bytes_or_none, came, carried, meeting, output_at, output, waiting}
+use Rattle.vc_occam.specs.States.{State, Acts, Does, FitsMove, doing, sent_by, bytes_or_none, came, carried, meeting, output_at, output, waiting}
+use Rattle.vc_process.specs.ProcessStep.{Meets}
 use Rattle.vc_occam.specs.Traces.{Comm, Out, Fin, In}
 use Rattle.vc_process.specs.Usage.{Set}
 use Rattle.vc_process.specs.Values.{Store}

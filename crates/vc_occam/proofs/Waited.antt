@@ -15,7 +15,8 @@ use Rattle.vc_occam.specs.First.{own}
 use Rattle.vc_occam.specs.Moving.{BeginsToWait, site_of, without}
 use Rattle.vc_occam.specs.Remains.{Rest, Done, Fresh, Then, Turns, Beside, Step, does_offer, waits_input, in_then, in_turns, in_left, in_right, then_on, turns_on, index_on, beside_on}
 use Rattle.vc_occam.specs.Sites.{OwnSites, sites_rest}
-use Rattle.vc_occam.specs.States.{State, Acts, Wants, came, doing}
+use Rattle.vc_occam.specs.States.{State, Acts, came, doing}
+use Rattle.vc_process.specs.ProcessStep.{Wants}
 use Rattle.vc_occam.specs.Traces.{Comm}
 use Rattle.vc_process.proofs.Lists.{alone, at_front, behind, front_or, none}
 use Rattle.vc_occam.proofs.Acting.{doers_rest}

@@ -9,7 +9,8 @@ use Rattle.vc_process.specs.Values.{Store, holds}
 use Rattle.vc_process.specs.Usage.{Set}
 use Rattle.vc_occam.specs.Traces.{Comm, Fin, In}
 use Rattle.vc_occam.specs.Remains.{and_then, Rest, Done, begin, begin_seq, begin_par, begin_all, then_on, turns_on, beside_on, branch_on, chosen, Step, does_skip, does_empty_seq, does_empty_par, does_assign, faults_assign, faults_out, does_if, does_turn, does_leave, faults_while, does_count, does_count_none, faults_count, does_offer, does_finish, does_input, waits_input, gets, does_stop, does_choose, waits_choose, in_then, in_turns, in_left, in_right}
-use Rattle.vc_occam.specs.States.{State, ProcessStep, Offers, Wants, Chooses, Stops, Meets, Rests, Finishes, Receives, Does, meeting, Waiting, output, input, waiting}
+use Rattle.vc_occam.specs.States.{State, Does, meeting, Waiting, output, input, waiting}
+use Rattle.vc_process.specs.ProcessStep.{ProcessStep, Offers, Wants, Chooses, Stops, Meets, Rests, Finishes, Receives}
 use Rattle.vc_occam.specs.Laws.{IsAdded, IsKept, Inserted, inserted_here, WaitsAfter}
 use Rattle.vc_occam.proofs.Insertion.{inserted_left, inserted_right, is_inserted, inserted_keeps, inserted_or, same_without}
 

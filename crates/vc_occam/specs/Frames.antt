@@ -211,6 +211,7 @@ view_step f = (plan_at f.kind f.site f.parts.items, rest_at f.kind f.phase f.sit
 unfoldable pub view : Frame → View
 view = fold-Frame View view_step
 
+-- frames, each with what it stands for
 abbrev pub views : List Frame → List View
 views = map view
 

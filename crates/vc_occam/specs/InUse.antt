@@ -4,7 +4,8 @@ use Rattle.vc_occam.specs.declared.site_action.SiteAction.{SiteAction}
 use Rattle.vc_process.specs.Lawful.{outputs, outputs_all, inputs, inputs_all, Lawfully, LawfullyAll}
 use Rattle.vc_occam.specs.Remains.{Rest, Done, Stopped, Fresh, Finishing, Getting, Then, Turns, Beside, begin, changes_rest, Apart}
 use Rattle.vc_occam.specs.Sites.{Disjoint}
-use Rattle.vc_occam.specs.States.{State, StepsTo, ProcessStep, Does, IsTraced}
+use Rattle.vc_occam.specs.States.{State, StepsTo, Does, IsTraced}
+use Rattle.vc_process.specs.ProcessStep.{ProcessStep}
 use Rattle.vc_process.specs.Syntax.{Proc}
 use Rattle.vc_occam.specs.Traces.{Comm}
 use Rattle.vc_process.specs.Usage.{Set, nothing, just, ◌∪◌, changes}

@@ -11,7 +11,8 @@ use Rattle.vc_occam.specs.Traces.{Comm}
 use Rattle.vc_occam.specs.Remains.{begin}
 use Rattle.vc_occam.specs.First.{first_moves}
 use Rattle.vc_occam.specs.Sites.{OwnSites}
-use Rattle.vc_occam.specs.States.{State, StepsTo, ProcessStep, Offers, Wants, Chooses, Stops, Meets, Rests, Finishes, Receives, Does, sent_by, doing, FitsMove, Waiting, output, input, waiting}
+use Rattle.vc_occam.specs.States.{State, StepsTo, Does, sent_by, doing, FitsMove, Waiting, output, input, waiting}
+use Rattle.vc_process.specs.ProcessStep.{ProcessStep, Offers, Wants, Chooses, Stops, Meets, Rests, Finishes, Receives}
 
 -- a process begins with sites of its own side by side
 abbrev pub SitesAreOwnAtFirst : Type 0

@@ -7,7 +7,8 @@ use Rattle.vc_occam.specs.declared.site_action.SiteAction.TheVariants as action
 use Rattle.vc_occam.specs.declared.moves.Move.{Move}
 use Rattle.vc_occam.specs.declared.moves.Move.TheVariants.{Offer, Want, Choose, Stopch, Inner, Quiet}
 use Rattle.vc_occam.specs.Remains.{Rest}
-use Rattle.vc_occam.specs.States.{State, Does, Meets, bytes_or_none, came}
+use Rattle.vc_occam.specs.States.{State, Does, bytes_or_none, came}
+use Rattle.vc_process.specs.ProcessStep.{Meets}
 use Rattle.vc_occam.specs.Traces.{Comm}
 use Rattle.vc_process.specs.Usage.{Set}
 use Rattle.vc_process.specs.Values.{Store}

@@ -140,7 +140,8 @@ impl Running {
     ghost use Rattle.vc_occam.specs.Remains.{Done};
     ghost use Rattle.vc_occam.specs.Runnings.{inner_channels, moves, state};
     ghost use Rattle.vc_process.specs.Usage.{among};
-    ghost use Rattle.vc_occam.specs.States.{Acts, FitsMove, IsAwaited, IsQuiet, Rests, Resumes, doing, sent_by, waiting, output, input};
+    ghost use Rattle.vc_occam.specs.States.{Acts, FitsMove, IsAwaited, IsQuiet, Resumes, doing, sent_by, waiting, output, input};
+    ghost use Rattle.vc_process.specs.ProcessStep.{Rests};
 
     /// A process about to begin, its variables being 0 or without bytes. `inside` are the channels inside its node. At most 65,536
     /// processes are written in it, since a site's number has 16 bits.

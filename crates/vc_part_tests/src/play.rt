@@ -1,7 +1,7 @@
 //! Processes as they run, step by step. Of their variables 0 and 1 are numbers, and 2 and 3 bytes; the channels 8 and 9 are inside
 //! their node.
-ghost use Rattle.vc_occam.specs.Lawful.{Lawfully};
-ghost use Rattle.vc_occam.specs.Numbering.{written};
+ghost use Rattle.vc_process.specs.Lawful.{Lawfully};
+ghost use Rattle.vc_process.specs.Numbering.{written};
 
 use crate::read::read;
 use std::alloc::Global;

@@ -208,6 +208,7 @@ pub record PassesChannels (p : Plan) : Type 0 where
   pub before : PassesNodes p
   pub channels : channel_fault p ≡ None
 
+-- and each process keeps to its use
 pub record PassesUse (p : Plan) : Type 0 where
   pub before : PassesChannels p
   pub lawful : AreLawful p

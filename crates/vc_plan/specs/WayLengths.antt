@@ -40,6 +40,7 @@ pub record IsVlinkLength (net : Plan) (v : Vlink) (l : VlinkLength) : Type 0 whe
   pub there : IsWayLength net v.a l.there
   pub back : IsWayLength net v.b l.back
 
+-- it is a node
 abbrev pub is_node : Spot → Bool
 is_node (Node n) = true
 is_node (Switch n) = false

@@ -2,11 +2,10 @@
 use Rattle.std.proofs.Common.{◌≡◌, ℕ, zero, suc, ◌<◌, ◌-◌, ◌^◌, ℤ, pos, negsuc, Bool, true, false, List, Option, Some, None, if◌then◌else◌, nat_lt, get_or, refl, ap, ◌∙◌, arith}
 use Rattle.std.proofs.lemmas.Bool.{lt-ltb}
 use Rattle.std.proofs.lemmas.Bool.Decides.{nat_tests}
-use Rattle.std.specs.Int.{cast_signed}
+use Rattle.std.specs.Int.{cast_signed, w64, to_le_bytes, from_le_bytes, cast_unsigned}
 use lib.Signed.{mag}
 use mir.Val.{sel}
 use Rattle.vc_process.specs.Values.{within}
-use Rattle.std.specs.Int.{w64, to_le_bytes, from_le_bytes, cast_unsigned}
 use Rattle.std.proofs.lemmas.Int.{of_z-to_z}
 use Rattle.std.proofs.lemmas.Nat.{le_bytes_8}
 use Rattle.vc_process.specs.Messages.{number_bytes, number_of}

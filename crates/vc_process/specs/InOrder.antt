@@ -17,6 +17,7 @@ guard_layer g = record { when = as_test g.cond; chan = g.chan; var = g.var; then
 unfoldable pub number : Process → Numbered
 number = fold-Process Numbered NumberedBranch NumberedGuard numbered branch_layer guard_layer
 
+-- a branch that is yet to be numbered, and a guard
 unfoldable pub number_branch : Branch → NumberedBranch
 number_branch = fold-Branch Numbered NumberedBranch NumberedGuard numbered branch_layer guard_layer
 

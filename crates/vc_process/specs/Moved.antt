@@ -10,9 +10,11 @@ use Rattle.vc_process.specs.Renaming.{moved_by, renamed_exp, renamed_test, IsRen
 use Rattle.vc_process.specs.Syntax.{Exp}
 use Rattle.vc_process.specs.Terms.{as_test, exp}
 
+-- a process whose numbers of variables were raised
 abbrev pub IsMoved : ℕ → Process → Process → Type 0
 IsMoved by was now = IsRenamed (moved_by by) (number was) (number now)
 
+-- and a list of these
 abbrev pub AreMoved : ℕ → List Process → List Process → Type 0
 AreMoved by was now = AreRenamed (moved_by by) (map number was) (map number now)
 

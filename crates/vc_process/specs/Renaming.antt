@@ -63,6 +63,7 @@ mutual
 abbrev pub IsRenamed : (ℕ → ℕ) → Numbered → Numbered → Type 0
 IsRenamed ρ p q = (q.sites ≡ p.sites) × ((i j : ℕ) → Renamed ρ (p.tree i) (q.tree j))
 
+-- and a list of these
 abbrev pub AreRenamed : (ℕ → ℕ) → List Numbered → List Numbered → Type 0
 AreRenamed ρ [] [] = Unit {0}
 AreRenamed ρ (p ∷ ps) (q ∷ qs) = IsRenamed ρ p q × AreRenamed ρ ps qs

@@ -84,6 +84,7 @@ input_of vars channels d = do
 abbrev pub guard_head : List Variable → List Channel → Data → Result (Cond × (ℕ × ℕ)) Fault
 guard_head vars channels d = cond_first 4 vars d >>= λ cond. beside cond (input_of vars channels d)
 
+-- a branch: a condition and a process
 abbrev pub branch_of : (Data → Result Process Fault) → List Variable → Data → Result Branch Fault
 branch_of part vars d = do
   _ ← row 2 d

@@ -73,6 +73,7 @@ each read before (item d ds) = under (Index (length before)) (read before d) >>=
 abbrev pub joins : {A : Type 0} → List A → Result A Fault → Result (List A) Fault
 joins before read = under (Index (length before)) read >>= λ x. Ok (before ++ x ∷ [])
 
+-- a list, each of whose items is read with those before it
 abbrev pub list_of : {A : Type 0} → (List A → Data → Result A Fault) → Data → Result (List A) Fault
 list_of read (array ds) = each read [] ds
 list_of read _ = wrong Kind

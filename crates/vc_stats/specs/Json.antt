@@ -11,8 +11,9 @@ use Rattle.vc_plan.specs.declared.port.Port.{Port}
 use Rattle.vc_plan.specs.declared.port.Wire.{Wire}
 use Rattle.vc_process.specs.declared.value_kind.ValueKind.{ValueKind}
 use Rattle.vc_process.specs.declared.value_kind.ValueKind.TheVariants as kind
-use Rattle.vc_text.specs.FaultLine.{port_text}
-use Rattle.vc_text.specs.Traffic.{ChannelTraffic, newline, value_text}
+use Rattle.vc_waits.specs.Ports.{port_text}
+use Rattle.vc_text.specs.Traffic.{ChannelTraffic, value_text}
+use Rattle.vc_waits.specs.Waits.{newline}
 use Rattle.vc_stats.specs.Fields.{actors_of, begun_text, field_text, kinds_text, most_text, puts_text, taken_text, unfinished_text}
 use Rattle.vc_stats.specs.Visited.{Told}
 use Rattle.vc_stats.specs.declared.form.Form.TheVariants.{Json}

@@ -6,8 +6,9 @@ use Rattle.vc_plan.specs.Names.{actor_name}
 use Rattle.vc_plan.specs.declared.plan.Plan.{Plan}
 use Rattle.vc_plan.specs.declared.port.Port.{Port}
 use Rattle.vc_plan.specs.declared.port.Wire.{Wire}
-use Rattle.vc_text.specs.FaultLine.{port_text}
-use Rattle.vc_text.specs.Traffic.{ChannelTraffic, newline}
+use Rattle.vc_waits.specs.Ports.{port_text}
+use Rattle.vc_text.specs.Traffic.{ChannelTraffic}
+use Rattle.vc_waits.specs.Waits.{newline}
 use Rattle.vc_stats.specs.Fields.{actors_of, begun_text, field_text, kinds_text, most_text, puts_text, taken_text, unfinished_text}
 use Rattle.vc_stats.specs.Visited.{Told}
 use Rattle.vc_stats.specs.declared.form.Form.TheVariants.{Lines}

@@ -6,8 +6,7 @@ use Rattle.vc_packets.specs.Counting.{one_more}
 use Rattle.vc_packets.specs.Functions.{put}
 use Rattle.vc_tokens.specs.Tokens.{Token, Byte, Fct, EndMark}
 use Rattle.vc_packets.specs.declared.mark.Mark.{Mark}
-use Rattle.vc_credit.specs.Ends.{Receiver, Grants, credited, received}
-use Rattle.vc_credit.specs.Ends.{Passes as PassesOn}
+use Rattle.vc_credit.specs.Ends.{Receiver, Grants, credited, received, Passes as PassesOn}
 use Rattle.vc_credit.specs.Laws.{NeedsPlace}
 use Rattle.vc_switch.specs.Able.{EachTokenComes}
 use Rattle.vc_switch.specs.Forward.{SwitchPlan, IsDrawn, least_of}

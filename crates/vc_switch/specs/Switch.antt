@@ -8,9 +8,8 @@ use Rattle.vc_labels.specs.declared.action.Action.TheVariants.{Out}
 use Rattle.vc_labels.specs.Interval.{action_for}
 use Rattle.vc_packets.specs.Functions.{put}
 use Rattle.vc_tokens.specs.Tokens.{Token, Byte, Fct, EndMark}
-use Rattle.vc_credit.specs.Ends.{Sender}
+use Rattle.vc_credit.specs.Ends.{Sender, Receiver, Grants, Puts, IsDue, new_sender, new_receiver, credited, received}
 use Rattle.vc_switch.specs.Waiting.{Waiting, MayGo}
-use Rattle.vc_credit.specs.Ends.{Receiver, Grants, Puts, IsDue, new_sender, new_receiver, credited, received}
 
 -- an input link
 pub record Input : Type 0 where

@@ -2,7 +2,8 @@
 use Rattle.std.proofs.Common.{◌≡◌, ℕ, ◌<◌, ◌≤◌, length, Option, Some, None, is_some, ◌+◌, ◌||◌, Bool, true, false, List, refl, ap, arith}
 use Rattle.vc_plan.specs.declared.plan.Plan.{Plan}
 use Rattle.vc_core.specs.State.{State, shown, IsNetworkOf}
-use Rattle.vc_core.specs.Turns.{Rests, IsAtRest, FindsTake, FindsEvent, actors}
+use Rattle.vc_core.specs.Turns.{Rests, IsAtRest, FindsTake, FindsEvent}
+use Rattle.vc_actor.specs.Turns.{actors}
 use Rattle.vc_actor.specs.declared.act.Act.TheVariants.{Take}
 use Rattle.vc_core.specs.declared.event.Event.{Event}
 use Rattle.vc_core.proofs.Turning.{at_rest}

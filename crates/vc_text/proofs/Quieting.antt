@@ -8,7 +8,8 @@ use Rattle.std.specs.Int.{bit_at}
 use Rattle.vc_plan.specs.declared.plan.Plan.{Plan}
 use Rattle.vc_core.specs.State.{State, IsNetworkOf, HasFront, MakesEvent}
 use Rattle.vc_core.specs.Enabled.{CanHappen}
-use Rattle.vc_core.specs.Turns.{TakesNone, FindsEvent, Rests}
+use Rattle.vc_actor.specs.Turns.{TakesNone}
+use Rattle.vc_core.specs.Turns.{FindsEvent, Rests}
 use Rattle.vc_core.specs.declared.event.Event.{Event}
 use Rattle.vc_actor.proofs.Masks.{bits_both}
 use Rattle.vc_core.proofs.Quiet.{quiet_after}

@@ -3,7 +3,7 @@ use Rattle.std.proofs.Common.{◌≡◌, ℕ, ◌+◌, List, [], ◌∷◌, ◌+
 use Rattle.vc_actor.specs.declared.act.Act.TheVariants.{Take}
 use Rattle.vc_core.specs.Enabled.{CanHappen}
 use Rattle.vc_core.specs.State.{State, state_of, MakesEvent}
-use Rattle.vc_core.specs.Turns.{TakesNone}
+use Rattle.vc_actor.specs.Turns.{TakesNone}
 use Rattle.vc_core.specs.declared.event.Event.{Event}
 use Rattle.vc_core.proofs.Replayed.{reached_next}
 use Rattle.vc_plan.specs.declared.plan.Plan.{Plan}

@@ -7,7 +7,7 @@ use Rattle.vc_plan.specs.Check.{IsCause}
 use Rattle.vc_text.specs.declared.fault.RunFault.{RunFault}
 use Rattle.vc_text.specs.declared.fault.RunFault.TheVariants.{Write, Text, Plan, Threads}
 use Rattle.vc_text.specs.Streams.{AppendsFront, ReadsFile}
-use Rattle.vc_text.specs.Traffic.{newline}
+use Rattle.vc_waits.specs.Waits.{newline}
 
 -- the network of the reader's text is accepted, or the text or its plan is refused for what is wrong first
 abbrev pub ReadsAccepted : Option (List ℕ) → Result Network RunFault → Type 0

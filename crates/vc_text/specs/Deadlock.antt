@@ -8,9 +8,9 @@ use Rattle.vc_plan.specs.Dependencies.{HasRanks, IsCycle}
 use Rattle.vc_text.specs.declared.fault.RunFault.{RunFault}
 use Rattle.vc_text.specs.declared.fault.RunFault.TheVariants.{Write}
 use Rattle.vc_text.specs.Checking.{ReadsAccepted}
-use Rattle.vc_text.specs.FaultLine.{port_text}
+use Rattle.vc_waits.specs.Ports.{port_text}
 use Rattle.vc_text.specs.Streams.{AppendsFront}
-use Rattle.vc_text.specs.Traffic.{newline}
+use Rattle.vc_waits.specs.Waits.{newline}
 
 -- a port behind a space
 abbrev pub next_port : Network → Port → List ℕ

@@ -22,8 +22,8 @@ use Rattle.vc_threads.specs.declared.spawn.ThreadFault.{ThreadFault}
 use Rattle.vc_threads.specs.declared.spawn.ThreadFault.TheVariants as thread
 use Rattle.vc_text.specs.declared.fault.RunFault.{RunFault}
 use Rattle.vc_text.specs.declared.fault.RunFault.TheVariants as fault
-pub use Rattle.vc_waits.specs.Ports.{port_text}
-use Rattle.vc_text.specs.Traffic.{newline}
+use Rattle.vc_waits.specs.Ports.{port_text}
+use Rattle.vc_waits.specs.Waits.{newline}
 
 -- ---- the network file
 

@@ -4,7 +4,7 @@ use Rattle.std.specs.List.{flat_map}
 use Rattle.rand_pcg.specs.Lcg.{Lcg}
 use Rattle.vc_actor.specs.declared.act.Act.{Act}
 use Rattle.vc_actor.specs.declared.act.Act.TheVariants.{Proc, Take, Put, Route, Fct, Pass}
-use Rattle.vc_core.specs.Turns.{actors}
+use Rattle.vc_actor.specs.Turns.{actors}
 use Rattle.vc_core.specs.declared.event.Event.{Event}
 use Rattle.vc_plan.specs.declared.plan.Plan.{Plan}
 use Rattle.vc_threads.specs.Runs.{Draws, generator}

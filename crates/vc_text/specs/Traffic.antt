@@ -8,7 +8,7 @@ use Rattle.vc_process.specs.declared.value_kind.ValueKind.{ValueKind}
 use Rattle.vc_process.specs.declared.value_kind.ValueKind.TheVariants.{Int, Bytes}
 use Rattle.vc_core.specs.declared.close.Close.{Close}
 use Rattle.vc_core.specs.declared.close.Close.TheVariants.{Done, Quiet, Limit, GateClosed, ClockFull, Failed}
-pub use Rattle.vc_waits.specs.Waits.{newline, stop_text}
+use Rattle.vc_waits.specs.Waits.{newline, stop_text}
 
 -- what a channel is and has done
 pub record ChannelTraffic : Type 0 where

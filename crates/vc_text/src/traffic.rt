@@ -3,7 +3,8 @@ ghost use Rattle.std.specs.Prelude.{◌≡◌, ◌++◌, ◌+◌, map, OnOk, IfO
 ghost use Rattle.std.specs.Int.{w64, from_le_bytes, cast_signed};
 ghost use Rattle.vc_text.specs.Streams.{Writes};
 ghost use Rattle.vc_text.specs.Views.{shown};
-ghost use Rattle.vc_text.specs.Traffic.{bytes_text, value_text, message_line, message_lines, stop_text, channel_line, channel_lines, close_text, counts_text, traffic};
+ghost use Rattle.vc_text.specs.Traffic.{bytes_text, value_text, message_line, message_lines, channel_line, channel_lines, close_text, counts_text, traffic};
+ghost use Rattle.vc_waits.specs.Waits.{stop_text};
 
 use crate::fault::RunFault;
 use crate::streams::write_text;

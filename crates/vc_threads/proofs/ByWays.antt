@@ -10,8 +10,8 @@ use Rattle.vc_accepted.proofs.Wired.{link_is_at, wired, outgoing_is, incoming_is
 use Rattle.vc_network.specs.Actors.{Label, taken_off, put_on}
 use Rattle.vc_network.specs.Actors.Label.{Own, Takes, Puts}
 use Rattle.vc_network.specs.LocalRun.{Stamped, Turn, LocalRun, CarriesStamp, next_stamp, plain, all_put, all_taken, restamped}
-use Rattle.vc_core.specs.Shown.{Acting, actor_of, act_of}
-use Rattle.vc_core.specs.Turns.{IsPut}
+use Rattle.vc_actor.specs.Shown.{Acting, actor_of, act_of}
+use Rattle.vc_actor.specs.Turns.{IsPut}
 use Rattle.vc_actor.specs.declared.act.Act.{Act}
 use Rattle.vc_actor.specs.declared.act.Act.TheVariants.{Proc, Take, Put, Route, Fct, Pass}
 use Rattle.vc_machine.specs.Paths.{Port, AtNode, AtSwitch}

@@ -8,7 +8,7 @@ use Rattle.vc_accepted.proofs.Limited.{kept}
 use Rattle.vc_accepted.proofs.Listed.{both}
 use Rattle.vc_accepted.proofs.Ported.{one_port_of}
 use Rattle.vc_accepted.proofs.Wired.{link_is_at, wired}
-use Rattle.vc_core.specs.Turns.{actors}
+use Rattle.vc_actor.specs.Turns.{actors}
 use Rattle.vc_plan.specs.Accepted.{IsAccepted, port_of}
 use Rattle.vc_plan.specs.Limits.{link_ok, port_ok, wire_ok, ends_ok, switch_links_ok, spot_there}
 use Rattle.vc_plan.specs.declared.plan.Plan.{Plan}

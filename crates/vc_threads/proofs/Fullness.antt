@@ -14,9 +14,9 @@ use Rattle.vc_network.specs.Actors.{Label, Steps, put_on}
 use Rattle.vc_network.specs.Actors.Label.{Own, Takes, Puts}
 use Rattle.vc_network.specs.LocalRun as local
 use Rattle.vc_network.specs.LocalRun.{Turn, LocalRun, CarriesStamp, all_put, clock_after}
-use Rattle.vc_core.specs.Begin.{AreFirst}
-use Rattle.vc_core.specs.Shown.{Acting}
-use Rattle.vc_core.specs.Turns.{actors}
+use Rattle.vc_actor.specs.Begin.{AreFirst}
+use Rattle.vc_actor.specs.Shown.{Acting}
+use Rattle.vc_actor.specs.Turns.{actors}
 use Rattle.vc_actor.specs.declared.act.Act.{Act}
 use Rattle.vc_plan.specs.Accepted.{port_of}
 use Rattle.vc_plan.specs.declared.plan.Plan.{Plan}

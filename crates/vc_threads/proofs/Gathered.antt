@@ -7,10 +7,11 @@ use Rattle.vc_accepted.specs.NetworkOf.{network_of, wire_of}
 use Rattle.vc_network.specs.Actors.{act_of}
 use Rattle.vc_network.specs.LocalRun.{restamped}
 use Rattle.vc_network.specs.Merge.{Made, IsMerge}
-use Rattle.vc_core.specs.Begin.{AreFirst}
-use Rattle.vc_core.specs.Shown.{actor_of}
+use Rattle.vc_actor.specs.Begin.{AreFirst}
+use Rattle.vc_actor.specs.Shown.{actor_of}
 use Rattle.vc_core.specs.State.{State, shown, IsNetworkOf}
-use Rattle.vc_core.specs.Turns.{HaveEnded, actors}
+use Rattle.vc_core.specs.Turns.{HaveEnded}
+use Rattle.vc_actor.specs.Turns.{actors}
 use Rattle.vc_actor.specs.declared.act.Act.{Act}
 use Rattle.vc_core.specs.declared.close.Close.{Close}
 use Rattle.vc_core.specs.declared.close.Close.TheVariants.{Done}

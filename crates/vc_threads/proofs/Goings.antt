@@ -13,9 +13,9 @@ use Rattle.vc_network.proofs.Merging.{both_lists}
 use Rattle.vc_network.specs.LocalRun.{Turn, LocalRun, CarriesStamp, next_stamp, plain, clock_after, all_put, all_taken}
 use Rattle.vc_network.specs.Plan.{Plan}
 use Rattle.vc_tokens.specs.declared.token.Token.{Token}
-use Rattle.vc_core.specs.OfPlan.{IsActorOf}
+use Rattle.vc_actor.specs.OfPlan.{IsActorOf}
 use Rattle.vc_actor.specs.declared.act.Act.{Act}
-use Rattle.vc_core.specs.Shown.{Acting}
+use Rattle.vc_actor.specs.Shown.{Acting}
 use Rattle.vc_threads.specs.declared.worker_state.WorkerState.{WorkerState}
 use Rattle.vc_threads.specs.declared.link.Ends.{Ends}
 use Rattle.vc_threads.specs.declared.link.Stamped.{Stamped}

@@ -9,8 +9,8 @@ use Rattle.std.proofs.lemmas.Simd.{map-map}
 use Rattle.rtrb.specs.Ring.{sent, received, IsPair}
 use Rattle.vc_accepted.specs.Outgoing.{actor_of}
 use Rattle.vc_network.specs.LocalRun.{all_put, all_taken}
-use Rattle.vc_core.specs.Begin.{AreFirst}
-use Rattle.vc_core.specs.Turns.{actors}
+use Rattle.vc_actor.specs.Begin.{AreFirst}
+use Rattle.vc_actor.specs.Turns.{actors}
 use Rattle.vc_plan.specs.declared.plan.Plan.{Plan}
 use Rattle.vc_plan.specs.declared.port.Port.{Port}
 use Rattle.vc_tokens.specs.Spelt.{tokens}

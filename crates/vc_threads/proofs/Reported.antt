@@ -12,10 +12,10 @@ use Rattle.vc_accepted.specs.NetworkOf.{network_of}
 use Rattle.vc_network.specs.Actors.{act_of}
 use Rattle.vc_network.specs.LocalRun.{Turn, restamped}
 use Rattle.vc_network.specs.Merge.{Made, IsMerge, StampsRise, run_of}
-use Rattle.vc_core.specs.Begin.{AreFirst, BeginsAs}
-use Rattle.vc_core.specs.OfPlan.{IsActorOf}
-use Rattle.vc_core.specs.Shown.{Acting, actor_of}
-use Rattle.vc_core.specs.Turns.{actors}
+use Rattle.vc_actor.specs.Begin.{AreFirst, BeginsAs}
+use Rattle.vc_actor.specs.OfPlan.{IsActorOf}
+use Rattle.vc_actor.specs.Shown.{Acting, actor_of}
+use Rattle.vc_actor.specs.Turns.{actors}
 use Rattle.vc_actor.specs.declared.act.Act.{Act}
 use Rattle.vc_machine.specs.Rendezvous.{nothing_yet}
 use Rattle.vc_network.specs.Network.{Actor, IsNode, IsSwitch, first as begun}

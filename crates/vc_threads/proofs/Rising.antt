@@ -5,7 +5,7 @@ use Rattle.vc_network.specs.Actors.{Label}
 use Rattle.vc_network.specs.Actors.Label.{Own, Takes, Puts}
 use Rattle.vc_network.specs.LocalRun.{Stamped, Turn, LocalRun, next_stamp}
 use Rattle.vc_network.specs.Merge.{Rises, RunRises, StampsRise, AreDistinct, Numbered}
-use Rattle.vc_core.specs.Shown.{Acting}
+use Rattle.vc_actor.specs.Shown.{Acting}
 use Rattle.vc_actor.specs.declared.act.Act.{Act}
 use Rattle.vc_network.specs.Plan.{Plan}
 use Rattle.vc_tokens.specs.declared.token.Token.{Token}

@@ -8,11 +8,11 @@ use Rattle.vc_network.specs.Actors.Label.{Own, Takes, Puts}
 use Rattle.vc_network.specs.LocalRun.{Turn, LocalRun, clock_after, all_taken, all_put, plain}
 use Rattle.vc_network.specs.Plan.{Plan}
 use Rattle.vc_tokens.specs.declared.token.Token.{Token}
-use Rattle.vc_core.specs.OfPlan.{IsActorOf}
-use Rattle.vc_core.specs.Turns.{FindsTurn, IsPut, RoomLets}
+use Rattle.vc_actor.specs.OfPlan.{IsActorOf}
+use Rattle.vc_actor.specs.Turns.{FindsTurn, IsPut, RoomLets}
 use Rattle.vc_actor.specs.declared.act.Act.{Act}
 use Rattle.vc_actor.specs.declared.act.Act.TheVariants.{Proc, Take, Put, Route, Fct, Pass}
-use Rattle.vc_core.specs.Shown.{Acting}
+use Rattle.vc_actor.specs.Shown.{Acting}
 use Rattle.vc_threads.specs.Runs.{StepsByLink, HasNoStep, Used, Draws, words_of, word_of}
 use Rattle.std.specs.Int.{bit_at}
 use Rattle.std.specs.Prelude.{None}

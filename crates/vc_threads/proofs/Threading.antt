@@ -18,11 +18,11 @@ use Rattle.vc_network.specs.Actors.Label.{Own, Takes, Puts}
 use Rattle.vc_network.specs.LocalRun.{Stamped, Turn, LocalRun, all_put, all_taken, items, restamped}
 use Rattle.vc_network.specs.Merge.{Made, part, NotAfter, IsOrdered, IsMerge, remade}
 use Rattle.vc_core.specs.Replaying.{Replays}
-use Rattle.vc_core.specs.Shown.{actor_of as net_actor, act_of as code_act}
+use Rattle.vc_actor.specs.Shown.{actor_of as net_actor, act_of as code_act}
 use Rattle.vc_core.specs.State.{State, shown, IsNetworkOf}
 use Rattle.vc_core.specs.State as core
 use Rattle.vc_core.proofs.Replayed.{replays}
-use Rattle.vc_core.specs.Turns.{actors}
+use Rattle.vc_actor.specs.Turns.{actors}
 use Rattle.vc_actor.specs.declared.act.Act.{Act}
 use Rattle.vc_core.specs.declared.event.Event.{Event}
 use Rattle.vc_network.specs.Network.{Actor, Local, first, begins, actor_at}

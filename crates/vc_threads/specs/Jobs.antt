@@ -1,8 +1,8 @@
 -- What the workers are given, and what they give back.
 use Rattle.std.specs.Prelude.{◌≡◌, ℕ, ◌<◌, Bool}
 use Rattle.std.specs.List.{All}
-use Rattle.vc_core.specs.OfPlan.{IsActorOf}
-use Rattle.vc_core.specs.Shown.{Acting}
+use Rattle.vc_actor.specs.OfPlan.{IsActorOf}
+use Rattle.vc_actor.specs.Shown.{Acting}
 use Rattle.vc_network.specs.Plan.{Plan}
 use Rattle.vc_threads.specs.Wires.{Distinct, out_links, in_links}
 use Rattle.vc_threads.specs.Works.{HasRun, IsOfSomePlan}

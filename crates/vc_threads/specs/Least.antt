@@ -1,6 +1,6 @@
 -- The end from which a worker takes: of those from which its actor can take, the one of the least link.
 use Rattle.std.specs.Prelude.{◌≡◌, ℕ, ◌≤◌, ◌<◌, List, length, Option, Some, IfSome, slice_index_or}
-use Rattle.vc_core.specs.Shown.{Acting}
+use Rattle.vc_actor.specs.Shown.{Acting}
 use Rattle.vc_threads.specs.Works.{In, CanTake}
 use Rattle.vc_threads.specs.declared.worker_state.Found.{Found}
 

@@ -5,7 +5,7 @@ use Rattle.std.specs.List.{AllZip, Contains}
 use mathlib.Core.List.{IsPrefix}
 use Rattle.rtrb.specs.Ring.{sent, received, known_items, IsPair}
 use Rattle.vc_accepted.specs.Outgoing.{actor_of}
-use Rattle.vc_core.specs.Shown.{Acting}
+use Rattle.vc_actor.specs.Shown.{Acting}
 use Rattle.vc_plan.specs.declared.port.Port.{Port}
 use Rattle.vc_plan.specs.declared.port.Wire.{Wire}
 use Rattle.vc_tokens.specs.declared.token.Token.{Token}
@@ -86,6 +86,6 @@ LeftOn nodes e left way = LeftAt nodes e (tokens_at left way)
 abbrev pub OnWires : (Port → Port → Type 0) → List Wire → ℕ → Type 0
 OnWires R ws n = (i : ℕ) (w : Wire) → i < n → slice_get ws i ≡ Some w → R w.one w.two × R w.two w.one
 
--- and with the number of the way
+-- so of both ways of each of the first n wires, of a way by its number and its two ports
 abbrev pub OnWays : (ℕ → Port → Port → Type 0) → List Wire → ℕ → Type 0
 OnWays R ws n = (i : ℕ) (w : Wire) → i < n → slice_get ws i ≡ Some w → R (2 * i) w.one w.two × R (2 * i + 1) w.two w.one

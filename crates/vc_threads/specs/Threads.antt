@@ -8,11 +8,12 @@ use Rattle.vc_network.specs.Actors.{Label, act_of}
 use Rattle.vc_network.specs.Actors.Label.{Own, Takes, Puts}
 use Rattle.vc_network.specs.LocalRun.{Stamped, Turn, LocalRun, all_put, all_taken, items, restamped}
 use Rattle.vc_network.specs.Merge.{Made, IsMerge}
-use Rattle.vc_core.specs.Begin.{BeginsAs}
+use Rattle.vc_actor.specs.Begin.{BeginsAs}
 use Rattle.vc_core.specs.Replaying.{Replays}
-use Rattle.vc_core.specs.Shown.{Acting, actor_of}
+use Rattle.vc_actor.specs.Shown.{Acting, actor_of}
 use Rattle.vc_core.specs.State.{State, state_of, shown}
-use Rattle.vc_core.specs.Turns.{HaveEnded, actors}
+use Rattle.vc_core.specs.Turns.{HaveEnded}
+use Rattle.vc_actor.specs.Turns.{actors}
 use Rattle.vc_actor.specs.declared.act.Act.{Act}
 use Rattle.vc_core.specs.declared.close.Close.{Close}
 use Rattle.vc_core.specs.declared.close.Close.TheVariants.{Done}

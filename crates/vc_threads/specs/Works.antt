@@ -7,18 +7,17 @@ use Rattle.rand_pcg.specs.Lcg.{Lcg}
 use Rattle.rtrb.specs.Ring.{received, known_items, SameConsumer}
 use Rattle.rtrb.specs.declared.producer.Producer.{Producer}
 use Rattle.rtrb.specs.declared.consumer.Consumer.{Consumer}
-use Rattle.vc_network.specs.Actors.{Label}
+use Rattle.vc_network.specs.Actors.{Label, act_of}
 use Rattle.vc_network.specs.Actors.Label.{Own, Takes, Puts}
 use Rattle.vc_network.specs.LocalRun as local
 use Rattle.vc_network.specs.LocalRun.{Turn, LocalRun, clock_after}
-use Rattle.vc_network.specs.Actors.{act_of}
 use Rattle.vc_network.specs.Plan.{Plan}
 use Rattle.vc_tokens.specs.declared.token.Token.{Token}
-use Rattle.vc_core.specs.Acting.{HasLink}
-use Rattle.vc_core.specs.OfPlan.{IsActorOf}
+use Rattle.vc_actor.specs.Acting.{HasLink}
+use Rattle.vc_actor.specs.OfPlan.{IsActorOf}
 use Rattle.vc_actor.specs.declared.act.Act.{Act}
 use Rattle.vc_actor.specs.declared.act.Act.TheVariants.{Take}
-use Rattle.vc_core.specs.Shown.{Acting}
+use Rattle.vc_actor.specs.Shown.{Acting}
 use Rattle.vc_threads.specs.declared.worker_state.WorkerState.{WorkerState}
 use Rattle.vc_threads.specs.declared.link.Ends.{Ends}
 use Rattle.vc_threads.specs.declared.link.LinkRule.{LinkRule}
@@ -33,6 +32,7 @@ use Rattle.vc_threads.specs.Wires.{Sends, Receives, OutLooked, InLooked, IsReady
 abbrev pub IsOfSomePlan : Acting → Type 0
 IsOfSomePlan n = (plan : Plan) × (k : ℕ) × IsActorOf plan k n
 
+-- the ends of a worker at the wires
 abbrev pub Out : Type 0
 Out = ℕ × Producer Stamped Global LinkRule
 

@@ -2,8 +2,8 @@
 ghost use Rattle.std.specs.Prelude.{◌≡◌, ◌≢◌, ◌≤◌, ◌<◌, ◌++◌, [], ◌∷◌, IfOk, OnOk, length, map};
 ghost use Rattle.std.specs.List.{All, AllByRecursion};
 ghost use Rattle.vc_accepted.specs.Outgoing.{actor_of};
-ghost use Rattle.vc_core.specs.Begin.{AreFirst};
-ghost use Rattle.vc_core.specs.Turns.{actors as actors_in};
+ghost use Rattle.vc_actor.specs.Begin.{AreFirst};
+ghost use Rattle.vc_actor.specs.Turns.{actors as actors_in};
 ghost use Rattle.vc_plan.specs.Accepted.{IsAccepted};
 ghost use Rattle.vc_threads.specs.Jobs.{IsFit};
 ghost use Rattle.vc_threads.specs.Rings.{AddsRing, AreBare, AreWired, CanAddRing, outs_in, ins_in};

@@ -1,7 +1,7 @@
 //! A worker: one actor with its ends of the rings, turn by turn.
 ghost use Rattle.std.specs.Prelude.{◌≡◌, ℕ, ◌<◌, true};
 ghost use Rattle.std.specs.List.{All};
-ghost use Rattle.vc_core.specs.OfPlan.{IsActorOf};
+ghost use Rattle.vc_actor.specs.OfPlan.{IsActorOf};
 ghost use Rattle.vc_network.specs.Plan.{Plan};
 ghost use Rattle.vc_threads.specs.Jobs.{Ran};
 ghost use Rattle.vc_threads.specs.Wires.{Distinct, out_links, in_links};

@@ -3,7 +3,7 @@ ghost use Rattle.std.specs.Prelude.{◌≡◌, ◌≢◌, ℕ, ◌+◌, ◌<◌,
 ghost use Rattle.std.specs.List.{All, AllZip, HoldsAt};
 ghost use Rattle.std.specs.Int.{bit_at};
 ghost use Rattle.rtrb.specs.Ring.{sent, known_free, SameProducer};
-ghost use Rattle.vc_core.specs.OfPlan.{IsActorOf};
+ghost use Rattle.vc_actor.specs.OfPlan.{IsActorOf};
 ghost use Rattle.vc_network.specs.Plan.{Plan};
 ghost use Rattle.vc_threads.specs.Wires.{OutLooked, InLooked, HasRoom, IsFree, IsReady};
 ghost use Rattle.vc_threads.specs.Works.{CanTake, IsGreatest, IsLate, TakesFront};
@@ -197,7 +197,7 @@ impl WorkerState {
     ghost use Rattle.std.specs.Prelude.{◌≡◌, ◌≢◌, ◌<◌, ◌++◌, ℕ, [], ◌∷◌, length, OnOk, OnErr, IfOk, IfErr, IfSome};
     ghost use Rattle.std.specs.List.{All, HoldsAt};
     ghost use Rattle.std.specs.Vec.{vec_len, vec_capacity};
-    ghost use Rattle.vc_core.specs.OfPlan.{IsActorOf};
+    ghost use Rattle.vc_actor.specs.OfPlan.{IsActorOf};
     ghost use Rattle.vc_network.specs.Plan.{Plan};
     ghost use Rattle.vc_threads.specs.Runs.{HasNoStep, generator};
     ghost use Rattle.vc_threads.specs.Wires.{Distinct, in_links, out_links};

@@ -3,7 +3,7 @@ use Rattle.std.proofs.Common.{◌≡◌, ◌<◌, ◌≤◌, ◌-◌, ◌==◌, 
 use Rattle.std.specs.Option.{MatchOption, option_map}
 use Rattle.std.specs.Str.{bytes_eq}
 use Rattle.std.proofs.lemmas.Slice.Eq.{bytes_eq-Decides}
-use Rattle.vc_text.specs.Traffic.{newline}
+use Rattle.vc_waits.specs.Waits.{newline}
 use Rattle.vc_trace.specs.EventText.{spaced}
 use Rattle.vc_trace.specs.Words.{IsWord}
 use Rattle.vc_trace.proofs.Found.{both}

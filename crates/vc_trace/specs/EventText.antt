@@ -8,7 +8,7 @@ use Rattle.vc_occam.specs.declared.moves.Move.{Move}
 use Rattle.vc_occam.specs.declared.moves.Move.TheVariants.{Offer, Want, Choose, Stopch, Inner, Quiet}
 use Rattle.vc_plan.specs.Names.{actor_name, channel_name}
 use Rattle.vc_plan.specs.declared.plan.Plan.{Plan}
-use Rattle.vc_text.specs.Traffic.{newline}
+use Rattle.vc_waits.specs.Waits.{newline}
 use Rattle.vc_trace.specs.declared.word.Word.{Word}
 use Rattle.vc_trace.specs.declared.word.Word.TheVariants.{Text, Number}
 

@@ -12,7 +12,7 @@ use Rattle.vc_text.specs.Checking.{ReadsAccepted}
 use Rattle.vc_text.specs.Closing.{ClosesIn, OnlyProcessesWait}
 use Rattle.vc_text.specs.Streams.{AppendsFront, IsAllOf, IsReadFault}
 use Rattle.vc_text.specs.Tail.{IsTail}
-use Rattle.vc_text.specs.Traffic.{newline}
+use Rattle.vc_waits.specs.Waits.{newline}
 use Rattle.vc_text.specs.declared.fault.RunFault.{RunFault}
 use Rattle.vc_text.specs.declared.fault.RunFault.TheVariants.{Write}
 use Rattle.vc_trace.specs.EventOf.{IsEventOf}

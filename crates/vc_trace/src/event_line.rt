@@ -5,7 +5,7 @@ ghost use Rattle.vc_actor.specs.declared.act.Act.{Act as Done};
 ghost use Rattle.vc_core.specs.declared.event.Event.{Event as Happening};
 ghost use Rattle.vc_plan.specs.declared.plan.Plan.{Plan};
 ghost use Rattle.vc_plan.specs.Names.{channel_name};
-ghost use Rattle.vc_text.specs.Traffic.{newline};
+ghost use Rattle.vc_waits.specs.Waits.{newline};
 ghost use Rattle.vc_trace.specs.EventOf.{IsActOf, IsByte, IsChannel, IsEventOf, IsGuard, IsHalf, IsLong, IsMoveOf};
 ghost use Rattle.vc_trace.specs.Named.{AreNamesOf};
 ghost use Rattle.vc_trace.specs.EventText.{act_words, event_line, guard_word, move_words, spaced};

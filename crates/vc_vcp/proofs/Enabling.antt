@@ -20,8 +20,7 @@ use Rattle.vc_vcp.specs.LinkOut.{Sending, CanPutFront}
 use Rattle.vc_vcp.specs.Links.{set_link}
 use Rattle.vc_vcp.specs.Seen.{seen, ends_of, carrier_of, link_of, in_half, no_input, out_end, in_end, out_half, no_output}
 use Rattle.vc_vcp.specs.State.{State, IsIdle, IsUnwanted, IsOpen, IsInput, HoldsFor, MayPut, MayGrant}
-use Rattle.vc_vcp.specs.Steps.{message, accept, fetches, waits}
-use Rattle.vc_vcp.specs.Steps.{IsOpen as IsOpenChannel}
+use Rattle.vc_vcp.specs.Steps.{message, accept, fetches, waits, IsOpen as IsOpenChannel}
 use Rattle.vc_vcp.proofs.Inputting.{for_end}
 use Rattle.vc_vcp.proofs.Passing.{receiver_at}
 use Rattle.vc_vcp.proofs.Showing.{sends_token}

@@ -7,9 +7,8 @@ use Rattle.vc_packets.specs.Counting.{one_more}
 use Rattle.vc_packets.specs.Functions.{put}
 use Rattle.vc_packets.specs.declared.mark.Mark.{Mark}
 use Rattle.vc_tokens.specs.Tokens.{Token, Byte, Fct, EndMark}
-use Rattle.vc_credit.specs.Ends.{Receiver, Grants, IsFront, new_receiver, received}
+use Rattle.vc_credit.specs.Ends.{Receiver, Grants, IsFront, new_receiver, received, Passes as PassesOn}
 use Rattle.vc_credit.specs.Laws.{NeedsPlace}
-use Rattle.vc_credit.specs.Ends.{Passes as PassesOn}
 use Rattle.vc_vcp.specs.Keyed.{shown_or}
 use Rattle.vc_vcp.specs.LinkIn.{Receiving}
 use Rattle.vc_vcp.specs.LinkOut.{Sending}

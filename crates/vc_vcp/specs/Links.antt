@@ -5,8 +5,7 @@ use Rattle.vc_packets.specs.declared.mark.Mark.{Mark}
 use Rattle.vc_packets.specs.declared.packet.Packet.{Packet}
 use Rattle.vc_packets.specs.Functions.{put}
 use Rattle.vc_tokens.specs.Tokens.{Token, Byte, Fct, EndMark}
-use Rattle.vc_credit.specs.Ends.{Sender}
-use Rattle.vc_credit.specs.Ends.{Receiver, Grants, Puts, IsDue, new_sender, new_receiver, credited, received}
+use Rattle.vc_credit.specs.Ends.{Sender, Receiver, Grants, Puts, IsDue, new_sender, new_receiver, credited, received}
 use Rattle.vc_vcp.specs.Carrier.{Ends, Carrier, new_carrier}
 use Rattle.vc_vcp.specs.Steps.{Taken, Arrives}
 

@@ -38,6 +38,7 @@ guard_layer g = g.body
 unfoldable pub paths : Process → PathsAt
 paths = fold-Process PathsAt PathsAt PathsAt layer_paths branch_layer guard_layer
 
+-- the paths in a branch, and in a guard
 unfoldable pub branch_paths : Branch → PathsAt
 branch_paths = fold-Branch PathsAt PathsAt PathsAt layer_paths branch_layer guard_layer
 

@@ -2,7 +2,7 @@ use Rattle.std.proofs.Common.{◌≡◌, ◌<◌, length, arith, sym, subst, ap,
 use Rattle.std.specs.List.{AllByRecursion}
 use Rattle.vc_occam.specs.Opening.{Fits, opening}
 use Rattle.vc_occam.specs.Runnings.{state, inner_channels}
-use Rattle.vc_occam.specs.Usage.{among}
+use Rattle.vc_process.specs.Usage.{among}
 use Rattle.vc_plan.specs.Limits.{kinds_of}
 use Rattle.vc_vcp.specs.declared.end.End.{End as Given}
 use Rattle.vc_vcp.specs.Opening.{AreDistinct}

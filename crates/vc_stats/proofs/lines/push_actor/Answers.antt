@@ -3,7 +3,7 @@ use Rattle.vc_plan.specs.Names.{actor_name}
 use Rattle.vc_stats.specs.Fields.{kinds_text}
 use Rattle.vc_stats.specs.Lines.{actor_line}
 use Rattle.vc_stats.specs.declared.form.Form.TheVariants.{Lines}
-use Rattle.vc_text.specs.Traffic.{newline}
+use Rattle.vc_waits.specs.Waits.{newline}
 use Rattle.vc_text.proofs.Texts.{four_more}
 use Rattle.vc_stats.proofs.lines.push_actor.Goals as goal
 

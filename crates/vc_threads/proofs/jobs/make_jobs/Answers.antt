@@ -5,8 +5,8 @@ use Rattle.vc_accepted.specs.NetworkOf.{network_of}
 use Rattle.vc_core.proofs.Leaving.{few}
 use Rattle.vc_threads.specs.Threads.{AllKeep, actor_in}
 use Rattle.vc_threads.specs.Works.{IsOfSomePlan}
-use Rattle.vc_core.specs.Begin.{AreFirst}
-use Rattle.vc_core.specs.Turns.{actors}
+use Rattle.vc_actor.specs.Begin.{AreFirst}
+use Rattle.vc_actor.specs.Turns.{actors}
 use Rattle.vc_threads.proofs.Fitting.{by_recursion, actors_kept}
 use Rattle.vc_threads.proofs.jobs.make_jobs.Goals as goal
 

@@ -5,9 +5,9 @@ use Rattle.vc_actor.specs.declared.act.Act.{Act}
 use Rattle.vc_network.specs.Actors.{act_of}
 use Rattle.vc_network.specs.LocalRun.{restamped}
 use Rattle.vc_network.specs.Merge.{AreDistinct, IsMerge, Made, RunRises, run_of}
-use Rattle.vc_core.specs.Begin.{AreFirst}
+use Rattle.vc_actor.specs.Begin.{AreFirst}
 use Rattle.vc_core.specs.State.{state_of}
-use Rattle.vc_core.specs.Turns.{actors}
+use Rattle.vc_actor.specs.Turns.{actors}
 use Rattle.vc_core.specs.declared.event.Event.{Event}
 use Rattle.vc_plan.specs.declared.plan.Plan.{Plan}
 use Rattle.vc_tokens.specs.Spelt.{tokens}

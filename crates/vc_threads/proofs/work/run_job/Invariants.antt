@@ -1,5 +1,5 @@
 use Rattle.std.proofs.Common.{ℕ, IfSome}
-use Rattle.vc_core.specs.OfPlan.{IsActorOf}
+use Rattle.vc_actor.specs.OfPlan.{IsActorOf}
 use Rattle.vc_network.specs.Plan.{Plan}
 use Rattle.vc_threads.specs.Runs.{HasNoStep}
 use Rattle.vc_threads.specs.Works.{SameLinks, Uses, worker_state}

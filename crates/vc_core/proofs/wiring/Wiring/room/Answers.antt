@@ -1,8 +1,7 @@
-use Rattle.std.proofs.Common.{◌≡◌, ◌↔◌, get_or, slice_get, Some, None, sym, ap, ◌∙◌, subst}
+use Rattle.std.proofs.Common.{◌≡◌, ◌↔◌, get_or, slice_get, Some, None, sym, ap, ◌∙◌, subst, unwrap_or}
 use Rattle.std.proofs.lemmas.Option.{get_or_from_slice_get, unwrap_or-slice_get}
 use Rattle.std.specs.Int.{bit_at}
 use Rattle.vc_core.specs.Wired.{IsWired}
-use Rattle.std.proofs.Common.{unwrap_or}
 use Rattle.vc_core.proofs.wiring.Wiring.room.Goals as goal
 
 pub returns-in-Some : goal.returns-in-Some

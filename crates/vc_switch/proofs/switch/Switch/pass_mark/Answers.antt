@@ -2,13 +2,12 @@ use Rattle.std.proofs.Common.{◌≡◌, ◌<◌, sym, ap, ◌∙◌, subst, ari
 use Rattle.std.proofs.lemmas.Option.{slice_get_read}
 use Rattle.vc_tokens.specs.Tokens.{EndMark}
 use Rattle.vc_credit.specs.Ends.{IsFront}
-use Rattle.vc_switch.specs.Switch.{Passes}
+use Rattle.vc_switch.specs.Switch.{Passes, drawn}
 use Rattle.vc_switch.specs.State.{State, IsRange, plan_of, limit_of, output_of}
 use Rattle.vc_switch.specs.Seen.{seen, IsKept}
 use Rattle.vc_switch.proofs.Placed.{same_read, all-at, at_link}
 use Rattle.vc_switch.proofs.Showing.{input_at}
 use Rattle.vc_packets.specs.Counting.{one_more}
-use Rattle.vc_switch.specs.Switch.{drawn}
 use Rattle.vc_switch.proofs.Keeping.{link_in, switch_in, kept, kept_limit, room_at}
 use Rattle.vc_switch.proofs.Stepping.{header_at, mark_passes, mark_loses, link_whole, link_lost}
 use Rattle.vc_switch.proofs.switch.Switch.pass_mark.Goals as goal

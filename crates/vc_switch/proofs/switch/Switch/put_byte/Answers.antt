@@ -1,15 +1,11 @@
-use Rattle.std.proofs.Common.{◌≡◌, ◌<◌, sym, ap, ◌∙◌, subst, arith, slice_get, slice_set, length, vec_len, rules, Some}
-use Rattle.std.proofs.lemmas.Option.{slice_get_read}
-use Rattle.vc_switch.specs.State.{State, IsSwitch, plan_of, output_of}
-use Rattle.vc_switch.specs.Seen.{seen}
-use Rattle.std.proofs.Common.{◌+◌}
-use Rattle.std.proofs.lemmas.Option.{slice_get_within}
+use Rattle.std.proofs.Common.{◌≡◌, ◌<◌, sym, ap, ◌∙◌, subst, arith, slice_get, slice_set, length, vec_len, rules, Some, ◌+◌}
+use Rattle.std.proofs.lemmas.Option.{slice_get_read, slice_get_within}
+use Rattle.vc_switch.specs.State.{State, IsSwitch, plan_of, output_of, source_at}
+use Rattle.vc_switch.specs.Seen.{seen, IsBoundTo}
 use Rattle.vc_tokens.specs.Tokens.{Byte}
 use Rattle.vc_switch.specs.Able.{CanPut}
 use Rattle.vc_switch.specs.Waiting.{Wormhole}
 use Rattle.vc_switch.specs.Switch.{Sends}
-use Rattle.vc_switch.specs.State.{source_at}
-use Rattle.vc_switch.specs.Seen.{IsBoundTo}
 use Rattle.vc_switch.proofs.Placed.{read_there}
 use Rattle.vc_switch.proofs.Keeping.{switch_two}
 use Rattle.vc_switch.proofs.Putting.{sends_byte, link_advanced, can_there}

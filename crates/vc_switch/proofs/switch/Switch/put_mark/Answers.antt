@@ -1,14 +1,11 @@
-use Rattle.std.proofs.Common.{◌≡◌, ◌<◌, sym, ap, ◌∙◌, subst, arith, true, false, slice_get, slice_set, length, Some, None}
+use Rattle.std.proofs.Common.{◌≡◌, ◌<◌, sym, ap, ◌∙◌, subst, arith, true, false, slice_get, slice_set, length, Some, None, ◌+◌}
 use Rattle.std.proofs.lemmas.Option.{slice_get_read}
 use Rattle.vc_tokens.specs.Spelt.{token}
-use Rattle.vc_switch.specs.State.{State, IsSwitch, plan_of}
-use Rattle.vc_switch.specs.Seen.{seen, IsKept}
-use Rattle.std.proofs.Common.{◌+◌}
+use Rattle.vc_switch.specs.State.{State, IsSwitch, plan_of, source_at}
+use Rattle.vc_switch.specs.Seen.{seen, IsKept, IsBoundTo}
 use Rattle.vc_switch.specs.Able.{CanPut}
 use Rattle.vc_switch.specs.Waiting.{Wormhole}
 use Rattle.vc_switch.specs.Switch.{Sends}
-use Rattle.vc_switch.specs.State.{source_at}
-use Rattle.vc_switch.specs.Seen.{IsBoundTo}
 use Rattle.vc_switch.proofs.Placed.{read_there, some_at, at_link, at_some}
 use Rattle.vc_switch.proofs.Putting.{sends_mark, switch_freed, can_there, nothing_next, bound_there}
 use Rattle.vc_switch.proofs.Keeping.{kept_limit}

@@ -1,13 +1,11 @@
-use Rattle.std.proofs.Common.{◌≡◌, ◌<◌, ◌≤◌, sym, ap, ◌∙◌, subst, arith, false, slice_set, length, Some}
+use Rattle.std.proofs.Common.{◌≡◌, ◌<◌, ◌≤◌, sym, ap, ◌∙◌, subst, arith, false, slice_set, length, Some, ◌+◌}
 use Rattle.std.proofs.lemmas.Option.{slice_get_read}
-use Rattle.vc_switch.specs.State.{State, IsSwitch, plan_of}
+use Rattle.vc_switch.specs.State.{State, IsSwitch, plan_of, shown_or}
 use Rattle.vc_switch.specs.Seen.{seen, IsKept}
 use Rattle.vc_switch.proofs.Placed.{same_read, at_link}
-use Rattle.std.proofs.Common.{◌+◌}
 use Rattle.vc_switch.specs.Able.{CanRoute}
 use Rattle.vc_switch.specs.Waiting.{Wormhole}
 use Rattle.vc_switch.specs.Switch.{Routes}
-use Rattle.vc_switch.specs.State.{shown_or}
 use Rattle.vc_switch.specs.Front.{front_of, start_of}
 use Rattle.vc_switch.proofs.Keeping.{kept_limit}
 use Rattle.vc_switch.proofs.Routing.{under_way, switch_routed, routes, choices_none, route_leaves}

@@ -3,8 +3,7 @@ use Rattle.std.proofs.Math.ListN.{set}
 use Rattle.std.proofs.Math.Seq.{map-set_same}
 use Rattle.vc_network.specs.Actors.Label.{Own, Puts}
 use Rattle.vc_network.specs.LocalRun.{Turn}
-use Rattle.vc_actor.specs.Turns.{PutsWithRoom}
-use Rattle.vc_core.specs.Turns.{MakesTurn, IsPut}
+use Rattle.vc_actor.specs.Turns.{PutsWithRoom, MakesTurn, IsPut}
 use Rattle.vc_actor.specs.declared.act.Act.{Act}
 use Rattle.vc_tokens.specs.declared.token.Token.{Token}
 use Rattle.vc_threads.specs.declared.link.Stamped.{Stamped}
@@ -17,7 +16,7 @@ use Rattle.vc_threads.proofs.Steps.{finds_quiet}
 use Rattle.vc_threads.proofs.Goings.{among, uses_idle, uses_one, sends_one, sends_quiet, receives_quiet, looked_sends, looked_out_links}
 use Rattle.vc_threads.proofs.Backs.{same_back, zip_back}
 use Rattle.vc_threads.proofs.Outcomes.{of_some}
-use Rattle.vc_core.specs.OfPlan.{IsActorOf}
+use Rattle.vc_actor.specs.OfPlan.{IsActorOf}
 use Rattle.vc_threads.specs.Runs.{HasNoStep}
 use Rattle.vc_threads.proofs.worker_state.WorkerState.make_turn.Goals as goal
 
