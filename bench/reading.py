@@ -4,8 +4,9 @@
 From the clauses of a public function it follows each name to its definition in specs/, and the names in that, and so on. It counts the
 lines of those definitions, without imports, comments and blank lines. Types that the code declares are not counted, and not those of the
 toolchain. What only a view leads to is counted apart: how a value of the code is seen as one of the definitions nobody has to believe
-(docs/READING.md). It compares what it finds with that page and fails where a figure there is exceeded; with --write it writes the page's
-tables anew. A name counts where it stands, so the figures are a little too large.
+(docs/READING.md). It also counts the lines of specs/ outside specs/Private that no public function's clauses reach. It compares what it
+finds with that page and fails where a figure there is exceeded; with --write it writes the page's tables anew. A name counts where it
+stands, so the figures are a little too large.
 
 Made with rattle-kit-13f, logic dac8208d650f15bf.
 """
@@ -53,7 +54,7 @@ class Module:
                 indent = len(line) - len(line.lstrip())
                 if indent == 0:
                     # the definitions of a block stand two columns in
-                    depth = 2 if line.split()[0] in BLOCKS else 0
+                    depth = 2 if BLOCKS & set(line.split()[:2]) else 0
                 head = HEAD.match(line)
                 if indent == depth and head:
                     now = head[1]
@@ -133,6 +134,24 @@ class Row:
         self.files = len({path for path, _ in self.believed})
 
 
+def stray(found):
+    """How many lines of definitions outside specs/Private no clause of a public function leads to."""
+    seen = {}
+    for path in glob.glob(f"{ROOT}/crates/*/src/*.rt"):
+        text = open(path, encoding="utf-8").read()
+        names = {}
+        for line in re.findall(r"ghost use ([^;]*);", text):
+            names.update(imports(line))
+        for signature in re.findall(r"\n *pub (?:const )?fn \w+\b(.*?)\n *\{[\n}]", text, re.S):
+            at = re.search(r"\b(?:requires|ensures)\b", signature)
+            reached(found, signature[at.start() :] if at else "", names, None, seen, set())
+        for ghost in re.findall(r"\n *ghost \w+ = \{(.*?)\};\n", text, re.S):
+            reached(found, ghost, names, None, seen, set())
+    public = [it for it in found.values() if "/Private" not in it.path and not it.path.endswith("/Lib.antt")]
+    # an operator is used without its name
+    return sum(len(lines) for it in public for name, lines in it.lines.items() if name and "◌" not in name and (it.path, name) not in seen)
+
+
 def table(found):
     """Each promise, behind what the promises before it reach."""
     rows, before = [], {}
@@ -149,8 +168,9 @@ def by_file(lines):
     return sorted(files.items(), key=lambda it: (ORDER.index(it[0].split("/")[0]), it[0]))
 
 
-def page(rows):
-    out = ["| Promise | Lines to believe | Files | Lines with those above | Lines of views |", "|---|---|---|---|---|"]
+def page(rows, left):
+    out = [f"Lines of specs/ outside specs/Private that no public promise needs: {left}.", ""]
+    out += ["| Promise | Lines to believe | Files | Lines with those above | Lines of views |", "|---|---|---|---|---|"]
     out += [f"| `{it.function}` | {it.lines} | {it.files} | {sum(it.together.values())} | {it.views} |" for it in rows]
     for it in rows:
         more = by_file({k: n for k, n in it.believed.items() if k not in it.before})
@@ -163,15 +183,19 @@ def page(rows):
 
 
 def main():
-    rows = table(modules())
+    found = modules()
+    rows, left = table(found), stray(found)
     mark = "<!-- made by bench/reading.py --write -->\n"
     front, _, old = open(PAGE, encoding="utf-8").read().partition(mark)
     if "--write" in sys.argv:
         with open(PAGE, "w", encoding="utf-8") as it:
-            it.write(front + mark + "\n" + page(rows))
+            it.write(front + mark + "\n" + page(rows, left))
         return 0
     told = {m[1]: int(m[2]) for m in re.finditer(r"^\| `(\w+)` \| (\d+) \|", old, re.M)}
     wrong = [f"{it.function}: {it.lines} lines, and the page says {told.get(it.function)}" for it in rows if it.lines > told.get(it.function, 0)]
+    limit = re.search(r"^Lines of specs/ outside .*: (\d+)\.$", old, re.M)
+    if left > int(limit[1] if limit else 0):
+        wrong.append(f"{left} lines of specs/ outside specs/Private that no public promise needs")
     print("\n".join([*wrong, *(f"{it.function}: {it.lines} lines in {it.files} files, and {it.views} of views" for it in rows)]))
     return 1 if wrong else 0
 

@@ -14,7 +14,7 @@ pub record IsLawful (p : Process) : Type 0 where
 abbrev pub proceeds : StepRelation Process
 proceeds old d new = IsLawful old × does old d new
 
--- a deed of a lawful process leads to one state, and the message that goes out by it is one
+-- a step of a lawful process leads to one state, and the message that goes out by it is one
 abbrev pub DeedsLeadToOneState : Type 0
 DeedsLeadToOneState = IsDeterminate proceeds
 

@@ -1,6 +1,7 @@
--- What stands at the links of a network: tokens on the wires, and credit at their ends.
-use Rattle.std.specs.Prelude.{ℕ, Bool, true, false, suc, ◌*◌}
+-- What stands at the links of a network: tokens on the wires, and credit and receive buffers at their ends.
+use Rattle.std.specs.Prelude.{ℕ, Bool, true, false, suc, ◌*◌, ◌-◌, List, length, Option, slice_get}
 use Rattle.vc_network.specs.Network.{Actor, IsNode, IsSwitch}
+use Rattle.vc_tokens.specs.Tokens.{Token}
 use Rattle.vc_accepted.specs.Process.{Process}
 use Rattle.vc_core.specs.Enabled.{NetworkState}
 
@@ -16,3 +17,16 @@ credit_at (IsSwitch s) link = (s.output link).credit
 
 abbrev pub credit_in : NetworkState → ℕ → ℕ → ℕ
 credit_in x n link = credit_at (x.state n) link
+
+-- the tokens in the receive buffer of an actor's link
+abbrev pub buffer_at : Actor Process → ℕ → List Token
+buffer_at (IsNode a) link = (a.vcp.link link).receiver.buffer
+buffer_at (IsSwitch s) link = (s.input link).receiver.buffer
+
+-- how many they are
+abbrev pub buffered_in : NetworkState → ℕ → ℕ → ℕ
+buffered_in x n link = length (buffer_at (x.state n) link)
+
+-- the token at the end of a way, which was put last of those that stand there
+abbrev pub last_of : List Token → Option Token
+last_of way = slice_get way (length way - 1)

@@ -1,18 +1,20 @@
 //! A network: its actors, and the ways that join them.
-ghost use Rattle.std.specs.Prelude.{◌≡◌, ◌≢◌, ◌+◌, ◌*◌, ◌<◌, ◌↔◌, ℕ, true, false, List, length, map, slice_get, Some, None, IsTrue, IsSome, IfOk, IfErr, IfSome, OnOk, OnErr, MatchResult};
+ghost use Rattle.std.specs.Prelude.{◌≡◌, ◌≢◌, ◌+◌, ◌*◌, ◌<◌, ◌++◌, ◌↔◌, [], ℕ, true, false, List, length, map, slice_get, Some, None, IsTrue, IsSome, IfOk, IfErr, IfSome, OnOk, OnErr, MatchResult};
 ghost use Rattle.vc_core.specs.Replaying.{IsOpening, Reached, Replays, RefusedAt};
 ghost use Rattle.vc_plan.specs.declared.plan.Plan.{Plan};
 ghost use Rattle.vc_actor.specs.Acting.{IsOwn};
-ghost use Rattle.std.specs.Option.{option_copied};
+ghost use Rattle.std.specs.Option.{option_copied, option_map};
 ghost use Rattle.vc_plan.specs.Accepted.{port_of as side_of};
 ghost use Rattle.vc_plan.specs.declared.channel.Channel.{Channel};
 ghost use Rattle.vc_accepted.specs.NetworkOf.{network_of};
-ghost use Rattle.vc_network.specs.Plan.{home};
+ghost use Rattle.vc_accepted.specs.Outgoing.{link_port};
+ghost use Rattle.vc_vcp.specs.Keyed.{shown_or};
+ghost use Rattle.vc_network.specs.Plan.{home, IsOutOf};
 ghost use Rattle.vc_network.specs.Views.{view, source_node, sink_node, vcps};
 ghost use Rattle.vc_core.specs.Blocking.{blocked_in, blocked_of as blocked_as};
 ghost use Rattle.vc_core.specs.Placed.{AreOwned, FindsPlace, IsUnfinished};
 ghost use Rattle.vc_core.specs.Channels.{ends_at};
-ghost use Rattle.vc_core.specs.Links.{credit_at, credit_in, way_of};
+ghost use Rattle.vc_core.specs.Links.{buffer_at, buffered_in, credit_at, credit_in, last_of, way_of};
 ghost use Rattle.vc_core.specs.Enabled.{CanHappen};
 ghost use Rattle.std.specs.Int.{bit_at};
 ghost use Rattle.vc_actor.specs.Parts.{IsDone, node_at, vcp_in, strays_of, lost_of, saturated};
@@ -30,6 +32,7 @@ use crate::event::Event;
 use crate::lines::Lines;
 use crate::place::Place;
 use crate::refused::{ReplayRefused, StepRefused};
+use crate::way::Way;
 use sqlite_items::{Items, at};
 use std::alloc::Global;
 use vc_actor::{Act, ActKind, Actor, Node, actors, has_room, lowest};
@@ -619,6 +622,30 @@ impl Network {
         }
     }
 
+    /// The token at the end of the way that goes out by an actor's link, which was put last of those that stand there. None where none
+    /// stands there, or no way goes out by the link.
+    pub fn last_put(&self, actor: u8, link: u8) -> Option<Token>
+        ensures { (p : Plan) (way : ℕ) →
+            IsNetworkOf p (state_of self.now) →
+            IsOutOf (network_of p) way (link_port p actor link) →
+            option_map spelt result ≡ last_of ((shown (state_of self.now)).way way) }
+    {
+        match self.lines.outgoing(actor, link) {
+            Some(way) => last_at(self.lines.ways(), way),
+            None => None,
+        }
+    }
+
+    /// How many tokens stand in the receive buffer of an actor's link: at most 16, and none where there is no such link.
+    pub fn buffered(&self, actor: usize, link: u8) -> usize
+        ensures { result ≡ buffered_in (shown (state_of self.now)) actor link }
+    {
+        match at(self.actors.as_slice(), actor) {
+            Some(actor) => buffered_of(actor, link),
+            None => 0,
+        }
+    }
+
     /// How many actors there are: the nodes, and then the switches.
     pub fn actors(&self) -> u8
         ensures { (p : Plan) → IsNetworkOf p (state_of self.now) → result ≡ actors p }
@@ -866,6 +893,41 @@ fn credit_of(actor: &Actor, link: u8) -> u8
     }
     match actor.switch() {
         Some(switch) => switch.credit_left(link),
+        None => 0,
+    }
+}
+
+// The token at the end of a way.
+fn last_at(ways: &[Way], way: usize) -> Option<Token>
+    ensures { option_map spelt result ≡
+        last_of (shown_or [] (λ ts. ts) (slice_get ways.now way)) }
+{
+    match ways.get(way) {
+        Some(line) => line.last(),
+        None => None,
+    }
+}
+
+// How many tokens the two parts of a buffer have together.
+fn count_of(front: &[Token], back: &[Token]) -> usize
+    ensures { result ≡ length (all_spelt (front.now ++ back.now)) }
+{
+    front.len() + back.len()
+}
+
+// How many tokens stand in the receive buffer of an actor's link.
+fn buffered_of(actor: &Actor, link: u8) -> usize
+    ensures { result ≡ length (buffer_at (actor_of actor.now) link) }
+{
+    if let Some(node) = actor.node() {
+        let (front, back) = node.tokens_at(link);
+        return count_of(front, back);
+    }
+    match actor.switch() {
+        Some(switch) => {
+            let (front, back) = switch.tokens(link);
+            count_of(front, back)
+        }
         None => 0,
     }
 }

@@ -27,6 +27,8 @@ impl Way {
     ghost use Rattle.vc_tokens.specs.Tokens.{Token};
     ghost use Rattle.vc_tokens.specs.Spelt.{token, tokens};
     ghost use Rattle.vc_actor.specs.Acting.{MayAct};
+    ghost use Rattle.std.specs.Option.{option_map};
+    ghost use Rattle.vc_core.specs.Links.{last_of};
     ghost use Rattle.vc_core.specs.Ways.{PutsAt};
     ghost use Rattle.vc_actor.specs.declared.act.Act.TheVariants as act;
 
@@ -51,6 +53,13 @@ impl Way {
         ensures { result ≡ length self.now }
     {
         self.queue.len()
+    }
+
+    /// The token at the end, which came last.
+    pub(crate) fn last(&self) -> Option<Token>
+        ensures { option_map token result ≡ last_of self.now }
+    {
+        self.queue.back().copied()
     }
 
     /// The front token is taken off, if there is one.

@@ -113,10 +113,8 @@ fn byte_of(text: &[u8], line: usize, column: usize) -> usize
         }
         rest = tail;
     }
-    let before = text.len().saturating_sub(rest.len());
-    before
-        .saturating_add(column.saturating_sub(1))
-        .min(text.len())
+    let before = text.len() - rest.len();
+    before + column.saturating_sub(1).min(rest.len())
 }
 
 /// The byte at which the reader of JSON stopped. The contract says no more than that it is in the text, or at its end.

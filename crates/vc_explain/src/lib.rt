@@ -20,6 +20,7 @@ mod parts;
 mod place;
 mod place_of_use;
 mod quoting;
+mod search;
 mod sentence;
 mod walk;
 mod wanted;

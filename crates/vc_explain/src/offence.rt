@@ -1,19 +1,20 @@
 //! The two places of a use that is not lawful.
 ghost use Rattle.std.specs.Prelude.{◌≡◌, ◌==◌, [], ℕ, IfOk, None, Some, if◌then◌else◌, map};
 ghost use Rattle.std.specs.Str.{bytes_eq};
-ghost use Rattle.vc_explain.specs.Offences.{channel_clash as clash_on_channel, channel_named as channel_of_name, clash as clash_in, first_beside, first_in, in_par as path_in_par, index_change as change_of_index, offence, offence_by as offence_by_node, offence_of as offence_of_node, own_offence as offence_of_own, process_path as path_of_process, variable_clash as clash_on_variable, variable_named as variable_of_name};
-ghost use Rattle.vc_explain.specs.Uses.{first_of, place, within_branches, within_guards, within_parts};
-ghost use Rattle.vc_process.specs.InOrder.{number, number_branch, number_guard};
-ghost use Rattle.vc_process.specs.Numbering.{branches_from, guards_from, parts_from};
+ghost use Rattle.vc_explain.specs.Offences.{channel_clash as clash_on_channel, channel_named as channel_of_name, clash as clash_in, first_beside, first_in, in_par as path_in_par, index_change as change_of_index, offence_by as offence_by_node, offence_of as offence_of_node, own_offence as offence_of_own, process_path as path_of_process, variable_clash as clash_on_variable, variable_named as variable_of_name};
+ghost use Rattle.vc_explain.specs.Uses.{place};
+ghost use Rattle.vc_process.specs.InOrder.{number};
+ghost use Rattle.vc_process.specs.Numbering.{parts_from};
 ghost use Rattle.vc_process.specs.Syntax.{PAR};
 
-use crate::place_of_use::{longer, place_of};
+use crate::place_of_use::place_of;
+use crate::search::{Search, first_found, longer};
 use crate::wanted::Wanted;
 use sqlite_items::Items;
 use std::alloc::Global;
 use vc_packets::Memory;
 use vc_plan::{Channel, NodePlan, Plan, Variable};
-use vc_process::{Branch, Guard, Process};
+use vc_process::Process;
 use vc_reader::{Step, Word};
 
 /// The channel and the variable of a node that have one name, by their numbers.
@@ -226,98 +227,14 @@ fn own_offence(
     }
 }
 
-/// The first thing, by site, that a process at this path does wrong with what is named.
-#[cycle(offence)]
-fn find_offence(
-    alloc: Global,
-    named: Named,
-    at: &[Step],
-    process: &Process,
-) -> Result<Option<Places>, Memory>
-    ensures { IfOk result (λ found. (site : ℕ) →
-        found ≡ offence named ((number process.now).tree site) at.now) }
-{
-    if let Some(found) = own_offence(alloc, named, at, process)? {
-        return Ok(Some(found));
-    }
-    match process {
-        Process::Seq(parts) => offence_in_parts(alloc, named, at, Word::Seq, parts),
-        Process::Par(parts) => offence_in_parts(alloc, named, at, Word::Par, parts),
-        Process::If(branches) => offence_in_branches(alloc, named, at, branches),
-        Process::While { body, .. } => {
-            let path = longer(alloc, at, &[Step::Field(Word::While), Step::Index(1)])?;
-            find_offence(alloc, named, path.as_slice(), body.get())
-        }
-        Process::Count { body, .. } => {
-            let path = longer(alloc, at, &[Step::Field(Word::For), Step::Index(3)])?;
-            find_offence(alloc, named, path.as_slice(), body.get())
-        }
-        Process::Alt(guards) => offence_in_guards(alloc, named, at, guards),
-        _ => Ok(None),
-    }
-}
+impl Search for Named {
+    type Found = Places;
 
-/// The first in the parts of a SEQ or a PAR.
-#[cycle(offence)]
-fn offence_in_parts(
-    alloc: Global,
-    named: Named,
-    at: &[Step],
-    list: Word,
-    parts: &Items<Process>,
-) -> Result<Option<Places>, Memory>
-    ensures { IfOk result (λ found. (site : ℕ) → found ≡ first_of (offence_of_own named)
-        (within_parts list at.now 0 (parts_from site (map number parts.now)))) }
-{
-    for (k, part) in parts.as_slice().iter().enumerate() {
-        let path = longer(alloc, at, &[Step::Field(list), Step::Index(k)])?;
-        if let Some(found) = find_offence(alloc, named, path.as_slice(), part)? {
-            return Ok(Some(found));
-        }
-    }
-    Ok(None)
-}
+    ghost finds = { λ n. offence_of_own n };
 
-/// The first in what an IF does under its conditions.
-#[cycle(offence)]
-fn offence_in_branches(
-    alloc: Global,
-    named: Named,
-    at: &[Step],
-    branches: &Items<Branch>,
-) -> Result<Option<Places>, Memory>
-    ensures { IfOk result (λ found. (site : ℕ) → found ≡ first_of (offence_of_own named)
-        (within_branches at.now 0 (branches_from site (map number_branch branches.now)))) }
-{
-    for (k, branch) in branches.as_slice().iter().enumerate() {
-        let steps = [Step::Field(Word::If), Step::Index(k), Step::Index(1)];
-        let path = longer(alloc, at, &steps)?;
-        if let Some(found) = find_offence(alloc, named, path.as_slice(), &branch.body)? {
-            return Ok(Some(found));
-        }
+    fn own(&self, alloc: Global, at: &[Step], process: &Process) -> Result<Option<Places>, Memory> {
+        own_offence(alloc, *self, at, process)
     }
-    Ok(None)
-}
-
-/// The first in what an ALT does behind its guards.
-#[cycle(offence)]
-fn offence_in_guards(
-    alloc: Global,
-    named: Named,
-    at: &[Step],
-    guards: &Items<Guard>,
-) -> Result<Option<Places>, Memory>
-    ensures { IfOk result (λ found. (site : ℕ) → found ≡ first_of (offence_of_own named)
-        (within_guards at.now 0 (guards_from site (map number_guard guards.now)))) }
-{
-    for (k, guard) in guards.as_slice().iter().enumerate() {
-        let steps = [Step::Field(Word::Alt), Step::Index(k), Step::Index(3)];
-        let path = longer(alloc, at, &steps)?;
-        if let Some(found) = find_offence(alloc, named, path.as_slice(), &guard.body)? {
-            return Ok(Some(found));
-        }
-    }
-    Ok(None)
 }
 
 fn is_name(own: &[u8], name: &[u8]) -> bool
@@ -369,7 +286,7 @@ fn offence_by(
         chan: channel_named(plan.channels.as_slice(), name),
         var: variable_named(node.vars.as_slice(), name),
     };
-    find_offence(alloc, named, &process_path(number), &node.process)
+    first_found(alloc, &named, &process_path(number), &node.process)
 }
 
 /// The two places in the process of a node where it uses the channel or the variable of this name as it may not: of the first PAR, by

@@ -1,28 +1,19 @@
 //! Where a process first uses what is wanted.
 ghost use Rattle.std.specs.Prelude.{◌≡◌, ◌++◌, ◌∷◌, [], ℕ, IfOk, Some, None, if◌then◌else◌, map};
-ghost use Rattle.vc_explain.specs.Uses.{branch_uses, first_marked, first_of, guard_uses, items_at, own_place as place_of_own, own_uses, place, place_if, uses_of_count, within_branches, within_guards, within_parts};
+ghost use Rattle.vc_explain.specs.Uses.{branch_uses, first_marked, first_of, guard_uses, items_at, own_place as place_of_own, own_uses, place, place_if, uses_of_count};
 ghost use Rattle.vc_process.specs.InOrder.{number, number_branch, number_guard};
-ghost use Rattle.vc_process.specs.Numbering.{branches_from, guards_from, parts_from};
+ghost use Rattle.vc_process.specs.Numbering.{branches_from, guards_from};
 ghost use Rattle.vc_process.specs.Terms.{exp};
 ghost use Rattle.vc_reader.specs.declared.path.Step.TheVariants.{Field, Index};
 ghost use Rattle.vc_reader.specs.declared.word.Word.TheVariants as word;
 
+use crate::search::{Search, first_found, longer};
 use crate::wanted::{Wanted, kind_at};
 use sqlite_items::Items;
 use std::alloc::Global;
 use vc_packets::Memory;
 use vc_process::{Branch, Expr, Guard, Process, ValueKind};
 use vc_reader::{Step, Word};
-
-/// A path, and more steps behind it.
-pub(crate) fn longer(alloc: Global, at: &[Step], more: &[Step]) -> Result<Vec<Step>, Memory>
-    ensures { IfOk result (λ made. made.items ≡ at.now ++ more.now) }
-{
-    let mut made = Vec::new(alloc);
-    made.extend_from_slice(at)?;
-    made.extend_from_slice(more)?;
-    Ok(made)
-}
 
 /// The place of a step behind this path.
 fn place_behind(
@@ -53,6 +44,19 @@ fn marked_item(
         }
     }
     Ok(None)
+}
+
+/// The place of the first item that is marked, in the list of this word at a path.
+fn marked_at(
+    alloc: Global,
+    at: &[Step],
+    list: Word,
+    marks: &[bool],
+) -> Result<Option<Items<Step>>, Memory>
+    ensures { IfOk result (λ found.
+        found ≡ first_marked (at.now ++ Field list ∷ []) 0 marks.now) }
+{
+    marked_item(alloc, at, &[Step::Field(list)], marks)
 }
 
 /// The place of a stop, where it is wanted.
@@ -129,7 +133,7 @@ fn place_in_count(
         wanted.has_expression(base),
         wanted.has_expression(count),
     ];
-    marked_item(alloc, at, &[Step::Field(Word::For)], &marks)
+    marked_at(alloc, at, Word::For, &marks)
 }
 
 /// The first use of a process that is wanted, apart from those within it.
@@ -146,24 +150,21 @@ fn own_place(
     match process {
         Process::Set { var, value } => {
             let marks = [wanted.has_change(*var), wanted.has_value(value)];
-            marked_item(alloc, at, &[Step::Field(Word::Set)], &marks)
+            marked_at(alloc, at, Word::Set, &marks)
         }
         Process::Send { chan, value } => {
             let marks = [wanted.has_output(*chan, value), wanted.has_value(value)];
-            marked_item(alloc, at, &[Step::Field(Word::Out)], &marks)
+            marked_at(alloc, at, Word::Out, &marks)
         }
         Process::Receive { chan, var } => {
-            let marks = [
-                wanted.has_input(*chan, kind_at(kinds, *var)),
-                wanted.has_change(*var),
-            ];
-            marked_item(alloc, at, &[Step::Field(Word::In)], &marks)
+            let kind = kind_at(kinds, *var);
+            let marks = [wanted.has_input(*chan, kind), wanted.has_change(*var)];
+            marked_at(alloc, at, Word::In, &marks)
         }
         Process::Stopch { chan } => wanted_stop(alloc, wanted.has_input(*chan, None), at),
         Process::If(branches) => wanted_condition(alloc, wanted, at, branches),
         Process::While { cond, .. } => {
-            let marks = [wanted.has_condition(cond)];
-            marked_item(alloc, at, &[Step::Field(Word::While)], &marks)
+            marked_at(alloc, at, Word::While, &[wanted.has_condition(cond)])
         }
         Process::Count {
             var,
@@ -176,9 +177,30 @@ fn own_place(
     }
 }
 
+/// A search for what is wanted, in a process whose node has variables of these kinds.
+#[derive(Drop)]
+struct UseSearch<'a> {
+    wanted: Wanted,
+    kinds: &'a [ValueKind],
+}
+
+impl Search for UseSearch<'_> {
+    type Found = Items<Step>;
+
+    ghost finds = { λ s. place_of_own s.wanted s.kinds.now };
+
+    fn own(
+        &self,
+        alloc: Global,
+        at: &[Step],
+        process: &Process,
+    ) -> Result<Option<Items<Step>>, Memory> {
+        own_place(alloc, self.wanted, self.kinds, at, process)
+    }
+}
+
 /// The path of the first use, by site, that is wanted, of a process that stands at this path and whose node has variables of these
 /// kinds. None where there is no such use. It fails for want of memory alone.
-#[cycle(place)]
 pub(crate) fn place_of(
     alloc: Global,
     wanted: Wanted,
@@ -189,88 +211,5 @@ pub(crate) fn place_of(
     ensures { IfOk result (λ found. (site : ℕ) →
         found ≡ place wanted kinds.now ((number process.now).tree site) at.now) }
 {
-    if let Some(found) = own_place(alloc, wanted, kinds, at, process)? {
-        return Ok(Some(found));
-    }
-    match process {
-        Process::Seq(parts) => place_in_parts(alloc, wanted, kinds, at, Word::Seq, parts),
-        Process::Par(parts) => place_in_parts(alloc, wanted, kinds, at, Word::Par, parts),
-        Process::If(branches) => place_in_branches(alloc, wanted, kinds, at, branches),
-        Process::While { body, .. } => {
-            let path = longer(alloc, at, &[Step::Field(Word::While), Step::Index(1)])?;
-            place_of(alloc, wanted, kinds, path.as_slice(), body.get())
-        }
-        Process::Count { body, .. } => {
-            let path = longer(alloc, at, &[Step::Field(Word::For), Step::Index(3)])?;
-            place_of(alloc, wanted, kinds, path.as_slice(), body.get())
-        }
-        Process::Alt(guards) => place_in_guards(alloc, wanted, kinds, at, guards),
-        _ => Ok(None),
-    }
-}
-
-/// The first place in the parts of a SEQ or a PAR.
-#[cycle(place)]
-fn place_in_parts(
-    alloc: Global,
-    wanted: Wanted,
-    kinds: &[ValueKind],
-    at: &[Step],
-    list: Word,
-    parts: &Items<Process>,
-) -> Result<Option<Items<Step>>, Memory>
-    ensures { IfOk result (λ found. (site : ℕ) → found ≡ first_of (place_of_own wanted kinds.now)
-        (within_parts list at.now 0 (parts_from site (map number parts.now)))) }
-{
-    for (k, part) in parts.as_slice().iter().enumerate() {
-        let path = longer(alloc, at, &[Step::Field(list), Step::Index(k)])?;
-        if let Some(found) = place_of(alloc, wanted, kinds, path.as_slice(), part)? {
-            return Ok(Some(found));
-        }
-    }
-    Ok(None)
-}
-
-/// The first place in what an IF does under its conditions.
-#[cycle(place)]
-fn place_in_branches(
-    alloc: Global,
-    wanted: Wanted,
-    kinds: &[ValueKind],
-    at: &[Step],
-    branches: &Items<Branch>,
-) -> Result<Option<Items<Step>>, Memory>
-    ensures { IfOk result (λ found. (site : ℕ) → found ≡ first_of (place_of_own wanted kinds.now)
-        (within_branches at.now 0 (branches_from site (map number_branch branches.now)))) }
-{
-    for (k, branch) in branches.as_slice().iter().enumerate() {
-        let steps = [Step::Field(Word::If), Step::Index(k), Step::Index(1)];
-        let path = longer(alloc, at, &steps)?;
-        if let Some(found) = place_of(alloc, wanted, kinds, path.as_slice(), &branch.body)? {
-            return Ok(Some(found));
-        }
-    }
-    Ok(None)
-}
-
-/// The first place in what an ALT does behind its guards.
-#[cycle(place)]
-fn place_in_guards(
-    alloc: Global,
-    wanted: Wanted,
-    kinds: &[ValueKind],
-    at: &[Step],
-    guards: &Items<Guard>,
-) -> Result<Option<Items<Step>>, Memory>
-    ensures { IfOk result (λ found. (site : ℕ) → found ≡ first_of (place_of_own wanted kinds.now)
-        (within_guards at.now 0 (guards_from site (map number_guard guards.now)))) }
-{
-    for (k, guard) in guards.as_slice().iter().enumerate() {
-        let steps = [Step::Field(Word::Alt), Step::Index(k), Step::Index(3)];
-        let path = longer(alloc, at, &steps)?;
-        if let Some(found) = place_of(alloc, wanted, kinds, path.as_slice(), &guard.body)? {
-            return Ok(Some(found));
-        }
-    }
-    Ok(None)
+    first_found(alloc, &UseSearch { wanted, kinds }, at, process)
 }

@@ -1,7 +1,7 @@
 -- The tests that a plan has passed so far, and what its first fault is the cause of.
 use Rattle.std.proofs.Common.{◌≡◌, None, subst}
 use Rattle.vc_plan.specs.declared.plan.Plan.{Plan}
-use Rattle.vc_plan.specs.declared.labelling.Astray.{Astray}
+use Rattle.vc_plan.specs.declared.labelling.FaultyPath.{FaultyPath}
 use Rattle.vc_plan.specs.declared.check_refused.CheckRefused.{CheckRefused}
 use Rattle.vc_plan.specs.declared.check_refused.CheckRefused.TheVariants as why
 use Rattle.vc_plan.specs.Check.{IsRefusedPath, IsCause, PassesWires, PassesPorts, PassesBlocks, PassesTables, port_twice, port_missing, block_twice}
@@ -17,7 +17,7 @@ passes-ports p limits once ports = record { before = passes-wires p limits once;
 pub passes-blocks : (p : Plan) → limit_broken p ≡ None → port_twice p.wires ≡ None → port_missing p.wires p.vlinks ≡ None → block_twice p.vlinks ≡ None → PassesBlocks p
 passes-blocks p limits once ports blocks = record { before = passes-ports p limits once ports; blocks = blocks }
 
-pub path-cause : (p : Plan) (a : Astray) (r : CheckRefused) → IsRefusedPath a r → PassesTables p → IsFirstFault p p.vlinks a → IsCause p r
+pub path-cause : (p : Plan) (a : FaultyPath) (r : CheckRefused) → IsRefusedPath a r → PassesTables p → IsFirstFault p p.vlinks a → IsCause p r
 path-cause p a (why.NoInterval f) h t first = (t, subst (λ x. IsFirstFault p p.vlinks x) h first)
 path-cause p a (why.WrongEnd f) h t first = (t, subst (λ x. IsFirstFault p p.vlinks x) h first)
 path-cause p a (why.StackEmpty f) h t first = (t, subst (λ x. IsFirstFault p p.vlinks x) h first)

@@ -3,7 +3,7 @@ use Rattle.std.proofs.Common.{◌≡◌, ◌≢◌, ℕ, ◌<◌, ◌⊎◌, Boo
 use Rattle.vc_plan.specs.declared.check_refused.CheckRefused.{CheckRefused}
 use Rattle.vc_plan.specs.declared.check_refused.CheckRefused.TheVariants as why
 use Rattle.vc_plan.specs.declared.fault.Fault.{Fault}
-use Rattle.vc_plan.specs.declared.labelling.Astray.{Astray}
+use Rattle.vc_plan.specs.declared.labelling.FaultyPath.{FaultyPath}
 use Rattle.vc_plan.specs.declared.path_fault.Hop.{Hop}
 use Rattle.vc_plan.specs.declared.plan.Plan.{Plan}
 use Rattle.vc_plan.specs.declared.port.Port.{Port}
@@ -23,16 +23,16 @@ use Rattle.vc_plan.proofs.Passed.{passes_all}
 use Rattle.vc_plan.proofs.Order.{ValueBefore-trans, Before-trans}
 use Rattle.vc_process.proofs.Judged.{unlawful}
 
-way-stops : (net : Plan) (from to : End) (f : Astray) → IsFaultOfWay net from to f → DeliversTo net from to → ⊥
+way-stops : (net : Plan) (from to : End) (f : FaultyPath) → IsFaultOfWay net from to f → DeliversTo net from to → ⊥
 way-stops net from to f is well =
     let x = is.least in
     faulty-stops net to x.port from.route f.hops f.last f.value f.fault x.path (well x.port x.across_is)
 
-link-stops : (net : Plan) (v : Vlink) (from_a : Bool) (f : Astray) → IsFaultOfLink net v from_a f → IsLabelledLink net v → ⊥
+link-stops : (net : Plan) (v : Vlink) (from_a : Bool) (f : FaultyPath) → IsFaultOfLink net v from_a f → IsLabelledLink net v → ⊥
 link-stops net v true f is well = way-stops net v.a v.b f is well.there
 link-stops net v false f is well = way-stops net v.b v.a f is.1 well.back
 
-leads-astray : (p : Plan) (vlinks : List Vlink) (f : Astray) → IsFirstFault p vlinks f → IsLabelled p vlinks → ⊥
+leads-astray : (p : Plan) (vlinks : List Vlink) (f : FaultyPath) → IsFirstFault p vlinks f → IsLabelled p vlinks → ⊥
 leads-astray p vlinks f is well = link-stops p is.vlink f.from_a f is.fault (well f.vlink is.vlink is.there)
 
 -- a plan that may be accepted is refused for want of memory alone
@@ -95,14 +95,14 @@ one-path net (h ∷ hops) p s q r t u x y =
     one-path net hops x.0 x.1 q r t u x.3 (rw (same.0, same.1) y.3)
 
 -- all but the virtual link and the way
-record AreAlike (f g : Astray) : Type 0 where
+record AreAlike (f g : FaultyPath) : Type 0 where
   pub start : f.start ≡ g.start
   pub hops : f.hops ≡ g.hops
   pub last : f.last ≡ g.last
   pub value : f.value ≡ g.value
   pub fault : f.fault ≡ g.fault
 
-faulty-alike : (net : Plan) (to : End) (p : Port) (s : List ℕ) (f g : Astray) → f.start ≡ g.start → f.hops ≡ g.hops → f.value ≡ g.value →
+faulty-alike : (net : Plan) (to : End) (p : Port) (s : List ℕ) (f g : FaultyPath) → f.start ≡ g.start → f.hops ≡ g.hops → f.value ≡ g.value →
     IsFaulty net to p s f.hops f.last f.value f.fault → IsFaulty net to p s g.hops g.last g.value g.fault → AreAlike f g
 faulty-alike net to p s f g start hops value x y =
     let at = one-path net g.hops p s x.stands y.stands x.headers y.headers (subst (λ hs. Path net p s hs x.stands x.headers) hops x.path) y.path in
@@ -111,7 +111,7 @@ faulty-alike net to p s f g start hops value x y =
     let fault : Some f.fault ≡ Some g.fault = sym x.shows ∙ (shows ∙ y.shows) in
     record { start = start; hops = hops; last = last; value = value; fault = cc }
 
-ways-alike : (net : Plan) (from to : End) (f g : Astray) → IsFaultOfWay net from to f → IsFaultOfWay net from to g → AreAlike f g
+ways-alike : (net : Plan) (from to : End) (f g : FaultyPath) → IsFaultOfWay net from to f → IsFaultOfWay net from to g → AreAlike f g
 ways-alike net from to f g x y =
     let a = x.least in
     let b = y.least in
@@ -121,13 +121,13 @@ ways-alike net from to f g x y =
     let same = not-after-both f.hops f.value g.hops g.value (a.least g.hops g.last g.value g.fault one) (b.least f.hops f.last f.value f.fault other) in
     faulty-alike net to a.port from.route f g (x.start ∙ sym y.start) same.0 same.1 a.path one
 
-links-alike : (net : Plan) (v : Vlink) (a b : Bool) (f g : Astray) → IsFaultOfLink net v a f → IsFaultOfLink net v b g → (a ≡ b) × AreAlike f g
+links-alike : (net : Plan) (v : Vlink) (a b : Bool) (f g : FaultyPath) → IsFaultOfLink net v a f → IsFaultOfLink net v b g → (a ≡ b) × AreAlike f g
 links-alike net v true true f g x y = (refl, ways-alike net v.a v.b f g x y)
 links-alike net v true false f g x y = absurd (way-stops net v.a v.b f x y.0)
 links-alike net v false true f g x y = absurd (way-stops net v.a v.b g y x.0)
 links-alike net v false false f g x y = (refl, ways-alike net v.b v.a f g x.1 y.1)
 
-one-link : (p : Plan) (vlinks : List Vlink) (f g : Astray) → IsFirstFault p vlinks f → IsFirstFault p vlinks g → ((f.vlink < g.vlink) ⊎ ((f.vlink ≡ g.vlink) ⊎ (g.vlink < f.vlink))) → f.vlink ≡ g.vlink
+one-link : (p : Plan) (vlinks : List Vlink) (f g : FaultyPath) → IsFirstFault p vlinks f → IsFirstFault p vlinks g → ((f.vlink < g.vlink) ⊎ ((f.vlink ≡ g.vlink) ⊎ (g.vlink < f.vlink))) → f.vlink ≡ g.vlink
 one-link p vlinks f g x y (inl less) = absurd (link-stops p x.vlink f.from_a f x.fault (y.earlier f.vlink x.vlink less x.there))
 one-link p vlinks f g x y (inr (inl same)) = same
 one-link p vlinks f g x y (inr (inr more)) = absurd (link-stops p y.vlink g.from_a g y.fault (x.earlier g.vlink y.vlink more y.there))
@@ -135,10 +135,10 @@ one-link p vlinks f g x y (inr (inr more)) = absurd (link-stops p y.vlink g.from
 three-ways : (j k : ℕ) → (j < k) ⊎ ((j ≡ k) ⊎ (k < j))
 three-ways j k = grind arith
 
-made : ℕ → Bool → Port → List Hop → Spot → Option ℕ → Fault → Astray
+made : ℕ → Bool → Port → List Hop → Spot → Option ℕ → Fault → FaultyPath
 made vlink from_a start hops last value fault = record { vlink = vlink; from_a = from_a; start = start; hops = hops; last = last; value = value; fault = fault }
 
-is-one : (f g : Astray) → f.vlink ≡ g.vlink → f.from_a ≡ g.from_a → AreAlike f g → f ≡ g
+is-one : (f g : FaultyPath) → f.vlink ≡ g.vlink → f.from_a ≡ g.from_a → AreAlike f g → f ≡ g
 unfolding made
 is-one f g link way alike =
     let a = alike.start in
@@ -149,7 +149,7 @@ is-one f g link way alike =
     let same : made f.vlink f.from_a f.start f.hops f.last f.value f.fault ≡ made g.vlink g.from_a g.start g.hops g.last g.value g.fault = cc in
     same
 
-one : (p : Plan) (vlinks : List Vlink) (f g : Astray) → IsFirstFault p vlinks f → IsFirstFault p vlinks g → f ≡ g
+one : (p : Plan) (vlinks : List Vlink) (f g : FaultyPath) → IsFirstFault p vlinks f → IsFirstFault p vlinks g → f ≡ g
 one p vlinks f g x y =
     let place = one-link p vlinks f g x y (three-ways f.vlink g.vlink) in
     let there : Some x.vlink ≡ Some y.vlink = sym x.there ∙ (ap (slice_get vlinks) place ∙ y.there) in

@@ -25,7 +25,7 @@ use Rattle.vc_plan.specs.declared.switch_plan.SwitchPlan.{SwitchPlan}
 use Rattle.vc_plan.specs.declared.path_fault.PathFault.{PathFault}
 use Rattle.vc_plan.specs.declared.fault.Fault.{Fault}
 use Rattle.vc_plan.specs.declared.fault.Fault.TheVariants as fault
-use Rattle.vc_plan.specs.declared.labelling.Astray.{Astray}
+use Rattle.vc_plan.specs.declared.labelling.FaultyPath.{FaultyPath}
 use Rattle.vc_plan.specs.declared.check_refused.CheckRefused.{CheckRefused}
 use Rattle.vc_plan.specs.declared.check_refused.CheckRefused.TheVariants as why
 use Rattle.vc_plan.specs.Labelling.{IsFirstFault}
@@ -214,7 +214,7 @@ pub record PassesUse (p : Plan) : Type 0 where
   pub lawful : AreLawful p
 
 -- a path with its fault, which shows by this random value
-abbrev pub astray : PathFault → Option ℕ → Fault → Astray
+abbrev pub astray : PathFault → Option ℕ → Fault → FaultyPath
 astray f v fault =
     record { vlink = f.vlink; from_a = f.from_a; start = f.start; hops = f.hops; last = f.last; value = v; fault = fault }
 
@@ -240,7 +240,7 @@ IsCause p (why.Usage n name) = PassesChannels p × IsFirstUsage p n name
 IsCause p why.Memory = Unit {0}
 
 -- a path with its fault is refused so
-abbrev pub IsRefusedPath : Astray → CheckRefused → Type 0
+abbrev pub IsRefusedPath : FaultyPath → CheckRefused → Type 0
 IsRefusedPath a (why.NoInterval f) = a ≡ astray f f.value fault.NoInterval
 IsRefusedPath a (why.WrongEnd f) = a ≡ astray f f.value fault.WrongEnd
 IsRefusedPath a (why.StackEmpty f) = a ≡ astray f f.value fault.StackEmpty

@@ -12,7 +12,7 @@ use crate::channel::{Channel, Home};
 use crate::check_refused::{CheckRefused, Refusal};
 use crate::fault::Fault;
 use crate::hops::{equal_ports, far_end};
-use crate::labelling::{Astray, labelling_fault};
+use crate::labelling::{FaultyPath, labelling_fault};
 use crate::node_plan::NodePlan;
 use crate::path_fault::PathFault;
 use crate::plan::Plan;
@@ -276,7 +276,7 @@ fn find_channel_fault(alloc: Global, plan: &Plan) -> Result<Option<u16>, Memory>
 }
 
 /// A path with its fault, as a refusal. A random header for which there is no room was not put, and isn't shown.
-fn path_refused(found: Astray) -> CheckRefused
+fn path_refused(found: FaultyPath) -> CheckRefused
     ensures { IsRefusedPath found result }
 {
     let fault = found.fault;

@@ -20,7 +20,7 @@ use vc_packets::Memory;
 
 /// A path of a virtual link's packets that ends in a fault, with the fault.
 #[derive(Drop)]
-pub(crate) struct Astray {
+pub(crate) struct FaultyPath {
     pub(crate) vlink: u16,
     pub(crate) from_a: bool,
     pub(crate) start: Port,
@@ -37,7 +37,7 @@ fn way_fault(
     to: &End,
     vlink: u16,
     from_a: bool,
-) -> Result<Option<Astray>, Memory>
+) -> Result<Option<FaultyPath>, Memory>
     requires limits { LimitsFit net.now }
     requires wired { IsWired net.now }
     ensures delivers { IfOk result (λ found. IfNone found (DeliversTo net.now from.now to.now)) }
@@ -54,7 +54,7 @@ fn way_fault(
         None => Ok(None),
         Some(port) => match find_fault(alloc, net, to, port, from.route.as_slice())? {
             None => Ok(None),
-            Some(found) => Ok(Some(Astray {
+            Some(found) => Ok(Some(FaultyPath {
                 vlink,
                 from_a,
                 start,
@@ -72,7 +72,7 @@ fn link_fault(
     net: &SearchedPlan<'_>,
     vlink: &Vlink,
     number: u16,
-) -> Result<Option<Astray>, Memory>
+) -> Result<Option<FaultyPath>, Memory>
     requires limits { LimitsFit net.now }
     requires wired { IsWired net.now }
     ensures delivers { IfOk result (λ found. IfNone found (IsLabelledLink net.now vlink.now)) }
@@ -91,7 +91,7 @@ pub(crate) fn labelling_fault(
     alloc: Global,
     net: &SearchedPlan<'_>,
     vlinks: &[Vlink],
-) -> Result<Option<Astray>, Memory>
+) -> Result<Option<FaultyPath>, Memory>
     requires limits { LimitsFit net.now }
     requires wired { IsWired net.now }
     requires few { length vlinks.now < 65536 }

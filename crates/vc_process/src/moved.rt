@@ -25,18 +25,9 @@ fn moved_process(alloc: Global, process: &Process, by: u8) -> Result<Process, Me
             var: moved_variable(*var, by),
         }),
         Process::Stopch { chan } => Ok(Process::Stopch { chan: *chan }),
-        Process::Seq(parts) => {
-            let parts = moved_parts(alloc, parts, by)?;
-            Ok(Process::Seq(parts))
-        }
-        Process::Par(parts) => {
-            let parts = moved_parts(alloc, parts, by)?;
-            Ok(Process::Par(parts))
-        }
-        Process::If(branches) => {
-            let branches = moved_branches(alloc, branches, by)?;
-            Ok(Process::If(branches))
-        }
+        Process::Seq(parts) => Ok(Process::Seq(moved_parts(alloc, parts, by)?)),
+        Process::Par(parts) => Ok(Process::Par(moved_parts(alloc, parts, by)?)),
+        Process::If(branches) => Ok(Process::If(moved_branches(alloc, branches, by)?)),
         Process::While { cond, body } => {
             let body = moved_body(alloc, body, by)?;
             while_of(cond.moved(alloc, by), body)
@@ -55,10 +46,7 @@ fn moved_process(alloc: Global, process: &Process, by: u8) -> Result<Process, Me
                 body,
             )
         }
-        Process::Alt(guards) => {
-            let guards = moved_guards(alloc, guards, by)?;
-            Ok(Process::Alt(guards))
-        }
+        Process::Alt(guards) => Ok(Process::Alt(moved_guards(alloc, guards, by)?)),
     }
 }
 

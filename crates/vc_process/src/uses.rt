@@ -78,9 +78,7 @@ fn push_parts(
         uses.new ≡ uses.old ++ uses_of_all kinds.now (parts_from site (map number parts.now))) }
 {
     for part in parts.as_slice() {
-        if let Err(memory) = push_uses(uses, part, kinds) {
-            return Err(memory);
-        }
+        push_uses(uses, part, kinds)?;
     }
     Ok(())
 }
@@ -100,9 +98,7 @@ fn push_branches(
         (branches_from site (map number_branch branches.now))) }
 {
     for branch in branches.as_slice() {
-        if let Err(memory) = push_uses(uses, &branch.body, kinds) {
-            return Err(memory);
-        }
+        push_uses(uses, &branch.body, kinds)?;
     }
     Ok(())
 }
@@ -121,9 +117,7 @@ fn push_bodies(
         uses_of_bodies kinds.now (guards_from site (map number_guard guards.now))) }
 {
     for guard in guards.as_slice() {
-        if let Err(memory) = push_uses(uses, &guard.body, kinds) {
-            return Err(memory);
-        }
+        push_uses(uses, &guard.body, kinds)?;
     }
     Ok(())
 }
@@ -159,9 +153,7 @@ fn push_guards(
         uses.old ++ guard_uses kinds.now (guards_from site (map number_guard guards.now))) }
 {
     for guard in guards.as_slice() {
-        if let Err(memory) = push_input(uses, guard.chan, kind_at(kinds, guard.var)) {
-            return Err(memory);
-        }
+        push_input(uses, guard.chan, kind_at(kinds, guard.var))?;
     }
     Ok(())
 }

@@ -25,11 +25,11 @@ use Rattle.vc_reader.specs.declared.fault.Why.TheVariants as why
 use Rattle.vc_reader.specs.declared.path.Step.TheVariants.{Field}
 use Rattle.vc_reader.specs.declared.process.ProcessWord.{ProcessWord}
 use Rattle.vc_reader.specs.declared.process.ProcessWord.TheVariants as head
-use Rattle.vc_reader.specs.Reading.{wrong, cell, row, list_of, only, by_only, text_of}
-use Rattle.vc_reader.specs.Bytes.{variable_of}
+use Rattle.vc_reader.specs.Reading.{wrong, cell, row, read_list, only, by_only, read_text}
+use Rattle.vc_reader.specs.Bytes.{read_variable}
 use Rattle.vc_reader.specs.Expressions.{whole_expr}
 use Rattle.vc_reader.specs.Conditions.{whole_cond}
-use Rattle.vc_reader.specs.Processes.{channel_named, set_of, send_of, receive_of, stopch_of, plain_of, branch_of, while_of, count_of, guard_of, process_word, field_word, worded_process, named_process, process_step, process_of}
+use Rattle.vc_reader.specs.Processes.{channel_named, read_set, read_send, read_receive, read_stopch, read_plain, read_branch, read_while, read_count, read_guard, process_word, field_word, worded_process, named_process, process_step, read_process}
 use Rattle.vc_reader.proofs.Read.{ok_is, then_ok, under_ok, cell_ok, list_keeps}
 use Rattle.vc_reader.proofs.Versions.{both_true}
 
@@ -41,19 +41,19 @@ IsFine a p = (site : ℕ) → everywhere a ((number p).tree site) ≡ true
 pub record Suits (vars : List Variable) (channels : List Channel) (a : Asking) : Type 0 where
   pub condition : (d : Data) (c : Cond) → whole_cond vars d ≡ Ok c → a.condition (as_test c) ≡ true
   pub channel : (d : Data) (c : ℕ × ValueKind) → channel_named channels d ≡ Ok c → a.channel c.0 ≡ true
-  pub variable : (k : ValueKind) (d : Data) (v : ℕ) → variable_of k vars d ≡ Ok v → a.variable v ≡ true
+  pub variable : (k : ValueKind) (d : Data) (v : ℕ) → read_variable k vars d ≡ Ok v → a.variable v ≡ true
   pub skip : (i : ℕ) → a.itself (SKIP i) ≡ true
   pub stop : (i : ℕ) → a.itself (STOP i) ≡ true
-  pub sets : (d : Data) (p : Process) → set_of vars d ≡ Ok p → IsFine a p
-  pub sends : (d : Data) (p : Process) → send_of vars channels d ≡ Ok p → IsFine a p
-  pub receives : (d : Data) (p : Process) → receive_of vars channels d ≡ Ok p → IsFine a p
-  pub stops : (d : Data) (p : Process) → stopch_of channels d ≡ Ok p → IsFine a p
+  pub sets : (d : Data) (p : Process) → read_set vars d ≡ Ok p → IsFine a p
+  pub sends : (d : Data) (p : Process) → read_send vars channels d ≡ Ok p → IsFine a p
+  pub receives : (d : Data) (p : Process) → read_receive vars channels d ≡ Ok p → IsFine a p
+  pub stops : (d : Data) (p : Process) → read_stopch channels d ≡ Ok p → IsFine a p
   pub in_turn : (i : ℕ) (ps : Procs) → a.itself (SEQ i ps) ≡ true
   pub abreast : (i : ℕ) (ps : Procs) → a.itself (PAR i ps) ≡ true
   pub one_of : (i : ℕ) (bs : Branches) → a.itself (IF i bs) ≡ true
   pub chooses : (i : ℕ) (gs : Guards) → a.itself (ALT i gs) ≡ true
   pub again : (i : ℕ) (c : Cond) (p : Proc) → a.condition (as_test c) ≡ true → a.itself (WHILE i (as_test c) p) ≡ true
-  pub counts : (x y z : Data) (v : ℕ) (base many : Expr) (i : ℕ) (p : Proc) → variable_of kind.Int vars x ≡ Ok v → whole_expr vars y ≡ Ok base → whole_expr vars z ≡ Ok many → a.itself (COUNT i v (exp base) (exp many) p) ≡ true
+  pub counts : (x y z : Data) (v : ℕ) (base many : Expr) (i : ℕ) (p : Proc) → read_variable kind.Int vars x ≡ Ok v → whole_expr vars y ≡ Ok base → whole_expr vars z ≡ Ok many → a.itself (COUNT i v (exp base) (exp many) p) ≡ true
 
 pub by_only_ok : {A : Type 0} (read : List ℕ → Data → Result A Fault) (o : Option (List ℕ × Data)) (x : A) → by_only read o ≡ Ok x → (k : List ℕ × Data) × (read k.0 k.1 ≡ Ok x)
 by_only_ok read None x e = absurd cc
@@ -125,12 +125,12 @@ module _ (vars : List Variable) (channels : List Channel) (a : Asking) (s : Suit
       ap (λ (n : Numbered). everywhere a (n.tree site)) (number_while (process.While c p) c p refl)
       ∙ both_true (a.itself (WHILE site (as_test c) ((number p).tree (suc site)))) (everywhere a ((number p).tree (suc site))) (s.again site c ((number p).tree (suc site)) is) (fine (suc site))
 
-  count_fine : (x y z : Data) (v : ℕ) (base many : Expr) (p : Process) → variable_of kind.Int vars x ≡ Ok v → whole_expr vars y ≡ Ok base → whole_expr vars z ≡ Ok many → IsFine a p → IsFine a (process.Count v base many p)
+  count_fine : (x y z : Data) (v : ℕ) (base many : Expr) (p : Process) → read_variable kind.Int vars x ≡ Ok v → whole_expr vars y ≡ Ok base → whole_expr vars z ≡ Ok many → IsFine a p → IsFine a (process.Count v base many p)
   count_fine x y z v base many p ex ey ez fine site =
       ap (λ (n : Numbered). everywhere a (n.tree site)) (number_count (process.Count v base many p) v base many p refl)
       ∙ both_true (a.itself (COUNT site v (exp base) (exp many) ((number p).tree (suc site)))) (everywhere a ((number p).tree (suc site))) (s.counts x y z v base many site ((number p).tree (suc site)) ex ey ez) (fine (suc site))
 
-  plain_fine : (t : List ℕ) (p : Process) → plain_of t ≡ Ok p → IsFine a p
+  plain_fine : (t : List ℕ) (p : Process) → read_plain t ≡ Ok p → IsFine a p
   plain_fine t p e = go (bytes_eq t (codes "skip")) (bytes_eq t (codes "stop")) e
     where
       go : (x y : Bool) → (if x then Ok process.Skip else (if y then Ok process.Stop else wrong why.Kind)) ≡ Ok p → IsFine a p
@@ -140,10 +140,10 @@ module _ (vars : List Variable) (channels : List Channel) (a : Asking) (s : Suit
 
   -- a process of which each part that is read is fine
   module _ (part : Data → Result Process Fault) (fine : (d : Data) (p : Process) → part d ≡ Ok p → IsFine a p) where
-    all_fine : (d : Data) (ps : List Process) → list_of (λ _. part) d ≡ Ok ps → AllByRecursion (IsFine a) ps
+    all_fine : (d : Data) (ps : List Process) → read_list (λ _. part) d ≡ Ok ps → AllByRecursion (IsFine a) ps
     all_fine d ps e = list_keeps (AllByRecursion (IsFine a)) (λ _. part) (λ before c x all r. all_push (IsFine a) before x all (fine c x r)) d ps tt e
 
-    branch_fine : (d : Data) (b : Branch) → branch_of part vars d ≡ Ok b → FineBranch (number_branch b)
+    branch_fine : (d : Data) (b : Branch) → read_branch part vars d ≡ Ok b → FineBranch (number_branch b)
     branch_fine d b e =
         let r = then_ok (row 2 d) _ b e in
         let c = then_ok (cell 0 (whole_cond vars) d) _ b r.2 in
@@ -153,21 +153,21 @@ module _ (vars : List Variable) (channels : List Channel) (a : Asking) (s : Suit
         subst (λ (x : Branch). FineBranch (number_branch x)) (ok_is (record { cond = c.0; body = p.0 }) b p.2)
         (subst FineBranch (sym (branch_is c.0 p.0)) (s.condition cd.0 c.0 cd.2, fine pd.0 p.0 pd.2))
 
-    guard_fine : (d : Data) (g : Guard) → guard_of part vars channels d ≡ Ok g → FineGuard (number_guard g)
+    guard_fine : (d : Data) (g : Guard) → read_guard part vars channels d ≡ Ok g → FineGuard (number_guard g)
     guard_fine d g e =
         let r = then_ok (row 4 d) _ g e in
         let c = then_ok (cell 0 (whole_cond vars) d) _ g r.2 in
         let ch = then_ok (cell 1 (channel_named channels) d) _ g c.2 in
-        let v = then_ok (cell 2 (variable_of ch.0.1 vars) d) _ g ch.2 in
+        let v = then_ok (cell 2 (read_variable ch.0.1 vars) d) _ g ch.2 in
         let p = then_ok (cell 3 part d) _ g v.2 in
         let cd = cell_ok 0 (whole_cond vars) d c.0 c.1 in
         let chd = cell_ok 1 (channel_named channels) d ch.0 ch.1 in
-        let vd = cell_ok 2 (variable_of ch.0.1 vars) d v.0 v.1 in
+        let vd = cell_ok 2 (read_variable ch.0.1 vars) d v.0 v.1 in
         let pd = cell_ok 3 part d p.0 p.1 in
         subst (λ (x : Guard). FineGuard (number_guard x)) (ok_is (record { cond = c.0; chan = ch.0.0; var = v.0; body = p.0 }) g p.2)
         (subst FineGuard (sym (guard_is c.0 ch.0.0 v.0 p.0)) (s.condition cd.0 c.0 cd.2, s.channel chd.0 ch.0 chd.2, s.variable ch.0.1 vd.0 v.0 vd.2, fine pd.0 p.0 pd.2))
 
-    while_of_fine : (d : Data) (p : Process) → while_of part vars d ≡ Ok p → IsFine a p
+    while_of_fine : (d : Data) (p : Process) → read_while part vars d ≡ Ok p → IsFine a p
     while_of_fine d p e =
         let r = then_ok (row 2 d) _ p e in
         let c = then_ok (cell 0 (whole_cond vars) d) _ p r.2 in
@@ -176,14 +176,14 @@ module _ (vars : List Variable) (channels : List Channel) (a : Asking) (s : Suit
         let bd = cell_ok 1 part d b.0 b.1 in
         subst (IsFine a) (ok_is (process.While c.0 b.0) p b.2) (while_fine c.0 b.0 (s.condition cd.0 c.0 cd.2) (fine bd.0 b.0 bd.2))
 
-    count_of_fine : (d : Data) (p : Process) → count_of part vars d ≡ Ok p → IsFine a p
+    count_of_fine : (d : Data) (p : Process) → read_count part vars d ≡ Ok p → IsFine a p
     count_of_fine d p e =
         let r = then_ok (row 4 d) _ p e in
-        let v = then_ok (cell 0 (variable_of kind.Int vars) d) _ p r.2 in
+        let v = then_ok (cell 0 (read_variable kind.Int vars) d) _ p r.2 in
         let x = then_ok (cell 1 (whole_expr vars) d) _ p v.2 in
         let y = then_ok (cell 2 (whole_expr vars) d) _ p x.2 in
         let b = then_ok (cell 3 part d) _ p y.2 in
-        let vd = cell_ok 0 (variable_of kind.Int vars) d v.0 v.1 in
+        let vd = cell_ok 0 (read_variable kind.Int vars) d v.0 v.1 in
         let xd = cell_ok 1 (whole_expr vars) d x.0 x.1 in
         let yd = cell_ok 2 (whole_expr vars) d y.0 y.1 in
         let bd = cell_ok 3 part d b.0 b.1 in
@@ -195,22 +195,22 @@ module _ (vars : List Variable) (channels : List Channel) (a : Asking) (s : Suit
     worded_fine head.Receive d p e = s.receives d p e
     worded_fine head.Stopch d p e = s.stops d p e
     worded_fine head.Seq d p e =
-        let l = then_ok (list_of (λ _. part) d) _ p e in
+        let l = then_ok (read_list (λ _. part) d) _ p e in
         subst (IsFine a) (ok_is (process.Seq l.0) p l.2) (seq_fine l.0 (all_fine d l.0 l.1))
     worded_fine head.Par d p e =
-        let l = then_ok (list_of (λ _. part) d) _ p e in
+        let l = then_ok (read_list (λ _. part) d) _ p e in
         subst (IsFine a) (ok_is (process.Par l.0) p l.2) (par_fine l.0 (all_fine d l.0 l.1))
     worded_fine head.If d p e =
-        let l = then_ok (list_of (λ _. branch_of part vars) d) _ p e in
+        let l = then_ok (read_list (λ _. read_branch part vars) d) _ p e in
         subst (IsFine a) (ok_is (process.If l.0) p l.2)
-        (if_fine l.0 (list_keeps (AllByRecursion (λ (b : Branch). FineBranch (number_branch b))) (λ _. branch_of part vars)
+        (if_fine l.0 (list_keeps (AllByRecursion (λ (b : Branch). FineBranch (number_branch b))) (λ _. read_branch part vars)
         (λ before c x all r. all_push (λ (b : Branch). FineBranch (number_branch b)) before x all (branch_fine c x r)) d l.0 tt l.1))
     worded_fine head.While d p e = while_of_fine d p e
     worded_fine head.Count d p e = count_of_fine d p e
     worded_fine head.Alt d p e =
-        let l = then_ok (list_of (λ _. guard_of part vars channels) d) _ p e in
+        let l = then_ok (read_list (λ _. read_guard part vars channels) d) _ p e in
         subst (IsFine a) (ok_is (process.Alt l.0) p l.2)
-        (alt_fine l.0 (list_keeps (AllByRecursion (λ (g : Guard). FineGuard (number_guard g))) (λ _. guard_of part vars channels)
+        (alt_fine l.0 (list_keeps (AllByRecursion (λ (g : Guard). FineGuard (number_guard g))) (λ _. read_guard part vars channels)
         (λ before c x all r. all_push (λ (g : Guard). FineGuard (number_guard g)) before x all (guard_fine c x r)) d l.0 tt l.1))
 
     named_fine : (o : Option (List ℕ × Data)) (p : Process) → by_only (named_process part vars channels) o ≡ Ok p → IsFine a p
@@ -227,6 +227,6 @@ module _ (vars : List Variable) (channels : List Channel) (a : Asking) (s : Suit
     step_fine (number_data n) p e = named_fine (only (number_data n)) p e
     step_fine (array ds) p e = named_fine (only (array ds)) p e
 
-  pub process_fine : (depth : ℕ) (d : Data) (p : Process) → process_of depth vars channels d ≡ Ok p → IsFine a p
-  process_fine zero d p e = let t = then_ok (text_of d) plain_of p e in plain_fine t.0 p t.2
-  process_fine (suc depth) d p e = step_fine (process_of depth vars channels) (process_fine depth) d p e
+  pub process_fine : (depth : ℕ) (d : Data) (p : Process) → read_process depth vars channels d ≡ Ok p → IsFine a p
+  process_fine zero d p e = let t = then_ok (read_text d) read_plain p e in plain_fine t.0 p t.2
+  process_fine (suc depth) d p e = step_fine (read_process depth vars channels) (process_fine depth) d p e

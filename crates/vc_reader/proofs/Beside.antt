@@ -8,8 +8,8 @@ use Rattle.vc_plan.specs.declared.channel.Channel.{Channel}
 use Rattle.vc_plan.specs.declared.node_plan.Variable.{Variable}
 use Rattle.vc_reader.specs.Reading.{◌>>=◌, beside, cell, row, Fails}
 use Rattle.vc_reader.specs.Conditions.{whole_cond}
-use Rattle.vc_reader.specs.Bytes.{variable_of}
-use Rattle.vc_reader.specs.Processes.{branch_of, while_of, guard_of, cond_first, guard_head, channel_named}
+use Rattle.vc_reader.specs.Bytes.{read_variable}
+use Rattle.vc_reader.specs.Processes.{read_branch, read_while, read_guard, cond_first, guard_head, channel_named}
 use Rattle.vc_reader.specs.declared.fault.Fault.{Fault}
 use Rattle.vc_reader.specs.declared.fault.Stop.{Stop}
 use Rattle.vc_reader.specs.declared.fault.Stop.TheVariants as stop
@@ -46,39 +46,39 @@ both-read {A} {B} all m (Ok z) made a x y e h r =
     e ∙ ap (λ u. u >>= λ v. Ok (made v z)) h ∙ ap (λ (u : A × B). Ok (made u.0 u.1)) q
 both-read all m (Err v) made a x y e h r = cc
 
-branch-is : (part : Data → Result Process Fault) (vars : List Variable) (d : Data) → branch_of part vars d ≡ (cond_first 2 vars d >>= λ cond. cell 1 part d >>= λ body. Ok (record { cond = cond; body = body }))
+branch-is : (part : Data → Result Process Fault) (vars : List Variable) (d : Data) → read_branch part vars d ≡ (cond_first 2 vars d >>= λ cond. cell 1 part d >>= λ body. Ok (record { cond = cond; body = body }))
 branch-is part vars d = in-turn (row 2 d) (cell 0 (whole_cond vars) d) (λ cond. cell 1 part d >>= λ body. Ok (record { cond = cond; body = body }))
 
-pub branch-fails : (part : Data → Result Process Fault) (vars : List Variable) (d : Data) (cond : Cond) (why : Stop) → cond_first 2 vars d ≡ Ok cond → Fails why (beside cond (cell 1 part d)) → Fails why (branch_of part vars d)
+pub branch-fails : (part : Data → Result Process Fault) (vars : List Variable) (d : Data) (cond : Cond) (why : Stop) → cond_first 2 vars d ≡ Ok cond → Fails why (beside cond (cell 1 part d)) → Fails why (read_branch part vars d)
 branch-fails part vars d cond why h r =
-    rest-fails (branch_of part vars d) (cond_first 2 vars d) (cell 1 part d) (λ c b. record { cond = c; body = b }) cond why (branch-is part vars d) h r
+    rest-fails (read_branch part vars d) (cond_first 2 vars d) (cell 1 part d) (λ c b. record { cond = c; body = b }) cond why (branch-is part vars d) h r
 
-pub branch-read : (part : Data → Result Process Fault) (vars : List Variable) (d : Data) (cond c : Cond) (b : Process) → cond_first 2 vars d ≡ Ok cond → beside cond (cell 1 part d) ≡ Ok (c, b) → branch_of part vars d ≡ Ok (record { cond = c; body = b })
+pub branch-read : (part : Data → Result Process Fault) (vars : List Variable) (d : Data) (cond c : Cond) (b : Process) → cond_first 2 vars d ≡ Ok cond → beside cond (cell 1 part d) ≡ Ok (c, b) → read_branch part vars d ≡ Ok (record { cond = c; body = b })
 branch-read part vars d cond c b h r =
-    both-read (branch_of part vars d) (cond_first 2 vars d) (cell 1 part d) (λ c b. record { cond = c; body = b }) cond c b (branch-is part vars d) h r
+    both-read (read_branch part vars d) (cond_first 2 vars d) (cell 1 part d) (λ c b. record { cond = c; body = b }) cond c b (branch-is part vars d) h r
 
-while-is : (part : Data → Result Process Fault) (vars : List Variable) (d : Data) → while_of part vars d ≡ (cond_first 2 vars d >>= λ cond. cell 1 part d >>= λ body. Ok (While cond body))
+while-is : (part : Data → Result Process Fault) (vars : List Variable) (d : Data) → read_while part vars d ≡ (cond_first 2 vars d >>= λ cond. cell 1 part d >>= λ body. Ok (While cond body))
 while-is part vars d = in-turn (row 2 d) (cell 0 (whole_cond vars) d) (λ cond. cell 1 part d >>= λ body. Ok (While cond body))
 
-pub while-fails : (part : Data → Result Process Fault) (vars : List Variable) (d : Data) (cond : Cond) (why : Stop) → cond_first 2 vars d ≡ Ok cond → Fails why (beside cond (cell 1 part d)) → Fails why (while_of part vars d)
+pub while-fails : (part : Data → Result Process Fault) (vars : List Variable) (d : Data) (cond : Cond) (why : Stop) → cond_first 2 vars d ≡ Ok cond → Fails why (beside cond (cell 1 part d)) → Fails why (read_while part vars d)
 while-fails part vars d cond why h r =
-    rest-fails (while_of part vars d) (cond_first 2 vars d) (cell 1 part d) (λ c b. While c b) cond why (while-is part vars d) h r
+    rest-fails (read_while part vars d) (cond_first 2 vars d) (cell 1 part d) (λ c b. While c b) cond why (while-is part vars d) h r
 
-pub while-read : (part : Data → Result Process Fault) (vars : List Variable) (d : Data) (cond c : Cond) (b : Process) → cond_first 2 vars d ≡ Ok cond → beside cond (cell 1 part d) ≡ Ok (c, b) → while_of part vars d ≡ Ok (While c b)
+pub while-read : (part : Data → Result Process Fault) (vars : List Variable) (d : Data) (cond c : Cond) (b : Process) → cond_first 2 vars d ≡ Ok cond → beside cond (cell 1 part d) ≡ Ok (c, b) → read_while part vars d ≡ Ok (While c b)
 while-read part vars d cond c b h r =
-    both-read (while_of part vars d) (cond_first 2 vars d) (cell 1 part d) (λ c b. While c b) cond c b (while-is part vars d) h r
+    both-read (read_while part vars d) (cond_first 2 vars d) (cell 1 part d) (λ c b. While c b) cond c b (while-is part vars d) h r
 
 guard-is : (part : Data → Result Process Fault) (vars : List Variable) (channels : List Channel) (d : Data) →
-    guard_of part vars channels d ≡ (guard_head vars channels d >>= λ h. cell 3 part d >>= λ body. Ok (record { cond = h.0; chan = h.1.0; var = h.1.1; body = body }))
+    read_guard part vars channels d ≡ (guard_head vars channels d >>= λ h. cell 3 part d >>= λ body. Ok (record { cond = h.0; chan = h.1.0; var = h.1.1; body = body }))
 guard-is part vars channels d =
-    split (row 4 d) (cell 0 (whole_cond vars) d) (cell 1 (channel_named channels) d) (λ k. cell 2 (variable_of k vars) d) (λ cond chan var. cell 3 part d >>= λ body. Ok (record { cond = cond; chan = chan; var = var; body = body }))
+    split (row 4 d) (cell 0 (whole_cond vars) d) (cell 1 (channel_named channels) d) (λ k. cell 2 (read_variable k vars) d) (λ cond chan var. cell 3 part d >>= λ body. Ok (record { cond = cond; chan = chan; var = var; body = body }))
 
 pub guard-fails : (part : Data → Result Process Fault) (vars : List Variable) (channels : List Channel) (d : Data) (head : Cond × (ℕ × ℕ)) (why : Stop) → guard_head vars channels d ≡ Ok head →
-    Fails why (beside head (cell 3 part d)) → Fails why (guard_of part vars channels d)
+    Fails why (beside head (cell 3 part d)) → Fails why (read_guard part vars channels d)
 guard-fails part vars channels d head why h r =
-    rest-fails (guard_of part vars channels d) (guard_head vars channels d) (cell 3 part d) (λ g b. record { cond = g.0; chan = g.1.0; var = g.1.1; body = b }) head why (guard-is part vars channels d) h r
+    rest-fails (read_guard part vars channels d) (guard_head vars channels d) (cell 3 part d) (λ g b. record { cond = g.0; chan = g.1.0; var = g.1.1; body = b }) head why (guard-is part vars channels d) h r
 
 pub guard-read : (part : Data → Result Process Fault) (vars : List Variable) (channels : List Channel) (d : Data) (head g : Cond × (ℕ × ℕ)) (b : Process) → guard_head vars channels d ≡ Ok head →
-    beside head (cell 3 part d) ≡ Ok (g, b) → guard_of part vars channels d ≡ Ok (record { cond = g.0; chan = g.1.0; var = g.1.1; body = b })
+    beside head (cell 3 part d) ≡ Ok (g, b) → read_guard part vars channels d ≡ Ok (record { cond = g.0; chan = g.1.0; var = g.1.1; body = b })
 guard-read part vars channels d head g b h r =
-    both-read (guard_of part vars channels d) (guard_head vars channels d) (cell 3 part d) (λ g b. record { cond = g.0; chan = g.1.0; var = g.1.1; body = b }) head g b (guard-is part vars channels d) h r
+    both-read (read_guard part vars channels d) (guard_head vars channels d) (cell 3 part d) (λ g b. record { cond = g.0; chan = g.1.0; var = g.1.1; body = b }) head g b (guard-is part vars channels d) h r

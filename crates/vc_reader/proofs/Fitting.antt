@@ -40,12 +40,12 @@ use Rattle.vc_reader.specs.declared.fault.Fault.{Fault}
 use Rattle.vc_reader.specs.declared.fault.Why.TheVariants as why
 use Rattle.vc_reader.specs.declared.path.Step.TheVariants.{Field}
 use Rattle.vc_reader.specs.declared.word.Word.TheVariants as word
-use Rattle.vc_reader.specs.Reading.{◌>>=◌, wrong, cell, row, only, by_only, under, text_of}
+use Rattle.vc_reader.specs.Reading.{◌>>=◌, wrong, cell, row, only, by_only, under, read_text}
 use Rattle.vc_reader.specs.Names.{position_of, numbered, found_of, known_or_not, one_of}
-use Rattle.vc_reader.specs.Bytes.{of_kind, variable_of, hex_bytes, no_longer, hex_of, literal_of, fill_of, formed_bytes, bytes_of}
-use Rattle.vc_reader.specs.Expressions.{int_of, leaf_of, head, expr_word, size_of, operation_of, worded_expr, expr_step, expr_of, whole_expr}
-use Rattle.vc_reader.specs.Conditions.{cond_word, plain_cond, comparison_of, both_of, either_of, not_of, worded_cond, cond_step, cond_of}
-use Rattle.vc_reader.specs.Processes.{variable_named, channel_named, value_of, set_of, send_of, receive_of, stopch_of, whole_process}
+use Rattle.vc_reader.specs.Bytes.{of_kind, read_variable, hex_bytes, no_longer, read_hex, read_literal, read_fill, formed_bytes, read_bytes}
+use Rattle.vc_reader.specs.Expressions.{read_int, read_leaf, head, expr_word, read_size, read_operation, worded_expr, expr_step, read_expr, whole_expr}
+use Rattle.vc_reader.specs.Conditions.{cond_word, plain_cond, read_comparison, read_both, read_either, read_not, worded_cond, cond_step, read_cond}
+use Rattle.vc_reader.specs.Processes.{variable_named, channel_named, read_value, read_set, read_send, read_receive, read_stopch, whole_process}
 use Rattle.vc_reader.proofs.Asked.{IsFine, Suits, by_only_ok, process_fine}
 use Rattle.vc_reader.proofs.Read.{ok_is, then_ok, under_ok, cell_ok}
 use Rattle.vc_reader.proofs.Versions.{both_true}
@@ -75,7 +75,7 @@ known_is (Some y) x e = ap (λ z. Some z) (ok_is y x e)
 
 pub one_is : {A : Type 0} (name_of : A → List ℕ) (known : List A) (d : Data) (f : ℕ × A) → one_of name_of known d ≡ Ok f → slice_get known f.0 ≡ Some f.1
 one_is name_of known d f e =
-    let t = then_ok (text_of d) (λ s. known_or_not (found_of name_of known s)) f e in
+    let t = then_ok (read_text d) (λ s. known_or_not (found_of name_of known s)) f e in
     found_is name_of known t.0 f (known_is (found_of name_of known t.0) f t.2)
 
 -- a number that is cut is no greater
@@ -94,7 +94,7 @@ same_self kind.Bytes = refl
 
 module _ (vars : List Variable) (small : length vars ≤ 64) where
   -- the variable that is named, of the kind that is wanted
-  held : (k : ValueKind) (d : Data) (v : ℕ) → variable_of k vars d ≡ Ok v → slice_get (kinds_of vars) v ≡ Some k
+  held : (k : ValueKind) (d : Data) (v : ℕ) → read_variable k vars d ≡ Ok v → slice_get (kinds_of vars) v ≡ Some k
   held k d v e =
       let f = then_ok (one_of (λ (x : Variable). x.name) vars d) (of_kind k) v e in
       go f.0 (one_is (λ (x : Variable). x.name) vars d f.0 f.1) (same_kind k (f.0.1).kind) refl f.2
@@ -110,10 +110,10 @@ module _ (vars : List Variable) (small : length vars ≤ 64) where
           ∙ ap (λ (z : ValueKind). Some z) (sym (same_is k (f.1).kind same))
       go f is false same r = absurd cc
 
-  holds : (k : ValueKind) (d : Data) (v : ℕ) → variable_of k vars d ≡ Ok v → holds_kind (kinds_of vars) v k ≡ true
+  holds : (k : ValueKind) (d : Data) (v : ℕ) → read_variable k vars d ≡ Ok v → holds_kind (kinds_of vars) v k ≡ true
   holds k d v e = ap (λ o. is_kind o k) (held k d v e) ∙ same_self k
 
-  there : (k : ValueKind) (d : Data) (v : ℕ) → variable_of k vars d ≡ Ok v → nat_lt v (length (kinds_of vars)) ≡ true
+  there : (k : ValueKind) (d : Data) (v : ℕ) → read_variable k vars d ≡ Ok v → nat_lt v (length (kinds_of vars)) ≡ true
   there k d v e = let lt = slice_get_within (kinds_of vars) v k (held k d v e) in grind (arith, nat_tests)
 
   named_kind : (d : Data) (f : ℕ × ValueKind) → variable_named vars d ≡ Ok f → holds_kind (kinds_of vars) f.0 f.1 ≡ true
@@ -131,27 +131,27 @@ module _ (vars : List Variable) (small : length vars ≤ 64) where
   abbrev Fits : Expr → Type 0
   Fits x = exp_fits (exp x) (kinds_of vars) ≡ true
 
-  leaf_fits : (d : Data) (x : Expr) → leaf_of vars d ≡ Ok x → Fits x
+  leaf_fits : (d : Data) (x : Expr) → read_leaf vars d ≡ Ok x → Fits x
   leaf_fits (number_data n) x e =
-      let z = then_ok (int_of (number_data n)) (λ y. Ok (expr.Num y)) x e in
+      let z = then_ok (read_int (number_data n)) (λ y. Ok (expr.Num y)) x e in
       ap (λ t. exp_fits t (kinds_of vars)) (exp_num x z.0 (sym (ok_is (expr.Num z.0) x z.2)))
   leaf_fits (string s) x e =
-      let v = then_ok (variable_of kind.Int vars (string s)) (λ n. Ok (expr.Var n)) x e in
+      let v = then_ok (read_variable kind.Int vars (string s)) (λ n. Ok (expr.Var n)) x e in
       ap (λ t. exp_fits t (kinds_of vars)) (exp_var x v.0 (sym (ok_is (expr.Var v.0) x v.2))) ∙ holds kind.Int (string s) v.0 v.1
   leaf_fits null x e = absurd cc
   leaf_fits (boolean b) x e = absurd cc
   leaf_fits (array ds) x e = absurd cc
   leaf_fits (object ms) x e = absurd cc
 
-  size_fits : (d : Data) (x : Expr) → size_of vars d ≡ Ok x → Fits x
+  size_fits : (d : Data) (x : Expr) → read_size vars d ≡ Ok x → Fits x
   size_fits d x e =
       let r = then_ok (row 2 d) _ x e in
-      let v = then_ok (cell 1 (variable_of kind.Bytes vars) d) _ x r.2 in
-      let vd = cell_ok 1 (variable_of kind.Bytes vars) d v.0 v.1 in
+      let v = then_ok (cell 1 (read_variable kind.Bytes vars) d) _ x r.2 in
+      let vd = cell_ok 1 (read_variable kind.Bytes vars) d v.0 v.1 in
       ap (λ t. exp_fits t (kinds_of vars)) (exp_size x v.0 (sym (ok_is (expr.Size v.0) x v.2))) ∙ holds kind.Bytes vd.0 v.0 vd.2
 
   module _ (part : Data → Result Expr Fault) (fits : (d : Data) (x : Expr) → part d ≡ Ok x → Fits x) where
-    operation_fits : (op : Op) (d : Data) (x : Expr) → operation_of part op d ≡ Ok x → Fits x
+    operation_fits : (op : Op) (d : Data) (x : Expr) → read_operation part op d ≡ Ok x → Fits x
     operation_fits op d x e =
         let r = then_ok (row 3 d) _ x e in
         let a = then_ok (cell 1 part d) _ x r.2 in
@@ -173,9 +173,9 @@ module _ (vars : List Variable) (small : length vars ≤ 64) where
     step_fits (boolean b) x e = leaf_fits (boolean b) x e
     step_fits (object ms) x e = leaf_fits (object ms) x e
 
-  expr_fits : (depth : ℕ) (d : Data) (x : Expr) → expr_of depth vars d ≡ Ok x → Fits x
+  expr_fits : (depth : ℕ) (d : Data) (x : Expr) → read_expr depth vars d ≡ Ok x → Fits x
   expr_fits zero d x e = leaf_fits d x e
-  expr_fits (suc depth) d x e = step_fits (expr_of depth vars) (expr_fits depth) d x e
+  expr_fits (suc depth) d x e = step_fits (read_expr depth vars) (expr_fits depth) d x e
 
   whole_fits : (d : Data) (x : Expr) → whole_expr vars d ≡ Ok x → Fits x
   whole_fits d x e = expr_fits 127 d x e
@@ -192,7 +192,7 @@ module _ (vars : List Variable) (small : length vars ≤ 64) where
   plain_tests (array ds) c e = absurd cc
   plain_tests (object ms) c e = absurd cc
 
-  comparison_tests : (rel : Rel) (d : Data) (c : Cond) → comparison_of vars rel d ≡ Ok c → Tests c
+  comparison_tests : (rel : Rel) (d : Data) (c : Cond) → read_comparison vars rel d ≡ Ok c → Tests c
   comparison_tests rel d c e =
       let r = then_ok (row 3 d) _ c e in
       let a = then_ok (cell 1 (whole_expr vars) d) _ c r.2 in
@@ -203,7 +203,7 @@ module _ (vars : List Variable) (small : length vars ≤ 64) where
       ∙ both_true (exp_fits (exp a.0) (kinds_of vars)) (exp_fits (exp b.0) (kinds_of vars)) (whole_fits ad.0 a.0 ad.2) (whole_fits bd.0 b.0 bd.2)
 
   module _ (part : Data → Result Cond Fault) (tests : (d : Data) (c : Cond) → part d ≡ Ok c → Tests c) where
-    both_tests : (d : Data) (c : Cond) → both_of part d ≡ Ok c → Tests c
+    both_tests : (d : Data) (c : Cond) → read_both part d ≡ Ok c → Tests c
     both_tests d c e =
         let r = then_ok (row 3 d) _ c e in
         let a = then_ok (cell 1 part d) _ c r.2 in
@@ -213,7 +213,7 @@ module _ (vars : List Variable) (small : length vars ≤ 64) where
         ap (λ t. test_fits t (kinds_of vars)) (test_and c a.0 b.0 (sym (ok_is (cond.And a.0 b.0) c b.2)))
         ∙ both_true (test_fits (as_test a.0) (kinds_of vars)) (test_fits (as_test b.0) (kinds_of vars)) (tests ad.0 a.0 ad.2) (tests bd.0 b.0 bd.2)
 
-    either_tests : (d : Data) (c : Cond) → either_of part d ≡ Ok c → Tests c
+    either_tests : (d : Data) (c : Cond) → read_either part d ≡ Ok c → Tests c
     either_tests d c e =
         let r = then_ok (row 3 d) _ c e in
         let a = then_ok (cell 1 part d) _ c r.2 in
@@ -223,7 +223,7 @@ module _ (vars : List Variable) (small : length vars ≤ 64) where
         ap (λ t. test_fits t (kinds_of vars)) (test_or c a.0 b.0 (sym (ok_is (cond.Or a.0 b.0) c b.2)))
         ∙ both_true (test_fits (as_test a.0) (kinds_of vars)) (test_fits (as_test b.0) (kinds_of vars)) (tests ad.0 a.0 ad.2) (tests bd.0 b.0 bd.2)
 
-    not_tests : (d : Data) (c : Cond) → not_of part d ≡ Ok c → Tests c
+    not_tests : (d : Data) (c : Cond) → read_not part d ≡ Ok c → Tests c
     not_tests d c e =
         let r = then_ok (row 2 d) _ c e in
         let a = then_ok (cell 1 part d) _ c r.2 in
@@ -244,9 +244,9 @@ module _ (vars : List Variable) (small : length vars ≤ 64) where
     step_tests (string s) c e = plain_tests (string s) c e
     step_tests (object ms) c e = plain_tests (object ms) c e
 
-  cond_tests : (depth : ℕ) (d : Data) (c : Cond) → cond_of depth vars d ≡ Ok c → Tests c
+  cond_tests : (depth : ℕ) (d : Data) (c : Cond) → read_cond depth vars d ≡ Ok c → Tests c
   cond_tests zero d c e = plain_tests d c e
-  cond_tests (suc depth) d c e = step_tests (cond_of depth vars) (cond_tests depth) d c e
+  cond_tests (suc depth) d c e = step_tests (read_cond depth vars) (cond_tests depth) d c e
 
   -- values
   record IsGiven (k : ValueKind) (v : Value) : Type 0 where
@@ -259,29 +259,29 @@ module _ (vars : List Variable) (small : length vars ≤ 64) where
   formed_given : (form : List ℕ) (d : Data) (b : BytesExpr) → formed_bytes form d ≡ Ok b → IsGiven kind.Bytes (value.Bytes b)
   formed_given form d b e = go (bytes_eq form (codes "hex")) (bytes_eq form (codes "text")) (bytes_eq form (codes "fill")) e
     where
-      fill : fill_of d ≡ Ok b → IsGiven kind.Bytes (value.Bytes b)
+      fill : read_fill d ≡ Ok b → IsGiven kind.Bytes (value.Bytes b)
       fill e =
           let r = then_ok (row 2 d) _ b e in
           let x = then_ok (cell 0 _ d) _ b r.2 in
           let n = then_ok (cell 1 _ d) _ b x.2 in
           subst (λ (z : BytesExpr). IsGiven kind.Bytes (value.Bytes z)) (ok_is (bytes.Fill x.0 n.0) b n.2) (record { fits = refl; kind_is = refl })
 
-      go : (x y z : Bool) → (if x then under (Field word.Hex) (hex_of d) else (if y then under (Field word.Text) (literal_of d) else (if z then under (Field word.Fill) (fill_of d) else wrong why.Unknown))) ≡ Ok b → IsGiven kind.Bytes (value.Bytes b)
+      go : (x y z : Bool) → (if x then under (Field word.Hex) (read_hex d) else (if y then under (Field word.Text) (read_literal d) else (if z then under (Field word.Fill) (read_fill d) else wrong why.Unknown))) ≡ Ok b → IsGiven kind.Bytes (value.Bytes b)
       go true y z e =
-          let l = then_ok (text_of d >>= hex_bytes >>= no_longer) (λ xs. Ok (bytes.Lit xs)) b (under_ok (Field word.Hex) (hex_of d) b e) in
+          let l = then_ok (read_text d >>= hex_bytes >>= no_longer) (λ xs. Ok (bytes.Lit xs)) b (under_ok (Field word.Hex) (read_hex d) b e) in
           literal_given b l.0 (ok_is (bytes.Lit l.0) b l.2)
       go false true z e =
-          let l = then_ok (text_of d >>= no_longer) (λ xs. Ok (bytes.Lit xs)) b (under_ok (Field word.Text) (literal_of d) b e) in
+          let l = then_ok (read_text d >>= no_longer) (λ xs. Ok (bytes.Lit xs)) b (under_ok (Field word.Text) (read_literal d) b e) in
           literal_given b l.0 (ok_is (bytes.Lit l.0) b l.2)
-      go false false true e = fill (under_ok (Field word.Fill) (fill_of d) b e)
+      go false false true e = fill (under_ok (Field word.Fill) (read_fill d) b e)
       go false false false e = absurd cc
 
   form_given : (o : Option (List ℕ × Data)) (b : BytesExpr) → by_only formed_bytes o ≡ Ok b → IsGiven kind.Bytes (value.Bytes b)
   form_given o b e = let k = by_only_ok formed_bytes o b e in formed_given k.0.0 k.0.1 b k.1
 
-  bytes_given : (d : Data) (b : BytesExpr) → bytes_of vars d ≡ Ok b → IsGiven kind.Bytes (value.Bytes b)
+  bytes_given : (d : Data) (b : BytesExpr) → read_bytes vars d ≡ Ok b → IsGiven kind.Bytes (value.Bytes b)
   bytes_given (string s) b e =
-      let v = then_ok (variable_of kind.Bytes vars (string s)) (λ n. Ok (bytes.Var n)) b e in
+      let v = then_ok (read_variable kind.Bytes vars (string s)) (λ n. Ok (bytes.Var n)) b e in
       subst (λ (z : BytesExpr). IsGiven kind.Bytes (value.Bytes z)) (ok_is (bytes.Var v.0) b v.2) (record { fits = holds kind.Bytes (string s) v.0 v.1; kind_is = refl })
   bytes_given (object ms) b e = form_given (only (object ms)) b e
   bytes_given null b e = form_given (only null) b e
@@ -289,12 +289,12 @@ module _ (vars : List Variable) (small : length vars ≤ 64) where
   bytes_given (number_data n) b e = form_given (only (number_data n)) b e
   bytes_given (array ds) b e = form_given (only (array ds)) b e
 
-  value_given : (k : ValueKind) (d : Data) (v : Value) → value_of k vars d ≡ Ok v → IsGiven k v
+  value_given : (k : ValueKind) (d : Data) (v : Value) → read_value k vars d ≡ Ok v → IsGiven k v
   value_given kind.Int d v e =
       let x = then_ok (whole_expr vars d) (λ y. Ok (value.Int y)) v e in
       subst (IsGiven kind.Int) (ok_is (value.Int x.0) v x.2) (record { fits = whole_fits d x.0 x.1; kind_is = refl })
   value_given kind.Bytes d v e =
-      let x = then_ok (bytes_of vars d) (λ y. Ok (value.Bytes y)) v e in
+      let x = then_ok (read_bytes vars d) (λ y. Ok (value.Bytes y)) v e in
       subst (IsGiven kind.Bytes) (ok_is (value.Bytes x.0) v x.2) (bytes_given d x.0 x.1)
 
   -- processes
@@ -305,39 +305,39 @@ module _ (vars : List Variable) (small : length vars ≤ 64) where
         let lt = slice_get_within channels x.0.0 x.0.1 (one_is (λ (y : Channel). y.name) channels d x.0 x.1) in
         subst (λ (g : ℕ × ValueKind). nat_lt g.0 (length channels) ≡ true) (ok_is (min x.0.0 65535, (x.0.1).kind) c x.2) (cut_below x.0.0 65535 (length channels) lt)
 
-    set_fits : (d : Data) (p : Process) → set_of vars d ≡ Ok p → IsFine (names (kinds_of vars) (length channels)) p
+    set_fits : (d : Data) (p : Process) → read_set vars d ≡ Ok p → IsFine (names (kinds_of vars) (length channels)) p
     set_fits d p e site =
         let r = then_ok (row 2 d) _ p e in
         let v = then_ok (cell 0 (variable_named vars) d) _ p r.2 in
-        let x = then_ok (cell 1 (value_of v.0.1 vars) d) _ p v.2 in
+        let x = then_ok (cell 1 (read_value v.0.1 vars) d) _ p v.2 in
         let vd = cell_ok 0 (variable_named vars) d v.0 v.1 in
-        let xd = cell_ok 1 (value_of v.0.1 vars) d x.0 x.1 in
+        let xd = cell_ok 1 (read_value v.0.1 vars) d x.0 x.1 in
         let g = value_given v.0.1 xd.0 x.0 xd.2 in
         ap (λ (n : Numbered). everywhere (names (kinds_of vars) (length channels)) (n.tree site)) (number_set p v.0.0 x.0 (sym (ok_is (process.Set v.0.0 x.0) p x.2)))
         ∙ both_true (holds_kind (kinds_of vars) v.0.0 (given_kind (given x.0))) (given_fits (given x.0) (kinds_of vars))
         (ap (holds_kind (kinds_of vars) v.0.0) g.kind_is ∙ named_kind vd.0 v.0 vd.2) g.fits
 
-    send_fits : (d : Data) (p : Process) → send_of vars channels d ≡ Ok p → IsFine (names (kinds_of vars) (length channels)) p
+    send_fits : (d : Data) (p : Process) → read_send vars channels d ≡ Ok p → IsFine (names (kinds_of vars) (length channels)) p
     send_fits d p e site =
         let r = then_ok (row 2 d) _ p e in
         let c = then_ok (cell 0 (channel_named channels) d) _ p r.2 in
-        let x = then_ok (cell 1 (value_of c.0.1 vars) d) _ p c.2 in
+        let x = then_ok (cell 1 (read_value c.0.1 vars) d) _ p c.2 in
         let cd = cell_ok 0 (channel_named channels) d c.0 c.1 in
-        let xd = cell_ok 1 (value_of c.0.1 vars) d x.0 x.1 in
+        let xd = cell_ok 1 (read_value c.0.1 vars) d x.0 x.1 in
         ap (λ (n : Numbered). everywhere (names (kinds_of vars) (length channels)) (n.tree site)) (number_send p c.0.0 x.0 (sym (ok_is (process.Send c.0.0 x.0) p x.2)))
         ∙ both_true (nat_lt c.0.0 (length channels)) (given_fits (given x.0) (kinds_of vars)) (channel_there cd.0 c.0 cd.2) (value_given c.0.1 xd.0 x.0 xd.2).fits
 
-    receive_fits : (d : Data) (p : Process) → receive_of vars channels d ≡ Ok p → IsFine (names (kinds_of vars) (length channels)) p
+    receive_fits : (d : Data) (p : Process) → read_receive vars channels d ≡ Ok p → IsFine (names (kinds_of vars) (length channels)) p
     receive_fits d p e site =
         let r = then_ok (row 2 d) _ p e in
         let c = then_ok (cell 0 (channel_named channels) d) _ p r.2 in
-        let v = then_ok (cell 1 (variable_of c.0.1 vars) d) _ p c.2 in
+        let v = then_ok (cell 1 (read_variable c.0.1 vars) d) _ p c.2 in
         let cd = cell_ok 0 (channel_named channels) d c.0 c.1 in
-        let vd = cell_ok 1 (variable_of c.0.1 vars) d v.0 v.1 in
+        let vd = cell_ok 1 (read_variable c.0.1 vars) d v.0 v.1 in
         ap (λ (n : Numbered). everywhere (names (kinds_of vars) (length channels)) (n.tree site)) (number_receive p c.0.0 v.0 (sym (ok_is (process.Receive c.0.0 v.0) p v.2)))
         ∙ both_true (nat_lt c.0.0 (length channels)) (nat_lt v.0 (length (kinds_of vars))) (channel_there cd.0 c.0 cd.2) (there c.0.1 vd.0 v.0 vd.2)
 
-    stop_fits : (d : Data) (p : Process) → stopch_of channels d ≡ Ok p → IsFine (names (kinds_of vars) (length channels)) p
+    stop_fits : (d : Data) (p : Process) → read_stopch channels d ≡ Ok p → IsFine (names (kinds_of vars) (length channels)) p
     stop_fits d p e site =
         let c = then_ok (channel_named channels d) (λ x. Ok (process.Stopch x.0)) p e in
         ap (λ (n : Numbered). everywhere (names (kinds_of vars) (length channels)) (n.tree site)) (number_stopch p c.0.0 (sym (ok_is (process.Stopch c.0.0) p c.2)))

@@ -28,10 +28,10 @@ use Rattle.vc_reader.specs.declared.node.Head.{Head}
 use Rattle.vc_reader.specs.declared.word.Word.TheVariants as word
 use Rattle.vc_reader.specs.Laws.{refuses_no_file}
 use Rattle.vc_reader.specs.Names.{new_name, has_name, found_of, known_or_not, one_of}
-use Rattle.vc_reader.specs.Network.{head_of, var_of, node_of, switch_of, is_place, place_named, place_of, link_of, wire_of, end_of, vlink_of, vlink_number, node_home, way_home, way_of, home_of, channel_of, header_of}
-use Rattle.vc_reader.specs.NetworkText.{node_plans, node_process, plan_of, vars_of}
+use Rattle.vc_reader.specs.Network.{read_head, read_var, read_node, read_switch, is_place, place_named, read_place, read_link, read_wire, read_end, read_vlink, vlink_number, node_home, way_home, read_way, read_home, read_channel, read_header}
+use Rattle.vc_reader.specs.NetworkText.{node_plans, node_process, read_plan, vars_of}
 use Rattle.vc_reader.specs.Processes.{whole_process}
-use Rattle.vc_reader.specs.Reading.{cell, field, has_field, list_of, row, text_of}
+use Rattle.vc_reader.specs.Reading.{cell, field, has_field, read_list, row, read_text}
 use Rattle.vc_reader.proofs.Fitting.{one_is, found_is, known_is, cut_below, names_are_there}
 use Rattle.vc_reader.proofs.Lengths.{messages_short}
 use Rattle.vc_reader.proofs.Named.{new_is_new}
@@ -40,7 +40,7 @@ use Rattle.vc_reader.proofs.Versions.{all_more, both_true}
 
 -- ---- names
 
-variable_named : (before : List Variable) (d : Data) (x : Variable) → var_of before d ≡ Ok x → is_name x.name ≡ true
+variable_named : (before : List Variable) (d : Data) (x : Variable) → read_var before d ≡ Ok x → is_name x.name ≡ true
 variable_named before d x e =
     let n = cell_ok 0 (new_name (has_name (λ (v : Variable). v.name) before)) d x.name (variable_parts before d x e).named in
     (new_is_new (has_name (λ (v : Variable). v.name) before) n.0 x.name n.2).lawful
@@ -48,12 +48,12 @@ variable_named before d x e =
 abbrev head_named : Head → Bool
 head_named h = is_name h.name && list_all (λ (v : Variable). is_name v.name) h.vars
 
-head_is_named : (before : List Head) (d : Data) (x : Head) → head_of before d ≡ Ok x → head_named x ≡ true
+head_is_named : (before : List Head) (d : Data) (x : Head) → read_head before d ≡ Ok x → head_named x ≡ true
 head_is_named before d x e =
     let q = head_parts before d x e in
     let n = field_ok word.Name (new_name (has_name (λ (h : Head). h.name) before)) d x.name q.named in
     both_true (is_name x.name) (list_all (λ (v : Variable). is_name v.name) x.vars) (new_is_new (has_name (λ (h : Head). h.name) before) n.0 x.name n.2).lawful
-    (list_field_keeps (λ vs. list_all (λ (v : Variable). is_name v.name) vs ≡ true) var_of (λ front c y h r. all_more (λ (v : Variable). is_name v.name) front y h (variable_named front c y r)) word.Vars d x.vars refl q.has_vars)
+    (list_field_keeps (λ vs. list_all (λ (v : Variable). is_name v.name) vs ≡ true) read_var (λ front c y h r. all_more (λ (v : Variable). is_name v.name) front y h (variable_named front c y r)) word.Vars d x.vars refl q.has_vars)
 
 and_left : (a b : Bool) → (a && b) ≡ true → (a ≡ true) × (b ≡ true)
 and_left true b e = (refl, e)
@@ -68,7 +68,7 @@ nodes_named (h ∷ hs) (p ∷ ps) e =
 
 -- ---- numbers
 
-node_there : (heads : List Head) (d : Data) (n : ℕ) → node_of heads d ≡ Ok n → nat_lt n (length heads) ≡ true
+node_there : (heads : List Head) (d : Data) (n : ℕ) → read_node heads d ≡ Ok n → nat_lt n (length heads) ≡ true
 node_there heads d n e =
     let f = then_ok (one_of (λ (h : Head). h.name) heads d) (λ x. Ok (min x.0 255)) n e in
     let lt = slice_get_within heads f.0.0 f.0.1 (one_is (λ (h : Head). h.name) heads d f.0 f.1) in
@@ -78,9 +78,9 @@ abbrev is_there : ℕ → ℕ → Spot → Bool
 is_there nodes switches (Node n) = nat_lt n nodes
 is_there nodes switches (Switch n) = nat_lt n switches
 
-place_there : (heads : List Head) (switches : List SwitchPlan) (d : Data) (s : Spot) → place_of heads switches d ≡ Ok s → is_there (length heads) (length switches) s ≡ true
+place_there : (heads : List Head) (switches : List SwitchPlan) (d : Data) (s : Spot) → read_place heads switches d ≡ Ok s → is_there (length heads) (length switches) s ≡ true
 place_there heads switches d s e =
-    let t = then_ok (text_of d) (λ x. known_or_not (place_named heads switches x)) s e in
+    let t = then_ok (read_text d) (λ x. known_or_not (place_named heads switches x)) s e in
     go t.0 (found_of (λ (h : Head). h.name) heads t.0) (found_of (λ (w : SwitchPlan). w.name) switches t.0) refl refl (known_is (place_named heads switches t.0) s t.2)
   where
     go : (name : List ℕ) (a : Option (ℕ × Head)) (b : Option (ℕ × SwitchPlan)) → found_of (λ (h : Head). h.name) heads name ≡ a → found_of (λ (w : SwitchPlan). w.name) switches name ≡ b →
@@ -101,39 +101,39 @@ wire_is_there nodes switches w = is_there nodes switches w.one.spot && is_there 
 abbrev wire : Spot → ℕ → Spot → ℕ → Wire
 wire a m b n = record { one = record { spot = a; link = m }; two = record { spot = b; link = n } }
 
-wire_reads : (heads : List Head) (switches : List SwitchPlan) (d : Data) (w : Wire) → wire_of heads switches d ≡ Ok w → wire_is_there (length heads) (length switches) w ≡ true
+wire_reads : (heads : List Head) (switches : List SwitchPlan) (d : Data) (w : Wire) → read_wire heads switches d ≡ Ok w → wire_is_there (length heads) (length switches) w ≡ true
 wire_reads heads switches d w e =
     let r = then_ok (row 4 d) _ w e in
-    let a = then_ok (cell 0 (place_of heads switches) d) _ w r.2 in
-    let m = then_ok (cell 1 link_of d) _ w a.2 in
-    let b = then_ok (cell 2 (place_of heads switches) d) _ w m.2 in
-    let n = then_ok (cell 3 link_of d) _ w b.2 in
-    let ad = cell_ok 0 (place_of heads switches) d a.0 a.1 in
-    let bd = cell_ok 2 (place_of heads switches) d b.0 b.1 in
+    let a = then_ok (cell 0 (read_place heads switches) d) _ w r.2 in
+    let m = then_ok (cell 1 read_link d) _ w a.2 in
+    let b = then_ok (cell 2 (read_place heads switches) d) _ w m.2 in
+    let n = then_ok (cell 3 read_link d) _ w b.2 in
+    let ad = cell_ok 0 (read_place heads switches) d a.0 a.1 in
+    let bd = cell_ok 2 (read_place heads switches) d b.0 b.1 in
     subst (λ x. wire_is_there (length heads) (length switches) x ≡ true) (ok_is (wire a.0 m.0 b.0 n.0) w n.2)
     (both_true (is_there (length heads) (length switches) a.0) (is_there (length heads) (length switches) b.0) (place_there heads switches ad.0 a.0 ad.2) (place_there heads switches bd.0 b.0 bd.2))
 
 abbrev an_end : ℕ → ℕ → ℕ → List ℕ → End
 an_end node link block route = record { node = node; link = link; block = block; route = route }
 
-end_there : (heads : List Head) (d : Data) (x : End) → end_of heads d ≡ Ok x → nat_lt x.node (length heads) ≡ true
+end_there : (heads : List Head) (d : Data) (x : End) → read_end heads d ≡ Ok x → nat_lt x.node (length heads) ≡ true
 end_there heads d x e =
     let r = then_ok (row 4 d) _ x e in
-    let n = then_ok (cell 0 (node_of heads) d) _ x r.2 in
-    let l = then_ok (cell 1 link_of d) _ x n.2 in
-    let b = then_ok (cell 2 header_of d) _ x l.2 in
-    let t = then_ok (cell 3 (list_of (λ _. header_of)) d) _ x b.2 in
-    let nd = cell_ok 0 (node_of heads) d n.0 n.1 in
+    let n = then_ok (cell 0 (read_node heads) d) _ x r.2 in
+    let l = then_ok (cell 1 read_link d) _ x n.2 in
+    let b = then_ok (cell 2 read_header d) _ x l.2 in
+    let t = then_ok (cell 3 (read_list (λ _. read_header)) d) _ x b.2 in
+    let nd = cell_ok 0 (read_node heads) d n.0 n.1 in
     subst (λ (y : End). nat_lt y.node (length heads) ≡ true) (ok_is (an_end n.0 l.0 b.0 t.0) x t.2) (node_there heads nd.0 n.0 nd.2)
 
 abbrev vlink_is_there : ℕ → Vlink → Bool
 vlink_is_there nodes v = nat_lt v.a.node nodes && nat_lt v.b.node nodes
 
-vlink_reads : (heads : List Head) (before : List Vlink) (d : Data) (x : Vlink) → vlink_of heads before d ≡ Ok x → vlink_is_there (length heads) x ≡ true
+vlink_reads : (heads : List Head) (before : List Vlink) (d : Data) (x : Vlink) → read_vlink heads before d ≡ Ok x → vlink_is_there (length heads) x ≡ true
 vlink_reads heads before d x e =
     let q = vlink_parts heads before d x e in
-    let a = field_ok word.A (end_of heads) d x.a q.one in
-    let b = field_ok word.B (end_of heads) d x.b q.other in
+    let a = field_ok word.A (read_end heads) d x.a q.one in
+    let b = field_ok word.B (read_end heads) d x.b q.other in
     both_true (nat_lt x.a.node (length heads)) (nat_lt x.b.node (length heads)) (end_there heads a.0 x.a a.2) (end_there heads b.0 x.b b.2)
 
 abbrev home_is_there : ℕ → ℕ → Home → Bool
@@ -146,19 +146,19 @@ vlink_there vlinks d n e =
     let lt = slice_get_within vlinks f.0.0 f.0.1 (one_is (λ (v : Vlink). v.name) vlinks d f.0 f.1) in
     subst (λ m. nat_lt m (length vlinks) ≡ true) (ok_is (min f.0.0 65535) n f.2) (cut_below f.0.0 65535 (length vlinks) lt)
 
-home_reads : (heads : List Head) (vlinks : List Vlink) (d : Data) (h : Home) → home_of heads vlinks d ≡ Ok h → home_is_there (length heads) (length vlinks) h ≡ true
+home_reads : (heads : List Head) (vlinks : List Vlink) (d : Data) (h : Home) → read_home heads vlinks d ≡ Ok h → home_is_there (length heads) (length vlinks) h ≡ true
 home_reads heads vlinks d h e = go (has_field word.Node d) e
   where
     inside : node_home heads d ≡ Ok h → home_is_there (length heads) (length vlinks) h ≡ true
     inside e =
-        let n = then_ok (field word.Node (node_of heads) d) (λ x. Ok (Inside x)) h e in
-        let nd = field_ok word.Node (node_of heads) d n.0 n.1 in
+        let n = then_ok (field word.Node (read_node heads) d) (λ x. Ok (Inside x)) h e in
+        let nd = field_ok word.Node (read_node heads) d n.0 n.1 in
         subst (λ x. home_is_there (length heads) (length vlinks) x ≡ true) (ok_is (Inside n.0) h n.2) (node_there heads nd.0 n.0 nd.2)
 
     way : way_home vlinks d ≡ Ok h → home_is_there (length heads) (length vlinks) h ≡ true
     way e =
         let v = then_ok (field word.Vlink (vlink_number vlinks) d) _ h e in
-        let w = then_ok (field word.Way way_of d) _ h v.2 in
+        let w = then_ok (field word.Way read_way d) _ h v.2 in
         let vd = field_ok word.Vlink (vlink_number vlinks) d v.0 v.1 in
         subst (λ x. home_is_there (length heads) (length vlinks) x ≡ true) (ok_is (Way v.0 w.0) h w.2) (vlink_there vlinks vd.0 v.0 vd.2)
 
@@ -234,33 +234,33 @@ module _ (d : Data) (p : Plan) (q : Parts d p) where
   names : names_ok p ≡ true
   names =
       let nodes = subst (λ ns. list_all node_names_ok ns ≡ true) q.are_nodes (nodes_named q.heads q.processes
-      (field_keeps (λ hs. list_all head_named hs ≡ true) head_of (λ front c x h r. all_more head_named front x h (head_is_named front c x r)) word.Nodes d q.heads refl q.are_heads)) in
-      let switches = list_field_keeps (λ xs. list_all (λ (s : SwitchPlan). is_name s.name) xs ≡ true) (switch_of q.version q.heads) (λ front c x h r. all_more (λ (s : SwitchPlan). is_name s.name) front x h (switch_named front c x r)) word.Switches d p.switches refl q.are_switches in
-      let vlinks = list_field_keeps (λ xs. list_all (λ (v : Vlink). is_name v.name) xs ≡ true) (vlink_of q.heads) (λ front c x h r. all_more (λ (v : Vlink). is_name v.name) front x h (vlink_named front c x r)) word.Vlinks d p.vlinks refl q.are_vlinks in
-      let channels = list_field_keeps (λ xs. list_all (λ (c : Channel). is_name c.name) xs ≡ true) (channel_of q.heads p.vlinks) (λ front c x h r. all_more (λ (y : Channel). is_name y.name) front x h (channel_named front c x r)) word.Channels d p.channels refl q.are_channels in
+      (field_keeps (λ hs. list_all head_named hs ≡ true) read_head (λ front c x h r. all_more head_named front x h (head_is_named front c x r)) word.Nodes d q.heads refl q.are_heads)) in
+      let switches = list_field_keeps (λ xs. list_all (λ (s : SwitchPlan). is_name s.name) xs ≡ true) (read_switch q.version q.heads) (λ front c x h r. all_more (λ (s : SwitchPlan). is_name s.name) front x h (switch_named front c x r)) word.Switches d p.switches refl q.are_switches in
+      let vlinks = list_field_keeps (λ xs. list_all (λ (v : Vlink). is_name v.name) xs ≡ true) (read_vlink q.heads) (λ front c x h r. all_more (λ (v : Vlink). is_name v.name) front x h (vlink_named front c x r)) word.Vlinks d p.vlinks refl q.are_vlinks in
+      let channels = list_field_keeps (λ xs. list_all (λ (c : Channel). is_name c.name) xs ≡ true) (read_channel q.heads p.vlinks) (λ front c x h r. all_more (λ (y : Channel). is_name y.name) front x h (channel_named front c x r)) word.Channels d p.channels refl q.are_channels in
       both_true (list_all node_names_ok p.nodes) _ nodes (both_true (list_all (λ (s : SwitchPlan). is_name s.name) p.switches) _ switches (both_true (list_all (λ (v : Vlink). is_name v.name) p.vlinks) (list_all (λ (c : Channel). is_name c.name) p.channels) vlinks channels))
     where
-      switch_named : (before : List SwitchPlan) (c : Data) (x : SwitchPlan) → switch_of q.version q.heads before c ≡ Ok x → is_name x.name ≡ true
+      switch_named : (before : List SwitchPlan) (c : Data) (x : SwitchPlan) → read_switch q.version q.heads before c ≡ Ok x → is_name x.name ≡ true
       switch_named before c x e = let n = field_ok word.Name (new_name (is_place q.heads before)) c x.name (switch_parts q.version q.heads before c x e).named in (new_is_new (is_place q.heads before) n.0 x.name n.2).lawful
 
-      vlink_named : (before : List Vlink) (c : Data) (x : Vlink) → vlink_of q.heads before c ≡ Ok x → is_name x.name ≡ true
+      vlink_named : (before : List Vlink) (c : Data) (x : Vlink) → read_vlink q.heads before c ≡ Ok x → is_name x.name ≡ true
       vlink_named before c x e = let n = field_ok word.Name (new_name (has_name (λ (v : Vlink). v.name) before)) c x.name (vlink_parts q.heads before c x e).named in (new_is_new (has_name (λ (v : Vlink). v.name) before) n.0 x.name n.2).lawful
 
-      channel_named : (before : List Channel) (c : Data) (x : Channel) → channel_of q.heads p.vlinks before c ≡ Ok x → is_name x.name ≡ true
+      channel_named : (before : List Channel) (c : Data) (x : Channel) → read_channel q.heads p.vlinks before c ≡ Ok x → is_name x.name ≡ true
       channel_named before c x e =
           let n = field_ok word.Name (new_name (has_name (λ (y : Channel). y.name) before)) c x.name (channel_parts q.heads p.vlinks before c x e).named in
           (new_is_new (has_name (λ (y : Channel). y.name) before) n.0 x.name n.2).lawful
 
   wires : list_all (wire_is_there (length q.heads) (length p.switches)) p.wires ≡ true
-  wires = list_field_keeps (λ ws. list_all (wire_is_there (length q.heads) (length p.switches)) ws ≡ true) (λ _. wire_of q.heads p.switches)
+  wires = list_field_keeps (λ ws. list_all (wire_is_there (length q.heads) (length p.switches)) ws ≡ true) (λ _. read_wire q.heads p.switches)
       (λ front c x h r. all_more (wire_is_there (length q.heads) (length p.switches)) front x h (wire_reads q.heads p.switches c x r)) word.Wires d p.wires refl q.are_wires
 
   ends : list_all (vlink_is_there (length q.heads)) p.vlinks ≡ true
-  ends = list_field_keeps (λ vs. list_all (vlink_is_there (length q.heads)) vs ≡ true) (vlink_of q.heads)
+  ends = list_field_keeps (λ vs. list_all (vlink_is_there (length q.heads)) vs ≡ true) (read_vlink q.heads)
       (λ front c x h r. all_more (vlink_is_there (length q.heads)) front x h (vlink_reads q.heads front c x r)) word.Vlinks d p.vlinks refl q.are_vlinks
 
   homes : list_all (λ (c : Channel). home_is_there (length q.heads) (length p.vlinks) c.home) p.channels ≡ true
-  homes = list_field_keeps (λ cs. list_all (λ (c : Channel). home_is_there (length q.heads) (length p.vlinks) c.home) cs ≡ true) (channel_of q.heads p.vlinks)
+  homes = list_field_keeps (λ cs. list_all (λ (c : Channel). home_is_there (length q.heads) (length p.vlinks) c.home) cs ≡ true) (read_channel q.heads p.vlinks)
       (λ front c x h r. all_more (λ (y : Channel). home_is_there (length q.heads) (length p.vlinks) y.home) front x h (home_reads q.heads p.vlinks c x.home (channel_parts q.heads p.vlinks front c x r).at_home)) word.Channels d p.channels refl q.are_channels
 
   -- the tests of a plan are those of its lists' lengths
@@ -299,7 +299,7 @@ kept : (b : Bool) (x w : LimitWord) (next : Option LimitWord) → b ≡ true →
 kept true x w next is rest e = rest e
 kept false x w next is rest e = absurd (let c : false ≡ true = is in cc)
 
-pub limits_kept : (d : Data) (p : Plan) (w : LimitWord) → plan_of d ≡ Ok p → limit_broken p ≡ Some w → refuses_no_file w ≡ false
+pub limits_kept : (d : Data) (p : Plan) (w : LimitWord) → read_plan d ≡ Ok p → limit_broken p ≡ Some w → refuses_no_file w ≡ false
 limits_kept d p w e broken =
     let q = parts d p e in
     kept (version_ok p) limit.Version w _ (version d p q)

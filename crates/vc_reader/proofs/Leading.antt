@@ -11,7 +11,7 @@ use Rattle.serde_json.specs.Data.{Data, null, boolean, number, string, array, ob
 use Rattle.serde_json.specs.Find.{at, get_member, get_item}
 use Rattle.vc_reader.specs.Faulty.{part_at, Fields, Whole, Wants, LeadsToFault, missing, other_kind, out_of_range, below_zero, unknown_name, unknown_field, further}
 use Rattle.vc_reader.specs.Names.{own_name, new_name, known_or_not, found_of, one_of}
-use Rattle.vc_reader.specs.Reading.{◌>>=◌, wrong, under, present, field, cell, each, list_of, absent_or_list, list_field, count, row, is_word, has_only, object_of, text_of, number_of}
+use Rattle.vc_reader.specs.Reading.{◌>>=◌, wrong, under, present, field, cell, each, read_list, absent_or_list, list_field, count, row, is_word, has_only, read_object, read_text, read_number}
 use Rattle.vc_reader.specs.Words.{word_text}
 use Rattle.vc_reader.specs.declared.fault.Fault.{Fault}
 use Rattle.vc_reader.specs.declared.fault.Why.{Why}
@@ -69,7 +69,7 @@ each_told read all told before (item d ds) at =
     (λ x e. each_told read all told (before ++ x ∷ []) ds (λ k. ap (λ n. get_item n all) (past before x k) ∙ at (suc k)))
 
 pub list_told : {A : Type 0} {p : List Step} (read : List A → Data → Result A Fault) → ((before : List A) (v : Data) → IsTold (p ++ Index (length before) ∷ []) v (read before v)) →
-    (d : Data) → IsTold p d (list_of read d)
+    (d : Data) → IsTold p d (read_list read d)
 list_told read told (array ds) = each_told read ds told [] ds (λ k. ap (λ n. get_item n ds) (omega arith))
 list_told read told null = kind_told null
 list_told read told (boolean b) = kind_told (boolean b)
@@ -83,7 +83,7 @@ list_field_told {A} {p} w read ms told = go (get_member (word_text w) ms) refl
   where
     go : (o : Option Data) → get_member (word_text w) ms ≡ o → IsTold p (object ms) (under (Field w) (absent_or_list read o))
     go None is f e = absurd cc
-    go (Some v) is f e = under_told (Field w) (object ms) v (list_of read v) is (list_told read told v) f e
+    go (Some v) is f e = under_told (Field w) (object ms) v (read_list read v) is (list_told read told v) f e
 
 there : (n : ℕ) (ds : Items) → n < count ds → (v : Data) × (get_item n ds ≡ Some v)
 there n no_items lt = absurd (omega arith)
@@ -148,7 +148,7 @@ other_field ws (member k d ms) e =
     by_word ws k d ms (is_word ws k) refl (λ is. other_field ws ms (sym (ap (λ b. b && has_only ws ms) is) ∙ e))
 
 pub object_told : {B : Type 0} {p : List Step} (ws : Data → List Word) (rest : Data → Result B Fault) → ((d : Data) → Wants p (Fields (ws d))) →
-    ((ms : Members) → IsTold p (object ms) (rest (object ms))) → (d : Data) → IsTold p d (object_of (ws d) d >>= λ _. rest d)
+    ((ms : Members) → IsTold p (object ms) (rest (object ms))) → (d : Data) → IsTold p d (read_object (ws d) d >>= λ _. rest d)
 object_told {B} {p} ws rest wants told (object ms) = go (has_only (ws (object ms)) ms) refl
   where
     go : (b : Bool) → has_only (ws (object ms)) ms ≡ b → IsTold p (object ms) ((if b then yes else wrong why.Unknown) >>= λ _. rest (object ms))
@@ -163,7 +163,7 @@ object_told ws rest wants told (string s) = kind_told (string s)
 object_told ws rest wants told (array ds) = kind_told (array ds)
 
 -- texts, and what is read of them then
-pub text_told : {B : Type 0} {p : List Step} (rest : List ℕ → Result B Fault) → ((s : List ℕ) → IsTold p (string s) (rest s)) → (d : Data) → IsTold p d (text_of d >>= rest)
+pub text_told : {B : Type 0} {p : List Step} (rest : List ℕ → Result B Fault) → ((s : List ℕ) → IsTold p (string s) (rest s)) → (d : Data) → IsTold p d (read_text d >>= rest)
 text_told rest told (string s) = told s
 text_told rest told null = kind_told null
 text_told rest told (boolean b) = kind_told (boolean b)
@@ -182,7 +182,7 @@ outside least most n e = go (nat_le least n) refl
     go false is = inl (grind (arith, nat_tests))
     go true is = let above = sym (ap (λ b. b && nat_le n most) is) ∙ e in inr (grind (arith, nat_tests))
 
-pub number_told : {p : List Step} (least most : ℕ) → Wants p (Whole least most) → (d : Data) → IsTold p d (number_of least most d)
+pub number_told : {p : List Step} (least most : ℕ) → Wants p (Whole least most) → (d : Data) → IsTold p d (read_number least most d)
 number_told {p} least most wants (number (unsigned n)) = go (nat_le least n && nat_le n most) refl
   where
     go : (b : Bool) → (nat_le least n && nat_le n most) ≡ b → IsTold p (number (unsigned n)) (if b then Ok n else wrong why.Range)

@@ -24,10 +24,10 @@ use Rattle.vc_plan.specs.declared.node_plan.Variable.{Variable}
 use Rattle.vc_reader.specs.declared.fault.Why.TheVariants as why
 use Rattle.vc_reader.specs.declared.path.Step.TheVariants.{Field}
 use Rattle.vc_reader.specs.declared.word.Word.TheVariants as word
-use Rattle.vc_reader.specs.Reading.{◌>>=◌, wrong, cell, row, only, by_only, under, text_of, number_of}
-use Rattle.vc_reader.specs.Bytes.{variable_of, no_longer, hex_bytes, hex_of, literal_of, fill_of, formed_bytes, bytes_of}
+use Rattle.vc_reader.specs.Reading.{◌>>=◌, wrong, cell, row, only, by_only, under, read_text, read_number}
+use Rattle.vc_reader.specs.Bytes.{read_variable, no_longer, hex_bytes, read_hex, read_literal, read_fill, formed_bytes, read_bytes}
 use Rattle.vc_reader.specs.Expressions.{whole_expr}
-use Rattle.vc_reader.specs.Processes.{variable_named, channel_named, value_of, set_of, send_of, receive_of, stopch_of, whole_process}
+use Rattle.vc_reader.specs.Processes.{variable_named, channel_named, read_value, read_set, read_send, read_receive, read_stopch, whole_process}
 use Rattle.vc_reader.proofs.Asked.{IsFine, Suits, by_only_ok, process_fine}
 use Rattle.vc_reader.proofs.Read.{ok_is, then_ok, under_ok, cell_ok}
 
@@ -49,7 +49,7 @@ and_right : (a b : Bool) → (a && b) ≡ true → b ≡ true
 and_right true b e = e
 and_right false b e = absurd cc
 
-few : (most : ℕ) (d : Data) (n : ℕ) → number_of 0 most d ≡ Ok n → nat_le n most ≡ true
+few : (most : ℕ) (d : Data) (n : ℕ) → read_number 0 most d ≡ Ok n → nat_le n most ≡ true
 few most (number_data (unsigned k)) n e = go (nat_le 0 k && nat_le k most) refl e
   where
     go : (b : Bool) → (nat_le 0 k && nat_le k most) ≡ b → (if b then Ok k else wrong why.Range) ≡ Ok n → nat_le n most ≡ true
@@ -63,41 +63,41 @@ few most (string s) n e = absurd cc
 few most (array ds) n e = absurd cc
 few most (object ms) n e = absurd cc
 
-hex_short : (d : Data) (b : BytesExpr) → hex_of d ≡ Ok b → IsShort b
+hex_short : (d : Data) (b : BytesExpr) → read_hex d ≡ Ok b → IsShort b
 hex_short d b e =
-    let l = then_ok (text_of d >>= hex_bytes >>= no_longer) (λ xs. Ok (bytes.Lit xs)) b e in
-    let x = then_ok (text_of d >>= hex_bytes) no_longer l.0 l.1 in
+    let l = then_ok (read_text d >>= hex_bytes >>= no_longer) (λ xs. Ok (bytes.Lit xs)) b e in
+    let x = then_ok (read_text d >>= hex_bytes) no_longer l.0 l.1 in
     subst IsShort (ok_is (bytes.Lit l.0) b l.2) (short_list x.0 l.0 x.2)
 
-literal_short : (d : Data) (b : BytesExpr) → literal_of d ≡ Ok b → IsShort b
+literal_short : (d : Data) (b : BytesExpr) → read_literal d ≡ Ok b → IsShort b
 literal_short d b e =
-    let l = then_ok (text_of d >>= no_longer) (λ xs. Ok (bytes.Lit xs)) b e in
-    let x = then_ok (text_of d) no_longer l.0 l.1 in
+    let l = then_ok (read_text d >>= no_longer) (λ xs. Ok (bytes.Lit xs)) b e in
+    let x = then_ok (read_text d) no_longer l.0 l.1 in
     subst IsShort (ok_is (bytes.Lit l.0) b l.2) (short_list x.0 l.0 x.2)
 
-fill_short : (d : Data) (b : BytesExpr) → fill_of d ≡ Ok b → IsShort b
+fill_short : (d : Data) (b : BytesExpr) → read_fill d ≡ Ok b → IsShort b
 fill_short d b e =
     let r = then_ok (row 2 d) _ b e in
-    let x = then_ok (cell 0 (number_of 0 255) d) _ b r.2 in
-    let n = then_ok (cell 1 (number_of 0 65535) d) _ b x.2 in
-    let nd = cell_ok 1 (number_of 0 65535) d n.0 n.1 in
+    let x = then_ok (cell 0 (read_number 0 255) d) _ b r.2 in
+    let n = then_ok (cell 1 (read_number 0 65535) d) _ b x.2 in
+    let nd = cell_ok 1 (read_number 0 65535) d n.0 n.1 in
     subst IsShort (ok_is (bytes.Fill x.0 n.0) b n.2) (few 65535 nd.0 n.0 nd.2)
 
 formed_short : (form : List ℕ) (d : Data) (b : BytesExpr) → formed_bytes form d ≡ Ok b → IsShort b
 formed_short form d b e = go (bytes_eq form (codes "hex")) (bytes_eq form (codes "text")) (bytes_eq form (codes "fill")) e
   where
-    go : (x y z : Bool) → (if x then under (Field word.Hex) (hex_of d) else (if y then under (Field word.Text) (literal_of d) else (if z then under (Field word.Fill) (fill_of d) else wrong why.Unknown))) ≡ Ok b → IsShort b
-    go true y z e = hex_short d b (under_ok (Field word.Hex) (hex_of d) b e)
-    go false true z e = literal_short d b (under_ok (Field word.Text) (literal_of d) b e)
-    go false false true e = fill_short d b (under_ok (Field word.Fill) (fill_of d) b e)
+    go : (x y z : Bool) → (if x then under (Field word.Hex) (read_hex d) else (if y then under (Field word.Text) (read_literal d) else (if z then under (Field word.Fill) (read_fill d) else wrong why.Unknown))) ≡ Ok b → IsShort b
+    go true y z e = hex_short d b (under_ok (Field word.Hex) (read_hex d) b e)
+    go false true z e = literal_short d b (under_ok (Field word.Text) (read_literal d) b e)
+    go false false true e = fill_short d b (under_ok (Field word.Fill) (read_fill d) b e)
     go false false false e = absurd cc
 
 form_short : (o : Option (List ℕ × Data)) (b : BytesExpr) → by_only formed_bytes o ≡ Ok b → IsShort b
 form_short o b e = let k = by_only_ok formed_bytes o b e in formed_short k.0.0 k.0.1 b k.1
 
-bytes_short : (vars : List Variable) (d : Data) (b : BytesExpr) → bytes_of vars d ≡ Ok b → IsShort b
+bytes_short : (vars : List Variable) (d : Data) (b : BytesExpr) → read_bytes vars d ≡ Ok b → IsShort b
 bytes_short vars (string s) b e =
-    let v = then_ok (variable_of kind.Bytes vars (string s)) (λ n. Ok (bytes.Var n)) b e in
+    let v = then_ok (read_variable kind.Bytes vars (string s)) (λ n. Ok (bytes.Var n)) b e in
     subst IsShort (ok_is (bytes.Var v.0) b v.2) refl
 bytes_short vars (object ms) b e = form_short (only (object ms)) b e
 bytes_short vars null b e = form_short (only null) b e
@@ -105,39 +105,39 @@ bytes_short vars (boolean x) b e = form_short (only (boolean x)) b e
 bytes_short vars (number_data n) b e = form_short (only (number_data n)) b e
 bytes_short vars (array ds) b e = form_short (only (array ds)) b e
 
-value_short : (k : ValueKind) (vars : List Variable) (d : Data) (v : Value) → value_of k vars d ≡ Ok v → given_in_length (given v) ≡ true
+value_short : (k : ValueKind) (vars : List Variable) (d : Data) (v : Value) → read_value k vars d ≡ Ok v → given_in_length (given v) ≡ true
 value_short kind.Int vars d v e =
     let x = then_ok (whole_expr vars d) (λ y. Ok (value.Int y)) v e in
     ap (λ (z : Value). given_in_length (given z)) (sym (ok_is (value.Int x.0) v x.2))
 value_short kind.Bytes vars d v e =
-    let x = then_ok (bytes_of vars d) (λ y. Ok (value.Bytes y)) v e in
+    let x = then_ok (read_bytes vars d) (λ y. Ok (value.Bytes y)) v e in
     subst (λ (z : Value). given_in_length (given z) ≡ true) (ok_is (value.Bytes x.0) v x.2) (bytes_short vars d x.0 x.1)
 
 module _ (vars : List Variable) (channels : List Channel) where
-  set_short : (d : Data) (p : Process) → set_of vars d ≡ Ok p → IsFine lengths p
+  set_short : (d : Data) (p : Process) → read_set vars d ≡ Ok p → IsFine lengths p
   set_short d p e site =
       let r = then_ok (row 2 d) _ p e in
       let v = then_ok (cell 0 (variable_named vars) d) _ p r.2 in
-      let x = then_ok (cell 1 (value_of v.0.1 vars) d) _ p v.2 in
-      let xd = cell_ok 1 (value_of v.0.1 vars) d x.0 x.1 in
+      let x = then_ok (cell 1 (read_value v.0.1 vars) d) _ p v.2 in
+      let xd = cell_ok 1 (read_value v.0.1 vars) d x.0 x.1 in
       ap (λ (n : Numbered). everywhere lengths (n.tree site)) (number_set p v.0.0 x.0 (sym (ok_is (process.Set v.0.0 x.0) p x.2))) ∙ value_short v.0.1 vars xd.0 x.0 xd.2
 
-  send_short : (d : Data) (p : Process) → send_of vars channels d ≡ Ok p → IsFine lengths p
+  send_short : (d : Data) (p : Process) → read_send vars channels d ≡ Ok p → IsFine lengths p
   send_short d p e site =
       let r = then_ok (row 2 d) _ p e in
       let c = then_ok (cell 0 (channel_named channels) d) _ p r.2 in
-      let x = then_ok (cell 1 (value_of c.0.1 vars) d) _ p c.2 in
-      let xd = cell_ok 1 (value_of c.0.1 vars) d x.0 x.1 in
+      let x = then_ok (cell 1 (read_value c.0.1 vars) d) _ p c.2 in
+      let xd = cell_ok 1 (read_value c.0.1 vars) d x.0 x.1 in
       ap (λ (n : Numbered). everywhere lengths (n.tree site)) (number_send p c.0.0 x.0 (sym (ok_is (process.Send c.0.0 x.0) p x.2))) ∙ value_short c.0.1 vars xd.0 x.0 xd.2
 
-  receive_short : (d : Data) (p : Process) → receive_of vars channels d ≡ Ok p → IsFine lengths p
+  receive_short : (d : Data) (p : Process) → read_receive vars channels d ≡ Ok p → IsFine lengths p
   receive_short d p e site =
       let r = then_ok (row 2 d) _ p e in
       let c = then_ok (cell 0 (channel_named channels) d) _ p r.2 in
-      let v = then_ok (cell 1 (variable_of c.0.1 vars) d) _ p c.2 in
+      let v = then_ok (cell 1 (read_variable c.0.1 vars) d) _ p c.2 in
       ap (λ (n : Numbered). everywhere lengths (n.tree site)) (number_receive p c.0.0 v.0 (sym (ok_is (process.Receive c.0.0 v.0) p v.2)))
 
-  stop_short : (d : Data) (p : Process) → stopch_of channels d ≡ Ok p → IsFine lengths p
+  stop_short : (d : Data) (p : Process) → read_stopch channels d ≡ Ok p → IsFine lengths p
   stop_short d p e site =
       let c = then_ok (channel_named channels d) (λ x. Ok (process.Stopch x.0)) p e in
       ap (λ (n : Numbered). everywhere lengths (n.tree site)) (number_stopch p c.0.0 (sym (ok_is (process.Stopch c.0.0) p c.2)))

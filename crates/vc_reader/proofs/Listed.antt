@@ -1,23 +1,18 @@
 -- Lists that are read item by item.
-use Rattle.std.proofs.Common.{◌≡◌, ◌∙◌, ◌<◌, ◌≤◌, ◌+◌, ℕ, length, List, [], ◌∷◌, ◌++◌, map, drop, get_or, sym, ap, subst, Result, Ok, Err, Vec, Global}
+use Rattle.std.proofs.Common.{◌≡◌, ◌∙◌, ◌<◌, ◌≤◌, ◌+◌, ℕ, length, List, [], ◌∷◌, ◌++◌, map, drop, get_or, sym, ap, subst, Result, Ok, Err}
 use Rattle.std.proofs.lemmas.List.{at_drop_more, at_drop_all}
-use Rattle.serde_json.specs.Data.{Data, array, Items, item}
-use Rattle.serde_json.specs.View.{view, view_step, items_of}
-use Rattle.serde_json.specs.declared.value.Value.{Value, fold-roll-Value}
-use Rattle.serde_json.specs.declared.value.Value.TheOpen.{Value-F}
-use Rattle.serde_json.specs.declared.value.Value.TheVariants.{Array, rolls-Array}
-use Rattle.vc_reader.specs.Reading.{◌>>=◌, under, each, joins, list_of, Fails}
+use Rattle.serde_json.specs.Data.{Data, Items, item}
+use Rattle.serde_json.specs.View.{view, items_of, items_view}
+use Rattle.serde_json.specs.declared.value.Value.{Value}
+use Rattle.vc_reader.specs.Reading.{◌>>=◌, under, each, joins, read_array, read_list, Fails}
 use Rattle.vc_reader.specs.declared.fault.Fault.{Fault}
 use Rattle.vc_reader.specs.declared.fault.Stop.{Stop}
 use Rattle.vc_reader.specs.declared.fault.Stop.TheVariants as stop
 use Rattle.vc_reader.specs.declared.path.Step.TheVariants.{Index}
 
 -- what is read of a list is what is read of each of its items
-pub view_array : (value : Value) (items : Vec Value Global) → value ≡ Array items → view value ≡ array (items_of (map view items.items))
-view_array value items h = ap view (h ∙ sym (rolls-Array items)) ∙ fold-roll-Value Data view_step (Value-F.Array items)
-
-pub list_is : {A : Type 0} (f : List A → Data → Result A Fault) (value : Value) (items : Vec Value Global) (vs : List Value) → value ≡ Array items → vs ≡ items.items → list_of f (view value) ≡ each f [] (items_of (map view vs))
-list_is f value items vs h e = ap (λ d. list_of f d) (view_array value items h) ∙ ap (λ us. each f [] (items_of (map view us))) (sym e)
+list_is : {A : Type 0} (f : List A → Data → Result A Fault) (d : Data) (vs : List Value) → read_array d ≡ Ok (items_view vs) → read_list f d ≡ each f [] (items_view vs)
+list_is f d vs h = ap (λ r. r >>= λ ds. each f [] ds) h
 
 -- the items from the n-th on
 pub items_at : (n : ℕ) (vs : List Value) (v : Value) → n < length vs → v ≡ get_or vs n v → items_of (map view (drop n vs)) ≡ item (view v) (items_of (map view (drop (n + 1) vs)))
@@ -47,10 +42,11 @@ pub list_next : {A : Type 0} (f : List A → Data → Result A Fault) (before af
 list_next f before after n vs v all l h e r =
     sym (each_joined f before after (view v) (items_of (map view (drop (n + 1) vs))) e) ∙ ap (λ ds. each f before ds) (sym (items_at n vs v l h)) ∙ r
 
-pub list_stops : {A : Type 0} (f : List A → Data → Result A Fault) (before : List A) (n : ℕ) (vs : List Value) (v : Value) (all : Result (List A) Fault) (why : Stop) → n < length vs → v ≡ get_or vs n v →
-    Fails why (joins before (f before (view v))) → each f before (items_of (map view (drop n vs))) ≡ all → Fails why all
-list_stops f before n vs v all why l h e r =
-    subst (λ m. Fails why m) (ap (λ ds. each f before ds) (sym (items_at n vs v l h)) ∙ r) (each_stopped f before (view v) (items_of (map view (drop (n + 1) vs))) why e)
+pub list_stops : {A : Type 0} (f : List A → Data → Result A Fault) (before : List A) (n : ℕ) (vs : List Value) (v : Value) (d : Data) (why : Stop) → read_array d ≡ Ok (items_view vs) → n < length vs → v ≡ get_or vs n v →
+    Fails why (joins before (f before (view v))) → each f before (items_of (map view (drop n vs))) ≡ each f [] (items_view vs) → Fails why (read_list f d)
+list_stops f before n vs v d why is l h e r =
+    subst (λ m. Fails why m) (ap (λ ds. each f before ds) (sym (items_at n vs v l h)) ∙ r ∙ sym (list_is f d vs is)) (each_stopped f before (view v) (items_of (map view (drop (n + 1) vs))) why e)
 
-pub list_ends : {A : Type 0} (f : List A → Data → Result A Fault) (read : List A) (n : ℕ) (vs : List Value) (all : Result (List A) Fault) → length vs ≤ n → each f read (items_of (map view (drop n vs))) ≡ all → all ≡ Ok read
-list_ends f read n vs all l r = sym r ∙ at_drop_all (λ xs. each f read (items_of (map view xs))) vs n l
+pub list_ends : {A : Type 0} (f : List A → Data → Result A Fault) (read : List A) (n : ℕ) (vs : List Value) (d : Data) → read_array d ≡ Ok (items_view vs) → length vs ≤ n →
+    each f read (items_of (map view (drop n vs))) ≡ each f [] (items_view vs) → read_list f d ≡ Ok read
+list_ends f read n vs d is l r = list_is f d vs is ∙ sym r ∙ at_drop_all (λ xs. each f read (items_of (map view xs))) vs n l

@@ -11,7 +11,7 @@ use Rattle.std.proofs.lemmas.Map.Keys.{IsDistinct-push}
 use Rattle.serde_json.specs.Data.{Data}
 use Rattle.vc_plan.specs.Limits.{is_name}
 use Rattle.vc_reader.specs.declared.fault.Why.TheVariants.{Kind}
-use Rattle.vc_reader.specs.Reading.{wrong, text_of}
+use Rattle.vc_reader.specs.Reading.{wrong, read_text}
 use Rattle.vc_reader.specs.Names.{own_name, new_name, has_name}
 use Rattle.vc_reader.proofs.Read.{ok_is, then_ok}
 
@@ -30,7 +30,7 @@ own_new is_taken s name e = go (is_name s) (is_taken s) refl refl e
 
 pub new_is_new : (is_taken : List ℕ → Bool) (d : Data) (name : List ℕ) → new_name is_taken d ≡ Ok name → IsNew is_taken name
 new_is_new is_taken d name e =
-    let t = then_ok (text_of d) (λ s. own_name (is_taken s) s) name e in
+    let t = then_ok (read_text d) (λ s. own_name (is_taken s) s) name e in
     own_new is_taken t.0 name t.2
 
 -- whether one of them has the name is a question to their names

@@ -28,8 +28,8 @@ use Rattle.vc_reader.specs.declared.path.Step.TheVariants.{Field, Index}
 use Rattle.vc_reader.specs.Faulty.{Fields, Whole, Wants}
 use Rattle.vc_reader.specs.Faulty as wants
 use Rattle.vc_reader.specs.Names.{new_name, has_name, known_or_not, one_of}
-use Rattle.vc_reader.specs.Network.{at_most, kind_of, way_of, link_of, header_of, limit_of, var_of, head_of, node_of, portal_word, portal_row, out_row, table_row, random_of, switch_words, is_place, switch_of, place_named, place_of, wire_of, end_of, vlink_of, vlink_number, way_home, node_home, channel_words, home_of, channel_of}
-use Rattle.vc_reader.specs.Reading.{◌>>=◌, wrong, field, cell, list_of, list_field, count, items_in, has_field}
+use Rattle.vc_reader.specs.Network.{at_most, read_kind, read_way, read_link, read_header, read_limit, read_var, read_head, read_node, portal_word, portal_row, out_row, table_row, read_random, switch_words, is_place, read_switch, place_named, read_place, read_wire, read_end, read_vlink, vlink_number, way_home, node_home, channel_words, read_home, read_channel}
+use Rattle.vc_reader.specs.Reading.{◌>>=◌, wrong, field, cell, read_list, list_field, count, items_in, has_field}
 use Rattle.vc_reader.proofs.Leading.{IsTold, ok_told, kind_told, then_told, field_told, list_told, list_field_told, cell_told, row_told, object_told, text_told, if_told, number_told, new_name_told, known_told, one_of_told}
 
 -- a part, and what is read then
@@ -46,31 +46,31 @@ pub list_then : {A B : Type 0} {p : List Step} (w : Word) (read : List A → Dat
     IsTold p (object ms) (list_field w read (object ms) >>= g)
 list_then w read ms g told rest = then_told (object ms) (list_field w read (object ms)) g (list_field_told w read ms told) (λ x _. rest x)
 
-kind_of_told : {p : List Step} (d : Data) → IsTold p d (kind_of d)
+kind_of_told : {p : List Step} (d : Data) → IsTold p d (read_kind d)
 kind_of_told = text_told (λ s. if bytes_eq s (codes "int") then Ok kind.Int else (if bytes_eq s (codes "bytes") then Ok kind.Bytes else wrong why.Kind))
     (λ s. if_told (string s) _ (Ok kind.Int) _ (ok_told (string s) kind.Int) (if_told (string s) _ (Ok kind.Bytes) _ (ok_told (string s) kind.Bytes) (kind_told (string s))))
 
-way_of_told : {p : List Step} (d : Data) → IsTold p d (way_of d)
+way_of_told : {p : List Step} (d : Data) → IsTold p d (read_way d)
 way_of_told = text_told (λ s. if bytes_eq s (codes "ab") then Ok true else (if bytes_eq s (codes "ba") then Ok false else wrong why.Kind))
     (λ s. if_told (string s) _ (Ok true) _ (ok_told (string s) true) (if_told (string s) _ (Ok false) _ (ok_told (string s) false) (kind_told (string s))))
 
 abbrev variable : List ℕ → ValueKind → Variable
 variable name kind = record { name = name; kind = kind }
 
-var_told : {p : List Step} (before : List Variable) (d : Data) → IsTold p d (var_of before d)
-var_told before = row_told 2 (λ d. cell 0 (new_name (has_name (λ (v : Variable). v.name) before)) d >>= λ name. cell 1 kind_of d >>= λ k. Ok (variable name k)) (λ ds c.
-    cell_then 0 (new_name (has_name (λ (v : Variable). v.name) before)) ds (λ name. cell 1 kind_of (array ds) >>= λ k. Ok (variable name k)) (omega (arith, c)) (new_name_told (has_name (λ (v : Variable). v.name) before))
-    (λ name. cell_then 1 kind_of ds (λ k. Ok (variable name k)) (omega (arith, c)) kind_of_told (λ k. ok_told (array ds) (variable name k))))
+var_told : {p : List Step} (before : List Variable) (d : Data) → IsTold p d (read_var before d)
+var_told before = row_told 2 (λ d. cell 0 (new_name (has_name (λ (v : Variable). v.name) before)) d >>= λ name. cell 1 read_kind d >>= λ k. Ok (variable name k)) (λ ds c.
+    cell_then 0 (new_name (has_name (λ (v : Variable). v.name) before)) ds (λ name. cell 1 read_kind (array ds) >>= λ k. Ok (variable name k)) (omega (arith, c)) (new_name_told (has_name (λ (v : Variable). v.name) before))
+    (λ name. cell_then 1 read_kind ds (λ k. Ok (variable name k)) (omega (arith, c)) kind_of_told (λ k. ok_told (array ds) (variable name k))))
 
 abbrev a_head : List ℕ → List Variable → Head
 a_head name vars = record { name = name; vars = vars }
 
-pub head_told : (before : List Head) (d : Data) → IsTold (Field word.Nodes ∷ Index (length before) ∷ []) d (head_of before d)
-head_told before = object_told (λ _. word.Name ∷ word.Vars ∷ word.Process ∷ []) (λ d. field word.Name (new_name (has_name (λ (h : Head). h.name) before)) d >>= λ name. list_field word.Vars var_of d >>= λ vars. Ok (a_head name vars)) (λ _. wants.node (length before)) (λ ms.
-    field_then word.Name (new_name (has_name (λ (h : Head). h.name) before)) ms (λ name. list_field word.Vars var_of (object ms) >>= λ vars. Ok (a_head name vars)) (new_name_told (has_name (λ (h : Head). h.name) before))
-    (λ name. list_then word.Vars var_of ms (λ vars. Ok (a_head name vars)) (λ others. var_told others) (λ vars. ok_told (object ms) (a_head name vars))))
+pub head_told : (before : List Head) (d : Data) → IsTold (Field word.Nodes ∷ Index (length before) ∷ []) d (read_head before d)
+head_told before = object_told (λ _. word.Name ∷ word.Vars ∷ word.Process ∷ []) (λ d. field word.Name (new_name (has_name (λ (h : Head). h.name) before)) d >>= λ name. list_field word.Vars read_var d >>= λ vars. Ok (a_head name vars)) (λ _. wants.node (length before)) (λ ms.
+    field_then word.Name (new_name (has_name (λ (h : Head). h.name) before)) ms (λ name. list_field word.Vars read_var (object ms) >>= λ vars. Ok (a_head name vars)) (new_name_told (has_name (λ (h : Head). h.name) before))
+    (λ name. list_then word.Vars read_var ms (λ vars. Ok (a_head name vars)) (λ others. var_told others) (λ vars. ok_told (object ms) (a_head name vars))))
 
-node_told : {p : List Step} (heads : List Head) (d : Data) → IsTold p d (node_of heads d)
+node_told : {p : List Step} (heads : List Head) (d : Data) → IsTold p d (read_node heads d)
 node_told heads d = then_told d (one_of (λ (h : Head). h.name) heads d) (λ found. Ok (at_most 255 found)) (one_of_told (λ (h : Head). h.name) heads d) (λ found _. ok_told d (at_most 255 found))
 
 -- switches
@@ -86,19 +86,19 @@ row_at n k = Field word.Switches ∷ Index n ∷ Field word.Table ∷ Index k �
 
 portal_told : (n k : ℕ) (ds : Items) → count ds ≡ 3 → IsTold (row_at n k) (array ds) (portal_row (array ds))
 portal_told n k ds c =
-    cell_then 0 header_of ds (λ l. cell 1 limit_of (array ds) >>= λ m. cell 2 portal_word (array ds) >>= λ _. Ok (portal l m)) (omega (arith, c)) (number_told 0 65535 (wants.lower n k)) (λ l.
-    cell_then 1 limit_of ds (λ m. cell 2 portal_word (array ds) >>= λ _. Ok (portal l m)) (omega (arith, c)) (number_told 0 65536 (wants.limit n k)) (λ m.
+    cell_then 0 read_header ds (λ l. cell 1 read_limit (array ds) >>= λ m. cell 2 portal_word (array ds) >>= λ _. Ok (portal l m)) (omega (arith, c)) (number_told 0 65535 (wants.lower n k)) (λ l.
+    cell_then 1 read_limit ds (λ m. cell 2 portal_word (array ds) >>= λ _. Ok (portal l m)) (omega (arith, c)) (number_told 0 65536 (wants.limit n k)) (λ m.
     cell_then 2 portal_word ds (λ _. Ok (portal l m)) (omega (arith, c)) portal_word_told (λ _. ok_told (array ds) (portal l m))))
 
 abbrev out : ℕ → ℕ → ℕ → ℕ → Row
 out lower limit first last = record { lower = lower; limit = limit; action = Out first last }
 
 out_told : (n k : ℕ) (d : Data) → IsTold (row_at n k) d (out_row d)
-out_told n k = row_told 4 (λ d. cell 0 header_of d >>= λ l. cell 1 limit_of d >>= λ m. cell 2 link_of d >>= λ f. cell 3 link_of d >>= λ t. Ok (out l m f t)) (λ ds c.
-    cell_then 0 header_of ds (λ l. cell 1 limit_of (array ds) >>= λ m. cell 2 link_of (array ds) >>= λ f. cell 3 link_of (array ds) >>= λ t. Ok (out l m f t)) (omega (arith, c)) (number_told 0 65535 (wants.lower n k)) (λ l.
-    cell_then 1 limit_of ds (λ m. cell 2 link_of (array ds) >>= λ f. cell 3 link_of (array ds) >>= λ t. Ok (out l m f t)) (omega (arith, c)) (number_told 0 65536 (wants.limit n k)) (λ m.
-    cell_then 2 link_of ds (λ f. cell 3 link_of (array ds) >>= λ t. Ok (out l m f t)) (omega (arith, c)) (number_told 0 31 (wants.first n k)) (λ f.
-    cell_then 3 link_of ds (λ t. Ok (out l m f t)) (omega (arith, c)) (number_told 0 31 (wants.last n k)) (λ t. ok_told (array ds) (out l m f t))))))
+out_told n k = row_told 4 (λ d. cell 0 read_header d >>= λ l. cell 1 read_limit d >>= λ m. cell 2 read_link d >>= λ f. cell 3 read_link d >>= λ t. Ok (out l m f t)) (λ ds c.
+    cell_then 0 read_header ds (λ l. cell 1 read_limit (array ds) >>= λ m. cell 2 read_link (array ds) >>= λ f. cell 3 read_link (array ds) >>= λ t. Ok (out l m f t)) (omega (arith, c)) (number_told 0 65535 (wants.lower n k)) (λ l.
+    cell_then 1 read_limit ds (λ m. cell 2 read_link (array ds) >>= λ f. cell 3 read_link (array ds) >>= λ t. Ok (out l m f t)) (omega (arith, c)) (number_told 0 65536 (wants.limit n k)) (λ m.
+    cell_then 2 read_link ds (λ f. cell 3 read_link (array ds) >>= λ t. Ok (out l m f t)) (omega (arith, c)) (number_told 0 31 (wants.first n k)) (λ f.
+    cell_then 3 read_link ds (λ t. Ok (out l m f t)) (omega (arith, c)) (number_told 0 31 (wants.last n k)) (λ t. ok_told (array ds) (out l m f t))))))
 
 three : (a : Bool) (n : ℕ) → (a && (n == 3)) ≡ true → n ≡ 3
 three true n e = grind (arith, nat_tests)
@@ -126,65 +126,65 @@ table_told n k version (object ms) = no_list n k version (object ms) refl
 abbrev a_random : ℕ → ℕ → ℕ → RandomInput
 a_random link lower limit = record { link = link; lower = lower; limit = limit }
 
-random_told : (n k : ℕ) (d : Data) → IsTold (Field word.Switches ∷ Index n ∷ Field word.Random ∷ Index k ∷ []) d (random_of d)
-random_told n k = row_told 3 (λ d. cell 0 link_of d >>= λ a. cell 1 header_of d >>= λ l. cell 2 limit_of d >>= λ m. Ok (a_random a l m)) (λ ds c.
-    cell_then 0 link_of ds (λ a. cell 1 header_of (array ds) >>= λ l. cell 2 limit_of (array ds) >>= λ m. Ok (a_random a l m)) (omega (arith, c)) (number_told 0 31 (wants.random n k)) (λ a.
-    cell_then 1 header_of ds (λ l. cell 2 limit_of (array ds) >>= λ m. Ok (a_random a l m)) (omega (arith, c)) (number_told 0 65535 (wants.random_lower n k)) (λ l.
-    cell_then 2 limit_of ds (λ m. Ok (a_random a l m)) (omega (arith, c)) (number_told 0 65536 (wants.random_limit n k)) (λ m. ok_told (array ds) (a_random a l m)))))
+random_told : (n k : ℕ) (d : Data) → IsTold (Field word.Switches ∷ Index n ∷ Field word.Random ∷ Index k ∷ []) d (read_random d)
+random_told n k = row_told 3 (λ d. cell 0 read_link d >>= λ a. cell 1 read_header d >>= λ l. cell 2 read_limit d >>= λ m. Ok (a_random a l m)) (λ ds c.
+    cell_then 0 read_link ds (λ a. cell 1 read_header (array ds) >>= λ l. cell 2 read_limit (array ds) >>= λ m. Ok (a_random a l m)) (omega (arith, c)) (number_told 0 31 (wants.random n k)) (λ a.
+    cell_then 1 read_header ds (λ l. cell 2 read_limit (array ds) >>= λ m. Ok (a_random a l m)) (omega (arith, c)) (number_told 0 65535 (wants.random_lower n k)) (λ l.
+    cell_then 2 read_limit ds (λ m. Ok (a_random a l m)) (omega (arith, c)) (number_told 0 65536 (wants.random_limit n k)) (λ m. ok_told (array ds) (a_random a l m)))))
 
 abbrev a_switch : List ℕ → List Row → List ℕ → List RandomInput → SwitchPlan
 a_switch name rows delete random = record { name = name; rows = rows; delete = delete; random = random }
 
-pub switch_told : (version : ℕ) (heads : List Head) (before : List SwitchPlan) (d : Data) → IsTold (Field word.Switches ∷ Index (length before) ∷ []) d (switch_of version heads before d)
-switch_told version heads before = object_told (λ _. switch_words version) (λ d. field word.Name (new_name (is_place heads before)) d >>= λ name. field word.Table (list_of (λ _. table_row version)) d >>= λ rows. list_field word.Delete (λ _. link_of) d >>= λ delete. list_field word.Random (λ _. random_of) d >>= λ random. Ok (a_switch name rows delete random)) (λ _. wants.switch (length before) version) (λ ms.
-    field_then word.Name (new_name (is_place heads before)) ms (λ name. field word.Table (list_of (λ _. table_row version)) (object ms) >>= λ rows. list_field word.Delete (λ _. link_of) (object ms) >>= λ delete. list_field word.Random (λ _. random_of) (object ms) >>= λ random. Ok (a_switch name rows delete random)) (new_name_told (is_place heads before)) (λ name.
-    field_then word.Table (list_of (λ _. table_row version)) ms (λ rows. list_field word.Delete (λ _. link_of) (object ms) >>= λ delete. list_field word.Random (λ _. random_of) (object ms) >>= λ random. Ok (a_switch name rows delete random)) (list_told (λ _. table_row version) (λ others. table_told (length before) (length others) version)) (λ rows.
-    list_then word.Delete (λ _. link_of) ms (λ delete. list_field word.Random (λ _. random_of) (object ms) >>= λ random. Ok (a_switch name rows delete random)) (λ others. number_told 0 31 (wants.delete (length before) (length others))) (λ delete.
-    list_then word.Random (λ _. random_of) ms (λ random. Ok (a_switch name rows delete random)) (λ others. random_told (length before) (length others)) (λ random. ok_told (object ms) (a_switch name rows delete random))))))
+pub switch_told : (version : ℕ) (heads : List Head) (before : List SwitchPlan) (d : Data) → IsTold (Field word.Switches ∷ Index (length before) ∷ []) d (read_switch version heads before d)
+switch_told version heads before = object_told (λ _. switch_words version) (λ d. field word.Name (new_name (is_place heads before)) d >>= λ name. field word.Table (read_list (λ _. table_row version)) d >>= λ rows. list_field word.Delete (λ _. read_link) d >>= λ delete. list_field word.Random (λ _. read_random) d >>= λ random. Ok (a_switch name rows delete random)) (λ _. wants.switch (length before) version) (λ ms.
+    field_then word.Name (new_name (is_place heads before)) ms (λ name. field word.Table (read_list (λ _. table_row version)) (object ms) >>= λ rows. list_field word.Delete (λ _. read_link) (object ms) >>= λ delete. list_field word.Random (λ _. read_random) (object ms) >>= λ random. Ok (a_switch name rows delete random)) (new_name_told (is_place heads before)) (λ name.
+    field_then word.Table (read_list (λ _. table_row version)) ms (λ rows. list_field word.Delete (λ _. read_link) (object ms) >>= λ delete. list_field word.Random (λ _. read_random) (object ms) >>= λ random. Ok (a_switch name rows delete random)) (list_told (λ _. table_row version) (λ others. table_told (length before) (length others) version)) (λ rows.
+    list_then word.Delete (λ _. read_link) ms (λ delete. list_field word.Random (λ _. read_random) (object ms) >>= λ random. Ok (a_switch name rows delete random)) (λ others. number_told 0 31 (wants.delete (length before) (length others))) (λ delete.
+    list_then word.Random (λ _. read_random) ms (λ random. Ok (a_switch name rows delete random)) (λ others. random_told (length before) (length others)) (λ random. ok_told (object ms) (a_switch name rows delete random))))))
 
 -- wires
-place_told : {p : List Step} (heads : List Head) (switches : List SwitchPlan) (d : Data) → IsTold p d (place_of heads switches d)
+place_told : {p : List Step} (heads : List Head) (switches : List SwitchPlan) (d : Data) → IsTold p d (read_place heads switches d)
 place_told heads switches = text_told (λ s. known_or_not (place_named heads switches s)) (λ s. known_told s (place_named heads switches s))
 
 abbrev a_wire : Spot → ℕ → Spot → ℕ → Wire
 a_wire a m b n = record { one = record { spot = a; link = m }; two = record { spot = b; link = n } }
 
-pub wire_told : (heads : List Head) (switches : List SwitchPlan) (k : ℕ) (d : Data) → IsTold (Field word.Wires ∷ Index k ∷ []) d (wire_of heads switches d)
-wire_told heads switches k = row_told 4 (λ d. cell 0 (place_of heads switches) d >>= λ a. cell 1 link_of d >>= λ m. cell 2 (place_of heads switches) d >>= λ b. cell 3 link_of d >>= λ n. Ok (a_wire a m b n)) (λ ds c.
-    cell_then 0 (place_of heads switches) ds (λ a. cell 1 link_of (array ds) >>= λ m. cell 2 (place_of heads switches) (array ds) >>= λ b. cell 3 link_of (array ds) >>= λ n. Ok (a_wire a m b n)) (omega (arith, c)) (place_told heads switches) (λ a.
-    cell_then 1 link_of ds (λ m. cell 2 (place_of heads switches) (array ds) >>= λ b. cell 3 link_of (array ds) >>= λ n. Ok (a_wire a m b n)) (omega (arith, c)) (number_told 0 31 (wants.wire_from k)) (λ m.
-    cell_then 2 (place_of heads switches) ds (λ b. cell 3 link_of (array ds) >>= λ n. Ok (a_wire a m b n)) (omega (arith, c)) (place_told heads switches) (λ b.
-    cell_then 3 link_of ds (λ n. Ok (a_wire a m b n)) (omega (arith, c)) (number_told 0 31 (wants.wire_to k)) (λ n. ok_told (array ds) (a_wire a m b n))))))
+pub wire_told : (heads : List Head) (switches : List SwitchPlan) (k : ℕ) (d : Data) → IsTold (Field word.Wires ∷ Index k ∷ []) d (read_wire heads switches d)
+wire_told heads switches k = row_told 4 (λ d. cell 0 (read_place heads switches) d >>= λ a. cell 1 read_link d >>= λ m. cell 2 (read_place heads switches) d >>= λ b. cell 3 read_link d >>= λ n. Ok (a_wire a m b n)) (λ ds c.
+    cell_then 0 (read_place heads switches) ds (λ a. cell 1 read_link (array ds) >>= λ m. cell 2 (read_place heads switches) (array ds) >>= λ b. cell 3 read_link (array ds) >>= λ n. Ok (a_wire a m b n)) (omega (arith, c)) (place_told heads switches) (λ a.
+    cell_then 1 read_link ds (λ m. cell 2 (read_place heads switches) (array ds) >>= λ b. cell 3 read_link (array ds) >>= λ n. Ok (a_wire a m b n)) (omega (arith, c)) (number_told 0 31 (wants.wire_from k)) (λ m.
+    cell_then 2 (read_place heads switches) ds (λ b. cell 3 read_link (array ds) >>= λ n. Ok (a_wire a m b n)) (omega (arith, c)) (place_told heads switches) (λ b.
+    cell_then 3 read_link ds (λ n. Ok (a_wire a m b n)) (omega (arith, c)) (number_told 0 31 (wants.wire_to k)) (λ n. ok_told (array ds) (a_wire a m b n))))))
 
 -- virtual links
 abbrev an_end : ℕ → ℕ → ℕ → List ℕ → End
 an_end node link block route = record { node = node; link = link; block = block; route = route }
 
-end_told : (heads : List Head) (k : ℕ) (w : Word) (d : Data) → IsTold (Field word.Vlinks ∷ Index k ∷ Field w ∷ []) d (end_of heads d)
-end_told heads k w = row_told 4 (λ d. cell 0 (node_of heads) d >>= λ n. cell 1 link_of d >>= λ l. cell 2 header_of d >>= λ b. cell 3 (list_of (λ _. header_of)) d >>= λ r. Ok (an_end n l b r)) (λ ds c.
-    cell_then 0 (node_of heads) ds (λ n. cell 1 link_of (array ds) >>= λ l. cell 2 header_of (array ds) >>= λ b. cell 3 (list_of (λ _. header_of)) (array ds) >>= λ r. Ok (an_end n l b r)) (omega (arith, c)) (node_told heads) (λ n.
-    cell_then 1 link_of ds (λ l. cell 2 header_of (array ds) >>= λ b. cell 3 (list_of (λ _. header_of)) (array ds) >>= λ r. Ok (an_end n l b r)) (omega (arith, c)) (number_told 0 31 (wants.end_link k w)) (λ l.
-    cell_then 2 header_of ds (λ b. cell 3 (list_of (λ _. header_of)) (array ds) >>= λ r. Ok (an_end n l b r)) (omega (arith, c)) (number_told 0 65535 (wants.end_block k w)) (λ b.
-    cell_then 3 (list_of (λ _. header_of)) ds (λ r. Ok (an_end n l b r)) (omega (arith, c)) (list_told (λ _. header_of) (λ others. number_told 0 65535 (wants.end_header k (length others) w))) (λ r. ok_told (array ds) (an_end n l b r))))))
+end_told : (heads : List Head) (k : ℕ) (w : Word) (d : Data) → IsTold (Field word.Vlinks ∷ Index k ∷ Field w ∷ []) d (read_end heads d)
+end_told heads k w = row_told 4 (λ d. cell 0 (read_node heads) d >>= λ n. cell 1 read_link d >>= λ l. cell 2 read_header d >>= λ b. cell 3 (read_list (λ _. read_header)) d >>= λ r. Ok (an_end n l b r)) (λ ds c.
+    cell_then 0 (read_node heads) ds (λ n. cell 1 read_link (array ds) >>= λ l. cell 2 read_header (array ds) >>= λ b. cell 3 (read_list (λ _. read_header)) (array ds) >>= λ r. Ok (an_end n l b r)) (omega (arith, c)) (node_told heads) (λ n.
+    cell_then 1 read_link ds (λ l. cell 2 read_header (array ds) >>= λ b. cell 3 (read_list (λ _. read_header)) (array ds) >>= λ r. Ok (an_end n l b r)) (omega (arith, c)) (number_told 0 31 (wants.end_link k w)) (λ l.
+    cell_then 2 read_header ds (λ b. cell 3 (read_list (λ _. read_header)) (array ds) >>= λ r. Ok (an_end n l b r)) (omega (arith, c)) (number_told 0 65535 (wants.end_block k w)) (λ b.
+    cell_then 3 (read_list (λ _. read_header)) ds (λ r. Ok (an_end n l b r)) (omega (arith, c)) (list_told (λ _. read_header) (λ others. number_told 0 65535 (wants.end_header k (length others) w))) (λ r. ok_told (array ds) (an_end n l b r))))))
 
 abbrev a_vlink : List ℕ → End → End → Vlink
 a_vlink name a b = record { name = name; a = a; b = b }
 
-pub vlink_told : (heads : List Head) (before : List Vlink) (d : Data) → IsTold (Field word.Vlinks ∷ Index (length before) ∷ []) d (vlink_of heads before d)
-vlink_told heads before = object_told (λ _. word.Name ∷ word.A ∷ word.B ∷ []) (λ d. field word.Name (new_name (has_name (λ (v : Vlink). v.name) before)) d >>= λ name. field word.A (end_of heads) d >>= λ a. field word.B (end_of heads) d >>= λ b. Ok (a_vlink name a b)) (λ _. wants.vlink (length before)) (λ ms.
-    field_then word.Name (new_name (has_name (λ (v : Vlink). v.name) before)) ms (λ name. field word.A (end_of heads) (object ms) >>= λ a. field word.B (end_of heads) (object ms) >>= λ b. Ok (a_vlink name a b)) (new_name_told (has_name (λ (v : Vlink). v.name) before)) (λ name.
-    field_then word.A (end_of heads) ms (λ a. field word.B (end_of heads) (object ms) >>= λ b. Ok (a_vlink name a b)) (end_told heads (length before) word.A) (λ a.
-    field_then word.B (end_of heads) ms (λ b. Ok (a_vlink name a b)) (end_told heads (length before) word.B) (λ b. ok_told (object ms) (a_vlink name a b)))))
+pub vlink_told : (heads : List Head) (before : List Vlink) (d : Data) → IsTold (Field word.Vlinks ∷ Index (length before) ∷ []) d (read_vlink heads before d)
+vlink_told heads before = object_told (λ _. word.Name ∷ word.A ∷ word.B ∷ []) (λ d. field word.Name (new_name (has_name (λ (v : Vlink). v.name) before)) d >>= λ name. field word.A (read_end heads) d >>= λ a. field word.B (read_end heads) d >>= λ b. Ok (a_vlink name a b)) (λ _. wants.vlink (length before)) (λ ms.
+    field_then word.Name (new_name (has_name (λ (v : Vlink). v.name) before)) ms (λ name. field word.A (read_end heads) (object ms) >>= λ a. field word.B (read_end heads) (object ms) >>= λ b. Ok (a_vlink name a b)) (new_name_told (has_name (λ (v : Vlink). v.name) before)) (λ name.
+    field_then word.A (read_end heads) ms (λ a. field word.B (read_end heads) (object ms) >>= λ b. Ok (a_vlink name a b)) (end_told heads (length before) word.A) (λ a.
+    field_then word.B (read_end heads) ms (λ b. Ok (a_vlink name a b)) (end_told heads (length before) word.B) (λ b. ok_told (object ms) (a_vlink name a b)))))
 
 -- channels
 vlink_number_told : {p : List Step} (vlinks : List Vlink) (d : Data) → IsTold p d (vlink_number vlinks d)
 vlink_number_told vlinks d = then_told d (one_of (λ (v : Vlink). v.name) vlinks d) (λ found. Ok (at_most 65535 found)) (one_of_told (λ (v : Vlink). v.name) vlinks d) (λ found _. ok_told d (at_most 65535 found))
 
-home_told : {p : List Step} (heads : List Head) (vlinks : List Vlink) (ms : Members) → IsTold p (object ms) (home_of heads vlinks (object ms))
+home_told : {p : List Step} (heads : List Head) (vlinks : List Vlink) (ms : Members) → IsTold p (object ms) (read_home heads vlinks (object ms))
 home_told heads vlinks ms = if_told (object ms) (has_field word.Node (object ms)) (node_home heads (object ms)) (way_home vlinks (object ms))
-    (field_then word.Node (node_of heads) ms (λ n. Ok (Inside n)) (node_told heads) (λ n. ok_told (object ms) (Inside n)))
-    (field_then word.Vlink (vlink_number vlinks) ms (λ v. field word.Way way_of (object ms) >>= λ w. Ok (Way v w)) (vlink_number_told vlinks) (λ v.
-    field_then word.Way way_of ms (λ w. Ok (Way v w)) way_of_told (λ w. ok_told (object ms) (Way v w))))
+    (field_then word.Node (read_node heads) ms (λ n. Ok (Inside n)) (node_told heads) (λ n. ok_told (object ms) (Inside n)))
+    (field_then word.Vlink (vlink_number vlinks) ms (λ v. field word.Way read_way (object ms) >>= λ w. Ok (Way v w)) (vlink_number_told vlinks) (λ v.
+    field_then word.Way read_way ms (λ w. Ok (Way v w)) way_of_told (λ w. ok_told (object ms) (Way v w))))
 
 abbrev a_channel : List ℕ → ValueKind → Home → Channel
 a_channel name k home = record { name = name; kind = k; home = home }
@@ -197,8 +197,8 @@ channel_wants n d = go (has_field word.Node d) refl
     go true is = wants.inside n
     go false is = wants.between n
 
-pub channel_told : (heads : List Head) (vlinks : List Vlink) (before : List Channel) (d : Data) → IsTold (Field word.Channels ∷ Index (length before) ∷ []) d (channel_of heads vlinks before d)
-channel_told heads vlinks before = object_told channel_words (λ d. field word.Name (new_name (has_name (λ (c : Channel). c.name) before)) d >>= λ name. field word.Kind kind_of d >>= λ k. home_of heads vlinks d >>= λ h. Ok (a_channel name k h)) (channel_wants (length before)) (λ ms.
-    field_then word.Name (new_name (has_name (λ (c : Channel). c.name) before)) ms (λ name. field word.Kind kind_of (object ms) >>= λ k. home_of heads vlinks (object ms) >>= λ h. Ok (a_channel name k h)) (new_name_told (has_name (λ (c : Channel). c.name) before)) (λ name.
-    field_then word.Kind kind_of ms (λ k. home_of heads vlinks (object ms) >>= λ h. Ok (a_channel name k h)) kind_of_told (λ k.
-    then_told (object ms) (home_of heads vlinks (object ms)) (λ h. Ok (a_channel name k h)) (home_told heads vlinks ms) (λ h _. ok_told (object ms) (a_channel name k h)))))
+pub channel_told : (heads : List Head) (vlinks : List Vlink) (before : List Channel) (d : Data) → IsTold (Field word.Channels ∷ Index (length before) ∷ []) d (read_channel heads vlinks before d)
+channel_told heads vlinks before = object_told channel_words (λ d. field word.Name (new_name (has_name (λ (c : Channel). c.name) before)) d >>= λ name. field word.Kind read_kind d >>= λ k. read_home heads vlinks d >>= λ h. Ok (a_channel name k h)) (channel_wants (length before)) (λ ms.
+    field_then word.Name (new_name (has_name (λ (c : Channel). c.name) before)) ms (λ name. field word.Kind read_kind (object ms) >>= λ k. read_home heads vlinks (object ms) >>= λ h. Ok (a_channel name k h)) (new_name_told (has_name (λ (c : Channel). c.name) before)) (λ name.
+    field_then word.Kind read_kind ms (λ k. read_home heads vlinks (object ms) >>= λ h. Ok (a_channel name k h)) kind_of_told (λ k.
+    then_told (object ms) (read_home heads vlinks (object ms)) (λ h. Ok (a_channel name k h)) (home_told heads vlinks ms) (λ h _. ok_told (object ms) (a_channel name k h)))))

@@ -39,12 +39,12 @@ use Rattle.vc_reader.specs.declared.word.Word.{Word}
 use Rattle.vc_reader.specs.declared.word.Word.TheVariants as word
 use Rattle.vc_reader.specs.Faulty.{Wanted, Fields, Wants, InProcess, part, process_words, integer, message, fill_byte, fill_count, too_great, too_long, unknown_field}
 use Rattle.vc_reader.specs.Faulty as faulty
-use Rattle.vc_reader.specs.Bytes.{of_kind, variable_of, no_longer, hex_digit, hex_bytes, hex_of, literal_of, fill_of, formed_bytes, bytes_of}
-use Rattle.vc_reader.specs.Conditions.{cond_word, plain_cond, comparison_of, both_of, either_of, not_of, worded_cond, cond_step, cond_of, whole_cond}
-use Rattle.vc_reader.specs.Expressions.{int_of, leaf_of, expr_word, head, size_of, operation_of, worded_expr, expr_step, expr_of, whole_expr}
+use Rattle.vc_reader.specs.Bytes.{of_kind, read_variable, no_longer, hex_digit, hex_bytes, read_hex, read_literal, read_fill, formed_bytes, read_bytes}
+use Rattle.vc_reader.specs.Conditions.{cond_word, plain_cond, read_comparison, read_both, read_either, read_not, worded_cond, cond_step, read_cond, whole_cond}
+use Rattle.vc_reader.specs.Expressions.{read_int, read_leaf, expr_word, head, read_size, read_operation, worded_expr, expr_step, read_expr, whole_expr}
 use Rattle.vc_reader.specs.Names.{one_of}
-use Rattle.vc_reader.specs.Processes.{channel_named, variable_named, value_of, set_of, send_of, receive_of, stopch_of, plain_of, branch_of, while_of, count_of, guard_of, field_word, worded_process, named_process, process_step, process_of, whole_process}
-use Rattle.vc_reader.specs.Reading.{◌>>=◌, wrong, under, cell, list_of, count, is_word, number_of, only, by_only}
+use Rattle.vc_reader.specs.Processes.{channel_named, variable_named, read_value, read_set, read_send, read_receive, read_stopch, read_plain, read_branch, read_while, read_count, read_guard, field_word, worded_process, named_process, process_step, read_process, whole_process}
+use Rattle.vc_reader.specs.Reading.{◌>>=◌, wrong, under, cell, read_list, count, is_word, read_number, only, by_only}
 use Rattle.vc_reader.specs.Words.{word_text}
 use Rattle.vc_reader.proofs.Leading.{IsTold, here, ok_told, kind_told, then_told, under_told, list_told, cell_told, row_told, text_told, if_told, number_told, one_of_told, first_member}
 use Rattle.vc_reader.proofs.Read.{then_ok}
@@ -52,7 +52,7 @@ use Rattle.vc_reader.proofs.Told.{cell_then}
 
 -- ---- variables, channels and bytes
 
-variable_told : {p : List Step} (k : ValueKind) (vars : List Variable) (d : Data) → IsTold p d (variable_of k vars d)
+variable_told : {p : List Step} (k : ValueKind) (vars : List Variable) (d : Data) → IsTold p d (read_variable k vars d)
 variable_told k vars d = then_told d (one_of (λ (v : Variable). v.name) vars d) (of_kind k) (one_of_told (λ (v : Variable). v.name) vars d)
     (λ found _. if_told d (same_kind k (found.1).kind) (Ok (min found.0 255)) (wrong why.Kind) (ok_told d (min found.0 255)) (kind_told d))
 
@@ -95,7 +95,7 @@ no_more_bytes (a ∷ b ∷ rest) ys e =
     let fewer = no_more_bytes rest o.0 o.1 in
     subst (λ zs. length zs ≤ suc (suc (length rest))) is (omega (arith, fewer))
 
-hex_told : {p : List Step} → InProcess p → (d : Data) → IsTold p d (hex_of d)
+hex_told : {p : List Step} → InProcess p → (d : Data) → IsTold p d (read_hex d)
 hex_told at (string s) =
     then_told (string s) (hex_bytes s >>= no_longer) (λ xs. Ok (bytes.Lit xs))
     (then_told (string s) (hex_bytes s) no_longer (hex_bytes_told (string s) s) (λ xs e. longer_told s xs at (no_more_bytes s xs e)))
@@ -106,7 +106,7 @@ hex_told at (number n) = kind_told (number n)
 hex_told at (array ds) = kind_told (array ds)
 hex_told at (object ms) = kind_told (object ms)
 
-literal_told : {p : List Step} → InProcess p → (d : Data) → IsTold p d (literal_of d)
+literal_told : {p : List Step} → InProcess p → (d : Data) → IsTold p d (read_literal d)
 literal_told at (string s) = then_told (string s) (no_longer s) (λ xs. Ok (bytes.Lit xs)) (longer_told s s at (omega arith)) (λ xs _. ok_told (string s) (bytes.Lit xs))
 literal_told at null = kind_told null
 literal_told at (boolean b) = kind_told (boolean b)
@@ -114,10 +114,10 @@ literal_told at (number n) = kind_told (number n)
 literal_told at (array ds) = kind_told (array ds)
 literal_told at (object ms) = kind_told (object ms)
 
-fill_told : {p : List Step} → InProcess p → (d : Data) → IsTold p d (fill_of d)
-fill_told {p} at = row_told 2 (λ d. cell 0 (number_of 0 255) d >>= λ b. cell 1 (number_of 0 65535) d >>= λ n. Ok (bytes.Fill b n)) (λ ds c.
-    cell_then 0 (number_of 0 255) ds (λ b. cell 1 (number_of 0 65535) (array ds) >>= λ n. Ok (bytes.Fill b n)) (omega (arith, c)) (number_told 0 255 (fill_byte p at)) (λ b.
-    cell_then 1 (number_of 0 65535) ds (λ n. Ok (bytes.Fill b n)) (omega (arith, c)) (number_told 0 65535 (fill_count p at)) (λ n. ok_told (array ds) (bytes.Fill b n))))
+fill_told : {p : List Step} → InProcess p → (d : Data) → IsTold p d (read_fill d)
+fill_told {p} at = row_told 2 (λ d. cell 0 (read_number 0 255) d >>= λ b. cell 1 (read_number 0 65535) d >>= λ n. Ok (bytes.Fill b n)) (λ ds c.
+    cell_then 0 (read_number 0 255) ds (λ b. cell 1 (read_number 0 65535) (array ds) >>= λ n. Ok (bytes.Fill b n)) (omega (arith, c)) (number_told 0 255 (fill_byte p at)) (λ b.
+    cell_then 1 (read_number 0 65535) ds (λ n. Ok (bytes.Fill b n)) (omega (arith, c)) (number_told 0 65535 (fill_count p at)) (λ n. ok_told (array ds) (bytes.Fill b n))))
 
 -- the one field of an object of one field
 abbrev TellsOnly : {A : Type 0} → List Step → (List ℕ → Data → Result A Fault) → Type 0
@@ -167,13 +167,13 @@ unknown_told {A} {p} ws key d wants none =
 
 formed_told : {p : List Step} → InProcess p → TellsOnly p formed_bytes
 formed_told {p} at key d =
-    word_told word.Hex key d (hex_of d) _ (hex_told (part p (Field word.Hex) at) d) (λ a.
-    word_told word.Text key d (literal_of d) _ (literal_told (part p (Field word.Text) at) d) (λ b.
-    word_told word.Fill key d (fill_of d) (wrong why.Unknown) (fill_told (part p (Field word.Fill) at) d) (λ c.
+    word_told word.Hex key d (read_hex d) _ (hex_told (part p (Field word.Hex) at) d) (λ a.
+    word_told word.Text key d (read_literal d) _ (literal_told (part p (Field word.Text) at) d) (λ b.
+    word_told word.Fill key d (read_fill d) (wrong why.Unknown) (fill_told (part p (Field word.Fill) at) d) (λ c.
     unknown_told (word.Hex ∷ word.Text ∷ word.Fill ∷ []) key d (faulty.bytes p at) (a, (b, (c, tt))))))
 
-bytes_told : {p : List Step} (vars : List Variable) → InProcess p → (d : Data) → IsTold p d (bytes_of vars d)
-bytes_told vars at (string s) = then_told (string s) (variable_of kind.Bytes vars (string s)) (λ n. Ok (bytes.Var n)) (variable_told kind.Bytes vars (string s)) (λ n _. ok_told (string s) (bytes.Var n))
+bytes_told : {p : List Step} (vars : List Variable) → InProcess p → (d : Data) → IsTold p d (read_bytes vars d)
+bytes_told vars at (string s) = then_told (string s) (read_variable kind.Bytes vars (string s)) (λ n. Ok (bytes.Var n)) (variable_told kind.Bytes vars (string s)) (λ n _. ok_told (string s) (bytes.Var n))
 bytes_told vars at (object ms) = only_told formed_bytes (formed_told at) (object ms)
 bytes_told vars at null = kind_told null
 bytes_told vars at (boolean b) = kind_told (boolean b)
@@ -182,7 +182,7 @@ bytes_told vars at (array ds) = kind_told (array ds)
 
 -- ---- expressions
 
-int_told : {p : List Step} → InProcess p → (d : Data) → IsTold p d (int_of d)
+int_told : {p : List Step} → InProcess p → (d : Data) → IsTold p d (read_int d)
 int_told {p} at (number (unsigned n)) = go (nat_lt n (2 ^ 63)) refl
   where
     go : (b : Bool) → nat_lt n (2 ^ 63) ≡ b → IsTold p (number (unsigned n)) (if b then Ok (pos n) else wrong why.Range)
@@ -196,9 +196,9 @@ int_told at (string s) = kind_told (string s)
 int_told at (array ds) = kind_told (array ds)
 int_told at (object ms) = kind_told (object ms)
 
-leaf_told : {p : List Step} (vars : List Variable) → InProcess p → (d : Data) → IsTold p d (leaf_of vars d)
-leaf_told vars at (number n) = then_told (number n) (int_of (number n)) (λ z. Ok (expr.Num z)) (int_told at (number n)) (λ z _. ok_told (number n) (expr.Num z))
-leaf_told vars at (string s) = then_told (string s) (variable_of kind.Int vars (string s)) (λ n. Ok (expr.Var n)) (variable_told kind.Int vars (string s)) (λ n _. ok_told (string s) (expr.Var n))
+leaf_told : {p : List Step} (vars : List Variable) → InProcess p → (d : Data) → IsTold p d (read_leaf vars d)
+leaf_told vars at (number n) = then_told (number n) (read_int (number n)) (λ z. Ok (expr.Num z)) (int_told at (number n)) (λ z _. ok_told (number n) (expr.Num z))
+leaf_told vars at (string s) = then_told (string s) (read_variable kind.Int vars (string s)) (λ n. Ok (expr.Var n)) (variable_told kind.Int vars (string s)) (λ n _. ok_told (string s) (expr.Var n))
 leaf_told vars at null = kind_told null
 leaf_told vars at (boolean b) = kind_told (boolean b)
 leaf_told vars at (array ds) = kind_told (array ds)
@@ -226,12 +226,12 @@ expr_word_told (number n) = kind_told (number n)
 expr_word_told (array ds) = kind_told (array ds)
 expr_word_told (object ms) = kind_told (object ms)
 
-size_told : {p : List Step} (vars : List Variable) (d : Data) → IsTold p d (size_of vars d)
-size_told vars = row_told 2 (λ d. cell 1 (variable_of kind.Bytes vars) d >>= λ v. Ok (expr.Size v)) (λ ds c.
-    cell_then 1 (variable_of kind.Bytes vars) ds (λ v. Ok (expr.Size v)) (omega (arith, c)) (variable_told kind.Bytes vars) (λ v. ok_told (array ds) (expr.Size v)))
+size_told : {p : List Step} (vars : List Variable) (d : Data) → IsTold p d (read_size vars d)
+size_told vars = row_told 2 (λ d. cell 1 (read_variable kind.Bytes vars) d >>= λ v. Ok (expr.Size v)) (λ ds c.
+    cell_then 1 (read_variable kind.Bytes vars) ds (λ v. Ok (expr.Size v)) (omega (arith, c)) (variable_told kind.Bytes vars) (λ v. ok_told (array ds) (expr.Size v)))
 
 module _ (vars : List Variable) (read : Data → Result Expr Fault) (told : (p : List Step) → InProcess p → (d : Data) → IsTold p d (read d)) where
-  operation_told : {p : List Step} (op : Op) → InProcess p → (d : Data) → IsTold p d (operation_of read op d)
+  operation_told : {p : List Step} (op : Op) → InProcess p → (d : Data) → IsTold p d (read_operation read op d)
   operation_told {p} op at = row_told 3 (λ d. cell 1 read d >>= λ a. cell 2 read d >>= λ b. Ok (expr.Bin op a b)) (λ ds c.
       cell_then 1 read ds (λ a. cell 2 read (array ds) >>= λ b. Ok (expr.Bin op a b)) (omega (arith, c)) (told (p ++ Index 1 ∷ []) (part p (Index 1) at)) (λ a.
       cell_then 2 read ds (λ b. Ok (expr.Bin op a b)) (omega (arith, c)) (told (p ++ Index 2 ∷ []) (part p (Index 2) at)) (λ b. ok_told (array ds) (expr.Bin op a b))))
@@ -248,9 +248,9 @@ module _ (vars : List Variable) (read : Data → Result Expr Fault) (told : (p :
   expr_step_told at (boolean b) = leaf_told vars at (boolean b)
   expr_step_told at (object ms) = leaf_told vars at (object ms)
 
-expr_told : (depth : ℕ) (vars : List Variable) {p : List Step} → InProcess p → (d : Data) → IsTold p d (expr_of depth vars d)
+expr_told : (depth : ℕ) (vars : List Variable) {p : List Step} → InProcess p → (d : Data) → IsTold p d (read_expr depth vars d)
 expr_told zero vars at d = leaf_told vars at d
-expr_told (suc depth) vars at d = expr_step_told vars (expr_of depth vars) (λ q in_q e. expr_told depth vars in_q e) at d
+expr_told (suc depth) vars at d = expr_step_told vars (read_expr depth vars) (λ q in_q e. expr_told depth vars in_q e) at d
 
 whole_told : (vars : List Variable) {p : List Step} → InProcess p → (d : Data) → IsTold p d (whole_expr vars d)
 whole_told vars at d = expr_told 127 vars at d
@@ -282,23 +282,23 @@ plain_cond_told (string s) = kind_told (string s)
 plain_cond_told (array ds) = kind_told (array ds)
 plain_cond_told (object ms) = kind_told (object ms)
 
-comparison_told : {p : List Step} (vars : List Variable) (rel : Rel) → InProcess p → (d : Data) → IsTold p d (comparison_of vars rel d)
+comparison_told : {p : List Step} (vars : List Variable) (rel : Rel) → InProcess p → (d : Data) → IsTold p d (read_comparison vars rel d)
 comparison_told {p} vars rel at = row_told 3 (λ d. cell 1 (whole_expr vars) d >>= λ a. cell 2 (whole_expr vars) d >>= λ b. Ok (cond.Cmp rel a b)) (λ ds c.
     cell_then 1 (whole_expr vars) ds (λ a. cell 2 (whole_expr vars) (array ds) >>= λ b. Ok (cond.Cmp rel a b)) (omega (arith, c)) (whole_told vars (part p (Index 1) at)) (λ a.
     cell_then 2 (whole_expr vars) ds (λ b. Ok (cond.Cmp rel a b)) (omega (arith, c)) (whole_told vars (part p (Index 2) at)) (λ b. ok_told (array ds) (cond.Cmp rel a b))))
 
 module _ (vars : List Variable) (read : Data → Result Cond Fault) (told : (p : List Step) → InProcess p → (d : Data) → IsTold p d (read d)) where
-  both_told : {p : List Step} → InProcess p → (d : Data) → IsTold p d (both_of read d)
+  both_told : {p : List Step} → InProcess p → (d : Data) → IsTold p d (read_both read d)
   both_told {p} at = row_told 3 (λ d. cell 1 read d >>= λ a. cell 2 read d >>= λ b. Ok (cond.And a b)) (λ ds c.
       cell_then 1 read ds (λ a. cell 2 read (array ds) >>= λ b. Ok (cond.And a b)) (omega (arith, c)) (told (p ++ Index 1 ∷ []) (part p (Index 1) at)) (λ a.
       cell_then 2 read ds (λ b. Ok (cond.And a b)) (omega (arith, c)) (told (p ++ Index 2 ∷ []) (part p (Index 2) at)) (λ b. ok_told (array ds) (cond.And a b))))
 
-  either_told : {p : List Step} → InProcess p → (d : Data) → IsTold p d (either_of read d)
+  either_told : {p : List Step} → InProcess p → (d : Data) → IsTold p d (read_either read d)
   either_told {p} at = row_told 3 (λ d. cell 1 read d >>= λ a. cell 2 read d >>= λ b. Ok (cond.Or a b)) (λ ds c.
       cell_then 1 read ds (λ a. cell 2 read (array ds) >>= λ b. Ok (cond.Or a b)) (omega (arith, c)) (told (p ++ Index 1 ∷ []) (part p (Index 1) at)) (λ a.
       cell_then 2 read ds (λ b. Ok (cond.Or a b)) (omega (arith, c)) (told (p ++ Index 2 ∷ []) (part p (Index 2) at)) (λ b. ok_told (array ds) (cond.Or a b))))
 
-  not_told : {p : List Step} → InProcess p → (d : Data) → IsTold p d (not_of read d)
+  not_told : {p : List Step} → InProcess p → (d : Data) → IsTold p d (read_not read d)
   not_told {p} at = row_told 2 (λ d. cell 1 read d >>= λ a. Ok (cond.Not a)) (λ ds c.
       cell_then 1 read ds (λ a. Ok (cond.Not a)) (omega (arith, c)) (told (p ++ Index 1 ∷ []) (part p (Index 1) at)) (λ a. ok_told (array ds) (cond.Not a)))
 
@@ -316,38 +316,38 @@ module _ (vars : List Variable) (read : Data → Result Cond Fault) (told : (p :
   cond_step_told at (string s) = plain_cond_told (string s)
   cond_step_told at (object ms) = plain_cond_told (object ms)
 
-cond_told : (depth : ℕ) (vars : List Variable) {p : List Step} → InProcess p → (d : Data) → IsTold p d (cond_of depth vars d)
+cond_told : (depth : ℕ) (vars : List Variable) {p : List Step} → InProcess p → (d : Data) → IsTold p d (read_cond depth vars d)
 cond_told zero vars at d = plain_cond_told d
-cond_told (suc depth) vars at d = cond_step_told vars (cond_of depth vars) (λ q in_q e. cond_told depth vars in_q e) at d
+cond_told (suc depth) vars at d = cond_step_told vars (read_cond depth vars) (λ q in_q e. cond_told depth vars in_q e) at d
 
 whole_cond_told : (vars : List Variable) {p : List Step} → InProcess p → (d : Data) → IsTold p d (whole_cond vars d)
 whole_cond_told vars at d = cond_told 127 vars at d
 
 -- ---- processes
 
-value_told : (k : ValueKind) (vars : List Variable) {p : List Step} → InProcess p → (d : Data) → IsTold p d (value_of k vars d)
+value_told : (k : ValueKind) (vars : List Variable) {p : List Step} → InProcess p → (d : Data) → IsTold p d (read_value k vars d)
 value_told kind.Int vars at d = then_told d (whole_expr vars d) (λ e. Ok (value.Int e)) (whole_told vars at d) (λ e _. ok_told d (value.Int e))
-value_told kind.Bytes vars at d = then_told d (bytes_of vars d) (λ b. Ok (value.Bytes b)) (bytes_told vars at d) (λ b _. ok_told d (value.Bytes b))
+value_told kind.Bytes vars at d = then_told d (read_bytes vars d) (λ b. Ok (value.Bytes b)) (bytes_told vars at d) (λ b _. ok_told d (value.Bytes b))
 
-set_told : {p : List Step} (vars : List Variable) → InProcess p → (d : Data) → IsTold p d (set_of vars d)
-set_told {p} vars at = row_told 2 (λ d. cell 0 (variable_named vars) d >>= λ v. cell 1 (value_of v.1 vars) d >>= λ x. Ok (process.Set v.0 x)) (λ ds c.
-    cell_then 0 (variable_named vars) ds (λ v. cell 1 (value_of v.1 vars) (array ds) >>= λ x. Ok (process.Set v.0 x)) (omega (arith, c)) (named_told vars) (λ v.
-    cell_then 1 (value_of v.1 vars) ds (λ x. Ok (process.Set v.0 x)) (omega (arith, c)) (value_told v.1 vars (part p (Index 1) at)) (λ x. ok_told (array ds) (process.Set v.0 x))))
+set_told : {p : List Step} (vars : List Variable) → InProcess p → (d : Data) → IsTold p d (read_set vars d)
+set_told {p} vars at = row_told 2 (λ d. cell 0 (variable_named vars) d >>= λ v. cell 1 (read_value v.1 vars) d >>= λ x. Ok (process.Set v.0 x)) (λ ds c.
+    cell_then 0 (variable_named vars) ds (λ v. cell 1 (read_value v.1 vars) (array ds) >>= λ x. Ok (process.Set v.0 x)) (omega (arith, c)) (named_told vars) (λ v.
+    cell_then 1 (read_value v.1 vars) ds (λ x. Ok (process.Set v.0 x)) (omega (arith, c)) (value_told v.1 vars (part p (Index 1) at)) (λ x. ok_told (array ds) (process.Set v.0 x))))
 
-send_told : {p : List Step} (vars : List Variable) (channels : List Channel) → InProcess p → (d : Data) → IsTold p d (send_of vars channels d)
-send_told {p} vars channels at = row_told 2 (λ d. cell 0 (channel_named channels) d >>= λ n. cell 1 (value_of n.1 vars) d >>= λ x. Ok (process.Send n.0 x)) (λ ds c.
-    cell_then 0 (channel_named channels) ds (λ n. cell 1 (value_of n.1 vars) (array ds) >>= λ x. Ok (process.Send n.0 x)) (omega (arith, c)) (channel_told channels) (λ n.
-    cell_then 1 (value_of n.1 vars) ds (λ x. Ok (process.Send n.0 x)) (omega (arith, c)) (value_told n.1 vars (part p (Index 1) at)) (λ x. ok_told (array ds) (process.Send n.0 x))))
+send_told : {p : List Step} (vars : List Variable) (channels : List Channel) → InProcess p → (d : Data) → IsTold p d (read_send vars channels d)
+send_told {p} vars channels at = row_told 2 (λ d. cell 0 (channel_named channels) d >>= λ n. cell 1 (read_value n.1 vars) d >>= λ x. Ok (process.Send n.0 x)) (λ ds c.
+    cell_then 0 (channel_named channels) ds (λ n. cell 1 (read_value n.1 vars) (array ds) >>= λ x. Ok (process.Send n.0 x)) (omega (arith, c)) (channel_told channels) (λ n.
+    cell_then 1 (read_value n.1 vars) ds (λ x. Ok (process.Send n.0 x)) (omega (arith, c)) (value_told n.1 vars (part p (Index 1) at)) (λ x. ok_told (array ds) (process.Send n.0 x))))
 
-receive_told : {p : List Step} (vars : List Variable) (channels : List Channel) (d : Data) → IsTold p d (receive_of vars channels d)
-receive_told vars channels = row_told 2 (λ d. cell 0 (channel_named channels) d >>= λ n. cell 1 (variable_of n.1 vars) d >>= λ v. Ok (process.Receive n.0 v)) (λ ds c.
-    cell_then 0 (channel_named channels) ds (λ n. cell 1 (variable_of n.1 vars) (array ds) >>= λ v. Ok (process.Receive n.0 v)) (omega (arith, c)) (channel_told channels) (λ n.
-    cell_then 1 (variable_of n.1 vars) ds (λ v. Ok (process.Receive n.0 v)) (omega (arith, c)) (variable_told n.1 vars) (λ v. ok_told (array ds) (process.Receive n.0 v))))
+receive_told : {p : List Step} (vars : List Variable) (channels : List Channel) (d : Data) → IsTold p d (read_receive vars channels d)
+receive_told vars channels = row_told 2 (λ d. cell 0 (channel_named channels) d >>= λ n. cell 1 (read_variable n.1 vars) d >>= λ v. Ok (process.Receive n.0 v)) (λ ds c.
+    cell_then 0 (channel_named channels) ds (λ n. cell 1 (read_variable n.1 vars) (array ds) >>= λ v. Ok (process.Receive n.0 v)) (omega (arith, c)) (channel_told channels) (λ n.
+    cell_then 1 (read_variable n.1 vars) ds (λ v. Ok (process.Receive n.0 v)) (omega (arith, c)) (variable_told n.1 vars) (λ v. ok_told (array ds) (process.Receive n.0 v))))
 
-stopch_told : {p : List Step} (channels : List Channel) (d : Data) → IsTold p d (stopch_of channels d)
+stopch_told : {p : List Step} (channels : List Channel) (d : Data) → IsTold p d (read_stopch channels d)
 stopch_told channels d = then_told d (channel_named channels d) (λ n. Ok (process.Stopch n.0)) (channel_told channels d) (λ n _. ok_told d (process.Stopch n.0))
 
-plain_told : {p : List Step} (d : Data) (s : List ℕ) → IsTold p d (plain_of s)
+plain_told : {p : List Step} (d : Data) (s : List ℕ) → IsTold p d (read_plain s)
 plain_told d s = if_told d _ (Ok process.Skip) _ (ok_told d process.Skip) (if_told d _ (Ok process.Stop) (wrong why.Kind) (ok_told d process.Stop) (kind_told d))
 
 abbrev a_branch : Cond → Process → Branch
@@ -358,28 +358,28 @@ a_guard c n v p = record { cond = c; chan = n; var = v; body = p }
 
 module _ (vars : List Variable) (channels : List Channel) (read : Data → Result Process Fault)
     (told : (p : List Step) → InProcess p → (d : Data) → IsTold p d (read d)) where
-  branch_told : {p : List Step} → InProcess p → (d : Data) → IsTold p d (branch_of read vars d)
+  branch_told : {p : List Step} → InProcess p → (d : Data) → IsTold p d (read_branch read vars d)
   branch_told {p} at = row_told 2 (λ d. cell 0 (whole_cond vars) d >>= λ b. cell 1 read d >>= λ p. Ok (a_branch b p)) (λ ds c.
       cell_then 0 (whole_cond vars) ds (λ b. cell 1 read (array ds) >>= λ p. Ok (a_branch b p)) (omega (arith, c)) (whole_cond_told vars (part p (Index 0) at)) (λ b.
       cell_then 1 read ds (λ p. Ok (a_branch b p)) (omega (arith, c)) (told (p ++ Index 1 ∷ []) (part p (Index 1) at)) (λ p. ok_told (array ds) (a_branch b p))))
 
-  while_told : {p : List Step} → InProcess p → (d : Data) → IsTold p d (while_of read vars d)
+  while_told : {p : List Step} → InProcess p → (d : Data) → IsTold p d (read_while read vars d)
   while_told {p} at = row_told 2 (λ d. cell 0 (whole_cond vars) d >>= λ b. cell 1 read d >>= λ p. Ok (process.While b p)) (λ ds c.
       cell_then 0 (whole_cond vars) ds (λ b. cell 1 read (array ds) >>= λ p. Ok (process.While b p)) (omega (arith, c)) (whole_cond_told vars (part p (Index 0) at)) (λ b.
       cell_then 1 read ds (λ p. Ok (process.While b p)) (omega (arith, c)) (told (p ++ Index 1 ∷ []) (part p (Index 1) at)) (λ p. ok_told (array ds) (process.While b p))))
 
-  count_told : {p : List Step} → InProcess p → (d : Data) → IsTold p d (count_of read vars d)
-  count_told {p} at = row_told 4 (λ d. cell 0 (variable_of kind.Int vars) d >>= λ v. cell 1 (whole_expr vars) d >>= λ a. cell 2 (whole_expr vars) d >>= λ n. cell 3 read d >>= λ p. Ok (process.Count v a n p)) (λ ds c.
-      cell_then 0 (variable_of kind.Int vars) ds (λ v. cell 1 (whole_expr vars) (array ds) >>= λ a. cell 2 (whole_expr vars) (array ds) >>= λ n. cell 3 read (array ds) >>= λ p. Ok (process.Count v a n p)) (omega (arith, c)) (variable_told kind.Int vars) (λ v.
+  count_told : {p : List Step} → InProcess p → (d : Data) → IsTold p d (read_count read vars d)
+  count_told {p} at = row_told 4 (λ d. cell 0 (read_variable kind.Int vars) d >>= λ v. cell 1 (whole_expr vars) d >>= λ a. cell 2 (whole_expr vars) d >>= λ n. cell 3 read d >>= λ p. Ok (process.Count v a n p)) (λ ds c.
+      cell_then 0 (read_variable kind.Int vars) ds (λ v. cell 1 (whole_expr vars) (array ds) >>= λ a. cell 2 (whole_expr vars) (array ds) >>= λ n. cell 3 read (array ds) >>= λ p. Ok (process.Count v a n p)) (omega (arith, c)) (variable_told kind.Int vars) (λ v.
       cell_then 1 (whole_expr vars) ds (λ a. cell 2 (whole_expr vars) (array ds) >>= λ n. cell 3 read (array ds) >>= λ p. Ok (process.Count v a n p)) (omega (arith, c)) (whole_told vars (part p (Index 1) at)) (λ a.
       cell_then 2 (whole_expr vars) ds (λ n. cell 3 read (array ds) >>= λ p. Ok (process.Count v a n p)) (omega (arith, c)) (whole_told vars (part p (Index 2) at)) (λ n.
       cell_then 3 read ds (λ p. Ok (process.Count v a n p)) (omega (arith, c)) (told (p ++ Index 3 ∷ []) (part p (Index 3) at)) (λ p. ok_told (array ds) (process.Count v a n p))))))
 
-  guard_told : {p : List Step} → InProcess p → (d : Data) → IsTold p d (guard_of read vars channels d)
-  guard_told {p} at = row_told 4 (λ d. cell 0 (whole_cond vars) d >>= λ b. cell 1 (channel_named channels) d >>= λ n. cell 2 (variable_of n.1 vars) d >>= λ v. cell 3 read d >>= λ p. Ok (a_guard b n.0 v p)) (λ ds c.
-      cell_then 0 (whole_cond vars) ds (λ b. cell 1 (channel_named channels) (array ds) >>= λ n. cell 2 (variable_of n.1 vars) (array ds) >>= λ v. cell 3 read (array ds) >>= λ p. Ok (a_guard b n.0 v p)) (omega (arith, c)) (whole_cond_told vars (part p (Index 0) at)) (λ b.
-      cell_then 1 (channel_named channels) ds (λ n. cell 2 (variable_of n.1 vars) (array ds) >>= λ v. cell 3 read (array ds) >>= λ p. Ok (a_guard b n.0 v p)) (omega (arith, c)) (channel_told channels) (λ n.
-      cell_then 2 (variable_of n.1 vars) ds (λ v. cell 3 read (array ds) >>= λ p. Ok (a_guard b n.0 v p)) (omega (arith, c)) (variable_told n.1 vars) (λ v.
+  guard_told : {p : List Step} → InProcess p → (d : Data) → IsTold p d (read_guard read vars channels d)
+  guard_told {p} at = row_told 4 (λ d. cell 0 (whole_cond vars) d >>= λ b. cell 1 (channel_named channels) d >>= λ n. cell 2 (read_variable n.1 vars) d >>= λ v. cell 3 read d >>= λ p. Ok (a_guard b n.0 v p)) (λ ds c.
+      cell_then 0 (whole_cond vars) ds (λ b. cell 1 (channel_named channels) (array ds) >>= λ n. cell 2 (read_variable n.1 vars) (array ds) >>= λ v. cell 3 read (array ds) >>= λ p. Ok (a_guard b n.0 v p)) (omega (arith, c)) (whole_cond_told vars (part p (Index 0) at)) (λ b.
+      cell_then 1 (channel_named channels) ds (λ n. cell 2 (read_variable n.1 vars) (array ds) >>= λ v. cell 3 read (array ds) >>= λ p. Ok (a_guard b n.0 v p)) (omega (arith, c)) (channel_told channels) (λ n.
+      cell_then 2 (read_variable n.1 vars) ds (λ v. cell 3 read (array ds) >>= λ p. Ok (a_guard b n.0 v p)) (omega (arith, c)) (variable_told n.1 vars) (λ v.
       cell_then 3 read ds (λ p. Ok (a_guard b n.0 v p)) (omega (arith, c)) (told (p ++ Index 3 ∷ []) (part p (Index 3) at)) (λ p. ok_told (array ds) (a_guard b n.0 v p))))))
 
   worded_told : {p : List Step} (w : ProcessWord) → InProcess p → (d : Data) → IsTold p d (worded_process read vars channels w d)
@@ -387,14 +387,14 @@ module _ (vars : List Variable) (channels : List Channel) (read : Data → Resul
   worded_told head_of.Send at d = send_told vars channels at d
   worded_told head_of.Receive at d = receive_told vars channels d
   worded_told head_of.Stopch at d = stopch_told channels d
-  worded_told {p} head_of.Seq at d = then_told d (list_of (λ _. read) d) (λ ps. Ok (process.Seq ps)) (list_told (λ _. read) (λ others. told (p ++ Index (length others) ∷ []) (part p (Index (length others)) at)) d) (λ ps _. ok_told d (process.Seq ps))
-  worded_told {p} head_of.Par at d = then_told d (list_of (λ _. read) d) (λ ps. Ok (process.Par ps)) (list_told (λ _. read) (λ others. told (p ++ Index (length others) ∷ []) (part p (Index (length others)) at)) d) (λ ps _. ok_told d (process.Par ps))
+  worded_told {p} head_of.Seq at d = then_told d (read_list (λ _. read) d) (λ ps. Ok (process.Seq ps)) (list_told (λ _. read) (λ others. told (p ++ Index (length others) ∷ []) (part p (Index (length others)) at)) d) (λ ps _. ok_told d (process.Seq ps))
+  worded_told {p} head_of.Par at d = then_told d (read_list (λ _. read) d) (λ ps. Ok (process.Par ps)) (list_told (λ _. read) (λ others. told (p ++ Index (length others) ∷ []) (part p (Index (length others)) at)) d) (λ ps _. ok_told d (process.Par ps))
   worded_told {p} head_of.If at d =
-      then_told d (list_of (λ _. branch_of read vars) d) (λ bs. Ok (process.If bs)) (list_told (λ _. branch_of read vars) (λ others. branch_told (part p (Index (length others)) at)) d) (λ bs _. ok_told d (process.If bs))
+      then_told d (read_list (λ _. read_branch read vars) d) (λ bs. Ok (process.If bs)) (list_told (λ _. read_branch read vars) (λ others. branch_told (part p (Index (length others)) at)) d) (λ bs _. ok_told d (process.If bs))
   worded_told head_of.While at d = while_told at d
   worded_told head_of.Count at d = count_told at d
   worded_told {p} head_of.Alt at d =
-      then_told d (list_of (λ _. guard_of read vars channels) d) (λ gs. Ok (process.Alt gs)) (list_told (λ _. guard_of read vars channels) (λ others. guard_told (part p (Index (length others)) at)) d) (λ gs _. ok_told d (process.Alt gs))
+      then_told d (read_list (λ _. read_guard read vars channels) d) (λ gs. Ok (process.Alt gs)) (list_told (λ _. read_guard read vars channels) (λ others. guard_told (part p (Index (length others)) at)) d) (λ gs _. ok_told d (process.Alt gs))
 
   -- a process of the word that the field has, or else, where it has another
   process_word_told : {p : List Step} (w : ProcessWord) (key : List ℕ) (d : Data) (other : Result ProcessWord Fault) → InProcess p →
@@ -424,9 +424,9 @@ module _ (vars : List Variable) (channels : List Channel) (read : Data → Resul
   process_step_told at (number n) = kind_told (number n)
   process_step_told at (array ds) = kind_told (array ds)
 
-process_told : (depth : ℕ) (vars : List Variable) (channels : List Channel) {p : List Step} → InProcess p → (d : Data) → IsTold p d (process_of depth vars channels d)
-process_told zero vars channels at d = text_told plain_of (λ s. plain_told (string s) s) d
-process_told (suc depth) vars channels at d = process_step_told vars channels (process_of depth vars channels) (λ q in_q e. process_told depth vars channels in_q e) at d
+process_told : (depth : ℕ) (vars : List Variable) (channels : List Channel) {p : List Step} → InProcess p → (d : Data) → IsTold p d (read_process depth vars channels d)
+process_told zero vars channels at d = text_told read_plain (λ s. plain_told (string s) s) d
+process_told (suc depth) vars channels at d = process_step_told vars channels (read_process depth vars channels) (λ q in_q e. process_told depth vars channels in_q e) at d
 
 pub whole_process_told : (vars : List Variable) (channels : List Channel) {p : List Step} → InProcess p → (d : Data) → IsTold p d (whole_process vars channels d)
 whole_process_told vars channels at d = process_told 127 vars channels at d

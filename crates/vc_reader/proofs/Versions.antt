@@ -20,10 +20,10 @@ use Rattle.vc_reader.specs.declared.fault.Why.TheVariants.{Unknown}
 use Rattle.vc_reader.specs.declared.word.Word.{Word}
 use Rattle.vc_reader.specs.declared.word.Word.TheVariants as word
 use Rattle.vc_reader.specs.Words.{word_text}
-use Rattle.vc_reader.specs.Reading.{cell, row, list_field, absent_or_list, under, is_word, has_only, object_of, number_of, wrong}
+use Rattle.vc_reader.specs.Reading.{cell, row, list_field, absent_or_list, under, is_word, has_only, read_object, read_number, wrong}
 use Rattle.vc_reader.specs.declared.path.Step.TheVariants.{Field}
-use Rattle.vc_reader.specs.Network.{header_of, limit_of, link_of, out_row, table_row, random_of, switch_words, switch_of}
-use Rattle.vc_reader.specs.NetworkText.{plan_of}
+use Rattle.vc_reader.specs.Network.{read_header, read_limit, read_link, out_row, table_row, read_random, switch_words, read_switch}
+use Rattle.vc_reader.specs.NetworkText.{read_plan}
 use Rattle.vc_reader.proofs.Read.{parts, ok_is, then_ok, field_ok, field_keeps, list_field_keeps, switch_parts}
 
 pub both_true : (a b : Bool) → a ≡ true → b ≡ true → (a && b) ≡ true
@@ -48,10 +48,10 @@ lacks ws k (member l d ms) none only = go (is_word ws l) (slice_cmp nat_cmp k l)
     go true Equal is at e rest = absurd (let c : true ≡ false = sym is ∙ ap (is_word ws) (sym (same_key k l at)) ∙ none in cc)
     go true Greater is at e rest = rest e
 
-pub lacks_field : (ws : List Word) (w : Word) (d : Data) → is_word ws (word_text w) ≡ false → object_of ws d ≡ Ok tt → get (word_text w) d ≡ None
+pub lacks_field : (ws : List Word) (w : Word) (d : Data) → is_word ws (word_text w) ≡ false → read_object ws d ≡ Ok tt → get (word_text w) d ≡ None
 lacks_field ws w (object ms) none e = go (has_only ws ms) refl e
   where
-    go : (b : Bool) → has_only ws ms ≡ b → object_of ws (object ms) ≡ Ok tt → get_member (word_text w) ms ≡ None
+    go : (b : Bool) → has_only ws ms ≡ b → read_object ws (object ms) ≡ Ok tt → get_member (word_text w) ms ≡ None
     go true is e = lacks ws (word_text w) ms none is
     go false is e = absurd (let c = ap (λ b. if b then Ok tt else wrong Unknown) (sym is) ∙ e in cc)
 lacks_field ws w null none e = refl
@@ -67,27 +67,27 @@ out lower limit first last = record { lower = lower; limit = limit; action = Out
 out_is_no_portal : (d : Data) (x : Row) → out_row d ≡ Ok x → not (is_portal x.action) ≡ true
 out_is_no_portal d x e =
     let r = then_ok (row 4 d) _ x e in
-    let a = then_ok (cell 0 header_of d) _ x r.2 in
-    let b = then_ok (cell 1 limit_of d) _ x a.2 in
-    let f = then_ok (cell 2 link_of d) _ x b.2 in
-    let l = then_ok (cell 3 link_of d) _ x f.2 in
+    let a = then_ok (cell 0 read_header d) _ x r.2 in
+    let b = then_ok (cell 1 read_limit d) _ x a.2 in
+    let f = then_ok (cell 2 read_link d) _ x b.2 in
+    let l = then_ok (cell 3 read_link d) _ x f.2 in
     ap (λ (y : Row). not (is_portal y.action)) (sym (ok_is (out a.0 b.0 f.0 l.0) x l.2))
 
-in_version_one : (heads : List Head) (before : List SwitchPlan) (d : Data) (x : SwitchPlan) → switch_of 1 heads before d ≡ Ok x → switch_in_version_one x ≡ true
+in_version_one : (heads : List Head) (before : List SwitchPlan) (d : Data) (x : SwitchPlan) → read_switch 1 heads before d ≡ Ok x → switch_in_version_one x ≡ true
 in_version_one heads before d x e =
     let q = switch_parts 1 heads before d x e in
     let rows = field_keeps (λ rs. list_all (λ (r : Row). not (is_portal r.action)) rs ≡ true) (λ _. table_row 1)
     (λ front c r h t. all_more (λ (s : Row). not (is_portal s.action)) front r h (out_is_no_portal c r t)) word.Table d x.rows refl q.has_rows in
     let gone = lacks_field (switch_words 1) word.Random d refl q.no_others in
-    let empty : [] ≡ x.random = ok_is [] x.random (sym (ap (λ o. under (Field word.Random) (absent_or_list (λ _. random_of) o)) gone) ∙ q.draws) in
+    let empty : [] ≡ x.random = ok_is [] x.random (sym (ap (λ o. under (Field word.Random) (absent_or_list (λ _. read_random) o)) gone) ∙ q.draws) in
     both_true (is_empty x.random) (list_all (λ (r : Row). not (is_portal r.action)) x.rows) (ap (λ (rs : List RandomInput). is_empty rs) (sym empty)) rows
 
-pub version_one : (d : Data) (p : Plan) → get (word_text word.Version) d ≡ Some (number (unsigned 1)) → plan_of d ≡ Ok p → list_all switch_in_version_one p.switches ≡ true
+pub version_one : (d : Data) (p : Plan) → get (word_text word.Version) d ≡ Some (number (unsigned 1)) → read_plan d ≡ Ok p → list_all switch_in_version_one p.switches ≡ true
 version_one d p is e =
     let q = parts d p e in
-    let v = field_ok word.Version (number_of 1 2) d q.version q.is_version in
+    let v = field_ok word.Version (read_number 1 2) d q.version q.is_version in
     let at : number (unsigned 1) ≡ v.0 = let s : Some (number (unsigned 1)) ≡ Some v.0 = sym is ∙ v.1 in cc in
-    let one : 1 ≡ q.version = ok_is 1 q.version (ap (number_of 1 2) at ∙ v.2) in
-    list_field_keeps (λ xs. list_all switch_in_version_one xs ≡ true) (switch_of 1 q.heads)
+    let one : 1 ≡ q.version = ok_is 1 q.version (ap (read_number 1 2) at ∙ v.2) in
+    list_field_keeps (λ xs. list_all switch_in_version_one xs ≡ true) (read_switch 1 q.heads)
     (λ before c x h r. all_more switch_in_version_one before x h (in_version_one q.heads before c x r)) word.Switches d p.switches refl
-    (subst (λ n. list_field word.Switches (switch_of n q.heads) d ≡ Ok p.switches) (sym one) q.are_switches)
+    (subst (λ n. list_field word.Switches (read_switch n q.heads) d ≡ Ok p.switches) (sym one) q.are_switches)

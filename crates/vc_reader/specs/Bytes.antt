@@ -12,15 +12,15 @@ use Rattle.vc_reader.specs.declared.path.Step.TheVariants.{Field}
 use Rattle.vc_reader.specs.declared.word.Word.TheVariants as word
 use Rattle.vc_reader.specs.declared.fault.Why.TheVariants as why
 use Rattle.vc_reader.specs.declared.fault.Fault.{Fault}
-use Rattle.vc_reader.specs.Reading.{◌>>=◌, wrong, under, cell, row, text_of, number_of, only, by_only}
+use Rattle.vc_reader.specs.Reading.{◌>>=◌, wrong, under, cell, row, read_text, read_number, only, by_only}
 use Rattle.vc_reader.specs.Names.{one_of}
 
 -- a variable of that kind, by its number
 abbrev pub of_kind : ValueKind → ℕ × Variable → Result ℕ Fault
 of_kind kind found = if same_kind kind (found.1).kind then Ok (min found.0 255) else wrong why.Kind
 
-abbrev pub variable_of : ValueKind → List Variable → Data → Result ℕ Fault
-variable_of kind vars d = one_of (λ v. v.name) vars d >>= of_kind kind
+abbrev pub read_variable : ValueKind → List Variable → Data → Result ℕ Fault
+read_variable kind vars d = one_of (λ v. v.name) vars d >>= of_kind kind
 
 -- a message has at most 65,535 bytes
 abbrev pub no_longer : List ℕ → Result (List ℕ) Fault
@@ -50,28 +50,28 @@ hex_bytes (a ∷ b ∷ rest) = do
   others ← hex_bytes rest
   Ok ((16 * high + low) ∷ others)
 
-abbrev pub hex_of : Data → Result BytesExpr Fault
-hex_of d = text_of d >>= hex_bytes >>= no_longer >>= λ bytes. Ok (Lit bytes)
+abbrev pub read_hex : Data → Result BytesExpr Fault
+read_hex d = read_text d >>= hex_bytes >>= no_longer >>= λ bytes. Ok (Lit bytes)
 
-abbrev pub literal_of : Data → Result BytesExpr Fault
-literal_of d = text_of d >>= no_longer >>= λ bytes. Ok (Lit bytes)
+abbrev pub read_literal : Data → Result BytesExpr Fault
+read_literal d = read_text d >>= no_longer >>= λ bytes. Ok (Lit bytes)
 
-abbrev pub fill_of : Data → Result BytesExpr Fault
-fill_of d = do
+abbrev pub read_fill : Data → Result BytesExpr Fault
+read_fill d = do
   _ ← row 2 d
-  byte ← cell 0 (number_of 0 255) d
-  count ← cell 1 (number_of 0 65535) d
+  byte ← cell 0 (read_number 0 255) d
+  count ← cell 1 (read_number 0 65535) d
   Ok (Fill byte count)
 
 -- bytes in one of their forms
 abbrev pub formed_bytes : List ℕ → Data → Result BytesExpr Fault
 formed_bytes form d =
-    if bytes_eq form (codes "hex") then under (Field word.Hex) (hex_of d) else
-    (if bytes_eq form (codes "text") then under (Field word.Text) (literal_of d) else
-    (if bytes_eq form (codes "fill") then under (Field word.Fill) (fill_of d) else
+    if bytes_eq form (codes "hex") then under (Field word.Hex) (read_hex d) else
+    (if bytes_eq form (codes "text") then under (Field word.Text) (read_literal d) else
+    (if bytes_eq form (codes "fill") then under (Field word.Fill) (read_fill d) else
     wrong why.Unknown))
 
 -- a text is a variable, and an object of one field is bytes in that form
-abbrev pub bytes_of : List Variable → Data → Result BytesExpr Fault
-bytes_of vars (string s) = variable_of Bytes vars (string s) >>= λ n. Ok (Var n)
-bytes_of vars d = by_only formed_bytes (only d)
+abbrev pub read_bytes : List Variable → Data → Result BytesExpr Fault
+read_bytes vars (string s) = read_variable Bytes vars (string s) >>= λ n. Ok (Var n)
+read_bytes vars d = by_only formed_bytes (only d)

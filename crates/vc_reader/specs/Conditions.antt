@@ -11,12 +11,12 @@ use Rattle.vc_reader.specs.declared.condition.CondWord.{CondWord}
 use Rattle.vc_reader.specs.declared.condition.CondWord.TheVariants as word
 use Rattle.vc_reader.specs.declared.fault.Why.TheVariants as why
 use Rattle.vc_reader.specs.declared.fault.Fault.{Fault}
-use Rattle.vc_reader.specs.Reading.{◌>>=◌, wrong, cell, row, text_of}
+use Rattle.vc_reader.specs.Reading.{◌>>=◌, wrong, cell, row, read_text}
 use Rattle.vc_reader.specs.Expressions.{head, whole_expr}
 
 -- the word at the head of a list, which says what the list is
 abbrev pub cond_word : Data → Result CondWord Fault
-cond_word d = text_of d >>= λ s.
+cond_word d = read_text d >>= λ s.
     if bytes_eq s (codes "=") then Ok (word.Compare Eq) else
     (if bytes_eq s (codes "<>") then Ok (word.Compare Ne) else
     (if bytes_eq s (codes "<") then Ok (word.Compare Lt) else
@@ -32,48 +32,48 @@ abbrev pub plain_cond : Data → Result Cond Fault
 plain_cond (boolean b) = Ok (Always b)
 plain_cond d = wrong why.Kind
 
-abbrev pub comparison_of : List Variable → Rel → Data → Result Cond Fault
-comparison_of vars rel d = do
+abbrev pub read_comparison : List Variable → Rel → Data → Result Cond Fault
+read_comparison vars rel d = do
   _ ← row 3 d
   left ← cell 1 (whole_expr vars) d
   right ← cell 2 (whole_expr vars) d
   Ok (Cmp rel left right)
 
-abbrev pub both_of : (Data → Result Cond Fault) → Data → Result Cond Fault
-both_of part d = do
+abbrev pub read_both : (Data → Result Cond Fault) → Data → Result Cond Fault
+read_both part d = do
   _ ← row 3 d
   left ← cell 1 part d
   right ← cell 2 part d
   Ok (And left right)
 
-abbrev pub either_of : (Data → Result Cond Fault) → Data → Result Cond Fault
-either_of part d = do
+abbrev pub read_either : (Data → Result Cond Fault) → Data → Result Cond Fault
+read_either part d = do
   _ ← row 3 d
   left ← cell 1 part d
   right ← cell 2 part d
   Ok (Or left right)
 
-abbrev pub not_of : (Data → Result Cond Fault) → Data → Result Cond Fault
-not_of part d = do
+abbrev pub read_not : (Data → Result Cond Fault) → Data → Result Cond Fault
+read_not part d = do
   _ ← row 2 d
   cond ← cell 1 part d
   Ok (Not cond)
 
 abbrev pub worded_cond : (Data → Result Cond Fault) → List Variable → CondWord → Data → Result Cond Fault
-worded_cond part vars (word.Compare rel) d = comparison_of vars rel d
-worded_cond part vars word.Both d = both_of part d
-worded_cond part vars word.Either d = either_of part d
-worded_cond part vars word.Neither d = not_of part d
+worded_cond part vars (word.Compare rel) d = read_comparison vars rel d
+worded_cond part vars word.Both d = read_both part d
+worded_cond part vars word.Either d = read_either part d
+worded_cond part vars word.Neither d = read_not part d
 
 abbrev pub cond_step : (Data → Result Cond Fault) → List Variable → Data → Result Cond Fault
 cond_step part vars (array ds) = head cond_word (array ds) >>= λ w. worded_cond part vars w (array ds)
 cond_step part vars d = plain_cond d
 
 -- a condition that nests no deeper than so many parts in one another
-abbrev pub cond_of : ℕ → List Variable → Data → Result Cond Fault
-cond_of zero vars d = plain_cond d
-cond_of (suc depth) vars d = cond_step (cond_of depth vars) vars d
+abbrev pub read_cond : ℕ → List Variable → Data → Result Cond Fault
+read_cond zero vars d = plain_cond d
+read_cond (suc depth) vars d = cond_step (read_cond depth vars) vars d
 
 -- JSON nests no deeper than 127
 abbrev pub whole_cond : List Variable → Data → Result Cond Fault
-whole_cond vars d = cond_of 127 vars d
+whole_cond vars d = read_cond 127 vars d

@@ -12,24 +12,24 @@ use Rattle.vc_reader.specs.declared.expression.ExprWord.{ExprWord}
 use Rattle.vc_reader.specs.declared.expression.ExprWord.TheVariants.{SizeOf, Operator}
 use Rattle.vc_reader.specs.declared.fault.Why.TheVariants as why
 use Rattle.vc_reader.specs.declared.fault.Fault.{Fault}
-use Rattle.vc_reader.specs.Reading.{◌>>=◌, wrong, cell, row, items_in, text_of}
-use Rattle.vc_reader.specs.Bytes.{variable_of}
+use Rattle.vc_reader.specs.Reading.{◌>>=◌, wrong, cell, row, items_in, read_text}
+use Rattle.vc_reader.specs.Bytes.{read_variable}
 
 -- a whole number of 64 bits with sign
-abbrev pub int_of : Data → Result ℤ Fault
-int_of (number (unsigned n)) = if nat_lt n (2 ^ 63) then Ok (pos n) else wrong why.Range
-int_of (number (negative z)) = Ok z
-int_of _ = wrong why.Kind
+abbrev pub read_int : Data → Result ℤ Fault
+read_int (number (unsigned n)) = if nat_lt n (2 ^ 63) then Ok (pos n) else wrong why.Range
+read_int (number (negative z)) = Ok z
+read_int _ = wrong why.Kind
 
 -- a literal or a variable
-abbrev pub leaf_of : List Variable → Data → Result Expr Fault
-leaf_of vars (number n) = int_of (number n) >>= λ z. Ok (Num z)
-leaf_of vars (string s) = variable_of Int vars (string s) >>= λ n. Ok (Var n)
-leaf_of vars d = wrong why.Kind
+abbrev pub read_leaf : List Variable → Data → Result Expr Fault
+read_leaf vars (number n) = read_int (number n) >>= λ z. Ok (Num z)
+read_leaf vars (string s) = read_variable Int vars (string s) >>= λ n. Ok (Var n)
+read_leaf vars d = wrong why.Kind
 
 -- the word at the head of a list, which says what the list is
 abbrev pub expr_word : Data → Result ExprWord Fault
-expr_word d = text_of d >>= λ s.
+expr_word d = read_text d >>= λ s.
     if bytes_eq s (codes "size") then Ok SizeOf else
     (if bytes_eq s (codes "+") then Ok (Operator Add) else
     (if bytes_eq s (codes "-") then Ok (Operator Sub) else
@@ -41,32 +41,32 @@ expr_word d = text_of d >>= λ s.
 abbrev pub head : {A : Type 0} → (Data → Result A Fault) → Data → Result A Fault
 head read d = if items_in d == 0 then wrong why.Kind else cell 0 read d
 
-abbrev pub size_of : List Variable → Data → Result Expr Fault
-size_of vars d = do
+abbrev pub read_size : List Variable → Data → Result Expr Fault
+read_size vars d = do
   _ ← row 2 d
-  var ← cell 1 (variable_of Bytes vars) d
+  var ← cell 1 (read_variable Bytes vars) d
   Ok (Size var)
 
-abbrev pub operation_of : (Data → Result Expr Fault) → Op → Data → Result Expr Fault
-operation_of part op d = do
+abbrev pub read_operation : (Data → Result Expr Fault) → Op → Data → Result Expr Fault
+read_operation part op d = do
   _ ← row 3 d
   left ← cell 1 part d
   right ← cell 2 part d
   Ok (Bin op left right)
 
 abbrev pub worded_expr : (Data → Result Expr Fault) → List Variable → ExprWord → Data → Result Expr Fault
-worded_expr part vars SizeOf d = size_of vars d
-worded_expr part vars (Operator op) d = operation_of part op d
+worded_expr part vars SizeOf d = read_size vars d
+worded_expr part vars (Operator op) d = read_operation part op d
 
 abbrev pub expr_step : (Data → Result Expr Fault) → List Variable → Data → Result Expr Fault
 expr_step part vars (array ds) = head expr_word (array ds) >>= λ w. worded_expr part vars w (array ds)
-expr_step part vars d = leaf_of vars d
+expr_step part vars d = read_leaf vars d
 
 -- an expression that nests no deeper than so many parts in one another
-abbrev pub expr_of : ℕ → List Variable → Data → Result Expr Fault
-expr_of zero vars d = leaf_of vars d
-expr_of (suc depth) vars d = expr_step (expr_of depth vars) vars d
+abbrev pub read_expr : ℕ → List Variable → Data → Result Expr Fault
+read_expr zero vars d = read_leaf vars d
+read_expr (suc depth) vars d = expr_step (read_expr depth vars) vars d
 
 -- JSON nests no deeper than 127
 abbrev pub whole_expr : List Variable → Data → Result Expr Fault
-whole_expr vars d = expr_of 127 vars d
+whole_expr vars d = read_expr 127 vars d

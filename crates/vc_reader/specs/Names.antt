@@ -10,7 +10,7 @@ use Rattle.serde_json.specs.Data.{Data}
 use Rattle.vc_plan.specs.Limits.{is_name}
 use Rattle.vc_reader.specs.declared.fault.Why.TheVariants.{Kind, Unknown}
 use Rattle.vc_reader.specs.declared.fault.Fault.{Fault}
-use Rattle.vc_reader.specs.Reading.{◌>>=◌, wrong, text_of}
+use Rattle.vc_reader.specs.Reading.{◌>>=◌, wrong, read_text}
 
 -- the number of the first that has the name
 abbrev pub position_of : {A : Type 0} → (A → List ℕ) → List A → List ℕ → Option ℕ
@@ -32,7 +32,7 @@ abbrev pub own_name : Bool → List ℕ → Result (List ℕ) Fault
 own_name is_taken s = if is_name s && not is_taken then Ok s else wrong Kind
 
 abbrev pub new_name : (List ℕ → Bool) → Data → Result (List ℕ) Fault
-new_name is_taken d = text_of d >>= λ s. own_name (is_taken s) s
+new_name is_taken d = read_text d >>= λ s. own_name (is_taken s) s
 
 -- a text that refers to a name
 abbrev pub known_or_not : {X : Type 0} → Option X → Result X Fault
@@ -40,7 +40,7 @@ known_or_not None = wrong Unknown
 known_or_not (Some x) = Ok x
 
 abbrev pub one_of : {A : Type 0} → (A → List ℕ) → List A → Data → Result (ℕ × A) Fault
-one_of name_of known d = text_of d >>= λ s. known_or_not (found_of name_of known s)
+one_of name_of known d = read_text d >>= λ s. known_or_not (found_of name_of known s)
 
 -- the number that an index holds at a name
 abbrev pub number_at : {Y : Type 0} → BTreeMap (Vec ℕ Y) ℕ → List ℕ → Option ℕ

@@ -19,8 +19,8 @@ use Rattle.vc_reader.specs.declared.fault.Fault.{Fault}
 use Rattle.vc_reader.specs.declared.node.Head.{Head}
 use Rattle.vc_reader.specs.declared.refused.ReadRefused.{ReadRefused}
 use Rattle.vc_reader.specs.declared.refused.ReadRefused.TheVariants.{Json, Missing, Kind, Range, Unknown, Memory}
-use Rattle.vc_reader.specs.Reading.{◌>>=◌, field, list_of, list_field, object_of, number_of}
-use Rattle.vc_reader.specs.Network.{head_of, switch_of, wire_of, vlink_of, channel_of}
+use Rattle.vc_reader.specs.Reading.{◌>>=◌, field, read_list, list_field, read_object, read_number}
+use Rattle.vc_reader.specs.Network.{read_head, read_switch, read_wire, read_vlink, read_channel}
 use Rattle.vc_reader.specs.Processes.{whole_process}
 
 abbrev pub vars_of : Option Head → List Variable
@@ -41,32 +41,32 @@ abbrev pub network_words : List Word
 network_words = word.Version ∷ word.Nodes ∷ word.Switches ∷ word.Wires ∷ word.Vlinks ∷ word.Channels ∷ []
 
 -- the nodes that have these heads, or their first fault
-abbrev pub nodes_of : List Head → List Channel → Data → Result (List NodePlan) Fault
-nodes_of heads channels d = do
-  processes ← field word.Nodes (list_of (node_process heads channels)) d
+abbrev pub read_nodes : List Head → List Channel → Data → Result (List NodePlan) Fault
+read_nodes heads channels d = do
+  processes ← field word.Nodes (read_list (node_process heads channels)) d
   Ok (node_plans heads processes)
 
 -- the plan of these nodes, switches and wires, or its first fault
 abbrev pub plan_with_wires : List Head → List SwitchPlan → List Wire → Data → Result Plan Fault
 plan_with_wires heads switches wires d = do
-  vlinks ← list_field word.Vlinks (vlink_of heads) d
-  channels ← list_field word.Channels (channel_of heads vlinks) d
-  nodes ← nodes_of heads channels d
+  vlinks ← list_field word.Vlinks (read_vlink heads) d
+  channels ← list_field word.Channels (read_channel heads vlinks) d
+  nodes ← read_nodes heads channels d
   Ok (record { version = 2; nodes = nodes; switches = switches; wires = wires; vlinks = vlinks; channels = channels })
 
 -- the plan of these nodes, in a file of this version
 abbrev pub plan_with_nodes : ℕ → List Head → Data → Result Plan Fault
 plan_with_nodes version heads d = do
-  switches ← list_field word.Switches (switch_of version heads) d
-  wires ← list_field word.Wires (λ _. wire_of heads switches) d
+  switches ← list_field word.Switches (read_switch version heads) d
+  wires ← list_field word.Wires (λ _. read_wire heads switches) d
   plan_with_wires heads switches wires d
 
 -- the plan that a value means, or its first fault; a file of version 1 is a network of version 2 without portals and random inputs
-abbrev pub plan_of : Data → Result Plan Fault
-plan_of d = do
-  _ ← object_of network_words d
-  version ← field word.Version (number_of 1 2) d
-  heads ← field word.Nodes (list_of head_of) d
+abbrev pub read_plan : Data → Result Plan Fault
+read_plan d = do
+  _ ← read_object network_words d
+  version ← field word.Version (read_number 1 2) d
+  heads ← field word.Nodes (read_list read_head) d
   plan_with_nodes version heads d
 
 abbrev pub refusal : Why → List Step → ReadRefused
@@ -77,7 +77,7 @@ refusal why.Unknown path = Unknown path
 
 -- the text is UTF-8, and a value that means this
 abbrev pub TextMeans : List ℕ → Result Plan Fault → Type 0
-TextMeans text answer = (d : Data) × IsUtf8 text × (read text ≡ Some d) × (plan_of d ≡ answer)
+TextMeans text answer = (d : Data) × IsUtf8 text × (read text ≡ Some d) × (read_plan d ≡ answer)
 
 -- what reading answers for a text: its plan, or its first fault; that it is no JSON; or that there was no memory
 abbrev pub Reads : List ℕ → Result Plan ReadRefused → Type 0

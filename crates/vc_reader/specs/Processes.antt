@@ -20,9 +20,9 @@ use Rattle.vc_reader.specs.declared.word.Word.{Word}
 use Rattle.vc_reader.specs.declared.word.Word.TheVariants as word
 use Rattle.vc_reader.specs.declared.fault.Why.TheVariants as why
 use Rattle.vc_reader.specs.declared.fault.Fault.{Fault}
-use Rattle.vc_reader.specs.Reading.{◌>>=◌, beside, wrong, under, cell, list_of, row, text_of, only, by_only}
+use Rattle.vc_reader.specs.Reading.{◌>>=◌, beside, wrong, under, cell, read_list, row, read_text, only, by_only}
 use Rattle.vc_reader.specs.Names.{one_of}
-use Rattle.vc_reader.specs.Bytes.{variable_of, bytes_of}
+use Rattle.vc_reader.specs.Bytes.{read_variable, read_bytes}
 use Rattle.vc_reader.specs.Expressions.{whole_expr}
 use Rattle.vc_reader.specs.Conditions.{whole_cond}
 
@@ -34,38 +34,38 @@ abbrev pub variable_named : List Variable → Data → Result (ℕ × ValueKind)
 variable_named vars d = one_of (λ v. v.name) vars d >>= λ found. Ok (min found.0 255, (found.1).kind)
 
 -- what a variable or a channel of that kind takes
-abbrev pub value_of : ValueKind → List Variable → Data → Result Value Fault
-value_of kind.Int vars d = whole_expr vars d >>= λ e. Ok (Int e)
-value_of kind.Bytes vars d = bytes_of vars d >>= λ b. Ok (Bytes b)
+abbrev pub read_value : ValueKind → List Variable → Data → Result Value Fault
+read_value kind.Int vars d = whole_expr vars d >>= λ e. Ok (Int e)
+read_value kind.Bytes vars d = read_bytes vars d >>= λ b. Ok (Bytes b)
 
 -- ---- processes without parts
 
-abbrev pub set_of : List Variable → Data → Result Process Fault
-set_of vars d = do
+abbrev pub read_set : List Variable → Data → Result Process Fault
+read_set vars d = do
   _ ← row 2 d
   var ← cell 0 (variable_named vars) d
-  value ← cell 1 (value_of var.1 vars) d
+  value ← cell 1 (read_value var.1 vars) d
   Ok (Set var.0 value)
 
-abbrev pub send_of : List Variable → List Channel → Data → Result Process Fault
-send_of vars channels d = do
+abbrev pub read_send : List Variable → List Channel → Data → Result Process Fault
+read_send vars channels d = do
   _ ← row 2 d
   chan ← cell 0 (channel_named channels) d
-  value ← cell 1 (value_of chan.1 vars) d
+  value ← cell 1 (read_value chan.1 vars) d
   Ok (Send chan.0 value)
 
-abbrev pub receive_of : List Variable → List Channel → Data → Result Process Fault
-receive_of vars channels d = do
+abbrev pub read_receive : List Variable → List Channel → Data → Result Process Fault
+read_receive vars channels d = do
   _ ← row 2 d
   chan ← cell 0 (channel_named channels) d
-  var ← cell 1 (variable_of chan.1 vars) d
+  var ← cell 1 (read_variable chan.1 vars) d
   Ok (Receive chan.0 var)
 
-abbrev pub stopch_of : List Channel → Data → Result Process Fault
-stopch_of channels d = channel_named channels d >>= λ chan. Ok (Stopch chan.0)
+abbrev pub read_stopch : List Channel → Data → Result Process Fault
+read_stopch channels d = channel_named channels d >>= λ chan. Ok (Stopch chan.0)
 
-abbrev pub plain_of : List ℕ → Result Process Fault
-plain_of s = if bytes_eq s (codes "skip") then Ok Skip else (if bytes_eq s (codes "stop") then Ok Stop else wrong why.Kind)
+abbrev pub read_plain : List ℕ → Result Process Fault
+read_plain s = if bytes_eq s (codes "skip") then Ok Skip else (if bytes_eq s (codes "stop") then Ok Stop else wrong why.Kind)
 
 -- ---- processes with parts, by the reader of a part
 
@@ -74,46 +74,46 @@ abbrev pub cond_first : ℕ → List Variable → Data → Result Cond Fault
 cond_first wanted vars d = row wanted d >>= λ _. cell 0 (whole_cond vars) d
 
 -- the channel of a guard's input, and the variable that takes what comes
-abbrev pub input_of : List Variable → List Channel → Data → Result (ℕ × ℕ) Fault
-input_of vars channels d = do
+abbrev pub read_input : List Variable → List Channel → Data → Result (ℕ × ℕ) Fault
+read_input vars channels d = do
   chan ← cell 1 (channel_named channels) d
-  var ← cell 2 (variable_of chan.1 vars) d
+  var ← cell 2 (read_variable chan.1 vars) d
   Ok (chan.0, var)
 
 -- what a guard has before its body
 abbrev pub guard_head : List Variable → List Channel → Data → Result (Cond × (ℕ × ℕ)) Fault
-guard_head vars channels d = cond_first 4 vars d >>= λ cond. beside cond (input_of vars channels d)
+guard_head vars channels d = cond_first 4 vars d >>= λ cond. beside cond (read_input vars channels d)
 
 -- a branch: a condition and a process
-abbrev pub branch_of : (Data → Result Process Fault) → List Variable → Data → Result Branch Fault
-branch_of part vars d = do
+abbrev pub read_branch : (Data → Result Process Fault) → List Variable → Data → Result Branch Fault
+read_branch part vars d = do
   _ ← row 2 d
   cond ← cell 0 (whole_cond vars) d
   body ← cell 1 part d
   Ok (record { cond = cond; body = body })
 
-abbrev pub while_of : (Data → Result Process Fault) → List Variable → Data → Result Process Fault
-while_of part vars d = do
+abbrev pub read_while : (Data → Result Process Fault) → List Variable → Data → Result Process Fault
+read_while part vars d = do
   _ ← row 2 d
   cond ← cell 0 (whole_cond vars) d
   body ← cell 1 part d
   Ok (While cond body)
 
-abbrev pub count_of : (Data → Result Process Fault) → List Variable → Data → Result Process Fault
-count_of part vars d = do
+abbrev pub read_count : (Data → Result Process Fault) → List Variable → Data → Result Process Fault
+read_count part vars d = do
   _ ← row 4 d
-  var ← cell 0 (variable_of kind.Int vars) d
+  var ← cell 0 (read_variable kind.Int vars) d
   base ← cell 1 (whole_expr vars) d
   count ← cell 2 (whole_expr vars) d
   body ← cell 3 part d
   Ok (Count var base count body)
 
-abbrev pub guard_of : (Data → Result Process Fault) → List Variable → List Channel → Data → Result Guard Fault
-guard_of part vars channels d = do
+abbrev pub read_guard : (Data → Result Process Fault) → List Variable → List Channel → Data → Result Guard Fault
+read_guard part vars channels d = do
   _ ← row 4 d
   cond ← cell 0 (whole_cond vars) d
   chan ← cell 1 (channel_named channels) d
-  var ← cell 2 (variable_of chan.1 vars) d
+  var ← cell 2 (read_variable chan.1 vars) d
   body ← cell 3 part d
   Ok (record { cond = cond; chan = chan.0; var = var; body = body })
 
@@ -146,30 +146,30 @@ field_word head.Alt = word.Alt
 
 -- a process of that word
 abbrev pub worded_process : (Data → Result Process Fault) → List Variable → List Channel → ProcessWord → Data → Result Process Fault
-worded_process part vars channels head.Set d = set_of vars d
-worded_process part vars channels head.Send d = send_of vars channels d
-worded_process part vars channels head.Receive d = receive_of vars channels d
-worded_process part vars channels head.Stopch d = stopch_of channels d
-worded_process part vars channels head.Seq d = list_of (λ _. part) d >>= λ parts. Ok (Seq parts)
-worded_process part vars channels head.Par d = list_of (λ _. part) d >>= λ parts. Ok (Par parts)
-worded_process part vars channels head.If d = list_of (λ _. branch_of part vars) d >>= λ branches. Ok (If branches)
-worded_process part vars channels head.While d = while_of part vars d
-worded_process part vars channels head.Count d = count_of part vars d
-worded_process part vars channels head.Alt d = list_of (λ _. guard_of part vars channels) d >>= λ guards. Ok (Alt guards)
+worded_process part vars channels head.Set d = read_set vars d
+worded_process part vars channels head.Send d = read_send vars channels d
+worded_process part vars channels head.Receive d = read_receive vars channels d
+worded_process part vars channels head.Stopch d = read_stopch channels d
+worded_process part vars channels head.Seq d = read_list (λ _. part) d >>= λ parts. Ok (Seq parts)
+worded_process part vars channels head.Par d = read_list (λ _. part) d >>= λ parts. Ok (Par parts)
+worded_process part vars channels head.If d = read_list (λ _. read_branch part vars) d >>= λ branches. Ok (If branches)
+worded_process part vars channels head.While d = read_while part vars d
+worded_process part vars channels head.Count d = read_count part vars d
+worded_process part vars channels head.Alt d = read_list (λ _. read_guard part vars channels) d >>= λ guards. Ok (Alt guards)
 
 abbrev pub named_process : (Data → Result Process Fault) → List Variable → List Channel → List ℕ → Data → Result Process Fault
 named_process part vars channels s d = process_word s >>= λ w. under (Field (field_word w)) (worded_process part vars channels w d)
 
 -- a text is a process without parts, and an object of one field a process of that word
 abbrev pub process_step : (Data → Result Process Fault) → List Variable → List Channel → Data → Result Process Fault
-process_step part vars channels (string s) = plain_of s
+process_step part vars channels (string s) = read_plain s
 process_step part vars channels d = by_only (named_process part vars channels) (only d)
 
 -- a process that nests no deeper than so many parts in one another
-abbrev pub process_of : ℕ → List Variable → List Channel → Data → Result Process Fault
-process_of zero vars channels d = text_of d >>= plain_of
-process_of (suc depth) vars channels d = process_step (process_of depth vars channels) vars channels d
+abbrev pub read_process : ℕ → List Variable → List Channel → Data → Result Process Fault
+read_process zero vars channels d = read_text d >>= read_plain
+read_process (suc depth) vars channels d = process_step (read_process depth vars channels) vars channels d
 
 -- JSON nests no deeper than 127
 abbrev pub whole_process : List Variable → List Channel → Data → Result Process Fault
-whole_process vars channels d = process_of 127 vars channels d
+whole_process vars channels d = read_process 127 vars channels d

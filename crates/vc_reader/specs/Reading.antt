@@ -53,16 +53,16 @@ field w read d = under (Field w) (present read (get (word_text w) d))
 abbrev pub cell : {A : Type 0} → ℕ → (Data → Result A Fault) → Data → Result A Fault
 cell n read d = under (Index n) (present read (at n d))
 
-abbrev pub text_of : Data → Result (List ℕ) Fault
-text_of (string s) = Ok s
-text_of _ = wrong Kind
+abbrev pub read_text : Data → Result (List ℕ) Fault
+read_text (string s) = Ok s
+read_text _ = wrong Kind
 
 -- a whole number from least to most
-abbrev pub number_of : ℕ → ℕ → Data → Result ℕ Fault
-number_of least most (number (unsigned n)) = if nat_le least n && nat_le n most then Ok n else wrong Range
-number_of least most (number (negative z)) = wrong Range
-number_of least most (number (float x)) = wrong Kind
-number_of least most _ = wrong Kind
+abbrev pub read_number : ℕ → ℕ → Data → Result ℕ Fault
+read_number least most (number (unsigned n)) = if nat_le least n && nat_le n most then Ok n else wrong Range
+read_number least most (number (negative z)) = wrong Range
+read_number least most (number (float x)) = wrong Kind
+read_number least most _ = wrong Kind
 
 -- each item of a list, which may be judged by those read before it
 abbrev pub each : {A : Type 0} → (List A → Data → Result A Fault) → List A → Items → Result (List A) Fault
@@ -73,15 +73,19 @@ each read before (item d ds) = under (Index (length before)) (read before d) >>=
 abbrev pub joins : {A : Type 0} → List A → Result A Fault → Result (List A) Fault
 joins before read = under (Index (length before)) read >>= λ x. Ok (before ++ x ∷ [])
 
+-- the items of a list
+abbrev pub read_array : Data → Result Items Fault
+read_array (array ds) = Ok ds
+read_array _ = wrong Kind
+
 -- a list, each of whose items is read with those before it
-abbrev pub list_of : {A : Type 0} → (List A → Data → Result A Fault) → Data → Result (List A) Fault
-list_of read (array ds) = each read [] ds
-list_of read _ = wrong Kind
+abbrev pub read_list : {A : Type 0} → (List A → Data → Result A Fault) → Data → Result (List A) Fault
+read_list read d = read_array d >>= each read []
 
 -- a list field, which may be absent
 abbrev pub absent_or_list : {A : Type 0} → (List A → Data → Result A Fault) → Option Data → Result (List A) Fault
 absent_or_list read None = Ok []
-absent_or_list read (Some d) = list_of read d
+absent_or_list read (Some d) = read_list read d
 
 abbrev pub list_field : {A : Type 0} → Word → (List A → Data → Result A Fault) → Data → Result (List A) Fault
 list_field w read d = under (Field w) (absent_or_list read (get (word_text w) d))
@@ -108,9 +112,9 @@ abbrev pub has_only : List Word → Members → Bool
 has_only ws no_members = true
 has_only ws (member key d ms) = is_word ws key && has_only ws ms
 
-abbrev pub object_of : List Word → Data → Result ⊤ Fault
-object_of ws (object ms) = if has_only ws ms then Ok tt else wrong Unknown
-object_of ws _ = wrong Kind
+abbrev pub read_object : List Word → Data → Result ⊤ Fault
+read_object ws (object ms) = if has_only ws ms then Ok tt else wrong Unknown
+read_object ws _ = wrong Kind
 
 -- whether an object has a field
 abbrev pub has_field : Word → Data → Bool

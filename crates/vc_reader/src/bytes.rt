@@ -3,7 +3,7 @@ ghost use Rattle.std.specs.Prelude.{ℕ, ◌<◌, IfOk, Result};
 ghost use Rattle.serde_json.specs.View.{view};
 ghost use Rattle.vc_reader.specs.declared.fault.Fault.{Fault as FaultData};
 ghost use Rattle.vc_reader.specs.Reading.{Gives};
-ghost use Rattle.vc_reader.specs.Bytes.{of_kind as number_of_kind, variable_of, no_longer as no_longer_than, hex_digit as hex_digit_of, hex_pair as hex_pair_of, pushed, hex_bytes as hex_bytes_of, hex_of, literal_of, fill_of, formed_bytes as formed, bytes_of};
+ghost use Rattle.vc_reader.specs.Bytes.{of_kind as number_of_kind, read_variable, no_longer as no_longer_than, hex_digit as hex_digit_of, hex_pair as hex_pair_of, pushed, hex_bytes as hex_bytes_of, read_hex, read_literal, read_fill, formed_bytes as formed, read_bytes};
 
 use crate::fault::{Stop, Why};
 use crate::name::one_of;
@@ -38,7 +38,7 @@ pub(crate) struct VariableOf<'a> {
 impl Reader for VariableOf<'_> {
     type Out = u8;
 
-    ghost meaning = { λ r. variable_of r.kind r.vars.now };
+    ghost meaning = { λ r. read_variable r.kind r.vars.now };
 
     fn read(&self, alloc: Global, value: &Value) -> Result<u8, Stop> {
         let (number, var) = one_of(alloc, self.vars, value)?;
@@ -111,7 +111,7 @@ fn hex_bytes(alloc: Global, text: &[u8]) -> Result<Items<u8>, Stop>
 }
 
 fn hex(alloc: Global, value: &Value) -> Result<BytesExpr, Stop>
-    ensures { Gives (λ x. x) result (hex_of (view value.now)) }
+    ensures { Gives (λ x. x) result (read_hex (view value.now)) }
 {
     let text = text(alloc, value)?;
     let bytes = hex_bytes(alloc, text.as_bytes())?;
@@ -120,7 +120,7 @@ fn hex(alloc: Global, value: &Value) -> Result<BytesExpr, Stop>
 }
 
 fn literal(alloc: Global, value: &Value) -> Result<BytesExpr, Stop>
-    ensures { Gives (λ x. x) result (literal_of (view value.now)) }
+    ensures { Gives (λ x. x) result (read_literal (view value.now)) }
 {
     let text = text(alloc, value)?;
     let bytes = Items::from_slice(alloc, text.as_bytes())?;
@@ -129,7 +129,7 @@ fn literal(alloc: Global, value: &Value) -> Result<BytesExpr, Stop>
 }
 
 fn fill(alloc: Global, value: &Value) -> Result<BytesExpr, Stop>
-    ensures { Gives (λ x. x) result (fill_of (view value.now)) }
+    ensures { Gives (λ x. x) result (read_fill (view value.now)) }
 {
     row(alloc, 2, value)?;
     let byte = cell(alloc, 0, &Byte, value)?;
@@ -154,7 +154,7 @@ pub(crate) fn bytes(
     vars: &Register<Variable>,
     value: &Value,
 ) -> Result<BytesExpr, Stop>
-    ensures { Gives (λ x. x) result (bytes_of vars.now (view value.now)) }
+    ensures { Gives (λ x. x) result (read_bytes vars.now (view value.now)) }
 {
     if let Value::String(_) = value {
         let variable = VariableOf {

@@ -1,8 +1,8 @@
 //! Readers of channels.
 ghost use Rattle.std.specs.Prelude.{◌≡◌};
 ghost use Rattle.serde_json.specs.View.{view};
-ghost use Rattle.vc_reader.specs.Reading.{Gives, object_of};
-ghost use Rattle.vc_reader.specs.Network.{way_home as way_home_of, node_home as node_home_of, channel_words, home_of, channel_of};
+ghost use Rattle.vc_reader.specs.Reading.{Gives, read_object};
+ghost use Rattle.vc_reader.specs.Network.{way_home as way_home_of, node_home as node_home_of, channel_words, read_home, read_channel};
 
 use crate::fault::Stop;
 use crate::name::NewName;
@@ -48,7 +48,7 @@ fn home(
     vlinks: &Register<Vlink>,
     value: &Value,
 ) -> Result<Home, Stop>
-    ensures { Gives (λ x. x) result (home_of nodes.now vlinks.now (view value.now)) }
+    ensures { Gives (λ x. x) result (read_home nodes.now vlinks.now (view value.now)) }
 {
     if has_field(Word::Node, value) {
         node_home(alloc, nodes, value)
@@ -59,7 +59,7 @@ fn home(
 
 /// An object that has no fields but those of a channel.
 fn channel_object(alloc: Global, value: &Value) -> Result<(), Stop>
-    ensures { Gives (λ x. x) result (object_of (channel_words (view value.now)) (view value.now)) }
+    ensures { Gives (λ x. x) result (read_object (channel_words (view value.now)) (view value.now)) }
 {
     if has_field(Word::Node, value) {
         object(alloc, &[Word::Name, Word::Kind, Word::Node], value)
@@ -82,7 +82,7 @@ pub(crate) struct ChannelReader<'a> {
 impl NamedReader for ChannelReader<'_> {
     type Out = Channel;
 
-    ghost meaning = { λ r. channel_of r.nodes.now r.vlinks.now };
+    ghost meaning = { λ r. read_channel r.nodes.now r.vlinks.now };
 
     fn read(
         &self,

@@ -2,7 +2,7 @@
 ghost use Rattle.std.specs.Prelude.{◌≡◌};
 ghost use Rattle.serde_json.specs.View.{view};
 ghost use Rattle.vc_reader.specs.Reading.{Gives, cell as cell_of};
-ghost use Rattle.vc_reader.specs.Conditions.{cond_word, plain_cond, comparison_of, both_of, either_of, not_of, worded_cond, cond_step, cond_of, whole_cond};
+ghost use Rattle.vc_reader.specs.Conditions.{cond_word, plain_cond, read_comparison, read_both, read_either, read_not, worded_cond, cond_step, read_cond, whole_cond};
 
 use crate::expression::{WholeExpr, head};
 use crate::fault::{Stop, Why};
@@ -58,120 +58,115 @@ fn plain(alloc: Global, value: &Value) -> Result<Cond, Stop>
     }
 }
 
-fn comparison(
-    alloc: Global,
-    vars: &Register<Variable>,
-    rel: Rel,
-    value: &Value,
-) -> Result<Cond, Stop>
-    ensures { Gives (λ x. x) result (comparison_of vars.now rel (view value.now)) }
-{
-    row(alloc, 3, value)?;
-    let left = cell(alloc, 1, &WholeExpr(vars), value)?;
-    let right = cell(alloc, 2, &WholeExpr(vars), value)?;
-    Ok(Cond::Cmp { rel, left, right })
-}
-
-/// A condition that nests no deeper than so many parts in one another.
-#[cycle(cond)]
-fn cond(alloc: Global, depth: usize, vars: &Register<Variable>, value: &Value) -> Result<Cond, Stop>
-    ensures { Gives (λ x. x) result (cond_of depth vars.now (view value.now)) }
-{
-    if depth == 0 {
-        plain(alloc, value)
-    } else {
-        step(alloc, depth - 1, vars, value)
-    }
-}
-
-/// A condition whose parts nest no deeper.
-#[cycle(cond)]
-fn step(alloc: Global, depth: usize, vars: &Register<Variable>, value: &Value) -> Result<Cond, Stop>
-    ensures { Gives (λ x. x) result (cond_step (cond_of depth vars.now) vars.now (view value.now)) }
-{
-    match value {
-        Value::Array(_) => {
-            let word = head(alloc, &CondWordReader, value)?;
-            worded(alloc, depth, vars, word, value)
-        }
-        _ => plain(alloc, value),
-    }
-}
-
-/// A list of that word.
-#[cycle(cond)]
-fn worded(
-    alloc: Global,
-    depth: usize,
-    vars: &Register<Variable>,
-    word: CondWord,
-    value: &Value,
-) -> Result<Cond, Stop>
-    ensures { Gives (λ x. x) result
-        (worded_cond (cond_of depth vars.now) vars.now word (view value.now)) }
-{
-    match word {
-        CondWord::Compare(rel) => comparison(alloc, vars, rel, value),
-        CondWord::Both => both(alloc, depth, vars, value),
-        CondWord::Either => either(alloc, depth, vars, value),
-        CondWord::Neither => not(alloc, depth, vars, value),
-    }
-}
-
-#[cycle(cond)]
-fn both(alloc: Global, depth: usize, vars: &Register<Variable>, value: &Value) -> Result<Cond, Stop>
-    ensures { Gives (λ x. x) result (both_of (cond_of depth vars.now) (view value.now)) }
-{
-    row(alloc, 3, value)?;
-    let left = part(alloc, depth, vars, 1, value)?;
-    let right = part(alloc, depth, vars, 2, value)?;
-    Ok(Cond::And(left, right))
-}
-
-#[cycle(cond)]
-fn either(
-    alloc: Global,
-    depth: usize,
-    vars: &Register<Variable>,
-    value: &Value,
-) -> Result<Cond, Stop>
-    ensures { Gives (λ x. x) result (either_of (cond_of depth vars.now) (view value.now)) }
-{
-    row(alloc, 3, value)?;
-    let left = part(alloc, depth, vars, 1, value)?;
-    let right = part(alloc, depth, vars, 2, value)?;
-    Ok(Cond::Or(left, right))
-}
-
-#[cycle(cond)]
-fn not(alloc: Global, depth: usize, vars: &Register<Variable>, value: &Value) -> Result<Cond, Stop>
-    ensures { Gives (λ x. x) result (not_of (cond_of depth vars.now) (view value.now)) }
-{
-    row(alloc, 2, value)?;
-    part(alloc, depth, vars, 1, value).map(Cond::Not)
-}
-
-/// A part of a condition.
-#[cycle(cond)]
-fn part(
-    alloc: Global,
-    depth: usize,
-    vars: &Register<Variable>,
-    index: usize,
-    value: &Value,
-) -> Result<Boxed<Cond>, Stop>
-    ensures { Gives (λ x. x) result (cell_of index (cond_of depth vars.now) (view value.now)) }
-{
-    let read = match value.get(index) {
-        Some(item) => cond(alloc, depth, vars, item),
-        None => Err(wrong(alloc, Why::Missing)),
-    };
-    boxed(alloc, under(Step::Index(index), read))
-}
-
 /// A condition over these variables.
 #[derive(Drop)]
 pub(crate) struct WholeCond<'a>(pub &'a Register<Variable>);
+
+impl WholeCond<'_> {
+    fn comparison(&self, alloc: Global, rel: Rel, value: &Value) -> Result<Cond, Stop>
+        ensures { Gives (λ x. x) result (read_comparison self.now.0.now rel (view value.now)) }
+    {
+        row(alloc, 3, value)?;
+        let left = cell(alloc, 1, &WholeExpr(self.0), value)?;
+        let right = cell(alloc, 2, &WholeExpr(self.0), value)?;
+        Ok(Cond::Cmp { rel, left, right })
+    }
+
+    /// A condition that nests no deeper than so many parts in one another.
+    #[cycle(cond)]
+    fn cond(&self, alloc: Global, depth: usize, value: &Value) -> Result<Cond, Stop>
+        ensures { Gives (λ x. x) result (read_cond depth self.now.0.now (view value.now)) }
+    {
+        if depth == 0 {
+            plain(alloc, value)
+        } else {
+            self.step(alloc, depth - 1, value)
+        }
+    }
+
+    /// A condition whose parts nest no deeper.
+    #[cycle(cond)]
+    fn step(&self, alloc: Global, depth: usize, value: &Value) -> Result<Cond, Stop>
+        ensures { Gives (λ x. x) result
+            (cond_step (read_cond depth self.now.0.now) self.now.0.now (view value.now)) }
+    {
+        match value {
+            Value::Array(_) => {
+                let word = head(alloc, &CondWordReader, value)?;
+                self.worded(alloc, depth, word, value)
+            }
+            _ => plain(alloc, value),
+        }
+    }
+
+    /// A list of that word.
+    #[cycle(cond)]
+    fn worded(
+        &self,
+        alloc: Global,
+        depth: usize,
+        word: CondWord,
+        value: &Value,
+    ) -> Result<Cond, Stop>
+        ensures { Gives (λ x. x) result
+            (worded_cond (read_cond depth self.now.0.now) self.now.0.now word (view value.now)) }
+    {
+        match word {
+            CondWord::Compare(rel) => self.comparison(alloc, rel, value),
+            CondWord::Both => self.both(alloc, depth, value),
+            CondWord::Either => self.either(alloc, depth, value),
+            CondWord::Neither => self.not(alloc, depth, value),
+        }
+    }
+
+    #[cycle(cond)]
+    fn both(&self, alloc: Global, depth: usize, value: &Value) -> Result<Cond, Stop>
+        ensures { Gives (λ x. x) result (read_both (read_cond depth self.now.0.now) (view value.now)) }
+    {
+        row(alloc, 3, value)?;
+        let left = self.part(alloc, depth, 1, value)?;
+        let right = self.part(alloc, depth, 2, value)?;
+        Ok(Cond::And(left, right))
+    }
+
+    #[cycle(cond)]
+    fn either(&self, alloc: Global, depth: usize, value: &Value) -> Result<Cond, Stop>
+        ensures { Gives (λ x. x) result
+            (read_either (read_cond depth self.now.0.now) (view value.now)) }
+    {
+        row(alloc, 3, value)?;
+        let left = self.part(alloc, depth, 1, value)?;
+        let right = self.part(alloc, depth, 2, value)?;
+        Ok(Cond::Or(left, right))
+    }
+
+    #[cycle(cond)]
+    fn not(&self, alloc: Global, depth: usize, value: &Value) -> Result<Cond, Stop>
+        ensures { Gives (λ x. x) result (read_not (read_cond depth self.now.0.now) (view value.now)) }
+    {
+        row(alloc, 2, value)?;
+        self.part(alloc, depth, 1, value).map(Cond::Not)
+    }
+
+    /// A part of a condition.
+    #[cycle(cond)]
+    fn part(
+        &self,
+        alloc: Global,
+        depth: usize,
+        index: usize,
+        value: &Value,
+    ) -> Result<Boxed<Cond>, Stop>
+        ensures { Gives (λ x. x) result
+            (cell_of index (read_cond depth self.now.0.now) (view value.now)) }
+    {
+        let read = match value.get(index) {
+            Some(item) => self.cond(alloc, depth, item),
+            None => Err(wrong(alloc, Why::Missing)),
+        };
+        boxed(alloc, under(Step::Index(index), read))
+    }
+}
 
 impl Reader for WholeCond<'_> {
     type Out = Cond;
@@ -179,6 +174,6 @@ impl Reader for WholeCond<'_> {
     ghost meaning = { λ r. whole_cond r.0.now };
 
     fn read(&self, alloc: Global, value: &Value) -> Result<Cond, Stop> {
-        cond(alloc, 127, self.0, value)
+        self.cond(alloc, 127, value)
     }
 }

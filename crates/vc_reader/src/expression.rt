@@ -2,8 +2,8 @@
 ghost use Rattle.std.specs.Prelude.{◌≡◌};
 ghost use Rattle.serde_json.specs.View.{view};
 ghost use Rattle.vc_reader.specs.Reading.{Gives, cell as cell_of};
-ghost use Rattle.vc_reader.specs.Bytes.{variable_of};
-ghost use Rattle.vc_reader.specs.Expressions.{int_of, leaf_of, expr_word, head as head_of, size_of, operation_of, worded_expr, expr_step, expr_of, whole_expr};
+ghost use Rattle.vc_reader.specs.Bytes.{read_variable};
+ghost use Rattle.vc_reader.specs.Expressions.{read_int, read_leaf, expr_word, head as head_of, read_size, read_operation, worded_expr, expr_step, read_expr, whole_expr};
 
 use crate::bytes::VariableOf;
 use crate::fault::{Stop, Why};
@@ -18,7 +18,7 @@ use vc_process::{Expr, Op, ValueKind};
 
 /// A whole number of 64 bits with sign.
 fn int(alloc: Global, value: &Value) -> Result<i64, Stop>
-    ensures { Gives (λ x. x) result (int_of (view value.now)) }
+    ensures { Gives (λ x. x) result (read_int (view value.now)) }
 {
     let Value::Number(number) = value else {
         return Err(wrong(alloc, Why::Kind));
@@ -72,119 +72,119 @@ pub(crate) fn head<R: Reader>(alloc: Global, reader: &R, value: &Value) -> Resul
     }
 }
 
-fn variable(alloc: Global, vars: &Register<Variable>, value: &Value) -> Result<u8, Stop>
-    ensures { Gives (λ x. x) result (variable_of ValueKind.Int vars.now (view value.now)) }
-{
-    let variable = VariableOf {
-        kind: ValueKind::Int,
-        vars,
-    };
-    variable.read(alloc, value)
-}
-
-/// A literal or a variable.
-fn leaf(alloc: Global, vars: &Register<Variable>, value: &Value) -> Result<Expr, Stop>
-    ensures { Gives (λ x. x) result (leaf_of vars.now (view value.now)) }
-{
-    match value {
-        Value::Number(_) => int(alloc, value).map(Expr::Num),
-        Value::String(_) => variable(alloc, vars, value).map(Expr::Var),
-        _ => Err(wrong(alloc, Why::Kind)),
-    }
-}
-
-fn size(alloc: Global, vars: &Register<Variable>, value: &Value) -> Result<Expr, Stop>
-    ensures { Gives (λ x. x) result (size_of vars.now (view value.now)) }
-{
-    let variable = VariableOf {
-        kind: ValueKind::Bytes,
-        vars,
-    };
-    row(alloc, 2, value)?;
-    cell(alloc, 1, &variable, value).map(Expr::Size)
-}
-
-/// An expression that nests no deeper than so many parts in one another.
-#[cycle(expr)]
-fn expr(alloc: Global, depth: usize, vars: &Register<Variable>, value: &Value) -> Result<Expr, Stop>
-    ensures { Gives (λ x. x) result (expr_of depth vars.now (view value.now)) }
-{
-    if depth == 0 {
-        leaf(alloc, vars, value)
-    } else {
-        step(alloc, depth - 1, vars, value)
-    }
-}
-
-/// An expression whose parts nest no deeper.
-#[cycle(expr)]
-fn step(alloc: Global, depth: usize, vars: &Register<Variable>, value: &Value) -> Result<Expr, Stop>
-    ensures { Gives (λ x. x) result (expr_step (expr_of depth vars.now) vars.now (view value.now)) }
-{
-    match value {
-        Value::Array(_) => {
-            let word = head(alloc, &ExprWordReader, value)?;
-            worded(alloc, depth, vars, word, value)
-        }
-        _ => leaf(alloc, vars, value),
-    }
-}
-
-/// A list of that word.
-#[cycle(expr)]
-fn worded(
-    alloc: Global,
-    depth: usize,
-    vars: &Register<Variable>,
-    word: ExprWord,
-    value: &Value,
-) -> Result<Expr, Stop>
-    ensures { Gives (λ x. x) result
-        (worded_expr (expr_of depth vars.now) vars.now word (view value.now)) }
-{
-    match word {
-        ExprWord::SizeOf => size(alloc, vars, value),
-        ExprWord::Operator(op) => operation(alloc, depth, vars, op, value),
-    }
-}
-
-#[cycle(expr)]
-fn operation(
-    alloc: Global,
-    depth: usize,
-    vars: &Register<Variable>,
-    op: Op,
-    value: &Value,
-) -> Result<Expr, Stop>
-    ensures { Gives (λ x. x) result (operation_of (expr_of depth vars.now) op (view value.now)) }
-{
-    row(alloc, 3, value)?;
-    let left = part(alloc, depth, vars, 1, value)?;
-    let right = part(alloc, depth, vars, 2, value)?;
-    Ok(Expr::Bin { op, left, right })
-}
-
-/// An operand.
-#[cycle(expr)]
-fn part(
-    alloc: Global,
-    depth: usize,
-    vars: &Register<Variable>,
-    index: usize,
-    value: &Value,
-) -> Result<Boxed<Expr>, Stop>
-    ensures { Gives (λ x. x) result (cell_of index (expr_of depth vars.now) (view value.now)) }
-{
-    let read = match value.get(index) {
-        Some(item) => expr(alloc, depth, vars, item),
-        None => Err(wrong(alloc, Why::Missing)),
-    };
-    boxed(alloc, under(Step::Index(index), read))
-}
-
 /// An expression over these variables.
 #[derive(Drop)]
 pub(crate) struct WholeExpr<'a>(pub &'a Register<Variable>);
+
+impl WholeExpr<'_> {
+    fn variable(&self, alloc: Global, value: &Value) -> Result<u8, Stop>
+        ensures { Gives (λ x. x) result
+            (read_variable ValueKind.Int self.now.0.now (view value.now)) }
+    {
+        let variable = VariableOf {
+            kind: ValueKind::Int,
+            vars: self.0,
+        };
+        variable.read(alloc, value)
+    }
+
+    /// A literal or a variable.
+    fn leaf(&self, alloc: Global, value: &Value) -> Result<Expr, Stop>
+        ensures { Gives (λ x. x) result (read_leaf self.now.0.now (view value.now)) }
+    {
+        match value {
+            Value::Number(_) => int(alloc, value).map(Expr::Num),
+            Value::String(_) => self.variable(alloc, value).map(Expr::Var),
+            _ => Err(wrong(alloc, Why::Kind)),
+        }
+    }
+
+    fn size(&self, alloc: Global, value: &Value) -> Result<Expr, Stop>
+        ensures { Gives (λ x. x) result (read_size self.now.0.now (view value.now)) }
+    {
+        let variable = VariableOf {
+            kind: ValueKind::Bytes,
+            vars: self.0,
+        };
+        row(alloc, 2, value)?;
+        cell(alloc, 1, &variable, value).map(Expr::Size)
+    }
+
+    /// An expression that nests no deeper than so many parts in one another.
+    #[cycle(expr)]
+    fn expr(&self, alloc: Global, depth: usize, value: &Value) -> Result<Expr, Stop>
+        ensures { Gives (λ x. x) result (read_expr depth self.now.0.now (view value.now)) }
+    {
+        if depth == 0 {
+            self.leaf(alloc, value)
+        } else {
+            self.step(alloc, depth - 1, value)
+        }
+    }
+
+    /// An expression whose parts nest no deeper.
+    #[cycle(expr)]
+    fn step(&self, alloc: Global, depth: usize, value: &Value) -> Result<Expr, Stop>
+        ensures { Gives (λ x. x) result
+            (expr_step (read_expr depth self.now.0.now) self.now.0.now (view value.now)) }
+    {
+        match value {
+            Value::Array(_) => {
+                let word = head(alloc, &ExprWordReader, value)?;
+                self.worded(alloc, depth, word, value)
+            }
+            _ => self.leaf(alloc, value),
+        }
+    }
+
+    /// A list of that word.
+    #[cycle(expr)]
+    fn worded(
+        &self,
+        alloc: Global,
+        depth: usize,
+        word: ExprWord,
+        value: &Value,
+    ) -> Result<Expr, Stop>
+        ensures { Gives (λ x. x) result
+            (worded_expr (read_expr depth self.now.0.now) self.now.0.now word (view value.now)) }
+    {
+        match word {
+            ExprWord::SizeOf => self.size(alloc, value),
+            ExprWord::Operator(op) => self.operation(alloc, depth, op, value),
+        }
+    }
+
+    #[cycle(expr)]
+    fn operation(&self, alloc: Global, depth: usize, op: Op, value: &Value) -> Result<Expr, Stop>
+        ensures { Gives (λ x. x) result
+            (read_operation (read_expr depth self.now.0.now) op (view value.now)) }
+    {
+        row(alloc, 3, value)?;
+        let left = self.part(alloc, depth, 1, value)?;
+        let right = self.part(alloc, depth, 2, value)?;
+        Ok(Expr::Bin { op, left, right })
+    }
+
+    /// An operand.
+    #[cycle(expr)]
+    fn part(
+        &self,
+        alloc: Global,
+        depth: usize,
+        index: usize,
+        value: &Value,
+    ) -> Result<Boxed<Expr>, Stop>
+        ensures { Gives (λ x. x) result
+            (cell_of index (read_expr depth self.now.0.now) (view value.now)) }
+    {
+        let read = match value.get(index) {
+            Some(item) => self.expr(alloc, depth, item),
+            None => Err(wrong(alloc, Why::Missing)),
+        };
+        boxed(alloc, under(Step::Index(index), read))
+    }
+}
 
 impl Reader for WholeExpr<'_> {
     type Out = Expr;
@@ -192,6 +192,6 @@ impl Reader for WholeExpr<'_> {
     ghost meaning = { λ r. whole_expr r.0.now };
 
     fn read(&self, alloc: Global, value: &Value) -> Result<Expr, Stop> {
-        expr(alloc, 127, self.0, value)
+        self.expr(alloc, 127, value)
     }
 }

@@ -10,19 +10,19 @@ ghost use Rattle.vc_reader.specs.Faulty.{LeadsToFault};
 ghost use Rattle.vc_reader.specs.declared.fault.Fault.{Fault as FaultData};
 ghost use Rattle.vc_reader.specs.declared.word.Word.TheVariants.{Version};
 ghost use Rattle.vc_reader.specs.Laws.{HasDistinctNames, refuses_no_file};
-ghost use Rattle.vc_reader.specs.NetworkText.{plan_of};
+ghost use Rattle.vc_reader.specs.NetworkText.{read_plan};
 ghost use Rattle.vc_reader.specs.Words.{word_text};
 
 /// In the plan of a network file no name is given twice: the nodes and switches have names of their own, and so have the virtual links,
 /// the channels, and the variables of each node.
 pub fn names_differ()
-    ensures { (d : Data) (p : Plan) → plan_of d ≡ Ok p → HasDistinctNames p }
+    ensures { (d : Data) (p : Plan) → read_plan d ≡ Ok p → HasDistinctNames p }
 {}
 
 /// A network file of version 1 means a network whose switches have no random input and no portal.
 pub fn version_one_has_no_portals()
     ensures { (d : Data) (p : Plan) →
-        get (word_text Version) d ≡ Some (number (unsigned 1)) → plan_of d ≡ Ok p →
+        get (word_text Version) d ≡ Some (number (unsigned 1)) → read_plan d ≡ Ok p →
         list_all switch_in_version_one p.switches ≡ true }
 {}
 
@@ -30,7 +30,7 @@ pub fn version_one_has_no_portals()
 /// `check` refuses no network file by one of these four.
 pub fn four_limits_refuse_no_file()
     ensures { (d : Data) (p : Plan) (limit : LimitWord) →
-        plan_of d ≡ Ok p → limit_broken p ≡ Some limit → refuses_no_file limit ≡ false }
+        read_plan d ≡ Ok p → limit_broken p ≡ Some limit → refuses_no_file limit ≡ false }
 {}
 
 /// The path of a refusal leads, in the file's value, to what is wrong. Where a field is missing it leads to an object that lacks that
@@ -39,5 +39,5 @@ pub fn four_limits_refuse_no_file()
 /// not have there.
 pub fn faults_are_where_paths_lead()
     ensures { (d : Data) (fault : FaultData) →
-        plan_of d ≡ Err fault → LeadsToFault [] fault.path fault.why d }
+        read_plan d ≡ Err fault → LeadsToFault [] fault.path fault.why d }
 {}

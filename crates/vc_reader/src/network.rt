@@ -3,10 +3,10 @@ ghost use Rattle.std.specs.Prelude.{◌≡◌, ◌⊎◌, Ok, Some, None, IfOk, 
 ghost use Rattle.std.specs.Option.{option_copied};
 ghost use Rattle.serde_json.specs.View.{view};
 ghost use Rattle.serde_json.specs.Read.{read};
-ghost use Rattle.vc_reader.specs.Reading.{Gives, number_of, list_of, field as field_of};
-ghost use Rattle.vc_reader.specs.Network.{head_of};
+ghost use Rattle.vc_reader.specs.Reading.{Gives, read_number, read_list, field as field_of};
+ghost use Rattle.vc_reader.specs.Network.{read_head};
 ghost use Rattle.vc_reader.specs.Processes.{whole_process};
-ghost use Rattle.vc_reader.specs.NetworkText.{vars_of, node_process, node_plans, nodes_of, plan_with_wires, plan_with_nodes, plan_of, Reads};
+ghost use Rattle.vc_reader.specs.NetworkText.{vars_of, node_process, node_plans, read_nodes, plan_with_wires, plan_with_nodes, read_plan, Reads};
 ghost use Rattle.vc_reader.specs.declared.refused.ReadRefused.TheVariants.{Memory as OutOfMemory, Json};
 
 use crate::channel::ChannelReader;
@@ -14,10 +14,11 @@ use crate::fault::{Fault, Stop};
 use crate::node::{Head, HeadReader};
 use crate::process::WholeProcess;
 use crate::reader::{
-    ItemReader, Reader, field, list, list_field, number, object, register, register_field,
+    ItemReader, Reader, field, list_field, number, object, register, register_field,
 };
 use crate::refused::ReadRefused;
 use crate::register::Register;
+use crate::scalar::ListOf;
 use crate::switch::SwitchReader;
 use crate::vlink::VlinkReader;
 use crate::wire::WireReader;
@@ -35,7 +36,7 @@ struct Version;
 impl Reader for Version {
     type Out = u8;
 
-    ghost meaning = { λ _. number_of 1 2 };
+    ghost meaning = { λ _. read_number 1 2 };
 
     fn read(&self, alloc: Global, value: &Value) -> Result<u8, Stop> {
         Ok(number(alloc, 1, 2, value)? as u8)
@@ -49,7 +50,7 @@ struct Heads;
 impl Reader for Heads {
     type Out = Register<Head>;
 
-    ghost meaning = { λ _. list_of head_of };
+    ghost meaning = { λ _. read_list read_head };
 
     fn read(&self, alloc: Global, value: &Value) -> Result<Register<Head>, Stop> {
         register(alloc, &HeadReader, value)
@@ -106,27 +107,6 @@ impl ItemReader for NodeProcess<'_> {
     }
 }
 
-/// The processes of all nodes.
-#[derive(Drop)]
-struct Processes<'a> {
-    heads: &'a Register<Head>,
-    channels: &'a Register<Channel>,
-}
-
-impl Reader for Processes<'_> {
-    type Out = Items<Process>;
-
-    ghost meaning = { λ r. list_of (node_process r.heads.now r.channels.now) };
-
-    fn read(&self, alloc: Global, value: &Value) -> Result<Items<Process>, Stop> {
-        let process = NodeProcess {
-            heads: self.heads,
-            channels: self.channels,
-        };
-        list(alloc, &process, value)
-    }
-}
-
 /// The items, to be taken one by one from the front.
 fn taken_apart<T: Drop>(alloc: Global, items: Items<T>) -> Result<Vec<T>, Memory>
     ensures { IfOk result (λ v. v.items ≡ items) }
@@ -172,13 +152,13 @@ fn nodes(
     channels: &Register<Channel>,
     value: &Value,
 ) -> Result<Items<NodePlan>, Stop>
-    ensures { Gives (λ x. x) result (nodes_of heads channels.now (view value.now)) }
+    ensures { Gives (λ x. x) result (read_nodes heads channels.now (view value.now)) }
 {
-    let processes = Processes {
+    let process = NodeProcess {
         heads: &heads,
         channels,
     };
-    let processes = field(alloc, Word::Nodes, &processes, value)?;
+    let processes = field(alloc, Word::Nodes, &ListOf(process), value)?;
     Ok(joined(alloc, heads.into_items(), processes)?)
 }
 
@@ -233,7 +213,7 @@ fn plan_with_nodes(
 
 /// The plan that a value means.
 fn plan(alloc: Global, value: &Value) -> Result<Plan, Stop>
-    ensures { Gives (λ x. x) result (plan_of (view value.now)) }
+    ensures { Gives (λ x. x) result (read_plan (view value.now)) }
 {
     let fields = [
         Word::Version,

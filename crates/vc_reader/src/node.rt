@@ -1,8 +1,8 @@
 //! Readers of nodes, but for their processes.
 ghost use Rattle.std.specs.Prelude.{◌≡◌};
 ghost use Rattle.serde_json.specs.View.{view};
-ghost use Rattle.vc_reader.specs.Reading.{Gives, list_of};
-ghost use Rattle.vc_reader.specs.Network.{var_of, head_of, node_of};
+ghost use Rattle.vc_reader.specs.Reading.{Gives, read_list};
+ghost use Rattle.vc_reader.specs.Network.{read_var, read_head, read_node};
 
 use crate::fault::Stop;
 use crate::name::{NewName, one_of};
@@ -43,7 +43,7 @@ struct VariableReader;
 impl NamedReader for VariableReader {
     type Out = Variable;
 
-    ghost meaning = { λ _. var_of };
+    ghost meaning = { λ _. read_var };
 
     fn read(
         &self,
@@ -65,7 +65,7 @@ pub(crate) struct HeadReader;
 impl NamedReader for HeadReader {
     type Out = Head;
 
-    ghost meaning = { λ _. head_of };
+    ghost meaning = { λ _. read_head };
 
     fn read(&self, alloc: Global, before: &Register<Head>, value: &Value) -> Result<Head, Stop> {
         object(alloc, &[Word::Name, Word::Vars, Word::Process], value)?;
@@ -82,7 +82,7 @@ pub(crate) struct NodeOf<'a>(pub &'a Register<Head>);
 impl Reader for NodeOf<'_> {
     type Out = u8;
 
-    ghost meaning = { λ r. node_of r.0.now };
+    ghost meaning = { λ r. read_node r.0.now };
 
     fn read(&self, alloc: Global, value: &Value) -> Result<u8, Stop> {
         let (number, _) = one_of(alloc, self.0, value)?;

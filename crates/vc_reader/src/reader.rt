@@ -4,7 +4,7 @@ ghost use Rattle.serde_json.specs.Data.{Data};
 ghost use Rattle.serde_json.specs.View.{view, items_view, members_view};
 ghost use Rattle.vc_reader.specs.declared.fault.Fault.{Fault as FaultData};
 ghost use Rattle.vc_reader.specs.declared.path.Step.{Step as StepData};
-ghost use Rattle.vc_reader.specs.Reading.{Gives, joins, beside as put_beside, wrong as wrong_here, under as under_step, field as field_of, cell as cell_of, text_of, number_of, list_of, list_field as list_field_of, count as count_of, items_in as items_in_list, row as row_of, is_word as is_word_of, has_only as has_only_words, object_of, has_field as has_field_of, only as only_field};
+ghost use Rattle.vc_reader.specs.Reading.{Gives, joins, beside as put_beside, wrong as wrong_here, under as under_step, field as field_of, cell as cell_of, read_text, read_number, read_array, read_list, list_field as list_field_of, count as count_of, items_in as items_in_list, row as row_of, is_word as is_word_of, has_only as has_only_words, read_object, has_field as has_field_of, only as only_field};
 
 use crate::fault::{Fault, Stop, Why};
 use crate::path::{Path, Step};
@@ -146,7 +146,7 @@ pub(crate) fn cell<R: Reader>(
 
 /// A text.
 pub(crate) fn text(alloc: Global, value: &Value) -> Result<&str, Stop>
-    ensures { Gives (λ s. s.now) result (text_of (view value.now)) }
+    ensures { Gives (λ s. s.now) result (read_text (view value.now)) }
 {
     match value {
         Value::String(text) => Ok(text.as_str()),
@@ -156,7 +156,7 @@ pub(crate) fn text(alloc: Global, value: &Value) -> Result<&str, Stop>
 
 /// A whole number from least to most.
 pub(crate) fn number(alloc: Global, least: u64, most: u64, value: &Value) -> Result<u64, Stop>
-    ensures gives { Gives (λ x. x) result (number_of least most (view value.now)) }
+    ensures gives { Gives (λ x. x) result (read_number least most (view value.now)) }
     ensures most { IfOk result (λ n. n ≤ most) }
 {
     let Value::Number(number) = value else {
@@ -173,6 +173,16 @@ pub(crate) fn number(alloc: Global, least: u64, most: u64, value: &Value) -> Res
         } else {
             Err(wrong(alloc, Why::Range))
         },
+    }
+}
+
+/// The items of a list.
+pub(crate) fn array(alloc: Global, value: &Value) -> Result<&[Value], Stop>
+    ensures { Gives (λ vs. items_view vs.now) result (read_array (view value.now)) }
+{
+    match value {
+        Value::Array(items) => Ok(items.as_slice()),
+        _ => Err(wrong(alloc, Why::Kind)),
     }
 }
 
@@ -194,18 +204,12 @@ pub(crate) fn list<R: ItemReader>(
     reader: &R,
     value: &Value,
 ) -> Result<Items<R::Out>, Stop>
-    ensures { Gives (λ x. x) result (list_of (R.meaning reader.now) (view value.now)) }
+    ensures { Gives (λ x. x) result (read_list (R.meaning reader.now) (view value.now)) }
 {
-    let Value::Array(items) = value else {
-        return Err(wrong(alloc, Why::Kind));
-    };
     let mut read = Items::new(alloc);
-    for item in items {
+    for item in array(alloc, value)? {
         let one = reader.read(alloc, read.as_slice(), item);
-        match with_item(read, one) {
-            Ok(more) => read = more,
-            Err(stop) => return Err(stop),
-        }
+        read = with_item(read, one)?;
     }
     Ok(read)
 }
@@ -246,18 +250,12 @@ pub(crate) fn register<R: NamedReader>(
     reader: &R,
     value: &Value,
 ) -> Result<Register<R::Out>, Stop>
-    ensures { Gives (λ x. x) result (list_of (R.meaning reader.now) (view value.now)) }
+    ensures { Gives (λ x. x) result (read_list (R.meaning reader.now) (view value.now)) }
 {
-    let Value::Array(items) = value else {
-        return Err(wrong(alloc, Why::Kind));
-    };
     let mut read = Register::new(alloc);
-    for item in items {
+    for item in array(alloc, value)? {
         let one = reader.read(alloc, &read, item);
-        match with_named(alloc, read, one) {
-            Ok(more) => read = more,
-            Err(stop) => return Err(stop),
-        }
+        read = with_named(alloc, read, one)?;
     }
     Ok(read)
 }
@@ -328,7 +326,7 @@ fn has_only(words: &[Word], members: &Map<String, Value>) -> bool
 
 /// An object that has no fields but these.
 pub(crate) fn object(alloc: Global, words: &[Word], value: &Value) -> Result<(), Stop>
-    ensures { Gives (λ x. x) result (object_of words.now (view value.now)) }
+    ensures { Gives (λ x. x) result (read_object words.now (view value.now)) }
 {
     match value {
         Value::Object(members) => if has_only(words, members) {

@@ -1,12 +1,13 @@
 //! Readers of single words and numbers.
 ghost use Rattle.std.specs.Prelude.{◌≡◌};
 ghost use Rattle.serde_json.specs.View.{view};
-ghost use Rattle.vc_reader.specs.Reading.{Gives, number_of};
-ghost use Rattle.vc_reader.specs.Network.{kind_of, way_of, link_of, header_of, limit_of, portal_word};
+ghost use Rattle.vc_reader.specs.Reading.{Gives, read_list, read_number};
+ghost use Rattle.vc_reader.specs.Network.{read_kind, read_way, read_link, read_header, read_limit, portal_word};
 
 use crate::fault::{Stop, Why};
-use crate::reader::{ItemReader, Reader, number, text, wrong};
+use crate::reader::{ItemReader, Reader, list, number, text, wrong};
 use serde_json::Value;
+use sqlite_items::Items;
 use std::alloc::Global;
 use vc_process::ValueKind;
 
@@ -24,6 +25,20 @@ impl<R: Reader> ItemReader for Each<R> {
     }
 }
 
+/// The reader of a list, by the reader of its items.
+#[derive(Drop)]
+pub(crate) struct ListOf<R>(pub R);
+
+impl<R: ItemReader> Reader for ListOf<R> {
+    type Out = Items<R::Out>;
+
+    ghost meaning = { λ r. read_list (R.meaning r.0) };
+
+    fn read(&self, alloc: Global, value: &Value) -> Result<Items<R::Out>, Stop> {
+        list(alloc, &self.0, value)
+    }
+}
+
 /// The kind of a channel or a variable.
 #[derive(Drop)]
 pub(crate) struct Kind;
@@ -31,7 +46,7 @@ pub(crate) struct Kind;
 impl Reader for Kind {
     type Out = ValueKind;
 
-    ghost meaning = { λ _. kind_of };
+    ghost meaning = { λ _. read_kind };
 
     fn read(&self, alloc: Global, value: &Value) -> Result<ValueKind, Stop> {
         match text(alloc, value)? {
@@ -49,7 +64,7 @@ pub(crate) struct FromA;
 impl Reader for FromA {
     type Out = bool;
 
-    ghost meaning = { λ _. way_of };
+    ghost meaning = { λ _. read_way };
 
     fn read(&self, alloc: Global, value: &Value) -> Result<bool, Stop> {
         match text(alloc, value)? {
@@ -85,7 +100,7 @@ pub(crate) struct Link;
 impl Reader for Link {
     type Out = u8;
 
-    ghost meaning = { λ _. link_of };
+    ghost meaning = { λ _. read_link };
 
     fn read(&self, alloc: Global, value: &Value) -> Result<u8, Stop> {
         Ok(number(alloc, 0, 31, value)? as u8)
@@ -99,7 +114,7 @@ pub(crate) struct Header;
 impl Reader for Header {
     type Out = u16;
 
-    ghost meaning = { λ _. header_of };
+    ghost meaning = { λ _. read_header };
 
     fn read(&self, alloc: Global, value: &Value) -> Result<u16, Stop> {
         Ok(number(alloc, 0, 65535, value)? as u16)
@@ -113,7 +128,7 @@ pub(crate) struct Lower;
 impl Reader for Lower {
     type Out = u32;
 
-    ghost meaning = { λ _. header_of };
+    ghost meaning = { λ _. read_header };
 
     fn read(&self, alloc: Global, value: &Value) -> Result<u32, Stop> {
         Ok(number(alloc, 0, 65535, value)? as u32)
@@ -127,7 +142,7 @@ pub(crate) struct Limit;
 impl Reader for Limit {
     type Out = u32;
 
-    ghost meaning = { λ _. limit_of };
+    ghost meaning = { λ _. read_limit };
 
     fn read(&self, alloc: Global, value: &Value) -> Result<u32, Stop> {
         Ok(number(alloc, 0, 65536, value)? as u32)
@@ -141,7 +156,7 @@ pub(crate) struct Byte;
 impl Reader for Byte {
     type Out = u8;
 
-    ghost meaning = { λ _. number_of 0 255 };
+    ghost meaning = { λ _. read_number 0 255 };
 
     fn read(&self, alloc: Global, value: &Value) -> Result<u8, Stop> {
         Ok(number(alloc, 0, 255, value)? as u8)
@@ -155,7 +170,7 @@ pub(crate) struct MessageLen;
 impl Reader for MessageLen {
     type Out = u32;
 
-    ghost meaning = { λ _. number_of 0 65535 };
+    ghost meaning = { λ _. read_number 0 65535 };
 
     fn read(&self, alloc: Global, value: &Value) -> Result<u32, Stop> {
         Ok(number(alloc, 0, 65535, value)? as u32)

@@ -1,21 +1,18 @@
 //! Readers of switches.
 ghost use Rattle.std.specs.Prelude.{◌≡◌};
 ghost use Rattle.serde_json.specs.View.{view};
-ghost use Rattle.vc_reader.specs.Reading.{Gives, list_of, object_of};
+ghost use Rattle.vc_reader.specs.Reading.{Gives, read_object};
 ghost use Rattle.vc_reader.specs.Names.{own_name as own_name_of, new_name};
-ghost use Rattle.vc_reader.specs.Network.{portal_row as portal_row_of, out_row as out_row_of, table_row, random_of, is_place as is_place_name, switch_words, switch_of};
+ghost use Rattle.vc_reader.specs.Network.{portal_row as portal_row_of, out_row as out_row_of, table_row, read_random, is_place as is_place_name, switch_words, read_switch};
 
 use crate::fault::Stop;
 use crate::name::own_name;
 use crate::node::Head;
-use crate::reader::{
-    NamedReader, Reader, cell, field, items_in, list, list_field, object, row, text,
-};
+use crate::reader::{NamedReader, Reader, cell, field, items_in, list_field, object, row, text};
 use crate::register::{Named, Register};
-use crate::scalar::{Each, Limit, Link, Lower, PortalWord};
+use crate::scalar::{Each, Limit, Link, ListOf, Lower, PortalWord};
 use crate::word::Word;
 use serde_json::Value;
-use sqlite_items::Items;
 use std::alloc::Global;
 use vc_labels::{Action, Row};
 use vc_plan::{Name, RandomInput, SwitchPlan};
@@ -76,27 +73,13 @@ impl Reader for TableRow {
     }
 }
 
-/// All rows of a table.
-#[derive(Drop)]
-struct TableRows(u8);
-
-impl Reader for TableRows {
-    type Out = Items<Row>;
-
-    ghost meaning = { λ r. list_of (λ _. table_row r.0) };
-
-    fn read(&self, alloc: Global, value: &Value) -> Result<Items<Row>, Stop> {
-        list(alloc, &Each(TableRow(self.0)), value)
-    }
-}
-
 #[derive(Drop)]
 struct RandomReader;
 
 impl Reader for RandomReader {
     type Out = RandomInput;
 
-    ghost meaning = { λ _. random_of };
+    ghost meaning = { λ _. read_random };
 
     fn read(&self, alloc: Global, value: &Value) -> Result<RandomInput, Stop> {
         row(alloc, 3, value)?;
@@ -148,7 +131,7 @@ impl Reader for NewPlace<'_> {
 
 /// An object that has no fields but those of a switch.
 fn switch_object(alloc: Global, version: u8, value: &Value) -> Result<(), Stop>
-    ensures { Gives (λ x. x) result (object_of (switch_words version) (view value.now)) }
+    ensures { Gives (λ x. x) result (read_object (switch_words version) (view value.now)) }
 {
     if version == 2 {
         object(
@@ -171,7 +154,7 @@ pub(crate) struct SwitchReader<'a> {
 impl NamedReader for SwitchReader<'_> {
     type Out = SwitchPlan;
 
-    ghost meaning = { λ r. switch_of r.version r.nodes.now };
+    ghost meaning = { λ r. read_switch r.version r.nodes.now };
 
     fn read(
         &self,
@@ -185,7 +168,8 @@ impl NamedReader for SwitchReader<'_> {
             switches: before,
         };
         let name = field(alloc, Word::Name, &place, value)?;
-        let rows = field(alloc, Word::Table, &TableRows(self.version), value)?;
+        let table = ListOf(Each(TableRow(self.version)));
+        let rows = field(alloc, Word::Table, &table, value)?;
         let delete = list_field(alloc, Word::Delete, &Each(Link), value)?;
         let random = list_field(alloc, Word::Random, &Each(RandomReader), value)?;
         Ok(SwitchPlan {

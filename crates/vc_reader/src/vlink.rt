@@ -1,18 +1,17 @@
 //! Readers of virtual links.
 ghost use Rattle.std.specs.Prelude.{◌≡◌};
 ghost use Rattle.serde_json.specs.View.{view};
-ghost use Rattle.vc_reader.specs.Reading.{Gives, list_of};
-ghost use Rattle.vc_reader.specs.Network.{header_of, end_of, vlink_of, vlink_number};
+ghost use Rattle.vc_reader.specs.Reading.{Gives};
+ghost use Rattle.vc_reader.specs.Network.{read_end, read_vlink, vlink_number};
 
 use crate::fault::Stop;
 use crate::name::{NewName, one_of};
 use crate::node::{Head, NodeOf};
-use crate::reader::{NamedReader, Reader, cell, field, list, object, row};
+use crate::reader::{NamedReader, Reader, cell, field, object, row};
 use crate::register::{Named, Register};
-use crate::scalar::{Each, Header, Link};
+use crate::scalar::{Each, Header, Link, ListOf};
 use crate::word::Word;
 use serde_json::Value;
-use sqlite_items::Items;
 use std::alloc::Global;
 use vc_plan::{End, Vlink};
 
@@ -24,34 +23,20 @@ impl Named for Vlink {
     }
 }
 
-/// The headers of a route, the front one first.
-#[derive(Drop)]
-struct Route;
-
-impl Reader for Route {
-    type Out = Items<u16>;
-
-    ghost meaning = { λ _. list_of (λ _. header_of) };
-
-    fn read(&self, alloc: Global, value: &Value) -> Result<Items<u16>, Stop> {
-        list(alloc, &Each(Header), value)
-    }
-}
-
 #[derive(Drop)]
 struct EndReader<'a>(&'a Register<Head>);
 
 impl Reader for EndReader<'_> {
     type Out = End;
 
-    ghost meaning = { λ r. end_of r.0.now };
+    ghost meaning = { λ r. read_end r.0.now };
 
     fn read(&self, alloc: Global, value: &Value) -> Result<End, Stop> {
         row(alloc, 4, value)?;
         let node = cell(alloc, 0, &NodeOf(self.0), value)?;
         let link = cell(alloc, 1, &Link, value)?;
         let block = cell(alloc, 2, &Header, value)?;
-        let route = cell(alloc, 3, &Route, value)?;
+        let route = cell(alloc, 3, &ListOf(Each(Header)), value)?;
         Ok(End {
             node,
             link,
@@ -68,7 +53,7 @@ pub(crate) struct VlinkReader<'a>(pub &'a Register<Head>);
 impl NamedReader for VlinkReader<'_> {
     type Out = Vlink;
 
-    ghost meaning = { λ r. vlink_of r.0.now };
+    ghost meaning = { λ r. read_vlink r.0.now };
 
     fn read(&self, alloc: Global, before: &Register<Vlink>, value: &Value) -> Result<Vlink, Stop> {
         object(alloc, &[Word::Name, Word::A, Word::B], value)?;

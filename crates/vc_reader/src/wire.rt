@@ -3,7 +3,7 @@ ghost use Rattle.std.specs.Prelude.{◌≡◌};
 ghost use Rattle.serde_json.specs.View.{view};
 ghost use Rattle.vc_reader.specs.Reading.{Gives};
 ghost use Rattle.vc_reader.specs.Names.{known_or_not};
-ghost use Rattle.vc_reader.specs.Network.{place_named as place_of_name, place_of, wire_of};
+ghost use Rattle.vc_reader.specs.Network.{place_named as place_of_name, read_place, read_wire};
 
 use crate::fault::Stop;
 use crate::name::known;
@@ -50,7 +50,7 @@ struct PlaceReader<'a> {
 impl Reader for PlaceReader<'_> {
     type Out = Spot;
 
-    ghost meaning = { λ r. place_of r.nodes.now r.switches.now };
+    ghost meaning = { λ r. read_place r.nodes.now r.switches.now };
 
     fn read(&self, alloc: Global, value: &Value) -> Result<Spot, Stop> {
         let text = text(alloc, value)?;
@@ -68,7 +68,7 @@ pub(crate) struct WireReader<'a> {
 impl ItemReader for WireReader<'_> {
     type Out = Wire;
 
-    ghost meaning = { λ r _. wire_of r.nodes.now r.switches.now };
+    ghost meaning = { λ r _. read_wire r.nodes.now r.switches.now };
 
     fn read(&self, alloc: Global, _before: &[Wire], value: &Value) -> Result<Wire, Stop> {
         let place = PlaceReader {

@@ -1,8 +1,12 @@
 -- A change of one element of a list of named elements is a change at its name.
-use Rattle.std.proofs.Common.{◌≡◌, ℕ, zero, suc, Bool, true, false, List, [], ◌∷◌, refl, sym, ap, ◌∙◌, arith, slice_get, slice_set, get_or, drop, length, ◌<◌, ◌==◌, if◌then◌else◌, Some, inl, inr, eq-eqb}
+use Rattle.std.proofs.Common.{◌≡◌, ℕ, zero, suc, Bool, true, false, List, [], ◌∷◌, refl, sym, ap, subst, ◌∙◌, arith, slice_get, slice_set, get_or, drop, length, ◌<◌, ◌==◌, nat_lt, if◌then◌else◌, Option, Some, None, inl, inr, eq-eqb}
+use Rattle.std.specs.Prelude.{IfSome, MatchOption}
+use Rattle.std.specs.List.{find, position, position_or_len}
 use Rattle.std.proofs.lemmas.Bool.{cases_eq, ne_eqb}
+use Rattle.std.proofs.lemmas.Bool.Decides.{nat_tests}
 use Rattle.std.proofs.Math.Seq.{drop-cons}
-use Rattle.std.proofs.lemmas.Option.{slice_get-get_or}
+use Rattle.std.proofs.lemmas.List.Folds.{find_at}
+use Rattle.std.proofs.lemmas.Option.{slice_get-get_or, slice_get_past}
 use mathlib.Core.Path.{fun_ext}
 use Rattle.vc_packets.specs.Functions.{put}
 use Rattle.vc_vcp.specs.Keyed.{named, NamesDiffer, shown_or, by_name}
@@ -63,6 +67,37 @@ by_name-kept name show d xs i x y h e same shows = fun_ext (λ k. elim (cases_eq
 
 pub by_name-at : {X Y : Type 0} (name : X → ℕ) (show : X → Y) (d : Y) (xs : List X) (i : ℕ) (x : X) → NamesDiffer name xs → slice_get xs i ≡ Some x → by_name name show d xs (name x) ≡ show x
 by_name-at name show d xs i x h e = ap (shown_or d show) (named_at name xs i x h e)
+
+-- the first element of the name is the one that is found
+first_named : {X : Type 0} (name : X → ℕ) (k : ℕ) (xs : List X) → named name k xs ≡ find (λ x. name x == k) xs
+first_named name k [] = refl
+first_named name k (x ∷ xs) = ap (λ r. if name x == k then Some x else r) (first_named name k xs)
+
+pub first_finds : {X : Type 0} (name : X → ℕ) (k : ℕ) (xs : List X) (found : Option ℕ) → found ≡ position (λ x. name x == k) xs → MatchOption found (named name k xs ≡ None) (λ i. slice_get xs i ≡ named name k xs)
+first_finds name k xs found is = subst Finds (sym is) (go (nat_lt n (length xs)) refl)
+  where
+    n : ℕ
+    n = position_or_len (λ x. name x == k) xs
+
+    there : named name k xs ≡ slice_get xs n
+    there = first_named name k xs ∙ find_at (λ x. name x == k) xs
+
+    Finds : Option ℕ → Type 0
+    Finds o = MatchOption o (named name k xs ≡ None) (λ i. slice_get xs i ≡ named name k xs)
+
+    go : (b : Bool) → nat_lt n (length xs) ≡ b → Finds (if b then Some n else None)
+    go true h = sym there
+    go false h = there ∙ slice_get_past xs n (grind (arith, nat_tests))
+
+pub first_within : {X : Type 0} (test : X → Bool) (xs : List X) (found : Option ℕ) → found ≡ position test xs → IfSome found (λ i. i < length xs)
+first_within test xs found is = subst (λ (o : Option ℕ). IfSome o (λ i. i < length xs)) (sym is) (go (nat_lt n (length xs)) refl)
+  where
+    n : ℕ
+    n = position_or_len test xs
+
+    go : (b : Bool) → nat_lt n (length xs) ≡ b → IfSome (if b then Some n else None) (λ i. i < length xs)
+    go true h = grind (arith, nat_tests)
+    go false h = tt
 
 -- a search that has passed i elements, and finds the name there
 pub found_at : {X : Type 0} (name : X → ℕ) (k : ℕ) (xs : List X) (i : ℕ) (x : X) → i < length xs → x ≡ get_or xs i x → name x ≡ k → named name k (drop i xs) ≡ named name k xs → slice_get xs i ≡ named name k xs

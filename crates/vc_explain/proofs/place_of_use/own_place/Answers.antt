@@ -33,8 +33,8 @@ returns-in-Set c =
     let kinds = c.args.kinds.now in
     let at = c.args.at.now in
     let own = marks_two w (at ++ Field word.Set ∷ []) (change c.in-Set.var) (expression (in_given (given c.in-Set.value))) c.has_change.result c.has_value.result (c.has_change.ensures) (c.has_value.ensures) in
-    if_ok c.marked_item.result (Marked at word.Set (c.has_change.result ∷ c.has_value.result ∷ [])) (Own w kinds at c.args.process.now)
-    (λ found h site. h ∙ own ∙ ap (λ (n : Numbered). own_place w kinds (n.tree site, at)) (sym (number_set c.args.process.now c.in-Set.var c.in-Set.value c.in-Set.is))) c.marked_item.ensures
+    if_ok c.marked_at.result (Marked at word.Set (c.has_change.result ∷ c.has_value.result ∷ [])) (Own w kinds at c.args.process.now)
+    (λ found h site. h ∙ own ∙ ap (λ (n : Numbered). own_place w kinds (n.tree site, at)) (sym (number_set c.args.process.now c.in-Set.var c.in-Set.value c.in-Set.is))) c.marked_at.ensures
 
 pub returns-in-Send : goal.returns-in-Send
 returns-in-Send c =
@@ -42,17 +42,17 @@ returns-in-Send c =
     let kinds = c.args.kinds.now in
     let at = c.args.at.now in
     let own = marks_two w (at ++ Field word.Out ∷ []) (output c.in-Send.chan (given_kind (given c.in-Send.value))) (expression (in_given (given c.in-Send.value))) c.has_output.result c.has_value-in-Send.result (c.has_output.ensures) (c.has_value-in-Send.ensures) in
-    if_ok c.marked_item-in-Send.result (Marked at word.Out (c.has_output.result ∷ c.has_value-in-Send.result ∷ [])) (Own w kinds at c.args.process.now)
-    (λ found h site. h ∙ own ∙ ap (λ (n : Numbered). own_place w kinds (n.tree site, at)) (sym (number_send c.args.process.now c.in-Send.chan c.in-Send.value c.in-Send.is))) c.marked_item-in-Send.ensures
+    if_ok c.marked_at-in-Send.result (Marked at word.Out (c.has_output.result ∷ c.has_value-in-Send.result ∷ [])) (Own w kinds at c.args.process.now)
+    (λ found h site. h ∙ own ∙ ap (λ (n : Numbered). own_place w kinds (n.tree site, at)) (sym (number_send c.args.process.now c.in-Send.chan c.in-Send.value c.in-Send.is))) c.marked_at-in-Send.ensures
 
 pub returns-in-Receive : goal.returns-in-Receive
 returns-in-Receive c =
     let w = c.args.wanted in
     let kinds = c.args.kinds.now in
     let at = c.args.at.now in
-    let own = marks_two w (at ++ Field word.In ∷ []) (input c.in-Receive.chan (slice_get kinds c.in-Receive.var)) (change c.in-Receive.var) c.has_input.result c.has_change-in-Receive.result (c.has_input.ensures ∙ ap (λ (o : Option ValueKind). wants w (input c.in-Receive.chan o)) c.kind_at.ensures) (c.has_change-in-Receive.ensures) in
-    if_ok c.marked_item-in-Receive.result (Marked at word.In (c.has_input.result ∷ c.has_change-in-Receive.result ∷ [])) (Own w kinds at c.args.process.now)
-    (λ found h site. h ∙ own ∙ ap (λ (n : Numbered). own_place w kinds (n.tree site, at)) (sym (number_receive c.args.process.now c.in-Receive.chan c.in-Receive.var c.in-Receive.is))) c.marked_item-in-Receive.ensures
+    let own = marks_two w (at ++ Field word.In ∷ []) (input c.in-Receive.chan (slice_get kinds c.in-Receive.var)) (change c.in-Receive.var) c.has_input.result c.has_change-in-Receive.result (c.has_input.ensures ∙ ap (λ (o : Option ValueKind). wants w (input c.in-Receive.chan o)) c.kind_at-kind.ensures) (c.has_change-in-Receive.ensures) in
+    if_ok c.marked_at-in-Receive.result (Marked at word.In (c.has_input.result ∷ c.has_change-in-Receive.result ∷ [])) (Own w kinds at c.args.process.now)
+    (λ found h site. h ∙ own ∙ ap (λ (n : Numbered). own_place w kinds (n.tree site, at)) (sym (number_receive c.args.process.now c.in-Receive.chan c.in-Receive.var c.in-Receive.is))) c.marked_at-in-Receive.ensures
 
 pub returns-in-While : goal.returns-in-While
 returns-in-While c =
@@ -60,8 +60,8 @@ returns-in-While c =
     let kinds = c.args.kinds.now in
     let at = c.args.at.now in
     let own = marks_one w (at ++ Field word.While ∷ []) (expression (in_test (as_test c.in-While.cond))) c.has_condition.result (c.has_condition.ensures) in
-    if_ok c.marked_item-in-While.result (Marked at word.While (c.has_condition.result ∷ [])) (Own w kinds at c.args.process.now)
-    (λ found h site. h ∙ own ∙ ap (λ (n : Numbered). own_place w kinds (n.tree site, at)) (sym (number_while c.args.process.now c.in-While.cond c.in-While.body c.in-While.is))) c.marked_item-in-While.ensures
+    if_ok c.marked_at-in-While.result (Marked at word.While (c.has_condition.result ∷ [])) (Own w kinds at c.args.process.now)
+    (λ found h site. h ∙ own ∙ ap (λ (n : Numbered). own_place w kinds (n.tree site, at)) (sym (number_while c.args.process.now c.in-While.cond c.in-While.body c.in-While.is))) c.marked_at-in-While.ensures
 
 pub returns-in-Count : goal.returns-in-Count
 returns-in-Count c =

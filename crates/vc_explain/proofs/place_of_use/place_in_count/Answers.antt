@@ -13,5 +13,5 @@ returns c =
     let list = c.args.at.now ++ Field word.For ∷ [] in
     let own = marks_three c.args.wanted list (change c.args.var) (expression (in_exp (exp c.args.base.now))) (expression (in_exp (exp c.args.count.now))) c.has_change.result c.has_expression.result c.has_expression-2.result
     c.has_change.ensures c.has_expression.ensures c.has_expression-2.ensures in
-    if_ok c.marked_item.result (λ found. found ≡ first_marked list 0 (c.has_change.result ∷ c.has_expression.result ∷ c.has_expression-2.result ∷ []))
-    (λ found. found ≡ first_of (place_if c.args.wanted) (items_at list 0 (uses_of_count c.args.var (exp c.args.base.now) (exp c.args.count.now)))) (λ found h. h ∙ own) c.marked_item.ensures
+    if_ok c.marked_at.result (λ found. found ≡ first_marked list 0 (c.has_change.result ∷ c.has_expression.result ∷ c.has_expression-2.result ∷ []))
+    (λ found. found ≡ first_of (place_if c.args.wanted) (items_at list 0 (uses_of_count c.args.var (exp c.args.base.now) (exp c.args.count.now)))) (λ found h. h ∙ own) c.marked_at.ensures

@@ -30,17 +30,17 @@ moved_process-returns-in-Receive t c = word_receive (moved_by c.args.by) c.args.
 pub moved_process-returns-in-Stopch : goal.moved_process-returns-in-Stopch
 moved_process-returns-in-Stopch t c = word_stopch (moved_by c.args.by) c.args.process.now c.in-Stopch.chan c.in-Stopch.is
 
-pub moved_process-returns-in_ok-parts-in-Seq : goal.moved_process-returns-in_ok-parts-in-Seq
-moved_process-returns-in_ok-parts-in-Seq t c = word_seq (moved_by c.args.by) c.args.process.now c.in-Seq.parts c.in_ok-parts-in-Seq.parts c.in-Seq.is c.in_ok-parts-in-Seq.ensures
+pub moved_process-returns-in_ok-moved_parts-in-Seq : goal.moved_process-returns-in_ok-moved_parts-in-Seq
+moved_process-returns-in_ok-moved_parts-in-Seq t c = word_seq (moved_by c.args.by) c.args.process.now c.in-Seq.parts c.in_ok-moved_parts-in-Seq.field-0 c.in-Seq.is c.in_ok-moved_parts-in-Seq.ensures
 
-pub moved_process-returns-in_ok-parts-in-Par : goal.moved_process-returns-in_ok-parts-in-Par
-moved_process-returns-in_ok-parts-in-Par t c = word_par (moved_by c.args.by) c.args.process.now c.in-Par.parts c.in_ok-parts-in-Par.parts c.in-Par.is c.in_ok-parts-in-Par.ensures
+pub moved_process-returns-in_ok-moved_parts-in-Par : goal.moved_process-returns-in_ok-moved_parts-in-Par
+moved_process-returns-in_ok-moved_parts-in-Par t c = word_par (moved_by c.args.by) c.args.process.now c.in-Par.parts c.in_ok-moved_parts-in-Par.field-0 c.in-Par.is c.in_ok-moved_parts-in-Par.ensures
 
-pub moved_process-returns-in_ok-branches-in-If : goal.moved_process-returns-in_ok-branches-in-If
-moved_process-returns-in_ok-branches-in-If t c = word_if (moved_by c.args.by) c.args.process.now c.in-If.branches c.in_ok-branches-in-If.branches c.in-If.is c.in_ok-branches-in-If.ensures
+pub moved_process-returns-in_ok-moved_branches-in-If : goal.moved_process-returns-in_ok-moved_branches-in-If
+moved_process-returns-in_ok-moved_branches-in-If t c = word_if (moved_by c.args.by) c.args.process.now c.in-If.branches c.in_ok-moved_branches-in-If.field-0 c.in-If.is c.in_ok-moved_branches-in-If.ensures
 
-pub moved_process-returns-in_ok-guards-in-Alt : goal.moved_process-returns-in_ok-guards-in-Alt
-moved_process-returns-in_ok-guards-in-Alt t c = word_alt (moved_by c.args.by) c.args.process.now c.in-Alt.guards c.in_ok-guards-in-Alt.guards c.in-Alt.is c.in_ok-guards-in-Alt.ensures
+pub moved_process-returns-in_ok-moved_guards-in-Alt : goal.moved_process-returns-in_ok-moved_guards-in-Alt
+moved_process-returns-in_ok-moved_guards-in-Alt t c = word_alt (moved_by c.args.by) c.args.process.now c.in-Alt.guards c.in_ok-moved_guards-in-Alt.field-0 c.in-Alt.is c.in_ok-moved_guards-in-Alt.ensures
 
 pub moved_guard-returns : goal.moved_guard-returns
 moved_guard-returns t c = guard_word (moved_by c.args.by) c.args.guard.now _ c.in_ok-cond.ensures.0 refl c.moved_variable.ensures c.in_ok-cond.ensures.1

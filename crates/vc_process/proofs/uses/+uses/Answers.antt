@@ -65,7 +65,7 @@ pub push_parts-loop-part-preserved : goal.push_parts-loop-part-preserved
 push_parts-loop-part-preserved t c =
     let k = c.args.kinds.now in
     adds_next number (all_parts k) (one_part k) (behind_part k) c.as_slice-part-items.result.now _ c.loop-part.part-index c.loop-part.uses _ c.part-item.result (parts_join k) c.loop-part-test.true c.part-item.is
-    (λ s. c.in_default.ensures s) c.loop-part.invariant
+    (λ s. c.in_ok-push_uses.ensures s) c.loop-part.invariant
 
 pub push_parts-returns : goal.push_parts-returns
 push_parts-returns t c =
@@ -80,7 +80,7 @@ pub push_branches-loop-branch-preserved : goal.push_branches-loop-branch-preserv
 push_branches-loop-branch-preserved t c =
     let k = c.args.kinds.now in
     adds_next number_branch (all_branches k) (one_branch k) (behind_branch k) c.as_slice-branch-items.result.now _ c.loop-branch.branch-index c.loop-branch.uses _ c.branch-item.result (branches_join k) c.loop-branch-test.true c.branch-item.is
-    (λ s. c.in_default.ensures s ∙ ap (λ (n : NumberedBranch). c.loop-branch.uses ++ channel_uses c.args.kinds.now (n.then_do.tree s)) (sym (number_branch_out c.branch-item.result))) c.loop-branch.invariant
+    (λ s. c.in_ok-push_uses.ensures s ∙ ap (λ (n : NumberedBranch). c.loop-branch.uses ++ channel_uses c.args.kinds.now (n.then_do.tree s)) (sym (number_branch_out c.branch-item.result))) c.loop-branch.invariant
 
 pub push_branches-returns : goal.push_branches-returns
 push_branches-returns t c =
@@ -95,7 +95,7 @@ pub push_bodies-loop-guard-preserved : goal.push_bodies-loop-guard-preserved
 push_bodies-loop-guard-preserved t c =
     let k = c.args.kinds.now in
     adds_next number_guard (all_guards k) (one_guard k) (behind_guard k) c.as_slice-guard-items.result.now _ c.loop-guard.guard-index c.loop-guard.uses _ c.guard-item.result (guards_join k) c.loop-guard-test.true c.guard-item.is
-    (λ s. c.in_default.ensures s ∙ ap (λ (n : NumberedGuard). c.loop-guard.uses ++ channel_uses c.args.kinds.now (n.then_do.tree s)) (sym (number_guard_out c.guard-item.result))) c.loop-guard.invariant
+    (λ s. c.in_ok-push_uses.ensures s ∙ ap (λ (n : NumberedGuard). c.loop-guard.uses ++ channel_uses c.args.kinds.now (n.then_do.tree s)) (sym (number_guard_out c.guard-item.result))) c.loop-guard.invariant
 
 pub push_bodies-returns : goal.push_bodies-returns
 push_bodies-returns t c =

@@ -16,7 +16,7 @@ loop-guard-preserved c =
     let g = c.guard-item.result in
     let us = c.loop-guard.uses in
     adds_next number_guard (all_inputs k) (one_input k) (behind_input k) c.as_slice-guard-items.result.now _ c.loop-guard.guard-index us _ g (inputs_join k) c.loop-guard-test.true c.guard-item.is
-    (λ s. c.in_default.ensures ∙ ap (λ o. us ++ inputs_on g.chan o ∷ []) c.kind_at.ensures ∙ ap (λ (n : NumberedGuard). us ++ one_input k n s) (sym (number_guard_out g))) c.loop-guard.invariant
+    (λ s. c.in_ok-push_input.ensures ∙ ap (λ o. us ++ inputs_on g.chan o ∷ []) c.kind_at.ensures ∙ ap (λ (n : NumberedGuard). us ++ one_input k n s) (sym (number_guard_out g))) c.loop-guard.invariant
 
 pub returns : goal.returns
 returns c =

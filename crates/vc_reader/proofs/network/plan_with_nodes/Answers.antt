@@ -8,15 +8,15 @@ use Rattle.vc_reader.specs.declared.fault.Fault.{Fault}
 use Rattle.vc_reader.specs.declared.node.Head.{Head}
 use Rattle.vc_reader.specs.declared.word.Word.TheVariants as word
 use Rattle.vc_reader.specs.Reading.{◌>>=◌, Gives, list_field}
-use Rattle.vc_reader.specs.Network.{switch_of, wire_of}
+use Rattle.vc_reader.specs.Network.{read_switch, read_wire}
 use Rattle.vc_reader.specs.NetworkText.{plan_with_wires, plan_with_nodes}
 use Rattle.vc_reader.proofs.network.plan_with_nodes.Goals as goal
 
 in-turn : (version : ℕ) (heads : List Head) (d : Data) (switches : List SwitchPlan) (wires : List Wire) →
-    list_field word.Switches (switch_of version heads) d ≡ Ok switches → list_field word.Wires (λ _. wire_of heads switches) d ≡ Ok wires →
+    list_field word.Switches (read_switch version heads) d ≡ Ok switches → list_field word.Wires (λ _. read_wire heads switches) d ≡ Ok wires →
     plan_with_nodes version heads d ≡ plan_with_wires heads switches wires d
 in-turn version heads d switches wires s w =
-    ap (λ m. m >>= λ ss. list_field word.Wires (λ _. wire_of heads ss) d >>= λ ws. plan_with_wires heads ss ws d) s
+    ap (λ m. m >>= λ ss. list_field word.Wires (λ _. read_wire heads ss) d >>= λ ws. plan_with_wires heads ss ws d) s
     ∙ ap (λ m. m >>= λ ws. plan_with_wires heads switches ws d) w
 
 pub returns : goal.returns

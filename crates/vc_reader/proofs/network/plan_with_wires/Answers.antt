@@ -10,8 +10,8 @@ use Rattle.vc_plan.specs.declared.vlink.Vlink.{Vlink}
 use Rattle.vc_reader.specs.declared.node.Head.{Head}
 use Rattle.vc_reader.specs.declared.word.Word.TheVariants as word
 use Rattle.vc_reader.specs.Reading.{◌>>=◌, list_field}
-use Rattle.vc_reader.specs.Network.{vlink_of, channel_of}
-use Rattle.vc_reader.specs.NetworkText.{nodes_of, plan_with_wires}
+use Rattle.vc_reader.specs.Network.{read_vlink, read_channel}
+use Rattle.vc_reader.specs.NetworkText.{read_nodes, plan_with_wires}
 use Rattle.vc_reader.proofs.network.plan_with_wires.Goals as goal
 
 module _ (heads : List Head) (switches : List SwitchPlan) (wires : List Wire) (d : Data) where
@@ -19,11 +19,11 @@ module _ (heads : List Head) (switches : List SwitchPlan) (wires : List Wire) (d
   made vlinks channels nodes = record { version = 2; nodes = nodes; switches = switches; wires = wires; vlinks = vlinks; channels = channels }
 
   in-turn : (vlinks : List Vlink) (channels : List Channel) (nodes : List NodePlan) →
-      list_field word.Vlinks (vlink_of heads) d ≡ Ok vlinks → list_field word.Channels (channel_of heads vlinks) d ≡ Ok channels → nodes_of heads channels d ≡ Ok nodes →
+      list_field word.Vlinks (read_vlink heads) d ≡ Ok vlinks → list_field word.Channels (read_channel heads vlinks) d ≡ Ok channels → read_nodes heads channels d ≡ Ok nodes →
       plan_with_wires heads switches wires d ≡ Ok (made vlinks channels nodes)
   in-turn vlinks channels nodes v c n =
-      ap (λ m. m >>= λ vs. list_field word.Channels (channel_of heads vs) d >>= λ cs. nodes_of heads cs d >>= λ ns. Ok (made vs cs ns)) v
-      ∙ ap (λ m. m >>= λ cs. nodes_of heads cs d >>= λ ns. Ok (made vlinks cs ns)) c
+      ap (λ m. m >>= λ vs. list_field word.Channels (read_channel heads vs) d >>= λ cs. read_nodes heads cs d >>= λ ns. Ok (made vs cs ns)) v
+      ∙ ap (λ m. m >>= λ cs. read_nodes heads cs d >>= λ ns. Ok (made vlinks cs ns)) c
       ∙ ap (λ m. m >>= λ ns. Ok (made vlinks channels ns)) n
 
 pub returns : goal.returns

@@ -3,7 +3,7 @@ use Rattle.std.specs.Str.{IsUtf8}
 use Rattle.serde_json.specs.Data.{Data}
 use Rattle.serde_json.specs.Read.{read}
 use Rattle.serde_json.specs.View.{view}
-use Rattle.vc_reader.specs.NetworkText.{Reads, plan_of, refusal}
+use Rattle.vc_reader.specs.NetworkText.{Reads, read_plan, refusal}
 use Rattle.vc_reader.specs.declared.fault.Why.{Why}
 use Rattle.vc_reader.specs.declared.fault.Why.TheVariants as why
 use Rattle.vc_reader.specs.declared.path.Step.{Step}
@@ -11,7 +11,7 @@ use Rattle.vc_reader.specs.declared.refused.ReadRefused.{ReadRefused}
 use Rattle.vc_reader.proofs.network.read_network.Goals as goal
 
 -- the refusal of a text that means a fault
-at-fault : (text : List ℕ) (d : Data) (w : Why) (path : List Step) (r : ReadRefused) → IsUtf8 text → read text ≡ Some d → plan_of d ≡ Err (record { why = w; path = path }) → r ≡ refusal w path → Reads text (Err r)
+at-fault : (text : List ℕ) (d : Data) (w : Why) (path : List Step) (r : ReadRefused) → IsUtf8 text → read text ≡ Some d → read_plan d ≡ Err (record { why = w; path = path }) → r ≡ refusal w path → Reads text (Err r)
 at-fault text d why.Missing path r u t m e = rw e (record { why = why.Missing; path = path }, (d, u, t, m), refl)
 at-fault text d why.Kind path r u t m e = rw e (record { why = why.Kind; path = path }, (d, u, t, m), refl)
 at-fault text d why.Range path r u t m e = rw e (record { why = why.Range; path = path }, (d, u, t, m), refl)

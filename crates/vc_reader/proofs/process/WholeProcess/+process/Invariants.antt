@@ -1,8 +1,8 @@
 use Rattle.std.proofs.Common.{◌≡◌, ◌+◌, ◌*◌, [], drop, map}
 use Rattle.serde_json.specs.View.{view, items_of}
 use Rattle.vc_reader.specs.Reading.{each}
-use Rattle.vc_reader.specs.Processes.{process_of, branch_of, guard_of}
-use Rattle.vc_reader.proofs.process.+process.Given as goal
+use Rattle.vc_reader.specs.Processes.{read_process, read_branch, read_guard}
+use Rattle.vc_reader.proofs.process.WholeProcess.+process.Given as goal
 
 abbrev pub decreases-process : goal.decreases-process
 decreases-process l = 7 * l.depth
@@ -45,12 +45,12 @@ decreases-step l = 7 * l.depth + 6
 
 abbrev pub invariant-parts-loop-item : goal.invariant-parts-loop-item
 invariant-parts-loop-item l =
-    each (λ _. process_of l.depth l.vars l.channels) l.read (items_of (map view (drop l.item-index l.item-items))) ≡ each (λ _. process_of l.depth l.vars l.channels) [] (items_of (map view l.item-items))
+    each (λ _. read_process l.depth l.self.vars.now l.self.channels.now) l.read (items_of (map view (drop l.item-index l.item-items))) ≡ each (λ _. read_process l.depth l.self.vars.now l.self.channels.now) [] (items_of (map view l.item-items))
 
 abbrev pub invariant-branches-loop-item : goal.invariant-branches-loop-item
 invariant-branches-loop-item l =
-    each (λ _. branch_of (process_of l.depth l.vars l.channels) l.vars) l.read (items_of (map view (drop l.item-index l.item-items))) ≡ each (λ _. branch_of (process_of l.depth l.vars l.channels) l.vars) [] (items_of (map view l.item-items))
+    each (λ _. read_branch (read_process l.depth l.self.vars.now l.self.channels.now) l.self.vars.now) l.read (items_of (map view (drop l.item-index l.item-items))) ≡ each (λ _. read_branch (read_process l.depth l.self.vars.now l.self.channels.now) l.self.vars.now) [] (items_of (map view l.item-items))
 
 abbrev pub invariant-guards-loop-item : goal.invariant-guards-loop-item
 invariant-guards-loop-item l =
-    each (λ _. guard_of (process_of l.depth l.vars l.channels) l.vars l.channels) l.read (items_of (map view (drop l.item-index l.item-items))) ≡ each (λ _. guard_of (process_of l.depth l.vars l.channels) l.vars l.channels) [] (items_of (map view l.item-items))
+    each (λ _. read_guard (read_process l.depth l.self.vars.now l.self.channels.now) l.self.vars.now l.self.channels.now) l.read (items_of (map view (drop l.item-index l.item-items))) ≡ each (λ _. read_guard (read_process l.depth l.self.vars.now l.self.channels.now) l.self.vars.now l.self.channels.now) [] (items_of (map view l.item-items))

@@ -1,5 +1,5 @@
 use Rattle.std.proofs.Common.{◌+◌, ◌*◌}
-use Rattle.vc_reader.proofs.expression.+expr.Given as goal
+use Rattle.vc_reader.proofs.expression.WholeExpr.+expr.Given as goal
 
 abbrev pub decreases-expr : goal.decreases-expr
 decreases-expr l = 5 * l.depth

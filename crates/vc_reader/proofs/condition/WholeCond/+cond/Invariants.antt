@@ -1,5 +1,5 @@
 use Rattle.std.proofs.Common.{◌+◌, ◌*◌}
-use Rattle.vc_reader.proofs.condition.+cond.Given as goal
+use Rattle.vc_reader.proofs.condition.WholeCond.+cond.Given as goal
 
 abbrev pub decreases-cond : goal.decreases-cond
 decreases-cond l = 5 * l.depth
