@@ -59,7 +59,8 @@ fn home(
 
 /// An object that has no fields but those of a channel.
 fn channel_object(alloc: Global, value: &Value) -> Result<(), Stop>
-    ensures { Gives (λ x. x) result (read_object (channel_words (view value.now)) (view value.now)) }
+    ensures { Gives (λ x. x) result
+        (read_object (channel_words (view value.now)) (view value.now)) }
 {
     if has_field(Word::Node, value) {
         object(alloc, &[Word::Name, Word::Kind, Word::Node], value)

@@ -121,7 +121,8 @@ impl WholeCond<'_> {
 
     #[cycle(cond)]
     fn both(&self, alloc: Global, depth: usize, value: &Value) -> Result<Cond, Stop>
-        ensures { Gives (λ x. x) result (read_both (read_cond depth self.now.0.now) (view value.now)) }
+        ensures { Gives (λ x. x) result
+            (read_both (read_cond depth self.now.0.now) (view value.now)) }
     {
         row(alloc, 3, value)?;
         let left = self.part(alloc, depth, 1, value)?;
@@ -142,7 +143,8 @@ impl WholeCond<'_> {
 
     #[cycle(cond)]
     fn not(&self, alloc: Global, depth: usize, value: &Value) -> Result<Cond, Stop>
-        ensures { Gives (λ x. x) result (read_not (read_cond depth self.now.0.now) (view value.now)) }
+        ensures { Gives (λ x. x) result
+            (read_not (read_cond depth self.now.0.now) (view value.now)) }
     {
         row(alloc, 2, value)?;
         self.part(alloc, depth, 1, value).map(Cond::Not)

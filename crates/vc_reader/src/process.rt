@@ -298,7 +298,8 @@ impl WholeProcess<'_> {
     #[cycle(process)]
     fn branches(&self, alloc: Global, depth: usize, value: &Json) -> Result<Items<Branch>, Stop>
         ensures { Gives (λ x. x) result
-            (read_list (λ _. read_branch (read_process depth self.now.vars.now self.now.channels.now)
+            (read_list
+            (λ _. read_branch (read_process depth self.now.vars.now self.now.channels.now)
             self.now.vars.now) (view value.now)) }
     {
         let mut read = Items::new(alloc);

@@ -4,10 +4,12 @@ use Rattle.vc_actor.specs.Shown.{act_of}
 use Rattle.vc_actor.specs.declared.act.Act.{Act}
 use Rattle.vc_actor.specs.declared.act.Act.TheVariants.{Proc, Take, Put, Route, Fct, Pass}
 use Rattle.vc_occam.specs.declared.moves.Move.TheVariants.{Offer, Want, Choose, Stopch, Inner, Quiet}
+use Rattle.vc_stats.specs.Buffers.{buffer_in}
 use Rattle.vc_stats.specs.Peaks.{may_put}
 use Rattle.vc_stats.specs.Times.{may_turn}
 use Rattle.vc_stats.proofs.Filling.{puts}
 use Rattle.vc_stats.proofs.Framed.{turns}
+use Rattle.vc_stats.proofs.Receiving.{buffer_by}
 
 pub turns_by : (a : Act) → turns (act_of a) ≡ may_turn a
 turns_by (Proc (Offer site chan)) = refl
@@ -29,3 +31,11 @@ puts_by (Put link) = refl
 puts_by (Route input output) = refl
 puts_by (Fct link) = refl
 puts_by (Pass link) = refl
+
+pub buffers_by : (a : Act) → buffer_by (act_of a) ≡ buffer_in a
+buffers_by (Proc made) = refl
+buffers_by (Take link word) = refl
+buffers_by (Put link) = refl
+buffers_by (Route input output) = refl
+buffers_by (Fct link) = refl
+buffers_by (Pass link) = refl

@@ -1,7 +1,5 @@
 -- Which events put a token on a way.
-use Rattle.std.proofs.Common.{◌≡◌, ◌≤◌, ◌<◌, ◌==◌, ℕ, ◌+◌, Bool, true, false, List, [], ◌∷◌, ◌++◌, length, length-append, refl, sym, ap, ◌∙◌, subst, arith, inl, inr, ne_eqb, if◌then◌else◌}
-use Rattle.std.proofs.lemmas.Bool.{cases_eq}
-use Rattle.vc_machine.specs.Paths.{AtNode, AtSwitch}
+use Rattle.std.proofs.Common.{◌≡◌, ◌≤◌, ◌==◌, ℕ, Bool, true, false, List, [], ◌∷◌, ◌++◌, length, length-append, refl, sym, ap, ◌∙◌, subst, arith, ne_eqb, if◌then◌else◌}
 use Rattle.vc_network.specs.Actors.{Network, ActBy, Label, Step, act_of, put_on, taken_off}
 use Rattle.vc_network.specs.Actors.Label.{Own, Takes, Puts}
 use Rattle.vc_network.specs.Network.{Act, Proc, Take, Put, Route, Fct, Pass, Actor, IsNode, IsSwitch, Local, Happens, actor_at}

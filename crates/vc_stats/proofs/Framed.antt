@@ -1,5 +1,5 @@
 -- Which events change whether an output on a channel is finished.
-use Rattle.std.proofs.Common.{◌≡◌, ◌==◌, ℕ, suc, ◌+◌, Bool, true, false, List, [], ◌∷◌, ◌++◌, length, length-append, Option, Some, None, refl, sym, ap, ◌∙◌, subst, arith, inl, inr, nat_eq}
+use Rattle.std.proofs.Common.{◌≡◌, ◌==◌, ℕ, suc, Bool, true, false, List, [], ◌∷◌, ◌++◌, length, length-append, Option, Some, refl, sym, ap, ◌∙◌, subst, arith, inl, inr}
 use Rattle.std.proofs.lemmas.Bool.{cases_eq}
 use Rattle.std.proofs.lemmas.Bool.Decides.{nat_tests}
 use Rattle.vc_machine.specs.Rendezvous.{View}
@@ -10,7 +10,7 @@ use Rattle.vc_network.specs.Actors.{Network, ActBy, Label, Step, act_of}
 use Rattle.vc_network.specs.Actors.Label.{Own, Takes, Puts}
 use Rattle.vc_network.specs.Network.{Act, Proc, Take, Put, Route, Fct, Pass, Actor, IsNode, IsSwitch, Node, NodeStep, Local, Happens, exchanged}
 use Rattle.vc_network.specs.Plan.{Plan, Home, Way, Inside, home}
-use Rattle.vc_network.specs.Processes.{StepRelation, Move, Offer, Want, Choose, Stopch, Inner, Quiet}
+use Rattle.vc_network.specs.Processes.{StepRelation, Offer, Want, Choose, Stopch, Inner, Quiet}
 use Rattle.vc_network.specs.Views.{inner_of, source_node, vcp_of, view, view_at}
 use Rattle.vc_switch.specs.Waiting.{Waiting}
 use Rattle.vc_tokens.specs.Tokens.{Token, Byte, EndMark}

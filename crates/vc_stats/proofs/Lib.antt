@@ -1,13 +1,15 @@
 pub mod Acting
 pub mod Busy
 pub mod Cells
+pub mod Figures
 pub mod Filling
 pub mod Following
 pub mod Framed
 pub mod Lined
 pub mod Numbers
+pub mod Packing
 pub mod Opening
 pub mod Pieces
+pub mod Receiving
 pub mod Rowed
 pub mod Visiting
-pub mod Watched

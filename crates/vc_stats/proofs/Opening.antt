@@ -1,12 +1,10 @@
 -- The opening state: no output is unfinished.
-use Rattle.std.proofs.Common.{◌≡◌, ℕ, Bool, true, false, [], nat_lt, refl, sym, ap, ◌∙◌, subst, if◌then◌else◌}
+use Rattle.std.proofs.Common.{◌≡◌, ℕ, Bool, true, false, [], nat_lt, refl, ap, if◌then◌else◌}
 use Rattle.vc_machine.specs.Rendezvous.{nothing_yet}
-use Rattle.vc_network.specs.Actors.{Network}
-use Rattle.vc_network.specs.Network.{Actor, IsNode, IsSwitch, begins, first}
+use Rattle.vc_network.specs.Network.{Actor, IsNode, IsSwitch, begins}
 use Rattle.vc_network.specs.Plan.{Plan, Home, Way, Inside, home}
 use Rattle.vc_network.specs.Views.{inner_of, source_node, vcp_of, view, view_at}
 use Rattle.vc_switch.specs.Switch.{new_switch}
-use Rattle.vc_tokens.specs.Tokens.{Token}
 use Rattle.vc_vcp.specs.Links.{new_vcp}
 use Rattle.vc_stats.specs.Visited.{is_open}
 

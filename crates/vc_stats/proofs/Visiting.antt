@@ -1,5 +1,5 @@
 -- The states that a run visits, and their counts.
-use Rattle.std.proofs.Common.{◌≡◌, ◌≤◌, ◌+◌, ℕ, suc, List, [], ◌∷◌, ◌++◌, length, length-append, max, refl, sym, ap, ◌∙◌, subst, arith}
+use Rattle.std.proofs.Common.{◌≡◌, ℕ, suc, List, [], ◌∷◌, ◌++◌, length, max, refl, ap, ◌∙◌, subst, arith}
 use Rattle.vc_accepted.specs.NetworkOf.{network_of}
 use Rattle.vc_accepted.specs.Process.{does}
 use Rattle.vc_core.specs.Enabled.{NetworkState}
@@ -8,7 +8,7 @@ use Rattle.vc_core.specs.declared.event.Event.{Event}
 use Rattle.vc_network.specs.Network.{Happens}
 use Rattle.vc_plan.specs.declared.plan.Plan.{Plan}
 use Rattle.vc_switch.specs.Waiting.{Wormhole}
-use Rattle.vc_stats.specs.Visited.{LeadThrough, most_on}
+use Rattle.vc_stats.specs.Visited.{LeadThrough, greatest}
 
 -- one event more
 pub leads_more : (p : Plan) (x : NetworkState) (es : List Event) (xs : List NetworkState) (y : NetworkState) (e : Event) (z : NetworkState) → LeadThrough p x es xs y →
@@ -29,6 +29,6 @@ max_more : (a m b : ℕ) → max a (max m b) ≡ max (max a m) b
 max_more a m b = omega arith
 
 -- one state more
-pub most_more : (xs : List NetworkState) (y : NetworkState) (way : ℕ) → most_on (xs ++ y ∷ []) way ≡ max (most_on xs way) (length (y.way way))
-most_more [] y way = omega arith
-most_more (x ∷ xs) y way = ap (max (length (x.way way))) (most_more xs y way) ∙ max_more (length (x.way way)) (most_on xs way) (length (y.way way))
+pub greatest_more : {X : Type 0} (f : X → ℕ) (xs : List X) (y : X) → greatest f (xs ++ y ∷ []) ≡ max (greatest f xs) (f y)
+greatest_more f [] y = omega arith
+greatest_more f (x ∷ xs) y = ap (max (f x)) (greatest_more f xs y) ∙ max_more (f x) (greatest f xs) (f y)

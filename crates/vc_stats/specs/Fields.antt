@@ -11,20 +11,16 @@ use Rattle.vc_stats.specs.Kinds.{kinds, word_of}
 use Rattle.vc_stats.specs.declared.form.Form.{Form}
 use Rattle.vc_stats.specs.declared.form.Form.TheVariants.{Lines, Json}
 use Rattle.vc_stats.specs.declared.kind.Kind.{Kind}
+use Rattle.vc_stats.specs.declared.state_figures.WayFigures.{WayFigures}
 
--- what stands before the name of a count
-abbrev pub before : Form → List ℕ
-before Lines = codes " "
-before Json = codes ",\""
-
--- what stands between the name of a count and its number
-abbrev pub between : Form → List ℕ
-between Lines = codes " "
-between Json = codes "\":"
+-- the text for lines, or that for JSON
+abbrev pub text_in : Form → (lines json : List ℕ) → List ℕ
+text_in Lines lines json = lines
+text_in Json lines json = json
 
 -- a count with its name
 abbrev pub field_text : Form → List ℕ → ℕ → List ℕ
-field_text form name n = before form ++ name ++ between form ++ decimal n
+field_text form name n = text_in form (codes " ") (codes ",\"") ++ name ++ text_in form (codes " ") (codes "\":") ++ decimal n
 
 -- how many events of a kind there are, of all actors' or of one's
 abbrev pub kind_text : Form → Option ℕ → List Event → Kind → List ℕ
@@ -40,31 +36,40 @@ tokens_text form events actor link =
     field_text form (codes "tokens") (actor_count_at put_in actor link events)
     ++ field_text form (codes "fcts") (actor_count_at fct_in actor link events)
 
--- so of a switch, and the packets that it bound to the link
-abbrev pub switch_text : Form → List Event → ℕ → ℕ → List ℕ
-switch_text form events actor link =
-    tokens_text form events actor link ++ field_text form (codes "packets") (actor_count_at output_in actor link events)
-
 -- so of the actor at a spot of a plan of so many nodes
 abbrev pub puts_text : Form → List Event → (nodes : ℕ) → Spot → ℕ → List ℕ
 puts_text form events nodes (Node n) link = tokens_text form events n link
-puts_text form events nodes (Switch n) link = switch_text form events (nodes + n) link
+puts_text form events nodes (Switch n) link = tokens_text form events (nodes + n) link
+
+-- and the packets that it bound to the link, if it is a switch
+abbrev pub bound_text : Form → List Event → (nodes : ℕ) → Spot → ℕ → List ℕ
+bound_text form events nodes (Node n) link = []
+bound_text form events nodes (Switch n) link = field_text form (codes "bound") (actor_count_at output_in (nodes + n) link events)
 
 -- the numbers of a plan's actors: the nodes, and behind them the switches
 abbrev pub actors_of : Plan → List ℕ
 actors_of p = range_with_len 0 (length p.nodes + length p.switches)
 
--- the count of this number, if it is known
-abbrev pub known_text : Form → List ℕ → List ℕ → ℕ → List ℕ
-known_text form name counts n = option_map_or (field_text form name) (slice_get counts n) []
+-- the packets that were put whole on a way, and how many of them are acknowledges
+abbrev pub whole_text : Form → WayFigures → List ℕ
+whole_text form w = field_text form (codes "packets") w.packets ++ field_text form (codes "acks") w.acks
 
--- the most tokens that stood on the way at once, if that is known
-abbrev pub most_text : Form → List ℕ → ℕ → List ℕ
-most_text form = known_text form (codes "most")
+-- so of the way of this number, if they are known
+abbrev pub packets_text : Form → List WayFigures → ℕ → List ℕ
+packets_text form ways n = option_map_or (whole_text form) (slice_get ways n) []
 
--- after how many events of the run an output on the channel was not finished, if that is known
+-- the most tokens that stood on a way at once and that its end's buffer held, and after how many events it held one
+abbrev pub way_figures_text : Form → WayFigures → List ℕ
+way_figures_text form w =
+    field_text form (codes "most") w.most ++ field_text form (codes "buffered") w.buffered ++ field_text form (codes "waited") w.waited
+
+-- the other figures of the way of this number, if they are known
+abbrev pub figures_text : Form → List WayFigures → ℕ → List ℕ
+figures_text form ways n = option_map_or (way_figures_text form) (slice_get ways n) []
+
+-- after how many events of the run an output on the channel of this number was not finished, if that is known
 abbrev pub unfinished_text : Form → List ℕ → ℕ → List ℕ
-unfinished_text form = known_text form (codes "unfinished")
+unfinished_text form unfinished n = option_map_or (field_text form (codes "unfinished")) (slice_get unfinished n) []
 
 -- outputs and inputs that began on a channel
 abbrev pub begun_text : Form → List Event → ℕ → List ℕ

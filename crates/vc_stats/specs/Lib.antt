@@ -1,12 +1,14 @@
+pub mod Buffers
 pub mod Counting
 pub mod Fields
 pub mod Json
 pub mod Kinds
-pub mod Lines
+pub mod Monitor
+pub mod Packets
 pub mod Peaks
 pub mod Rows
+pub mod Sections
 pub mod Tallies
 pub mod Texts
 pub mod Times
 pub mod Visited
-pub mod Watching

@@ -8,7 +8,7 @@ use Rattle.vc_network.specs.Network.{actor_at}
 use Rattle.vc_network.specs.Plan.{near}
 use Rattle.vc_plan.specs.declared.plan.Plan.{Plan}
 use Rattle.vc_stats.specs.Rows.{has, is_in}
-use Rattle.vc_stats.specs.Visited.{most_on}
+use Rattle.vc_stats.specs.Visited.{greatest, tokens_on}
 use Rattle.vc_stats.specs.declared.peaks.Peaks.{Peaks}
 use Rattle.vc_stats.specs.declared.rows.Rows.{Rows}
 
@@ -39,13 +39,13 @@ pub record AreRaised (x : NetworkState) (ways : List ℕ) (old new : List ℕ) :
   pub count : length new ≡ length old
   pub each : (way : ℕ) → way < length old → peak_at new way ≡ cond (is_in way ways) (max (peak_at old way) (length (x.way way))) (peak_at old way)
 
--- the number is that of the way in these states, of which x is the last
-pub record IsPeakOf (xs : List NetworkState) (x : NetworkState) (way n : ℕ) : Type 0 where
-  pub told : n ≡ most_on xs way
-  pub over : length (x.way way) ≤ n
+-- it is the greatest number that f has in these states, of which x is the last
+pub record IsPeakOf {X : Type 0} (f : X → ℕ) (xs : List X) (x : X) (n : ℕ) : Type 0 where
+  pub is : n ≡ greatest f xs
+  pub over : f x ≤ n
 
 -- and so of all ways
 pub record ArePeaksOf (all : Peaks) (p : Plan) (xs : List NetworkState) (x : NetworkState) : Type 0 where
   pub ways : AreWaysOf p all.ways
   pub count : length all.most.items ≡ 2 * length p.wires
-  pub each : (way : ℕ) → way < 2 * length p.wires → IsPeakOf xs x way (peak_at all.most.items way)
+  pub each : (way : ℕ) → way < 2 * length p.wires → IsPeakOf (tokens_on way) xs x (peak_at all.most.items way)

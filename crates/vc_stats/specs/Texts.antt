@@ -4,35 +4,35 @@ use Rattle.vc_core.specs.Enabled.{NetworkState}
 use Rattle.vc_text.specs.Running.{RunText}
 use Rattle.vc_text.specs.Shown.{channels_of}
 use Rattle.vc_text.specs.Tail.{IsTail}
-use Rattle.vc_stats.specs.Json.{stats_json, traffic_json}
-use Rattle.vc_stats.specs.Lines.{stats_lines}
-use Rattle.vc_stats.specs.Visited.{Told, Visits, told_of, untold}
+use Rattle.vc_stats.specs.Json.{traffic_json}
+use Rattle.vc_stats.specs.Sections.{stats_text}
+use Rattle.vc_stats.specs.Visited.{Figures, Visits, figures_of, no_figures}
 use Rattle.vc_stats.specs.declared.form.Form.{Form}
 use Rattle.vc_stats.specs.declared.form.Form.TheVariants.{Lines, Json}
 
 -- the traffic, with who waits for what or without, and then the lines of the counts
-abbrev pub IsCountedLines : (why : Bool) → Told → RunText
+abbrev pub IsCountedLines : (why : Bool) → Figures → RunText
 IsCountedLines why states plan events x close text =
-    (tail : List ℕ) × IsTail why plan events x close tail × (text ≡ tail ++ stats_lines plan events states (channels_of plan x))
+    (tail : List ℕ) × IsTail why plan events x close tail × (text ≡ tail ++ stats_text Lines plan events states (channels_of plan x))
 
 -- one object of the traffic and the counts
-abbrev pub IsCountedJson : Told → RunText
+abbrev pub IsCountedJson : Figures → RunText
 IsCountedJson states plan events x close text =
-    text ≡ traffic_json (channels_of plan x) close ++ stats_json plan events states (channels_of plan x) ++ codes "}\n"
+    text ≡ traffic_json (channels_of plan x) close ++ stats_text Json plan events states (channels_of plan x) ++ codes "}\n"
 
--- the traffic and the counts of the events, and what is told of the states; in JSON it is not told who waits for what
-abbrev pub IsCountedText : Form → (why : Bool) → Told → RunText
+-- the traffic, the counts of the events, and the figures of the states; in JSON it is not told who waits for what
+abbrev pub IsCountedText : Form → (why : Bool) → Figures → RunText
 IsCountedText Lines why = IsCountedLines why
 IsCountedText Json why = IsCountedJson
 
 -- the traffic and the counts of the events, and of the states that they visit one after another
 abbrev pub IsStatsText : Form → (why : Bool) → RunText
 IsStatsText form why plan events x close text =
-    (xs : List NetworkState) × Visits plan events xs x × IsCountedText form why (told_of plan xs) plan events x close text
+    (xs : List NetworkState) × Visits plan events xs x × IsCountedText form why (figures_of plan events xs) plan events x close text
 
 -- the traffic and the counts of the events alone
 abbrev pub IsEventsText : Form → (why : Bool) → RunText
-IsEventsText form why = IsCountedText form why untold
+IsEventsText form why = IsCountedText form why no_figures
 
 -- one object of the traffic alone
 unfoldable pub IsTrafficJson : RunText

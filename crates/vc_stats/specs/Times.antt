@@ -1,4 +1,4 @@
--- How it is kept for how many events outputs are unfinished.
+-- How it is kept after how many events outputs are unfinished.
 use Rattle.std.specs.Prelude.{◌≡◌, ℕ, ◌-◌, ◌<◌, ◌≤◌, Bool, true, false, cond, count_by, List, length, get_or, Option, Some, None}
 use Rattle.vc_accepted.specs.NetworkOf.{network_of}
 use Rattle.vc_actor.specs.declared.act.Act.{Act}
@@ -11,45 +11,45 @@ use Rattle.vc_occam.specs.declared.moves.Move.TheVariants.{Offer}
 use Rattle.vc_plan.specs.declared.plan.Plan.{Plan}
 use Rattle.vc_stats.specs.Rows.{has, is_in}
 use Rattle.vc_stats.specs.Visited.{is_unfinished}
-use Rattle.vc_stats.specs.declared.channel_time.ChannelTime.{ChannelTime}
-use Rattle.vc_stats.specs.declared.channel_time.ChannelTime.TheVariants.{Busy, Idle}
+use Rattle.vc_stats.specs.declared.busy_time.BusyTime.{BusyTime}
+use Rattle.vc_stats.specs.declared.busy_time.BusyTime.TheVariants.{Busy, Idle}
 use Rattle.vc_stats.specs.declared.rows.Rows.{Rows}
 use Rattle.vc_stats.specs.declared.unfinished.Unfinished.{Unfinished}
 
--- ---- the time of a channel
+-- ---- one time
 
 -- after how many of so many events it was busy
-abbrev pub busy_of : ChannelTime → ℕ → ℕ
+abbrev pub busy_of : BusyTime → ℕ → ℕ
 busy_of (Busy idle) events = events - idle
 busy_of (Idle busy) events = busy
 
-abbrev pub is_busy : ChannelTime → Bool
+abbrev pub is_busy : BusyTime → Bool
 is_busy (Busy idle) = true
 is_busy (Idle busy) = false
 
 -- it was not busy after at most so many events
-abbrev pub IsWithin : ℕ → ChannelTime → Type 0
+abbrev pub IsWithin : ℕ → BusyTime → Type 0
 IsWithin events (Busy idle) = idle ≤ events
 IsWithin events (Idle busy) = Unit {0}
 
 -- it is busy from the next event on, or not
-abbrev pub turned : Bool → ℕ → ChannelTime → ChannelTime
+abbrev pub turned : Bool → ℕ → BusyTime → BusyTime
 turned true events time = Busy (events - busy_of time events)
 turned false events time = Idle (busy_of time events)
 
--- it is that of a channel which is busy in those of these states where u says so; x is the last of them
-pub record IsTimeOf {X : Type 0} (u : X → Bool) (xs : List X) (x : X) (time : ChannelTime) : Type 0 where
+-- it is that of what is busy in those of these states where u says so; x is the last of them
+pub record IsTimeOf {X : Type 0} (u : X → Bool) (xs : List X) (x : X) (time : BusyTime) : Type 0 where
   pub told : busy_of time (length xs) ≡ count_by u xs
   pub now : is_busy time ≡ u x
   pub within : IsWithin (length xs) time
 
--- ---- the times of all channels
+-- ---- those of all channels
 
-abbrev pub time_at : List ChannelTime → ℕ → ChannelTime
+abbrev pub time_at : List BusyTime → ℕ → BusyTime
 time_at times c = get_or times c (Idle 0)
 
 -- so many channels are idle, and none was busy
-pub record AreIdle (channels : ℕ) (times : List ChannelTime) : Type 0 where
+pub record AreIdle (channels : ℕ) (times : List BusyTime) : Type 0 where
   pub count : length times ≡ channels
   pub each : (c : ℕ) → time_at times c ≡ Idle 0
 
@@ -69,7 +69,7 @@ may_turn (Pass link) = true
 may_turn act = false
 
 -- those of these channels have turned as they are in state x, and no other
-pub record AreTurned (p : Plan) (x : NetworkState) (events : ℕ) (chans : List ℕ) (old new : List ChannelTime) : Type 0 where
+pub record AreTurned (p : Plan) (x : NetworkState) (events : ℕ) (chans : List ℕ) (old new : List BusyTime) : Type 0 where
   pub count : length new ≡ length old
   pub each : (c : ℕ) → c < length p.channels → time_at new c ≡ cond (is_in c chans) (turned (is_unfinished p c x) events (time_at old c)) (time_at old c)
 

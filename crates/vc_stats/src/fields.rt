@@ -3,10 +3,11 @@ ghost use Rattle.std.specs.Prelude.{◌≡◌, ◌≤◌, ◌++◌, codes, List,
 ghost use Rattle.std.specs.List.{flat_map};
 ghost use Rattle.vc_core.specs.declared.event.Event.{Event};
 ghost use Rattle.vc_stats.specs.Counting.{AreCounts};
-ghost use Rattle.vc_stats.specs.Fields.{begun_text, bytes_of as bytes_in, field_text, kind_text, kinds_text, known_text, most_text, puts_text, switch_text, taken_text, tokens_text, unfinished_text};
+ghost use Rattle.vc_stats.specs.Fields.{begun_text, bound_text, bytes_of as bytes_in, field_text, figures_text, kind_text, kinds_text, packets_text, puts_text, taken_text, tokens_text, unfinished_text, way_figures_text, whole_text};
 
 use crate::form::Form;
 use crate::kind::{KINDS, Kind};
+use crate::state_figures::WayFigures;
 use crate::stats::Stats;
 use vc_packets::{Bytes, Memory};
 use vc_plan::{Port, Spot};
@@ -17,9 +18,9 @@ use vc_text::push_number;
 pub(crate) fn push_field(out: &mut Vec<u8>, form: Form, name: &[u8], n: u64) -> Result<(), Memory>
     ensures { OnOk result (out.new.items ≡ out.old.items ++ field_text form name.now n) }
 {
-    out.extend_from_slice(form.before())?;
+    out.extend_from_slice(form.text(b" ", b",\""))?;
     out.extend_from_slice(name)?;
-    out.extend_from_slice(form.between())?;
+    out.extend_from_slice(form.text(b" ", b"\":"))?;
     push_number(out, n)
 }
 
@@ -70,22 +71,6 @@ fn push_tokens(
     push_field(out, form, b"fcts", stats.fcts(actor, link))
 }
 
-/// Adds what a switch put by a link, and how many packets it bound to it.
-#[tactic(auto, using(std::proofs::Common::append_assoc))]
-fn push_switch(
-    out: &mut Vec<u8>,
-    form: Form,
-    stats: &Stats,
-    actor: usize,
-    link: u8,
-) -> Result<(), Memory>
-    ensures { (es : List Event) → AreCounts stats.now es →
-        OnOk result (out.new.items ≡ out.old.items ++ switch_text form es actor link) }
-{
-    push_tokens(out, form, stats, actor, link)?;
-    push_field(out, form, b"packets", stats.packets(actor, link))
-}
-
 /// Adds what was put at a port of a plan of so many nodes.
 pub(crate) fn push_puts(
     out: &mut Vec<u8>,
@@ -101,7 +86,28 @@ pub(crate) fn push_puts(
     match port.spot {
         Spot::Node(node) => push_tokens(out, form, stats, usize::from(node), port.link),
         Spot::Switch(switch) => {
-            push_switch(out, form, stats, nodes + usize::from(switch), port.link)
+            push_tokens(out, form, stats, nodes + usize::from(switch), port.link)
+        }
+    }
+}
+
+/// Adds how many packets a switch of a plan of so many nodes bound to a port, if the port is one of a switch.
+pub(crate) fn push_bound(
+    out: &mut Vec<u8>,
+    form: Form,
+    stats: &Stats,
+    nodes: usize,
+    port: Port,
+) -> Result<(), Memory>
+    requires { nodes ≤ 32 }
+    ensures { (es : List Event) → AreCounts stats.now es → OnOk result (out.new.items ≡
+        out.old.items ++ bound_text form es nodes port.spot port.link) }
+{
+    match port.spot {
+        Spot::Node(_) => Ok(()),
+        Spot::Switch(switch) => {
+            let bound = stats.bound(nodes + usize::from(switch), port.link);
+            push_field(out, form, b"bound", bound)
         }
     }
 }
@@ -121,33 +127,53 @@ pub(crate) fn push_begun(
     push_field(out, form, b"inputs", stats.inputs(chan))
 }
 
-/// Adds the count of this number with its name, if it is known.
-fn push_known(
+/// Adds how many packets were put whole on a way, and how many of them are acknowledges.
+#[tactic(auto, using(std::proofs::Common::append_assoc))]
+fn push_whole(out: &mut Vec<u8>, form: Form, way: WayFigures) -> Result<(), Memory>
+    ensures { OnOk result (out.new.items ≡ out.old.items ++ whole_text form way) }
+{
+    push_field(out, form, b"packets", way.packets)?;
+    push_field(out, form, b"acks", way.acks)
+}
+
+/// Adds how many packets were put whole on the way of this number, and how many of them are acknowledges, if that is known.
+pub(crate) fn push_packets(
     out: &mut Vec<u8>,
     form: Form,
-    name: &[u8],
-    counts: &[u64],
+    ways: &[WayFigures],
     n: usize,
 ) -> Result<(), Memory>
-    ensures { OnOk result (out.new.items ≡
-        out.old.items ++ known_text form name.now counts.now n) }
+    ensures { OnOk result (out.new.items ≡ out.old.items ++ packets_text form ways.now n) }
 {
-    match counts.get(n) {
-        Some(count) => push_field(out, form, name, *count),
+    match ways.get(n) {
+        Some(way) => push_whole(out, form, *way),
         None => Ok(()),
     }
 }
 
-/// Adds how many tokens stood on a way at most, if that is known.
-pub(crate) fn push_most(
+/// Adds the other figures of a way.
+#[tactic(auto, using(std::proofs::Common::append_assoc))]
+fn push_way_figures(out: &mut Vec<u8>, form: Form, way: WayFigures) -> Result<(), Memory>
+    ensures { OnOk result (out.new.items ≡ out.old.items ++ way_figures_text form way) }
+{
+    push_field(out, form, b"most", way.most)?;
+    push_field(out, form, b"buffered", way.buffered)?;
+    push_field(out, form, b"waited", way.waited)
+}
+
+/// Adds the other figures of the way of this number, if they are known.
+pub(crate) fn push_figures(
     out: &mut Vec<u8>,
     form: Form,
-    most: &[u64],
-    way: usize,
+    ways: &[WayFigures],
+    n: usize,
 ) -> Result<(), Memory>
-    ensures { OnOk result (out.new.items ≡ out.old.items ++ most_text form most.now way) }
+    ensures { OnOk result (out.new.items ≡ out.old.items ++ figures_text form ways.now n) }
 {
-    push_known(out, form, b"most", most, way)
+    match ways.get(n) {
+        Some(way) => push_way_figures(out, form, *way),
+        None => Ok(()),
+    }
 }
 
 /// Adds after how many events of the run an output on a channel was not finished, if that is known.
@@ -160,7 +186,10 @@ pub(crate) fn push_unfinished(
     ensures { OnOk result (out.new.items ≡
         out.old.items ++ unfinished_text form unfinished.now chan) }
 {
-    push_known(out, form, b"unfinished", unfinished, chan)
+    match unfinished.get(chan) {
+        Some(count) => push_field(out, form, b"unfinished", *count),
+        None => Ok(()),
+    }
 }
 
 /// How many bytes messages have together.

@@ -1,6 +1,6 @@
 //! How counts are told.
 ghost use Rattle.std.specs.Prelude.{◌≡◌};
-ghost use Rattle.vc_stats.specs.Fields.{before, between};
+ghost use Rattle.vc_stats.specs.Fields.{text_in};
 
 /// How the counts of a run are told.
 #[derive(Clone, Copy, Debug, PartialEq, Eq, Drop)]
@@ -12,23 +12,13 @@ pub enum Form {
 }
 
 impl Form {
-    /// What stands before the name of a count.
-    pub(crate) fn before(self) -> &'static [u8]
-        ensures { result.now ≡ before self }
+    /// The text for lines, or that for JSON.
+    pub(crate) fn text(self, lines: &'static [u8], json: &'static [u8]) -> &'static [u8]
+        ensures { result.now ≡ text_in self lines.now json.now }
     {
         match self {
-            Form::Lines => b" ",
-            Form::Json => b",\"",
-        }
-    }
-
-    /// What stands between the name of a count and its number.
-    pub(crate) fn between(self) -> &'static [u8]
-        ensures { result.now ≡ between self }
-    {
-        match self {
-            Form::Lines => b" ",
-            Form::Json => b"\":",
+            Form::Lines => lines,
+            Form::Json => json,
         }
     }
 }

@@ -2,21 +2,24 @@
 //!
 //! The layer above knows that what is written is exactly the text of the traffic and of the counts (`specs/Texts`), or a front of that where
 //! the writer failed, over any reader and any writer that tell their bytes. Each count is how many events of the run are so
-//! (`specs/Counting`), or is one over the states that the events visit (`specs/Visited`). The counts take no memory that grows with the
+//! (`specs/Counting`), or is a figure of the states that the events visit (`specs/Visited`). They take no memory that grows with the
 //! events.
 #![tactic(auto)]
 
-mod channel_time;
+mod buffers;
+mod busy_time;
 mod fields;
 mod form;
 mod json;
 mod kind;
-mod lines;
+mod monitor;
+mod occupancy;
+mod packets;
 mod peaks;
 mod rows;
-mod state_counts;
+mod sections;
+mod state_figures;
 mod stats;
-mod stats_json;
 mod stepping;
 mod table;
 mod tally;
@@ -24,7 +27,6 @@ mod text;
 mod threading;
 mod traffic_json;
 mod unfinished;
-mod watch;
 
 pub use form::Form;
 pub use stepping::{json_step, stats_step};

@@ -6,7 +6,7 @@ ghost use Rattle.vc_core.specs.Enabled.{NetworkState};
 ghost use Rattle.vc_core.specs.State.{MakesEvent, State, shown, state_of};
 ghost use Rattle.vc_network.specs.Network.{actor_at, begins};
 ghost use Rattle.vc_plan.specs.declared.plan.Plan.{Plan};
-ghost use Rattle.vc_stats.specs.Peaks.{ArePeaksOf, AreRaised, AreWaysOf, AreWaysTo, AreZero, may_put as may_put_by};
+ghost use Rattle.vc_stats.specs.Peaks.{ArePeaksOf, AreRaised, AreWaysOf, AreWaysTo, AreZero, may_put as may_put_by, peak_at};
 
 use crate::rows::Rows;
 use std::alloc::Global;
@@ -23,8 +23,8 @@ pub(crate) struct Peaks {
     most: Vec<u64>,
 }
 
-// The number of a node or switch among the actors, of which so many are nodes.
-fn actor_of(nodes: usize, spot: Spot) -> u16
+/// The number of a node or switch among the actors, of which so many are nodes.
+pub(crate) fn actor_of(nodes: usize, spot: Spot) -> u16
     requires { nodes ≤ 32 }
     ensures { (p : Plan) (link : ℕ) → nodes ≡ length p.nodes →
         result ≡ actor_at (network_of p) (port_at spot link) }
@@ -127,10 +127,13 @@ impl Peaks {
         raise_all(&mut self.most, self.ways.row(event.actor), network);
     }
 
-    /// By way, how many tokens stood there at most. It fails for want of memory alone.
-    pub(crate) fn counts(&self, alloc: Global) -> Result<Vec<u64>, Memory>
-        ensures { IfOk result (λ counts. counts.items ≡ self.now.most.items) }
+    /// How many tokens stood on a way at most.
+    pub(crate) fn most(&self, way: usize) -> u64
+        ensures { result ≡ peak_at self.now.most.items way }
     {
-        Ok(Vec::from_slice(alloc, self.most.as_slice())?)
+        match self.most.get(way) {
+            Some(most) => *most,
+            None => 0,
+        }
     }
 }

@@ -152,7 +152,7 @@ impl Stats {
     }
 
     /// How many packets were bound to an output of an actor.
-    pub(crate) fn packets(&self, actor: usize, link: u8) -> u64
+    pub(crate) fn bound(&self, actor: usize, link: u8) -> u64
         ensures { (es : List Event) → AreCounts self.now es →
             result ≡ actor_count_at output_in actor link es }
     {

@@ -4,8 +4,8 @@ ghost use Rattle.vc_text.specs.Running.{WritesRun, WritesRunBy};
 ghost use Rattle.vc_stats.specs.Texts.{IsStatsText, IsTrafficJson};
 
 use crate::form::Form;
+use crate::monitor::Monitor;
 use crate::text::{stats_text, traffic_text};
-use crate::watch::Watch;
 use std::alloc::Global;
 use std::io::{Read, Write};
 use vc_core::Close;
@@ -24,15 +24,22 @@ fn stats_plan<W: Write>(
     ensures { WritesRun (IsStatsText form options.is_why) accepted.now
         (W.contents writer.old) (W.contents writer.new) options.limit result }
 {
-    let mut watch = Watch::new(alloc, accepted.plan())?;
-    let (network, close) = run_into(alloc, accepted, &mut watch, options.limit, options.schedule)?;
-    let states = watch.states(alloc)?;
+    let plan = accepted.plan();
+    let mut monitor = Monitor::new(alloc, plan)?;
+    let (network, close) = run_into(
+        alloc,
+        accepted,
+        &mut monitor,
+        options.limit,
+        options.schedule,
+    )?;
+    let states = monitor.states(alloc, plan)?;
     let text = stats_text(
         alloc,
-        accepted.plan(),
+        plan,
         &network,
         close,
-        watch.stats(),
+        monitor.stats(),
         &states,
         form,
         options.is_why,

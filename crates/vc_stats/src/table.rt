@@ -1,5 +1,5 @@
 //! How often numbers came in each row.
-ghost use Rattle.std.specs.Prelude.{◌≡◌, ◌==◌, ◌&&◌, ◌<◌, ℕ, length, OnOk};
+ghost use Rattle.std.specs.Prelude.{◌≡◌, ◌==◌, ◌&&◌, ◌<◌, ℕ, cond, length, OnOk};
 ghost use Rattle.vc_stats.specs.Tallies.{cell, counted, is_at};
 
 use crate::tally::Tally;
@@ -32,6 +32,16 @@ impl Table {
         let place = usize::from(row);
         self.reach(place)?;
         self.rows[place].count(number)
+    }
+
+    /// A number came so often in a row. It fails for want of memory alone.
+    pub(crate) fn set(&mut self, row: u8, number: u16, times: u64) -> Result<(), Memory>
+        ensures { OnOk result ((k n : ℕ) →
+            cell self.new k n ≡ cond (row == k && number == n) times (cell self.old k n)) }
+    {
+        let place = usize::from(row);
+        self.reach(place)?;
+        self.rows[place].set(number, times)
     }
 
     // There is such a row.

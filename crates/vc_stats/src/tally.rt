@@ -1,5 +1,5 @@
 //! How often numbers came.
-ghost use Rattle.std.specs.Prelude.{◌≡◌, ◌==◌, ◌<◌, ℕ, length, OnOk};
+ghost use Rattle.std.specs.Prelude.{◌≡◌, ◌==◌, ◌<◌, ℕ, cond, length, OnOk};
 ghost use Rattle.vc_stats.specs.Tallies.{counted, entry, is_at};
 
 use std::alloc::Global;
@@ -40,6 +40,17 @@ impl Tally {
         let place = usize::from(number);
         self.reach(place)?;
         self.entries[place] = self.entries[place].saturating_add(1);
+        Ok(())
+    }
+
+    /// A number came so often. It fails for want of memory alone.
+    pub(crate) fn set(&mut self, number: u16, times: u64) -> Result<(), Memory>
+        ensures { OnOk result ((n : ℕ) →
+            entry self.new n ≡ cond (number == n) times (entry self.old n)) }
+    {
+        let place = usize::from(number);
+        self.reach(place)?;
+        self.entries[place] = times;
         Ok(())
     }
 

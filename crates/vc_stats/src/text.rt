@@ -6,13 +6,12 @@ ghost use Rattle.vc_core.specs.declared.event.Event.{Event};
 ghost use Rattle.vc_plan.specs.Accepted.{IsAccepted};
 ghost use Rattle.vc_stats.specs.Counting.{AreCounts};
 ghost use Rattle.vc_stats.specs.Texts.{IsCountedJson, IsCountedLines, IsCountedText, IsTrafficJson};
-ghost use Rattle.vc_stats.specs.Watching.{told};
+ghost use Rattle.vc_stats.specs.Monitor.{figures};
 
 use crate::form::Form;
-use crate::lines::push_lines;
-use crate::state_counts::StateCounts;
+use crate::sections::push_stats;
+use crate::state_figures::StateFigures;
 use crate::stats::Stats;
-use crate::stats_json::push_stats;
 use crate::traffic_json::push_traffic;
 use std::alloc::Global;
 use vc_core::{Close, Network};
@@ -27,17 +26,24 @@ fn stats_lines(
     network: &Network,
     close: Close,
     stats: &Stats,
-    states: &StateCounts,
+    states: &StateFigures,
     is_why: bool,
 ) -> Result<Vec<u8>, Memory>
     requires { (events : List Event) × Reached plan.now events (state_of network.now) }
     ensures { (es : List Event) → AreCounts stats.now es → IfOk result (λ text.
-        IsCountedLines is_why (told states.now) plan.now es
+        IsCountedLines is_why (figures states.now) plan.now es
         (shown (state_of network.now)) close text.items) }
 {
     let views = views(alloc, network)?;
     let mut text = tail_of(alloc, plan, network, close, is_why)?;
-    push_lines(&mut text, plan, stats, states, views.as_slice())?;
+    push_stats(
+        &mut text,
+        Form::Lines,
+        plan,
+        stats,
+        states,
+        views.as_slice(),
+    )?;
     Ok(text)
 }
 
@@ -48,17 +54,17 @@ fn stats_json(
     network: &Network,
     close: Close,
     stats: &Stats,
-    states: &StateCounts,
+    states: &StateFigures,
 ) -> Result<Vec<u8>, Memory>
     requires { IsNetworkOf plan.now (state_of network.now) }
     ensures { (es : List Event) → AreCounts stats.now es → IfOk result (λ text.
-        IsCountedJson (told states.now) plan.now es
+        IsCountedJson (figures states.now) plan.now es
         (shown (state_of network.now)) close text.items) }
 {
     let views = views(alloc, network)?;
     let mut text = Vec::new(alloc);
     push_traffic(alloc, &mut text, views.as_slice(), close)?;
-    push_stats(&mut text, plan, stats, states, views.as_slice())?;
+    push_stats(&mut text, Form::Json, plan, stats, states, views.as_slice())?;
     text.extend_from_slice(b"}\n")?;
     Ok(text)
 }
@@ -71,13 +77,13 @@ pub(crate) fn stats_text(
     network: &Network,
     close: Close,
     stats: &Stats,
-    states: &StateCounts,
+    states: &StateFigures,
     form: Form,
     is_why: bool,
 ) -> Result<Vec<u8>, Memory>
     requires { (events : List Event) × Reached plan.now events (state_of network.now) }
     ensures { (es : List Event) → AreCounts stats.now es → IfOk result (λ text.
-        IsCountedText form is_why (told states.now) plan.now es
+        IsCountedText form is_why (figures states.now) plan.now es
         (shown (state_of network.now)) close text.items) }
 {
     match form {

@@ -3,7 +3,7 @@ ghost use Rattle.vc_text.specs.Threading.{WritesThreads};
 ghost use Rattle.vc_stats.specs.Texts.{IsEventsText, IsTrafficJson};
 
 use crate::form::Form;
-use crate::state_counts::StateCounts;
+use crate::state_figures::StateFigures;
 use crate::stats::Stats;
 use crate::text::{stats_text, traffic_text};
 use std::alloc::Global;
@@ -36,7 +36,7 @@ pub fn stats_net<T: Threads + Wait, R: Read, W: Write>(
         &report.state,
         report.close,
         &stats,
-        &StateCounts::unknown(alloc),
+        &StateFigures::unknown(alloc),
         form,
         options.is_why,
     )?;

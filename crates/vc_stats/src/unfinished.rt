@@ -10,7 +10,7 @@ ghost use Rattle.vc_plan.specs.declared.plan.Plan.{Plan};
 ghost use Rattle.vc_stats.specs.Times.{AreIdle, AreOutputsOf, AreTimesOf, AreTurned, busy_of, may_turn as may_turn_by, source_on};
 ghost use Rattle.vc_stats.specs.Visited.{is_unfinished as is_unfinished_in};
 
-use crate::channel_time::ChannelTime;
+use crate::busy_time::BusyTime;
 use crate::rows::Rows;
 use std::alloc::Global;
 use vc_core::{Act, Event, Network};
@@ -24,7 +24,7 @@ pub(crate) struct Unfinished {
     // the channels on virtual links, by the node that outputs on them
     outputs: Rows,
     // by channel
-    times: Vec<ChannelTime>,
+    times: Vec<BusyTime>,
 }
 
 // The node at end a or end b of a virtual link.
@@ -62,12 +62,12 @@ fn outputs_of(alloc: Global, plan: &Plan) -> Result<Rows, Memory>
 }
 
 // So many channels, none of which is busy or was.
-fn idle_times(alloc: Global, channels: usize) -> Result<Vec<ChannelTime>, Memory>
+fn idle_times(alloc: Global, channels: usize) -> Result<Vec<BusyTime>, Memory>
     ensures { IfOk result (λ times. AreIdle channels times.items) }
 {
     let mut times = Vec::new(alloc);
     for _ in 0..channels {
-        times.push(ChannelTime::Idle { busy: 0 })?;
+        times.push(BusyTime::Idle { busy: 0 })?;
     }
     Ok(times)
 }
@@ -92,7 +92,7 @@ fn is_unfinished(network: &Network, chan: u16) -> bool
 }
 
 // These channels are busy or not, as they are in the network, from the next event on.
-fn turn_all(times: &mut Vec<ChannelTime>, chans: &[u16], network: &Network, events: u64)
+fn turn_all(times: &mut Vec<BusyTime>, chans: &[u16], network: &Network, events: u64)
     ensures { (p : Plan) → IsNetworkOf p (state_of network.now) →
         length times.old.items ≡ length p.channels →
         AreTurned p (shown (state_of network.now)) events chans.now

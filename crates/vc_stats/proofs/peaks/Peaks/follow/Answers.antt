@@ -1,4 +1,4 @@
-use Rattle.std.proofs.Common.{◌∙◌, ap, sym, subst}
+use Rattle.std.proofs.Common.{◌∙◌, sym, subst}
 use Rattle.vc_core.specs.State.{event_of, shown, state_of}
 use Rattle.vc_stats.specs.Peaks.{AreRaised}
 use Rattle.vc_stats.proofs.Following.{peaks_raise, peaks_still}

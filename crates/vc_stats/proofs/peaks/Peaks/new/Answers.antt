@@ -8,5 +8,5 @@ returns c = λ x begun.
     record {
       ways = c.in_ok-ways.ensures;
       count = zero.count ∙ ap (λ n. 2 * n) c.len.ensures;
-      each = λ way less. (let none : length (x.way way) ≡ 0 = ap (λ (z : NetworkState). length (z.way way)) begun in record { told = zero.each way; over = omega (arith, none) });
+      each = λ way less. (let none : length (x.way way) ≡ 0 = ap (λ (z : NetworkState). length (z.way way)) begun in record { is = zero.each way; over = omega (arith, none) });
     }

@@ -1,6 +1,5 @@
-use Rattle.std.proofs.Common.{◌∙◌, ap, sym, subst}
+use Rattle.std.proofs.Common.{◌∙◌, sym, subst}
 use Rattle.vc_core.specs.State.{event_of, shown, state_of}
-use Rattle.vc_stats.specs.Rows.{row_of}
 use Rattle.vc_stats.specs.Times.{AreTurned}
 use Rattle.vc_stats.proofs.Following.{times_still, times_turn}
 use Rattle.vc_stats.proofs.Acting.{turns_by}

@@ -1,8 +1,0 @@
-use Rattle.std.proofs.Common.{length, ◌+◌}
-use Rattle.vc_stats.specs.Lines.{actor_line}
-use Rattle.vc_stats.proofs.Pieces.{next_of}
-use Rattle.vc_stats.proofs.lines.push_actors.Goals as goal
-
-pub loop-actor-preserved : goal.loop-actor-preserved
-loop-actor-preserved c = λ es counts.
-    next_of (actor_line c.args.plan.now es) _ _ _ c.loop-actor.actor (c.loop-actor.invariant es counts) (c.in_ok-push_actor.ensures es counts)

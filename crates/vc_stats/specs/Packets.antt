@@ -1,0 +1,103 @@
+-- The packets that ports put whole on wires.
+use Rattle.std.specs.Prelude.{◌≡◌, ℕ, ◌*◌, ◌<◌, ◌==◌, ◌&&◌, nat_lt, Bool, true, false, List, [], ◌∷◌, ◌++◌, length, count_by, Option, Some, None, if◌then◌else◌}
+use Rattle.vc_accepted.specs.NetworkOf.{network_of}
+use Rattle.vc_core.specs.Enabled.{NetworkState}
+use Rattle.vc_core.specs.Links.{last_of}
+use Rattle.vc_core.specs.declared.event.Event.{Event}
+use Rattle.vc_machine.specs.Paths.{Port, AtNode, AtSwitch}
+use Rattle.vc_network.specs.Network.{actor_at}
+use Rattle.vc_network.specs.Plan.{near}
+use Rattle.vc_packets.specs.declared.mark.Mark.{Mark}
+use Rattle.vc_packets.specs.declared.mark.Mark.TheVariants.{Eop, Eom}
+use Rattle.vc_packets.specs.declared.packet.Packet.{Packet}
+use Rattle.vc_plan.specs.declared.plan.Plan.{Plan}
+use Rattle.vc_stats.specs.Counting.{put_in}
+use Rattle.vc_stats.specs.Tallies.{cell, counted, is_at}
+use Rattle.vc_stats.specs.declared.packets.Packets.{Packets}
+use Rattle.vc_tokens.specs.Tokens.{Token, Byte, Fct, EndMark}
+
+-- ---- what is put
+
+-- the link of a port
+abbrev pub link_at : Port → ℕ
+link_at (AtNode n link) = link
+link_at (AtSwitch n link) = link
+
+-- the event puts a token of a packet on the way
+abbrev pub puts_on : Plan → ℕ → Event → Bool
+puts_on p way e = e.actor == actor_at (network_of p) (near (network_of p) way) && is_at (link_at (near (network_of p) way)) (put_in e.act)
+
+-- a token, if there is one
+abbrev pub listed : Option Token → List Token
+listed None = []
+listed (Some k) = k ∷ []
+
+-- the tokens of packets that the events put on the way, in order: each stands last on it in the state after its event
+abbrev pub tokens_put : Plan → ℕ → List Event → List NetworkState → List Token
+tokens_put p way (e ∷ es) (x ∷ xs) = (if puts_on p way e then listed (last_of (x.way way)) else []) ++ tokens_put p way es xs
+tokens_put p way _ _ = []
+
+-- ---- the packets
+
+-- the packets that tokens spell behind these bytes of the first one
+abbrev pub packets_of : List ℕ → List Token → List Packet
+packets_of body [] = []
+packets_of body (Byte b ∷ ts) = packets_of (body ++ b ∷ []) ts
+packets_of body (EndMark m ∷ ts) = record { body = body; mark = m } ∷ packets_of [] ts
+packets_of body (Fct ∷ ts) = packets_of body ts
+
+-- and the bytes of the one whose mark has not come
+abbrev pub rest_of : List ℕ → List Token → List ℕ
+rest_of body [] = body
+rest_of body (Byte b ∷ ts) = rest_of (body ++ b ∷ []) ts
+rest_of body (EndMark m ∷ ts) = rest_of [] ts
+rest_of body (Fct ∷ ts) = rest_of body ts
+
+abbrev pub is_eop : Mark → Bool
+is_eop Eop = true
+is_eop Eom = false
+
+-- An acknowledge ends by EOP and has no data. A piece that ends by EOP has 32 bytes of data behind its headers, since more of its message
+-- comes; the headers of an acknowledge have 12 bytes at most.
+abbrev pub is_ack : Packet → Bool
+is_ack p = is_eop p.mark && nat_lt (length p.body) 32
+
+-- the packets that were put whole on the way
+abbrev pub packets_on : Plan → List Event → List NetworkState → ℕ → List Packet
+packets_on p es xs way = packets_of [] (tokens_put p way es xs)
+
+-- ---- how they are counted
+
+-- how many packets a port put whole, how many of them are acknowledges, and the bytes that it put since
+pub record PacketCount : Type 0 where
+  pub packets : ℕ
+  pub acks : ℕ
+  pub bytes : ℕ
+
+abbrev pub count_at : Packets → (actor link : ℕ) → PacketCount
+count_at all actor link = record { packets = cell all.whole actor link; acks = cell all.acks actor link; bytes = cell all.bytes actor link }
+
+-- the link of a packet, if it is an acknowledge
+abbrev pub acked_link : Bool → ℕ → Option ℕ
+acked_link is_ack link = if is_ack then Some link else None
+
+-- the count after one packet more is whole, an acknowledge or not
+abbrev pub ended : Bool → PacketCount → PacketCount
+ended is_ack c = record { packets = counted true c.packets; acks = counted is_ack c.acks; bytes = 0 }
+
+-- and after one token more
+abbrev pub with_token : Token → PacketCount → PacketCount
+with_token (Byte b) c = record c { bytes = counted true c.bytes }
+with_token (EndMark m) c = ended (is_eop m && nat_lt c.bytes 32) c
+with_token Fct c = c
+
+-- it is that of these tokens
+pub record IsCountOf (ts : List Token) (c : PacketCount) : Type 0 where
+  pub packets : c.packets ≡ length (packets_of [] ts)
+  pub acks : c.acks ≡ count_by is_ack (packets_of [] ts)
+  pub bytes : c.bytes ≡ length (rest_of [] ts)
+
+-- and so of each way, at the port where it begins
+abbrev pub ArePacketsOf : Packets → Plan → List Event → List NetworkState → Type 0
+ArePacketsOf all p es xs =
+    (way : ℕ) → way < 2 * length p.wires → IsCountOf (tokens_put p way es xs) (count_at all (actor_at (network_of p) (near (network_of p) way)) (link_at (near (network_of p) way)))
