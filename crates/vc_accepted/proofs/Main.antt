@@ -2,7 +2,8 @@
 use Rattle.std.proofs.Common.{◌≡◌, ℕ, ◌≤◌, ◌<◌, inl, inr, true, false, refl, sym, ap, ap₂, subst, ◌∙◌, List, [], length, arith, if◌then◌else◌, nat_lt}
 use Rattle.std.proofs.lemmas.Bool.{cases_lt}
 use Rattle.std.proofs.lemmas.Bool.Decides.{nat_tests}
-use Rattle.vc_network.specs.Actors.{Network, Event, Run}
+use Rattle.vc_network.specs.Actors.{Network}
+use Rattle.vc_network.specs.Private.Actors.{Event, Run}
 use Rattle.vc_machine.specs.Links.{no_tokens}
 use Rattle.vc_machine.specs.Rendezvous.{DoesAll, part, nothing_yet}
 use Rattle.vc_network.specs.Network.{Act, Node, Actor, IsNode, IsSwitch, Local, first, begins}

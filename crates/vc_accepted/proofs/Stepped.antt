@@ -11,7 +11,7 @@ use Rattle.vc_occam.specs.InUse.{UsesLawfully}
 use Rattle.vc_process.specs.Messages.{message}
 use Rattle.vc_occam.specs.NodeTraces as node
 use Rattle.vc_occam.specs.First.{first_moves}
-use Rattle.vc_occam.specs.Moving.{action_on}
+use Rattle.vc_occam.specs.Private.Moving.{action_on}
 use Rattle.vc_occam.specs.Remains.{Rest, Done, Step, TraceRest}
 use Rattle.vc_occam.specs.States.{State}
 use Rattle.vc_occam.specs.States as occam

@@ -27,8 +27,10 @@ use Rattle.vc_vcp.specs.Steps.{Taken}
 use Rattle.vc_vcp.specs.Steps as node
 use Rattle.vc_vcp.proofs.Enabling.{can_offer, offers_idle}
 use Rattle.vc_vcp.proofs.Passing.{less_put, less_grant}
-use Rattle.vc_actor.specs.Able.{HalfCan, CanMove}
-use Rattle.vc_actor.specs.Inside.{IsOpen, exchanged_on, stopped_on}
+use Rattle.vc_actor.specs.Private.Able.{HalfCan}
+use Rattle.vc_actor.specs.Able.{CanMove}
+use Rattle.vc_actor.specs.Inside.{IsOpen}
+use Rattle.vc_actor.specs.Private.Inside.{exchanged_on, stopped_on}
 use Rattle.vc_actor.specs.OfPlan.{IsNodeOf}
 use Rattle.vc_accepted.specs.Process.{Process, Goes}
 use Rattle.vc_actor.specs.Shown.{node_of, process_of, view_of, views_of}

@@ -34,9 +34,10 @@ use Rattle.vc_plan.specs.declared.switch_plan.SwitchPlan.{SwitchPlan}
 use Rattle.vc_switch.specs.State.{State as SwitchState}
 use Rattle.vc_accepted.proofs.Giving.{given_ends}
 use Rattle.vc_accepted.proofs.Listed.{made, made_or, made_at}
-use Rattle.vc_actor.specs.Begin.{BeginsAs, AreFirst, IsBuilt}
+use Rattle.vc_actor.specs.Begin.{BeginsAs, AreFirst}
+use Rattle.vc_actor.specs.Private.Begin.{IsBuilt}
 use Rattle.vc_accepted.specs.Begin.{begin_of, is_inside, no_node, node_plan, numbers_inside}
-use Rattle.vc_actor.specs.Inside.{opened_inside, opened_internal}
+use Rattle.vc_actor.specs.Private.Inside.{opened_inside, opened_internal}
 use Rattle.vc_actor.specs.OfPlan.{AreInside, InStep}
 use Rattle.vc_accepted.specs.Process.{Process}
 use Rattle.vc_actor.specs.Shown.{Acting, OfNode, OfSwitch, node_of, view_of, views_of, process_of}

@@ -16,7 +16,7 @@ use Rattle.vc_vcp.proofs.Placed.{place-set_same, place-set_other}
 use Rattle.vc_accepted.specs.Given.{is_on, first_on, ends_among, ends_of_node}
 use Rattle.vc_accepted.proofs.Filling.{channel_next}
 use Rattle.vc_accepted.proofs.Limited.{home_fits, kept}
-use Rattle.vc_actor.specs.Begin.{on_way, on_link, AreWaysOf, carrying, carried, empty_ways}
+use Rattle.vc_actor.specs.Private.Begin.{on_way, on_link, AreWaysOf, carrying, carried, empty_ways}
 use Rattle.vc_actor.specs.declared.plan_actors.Ways.{Ways}
 
 one_way : (w : Ways) (c : ℕ) (g f : Bool) → on_way (Some (carrying w g c)) f ≡ (if same_bool g f then Some c else on_way (Some w) f)

@@ -9,8 +9,8 @@ use Rattle.vc_plan.specs.declared.vlink.Vlink.{Vlink}
 use Rattle.vc_vcp.specs.declared.end.End.{End as Given}
 use Rattle.vc_accepted.specs.Given.{end_given, ends_among, with_end}
 use Rattle.vc_accepted.specs.Begin.{is_inside, numbers_inside}
-use Rattle.vc_actor.specs.Begin.{given_to}
-use Rattle.vc_actor.specs.Inside.{opened_inside, opened_internal}
+use Rattle.vc_actor.specs.Private.Begin.{given_to}
+use Rattle.vc_actor.specs.Private.Inside.{opened_inside, opened_internal}
 use Rattle.vc_actor.specs.declared.inside.Internal.{Internal}
 
 -- what a loop reads of a list stands there

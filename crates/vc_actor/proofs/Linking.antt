@@ -11,7 +11,7 @@ use Rattle.vc_network.specs.Plan.{Plan, IsOutOf, IsInto}
 use Rattle.vc_actor.proofs.Passing.{unmoved}
 use Rattle.vc_actor.specs.Acting.{port, MakesOwn, MakesTake, MakesPut, MakesGrant}
 use Rattle.vc_actor.specs.MayMove.{MakesMove}
-use Rattle.vc_actor.specs.Passing.{MakesPass}
+use Rattle.vc_actor.specs.Private.Passing.{MakesPass}
 use Rattle.vc_actor.specs.declared.act.Act.{Act}
 use Rattle.vc_actor.specs.declared.act.Act.TheVariants.{Proc, Pass}
 use Rattle.vc_occam.specs.declared.moves.Move.{Move}

@@ -28,7 +28,8 @@ use Rattle.vc_actor.specs.MayMove.{MakesMove}
 use Rattle.vc_actor.specs.OfPlan.{IsNodeOf, InStep, AreInside}
 use Rattle.vc_accepted.specs.Process.{Goes}
 use Rattle.vc_actor.specs.Shown.{node_of, process_of, view_of, views_of}
-use Rattle.vc_actor.specs.Inside.{exchanged_on, stopped_on, IsOpen as IsGoing}
+use Rattle.vc_actor.specs.Private.Inside.{exchanged_on, stopped_on}
+use Rattle.vc_actor.specs.Inside.{IsOpen as IsGoing}
 use Rattle.vc_actor.specs.declared.node.Node.{Node}
 use Rattle.vc_actor.specs.declared.inside.Internal.{Internal}
 

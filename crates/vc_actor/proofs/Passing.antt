@@ -22,7 +22,7 @@ use Rattle.vc_actor.specs.OfPlan.{IsNodeOf, InStep, AreInside}
 use Rattle.vc_actor.specs.Shown.{process_of, views_of}
 use Rattle.vc_actor.specs.declared.node.Node.{Node}
 use Rattle.vc_accepted.specs.Process.{Process, does, Goes}
-use Rattle.vc_actor.specs.Passing.{IsAwaited, MakesPass}
+use Rattle.vc_actor.specs.Private.Passing.{IsAwaited, MakesPass}
 
 abbrev left : Process → List Waiting
 left p = waiting p.state.rest

@@ -24,7 +24,7 @@ use Rattle.vc_switch.specs.Seen.{seen}
 use Rattle.vc_switch.specs.State.{State, interval_of, plan_of, limit_of}
 use Rattle.vc_switch.specs.Switch.{new_switch}
 use Rattle.vc_switch.specs.declared.switch_plan.SwitchPlan.{SwitchPlan as Given}
-use Rattle.vc_actor.specs.Begin.{IsBuilt, range_of, ranges_given}
+use Rattle.vc_actor.specs.Private.Begin.{IsBuilt, range_of, ranges_given}
 
 -- its links are links of a switch, and its ranges have headers
 

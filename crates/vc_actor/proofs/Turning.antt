@@ -7,7 +7,8 @@ use Rattle.vc_occam.specs.declared.moves.Move.{Move}
 use Rattle.vc_switch.specs.State.{State as SwitchState}
 use Rattle.vc_actor.specs.Able.{NodeCan, SwitchCan, CanMove}
 use Rattle.vc_actor.specs.Shown.{Acting, OfNode, OfSwitch}
-use Rattle.vc_actor.specs.Turns.{IsTurn, FindsAt, FindsRoute, FindsMove, FindsTurn, kind_of, FindsOf, TakesNone, IsTold, MakesTurn}
+use Rattle.vc_actor.specs.Turns.{IsTurn, FindsTurn, kind_of, FindsOf, TakesNone, MakesTurn}
+use Rattle.vc_actor.specs.Private.Turns.{FindsAt, FindsRoute, FindsMove, IsTold}
 use Rattle.vc_actor.specs.declared.act.Act.{Act}
 use Rattle.vc_actor.specs.declared.act.Act.TheVariants as act
 use Rattle.vc_actor.specs.declared.act.ActKind.TheVariants as kind

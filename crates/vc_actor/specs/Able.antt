@@ -1,30 +1,18 @@
 -- Which moves of a node and which acts of an actor the definitions have a step for.
-use Rattle.std.specs.Prelude.{◌⊎◌, ℕ, ◌<◌, List, IsSome}
+use Rattle.std.specs.Prelude.{ℕ, ◌<◌}
 use Rattle.vc_network.specs.Network as net
 use Rattle.vc_network.specs.Plan.{Plan, ends, body_limit}
 use Rattle.vc_occam.specs.declared.moves.Move.{Move}
-use Rattle.vc_occam.specs.declared.moves.Move.TheVariants.{Offer, Want, Choose, Stopch, Inner, Quiet}
-use Rattle.vc_vcp.specs.Able.{CanOffer, CanWant, CanFetch, CanStop, CanPut, CanGrant, CanPass}
-use Rattle.vc_vcp.specs.Keyed.{named}
-use Rattle.vc_vcp.specs.Seen.{seen, ends_of}
+use Rattle.vc_vcp.specs.Able.{CanPut, CanGrant, CanPass}
+use Rattle.vc_vcp.specs.Seen.{seen}
 use Rattle.vc_switch.specs.Able as switch
 use Rattle.vc_switch.specs.Seen.{seen as seen_switch}
 use Rattle.vc_switch.specs.State.{State as SwitchState, plan_of, limit_of}
-use Rattle.vc_actor.specs.Inside.{IsOpen}
 use Rattle.vc_accepted.specs.Process.{Process, does}
 use Rattle.vc_actor.specs.Shown.{move_of, node_of, Acting, OfNode, OfSwitch}
 use Rattle.vc_actor.specs.declared.act.Act.{Act}
 use Rattle.vc_actor.specs.declared.act.Act.TheVariants.{Proc, Take, Put, Route, Fct, Pass}
 use Rattle.vc_actor.specs.declared.node.Node.{Node}
-
--- the half of the move's channel has such a step; inside the node the channel is there, and not stopped where something goes over it
-abbrev pub HalfCan : Node → Move → Type 0
-HalfCan n (Offer i c) = (m : List ℕ) → CanOffer (ends_of n.vcp) (seen n.vcp).carrier c m
-HalfCan n (Want i c) = CanWant (ends_of n.vcp) (seen n.vcp).carrier c
-HalfCan n (Choose i k c) = CanFetch (ends_of n.vcp) (seen n.vcp).carrier c
-HalfCan n (Stopch i c) = CanStop (ends_of n.vcp) (seen n.vcp).carrier c ⊎ IsSome (named (λ x. x.chan) c n.inside)
-HalfCan n (Inner i j k c) = IsOpen n.inside c
-HalfCan n (Quiet i) = Unit {0}
 
 -- the node has the move, to some state
 abbrev pub CanMove : Plan → ℕ → Node → Move → Type 0

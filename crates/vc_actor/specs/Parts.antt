@@ -4,7 +4,6 @@ use Rattle.vc_occam.specs.Remains.{Done}
 use Rattle.vc_occam.specs.Runnings.{state}
 use Rattle.vc_switch.specs.Seen.{seen as seen_switch}
 use Rattle.vc_switch.specs.State.{State as SwitchState}
-use Rattle.vc_vcp.specs.Links.{Vcp, new_vcp}
 use Rattle.vc_vcp.specs.Seen.{seen}
 use Rattle.vc_actor.specs.Shown.{Acting, OfNode, OfSwitch}
 use Rattle.vc_actor.specs.declared.actor.Part.{Part}
@@ -20,30 +19,10 @@ abbrev pub node_in : Acting → Option Node
 node_in (OfNode n) = Some n
 node_in (OfSwitch s) = None
 
--- the node, if there is such an actor and it is one
-abbrev pub node_at : Option Acting → Option Node
-node_at None = None
-node_at (Some a) = node_in a
-
 -- the switch, if the actor is one
 abbrev pub switch_in : Acting → Option SwitchState
 switch_in (OfNode n) = None
 switch_in (OfSwitch s) = Some s
-
--- the switch, if there is such an actor and it is one
-abbrev pub switch_at : Option Acting → Option SwitchState
-switch_at None = None
-switch_at (Some a) = switch_in a
-
--- what the node shows; nothing where there is none
-abbrev pub vcp_in : Option Node → Vcp
-vcp_in None = new_vcp
-vcp_in (Some n) = seen n.vcp
-
--- nothing remains of its process, if it is a node
-abbrev pub IsDone : Acting → Type 0
-IsDone (OfNode n) = (state n.process).rest ≡ Done
-IsDone (OfSwitch s) = Unit {0}
 
 -- it is a node, of whose process nothing remains
 abbrev pub HasEnded : Acting → Type 0

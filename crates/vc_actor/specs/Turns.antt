@@ -1,22 +1,19 @@
 -- What an actor does next, where some of its links have room.
-use Rattle.std.specs.Prelude.{◌≡◌, ℕ, ◌+◌, ◌<◌, length, Option, Some, None}
+use Rattle.std.specs.Prelude.{◌≡◌, ℕ, ◌+◌, length, Option, Some, None}
 use Rattle.std.specs.Int.{bit_at}
 use Rattle.vc_network.specs.Plan.{Plan}
-use Rattle.vc_occam.specs.declared.moves.Move.{Move}
 use Rattle.vc_occam.specs.declared.moves.Move.TheVariants.{Quiet}
 use Rattle.vc_plan.specs.declared.plan.Plan.{Plan as Given}
 use Rattle.vc_tokens.specs.Spelt.{token}
 use Rattle.vc_tokens.specs.Tokens as tokens
 use Rattle.vc_tokens.specs.declared.token.Token.{Token}
-use Rattle.vc_switch.specs.State.{State as SwitchState}
-use Rattle.vc_actor.specs.Able.{CanMove, SwitchCan, CanAct}
+use Rattle.vc_actor.specs.Able.{CanAct}
 use Rattle.vc_actor.specs.Acting.{MakesOwn, MakesPut, MakesGrant}
 use Rattle.vc_actor.specs.Shown.{Acting}
 use Rattle.vc_actor.specs.declared.act.Act.{Act}
 use Rattle.vc_actor.specs.declared.act.Act.TheVariants.{Proc, Take, Put, Route, Fct, Pass}
 use Rattle.vc_actor.specs.declared.act.ActKind.{ActKind}
 use Rattle.vc_actor.specs.declared.act.ActKind.TheVariants as kind
-use Rattle.vc_actor.specs.declared.node.Node.{Node}
 use Rattle.vc_actor.specs.declared.turn.Turn.{Turn}
 use Rattle.vc_actor.specs.declared.turn.Turn.TheVariants as turn
 
@@ -29,30 +26,10 @@ RoomLets room (Proc made) = Unit {0}
 RoomLets room (Pass link) = Unit {0}
 RoomLets room (Route input output) = Unit {0}
 
--- the act puts no token, so it needs room on no link
-abbrev pub NeedsNoRoom : Act → Type 0
-NeedsNoRoom a = (room : ℕ) → RoomLets room a
-
 -- the actor can have the act for its turn
 pub record IsTurn (plan : Plan) (k : ℕ) (x : Acting) (room : ℕ) (a : Act) : Type 0 where
   pub can : CanAct plan k x a
   pub lets : RoomLets room a
-
--- what is found among the acts at an actor's links: the one at the least link, or none where none can be made
-abbrev pub FindsAt : (ℕ → Act) → (Act → Type 0) → Option Act → Type 0
-FindsAt at Can None = (link : ℕ) → Can (at link) → ⊥
-FindsAt at Can (Some a) = (link : ℕ) × (a ≡ at link) × Can (at link) × ((l : ℕ) → l < link → Can (at l) → ⊥)
-
--- a packet at an input that can be bound to an output, the least input's and to the least output; or none where none can
-abbrev pub FindsRoute : SwitchState → Option Act → Type 0
-FindsRoute s None = (input output : ℕ) → SwitchCan s (Route input output) → ⊥
-FindsRoute s (Some a) = (input output : ℕ) × (a ≡ Route input output) × SwitchCan s (Route input output)
-    × ((i o : ℕ) → i < input → SwitchCan s (Route i o) → ⊥) × ((o : ℕ) → o < output → SwitchCan s (Route input o) → ⊥)
-
--- a move that can be made, or none where none can
-abbrev pub FindsMove : Plan → ℕ → Node → Option Act → Type 0
-FindsMove plan k n None = (m : Move) → CanMove plan k n m → ⊥
-FindsMove plan k n (Some a) = (m : Move) × (a ≡ Proc m) × CanMove plan k n m
 
 -- an act for the actor's turn, or none where it has none
 abbrev pub FindsTurn : Plan → ℕ → Acting → ℕ → Option Act → Type 0
@@ -91,12 +68,6 @@ abbrev pub IsPut : Plan → ℕ → Acting → ℕ → Act → Token → Acting 
 IsPut plan k old link (Put l) item new = (link ≡ l) × MakesPut plan k old l (token item) new
 IsPut plan k old link (Fct l) item new = (link ≡ l) × (token item ≡ tokens.Fct) × MakesGrant plan k old l new
 IsPut plan k old link a item new = ⊥
-
--- the act was made, unless it takes a token, and this is told of it
-abbrev pub IsTold : Plan → ℕ → Acting → Act → Turn → Acting → Type 0
-IsTold plan k old a turn.Idle new = TakesNone a → ⊥
-IsTold plan k old a (turn.Local told) new = (told ≡ a) × MakesOwn plan k old told new
-IsTold plan k old a (turn.Put link told item) new = (told ≡ a) × IsPut plan k old link told item new
 
 -- a turn of the actor: one act that it can have, or none where it can have none
 abbrev pub MakesTurn : Plan → ℕ → Acting → ℕ → Turn → Acting → Type 0

@@ -6,7 +6,8 @@ ghost use Rattle.vc_actor.specs.Acting.{HasLink, MayAct, MakesOwn, MakesTake, Ma
 ghost use Rattle.vc_actor.specs.OfPlan.{IsActorOf};
 ghost use Rattle.vc_actor.specs.Parts.{HasEnded, node_in, switch_in, strays_of, lost_of, faults_of};
 ghost use Rattle.vc_actor.specs.Shown.{OfNode, OfSwitch};
-ghost use Rattle.vc_actor.specs.Turns.{FindsOf, FindsTurn, IsQuiet, IsTold, IsTurn, MakesTurn, PutsWithRoom, RoomLets};
+ghost use Rattle.vc_actor.specs.Turns.{FindsOf, FindsTurn, IsQuiet, IsTurn, MakesTurn, PutsWithRoom, RoomLets};
+ghost use Rattle.vc_actor.specs.Private.Turns.{IsTold};
 ghost use Rattle.vc_network.specs.Plan.{Plan};
 ghost use Rattle.vc_tokens.specs.Spelt.{token};
 

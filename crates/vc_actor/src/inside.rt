@@ -1,6 +1,7 @@
 //! Channels inside a node: an output and an input meet there in one step.
 ghost use Rattle.std.specs.Prelude.{◌≡◌, ◌<◌, ◌≤◌, ◌↔◌, [], ◌∷◌, ◌++◌, All, length, slice_get, ℕ, false, Some, None, IsTrue, IsSome, IfOk, OnOk, OnErr, IfSome, MatchOption};
-ghost use Rattle.vc_actor.specs.Inside.{IsOpen, exchanged_on, stopped_on, opened_inside, opened_internal};
+ghost use Rattle.vc_actor.specs.Inside.{IsOpen};
+ghost use Rattle.vc_actor.specs.Private.Inside.{exchanged_on, stopped_on, opened_inside, opened_internal};
 ghost use Rattle.vc_actor.specs.Shown.{views_of};
 ghost use Rattle.vc_vcp.specs.Keyed.{named, NamesDiffer};
 

@@ -4,7 +4,8 @@ ghost use Rattle.vc_actor.specs.Acting.{NodeMay, MakesOwn, MakesTake, MakesPut, 
 ghost use Rattle.vc_actor.specs.Able.{NodeCan};
 ghost use Rattle.vc_actor.specs.OfPlan.{IsNodeOf, IsActorOf};
 ghost use Rattle.vc_actor.specs.Shown.{OfNode};
-ghost use Rattle.vc_actor.specs.Turns.{FindsMove, FindsOf, IsQuiet, NeedsNoRoom, RoomLets};
+ghost use Rattle.vc_actor.specs.Private.Turns.{FindsMove, NeedsNoRoom};
+ghost use Rattle.vc_actor.specs.Turns.{FindsOf, IsQuiet, RoomLets};
 ghost use Rattle.vc_occam.specs.Moving.{without};
 ghost use Rattle.vc_occam.specs.Remains.{Done};
 ghost use Rattle.vc_occam.specs.Runnings.{inner_channels, moves as moves_of, state};

@@ -1,7 +1,7 @@
 //! Building the switches of an accepted plan.
 ghost use Rattle.std.specs.Prelude.{◌≡◌, ◌≤◌, true, None, IfOk};
 ghost use Rattle.std.specs.List.{list_all};
-ghost use Rattle.vc_actor.specs.Begin.{IsBuilt, ranges_given};
+ghost use Rattle.vc_actor.specs.Private.Begin.{IsBuilt, ranges_given};
 ghost use Rattle.vc_labels.specs.Fault.{table_fault};
 ghost use Rattle.vc_plan.specs.Limits.{switch_links_ok, range_ok};
 

@@ -4,7 +4,8 @@ ghost use Rattle.vc_actor.specs.Acting.{SwitchMay, MakesOwn, MakesTake, MakesPut
 ghost use Rattle.vc_actor.specs.Able.{SwitchCan};
 ghost use Rattle.vc_actor.specs.OfPlan.{IsActorOf};
 ghost use Rattle.vc_actor.specs.Shown.{OfSwitch};
-ghost use Rattle.vc_actor.specs.Turns.{IsTurn, FindsAt, FindsOf, FindsRoute, NeedsNoRoom, RoomLets};
+ghost use Rattle.vc_actor.specs.Turns.{IsTurn, FindsOf, RoomLets};
+ghost use Rattle.vc_actor.specs.Private.Turns.{FindsAt, FindsRoute, NeedsNoRoom};
 ghost use Rattle.vc_network.specs.Plan.{Plan};
 ghost use Rattle.vc_switch.specs.Able.{CanLeave};
 ghost use Rattle.vc_switch.specs.Seen.{seen};

@@ -19,7 +19,7 @@ use Rattle.vc_network.specs.Plan as network
 use Rattle.vc_network.proofs.Wiring.{carried, net_accepted}
 use Rattle.vc_vcp.specs.State.{IsPieceOf, IsAckOf}
 use Rattle.vc_core.specs.Channels.{ends_at, block_of}
-use Rattle.vc_core.specs.Targets.{IsTargetAt, ComesTo, IsOwned}
+use Rattle.vc_core.specs.Private.Targets.{IsTargetAt, ComesTo, IsOwned}
 use Rattle.vc_core.specs.declared.channels.BlockAt.{BlockAt}
 use Rattle.vc_core.specs.declared.channels.Ends.{Ends}
 use Rattle.vc_core.proofs.Following.{goes_on}

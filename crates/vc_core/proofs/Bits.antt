@@ -6,7 +6,8 @@ use Rattle.std.proofs.lemmas.Nat.Bits.{bit_at-zero, bit_at-trailing_zeros, bit_a
 use Rattle.std.proofs.lemmas.Option.{slice_get_within, slice_get_read, get_or_from_slice_get, unwrap_or-slice_get}
 use Rattle.std.specs.Int.{bit_at, trailing_zeros, w32, w64}
 use Rattle.vc_vcp.proofs.Placed.{place-set_same, place-set_other}
-use Rattle.vc_core.specs.Fronts.{bit_of, AreAwake, HasBit, Marked}
+use Rattle.vc_core.specs.Fronts.{bit_of, AreAwake, HasBit}
+use Rattle.vc_core.specs.Private.Fronts.{Marked}
 
 there_now : (old : List ℕ) (k x y : ℕ) → slice_get old k ≡ Some x → get_or (slice_set old k y) k 0 ≡ y
 there_now old k x y here = get_or_from_slice_get (slice_set old k y) k y 0 (place-set_same old k y (slice_get_within old k x here))

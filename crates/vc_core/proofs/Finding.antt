@@ -16,7 +16,7 @@ use Rattle.vc_network.specs.Plan.{body_limit, net_of}
 use Rattle.vc_plan.specs.declared.plan.Plan.{Plan}
 use Rattle.vc_accepted.specs.NetworkOf.{network_of}
 use Rattle.vc_process.proofs.Lists.{at_front, behind}
-use Rattle.vc_core.specs.Targets.{Has, IsOwned, HasRead, left}
+use Rattle.vc_core.specs.Private.Targets.{Has, IsOwned, HasRead, left}
 use Rattle.vc_core.specs.declared.reader.Reader.{Reader}
 use Rattle.vc_actor.proofs.Turning.{clash}
 

@@ -6,7 +6,7 @@ use Rattle.vc_switch.specs.Forward.{IsDrawn, behind}
 use Rattle.vc_machine.specs.Machine.{BodyLeaves}
 use Rattle.vc_machine.specs.Paths.{AtNode, AtSwitch, End, Net, Delivers, GoesOn, IsWellAt, IsAccepted}
 use Rattle.vc_machine.proofs.Cover.{at_node, follows, spelled_behind}
-use Rattle.vc_core.specs.Targets.{IsTarget, IsTargetAt, ComesTo, target_at}
+use Rattle.vc_core.specs.Private.Targets.{IsTarget, IsTargetAt, ComesTo, target_at}
 use Rattle.vc_core.specs.declared.channels.Ends.{Ends}
 
 -- at a node

@@ -24,7 +24,8 @@ use Rattle.vc_actor.specs.Acting.{port, MakesOwn, MakesTake, MakesPut, MakesGran
 use Rattle.vc_actor.specs.OfPlan.{IsActorOf}
 use Rattle.vc_accepted.specs.Process.{does}
 use Rattle.vc_actor.specs.Shown.{Acting, actor_of, act_of}
-use Rattle.vc_core.specs.State.{State, shown, IsNetworkOf, HasFront, HasWay, MakesEvent, Accepts, GrantsBy, with_actor, with_line}
+use Rattle.vc_core.specs.State.{State, shown, IsNetworkOf, HasFront, HasWay, MakesEvent}
+use Rattle.vc_core.specs.Private.State.{Accepts, GrantsBy, with_actor, with_line}
 use Rattle.vc_core.specs.Wired.{out_at}
 use Rattle.vc_actor.specs.declared.act.Act.TheVariants as act
 use Rattle.vc_core.specs.declared.event.Event.{Event}

@@ -12,7 +12,8 @@ use Rattle.vc_tokens.specs.Spelt.{token as spelt, tokens as all_spelt}
 use Rattle.vc_tokens.specs.declared.token.Token.{Token as Made}
 use Rattle.vc_vcp.proofs.Placed.{place-set_same}
 use Rattle.vc_core.specs.Channels.{AreChannelsOf}
-use Rattle.vc_core.specs.Lined.{Lined, with_way}
+use Rattle.vc_core.specs.Lined.{Lined}
+use Rattle.vc_core.specs.Private.Lined.{with_way}
 use Rattle.vc_actor.specs.OfPlan.{IsActorOf}
 use Rattle.vc_actor.specs.Shown.{Acting}
 use Rattle.vc_core.specs.State.{State, IsNetworkOf}

@@ -18,7 +18,7 @@ use Rattle.vc_accepted.proofs.Filling.{wire_next}
 use Rattle.vc_accepted.proofs.Limited.{kept}
 use Rattle.vc_accepted.proofs.Listed.{both}
 use Rattle.vc_accepted.proofs.Wired.{wired}
-use Rattle.vc_core.specs.Filled.{left}
+use Rattle.vc_core.specs.Private.Filled.{left}
 use Rattle.vc_core.specs.Wired.{there, out_at}
 
 -- how many there are at most

@@ -14,8 +14,10 @@ use Rattle.vc_plan.specs.declared.plan.Plan.{Plan}
 use Rattle.vc_tokens.specs.Tokens.{Token}
 use Rattle.vc_vcp.specs.Keyed.{shown_or}
 use Rattle.vc_vcp.proofs.Placed.{place-set_same, place-set_other}
-use Rattle.vc_core.specs.Fronts.{bit_of, Marked}
-use Rattle.vc_core.specs.Lined.{AreLined, Wakes}
+use Rattle.vc_core.specs.Fronts.{bit_of}
+use Rattle.vc_core.specs.Private.Fronts.{Marked}
+use Rattle.vc_core.specs.Lined.{AreLined}
+use Rattle.vc_core.specs.Private.Lined.{Wakes}
 use Rattle.vc_core.specs.Wired.{out_at, in_at, AreWaysAt, IsWired, Comes, Goes}
 use Rattle.vc_core.specs.State.{State, HasFront}
 use Rattle.vc_core.specs.Turns.{FindsFront}

@@ -16,7 +16,7 @@ use Rattle.vc_accepted.proofs.Wired.{outgoing_is}
 use Rattle.vc_switch.specs.State.{State as SwitchState, plan_of}
 use Rattle.vc_switch.specs.Switch as switch
 use Rattle.vc_actor.specs.Acting.{port}
-use Rattle.vc_actor.specs.Parts.{switch_at}
+use Rattle.vc_actor.specs.Private.Parts.{switch_at}
 use Rattle.vc_core.specs.State.{State, IsNetworkOf}
 use Rattle.vc_core.specs.Wired.{out_at}
 use Rattle.vc_core.proofs.Enabled.{real_out}

@@ -23,8 +23,8 @@ use Rattle.vc_switch.specs.State.{State as SwitchState, plan_of}
 use Rattle.vc_switch.specs.Switch.{new_switch}
 use Rattle.vc_vcp.specs.Keyed.{shown_or}
 use Rattle.vc_actor.specs.OfPlan.{IsSwitchOf}
-use Rattle.vc_actor.specs.Parts.{switch_at}
-use Rattle.vc_core.specs.Placed.{FindsAt, FindsOn, HasIts}
+use Rattle.vc_actor.specs.Private.Parts.{switch_at}
+use Rattle.vc_core.specs.Private.Placed.{FindsAt, FindsOn, HasIts}
 use Rattle.vc_actor.specs.Shown.{Acting, OfNode, OfSwitch, actor_of}
 use Rattle.vc_core.specs.State.{State, shown, IsNetworkOf}
 use Rattle.vc_core.specs.declared.place.Place.{Place}

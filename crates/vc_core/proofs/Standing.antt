@@ -25,7 +25,8 @@ use Rattle.vc_accepted.specs.Begin.{begin_of}
 use Rattle.vc_accepted.specs.Process.{does}
 use Rattle.vc_vcp.specs.Keyed.{named, shown_or}
 use Rattle.vc_core.specs.Channels.{ends_at, block_of}
-use Rattle.vc_core.specs.Placed.{AreOwned, FindsPlace, FindsOn, IsAt, IsUnfinished, packets_at}
+use Rattle.vc_core.specs.Private.Placed.{AreOwned, FindsOn, IsAt, packets_at}
+use Rattle.vc_core.specs.Placed.{FindsPlace, IsUnfinished}
 use Rattle.vc_core.specs.Replaying.{Reached, Replays}
 use Rattle.vc_actor.specs.Shown.{Acting, OfNode, OfSwitch, actor_of, view_of}
 use Rattle.vc_core.specs.State.{State, shown, event_of, IsNetworkOf}

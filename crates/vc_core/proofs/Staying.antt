@@ -4,7 +4,8 @@ use Rattle.std.proofs.lemmas.Option.{slice_get_read, slice_get_within}
 use Rattle.vc_actor.specs.Acting.{MayAct}
 use Rattle.vc_actor.specs.Shown.{Acting}
 use Rattle.vc_actor.specs.declared.act.Act.{Act}
-use Rattle.vc_core.specs.State.{State, MayActAt, with_actor}
+use Rattle.vc_core.specs.State.{State, MayActAt}
+use Rattle.vc_core.specs.Private.State.{with_actor}
 use Rattle.vc_core.proofs.Happening.{written_back}
 
 pub unchanged : (s : State) (k : ℕ) (a b : Acting) → k < length s.actors → a ≡ get_or s.actors k a → b ≡ a → with_actor s k b ≡ s

@@ -15,7 +15,7 @@ use Rattle.vc_vcp.specs.Seen.{seen}
 use Rattle.vc_actor.specs.OfPlan.{AreInside}
 use Rattle.vc_actor.specs.Shown.{Acting, OfNode, OfSwitch, actor_of, view_of, views_of}
 use Rattle.vc_core.specs.State.{State, shown, IsNetworkOf}
-use Rattle.vc_actor.specs.Parts.{node_at}
+use Rattle.vc_actor.specs.Private.Parts.{node_at}
 use Rattle.vc_actor.specs.Viewed.{by_inside, node_view, view_at_node}
 use Rattle.vc_actor.specs.declared.inside.Internal.{Internal}
 use Rattle.vc_actor.specs.declared.node.Node.{Node}

@@ -13,8 +13,8 @@ use Rattle.vc_plan.specs.declared.plan.Plan.{Plan}
 use Rattle.vc_accepted.specs.NetworkOf.{network_of}
 use Rattle.vc_process.proofs.Lists.{at_front}
 use Rattle.vc_switch.specs.Switch.{Switch}
-use Rattle.vc_core.specs.Placed.{AreOwned, FindsAt, HasIts, packets_at}
-use Rattle.vc_core.specs.Targets.{Has, HasRead, IsOwned, left}
+use Rattle.vc_core.specs.Private.Placed.{AreOwned, FindsAt, HasIts, packets_at}
+use Rattle.vc_core.specs.Private.Targets.{Has, HasRead, IsOwned, left}
 use Rattle.vc_core.specs.State.{State, shown, IsNetworkOf}
 use Rattle.vc_core.specs.declared.place.Place.TheVariants as name
 use Rattle.vc_core.specs.declared.reader.Reader.{Reader}

@@ -3,7 +3,7 @@ use Rattle.std.specs.Prelude.{◌≡◌, ℕ, not, List, length, Option, Some, N
 use Rattle.std.specs.String.{string_bytes}
 use Rattle.vc_plan.specs.declared.channel.Channel.{Channel}
 use Rattle.vc_plan.specs.declared.plan.Plan.{Plan}
-use Rattle.vc_accepted.specs.NetworkOf.{network_of, home_in}
+use Rattle.vc_accepted.specs.NetworkOf.{network_of}
 use Rattle.vc_network.specs.Plan as network
 use Rattle.vc_network.specs.Plan.{home, Way, Inside, end_of, virtual_link}
 use Rattle.vc_network.specs.Views.{source_node, sink_node}
@@ -19,14 +19,6 @@ block_of e = record { node = e.node; block = e.block }
 abbrev pub ends_at : network.Plan → network.Home → Option Ends
 ends_at plan (Way v ab) = Some (record { from = block_of (end_of (virtual_link plan v) ab); to = block_of (end_of (virtual_link plan v) (not ab)) })
 ends_at plan (Inside n) = None
-
--- the channel's name and kind, the node that outputs on it, the one that inputs, and the ends of its virtual link
-pub record IsInfoOf (p : Plan) (x : Channel) (info : ChannelInfo) : Type 0 where
-  pub name : string_bytes info.name ≡ x.name
-  pub kind : info.kind ≡ x.kind
-  pub source : info.source ≡ source_node (network_of p) (home_in x)
-  pub sink : info.sink ≡ sink_node (network_of p) (home_in x)
-  pub ends : info.ends ≡ ends_at (network_of p) (home_in x)
 
 -- this is channel c of the plan
 pub record IsChannelOf (p : Plan) (c : ℕ) (info : ChannelInfo) : Type 0 where

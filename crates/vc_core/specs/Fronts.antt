@@ -1,5 +1,5 @@
 -- Which links of which actors tokens come by, as bits: an actor has a number, with a bit for each link.
-use Rattle.std.specs.Prelude.{◌≡◌, ℕ, ◌<◌, List, length, get_or}
+use Rattle.std.specs.Prelude.{◌≡◌, ℕ, ◌<◌, List, get_or}
 use Rattle.std.specs.Int.{bit_at}
 
 -- the link's bit of actor k
@@ -14,9 +14,3 @@ HasBit links k = (link : ℕ) × (link < 32) × (bit_of links k link ≡ 1)
 pub record AreAwake (links : List ℕ) (awake : ℕ) : Type 0 where
   pub told : (k link : ℕ) → k < 64 → link < 32 → bit_of links k link ≡ 1 → bit_at awake k ≡ 1
   pub only : (k : ℕ) → k < 64 → bit_at awake k ≡ 1 → HasBit links k
-
--- one bit is b now, and the others are as they were
-pub record Marked (old : List ℕ) (actor link b : ℕ) (new : List ℕ) : Type 0 where
-  pub count : length new ≡ length old
-  pub it : bit_of new actor link ≡ b
-  pub others : (k l : ℕ) → l < 32 → ((k ≡ actor) × (l ≡ link) → ⊥) → bit_of new k l ≡ bit_of old k l

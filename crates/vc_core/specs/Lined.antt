@@ -1,11 +1,7 @@
 -- The ways of a network, as the code keeps them at the links of its actors.
-use Rattle.std.specs.Prelude.{◌≡◌, ◌⊎◌, ◌↔◌, ℕ, ◌<◌, List, length, slice_get, slice_set, Option, Some, None}
-use Rattle.vc_tokens.specs.Spelt.{token}
+use Rattle.std.specs.Prelude.{◌≡◌, ◌↔◌, ℕ, ◌<◌, List, length, Option, Some}
 use Rattle.vc_tokens.specs.Tokens.{Token}
-use Rattle.vc_tokens.specs.declared.token.Token.{Token as Made}
-use Rattle.vc_core.specs.Fronts.{bit_of, Marked}
-use Rattle.vc_actor.specs.Shown.{Acting}
-use Rattle.vc_core.specs.Ways.{PutsAt}
+use Rattle.vc_core.specs.Fronts.{bit_of}
 use Rattle.vc_core.specs.Wired.{out_at, in_at, Comes}
 
 -- the tokens on each way, and which way goes out by each link of each actor
@@ -20,24 +16,3 @@ pub record AreLined (wiring : List (Option ℕ)) (ways : List (List Token)) (fro
   pub one : (k l j i way : ℕ) → in_at wiring k l ≡ Some way → in_at wiring j i ≡ Some way → (j ≡ k) × (i ≡ l)
   pub long : (actor link way : ℕ) → in_at wiring actor link ≡ Some way → actor < length fronts
   pub told : (actor link : ℕ) → link < 32 → (bit_of fronts actor link ≡ 1) ↔ Comes wiring ways actor link
-
--- the bit of the link to which the way leads is set, if it leads to one
-abbrev pub Wakes : List (Option ℕ) → List ℕ → ℕ → List ℕ → Type 0
-Wakes wiring old way new = ((k : ℕ) × (l : ℕ) × (in_at wiring k l ≡ Some way) × Marked old k l 1 new) ⊎ (((k l : ℕ) → in_at wiring k l ≡ Some way → ⊥) × (new ≡ old))
-
--- these tokens stand on one way now
-abbrev pub with_way : Lined → ℕ → List Token → Lined
-with_way x way ts = record { ways = slice_set x.ways way ts; wiring = x.wiring }
-
--- the front token of the way that comes in by a link was taken off
-abbrev pub TakesOff : Lined → ℕ → ℕ → Option Made → Lined → Type 0
-TakesOff old actor link None new = (new ≡ old) × (Comes old.wiring old.ways actor link → ⊥)
-TakesOff old actor link (Some t) new = (f : Comes old.wiring old.ways actor link) × (f.token ≡ token t) × (new ≡ with_way old f.way f.rest)
-
--- the actor's next token on the link came to the end of the way
-pub record PutsOnWay (old : Lined) (way : ℕ) (before : Acting) (link : ℕ) (after : Acting) (new : Lined) : Type 0 where
-  pub tokens : List Token
-  pub more : List Token
-  pub stand : slice_get old.ways way ≡ Some tokens
-  pub new_is : new ≡ with_way old way more
-  pub puts : PutsAt before link tokens after more

@@ -1,10 +1,9 @@
 -- What the code's network is: its actors, and the ways between them; and when an event can be made.
-use Rattle.std.specs.Prelude.{◌≡◌, ℕ, ◌+◌, List, [], Option, Some, None, slice_get, slice_set, length}
+use Rattle.std.specs.Prelude.{◌≡◌, ℕ, ◌+◌, List, [], Option, Some, None, slice_get, length}
 use Rattle.vc_network.specs.Actors.{ActBy}
 use Rattle.vc_network.specs.Actors as actors
 use Rattle.vc_network.specs.Network as net
 use Rattle.vc_network.specs.Plan.{ways}
-use Rattle.vc_network.specs.Plan as network
 use Rattle.vc_plan.specs.declared.plan.Plan.{Plan}
 use Rattle.vc_plan.specs.declared.port.Wire.{Wire}
 use Rattle.vc_plan.specs.Accepted.{IsAccepted}
@@ -14,7 +13,7 @@ use Rattle.vc_switch.specs.Waiting.{Wormhole}
 use Rattle.vc_tokens.specs.Tokens.{Token}
 use Rattle.vc_vcp.specs.Keyed.{shown_or}
 use Rattle.vc_core.specs.Channels.{AreChannelsOf}
-use Rattle.vc_actor.specs.Acting.{MayAct, MakesTake, MakesGrant}
+use Rattle.vc_actor.specs.Acting.{MayAct}
 use Rattle.vc_actor.specs.OfPlan.{IsActorOf}
 use Rattle.vc_accepted.specs.Process.{Process, does}
 use Rattle.vc_actor.specs.Shown.{Acting, actor_of, act_of}
@@ -86,35 +85,11 @@ pub record MakesEvent (p : Plan) (old : State) (e : Event) (new : State) : Type 
   pub happens : net.Happens (network_of p) Wormhole does (shown old) (event_of e) (shown new)
   pub kept : IsNetworkOf p new
 
--- the network with another state of one actor
-abbrev pub with_actor : State → ℕ → Acting → State
-with_actor s k b = record s { actors = slice_set s.actors k b }
-
--- and with other tokens on one way
-abbrev pub with_line : State → ℕ → List Token → State
-with_line s w ts = record s { ways = slice_set s.ways w ts }
-
 -- the actor is there, and can make the act
 pub record MayActAt (s : State) (k : ℕ) (a : Act) : Type 0 where
   pub actor : Acting
   pub here : slice_get s.actors k ≡ Some actor
   pub may : MayAct actor a
-
--- a token comes to actor k
-pub record Accepts (old : State) (k link word : ℕ) (t : Token) (new : State) : Type 0 where
-  pub before : Acting
-  pub after : Acting
-  pub here : slice_get old.actors k ≡ Some before
-  pub new_is : new ≡ with_actor old k after
-  pub takes : (plan : network.Plan) (n : ℕ) → IsActorOf plan n before → MakesTake plan n before link word t after
-
--- actor k grants eight places
-pub record GrantsBy (old : State) (k link : ℕ) (new : State) : Type 0 where
-  pub before : Acting
-  pub after : Acting
-  pub here : slice_get old.actors k ≡ Some before
-  pub new_is : new ≡ with_actor old k after
-  pub grants : (plan : network.Plan) (n : ℕ) → IsActorOf plan n before → MakesGrant plan n before link after
 
 -- an event is made, or none and all stays
 abbrev pub MakesOne : Plan → State → Option Event → State → Type 0

@@ -1,19 +1,14 @@
 -- What an actor's turn is to the network; and when no event can happen at all.
-use Rattle.std.specs.Prelude.{◌≡◌, ◌↔◌, ℕ, ◌<◌, Bool, true, false, Option, Some, None}
+use Rattle.std.specs.Prelude.{◌≡◌, ℕ, ◌<◌, Option, Some, None}
 use Rattle.vc_plan.specs.declared.plan.Plan.{Plan as Given}
 use Rattle.vc_core.specs.Enabled.{NetworkState, CanHappenIn, CanHappen}
-use Rattle.std.specs.Int.{bit_at}
-use Rattle.vc_core.specs.State.{State, shown, HasFront, HasWay}
-use Rattle.vc_actor.specs.Turns.{kind_of, RoomLets, IsTurn, FindsTurn, TakesNone, actors, IsPut, MakesTurn, PutsWithRoom}
+use Rattle.vc_core.specs.State.{State, shown, HasFront}
+use Rattle.vc_actor.specs.Turns.{kind_of, TakesNone, actors}
 use Rattle.vc_actor.specs.declared.act.Act.{Act}
 use Rattle.vc_actor.specs.declared.act.Act.TheVariants.{Take}
 use Rattle.vc_actor.specs.declared.act.ActKind.{ActKind}
 use Rattle.vc_core.specs.declared.event.Event.{Event}
 use Rattle.vc_placement.specs.OneNode as one_node
-
--- room has a bit for each link by which a way goes out
-abbrev pub IsRoom : State → ℕ → ℕ → Type 0
-IsRoom s k room = (link : ℕ) → link < 32 → (bit_at room link ≡ 1) ↔ HasWay s k link
 
 -- an event of actor k that takes no token, or none where none can happen
 abbrev pub FindsEvent : Given → State → ℕ → Option Event → Type 0
@@ -35,23 +30,9 @@ abbrev pub FindsTake : Given → State → ℕ → Option ℕ → Type 0
 FindsTake p s k None = (link word : ℕ) → CanHappen p s (record { actor = k; act = Take link word }) → ⊥
 FindsTake p s k (Some link) = k < actors p → (word : ℕ) → CanHappen p s (record { actor = k; act = Take link word })
 
--- actor k has no event
-pub record Rests (p : Given) (s : State) (k : ℕ) : Type 0 where
-  pub takes : FindsTake p s k None
-  pub acts : FindsEvent p s k None
-
 -- no event can happen
 abbrev pub IsAtRestIn : Given → NetworkState → Type 0
 IsAtRestIn p x = (e : Event) → CanHappenIn p x e → ⊥
-
--- no event of the network can happen
-abbrev pub IsAtRest : Given → State → Type 0
-IsAtRest p s = IsAtRestIn p (shown s)
-
--- whether some event can
-abbrev pub GoesOn : Given → State → Bool → Type 0
-GoesOn p s true = (e : Event) × CanHappen p s e
-GoesOn p s false = IsAtRest p s
 
 -- nothing remains of any node's process
 abbrev pub HaveEndedIn : Given → NetworkState → Type 0

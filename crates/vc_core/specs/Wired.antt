@@ -1,12 +1,10 @@
 -- Which ways go out and come in by the links of actors, as the code keeps them: 32 places an actor.
-use Rattle.std.specs.Prelude.{◌≡◌, ◌↔◌, ℕ, ◌+◌, ◌*◌, ◌<◌, nat_lt, List, [], ◌∷◌, get_or, Option, Some, None, slice_get, if◌then◌else◌}
+use Rattle.std.specs.Prelude.{◌≡◌, ◌↔◌, ℕ, ◌+◌, ◌*◌, ◌<◌, nat_lt, List, ◌∷◌, get_or, Option, Some, None, slice_get, if◌then◌else◌}
 use Rattle.std.specs.Int.{bit_at}
 use Rattle.std.specs.Option.{option_map}
 use Rattle.vc_network.specs.Plan.{back}
 use Rattle.vc_plan.specs.declared.plan.Plan.{Plan}
-use Rattle.vc_plan.specs.declared.port.Port.{Port}
-use Rattle.vc_plan.specs.declared.port.Wire.{Wire}
-use Rattle.vc_accepted.specs.Outgoing.{outgoing, actor_of}
+use Rattle.vc_accepted.specs.Outgoing.{outgoing}
 use Rattle.vc_tokens.specs.Tokens.{Token}
 use Rattle.vc_core.specs.declared.ends.End.{End}
 
@@ -31,15 +29,6 @@ IsWired out actor link = (way : ℕ) × (out_at out actor link ≡ Some way)
 -- an actor's room has a bit for each of its links by which a way goes out
 abbrev pub AreRooms : List (Option ℕ) → List ℕ → Type 0
 AreRooms out rooms = (actor link : ℕ) → link < 32 → (bit_at (get_or rooms actor 0) link ≡ 1) ↔ IsWired out actor link
-
--- the port as an actor's link
-abbrev pub end_at : ℕ → Port → End
-end_at nodes port = record { actor = actor_of nodes port.spot; link = port.link }
-
--- where the ways of these wires lead, one after another
-abbrev pub ends_of : ℕ → List Wire → List End
-ends_of nodes [] = []
-ends_of nodes (w ∷ ws) = end_at nodes w.two ∷ end_at nodes w.one ∷ ends_of nodes ws
 
 -- a way comes in by the link to which it leads, and by no other
 abbrev pub AreEnds : List (Option ℕ) → List End → Type 0

@@ -1,6 +1,6 @@
 //! Where the ways of a network lead.
 ghost use Rattle.std.specs.Prelude.{◌≡◌, ◌≤◌, IfOk, length};
-ghost use Rattle.vc_core.specs.Wired.{end_at as port_end, ends_of as ends_along};
+ghost use Rattle.vc_core.specs.Private.Wired.{end_at as port_end, ends_of as ends_along};
 
 use crate::outgoing_ways::actor_of;
 use std::alloc::Global;

@@ -1,7 +1,8 @@
 //! By which links of which actors tokens come, as bits.
 ghost use Rattle.std.specs.Prelude.{◌≡◌, ◌<◌, ℕ, IfOk, length, get_or};
 ghost use Rattle.std.specs.Int.{bit_at};
-ghost use Rattle.vc_core.specs.Fronts.{HasBit, Marked};
+ghost use Rattle.vc_core.specs.Fronts.{HasBit};
+ghost use Rattle.vc_core.specs.Private.Fronts.{Marked};
 
 use std::alloc::Global;
 use std::marker::Model;

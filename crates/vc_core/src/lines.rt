@@ -4,7 +4,7 @@ ghost use Rattle.std.specs.Int.{bit_at};
 ghost use Rattle.std.specs.List.{AllByRecursion};
 ghost use Rattle.vc_plan.specs.Accepted.{IsAccepted};
 ghost use Rattle.vc_actor.specs.Acting.{MayAct};
-ghost use Rattle.vc_core.specs.Lined.{TakesOff, PutsOnWay, Wakes, with_way};
+ghost use Rattle.vc_core.specs.Private.Lined.{TakesOff, PutsOnWay, Wakes, with_way};
 ghost use Rattle.vc_core.specs.Wired.{out_at, in_at, AreWaysAt, Comes, Goes};
 ghost use Rattle.vc_actor.specs.declared.act.Act.TheVariants as act;
 ghost use Rattle.vc_tokens.specs.Tokens.{Token as SpeltToken};

@@ -2,7 +2,7 @@
 ghost use Rattle.std.specs.Prelude.{◌≡◌, ◌<◌, ◌++◌, [], ◌∷◌, ℕ, List, Some};
 ghost use Rattle.vc_accepted.specs.NetworkOf.{network_of};
 ghost use Rattle.vc_core.specs.Channels.{ends_at};
-ghost use Rattle.vc_core.specs.Targets.{HasRead, left};
+ghost use Rattle.vc_core.specs.Private.Targets.{HasRead, left};
 ghost use Rattle.vc_core.specs.State.{state_of, IsNetworkOf};
 ghost use Rattle.vc_machine.specs.Seen.{read};
 ghost use Rattle.vc_network.specs.Plan.{home, ways};

@@ -3,8 +3,8 @@ ghost use Rattle.std.specs.Prelude.{◌≡◌, ◌<◌, ◌++◌, ◌↔◌, ℕ
 ghost use Rattle.std.specs.List.{Contains};
 ghost use Rattle.vc_accepted.specs.NetworkOf.{network_of, port_of as named_port};
 ghost use Rattle.vc_core.specs.Channels.{ends_at};
-ghost use Rattle.vc_core.specs.Placed.{AreOwned, FindsAt, FindsOn, HasIts};
-ghost use Rattle.vc_core.specs.Targets.{Has, IsOwned};
+ghost use Rattle.vc_core.specs.Private.Placed.{AreOwned, FindsAt, FindsOn, HasIts};
+ghost use Rattle.vc_core.specs.Private.Targets.{Has, IsOwned};
 ghost use Rattle.vc_core.specs.State.{state_of, shown, IsNetworkOf};
 ghost use Rattle.vc_machine.specs.Paths.{Net, AtSwitch};
 ghost use Rattle.vc_machine.specs.Places as places;

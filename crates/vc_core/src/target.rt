@@ -1,6 +1,6 @@
 //! Packets that are sought at a node.
 ghost use Rattle.std.specs.Prelude.{◌↔◌, IsTrue};
-ghost use Rattle.vc_core.specs.Targets.{IsTarget};
+ghost use Rattle.vc_core.specs.Private.Targets.{IsTarget};
 
 use vc_packets::Mark;
 

@@ -29,7 +29,7 @@ impl Way {
     ghost use Rattle.vc_actor.specs.Acting.{MayAct};
     ghost use Rattle.std.specs.Option.{option_map};
     ghost use Rattle.vc_core.specs.Links.{last_of};
-    ghost use Rattle.vc_core.specs.Ways.{PutsAt};
+    ghost use Rattle.vc_core.specs.Private.Ways.{PutsAt};
     ghost use Rattle.vc_actor.specs.declared.act.Act.TheVariants as act;
 
     /// A way with no token on it.

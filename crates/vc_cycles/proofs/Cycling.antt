@@ -5,8 +5,8 @@ use Rattle.vc_plan.specs.declared.plan.Plan.{Plan}
 use Rattle.vc_plan.specs.declared.port.Port.{Port}
 use Rattle.vc_plan.specs.Accepted.{IsAccepted}
 use Rattle.vc_plan.specs.Dependencies.{HasRanks, IsCycle}
-use Rattle.vc_cycles.specs.Graph.{AreDependencies}
-use Rattle.vc_cycles.specs.Round.{IsAway}
+use Rattle.vc_cycles.specs.Private.Graph.{AreDependencies}
+use Rattle.vc_cycles.specs.Private.Round.{IsAway}
 use Rattle.vc_cycles.proofs.Ranked.{ranks}
 
 pub none_more : (rows : List (Vec ℕ)) (n : ℕ) (least found result : Option (Vec Port)) → IfNone result ((least ≡ None) × (found ≡ None)) → IfNone least ((k : ℕ) → k < n → IsAway rows k) →

@@ -6,7 +6,7 @@ use Rattle.std.specs.List.{Contains, insert}
 use Rattle.std.specs.Prelude.{OnOk}
 use Rattle.vc_plan.specs.declared.port.Port.{Port}
 use Rattle.vc_plan.proofs.Members.{In, In-left, In-right, In-cases}
-use Rattle.vc_cycles.specs.Graph.{Gains, GainEdge, HasEdge, port_number, row, items_of}
+use Rattle.vc_cycles.specs.Private.Graph.{Gains, GainEdge, HasEdge, port_number, row, items_of}
 use Rattle.vc_cycles.proofs.Among.{in_contains, contains_in, read_at}
 use Rattle.vc_cycles.proofs.Numbered.{number_small}
 

@@ -15,7 +15,7 @@ use Rattle.vc_plan.specs.Wires.{across, same_port}
 use Rattle.vc_plan.proofs.Frontier.{port-same}
 use Rattle.vc_plan.proofs.KeptLimits.{limits_of}
 use Rattle.vc_plan.proofs.Limited.{Keeps, keeps, both, limits-fit}
-use Rattle.vc_cycles.specs.Graph.{port_number, port_number_at, port_at}
+use Rattle.vc_cycles.specs.Private.Graph.{port_number, port_number_at, port_at}
 
 -- what a number says of its port
 record Numbers (spot : Spot) (link i : ℕ) : Type 0 where

@@ -8,8 +8,8 @@ use Rattle.vc_plan.specs.declared.port.Spot.TheVariants.{Node, Switch}
 use Rattle.vc_plan.specs.Accepted.{IsAccepted}
 use Rattle.vc_plan.specs.Dependencies.{DependsOn, HasRanks}
 use Rattle.vc_plan.specs.Wires.{across}
-use Rattle.vc_cycles.specs.Graph.{HasEdge, AreDependencies, port_number, port_number_at}
-use Rattle.vc_cycles.specs.Round.{IsAway, AreRows}
+use Rattle.vc_cycles.specs.Private.Graph.{HasEdge, AreDependencies, port_number, port_number_at}
+use Rattle.vc_cycles.specs.Private.Round.{IsAway, AreRows}
 use Rattle.vc_cycles.proofs.Numbered.{switch_number, number_small}
 
 pub rows_are : (net : Plan) (rows : List (Vec ℕ)) → AreDependencies net rows → AreRows rows

@@ -7,8 +7,8 @@ use Rattle.vc_plan.specs.declared.plan.Plan.{Plan}
 use Rattle.vc_plan.specs.declared.port.Port.{Port}
 use Rattle.vc_plan.specs.Dependencies.{DependsOn, Chain}
 use Rattle.vc_plan.proofs.Members.{In}
-use Rattle.vc_cycles.specs.Graph.{HasEdge, AreDependencies, port_at, row}
-use Rattle.vc_cycles.specs.Round.{AreRows, IsAway, Looking, PointsBack, Searched, found_after, is_seen, seen_after, unseen}
+use Rattle.vc_cycles.specs.Private.Graph.{HasEdge, AreDependencies, port_at, row}
+use Rattle.vc_cycles.specs.Private.Round.{AreRows, IsAway, Looking, PointsBack, Searched, found_after, is_seen, seen_after, unseen}
 use Rattle.vc_cycles.specs.declared.round.Found.{Found}
 use Rattle.vc_cycles.proofs.Among.{contains_in, in_contains, any_in, none_in, get_append, get_left, get_last, read_at}
 use Rattle.vc_cycles.proofs.Edges.{row_is}

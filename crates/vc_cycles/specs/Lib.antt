@@ -1,3 +1,1 @@
-pub mod Graph
-pub mod Search
-pub mod Round
+pub mod Private

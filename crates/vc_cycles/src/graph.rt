@@ -1,6 +1,6 @@
 //! The dependencies as rows: of each port the ports on which it depends, in order.
 ghost use Rattle.std.specs.Prelude.{◌≡◌, ℕ, ◌<◌, length, IfOk, OnOk, []};
-ghost use Rattle.vc_cycles.specs.Graph.{Gains, GainEdge, row};
+ghost use Rattle.vc_cycles.specs.Private.Graph.{Gains, GainEdge, row};
 
 use crate::number::{PORTS, number_of};
 use std::alloc::Global;

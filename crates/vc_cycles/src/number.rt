@@ -1,6 +1,6 @@
 //! Ports of switches by their numbers.
 ghost use Rattle.std.specs.Prelude.{◌≡◌, ◌<◌};
-ghost use Rattle.vc_cycles.specs.Graph.{port_number, port_at as port_of_number};
+ghost use Rattle.vc_cycles.specs.Private.Graph.{port_number, port_at as port_of_number};
 
 use vc_plan::{Port, Spot};
 

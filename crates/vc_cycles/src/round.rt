@@ -4,8 +4,8 @@ ghost use Rattle.std.specs.Global.{Vec};
 ghost use Rattle.std.specs.List.{Contains};
 ghost use Rattle.vc_plan.specs.declared.plan.Plan.{Plan};
 ghost use Rattle.vc_plan.specs.Dependencies.{IsCycle};
-ghost use Rattle.vc_cycles.specs.Graph.{AreDependencies};
-ghost use Rattle.vc_cycles.specs.Round.{AreRows, IsAway, LooksAt, PointsBack, Searched, WhereClosed, found_after, seen_after};
+ghost use Rattle.vc_cycles.specs.Private.Graph.{AreDependencies};
+ghost use Rattle.vc_cycles.specs.Private.Round.{AreRows, IsAway, LooksAt, PointsBack, Searched, WhereClosed, found_after, seen_after};
 
 use crate::number::{PORTS, port_at};
 use std::alloc::Global;

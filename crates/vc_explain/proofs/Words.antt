@@ -9,7 +9,8 @@ use Rattle.vc_process.specs.declared.process.Process.TheOpen as layer
 use Rattle.vc_process.specs.declared.process.Process.TheVariants as process
 use Rattle.vc_process.specs.declared.process.Process.TheViews.{out-Process, roll-Process, roll-out-Process}
 use Rattle.vc_process.specs.declared.value.Value.{Value}
-use Rattle.vc_process.specs.InOrder.{number, number_branch, number_guard}
+use Rattle.vc_process.specs.InOrder.{number}
+use Rattle.vc_process.specs.Private.InOrder.{number_branch, number_guard}
 use Rattle.vc_process.specs.Numbering.{Numbered, numbered}
 use Rattle.vc_process.proofs.Numbers.{number_alt, number_count, number_if, number_par, number_receive, number_send, number_seq, number_set, number_skip, number_stop, number_stopch, number_while}
 

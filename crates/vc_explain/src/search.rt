@@ -1,7 +1,8 @@
 //! What is found first in a process and in those within it.
 ghost use Rattle.std.specs.Prelude.{◌≡◌, ◌++◌, ℕ, Option, IfOk, map};
 ghost use Rattle.vc_explain.specs.Uses.{Located, first_of, within, within_branches, within_guards, within_parts};
-ghost use Rattle.vc_process.specs.InOrder.{number, number_branch, number_guard};
+ghost use Rattle.vc_process.specs.InOrder.{number};
+ghost use Rattle.vc_process.specs.Private.InOrder.{number_branch, number_guard};
 ghost use Rattle.vc_process.specs.Numbering.{branches_from, guards_from, parts_from};
 
 use sqlite_items::Items;

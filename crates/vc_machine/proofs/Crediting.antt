@@ -8,7 +8,8 @@ use Rattle.vc_credit.specs.Ends.{Sender}
 use Rattle.vc_machine.specs.Links.{Receiver, Tokens, Wires, set_wire, no_tokens}
 use Rattle.vc_switch.specs.Waiting.{Waiting}
 use Rattle.vc_machine.specs.TokenMachine.{TokenEvent, Proc, Take, Pass, Put, PutFct, Route, TokenStep, arrive, Closes, keeps, loses, Passes, node_byte, node_mark, switch_byte, switch_mark, released, Puts, Grants}
-use Rattle.vc_machine.specs.View.{Promised, Credited, IsWithinCredit}
+use Rattle.vc_machine.specs.Private.View.{Promised, Credited}
+use Rattle.vc_machine.specs.View.{IsWithinCredit}
 use Rattle.vc_machine.proofs.Spelling.{without_fcts-append, fcts-append}
 use Rattle.vc_machine.proofs.Update.{Changed, changed, kept, put-same, put-other, every}
 

@@ -13,7 +13,8 @@ use Rattle.vc_labels.specs.Interval.{action_for}
 use Rattle.vc_switch.specs.Forward.{past_portal, without_portals, IsDrawn, behind, HasRoom}
 use Rattle.vc_machine.specs.Machine.{State, WayState, ChanState, Empty, Full, start, set_way, set_chan, enqueue, store, accept, advance, emptied, Event, Offer, Want, Choose, Stop, Send, Receive, Enter, Leave, IsTaken, stores, holds, advances, Reaches, taken, stray, BodyLeaves, Fetches, fetches, waits, Settles, fills, lost, Departs, Step, Run}
 use Rattle.vc_machine.specs.Dependencies.{by_piece, by_ack, by_hop}
-use Rattle.vc_machine.specs.Laws.{FitsWay, HasHeaders, IsLimit, CameFitting, AllFit}
+use Rattle.vc_machine.specs.Private.Laws.{FitsWay, IsLimit, CameFitting, AllFit}
+use Rattle.vc_machine.specs.Laws.{HasHeaders}
 use Rattle.vc_machine.proofs.Update.{every_put}
 use Rattle.vc_machine.proofs.Heads.{same_switch}
 use Rattle.vc_machine.proofs.TokenCover.{follows, onward}

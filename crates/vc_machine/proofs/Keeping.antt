@@ -13,7 +13,7 @@ use Rattle.vc_switch.specs.Waiting.{Waiting}
 use Rattle.vc_switch.specs.Switch.{drawn}
 use Rattle.vc_machine.specs.TokenMachine.{TokenEvent, Proc, Take, Pass, Put, PutFct, TokenStep, arrive, with_header, put_byte, put_mark, released, keeps, loses, Passes, node_byte, node_mark, switch_byte, switch_mark, Puts, Grants, Binds}
 use Rattle.vc_machine.specs.View.{TokenView, BoundGroup, Bindings}
-use Rattle.vc_machine.specs.Laws.{IsLimit, AllFit}
+use Rattle.vc_machine.specs.Private.Laws.{IsLimit, AllFit}
 use Rattle.vc_machine.proofs.Spelling.{without_fcts-append}
 use Rattle.vc_machine.proofs.Update.{changed, kept, put-same, put-other, every_put}
 use Rattle.vc_machine.proofs.Heads.{group_with_header, same_switch, group_of}

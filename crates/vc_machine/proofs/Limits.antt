@@ -12,7 +12,8 @@ use Rattle.vc_machine.specs.Links.{Tokens, no_tokens}
 use Rattle.vc_switch.specs.Waiting.{Waiting}
 use Rattle.vc_machine.specs.TokenMachine.{TokenEvent, Put, TokenStep, TokenRun, node_byte, node_mark, switch_byte, switch_mark, IsBoundTo}
 use Rattle.vc_machine.specs.View.{MayDraw, nothing, begun, Inside, without_mark, with_mark, StandsFor, TokenView, Bindings}
-use Rattle.vc_machine.specs.Laws.{Ranges, IsLimit, AllFit, WithinLimit, PutsGoOn, IsSound}
+use Rattle.vc_machine.specs.Laws.{Ranges, WithinLimit, PutsGoOn, IsSound}
+use Rattle.vc_machine.specs.Private.Laws.{IsLimit, AllFit}
 use Rattle.vc_machine.proofs.Ahead.{Sending, Ahead, within_body, within_bytes}
 use Rattle.vc_machine.proofs.Starting.{start_switch, node_next, switch_next, switch_last}
 use Rattle.vc_machine.proofs.Keeping.{step_ahead, nothing_ahead}

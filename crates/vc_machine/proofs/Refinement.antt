@@ -5,7 +5,8 @@ use Rattle.vc_machine.specs.Machine.{State, Step, start}
 use Rattle.vc_machine.specs.Links.{Tokens, Wires, no_tokens}
 use Rattle.vc_switch.specs.Waiting.{Waiting}
 use Rattle.vc_machine.specs.TokenMachine.{TokenEvent, Proc, Take, Pass, Put, PutFct, TokenStep, TokenRun}
-use Rattle.vc_machine.specs.View.{TokenView, nothing, without_mark, Bindings, Credited, AtMostTwo, stays, moves}
+use Rattle.vc_machine.specs.View.{TokenView, nothing, without_mark, Bindings, AtMostTwo, stays, moves}
+use Rattle.vc_machine.specs.Private.View.{Credited}
 use Rattle.vc_machine.specs.Laws.{Ranges, StepsAreSteps, IsReached, RunsAreRuns, BuffersHold}
 use Rattle.vc_machine.proofs.TokenNodes.{proc_alike}
 use Rattle.vc_machine.proofs.Seeing.{takes_view, grants_view, same_nodes, framed_view}

@@ -6,7 +6,7 @@ use Rattle.vc_packets.specs.declared.packet.Packet.{Packet}
 use Rattle.vc_machine.specs.Paths.{Net}
 use Rattle.vc_machine.specs.Machine.{State, Input, Empty, Full}
 use Rattle.vc_machine.specs.Places.{Place, Queue, OnWire, Inside, of_input, at_place, in_ways}
-use Rattle.vc_machine.specs.Laws.{FitsWay, IsLimit, CameFitting}
+use Rattle.vc_machine.specs.Private.Laws.{FitsWay, IsLimit, CameFitting}
 use Rattle.vc_machine.specs.Owners.{PacketsAreShort}
 use Rattle.vc_machine.proofs.Fitting.{limits, PacketsFit, packets_fit}
 use Rattle.vc_machine.proofs.Owned.{all_both}

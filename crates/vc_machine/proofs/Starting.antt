@@ -14,7 +14,7 @@ use Rattle.vc_machine.specs.Links.{Tokens}
 use Rattle.vc_switch.specs.Waiting.{Waiting}
 use Rattle.vc_machine.specs.TokenMachine.{IsBoundTo}
 use Rattle.vc_machine.specs.View.{MayDraw, nothing, begun, Inside, without_mark, with_mark, StandsFor, TokenView, Bindings}
-use Rattle.vc_machine.specs.Laws.{IsLimit, AllFit}
+use Rattle.vc_machine.specs.Private.Laws.{IsLimit, AllFit}
 use Rattle.vc_machine.proofs.Update.{changed, kept, put-same, put-other}
 use Rattle.vc_machine.proofs.Heads.{no_group, longer, same_switch}
 use Rattle.vc_machine.proofs.TokenCover.{leaves_one}

@@ -16,8 +16,10 @@ use Rattle.vc_machine.specs.Machine.{State, ChanState, BodyLeaves, HasGroup, IsT
 use Rattle.vc_tokens.specs.Tokens.{Token, Byte, Fct, EndMark, bytes, spelling, spellings, fcts, without_fcts}
 use Rattle.vc_machine.specs.Links.{Tokens, Wires, no_tokens}
 use Rattle.vc_machine.specs.TokenMachine.{TokenEvent, Take, Pass, Put, PutFct, Route, TokenRun, IsBoundTo, node_byte, node_mark, switch_byte, switch_mark, keeps, with_header}
-use Rattle.vc_machine.specs.View.{MayDraw, nothing, begun, stream, TokenView, Bindings, BoundGroup, Credited}
-use Rattle.vc_machine.specs.Laws.{FitsWay, HasHeaders, CameFitting, AllFit, PutsGoOn}
+use Rattle.vc_machine.specs.View.{MayDraw, nothing, begun, stream, TokenView, Bindings, BoundGroup}
+use Rattle.vc_machine.specs.Private.View.{Credited}
+use Rattle.vc_machine.specs.Private.Laws.{FitsWay, CameFitting, AllFit}
+use Rattle.vc_machine.specs.Laws.{HasHeaders, PutsGoOn}
 use Rattle.vc_machine.specs.Dependencies.{Depends, HasRanks}
 use Rattle.vc_machine.specs.Still.{IsStill, IsClear, BackStays, StillIsClear}
 use Rattle.vc_machine.proofs.Labels.{Inv}

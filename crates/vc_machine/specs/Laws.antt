@@ -1,13 +1,10 @@
 -- What the token machine keeps, in the words of the packet machine.
-use Rattle.std.specs.Prelude.{◌≡◌, ℕ, ◌+◌, ◌*◌, ◌≤◌, ◌<◌, List, [], ◌∷◌, ◌++◌, length, Option, Some}
-use Rattle.std.specs.List.{AllByRecursion}
+use Rattle.std.specs.Prelude.{◌≡◌, ℕ, ◌+◌, ◌*◌, ◌≤◌, ◌<◌, List, [], ◌∷◌, length, Option, Some}
 use Rattle.vc_packets.specs.declared.mark.Mark.{Mark}
 use Rattle.vc_packets.specs.declared.packet.Packet.{Packet}
-use Rattle.vc_packets.specs.Headers.{spelled}
-use Rattle.vc_machine.specs.Paths.{Carries, AtNode, AtSwitch, End, Net, Delivers, IsAccepted}
-use Rattle.vc_machine.specs.Dependencies.{CanStand}
-use Rattle.vc_switch.specs.Forward.{IsDrawn, behind}
-use Rattle.vc_machine.specs.Machine.{State, Full, Event, Run, BodyLeaves, start}
+use Rattle.vc_machine.specs.Paths.{Carries, AtNode, Net, IsAccepted}
+use Rattle.vc_switch.specs.Forward.{IsDrawn}
+use Rattle.vc_machine.specs.Machine.{State, Event, Run, start}
 use Rattle.vc_tokens.specs.Tokens.{Token, Fct, Whole, without_fcts}
 use Rattle.vc_machine.specs.Links.{Tokens, no_tokens}
 use Rattle.vc_switch.specs.Waiting.{Waiting}
@@ -45,31 +42,6 @@ pub record NeverOverflows (back : ℕ → ℕ) (u : Tokens) : Type 0 where
 abbrev pub BuffersHold : Net → (ℕ → ℕ) → Waiting → Type 0
 BuffersHold net back waiting = (es : List TokenEvent) (u : Tokens) → TokenRun net back waiting no_tokens es u → NeverOverflows back u
 
--- the bodies that may stand on the ways: no longer than the limit, also behind a random header, and closed under hops
-pub record IsLimit (net : Net) (Fits : ℕ → List ℕ → Type 0) (limit : ℕ) : Type 0 where
-  pub short : (w : ℕ) (b : List ℕ) → Fits w b → length b ≤ limit
-  pub headed : (w n i : ℕ) (drawn : Option ℕ) (b : List ℕ) → net.far w ≡ AtSwitch n i → IsDrawn ((net.switch n).random i) drawn → Fits w b →
-      length (spelled (behind drawn []) ++ b) ≤ limit
-  pub hop : (w n i : ℕ) (drawn : Option ℕ) (b : List ℕ) (out : ℕ) (d : List ℕ) → net.far w ≡ AtSwitch n i → IsDrawn ((net.switch n).random i) drawn → Fits w b →
-      BodyLeaves net n (spelled (behind drawn []) ++ b) out d → Fits out d
-
--- a packet in a switch came with a body that fits its way
-pub record CameFitting (net : Net) (Fits : ℕ → List ℕ → Type 0) (w : ℕ) (p : Packet) : Type 0 where
-  pub switch : ℕ
-  pub link : ℕ
-  pub drawn : Option ℕ
-  pub body : List ℕ
-  pub far : net.far w ≡ AtSwitch switch link
-  pub draw : IsDrawn ((net.switch switch).random link) drawn
-  pub is : p.body ≡ spelled (behind drawn []) ++ body
-  pub fits : Fits w body
-
--- all packets of the packet machine fit
-pub record AllFit (net : Net) (Fits : ℕ → List ℕ → Type 0) (s : State) : Type 0 where
-  pub queues : (w : ℕ) (p : Packet) (rest : List Packet) → w < net.ways → (s.ways w).queue ≡ p ∷ rest → Fits w p.body
-  pub lines : (w : ℕ) → w < net.ways → AllByRecursion (λ p. Fits w p.body) (s.ways w).line
-  pub inputs : (w : ℕ) (p : Packet) (bound : Option ℕ) → w < net.ways → (s.ways w).input ≡ Full p bound → CameFitting net Fits w p
-
 -- each stream is whole packets and a rest within the limit, and no input keeps more bytes
 pub record WithinLimit (net : Net) (limit : ℕ) (t : Tokens) (s : State) : Type 0 where
   pub streams : (view : TokenView net t s) (w : ℕ) → w < net.ways → Whole limit (stream (view.ways w).passed (t.receiver w).buffer (t.wire w)) (s.ways w).line (t.sender w).sent
@@ -92,18 +64,6 @@ pub record IsSound (net : Net) (back : ℕ → ℕ) (waiting : Waiting) (limit :
   pub view : TokenView net u after
   pub within : WithinLimit net limit u after
   pub puts : PutsGoOn net back waiting u
-
--- a body that may stand on a way: headers that a packet can have there and that lead to an end, and at most 32 bytes
-pub record FitsWay (net : Net) (most w : ℕ) (b : List ℕ) : Type 0 where
-  pub stack : List ℕ
-  pub load : List ℕ
-  pub fuel : ℕ
-  pub to : End
-  pub body : b ≡ spelled stack ++ load
-  pub delivers : Delivers net fuel w stack to
-  pub stands : CanStand net w stack
-  pub headers : length stack ≤ most
-  pub small : length load ≤ 32
 
 -- at most so many headers in a route, and with a random one
 pub record HasHeaders (net : Net) (most : ℕ) : Type 0 where

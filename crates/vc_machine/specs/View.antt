@@ -61,17 +61,8 @@ pub record Bindings (net : Net) (t : Tokens) : Type 0 where
 abbrev pub IsWithinCredit : Sender → List Token → List Token → Receiver → Type 0
 IsWithinCredit a back wire r = a.credit + 8 * fcts back + length (without_fcts wire) + length r.buffer ≤ 16
 
--- the places promised are the credit, come or coming, and the tokens on the wire
-pub record Promised (a : Sender) (back wire : List Token) (r : Receiver) : Type 0 where
-  pub same : r.promised ≡ a.credit + 8 * fcts back + length (without_fcts wire)
-  pub fits : length r.buffer + r.promised ≤ 16
-
 -- no step, one step, or Enter and then Route lead from s to what u stands for
 pub data AtMostTwo (net : Net) (s : State) (u : Tokens) : Type 0 where
   stays : TokenView net u s → AtMostTwo net s u
   moves : (e : Event) (v : State) → Step net s e v → TokenView net u v → AtMostTwo net s u
   enters_bound : (w out : ℕ) (drawn : Option ℕ) (v x : State) → Step net s (Enter w drawn) v → Step net v (Event.Route w out) x → TokenView net u x → AtMostTwo net s u
-
--- each way's tokens are within their credit
-pub record Credited (back : ℕ → ℕ) (t : Tokens) : Type 0 where
-  pub each : (w : ℕ) → Promised (t.sender w) (t.wire (back w)) (t.wire w) (t.receiver w)

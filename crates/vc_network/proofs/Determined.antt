@@ -2,7 +2,8 @@
 use Rattle.std.proofs.Common.{◌≡◌, ℕ, if◌then◌else◌, ◌==◌, List, [], ◌∷◌, ◌++◌, refl, sym, ap, ap₂, ◌∙◌, subst, inl, inr, eq-eqb}
 use Rattle.std.proofs.lemmas.List.{append_cancel_left}
 use Rattle.std.proofs.lemmas.Bool.{cases_eq}
-use Rattle.vc_network.specs.Actors.{Label, Steps, Step, Network, Run, Event, Alike, AreOne, IsDetermined, SameActs, act_of, taken_off, put_on}
+use Rattle.vc_network.specs.Actors.{Label, Steps, Step, Network, Alike, act_of, taken_off, put_on}
+use Rattle.vc_network.specs.Private.Actors.{Run, Event, AreOne, IsDetermined, SameActs}
 use Rattle.vc_network.specs.Actors.Label.{Own, Takes, Puts}
 use Rattle.vc_network.proofs.Lifting.{step_alike}
 

@@ -3,7 +3,8 @@ use Rattle.std.proofs.Common.{◌≡◌, ℕ, ◌+◌, ◌*◌, ◌≤◌, ◌<�
 use Rattle.vc_switch.specs.Forward.{Interval, IsDrawn}
 use Rattle.vc_machine.specs.Links.{Tokens}
 use Rattle.vc_switch.specs.Waiting.{Wormhole}
-use Rattle.vc_machine.specs.Laws.{FitsWay, HasHeaders}
+use Rattle.vc_machine.specs.Private.Laws.{FitsWay}
+use Rattle.vc_machine.specs.Laws.{HasHeaders}
 use Rattle.vc_machine.proofs.Limits.{sound}
 use Rattle.vc_machine.proofs.Fitting.{limits, all_fit}
 use Rattle.vc_network.specs.Plan.{Plan, switch_plan, body_limit, Home, Way, Inside, home, ways, back, net_of, net_channel, is_virtual, IsAccepted}

@@ -1,6 +1,7 @@
 -- Runs that grow by one step at the end, as in a loop.
 use Rattle.std.proofs.Common.{List, [], ◌∷◌, ◌++◌, refl}
-use Rattle.vc_network.specs.Actors.{Steps, Step, Network, Run, Event}
+use Rattle.vc_network.specs.Actors.{Steps, Step, Network}
+use Rattle.vc_network.specs.Private.Actors.{Run, Event}
 use Rattle.vc_network.proofs.Lifting.{run_alike}
 use Rattle.vc_network.proofs.Determined.{Alike-sym}
 

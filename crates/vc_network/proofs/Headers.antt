@@ -2,7 +2,8 @@
 use mathlib.Core.Path.{fun_ext}
 use Rattle.std.proofs.Common.{◌≡◌, ℕ, zero, suc, ◌+◌, ◌-◌, ◌^◌, ◌≤◌, Bool, true, false, nat_lt, if◌then◌else◌, inl, inr, List, [], ◌∷◌, ◌++◌, length, Option, None, refl, sym, ap, subst, ◌∙◌, arith}
 use Rattle.std.proofs.lemmas.Bool.{cases_lt}
-use Rattle.vc_network.specs.Actors.{Network, Event, Run, Step, Label}
+use Rattle.vc_network.specs.Actors.{Network, Step, Label}
+use Rattle.vc_network.specs.Private.Actors.{Event, Run}
 use Rattle.vc_network.specs.Actors.Label.{Own, Takes, Puts}
 use Rattle.vc_network.proofs.Growing.{Run-more}
 use Rattle.vc_packets.specs.Counting.{one_more}

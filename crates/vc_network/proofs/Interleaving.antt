@@ -3,10 +3,12 @@ use Rattle.std.proofs.Common.{◌≡◌, ℕ, ◌+◌, ◌≤◌, max, Bool, tru
 use Rattle.std.specs.List.{flat_map, AllByRecursion}
 use Rattle.std.proofs.lemmas.List.{append_cancel_left, map-append}
 use Rattle.std.proofs.lemmas.Bool.{ne_eqb}
-use Rattle.vc_network.specs.Actors.{Label, Steps, Run, KeepsTo, taken_off, put_on}
+use Rattle.vc_network.specs.Actors.{Label, Steps, taken_off, put_on}
+use Rattle.vc_network.specs.Private.Actors.{Run, KeepsTo}
 use Rattle.vc_network.specs.Actors.Label.{Own, Takes, Puts}
 use Rattle.vc_network.specs.LocalRun.{Stamped, Turn, plain, next_stamp, CarriesStamp, LocalRun, all_taken, all_put, items, IsPrefix}
-use Rattle.vc_network.specs.Merge.{Made, part, NotAfter, IsOrdered, event, MergesAreRuns}
+use Rattle.vc_network.specs.Merge.{Made, part, NotAfter, IsOrdered}
+use Rattle.vc_network.specs.Private.Merge.{event, MergesAreRuns}
 
 -- what the whole list takes off the way and puts on it
 abbrev pub takes : {Act Item : Type 0} → ℕ → List (Made (Label Act (Stamped Item))) → List (Stamped Item)

@@ -1,6 +1,7 @@
 -- Steps and runs of a network that is alike.
 use Rattle.std.proofs.Common.{ℕ, List, [], ◌∷◌, ◌++◌, sym, ap, ◌∙◌, subst}
-use Rattle.vc_network.specs.Actors.{Label, Steps, Step, Network, Run, Event, Alike, put_on}
+use Rattle.vc_network.specs.Actors.{Label, Steps, Step, Network, Alike, put_on}
+use Rattle.vc_network.specs.Private.Actors.{Run, Event}
 
 pub step_alike : {State Act Item : Type 0} (Local : Steps State Act Item) (old old' new : Network State Item) (actor : ℕ) (label : Label Act Item)
     → Alike old old' → Step Local old actor label new → Step Local old' actor label new

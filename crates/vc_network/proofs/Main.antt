@@ -1,7 +1,8 @@
 -- The headline of the whole network.
 use Rattle.std.proofs.Common.{Option, Some, None, ◌≡◌, ℕ, zero, suc, ◌+◌, ◌<◌, ◌≤◌, inl, inr, Bool, true, false, List, [], ◌∷◌, ◌++◌, length, Some, None, refl, sym, ap, ap₂, subst, ◌∙◌, arith, append-nil, append_assoc, if◌then◌else◌, nat_lt, nat_eq, eq-eqb, ne_eqb, le_refl}
 use Rattle.std.proofs.lemmas.Bool.{cases_eq, lt-ltb}
-use Rattle.vc_network.specs.Actors.{Network, ActBy, Event, Run}
+use Rattle.vc_network.specs.Actors.{Network, ActBy}
+use Rattle.vc_network.specs.Private.Actors.{Event, Run}
 use Rattle.vc_packets.specs.declared.mark.Mark.{Mark}
 use Rattle.vc_tokens.specs.Tokens.{Token}
 use Rattle.vc_machine.specs.Links.{Receiver, Tokens, no_tokens}

@@ -1,6 +1,7 @@
 -- An act says which step of its actor it is, so an event leads to one state, and a replay of a run is that run.
 use Rattle.std.proofs.Common.{◌≡◌, ℕ, ◌<◌, map, refl, sym, ap, subst, ◌∙◌, arith}
-use Rattle.vc_network.specs.Actors.{Label, Step, Alike, act_of, AreOne, IsDetermined}
+use Rattle.vc_network.specs.Actors.{Label, Step, Alike, act_of}
+use Rattle.vc_network.specs.Private.Actors.{AreOne, IsDetermined}
 use Rattle.vc_network.specs.Actors.Label.{Own, Takes, Puts}
 use Rattle.vc_network.proofs.Determined.{step_determined}
 use Rattle.vc_network.proofs.Replaying.{never_refused, same_end}

@@ -2,7 +2,8 @@
 use Rattle.std.proofs.Common.{◌≡◌, ℕ, Bool, true, false, if◌then◌else◌, ◌==◌, List, [], ◌∷◌, map, refl, sym, ap, ap₂, ◌∙◌, subst, eqb-true}
 use Rattle.std.specs.List.{AllByRecursion}
 use Rattle.vc_network.specs.LocalRun.{Stamped, restamped}
-use Rattle.vc_network.specs.Merge.{Made, part, NotAfter, IsOrdered, IsMerge, remade}
+use Rattle.vc_network.specs.Merge.{Made, part, NotAfter, IsOrdered, IsMerge}
+use Rattle.vc_network.specs.Private.Merge.{remade}
 use Rattle.vc_network.proofs.Merging.{part-own}
 
 module _ {A B : Type 0} (f : A → B) where

@@ -1,9 +1,11 @@
 -- What the threads did is a run of the network, whose acts are the merge's.
 use Rattle.std.proofs.Common.{◌≡◌, ℕ, List, map, [], ◌∷◌, refl, sym, ap, ap₂, ◌∙◌, ◌++◌, subst}
-use Rattle.vc_network.specs.Actors.{Label, Steps, Run, Event, KeepsTo, ActBy, Network, act_by, act_of, opening, SameActs, IsDetermined, Alike, Step}
+use Rattle.vc_network.specs.Actors.{Label, Steps, ActBy, Network, act_of, opening, Alike, Step}
+use Rattle.vc_network.specs.Private.Actors.{Run, Event, KeepsTo, act_by, SameActs, IsDetermined}
 use Rattle.vc_network.specs.Actors.Label.{Own, Takes, Puts}
 use Rattle.vc_network.specs.LocalRun.{Stamped, Turn, LocalRuns, items, plain, restamped}
-use Rattle.vc_network.specs.Merge.{Made, IsMerge, event, remade}
+use Rattle.vc_network.specs.Merge.{Made, IsMerge}
+use Rattle.vc_network.specs.Private.Merge.{event, remade}
 use Rattle.vc_network.proofs.Interleaving.{interleaving}
 use Rattle.vc_network.proofs.Determined.{next_step, run_determined}
 use Rattle.vc_network.proofs.Relabelled.{IsMerge-under}

@@ -1,6 +1,7 @@
 -- A list of events that happens is a run of the network, and the other way round.
 use Rattle.std.proofs.Common.{◌≡◌, List, [], ◌∷◌, map, refl, ap₂}
-use Rattle.vc_network.specs.Actors.{Network, Run, Event, ActBy, act_by}
+use Rattle.vc_network.specs.Actors.{Network, ActBy}
+use Rattle.vc_network.specs.Private.Actors.{Run, Event, act_by}
 use Rattle.vc_tokens.specs.Tokens.{Token}
 use Rattle.vc_switch.specs.Waiting.{Waiting}
 use Rattle.vc_network.specs.Plan.{Plan}

@@ -13,7 +13,7 @@ use Rattle.vc_vcp.specs.Links.{Link, Vcp}
 use Rattle.vc_switch.specs.Switch.{Switch, Input}
 use Rattle.vc_network.proofs.Wires.{one_near, one_far}
 use Rattle.vc_network.specs.Plan.{Plan, ways, near, far, IsAccepted, IsOutOf, IsInto, back, net_of}
-use Rattle.vc_machine.specs.View.{Credited}
+use Rattle.vc_machine.specs.Private.View.{Credited}
 use Rattle.vc_machine.proofs.Crediting.{place_kept, credit_low}
 use Rattle.vc_network.proofs.Backs.{back_back, near_back, back_out}
 use Rattle.vc_network.specs.Credit.{sender_at, receiver_at}

@@ -1,6 +1,7 @@
 -- The threads' own runs, merged, are a run of the network.
 use Rattle.std.proofs.Common.{◌≡◌, ℕ, ◌+◌, ◌<◌, ◌≤◌, List, [], ◌∷◌, ◌++◌, refl, sym, ap, ap₂, subst, arith, if◌then◌else◌, ne_eqb}
-use Rattle.vc_network.specs.Actors.{Label, KeepsTo, taken_off, put_on}
+use Rattle.vc_network.specs.Actors.{Label, taken_off, put_on}
+use Rattle.vc_network.specs.Private.Actors.{KeepsTo}
 use Rattle.vc_network.specs.Actors.Label.{Own, Takes, Puts}
 use Rattle.vc_network.proofs.Replaying.{threads_run}
 use Rattle.vc_tokens.specs.Tokens.{Token}

@@ -9,8 +9,9 @@ use Rattle.vc_occam.specs.declared.phase.Phase.{Phase}
 use Rattle.vc_occam.specs.declared.phase.Phase.TheVariants as phase
 use Rattle.vc_process.specs.Values.{Store}
 use Rattle.vc_occam.specs.Remains.{Rest, Stopped}
-use Rattle.vc_occam.specs.Sites.{InPreorder}
-use Rattle.vc_occam.specs.Frames.{impossible, Able, ChangedAt, Did, HasVariables, PartHasVariables, PartInPreorder, View, assigned_at, besides, is_par, part_assigned, part_rest, place_with, plan_at, plans, rest_at, together, views}
+use Rattle.vc_occam.specs.Private.Sites.{InPreorder}
+use Rattle.vc_occam.specs.Frames.{impossible, View, besides, plan_at, rest_at, together}
+use Rattle.vc_occam.specs.Private.Frames.{Able, ChangedAt, Did, HasVariables, PartHasVariables, PartInPreorder, assigned_at, is_par, part_assigned, part_rest, place_with, plans, views}
 use Rattle.vc_occam.proofs.Inside.{frames_inside}
 use Rattle.vc_occam.proofs.Places.{together_able, together_did, together_preorder, together_value, together_variables}
 use Rattle.vc_occam.proofs.Stepping.{never}

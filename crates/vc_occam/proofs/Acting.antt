@@ -21,8 +21,9 @@ use Rattle.vc_occam.specs.InUse.{UsesLawfully}
 use Rattle.vc_occam.specs.Remains.{Rest, Done, Stopped, Fresh, Finishing, Getting, Then, Turns, Beside, Step, does_skip, does_empty_seq, does_empty_par, does_assign, faults_assign, faults_out, does_if, does_turn, does_leave, faults_while, does_count, does_count_none, faults_count, does_offer, does_finish, does_input, waits_input, gets, does_stop, does_choose, waits_choose, in_then, in_turns, in_left, in_right}
 use Rattle.vc_occam.specs.declared.waits.Waits.{Waits}
 use Rattle.vc_occam.specs.declared.waits.Waits.TheVariants as waits
-use Rattle.vc_occam.specs.Frames.{Did, first_waits, waits_at, waits_there}
-use Rattle.vc_occam.specs.Moving.{IsAlone, site_of, action_for, action_on}
+use Rattle.vc_occam.specs.Private.Frames.{Did, first_waits, waits_at, waits_there}
+use Rattle.vc_occam.specs.Private.Moving.{IsAlone, action_for, action_on}
+use Rattle.vc_occam.specs.Moving.{site_of}
 use Rattle.vc_occam.specs.Sites.{sites, sites_all, sites_rest, OwnSites}
 use Rattle.vc_occam.specs.States.{State, Acts, IsTraced, Resumes, StepsTo, bytes_or_none, came, carried, doing, output_at, sent_by, Waiting, output, input, waiting}
 use Rattle.vc_process.specs.ProcessStep.{Wants, Chooses}

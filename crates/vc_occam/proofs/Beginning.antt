@@ -15,8 +15,9 @@ use Rattle.vc_process.specs.Syntax.{Test, PAR, IF, no_parts}
 use Rattle.vc_process.specs.Terms.{as_test}
 use Rattle.vc_process.specs.Values.{Store, holds}
 use Rattle.vc_occam.specs.Remains.{Rest, Done, Stopped, Fresh, begin, branch_on, chosen, does_empty_par, does_if}
-use Rattle.vc_occam.specs.Frames.{impossible, Able, BeginsWith, Did, View, begun_at, branches_of, chosen_from, follow, plan_at, plans, plans_of, place_on, rest_at, view, views}
-use Rattle.vc_occam.specs.Nexts.{branch_next, turn_begun}
+use Rattle.vc_occam.specs.Frames.{impossible, View, branches_of, follow, plan_at, plans_of, rest_at, view}
+use Rattle.vc_occam.specs.Private.Frames.{Able, BeginsWith, Did, begun_at, chosen_from, plans, place_on, views}
+use Rattle.vc_occam.specs.Private.Nexts.{branch_next, turn_begun}
 
 -- the frame at a place has begun
 pub start_views : (fs : List Frame) (k : ℕ) (f g : Frame) → k < length fs → f ≡ get_or fs k f → view g ≡ ((view f).0, begin (view f).0) → views (set fs k g) ≡ begun_at k (views fs)

@@ -11,7 +11,8 @@ use Rattle.vc_process.specs.Usage.{Set, changes}
 use Rattle.vc_occam.specs.Remains.{Rest, Done, Beside, and_then, begin, begin_seq, begin_par, begin_all, beside_on, in_left, in_right}
 use Rattle.vc_occam.specs.First.{own}
 use Rattle.vc_occam.specs.States.{Waiting, output_at, waiting}
-use Rattle.vc_occam.specs.Frames.{Able, Did, View, all_begun, assigned_at, begun_at, begun_to, besides, first_waits, is_done, part_rest, plans, plans_of, view, views, waits_there}
+use Rattle.vc_occam.specs.Private.Frames.{Able, Did, all_begun, assigned_at, begun_at, begun_to, first_waits, is_done, part_rest, plans, views, waits_there}
+use Rattle.vc_occam.specs.Frames.{View, besides, plans_of, view}
 use Rattle.vc_process.proofs.Reaching.{drop_at}
 
 -- it goes on unless both have ended

@@ -6,7 +6,8 @@ use Rattle.vc_process.specs.declared.value.Value.{Value}
 use Rattle.vc_process.specs.Syntax.{Proc, Output, Input, ALT, Procs, no_parts, part}
 use Rattle.vc_process.specs.Usage.{Set}
 use Rattle.vc_process.specs.Values.{Store, holds}
-use Rattle.vc_occam.specs.Blocking.{blocked, blocked_fresh, open_gate, open_guards, or_closed}
+use Rattle.vc_occam.specs.Blocking.{blocked, blocked_fresh, open_guards, or_closed}
+use Rattle.vc_occam.specs.Private.Blocking.{open_gate}
 use Rattle.vc_occam.specs.declared.blocked.Blocked.{Blocked}
 use Rattle.vc_occam.specs.declared.blocked.Blocked.TheVariants as at
 use Rattle.vc_occam.specs.declared.frame.Frame.{Frame}
@@ -16,8 +17,10 @@ use Rattle.vc_occam.specs.declared.kind.Kind.{Kind}
 use Rattle.vc_occam.specs.declared.kind.Kind.TheVariants as kind
 use Rattle.vc_occam.specs.declared.phase.Phase.TheVariants as phase
 use Rattle.vc_occam.specs.First.{all_decided, is_true}
-use Rattle.vc_occam.specs.Frames.{View, as_begun, behind, follow, going_at, goes_on_at_one_part, guards_of, is_counted, part_rest, place_of, plan_at, resting_at, turn_of, view, views}
-use Rattle.vc_occam.specs.Gates.{Gate, are_decided, gate}
+use Rattle.vc_occam.specs.Frames.{View, as_begun, behind, follow, going_at, goes_on_at_one_part, guards_of, place_of, plan_at, resting_at, turn_of, view}
+use Rattle.vc_occam.specs.Private.Frames.{is_counted, part_rest, views}
+use Rattle.vc_occam.specs.Gates.{Gate, gate}
+use Rattle.vc_occam.specs.Private.Gates.{are_decided}
 use Rattle.vc_occam.specs.Remains.{Rest, Done, Stopped, Fresh, Finishing, Getting, Then, Turns, Beside, and_then, beside_on}
 use Rattle.vc_occam.proofs.Frames.{going_part, rest_going, rest_resting, rest_turning, rest_waiting, resting_goes, turning_is}
 

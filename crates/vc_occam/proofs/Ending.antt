@@ -2,7 +2,8 @@
 use Rattle.std.proofs.Common.{◌≡◌, ℕ, zero, suc, ◌<◌, Bool, true, false, ◌&&◌, refl, ap, sym, ◌∙◌, List, [], ◌∷◌, length, arith}
 use Rattle.std.specs.Prelude.{slice_get}
 use Rattle.vc_occam.specs.declared.site_action.SiteAction.{SiteAction}
-use Rattle.vc_occam.specs.Frames.{Able, View, besides, is_done, part_done, part_rest, plans}
+use Rattle.vc_occam.specs.Private.Frames.{Able, is_done, part_done, part_rest, plans}
+use Rattle.vc_occam.specs.Frames.{View, besides}
 use Rattle.vc_process.specs.Usage.{changes}
 use Rattle.vc_process.specs.Values.{Store}
 use Rattle.vc_occam.proofs.Besides.{beside_done}

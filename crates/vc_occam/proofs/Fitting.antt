@@ -10,7 +10,7 @@ use Rattle.vc_process.specs.Limits.{exp_fits, given_fits, given_kind, holds_kind
 use Rattle.vc_process.specs.ProcessLimits.{names_fit, parts_names_fit, branches_names_fit, guards_names_fit, test_fits}
 use Rattle.vc_process.specs.Syntax.{Exp, Number, Variable, Binary, SizeOf, Test, Constant, Compare, Both, Either, Negate, Literal, Contents, Filled, Given, Whole, Bytes, Proc, SKIP, STOP, Assign, Output, Input, StopChan, SEQ, PAR, IF, WHILE, COUNT, ALT, Procs, no_parts, part, Branches, no_branches, branch, Guards, no_guards, guard}
 use Rattle.vc_process.specs.Usage.{Set, ◌∪◌, just, in_exp, in_test, in_given, uses, uses_all, uses_branches, uses_guards}
-use Rattle.vc_occam.specs.Frames.{HasVariables}
+use Rattle.vc_occam.specs.Private.Frames.{HasVariables}
 use Rattle.vc_process.proofs.Held.{held_there}
 use Rattle.vc_occam.proofs.Used.{changed_used}
 

@@ -15,10 +15,13 @@ use Rattle.vc_process.specs.Values.{Store}
 use Rattle.vc_process.specs.Usage.{changes}
 use Rattle.vc_occam.specs.Remains.{Rest, Done, Fresh}
 use Rattle.vc_occam.specs.First.{own}
-use Rattle.vc_occam.specs.Moving.{action_for, site_of}
-use Rattle.vc_occam.specs.Sites.{PartsInPreorder, site}
+use Rattle.vc_occam.specs.Private.Moving.{action_for}
+use Rattle.vc_occam.specs.Moving.{site_of}
+use Rattle.vc_occam.specs.Private.Sites.{PartsInPreorder}
+use Rattle.vc_occam.specs.Sites.{site}
 use Rattle.vc_occam.specs.States.{Waiting, output_at, waiting}
-use Rattle.vc_occam.specs.Frames.{BeginsAt, GoesOnIn, HasSiteIn, MovesAt, PartInPreorder, View, assigned_at, behind, besides, goes_on_at_one_part, is_counted, is_par, part_assigned, part_output, part_own, part_waits, place_of, place_with, plan_at, plans_of, view, views}
+use Rattle.vc_occam.specs.Private.Frames.{BeginsAt, GoesOnIn, HasSiteIn, MovesAt, PartInPreorder, assigned_at, is_counted, is_par, part_assigned, part_output, part_own, part_waits, place_with, views}
+use Rattle.vc_occam.specs.Frames.{View, behind, besides, goes_on_at_one_part, place_of, plan_at, plans_of, view}
 use Rattle.vc_occam.proofs.Besides.{beside_own, beside_waits}
 use Rattle.vc_occam.proofs.Frames.{follow_assigned, follow_output, follow_own, follow_waits, length-views, rest_going, rest_ready, rest_together, turning_assigned, turning_output, turning_own, turning_waits, view_out}
 use Rattle.vc_occam.proofs.Inside.{frames_inside}

@@ -17,7 +17,8 @@ use Rattle.vc_process.specs.Values.{Store}
 use Rattle.vc_occam.specs.First.{own}
 use Rattle.vc_occam.specs.States.{waiting, output_at}
 use Rattle.vc_occam.specs.Gates.{Gate, gate}
-use Rattle.vc_occam.specs.Frames.{impossible, View, awaiting, chosen_at, is_counted, is_par, all_begun, turn_of, turning, together, besides, plans_of, behind, follow, follow_on, going_at, resting, resting_at, as_begun, gone_on, goes_on_at_one_part, is_last, place_of, so_far, plan_at, rest_at, view_step, view, views, is_done, part_done, part_own, part_waits, part_output, part_assigned, assigned_at, begun_parts, begun_phase}
+use Rattle.vc_occam.specs.Frames.{impossible, View, awaiting, chosen_at, turn_of, turning, together, besides, plans_of, behind, follow, going_at, resting, resting_at, as_begun, goes_on_at_one_part, place_of, so_far, plan_at, rest_at, view_step, view}
+use Rattle.vc_occam.specs.Private.Frames.{is_counted, is_par, all_begun, follow_on, gone_on, is_last, views, is_done, part_done, part_own, part_waits, part_output, part_assigned, assigned_at, begun_parts, begun_phase}
 use Rattle.vc_occam.proofs.Besides.{begin_goes, begun_plans_of, besides_begun, goes_then}
 
 pub view_roll : (f : Frame-F Frame) → view (roll-Frame f) ≡ (plan_at f.kind f.site (views f.parts.items), rest_at f.kind f.phase f.site (views f.parts.items) f.at)

@@ -12,10 +12,12 @@ use Rattle.vc_occam.specs.declared.kind.Kind.{Kind}
 use Rattle.vc_occam.specs.declared.kind.Kind.TheVariants as kind
 use Rattle.vc_occam.specs.declared.moves.Move.{Move}
 use Rattle.vc_occam.specs.First.{all_decided, choices, own}
-use Rattle.vc_occam.specs.Frames.{Able, Did, HasVariables, View, awaiting, begun_at, chosen_at, follow, guards_of, part_plan, plan_at, plans, rest_at}
-use Rattle.vc_occam.specs.Gates.{Gate, are_decided, choices_at, gate, open_from, open_one}
+use Rattle.vc_occam.specs.Private.Frames.{Able, Did, HasVariables, begun_at, plans}
+use Rattle.vc_occam.specs.Frames.{View, awaiting, chosen_at, follow, guards_of, part_plan, plan_at, rest_at}
+use Rattle.vc_occam.specs.Gates.{Gate, gate}
+use Rattle.vc_occam.specs.Private.Gates.{are_decided, choices_at, open_from, open_one}
 use Rattle.vc_process.specs.Messages.{received}
-use Rattle.vc_occam.specs.Nexts.{GateHasVariable, gate_begun, gate_next, gate_store}
+use Rattle.vc_occam.specs.Private.Nexts.{GateHasVariable, gate_begun, gate_next, gate_store}
 use Rattle.vc_occam.specs.Remains.{Rest, Fresh, Getting, GuardAt, Then, begin, does_choose, first, gets, in_then, later, waits_choose}
 use Rattle.vc_process.specs.Syntax.{ALT, Guards, Proc, Test, no_parts, part}
 use Rattle.vc_occam.specs.Traces.{Decided, In, set}

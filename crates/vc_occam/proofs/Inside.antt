@@ -14,7 +14,8 @@ use Rattle.vc_occam.specs.Remains.{Rest, Stopped, Fresh, and_then}
 use Rattle.vc_process.specs.Terms.{exp, as_test}
 use Rattle.vc_process.specs.Usage.{Set, just, nothing, ◌∪◌}
 use Rattle.vc_occam.specs.Sites.{sites, sites_all, sites_branches, sites_guards}
-use Rattle.vc_occam.specs.Frames.{impossible, View, as_begun, awaiting, branches_of, chosen_at, count_of, follow, going_at, guards_of, goes_on_at_one_part, place_of, plan_at, plans_of, rest_at, resting, resting_at, together, turn_of, turning, view, views, while_of}
+use Rattle.vc_occam.specs.Frames.{impossible, View, as_begun, awaiting, branches_of, chosen_at, count_of, follow, going_at, guards_of, goes_on_at_one_part, place_of, plan_at, plans_of, rest_at, resting, resting_at, together, turn_of, turning, view, while_of}
+use Rattle.vc_occam.specs.Private.Frames.{views}
 use Rattle.vc_occam.proofs.Frames.{view_roll}
 use Rattle.vc_occam.proofs.Places.{AllWithin, besides_sites, doers}
 use Rattle.vc_occam.proofs.Stepping.{resting_plans, same_plan}

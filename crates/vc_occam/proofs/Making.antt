@@ -13,14 +13,16 @@ use Rattle.vc_process.specs.declared.process.Process.TheVariants as process
 use Rattle.vc_process.specs.declared.process.Process.TheOpen as layer
 use Rattle.vc_process.specs.declared.process.Process.TheFolds.{fold_out-Process}
 use Rattle.vc_process.specs.declared.process.Process.TheViews.{out-Branch, out-Guard}
-use Rattle.vc_occam.specs.Frames.{View, branches_of, count_of, guards_of, plans_of, view, views, while_of}
+use Rattle.vc_occam.specs.Frames.{View, branches_of, count_of, guards_of, plans_of, view, while_of}
+use Rattle.vc_occam.specs.Private.Frames.{views}
 use Rattle.vc_occam.specs.Gates.{Gate, gate}
-use Rattle.vc_process.specs.InOrder.{branch_layer, guard_layer, number, number_branch, number_guard}
+use Rattle.vc_process.specs.InOrder.{branch_layer, guard_layer, number}
+use Rattle.vc_process.specs.Private.InOrder.{number_branch, number_guard}
 use Rattle.vc_process.specs.Numbering.{Numbered, NumberedBranch, NumberedGuard, branch_sites, branches_from, guard_sites, guards_from, numbered, part_sites, parts_from}
 use Rattle.vc_occam.specs.Remains.{Fresh}
 use Rattle.vc_process.specs.Syntax.{Branches, Guards, Proc, Procs, ALT, COUNT, IF, PAR, SEQ, WHILE, branch, guard, part, Test}
 use Rattle.vc_process.specs.Terms.{exp, as_test}
-use Rattle.vc_occam.specs.Wholes.{branch_wholes_from, gates, guard_wholes_from, tests, whole_from, wholes_from}
+use Rattle.vc_occam.specs.Private.Wholes.{branch_wholes_from, gates, guard_wholes_from, tests, whole_from, wholes_from}
 use Rattle.vc_process.proofs.Numbers.{number_alt, number_branch_out, number_count, number_guard_out, number_if, number_par, number_seq, number_while}
 use Rattle.vc_process.proofs.Reaching.{drop_at}
 

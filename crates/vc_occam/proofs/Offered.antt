@@ -12,9 +12,10 @@ use Rattle.vc_occam.specs.declared.moves.Move.TheVariants as move
 use Rattle.vc_occam.specs.declared.phase.Phase.{Phase}
 use Rattle.vc_occam.specs.declared.phase.Phase.TheVariants as phase
 use Rattle.vc_occam.specs.First.{own}
-use Rattle.vc_occam.specs.Frames.{Able, ChangedAt, Did, View, branches_of, guards_of, goes_on_at_one_part, is_counted, is_done, is_par, part_done, part_rest, place_of, place_with, plan_at, plans, plans_of, rest_at, views}
+use Rattle.vc_occam.specs.Private.Frames.{Able, ChangedAt, Did, is_counted, is_done, is_par, part_done, part_rest, place_with, plans, views}
+use Rattle.vc_occam.specs.Frames.{View, branches_of, guards_of, goes_on_at_one_part, place_of, plan_at, plans_of, rest_at}
 use Rattle.vc_occam.specs.Remains.{Rest, Done, Stopped, Fresh, Finishing, Getting, Then, Turns, Beside, Step, does_offer, in_then, in_turns, in_left, in_right}
-use Rattle.vc_occam.specs.Sites.{InPreorder}
+use Rattle.vc_occam.specs.Private.Sites.{InPreorder}
 use Rattle.vc_process.specs.Syntax.{Procs, Branches, Guards, SEQ, PAR, IF, ALT}
 use Rattle.vc_process.specs.Terms.{as_test}
 use Rattle.vc_occam.specs.Gates.{gate}

@@ -9,7 +9,8 @@ use Rattle.vc_occam.specs.declared.look.Look.{Look}
 use Rattle.vc_occam.specs.declared.kind.Kind.{Kind}
 use Rattle.vc_occam.specs.declared.phase.Phase.{Phase}
 use Rattle.vc_occam.specs.declared.phase.Phase.TheVariants as phase
-use Rattle.vc_occam.specs.Frames.{BeginsAs, BeginsWith, Tells, View, assigned_at, behind, goes_on_at_one_part, is_counted, part_assigned, part_own, part_rest, place_of, rest_at, view, views}
+use Rattle.vc_occam.specs.Private.Frames.{BeginsAs, BeginsWith, Tells, assigned_at, is_counted, part_assigned, part_own, part_rest, views}
+use Rattle.vc_occam.specs.Frames.{View, behind, goes_on_at_one_part, place_of, rest_at, view}
 use Rattle.vc_occam.specs.First.{own}
 use Rattle.vc_occam.specs.Remains.{Rest}
 use Rattle.vc_process.specs.Values.{Store}

@@ -17,9 +17,11 @@ use Rattle.vc_occam.specs.Traces.{Comm}
 use Rattle.vc_process.specs.Values.{Store}
 use Rattle.vc_process.specs.Usage.{Set, changes, just, nothing, ◌∪◌}
 use Rattle.vc_occam.specs.Remains.{Rest, Done, Stopped, Fresh, Finishing, Getting, Then, Turns, Beside, beside_on, Step, does_skip, does_empty_seq, does_empty_par, does_assign, faults_assign, faults_out, does_if, does_turn, does_leave, faults_while, does_count, does_count_none, faults_count, does_offer, does_finish, does_input, waits_input, gets, does_stop, does_choose, waits_choose, in_then, in_turns, in_left, in_right}
-use Rattle.vc_occam.specs.Sites.{sites, sites_all, sites_branches, sites_guards, site, Precedes, InPreorder, PartsInPreorder}
+use Rattle.vc_occam.specs.Sites.{sites, sites_all, sites_branches, sites_guards, site}
+use Rattle.vc_occam.specs.Private.Sites.{Precedes, InPreorder, PartsInPreorder}
 use Rattle.vc_occam.specs.States.{output_at}
-use Rattle.vc_occam.specs.Frames.{Able, ChangedAt, Did, HasVariables, PartHasVariables, PartInPreorder, View, assigned_at, besides, count_of, part_assigned, part_output, part_rest, place_with, plan_at, plans, plans_of, rest_at, together, view, views, while_of}
+use Rattle.vc_occam.specs.Private.Frames.{Able, ChangedAt, Did, HasVariables, PartHasVariables, PartInPreorder, assigned_at, part_assigned, part_output, part_rest, place_with, plans, views}
+use Rattle.vc_occam.specs.Frames.{View, besides, count_of, plan_at, plans_of, rest_at, together, view, while_of}
 use Rattle.vc_occam.proofs.Besides.{besides_did, beside_able, beside_assigned, beside_output}
 use Rattle.vc_occam.proofs.Frames.{view_out}
 use Rattle.vc_occam.proofs.Sites.{Within, either, not_true, clash}

@@ -10,7 +10,8 @@ use Rattle.vc_process.specs.Terms.{as_test}
 use Rattle.vc_process.specs.Numbering.{Numbered, NumberedBranch, NumberedGuard, parts_from, branches_from, guards_from, part_sites, branch_sites, guard_sites, numbered, written}
 use Rattle.vc_process.specs.Usage.{Set, just, ◌∪◌}
 use Rattle.vc_occam.specs.Remains.{begin}
-use Rattle.vc_occam.specs.Sites.{sites, sites_all, sites_branches, sites_guards, HasOwnSites, AllHaveOwnSites, PartsHaveOwnSites, BranchesHaveOwnSites, GuardsHaveOwnSites, OwnSites, Precedes, InPreorder, PartsInPreorder, BranchesInPreorder, GuardsInPreorder}
+use Rattle.vc_occam.specs.Sites.{sites, sites_all, sites_branches, sites_guards, HasOwnSites, AllHaveOwnSites, PartsHaveOwnSites, BranchesHaveOwnSites, GuardsHaveOwnSites, OwnSites}
+use Rattle.vc_occam.specs.Private.Sites.{Precedes, InPreorder, PartsInPreorder, BranchesInPreorder, GuardsInPreorder}
 use Rattle.vc_occam.proofs.Sites.{either, not_true, begin_own}
 
 -- the numbers of a set are among those from low on, below high

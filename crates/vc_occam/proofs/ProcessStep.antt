@@ -14,7 +14,8 @@ use Rattle.vc_occam.specs.Traces.{set}
 use Rattle.vc_process.specs.Usage.{just}
 use Rattle.vc_process.specs.Values.{Store, datum_of}
 use Rattle.vc_occam.specs.Remains.{Rest, Done, Stopped, Fresh, Getting, does_assign, does_input, faults_assign, gets, waits_input}
-use Rattle.vc_occam.specs.Frames.{Able, Did, HasVariables, View, going_at, plan_at, rest_at}
+use Rattle.vc_occam.specs.Private.Frames.{Able, Did, HasVariables}
+use Rattle.vc_occam.specs.Frames.{View, going_at, plan_at, rest_at}
 
 module _ (i : ℕ) (vs : List View) (at : ℕ) (e f : Store) (s : ℕ) (d : SiteAction) where
   abbrev Begins : Phase → Kind → Type 0

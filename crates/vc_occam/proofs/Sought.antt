@@ -7,10 +7,13 @@ use Rattle.vc_occam.specs.declared.frame.Frame.{Frame}
 use Rattle.vc_occam.specs.declared.moves.Move.{Move}
 use Rattle.vc_occam.specs.declared.moves.Move.TheVariants.{Choose}
 use Rattle.vc_occam.specs.First.{is_true, own}
-use Rattle.vc_occam.specs.Frames.{View, besides, listed, place_with, plans_of, view, views}
-use Rattle.vc_occam.specs.Gates.{Gate, are_decided, choices_at, open_from, open_one}
+use Rattle.vc_occam.specs.Frames.{View, besides, plans_of, view}
+use Rattle.vc_occam.specs.Private.Frames.{listed, place_with, views}
+use Rattle.vc_occam.specs.Gates.{Gate}
+use Rattle.vc_occam.specs.Private.Gates.{are_decided, choices_at, open_from, open_one}
 use Rattle.vc_occam.specs.Moving.{from_site, site_of}
-use Rattle.vc_occam.specs.Sites.{PartsInPreorder, site, sites, sites_all}
+use Rattle.vc_occam.specs.Private.Sites.{PartsInPreorder}
+use Rattle.vc_occam.specs.Sites.{site, sites, sites_all}
 use Rattle.vc_process.specs.Usage.{among, changes}
 use Rattle.vc_process.specs.Values.{Store, holds}
 use Rattle.vc_process.proofs.Lists.{at_front, behind}

@@ -14,9 +14,10 @@ use Rattle.vc_process.specs.Usage.{changes, changes_all, changes_branches, chang
 use Rattle.vc_process.specs.Values.{Store}
 use Rattle.vc_occam.specs.Remains.{Rest, Done, Stopped, Fresh, Finishing, Getting, Then, Turns, Beside, and_then, then_on, in_then}
 use Rattle.vc_occam.specs.Gates.{Gate, gate}
-use Rattle.vc_occam.specs.Sites.{InPreorder, PartsInPreorder, BranchesInPreorder, GuardsInPreorder}
-use Rattle.vc_occam.specs.Frames.{Able, Did, HasVariables, PartHasVariables, PartInPreorder, View, assigned_at, begun_at, behind, branches_of, count_of, follow, follow_on, gone_on, guards_of, goes_on_at_one_part, is_counted, is_done, is_last, is_par, on_part, part_assigned, part_done, part_rest, place_of, plan_at, resting_at, plans, plans_of, rest_at, view, views, while_of}
-use Rattle.vc_occam.specs.Nexts.{goes_further, seq_begun, seq_next}
+use Rattle.vc_occam.specs.Private.Sites.{InPreorder, PartsInPreorder, BranchesInPreorder, GuardsInPreorder}
+use Rattle.vc_occam.specs.Private.Frames.{Able, Did, HasVariables, PartHasVariables, PartInPreorder, assigned_at, begun_at, follow_on, gone_on, is_counted, is_done, is_last, is_par, on_part, part_assigned, part_done, part_rest, plans, views}
+use Rattle.vc_occam.specs.Frames.{View, behind, branches_of, count_of, follow, guards_of, goes_on_at_one_part, place_of, plan_at, resting_at, plans_of, rest_at, view, while_of}
+use Rattle.vc_occam.specs.Private.Nexts.{goes_further, seq_begun, seq_next}
 use Rattle.vc_occam.proofs.Beginning.{begun_plans}
 use Rattle.vc_occam.proofs.Frames.{going_part, follow_assigned, resting_goes, resting_stops, went_done}
 use Rattle.vc_occam.proofs.Stores.{or_left, or_right}

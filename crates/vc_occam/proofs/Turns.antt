@@ -21,8 +21,9 @@ use Rattle.vc_occam.proofs.Stepping.{never}
 use Rattle.vc_occam.proofs.Stores.{or_left, or_right}
 use Rattle.vc_process.specs.Values.{Store, value_of, within}
 use Rattle.vc_occam.specs.Remains.{Rest, Done, Stopped, Fresh, Finishing, Getting, Then, Turns, Beside, Step, begin, index_on, turns_on, in_turns, does_count, does_count_none, faults_count}
-use Rattle.vc_occam.specs.Frames.{impossible, Able, Did, HasVariables, PartHasVariables, View, assigned_at, part_assigned, begun_at, count_of, is_counted, is_done, part_done, part_rest, plan_at, plans, rest_at, so_far, turn_of, turning, turns_left}
-use Rattle.vc_occam.specs.Nexts.{count_begun, count_phase, count_store, last_phase, TurnEnded, turn_phase, turn_store, turn_views, over}
+use Rattle.vc_occam.specs.Frames.{impossible, View, count_of, plan_at, rest_at, so_far, turn_of, turning, turns_left}
+use Rattle.vc_occam.specs.Private.Frames.{Able, Did, HasVariables, PartHasVariables, assigned_at, part_assigned, begun_at, is_counted, is_done, part_done, part_rest, plans}
+use Rattle.vc_occam.specs.Private.Nexts.{count_begun, count_phase, count_store, last_phase, TurnEnded, turn_phase, turn_store, turn_views, over}
 
 pub left_of : (x : ℤ) (m : ℕ) → turns_left x (x +ℤ pos m) ≡ m
 left_of x m = by (int_lt x (x +ℤ pos m)) refl

@@ -8,7 +8,8 @@ use Rattle.vc_occam.specs.declared.running.Running.{Running}
 use Rattle.std.proofs.lemmas.Bool.Decides.{nat_tests}
 use Rattle.std.specs.Prelude.{◌==◌, if◌then◌else◌}
 use Rattle.vc_occam.specs.First.{joined, meetings}
-use Rattle.vc_occam.specs.Frames.{BeginsWith, view}
+use Rattle.vc_occam.specs.Private.Frames.{BeginsWith}
+use Rattle.vc_occam.specs.Frames.{view}
 use Rattle.vc_occam.specs.Runnings.{inner_channels, moves, state}
 use Rattle.vc_process.specs.Terms.{store}
 use Rattle.vc_process.specs.Usage.{Set, among}

@@ -1,12 +1,9 @@
 -- What the parts of a process are at that do not go on by themselves.
-use Rattle.std.specs.Prelude.{◌≡◌, ℕ, List, [], ◌∷◌, ◌++◌, is_some, if◌then◌else◌, Result, OnOk, ⊤}
-use Rattle.std.specs.List.{flat_map}
+use Rattle.std.specs.Prelude.{ℕ, List, [], ◌∷◌, ◌++◌, is_some, if◌then◌else◌}
 use Rattle.vc_occam.specs.declared.blocked.Blocked.{Blocked}
 use Rattle.vc_occam.specs.declared.blocked.Blocked.TheVariants as at
 use Rattle.vc_occam.specs.First.{all_decided, is_true}
-use Rattle.vc_occam.specs.Gates.{Gate}
 use Rattle.vc_occam.specs.Remains.{Rest, Done, Stopped, Fresh, Finishing, Getting, Then, Turns, Beside}
-use Rattle.vc_packets.specs.declared.memory.Memory.{Memory}
 use Rattle.vc_process.specs.Syntax.{Proc, STOP, Output, Input, ALT, Guards, no_guards, guard}
 use Rattle.vc_process.specs.Values.{Store, datum_of, holds}
 
@@ -38,15 +35,3 @@ blocked (Getting i c v) e = at.Input i c ∷ []
 blocked (Then r ps) e = blocked r e
 blocked (Turns r v b n p) e = blocked r e
 blocked (Beside mine r q) e = blocked r e ++ blocked q e
-
--- an open guard, without its body
-abbrev pub open_gate : ℕ → Store → Gate → List Blocked
-open_gate i e g = if is_true (holds g.when e) then (at.Guard i g.chan ∷ []) else []
-
--- the open guards of a list
-abbrev pub open_gates : ℕ → Store → List Gate → List Blocked
-open_gates i e = flat_map (open_gate i e)
-
--- where there is memory they stand behind those that were found before
-abbrev pub Adds : (old new : List Blocked) → List Blocked → Result ⊤ Memory → Type 0
-Adds old new found result = OnOk result (new ≡ old ++ found)

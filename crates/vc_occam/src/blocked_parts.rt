@@ -1,8 +1,10 @@
 //! What the parts of a process are at that do not go on by themselves.
 ghost use Rattle.std.specs.Prelude.{◌∷◌, [], ℤ, ℕ, List, Option, map, slice_get};
-ghost use Rattle.vc_occam.specs.Blocking.{Adds, blocked as blocked_at, blocked_fresh, open_gate, open_gates, or_closed};
+ghost use Rattle.vc_occam.specs.Private.Blocking.{Adds, open_gate, open_gates};
+ghost use Rattle.vc_occam.specs.Blocking.{blocked as blocked_at, blocked_fresh, or_closed};
 ghost use Rattle.vc_occam.specs.declared.blocked.Blocked.TheVariants.{Stopped};
-ghost use Rattle.vc_occam.specs.Frames.{View, as_begun, awaiting, besides, chosen_at, count_of, guards_of, part_rest, plan_at, resting_at, turn_of, view, views, while_of};
+ghost use Rattle.vc_occam.specs.Frames.{View, as_begun, awaiting, besides, chosen_at, count_of, guards_of, plan_at, resting_at, turn_of, view, while_of};
+ghost use Rattle.vc_occam.specs.Private.Frames.{part_rest, views};
 ghost use Rattle.vc_occam.specs.Gates.{gate};
 ghost use Rattle.vc_process.specs.Syntax.{ALT, Exp, Output, Test};
 ghost use Rattle.vc_process.specs.Terms.{given, store};

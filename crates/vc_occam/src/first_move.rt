@@ -1,10 +1,11 @@
 //! The first move that a process can begin with at a site from one on, found without a list of all.
 ghost use Rattle.std.specs.Prelude.{◌≡◌, [], IsTrue, slice_get};
 ghost use Rattle.vc_occam.specs.First.{own};
-ghost use Rattle.vc_occam.specs.Frames.{PartInPreorder, besides, listed, part_own, plan_at, plans_of, view, views};
+ghost use Rattle.vc_occam.specs.Private.Frames.{PartInPreorder, listed, part_own, views};
+ghost use Rattle.vc_occam.specs.Frames.{besides, plan_at, plans_of, view};
 ghost use Rattle.vc_occam.specs.Moving.{from_site};
 ghost use Rattle.vc_occam.specs.Remains.{Fresh};
-ghost use Rattle.vc_occam.specs.Sites.{InPreorder, PartsInPreorder};
+ghost use Rattle.vc_occam.specs.Private.Sites.{InPreorder, PartsInPreorder};
 ghost use Rattle.vc_process.specs.Terms.{store};
 ghost use Rattle.vc_process.specs.Values.{Store};
 

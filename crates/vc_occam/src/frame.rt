@@ -1,6 +1,7 @@
 //! Processes that run: a tree of frames, each with its parts and how far it is.
 ghost use Rattle.std.specs.Prelude.{◌≡◌, ℕ, slice_get};
-ghost use Rattle.vc_occam.specs.Frames.{all_begun, begun_parts, begun_phase, besides, is_choice, is_counted, is_par, goes_on_at_one_part as is_composed, is_done, is_last as nothing_behind, part_done, place_of, rest_at, view, views};
+ghost use Rattle.vc_occam.specs.Private.Frames.{all_begun, begun_parts, begun_phase, is_choice, is_counted, is_par, is_done, is_last as nothing_behind, part_done, views};
+ghost use Rattle.vc_occam.specs.Frames.{besides, goes_on_at_one_part as is_composed, place_of, rest_at, view};
 ghost use Rattle.vc_occam.specs.Remains.{begin};
 
 use crate::kind::Kind;

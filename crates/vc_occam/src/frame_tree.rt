@@ -1,11 +1,13 @@
 //! How a tree of frames is made of a process.
 ghost use Rattle.std.specs.Prelude.{◌≡◌, ◌+◌, ◌≤◌, ◌<◌, [], ◌∷◌, ℕ, List, true, IfOk, map};
-ghost use Rattle.vc_occam.specs.Frames.{View, plan_at, view, views};
+ghost use Rattle.vc_occam.specs.Frames.{View, plan_at, view};
+ghost use Rattle.vc_occam.specs.Private.Frames.{views};
 ghost use Rattle.vc_occam.specs.declared.kind.Kind.TheVariants as Kind;
 ghost use Rattle.vc_occam.specs.Remains.{Fresh, begin};
-ghost use Rattle.vc_occam.specs.Wholes.{branch_wholes_from, gates, guard_wholes_from, is_alone, tests, whole_from, wholes_from};
+ghost use Rattle.vc_occam.specs.Private.Wholes.{branch_wholes_from, gates, guard_wholes_from, is_alone, tests, whole_from, wholes_from};
 ghost use Rattle.vc_occam.specs.Gates.{gate};
-ghost use Rattle.vc_process.specs.InOrder.{number, number_branch, number_guard};
+ghost use Rattle.vc_process.specs.InOrder.{number};
+ghost use Rattle.vc_process.specs.Private.InOrder.{number_branch, number_guard};
 ghost use Rattle.vc_process.specs.Numbering.{branch_sites, guard_sites, part_sites, written};
 ghost use Rattle.vc_process.specs.Terms.{as_test};
 
@@ -112,7 +114,7 @@ fn frame_alone(alloc: Global, process: &Process, site: u32) -> Result<Framed, Me
 
 /// The frame of a process that is about to begin, its sites being numbered from this one on.
 #[cycle(framing)]
-#[tactic(auto, unfolding(vc_process::specs::InOrder::number, vc_process::specs::InOrder::number_branch, vc_process::specs::InOrder::number_guard))]
+#[tactic(auto, unfolding(vc_process::specs::InOrder::number, vc_process::specs::Private::InOrder::number_branch, vc_process::specs::Private::InOrder::number_guard))]
 pub(crate) fn frame_of(alloc: Global, process: &Process, site: u32) -> Result<Framed, Memory>
     requires sites { site + (number process.now).sites ≤ 65536 }
     ensures frame { IfOk result (λ made. view made.frame ≡ whole_from site (number process.now)) }
@@ -170,7 +172,7 @@ fn count_kind(alloc: Global, var: u8, base: &Expr, count: &Expr) -> Result<Kind,
 }
 
 /// The conditions of branches.
-#[tactic(auto, unfolding(vc_process::specs::InOrder::number, vc_process::specs::InOrder::number_branch))]
+#[tactic(auto, unfolding(vc_process::specs::InOrder::number, vc_process::specs::Private::InOrder::number_branch))]
 fn conds_of(alloc: Global, branches: &Items<Branch>) -> Result<Items<Cond>, Memory>
     ensures { IfOk result (λ conds. map as_test conds ≡ tests (map number_branch branches.now)) }
 {
@@ -182,7 +184,7 @@ fn conds_of(alloc: Global, branches: &Items<Branch>) -> Result<Items<Cond>, Memo
 }
 
 /// What guards test and input.
-#[tactic(auto, unfolding(vc_process::specs::InOrder::number, vc_process::specs::InOrder::number_guard))]
+#[tactic(auto, unfolding(vc_process::specs::InOrder::number, vc_process::specs::Private::InOrder::number_guard))]
 fn inputs_of(alloc: Global, guards: &Items<Guard>) -> Result<Items<GuardedInput>, Memory>
     ensures { IfOk result (λ inputs. map gate inputs ≡ gates (map number_guard guards.now)) }
 {
@@ -200,7 +202,7 @@ fn inputs_of(alloc: Global, guards: &Items<Guard>) -> Result<Items<GuardedInput>
 
 /// The frames of guards' bodies that are about to begin.
 #[cycle(framing)]
-#[tactic(auto, unfolding(vc_process::specs::InOrder::number, vc_process::specs::InOrder::number_guard))]
+#[tactic(auto, unfolding(vc_process::specs::InOrder::number, vc_process::specs::Private::InOrder::number_guard))]
 fn frames_of_guards(alloc: Global, guards: &Items<Guard>, site: u32) -> Result<FramedParts, Memory>
     requires sites { site + guard_sites (map number_guard guards.now) ≤ 65536 }
     ensures parts { IfOk result
@@ -223,7 +225,7 @@ fn frames_of_guards(alloc: Global, guards: &Items<Guard>, site: u32) -> Result<F
 
 /// The frames of branches that are about to begin.
 #[cycle(framing)]
-#[tactic(auto, unfolding(vc_process::specs::InOrder::number, vc_process::specs::InOrder::number_branch))]
+#[tactic(auto, unfolding(vc_process::specs::InOrder::number, vc_process::specs::Private::InOrder::number_branch))]
 fn frames_of_branches(
     alloc: Global,
     branches: &Items<Branch>,

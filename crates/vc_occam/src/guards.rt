@@ -1,7 +1,8 @@
 //! The guards of an ALT that runs, without their bodies.
 ghost use Rattle.std.specs.Prelude.{◌≡◌, ◌<◌, ◌≤◌, ◌++◌, ◌↔◌, IsTrue, OnOk, length, map};
 ghost use Rattle.std.specs.List.{Contains};
-ghost use Rattle.vc_occam.specs.Gates.{are_decided as all_decided, choices_at, gate, open_from, open_one};
+ghost use Rattle.vc_occam.specs.Private.Gates.{are_decided as all_decided, choices_at, open_from, open_one};
+ghost use Rattle.vc_occam.specs.Gates.{gate};
 ghost use Rattle.vc_occam.specs.First.{is_true};
 ghost use Rattle.vc_occam.specs.Moving.{from_site};
 ghost use Rattle.vc_process.specs.Terms.{store, as_test};

@@ -2,8 +2,8 @@
 ghost use Rattle.std.specs.Prelude.{◌≡◌, ◌≤◌, ◌-◌, ◌++◌, ◌∷◌, [], IfSome, None, OnOk, drop, length, take, true};
 ghost use Rattle.vc_occam.specs.declared.moves.Move.TheVariants.{Inner};
 ghost use Rattle.vc_occam.specs.First.{joined as as_joined, meetings};
-ghost use Rattle.vc_occam.specs.Frames.{is_outside as stays_outside};
-ghost use Rattle.vc_occam.specs.Moving.{partner as its_partner};
+ghost use Rattle.vc_occam.specs.Private.Frames.{is_outside as stays_outside};
+ghost use Rattle.vc_occam.specs.Private.Moving.{partner as its_partner};
 ghost use Rattle.vc_process.specs.Usage.{among};
 
 use crate::moves::Move;

@@ -1,8 +1,9 @@
 //! How an output begins.
 ghost use Rattle.std.specs.Prelude.{◌≡◌, ℕ, slice_get};
 ghost use Rattle.vc_occam.specs.declared.site_action.SiteAction.TheVariants.{Offer};
-ghost use Rattle.vc_occam.specs.Frames.{Able, ChangedAt, Did, PartInPreorder, part_rest, plans, view, views};
-ghost use Rattle.vc_occam.specs.Sites.{InPreorder};
+ghost use Rattle.vc_occam.specs.Private.Frames.{Able, ChangedAt, Did, PartInPreorder, part_rest, plans, views};
+ghost use Rattle.vc_occam.specs.Frames.{view};
+ghost use Rattle.vc_occam.specs.Private.Sites.{InPreorder};
 ghost use Rattle.vc_process.specs.Values.{Store};
 
 use crate::frame::Frame;

@@ -1,6 +1,6 @@
 //! What a process comes to by what one of its sites does.
 ghost use Rattle.std.specs.Prelude.{◌≡◌, false};
-ghost use Rattle.vc_occam.specs.Outcome.{has_ended, then_begins};
+ghost use Rattle.vc_occam.specs.Private.Outcome.{has_ended, then_begins};
 
 use crate::begins::Begins;
 

@@ -1,11 +1,13 @@
 //! Running processes.
 ghost use Rattle.std.specs.Prelude.{◌≡◌, length};
-ghost use Rattle.vc_occam.specs.Frames.{BeginsWith, HasVariables, view};
+ghost use Rattle.vc_occam.specs.Private.Frames.{BeginsWith, HasVariables};
+ghost use Rattle.vc_occam.specs.Frames.{view};
 ghost use Rattle.vc_occam.specs.InUse.{UsesLawfully};
 ghost use Rattle.vc_occam.specs.First.{own};
-ghost use Rattle.vc_occam.specs.Moving.{CanBegin, HasMet, at, action_for as action_of, action_on as going_on};
-ghost use Rattle.vc_occam.specs.OneProof.{BeginsWith-prop, InPreorder-prop, OwnSites-prop, UsesLawfully-prop};
-ghost use Rattle.vc_occam.specs.Sites.{InPreorder, OwnSites};
+ghost use Rattle.vc_occam.specs.Private.Moving.{CanBegin, HasMet, at, action_for as action_of, action_on as going_on};
+ghost use Rattle.vc_occam.specs.Private.OneProof.{BeginsWith-prop, InPreorder-prop, OwnSites-prop, UsesLawfully-prop};
+ghost use Rattle.vc_occam.specs.Private.Sites.{InPreorder};
+ghost use Rattle.vc_occam.specs.Sites.{OwnSites};
 ghost use Rattle.vc_occam.specs.States.{came, carried, output_at};
 ghost use Rattle.vc_process.specs.Terms.{store};
 
@@ -129,8 +131,9 @@ impl Running {
     ghost use Rattle.std.specs.List.{Contains};
     ghost use Rattle.vc_occam.specs.Blocking.{blocked};
     ghost use Rattle.vc_occam.specs.First.{own};
-    ghost use Rattle.vc_occam.specs.Frames.{assigned_at, waits_at};
-    ghost use Rattle.vc_occam.specs.Moving.{BeginsToWait, CanMeet, from_site, site_of, without};
+    ghost use Rattle.vc_occam.specs.Private.Frames.{assigned_at, waits_at};
+    ghost use Rattle.vc_occam.specs.Moving.{BeginsToWait, from_site, site_of, without};
+    ghost use Rattle.vc_occam.specs.Private.Moving.{CanMeet};
     ghost use Rattle.vc_occam.specs.declared.moves.Move.TheVariants as Move;
     ghost use Rattle.vc_process.specs.Terms.{store};
     ghost use Rattle.vc_process.specs.InOrder.{number};

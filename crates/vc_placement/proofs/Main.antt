@@ -19,7 +19,8 @@ use Rattle.vc_plan.proofs.KeptLimits.{limits_of}
 use Rattle.vc_plan.proofs.Limited.{both, keeps, names-fit, passes, unbroken, Keeps}
 use Rattle.vc_plan.proofs.Passed.{uses_are_ok}
 use Rattle.vc_plan.specs.Accepted.{IsAccepted, uses_of}
-use Rattle.vc_plan.specs.Check.{IsCause, PassesLimits, PassesUse, block_twice, misused, misused_from, port_missing, port_twice, way_twice, same_way, way_twice_from, has_end, end_is_at, end_is_there, kind_fits, channel_used, use_ok, wrong_use, same_bool}
+use Rattle.vc_plan.specs.Check.{IsCause, PassesLimits, block_twice, misused, misused_from, port_missing, port_twice, way_twice, same_way, way_twice_from, has_end, end_is_at, end_is_there, kind_fits, channel_used, use_ok, wrong_use, same_bool}
+use Rattle.vc_plan.specs.Private.Check.{PassesUse}
 use Rattle.vc_plan.specs.Limits.{links_ok, number_ok, version_ok, ends_ok, ends_there, limit_broken, parts_ok, random_ok, routes_ok, rows_ok, switch_in_version_one, switch_links_ok, unless_ok, vars_ok, wire_ok, wire_there, depth_ok, is_name, kinds_of, message_ok, names_ok, node_names_ok, process_names, home_there}
 use Rattle.vc_plan.specs.OneNode.{all_sites, all_vars, inside, IsBehind, AreProcesses, IsOnOneNode, IsOneNodeOf}
 use Rattle.vc_plan.specs.declared.channel.Channel.{Channel}

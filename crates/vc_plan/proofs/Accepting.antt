@@ -16,7 +16,8 @@ use Rattle.vc_plan.specs.declared.channel.Home.{Home}
 use Rattle.vc_plan.specs.declared.channel.Home.TheVariants.{Way}
 use Rattle.vc_plan.specs.declared.node_plan.NodePlan.{NodePlan}
 use Rattle.vc_plan.specs.Accepted.{IsAccepted, port_of, end_of, uses_of}
-use Rattle.vc_plan.specs.Check.{PassesUse, repeated, ports, port_twice, unwired_port, port_missing, block_of, same_block, blocks, block_twice, same_bool, same_way, way_twice_from, way_twice, misused_from, misused, wrong_use, use_ok}
+use Rattle.vc_plan.specs.Private.Check.{PassesUse}
+use Rattle.vc_plan.specs.Check.{repeated, ports, port_twice, unwired_port, port_missing, block_of, same_block, blocks, block_twice, same_bool, same_way, way_twice_from, way_twice, misused_from, misused, wrong_use, use_ok}
 use Rattle.vc_plan.specs.Wires.{across, same_port, same_spot, sending_port}
 use Rattle.vc_plan.proofs.KeptLimits.{tests_are}
 use Rattle.vc_plan.proofs.Limited.{keeps}

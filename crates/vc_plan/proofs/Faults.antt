@@ -12,7 +12,8 @@ use Rattle.vc_plan.specs.declared.search.Faulty.{Faulty}
 use Rattle.vc_plan.specs.Faults.{IsDrawnAt, fault_at, shown_at, at_node, ValueBefore, Before}
 use Rattle.vc_plan.specs.Hops.{range_in}
 use Rattle.vc_plan.specs.Wires.{switch_at}
-use Rattle.vc_plan.specs.Search.{values, value_shown, first_value_shown, shown_in, shown_by, entry_shown, first_shown}
+use Rattle.vc_plan.specs.Search.{values}
+use Rattle.vc_plan.specs.Private.Search.{value_shown, first_value_shown, shown_in, shown_by, entry_shown, first_shown}
 use Rattle.vc_plan.proofs.Members.{In, Pairs}
 use Rattle.vc_plan.proofs.Onward.{values-In, In-values, values-rise, EntryBefore}
 

@@ -14,7 +14,8 @@ use Rattle.vc_plan.specs.declared.channel.Home.{Home}
 use Rattle.vc_plan.specs.declared.channel.Home.TheVariants.{Way, Inside}
 use Rattle.vc_plan.specs.declared.node_plan.NodePlan.{NodePlan}
 use Rattle.vc_plan.specs.Accepted.{IsAccepted, port_of, end_of, uses_of}
-use Rattle.vc_plan.specs.Check.{PassesUse, repeated, ports, port_twice, unwired_port, port_missing, block_of, same_block, blocks, block_twice, same_bool, same_way, way_twice_from, way_twice, misused_from, misused, wrong_use, use_ok, channel_fault}
+use Rattle.vc_plan.specs.Private.Check.{PassesUse}
+use Rattle.vc_plan.specs.Check.{repeated, ports, port_twice, unwired_port, port_missing, block_of, same_block, blocks, block_twice, same_bool, same_way, way_twice_from, way_twice, misused_from, misused, wrong_use, use_ok, channel_fault}
 use Rattle.vc_plan.specs.Wires.{across, same_port, sending_port}
 use Rattle.vc_plan.proofs.Accepting.{homes, neither, none-else, place}
 use Rattle.vc_plan.proofs.Frontier.{port-same}

@@ -4,7 +4,8 @@ use Rattle.vc_plan.specs.declared.plan.Plan.{Plan}
 use Rattle.vc_plan.specs.declared.labelling.FaultyPath.{FaultyPath}
 use Rattle.vc_plan.specs.declared.check_refused.CheckRefused.{CheckRefused}
 use Rattle.vc_plan.specs.declared.check_refused.CheckRefused.TheVariants as why
-use Rattle.vc_plan.specs.Check.{IsRefusedPath, IsCause, PassesWires, PassesPorts, PassesBlocks, PassesTables, port_twice, port_missing, block_twice}
+use Rattle.vc_plan.specs.Private.Check.{IsRefusedPath}
+use Rattle.vc_plan.specs.Check.{IsCause, PassesWires, PassesPorts, PassesBlocks, PassesTables, port_twice, port_missing, block_twice}
 use Rattle.vc_plan.specs.Labelling.{IsFirstFault}
 use Rattle.vc_plan.specs.Limits.{limit_broken}
 

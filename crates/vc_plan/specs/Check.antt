@@ -29,7 +29,7 @@ use Rattle.vc_plan.specs.declared.labelling.FaultyPath.{FaultyPath}
 use Rattle.vc_plan.specs.declared.check_refused.CheckRefused.{CheckRefused}
 use Rattle.vc_plan.specs.declared.check_refused.CheckRefused.TheVariants as why
 use Rattle.vc_plan.specs.Labelling.{IsFirstFault}
-use Rattle.vc_plan.specs.Accepted.{AreApart, AreLawful, HasLawfulTables, IsLawfulSwitch, uses_of}
+use Rattle.vc_plan.specs.Accepted.{AreApart, HasLawfulTables, IsLawfulSwitch, uses_of}
 use Rattle.vc_plan.specs.Limits.{limit_broken}
 use Rattle.vc_plan.specs.Delivery.{IsLabelled}
 use Rattle.vc_plan.specs.Wires.{same_port, AreWiredRows, across, sending_port, switch_at}
@@ -208,11 +208,6 @@ pub record PassesChannels (p : Plan) : Type 0 where
   pub before : PassesNodes p
   pub channels : channel_fault p ≡ None
 
--- and each process keeps to its use
-pub record PassesUse (p : Plan) : Type 0 where
-  pub before : PassesChannels p
-  pub lawful : AreLawful p
-
 -- a path with its fault, which shows by this random value
 abbrev pub astray : PathFault → Option ℕ → Fault → FaultyPath
 astray f v fault =
@@ -238,12 +233,3 @@ IsCause p (why.SameNode n) = PassesPaths p × IsFirstSameNode p.vlinks n
 IsCause p (why.Channel n) = PassesNodes p × (channel_fault p ≡ Some n)
 IsCause p (why.Usage n name) = PassesChannels p × IsFirstUsage p n name
 IsCause p why.Memory = Unit {0}
-
--- a path with its fault is refused so
-abbrev pub IsRefusedPath : FaultyPath → CheckRefused → Type 0
-IsRefusedPath a (why.NoInterval f) = a ≡ astray f f.value fault.NoInterval
-IsRefusedPath a (why.WrongEnd f) = a ≡ astray f f.value fault.WrongEnd
-IsRefusedPath a (why.StackEmpty f) = a ≡ astray f f.value fault.StackEmpty
-IsRefusedPath a (why.StackFull f) = (f.value ≡ None) × (a ≡ astray f a.value fault.StackFull)
-IsRefusedPath a (why.Hops f) = a ≡ astray f f.value fault.Hops
-IsRefusedPath a r = ⊥

@@ -1,11 +1,9 @@
 -- How many switches the packets of a way pass: the numbers of hops of its paths to a node.
-use Rattle.std.specs.Prelude.{◌≡◌, ℕ, ◌≤◌, ◌||◌, Bool, true, false, List, [], ◌∷◌, length, Some}
-use Rattle.vc_plan.specs.declared.level.Entry.{Entry}
+use Rattle.std.specs.Prelude.{◌≡◌, ℕ, ◌≤◌, List, length, Some}
 use Rattle.vc_plan.specs.declared.path_fault.Hop.{Hop}
 use Rattle.vc_plan.specs.declared.plan.Plan.{Plan}
 use Rattle.vc_plan.specs.declared.port.Port.{Port}
-use Rattle.vc_plan.specs.declared.port.Spot.{Spot}
-use Rattle.vc_plan.specs.declared.port.Spot.TheVariants.{Node, Switch}
+use Rattle.vc_plan.specs.declared.port.Spot.TheVariants.{Node}
 use Rattle.vc_plan.specs.declared.vlink.End.{End}
 use Rattle.vc_plan.specs.declared.vlink.Vlink.{Vlink}
 use Rattle.vc_plan.specs.declared.vlink_length.VlinkLength.{VlinkLength}
@@ -39,13 +37,3 @@ pub record IsWayLength (net : Plan) (from : End) (l : WayLength) : Type 0 where
 pub record IsVlinkLength (net : Plan) (v : Vlink) (l : VlinkLength) : Type 0 where
   pub there : IsWayLength net v.a l.there
   pub back : IsWayLength net v.b l.back
-
--- it is a node
-abbrev pub is_node : Spot → Bool
-is_node (Node n) = true
-is_node (Switch n) = false
-
--- some entry is at a node
-abbrev pub some_at_node : List Entry → Bool
-some_at_node [] = false
-some_at_node (e ∷ es) = is_node e.port.spot || some_at_node es

@@ -26,7 +26,7 @@ impl Model for Accepted {
 impl Accepted {
     ghost use Rattle.std.specs.Prelude.{◌≡◌};
     ghost use Rattle.vc_plan.specs.Accepted.{IsAccepted};
-    ghost use Rattle.vc_plan.specs.Check.{PassesUse};
+    ghost use Rattle.vc_plan.specs.Private.Check.{PassesUse};
 
     /// A plan that is found to be in order.
     pub(crate) fn of(plan: Plan) -> Accepted

@@ -2,7 +2,8 @@
 ghost use Rattle.std.specs.Prelude.{◌≡◌, IfOk, IsSome};
 ghost use Rattle.vc_plan.specs.Accepted.{IsAccepted};
 ghost use Rattle.vc_plan.specs.Delivery.{Delivers, DeliversTo};
-ghost use Rattle.vc_plan.specs.WayLengths.{AreBounds, IsWayLength, is_node as is_node_spot, some_at_node};
+ghost use Rattle.vc_plan.specs.WayLengths.{AreBounds, IsWayLength};
+ghost use Rattle.vc_plan.specs.Private.WayLengths.{is_node as is_node_spot, some_at_node};
 ghost use Rattle.vc_plan.specs.Wires.{across, sending_port};
 
 use crate::hops::far_end;

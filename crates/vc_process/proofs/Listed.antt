@@ -2,7 +2,7 @@
 use Rattle.std.proofs.Common.{ℕ, ◌+◌, ◌++◌, refl, List}
 use Rattle.vc_process.specs.declared.used.Usage.{Usage}
 use Rattle.vc_process.specs.Numbering.{Numbered, NumberedBranch, NumberedGuard, branches_from, guards_from, parts_from}
-use Rattle.vc_process.specs.Usages.{input_usages, test_usages, usages, usages_of_branches, usages_of_guards, usages_of_parts}
+use Rattle.vc_process.specs.Private.Usages.{input_usages, test_usages, usages, usages_of_branches, usages_of_guards, usages_of_parts}
 use Rattle.vc_process.proofs.Reaching.{Joins}
 
 abbrev pub all_parts : List Numbered → ℕ → List Usage

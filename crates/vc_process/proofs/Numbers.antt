@@ -10,7 +10,8 @@ use Rattle.vc_process.specs.declared.process.Process.TheVariants as process
 use Rattle.vc_process.specs.declared.process.Process.TheViews.{out-Branch, out-Guard, out-Process, roll-Process, roll-out-Process}
 use Rattle.vc_process.specs.declared.process.Process.TheOpen as layer
 use Rattle.vc_process.specs.declared.process.Process.TheFolds.{fold-roll-Process, fold_out-Branch, fold_out-Guard}
-use Rattle.vc_process.specs.InOrder.{branch_layer, guard_layer, number, number_branch, number_guard}
+use Rattle.vc_process.specs.InOrder.{branch_layer, guard_layer, number}
+use Rattle.vc_process.specs.Private.InOrder.{number_branch, number_guard}
 use Rattle.vc_process.specs.Numbering.{Numbered, NumberedBranch, NumberedGuard, numbered, written}
 use Rattle.vc_process.specs.Terms.{as_test}
 

@@ -11,10 +11,10 @@ use Rattle.vc_process.specs.declared.used.Usage.{Usage}
 use Rattle.vc_process.specs.declared.used.PartUsage.{PartUsage}
 use Rattle.vc_process.specs.Lawful as told
 use Rattle.vc_process.specs.Lawful.{With, Shared, Offends, by_output, by_input, by_variable, SideBySide, outputs, inputs}
-use Rattle.vc_process.specs.Sharing.{Clash, IsFirstClash, Judges, fault_of}
+use Rattle.vc_process.specs.Private.Sharing.{Clash, IsFirstClash, Judges, fault_of}
 use Rattle.vc_process.specs.Syntax.{Proc, Procs, no_parts, part}
 use Rattle.vc_process.specs.Usage.{Set, changes, uses}
-use Rattle.vc_process.specs.Usages.{by_part, part_usages, usages}
+use Rattle.vc_process.specs.Private.Usages.{by_part, part_usages, usages}
 use Rattle.vc_process.proofs.Clashing.{more}
 use Rattle.vc_process.proofs.Lists.{at_front, behind, front_or, none}
 use Rattle.vc_process.proofs.Shares.{outputs_listed, inputs_listed, changes_listed, uses_listed}

@@ -4,7 +4,7 @@ use Rattle.vc_process.specs.declared.process.Process.{Process}
 use Rattle.vc_process.specs.declared.used.PartUsage.{PartUsage}
 use Rattle.vc_process.specs.InOrder.{number}
 use Rattle.vc_process.specs.Numbering.{Numbered, parts_from}
-use Rattle.vc_process.specs.Usages.{by_part, part_usages, usages}
+use Rattle.vc_process.specs.Private.Usages.{by_part, part_usages, usages}
 use Rattle.vc_process.proofs.Reaching.{drop_at, drop_all}
 
 -- the uses of those from the k-th on are yet to come

@@ -7,7 +7,8 @@ use Rattle.vc_process.specs.declared.value.Value.{Value}
 use Rattle.vc_process.specs.Numbering.{Numbered, NumberedBranch, NumberedGuard, parts_from, branches_from, guards_from, part_sites, branch_sites, guard_sites, numbered}
 use Rattle.vc_process.specs.Syntax.{Assign, Output, Input, WHILE, COUNT, branch, guard}
 use Rattle.vc_process.specs.Terms.{exp, as_test, given}
-use Rattle.vc_process.specs.Renaming.{renamed_exp, renamed_test, renamed_given, Renamed, skips, never, assigns, outputs, inputs, stops, in_turn, abreast, one_of, again, counts, chooses, AllRenamed, no_part, parts, BranchesRenamed, no_branch, branches, GuardsRenamed, no_guard, guards, IsRenamed, AreRenamed, AreRenamedBranches, AreRenamedGuards}
+use Rattle.vc_process.specs.Renaming.{renamed_exp, renamed_test, renamed_given, Renamed, skips, never, assigns, outputs, inputs, stops, in_turn, abreast, one_of, again, counts, chooses, AllRenamed, no_part, parts, BranchesRenamed, no_branch, branches, GuardsRenamed, no_guard, guards, IsRenamed}
+use Rattle.vc_process.specs.Private.Renaming.{AreRenamed, AreRenamedBranches, AreRenamedGuards}
 
 module _ (ρ : ℕ → ℕ) where
   pub parts_renamed : (ps qs : List Numbered) (i j : ℕ) → AreRenamed ρ ps qs → AllRenamed ρ (parts_from i ps) (parts_from j qs)

@@ -11,11 +11,13 @@ use Rattle.vc_process.specs.declared.process.Process.TheVariants as process
 use Rattle.vc_process.specs.declared.process.Process.TheViews.{out-Branch, out-Guard}
 use Rattle.vc_process.specs.declared.process.Branch.{Branch}
 use Rattle.vc_process.specs.declared.process.Guard.{Guard}
-use Rattle.vc_process.specs.InOrder.{number, number_branch, number_guard}
+use Rattle.vc_process.specs.InOrder.{number}
+use Rattle.vc_process.specs.Private.InOrder.{number_branch, number_guard}
 use Rattle.vc_process.specs.Numbering.{Numbered, NumberedBranch, NumberedGuard}
 use Rattle.vc_process.specs.Terms.{exp, as_test, given}
 use Rattle.vc_process.proofs.Numbers.{number_skip, number_stop, number_set, number_send, number_receive, number_stopch, number_seq, number_par, number_if, number_while, number_count, number_alt, number_branch_out, number_guard_out}
-use Rattle.vc_process.specs.Renaming.{renamed_exp, renamed_test, renamed_given, IsRenamed, AreRenamed, AreRenamedBranches, IsRenamedGuard, AreRenamedGuards}
+use Rattle.vc_process.specs.Renaming.{renamed_exp, renamed_test, renamed_given, IsRenamed}
+use Rattle.vc_process.specs.Private.Renaming.{AreRenamed, AreRenamedBranches, IsRenamedGuard, AreRenamedGuards}
 use Rattle.vc_process.proofs.RenamedTrees.{skip_renamed, stop_renamed, set_renamed, send_renamed, receive_renamed, stopch_renamed, seq_renamed, par_renamed, if_renamed, while_renamed, count_renamed, alt_renamed}
 
 pub take_more : {A : Type 0} (xs : List A) (k : ℕ) (x : A) → k < length xs → x ≡ get_or xs k x → take (k + 1) xs ≡ take k xs ++ x ∷ []

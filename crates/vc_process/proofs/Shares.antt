@@ -7,7 +7,7 @@ use Rattle.vc_process.specs.declared.used.Usage.{Usage}
 use Rattle.vc_process.specs.Lawful.{outputs, outputs_all, outputs_branches, outputs_guards, inputs, inputs_all, inputs_branches, inputs_guards}
 use Rattle.vc_process.specs.Syntax.{Exp, Number, Variable, Binary, SizeOf, Test, Constant, Compare, Both, Either, Negate, Literal, Contents, Filled, Given, Whole, Bytes, Proc, SKIP, STOP, Assign, Output, Input, StopChan, SEQ, PAR, IF, WHILE, COUNT, ALT, Procs, no_parts, part, Branches, no_branches, branch, Guards, no_guards, guard}
 use Rattle.vc_process.specs.Usage.{in_exp, in_test, in_given, changes, changes_all, changes_branches, changes_guards, uses, uses_all, uses_branches, uses_guards}
-use Rattle.vc_process.specs.Usages.{changing, reading, exp_usages, given_usages, input_usages, test_usages, usages, usages_of_parts, usages_of_branches, usages_of_guards}
+use Rattle.vc_process.specs.Private.Usages.{changing, reading, exp_usages, given_usages, input_usages, test_usages, usages, usages_of_parts, usages_of_branches, usages_of_guards}
 
 joins : (t : Usage → Bool) (xs ys : List Usage) {a b : Bool} → list_any t xs ≡ a → list_any t ys ≡ b → list_any t (xs ++ ys) ≡ (a || b)
 joins t xs ys {a = a} e f = list_any-append t xs ys ∙ ap (λ x. x || list_any t ys) e ∙ ap (λ y. a || y) f

@@ -1,9 +1,7 @@
 -- Processes, branches and guards that are yet to be numbered.
 use Rattle.vc_process.specs.declared.process.Process.{Process}
-use Rattle.vc_process.specs.declared.process.Branch.{Branch}
-use Rattle.vc_process.specs.declared.process.Guard.{Guard}
 use Rattle.vc_process.specs.declared.process.Process.TheOpen as layer
-use Rattle.vc_process.specs.declared.process.Process.TheFolds.{fold-Process, fold-Branch, fold-Guard}
+use Rattle.vc_process.specs.declared.process.Process.TheFolds.{fold-Process}
 use Rattle.vc_process.specs.Terms.{as_test}
 use Rattle.vc_process.specs.Numbering.{Numbered, NumberedBranch, NumberedGuard, numbered}
 
@@ -16,10 +14,3 @@ guard_layer g = record { when = as_test g.cond; chan = g.chan; var = g.var; then
 -- a process that is yet to be numbered, and a branch and a guard
 unfoldable pub number : Process → Numbered
 number = fold-Process Numbered NumberedBranch NumberedGuard numbered branch_layer guard_layer
-
--- a branch that is yet to be numbered, and a guard
-unfoldable pub number_branch : Branch → NumberedBranch
-number_branch = fold-Branch Numbered NumberedBranch NumberedGuard numbered branch_layer guard_layer
-
-unfoldable pub number_guard : Guard → NumberedGuard
-number_guard = fold-Guard Numbered NumberedBranch NumberedGuard numbered branch_layer guard_layer

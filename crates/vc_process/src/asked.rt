@@ -1,7 +1,8 @@
 //! What is asked of each process within a process.
 ghost use Rattle.std.specs.Prelude.{◌≡◌, ◌&&◌, ℕ, map};
-ghost use Rattle.vc_process.specs.Asking.{asking, everywhere as is_everywhere, in_branches as is_in_branches, in_guards as is_in_guards, in_length_itself, in_parts as is_in_parts, keeps_itself as does_keep, names_itself, within_itself};
-ghost use Rattle.vc_process.specs.InOrder.{number, number_branch, number_guard};
+ghost use Rattle.vc_process.specs.Private.Asking.{asking, everywhere as is_everywhere, in_branches as is_in_branches, in_guards as is_in_guards, in_length_itself, in_parts as is_in_parts, keeps_itself as does_keep, names_itself, within_itself};
+ghost use Rattle.vc_process.specs.InOrder.{number};
+ghost use Rattle.vc_process.specs.Private.InOrder.{number_branch, number_guard};
 ghost use Rattle.vc_process.specs.Numbering.{branches_from, guards_from, parts_from};
 ghost use Rattle.vc_process.specs.ProcessLimits.{test_within, test_fits};
 ghost use Rattle.vc_process.specs.Terms.{as_test};
@@ -216,7 +217,7 @@ impl Asked {
     }
 
     #[cycle(everywhere)]
-    #[tactic(auto, unfolding(crate::specs::InOrder::number_branch))]
+    #[tactic(auto, unfolding(crate::specs::Private::InOrder::number_branch))]
     fn in_branches(self, branches: &Items<Branch>, kinds: &[ValueKind]) -> bool
         ensures { (site : ℕ) →
             result ≡
@@ -232,7 +233,7 @@ impl Asked {
     }
 
     #[cycle(everywhere)]
-    #[tactic(auto, unfolding(crate::specs::InOrder::number_branch))]
+    #[tactic(auto, unfolding(crate::specs::Private::InOrder::number_branch))]
     fn in_branch(self, branch: &Branch, kinds: &[ValueKind]) -> bool
         ensures { (site : ℕ) →
             result ≡
@@ -259,7 +260,7 @@ impl Asked {
     }
 
     #[cycle(everywhere)]
-    #[tactic(auto, unfolding(crate::specs::InOrder::number_guard))]
+    #[tactic(auto, unfolding(crate::specs::Private::InOrder::number_guard))]
     fn in_guard(self, guard: &Guard, kinds: &[ValueKind]) -> bool
         ensures { (site : ℕ) →
             result ≡

@@ -1,6 +1,7 @@
 //! How deep a process is.
 ghost use Rattle.std.specs.Prelude.{◌≡◌, ℕ, map};
-ghost use Rattle.vc_process.specs.InOrder.{number, number_branch, number_guard};
+ghost use Rattle.vc_process.specs.InOrder.{number};
+ghost use Rattle.vc_process.specs.Private.InOrder.{number_branch, number_guard};
 ghost use Rattle.vc_process.specs.Numbering.{branches_from, guards_from, parts_from};
 ghost use Rattle.vc_process.specs.ProcessLimits.{branches_depth_within, depth_within as is_depth_within, guards_depth_within, parts_depth_within};
 
@@ -9,7 +10,7 @@ use sqlite_items::Items;
 
 /// Whether a process has at most this depth.
 #[cycle(depth)]
-#[tactic(auto, unfolding(crate::specs::InOrder::number, crate::specs::InOrder::number_branch, crate::specs::InOrder::number_guard))]
+#[tactic(auto, unfolding(crate::specs::InOrder::number, crate::specs::Private::InOrder::number_branch, crate::specs::Private::InOrder::number_guard))]
 pub(crate) fn depth_within(process: &Process, depth: u32) -> bool
     ensures { (site : ℕ) → result ≡ is_depth_within ((number process.now).tree site) depth }
 {
@@ -28,7 +29,7 @@ pub(crate) fn depth_within(process: &Process, depth: u32) -> bool
 }
 
 #[cycle(depth)]
-#[tactic(auto, unfolding(crate::specs::InOrder::number, crate::specs::InOrder::number_branch, crate::specs::InOrder::number_guard))]
+#[tactic(auto, unfolding(crate::specs::InOrder::number, crate::specs::Private::InOrder::number_branch, crate::specs::Private::InOrder::number_guard))]
 fn parts_within(parts: &Items<Process>, depth: u32) -> bool
     ensures { (site : ℕ) →
         result ≡ parts_depth_within (parts_from site (map number parts.now)) depth }
@@ -42,7 +43,7 @@ fn parts_within(parts: &Items<Process>, depth: u32) -> bool
 }
 
 #[cycle(depth)]
-#[tactic(auto, unfolding(crate::specs::InOrder::number, crate::specs::InOrder::number_branch, crate::specs::InOrder::number_guard))]
+#[tactic(auto, unfolding(crate::specs::InOrder::number, crate::specs::Private::InOrder::number_branch, crate::specs::Private::InOrder::number_guard))]
 fn branches_within(branches: &Items<Branch>, depth: u32) -> bool
     ensures { (site : ℕ) →
         result ≡ branches_depth_within (branches_from site (map number_branch branches.now)) depth }
@@ -56,7 +57,7 @@ fn branches_within(branches: &Items<Branch>, depth: u32) -> bool
 }
 
 #[cycle(depth)]
-#[tactic(auto, unfolding(crate::specs::InOrder::number, crate::specs::InOrder::number_branch, crate::specs::InOrder::number_guard))]
+#[tactic(auto, unfolding(crate::specs::InOrder::number, crate::specs::Private::InOrder::number_branch, crate::specs::Private::InOrder::number_guard))]
 fn guards_within(guards: &Items<Guard>, depth: u32) -> bool
     ensures { (site : ℕ) →
         result ≡ guards_depth_within (guards_from site (map number_guard guards.now)) depth }

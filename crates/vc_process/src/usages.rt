@@ -1,10 +1,11 @@
 //! What processes use, one use after another.
 ghost use Rattle.std.specs.Prelude.{◌≡◌, [], ◌∷◌, ◌++◌, ℕ, OnOk, map};
 ghost use Rattle.vc_process.specs.declared.used.Used.TheVariants as of;
-ghost use Rattle.vc_process.specs.InOrder.{number, number_branch, number_guard};
+ghost use Rattle.vc_process.specs.InOrder.{number};
+ghost use Rattle.vc_process.specs.Private.InOrder.{number_branch, number_guard};
 ghost use Rattle.vc_process.specs.Numbering.{branches_from, guards_from, parts_from};
 ghost use Rattle.vc_process.specs.Terms.{exp, given, as_test};
-ghost use Rattle.vc_process.specs.Usages.{changing as as_changing, exp_usages, given_usages, input_usages, reading as as_reading, test_usages, usages, usages_of_branches, usages_of_guards, usages_of_parts};
+ghost use Rattle.vc_process.specs.Private.Usages.{changing as as_changing, exp_usages, given_usages, input_usages, reading as as_reading, test_usages, usages, usages_of_branches, usages_of_guards, usages_of_parts};
 
 use crate::bytes_expression::BytesExpr;
 use crate::condition::Cond;
@@ -123,7 +124,7 @@ fn push_count(uses: &mut Items<Usage>, var: u8, base: &Expr, count: &Expr) -> Re
 
 /// Adds the uses of a process and of its parts, in order of site.
 #[cycle(usages)]
-#[tactic(auto, unfolding(crate::specs::InOrder::number, crate::specs::InOrder::number_branch, crate::specs::InOrder::number_guard))]
+#[tactic(auto, unfolding(crate::specs::InOrder::number, crate::specs::Private::InOrder::number_branch, crate::specs::Private::InOrder::number_guard))]
 pub(crate) fn push_usages(uses: &mut Items<Usage>, process: &Process) -> Result<(), Memory>
     ensures { OnOk result
         ((site : ℕ) → uses.new ≡ uses.old ++ usages ((number process.now).tree site)) }
@@ -210,7 +211,7 @@ fn push_guards(uses: &mut Items<Usage>, guards: &Items<Guard>) -> Result<(), Mem
 }
 
 #[cycle(usages)]
-#[tactic(auto, unfolding(crate::specs::InOrder::number, crate::specs::InOrder::number_branch, crate::specs::InOrder::number_guard))]
+#[tactic(auto, unfolding(crate::specs::InOrder::number, crate::specs::Private::InOrder::number_branch, crate::specs::Private::InOrder::number_guard))]
 fn push_guarded(uses: &mut Items<Usage>, guard: &Guard) -> Result<(), Memory>
     ensures { OnOk result
         ((site : ℕ) →

@@ -1,10 +1,11 @@
 //! Whether channels and variables are used lawfully.
 ghost use Rattle.std.specs.Prelude.{◌≡◌, ℕ, IfErr, MatchResult, map};
 ghost use Rattle.vc_process.specs.declared.use_fault.UseFault.TheVariants as use_fault;
-ghost use Rattle.vc_process.specs.InOrder.{number, number_branch, number_guard};
+ghost use Rattle.vc_process.specs.InOrder.{number};
+ghost use Rattle.vc_process.specs.Private.InOrder.{number_branch, number_guard};
 ghost use Rattle.vc_process.specs.Lawful.{FirstOffence, FirstOfAll, FirstOfBranches, FirstOfGuards, Lawfully, LawfullyAll, LawfullyBranches, LawfullyGuards};
 ghost use Rattle.vc_process.specs.Numbering.{branches_from, guards_from, parts_from, written};
-ghost use Rattle.vc_process.specs.Sharing.{Judges};
+ghost use Rattle.vc_process.specs.Private.Sharing.{Judges};
 ghost use Rattle.vc_process.specs.Syntax.{COUNT, Exp, PAR};
 ghost use Rattle.vc_process.specs.Usage.{changes as does_change};
 ghost use Rattle.vc_process.specs.UseFaults.{IsUseFault};
@@ -38,7 +39,7 @@ fn changes(process: &Process, var: u8) -> bool
 }
 
 #[cycle(check)]
-#[tactic(auto, unfolding(crate::specs::InOrder::number, crate::specs::InOrder::number_branch, crate::specs::InOrder::number_guard))]
+#[tactic(auto, unfolding(crate::specs::InOrder::number, crate::specs::Private::InOrder::number_branch, crate::specs::Private::InOrder::number_guard))]
 fn check_process(alloc: Global, process: &Process) -> Result<(), UseFault>
     ensures { (site : ℕ) →
         Judges result (Lawfully ((number process.now).tree site))

@@ -1,7 +1,8 @@
 //! How a process uses channels.
 ghost use Rattle.std.specs.Prelude.{◌≡◌, [], ◌∷◌, ◌++◌, ℕ, true, Some, OnOk, map};
 ghost use Rattle.vc_process.specs.ChannelUses.{channel_uses, guard_uses, inputs_on, uses_of_all, uses_of_bodies, uses_of_branches};
-ghost use Rattle.vc_process.specs.InOrder.{number, number_branch, number_guard};
+ghost use Rattle.vc_process.specs.InOrder.{number};
+ghost use Rattle.vc_process.specs.Private.InOrder.{number_branch, number_guard};
 ghost use Rattle.vc_process.specs.Numbering.{branches_from, guards_from, parts_from};
 
 use crate::channel_use::ChannelUse;
@@ -13,7 +14,7 @@ use vc_packets::Memory;
 
 /// Adds the uses of a process whose node has variables of these kinds, in order of site.
 #[cycle(uses)]
-#[tactic(auto, unfolding(crate::specs::InOrder::number, crate::specs::InOrder::number_branch, crate::specs::InOrder::number_guard))]
+#[tactic(auto, unfolding(crate::specs::InOrder::number, crate::specs::Private::InOrder::number_branch, crate::specs::Private::InOrder::number_guard))]
 pub(crate) fn push_uses(
     uses: &mut Items<ChannelUse>,
     process: &Process,
@@ -67,7 +68,7 @@ fn push_input(
 }
 
 #[cycle(uses)]
-#[tactic(auto, unfolding(crate::specs::InOrder::number, crate::specs::InOrder::number_branch, crate::specs::InOrder::number_guard))]
+#[tactic(auto, unfolding(crate::specs::InOrder::number, crate::specs::Private::InOrder::number_branch, crate::specs::Private::InOrder::number_guard))]
 fn push_parts(
     uses: &mut Items<ChannelUse>,
     parts: &Items<Process>,
@@ -84,7 +85,7 @@ fn push_parts(
 }
 
 #[cycle(uses)]
-#[tactic(auto, unfolding(crate::specs::InOrder::number, crate::specs::InOrder::number_branch, crate::specs::InOrder::number_guard))]
+#[tactic(auto, unfolding(crate::specs::InOrder::number, crate::specs::Private::InOrder::number_branch, crate::specs::Private::InOrder::number_guard))]
 fn push_branches(
     uses: &mut Items<ChannelUse>,
     branches: &Items<Branch>,
@@ -104,7 +105,7 @@ fn push_branches(
 }
 
 #[cycle(uses)]
-#[tactic(auto, unfolding(crate::specs::InOrder::number, crate::specs::InOrder::number_branch, crate::specs::InOrder::number_guard))]
+#[tactic(auto, unfolding(crate::specs::InOrder::number, crate::specs::Private::InOrder::number_branch, crate::specs::Private::InOrder::number_guard))]
 fn push_bodies(
     uses: &mut Items<ChannelUse>,
     guards: &Items<Guard>,

@@ -1,6 +1,7 @@
 //! How many processes are written in a process.
 ghost use Rattle.std.specs.Prelude.{◌≡◌, ◌+◌, ◌≤◌, ◌<◌, MatchOption, map};
-ghost use Rattle.vc_process.specs.InOrder.{number, number_branch, number_guard};
+ghost use Rattle.vc_process.specs.InOrder.{number};
+ghost use Rattle.vc_process.specs.Private.InOrder.{number_branch, number_guard};
 ghost use Rattle.vc_process.specs.Numbering.{branch_sites, guard_sites, part_sites};
 
 use crate::process::{Branch, Guard, Process};
@@ -22,7 +23,7 @@ impl Process {
 
     /// How many sites those within it have; None where these are more than so many.
     #[cycle(sites)]
-    #[tactic(auto, unfolding(crate::specs::InOrder::number, crate::specs::InOrder::number_branch, crate::specs::InOrder::number_guard))]
+    #[tactic(auto, unfolding(crate::specs::InOrder::number, crate::specs::Private::InOrder::number_branch, crate::specs::Private::InOrder::number_guard))]
     fn sites_within(&self, most: u32) -> Option<u32>
         ensures { MatchOption result (most + 1 < (number self.now).sites)
             (λ n. (n + 1 ≡ (number self.now).sites) × (n ≤ most)) }
@@ -40,7 +41,7 @@ impl Process {
 }
 
 #[cycle(sites)]
-#[tactic(auto, unfolding(crate::specs::InOrder::number, crate::specs::InOrder::number_branch, crate::specs::InOrder::number_guard))]
+#[tactic(auto, unfolding(crate::specs::InOrder::number, crate::specs::Private::InOrder::number_branch, crate::specs::Private::InOrder::number_guard))]
 fn sites_of(parts: &Items<Process>, most: u32) -> Option<u32>
     ensures { MatchOption result (most < part_sites (map number parts.now))
         (λ n. (n ≡ part_sites (map number parts.now)) × (n ≤ most)) }
@@ -56,7 +57,7 @@ fn sites_of(parts: &Items<Process>, most: u32) -> Option<u32>
 }
 
 #[cycle(sites)]
-#[tactic(auto, unfolding(crate::specs::InOrder::number, crate::specs::InOrder::number_branch, crate::specs::InOrder::number_guard))]
+#[tactic(auto, unfolding(crate::specs::InOrder::number, crate::specs::Private::InOrder::number_branch, crate::specs::Private::InOrder::number_guard))]
 fn sites_of_branches(branches: &Items<Branch>, most: u32) -> Option<u32>
     ensures { MatchOption result (most < branch_sites (map number_branch branches.now))
         (λ n. (n ≡ branch_sites (map number_branch branches.now)) × (n ≤ most)) }
@@ -72,7 +73,7 @@ fn sites_of_branches(branches: &Items<Branch>, most: u32) -> Option<u32>
 }
 
 #[cycle(sites)]
-#[tactic(auto, unfolding(crate::specs::InOrder::number, crate::specs::InOrder::number_branch, crate::specs::InOrder::number_guard))]
+#[tactic(auto, unfolding(crate::specs::InOrder::number, crate::specs::Private::InOrder::number_branch, crate::specs::Private::InOrder::number_guard))]
 fn sites_of_guards(guards: &Items<Guard>, most: u32) -> Option<u32>
     ensures { MatchOption result (most < guard_sites (map number_guard guards.now))
         (λ n. (n ≡ guard_sites (map number_guard guards.now)) × (n ≤ most)) }

@@ -6,10 +6,12 @@ use Rattle.vc_process.specs.declared.process.Process.{Process}
 use Rattle.vc_process.specs.declared.process.Process.TheVariants.{While}
 use Rattle.vc_plan.specs.declared.channel.Channel.{Channel}
 use Rattle.vc_plan.specs.declared.node_plan.Variable.{Variable}
-use Rattle.vc_reader.specs.Reading.{◌>>=◌, beside, cell, row, Fails}
+use Rattle.vc_reader.specs.Reading.{◌>>=◌, cell, row}
+use Rattle.vc_reader.specs.Private.Reading.{beside, Fails}
 use Rattle.vc_reader.specs.Conditions.{whole_cond}
 use Rattle.vc_reader.specs.Bytes.{read_variable}
-use Rattle.vc_reader.specs.Processes.{read_branch, read_while, read_guard, cond_first, guard_head, channel_named}
+use Rattle.vc_reader.specs.Processes.{read_branch, read_while, read_guard, channel_named}
+use Rattle.vc_reader.specs.Private.Processes.{cond_first, guard_head}
 use Rattle.vc_reader.specs.declared.fault.Fault.{Fault}
 use Rattle.vc_reader.specs.declared.fault.Stop.{Stop}
 use Rattle.vc_reader.specs.declared.fault.Stop.TheVariants as stop

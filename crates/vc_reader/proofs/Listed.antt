@@ -4,7 +4,8 @@ use Rattle.std.proofs.lemmas.List.{at_drop_more, at_drop_all}
 use Rattle.serde_json.specs.Data.{Data, Items, item}
 use Rattle.serde_json.specs.View.{view, items_of, items_view}
 use Rattle.serde_json.specs.declared.value.Value.{Value}
-use Rattle.vc_reader.specs.Reading.{◌>>=◌, under, each, joins, read_array, read_list, Fails}
+use Rattle.vc_reader.specs.Reading.{◌>>=◌, under, each, read_array, read_list}
+use Rattle.vc_reader.specs.Private.Reading.{joins, Fails}
 use Rattle.vc_reader.specs.declared.fault.Fault.{Fault}
 use Rattle.vc_reader.specs.declared.fault.Stop.{Stop}
 use Rattle.vc_reader.specs.declared.fault.Stop.TheVariants as stop

@@ -2,8 +2,10 @@
 use Rattle.std.proofs.Common.{◌≡◌, ◌∙◌, ℕ, ◌+◌, ◌*◌, length, sym, List, [], ◌∷◌, ◌++◌, map, refl, ap, arith, append_assoc, Result, Ok, Err}
 use Rattle.serde_json.specs.View.{view, items_of}
 use Rattle.serde_json.specs.declared.value.Value.{Value}
-use Rattle.vc_reader.specs.Reading.{count, ◌>>=◌, Fails}
-use Rattle.vc_reader.specs.Bytes.{hex_digit, hex_pair, hex_bytes, pushed}
+use Rattle.vc_reader.specs.Reading.{count, ◌>>=◌}
+use Rattle.vc_reader.specs.Private.Reading.{Fails}
+use Rattle.vc_reader.specs.Bytes.{hex_digit, hex_bytes}
+use Rattle.vc_reader.specs.Private.Bytes.{hex_pair, pushed}
 use Rattle.vc_reader.specs.declared.fault.Stop.{Stop}
 use Rattle.vc_reader.specs.declared.fault.Stop.TheVariants as stop
 use Rattle.vc_reader.specs.declared.fault.Fault.{Fault}

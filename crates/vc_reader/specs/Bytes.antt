@@ -1,5 +1,5 @@
 -- What an expression of bytes means, and what a text that names a variable does.
-use Rattle.std.specs.Prelude.{ℕ, ◌+◌, ◌-◌, ◌*◌, min, List, [], ◌∷◌, ◌++◌, length, nat_le, ◌&&◌, if◌then◌else◌, codes, Result, Ok}
+use Rattle.std.specs.Prelude.{ℕ, ◌+◌, ◌-◌, ◌*◌, min, List, [], ◌∷◌, length, nat_le, ◌&&◌, if◌then◌else◌, codes, Result, Ok}
 use Rattle.std.specs.Str.{bytes_eq}
 use Rattle.serde_json.specs.Data.{Data, string}
 use Rattle.vc_process.specs.declared.value_kind.ValueKind.{ValueKind}
@@ -29,16 +29,6 @@ no_longer bytes = if nat_le (length bytes) 65535 then Ok bytes else wrong why.Ra
 -- a lower-case hexadecimal digit
 abbrev pub hex_digit : ℕ → Result ℕ Fault
 hex_digit c = if nat_le 48 c && nat_le c 57 then Ok (c - 48) else (if nat_le 97 c && nat_le c 102 then Ok (c - 87) else wrong why.Kind)
-
--- the byte of two digits, and bytes with it behind them
-abbrev pub hex_pair : ℕ → ℕ → Result ℕ Fault
-hex_pair a b = do
-  high ← hex_digit a
-  low ← hex_digit b
-  Ok (16 * high + low)
-
-abbrev pub pushed : List ℕ → Result ℕ Fault → Result (List ℕ) Fault
-pushed before read = read >>= λ x. Ok (before ++ x ∷ [])
 
 -- pairs of digits
 abbrev pub hex_bytes : List ℕ → Result (List ℕ) Fault

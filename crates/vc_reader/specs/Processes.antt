@@ -2,7 +2,6 @@
 use Rattle.std.specs.Prelude.{ℕ, zero, suc, min, List, if◌then◌else◌, codes, Result, Ok}
 use Rattle.std.specs.Str.{bytes_eq}
 use Rattle.serde_json.specs.Data.{Data, string}
-use Rattle.vc_process.specs.declared.condition.Cond.{Cond}
 use Rattle.vc_process.specs.declared.value_kind.ValueKind.{ValueKind}
 use Rattle.vc_process.specs.declared.value_kind.ValueKind.TheVariants as kind
 use Rattle.vc_process.specs.declared.value.Value.{Value}
@@ -20,7 +19,7 @@ use Rattle.vc_reader.specs.declared.word.Word.{Word}
 use Rattle.vc_reader.specs.declared.word.Word.TheVariants as word
 use Rattle.vc_reader.specs.declared.fault.Why.TheVariants as why
 use Rattle.vc_reader.specs.declared.fault.Fault.{Fault}
-use Rattle.vc_reader.specs.Reading.{◌>>=◌, beside, wrong, under, cell, read_list, row, read_text, only, by_only}
+use Rattle.vc_reader.specs.Reading.{◌>>=◌, wrong, under, cell, read_list, row, read_text, only, by_only}
 use Rattle.vc_reader.specs.Names.{one_of}
 use Rattle.vc_reader.specs.Bytes.{read_variable, read_bytes}
 use Rattle.vc_reader.specs.Expressions.{whole_expr}
@@ -68,21 +67,6 @@ abbrev pub read_plain : List ℕ → Result Process Fault
 read_plain s = if bytes_eq s (codes "skip") then Ok Skip else (if bytes_eq s (codes "stop") then Ok Stop else wrong why.Kind)
 
 -- ---- processes with parts, by the reader of a part
-
--- the condition at the head of a list of so many items
-abbrev pub cond_first : ℕ → List Variable → Data → Result Cond Fault
-cond_first wanted vars d = row wanted d >>= λ _. cell 0 (whole_cond vars) d
-
--- the channel of a guard's input, and the variable that takes what comes
-abbrev pub read_input : List Variable → List Channel → Data → Result (ℕ × ℕ) Fault
-read_input vars channels d = do
-  chan ← cell 1 (channel_named channels) d
-  var ← cell 2 (read_variable chan.1 vars) d
-  Ok (chan.0, var)
-
--- what a guard has before its body
-abbrev pub guard_head : List Variable → List Channel → Data → Result (Cond × (ℕ × ℕ)) Fault
-guard_head vars channels d = cond_first 4 vars d >>= λ cond. beside cond (read_input vars channels d)
 
 -- a branch: a condition and a process
 abbrev pub read_branch : (Data → Result Process Fault) → List Variable → Data → Result Branch Fault

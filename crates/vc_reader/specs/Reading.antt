@@ -1,5 +1,5 @@
 -- Reading a JSON value part by part, up to its first fault.
-use Rattle.std.specs.Prelude.{◌≡◌, ℕ, ◌+◌, List, [], ◌∷◌, ◌++◌, length, Bool, true, nat_le, ◌==◌, ◌&&◌, if◌then◌else◌, Option, Some, None, is_some, Result, Ok, Err, ⊤}
+use Rattle.std.specs.Prelude.{ℕ, ◌+◌, List, [], ◌∷◌, ◌++◌, length, Bool, true, nat_le, ◌==◌, ◌&&◌, if◌then◌else◌, Option, Some, None, is_some, Result, Ok, Err, ⊤}
 use Rattle.std.specs.Str.{bytes_eq}
 use Rattle.std.specs.List.{list_any}
 use Rattle.serde_json.specs.Data.{Data, number, string, array, object, Items, no_items, item, Members, no_members, member, unsigned, negative, float}
@@ -11,26 +11,11 @@ use Rattle.vc_reader.specs.declared.path.Step.TheVariants.{Field, Index}
 use Rattle.vc_reader.specs.declared.fault.Why.{Why}
 use Rattle.vc_reader.specs.declared.fault.Why.TheVariants.{Missing, Kind, Range, Unknown}
 use Rattle.vc_reader.specs.declared.fault.Fault.{Fault}
-use Rattle.vc_reader.specs.declared.fault.Stop.{Stop}
-use Rattle.vc_reader.specs.declared.fault.Stop.TheVariants as stop
 
 infixl 10 ◌>>=◌
 abbrev pub ◌>>=◌ : {A B : Type 0} → Result A Fault → (A → Result B Fault) → Result B Fault
 (Ok x) >>= f = f x
 (Err e) >>= f = Err e
-
--- what a function answered, seen by view, is what reading gives, unless there was no memory
-abbrev pub Fails : {Y : Type 0} → Stop → Result Y Fault → Type 0
-Fails stop.Memory read = Unit {0}
-Fails (stop.Fault f) read = read ≡ Err f
-
-abbrev pub Gives : {X Y : Type 0} → (X → Y) → Result X Stop → Result Y Fault → Type 0
-Gives view (Ok x) read = read ≡ Ok (view x)
-Gives view (Err e) read = Fails e read
-
--- what was read before, beside what is read next
-abbrev pub beside : {A B : Type 0} → A → Result B Fault → Result (A × B) Fault
-beside a read = read >>= λ b. Ok (a, b)
 
 -- the value where one stands is at fault
 abbrev pub wrong : {A : Type 0} → Why → Result A Fault
@@ -68,10 +53,6 @@ read_number least most _ = wrong Kind
 abbrev pub each : {A : Type 0} → (List A → Data → Result A Fault) → List A → Items → Result (List A) Fault
 each read before no_items = Ok before
 each read before (item d ds) = under (Index (length before)) (read before d) >>= λ x. each read (before ++ x ∷ []) ds
-
--- what was read before, and the item behind it
-abbrev pub joins : {A : Type 0} → List A → Result A Fault → Result (List A) Fault
-joins before read = under (Index (length before)) read >>= λ x. Ok (before ++ x ∷ [])
 
 -- the items of a list
 abbrev pub read_array : Data → Result Items Fault

@@ -2,8 +2,9 @@
 ghost use Rattle.std.specs.Prelude.{ℕ, ◌<◌, IfOk, Result};
 ghost use Rattle.serde_json.specs.View.{view};
 ghost use Rattle.vc_reader.specs.declared.fault.Fault.{Fault as FaultData};
-ghost use Rattle.vc_reader.specs.Reading.{Gives};
-ghost use Rattle.vc_reader.specs.Bytes.{of_kind as number_of_kind, read_variable, no_longer as no_longer_than, hex_digit as hex_digit_of, hex_pair as hex_pair_of, pushed, hex_bytes as hex_bytes_of, read_hex, read_literal, read_fill, formed_bytes as formed, read_bytes};
+ghost use Rattle.vc_reader.specs.Private.Reading.{Gives};
+ghost use Rattle.vc_reader.specs.Bytes.{of_kind as number_of_kind, read_variable, no_longer as no_longer_than, hex_digit as hex_digit_of, hex_bytes as hex_bytes_of, read_hex, read_literal, read_fill, formed_bytes as formed, read_bytes};
+ghost use Rattle.vc_reader.specs.Private.Bytes.{hex_pair as hex_pair_of, pushed};
 
 use crate::fault::{Stop, Why};
 use crate::name::one_of;

@@ -1,7 +1,8 @@
 //! Readers of channels.
 ghost use Rattle.std.specs.Prelude.{◌≡◌};
 ghost use Rattle.serde_json.specs.View.{view};
-ghost use Rattle.vc_reader.specs.Reading.{Gives, read_object};
+ghost use Rattle.vc_reader.specs.Private.Reading.{Gives};
+ghost use Rattle.vc_reader.specs.Reading.{read_object};
 ghost use Rattle.vc_reader.specs.Network.{way_home as way_home_of, node_home as node_home_of, channel_words, read_home, read_channel};
 
 use crate::fault::Stop;

@@ -1,7 +1,8 @@
 //! Readers of expressions of whole numbers.
 ghost use Rattle.std.specs.Prelude.{◌≡◌};
 ghost use Rattle.serde_json.specs.View.{view};
-ghost use Rattle.vc_reader.specs.Reading.{Gives, cell as cell_of};
+ghost use Rattle.vc_reader.specs.Private.Reading.{Gives};
+ghost use Rattle.vc_reader.specs.Reading.{cell as cell_of};
 ghost use Rattle.vc_reader.specs.Bytes.{read_variable};
 ghost use Rattle.vc_reader.specs.Expressions.{read_int, read_leaf, expr_word, head as head_of, read_size, read_operation, worded_expr, expr_step, read_expr, whole_expr};
 

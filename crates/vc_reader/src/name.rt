@@ -2,7 +2,7 @@
 ghost use Rattle.std.specs.Prelude.{◌≡◌, option_map};
 ghost use Rattle.std.specs.List.{list_all};
 ghost use Rattle.serde_json.specs.View.{view};
-ghost use Rattle.vc_reader.specs.Reading.{Gives};
+ghost use Rattle.vc_reader.specs.Private.Reading.{Gives};
 ghost use Rattle.vc_plan.specs.Limits.{is_letter as is_letter_byte, is_name_byte as is_name_part, begins_with_letter, is_name as is_name_text};
 ghost use Rattle.vc_reader.specs.Names.{own_name as own_name_of, new_name, has_name, known_or_not, one_of as one_of_names};
 

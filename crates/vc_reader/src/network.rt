@@ -3,7 +3,8 @@ ghost use Rattle.std.specs.Prelude.{◌≡◌, ◌⊎◌, Ok, Some, None, IfOk, 
 ghost use Rattle.std.specs.Option.{option_copied};
 ghost use Rattle.serde_json.specs.View.{view};
 ghost use Rattle.serde_json.specs.Read.{read};
-ghost use Rattle.vc_reader.specs.Reading.{Gives, read_number, read_list, field as field_of};
+ghost use Rattle.vc_reader.specs.Private.Reading.{Gives};
+ghost use Rattle.vc_reader.specs.Reading.{read_number, read_list, field as field_of};
 ghost use Rattle.vc_reader.specs.Network.{read_head};
 ghost use Rattle.vc_reader.specs.Processes.{whole_process};
 ghost use Rattle.vc_reader.specs.NetworkText.{vars_of, node_process, node_plans, read_nodes, plan_with_wires, plan_with_nodes, read_plan, Reads};

@@ -1,8 +1,10 @@
 //! Readers of processes.
 ghost use Rattle.std.specs.Prelude.{◌≡◌};
 ghost use Rattle.serde_json.specs.View.{view};
-ghost use Rattle.vc_reader.specs.Reading.{Gives, cell as cell_of, read_list};
-ghost use Rattle.vc_reader.specs.Processes.{channel_named, variable_named, read_value, read_set, read_send, read_receive, read_stopch, read_plain, read_branch, read_while, read_count, read_guard, cond_first as cond_first_of, read_input, guard_head as guard_head_of, process_word as process_word_of, field_word, worded_process, named_process, process_step, read_process, whole_process};
+ghost use Rattle.vc_reader.specs.Private.Reading.{Gives};
+ghost use Rattle.vc_reader.specs.Reading.{cell as cell_of, read_list};
+ghost use Rattle.vc_reader.specs.Processes.{channel_named, variable_named, read_value, read_set, read_send, read_receive, read_stopch, read_plain, read_branch, read_while, read_count, read_guard, process_word as process_word_of, field_word, worded_process, named_process, process_step, read_process, whole_process};
+ghost use Rattle.vc_reader.specs.Private.Processes.{cond_first as cond_first_of, read_input, guard_head as guard_head_of};
 
 use crate::bytes::{VariableOf, bytes};
 use crate::condition::WholeCond;

@@ -1,7 +1,8 @@
 //! Readers of switches.
 ghost use Rattle.std.specs.Prelude.{◌≡◌};
 ghost use Rattle.serde_json.specs.View.{view};
-ghost use Rattle.vc_reader.specs.Reading.{Gives, read_object};
+ghost use Rattle.vc_reader.specs.Private.Reading.{Gives};
+ghost use Rattle.vc_reader.specs.Reading.{read_object};
 ghost use Rattle.vc_reader.specs.Names.{own_name as own_name_of, new_name};
 ghost use Rattle.vc_reader.specs.Network.{portal_row as portal_row_of, out_row as out_row_of, table_row, read_random, is_place as is_place_name, switch_words, read_switch};
 

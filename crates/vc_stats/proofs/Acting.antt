@@ -4,9 +4,9 @@ use Rattle.vc_actor.specs.Shown.{act_of}
 use Rattle.vc_actor.specs.declared.act.Act.{Act}
 use Rattle.vc_actor.specs.declared.act.Act.TheVariants.{Proc, Take, Put, Route, Fct, Pass}
 use Rattle.vc_occam.specs.declared.moves.Move.TheVariants.{Offer, Want, Choose, Stopch, Inner, Quiet}
-use Rattle.vc_stats.specs.Buffers.{buffer_in}
-use Rattle.vc_stats.specs.Peaks.{may_put}
-use Rattle.vc_stats.specs.Times.{may_turn}
+use Rattle.vc_stats.specs.Private.Buffers.{buffer_in}
+use Rattle.vc_stats.specs.Private.Peaks.{may_put}
+use Rattle.vc_stats.specs.Private.Times.{may_turn}
 use Rattle.vc_stats.proofs.Filling.{puts}
 use Rattle.vc_stats.proofs.Framed.{turns}
 use Rattle.vc_stats.proofs.Receiving.{buffer_by}

@@ -2,7 +2,8 @@
 use Rattle.std.proofs.Common.{◌≡◌, ℕ, zero, suc, ◌+◌, ◌-◌, ◌≤◌, ◌<◌, Bool, true, false, cond, List, [], ◌∷◌, ◌++◌, length, length-append, map, count_by, refl, sym, ap, ◌∙◌, subst, arith}
 use Rattle.std.proofs.lemmas.List.Sums.{count_by-le-length, sum_by-append}
 use Rattle.std.specs.List.{range_with_len}
-use Rattle.vc_stats.specs.Times.{IsTimeOf, IsWithin, busy_of, is_busy, time_at, turned}
+use Rattle.vc_stats.specs.Times.{IsTimeOf, IsWithin, busy_of, is_busy, time_at}
+use Rattle.vc_stats.specs.Private.Times.{turned}
 use Rattle.vc_stats.specs.declared.busy_time.BusyTime.{BusyTime}
 use Rattle.vc_stats.specs.declared.busy_time.BusyTime.TheVariants.{Busy, Idle}
 

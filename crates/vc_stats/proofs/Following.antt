@@ -15,10 +15,13 @@ use Rattle.vc_network.specs.Plan.{home, near}
 use Rattle.vc_network.specs.Plan as network
 use Rattle.vc_plan.specs.declared.plan.Plan.{Plan}
 use Rattle.vc_switch.specs.Waiting.{Wormhole}
-use Rattle.vc_stats.specs.Buffers.{AreBuffersOf, IsOccupancyOf, holding, occupancy_at}
-use Rattle.vc_stats.specs.Peaks.{AreRaised, AreWaysOf, IsPeakOf, peak_at}
+use Rattle.vc_stats.specs.Buffers.{AreBuffersOf, IsOccupancyOf, occupancy_at}
+use Rattle.vc_stats.specs.Private.Buffers.{holding}
+use Rattle.vc_stats.specs.Private.Peaks.{AreRaised}
+use Rattle.vc_stats.specs.Peaks.{AreWaysOf, IsPeakOf, peak_at}
 use Rattle.vc_stats.specs.Rows.{has, is_in, row_of}
-use Rattle.vc_stats.specs.Times.{AreOutputsOf, AreTurned, IsTimeOf, source_on, time_at, turned}
+use Rattle.vc_stats.specs.Times.{AreOutputsOf, IsTimeOf, source_on, time_at}
+use Rattle.vc_stats.specs.Private.Times.{AreTurned, turned}
 use Rattle.vc_stats.specs.Visited.{is_unfinished, tokens_on}
 use Rattle.vc_stats.specs.declared.busy_time.BusyTime.{BusyTime}
 use Rattle.vc_stats.specs.declared.busy_time.BusyTime.TheVariants.{Idle}

@@ -24,7 +24,8 @@ use Rattle.vc_plan.specs.declared.port.Spot.{Spot}
 use Rattle.vc_plan.specs.declared.port.Spot.TheVariants.{Node, Switch}
 use Rattle.vc_tokens.specs.Tokens.{Token, Byte, Fct, EndMark}
 use Rattle.vc_stats.specs.Counting.{most_events, put_in}
-use Rattle.vc_stats.specs.Packets.{ArePacketsOf, IsCountOf, PacketCount, count_at, is_ack, is_eop, link_at, listed, packets_of, puts_on, rest_of, tokens_put, with_token}
+use Rattle.vc_stats.specs.Packets.{ArePacketsOf, IsCountOf, PacketCount, count_at, is_ack, is_eop, link_at, listed, packets_of, puts_on, rest_of, tokens_put}
+use Rattle.vc_stats.specs.Private.Packets.{with_token}
 use Rattle.vc_stats.specs.Tallies.{counted, is_at}
 use Rattle.vc_stats.specs.declared.packets.Packets.{Packets}
 use Rattle.vc_stats.proofs.Busy.{count_more, one_if}

@@ -1,11 +1,9 @@
 -- How full receive buffers are, and for how long.
-use Rattle.std.specs.Prelude.{ℕ, ◌+◌, ◌*◌, ◌<◌, nat_lt, List, max, get_or, Option, Some, None}
-use Rattle.vc_actor.specs.declared.act.Act.{Act}
-use Rattle.vc_actor.specs.declared.act.Act.TheVariants.{Take, Pass}
+use Rattle.std.specs.Prelude.{ℕ, ◌+◌, ◌*◌, ◌<◌, nat_lt, List, get_or}
 use Rattle.vc_core.specs.Enabled.{NetworkState}
 use Rattle.vc_core.specs.Links.{buffered_in}
 use Rattle.vc_stats.specs.Peaks.{IsPeakOf}
-use Rattle.vc_stats.specs.Times.{IsTimeOf, turned}
+use Rattle.vc_stats.specs.Times.{IsTimeOf}
 use Rattle.vc_stats.specs.declared.buffers.Buffers.{Buffers}
 use Rattle.vc_stats.specs.declared.busy_time.BusyTime.TheVariants.{Idle}
 use Rattle.vc_stats.specs.declared.occupancy.Occupancy.{Occupancy}
@@ -15,10 +13,6 @@ use Rattle.vc_stats.specs.declared.occupancy.Occupancy.{Occupancy}
 -- it never held a token
 abbrev pub unused : Occupancy
 unused = record { most = 0; time = Idle 0 }
-
--- from the next event on it holds so many tokens
-abbrev pub holding : (tokens events : ℕ) → Occupancy → Occupancy
-holding tokens events o = record { most = max o.most tokens; time = turned (nat_lt 0 tokens) events o.time }
 
 -- it is that of a buffer that holds f x tokens in state x, in these states, of which x is the last
 pub record IsOccupancyOf {X : Type 0} (f : X → ℕ) (xs : List X) (x : X) (o : Occupancy) : Type 0 where
@@ -30,12 +24,6 @@ pub record IsOccupancyOf {X : Type 0} (f : X → ℕ) (xs : List X) (x : X) (o :
 -- each actor has 32 links
 abbrev pub occupancy_at : Buffers → (actor link : ℕ) → Occupancy
 occupancy_at all actor link = get_or all.buffers.items (32 * actor + link) unused
-
--- the link whose buffer may hold another number of tokens after the act
-abbrev pub buffer_in : Act → Option ℕ
-buffer_in (Take link word) = Some link
-buffer_in (Pass link) = Some link
-buffer_in act = None
 
 -- they are those of the links in these states, of which x is the last
 abbrev pub AreBuffersOf : Buffers → List NetworkState → NetworkState → Type 0

@@ -6,6 +6,7 @@ pub mod Kinds
 pub mod Monitor
 pub mod Packets
 pub mod Peaks
+pub mod Private
 pub mod Rows
 pub mod Sections
 pub mod Tallies

@@ -12,7 +12,7 @@ use Rattle.vc_packets.specs.declared.mark.Mark.TheVariants.{Eop, Eom}
 use Rattle.vc_packets.specs.declared.packet.Packet.{Packet}
 use Rattle.vc_plan.specs.declared.plan.Plan.{Plan}
 use Rattle.vc_stats.specs.Counting.{put_in}
-use Rattle.vc_stats.specs.Tallies.{cell, counted, is_at}
+use Rattle.vc_stats.specs.Tallies.{cell, is_at}
 use Rattle.vc_stats.specs.declared.packets.Packets.{Packets}
 use Rattle.vc_tokens.specs.Tokens.{Token, Byte, Fct, EndMark}
 
@@ -76,20 +76,6 @@ pub record PacketCount : Type 0 where
 
 abbrev pub count_at : Packets → (actor link : ℕ) → PacketCount
 count_at all actor link = record { packets = cell all.whole actor link; acks = cell all.acks actor link; bytes = cell all.bytes actor link }
-
--- the link of a packet, if it is an acknowledge
-abbrev pub acked_link : Bool → ℕ → Option ℕ
-acked_link is_ack link = if is_ack then Some link else None
-
--- the count after one packet more is whole, an acknowledge or not
-abbrev pub ended : Bool → PacketCount → PacketCount
-ended is_ack c = record { packets = counted true c.packets; acks = counted is_ack c.acks; bytes = 0 }
-
--- and after one token more
-abbrev pub with_token : Token → PacketCount → PacketCount
-with_token (Byte b) c = record c { bytes = counted true c.bytes }
-with_token (EndMark m) c = ended (is_eop m && nat_lt c.bytes 32) c
-with_token Fct c = c
 
 -- it is that of these tokens
 pub record IsCountOf (ts : List Token) (c : PacketCount) : Type 0 where

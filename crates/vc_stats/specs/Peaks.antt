@@ -1,24 +1,17 @@
 -- How it is kept how many tokens stand on ways at most.
-use Rattle.std.specs.Prelude.{◌≡◌, ℕ, ◌*◌, ◌<◌, ◌≤◌, Bool, true, false, cond, List, length, max, get_or}
+use Rattle.std.specs.Prelude.{◌≡◌, ℕ, ◌*◌, ◌<◌, ◌≤◌, true, List, length, get_or}
 use Rattle.vc_accepted.specs.NetworkOf.{network_of}
-use Rattle.vc_actor.specs.declared.act.Act.{Act}
-use Rattle.vc_actor.specs.declared.act.Act.TheVariants.{Put, Fct}
 use Rattle.vc_core.specs.Enabled.{NetworkState}
 use Rattle.vc_network.specs.Network.{actor_at}
 use Rattle.vc_network.specs.Plan.{near}
 use Rattle.vc_plan.specs.declared.plan.Plan.{Plan}
-use Rattle.vc_stats.specs.Rows.{has, is_in}
+use Rattle.vc_stats.specs.Rows.{has}
 use Rattle.vc_stats.specs.Visited.{greatest, tokens_on}
 use Rattle.vc_stats.specs.declared.peaks.Peaks.{Peaks}
 use Rattle.vc_stats.specs.declared.rows.Rows.{Rows}
 
 abbrev pub peak_at : List ℕ → ℕ → ℕ
 peak_at most way = get_or most way 0
-
--- a number for each of so many ways, and each is 0
-pub record AreZero (ways : ℕ) (most : List ℕ) : Type 0 where
-  pub count : length most ≡ ways
-  pub each : (way : ℕ) → peak_at most way ≡ 0
 
 -- the first ways are each in the row of the actor that puts tokens on it
 abbrev pub AreWaysTo : ℕ → Plan → Rows → Type 0
@@ -27,17 +20,6 @@ AreWaysTo count p ways = (way : ℕ) → way < count → has ways (actor_at (net
 -- and so are all
 abbrev pub AreWaysOf : Plan → Rows → Type 0
 AreWaysOf p = AreWaysTo (2 * length p.wires) p
-
--- a token may be put by the act
-abbrev pub may_put : Act → Bool
-may_put (Put link) = true
-may_put (Fct link) = true
-may_put act = false
-
--- the numbers of those of these ways on which more tokens stand in state x were raised, and no other
-pub record AreRaised (x : NetworkState) (ways : List ℕ) (old new : List ℕ) : Type 0 where
-  pub count : length new ≡ length old
-  pub each : (way : ℕ) → way < length old → peak_at new way ≡ cond (is_in way ways) (max (peak_at old way) (length (x.way way))) (peak_at old way)
 
 -- it is the greatest number that f has in these states, of which x is the last
 pub record IsPeakOf {X : Type 0} (f : X → ℕ) (xs : List X) (x : X) (n : ℕ) : Type 0 where

@@ -6,7 +6,8 @@ ghost use Rattle.vc_core.specs.Enabled.{NetworkState};
 ghost use Rattle.vc_core.specs.State.{MakesEvent, State, shown, state_of};
 ghost use Rattle.vc_network.specs.Network.{begins};
 ghost use Rattle.vc_plan.specs.declared.plan.Plan.{Plan};
-ghost use Rattle.vc_stats.specs.Buffers.{AreBuffersOf, buffer_in, holding, occupancy_at};
+ghost use Rattle.vc_stats.specs.Buffers.{AreBuffersOf, occupancy_at};
+ghost use Rattle.vc_stats.specs.Private.Buffers.{buffer_in, holding};
 
 use crate::occupancy::Occupancy;
 use std::alloc::Global;

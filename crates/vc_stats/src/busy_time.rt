@@ -1,6 +1,7 @@
 //! After how many events something was busy.
 ghost use Rattle.std.specs.Prelude.{◌≡◌};
-ghost use Rattle.vc_stats.specs.Times.{busy_of, turned};
+ghost use Rattle.vc_stats.specs.Times.{busy_of};
+ghost use Rattle.vc_stats.specs.Private.Times.{turned};
 
 /// After how many events of a run something was busy, as a channel with an output that is not finished, or a buffer with a token in it.
 #[derive(Clone, Copy, Drop)]

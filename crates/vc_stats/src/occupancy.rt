@@ -1,6 +1,7 @@
 //! How full a buffer is.
 ghost use Rattle.std.specs.Prelude.{◌≡◌};
-ghost use Rattle.vc_stats.specs.Buffers.{holding, unused};
+ghost use Rattle.vc_stats.specs.Private.Buffers.{holding};
+ghost use Rattle.vc_stats.specs.Buffers.{unused};
 
 use crate::busy_time::BusyTime;
 

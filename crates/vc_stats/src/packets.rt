@@ -5,7 +5,8 @@ ghost use Rattle.vc_core.specs.State.{MakesEvent, State, shown, state_of};
 ghost use Rattle.vc_core.specs.declared.event.Event.{Event as Happening};
 ghost use Rattle.vc_plan.specs.declared.plan.Plan.{Plan};
 ghost use Rattle.vc_stats.specs.Counting.{most_events, put_in};
-ghost use Rattle.vc_stats.specs.Packets.{ArePacketsOf, acked_link, count_at, ended, with_token};
+ghost use Rattle.vc_stats.specs.Packets.{ArePacketsOf, count_at};
+ghost use Rattle.vc_stats.specs.Private.Packets.{acked_link, ended, with_token};
 ghost use Rattle.vc_tokens.specs.Spelt.{token as spelt};
 
 use crate::table::Table;

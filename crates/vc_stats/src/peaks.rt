@@ -6,7 +6,8 @@ ghost use Rattle.vc_core.specs.Enabled.{NetworkState};
 ghost use Rattle.vc_core.specs.State.{MakesEvent, State, shown, state_of};
 ghost use Rattle.vc_network.specs.Network.{actor_at, begins};
 ghost use Rattle.vc_plan.specs.declared.plan.Plan.{Plan};
-ghost use Rattle.vc_stats.specs.Peaks.{ArePeaksOf, AreRaised, AreWaysOf, AreWaysTo, AreZero, may_put as may_put_by, peak_at};
+ghost use Rattle.vc_stats.specs.Peaks.{ArePeaksOf, AreWaysOf, AreWaysTo, peak_at};
+ghost use Rattle.vc_stats.specs.Private.Peaks.{AreRaised, AreZero, may_put as may_put_by};
 
 use crate::rows::Rows;
 use std::alloc::Global;

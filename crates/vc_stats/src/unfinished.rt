@@ -7,7 +7,8 @@ ghost use Rattle.vc_core.specs.State.{IsNetworkOf, MakesEvent, State, shown, sta
 ghost use Rattle.vc_network.specs.Network.{begins};
 ghost use Rattle.vc_network.specs.Plan as network;
 ghost use Rattle.vc_plan.specs.declared.plan.Plan.{Plan};
-ghost use Rattle.vc_stats.specs.Times.{AreIdle, AreOutputsOf, AreTimesOf, AreTurned, busy_of, may_turn as may_turn_by, source_on};
+ghost use Rattle.vc_stats.specs.Private.Times.{AreIdle, AreTurned, may_turn as may_turn_by};
+ghost use Rattle.vc_stats.specs.Times.{AreOutputsOf, AreTimesOf, busy_of, source_on};
 ghost use Rattle.vc_stats.specs.Visited.{is_unfinished as is_unfinished_in};
 
 use crate::busy_time::BusyTime;

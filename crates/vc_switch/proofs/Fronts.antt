@@ -9,7 +9,8 @@ use Rattle.vc_packets.specs.Headers.{spelled}
 use Rattle.vc_switch.specs.Forward.{SwitchPlan, without_portals, past_portal}
 use Rattle.vc_switch.specs.Switch.{BodyLeaves, HasGroup}
 use Rattle.vc_switch.specs.declared.front.Front.{Front}
-use Rattle.vc_switch.specs.Front.{front_of, front_by, behind_portal, start_of, HasFront}
+use Rattle.vc_switch.specs.Front.{front_of, front_by, behind_portal}
+use Rattle.vc_switch.specs.Private.Front.{start_of, HasFront}
 
 two_bytes : (h : ℕ) → 256 * (h / 256) + h % 256 ≡ h
 two_bytes h = omega arith

@@ -16,7 +16,8 @@ use Rattle.vc_switch.specs.Forward.{SwitchPlan}
 use Rattle.vc_switch.specs.Waiting.{Wormhole}
 use Rattle.vc_switch.specs.Switch.{Switch, Input, new_switch, set_input, with_header, passing, BodyLeaves, Comes, due, not_due, Passes, passes_byte, drops_byte, passes_mark, loses, HasGroup, Routes, Sends, SendsFct}
 use Rattle.vc_switch.specs.Able.{CanPass, CanLeave, CanPut, CanGrant, IsFree}
-use Rattle.vc_switch.specs.Ready.{Tells, Waits, IsReady, Looks}
+use Rattle.vc_switch.specs.Private.Ready.{Tells, Looks}
+use Rattle.vc_switch.specs.Ready.{Waits, IsReady}
 use Rattle.vc_switch.specs.Seen.{seen, IsKept}
 use Rattle.vc_switch.specs.State.{State, IsSwitch, plan_of, limit_of}
 use Rattle.vc_switch.specs.declared.link_out.LinkOut.{LinkOut}

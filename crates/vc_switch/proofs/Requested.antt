@@ -17,7 +17,8 @@ use Rattle.vc_switch.specs.Able.{CanRoute}
 use Rattle.vc_switch.specs.Requested.{links_of, AreRequested, AreRouted, OnlyWaiting}
 use Rattle.vc_switch.specs.Forward.{SwitchPlan}
 use Rattle.vc_switch.specs.Front.{front_of, front_by, behind_portal}
-use Rattle.vc_switch.specs.Ready.{Tells, Waits, IsReady}
+use Rattle.vc_switch.specs.Private.Ready.{Tells}
+use Rattle.vc_switch.specs.Ready.{Waits, IsReady}
 use Rattle.vc_switch.specs.Seen.{seen, IsKept}
 use Rattle.vc_switch.specs.State.{State, plan_of, limit_of}
 use Rattle.vc_switch.specs.Switch.{Switch, new_switch, BodyLeaves, headed, Comes, Passes, passes_byte, drops_byte, passes_mark, loses, Routes, Sends, SendsFct}

@@ -11,7 +11,8 @@ use Rattle.vc_switch.specs.Waiting.{Wormhole}
 use Rattle.vc_switch.specs.Switch.{Input, Switch, set_input, BodyLeaves, Routes}
 use Rattle.vc_switch.specs.Able.{CanLeave, CanRoute, IsFree}
 use Rattle.vc_switch.specs.declared.front.Front.{Front}
-use Rattle.vc_switch.specs.Front.{front_of, start_of, HasFront}
+use Rattle.vc_switch.specs.Front.{front_of}
+use Rattle.vc_switch.specs.Private.Front.{start_of, HasFront}
 use Rattle.vc_switch.specs.State.{State, IsSwitch, IsLinkIn, IsUnderWay, ArePaired, bound_at, source_at, shown_or, output_of, plan_of, limit_of}
 use Rattle.vc_switch.specs.Seen.{seen, input_of, sent_by, sent_of, sender_of}
 use Rattle.vc_switch.specs.declared.link_in.LinkIn.{LinkIn}

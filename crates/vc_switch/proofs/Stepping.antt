@@ -11,7 +11,8 @@ use Rattle.vc_credit.specs.Laws.{NeedsPlace}
 use Rattle.vc_switch.specs.Able.{EachTokenComes}
 use Rattle.vc_switch.specs.Forward.{SwitchPlan, IsDrawn, least_of}
 use Rattle.vc_switch.specs.Switch.{Input, Switch, set_input, with_token, Comes, due, not_due, drawn, headed, with_header, passing, Passes, passes_byte, drops_byte, passes_mark, loses, BodyLeaves, HasGroup, SendsFct}
-use Rattle.vc_switch.specs.Front.{front_of, HasFront}
+use Rattle.vc_switch.specs.Front.{front_of}
+use Rattle.vc_switch.specs.Private.Front.{HasFront}
 use Rattle.vc_switch.specs.State.{State, IsSwitch, IsLinkIn, IsRange, MayBeBound, interval_of, plan_of, limit_of, shown_or}
 use Rattle.vc_switch.specs.Seen.{seen, input_of, sent_of, sent_by, sender_of}
 use Rattle.vc_switch.specs.declared.front.Front.{Front}

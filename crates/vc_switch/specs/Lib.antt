@@ -1,10 +1,11 @@
-pub mod Waiting
-pub mod Forward
-pub mod Switch
 pub mod Able
+pub mod Forward
 pub mod Front
 pub mod Opening
-pub mod State
-pub mod Seen
+pub mod Private
 pub mod Ready
 pub mod Requested
+pub mod Seen
+pub mod State
+pub mod Switch
+pub mod Waiting

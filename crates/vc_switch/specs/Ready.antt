@@ -7,11 +7,6 @@ use Rattle.vc_switch.specs.State.{State, plan_of, limit_of}
 use Rattle.vc_switch.specs.Switch.{Input}
 use Rattle.vc_switch.specs.declared.ready_switch.Ready.{Ready}
 
--- the bit of one link tells whether it is so, and the other bits are as before
-pub record Tells (Is : Type 0) (link old new : ℕ) : Type 0 where
-  pub it : (bit_at new link ≡ 1) ↔ Is
-  pub others : (l : ℕ) → l < 32 → l ≢ link → bit_at new l ≡ bit_at old l
-
 -- bytes of a packet are there that is bound to no output
 abbrev pub Waits : Input → Type 0
 Waits x = (x.bound ≡ None) × (x.got ≢ [])
@@ -22,10 +17,3 @@ pub record IsReady (s : State) (r : Ready) : Type 0 where
   pub waits : (l : ℕ) → l < 32 → (bit_at r.waits l ≡ 1) ↔ Waits ((seen s).input l)
   pub puts : (l : ℕ) → l < 32 → (bit_at r.puts l ≡ 1) ↔ (IsFree (seen s) l → ⊥)
   pub grants : (l : ℕ) → l < 32 → (bit_at r.grants l ≡ 1) ↔ CanGrant (seen s) l
-
--- the masks after a step by which one input is another
-pub record Looks (s : State) (link : ℕ) (old new : Ready) : Type 0 where
-  pub passes : Tells (CanPass (limit_of s.inputs) (plan_of s) (seen s) link) link old.passes new.passes
-  pub waits : Tells (Waits ((seen s).input link)) link old.waits new.waits
-  pub puts : new.puts ≡ old.puts
-  pub grants : Tells (CanGrant (seen s) link) link old.grants new.grants

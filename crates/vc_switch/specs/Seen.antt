@@ -1,8 +1,8 @@
 -- What a switch is, in the words of its steps.
-use Rattle.std.specs.Prelude.{◌≡◌, ℕ, ◌+◌, Bool, ◌||◌, is_some, List, [], take, drop, slice_get, Option, Some, None}
+use Rattle.std.specs.Prelude.{◌≡◌, ℕ, List, [], take, drop, slice_get, Option, Some, None}
 use Rattle.vc_credit.specs.Ends.{Sender, new_sender}
 use Rattle.vc_switch.specs.Switch.{Input, Switch, new_input}
-use Rattle.vc_switch.specs.State.{State, shown_or, output_of, source_at, plan_of, limit_of}
+use Rattle.vc_switch.specs.State.{State, shown_or, output_of, plan_of, limit_of}
 use Rattle.vc_switch.specs.declared.link_in.LinkIn.{LinkIn}
 use Rattle.vc_switch.specs.declared.link_in.Bound.{Bound}
 use Rattle.vc_switch.specs.declared.link_out.LinkOut.{LinkOut}
@@ -36,18 +36,3 @@ seen s = record {
 pub record IsKept (old new : State) : Type 0 where
   pub plan : plan_of new ≡ plan_of old
   pub limit : limit_of new.inputs ≡ limit_of old.inputs
-
--- a byte of the packet, or its mark, is there to be put
-abbrev pub has_next : LinkIn → Bound → Bool
-has_next x b = is_some (slice_get x.got.passed (b.from + b.sent)) || is_some x.mark
-
--- the input's packet is bound to the output, and leaves so
-pub record IsBoundTo (s : State) (output link : ℕ) (b : Bound) : Type 0 where
-  pub input : LinkIn
-  pub here : slice_get s.inputs link ≡ Some input
-  pub bound : input.bound ≡ Some b
-  pub source : source_at s.outputs output ≡ Some link
-
--- the next byte of the packet, where one has come that was not put
-abbrev pub IsNext : State → ℕ → Bound → Option ℕ → Type 0
-IsNext s link b byte = (x : LinkIn) → slice_get s.inputs link ≡ Some x → slice_get x.got.passed (b.from + b.sent) ≡ byte

@@ -1,7 +1,7 @@
 //! Masks of links, a bit for each of the 32.
 ghost use Rattle.std.specs.Prelude.{◌≡◌, ◌≢◌, ◌<◌, ℕ, IsTrue};
 ghost use Rattle.std.specs.Int.{bit_at};
-ghost use Rattle.vc_switch.specs.Ready.{Tells};
+ghost use Rattle.vc_switch.specs.Private.Ready.{Tells};
 
 /// The mask with one link's bit as told, and the other bits as before.
 pub(crate) fn told(mask: u32, link: u8, is: bool) -> u32

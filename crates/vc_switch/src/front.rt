@@ -1,7 +1,8 @@
 //! The front header of a body: portals passed, the first header that has a group.
 ghost use Rattle.std.specs.Prelude.{◌≡◌, ◌+◌, ◌^◌, ◌≤◌, ◌<◌, length, Some, IfSome};
 ghost use Rattle.vc_switch.specs.Requested.{links_of};
-ghost use Rattle.vc_switch.specs.Front.{front_of, behind_portal, start_of, HasFront};
+ghost use Rattle.vc_switch.specs.Front.{front_of, behind_portal};
+ghost use Rattle.vc_switch.specs.Private.Front.{start_of, HasFront};
 
 use vc_labels::{Action, Table};
 

@@ -6,10 +6,11 @@ ghost use Rattle.vc_tokens.specs.Spelt.{token};
 ghost use Rattle.vc_tokens.specs.Tokens.{Byte, EndMark};
 ghost use Rattle.vc_credit.specs.Ends.{received, HasRoom, Grants, IsFront, Passes};
 ghost use Rattle.vc_switch.specs.declared.front.Front.{Front};
-ghost use Rattle.vc_switch.specs.Front.{front_of, HasFront};
+ghost use Rattle.vc_switch.specs.Front.{front_of};
+ghost use Rattle.vc_switch.specs.Private.Front.{HasFront};
 ghost use Rattle.vc_switch.specs.Switch.{headed};
-ghost use Rattle.vc_switch.specs.Opening.{new_link_in};
-ghost use Rattle.vc_switch.specs.Seen.{has_next};
+ghost use Rattle.vc_switch.specs.Private.Opening.{new_link_in};
+ghost use Rattle.vc_switch.specs.Private.Seen.{has_next};
 
 use crate::front::find_front;
 use std::alloc::Global;

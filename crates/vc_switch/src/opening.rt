@@ -1,6 +1,7 @@
 //! The links of a switch as they begin.
 ghost use Rattle.std.specs.Prelude.{◌≡◌, IfOk};
-ghost use Rattle.vc_switch.specs.Opening.{deletes, link_count, listed, new_link_in, new_link_out, range_given};
+ghost use Rattle.vc_switch.specs.Opening.{deletes, range_given};
+ghost use Rattle.vc_switch.specs.Private.Opening.{link_count, listed, new_link_in, new_link_out};
 
 use crate::link_in::LinkIn;
 use crate::link_out::LinkOut;

@@ -9,7 +9,8 @@ ghost use Rattle.vc_switch.specs.Able.{CanPass, CanRoute, CanPut, CanGrant, IsFr
 ghost use Rattle.vc_switch.specs.Opening.{plan_given, IsRandomInput};
 ghost use Rattle.vc_switch.specs.Requested.{links_of};
 ghost use Rattle.vc_switch.specs.Front.{front_of};
-ghost use Rattle.vc_switch.specs.Ready.{Looks, Waits};
+ghost use Rattle.vc_switch.specs.Private.Ready.{Looks};
+ghost use Rattle.vc_switch.specs.Ready.{Waits};
 ghost use Rattle.vc_switch.specs.State.{plan_of, limit_of};
 ghost use Rattle.vc_switch.specs.Seen.{seen, IsKept};
 

@@ -18,7 +18,8 @@ ghost use Rattle.vc_switch.specs.Requested.{links_of};
 ghost use Rattle.vc_switch.specs.Front.{front_of};
 ghost use Rattle.vc_switch.specs.Ready.{Waits};
 ghost use Rattle.vc_switch.specs.State.{plan_of, limit_of, IsSwitch};
-ghost use Rattle.vc_switch.specs.Seen.{seen, IsKept, IsBoundTo, IsNext};
+ghost use Rattle.vc_switch.specs.Seen.{seen, IsKept};
+ghost use Rattle.vc_switch.specs.Private.Seen.{IsBoundTo, IsNext};
 
 use crate::front::find_front;
 use crate::link_in::{Bound, LinkIn};

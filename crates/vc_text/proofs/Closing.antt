@@ -2,7 +2,8 @@
 use Rattle.std.proofs.Common.{◌≡◌, ℕ, ◌<◌, ◌≤◌, length, Option, Some, None, is_some, ◌+◌, ◌||◌, Bool, true, false, List, refl, ap, arith}
 use Rattle.vc_plan.specs.declared.plan.Plan.{Plan}
 use Rattle.vc_core.specs.State.{State, shown, IsNetworkOf}
-use Rattle.vc_core.specs.Turns.{Rests, IsAtRest, FindsTake, FindsEvent}
+use Rattle.vc_core.specs.Private.Turns.{Rests, IsAtRest}
+use Rattle.vc_core.specs.Turns.{FindsTake, FindsEvent}
 use Rattle.vc_actor.specs.Turns.{actors}
 use Rattle.vc_actor.specs.declared.act.Act.TheVariants.{Take}
 use Rattle.vc_core.specs.declared.event.Event.{Event}
@@ -13,7 +14,7 @@ use Rattle.vc_core.specs.Replaying.{Reached, Replays}
 use Rattle.vc_core.specs.Still.{OnlyMoves}
 use Rattle.vc_core.proofs.Still.{only_processes_hold}
 use Rattle.vc_text.specs.Closing.{HasEvent, Closes, OnlyProcessesWait}
-use Rattle.vc_text.specs.Simulating.{counted}
+use Rattle.vc_text.specs.Private.Simulating.{counted}
 
 -- where all actors rest
 pub all_rest : (p : Plan) (s : State) → IsNetworkOf p s → (n : ℕ) → actors p ≤ n → ((k : ℕ) → k < n → Rests p s k) → IsAtRest p s

@@ -13,7 +13,7 @@ use Rattle.vc_plan.specs.declared.plan.Plan.{Plan}
 use Rattle.vc_switch.proofs.Placed.{place-set_other, place-set_same}
 use Rattle.vc_threads.proofs.Steps.{draws_then}
 use Rattle.vc_threads.specs.Runs.{Draws, generator}
-use Rattle.vc_text.specs.Seated.{DrawsFor, HaveGiven, generator_of}
+use Rattle.vc_text.specs.Private.Seated.{DrawsFor, HaveGiven, generator_of}
 use Rattle.vc_text.specs.Takes.{HasWordsOf, take_word, word_by, words_by}
 use Rattle.vc_text.specs.declared.seats.Seats.{Seats}
 

@@ -9,12 +9,13 @@ use Rattle.vc_plan.specs.declared.plan.Plan.{Plan}
 use Rattle.vc_core.specs.State.{State, IsNetworkOf, HasFront, MakesEvent}
 use Rattle.vc_core.specs.Enabled.{CanHappen}
 use Rattle.vc_actor.specs.Turns.{TakesNone}
-use Rattle.vc_core.specs.Turns.{FindsEvent, Rests}
+use Rattle.vc_core.specs.Turns.{FindsEvent}
+use Rattle.vc_core.specs.Private.Turns.{Rests}
 use Rattle.vc_core.specs.declared.event.Event.{Event}
 use Rattle.vc_actor.proofs.Masks.{bits_both}
 use Rattle.vc_core.proofs.Quiet.{quiet_after}
 use Rattle.vc_core.proofs.Turning.{takes}
-use Rattle.vc_text.specs.Quiet.{active_at, AreQuiet, IsIdle}
+use Rattle.vc_text.specs.Private.Quiet.{active_at, AreQuiet, IsIdle}
 use Rattle.vc_text.specs.declared.seats.Seats.{Seats}
 
 pub same_quiet : (p : Plan) (s : State) (a b : Seats) → ((k : ℕ) → active_at b k ≡ active_at a k) → AreQuiet p s a → AreQuiet p s b

@@ -7,9 +7,9 @@ use Rattle.vc_actor.specs.Turns.{TakesNone}
 use Rattle.vc_core.specs.declared.event.Event.{Event}
 use Rattle.vc_core.proofs.Replayed.{reached_next}
 use Rattle.vc_plan.specs.declared.plan.Plan.{Plan}
-use Rattle.vc_text.specs.Seated.{DrawsFor, HaveGiven}
-use Rattle.vc_text.specs.Quiet.{AreQuiet}
-use Rattle.vc_text.specs.Simulating.{HasRun, HasTaken, LeadsOn, counted}
+use Rattle.vc_text.specs.Private.Seated.{DrawsFor, HaveGiven}
+use Rattle.vc_text.specs.Private.Quiet.{AreQuiet}
+use Rattle.vc_text.specs.Private.Simulating.{HasRun, HasTaken, LeadsOn, counted}
 use Rattle.vc_text.specs.declared.simulation.Simulation.{Simulation}
 
 -- one event more

@@ -10,7 +10,8 @@ use Rattle.vc_text.specs.Checking.{ReadsAccepted}
 use Rattle.vc_text.specs.OneNode.{JoinsNodes, ReadsTogether}
 use Rattle.vc_text.specs.Running.{IsRunWithin, RunText, RunsPlan, StepsBy, WritesRun, WritesRunBy}
 use Rattle.vc_text.specs.Shown.{channels_of}
-use Rattle.vc_text.specs.Streams.{Writes, WritesOne}
+use Rattle.vc_text.specs.Streams.{Writes}
+use Rattle.vc_text.specs.Private.Streams.{WritesOne}
 use Rattle.vc_text.specs.Traffic.{traffic}
 use Rattle.vc_text.specs.declared.fault.RunFault.{RunFault}
 use Rattle.vc_text.specs.declared.fault.RunFault.TheVariants.{Read, Write, Text, Plan, Threads, Memory}

@@ -5,7 +5,8 @@ use Rattle.vc_plan.specs.Dependencies.{HasRanks}
 use Rattle.vc_core.specs.Enabled.{NetworkState, CanHappen, CanHappenIn}
 use Rattle.vc_core.specs.State.{State}
 use Rattle.vc_core.specs.Still.{IsHeldUp}
-use Rattle.vc_core.specs.Turns.{Rests, IsAtRestIn, HaveEndedIn}
+use Rattle.vc_core.specs.Private.Turns.{Rests}
+use Rattle.vc_core.specs.Turns.{IsAtRestIn, HaveEndedIn}
 use Rattle.vc_core.specs.declared.event.Event.{Event}
 use Rattle.vc_core.specs.declared.close.Close.{Close}
 use Rattle.vc_core.specs.declared.close.Close.TheVariants.{Done, Quiet, Limit}

@@ -5,7 +5,7 @@ use Rattle.vc_plan.specs.declared.plan.Plan.{Plan as Network}
 use Rattle.vc_reader.specs.NetworkText.{Reads}
 use Rattle.vc_reader.specs.declared.refused.ReadRefused.{ReadRefused}
 use Rattle.vc_text.specs.declared.fault.RunFault.{RunFault}
-use Rattle.vc_text.specs.declared.fault.RunFault.TheVariants.{Read, Write, Text, Plan, Threads, Memory}
+use Rattle.vc_text.specs.declared.fault.RunFault.TheVariants.{Read, Write, Memory}
 
 -- the bytes are all that the reader had
 abbrev pub IsAllOf : Option (List ℕ) → List ℕ → Type 0
@@ -29,13 +29,6 @@ Writes old new text (Err Write) = AppendsFront old new text
 Writes old new text (Err Memory) = new ≡ old
 Writes old new text (Err _) = ⊥
 
--- a text of this kind was written, or a front of one before a fault of the writer, or nothing for want of memory
-abbrev pub WritesOne : (List ℕ → Type 0) → Option (List ℕ) → Option (List ℕ) → Result ⊤ RunFault → Type 0
-WritesOne IsText old new (Ok u) = (text : List ℕ) × IsText text × Appends old new text
-WritesOne IsText old new (Err Write) = (text : List ℕ) × IsText text × AppendsFront old new text
-WritesOne IsText old new (Err Memory) = new ≡ old
-WritesOne IsText old new (Err _) = ⊥
-
 -- a network file has at most so many bytes
 abbrev pub most_bytes : ℕ
 most_bytes = 16777216
@@ -43,12 +36,3 @@ most_bytes = 16777216
 -- the text is that of a network file, and is read so
 abbrev pub ReadsFile : List ℕ → Result Network ReadRefused → Type 0
 ReadsFile text answer = (length text ≤ most_bytes) × Reads text answer
-
--- the plan is that of the reader's text, or the text is refused for its first fault
-abbrev pub ReadsPlan : Option (List ℕ) → Result Network RunFault → Type 0
-ReadsPlan (Some text) (Ok plan) = ReadsFile text (Ok plan)
-ReadsPlan (Some text) (Err (Text refused)) = ReadsFile text (Err refused)
-ReadsPlan known (Err (Plan refusal)) = ⊥
-ReadsPlan known (Err (Threads why)) = ⊥
-ReadsPlan known (Err Write) = ⊥
-ReadsPlan known answer = ⊤

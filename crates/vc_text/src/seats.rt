@@ -1,8 +1,8 @@
 //! What a run keeps of each actor.
 ghost use Rattle.std.specs.Prelude.{◌≡◌, ◌≢◌, ◌<◌, ◌+◌, ◌-◌, ◌^◌, ℕ, Some, IfOk, IfSome, MatchOption};
 ghost use Rattle.std.specs.Int.{bit_at};
-ghost use Rattle.vc_text.specs.Quiet.{active_at, IsIdle};
-ghost use Rattle.vc_text.specs.Seated.{DrawsFor, generator_of};
+ghost use Rattle.vc_text.specs.Private.Quiet.{active_at, IsIdle};
+ghost use Rattle.vc_text.specs.Private.Seated.{DrawsFor, generator_of};
 ghost use Rattle.vc_threads.specs.Runs.{generator};
 
 use rand_core::utils::NextWord;

@@ -3,11 +3,12 @@ ghost use Rattle.std.specs.Prelude.{◌≡◌, ◌⊎◌, ◌<◌, ◌≤◌, �
 ghost use Rattle.vc_plan.specs.declared.plan.Plan.{Plan};
 ghost use Rattle.vc_core.specs.Replaying.{IsOpening};
 ghost use Rattle.vc_core.specs.State.{shown, state_of, IsNetworkOf};
-ghost use Rattle.vc_core.specs.Turns.{Rests, IsAtRest, GoesOn, FindsEvent};
+ghost use Rattle.vc_core.specs.Private.Turns.{Rests, IsAtRest, GoesOn};
+ghost use Rattle.vc_core.specs.Turns.{FindsEvent};
 ghost use Rattle.vc_actor.specs.Turns.{actors};
 ghost use Rattle.vc_core.specs.declared.event.Event.{Event};
 ghost use Rattle.vc_text.specs.Closing.{HasEvent, Closes};
-ghost use Rattle.vc_text.specs.Simulating.{HasRun, HasTaken, LeadsOn, RunsOut, counted};
+ghost use Rattle.vc_text.specs.Private.Simulating.{HasRun, HasTaken, LeadsOn, RunsOut, counted};
 
 use crate::event_sink::EventSink;
 use crate::schedule::Schedule;

@@ -3,7 +3,7 @@ ghost use Rattle.std.specs.Prelude.{List, IfOk};
 ghost use Rattle.vc_core.specs.Replaying.{Reached};
 ghost use Rattle.vc_core.specs.State.{shown, state_of};
 ghost use Rattle.vc_core.specs.declared.event.Event.{Event};
-ghost use Rattle.vc_text.specs.Streams.{WritesOne};
+ghost use Rattle.vc_text.specs.Private.Streams.{WritesOne};
 ghost use Rattle.vc_text.specs.Tail.{IsTail};
 
 use crate::fault::RunFault;

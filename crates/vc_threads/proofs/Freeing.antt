@@ -16,8 +16,9 @@ use Rattle.vc_plan.specs.declared.port.Spot.{Spot}
 use Rattle.vc_plan.specs.declared.port.Spot.TheVariants.{Node, Switch}
 use Rattle.vc_plan.specs.declared.port.Wire.{Wire}
 use Rattle.vc_plan.proofs.Limited.{passes}
-use Rattle.vc_threads.specs.Rings.{outs_of, ins_of, AddsRing, AreWired, CanAddRing, IsOnWire}
-use Rattle.vc_threads.specs.Threads.{who}
+use Rattle.vc_threads.specs.Private.Rings.{outs_of, ins_of, AddsRing, AreWired, CanAddRing}
+use Rattle.vc_threads.specs.Rings.{IsOnWire}
+use Rattle.vc_threads.specs.Private.Threads.{who}
 use Rattle.vc_threads.specs.Works.{Out, In}
 use Rattle.vc_threads.specs.declared.spawn.Job.{Job}
 use Rattle.vc_threads.proofs.Goings.{any_default}

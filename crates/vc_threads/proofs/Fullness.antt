@@ -22,13 +22,16 @@ use Rattle.vc_plan.specs.Accepted.{port_of}
 use Rattle.vc_plan.specs.declared.plan.Plan.{Plan}
 use Rattle.vc_plan.specs.declared.port.Wire.{Wire}
 use Rattle.vc_tokens.specs.declared.token.Token.{Token}
-use Rattle.vc_threads.specs.Closing.{stop_at}
+use Rattle.vc_threads.specs.Private.Closing.{stop_at}
 use Rattle.vc_threads.specs.Jobs.{Ran}
-use Rattle.vc_threads.specs.Order.{outs_left, ins_left, outs_at, ins_at, LeftOn, OnWays}
-use Rattle.vc_threads.specs.Rings.{outs_of, ins_of, AreWired, HasRing, IsOnWire}
+use Rattle.vc_threads.specs.Private.Order.{outs_left, ins_left, outs_at, ins_at, LeftOn}
+use Rattle.vc_threads.specs.Order.{OnWays}
+use Rattle.vc_threads.specs.Private.Rings.{outs_of, ins_of, AreWired, HasRing}
+use Rattle.vc_threads.specs.Rings.{IsOnWire}
 use Rattle.vc_threads.specs.Runs.{StepsByLink}
 use Rattle.vc_threads.specs.Stamps.{stamped, all_stamped}
-use Rattle.vc_threads.specs.Threads.{AreNumbered, HasGreatest, actor_in, who}
+use Rattle.vc_threads.specs.Private.Threads.{AreNumbered, actor_in, who}
+use Rattle.vc_threads.specs.Threads.{HasGreatest}
 use Rattle.vc_threads.specs.Wires.{Sends, Receives}
 use Rattle.vc_threads.specs.Works.{In, IsFull, IsGreatest, IsLate}
 use Rattle.vc_threads.specs.declared.spawn.Job.{Job}

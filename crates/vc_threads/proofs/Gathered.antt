@@ -23,12 +23,15 @@ use Rattle.vc_switch.specs.Switch.{new_switch}
 use Rattle.vc_tokens.specs.Spelt.{tokens}
 use Rattle.vc_tokens.specs.declared.token.Token.{Token}
 use Rattle.vc_vcp.specs.Keyed.{shown_or}
-use Rattle.vc_threads.specs.Closing.{ClosesBy, stop_among, stop_at, stop_in}
+use Rattle.vc_threads.specs.Closing.{ClosesBy, stop_among}
+use Rattle.vc_threads.specs.Private.Closing.{stop_at, stop_in}
 use Rattle.vc_threads.specs.Jobs.{Ran}
 use Rattle.vc_threads.specs.Merged.{event_of}
-use Rattle.vc_threads.specs.Order.{actor_left, outs_left, ins_left, tokens_at, LeftOn, OnWays}
-use Rattle.vc_threads.specs.Rings.{AreWired}
-use Rattle.vc_threads.specs.Threads.{AreNumbered, IsRunOf, IsThreadRun, actor_in, who}
+use Rattle.vc_threads.specs.Private.Order.{actor_left, outs_left, ins_left, tokens_at, LeftOn}
+use Rattle.vc_threads.specs.Order.{OnWays}
+use Rattle.vc_threads.specs.Private.Rings.{AreWired}
+use Rattle.vc_threads.specs.Private.Threads.{AreNumbered, actor_in, who}
+use Rattle.vc_threads.specs.Threads.{IsRunOf, IsThreadRun}
 use Rattle.vc_threads.specs.declared.spawn.Job.{Job}
 use Rattle.vc_threads.specs.declared.order.AllEnds.{AllEnds}
 use Rattle.vc_threads.specs.declared.run.ActorRun.{ActorRun}

@@ -8,7 +8,8 @@ use Rattle.vc_accepted.specs.Outgoing.{actor_of}
 use Rattle.rtrb.specs.Ring.{IsPair, SameProducer}
 use Rattle.vc_plan.specs.declared.port.Port.{Port}
 use Rattle.vc_plan.specs.declared.port.Wire.{Wire}
-use Rattle.vc_threads.specs.Order.{outs_at, ins_at, tokens_at, HasEnd, IsLeft, Meet, TakenBy, EndsTaken, MeetAt, LeftAt, LeftOn, OnWays}
+use Rattle.vc_threads.specs.Private.Order.{outs_at, ins_at, tokens_at, HasEnd, IsLeft, Meet, TakenBy, EndsTaken, MeetAt, LeftAt, LeftOn}
+use Rattle.vc_threads.specs.Order.{OnWays}
 use Rattle.vc_threads.specs.Wires.{Distinct, OutLooked, SameIn}
 use Rattle.vc_tokens.specs.declared.token.Token.{Token}
 use Rattle.vc_threads.specs.Works.{Out, In}

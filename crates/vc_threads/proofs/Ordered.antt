@@ -16,11 +16,14 @@ use Rattle.vc_plan.specs.declared.port.Port.{Port}
 use Rattle.vc_tokens.specs.Spelt.{tokens}
 use Rattle.vc_tokens.specs.Tokens.{Token as Item}
 use Rattle.vc_tokens.specs.declared.token.Token.{Token}
-use Rattle.vc_threads.specs.Jobs.{IsFit, Ran}
-use Rattle.vc_threads.specs.Order.{outs_left, ins_left, outs_at, ins_at, tokens_at, Meet, MeetAt, LeftOn, OnWires, OnWays}
-use Rattle.vc_threads.specs.Rings.{outs_in, ins_in, outs_of, ins_of, HasRing, AreWired}
+use Rattle.vc_threads.specs.Private.Jobs.{IsFit}
+use Rattle.vc_threads.specs.Jobs.{Ran}
+use Rattle.vc_threads.specs.Private.Order.{outs_left, ins_left, outs_at, ins_at, tokens_at, Meet, MeetAt, LeftOn, OnWires}
+use Rattle.vc_threads.specs.Order.{OnWays}
+use Rattle.vc_threads.specs.Private.Rings.{outs_in, ins_in, outs_of, ins_of, HasRing, AreWired}
 use Rattle.vc_threads.specs.Stamps.{stamped, all_stamped}
-use Rattle.vc_threads.specs.Threads.{AreNumbered, TakesInOrder, actor_in, who}
+use Rattle.vc_threads.specs.Private.Threads.{AreNumbered, actor_in, who}
+use Rattle.vc_threads.specs.Threads.{TakesInOrder}
 use Rattle.vc_threads.specs.Wires.{Distinct, out_links, in_links, Sends, Receives, SameIn}
 use Rattle.vc_threads.specs.Works.{Out, In}
 use Rattle.vc_threads.specs.declared.spawn.Job.{Job}

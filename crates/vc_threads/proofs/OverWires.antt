@@ -7,7 +7,7 @@ use Rattle.vc_network.specs.LocalRun.{Stamped, Turn}
 use Rattle.vc_actor.specs.declared.act.Act.{Act}
 use Rattle.vc_plan.specs.declared.plan.Plan.{Plan}
 use Rattle.vc_tokens.specs.declared.token.Token.{Token}
-use Rattle.vc_threads.specs.Order.{HasEnd}
+use Rattle.vc_threads.specs.Private.Order.{HasEnd}
 use Rattle.vc_threads.specs.Rings.{IsOnWire}
 use Rattle.vc_threads.specs.Threads.{IsOverWires}
 use Rattle.vc_threads.specs.Wires.{IsAmong, out_links, in_links}

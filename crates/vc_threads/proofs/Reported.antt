@@ -26,13 +26,14 @@ use Rattle.vc_accepted.specs.Process.{Process}
 use Rattle.vc_tokens.specs.declared.token.Token.{Token}
 use Rattle.vc_vcp.specs.Keyed.{shown_or}
 use Rattle.vc_vcp.specs.Links.{new_vcp}
-use Rattle.vc_threads.specs.Closing.{AreInOrder, stop_in, stop_at}
+use Rattle.vc_threads.specs.Private.Closing.{AreInOrder, stop_in, stop_at}
 use Rattle.vc_threads.specs.Jobs.{Ran}
 use Rattle.vc_threads.specs.Merged.{of_pair, numbered}
-use Rattle.vc_threads.specs.Order.{actor_left}
-use Rattle.vc_threads.specs.Rings.{AreWired, outs_in, ins_in}
+use Rattle.vc_threads.specs.Private.Order.{actor_left}
+use Rattle.vc_threads.specs.Private.Rings.{AreWired, outs_in, ins_in}
 use Rattle.vc_threads.specs.Runs.{Draws, words_of}
-use Rattle.vc_threads.specs.Threads.{AllKeep, AreNumbered, IsRunOf, actor_in, who}
+use Rattle.vc_threads.specs.Private.Threads.{AllKeep, AreNumbered, actor_in, who}
+use Rattle.vc_threads.specs.Threads.{IsRunOf}
 use Rattle.vc_threads.specs.Works.{kept, logged, HasRun}
 use Rattle.vc_threads.specs.declared.spawn.Job.{Job}
 use Rattle.vc_threads.specs.declared.run.ActorRun.{ActorRun}

@@ -10,7 +10,8 @@ use Rattle.vc_plan.specs.Accepted.{port_of}
 use Rattle.vc_plan.specs.declared.plan.Plan.{Plan}
 use Rattle.vc_plan.specs.declared.port.Port.{Port}
 use Rattle.vc_plan.specs.declared.port.Wire.{Wire}
-use Rattle.vc_threads.specs.Rings.{outs_of, ins_of, OneMore, IsRing, AddsRing, HasRing, IsOnWire, AreWired, AreBare, outs_in, ins_in}
+use Rattle.vc_threads.specs.Private.Rings.{outs_of, ins_of, OneMore, IsRing, AddsRing, HasRing, AreWired, AreBare, outs_in, ins_in}
+use Rattle.vc_threads.specs.Rings.{IsOnWire}
 use Rattle.vc_threads.specs.Works.{Out, In}
 use Rattle.vc_threads.specs.declared.spawn.Job.{Job}
 

@@ -9,10 +9,11 @@ use Rattle.vc_actor.specs.Shown.{Acting}
 use Rattle.vc_actor.specs.declared.act.Act.{Act}
 use Rattle.vc_network.specs.Plan.{Plan}
 use Rattle.vc_tokens.specs.declared.token.Token.{Token}
-use Rattle.vc_threads.specs.Jobs.{IsFit, Ran}
+use Rattle.vc_threads.specs.Private.Jobs.{IsFit}
+use Rattle.vc_threads.specs.Jobs.{Ran}
 use Rattle.vc_threads.specs.Merged.{of_pair, numbered}
 use Rattle.vc_threads.specs.Runs.{StepsByLink}
-use Rattle.vc_threads.specs.Threads.{AreNumbered, who}
+use Rattle.vc_threads.specs.Private.Threads.{AreNumbered, who}
 use Rattle.vc_threads.specs.Works.{kept, logged}
 use Rattle.vc_threads.specs.declared.spawn.Job.{Job}
 use Rattle.vc_threads.specs.declared.run.ActorRun.{ActorRun}

@@ -4,7 +4,7 @@ use Rattle.vc_accepted.specs.Outgoing.{actor_of}
 use Rattle.vc_plan.specs.Accepted.{IsAccepted, port_of}
 use Rattle.vc_plan.specs.declared.plan.Plan.{Plan}
 use Rattle.vc_plan.specs.declared.port.Wire.{Wire}
-use Rattle.vc_threads.specs.Order.{IsPort, EndsTaken}
+use Rattle.vc_threads.specs.Private.Order.{IsPort, EndsTaken}
 use Rattle.vc_threads.specs.Rings.{IsOnWire}
 use Rattle.vc_threads.specs.declared.order.AllEnds.{AllEnds}
 use Rattle.vc_threads.proofs.Freeing.{fresh, other_side}

@@ -16,7 +16,8 @@ use Rattle.vc_accepted.proofs.Wired.{link_is_at, wired}
 use Rattle.vc_network.specs.Actors.{Label, act_of}
 use Rattle.vc_network.specs.Actors.Label.{Own, Takes, Puts}
 use Rattle.vc_network.specs.LocalRun.{Stamped, Turn, LocalRun, all_put, all_taken, items, restamped}
-use Rattle.vc_network.specs.Merge.{Made, part, NotAfter, IsOrdered, IsMerge, remade}
+use Rattle.vc_network.specs.Merge.{Made, part, NotAfter, IsOrdered, IsMerge}
+use Rattle.vc_network.specs.Private.Merge.{remade}
 use Rattle.vc_core.specs.Replaying.{Replays}
 use Rattle.vc_actor.specs.Shown.{actor_of as net_actor, act_of as code_act}
 use Rattle.vc_core.specs.State.{State, shown, IsNetworkOf}

@@ -1,25 +1,13 @@
 -- How a run closes, by why its workers ended.
-use Rattle.std.specs.Prelude.{◌≡◌, ◌≢◌, ℕ, ◌<◌, List, map, get_or, slice_get, Some}
+use Rattle.std.specs.Prelude.{◌≡◌, ◌≢◌, ℕ, ◌<◌, List, get_or}
 use Rattle.vc_core.specs.declared.close.Close.{Close}
 use Rattle.vc_core.specs.declared.close.Close.TheVariants.{Done, Quiet, Limit, GateClosed, Failed, ClockFull}
-use Rattle.vc_threads.specs.declared.run.ActorRun.{ActorRun}
 use Rattle.vc_threads.specs.declared.run.Stop.{Stop}
 use Rattle.vc_threads.specs.declared.run.Stop.TheVariants.{Turns, Gate, Clock, Memory}
-
-abbrev pub stop_in : ActorRun → Stop
-stop_in r = r.stop
 
 -- why worker k ended, where this is told of each in turn
 abbrev pub stop_among : List Stop → ℕ → Stop
 stop_among stops k = get_or stops k Turns
-
--- why the worker of run k ended
-abbrev pub stop_at : List ActorRun → ℕ → Stop
-stop_at rs = stop_among (map stop_in rs)
-
--- the runs stand in the order of their actors, from 0 on
-abbrev pub AreInOrder : List ActorRun → Type 0
-AreInOrder rs = (k : ℕ) (r : ActorRun) → slice_get rs k ≡ Some r → r.id ≡ k
 
 -- none of the first n workers ended so, or some did
 abbrev pub NoneStopped : ℕ → (ℕ → Stop) → Stop → Type 0

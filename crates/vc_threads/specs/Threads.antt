@@ -1,5 +1,5 @@
 -- The jobs of all actors, and what a run in threads reports.
-use Rattle.std.specs.Prelude.{◌≡◌, ◌≢◌, ◌↔◌, ℕ, ◌+◌, ◌<◌, ◌≤◌, Bool, List, [], ◌∷◌, ◌++◌, length, map}
+use Rattle.std.specs.Prelude.{◌≡◌, ◌≢◌, ◌↔◌, ℕ, ◌+◌, ◌<◌, ◌≤◌, List, [], ◌++◌, length, map}
 use Rattle.std.specs.List.{AllByRecursion, Contains}
 use Rattle.rand_pcg.specs.Lcg.{Lcg}
 use Rattle.vc_accepted.specs.NetworkOf.{network_of}
@@ -31,32 +31,10 @@ use Rattle.vc_threads.specs.Order.{OnWays}
 use Rattle.vc_threads.specs.Rings.{IsOnWire}
 use Rattle.vc_threads.specs.Runs.{StepsByLink, Used, Draws, generator, words_of}
 use Rattle.vc_threads.specs.Works.{IsGreatest}
-use Rattle.vc_threads.specs.declared.spawn.Job.{Job}
 use Rattle.vc_threads.specs.declared.report.Ending.{Ending}
 use Rattle.vc_threads.specs.declared.report.Report.{Report}
 use Rattle.vc_threads.specs.declared.run.Stop.{Stop}
 use Rattle.vc_threads.specs.declared.run.Stop.TheVariants.{Turns, Clock}
-
--- a job without its ends
-pub record Who : Type 0 where
-  pub id : ℕ
-  pub actor : Acting
-  pub keeps : Bool
-
-abbrev pub who : Job → Who
-who j = record { id = j.id; actor = j.actor; keeps = j.keeps }
-
--- the actors' numbers go up from n
-abbrev pub AreNumbered : ℕ → List Who → Type 0
-AreNumbered n [] = Unit {0}
-AreNumbered n (w ∷ ws) = (w.id ≡ n) × AreNumbered (n + 1) ws
-
--- each worker keeps its acts, or none does
-abbrev pub AllKeep : Bool → List Who → Type 0
-AllKeep keeps = AllByRecursion (λ w. w.keeps ≡ keeps)
-
-abbrev pub actor_in : Job → Acting
-actor_in j = j.actor
 
 -- a token that is put or taken goes over a link that is on a wire
 abbrev pub IsOverWires : Plan → ℕ → Label Act (Stamped Token) → Type 0

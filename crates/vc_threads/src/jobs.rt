@@ -5,10 +5,10 @@ ghost use Rattle.vc_accepted.specs.Outgoing.{actor_of};
 ghost use Rattle.vc_actor.specs.Begin.{AreFirst};
 ghost use Rattle.vc_actor.specs.Turns.{actors as actors_in};
 ghost use Rattle.vc_plan.specs.Accepted.{IsAccepted};
-ghost use Rattle.vc_threads.specs.Jobs.{IsFit};
-ghost use Rattle.vc_threads.specs.Rings.{AddsRing, AreBare, AreWired, CanAddRing, outs_in, ins_in};
-ghost use Rattle.vc_threads.specs.Threads.{AllKeep, AreNumbered, actor_in, who};
-ghost use Rattle.vc_threads.specs.Works.{IsOfSomePlan};
+ghost use Rattle.vc_threads.specs.Private.Jobs.{IsFit};
+ghost use Rattle.vc_threads.specs.Private.Rings.{AddsRing, AreBare, AreWired, CanAddRing, outs_in, ins_in};
+ghost use Rattle.vc_threads.specs.Private.Threads.{AllKeep, AreNumbered, actor_in, who};
+ghost use Rattle.vc_threads.specs.Private.Works.{IsOfSomePlan};
 
 use crate::link::{Ends, In, LinkRule, Out, PLACES};
 use crate::spawn::Job;

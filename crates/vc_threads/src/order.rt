@@ -3,7 +3,8 @@ ghost use Rattle.std.specs.Prelude.{◌≡◌, ◌*◌, ◌<◌, ◌≤◌, IfOk
 ghost use Rattle.std.specs.List.{AllZip, HoldsAt};
 ghost use Rattle.rtrb.specs.Ring.{known_items, IsPair, SameConsumer};
 ghost use Rattle.vc_plan.specs.Accepted.{IsAccepted};
-ghost use Rattle.vc_threads.specs.Order.{actor_left, outs_left, ins_left, HasEnd, IsLeft, AtLinks, Meet, TakenBy, IsPort, EndsTaken, MeetAt, LeftAt, LeftOn, OnWires, OnWays};
+ghost use Rattle.vc_threads.specs.Private.Order.{actor_left, outs_left, ins_left, HasEnd, IsLeft, AtLinks, Meet, TakenBy, IsPort, EndsTaken, MeetAt, LeftAt, LeftOn, OnWires};
+ghost use Rattle.vc_threads.specs.Order.{OnWays};
 ghost use Rattle.vc_threads.specs.Stamps.{item_of};
 ghost use Rattle.vc_threads.specs.Wires.{OutLooked, SameIn};
 

@@ -1,7 +1,8 @@
 //! Starting a thread for each actor, and joining them all.
 ghost use Rattle.std.specs.Prelude.{◌≡◌, ◌++◌, [], ◌∷◌, IfOk, OnOk};
 ghost use Rattle.std.specs.List.{All, AllZip};
-ghost use Rattle.vc_threads.specs.Jobs.{IsFit, Ran};
+ghost use Rattle.vc_threads.specs.Private.Jobs.{IsFit};
+ghost use Rattle.vc_threads.specs.Jobs.{Ran};
 
 use crate::gate::{Closes, Gate};
 use crate::link::Ends;

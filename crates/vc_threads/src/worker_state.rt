@@ -6,8 +6,9 @@ ghost use Rattle.rtrb.specs.Ring.{sent, known_free, SameProducer};
 ghost use Rattle.vc_actor.specs.OfPlan.{IsActorOf};
 ghost use Rattle.vc_network.specs.Plan.{Plan};
 ghost use Rattle.vc_threads.specs.Wires.{OutLooked, InLooked, HasRoom, IsFree, IsReady};
-ghost use Rattle.vc_threads.specs.Works.{CanTake, IsGreatest, IsLate, TakesFront};
-ghost use Rattle.vc_threads.specs.Least.{IsFound, IsLeast, TakesLeast};
+ghost use Rattle.vc_threads.specs.Private.Works.{CanTake, TakesFront};
+ghost use Rattle.vc_threads.specs.Works.{IsGreatest, IsLate};
+ghost use Rattle.vc_threads.specs.Private.Least.{IsFound, IsLeast, TakesLeast};
 
 use crate::link::{Ends, In, Out, Stamped};
 use crate::run::{ActorRun, Stop};
@@ -201,7 +202,8 @@ impl WorkerState {
     ghost use Rattle.vc_network.specs.Plan.{Plan};
     ghost use Rattle.vc_threads.specs.Runs.{HasNoStep, generator};
     ghost use Rattle.vc_threads.specs.Wires.{Distinct, in_links, out_links};
-    ghost use Rattle.vc_threads.specs.Works.{CanTake, IsFull, SameLinks, Uses, Stays, worker_state, kept};
+    ghost use Rattle.vc_threads.specs.Private.Works.{CanTake, SameLinks, Uses, Stays, worker_state};
+    ghost use Rattle.vc_threads.specs.Works.{IsFull, kept};
 
     /// An actor that did nothing yet. Its words are those of the generator of this seed and number.
     pub(crate) fn new(

@@ -14,7 +14,8 @@ use Rattle.vc_plan.specs.declared.plan.Plan.{Plan}
 use Rattle.vc_text.specs.Streams.{IsAllOf}
 use Rattle.vc_trace.specs.EventText.{event_line, events_text}
 use Rattle.vc_trace.specs.Lines.{IsLineBefore, IsOnOneLine, left}
-use Rattle.vc_trace.specs.Replay.{BeginsAsEvent, IsNoEvent, MakesEvents, MakesLine}
+use Rattle.vc_trace.specs.Replay.{BeginsAsEvent, IsNoEvent}
+use Rattle.vc_trace.specs.Private.Replay.{MakesEvents, MakesLine}
 use Rattle.vc_trace.specs.declared.refused_line.RefusedLine.{RefusedLine}
 use Rattle.vc_trace.proofs.Found.{both}
 

@@ -5,7 +5,7 @@ use Rattle.std.specs.Str.{bytes_eq}
 use Rattle.std.proofs.lemmas.Slice.Eq.{bytes_eq-Decides}
 use Rattle.vc_waits.specs.Waits.{newline}
 use Rattle.vc_trace.specs.EventText.{spaced}
-use Rattle.vc_trace.specs.Words.{IsWord}
+use Rattle.vc_trace.specs.Private.Words.{IsWord}
 use Rattle.vc_trace.proofs.Found.{both}
 
 -- no space

@@ -3,7 +3,7 @@ use Rattle.std.proofs.Common.{◌≡◌, ◌<◌, ℕ, zero, suc, ◌+◌, List,
 use Rattle.std.specs.List.{flat_map}
 use Rattle.std.specs.Io.KnownBytes.{Appends}
 use Rattle.vc_text.specs.Streams.{AppendsFront}
-use Rattle.vc_trace.specs.Pieces.{Passes}
+use Rattle.vc_trace.specs.Private.Pieces.{Passes}
 
 appends_two : (a b c : Option (List ℕ)) (xs ys : List ℕ) → Appends a b xs → Appends b c ys → Appends a c (xs ++ ys)
 appends_two None b c xs ys p q = tt

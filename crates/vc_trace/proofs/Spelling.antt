@@ -13,9 +13,10 @@ use Rattle.vc_plan.specs.declared.switch_plan.SwitchPlan.{SwitchPlan}
 use Rattle.vc_plan.specs.KeptLimits.{IsChannelInLimits, IsName, IsNodeInLimits, IsSwitchInLimits}
 use Rattle.vc_plan.specs.Limits.{is_name_byte}
 use Rattle.vc_plan.specs.Names.{actor_name, channel_name, node_name, switch_name}
-use Rattle.vc_trace.specs.EventOf.{IsGuard, IsNamed}
+use Rattle.vc_trace.specs.EventOf.{IsGuard}
+use Rattle.vc_trace.specs.Private.EventOf.{IsNamed}
 use Rattle.vc_trace.specs.EventText.{guard_word}
-use Rattle.vc_trace.specs.Words.{IsWord}
+use Rattle.vc_trace.specs.Private.Words.{IsWord}
 use Rattle.vc_trace.proofs.Found.{both}
 
 -- the digits of a number

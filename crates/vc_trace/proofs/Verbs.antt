@@ -8,8 +8,8 @@ use Rattle.vc_plan.specs.declared.plan.Plan.{Plan}
 use Rattle.vc_plan.specs.Names.{channel_name}
 use Rattle.vc_trace.specs.EventOf.{IsActOf, IsByte, IsChannel, IsGuard, IsHalf, IsLong, IsMoveOf}
 use Rattle.vc_trace.specs.EventText.{act_words, guard_word, move_words, spaced}
-use Rattle.vc_trace.specs.Verbs.{move_word, verb_word}
-use Rattle.vc_trace.specs.Words.{IsWord}
+use Rattle.vc_trace.specs.Private.Verbs.{move_word, verb_word}
+use Rattle.vc_trace.specs.Private.Words.{IsWord}
 use Rattle.vc_trace.specs.declared.move_verb.MoveVerb.{MoveVerb}
 use Rattle.vc_trace.specs.declared.move_verb.MoveVerb.TheVariants.{Offer, Want, Choose, Stopch, Inner, Quiet}
 use Rattle.vc_trace.specs.declared.verb.Verb.{Verb}

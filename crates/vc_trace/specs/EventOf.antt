@@ -1,23 +1,11 @@
 -- What the words of a line name.
-use Rattle.std.specs.Prelude.{◌≡◌, ℕ, ◌<◌, ◌+◌, ◌^◌, List, ◌∷◌, length, Option, Some, None}
+use Rattle.std.specs.Prelude.{ℕ, ◌<◌, ◌+◌, ◌^◌, length, Option, Some, None}
 use Rattle.vc_actor.specs.declared.act.Act.{Act}
 use Rattle.vc_actor.specs.declared.act.Act.TheVariants.{Proc, Take, Put, Route, Fct, Pass}
 use Rattle.vc_core.specs.declared.event.Event.{Event}
 use Rattle.vc_occam.specs.declared.moves.Move.{Move}
 use Rattle.vc_occam.specs.declared.moves.Move.TheVariants.{Offer, Want, Choose, Stopch, Inner, Quiet}
 use Rattle.vc_plan.specs.declared.plan.Plan.{Plan}
-use Rattle.vc_plan.specs.Accepted.{IsAccepted}
-use Rattle.vc_reader.specs.Laws.{HasDistinctNames}
-use Rattle.vc_trace.specs.EventText.{spaced}
-
--- the plan is accepted, and no two of its nodes and switches have one name, and no two channels
-pub record IsNamed (p : Plan) : Type 0 where
-  pub accepted : IsAccepted p
-  pub names : HasDistinctNames p
-
--- the first of the words is that of such a thing, which is found, and the other words are left
-abbrev pub Finds : {A : Type 0} → (A → Type 0) → (A → List ℕ) → List ℕ → List ℕ → Option A → Type 0
-Finds {A} Is text_of old new found = (x : A) (words : List (List ℕ)) → Is x → old ≡ spaced (text_of x ∷ words) → (found ≡ Some x) × (new ≡ spaced words)
 
 -- a number of at most 8, 16 or 32 bits
 abbrev pub IsByte : ℕ → Type 0

@@ -9,8 +9,6 @@ use Rattle.vc_occam.specs.declared.moves.Move.TheVariants.{Offer, Want, Choose, 
 use Rattle.vc_plan.specs.Names.{actor_name, channel_name}
 use Rattle.vc_plan.specs.declared.plan.Plan.{Plan}
 use Rattle.vc_waits.specs.Waits.{newline}
-use Rattle.vc_trace.specs.declared.word.Word.{Word}
-use Rattle.vc_trace.specs.declared.word.Word.TheVariants.{Text, Number}
 
 -- the place of a guard, and - where an input meets the output
 abbrev pub guard_word : Option ℕ → List ℕ
@@ -46,15 +44,3 @@ event_line p e = codes "event" ++ spaced (actor_name p e.actor ∷ act_words p e
 -- the lines of events, in order
 abbrev pub events_text : Plan → List Event → List ℕ
 events_text p = flat_map (event_line p)
-
--- what a word of the code is
-abbrev pub word_text : Word → List ℕ
-word_text (Text text) = text.now
-word_text (Number n) = decimal n
-
-abbrev pub spaced_word : Word → List ℕ
-spaced_word word = codes " " ++ word_text word
-
--- and what such words are, each behind a space
-abbrev pub words_text : List Word → List ℕ
-words_text = flat_map spaced_word

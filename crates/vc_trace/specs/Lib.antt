@@ -1,10 +1,6 @@
 pub mod EventOf
 pub mod EventText
 pub mod Lines
-pub mod Named
-pub mod Pieces
-pub mod Reading
+pub mod Private
 pub mod Replay
 pub mod Tracing
-pub mod Verbs
-pub mod Words

@@ -1,9 +1,8 @@
 -- What a replay of event lines answers.
-use Rattle.std.specs.Prelude.{◌≡◌, ℕ, ◌+◌, Bool, true, false, List, ◌++◌, length, codes, decimal, Option, Some, None, Result, Ok, Err, ⊤}
+use Rattle.std.specs.Prelude.{◌≡◌, ℕ, ◌+◌, Bool, List, ◌++◌, length, codes, decimal, Option, Some, None, Result, Ok, Err, ⊤}
 use Rattle.std.specs.Io.KnownBytes.{Appends}
 use Rattle.vc_core.specs.Enabled.{NetworkState, CanHappenIn}
-use Rattle.vc_core.specs.Replaying.{Reached, RunsTo}
-use Rattle.vc_core.specs.State.{State, shown, MakesEvent}
+use Rattle.vc_core.specs.Replaying.{RunsTo}
 use Rattle.vc_core.specs.declared.close.Close.{Close}
 use Rattle.vc_core.specs.declared.event.Event.{Event}
 use Rattle.vc_plan.specs.declared.plan.Plan.{Plan}
@@ -18,7 +17,6 @@ use Rattle.vc_text.specs.declared.fault.RunFault.TheVariants.{Write}
 use Rattle.vc_trace.specs.EventOf.{IsEventOf}
 use Rattle.vc_trace.specs.EventText.{event_line, events_text}
 use Rattle.vc_trace.specs.Lines.{IsLineBefore}
-use Rattle.vc_trace.specs.declared.refused_line.RefusedLine.{RefusedLine}
 use Rattle.vc_trace.specs.declared.replayed.Replayed.{Replayed}
 use Rattle.vc_trace.specs.declared.replayed.Replayed.TheVariants.{Ended, Refused}
 
@@ -29,11 +27,6 @@ BeginsAsEvent text = (rest : List ℕ) × (text ≡ codes "event " ++ rest)
 -- no event of the plan that can happen in the state has this line
 abbrev pub IsNoEvent : Plan → NetworkState → List ℕ → Type 0
 IsNoEvent p x line = (e : Event) → IsEventOf p e → CanHappenIn p x e → event_line p e ≡ line → ⊥
-
--- the event of the line was made; or no event that can happen has the line, in a plan whose names differ, as a file's do
-abbrev pub MakesLine : Plan → State → List ℕ → State → Bool → Type 0
-MakesLine p old line new true = (e : Event) × (event_line p e ≡ line) × MakesEvent p old e new
-MakesLine p old line new false = (new ≡ old) × (HasDistinctNames p → IsNoEvent p (shown old) line)
 
 -- the text has the lines of these events, and behind them no line of an event
 pub record EndsBehind (known : Option (List ℕ)) (p : Plan) (events : List Event) : Type 0 where
@@ -48,12 +41,6 @@ pub record RefusesBehind (known : Option (List ℕ)) (p : Plan) (events : List E
   pub begins : BeginsAsEvent line
   pub whole : IsLineBefore rest line
   pub none : HasDistinctNames p → IsNoEvent p x line
-
--- the events of the text were made, all of them, or those in front of the line that is refused
-abbrev pub MakesEvents : Option (List ℕ) → Plan → State → Option RefusedLine → Type 0
-MakesEvents known p s None = (events : List Event) × Reached p events s × EndsBehind known p events
-MakesEvents known p s (Some refused) =
-    (events : List Event) × Reached p events s × (refused.number ≡ length events + 1) × RefusesBehind known p events (shown s) refused.line.items
 
 -- these events lead to the state, where a run closes so
 pub record IsReplay (p : Plan) (events : List Event) (x : NetworkState) (close : Close) : Type 0 where

@@ -2,9 +2,10 @@
 ghost use Rattle.std.specs.Prelude.{◌≡◌, ◌++◌, ◌∷◌, codes, decimal, OnOk, OnErr};
 ghost use Rattle.vc_plan.specs.Names.{channel_name};
 ghost use Rattle.vc_waits.specs.Waits.{newline};
-ghost use Rattle.vc_trace.specs.EventText.{act_words, event_line, guard_word as word_of_guard, move_words, spaced, spaced_word, word_text, words_text};
+ghost use Rattle.vc_trace.specs.EventText.{act_words, event_line, guard_word as word_of_guard, move_words, spaced};
+ghost use Rattle.vc_trace.specs.Private.EventText.{spaced_word, word_text, words_text};
 ghost use Rattle.vc_text.specs.Streams.{AppendsFront};
-ghost use Rattle.vc_trace.specs.Pieces.{Passes};
+ghost use Rattle.vc_trace.specs.Private.Pieces.{Passes};
 
 use crate::pieces::{Piece, WriteFailed, put};
 use crate::word::Word;

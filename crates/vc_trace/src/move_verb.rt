@@ -1,6 +1,6 @@
 //! What a move of a process does, in a word.
 ghost use Rattle.std.specs.Prelude.{◌≡◌, Some};
-ghost use Rattle.vc_trace.specs.Verbs.{move_word};
+ghost use Rattle.vc_trace.specs.Private.Verbs.{move_word};
 
 /// What a process does.
 #[derive(Clone, Copy, Drop)]

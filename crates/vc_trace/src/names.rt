@@ -2,8 +2,8 @@
 ghost use Rattle.std.specs.Prelude.{◌≡◌, ◌+◌, IfOk, length};
 ghost use Rattle.vc_plan.specs.Accepted.{IsAccepted};
 ghost use Rattle.vc_plan.specs.Names.{actor_name, channel_name};
-ghost use Rattle.vc_trace.specs.EventOf.{IsNamed};
-ghost use Rattle.vc_trace.specs.Named.{AreNamesOf, AreNumbered, number_at};
+ghost use Rattle.vc_trace.specs.Private.EventOf.{IsNamed};
+ghost use Rattle.vc_trace.specs.Private.Named.{AreNamesOf, AreNumbered, number_at};
 
 use std::alloc::Global;
 use std::collections::HashMap;

@@ -2,7 +2,7 @@
 ghost use Rattle.std.specs.Prelude.{◌≡◌, ◌+◌, ◌≤◌, [], ◌++◌, length, OnOk, OnErr};
 ghost use Rattle.std.specs.Io.KnownBytes.{Appends};
 ghost use Rattle.vc_text.specs.Streams.{AppendsFront};
-ghost use Rattle.vc_trace.specs.Pieces.{Passes};
+ghost use Rattle.vc_trace.specs.Private.Pieces.{Passes};
 
 use arrayvec::ArrayVec;
 use std::io::Write;

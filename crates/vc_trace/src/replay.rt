@@ -5,8 +5,9 @@ ghost use Rattle.vc_core.specs.State.{state_of, IsNetworkOf};
 ghost use Rattle.vc_core.specs.declared.event.Event.{Event as Happening};
 ghost use Rattle.vc_plan.specs.declared.plan.Plan.{Plan};
 ghost use Rattle.vc_text.specs.Streams.{IsReadFault};
-ghost use Rattle.vc_trace.specs.Reading.{IsReaderOf};
-ghost use Rattle.vc_trace.specs.Replay.{IsReplayText, MakesEvents, MakesLine, Replays, ReplaysPlan, refused_text as text_of_refused};
+ghost use Rattle.vc_trace.specs.Private.Reading.{IsReaderOf};
+ghost use Rattle.vc_trace.specs.Replay.{IsReplayText, Replays, ReplaysPlan, refused_text as text_of_refused};
+ghost use Rattle.vc_trace.specs.Private.Replay.{MakesEvents, MakesLine};
 
 use crate::event_reader::EventReader;
 use crate::line::{Line, read_line};

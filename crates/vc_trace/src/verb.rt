@@ -1,6 +1,6 @@
 //! What an event does, in a word.
 ghost use Rattle.std.specs.Prelude.{◌≡◌, Some};
-ghost use Rattle.vc_trace.specs.Verbs.{verb_word};
+ghost use Rattle.vc_trace.specs.Private.Verbs.{verb_word};
 
 /// What an actor does.
 #[derive(Clone, Copy, Drop)]

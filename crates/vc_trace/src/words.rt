@@ -1,7 +1,7 @@
 //! The words of a line.
 ghost use Rattle.std.specs.Prelude.{◌≡◌, ◌≢◌, ◌<◌, ◌≤◌, ℕ, List, ◌∷◌, length, slice_index};
 ghost use Rattle.vc_trace.specs.EventText.{spaced};
-ghost use Rattle.vc_trace.specs.Words.{IsWord};
+ghost use Rattle.vc_trace.specs.Private.Words.{IsWord};
 
 /// The rest of a line, word by word. A space stands in front of each word.
 #[derive(Clone, Copy, Drop)]

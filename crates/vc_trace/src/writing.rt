@@ -3,7 +3,7 @@ ghost use Rattle.std.specs.Prelude.{◌≡◌, ◌++◌, [], OnOk, OnErr};
 ghost use Rattle.std.specs.Io.KnownBytes.{Appends};
 ghost use Rattle.vc_text.specs.Streams.{AppendsFront, Writes};
 ghost use Rattle.vc_trace.specs.EventText.{events_text};
-ghost use Rattle.vc_trace.specs.Pieces.{Passes};
+ghost use Rattle.vc_trace.specs.Private.Pieces.{Passes};
 
 use crate::event_text::put_event;
 use crate::pieces::{Piece, WriteFailed, flush, put};

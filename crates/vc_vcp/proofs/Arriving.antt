@@ -13,7 +13,7 @@ use Rattle.vc_vcp.specs.declared.output.Output.{Output}
 use Rattle.vc_vcp.specs.declared.input.Input.{Input}
 use Rattle.vc_tokens.specs.Tokens.{Token, Byte, Fct, EndMark}
 use Rattle.vc_vcp.specs.Able.{CanPass, EachTokenComes}
-use Rattle.vc_vcp.specs.Bound.{IsStray}
+use Rattle.vc_vcp.specs.Private.Bound.{IsStray}
 use Rattle.vc_vcp.specs.Carrier.{Carrier, Ends, set_in}
 use Rattle.vc_vcp.specs.LinkIn.{Receiving}
 use Rattle.vc_vcp.specs.Links.{Vcp, Passes, passes_byte, drops_byte, passes_mark, passing, set_link, with_token, due, not_due}

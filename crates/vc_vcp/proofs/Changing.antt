@@ -2,10 +2,10 @@
 use Rattle.std.proofs.Common.{◌≡◌, ℕ, List, ◌++◌, drop, take, length, sym, subst, slice_get, slice_set, Some}
 use Rattle.std.proofs.lemmas.List.{take_at}
 use Rattle.vc_packets.specs.declared.packet.Packet.{Packet}
-use Rattle.vc_vcp.specs.Bound.{Stays, StaysWith, ArrivesWith, with_inputs}
+use Rattle.vc_vcp.specs.Private.Bound.{Stays, StaysWith, ArrivesWith, with_inputs}
 use Rattle.vc_vcp.specs.declared.input.Input.{Input}
 use Rattle.vc_vcp.specs.LinkOut.{Sending}
-use Rattle.vc_vcp.specs.Queued.{StaysInput}
+use Rattle.vc_vcp.specs.Private.Queued.{StaysInput}
 use Rattle.vc_vcp.specs.Seen.{ends_of, carrier_of}
 use Rattle.vc_vcp.specs.State.{State, IsWired, IsInput}
 use Rattle.vc_vcp.specs.Steps.{Taken, Arrives}

@@ -9,7 +9,7 @@ use Rattle.vc_blocks.specs.declared.in_half.Want.{Want}
 use Rattle.vc_vcp.specs.declared.input.Input.{Input}
 use Rattle.vc_vcp.specs.Carrier.{InHalf, set_in, enqueue}
 use Rattle.vc_vcp.specs.LinkOut.{Sending}
-use Rattle.vc_vcp.specs.Queued.{StaysInput, queued, logged_by, acknowledged_by}
+use Rattle.vc_vcp.specs.Private.Queued.{StaysInput, queued, logged_by, acknowledged_by}
 use Rattle.vc_vcp.specs.Seen.{seen, ends_of, IsKept, carrier_of, in_half, in_end, Inputs, answered, found_by}
 use Rattle.vc_vcp.specs.State.{State, HaveOwnNames, IsPieceOf, HoldsFor}
 use Rattle.vc_vcp.specs.Steps.{store, accept, message, IsPieceFor, IsOpen, fetches, waits}

@@ -6,7 +6,8 @@ use Rattle.vc_packets.specs.Functions.{put}
 use Rattle.vc_credit.specs.Ends.{new_sender}
 use Rattle.vc_vcp.specs.Able.{CanLeaveWhole}
 use Rattle.vc_vcp.specs.Keyed.{shown_or}
-use Rattle.vc_vcp.specs.LinkOut.{Sending, FrontLeavesWhole, HasNoneWhole}
+use Rattle.vc_vcp.specs.LinkOut.{Sending}
+use Rattle.vc_vcp.specs.Private.LinkOut.{FrontLeavesWhole, HasNoneWhole}
 use Rattle.vc_vcp.specs.Links.{LeavesWhole}
 use Rattle.vc_vcp.specs.Seen.{seen, carrier_of, link_of}
 use Rattle.vc_vcp.specs.State.{State}

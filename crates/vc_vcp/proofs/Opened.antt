@@ -7,7 +7,8 @@ use Rattle.vc_vcp.specs.declared.end.End.{End as Given}
 use Rattle.vc_vcp.specs.Carrier.{End}
 use Rattle.vc_vcp.specs.Keyed.{named, NamesDiffer, shown_or, by_name}
 use Rattle.vc_vcp.specs.Links.{new_vcp}
-use Rattle.vc_vcp.specs.Opening.{opened, with_opened, end_with, end_at, is_chan, NoneTwice, AreDistinct, opened_output, opened_outputs, opened_input, opened_inputs, ends_given, four, new_out, new_in}
+use Rattle.vc_vcp.specs.Private.Opening.{opened, with_opened, opened_output, opened_outputs, opened_input, opened_inputs, four, new_out, new_in}
+use Rattle.vc_vcp.specs.Opening.{end_with, end_at, is_chan, NoneTwice, AreDistinct, ends_given}
 use Rattle.vc_vcp.specs.State.{State, IsWired, HaveOwnNames, IsOutput, IsInput, IsLinkIn}
 use Rattle.vc_vcp.specs.Seen.{seen, ends_of, out_half, in_half, no_output, no_input, out_end, in_end}
 

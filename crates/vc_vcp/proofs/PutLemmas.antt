@@ -9,7 +9,8 @@ use Rattle.std.proofs.lemmas.Option.{slice_get_within, get_or_from_slice_get}
 use Rattle.vc_packets.specs.declared.packet.Packet.{Packet}
 use Rattle.vc_tokens.specs.Tokens.{Token, Byte, EndMark}
 use Rattle.vc_credit.specs.Ends.{puts_byte, puts_mark}
-use Rattle.vc_vcp.specs.LinkOut.{Sending, sent_of, queue_after, IsWithinFront, PutsFront, CanPutFront}
+use Rattle.vc_vcp.specs.LinkOut.{Sending, sent_of, IsWithinFront}
+use Rattle.vc_vcp.specs.Private.LinkOut.{queue_after, PutsFront, CanPutFront}
 
 -- the bytes before the n-th, that byte, and those behind it
 split_at : (body : List ℕ) (n b : ℕ) → slice_get body n ≡ Some b → body ≡ take n body ++ b ∷ drop (suc n) body

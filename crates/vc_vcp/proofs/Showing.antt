@@ -9,7 +9,8 @@ use Rattle.vc_credit.specs.Ends.{Grants, Puts, credited, received, new_sender, n
 use Rattle.vc_credit.specs.Laws.{NeedsPlace}
 use Rattle.vc_vcp.specs.Carrier.{Carrier}
 use Rattle.vc_vcp.specs.LinkIn.{Receiving}
-use Rattle.vc_vcp.specs.LinkOut.{Sending, PutsFront, queue_after}
+use Rattle.vc_vcp.specs.LinkOut.{Sending}
+use Rattle.vc_vcp.specs.Private.LinkOut.{PutsFront, queue_after}
 use Rattle.vc_vcp.specs.Links.{Link, Vcp, set_link, unqueued, SendsFct, Sends, Comes, due, not_due}
 use Rattle.vc_vcp.specs.Keyed.{shown_or}
 use Rattle.vc_vcp.specs.State.{State}

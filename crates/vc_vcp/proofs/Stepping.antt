@@ -10,7 +10,7 @@ use Rattle.vc_vcp.specs.declared.input.Input.{Input}
 use Rattle.vc_vcp.specs.Carrier.{set_out, enqueue}
 use Rattle.vc_vcp.specs.Keyed.{shown_or}
 use Rattle.vc_vcp.specs.LinkOut.{Sending}
-use Rattle.vc_vcp.specs.Queued.{Begins, StaysOutput, queued}
+use Rattle.vc_vcp.specs.Private.Queued.{Begins, StaysOutput, queued}
 use Rattle.vc_vcp.specs.Seen.{seen, ends_of, IsKept, link_of, carrier_of, out_half, in_half, no_output, no_input, out_end, in_end, finished_of}
 use Rattle.vc_vcp.specs.State.{State, HaveOwnNames}
 use Rattle.vc_vcp.specs.Steps.{Offers}

@@ -8,7 +8,7 @@ use Rattle.vc_blocks.specs.Halves.{Incoming, load_of, ends_message, with_stored}
 use Rattle.vc_blocks.specs.Arriving.{after_want, want_of, want_by, arrival_of, arrival_by}
 use Rattle.vc_vcp.specs.declared.input.Input.{Input}
 use Rattle.vc_vcp.specs.LinkOut.{Sending}
-use Rattle.vc_vcp.specs.Queued.{StaysInput, queued, logged, logged_by, acknowledged, acknowledged_by, completed, completed_by}
+use Rattle.vc_vcp.specs.Private.Queued.{StaysInput, queued, logged, logged_by, acknowledged, acknowledged_by, completed, completed_by}
 use Rattle.vc_vcp.specs.State.{IsInput, HoldsFor}
 use Rattle.vc_vcp.proofs.Placed.{if_ok}
 

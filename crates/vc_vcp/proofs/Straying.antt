@@ -12,10 +12,11 @@ use Rattle.vc_packets.specs.Kind.{kind}
 use Rattle.vc_blocks.specs.Halves.{load_of, ends_message}
 use Rattle.vc_vcp.specs.declared.output.Output.{Output}
 use Rattle.vc_vcp.specs.declared.input.Input.{Input}
-use Rattle.vc_vcp.specs.Bound.{IsStray}
+use Rattle.vc_vcp.specs.Private.Bound.{IsStray}
 use Rattle.vc_vcp.specs.Carrier.{End}
 use Rattle.vc_vcp.specs.Keyed.{named, NamesDiffer, shown_or}
-use Rattle.vc_vcp.specs.Seen.{ends_of, carrier_of, in_half, no_input, out_end, in_end, out_half, no_output, Acks}
+use Rattle.vc_vcp.specs.Seen.{ends_of, carrier_of, in_half, no_input, out_end, in_end, out_half, no_output}
+use Rattle.vc_vcp.specs.Private.Seen.{Acks}
 use Rattle.vc_vcp.specs.State.{State, HaveOwnNames, IsInput, IsPieceOf, IsAckOf}
 use Rattle.vc_vcp.specs.Steps.{IsPieceFor, IsAckFor, stores, holds, advances, Taken, Arrives, stray, Stray}
 use Rattle.vc_vcp.proofs.KeyedLemmas.{named_at, named_by}

@@ -12,8 +12,9 @@ use Rattle.vc_vcp.specs.declared.output.Output.{Output}
 use Rattle.vc_vcp.specs.declared.input.Input.{Input}
 use Rattle.vc_vcp.specs.Carrier.{OutHalf, set_out, enqueue}
 use Rattle.vc_vcp.specs.LinkOut.{Sending}
-use Rattle.vc_vcp.specs.Queued.{queued_next, logged, acknowledged}
-use Rattle.vc_vcp.specs.Seen.{ends_of, carrier_of, in_half, out_half, in_end, out_end, finished_of, advance_told, arrival_told, Acks}
+use Rattle.vc_vcp.specs.Private.Queued.{queued_next, logged, acknowledged}
+use Rattle.vc_vcp.specs.Seen.{ends_of, carrier_of, in_half, out_half, in_end, out_end, finished_of}
+use Rattle.vc_vcp.specs.Private.Seen.{advance_told, arrival_told, Acks}
 use Rattle.vc_vcp.specs.State.{State, HaveOwnNames, IsPieceOf}
 use Rattle.vc_vcp.specs.Steps.{advance, IsTaken, stores, holds, advances, IsPieceFor, Taken, taken_by, acked_by, Arrives, takes}
 use Rattle.vc_vcp.proofs.Inputting.{stored_is, half_is, message_is, for_end}

@@ -6,7 +6,7 @@ use Rattle.vc_blocks.specs.Halves.{Incoming}
 use Rattle.vc_blocks.specs.Arriving.{arrival_of}
 use Rattle.vc_blocks.specs.declared.in_half.Arrival.{Arrival}
 use Rattle.vc_vcp.specs.LinkOut.{Sending}
-use Rattle.vc_vcp.specs.Queued.{acknowledged}
+use Rattle.vc_vcp.specs.Private.Queued.{acknowledged}
 use Rattle.vc_vcp.proofs.Placed.{if_ok}
 
 pub popped : {X : Type 0} (r : Option X) (old new taken more : List X) → MatchOption r ((old ≡ []) × (new ≡ [])) (λ last. old ≡ new ++ last ∷ []) → length more ≡ 1 → old ≡ taken ++ more → new ≡ taken

@@ -9,14 +9,10 @@ use Rattle.vc_vcp.specs.Links.{Link, Vcp}
 use Rattle.vc_packets.specs.declared.packet.Packet.{Packet}
 use Rattle.vc_blocks.specs.declared.in_half.Want.{Want}
 use Rattle.vc_blocks.specs.declared.in_half.Want.TheVariants as want
-use Rattle.vc_vcp.specs.Steps.{IsOpen, Wants, Arrives, Taken, Held, Stored, Complete, More, Finished, Stray}
-use Rattle.vc_vcp.specs.State.{State, IsAckOf, limit_of}
+use Rattle.vc_vcp.specs.Steps.{IsOpen, Wants, Taken, Held, Stored, Complete, More, Finished, Stray}
+use Rattle.vc_vcp.specs.State.{State, limit_of}
 use Rattle.vc_vcp.specs.declared.taken.Taken.{Taken as CodeTaken}
 use Rattle.vc_vcp.specs.declared.taken.Taken.TheVariants as code
-use Rattle.vc_blocks.specs.declared.out_half.Advance.{Advance}
-use Rattle.vc_blocks.specs.declared.out_half.Advance.TheVariants as advance
-use Rattle.vc_blocks.specs.declared.in_half.Arrival.{Arrival}
-use Rattle.vc_blocks.specs.declared.in_half.Arrival.TheVariants as arrival
 
 -- the end by which a channel goes out, and that by which it comes in
 abbrev pub out_end : Output → End
@@ -103,18 +99,3 @@ taken_of code.Stray = Stray
 abbrev pub passed_of : Option CodeTaken → Option Taken
 passed_of None = None
 passed_of (Some t) = Some (taken_of t)
-
--- what an acknowledge came to, on its channel
-abbrev pub advance_told : ℕ → Advance → Taken
-advance_told c advance.More = More c
-advance_told c advance.Finished = Finished c
-
--- what a piece came to, on its channel
-abbrev pub arrival_told : ℕ → Arrival → Taken
-arrival_told c arrival.Held = Held c
-arrival_told c arrival.Stored = Stored c
-arrival_told c (arrival.Complete m) = Complete c m
-
--- any acknowledge for this block arrives so
-abbrev pub Acks : State → ℕ → Taken → State → Type 0
-Acks old block taken new = (p : Packet) → IsAckOf block p → Arrives (ends_of old) (carrier_of old) p taken (carrier_of new)

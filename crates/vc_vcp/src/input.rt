@@ -8,11 +8,11 @@ ghost use Rattle.vc_blocks.specs.Arriving.{after_arrival, arrival_of, after_want
 ghost use Rattle.std.specs.Option.{option_to_list};
 ghost use Rattle.vc_packets.specs.Spellings.{ack_packet};
 ghost use Rattle.vc_vcp.specs.State.{IsInput, IsPieceOf};
-ghost use Rattle.vc_vcp.specs.Bound.{MayTake, StaysWith, ArrivesWith};
+ghost use Rattle.vc_vcp.specs.Private.Bound.{MayTake, StaysWith, ArrivesWith};
 ghost use Rattle.vc_vcp.specs.Seen.{taken_of};
 ghost use Rattle.std.specs.List.{AllByRecursion};
-ghost use Rattle.vc_vcp.specs.LinkOut.{Unqueues};
-ghost use Rattle.vc_vcp.specs.Queued.{StaysInput, completed, queued, logged, acknowledged, logged_by, acknowledged_by};
+ghost use Rattle.vc_vcp.specs.Private.LinkOut.{Unqueues};
+ghost use Rattle.vc_vcp.specs.Private.Queued.{StaysInput, completed, queued, logged, acknowledged, logged_by, acknowledged_by};
 
 use crate::link_out::LinkOut;
 use crate::taken::{self, Taken};

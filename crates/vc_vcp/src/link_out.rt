@@ -4,7 +4,7 @@
 ghost use Rattle.std.specs.Prelude.{◌≡◌, ◌≢◌, ◌<◌, ◌≤◌, ◌+◌, [], ◌∷◌, ◌++◌, ◌↔◌, None, IsTrue, IfSome, OnOk, OnErr, slice_get, drop};
 ghost use Rattle.vc_tokens.specs.Spelt.{token};
 ghost use Rattle.vc_credit.specs.Ends.{credited};
-ghost use Rattle.vc_vcp.specs.LinkOut.{PutsFront, CanPutFront, FrontLeavesWhole, HasNoneWhole, Unqueues};
+ghost use Rattle.vc_vcp.specs.Private.LinkOut.{PutsFront, CanPutFront, FrontLeavesWhole, HasNoneWhole, Unqueues};
 ghost use Rattle.std.specs.Bool.{OnTrue};
 ghost use Rattle.std.specs.Option.{option_copied};
 

@@ -1,6 +1,6 @@
 //! The outputs, inputs and links of a node as they begin: idle halves for the ends that have a channel, and four empty links.
 ghost use Rattle.std.specs.Prelude.{◌≡◌, IfOk};
-ghost use Rattle.vc_vcp.specs.Opening.{opened_output, opened_outputs, opened_input, opened_inputs, four, new_out, new_in};
+ghost use Rattle.vc_vcp.specs.Private.Opening.{opened_output, opened_outputs, opened_input, opened_inputs, four, new_out, new_in};
 
 use crate::end::End;
 use crate::input::Input;

@@ -6,7 +6,7 @@ ghost use Rattle.std.specs.Prelude.{◌≡◌, ◌≢◌, ℕ, List, [], ◌∷�
 ghost use Rattle.vc_blocks.specs.Advancing.{later_than, advanced};
 ghost use Rattle.vc_packets.specs.Pieces.{Pieces};
 ghost use Rattle.vc_packets.specs.Spellings.{piece_packet};
-ghost use Rattle.vc_vcp.specs.Queued.{Begins, StaysOutput, queued, queued_next};
+ghost use Rattle.vc_vcp.specs.Private.Queued.{Begins, StaysOutput, queued, queued_next};
 ghost use Rattle.vc_vcp.specs.Seen.{finished_of};
 ghost use Rattle.vc_vcp.specs.State.{IsOutput};
 

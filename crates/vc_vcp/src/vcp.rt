@@ -6,9 +6,10 @@ ghost use Rattle.std.specs.Prelude.{◌≡◌, ◌≢◌, ◌<◌, ◌≤◌, No
 ghost use Rattle.vc_vcp.specs.Keyed.{named};
 ghost use Rattle.std.specs.List.{AllByRecursion};
 ghost use Rattle.vc_packets.specs.declared.packet.Packet.{Packet};
-ghost use Rattle.vc_vcp.specs.Bound.{IsBound};
+ghost use Rattle.vc_vcp.specs.Private.Bound.{IsBound};
 ghost use Rattle.vc_vcp.specs.State.{CountsStray, IsInput, IsIdle, IsUnwanted, IsOpen, MayPut, MayGrant, IsPieceOf, limit_of};
-ghost use Rattle.vc_vcp.specs.Seen.{ends_of, seen, Inputs, IsKept, taken_of, passed_of, Acks};
+ghost use Rattle.vc_vcp.specs.Seen.{ends_of, seen, Inputs, IsKept, taken_of, passed_of};
+ghost use Rattle.vc_vcp.specs.Private.Seen.{Acks};
 ghost use Rattle.vc_vcp.specs.Links.{new_vcp, Comes, LeavesWhole, Passes, Sends, SendsFct};
 ghost use Rattle.vc_credit.specs.Ends.{IsFront};
 ghost use Rattle.vc_vcp.specs.Steps.{Offers, Stops, Arrives, Stray};

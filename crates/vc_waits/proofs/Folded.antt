@@ -12,7 +12,8 @@ use Rattle.vc_process.specs.declared.process.Process.TheViews.{out-Branch, out-G
 use Rattle.vc_process.specs.declared.process.Process.TheOpen as layer
 use Rattle.vc_process.specs.declared.process.Process.TheFolds.{fold-roll-Process, fold_out-Branch, fold_out-Guard}
 use Rattle.vc_process.proofs.Reaching.{drop_at}
-use Rattle.vc_waits.specs.Paths.{PathsAt, branch_layer, branch_paths, each_at, guard_layer, guard_paths, layer_paths, paths}
+use Rattle.vc_waits.specs.Paths.{PathsAt, branch_layer, each_at, guard_layer, layer_paths, paths}
+use Rattle.vc_waits.specs.Private.Paths.{branch_paths, guard_paths}
 
 pub paths_seq : (p : Process) (ps : List Process) → p ≡ process.Seq ps → paths p ≡ layer_paths (layer.Seq (map paths ps))
 unfolding paths

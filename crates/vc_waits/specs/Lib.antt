@@ -1,5 +1,6 @@
 pub mod Meaning
-pub mod Ports
 pub mod Packets
 pub mod Paths
+pub mod Ports
+pub mod Private
 pub mod Waits

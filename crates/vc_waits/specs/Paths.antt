@@ -2,10 +2,8 @@
 use Rattle.std.specs.Prelude.{ℕ, List, [], ◌∷◌, ◌++◌, codes, decimal}
 use Rattle.std.specs.List.{enumerate_from, flat_map}
 use Rattle.vc_process.specs.declared.process.Process.{Process}
-use Rattle.vc_process.specs.declared.process.Branch.{Branch}
-use Rattle.vc_process.specs.declared.process.Guard.{Guard}
 use Rattle.vc_process.specs.declared.process.Process.TheOpen as layer
-use Rattle.vc_process.specs.declared.process.Process.TheFolds.{fold-Process, fold-Branch, fold-Guard}
+use Rattle.vc_process.specs.declared.process.Process.TheFolds.{fold-Process}
 
 -- the paths of a process that stands at a path
 abbrev pub PathsAt : Type 0
@@ -37,10 +35,3 @@ guard_layer g = g.body
 
 unfoldable pub paths : Process → PathsAt
 paths = fold-Process PathsAt PathsAt PathsAt layer_paths branch_layer guard_layer
-
--- the paths in a branch, and in a guard
-unfoldable pub branch_paths : Branch → PathsAt
-branch_paths = fold-Branch PathsAt PathsAt PathsAt layer_paths branch_layer guard_layer
-
-unfoldable pub guard_paths : Guard → PathsAt
-guard_paths = fold-Guard PathsAt PathsAt PathsAt layer_paths branch_layer guard_layer

@@ -1,6 +1,7 @@
 //! The paths of processes in the network file.
 ghost use Rattle.std.specs.Prelude.{◌≡◌, ◌++◌, ◌∷◌, [], IfOk, OnOk, codes, decimal, map};
-ghost use Rattle.vc_waits.specs.Paths.{branch_paths, guard_paths, list_paths, paths};
+ghost use Rattle.vc_waits.specs.Private.Paths.{branch_paths, guard_paths};
+ghost use Rattle.vc_waits.specs.Paths.{list_paths, paths};
 
 use crate::number::push_number;
 use sqlite_items::Items;

@@ -1,7 +1,7 @@
 use Rattle.std.proofs.Common.{◌∙◌, sym, ap}
 use Rattle.vc_occam.specs.declared.frame.Frame.TheViews.{out-Frame}
 use Rattle.vc_occam.specs.Blocking.{blocked}
-use Rattle.vc_occam.specs.Frames.{views}
+use Rattle.vc_occam.specs.Private.Frames.{views}
 use Rattle.vc_occam.specs.Remains.{Rest}
 use Rattle.vc_process.specs.Terms.{store}
 use Rattle.vc_occam.proofs.Blocks.{begun_blocked, blocks_none, blocks_same, going_blocked, resting_blocked, turning_blocked}

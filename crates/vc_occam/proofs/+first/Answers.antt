@@ -2,10 +2,11 @@ use Rattle.std.proofs.Common.{◌∙◌, ◌<◌, ℕ, length, drop, rules, sym,
 use Rattle.std.specs.Prelude.{slice_get}
 use Rattle.vc_occam.specs.declared.frame.Frame.TheViews.{out-Frame, the_lemmas}
 use Rattle.vc_occam.specs.First.{own}
-use Rattle.vc_occam.specs.Frames.{PartInPreorder, View, behind, besides, part_own, place_of, views}
+use Rattle.vc_occam.specs.Private.Frames.{PartInPreorder, part_own, views}
+use Rattle.vc_occam.specs.Frames.{View, behind, besides, place_of}
 use Rattle.vc_occam.specs.Moving.{from_site}
 use Rattle.vc_occam.specs.Remains.{Rest}
-use Rattle.vc_occam.specs.Sites.{InPreorder}
+use Rattle.vc_occam.specs.Private.Sites.{InPreorder}
 use Rattle.vc_process.specs.Terms.{store}
 use Rattle.vc_occam.proofs.Frames.{awaiting_own, follow_own, idle_own, is_awaiting, rest_apart, rest_ended, rest_going, rest_idle, rest_ready, rest_stuck, rest_together, resting_nothing, turning_none, turning_own, view_out}
 use Rattle.vc_occam.proofs.Inside.{frames_inside}

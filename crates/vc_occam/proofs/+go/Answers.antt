@@ -5,13 +5,14 @@ use Rattle.vc_occam.specs.declared.frame.Frame.{Frame}
 use Rattle.vc_occam.specs.declared.frame.Frame.TheOpen.{Frame-F}
 use Rattle.vc_occam.specs.declared.phase.Phase.{Phase}
 use Rattle.vc_occam.specs.declared.phase.Phase.TheVariants.{Turning, Ended, Stuck}
-use Rattle.vc_occam.specs.Frames.{Able, BeginsWith, Did, HasVariables, PartHasVariables, PartInPreorder, View, assigned_at, besides, gone_on, is_done, part_assigned, part_done, part_rest, plan_at, plans, rest_at, view, views}
-use Rattle.vc_occam.specs.Nexts.{TurnEnded}
+use Rattle.vc_occam.specs.Private.Frames.{Able, BeginsWith, Did, HasVariables, PartHasVariables, PartInPreorder, assigned_at, gone_on, is_done, part_assigned, part_done, part_rest, plans, views}
+use Rattle.vc_occam.specs.Frames.{View, besides, plan_at, rest_at, view}
+use Rattle.vc_occam.specs.Private.Nexts.{TurnEnded}
 use Rattle.vc_occam.specs.Remains.{Done, Rest}
-use Rattle.vc_occam.specs.Sites.{InPreorder}
+use Rattle.vc_occam.specs.Private.Sites.{InPreorder}
 use Rattle.vc_process.specs.Syntax.{Proc, STOP}
 use Rattle.vc_process.specs.Terms.{store}
-use Rattle.vc_occam.specs.Outcome.{has_ended, then_begins}
+use Rattle.vc_occam.specs.Private.Outcome.{has_ended, then_begins}
 use Rattle.vc_occam.proofs.Abreast.{beside_rest, none_beside, part_able, part_did, part_preorder, part_value, part_variables}
 use Rattle.vc_occam.proofs.Ending.{able_there, besides_goes, same_length}
 use Rattle.vc_occam.proofs.Frames.{parts_len, view_roll, view_out}

@@ -2,7 +2,8 @@ use Rattle.std.proofs.Common.{◌∙◌, ℕ, sym, ap, arith, Option}
 use Rattle.std.specs.Prelude.{slice_get}
 use Rattle.vc_occam.specs.declared.frame.Frame.TheViews.{out-Frame}
 use Rattle.vc_occam.specs.First.{own}
-use Rattle.vc_occam.specs.Frames.{View, behind, part_own, place_of, views}
+use Rattle.vc_occam.specs.Frames.{View, behind, place_of}
+use Rattle.vc_occam.specs.Private.Frames.{part_own, views}
 use Rattle.vc_occam.specs.Remains.{Rest}
 use Rattle.vc_process.specs.Terms.{store}
 use Rattle.vc_occam.proofs.Frames.{awaiting_own, is_awaiting, turning_own, turning_none, rest_apart, rest_together, rest_ready, rest_going, rest_idle, rest_ended, rest_stuck, resting_nothing, follow_own, idle_own}

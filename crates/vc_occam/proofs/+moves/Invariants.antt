@@ -1,6 +1,7 @@
 use Rattle.std.proofs.Common.{◌≡◌, ◌++◌, drop}
 use Rattle.vc_occam.specs.First.{own}
-use Rattle.vc_occam.specs.Frames.{besides, views}
+use Rattle.vc_occam.specs.Frames.{besides}
+use Rattle.vc_occam.specs.Private.Frames.{views}
 use Rattle.vc_process.specs.Terms.{store}
 use Rattle.vc_occam.proofs.+moves.Given as goal
 

@@ -4,9 +4,10 @@ use Rattle.vc_occam.specs.declared.frame.Frame.TheViews.{the_lemmas, out-Frame, 
 use Rattle.vc_occam.specs.declared.phase.Phase.TheVariants.{Ready}
 use Rattle.vc_occam.specs.declared.site_action.SiteAction.TheVariants.{Offer}
 use Rattle.vc_occam.specs.First.{own}
-use Rattle.vc_occam.specs.Frames.{Able, Did, View, part_rest, plans, view, views}
+use Rattle.vc_occam.specs.Private.Frames.{Able, Did, part_rest, plans, views}
+use Rattle.vc_occam.specs.Frames.{View, view}
 use Rattle.vc_occam.specs.Remains.{Done, Rest}
-use Rattle.vc_occam.specs.Sites.{InPreorder}
+use Rattle.vc_occam.specs.Private.Sites.{InPreorder}
 use Rattle.vc_process.specs.Syntax.{STOP}
 use Rattle.vc_occam.proofs.Abreast.{none_beside, part_preorder}
 use Rattle.vc_occam.proofs.Frames.{awaiting_own, idle_own, is_awaiting, parts_len, rest_ended, rest_idle, rest_stuck, resting_nothing, view_roll, view_out}

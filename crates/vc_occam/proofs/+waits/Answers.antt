@@ -1,7 +1,8 @@
 use Rattle.std.proofs.Common.{◌∙◌, ◌<◌, ℕ, length, rules, sym, ap}
 use Rattle.std.specs.Prelude.{slice_get}
 use Rattle.vc_occam.specs.declared.frame.Frame.TheViews.{out-Frame}
-use Rattle.vc_occam.specs.Frames.{behind, first_waits, part_waits, place_of, views}
+use Rattle.vc_occam.specs.Frames.{behind, place_of}
+use Rattle.vc_occam.specs.Private.Frames.{first_waits, part_waits, views}
 use Rattle.vc_occam.specs.Remains.{Rest}
 use Rattle.vc_occam.specs.States.{waiting}
 use Rattle.vc_occam.proofs.Besides.{waits_found, waits_more}

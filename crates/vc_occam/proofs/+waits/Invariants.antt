@@ -1,5 +1,6 @@
 use Rattle.std.proofs.Common.{◌≡◌, drop}
-use Rattle.vc_occam.specs.Frames.{besides, first_waits, views}
+use Rattle.vc_occam.specs.Frames.{besides}
+use Rattle.vc_occam.specs.Private.Frames.{first_waits, views}
 use Rattle.vc_occam.specs.States.{waiting}
 use Rattle.vc_occam.proofs.+waits.Given as goal
 

@@ -1,6 +1,7 @@
 use Rattle.std.proofs.Common.{◌≡◌, length, sym, ap, subst, arith}
 use borrow.Author.Count.{falls}
-use Rattle.vc_actor.specs.Begin.{AreFirst, AreWaysOf, BeginsAs}
+use Rattle.vc_actor.specs.Begin.{AreFirst, BeginsAs}
+use Rattle.vc_actor.specs.Private.Begin.{AreWaysOf}
 use Rattle.vc_actor.proofs.Beginning.{none_yet, first_more}
 use Rattle.vc_actor.proofs.Carrying.{few_nodes}
 use Rattle.vc_actor.proofs.Gathering.{stands_at}

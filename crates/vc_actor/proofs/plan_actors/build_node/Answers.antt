@@ -11,7 +11,7 @@ use Rattle.vc_vcp.specs.State.{State, limit_of}
 use Rattle.vc_accepted.specs.Given.{ends_of_node}
 use Rattle.vc_accepted.proofs.Giving.{given_small, given_distinct}
 use Rattle.vc_accepted.specs.Begin.{numbers_inside}
-use Rattle.vc_actor.specs.Inside.{opened_inside}
+use Rattle.vc_actor.specs.Private.Inside.{opened_inside}
 use Rattle.vc_actor.proofs.Beginning.{begins}
 use Rattle.vc_actor.proofs.Carrying.{ends_are, few_channels}
 use Rattle.vc_actor.proofs.WithinLimits.{node_runs}

@@ -3,7 +3,7 @@ use borrow.Author.Count.{falls}
 use Rattle.std.proofs.Math.ListN.{replicate}
 use Rattle.std.proofs.lemmas.List.{length-replicate, take_all}
 use Rattle.vc_accepted.specs.Given.{first_on}
-use Rattle.vc_actor.specs.Begin.{empty_ways, on_link}
+use Rattle.vc_actor.specs.Private.Begin.{empty_ways, on_link}
 use Rattle.vc_actor.proofs.Carrying.{few_channels, none_carried, next_long, next_tells}
 use Rattle.vc_actor.proofs.Gathering.{stands_at}
 use Rattle.vc_actor.proofs.plan_actors.ways_of.Goals as goal

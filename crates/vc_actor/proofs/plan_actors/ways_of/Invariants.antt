@@ -1,6 +1,6 @@
 use Rattle.std.proofs.Common.{◌≡◌, ℕ, Bool, length, take}
 use Rattle.vc_accepted.specs.Given.{first_on}
-use Rattle.vc_actor.specs.Begin.{on_link}
+use Rattle.vc_actor.specs.Private.Begin.{on_link}
 use Rattle.vc_actor.proofs.plan_actors.ways_of.Given as goal
 
 abbrev pub invariant-loop-chan : goal.invariant-loop-chan

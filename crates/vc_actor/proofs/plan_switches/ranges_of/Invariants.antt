@@ -1,5 +1,5 @@
 use Rattle.std.proofs.Common.{◌≡◌, take}
-use Rattle.vc_actor.specs.Begin.{ranges_given}
+use Rattle.vc_actor.specs.Private.Begin.{ranges_given}
 use Rattle.vc_actor.proofs.plan_switches.ranges_of.Given as goal
 
 abbrev pub invariant-loop-range : goal.invariant-loop-range

@@ -6,7 +6,8 @@ use Rattle.vc_network.specs.Plan as network
 use Rattle.vc_network.specs.Views.{source_node, sink_node}
 use Rattle.vc_accepted.specs.NetworkOf.{network_of, home_in}
 use Rattle.vc_accepted.proofs.Listed.{made_at}
-use Rattle.vc_core.specs.Channels.{IsChannelOf, IsInfoOf, ends_at}
+use Rattle.vc_core.specs.Channels.{IsChannelOf, ends_at}
+use Rattle.vc_core.specs.Private.Channels.{IsInfoOf}
 use Rattle.vc_core.specs.declared.channels.ChannelInfo.{ChannelInfo}
 use Rattle.vc_core.proofs.channels.channels_of.Goals as goal
 

@@ -1,6 +1,6 @@
 use Rattle.std.proofs.Common.{sym, subst}
-use Rattle.vc_cycles.specs.Graph.{AreDependencies}
-use Rattle.vc_cycles.specs.Round.{AreRows}
+use Rattle.vc_cycles.specs.Private.Graph.{AreDependencies}
+use Rattle.vc_cycles.specs.Private.Round.{AreRows}
 use Rattle.vc_cycles.proofs.Cycling.{none_more, some_more, free}
 use Rattle.vc_cycles.proofs.Ranked.{rows_are}
 use Rattle.vc_cycles.proofs.cycle.find_cycle.Goals as goal

@@ -1,7 +1,7 @@
 use Rattle.std.proofs.Common.{ℕ, ◌<◌, IfNone, IfSome}
 use Rattle.vc_plan.specs.Dependencies.{IsCycle}
-use Rattle.vc_cycles.specs.Graph.{AreDependencies}
-use Rattle.vc_cycles.specs.Round.{IsAway}
+use Rattle.vc_cycles.specs.Private.Graph.{AreDependencies}
+use Rattle.vc_cycles.specs.Private.Round.{IsAway}
 use Rattle.vc_cycles.proofs.cycle.find_cycle.Given as goal
 
 abbrev pub invariant-loop-start : goal.invariant-loop-start

@@ -1,5 +1,5 @@
 use Rattle.std.proofs.Common.{◌≡◌, ℕ, [], length}
-use Rattle.vc_cycles.specs.Graph.{row}
+use Rattle.vc_cycles.specs.Private.Graph.{row}
 use Rattle.vc_cycles.proofs.graph.no_rows.Given as goal
 
 abbrev pub invariant-loop : goal.invariant-loop

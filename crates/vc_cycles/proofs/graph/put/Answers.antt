@@ -1,5 +1,5 @@
 use Rattle.std.proofs.Common.{sym, subst}
-use Rattle.vc_cycles.specs.Graph.{Gains}
+use Rattle.vc_cycles.specs.Private.Graph.{Gains}
 use Rattle.vc_cycles.proofs.Edges.{gains_insert}
 use Rattle.vc_cycles.proofs.graph.put.Goals as goal
 

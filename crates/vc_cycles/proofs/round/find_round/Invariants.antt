@@ -1,5 +1,5 @@
 use Rattle.std.proofs.Common.{◌-◌}
-use Rattle.vc_cycles.specs.Round.{Searched}
+use Rattle.vc_cycles.specs.Private.Round.{Searched}
 use Rattle.vc_cycles.proofs.round.find_round.Given as goal
 
 abbrev pub invariant-loop-at : goal.invariant-loop-at

@@ -2,7 +2,8 @@ use Rattle.std.proofs.Common.{◌≡◌, ◌∙◌, ◌∷◌, ◌++◌, [], Boo
 use Rattle.std.specs.Prelude.{ℕ}
 use Rattle.vc_process.specs.declared.process.Process.{Process}
 use Rattle.vc_process.specs.declared.value_kind.ValueKind.{ValueKind}
-use Rattle.vc_process.specs.InOrder.{number, number_branch, number_guard}
+use Rattle.vc_process.specs.InOrder.{number}
+use Rattle.vc_process.specs.Private.InOrder.{number_branch, number_guard}
 use Rattle.vc_process.specs.Limits.{given_kind}
 use Rattle.vc_process.specs.Numbering.{Numbered, branches_from, guards_from}
 use Rattle.vc_process.specs.Terms.{as_test, exp, given}

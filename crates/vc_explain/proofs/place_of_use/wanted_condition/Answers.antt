@@ -1,6 +1,6 @@
 use Rattle.std.proofs.Common.{◌∙◌, ◌∷◌, ◌++◌, [], map, ap, sym, refl}
 use Rattle.vc_process.specs.declared.process.Process.TheViews.{out-Branch}
-use Rattle.vc_process.specs.InOrder.{number_branch}
+use Rattle.vc_process.specs.Private.InOrder.{number_branch}
 use Rattle.vc_process.specs.Numbering.{NumberedBranch}
 use Rattle.vc_process.specs.Terms.{as_test}
 use Rattle.vc_process.specs.Usage.{in_test}

@@ -1,4 +1,4 @@
-use Rattle.vc_process.specs.InOrder.{number_branch}
+use Rattle.vc_process.specs.Private.InOrder.{number_branch}
 use Rattle.vc_explain.proofs.Own.{in_conditions}
 use Rattle.vc_explain.proofs.Sought.{Sought}
 use Rattle.vc_explain.proofs.place_of_use.wanted_condition.Given as goal

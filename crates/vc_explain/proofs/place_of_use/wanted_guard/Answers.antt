@@ -1,7 +1,7 @@
 use Rattle.std.proofs.Common.{◌∙◌, ◌∷◌, ◌++◌, [], Option, map, ap, sym, refl, slice_get}
 use Rattle.vc_process.specs.declared.process.Process.TheViews.{out-Guard}
 use Rattle.vc_process.specs.declared.value_kind.ValueKind.{ValueKind}
-use Rattle.vc_process.specs.InOrder.{number_guard}
+use Rattle.vc_process.specs.Private.InOrder.{number_guard}
 use Rattle.vc_process.specs.Numbering.{NumberedGuard}
 use Rattle.vc_process.specs.Terms.{as_test}
 use Rattle.vc_process.specs.Usage.{in_test}

@@ -1,4 +1,4 @@
-use Rattle.vc_process.specs.InOrder.{number_guard}
+use Rattle.vc_process.specs.Private.InOrder.{number_guard}
 use Rattle.vc_explain.proofs.Own.{in_inputs}
 use Rattle.vc_explain.proofs.Sought.{Sought}
 use Rattle.vc_explain.proofs.place_of_use.wanted_guard.Given as goal

@@ -1,7 +1,8 @@
 use Rattle.std.proofs.Common.{◌≡◌, ◌∙◌, ◌∷◌, ◌++◌, [], List, map, ap, sym, subst, refl}
 use Rattle.std.specs.Prelude.{ℕ}
 use Rattle.vc_process.specs.declared.process.Process.{Process}
-use Rattle.vc_process.specs.InOrder.{number, number_branch, number_guard}
+use Rattle.vc_process.specs.InOrder.{number}
+use Rattle.vc_process.specs.Private.InOrder.{number_branch, number_guard}
 use Rattle.vc_process.specs.Numbering.{NumberedBranch, NumberedGuard, branches_from, guards_from, parts_from}
 use Rattle.vc_process.proofs.Numbers.{number_branch_out, number_guard_out}
 use Rattle.vc_reader.specs.declared.path.Step.{Step}

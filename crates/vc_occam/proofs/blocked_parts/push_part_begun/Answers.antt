@@ -1,6 +1,7 @@
 use Rattle.std.proofs.Common.{◌<◌, Option, arith, length, ap}
 use Rattle.vc_occam.specs.Blocking.{blocked}
-use Rattle.vc_occam.specs.Frames.{View, part_rest, views, view}
+use Rattle.vc_occam.specs.Frames.{View, view}
+use Rattle.vc_occam.specs.Private.Frames.{part_rest, views}
 use Rattle.vc_occam.proofs.Blocks.{blocks_same}
 use Rattle.vc_occam.proofs.Frames.{resting_get, resting_none}
 use Rattle.vc_occam.proofs.Stepping.{get_view, none_view}

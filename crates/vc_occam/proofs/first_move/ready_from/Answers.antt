@@ -1,5 +1,5 @@
 use Rattle.std.proofs.Common.{◌∙◌, sym, ap}
-use Rattle.vc_occam.specs.Frames.{views}
+use Rattle.vc_occam.specs.Private.Frames.{views}
 use Rattle.vc_occam.specs.Moving.{from_site}
 use Rattle.vc_process.specs.Terms.{store}
 use Rattle.vc_occam.proofs.Gates.{gates_own}

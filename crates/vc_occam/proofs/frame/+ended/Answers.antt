@@ -2,7 +2,8 @@ use Rattle.std.proofs.Common.{◌≡◌, ℕ, ◌∙◌, ◌<◌, ◌-◌, lengt
 use Rattle.vc_occam.specs.declared.phase.Phase.TheVariants.{Waiting, Together, Ended}
 use Rattle.std.specs.Prelude.{slice_get}
 use Rattle.vc_occam.specs.declared.frame.Frame.TheViews.{out-Frame}
-use Rattle.vc_occam.specs.Frames.{View, is_done, is_last, part_done, views}
+use Rattle.vc_occam.specs.Frames.{View}
+use Rattle.vc_occam.specs.Private.Frames.{is_done, is_last, part_done, views}
 use Rattle.vc_occam.proofs.Ending.{besides_goes}
 use Rattle.vc_occam.proofs.Frames.{goes_else, length-views, rest_done, together_is, together_not, view_out}
 use Rattle.vc_occam.proofs.Stepping.{get_view, none_view}

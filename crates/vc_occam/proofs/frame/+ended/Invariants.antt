@@ -1,5 +1,6 @@
 use Rattle.std.proofs.Common.{◌≡◌, ◌+◌, ◌-◌, ◌*◌, drop, length, true}
-use Rattle.vc_occam.specs.Frames.{besides, is_done, views}
+use Rattle.vc_occam.specs.Frames.{besides}
+use Rattle.vc_occam.specs.Private.Frames.{is_done, views}
 use Rattle.vc_occam.proofs.frame.+ended.Given as goal
 
 abbrev pub invariant-all_ended-loop-behind : goal.invariant-all_ended-loop-behind

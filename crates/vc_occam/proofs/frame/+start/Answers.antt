@@ -1,7 +1,8 @@
 use Rattle.std.proofs.Common.{◌≡◌, ◌∙◌, ◌<◌, ap, sym, add-one, arith, length, rules, List}
 use Rattle.vc_occam.specs.declared.frame.Frame.TheViews.{the_lemmas, out-Frame}
 use Rattle.vc_occam.specs.declared.phase.Phase.{Phase}
-use Rattle.vc_occam.specs.Frames.{View, views, plan_at, rest_at, begun_at, begun_parts, begun_phase, begun_to}
+use Rattle.vc_occam.specs.Frames.{View, plan_at, rest_at}
+use Rattle.vc_occam.specs.Private.Frames.{views, begun_at, begun_parts, begun_phase, begun_to}
 use Rattle.vc_occam.proofs.Beginning.{start_views}
 use Rattle.vc_occam.proofs.Besides.{begun_more, begun_whole}
 use Rattle.vc_occam.proofs.Frames.{view_roll, view_out, frame_begun, parts_len}

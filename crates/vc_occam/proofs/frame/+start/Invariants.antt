@@ -1,5 +1,5 @@
 use Rattle.std.proofs.Common.{◌≡◌}
-use Rattle.vc_occam.specs.Frames.{begun_to, views}
+use Rattle.vc_occam.specs.Private.Frames.{begun_to, views}
 use Rattle.vc_occam.proofs.frame.+start.Given as goal
 
 abbrev pub invariant-start_all-loop-place : goal.invariant-start_all-loop-place

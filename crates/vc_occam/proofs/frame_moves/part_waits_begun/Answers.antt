@@ -1,5 +1,6 @@
 use Rattle.std.proofs.Common.{◌∙◌, ◌<◌, Option, arith, length, sym, ap}
-use Rattle.vc_occam.specs.Frames.{View, first_waits, part_waits, views, view}
+use Rattle.vc_occam.specs.Frames.{View, view}
+use Rattle.vc_occam.specs.Private.Frames.{first_waits, part_waits, views}
 use Rattle.vc_occam.proofs.Frames.{resting_get, resting_none}
 use Rattle.vc_occam.proofs.Stepping.{get_view, none_view}
 use Rattle.vc_occam.proofs.frame_moves.part_waits_begun.Goals as goal

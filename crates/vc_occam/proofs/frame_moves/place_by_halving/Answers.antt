@@ -2,8 +2,10 @@ use Rattle.std.proofs.Common.{◌∙◌, ap, subst, sym, rules, List}
 use Rattle.std.specs.Prelude.{nat_le}
 use Rattle.std.proofs.lemmas.List.Sorted.{IsPartitionPoint-from_clause, IsPartitionedBy-leb}
 use Rattle.vc_occam.specs.declared.frame.Frame.{Frame}
-use Rattle.vc_occam.specs.Frames.{place_with, plans_of, view, views}
-use Rattle.vc_occam.specs.Sites.{PartsInPreorder, site}
+use Rattle.vc_occam.specs.Private.Frames.{place_with, views}
+use Rattle.vc_occam.specs.Frames.{plans_of, view}
+use Rattle.vc_occam.specs.Private.Sites.{PartsInPreorder}
+use Rattle.vc_occam.specs.Sites.{site}
 use Rattle.vc_occam.proofs.Places.{frame_site, halved, sites_rise}
 use Rattle.vc_occam.proofs.frame_moves.place_by_halving.Goals as goal
 

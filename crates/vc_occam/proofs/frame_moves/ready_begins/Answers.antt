@@ -1,4 +1,4 @@
-use Rattle.vc_occam.specs.Frames.{views}
+use Rattle.vc_occam.specs.Private.Frames.{views}
 use Rattle.vc_process.specs.Terms.{store}
 use Rattle.vc_occam.proofs.Gates.{gates_own, has_same}
 use Rattle.vc_occam.proofs.frame_moves.ready_begins.Goals as goal

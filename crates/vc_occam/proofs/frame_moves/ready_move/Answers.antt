@@ -2,7 +2,8 @@ use Rattle.std.proofs.Common.{◌≡◌, ◌∙◌, ap, false, refl, rules}
 use Rattle.std.specs.Prelude.{vec_len, ◌==◌}
 use Rattle.vc_occam.specs.declared.kind.Kind.{Kind}
 use Rattle.vc_occam.specs.First.{own}
-use Rattle.vc_occam.specs.Frames.{plan_at, views}
+use Rattle.vc_occam.specs.Frames.{plan_at}
+use Rattle.vc_occam.specs.Private.Frames.{views}
 use Rattle.vc_occam.specs.Remains.{Fresh}
 use Rattle.vc_process.specs.Terms.{store}
 use Rattle.vc_occam.proofs.Frames.{par_waits, seq_waits, some_left}

@@ -1,4 +1,4 @@
-use Rattle.vc_occam.specs.Frames.{views}
+use Rattle.vc_occam.specs.Private.Frames.{views}
 use Rattle.vc_occam.proofs.Beginning.{if_begins}
 use Rattle.vc_occam.proofs.frame_moves.ready_step.Goals as goal
 

@@ -4,12 +4,14 @@ use Rattle.vc_process.specs.declared.process.Branch.{Branch}
 use Rattle.vc_process.specs.declared.process.Guard.{Guard}
 use Rattle.vc_process.specs.declared.process.Process.{Process}
 use Rattle.vc_process.specs.declared.process.Process.TheViews.{the_lemmas}
-use Rattle.vc_process.specs.InOrder.{number, number_branch, number_guard}
-use Rattle.vc_occam.specs.Frames.{View, view, views}
+use Rattle.vc_process.specs.InOrder.{number}
+use Rattle.vc_process.specs.Private.InOrder.{number_branch, number_guard}
+use Rattle.vc_occam.specs.Frames.{View, view}
+use Rattle.vc_occam.specs.Private.Frames.{views}
 use Rattle.vc_process.specs.Numbering.{NumberedBranch, NumberedGuard, branch_sites, guard_sites, part_sites}
 use Rattle.vc_occam.specs.Remains.{Fresh}
 use Rattle.vc_process.specs.Syntax.{Proc}
-use Rattle.vc_occam.specs.Wholes.{whole_from}
+use Rattle.vc_occam.specs.Private.Wholes.{whole_from}
 use Rattle.vc_occam.proofs.Making.{alt_next, alt_whole, branch_fits, branch_made, branches_end, count_next, count_whole, few_inputs, guard_fits, guard_made, guards_end, if_next, if_whole, par_next, par_whole, part_fits, part_made, parts_end, seq_next, seq_whole, site_fits, views_push, while_next, while_whole}
 use Rattle.vc_process.proofs.Numbers.{number_branch_out, number_guard_out}
 use Rattle.vc_process.proofs.Reaching.{drop_at}

@@ -1,8 +1,9 @@
 use Rattle.std.proofs.Common.{◌≡◌, ◌+◌, ◌++◌, drop, map}
-use Rattle.vc_occam.specs.Frames.{views}
-use Rattle.vc_process.specs.InOrder.{number, number_branch, number_guard}
+use Rattle.vc_occam.specs.Private.Frames.{views}
+use Rattle.vc_process.specs.InOrder.{number}
+use Rattle.vc_process.specs.Private.InOrder.{number_branch, number_guard}
 use Rattle.vc_process.specs.Numbering.{branch_sites, guard_sites, part_sites}
-use Rattle.vc_occam.specs.Wholes.{branch_wholes_from, guard_wholes_from, wholes_from}
+use Rattle.vc_occam.specs.Private.Wholes.{branch_wholes_from, guard_wholes_from, wholes_from}
 use Rattle.vc_occam.proofs.frame_tree.+framing.Given as goal
 
 abbrev pub invariant-frames_of-loop-part : goal.invariant-frames_of-loop-part

@@ -5,7 +5,7 @@ use Rattle.vc_process.specs.Syntax.{Assign, Output, Proc}
 use Rattle.vc_process.specs.Terms.{given}
 use Rattle.vc_occam.specs.Frames.{View}
 use Rattle.vc_occam.specs.Remains.{Fresh}
-use Rattle.vc_occam.specs.Wholes.{whole_from}
+use Rattle.vc_occam.specs.Private.Wholes.{whole_from}
 use Rattle.vc_process.proofs.Numbers.{number_receive, number_send, number_set, number_skip, number_stop, number_stopch}
 use Rattle.vc_occam.proofs.frame_tree.frame_alone.Goals as goal
 

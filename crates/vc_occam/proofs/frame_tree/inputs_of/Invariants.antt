@@ -1,7 +1,7 @@
 use Rattle.std.proofs.Common.{◌≡◌, ◌++◌, drop, map}
 use Rattle.vc_occam.specs.Gates.{gate}
-use Rattle.vc_process.specs.InOrder.{number_guard}
-use Rattle.vc_occam.specs.Wholes.{gates}
+use Rattle.vc_process.specs.Private.InOrder.{number_guard}
+use Rattle.vc_occam.specs.Private.Wholes.{gates}
 use Rattle.vc_occam.proofs.frame_tree.inputs_of.Given as goal
 
 abbrev pub invariant-loop-guard : goal.invariant-loop-guard

@@ -3,8 +3,9 @@ use Rattle.std.specs.Prelude.{slice_get}
 use Rattle.vc_occam.specs.declared.kind.Kind.{Kind}
 use Rattle.vc_occam.specs.declared.kind.Kind.TheVariants.{Seq}
 use Rattle.vc_occam.specs.declared.progress.Next.{Next}
-use Rattle.vc_occam.specs.Frames.{View, behind, follow_on, is_last, part_done, place_of, plans, rest_at, views}
-use Rattle.vc_occam.specs.Nexts.{seq_begun}
+use Rattle.vc_occam.specs.Frames.{View, behind, place_of, rest_at}
+use Rattle.vc_occam.specs.Private.Frames.{follow_on, is_last, part_done, plans, views}
+use Rattle.vc_occam.specs.Private.Nexts.{seq_begun}
 use Rattle.vc_occam.proofs.Stepping.{seq_rest, seq_plans}
 use Rattle.vc_occam.proofs.progress.after_part.Goals as goal
 

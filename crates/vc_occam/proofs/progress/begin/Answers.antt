@@ -1,6 +1,7 @@
 use Rattle.std.proofs.Common.{List, sym, subst}
 use Rattle.vc_process.specs.declared.datum.Datum.{Datum}
-use Rattle.vc_occam.specs.Frames.{Able, Did, plan_at, rest_at, views}
+use Rattle.vc_occam.specs.Private.Frames.{Able, Did, views}
+use Rattle.vc_occam.specs.Frames.{plan_at, rest_at}
 use Rattle.vc_occam.specs.Remains.{Fresh}
 use Rattle.vc_process.specs.Terms.{store}
 use Rattle.vc_occam.proofs.progress.begin.Goals as goal

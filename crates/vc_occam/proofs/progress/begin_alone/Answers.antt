@@ -2,7 +2,8 @@ use Rattle.std.proofs.Common.{◌≡◌, ◌∙◌, refl, sym, ap, subst, List, 
 use Rattle.vc_process.specs.declared.datum.Datum.{Datum}
 use Rattle.vc_occam.specs.declared.kind.Kind.{Kind}
 use Rattle.vc_occam.specs.declared.phase.Phase.TheVariants.{Ended, Stuck}
-use Rattle.vc_occam.specs.Frames.{assigned_at, plan_at}
+use Rattle.vc_occam.specs.Private.Frames.{assigned_at}
+use Rattle.vc_occam.specs.Frames.{plan_at}
 use Rattle.vc_occam.specs.Remains.{Fresh}
 use Rattle.vc_process.specs.Terms.{given, store}
 use Rattle.vc_process.specs.Values.{assigned_bytes, datum_of}

@@ -1,5 +1,5 @@
 use Rattle.std.proofs.Common.{◌∙◌, refl, sym, ap}
-use Rattle.vc_occam.specs.Frames.{plans, views}
+use Rattle.vc_occam.specs.Private.Frames.{plans, views}
 use Rattle.vc_occam.proofs.Gates.{choice_did, gate_plans, gate_variable, no_choice_did}
 use Rattle.vc_occam.proofs.progress.begin_choice.Goals as goal
 

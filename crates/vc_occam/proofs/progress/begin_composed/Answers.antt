@@ -2,7 +2,8 @@ use Rattle.std.proofs.Common.{◌∙◌, sym, ap, subst, List, map}
 use Rattle.vc_process.specs.declared.condition.Cond.{Cond}
 use Rattle.vc_occam.specs.declared.kind.Kind.{Kind}
 use Rattle.vc_occam.specs.declared.phase.Phase.TheVariants.{Stuck}
-use Rattle.vc_occam.specs.Frames.{Able, Did, chosen_from, plan_at, plans, rest_at, views}
+use Rattle.vc_occam.specs.Private.Frames.{Able, Did, chosen_from, plans, views}
+use Rattle.vc_occam.specs.Frames.{plan_at, rest_at}
 use Rattle.vc_occam.specs.Remains.{Fresh}
 use Rattle.vc_process.specs.Terms.{store, as_test}
 use Rattle.vc_occam.proofs.Beginning.{begun_plans, branch_did, fault_did, turn_plans}

@@ -1,8 +1,8 @@
 use Rattle.std.proofs.Common.{◌≡◌, ◌∙◌, ◌<◌, ◌^◌, ℤ, List, Some, ap, subst}
 use lib.Signed.{mag}
 use Rattle.vc_process.specs.declared.datum.Datum.{Datum}
-use Rattle.vc_occam.specs.Frames.{views}
-use Rattle.vc_occam.specs.Nexts.{count_phase}
+use Rattle.vc_occam.specs.Private.Frames.{views}
+use Rattle.vc_occam.specs.Private.Nexts.{count_phase}
 use Rattle.vc_process.specs.Terms.{exp, store}
 use Rattle.vc_process.specs.Values.{value_of}
 use Rattle.vc_occam.proofs.Frames.{some_left}

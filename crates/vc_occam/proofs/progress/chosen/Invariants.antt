@@ -1,5 +1,5 @@
 use Rattle.std.proofs.Common.{◌≡◌, map, drop}
-use Rattle.vc_occam.specs.Frames.{chosen_from}
+use Rattle.vc_occam.specs.Private.Frames.{chosen_from}
 use Rattle.vc_process.specs.Terms.{store, as_test}
 use Rattle.vc_occam.proofs.progress.chosen.Given as goal
 

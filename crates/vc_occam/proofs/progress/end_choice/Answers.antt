@@ -1,5 +1,5 @@
 use Rattle.std.proofs.Common.{◌∙◌, sym, ap, refl}
-use Rattle.vc_occam.specs.Frames.{plans, views}
+use Rattle.vc_occam.specs.Private.Frames.{plans, views}
 use Rattle.vc_occam.proofs.Gates.{gate_plans, gate_variable, message_did, no_message_did}
 use Rattle.vc_occam.proofs.progress.end_choice.Goals as goal
 

@@ -1,6 +1,7 @@
 use Rattle.std.proofs.Common.{◌∙◌, ◌<◌, Option, ap, arith, length, set, subst, sym}
 use Rattle.std.specs.Prelude.{slice_get}
-use Rattle.vc_occam.specs.Frames.{Able, Did, PartHasVariables, View, as_begun, part_done, part_rest, view, views}
+use Rattle.vc_occam.specs.Private.Frames.{Able, Did, PartHasVariables, part_done, part_rest, views}
+use Rattle.vc_occam.specs.Frames.{View, as_begun, view}
 use Rattle.vc_occam.specs.Remains.{Rest}
 use Rattle.vc_process.specs.Terms.{store}
 use Rattle.vc_occam.proofs.Frames.{resting_get, resting_none}

@@ -1,7 +1,8 @@
 use Rattle.std.proofs.Common.{sym, subst}
 use Rattle.vc_occam.specs.declared.progress.Next.{Next}
 use Rattle.vc_occam.specs.declared.phase.Phase.TheVariants.{Waiting, Chosen}
-use Rattle.vc_occam.specs.Frames.{Did, rest_at, views}
+use Rattle.vc_occam.specs.Private.Frames.{Did, views}
+use Rattle.vc_occam.specs.Frames.{rest_at}
 use Rattle.vc_process.specs.Terms.{store}
 use Rattle.vc_occam.proofs.Stepping.{phase_able, phase_did}
 use Rattle.vc_occam.proofs.progress.go_on.Goals as goal

@@ -1,5 +1,6 @@
 use Rattle.std.proofs.Common.{◌<◌, arith, length}
-use Rattle.vc_occam.specs.Frames.{view, views}
+use Rattle.vc_occam.specs.Frames.{view}
+use Rattle.vc_occam.specs.Private.Frames.{views}
 use Rattle.vc_occam.proofs.Frames.{resting_same}
 use Rattle.vc_occam.proofs.Stepping.{get_view}
 use Rattle.vc_occam.proofs.progress.part_has_begun.Goals as goal

@@ -1,5 +1,5 @@
 use Rattle.std.proofs.Common.{arith, ◌<◌, length}
-use Rattle.vc_occam.specs.Frames.{views}
+use Rattle.vc_occam.specs.Private.Frames.{views}
 use Rattle.vc_occam.proofs.Beginning.{start_views, begun_none}
 use Rattle.vc_occam.proofs.Frames.{parts_len}
 use Rattle.vc_occam.proofs.progress.start_at.Goals as goal

@@ -1,8 +1,8 @@
 use Rattle.std.proofs.Common.{◌∙◌, sym, ap, subst, length, Option}
 use Rattle.vc_process.specs.Terms.{store}
-use Rattle.vc_occam.specs.Frames.{views}
+use Rattle.vc_occam.specs.Private.Frames.{views}
 use Rattle.vc_occam.specs.Gates.{Gate}
-use Rattle.vc_occam.specs.Nexts.{GateHasVariable, gate_begun, gate_next, gate_store}
+use Rattle.vc_occam.specs.Private.Nexts.{GateHasVariable, gate_begun, gate_next, gate_store}
 use Rattle.vc_occam.proofs.Gates.{gate_at, no_gate}
 use Rattle.vc_occam.proofs.progress.take_guard.Goals as goal
 

@@ -4,8 +4,10 @@ use Rattle.vc_occam.specs.declared.moves.Move.{Move}
 use Rattle.vc_occam.specs.declared.moves.Move.TheVariants.{Offer}
 use Rattle.vc_occam.specs.declared.answer.Answer.TheVariants.{Nothing}
 use Rattle.vc_occam.specs.First.{own}
-use Rattle.vc_occam.specs.Frames.{Able, Did, view}
-use Rattle.vc_occam.specs.Moving.{HasMet, at, action_for, site_of}
+use Rattle.vc_occam.specs.Private.Frames.{Able, Did}
+use Rattle.vc_occam.specs.Frames.{view}
+use Rattle.vc_occam.specs.Private.Moving.{HasMet, at, action_for}
+use Rattle.vc_occam.specs.Moving.{site_of}
 use Rattle.vc_process.specs.Terms.{store}
 use Rattle.vc_occam.proofs.Made.{able}
 use Rattle.vc_occam.proofs.Meets.{able_finish, able_taking, as_partner, has_met, met_partner}

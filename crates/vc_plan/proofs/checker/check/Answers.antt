@@ -3,7 +3,7 @@ use Rattle.std.specs.Prelude.{IfOk, IfNone}
 use Rattle.vc_packets.specs.declared.memory.Memory.{Memory}
 use Rattle.vc_plan.specs.declared.check_refused.CheckRefused.{CheckRefused}
 use Rattle.vc_plan.specs.declared.plan.Plan.{Plan}
-use Rattle.vc_plan.specs.Check.{PassesUse}
+use Rattle.vc_plan.specs.Private.Check.{PassesUse}
 use Rattle.vc_plan.proofs.Refuting.{only_memory}
 use Rattle.vc_plan.proofs.checker.check.Goals as goal
 

@@ -1,5 +1,6 @@
 use Rattle.std.proofs.Common.{◌≡◌, suc, ◌-◌, nat_lt, ◌&&◌, ◌∙◌, true, map, sym, ap, refl}
-use Rattle.vc_process.specs.InOrder.{number, number_branch, number_guard}
+use Rattle.vc_process.specs.InOrder.{number}
+use Rattle.vc_process.specs.Private.InOrder.{number_branch, number_guard}
 use Rattle.vc_process.specs.Numbering.{Numbered, NumberedBranch, NumberedGuard}
 use Rattle.vc_process.specs.ProcessLimits.{depth_within}
 use Rattle.vc_process.proofs.Deep.{deeper, some_depth, all_parts, one_part, behind_part, parts_split, all_branches, one_branch, behind_branch, branches_split, all_guards, one_guard, behind_guard, guards_split}

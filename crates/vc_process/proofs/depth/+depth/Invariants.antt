@@ -1,4 +1,5 @@
-use Rattle.vc_process.specs.InOrder.{number, number_branch, number_guard}
+use Rattle.vc_process.specs.InOrder.{number}
+use Rattle.vc_process.specs.Private.InOrder.{number_branch, number_guard}
 use Rattle.vc_process.proofs.Deep.{all_parts, all_branches, all_guards}
 use Rattle.vc_process.proofs.Reaching.{Reaches}
 use Rattle.vc_process.proofs.depth.+depth.Given as goal

@@ -1,6 +1,6 @@
 use Rattle.std.proofs.Common.{◌≡◌, ◌∙◌, sym, ap, refl, ℕ, zero, suc, ◌+◌, ◌<◌, ◌≤◌, List, [], ◌∷◌, ◌++◌, map, take, length, get_or, append_assoc, arith}
 use Rattle.std.proofs.lemmas.List.{take_more, map-append}
-use Rattle.vc_process.specs.Usages.{by_part}
+use Rattle.vc_process.specs.Private.Usages.{by_part}
 use Rattle.vc_process.proofs.sharing.push_part.Goals as goal
 
 -- one more of those that are pushed

@@ -1,5 +1,5 @@
 use Rattle.std.proofs.Common.{◌≡◌, ◌++◌, map, take}
-use Rattle.vc_process.specs.Usages.{by_part}
+use Rattle.vc_process.specs.Private.Usages.{by_part}
 use Rattle.vc_process.proofs.sharing.push_part.Given as goal
 
 abbrev pub invariant-loop-usage : goal.invariant-loop-usage

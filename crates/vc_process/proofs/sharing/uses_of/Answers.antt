@@ -3,7 +3,7 @@ use Rattle.vc_process.specs.declared.process.Process.{Process}
 use Rattle.vc_process.specs.declared.used.PartUsage.{PartUsage}
 use Rattle.vc_process.specs.InOrder.{number}
 use Rattle.vc_process.specs.Numbering.{parts_from}
-use Rattle.vc_process.specs.Usages.{part_usages}
+use Rattle.vc_process.specs.Private.Usages.{part_usages}
 use Rattle.vc_process.proofs.Placed.{placed_next, placed_end}
 use Rattle.vc_process.proofs.sharing.uses_of.Goals as goal
 

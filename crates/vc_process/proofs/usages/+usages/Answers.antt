@@ -1,8 +1,9 @@
 use Rattle.std.proofs.Common.{◌≡◌, [], append_assoc, suc, ◌∷◌, ◌∙◌, sym, ◌++◌, map, ap, refl}
-use Rattle.vc_process.specs.InOrder.{number, number_branch, number_guard}
+use Rattle.vc_process.specs.InOrder.{number}
+use Rattle.vc_process.specs.Private.InOrder.{number_branch, number_guard}
 use Rattle.vc_process.specs.Numbering.{Numbered, NumberedBranch, NumberedGuard}
 use Rattle.vc_process.specs.Terms.{exp, as_test}
-use Rattle.vc_process.specs.Usages.{exp_usages, input_usages, test_usages, changing}
+use Rattle.vc_process.specs.Private.Usages.{exp_usages, input_usages, test_usages, changing}
 use Rattle.vc_process.specs.declared.used.Used.TheVariants as of
 use Rattle.vc_process.proofs.Numbers.{number_seq, number_par, number_if, number_while, number_count, number_alt, number_set, number_send, number_receive, number_stopch, otherwise, number_branch_out, number_guard_out}
 use Rattle.vc_process.proofs.Listed.{all_parts, one_part, behind_part, parts_join, all_branches, one_branch, behind_branch, branches_join, all_guards, one_guard, behind_guard, guards_join}

@@ -1,5 +1,6 @@
 use Rattle.std.proofs.Common.{◌+◌, ◌*◌}
-use Rattle.vc_process.specs.InOrder.{number, number_branch, number_guard}
+use Rattle.vc_process.specs.InOrder.{number}
+use Rattle.vc_process.specs.Private.InOrder.{number_branch, number_guard}
 use Rattle.vc_process.proofs.Listed.{all_parts, all_branches, all_guards}
 use Rattle.vc_process.proofs.Reaching.{Adds}
 use Rattle.vc_process.proofs.process.Process.TheLaws.{the_size}

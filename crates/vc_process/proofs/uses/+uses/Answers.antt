@@ -1,6 +1,7 @@
 use Rattle.std.proofs.Common.{◌≡◌, [], suc, ◌∙◌, ◌++◌, map, sym, ap, refl}
 use Rattle.vc_process.specs.ChannelUses.{channel_uses}
-use Rattle.vc_process.specs.InOrder.{number, number_branch, number_guard}
+use Rattle.vc_process.specs.InOrder.{number}
+use Rattle.vc_process.specs.Private.InOrder.{number_branch, number_guard}
 use Rattle.vc_process.specs.Numbering.{Numbered, NumberedBranch, NumberedGuard}
 use Rattle.vc_process.proofs.Using.{all_parts, one_part, behind_part, parts_join, all_branches, one_branch, behind_branch, branches_join, all_guards, one_guard, behind_guard, guards_join, all_alternatives, all_inputs, input_of, output_of}
 use Rattle.vc_process.proofs.Numbers.{number_seq, number_par, number_if, number_count, number_alt, number_send, number_receive, number_stopch, otherwise, number_branch_out, number_guard_out}

@@ -1,6 +1,6 @@
 use Rattle.std.proofs.Common.{◌∙◌, ◌++◌, [], ◌∷◌, map, sym, ap, refl}
 use Rattle.vc_process.specs.ChannelUses.{inputs_on}
-use Rattle.vc_process.specs.InOrder.{number_guard}
+use Rattle.vc_process.specs.Private.InOrder.{number_guard}
 use Rattle.vc_process.specs.Numbering.{NumberedGuard}
 use Rattle.vc_process.proofs.Using.{all_inputs, one_input, behind_input, inputs_join}
 use Rattle.vc_process.proofs.Numbers.{number_guard_out}

@@ -1,4 +1,4 @@
-use Rattle.vc_process.specs.InOrder.{number_guard}
+use Rattle.vc_process.specs.Private.InOrder.{number_guard}
 use Rattle.vc_process.proofs.Using.{all_inputs}
 use Rattle.vc_process.proofs.Reaching.{Adds}
 use Rattle.vc_process.proofs.uses.push_guards.Given as goal

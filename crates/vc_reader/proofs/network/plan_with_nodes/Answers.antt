@@ -7,7 +7,8 @@ use Rattle.vc_plan.specs.declared.switch_plan.SwitchPlan.{SwitchPlan}
 use Rattle.vc_reader.specs.declared.fault.Fault.{Fault}
 use Rattle.vc_reader.specs.declared.node.Head.{Head}
 use Rattle.vc_reader.specs.declared.word.Word.TheVariants as word
-use Rattle.vc_reader.specs.Reading.{◌>>=◌, Gives, list_field}
+use Rattle.vc_reader.specs.Reading.{◌>>=◌, list_field}
+use Rattle.vc_reader.specs.Private.Reading.{Gives}
 use Rattle.vc_reader.specs.Network.{read_switch, read_wire}
 use Rattle.vc_reader.specs.NetworkText.{plan_with_wires, plan_with_nodes}
 use Rattle.vc_reader.proofs.network.plan_with_nodes.Goals as goal

@@ -1,5 +1,6 @@
 use Rattle.std.proofs.Common.{◌≡◌, ◌∷◌, List, ◌⊎◌, inl, inr, Result, Err, ap}
-use Rattle.vc_reader.specs.Reading.{Fails, under}
+use Rattle.vc_reader.specs.Private.Reading.{Fails}
+use Rattle.vc_reader.specs.Reading.{under}
 use Rattle.vc_reader.specs.declared.fault.Fault.{Fault}
 use Rattle.vc_reader.specs.declared.fault.Stop.{Stop}
 use Rattle.vc_reader.specs.declared.fault.Stop.TheVariants as stop

@@ -1,4 +1,4 @@
-use Rattle.vc_stats.specs.Peaks.{AreZero}
+use Rattle.vc_stats.specs.Private.Peaks.{AreZero}
 use Rattle.vc_stats.proofs.peaks.zeros.Given as goal
 
 abbrev pub invariant-loop : goal.invariant-loop

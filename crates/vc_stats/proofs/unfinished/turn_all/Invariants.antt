@@ -1,7 +1,7 @@
 use Rattle.std.proofs.Common.{◌≡◌, take, length}
 use Rattle.vc_core.specs.State.{IsNetworkOf, shown, state_of}
 use Rattle.vc_plan.specs.declared.plan.Plan.{Plan}
-use Rattle.vc_stats.specs.Times.{AreTurned}
+use Rattle.vc_stats.specs.Private.Times.{AreTurned}
 use Rattle.vc_stats.proofs.unfinished.turn_all.Given as goal
 
 abbrev pub invariant-loop-chan : goal.invariant-loop-chan

@@ -1,5 +1,6 @@
 use Rattle.std.proofs.Common.{◌≡◌, ◌∙◌, sym, ap, arith}
-use Rattle.vc_switch.specs.Opening.{listed, deletes}
+use Rattle.vc_switch.specs.Private.Opening.{listed}
+use Rattle.vc_switch.specs.Opening.{deletes}
 use Rattle.vc_switch.proofs.Opened.{count_is}
 use Rattle.vc_switch.proofs.opening.deletions.Goals as goal
 

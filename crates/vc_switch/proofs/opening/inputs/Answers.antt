@@ -1,5 +1,5 @@
 use Rattle.std.proofs.Common.{◌≡◌, ◌∙◌, sym, ap, arith}
-use Rattle.vc_switch.specs.Opening.{listed, new_link_in}
+use Rattle.vc_switch.specs.Private.Opening.{listed, new_link_in}
 use Rattle.vc_switch.proofs.Opened.{count_is}
 use Rattle.vc_switch.proofs.opening.inputs.Goals as goal
 

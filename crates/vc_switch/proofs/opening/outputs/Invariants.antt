@@ -1,5 +1,5 @@
 use Rattle.std.proofs.Common.{◌≡◌}
-use Rattle.vc_switch.specs.Opening.{listed, new_link_out}
+use Rattle.vc_switch.specs.Private.Opening.{listed, new_link_out}
 use Rattle.vc_switch.proofs.opening.outputs.Given as goal
 
 abbrev pub invariant-loop-link : goal.invariant-loop-link

@@ -1,5 +1,6 @@
 use Rattle.std.proofs.Common.{◌≡◌}
-use Rattle.vc_switch.specs.Opening.{listed, range_given}
+use Rattle.vc_switch.specs.Private.Opening.{listed}
+use Rattle.vc_switch.specs.Opening.{range_given}
 use Rattle.vc_switch.proofs.opening.ranges.Given as goal
 
 abbrev pub invariant-loop-link : goal.invariant-loop-link

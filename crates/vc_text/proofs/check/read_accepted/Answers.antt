@@ -5,7 +5,8 @@ use Rattle.vc_plan.specs.declared.plan.Plan.{Plan as Network}
 use Rattle.vc_plan.specs.declared.check_refused.Refusal.{Refusal}
 use Rattle.vc_text.specs.Checking.{ReadsAccepted}
 use Rattle.vc_text.specs.declared.fault.RunFault.TheVariants.{Plan}
-use Rattle.vc_text.specs.Streams.{ReadsFile, ReadsPlan}
+use Rattle.vc_text.specs.Streams.{ReadsFile}
+use Rattle.vc_text.specs.Private.Streams.{ReadsPlan}
 use Rattle.vc_text.proofs.check.read_accepted.Goals as goal
 
 -- the plan that was read is accepted

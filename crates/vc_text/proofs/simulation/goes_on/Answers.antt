@@ -1,7 +1,7 @@
 use Rattle.std.proofs.Common.{◌≡◌, ◌<◌, ◌≤◌, sym, ◌∙◌, subst, inl, inr, arith, true}
 use Rattle.std.proofs.lemmas.Bool.{cases_lt}
 use Rattle.vc_core.specs.State.{state_of, IsNetworkOf}
-use Rattle.vc_core.specs.Turns.{Rests, GoesOn}
+use Rattle.vc_core.specs.Private.Turns.{Rests, GoesOn}
 use Rattle.vc_actor.specs.Turns.{actors}
 use Rattle.vc_core.proofs.Leaving.{few}
 use Rattle.vc_text.specs.Closing.{HasEvent}

@@ -1,7 +1,7 @@
 use Rattle.std.proofs.Common.{◌≡◌, ℕ, ◌<◌}
 use Rattle.vc_plan.specs.declared.plan.Plan.{Plan}
 use Rattle.vc_core.specs.State.{state_of, IsNetworkOf}
-use Rattle.vc_core.specs.Turns.{Rests}
+use Rattle.vc_core.specs.Private.Turns.{Rests}
 use Rattle.vc_text.proofs.simulation.goes_on.Given as goal
 
 abbrev pub invariant-loop-actor : goal.invariant-loop-actor

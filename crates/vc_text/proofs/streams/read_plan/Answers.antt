@@ -3,7 +3,8 @@ use Rattle.vc_plan.specs.declared.plan.Plan.{Plan as Network}
 use Rattle.vc_reader.specs.NetworkText.{Reads}
 use Rattle.vc_reader.specs.declared.refused.ReadRefused.{ReadRefused}
 use Rattle.vc_text.specs.declared.fault.RunFault.TheVariants.{Text}
-use Rattle.vc_text.specs.Streams.{IsAllOf, ReadsFile, ReadsPlan}
+use Rattle.vc_text.specs.Streams.{IsAllOf, ReadsFile}
+use Rattle.vc_text.specs.Private.Streams.{ReadsPlan}
 use Rattle.vc_text.proofs.streams.read_plan.Goals as goal
 
 -- the bytes that were read are the text

@@ -3,9 +3,9 @@ use Rattle.std.specs.List.{All}
 use Rattle.std.proofs.Math.ListN.{set}
 use Rattle.std.proofs.Math.Seq.{map-set_same}
 use Rattle.std.proofs.lemmas.List.Elements.{All-set}
-use Rattle.vc_threads.specs.Jobs.{IsFit}
-use Rattle.vc_threads.specs.Rings.{outs_of, ins_of, outs_in, ins_in}
-use Rattle.vc_threads.specs.Threads.{who}
+use Rattle.vc_threads.specs.Private.Jobs.{IsFit}
+use Rattle.vc_threads.specs.Private.Rings.{outs_of, ins_of, outs_in, ins_in}
+use Rattle.vc_threads.specs.Private.Threads.{who}
 use Rattle.vc_threads.specs.Works.{Out, In}
 use Rattle.vc_threads.proofs.Looking.{item_at}
 use Rattle.vc_threads.proofs.Ringed.{makes_ring}

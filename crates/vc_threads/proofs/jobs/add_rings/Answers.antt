@@ -4,7 +4,7 @@ use Rattle.vc_core.proofs.Leaving.{few}
 use Rattle.vc_plan.specs.declared.port.Port.{Port}
 use Rattle.vc_plan.specs.declared.port.Spot.TheVariants.{Node}
 use Rattle.vc_plan.specs.declared.port.Wire.{Wire}
-use Rattle.vc_threads.specs.Rings.{AddsRing, AreWired, CanAddRing}
+use Rattle.vc_threads.specs.Private.Rings.{AddsRing, AreWired, CanAddRing}
 use Rattle.vc_threads.proofs.Freeing.{count_kept, free_first, free_second}
 use Rattle.vc_threads.proofs.Ringed.{wired_more, wired_none}
 use Rattle.vc_threads.proofs.jobs.add_rings.Goals as goal

@@ -1,8 +1,8 @@
 use Rattle.std.proofs.Common.{◌≡◌, map}
 use Rattle.std.specs.List.{All}
-use Rattle.vc_threads.specs.Jobs.{IsFit}
-use Rattle.vc_threads.specs.Rings.{AreWired}
-use Rattle.vc_threads.specs.Threads.{who}
+use Rattle.vc_threads.specs.Private.Jobs.{IsFit}
+use Rattle.vc_threads.specs.Private.Rings.{AreWired}
+use Rattle.vc_threads.specs.Private.Threads.{who}
 use Rattle.vc_threads.proofs.jobs.add_rings.Given as goal
 
 abbrev pub invariant-loop-wire : goal.invariant-loop-wire

@@ -1,9 +1,9 @@
 use Rattle.std.proofs.Common.{◌≡◌, ◌+◌, ◌≤◌, ◌++◌, length, map}
 use Rattle.std.specs.List.{All, AllByRecursion}
-use Rattle.vc_threads.specs.Jobs.{IsFit}
-use Rattle.vc_threads.specs.Rings.{AreBare}
-use Rattle.vc_threads.specs.Threads.{AllKeep, AreNumbered, actor_in, who}
-use Rattle.vc_threads.specs.Works.{IsOfSomePlan}
+use Rattle.vc_threads.specs.Private.Jobs.{IsFit}
+use Rattle.vc_threads.specs.Private.Rings.{AreBare}
+use Rattle.vc_threads.specs.Private.Threads.{AllKeep, AreNumbered, actor_in, who}
+use Rattle.vc_threads.specs.Private.Works.{IsOfSomePlan}
 use Rattle.vc_threads.proofs.jobs.jobs_of.Given as goal
 
 abbrev pub invariant-loop-actor : goal.invariant-loop-actor

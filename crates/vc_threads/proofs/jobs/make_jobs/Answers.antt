@@ -3,8 +3,8 @@ use Rattle.std.proofs.lemmas.List.{length-map}
 use Rattle.std.proofs.lemmas.Option.{slice_get-get_or}
 use Rattle.vc_accepted.specs.NetworkOf.{network_of}
 use Rattle.vc_core.proofs.Leaving.{few}
-use Rattle.vc_threads.specs.Threads.{AllKeep, actor_in}
-use Rattle.vc_threads.specs.Works.{IsOfSomePlan}
+use Rattle.vc_threads.specs.Private.Threads.{AllKeep, actor_in}
+use Rattle.vc_threads.specs.Private.Works.{IsOfSomePlan}
 use Rattle.vc_actor.specs.Begin.{AreFirst}
 use Rattle.vc_actor.specs.Turns.{actors}
 use Rattle.vc_threads.proofs.Fitting.{by_recursion, actors_kept}

@@ -1,6 +1,6 @@
 use Rattle.std.proofs.Common.{◌≡◌, List, [], ◌∷◌, ◌++◌, map, ap, sym, ◌∙◌, append_assoc}
 use Rattle.std.proofs.lemmas.List.{map-append}
-use Rattle.vc_threads.specs.Order.{actor_left, outs_left, ins_left}
+use Rattle.vc_threads.specs.Private.Order.{actor_left, outs_left, ins_left}
 use Rattle.vc_threads.proofs.order.all_parts.Goals as goal
 
 -- what is read of one item more joins what was read of those before it

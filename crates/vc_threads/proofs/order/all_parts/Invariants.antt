@@ -1,5 +1,5 @@
 use Rattle.std.proofs.Common.{◌≡◌, ◌++◌, map}
-use Rattle.vc_threads.specs.Order.{actor_left, outs_left, ins_left}
+use Rattle.vc_threads.specs.Private.Order.{actor_left, outs_left, ins_left}
 use Rattle.vc_threads.proofs.order.all_parts.Given as goal
 
 abbrev pub invariant-loop-run : goal.invariant-loop-run

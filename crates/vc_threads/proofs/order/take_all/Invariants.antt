@@ -1,5 +1,6 @@
 use Rattle.std.proofs.Common.{◌≡◌, ◌*◌, length}
-use Rattle.vc_threads.specs.Order.{EndsTaken, LeftOn, OnWays}
+use Rattle.vc_threads.specs.Private.Order.{EndsTaken, LeftOn}
+use Rattle.vc_threads.specs.Order.{OnWays}
 use Rattle.vc_threads.specs.Rings.{IsOnWire}
 use Rattle.vc_threads.proofs.order.take_all.Given as goal
 

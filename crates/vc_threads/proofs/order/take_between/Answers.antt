@@ -1,5 +1,5 @@
 use Rattle.std.proofs.Common.{◌≡◌, ◌<◌, length, sym, subst, ◌∙◌}
-use Rattle.vc_threads.specs.Order.{AtLinks, HasEnd, IsLeft, TakenBy}
+use Rattle.vc_threads.specs.Private.Order.{AtLinks, HasEnd, IsLeft, TakenBy}
 use Rattle.vc_threads.specs.Wires.{OutLooked}
 use Rattle.vc_threads.specs.Works.{Out, In}
 use Rattle.vc_threads.proofs.Looking.{found, one_end, taken_none}

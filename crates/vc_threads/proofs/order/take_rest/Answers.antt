@@ -1,6 +1,6 @@
 use Rattle.std.proofs.Common.{◌≡◌, ◌++◌, map, refl, ap, sym, ◌∙◌}
 use Rattle.rtrb.specs.Ring.{known_items}
-use Rattle.vc_threads.specs.Order.{IsLeft}
+use Rattle.vc_threads.specs.Private.Order.{IsLeft}
 use Rattle.vc_threads.specs.Stamps.{item_of}
 use Rattle.vc_threads.proofs.Looks.{consumer_then}
 use Rattle.vc_threads.proofs.Outcomes.{if_ok_map}

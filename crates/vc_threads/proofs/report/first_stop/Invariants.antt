@@ -1,4 +1,5 @@
-use Rattle.vc_threads.specs.Closing.{NoneStopped, stop_at}
+use Rattle.vc_threads.specs.Closing.{NoneStopped}
+use Rattle.vc_threads.specs.Private.Closing.{stop_at}
 use Rattle.vc_threads.proofs.report.first_stop.Given as goal
 
 abbrev pub invariant-loop-k : goal.invariant-loop-k

@@ -2,7 +2,8 @@ use Rattle.std.proofs.Common.{rules, ◌≡◌, ℕ, [], ◌∷◌, ◌++◌, So
 use denote.Param.Send.{sendable}
 use Rattle.std.specs.List.{AllZip}
 use Rattle.std.proofs.lemmas.List.Elements.{All-pop}
-use Rattle.vc_threads.specs.Jobs.{IsFit, Ran}
+use Rattle.vc_threads.specs.Private.Jobs.{IsFit}
+use Rattle.vc_threads.specs.Jobs.{Ran}
 use Rattle.vc_threads.specs.declared.run.ActorRun.{ActorRun}
 use Rattle.vc_threads.proofs.Sent.{run_send}
 use Rattle.vc_threads.proofs.Zips.{zip_push}

@@ -11,11 +11,14 @@ use Rattle.vc_actor.specs.Turns.{actors}
 use Rattle.vc_core.specs.declared.event.Event.{Event}
 use Rattle.vc_plan.specs.declared.plan.Plan.{Plan}
 use Rattle.vc_tokens.specs.Spelt.{tokens}
-use Rattle.vc_threads.specs.Closing.{AreInOrder, ClosesBy, stop_at, stop_in}
-use Rattle.vc_threads.specs.Jobs.{IsFit, Ran}
+use Rattle.vc_threads.specs.Private.Closing.{AreInOrder, stop_at, stop_in}
+use Rattle.vc_threads.specs.Closing.{ClosesBy}
+use Rattle.vc_threads.specs.Private.Jobs.{IsFit}
+use Rattle.vc_threads.specs.Jobs.{Ran}
 use Rattle.vc_threads.specs.Merged.{event_of, numbered}
-use Rattle.vc_threads.specs.Order.{actor_left, MeetAt, LeftOn, OnWires, OnWays}
-use Rattle.vc_threads.specs.Threads.{AllKeep, AreNumbered, actor_in, who}
+use Rattle.vc_threads.specs.Private.Order.{actor_left, MeetAt, LeftOn, OnWires}
+use Rattle.vc_threads.specs.Order.{OnWays}
+use Rattle.vc_threads.specs.Private.Threads.{AllKeep, AreNumbered, actor_in, who}
 use Rattle.vc_threads.specs.declared.spawn.Job.{Job}
 use Rattle.vc_threads.specs.declared.run.ActorRun.{ActorRun}
 use Rattle.vc_threads.proofs.Closings.{not_done}

@@ -2,7 +2,7 @@ use Rattle.std.proofs.Common.{◌≡◌, ◌<◌, refl, sym, ◌∙◌, subst, a
 use Rattle.std.specs.List.{All}
 use Rattle.vc_actor.specs.OfPlan.{IsActorOf}
 use Rattle.vc_threads.specs.Wires.{Distinct, out_links, in_links}
-use Rattle.vc_threads.specs.Works.{worker_state}
+use Rattle.vc_threads.specs.Private.Works.{worker_state}
 use Rattle.vc_threads.specs.declared.run.Stop.TheVariants.{Turns, Gate, Clock}
 use Rattle.vc_threads.proofs.Goings.{uses_zero, uses_then, low_kept, actor_kept, stays_same, has_run}
 use Rattle.vc_threads.proofs.work.run_job.Goals as goal

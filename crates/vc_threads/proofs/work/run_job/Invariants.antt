@@ -2,7 +2,7 @@ use Rattle.std.proofs.Common.{ℕ, IfSome}
 use Rattle.vc_actor.specs.OfPlan.{IsActorOf}
 use Rattle.vc_network.specs.Plan.{Plan}
 use Rattle.vc_threads.specs.Runs.{HasNoStep}
-use Rattle.vc_threads.specs.Works.{SameLinks, Uses, worker_state}
+use Rattle.vc_threads.specs.Private.Works.{SameLinks, Uses, worker_state}
 use Rattle.vc_threads.proofs.work.run_job.Given as goal
 
 -- so far each turn was used, and the ends are of the same links; and where the actor is known to have no step of its own, it has none

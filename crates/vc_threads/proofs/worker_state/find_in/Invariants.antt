@@ -1,6 +1,6 @@
 use Rattle.std.specs.List.{AllZip}
 use Rattle.vc_threads.specs.Wires.{InLooked}
-use Rattle.vc_threads.specs.Least.{IsFound, IsLeast}
+use Rattle.vc_threads.specs.Private.Least.{IsFound, IsLeast}
 use Rattle.vc_threads.proofs.worker_state.find_in.Given as goal
 
 abbrev pub invariant-loop-k : goal.invariant-loop-k

@@ -1,7 +1,7 @@
 use Rattle.std.proofs.Common.{Some, [], ap, ◌∙◌}
 use Rattle.vc_actor.specs.declared.act.Act.TheVariants as act
 use Rattle.vc_trace.specs.EventText.{spaced}
-use Rattle.vc_trace.specs.Verbs.{verb_word}
+use Rattle.vc_trace.specs.Private.Verbs.{verb_word}
 use Rattle.vc_trace.specs.declared.verb.Verb.TheVariants.{Proc, Take, Put, Route, Fct, Pass}
 use Rattle.vc_trace.proofs.Found.{mapped, neither, only}
 use Rattle.vc_trace.proofs.Verbs.{act_begins, fct_only, pass_only, proc_only, put_only, route_only, take_only, verb_of, word_of, words_of}

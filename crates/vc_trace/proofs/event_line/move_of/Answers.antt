@@ -1,7 +1,7 @@
 use Rattle.std.proofs.Common.{ℕ, Some, [], ap, ◌∙◌}
 use Rattle.vc_occam.specs.declared.moves.Move.TheVariants as move
 use Rattle.vc_trace.specs.EventText.{spaced}
-use Rattle.vc_trace.specs.Verbs.{move_word}
+use Rattle.vc_trace.specs.Private.Verbs.{move_word}
 use Rattle.vc_trace.specs.declared.move_verb.MoveVerb.TheVariants.{Offer, Want, Choose, Stopch, Inner, Quiet}
 use Rattle.vc_trace.proofs.Found.{neither, only}
 use Rattle.vc_trace.proofs.Verbs.{choose_only, inner_only, move_begins, offer_only, quiet_only, stopch_only, verb_of_move, want_only, word_of_move, words_of_move}

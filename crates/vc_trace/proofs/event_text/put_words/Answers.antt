@@ -1,4 +1,4 @@
-use Rattle.vc_trace.specs.EventText.{spaced_word}
+use Rattle.vc_trace.specs.Private.EventText.{spaced_word}
 use Rattle.vc_trace.proofs.Passing.{any_err, fails_there, passes_more}
 use Rattle.vc_trace.proofs.event_text.put_words.Goals as goal
 

@@ -3,7 +3,7 @@ use Rattle.std.specs.List.{starts_with}
 use Rattle.std.proofs.Math.Dec.{eqb}
 use Rattle.vc_core.specs.State.{state_of}
 use Rattle.vc_trace.specs.Lines.{left}
-use Rattle.vc_trace.specs.Replay.{MakesLine}
+use Rattle.vc_trace.specs.Private.Replay.{MakesLine}
 use Rattle.vc_trace.proofs.Making.{begins, begins_not, ends, made_more, none_made, refuses}
 use Rattle.vc_trace.proofs.replay.make_lines.Goals as goal
 

@@ -1,5 +1,5 @@
 use Rattle.std.proofs.Common.{◌≡◌, ◌++◌, drop}
-use Rattle.vc_vcp.specs.Opening.{opened_inputs}
+use Rattle.vc_vcp.specs.Private.Opening.{opened_inputs}
 use Rattle.vc_vcp.proofs.opening.inputs.Given as goal
 
 abbrev pub invariant-loop-end : goal.invariant-loop-end

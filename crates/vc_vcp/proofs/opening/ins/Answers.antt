@@ -1,7 +1,7 @@
 use Rattle.std.proofs.Common.{◌≡◌, [], ◌∷◌, ◌++◌, ap, ◌∙◌, arith}
 use Rattle.std.proofs.Math.ListN.{replicate}
 use Rattle.std.proofs.lemmas.List.{replicate_more}
-use Rattle.vc_vcp.specs.Opening.{new_in}
+use Rattle.vc_vcp.specs.Private.Opening.{new_in}
 use Rattle.vc_vcp.proofs.opening.ins.Goals as goal
 
 pub loop-init : goal.loop-init

@@ -1,7 +1,8 @@
 use Rattle.std.proofs.Common.{◌≡◌, ◌++◌, [], drop, map}
 use Rattle.std.specs.Prelude.{codes}
 use Rattle.std.specs.List.{enumerate_from, flat_map}
-use Rattle.vc_waits.specs.Paths.{branch_paths, each_at, guard_paths, paths}
+use Rattle.vc_waits.specs.Private.Paths.{branch_paths, guard_paths}
+use Rattle.vc_waits.specs.Paths.{each_at, paths}
 use Rattle.vc_waits.proofs.paths.+paths.Given as goal
 
 abbrev pub invariant-push_parts-loop-k : goal.invariant-push_parts-loop-k

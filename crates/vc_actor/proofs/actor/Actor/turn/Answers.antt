@@ -1,7 +1,8 @@
 use Rattle.std.proofs.Common.{sym, subst}
 use Rattle.std.specs.Prelude.{IfSome}
 use Rattle.vc_actor.specs.OfPlan.{IsActorOf}
-use Rattle.vc_actor.specs.Turns.{FindsTurn, IsTold, RoomLets}
+use Rattle.vc_actor.specs.Turns.{FindsTurn, RoomLets}
+use Rattle.vc_actor.specs.Private.Turns.{IsTold}
 use Rattle.vc_actor.proofs.Turning.{turned, if_ok}
 use Rattle.vc_actor.proofs.actor.Actor.turn.Goals as goal
 

@@ -1,6 +1,6 @@
 use Rattle.std.proofs.Common.{◌≡◌, ◌<◌, ◌++◌, drop}
 use Rattle.std.specs.Prelude.{All}
-use Rattle.vc_actor.specs.Inside.{opened_inside}
+use Rattle.vc_actor.specs.Private.Inside.{opened_inside}
 use Rattle.vc_actor.proofs.inside.Inside.new.Given as goal
 
 abbrev pub invariant-loop-chan : goal.invariant-loop-chan

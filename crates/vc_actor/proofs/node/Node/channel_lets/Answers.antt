@@ -1,6 +1,6 @@
 use Rattle.std.proofs.Common.{◌↔◌, ◌∙◌, IsTrue, [], inl, inr, sym, subst}
 use Rattle.std.proofs.lemmas.Bool.{false≢true}
-use Rattle.vc_actor.specs.Able.{HalfCan}
+use Rattle.vc_actor.specs.Private.Able.{HalfCan}
 use Rattle.vc_actor.specs.MayMove.{AnswersMove}
 use Rattle.vc_actor.proofs.node.Node.channel_lets.Goals as goal
 

@@ -2,7 +2,7 @@ use Rattle.std.proofs.Common.{◌≡◌, ℕ, [], false, Some, IfSome, refl, sub
 use Rattle.vc_occam.specs.Runnings.{inner_channels, moves}
 use Rattle.vc_actor.specs.Acting.{NodeMay}
 use Rattle.vc_actor.specs.OfPlan.{IsNodeOf}
-use Rattle.vc_actor.specs.Turns.{FindsMove}
+use Rattle.vc_actor.specs.Private.Turns.{FindsMove}
 use Rattle.vc_actor.proofs.node_actor.NodeActor.found_move.Goals as goal
 
 pub let_move-requires : goal.let_move-requires

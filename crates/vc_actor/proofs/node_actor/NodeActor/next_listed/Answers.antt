@@ -1,6 +1,6 @@
 use Rattle.std.proofs.Common.{◌≡◌, ap, ◌∙◌, subst}
 use Rattle.vc_actor.specs.OfPlan.{IsNodeOf}
-use Rattle.vc_actor.specs.Turns.{FindsMove}
+use Rattle.vc_actor.specs.Private.Turns.{FindsMove}
 use Rattle.vc_actor.proofs.node_actor.NodeActor.next_listed.Goals.{then-not-self+in_ok-list_actions, else-not-self}
 use Rattle.vc_actor.proofs.node_actor.NodeActor.next_listed.Goals as goal
 

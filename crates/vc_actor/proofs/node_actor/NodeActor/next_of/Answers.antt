@@ -2,7 +2,8 @@ use Rattle.std.proofs.Common.{sym, subst}
 use Rattle.vc_actor.specs.Able.{NodeCan}
 use Rattle.vc_actor.specs.OfPlan.{IsNodeOf}
 use Rattle.vc_actor.specs.Shown.{OfNode}
-use Rattle.vc_actor.specs.Turns.{IsTurn, FindsAt, FindsOf}
+use Rattle.vc_actor.specs.Turns.{IsTurn, FindsOf}
+use Rattle.vc_actor.specs.Private.Turns.{FindsAt}
 use Rattle.vc_actor.specs.declared.act.Act.TheVariants as act
 use Rattle.vc_actor.proofs.Turning.{passes, puts, grants, moves, if_ok}
 use Rattle.vc_actor.proofs.node_actor.NodeActor.next_of.Goals as goal

@@ -1,6 +1,6 @@
 use Rattle.std.proofs.Common.{IfSome, Some, subst}
 use Rattle.vc_actor.specs.OfPlan.{IsNodeOf}
-use Rattle.vc_actor.specs.Turns.{FindsMove}
+use Rattle.vc_actor.specs.Private.Turns.{FindsMove}
 use Rattle.vc_actor.proofs.node_actor.NodeActor.only_step.Goals as goal
 
 pub returns-clause-finds : goal.returns-clause-finds

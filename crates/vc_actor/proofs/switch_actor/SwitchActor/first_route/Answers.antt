@@ -1,7 +1,7 @@
 use Rattle.std.proofs.Common.{◌<◌, ℕ, sym, subst, arith}
 use Rattle.vc_switch.specs.State.{IsSwitch}
 use Rattle.vc_actor.specs.Able.{SwitchCan}
-use Rattle.vc_actor.specs.Turns.{FindsRoute}
+use Rattle.vc_actor.specs.Private.Turns.{FindsRoute}
 use Rattle.vc_actor.specs.declared.act.Act.TheVariants.{Route}
 use Rattle.vc_actor.proofs.Masks.{not_both, gone_more, left_more}
 use Rattle.vc_actor.proofs.Switching.{within}

@@ -1,6 +1,7 @@
 use Rattle.std.proofs.Common.{◌<◌, refl, sym, subst, arith}
 use Rattle.vc_actor.specs.Shown.{OfSwitch}
-use Rattle.vc_actor.specs.Turns.{IsTurn, FindsAt}
+use Rattle.vc_actor.specs.Turns.{IsTurn}
+use Rattle.vc_actor.specs.Private.Turns.{FindsAt}
 use Rattle.vc_actor.specs.declared.act.Act.TheVariants.{Fct}
 use Rattle.vc_actor.proofs.Masks.{both_bits, bits_both, not_both}
 use Rattle.vc_actor.proofs.switch_actor.SwitchActor.next_grant.Goals as goal

@@ -1,7 +1,7 @@
 use Rattle.std.proofs.Common.{◌<◌, refl, sym, subst, arith}
 use Rattle.vc_switch.specs.State.{IsSwitch}
 use Rattle.vc_actor.specs.Able.{SwitchCan}
-use Rattle.vc_actor.specs.Turns.{FindsAt}
+use Rattle.vc_actor.specs.Private.Turns.{FindsAt}
 use Rattle.vc_actor.specs.declared.act.Act.TheVariants.{Pass}
 use Rattle.vc_actor.proofs.Masks.{not_both}
 use Rattle.vc_actor.proofs.Switching.{within}

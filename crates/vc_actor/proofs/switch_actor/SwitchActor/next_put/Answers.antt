@@ -6,7 +6,8 @@ use Rattle.vc_switch.specs.Seen.{seen}
 use Rattle.vc_switch.specs.State.{IsSwitch, plan_of}
 use Rattle.vc_actor.specs.Acting.{SwitchMay}
 use Rattle.vc_actor.specs.Shown.{OfSwitch}
-use Rattle.vc_actor.specs.Turns.{IsTurn, FindsAt}
+use Rattle.vc_actor.specs.Turns.{IsTurn}
+use Rattle.vc_actor.specs.Private.Turns.{FindsAt}
 use Rattle.vc_actor.specs.declared.act.Act.TheVariants.{Put}
 use Rattle.vc_actor.proofs.Masks.{both_bits, bits_both, not_both, gone_more, left_more}
 use Rattle.vc_actor.proofs.Switching.{may}

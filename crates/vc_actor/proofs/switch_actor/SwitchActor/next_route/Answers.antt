@@ -1,6 +1,6 @@
 use Rattle.std.proofs.Common.{sym, subst, arith}
 use Rattle.vc_switch.specs.State.{IsSwitch}
-use Rattle.vc_actor.specs.Turns.{FindsRoute}
+use Rattle.vc_actor.specs.Private.Turns.{FindsRoute}
 use Rattle.vc_actor.specs.declared.act.Act.TheVariants.{Route}
 use Rattle.vc_actor.proofs.Masks.{not_both}
 use Rattle.vc_actor.proofs.Switching.{within}

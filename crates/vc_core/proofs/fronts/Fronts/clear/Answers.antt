@@ -2,7 +2,8 @@ use Rattle.std.proofs.Common.{◌<◌, bit_and, ◌-◌, ◌*◌, ◌%◌, ◌^�
 use Rattle.std.proofs.lemmas.Nat.Bits.{bit_at_clear_other, bit_at_clear_same}
 use Rattle.std.proofs.lemmas.Option.{slice_get_read}
 use Rattle.std.specs.Int.{w64}
-use Rattle.vc_core.specs.Fronts.{AreAwake, Marked}
+use Rattle.vc_core.specs.Fronts.{AreAwake}
+use Rattle.vc_core.specs.Private.Fronts.{Marked}
 use Rattle.vc_core.proofs.Bits.{marked, marked_in, awake_cleared, awake_far, awake_fewer}
 use Rattle.vc_core.proofs.fronts.Fronts.clear.Goals.{else-left-eq0-via-then-left-eq0+else-actor-lt64, else-left-eq0-via-else-left-eq0}
 use Rattle.vc_core.proofs.fronts.Fronts.clear.Goals as goal

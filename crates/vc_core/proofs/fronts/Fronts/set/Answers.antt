@@ -1,6 +1,7 @@
 use Rattle.std.proofs.Common.{◌*◌, ◌%◌, ◌^◌, ◌<◌, bit_or, length, slice_get, slice_set, ◌≡◌, Some, refl, sym, subst, arith}
 use Rattle.std.proofs.lemmas.Option.{slice_get_read}
-use Rattle.vc_core.specs.Fronts.{AreAwake, Marked}
+use Rattle.vc_core.specs.Fronts.{AreAwake}
+use Rattle.vc_core.specs.Private.Fronts.{Marked}
 use Rattle.vc_core.proofs.Bits.{marked_set, awake_far, awake_set}
 use Rattle.vc_core.proofs.fronts.Fronts.set.Goals as goal
 

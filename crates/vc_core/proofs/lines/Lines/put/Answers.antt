@@ -1,6 +1,7 @@
 use Rattle.std.proofs.Common.{◌<◌, length, slice_get, refl, sym, ap, ◌∙◌, subst}
 use Rattle.std.proofs.lemmas.Option.{slice_get_read}
-use Rattle.vc_core.specs.Lined.{Lined, AreLined, with_way}
+use Rattle.vc_core.specs.Lined.{Lined, AreLined}
+use Rattle.vc_core.specs.Private.Lined.{with_way}
 use Rattle.vc_core.proofs.Happening.{written_back}
 use Rattle.vc_core.proofs.Lined.{woken, end_first, err_all}
 use Rattle.vc_core.proofs.lines.Lines.put.Goals as goal

@@ -2,7 +2,8 @@ use Rattle.std.proofs.Common.{◌≡◌, ◌<◌, length, slice_get, slice_set, 
 use Rattle.std.proofs.lemmas.Bool.{false≢true}
 use Rattle.std.proofs.lemmas.Option.{slice_get_read}
 use Rattle.vc_tokens.specs.Spelt.{token as spelt}
-use Rattle.vc_core.specs.Lined.{Lined, AreLined, TakesOff, with_way}
+use Rattle.vc_core.specs.Lined.{Lined, AreLined}
+use Rattle.vc_core.specs.Private.Lined.{TakesOff, with_way}
 use Rattle.vc_core.specs.Wired.{in_at, Comes}
 use Rattle.vc_core.proofs.Happening.{written_back}
 use Rattle.vc_core.proofs.Lined.{comes_no_more, comes_yet, in_few, no_some, none_comes, not_empty}

@@ -3,7 +3,8 @@ use Rattle.std.proofs.lemmas.List.{length-set}
 use Rattle.std.proofs.lemmas.Option.{slice_get_read}
 use Rattle.vc_tokens.specs.Tokens.{Token}
 use Rattle.vc_tokens.specs.Spelt.{tokens as all_spelt}
-use Rattle.vc_core.specs.Lined.{Lined, with_way}
+use Rattle.vc_core.specs.Lined.{Lined}
+use Rattle.vc_core.specs.Private.Lined.{with_way}
 use Rattle.vc_core.specs.Wired.{AreWaysAt}
 use Rattle.vc_core.proofs.Enabled.{has}
 use Rattle.vc_core.proofs.Laying.{none_yet, one_more, all_laid}

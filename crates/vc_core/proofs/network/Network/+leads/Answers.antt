@@ -6,7 +6,7 @@ use Rattle.vc_network.proofs.Wiring.{net_accepted}
 use Rattle.vc_accepted.specs.NetworkOf.{network_of, port_at}
 use Rattle.vc_accepted.specs.NetworkOf as to
 use Rattle.vc_accepted.proofs.Accepting.{accepted}
-use Rattle.vc_core.specs.Targets.{IsTarget, ComesTo}
+use Rattle.vc_core.specs.Private.Targets.{IsTarget, ComesTo}
 use Rattle.vc_core.specs.State.{state_of}
 use Rattle.vc_core.proofs.Following.{sought_there, no_hop, hop_for, some_hop}
 use Rattle.vc_core.proofs.Placing.{far_is, no_wire}

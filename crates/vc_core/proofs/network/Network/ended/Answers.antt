@@ -2,7 +2,7 @@ use Rattle.std.proofs.Common.{◌≡◌, ◌<◌, length, slice_get, Some, refl,
 use Rattle.std.proofs.lemmas.Bool.{cases_lt, false≢true}
 use Rattle.std.proofs.lemmas.Option.{slice_get_read, slice_get_within}
 use Rattle.vc_core.specs.State.{state_of}
-use Rattle.vc_actor.specs.Parts.{IsDone}
+use Rattle.vc_actor.specs.Private.Parts.{IsDone}
 use Rattle.vc_actor.proofs.Turning.{clash}
 use Rattle.vc_core.proofs.Turning.{ended, same_some}
 use Rattle.vc_core.proofs.network.Network.ended.Goals as goal

@@ -6,7 +6,7 @@ use Rattle.vc_packets.specs.declared.packet.Packet.{Packet}
 use Rattle.vc_plan.specs.declared.plan.Plan.{Plan}
 use Rattle.vc_accepted.specs.NetworkOf.{network_of}
 use Rattle.vc_core.specs.Channels.{ends_at}
-use Rattle.vc_core.specs.Targets.{IsOwned}
+use Rattle.vc_core.specs.Private.Targets.{IsOwned}
 use Rattle.vc_core.specs.State.{state_of, IsNetworkOf}
 use Rattle.vc_core.proofs.network.Network.has_its.Given as goal
 

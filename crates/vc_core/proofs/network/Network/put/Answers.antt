@@ -2,7 +2,7 @@ use Rattle.std.proofs.Common.{◌≡◌, ◌<◌, length, slice_get, slice_set, 
 use Rattle.std.proofs.lemmas.Option.{slice_get_read, slice_get_within}
 use Rattle.vc_vcp.proofs.Placed.{on_ok}
 use Rattle.vc_actor.specs.Acting.{MayAct}
-use Rattle.vc_core.specs.Lined.{with_way}
+use Rattle.vc_core.specs.Private.Lined.{with_way}
 use Rattle.vc_core.specs.State.{state_of, HasWay}
 use Rattle.vc_actor.specs.declared.act.Act.TheVariants as act
 use Rattle.vc_core.proofs.Happening.{on_err, placed, written_back}

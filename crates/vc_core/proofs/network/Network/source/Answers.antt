@@ -1,5 +1,5 @@
 use Rattle.std.proofs.Common.{◌≡◌, sym, ap, ◌∙◌, slice_get, Some, arith}
-use Rattle.vc_actor.specs.Parts.{node_at}
+use Rattle.vc_actor.specs.Private.Parts.{node_at}
 use Rattle.vc_core.proofs.Happening.{none_past}
 use Rattle.vc_core.proofs.network.Network.source.Goals as goal
 

@@ -1,7 +1,8 @@
 use Rattle.std.proofs.Common.{◌≡◌, ◌<◌, ◌≤◌, ℕ, List, length, Some, IfSome, sym, ◌∙◌, subst}
 use Rattle.std.proofs.lemmas.Option.{slice_get_past}
 use Rattle.vc_core.specs.State.{state_of, IsNetworkOf, MakesOne}
-use Rattle.vc_core.specs.Turns.{FindsEvent, FindsEventOf, IsRoom}
+use Rattle.vc_core.specs.Turns.{FindsEvent, FindsEventOf}
+use Rattle.vc_core.specs.Private.Turns.{IsRoom}
 use Rattle.vc_actor.specs.Shown.{Acting}
 use Rattle.vc_actor.specs.declared.act.ActKind.TheVariants as kind
 use Rattle.vc_core.proofs.Happening.{on_err}

@@ -5,7 +5,7 @@ use Rattle.vc_machine.specs.Seen.{read}
 use Rattle.vc_tokens.specs.Spelt.{token, tokens}
 use Rattle.vc_tokens.specs.declared.token.Token.{Token}
 use Rattle.vc_tokens.specs.declared.token.Token.TheVariants.{Byte}
-use Rattle.vc_core.specs.Targets.{HasRead, left}
+use Rattle.vc_core.specs.Private.Targets.{HasRead, left}
 use Rattle.vc_core.proofs.Finding.{through_more}
 use Rattle.vc_core.proofs.Replayed.{take_more, all_taken}
 use Rattle.vc_core.proofs.reader.Reader.through.Goals as goal

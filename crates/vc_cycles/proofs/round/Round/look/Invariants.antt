@@ -1,5 +1,5 @@
 use Rattle.std.proofs.Common.{◌≡◌, length}
-use Rattle.vc_cycles.specs.Round.{LooksAt}
+use Rattle.vc_cycles.specs.Private.Round.{LooksAt}
 use Rattle.vc_cycles.proofs.round.Round.look.Given as goal
 
 abbrev pub invariant-loop-port : goal.invariant-loop-port

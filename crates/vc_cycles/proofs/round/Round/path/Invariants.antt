@@ -1,5 +1,5 @@
 use Rattle.std.proofs.Common.{◌<◌, length}
-use Rattle.vc_cycles.specs.Round.{WhereClosed}
+use Rattle.vc_cycles.specs.Private.Round.{WhereClosed}
 use Rattle.vc_cycles.proofs.Rounding.{ChainFrom}
 use Rattle.vc_cycles.proofs.round.Round.path.Given as goal
 

@@ -1,7 +1,8 @@
 use Rattle.std.proofs.Common.{subst, Option, ℕ}
 use Rattle.std.specs.Prelude.{MatchOption}
 use Rattle.vc_occam.specs.declared.frame.Frame.TheViews.{out-Frame}
-use Rattle.vc_occam.specs.Frames.{BeginsAt, HasSiteIn, MovesAt, view, views}
+use Rattle.vc_occam.specs.Private.Frames.{BeginsAt, HasSiteIn, MovesAt, views}
+use Rattle.vc_occam.specs.Frames.{view}
 use Rattle.vc_occam.proofs.Found.{begins_within, moves_within, waits_within}
 use Rattle.vc_occam.proofs.frame.Frame.+find.Goals as goal
 

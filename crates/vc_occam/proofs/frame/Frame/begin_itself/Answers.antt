@@ -3,7 +3,8 @@ use Rattle.vc_occam.specs.declared.frame.Frame.TheViews.{the_lemmas, out-Frame}
 use Rattle.vc_occam.specs.declared.progress.Next.{Next}
 use Rattle.vc_occam.specs.declared.phase.Phase.{Phase}
 use Rattle.vc_occam.specs.declared.phase.Phase.TheVariants.{Ready}
-use Rattle.vc_occam.specs.Frames.{Able, Did, HasVariables, View, assigned_at, is_done, rest_at, views}
+use Rattle.vc_occam.specs.Private.Frames.{Able, Did, HasVariables, assigned_at, is_done, views}
+use Rattle.vc_occam.specs.Frames.{View, rest_at}
 use Rattle.vc_process.specs.Terms.{store}
 use Rattle.vc_occam.proofs.Frames.{view_roll, view_out}
 use Rattle.vc_occam.proofs.Stepping.{phase_able, phase_did, same_plan}

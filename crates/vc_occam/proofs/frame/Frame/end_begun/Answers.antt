@@ -1,6 +1,7 @@
 use Rattle.std.proofs.Common.{◌∙◌, ap, length, refl, subst, sym}
 use Rattle.vc_occam.specs.declared.frame.Frame.TheViews.{the_lemmas, out-Frame}
-use Rattle.vc_occam.specs.Frames.{Able, Did, HasVariables, View, as_begun, plan_at, rest_at, views}
+use Rattle.vc_occam.specs.Private.Frames.{Able, Did, HasVariables, views}
+use Rattle.vc_occam.specs.Frames.{View, as_begun, plan_at, rest_at}
 use Rattle.vc_occam.specs.Remains.{Rest}
 use Rattle.vc_process.specs.Terms.{store}
 use Rattle.vc_occam.proofs.Frames.{going_begun, none_begun, view_out, view_roll}

@@ -1,6 +1,7 @@
 use Rattle.std.proofs.Common.{◌∙◌, subst, length}
 use Rattle.vc_occam.specs.declared.frame.Frame.TheViews.{the_lemmas, out-Frame}
-use Rattle.vc_occam.specs.Frames.{Able, HasVariables, View, views}
+use Rattle.vc_occam.specs.Private.Frames.{Able, HasVariables, views}
+use Rattle.vc_occam.specs.Frames.{View}
 use Rattle.vc_process.specs.Terms.{store}
 use Rattle.vc_occam.proofs.Frames.{view_roll, view_out}
 use Rattle.vc_occam.proofs.Stepping.{same_plan}

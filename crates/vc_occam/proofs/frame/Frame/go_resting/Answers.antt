@@ -2,7 +2,8 @@ use Rattle.std.proofs.Common.{◌≡◌, ◌∙◌, List, refl, sym, ap, subst, 
 use Rattle.std.specs.Prelude.{slice_get}
 use Rattle.vc_occam.specs.declared.frame.Frame.TheViews.{the_lemmas, out-Frame, roll-Frame}
 use Rattle.vc_occam.specs.declared.phase.Phase.TheVariants.{Waiting}
-use Rattle.vc_occam.specs.Frames.{Able, Did, HasVariables, View, gone_on, part_rest, plan_at, plans, resting_at, view, views}
+use Rattle.vc_occam.specs.Private.Frames.{Able, Did, HasVariables, gone_on, part_rest, plans, views}
+use Rattle.vc_occam.specs.Frames.{View, plan_at, resting_at, view}
 use Rattle.vc_process.specs.Terms.{store}
 use Rattle.vc_occam.proofs.Frames.{view_roll, view_out}
 use Rattle.vc_occam.proofs.Stepping.{goes_undone, going_on, resting_able, resting_did, resting_never, same_plan, within_variables}

@@ -1,7 +1,8 @@
 use Rattle.std.proofs.Common.{◌∙◌, sym, ap}
 use Rattle.vc_occam.specs.declared.frame.Frame.TheViews.{out-Frame}
 use Rattle.vc_occam.specs.declared.kind.Kind.{Kind}
-use Rattle.vc_occam.specs.Frames.{View, as_begun, plan_at, views}
+use Rattle.vc_occam.specs.Frames.{View, as_begun, plan_at}
+use Rattle.vc_occam.specs.Private.Frames.{views}
 use Rattle.vc_occam.proofs.Frames.{rest_receiving, rest_sending, view_out}
 use Rattle.vc_occam.proofs.frame.Frame.has_begun.Goals as goal
 

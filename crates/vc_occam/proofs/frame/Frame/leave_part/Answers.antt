@@ -1,6 +1,6 @@
 use Rattle.std.proofs.Common.{◌∙◌, sym, ap}
 use Rattle.vc_occam.specs.declared.frame.Frame.TheViews.{the_lemmas, out-Frame}
-use Rattle.vc_occam.specs.Frames.{is_done, views}
+use Rattle.vc_occam.specs.Private.Frames.{is_done, views}
 use Rattle.vc_occam.proofs.Frames.{gone_done, view_roll, view_out}
 use Rattle.vc_occam.proofs.Stepping.{same_plan}
 use Rattle.vc_occam.proofs.frame.Frame.leave_part.Goals as goal

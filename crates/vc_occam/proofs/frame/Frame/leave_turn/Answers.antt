@@ -3,8 +3,9 @@ use Rattle.std.specs.Int.{w64}
 use Rattle.std.proofs.lemmas.Int.{to_z-of_z}
 use mir.Val.{SFits, to_z, of_z}
 use Rattle.vc_occam.specs.declared.frame.Frame.TheViews.{the_lemmas, out-Frame, roll-Frame}
-use Rattle.vc_occam.specs.Frames.{HasVariables, View, is_counted, plans, views}
-use Rattle.vc_occam.specs.Nexts.{turn_views}
+use Rattle.vc_occam.specs.Private.Frames.{HasVariables, is_counted, plans, views}
+use Rattle.vc_occam.specs.Frames.{View}
+use Rattle.vc_occam.specs.Private.Nexts.{turn_views}
 use Rattle.vc_occam.proofs.Frames.{view_roll, view_out}
 use Rattle.vc_occam.proofs.Stepping.{same_plan}
 use Rattle.vc_occam.proofs.Turns.{count_done_variable, turned_plans, turned, turns_over}

@@ -1,10 +1,11 @@
 use Rattle.std.proofs.Common.{◌≡◌, ◌∙◌, ap, refl, sym, subst}
 use Rattle.vc_occam.specs.declared.frame.Frame.TheViews.{out-Frame}
 use Rattle.vc_occam.specs.declared.phase.Phase.TheVariants as phase
-use Rattle.vc_occam.specs.Frames.{impossible, View, view, views}
+use Rattle.vc_occam.specs.Frames.{impossible, View, view}
+use Rattle.vc_occam.specs.Private.Frames.{views}
 use Rattle.vc_occam.specs.Remains.{Done, Rest, Stopped}
 use Rattle.vc_occam.specs.First.{own}
-use Rattle.vc_occam.specs.Sites.{InPreorder}
+use Rattle.vc_occam.specs.Private.Sites.{InPreorder}
 use Rattle.vc_occam.proofs.Frames.{awaiting_assigned, awaiting_output, awaiting_own, idle_assigned, idle_output, idle_own, is_awaiting, rest_apart, rest_ended, rest_idle, rest_stuck, resting_assigns, resting_nothing, resting_sends, turning_none, view_out}
 use Rattle.vc_occam.proofs.Found.{going_in, placed, ready_begins, same_nothing, still, together_in, turning_in}
 use Rattle.vc_occam.proofs.Stepping.{body_preorder, par_preorder, parts_preorder, within_preorder}

@@ -2,7 +2,8 @@ use Rattle.std.proofs.Common.{◌≡◌, ◌∙◌, ap, refl, subst, sym, ℕ, L
 use Rattle.vc_occam.specs.declared.frame.Frame.TheViews.{the_lemmas, out-Frame, roll-Frame}
 use Rattle.vc_occam.specs.declared.phase.Phase.{Phase}
 use Rattle.vc_occam.specs.declared.phase.Phase.TheVariants.{Resting}
-use Rattle.vc_occam.specs.Frames.{View, going_at, place_of, plan_at, rest_at, resting_at, views}
+use Rattle.vc_occam.specs.Frames.{View, going_at, place_of, plan_at, rest_at, resting_at}
+use Rattle.vc_occam.specs.Private.Frames.{views}
 use Rattle.vc_occam.specs.Remains.{Rest}
 use Rattle.vc_occam.proofs.Frames.{resting_goes, view_out, view_roll}
 use Rattle.vc_occam.proofs.frame.Frame.settle.Goals as goal

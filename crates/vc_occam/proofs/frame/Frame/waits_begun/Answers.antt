@@ -1,7 +1,8 @@
 use Rattle.std.proofs.Common.{◌∙◌, sym, ap}
 use Rattle.vc_occam.specs.declared.frame.Frame.TheViews.{out-Frame}
 use Rattle.vc_occam.specs.declared.kind.Kind.{Kind}
-use Rattle.vc_occam.specs.Frames.{View, as_begun, first_waits, plan_at, views}
+use Rattle.vc_occam.specs.Frames.{View, as_begun, plan_at}
+use Rattle.vc_occam.specs.Private.Frames.{first_waits, views}
 use Rattle.vc_process.specs.Syntax.{Proc}
 use Rattle.vc_occam.specs.Remains.{Rest}
 use Rattle.vc_occam.specs.States.{waiting}

@@ -1,5 +1,6 @@
 use Rattle.std.proofs.Common.{◌≡◌, map, drop}
-use Rattle.vc_occam.specs.Gates.{are_decided, gate}
+use Rattle.vc_occam.specs.Private.Gates.{are_decided}
+use Rattle.vc_occam.specs.Gates.{gate}
 use Rattle.vc_process.specs.Terms.{store}
 use Rattle.vc_occam.proofs.guards.GuardedInputs.are_decided.Given as goal
 

@@ -1,6 +1,7 @@
 use Rattle.std.proofs.Common.{◌↔◌, map, drop}
 use Rattle.std.specs.List.{Contains}
-use Rattle.vc_occam.specs.Gates.{gate, open_from}
+use Rattle.vc_occam.specs.Gates.{gate}
+use Rattle.vc_occam.specs.Private.Gates.{open_from}
 use Rattle.vc_process.specs.Terms.{store}
 use Rattle.vc_occam.proofs.guards.GuardedInputs.has_open.Given as goal
 

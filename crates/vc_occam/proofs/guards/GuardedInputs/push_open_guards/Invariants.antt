@@ -1,6 +1,6 @@
 use Rattle.std.proofs.Common.{◌≡◌, ◌++◌, map, drop}
 use Rattle.std.specs.List.{flat_map}
-use Rattle.vc_occam.specs.Blocking.{open_gate}
+use Rattle.vc_occam.specs.Private.Blocking.{open_gate}
 use Rattle.vc_occam.specs.Gates.{gate}
 use Rattle.vc_process.specs.Terms.{store}
 use Rattle.vc_occam.proofs.guards.GuardedInputs.push_open_guards.Given as goal

@@ -1,7 +1,9 @@
 use Rattle.std.proofs.Common.{sym, subst, ℕ}
 use Rattle.vc_occam.specs.declared.site_action.SiteAction.{SiteAction}
-use Rattle.vc_occam.specs.Frames.{Able, Did, view}
-use Rattle.vc_occam.specs.Moving.{site_of, action_for}
+use Rattle.vc_occam.specs.Private.Frames.{Able, Did}
+use Rattle.vc_occam.specs.Frames.{view}
+use Rattle.vc_occam.specs.Moving.{site_of}
+use Rattle.vc_occam.specs.Private.Moving.{action_for}
 use Rattle.vc_occam.specs.Runnings.{state, inner_channels}
 use Rattle.vc_occam.specs.States.{State}
 use Rattle.vc_process.specs.Terms.{store}

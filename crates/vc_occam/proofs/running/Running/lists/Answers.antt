@@ -3,7 +3,8 @@ use Rattle.std.specs.List.{Contains}
 use Rattle.vc_process.specs.declared.datum.Datum.{Datum}
 use Rattle.vc_occam.specs.declared.moves.Move.{Move}
 use Rattle.vc_occam.specs.First.{own, first_moves}
-use Rattle.vc_occam.specs.Frames.{is_outside, view}
+use Rattle.vc_occam.specs.Private.Frames.{is_outside}
+use Rattle.vc_occam.specs.Frames.{view}
 use Rattle.vc_occam.specs.Runnings.{state, inner_channels}
 use Rattle.vc_process.specs.Terms.{store}
 use Rattle.vc_process.specs.Usage.{among}

@@ -1,8 +1,10 @@
 use Rattle.std.proofs.Common.{sym, subst, ℕ, length}
-use Rattle.vc_occam.specs.Frames.{HasVariables, View}
+use Rattle.vc_occam.specs.Private.Frames.{HasVariables}
+use Rattle.vc_occam.specs.Frames.{View}
 use Rattle.vc_process.specs.Numbering.{written}
 use Rattle.vc_occam.specs.InUse.{UsesLawfully}
-use Rattle.vc_occam.specs.Sites.{InPreorder, OwnSites}
+use Rattle.vc_occam.specs.Private.Sites.{InPreorder}
+use Rattle.vc_occam.specs.Sites.{OwnSites}
 use Rattle.vc_occam.proofs.Keeping.{begins}
 use Rattle.vc_occam.proofs.Preorder.{at_first, in_preorder}
 use Rattle.vc_occam.proofs.Fitting.{fits_variables, kinds_length}

@@ -1,6 +1,7 @@
 use Rattle.std.proofs.Common.{sym, subst}
 use Rattle.vc_occam.specs.declared.site_action.SiteAction.{SiteAction}
-use Rattle.vc_occam.specs.Frames.{Able, Did, view}
+use Rattle.vc_occam.specs.Private.Frames.{Able, Did}
+use Rattle.vc_occam.specs.Frames.{view}
 use Rattle.vc_occam.specs.Runnings.{state}
 use Rattle.vc_occam.specs.States.{State}
 use Rattle.vc_process.specs.Terms.{store}

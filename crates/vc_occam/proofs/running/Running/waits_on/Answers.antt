@@ -1,5 +1,6 @@
 use Rattle.std.proofs.Common.{◌∙◌, sym, Some}
-use Rattle.vc_occam.specs.Frames.{view, waits_at}
+use Rattle.vc_occam.specs.Frames.{view}
+use Rattle.vc_occam.specs.Private.Frames.{waits_at}
 use Rattle.vc_occam.specs.States.{waiting}
 use Rattle.vc_occam.proofs.Acting.{found_waits}
 use Rattle.vc_occam.proofs.running.Running.waits_on.Goals as goal

@@ -1,7 +1,8 @@
 use Rattle.std.proofs.Common.{◌≡◌, ◌∙◌, ◌&&◌, Bool, true, map, sym, ap, refl}
-use Rattle.vc_process.specs.Asking.{asking, everywhere}
+use Rattle.vc_process.specs.Private.Asking.{asking, everywhere}
 use Rattle.vc_process.specs.declared.process.Process.TheOpen as layer
-use Rattle.vc_process.specs.InOrder.{number, number_branch, number_guard}
+use Rattle.vc_process.specs.InOrder.{number}
+use Rattle.vc_process.specs.Private.InOrder.{number_branch, number_guard}
 use Rattle.vc_process.specs.Numbering.{Numbered, numbered, NumberedBranch, NumberedGuard}
 use Rattle.vc_process.proofs.Everywhere.{of_seq, of_par, of_if, of_while, of_count, of_alt, not_itself, all_parts, one_part, behind_part, parts_split, all_branches, one_branch, behind_branch, branches_split, all_guards, one_guard, behind_guard, guards_split}
 use Rattle.vc_process.proofs.Numbers.{number_seq, number_par, number_while, number_count, number_if, number_alt, otherwise, number_branch_out, number_guard_out}

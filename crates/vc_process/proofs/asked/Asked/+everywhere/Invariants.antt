@@ -1,5 +1,6 @@
-use Rattle.vc_process.specs.Asking.{asking}
-use Rattle.vc_process.specs.InOrder.{number, number_branch, number_guard}
+use Rattle.vc_process.specs.Private.Asking.{asking}
+use Rattle.vc_process.specs.InOrder.{number}
+use Rattle.vc_process.specs.Private.InOrder.{number_branch, number_guard}
 use Rattle.vc_process.proofs.Everywhere.{all_parts, all_branches, all_guards}
 use Rattle.vc_process.proofs.Reaching.{Reaches}
 use Rattle.vc_process.proofs.asked.Asked.+everywhere.Given as goal

@@ -1,6 +1,6 @@
 use Rattle.std.proofs.Common.{◌∙◌, sym, subst}
 use Rattle.vc_core.specs.State.{event_of, shown, state_of}
-use Rattle.vc_stats.specs.Times.{AreTurned}
+use Rattle.vc_stats.specs.Private.Times.{AreTurned}
 use Rattle.vc_stats.proofs.Following.{times_still, times_turn}
 use Rattle.vc_stats.proofs.Acting.{turns_by}
 use Rattle.vc_stats.proofs.unfinished.Unfinished.follow.Goals as goal

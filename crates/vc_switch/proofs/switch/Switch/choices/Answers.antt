@@ -1,6 +1,7 @@
 use Rattle.std.proofs.Common.{◌≡◌, sym, ap, ◌∙◌, subst, true, Some, None}
 use Rattle.vc_switch.specs.State.{State, IsSwitch}
-use Rattle.vc_switch.specs.Front.{front_of, HasFront}
+use Rattle.vc_switch.specs.Front.{front_of}
+use Rattle.vc_switch.specs.Private.Front.{HasFront}
 use Rattle.vc_switch.proofs.Beyond.{none_leaves}
 use Rattle.vc_switch.proofs.Placed.{got, got_none}
 use Rattle.vc_switch.proofs.Routing.{choices_busy, choices_none, choices_some}

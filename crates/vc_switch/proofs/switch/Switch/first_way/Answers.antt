@@ -2,7 +2,8 @@ use Rattle.std.proofs.Common.{◌≡◌, ◌≤◌, length, drop, sym, ap, ◌�
 use Rattle.vc_switch.specs.Able.{IsFirst}
 use Rattle.vc_switch.specs.Switch.{BodyLeaves}
 use Rattle.vc_switch.specs.State.{IsSwitch, plan_of}
-use Rattle.vc_switch.specs.Front.{front_of, start_of, HasFront}
+use Rattle.vc_switch.specs.Front.{front_of}
+use Rattle.vc_switch.specs.Private.Front.{start_of, HasFront}
 use Rattle.vc_switch.specs.declared.front.Front.{Front}
 use Rattle.vc_switch.proofs.Fronts.{gone}
 use Rattle.vc_switch.proofs.Routing.{first_leaves, start_within}

@@ -6,7 +6,8 @@ use Rattle.vc_switch.proofs.Placed.{same_read, at_link}
 use Rattle.vc_switch.specs.Able.{CanRoute}
 use Rattle.vc_switch.specs.Waiting.{Wormhole}
 use Rattle.vc_switch.specs.Switch.{Routes}
-use Rattle.vc_switch.specs.Front.{front_of, start_of}
+use Rattle.vc_switch.specs.Front.{front_of}
+use Rattle.vc_switch.specs.Private.Front.{start_of}
 use Rattle.vc_switch.proofs.Keeping.{kept_limit}
 use Rattle.vc_switch.proofs.Routing.{under_way, switch_routed, routes, choices_none, route_leaves}
 use Rattle.vc_switch.proofs.switch.Switch.route.Goals as goal

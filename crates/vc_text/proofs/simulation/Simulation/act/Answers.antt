@@ -4,7 +4,7 @@ use Rattle.vc_core.specs.State.{state_of}
 use Rattle.vc_core.specs.Turns.{FindsTake}
 use Rattle.vc_actor.specs.declared.act.Act.TheVariants.{Take}
 use Rattle.vc_actor.proofs.Turning.{clash}
-use Rattle.vc_text.specs.Quiet.{AreQuiet}
+use Rattle.vc_text.specs.Private.Quiet.{AreQuiet}
 use Rattle.vc_text.proofs.Drawing.{given_past, given_take}
 use Rattle.vc_text.proofs.Quieting.{one_acts, same_quiet}
 use Rattle.vc_text.proofs.Simulated.{one_more}

@@ -3,7 +3,7 @@ use Rattle.std.proofs.lemmas.Bool.{cases_eq, cases_lt}
 use Rattle.std.proofs.lemmas.Nat.Bits.{bit_at_ones, bit_at-lt}
 use Rattle.std.specs.Int.{bit_at}
 use Rattle.vc_core.specs.State.{state_of}
-use Rattle.vc_core.specs.Turns.{Rests, IsAtRest}
+use Rattle.vc_core.specs.Private.Turns.{Rests, IsAtRest}
 use Rattle.vc_actor.specs.Turns.{actors}
 use Rattle.vc_core.proofs.Leaving.{few}
 use Rattle.vc_text.proofs.Closing.{all_rest, grown, neither, or_true, or_false, counted_few}

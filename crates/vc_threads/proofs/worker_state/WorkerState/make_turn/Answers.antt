@@ -9,7 +9,8 @@ use Rattle.vc_tokens.specs.declared.token.Token.{Token}
 use Rattle.vc_threads.specs.declared.link.Stamped.{Stamped}
 use Rattle.vc_threads.specs.Stamps.{stamped}
 use Rattle.vc_threads.specs.Wires.{OutLooked, InLooked, HasRoom, Distinct, IsAmong}
-use Rattle.vc_threads.specs.Works.{Out, SameLinks, Uses, worker_state, kept}
+use Rattle.vc_threads.specs.Works.{Out, kept}
+use Rattle.vc_threads.specs.Private.Works.{SameLinks, Uses, worker_state}
 use Rattle.vc_threads.proofs.Zips.{zip_same}
 use Rattle.vc_threads.proofs.Looks.{looked_same, in_looked_same}
 use Rattle.vc_threads.proofs.Steps.{finds_quiet}

@@ -7,7 +7,8 @@ use Rattle.std.proofs.Common.{ℕ, inl, inr, refl, subst, sym, get_or, ap, ◌�
 use Rattle.std.proofs.Math.ListN.{set}
 use Rattle.std.proofs.Math.Seq.{map-set_same}
 use Rattle.vc_threads.specs.Wires.{OutLooked, InLooked}
-use Rattle.vc_threads.specs.Works.{In, SameLinks, Uses, take_of, worker_state, kept}
+use Rattle.vc_threads.specs.Works.{In, kept}
+use Rattle.vc_threads.specs.Private.Works.{SameLinks, Uses, take_of, worker_state}
 use Rattle.vc_threads.proofs.Zips.{zip_same, zip_step}
 use Rattle.vc_threads.proofs.Looks.{looked_same, in_looked_same, in_looked_then}
 use Rattle.vc_threads.proofs.Late.{full_passed, written_in}

@@ -1,7 +1,7 @@
 use Rattle.std.proofs.Common.{refl, sym, ◌∙◌, subst, ◌++◌, take, drop, length}
 use Rattle.std.specs.List.{HoldsAt}
 use Rattle.vc_threads.specs.Wires.{InLooked, Distinct}
-use Rattle.vc_threads.specs.Works.{Seen, CanTake, worker_state}
+use Rattle.vc_threads.specs.Private.Works.{Seen, CanTake, worker_state}
 use Rattle.vc_threads.proofs.Goings.{uses_looked, stays_same, stays_looked, looked_in_links}
 use Rattle.vc_threads.proofs.Outcomes.{on_ok_map, on_err_map}
 use Rattle.vc_threads.proofs.Backs.{same_back, zip_back}

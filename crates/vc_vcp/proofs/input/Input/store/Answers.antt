@@ -3,7 +3,7 @@ use Rattle.vc_packets.specs.declared.packet.Packet.{Packet}
 use Rattle.vc_packets.specs.Spellings.{ack_packet}
 use Rattle.vc_blocks.specs.Halves.{load_of, ends_message}
 use Rattle.vc_blocks.specs.Arriving.{after_arrival, arrival_of}
-use Rattle.vc_vcp.specs.Queued.{logged, acknowledged}
+use Rattle.vc_vcp.specs.Private.Queued.{logged, acknowledged}
 use Rattle.vc_vcp.specs.State.{IsInput}
 use Rattle.vc_vcp.proofs.Placed.{always_on_err}
 use Rattle.vc_vcp.proofs.Storing.{failed_ok, went_err, on_went, taken_back, stays_at, stays_same, emptied, stored_none, stored, told_by, logs_arrival, acks_arrival}

@@ -1,7 +1,7 @@
 use Rattle.std.proofs.Common.{◌≡◌, sym, ap, ◌∙◌, subst, IfOk, OnOk}
 use Rattle.vc_packets.specs.Spellings.{ack_packet}
 use Rattle.vc_blocks.specs.Arriving.{after_want, want_of}
-use Rattle.vc_vcp.specs.Queued.{logged_by, acknowledged_by}
+use Rattle.vc_vcp.specs.Private.Queued.{logged_by, acknowledged_by}
 use Rattle.vc_vcp.specs.State.{IsInput}
 use Rattle.vc_vcp.proofs.Placed.{always_on_err}
 use Rattle.vc_vcp.proofs.Storing.{failed_ok, went_err, on_went, taken_back, stays_at, stays_same, emptied, want_empties, stored, told_by, logs_want, acks_want}

@@ -1,5 +1,5 @@
 use Rattle.std.proofs.Common.{◌≡◌, ◌∙◌, arith, sym, ap, refl, subst, length}
-use Rattle.vc_vcp.specs.Bound.{IsStray, with_inputs}
+use Rattle.vc_vcp.specs.Private.Bound.{IsStray, with_inputs}
 use Rattle.vc_vcp.specs.Seen.{ends_of, seen, carrier_of, link_of, IsKept, taken_of}
 use Rattle.vc_vcp.specs.State.{State, IsAckOf, IsInput}
 use Rattle.vc_vcp.specs.Steps.{Arrives}

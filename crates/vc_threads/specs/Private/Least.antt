@@ -1,7 +1,8 @@
 -- The end from which a worker takes: of those from which its actor can take, the one of the least link.
 use Rattle.std.specs.Prelude.{◌≡◌, ℕ, ◌≤◌, ◌<◌, List, length, Option, Some, IfSome, slice_index_or}
 use Rattle.vc_actor.specs.Shown.{Acting}
-use Rattle.vc_threads.specs.Works.{In, CanTake}
+use Rattle.vc_threads.specs.Works.{In}
+use Rattle.vc_threads.specs.Private.Works.{CanTake}
 use Rattle.vc_threads.specs.declared.worker_state.Found.{Found}
 
 -- what was found is one of the first n ends, with its link, and the actor can take from it

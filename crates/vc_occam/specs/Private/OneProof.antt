@@ -4,11 +4,12 @@ use Rattle.std.specs.Prelude.{◌≡◌, ℕ, false}
 use Rattle.std.specs.Coded.{×_prop, Unit-prop}
 use Rattle.vc_occam.specs.declared.begins.Begins.{Begins}
 use Rattle.vc_occam.specs.declared.begins.Begins.TheVariants as begins
-use Rattle.vc_occam.specs.Frames.{BeginsWith}
+use Rattle.vc_occam.specs.Private.Frames.{BeginsWith}
 use Rattle.vc_occam.specs.InUse.{UseApart, UsesLawfully}
 use Rattle.vc_process.specs.Lawful.{Lawfully, LawfullyAll, LawfullyBranches, LawfullyGuards, SideBySide}
 use Rattle.vc_occam.specs.Remains.{Rest, Done, Stopped, Fresh, Finishing, Getting, Then, Turns, Beside, changes_rest}
-use Rattle.vc_occam.specs.Sites.{Disjoint, Precedes, InPreorder, PartsInPreorder, BranchesInPreorder, GuardsInPreorder, HasOwnSites, AllHaveOwnSites, PartsHaveOwnSites, BranchesHaveOwnSites, GuardsHaveOwnSites, OwnSites}
+use Rattle.vc_occam.specs.Sites.{Disjoint, HasOwnSites, AllHaveOwnSites, PartsHaveOwnSites, BranchesHaveOwnSites, GuardsHaveOwnSites, OwnSites}
+use Rattle.vc_occam.specs.Private.Sites.{Precedes, InPreorder, PartsInPreorder, BranchesInPreorder, GuardsInPreorder}
 use Rattle.vc_process.specs.Syntax.{Proc, SKIP, STOP, Assign, Output, Input, StopChan, SEQ, PAR, IF, WHILE, COUNT, ALT, Procs, no_parts, part, Branches, no_branches, branch, Guards, no_guards, guard}
 use Rattle.vc_process.specs.Usage.{Set, changes}
 

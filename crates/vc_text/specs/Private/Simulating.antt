@@ -2,11 +2,11 @@
 use Rattle.std.specs.Prelude.{◌≡◌, ◌⊎◌, ℕ, ◌+◌, Bool, true, false, List, length}
 use Rattle.vc_core.specs.Replaying.{Reached}
 use Rattle.vc_core.specs.State.{State, state_of}
-use Rattle.vc_core.specs.Turns.{IsAtRest}
+use Rattle.vc_core.specs.Private.Turns.{IsAtRest}
 use Rattle.vc_core.specs.declared.event.Event.{Event}
 use Rattle.vc_plan.specs.declared.plan.Plan.{Plan}
-use Rattle.vc_text.specs.Quiet.{AreQuiet}
-use Rattle.vc_text.specs.Seated.{HaveGiven}
+use Rattle.vc_text.specs.Private.Quiet.{AreQuiet}
+use Rattle.vc_text.specs.Private.Seated.{HaveGiven}
 use Rattle.vc_text.specs.declared.simulation.Simulation.{Simulation}
 
 -- these events led from the opening state to where the run is, as many as it counts; the words of their takes are those that the

@@ -5,7 +5,7 @@ use Rattle.std.specs.HashMap.{HashMap, get_by}
 use Rattle.std.specs.Str.{bytes_eq}
 use Rattle.vc_plan.specs.declared.plan.Plan.{Plan}
 use Rattle.vc_plan.specs.Names.{actor_name, channel_name}
-use Rattle.vc_trace.specs.EventOf.{IsNamed}
+use Rattle.vc_trace.specs.Private.EventOf.{IsNamed}
 use Rattle.vc_trace.specs.declared.names.Names.{Names}
 
 -- the number at a name

@@ -3,7 +3,7 @@ use Rattle.std.specs.Prelude.{◌≡◌, ℕ, suc, ◌+◌, ◌≤◌, ◌<◌, 
 use Rattle.std.specs.Global.{Vec}
 use Rattle.std.specs.List.{Contains}
 use Rattle.vc_plan.specs.declared.plan.Plan.{Plan}
-use Rattle.vc_cycles.specs.Graph.{AreDependencies, HasEdge, row}
+use Rattle.vc_cycles.specs.Private.Graph.{AreDependencies, HasEdge, row}
 use Rattle.vc_cycles.specs.declared.round.Found.{Found}
 use Rattle.vc_cycles.specs.declared.round.Round.{Round}
 

@@ -2,9 +2,10 @@
 use Rattle.std.specs.Prelude.{◌≡◌, List, ℕ, Option, Some, None}
 use Rattle.vc_core.specs.declared.event.Event.{Event}
 use Rattle.vc_plan.specs.declared.plan.Plan.{Plan}
-use Rattle.vc_trace.specs.EventOf.{IsEventOf, IsNamed}
+use Rattle.vc_trace.specs.EventOf.{IsEventOf}
+use Rattle.vc_trace.specs.Private.EventOf.{IsNamed}
 use Rattle.vc_trace.specs.EventText.{event_line}
-use Rattle.vc_trace.specs.Named.{AreNamesOf}
+use Rattle.vc_trace.specs.Private.Named.{AreNamesOf}
 use Rattle.vc_trace.specs.declared.event_reader.EventReader.{EventReader}
 
 -- it reads events of this plan

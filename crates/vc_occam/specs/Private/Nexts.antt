@@ -6,7 +6,8 @@ use Rattle.vc_occam.specs.declared.phase.Phase.TheVariants as phase
 use Rattle.vc_occam.specs.declared.progress.Next.{Next}
 use Rattle.vc_occam.specs.declared.kind.Kind.{Kind}
 use Rattle.vc_occam.specs.declared.kind.Kind.TheVariants as kind
-use Rattle.vc_occam.specs.Frames.{View, begun_at, part_done, rest_at}
+use Rattle.vc_occam.specs.Frames.{View, rest_at}
+use Rattle.vc_occam.specs.Private.Frames.{begun_at, part_done}
 use Rattle.vc_occam.specs.Remains.{Rest}
 use Rattle.vc_occam.specs.Gates.{Gate}
 use Rattle.vc_process.specs.Messages.{received}

@@ -1,0 +1,7 @@
+-- What only private functions, invariants and proofs cite.
+pub mod Able
+pub mod Begin
+pub mod Inside
+pub mod Parts
+pub mod Passing
+pub mod Turns

@@ -1,0 +1,4 @@
+-- What only private functions, invariants and proofs cite.
+pub mod Graph
+pub mod Round
+pub mod Search

@@ -1,0 +1,4 @@
+-- What only private functions, invariants and proofs cite.
+pub mod Bytes
+pub mod Processes
+pub mod Reading

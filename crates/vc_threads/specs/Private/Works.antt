@@ -1,0 +1,88 @@
+-- What a worker does.
+use Rattle.std.specs.Prelude.{◌≡◌, ℕ, ◌+◌, ◌≤◌, ◌++◌, Bool, List, [], ◌∷◌, length, map}
+use Rattle.std.specs.List.{AllZip}
+use Rattle.rand_pcg.specs.Lcg.{Lcg}
+use Rattle.rtrb.specs.Ring.{received, SameConsumer}
+use Rattle.vc_network.specs.Actors.Label.{Takes}
+use Rattle.vc_network.specs.LocalRun as local
+use Rattle.vc_network.specs.LocalRun.{Turn, LocalRun, clock_after}
+use Rattle.vc_network.specs.Plan.{Plan}
+use Rattle.vc_tokens.specs.declared.token.Token.{Token}
+use Rattle.vc_actor.specs.Acting.{HasLink}
+use Rattle.vc_actor.specs.OfPlan.{IsActorOf}
+use Rattle.vc_actor.specs.declared.act.Act.{Act}
+use Rattle.vc_actor.specs.declared.act.Act.TheVariants.{Take}
+use Rattle.vc_actor.specs.Shown.{Acting}
+use Rattle.vc_threads.specs.declared.worker_state.WorkerState.{WorkerState}
+use Rattle.vc_threads.specs.declared.link.Stamped.{Stamped}
+use Rattle.vc_threads.specs.Runs.{StepsByLink, Used, Draws, words_of}
+use Rattle.vc_threads.specs.Stamps.{stamped}
+use Rattle.vc_threads.specs.Wires.{Sends, Receives, OutLooked, InLooked, IsReady, out_links, in_links}
+use Rattle.vc_threads.specs.Works.{Out, In, logged, kept, GoOver}
+
+-- the actor is one of some plan
+abbrev pub IsOfSomePlan : Acting → Type 0
+IsOfSomePlan n = (plan : Plan) × (k : ℕ) × IsActorOf plan k n
+
+-- the actor has the link, and an item is known in its ring
+abbrev pub CanTake : Acting → In → Type 0
+CanTake x i = HasLink x i.0 × IsReady i
+
+-- what is seen of a worker_state: also whether its acts are kept in the log
+pub record Seen : Type 0 where
+  pub actor : Acting
+  pub clock : ℕ
+  pub keeps : Bool
+  pub log : List (ℕ × Act)
+  pub outs : List Out
+  pub ins : List In
+  pub words : Lcg
+
+abbrev pub worker_state : WorkerState → Seen
+worker_state d = record { actor = d.actor; clock = d.clock; keeps = d.keeps; log = d.acts.items; outs = d.ends.outs.items; ins = d.ends.ins.items; words = d.words }
+
+-- the ends are of the same links, in order
+abbrev pub SameLinks : Seen → Seen → Type 0
+SameLinks a b = (out_links b.outs ≡ out_links a.outs) × (in_links b.ins ≡ in_links a.ins)
+
+-- Some steps lead from one worker_state to the other: they are a run of actor k by itself, they are logged where acts are kept, the rings show what they took and
+-- put, all over the links of these rings, and the words of their takes were drawn.
+pub record Goes (plan : Plan) (k : ℕ) (a : Seen) (ts : List (Turn Act Token)) (b : Seen) : Type 0 where
+  pub run : LocalRun (StepsByLink plan) k a.clock a.actor ts b.actor
+  pub clock : b.clock ≡ clock_after a.clock ts
+  pub keeps : b.keeps ≡ a.keeps
+  pub log : b.log ≡ a.log ++ kept a.keeps (map logged ts)
+  pub outs : AllZip (Sends ts) a.outs b.outs
+  pub ins : AllZip (Receives ts) a.ins b.ins
+  pub links : GoOver a.outs a.ins ts
+  pub words : Draws a.words (words_of ts) b.words
+
+-- at most n steps lead from one worker_state to the other, which use n turns
+pub record Uses (plan : Plan) (k n : ℕ) (a b : Seen) : Type 0 where
+  pub steps : List (Turn Act Token)
+  pub few : length steps ≤ n
+  pub goes : Goes plan k a steps b
+  pub used : Used plan k n a.clock a.actor steps b.actor
+
+-- nothing was done
+pub record Stays (a b : Seen) : Type 0 where
+  pub actor : b.actor ≡ a.actor
+  pub clock : b.clock ≡ a.clock
+  pub keeps : b.keeps ≡ a.keeps
+  pub log : b.log ≡ a.log
+  pub outs : AllZip OutLooked a.outs b.outs
+  pub ins : AllZip InLooked a.ins b.ins
+
+-- the take of this item from this link
+abbrev pub take_of : ℕ × Act → ℕ → Stamped → Turn Act Token
+take_of made link x = record { at = made.0; it = Takes made.1 link (stamped x) }
+
+-- the front item of the link's ring is taken
+pub record TakesFront (plan : Plan) (k : ℕ) (old : Acting) (clock word : ℕ) (end : In) (made : ℕ × Act) (new : Acting) (end' : In) : Type 0 where
+  pub item : Stamped
+  pub act : made.1 ≡ Take end.0 word
+  pub step : StepsByLink plan k old (Takes made.1 end.0 item.item) new
+  pub stamp : made.0 ≡ local.next_stamp clock (take_of made end.0 item).it
+  pub link : end'.0 ≡ end.0
+  pub ring : SameConsumer end.1 end'.1
+  pub got : received end'.1 ≡ received end.1 ++ item ∷ []
