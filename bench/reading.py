@@ -25,12 +25,15 @@ PROMISES = [
     ("read_network", "vc_reader/src/network.rt"),
     ("run_step", "vc_text/src/run.rt"),
 ]
-# How a network and an actor of the code are seen, and that they are those of a plan.
+# How a network, an actor, a node and a switch of the code are seen, and that they are those of a plan.
 VIEWS = {
     ("vc_core/specs/State.antt", "state_of"),
     ("vc_core/specs/State.antt", "shown"),
     ("vc_core/specs/State.antt", "IsNetworkOf"),
     ("vc_actor/specs/Shown.antt", "actor_of"),
+    ("vc_actor/specs/Shown.antt", "node_of"),
+    ("vc_switch/specs/Seen.antt", "seen"),
+    ("vc_switch/specs/State.antt", "plan_of"),
     ("vc_actor/specs/OfPlan.antt", "IsActorOf"),
 }
 ORDER = re.findall(r"^(\w+)(?: \w+=\S+)*:", open(f"{ROOT}/crates.txt", encoding="utf-8").read(), re.M)
