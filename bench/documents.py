@@ -82,6 +82,14 @@ def unknown_names(path, text, known):
                 yield f"{path}: no source has {word}: `{code[:60]}`"
 
 
+def missing_specs(path, text):
+    for crate, folder, files in re.findall(r"\b(vc_\w+)/(specs/Private|specs|proofs)/(\w+(?:, [A-Z]\w+)*)", text):
+        for name in files.split(", "):
+            place = f"{ROOT}/crates/{crate}/{folder}/{name}"
+            if not os.path.exists(f"{place}.antt") and not os.path.isdir(place):
+                yield f"{path}: there is no {crate}/{folder}/{name}"
+
+
 def made_with_another_kit():
     kit = re.search(r"`rt version`: (rattle-\S+), logic (\w+)", text_of("README.md"))
     for path in sorted(glob.glob(f"{ROOT}/bench/*.py") + glob.glob(f"{ROOT}/bench/*.sh")):
@@ -95,6 +103,8 @@ def main():
     for path in DOCUMENTS:
         text = text_of(path)
         told += [*missing_files(path, text), *missing_crates(path, text)]
+        if not path.startswith("docs/lab/"):
+            told += missing_specs(path, text)
         told += long_sentences(path, text)
         if not path.startswith("docs/lab/") and not path.endswith("FORMAT.md"):
             told += unknown_names(path, text, known)

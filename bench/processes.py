@@ -2,8 +2,7 @@
 """Tells how many events a second processes make, and that their memory does not grow with the events.
 
 Usage: bench/processes.py VCNET, VCNET being the built program (crates/vcnet/out/vcnet). Each network is run by `vcnet step` up to two
-limits of events. Printed are the events a second between the two, and the bytes of memory that each event more took: those of the list
-of events, which a run reports, and no more.
+limits of events. Printed are the events a second between the two, and the bytes of memory that each event more took: none.
 
 - while: a WHILE that counts up one variable.
 - par: a PAR of 1,000 parts, each a WHILE of SKIP.
@@ -68,4 +67,6 @@ def main():
 
 
 if __name__ == "__main__":
+    if len(sys.argv) != 2:
+        sys.exit(__doc__)
     main()

@@ -4,9 +4,10 @@
 From the clauses of a public function it follows each name to its definition in specs/, and the names in that, and so on. It counts the
 lines of those definitions, without imports, comments and blank lines. Types that the code declares are not counted, and not those of the
 toolchain. What only a view leads to is counted apart: how a value of the code is seen as one of the definitions nobody has to believe
-(docs/READING.md). It also counts the lines of specs/ outside specs/Private that no public function's clauses reach. It compares what it
-finds with that page and fails where a figure there is exceeded; with --write it writes the page's tables anew. A name counts where it
-stands, so the figures are a little too large.
+(docs/READING.md). What an accepted plan is, is counted with `check`, which alone makes one. It also counts the lines of specs/ outside
+specs/Private that no public function's clauses reach, and the names that have several definitions. It compares what it finds with that
+page and fails where a figure there is exceeded; with --write it writes the page's tables anew. A name counts where it stands, so the
+figures are a little too large.
 
 Made with rattle-kit-13f, logic dac8208d650f15bf.
 """
@@ -17,7 +18,7 @@ import sys
 
 ROOT = os.path.dirname(os.path.dirname(os.path.abspath(__file__)))
 PAGE = f"{ROOT}/docs/READING.md"
-# The promises, in the order in which one reads: the function, and the file that has it.
+# The promises, in the order in which one reads: the function, and the file that has it. Those before `check` are of a plan that it accepted.
 PROMISES = [
     ("replay", "vc_core/src/network.rt"),
     ("run_threads", "vc_threads/src/threads.rt"),
@@ -36,6 +37,8 @@ VIEWS = {
     ("vc_switch/specs/State.antt", "plan_of"),
     ("vc_actor/specs/OfPlan.antt", "IsActorOf"),
 }
+# What `check` promises of such a plan, and what those before it need not look into.
+ACCEPTED = ("vc_plan/specs/Accepted.antt", "IsAccepted")
 ORDER = re.findall(r"^(\w+)(?: \w+=\S+)*:", open(f"{ROOT}/crates.txt", encoding="utf-8").read(), re.M)
 HEAD = re.compile(r"^ *(?:abbrev |unfoldable )*(?:pub )?(?:record |data )?([^\s:({]+)(?=[\s:({])")
 NAME = re.compile(r"[^\s(){}\[\];,:=→×λ]+")
@@ -101,7 +104,7 @@ def clauses(function, path):
 
 
 def reached(found, text, names, own, seen, views):
-    """Adds to `seen` the definitions that a text's names lead to, but not beyond these views."""
+    """Adds to `seen` the definitions that a text's names lead to, but not into these views."""
     for token in NAME.findall(text):
         parts = token.strip(".").split(".")
         target = names.get(parts[0])
@@ -125,12 +128,12 @@ def reached(found, text, names, own, seen, views):
 class Row:
     """A promise: the definitions that it reaches, those that only views lead to, and what the promises before it reach."""
 
-    def __init__(self, function, path, found, before):
+    def __init__(self, function, path, found, before, unread):
         text, names = clauses(function, path)
         self.function, self.before = function, before
         self.believed, reached_in_all = {}, {}
-        reached(found, text, names, None, self.believed, VIEWS)
-        reached(found, text, names, None, reached_in_all, set())
+        reached(found, text, names, None, self.believed, VIEWS | unread)
+        reached(found, text, names, None, reached_in_all, unread)
         self.seen_by = {k: n for k, n in reached_in_all.items() if k not in self.believed}
         self.together = {**before, **self.believed}
         self.lines, self.views = sum(self.believed.values()), sum(self.seen_by.values())
@@ -157,9 +160,10 @@ def stray(found):
 
 def table(found):
     """Each promise, behind what the promises before it reach."""
-    rows, before = [], {}
+    rows, before, unread = [], {}, {ACCEPTED}
     for function, path in PROMISES:
-        rows.append(Row(function, path, found, before))
+        unread = set() if function == "check" else unread
+        rows.append(Row(function, path, found, before, unread))
         before = rows[-1].together
     return rows
 
@@ -171,8 +175,16 @@ def by_file(lines):
     return sorted(files.items(), key=lambda it: (ORDER.index(it[0].split("/")[0]), it[0]))
 
 
+def several(rows):
+    """How many names the promises rest on, and how many of them have several definitions."""
+    names = [name for _, name in rows[-1].before | rows[-1].believed]
+    return len(set(names)), len({name for name in names if names.count(name) > 1})
+
+
 def page(rows, left):
+    names, many = several(rows)
     out = [f"Lines of specs/ outside specs/Private that no public promise needs: {left}.", ""]
+    out += [f"Names with several definitions: {many}, of the {names} that the promises rest on.", ""]
     out += ["| Promise | Lines to believe | Files | Lines with those above | Lines of views |", "|---|---|---|---|---|"]
     out += [f"| `{it.function}` | {it.lines} | {it.files} | {sum(it.together.values())} | {it.views} |" for it in rows]
     for it in rows:
@@ -199,6 +211,9 @@ def main():
     limit = re.search(r"^Lines of specs/ outside .*: (\d+)\.$", old, re.M)
     if left > int(limit[1] if limit else 0):
         wrong.append(f"{left} lines of specs/ outside specs/Private that no public promise needs")
+    many = re.search(r"^Names with several definitions: (\d+),", old, re.M)
+    if several(rows)[1] > int(many[1] if many else 0):
+        wrong.append(f"{several(rows)[1]} names have several definitions")
     print("\n".join([*wrong, *(f"{it.function}: {it.lines} lines in {it.files} files, and {it.views} of views" for it in rows)]))
     return 1 if wrong else 0
 

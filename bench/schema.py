@@ -1,5 +1,6 @@
 #!/usr/bin/env python3
-"""Holds the examples against docs/network.schema.json: bench/schema.py. It wants Python's jsonschema.
+"""Holds the examples against docs/network.schema.json: bench/schema.py. It wants Python's jsonschema, and does nothing
+without it.
 
 Each network of examples/index.txt that vcnet reads (no refusal 20 to 24) must be one by the schema. Of those that are refused for their
 form it tells how many the schema refuses too: the others name what is not there, or give a name twice, which no schema tells.
@@ -10,7 +11,10 @@ import json
 import os
 import sys
 
-import jsonschema
+try:
+    import jsonschema
+except ImportError:
+    sys.exit(print("there is no jsonschema: nothing was held against the schema"))
 
 ROOT = os.path.dirname(os.path.dirname(os.path.abspath(__file__)))
 

@@ -1,8 +1,8 @@
 #!/usr/bin/env python3
 """Tells whether networks do the same as one node: bench/together.py VCNET [COUNT [FIRST]].
 
-It makes COUNT networks by chance (2,000), numbered from FIRST on (1), whose labels deliver, of processes without ALT and `stopch`, and
-runs each by `step` and by `step --together`. Where both come to rest, each channel must have the same messages taken in the same order,
+It makes COUNT networks by chance (2,000), numbered from FIRST on (1), whose labels deliver, which `deadlock` calls free, of processes
+without ALT and `stopch`, and runs each by `step` and by `step --together`. Where both come to rest, each channel must have the same messages taken in the same order,
 and both must end alike. Most nodes output and input by one schedule, so that most networks take messages; in some of them two of a
 node's communications change places, or a process is any by chance, so that it waits for ever. A network of which the two differ is
 printed; the last lines count what was compared.
@@ -71,6 +71,11 @@ def run(program, words, file):
     return ran.returncode, ran.stdout.decode()
 
 
+def is_free(program, file):
+    """Whether packets can't come to wait for one another in a circle; a refused network tells itself later."""
+    return subprocess.run([program, "deadlock"], input=file, capture_output=True, timeout=60, check=False).returncode != 1
+
+
 def compared(text):
     """What is taken on each channel, and how the run ended."""
     return [re.sub(r" offered \d+ (taken \d+) finished \d+", r" \1", line) for line in text.splitlines()]
@@ -82,6 +87,9 @@ def main(program, count=2000, first=1):
         made = network(number)
         number += 1
         file = json.dumps(made).encode()
+        if not is_free(program, file):
+            told["with a circle"] += 1
+            continue
         (status, ours), (other, theirs) = run(program, [], file), run(program, ["--together"], file)
         if status in (2, 4) or other in (2, 4):
             told[" ".join((ours if status == 2 else theirs).split()[:3])] += 1

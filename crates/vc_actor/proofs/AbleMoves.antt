@@ -19,7 +19,8 @@ use Rattle.vc_credit.specs.Ends.{new_receiver}
 use Rattle.vc_tokens.specs.Tokens.{Token, Byte, EndMark}
 use Rattle.vc_vcp.specs.Able.{CanOffer, CanPass, CanPut}
 use Rattle.vc_vcp.specs.Carrier.{Carrier, Ends}
-use Rattle.vc_vcp.specs.Keyed.{named, shown_or}
+use Rattle.vc_vcp.specs.Keyed.{named}
+use Rattle.vc_packets.specs.Functions.{shown_or}
 use Rattle.vc_vcp.specs.Links.{Vcp, Passes, passes_byte, drops_byte, passes_mark}
 use Rattle.vc_vcp.specs.Seen.{seen, ends_of}
 use Rattle.vc_vcp.specs.State.{State as Held, MayPut, MayGrant}

@@ -20,7 +20,8 @@ use Rattle.vc_plan.specs.Accepted.{IsAccepted}
 use Rattle.vc_plan.specs.Limits.{kinds_of}
 use Rattle.vc_vcp.specs.declared.end.End.{End as Given}
 use Rattle.vc_vcp.specs.Carrier.{Carrier}
-use Rattle.vc_vcp.specs.Keyed.{named, shown_or}
+use Rattle.vc_vcp.specs.Keyed.{named}
+use Rattle.vc_packets.specs.Functions.{shown_or}
 use Rattle.vc_vcp.specs.Links.{Vcp, new_vcp}
 use Rattle.vc_vcp.specs.Opening.{ends_given}
 use Rattle.vc_vcp.specs.Seen.{seen, ends_of}

@@ -3,9 +3,9 @@ use Rattle.std.proofs.Common.{◌≡◌, ◌↔◌, ℕ, zero, suc, List, [], �
 use Rattle.std.proofs.lemmas.Bool.{cases_eq, false≢true}
 use Rattle.std.proofs.lemmas.Option.{slice_get-get_or}
 use Rattle.vc_machine.specs.Rendezvous.{View, nothing_yet}
-use Rattle.vc_packets.specs.Functions.{put}
+use Rattle.vc_packets.specs.Functions.{put, shown_or}
 use Rattle.vc_network.specs.Views.{halves_view}
-use Rattle.vc_vcp.specs.Keyed.{named, NamesDiffer, shown_or}
+use Rattle.vc_vcp.specs.Keyed.{named, NamesDiffer}
 use Rattle.vc_vcp.specs.Seen.{seen}
 use Rattle.vc_vcp.proofs.KeyedLemmas.{by_name-set, named_has, named_at, named-set_same, named-set_other}
 use Rattle.vc_actor.specs.Private.Inside.{exchanged_on, stopped_on}

@@ -5,7 +5,7 @@ use Rattle.vc_machine.proofs.Basics.{put-same, put-other}
 use Rattle.vc_machine.specs.Rendezvous.{nothing_yet}
 use Rattle.vc_network.specs.Network.{StopsChannel}
 use Rattle.std.specs.List.{Contains}
-use Rattle.vc_packets.specs.Functions.{put}
+use Rattle.vc_packets.specs.Functions.{put, shown_or}
 use Rattle.vc_process.specs.ProcessStep as step
 use Rattle.vc_occam.specs.Runnings.{moves, state, inner_channels}
 use Rattle.vc_occam.specs.States.{Acts, waiting, output, input, doing, sent_by, bytes_or_none, came}
@@ -18,7 +18,7 @@ use Rattle.vc_occam.proofs.Waiting.{waits_after}
 use Rattle.vc_occam.specs.declared.moves.Move.{Move}
 use Rattle.vc_occam.specs.declared.moves.Move.TheVariants as move
 use Rattle.vc_vcp.specs.Carrier.{Carrier, End}
-use Rattle.vc_vcp.specs.Keyed.{named, shown_or}
+use Rattle.vc_vcp.specs.Keyed.{named}
 use Rattle.vc_vcp.specs.Seen.{seen, ends_of, Inputs, IsKept, answered}
 use Rattle.vc_vcp.specs.Steps.{Offers, Stops, Wants, Fetches, fetches, waits, IsOpen}
 use Rattle.vc_vcp.specs.State.{limit_of}

@@ -7,7 +7,8 @@ use Rattle.vc_network.specs.Plan.{Plan, IsOutOf, IsInto, switch_plan}
 use Rattle.vc_tokens.specs.Tokens.{Token, Byte, EndMark}
 use Rattle.vc_switch.specs.Able.{CanPass, CanLeave, IsFree, CanRoute, CanPut}
 use Rattle.vc_switch.specs.Seen.{seen, IsKept, input_of}
-use Rattle.vc_switch.specs.State.{State, IsSwitch, plan_of, limit_of, shown_or, source_at, output_of}
+use Rattle.vc_switch.specs.State.{State, IsSwitch, plan_of, limit_of, source_at, output_of}
+use Rattle.vc_packets.specs.Functions.{shown_or}
 use Rattle.vc_switch.specs.Switch.{Switch, Passes, passes_byte, drops_byte, passes_mark, loses, Routes, Sends, SendsFct, Comes, new_input, BodyLeaves}
 use Rattle.vc_switch.specs.Waiting.{Wormhole}
 use Rattle.vc_labels.specs.declared.row.Row.{Row}

@@ -46,7 +46,12 @@ impl Model for InHalf {
 
     ghost Value = { Incoming };
 
-    ghost view = { λ half. record { wants = half.wants; stopped = half.stopped; held = half.held; stored = half.stored } };
+    ghost view = { λ half. record {
+      wants = half.wants;
+      stopped = half.stopped;
+      held = half.held;
+      stored = half.stored;
+    } };
 
     ghost invariant = { λ half. HoldsPiece half.held };
 }

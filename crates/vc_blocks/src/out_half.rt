@@ -34,7 +34,10 @@ impl Model for OutHalf {
 
     ghost Value = { Outgoing };
 
-    ghost view = { λ half. record { route = half.route; unacked = unacked_of half.busy half.message half.piece } };
+    ghost view = { λ half. record {
+      route = half.route;
+      unacked = unacked_of half.busy half.message half.piece;
+    } };
 
     ghost invariant = { λ half. IsUnderWay half.busy half.message half.count half.piece };
 }

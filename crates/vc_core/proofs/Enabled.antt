@@ -32,7 +32,7 @@ use Rattle.vc_switch.specs.Waiting.{Wormhole}
 use Rattle.vc_switch.proofs.Stepping.{each_comes}
 use Rattle.vc_tokens.specs.Tokens.{Token}
 use Rattle.vc_tokens.specs.Tokens as tokens
-use Rattle.vc_vcp.specs.Keyed.{shown_or}
+use Rattle.vc_packets.specs.Functions.{shown_or}
 use Rattle.vc_vcp.specs.Seen.{seen}
 use Rattle.vc_vcp.proofs.Arriving.{comes_always}
 use Rattle.vc_actor.specs.Able.{NodeCan, SwitchCan, CanAct}

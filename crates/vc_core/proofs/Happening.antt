@@ -6,7 +6,7 @@ use Rattle.std.proofs.lemmas.List.{length-set}
 use Rattle.std.specs.Option.{option_map}
 use Rattle.vc_network.specs.Actors.{Step}
 use Rattle.vc_network.specs.Actors.Label.{Own, Takes, Puts}
-use Rattle.vc_packets.specs.Functions.{put}
+use Rattle.vc_packets.specs.Functions.{put, shown_or}
 use Rattle.vc_network.specs.Network as net
 use Rattle.vc_network.specs.Plan.{IsOutOf, IsInto, back}
 use Rattle.vc_network.specs.Plan as network
@@ -18,7 +18,6 @@ use Rattle.vc_switch.specs.Switch.{new_switch}
 use Rattle.vc_switch.specs.Waiting.{Wormhole}
 use Rattle.vc_tokens.specs.Tokens.{Token}
 use Rattle.vc_tokens.specs.Tokens as tokens
-use Rattle.vc_vcp.specs.Keyed.{shown_or}
 use Rattle.vc_vcp.proofs.Placed.{place-set_same, place-set_other, by_place-set}
 use Rattle.vc_actor.specs.Acting.{port, MakesOwn, MakesTake, MakesPut, MakesGrant}
 use Rattle.vc_actor.specs.OfPlan.{IsActorOf}

@@ -23,3 +23,4 @@ pub mod Laying
 pub mod Staying
 pub mod Still
 pub mod Naming
+pub mod Descent

@@ -12,7 +12,7 @@ use Rattle.vc_accepted.proofs.Wired.{outgoing_is, incoming_is}
 use Rattle.vc_plan.specs.Accepted.{IsAccepted}
 use Rattle.vc_plan.specs.declared.plan.Plan.{Plan}
 use Rattle.vc_tokens.specs.Tokens.{Token}
-use Rattle.vc_vcp.specs.Keyed.{shown_or}
+use Rattle.vc_packets.specs.Functions.{shown_or}
 use Rattle.vc_vcp.proofs.Placed.{place-set_same, place-set_other}
 use Rattle.vc_core.specs.Fronts.{bit_of}
 use Rattle.vc_core.specs.Private.Fronts.{Marked}

@@ -21,7 +21,7 @@ use Rattle.vc_switch.specs.Forward.{Interval, SwitchPlan}
 use Rattle.vc_switch.specs.Seen.{seen}
 use Rattle.vc_switch.specs.State.{State as SwitchState, plan_of}
 use Rattle.vc_switch.specs.Switch.{new_switch}
-use Rattle.vc_vcp.specs.Keyed.{shown_or}
+use Rattle.vc_packets.specs.Functions.{shown_or}
 use Rattle.vc_actor.specs.OfPlan.{IsSwitchOf}
 use Rattle.vc_actor.specs.Private.Parts.{switch_at}
 use Rattle.vc_core.specs.Private.Placed.{FindsAt, FindsOn, HasIts}

@@ -20,7 +20,7 @@ use Rattle.vc_accepted.proofs.Accepting.{accepted}
 use Rattle.vc_switch.specs.Switch.{new_switch}
 use Rattle.vc_switch.specs.Waiting.{Wormhole}
 use Rattle.vc_tokens.specs.Tokens.{Token}
-use Rattle.vc_vcp.specs.Keyed.{shown_or}
+use Rattle.vc_packets.specs.Functions.{shown_or}
 use Rattle.vc_vcp.specs.Links.{new_vcp}
 use Rattle.vc_machine.specs.Rendezvous.{nothing_yet}
 use Rattle.vc_actor.specs.Begin.{AreFirst}

@@ -21,7 +21,7 @@ use Rattle.vc_core.specs.Replaying.{Replays}
 use Rattle.vc_actor.specs.Shown.{Acting, OfNode, OfSwitch, node_of}
 use Rattle.vc_core.specs.State.{State, shown, IsNetworkOf, HasFront, HasWay, WaysLet}
 use Rattle.vc_actor.specs.Turns.{RoomLets, IsTurn, IsQuiet, FindsTurn, kind_of, FindsOf, TakesNone, actors}
-use Rattle.vc_core.specs.Turns.{FindsEvent, FindsEventOf, FindsFront, FindsTake, HaveEnded}
+use Rattle.vc_core.specs.Turns.{FindsEvent, FindsEventOf, FindsFront, FindsTake, AllHaveEnded}
 use Rattle.vc_core.specs.Private.Turns.{Rests, IsAtRest}
 use Rattle.vc_core.specs.Wired.{out_at, there}
 use Rattle.vc_actor.specs.declared.act.Act.{Act}
@@ -186,7 +186,7 @@ at_rest p s is rests e can = by_act e.act can
     by_act (act.Route i o) can = quiet.acts (act.Route i o) tt can
 
 -- nothing remains of any process, as the code keeps them
-pub ended : (p : Plan) (s : State) → IsNetworkOf p s → ((k : ℕ) (a : Acting) → slice_get s.actors k ≡ Some a → IsDone a) ↔ HaveEnded p s
+pub ended : (p : Plan) (s : State) → IsNetworkOf p s → ((k : ℕ) (a : Acting) → slice_get s.actors k ≡ Some a → IsDone a) ↔ AllHaveEnded p s
 ended p s is = ((λ all k less. to k less all), (λ have k a here. from k a here (is.actors k a here) have))
   where
     node_there : (k : ℕ) (a : Acting) → k < length p.nodes → IsActorOf (network_of p) k a → (n : Node) × (a ≡ OfNode n)
@@ -203,7 +203,7 @@ ended p s is = ((λ all k less. to k less all), (λ have k a here. from k a here
     rest_of : (m n : net.Node Process) → net.IsNode m ≡ net.IsNode n → n.process.state.rest ≡ Done → m.process.state.rest ≡ Done
     rest_of m n e done = let same : m ≡ n = cc in ap (λ (z : net.Node Process). z.process.state.rest) same ∙ done
 
-    from : (k : ℕ) (a : Acting) → slice_get s.actors k ≡ Some a → IsActorOf (network_of p) k a → HaveEnded p s → IsDone a
+    from : (k : ℕ) (a : Acting) → slice_get s.actors k ≡ Some a → IsActorOf (network_of p) k a → AllHaveEnded p s → IsDone a
     from k (OfNode n) here (less, of) have = let m = have k less in rest_of (node_of n) m.0 (sym (state_at s k (OfNode n) here) ∙ m.1) m.2
     from k (OfSwitch x) here of have = tt
 

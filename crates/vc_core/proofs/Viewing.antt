@@ -10,7 +10,8 @@ use Rattle.vc_core.specs.Channels.{IsChannelOf}
 use Rattle.vc_core.specs.declared.channels.ChannelInfo.{ChannelInfo}
 use Rattle.vc_accepted.specs.NetworkOf.{network_of}
 use Rattle.vc_switch.specs.Switch.{new_switch}
-use Rattle.vc_vcp.specs.Keyed.{named, shown_or}
+use Rattle.vc_vcp.specs.Keyed.{named}
+use Rattle.vc_packets.specs.Functions.{shown_or}
 use Rattle.vc_vcp.specs.Seen.{seen}
 use Rattle.vc_actor.specs.OfPlan.{AreInside}
 use Rattle.vc_actor.specs.Shown.{Acting, OfNode, OfSwitch, actor_of, view_of, views_of}

@@ -41,13 +41,13 @@ pub record Replays (p : Plan) (events : List Event) (s : State) : Type 0 where
   pub runs : RunsTo p events (shown s)
 
 -- an event is refused for what it is, and not for want of memory, exactly where it is none of the network
-abbrev pub IsCause : Plan → State → Event → StepRefused → Type 0
-IsCause p s e cause = cause ≡ why.NotEnabled ↔ (CanHappen p s e → ⊥)
+abbrev pub IsWhyRefused : Plan → State → Event → StepRefused → Type 0
+IsWhyRefused p s e cause = cause ≡ why.NotEnabled ↔ (CanHappen p s e → ⊥)
 
 -- the first event that is refused, why, and the network before it
 abbrev pub RefusedIn : Plan → List Event → ℕ → Option Network → StepRefused → Type 0
 RefusedIn p events index None cause = (index ≡ 0) × (cause ≡ why.Memory)
-RefusedIn p events index (Some network) cause = (e : Event) × (slice_get events index ≡ Some e) × Replays p (take index events) (state_of network) × IsCause p (state_of network) e cause
+RefusedIn p events index (Some network) cause = (e : Event) × (slice_get events index ≡ Some e) × Replays p (take index events) (state_of network) × IsWhyRefused p (state_of network) e cause
 
 abbrev pub RefusedAt : Plan → List Event → ReplayRefused → Type 0
 RefusedAt p events refused = RefusedIn p events refused.index refused.state refused.why

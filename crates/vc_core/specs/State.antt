@@ -11,7 +11,7 @@ use Rattle.vc_accepted.specs.NetworkOf.{network_of}
 use Rattle.vc_switch.specs.Switch.{new_switch}
 use Rattle.vc_switch.specs.Waiting.{Wormhole}
 use Rattle.vc_tokens.specs.Tokens.{Token}
-use Rattle.vc_vcp.specs.Keyed.{shown_or}
+use Rattle.vc_packets.specs.Functions.{shown_or}
 use Rattle.vc_core.specs.Channels.{AreChannelsOf}
 use Rattle.vc_actor.specs.Acting.{MayAct}
 use Rattle.vc_actor.specs.OfPlan.{IsActorOf}

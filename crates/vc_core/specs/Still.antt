@@ -1,14 +1,16 @@
 -- Where no event can happen but moves of processes, and where the packets are then.
-use Rattle.std.specs.Prelude.{◌≡◌, ℕ, ◌<◌, Bool, false, List, [], length, Some}
-use Rattle.std.specs.List.{Contains}
+use Rattle.std.specs.Prelude.{◌≡◌, ℕ, ◌≤◌, ◌<◌, Bool, false, List, [], length, map, Some}
+use Rattle.std.specs.List.{AllByRecursion, Contains}
 use Rattle.vc_network.specs.Actors.{Network}
 use Rattle.vc_packets.specs.declared.packet.Packet.{Packet}
 use Rattle.vc_tokens.specs.Tokens.{Token}
 use Rattle.vc_machine.specs.Places.{Place, Queue, OnWire, Inside, Held}
-use Rattle.vc_network.specs.Network.{Actor}
+use Rattle.vc_network.specs.Network.{Actor, HappenAll}
 use Rattle.vc_network.specs.Plan.{Plan, Way, home, ways}
 use Rattle.vc_network.specs.Views.{vcps, sink_node, everywhere}
 use Rattle.vc_accepted.specs.NetworkOf.{network_of}
+use Rattle.vc_accepted.specs.Process.{does}
+use Rattle.vc_switch.specs.Waiting.{Wormhole}
 use Rattle.vc_plan.specs.Dependencies.{HasRanks}
 use Rattle.vc_plan.specs.declared.plan.Plan.{Plan as Given}
 use Rattle.vc_actor.specs.declared.act.Act.{Act}
@@ -16,7 +18,7 @@ use Rattle.vc_actor.specs.declared.act.Act.TheVariants.{Proc, Take, Put, Route, 
 use Rattle.vc_core.specs.Enabled.{NetworkState, CanHappen}
 use Rattle.vc_core.specs.Placed.{IsUnfinishedIn}
 use Rattle.vc_core.specs.Replaying.{Reached}
-use Rattle.vc_core.specs.State.{State, shown}
+use Rattle.vc_core.specs.State.{State, shown, event_of}
 use Rattle.vc_core.specs.declared.event.Event.{Event}
 
 -- a move of the actor's process
@@ -63,3 +65,12 @@ pub record IsHeldUp (p : Given) (x : NetworkState) : Type 0 where
 -- wherever a run has come, if the network's ports have ranks, and no event can happen but moves of processes, it is held up so
 abbrev pub OnlyProcessesHold : Type 0
 OnlyProcessesHold = (p : Given) (made : List Event) (s : State) → HasRanks p → Reached p made s → OnlyMoves p s → IsHeldUp p (shown s)
+
+-- no list of events without moves of processes is longer that can happen from here on
+abbrev pub BoundsEvents : Given → State → ℕ → Type 0
+BoundsEvents p s bound =
+    (later : List Event) (x : NetworkState) → AllByRecursion NoMove later → HappenAll (network_of p) Wormhole does (shown s) (map event_of later) x → length later ≤ bound
+
+-- wherever a run has come, if the network's ports have ranks, there is such a bound
+abbrev pub EndsWithoutMoves : Type 0
+EndsWithoutMoves = (p : Given) (made : List Event) (s : State) → HasRanks p → Reached p made s → (bound : ℕ) × BoundsEvents p s bound

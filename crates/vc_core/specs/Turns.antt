@@ -8,7 +8,7 @@ use Rattle.vc_actor.specs.declared.act.Act.{Act}
 use Rattle.vc_actor.specs.declared.act.Act.TheVariants.{Take}
 use Rattle.vc_actor.specs.declared.act.ActKind.{ActKind}
 use Rattle.vc_core.specs.declared.event.Event.{Event}
-use Rattle.vc_placement.specs.OneNode as one_node
+use Rattle.vc_placement.specs.OneNode.{HaveEnded}
 
 -- an event of actor k that takes no token, or none where none can happen
 abbrev pub FindsEvent : Given → State → ℕ → Option Event → Type 0
@@ -35,8 +35,5 @@ abbrev pub IsAtRestIn : Given → NetworkState → Type 0
 IsAtRestIn p x = (e : Event) → CanHappenIn p x e → ⊥
 
 -- nothing remains of any node's process
-abbrev pub HaveEndedIn : Given → NetworkState → Type 0
-HaveEndedIn p x = one_node.HaveEnded p x
-
-abbrev pub HaveEnded : Given → State → Type 0
-HaveEnded p s = HaveEndedIn p (shown s)
+abbrev pub AllHaveEnded : Given → State → Type 0
+AllHaveEnded p s = HaveEnded p (shown s)

@@ -1,6 +1,6 @@
 //! Laws of networks. A law is a function that does nothing, whose contract is the law.
 ghost use Rattle.vc_core.specs.Scheduling.{EventsLeadOn};
-ghost use Rattle.vc_core.specs.Still.{OnlyProcessesHold};
+ghost use Rattle.vc_core.specs.Still.{OnlyProcessesHold, EndsWithoutMoves};
 
 /// What a scheduler of one's own rests on: events that are made one after another, from the opening state on, are a list that leads to
 /// the network's state. Whatever was chosen, the headline holds there, and what the nodes communicated has a linearization. The headline
@@ -15,4 +15,12 @@ pub fn events_lead_on()
 #[tactic(auto, using(crate::proofs::Still::only_processes_hold))]
 pub fn only_processes_hold_it_up()
     ensures { OnlyProcessesHold }
+{}
+
+/// In a network whose dependencies have no cycle, wherever a run has come, the number of events that can follow without a move of a
+/// process has a bound. So whichever of them happen, the network comes to where only processes can go on, and
+/// `only_processes_hold_it_up` says where its packets are then.
+#[tactic(auto, using(crate::proofs::Descent::ends_without_moves))]
+pub fn a_run_without_processes_ends()
+    ensures { EndsWithoutMoves }
 {}

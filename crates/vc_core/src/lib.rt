@@ -29,7 +29,7 @@ mod wiring;
 
 pub use close::Close;
 pub use event::Event;
-pub use laws::{events_lead_on, only_processes_hold_it_up};
+pub use laws::{a_run_without_processes_ends, events_lead_on, only_processes_hold_it_up};
 pub use network::{Network, replay};
 pub use place::Place;
 pub use refused::{ReplayRefused, StepRefused};

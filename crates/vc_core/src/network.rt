@@ -8,7 +8,7 @@ ghost use Rattle.vc_plan.specs.Accepted.{port_of as side_of};
 ghost use Rattle.vc_plan.specs.declared.channel.Channel.{Channel};
 ghost use Rattle.vc_accepted.specs.NetworkOf.{network_of};
 ghost use Rattle.vc_accepted.specs.Outgoing.{link_port};
-ghost use Rattle.vc_vcp.specs.Keyed.{shown_or};
+ghost use Rattle.vc_packets.specs.Functions.{shown_or};
 ghost use Rattle.vc_network.specs.Plan.{home, IsOutOf};
 ghost use Rattle.vc_network.specs.Views.{view, source_node, sink_node, vcps};
 ghost use Rattle.vc_core.specs.Blocking.{blocked_in, blocked_of as blocked_as};
@@ -24,7 +24,7 @@ ghost use Rattle.std.specs.List.{sum_by};
 ghost use Rattle.vc_actor.specs.OfPlan.{IsActorOf};
 ghost use Rattle.vc_actor.specs.Shown.{Acting, actor_of};
 ghost use Rattle.vc_actor.specs.Turns.{actors};
-ghost use Rattle.vc_core.specs.Turns.{FindsFront, FindsTake, FindsEvent, FindsEventOf, HaveEnded};
+ghost use Rattle.vc_core.specs.Turns.{FindsFront, FindsTake, FindsEvent, FindsEventOf, AllHaveEnded};
 ghost use Rattle.vc_core.specs.Private.Turns.{IsRoom};
 ghost use Rattle.vc_core.specs.declared.event.Event.{Event as Happening};
 ghost use Rattle.vc_core.specs.State.{shown, state_of, IsNetworkOf, MayHappen, WaysLet, HasFront, HasWay, MakesEvent, MakesOne, MayActAt};
@@ -584,7 +584,7 @@ impl Network {
     pub fn ended(&self) -> bool
         ensures { (p : Plan) →
             IsNetworkOf p (state_of self.now) →
-            IsTrue result ↔ HaveEnded p (state_of self.now) }
+            IsTrue result ↔ AllHaveEnded p (state_of self.now) }
     {
         for actor in &self.actors {
             if !is_done(actor) {
@@ -629,10 +629,14 @@ impl Network {
     /// The token at the end of the way that goes out by an actor's link, which was put last of those that stand there. None where none
     /// stands there, or no way goes out by the link.
     pub fn last_put(&self, actor: u8, link: u8) -> Option<Token>
-        ensures { (p : Plan) (way : ℕ) →
+        ensures token { (p : Plan) (way : ℕ) →
             IsNetworkOf p (state_of self.now) →
             IsOutOf (network_of p) way (link_port p actor link) →
             option_map spelt result ≡ last_of ((shown (state_of self.now)).way way) }
+        ensures none { (p : Plan) →
+            IsNetworkOf p (state_of self.now) →
+            ((way : ℕ) → IsOutOf (network_of p) way (link_port p actor link) → ⊥) →
+            result ≡ None }
     {
         match self.lines.outgoing(actor, link) {
             Some(way) => last_at(self.lines.ways(), way),

@@ -36,7 +36,8 @@ impl Model for Wiring {
 
     ghost view = { λ x. x.out.items };
 
-    ghost invariant = { λ x. AreRooms x.out.items x.rooms.items × AreEnds x.out.items x.ends.items };
+    ghost invariant = { λ x.
+        AreRooms x.out.items x.rooms.items × AreEnds x.out.items x.ends.items };
 }
 
 impl Wiring {

@@ -1,6 +1,6 @@
 -- What a refusal names, by its path in the network file.
-use Rattle.std.specs.Prelude.{ℕ, ◌==◌, ◌&&◌, ◌||◌, Bool, true, false, if◌then◌else◌, List, [], ◌∷◌, ◌++◌, take, Option, Some, None, slice_get}
-use Rattle.std.specs.List.{enumerate_from, flat_map}
+use Rattle.std.specs.Prelude.{ℕ, ◌==◌, ◌&&◌, ◌||◌, Bool, true, false, not, if◌then◌else◌, List, [], ◌∷◌, ◌++◌, take, Option, Some, None, slice_get}
+use Rattle.std.specs.List.{enumerate_from, flat_map, position}
 use Rattle.vc_plan.specs.declared.channel.Channel.{Channel}
 use Rattle.vc_plan.specs.declared.check_refused.CheckRefused.{CheckRefused}
 use Rattle.vc_plan.specs.declared.check_refused.CheckRefused.TheVariants as check
@@ -14,6 +14,7 @@ use Rattle.vc_plan.specs.declared.port.Spot.TheVariants.{Node, Switch}
 use Rattle.vc_plan.specs.declared.port.Wire.{Wire}
 use Rattle.vc_plan.specs.declared.vlink.End.{End}
 use Rattle.vc_plan.specs.declared.vlink.Vlink.{Vlink}
+use Rattle.vc_plan.specs.Limits.{depth_ok, ends_ok, parts_ok, random_ok, routes_ok, rows_ok, switch_links_ok, vars_ok, wire_ok}
 use Rattle.vc_plan.specs.Wires.{same_port}
 use Rattle.vc_reader.specs.declared.path.Step.{Step}
 use Rattle.vc_reader.specs.declared.path.Step.TheVariants.{Field, Index}
@@ -32,19 +33,41 @@ path_of (Item list n) = Field list ∷ Index n ∷ []
 path_of (Part list n field) = Field list ∷ Index n ∷ Field field ∷ []
 path_of (Place path) = path
 
--- the field of the file that breaks a limit, where it is one of the file and not of a part
-abbrev pub limited_field : LimitWord → Option Word
-limited_field limit.Version = Some word.Version
-limited_field limit.Nodes = Some word.Nodes
-limited_field limit.Switches = Some word.Switches
-limited_field limit.Wires = Some word.Wires
-limited_field limit.Vlinks = Some word.Vlinks
-limited_field limit.Channels = Some word.Channels
-limited_field limit = None
+-- the number of the first that fails a test
+abbrev pub first_failing : {A : Type 0} → (A → Bool) → List A → Option ℕ
+first_failing test xs = position (λ x. not (test x)) xs
 
-abbrev pub of_limit : Option Word → List Offender
-of_limit None = []
-of_limit (Some field) = All field ∷ []
+-- an item of a list, if there is one, or a field of it
+abbrev pub of_item : Word → Option ℕ → List Offender
+of_item list None = []
+of_item list (Some n) = Item list n ∷ []
+
+abbrev pub of_part : Word → Word → Option ℕ → List Offender
+of_part list field None = []
+of_part list field (Some n) = Part list n field ∷ []
+
+-- the wire of this number, else the virtual link, else the switch
+abbrev pub of_first : Option ℕ → Option ℕ → Option ℕ → List Offender
+of_first (Some wire) vlink switch = Item word.Wires wire ∷ []
+of_first None (Some vlink) switch = Item word.Vlinks vlink ∷ []
+of_first None None switch = of_item word.Switches switch
+
+-- the first part that breaks a limit, or the field of the file that does
+abbrev pub of_limit : Plan → LimitWord → List Offender
+of_limit plan limit.Version = All word.Version ∷ []
+of_limit plan limit.Nodes = All word.Nodes ∷ []
+of_limit plan limit.Switches = All word.Switches ∷ []
+of_limit plan limit.Wires = All word.Wires ∷ []
+of_limit plan limit.Vlinks = All word.Vlinks ∷ []
+of_limit plan limit.Channels = All word.Channels ∷ []
+of_limit plan limit.Vars = of_part word.Nodes word.Vars (first_failing vars_ok plan.nodes)
+of_limit plan limit.Rows = of_part word.Switches word.Table (first_failing rows_ok plan.switches)
+of_limit plan limit.Route = of_item word.Vlinks (first_failing routes_ok plan.vlinks)
+of_limit plan limit.Link = of_first (first_failing wire_ok plan.wires) (first_failing ends_ok plan.vlinks) (first_failing switch_links_ok plan.switches)
+of_limit plan limit.Random = of_part word.Switches word.Random (first_failing random_ok plan.switches)
+of_limit plan limit.Depth = of_part word.Nodes word.Process (first_failing depth_ok plan.nodes)
+of_limit plan limit.Parts = of_part word.Nodes word.Process (first_failing parts_ok plan.nodes)
+of_limit plan other = []
 
 abbrev pub of_spot : Spot → Offender
 of_spot (Node n) = Item word.Nodes n
@@ -101,7 +124,7 @@ of_usage node (Some places) = Place places.first ∷ Place places.second ∷ []
 
 -- what a refusal names, in the order in which it is told
 abbrev pub offenders : Plan → CheckRefused → List Offender
-offenders plan (check.Limit word) = of_limit (limited_field word)
+offenders plan (check.Limit word) = of_limit plan word
 offenders plan (check.PortTwice port) = of_spot port.spot ∷ of_port plan.wires port
 offenders plan (check.PortMissing port) = of_spot port.spot ∷ []
 offenders plan (check.BlockTwice node block) = Item word.Nodes node ∷ of_block plan.vlinks node block

@@ -11,9 +11,9 @@ use Rattle.vc_reader.specs.declared.refused.ReadRefused.TheVariants as read
 
 -- a text that is refused
 abbrev pub text_sentence : ReadRefused → List ℕ
-text_sentence read.Json = codes "The text is no JSON at the place below, or just before it. Look for a comma, a colon, a quote or a bracket that is missing or too many."
+text_sentence read.Json = codes "The text is no JSON at the place below, or just before it. Look for a comma, a colon, a quote or a bracket that is missing or too many. A text that is empty, begins with a byte order mark, is no UTF-8 or nests more than 127 deep is none, too."
 text_sentence (read.Missing path) = codes "The object lacks a field that it must have. Write the field that stands last in the path."
-text_sentence (read.Kind path) = codes "The value is not of the kind that its place wants, or it is a name of a wrong form, or one that is given already. Write a value of that kind, or another name."
+text_sentence (read.Kind path) = codes "The value is not of the kind, or the list not of the length, that its place wants, or it is a name of a wrong form, or one that is given already. Write a value of that kind, or another name."
 text_sentence (read.Range path) = codes "The number is less or greater than its place allows, or the text is longer than 65,535 bytes. Write one that fits."
 text_sentence (read.Unknown path) = codes "The name is that of nothing in the network, or the object has a field that the format does not know. Correct its spelling, or write what it names."
 text_sentence read.Memory = []

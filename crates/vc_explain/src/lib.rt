@@ -13,6 +13,7 @@
 mod explanation;
 mod laws;
 mod lengths;
+mod limits;
 mod misuse;
 mod offence;
 mod offender;

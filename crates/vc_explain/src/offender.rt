@@ -1,10 +1,14 @@
 //! What a refusal names.
 ghost use Rattle.std.specs.Prelude.{◌≡◌, ◌++◌, ◌∷◌, [], IfOk, OnOk, Some, slice_get};
 ghost use Rattle.std.specs.List.{enumerate_from, flat_map};
-ghost use Rattle.vc_explain.specs.Offenders.{end_field as field_of_end, has_block as has_block_of, of_block, limited_field as limited_field_of, of_channel, of_limit, of_misuse, of_path, of_port, of_spot, of_usage, of_vlink, of_wire, offenders as offenders_of, path_of};
+ghost use Rattle.vc_explain.specs.Offenders.{end_field as field_of_end, has_block as has_block_of, of_block, of_channel, of_first, of_item, of_limit, of_misuse, of_part, of_path, of_port, of_spot, of_usage, of_vlink, of_wire, offenders as offenders_of, path_of};
 ghost use Rattle.vc_explain.specs.Place.{path_line};
 ghost use Rattle.vc_plan.specs.Wires.{same_port, same_spot};
 
+use crate::limits::{
+    bad_end, bad_random, bad_route, bad_switch_link, bad_wire, many_parts, many_rows, many_vars,
+    too_deep,
+};
 use crate::misuse::{earlier_on_way, misuse};
 use crate::offence::{Places, offence_of};
 use crate::place::push_path_line;
@@ -27,26 +31,73 @@ pub enum Offender {
     Place(Items<Step>),
 }
 
-/// The field of the file that breaks a limit, where it is one of the file and not of a part.
-fn limited_field(word: LimitWord) -> Option<Word>
-    ensures { result ≡ limited_field_of word }
+/// An item of a list, if there is one.
+fn push_item(found: &mut Vec<Offender>, list: Word, n: Option<usize>) -> Result<(), Memory>
+    ensures { OnOk result (found.new.items ≡ found.old.items ++ of_item list n) }
 {
-    match word {
-        LimitWord::Version => Some(Word::Version),
-        LimitWord::Nodes => Some(Word::Nodes),
-        LimitWord::Switches => Some(Word::Switches),
-        LimitWord::Wires => Some(Word::Wires),
-        LimitWord::Vlinks => Some(Word::Vlinks),
-        LimitWord::Channels => Some(Word::Channels),
-        _ => None,
+    if let Some(n) = n {
+        found.push(Offender::Item(list, n))?;
     }
+    Ok(())
 }
 
-fn push_limited(found: &mut Vec<Offender>, field: Option<Word>) -> Result<(), Memory>
-    ensures { OnOk result (found.new.items ≡ found.old.items ++ of_limit field) }
+/// A field of an item of a list, if there is such an item.
+fn push_part(
+    found: &mut Vec<Offender>,
+    list: Word,
+    field: Word,
+    n: Option<usize>,
+) -> Result<(), Memory>
+    ensures { OnOk result (found.new.items ≡ found.old.items ++ of_part list field n) }
 {
-    if let Some(field) = field {
-        found.push(Offender::All(field))?;
+    if let Some(n) = n {
+        found.push(Offender::Part(list, n, field))?;
+    }
+    Ok(())
+}
+
+/// The wire of this number, else the virtual link, else the switch.
+fn push_first(
+    found: &mut Vec<Offender>,
+    wire: Option<usize>,
+    vlink: Option<usize>,
+    switch: Option<usize>,
+) -> Result<(), Memory>
+    ensures { OnOk result (found.new.items ≡ found.old.items ++ of_first wire vlink switch) }
+{
+    match (wire, vlink) {
+        (Some(n), _) => found.push(Offender::Item(Word::Wires, n))?,
+        (None, Some(n)) => found.push(Offender::Item(Word::Vlinks, n))?,
+        (None, None) => push_item(found, Word::Switches, switch)?,
+    }
+    Ok(())
+}
+
+/// The first part that breaks a limit, or the field of the file that does.
+fn push_limit(found: &mut Vec<Offender>, plan: &Plan, word: LimitWord) -> Result<(), Memory>
+    ensures { OnOk result (found.new.items ≡ found.old.items ++ of_limit plan.now word) }
+{
+    let (nodes, switches) = (plan.nodes.as_slice(), plan.switches.as_slice());
+    match word {
+        LimitWord::Version => found.push(Offender::All(Word::Version))?,
+        LimitWord::Nodes => found.push(Offender::All(Word::Nodes))?,
+        LimitWord::Switches => found.push(Offender::All(Word::Switches))?,
+        LimitWord::Wires => found.push(Offender::All(Word::Wires))?,
+        LimitWord::Vlinks => found.push(Offender::All(Word::Vlinks))?,
+        LimitWord::Channels => found.push(Offender::All(Word::Channels))?,
+        LimitWord::Vars => push_part(found, Word::Nodes, Word::Vars, many_vars(nodes))?,
+        LimitWord::Rows => push_part(found, Word::Switches, Word::Table, many_rows(switches))?,
+        LimitWord::Route => push_item(found, Word::Vlinks, bad_route(plan.vlinks.as_slice()))?,
+        LimitWord::Link => push_first(
+            found,
+            bad_wire(plan.wires.as_slice()),
+            bad_end(plan.vlinks.as_slice()),
+            bad_switch_link(switches),
+        )?,
+        LimitWord::Random => push_part(found, Word::Switches, Word::Random, bad_random(switches))?,
+        LimitWord::Depth => push_part(found, Word::Nodes, Word::Process, too_deep(nodes))?,
+        LimitWord::Parts => push_part(found, Word::Nodes, Word::Process, many_parts(nodes))?,
+        _ => {}
     }
     Ok(())
 }
@@ -223,7 +274,7 @@ pub(crate) fn offenders(
 {
     let mut found = Vec::new(alloc);
     match why {
-        CheckRefused::Limit(word) => push_limited(&mut found, limited_field(*word))?,
+        CheckRefused::Limit(word) => push_limit(&mut found, plan, *word)?,
         CheckRefused::PortTwice(port) => {
             found.push(spot_item(port.spot))?;
             found.append(&mut wires_at(alloc, plan.wires.as_slice(), *port)?)?;

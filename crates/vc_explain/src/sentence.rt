@@ -12,11 +12,11 @@ pub(crate) fn text_sentence(refused: &ReadRefused) -> &'static str
 {
     match refused {
         ReadRefused::Json =>
-            "The text is no JSON at the place below, or just before it. Look for a comma, a colon, a quote or a bracket that is missing or too many.",
+            "The text is no JSON at the place below, or just before it. Look for a comma, a colon, a quote or a bracket that is missing or too many. A text that is empty, begins with a byte order mark, is no UTF-8 or nests more than 127 deep is none, too.",
         ReadRefused::Missing(_) =>
             "The object lacks a field that it must have. Write the field that stands last in the path.",
         ReadRefused::Kind(_) =>
-            "The value is not of the kind that its place wants, or it is a name of a wrong form, or one that is given already. Write a value of that kind, or another name.",
+            "The value is not of the kind, or the list not of the length, that its place wants, or it is a name of a wrong form, or one that is given already. Write a value of that kind, or another name.",
         ReadRefused::Range(_) =>
             "The number is less or greater than its place allows, or the text is longer than 65,535 bytes. Write one that fits.",
         ReadRefused::Unknown(_) =>

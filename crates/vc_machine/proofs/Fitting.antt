@@ -19,7 +19,7 @@ use Rattle.vc_machine.proofs.Update.{every_put}
 use Rattle.vc_machine.proofs.Heads.{same_switch}
 use Rattle.vc_machine.proofs.TokenCover.{follows, onward}
 
-spelled_length : (s : List ℕ) → length (spelled s) ≡ 2 * length s
+pub spelled_length : (s : List ℕ) → length (spelled s) ≡ 2 * length s
 spelled_length [] = omega arith
 spelled_length (h ∷ hs) = omega (arith, spelled_length hs)
 
@@ -36,7 +36,7 @@ left_shorter : (b : Bool) (h : ℕ) (rest : List ℕ) → length (if b then rest
 left_shorter true h rest = omega arith
 left_shorter false h rest = omega arith
 
-leaves_shorter : (net : Net) (n : ℕ) (s : List ℕ) (w : ℕ) (t : List ℕ) → Leaves net n s w t → length t ≤ length s
+pub leaves_shorter : (net : Net) (n : ℕ) (s : List ℕ) (w : ℕ) (t : List ℕ) → Leaves net n s w t → length t ≤ length s
 leaves_shorter net n s w t l =
     let a = without_shorter (net.switch n).table s in
     let b = ap length l.front in

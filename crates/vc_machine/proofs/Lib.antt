@@ -45,3 +45,8 @@ pub mod Ways
 pub mod Owned
 pub mod Short
 pub mod Still
+pub mod Totals
+pub mod Weights
+pub mod Dependency
+pub mod Dues
+pub mod Descent

@@ -5,6 +5,7 @@
 -- token could be put, and where it has not come, the way before has credit and a packet that is being put on it. From the greater
 -- ranks down: no input has a whole packet, since each way by which it may leave has credit and is free.
 use Rattle.std.proofs.Common.{◌≡◌, ℕ, zero, suc, ◌+◌, ◌*◌, ◌<◌, ◌≤◌, inl, inr, List, [], ◌∷◌, ◌++◌, length, refl, sym, ap, subst, ◌∙◌, arith, Option, Some, None, append-nil, append_assoc}
+use Rattle.std.specs.List.{AllByRecursion}
 use Rattle.std.proofs.lemmas.Bool.{cases_lt}
 use Rattle.vc_packets.specs.declared.mark.Mark.{Mark}
 use Rattle.vc_packets.specs.declared.packet.Packet.{Packet}
@@ -38,7 +39,7 @@ use Rattle.vc_machine.proofs.Cover.{spelled_behind}
 use Rattle.vc_machine.proofs.Crediting.{no_counts}
 use Rattle.vc_machine.proofs.Refinement.{no_view, run_counts}
 use Rattle.vc_machine.proofs.Limits.{Reached, run_reached, puts_go_on}
-use Rattle.vc_machine.proofs.Fitting.{limits, all_fit}
+use Rattle.vc_machine.proofs.Fitting.{limits, packets_fit, all_fit}
 
 -- Lists of tokens
 
@@ -96,7 +97,7 @@ depends net most w n i out drawn b d f far draw l =
     record { headers = f.stack; drawn = drawn; switch = n; link = i; after = g.after; stands = f.stands; far = far; draw = draw; leaves = g.leaves }
 
 -- a rank that no way of these passes
-bounded : (rank : ℕ → ℕ) (n : ℕ) → (top : ℕ) × ((w : ℕ) → w < n → rank w ≤ top)
+pub bounded : (rank : ℕ → ℕ) (n : ℕ) → (top : ℕ) × ((w : ℕ) → w < n → rank w ≤ top)
 bounded rank zero = (0, λ w h. absurd (let f : w < 0 = h in omega arith))
 bounded rank (suc n) =
     let b = bounded rank n in (
@@ -121,6 +122,7 @@ pub record Standing (net : Net) (back : ℕ → ℕ) (waiting : Waiting) (most :
   pub fit : AllFit net (FitsWay net most) state
   pub ahead : Ahead net (FitsWay net most) t
   pub puts : PutsGoOn net back waiting t
+  pub pieces : (c : ℕ) → AllByRecursion (λ (d : List ℕ). length d ≤ 32) (state.chans c).unacked
 
 -- way x can carry a token, and no packet is being put on it
 record IsUnused (net : Net) (t : Tokens) (x : ℕ) : Type 0 where
@@ -402,6 +404,7 @@ stands net back waiting most acc has wires es u run =
       fit = fit;
       ahead = r.ahead;
       puts = puts_go_on net back waiting (FitsWay net most) (2 * most + 32) u r.after lim fit r.view r.bindings r.ahead;
+      pieces = (let f = packets_fit net most acc has r.events r.after r.run in f.pieces);
     }
 
 pub still_is_clear : (net : Net) (back : ℕ → ℕ) (waiting : Waiting) → StillIsClear net back waiting

@@ -1,5 +1,6 @@
 -- A still network: only processes can go on. And a clear way: no packet is on it or waits for it.
-use Rattle.std.specs.Prelude.{◌≡◌, ℕ, ◌<◌, List, [], None}
+use Rattle.std.specs.Prelude.{◌≡◌, ℕ, ◌≤◌, ◌<◌, List, [], length, None}
+use Rattle.std.specs.List.{AllByRecursion}
 use Rattle.vc_machine.specs.Paths.{AtNode, Net, IsAccepted}
 use Rattle.vc_machine.specs.Links.{Tokens, Wires, no_tokens}
 use Rattle.vc_machine.specs.TokenMachine.{TokenEvent, Proc, Take, Pass, Put, PutFct, Route, TokenStep, TokenRun}
@@ -40,3 +41,10 @@ abbrev pub StillIsClear : Net → (ℕ → ℕ) → Waiting → Type 0
 StillIsClear net back waiting =
     (most : ℕ) → IsAccepted net → HasHeaders net most → HasRanks net → Wires net back → BackStays net back → (es : List TokenEvent) (u : Tokens) →
     TokenRun net back waiting no_tokens es u → IsStill net back waiting u → (w : ℕ) → w < net.ways → IsClear net u w
+
+-- on an accepted network whose ways have ranks, wherever a run has come, the state bounds how many events follow before a process moves
+abbrev pub RunsEnd : Net → (ℕ → ℕ) → Waiting → Type 0
+RunsEnd net back waiting =
+    (most : ℕ) → IsAccepted net → HasHeaders net most → HasRanks net → Wires net back → BackStays net back →
+    (bound : Tokens → ℕ) × ((es later : List TokenEvent) (u v : Tokens) → TokenRun net back waiting no_tokens es u → AllByRecursion MovesTokens later →
+    TokenRun net back waiting u later v → length later ≤ bound u)

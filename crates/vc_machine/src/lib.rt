@@ -18,7 +18,7 @@ ghost use Rattle.vc_machine.specs.View.{TokenView, Bindings};
 ghost use Rattle.vc_machine.specs.Seen.{seen};
 ghost use Rattle.vc_machine.specs.Laws.{Ranges, StepsAreSteps, RunsAreRuns, BuffersHold, RunsAreSound};
 ghost use Rattle.vc_machine.specs.TokenHeadline.{TokensKeepHeadline};
-ghost use Rattle.vc_machine.specs.Still.{StillIsClear};
+ghost use Rattle.vc_machine.specs.Still.{StillIsClear, RunsEnd};
 
 /// The headline over packets: on an accepted network, after any list of steps, each channel's taken messages are the first of its
 /// offered ones, each once, whole and in order; finished outputs are no more than taken messages; after a stop nothing more is
@@ -169,4 +169,11 @@ pub fn a_packet_goes_on_before_its_mark()
 /// that is there is held at its receiver. It holds in store and forward and in wormhole alike.
 pub fn a_still_network_is_clear()
     ensures { (net : Net) (back : ℕ → ℕ) (waiting : Waiting) → StillIsClear net back waiting }
+{}
+
+/// The network's ways have ranks that rise along each dependency. Then from wherever a run has come, so many events can follow that are
+/// no moves of processes, and no more, whichever they are and in whatever order. The bound is a function of the state alone. It holds in
+/// store and forward and in wormhole alike.
+pub fn a_run_without_processes_ends()
+    ensures { (net : Net) (back : ℕ → ℕ) (waiting : Waiting) → RunsEnd net back waiting }
 {}

@@ -32,3 +32,4 @@ pub mod Wires
 pub mod Wiring
 pub mod Writes
 pub mod Able
+pub mod Descent

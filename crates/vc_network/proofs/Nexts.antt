@@ -1,7 +1,7 @@
 -- Each step of the network keeps what is good, and what it says is its process's part and each channel's part.
 use Rattle.std.proofs.Common.{◌≡◌, ◌≢◌, ℕ, ◌+◌, ◌<◌, ◌≤◌, inl, inr, true, false, List, [], ◌∷◌, ◌++◌, length, Option, Some, None, refl, sym, ap, subst, ◌∙◌, arith, append-nil, length-append, slice_get}
 use Rattle.std.proofs.lemmas.Bool.{cases_eq}
-use Rattle.vc_network.specs.Actors.{Label, Network, Step, taken_off, put_on}
+use Rattle.vc_network.specs.Actors.{Label, Network, Step, taken_off, put_on, act_of}
 use Rattle.vc_network.specs.Actors.Label.{Own, Takes, Puts}
 use Rattle.vc_machine.specs.Paths.{Net, AtNode, AtSwitch}
 use Rattle.vc_machine.specs.Rendezvous.{View, Comm, Out, In, Fin, Stp, DoesAll, part}
@@ -17,6 +17,7 @@ use Rattle.vc_machine.specs.Links.{Tokens}
 use Rattle.vc_switch.specs.Waiting.{Waiting}
 use Rattle.vc_machine.specs.TokenMachine.{TokenEvent, TokenRun, IsProc}
 use Rattle.vc_machine.specs.TokenMachine as tok
+use Rattle.vc_machine.specs.Still.{MovesTokens}
 use Rattle.vc_vcp.specs.Steps as node
 use Rattle.vc_vcp.specs.Links as links
 use Rattle.vc_vcp.specs.Links.{Vcp}
@@ -26,6 +27,7 @@ use Rattle.vc_network.specs.Plan.{body_limit, Plan, Inside, home, ends, way_from
 use Rattle.vc_network.specs.Processes.{Move, Offer, Want, Choose, Stopch, Inner, Quiet, StepRelation, Trace, none, more, comms, input_of}
 use Rattle.vc_process.specs.ProcessStep.{ProcessStep, Offers, Wants, Chooses, Stops, Meets, Rests, Finishes, Receives}
 use Rattle.vc_network.specs.Network.{Act, Proc, Take, Put, Route, Fct, Pass, Node, Actor, IsNode, IsSwitch, exchanged, ByHalves, Moves, GoesOn, NodeStep, SwitchStep, Local}
+use Rattle.vc_network.specs.Still.{IsNoMove}
 use Rattle.vc_network.specs.Views.{vcp_of, inner_of, switch_of, vcps, switches, view}
 use Rattle.vc_network.proofs.Backs.{back_into}
 use Rattle.vc_network.proofs.Seen.{Sees}
@@ -45,11 +47,12 @@ process_of d (IsNode a) = a.process
 process_of d (IsSwitch s) = d
 
 -- the step of an actor, and what it says
-pub record Next {P : Type 0} (plan : Plan) (waiting : Waiting) (Does : StepRelation P) (s u : Network (Actor P) Token) (t : Tokens) (n : ℕ) : Type 0 where
+pub record Next {P : Type 0} (plan : Plan) (waiting : Waiting) (Does : StepRelation P) (s u : Network (Actor P) Token) (t : Tokens) (n : ℕ) (act : Act) : Type 0 where
   pub ks : List (ℕ × Comm)
   pub new : Tokens
   pub events : List TokenEvent
   pub single : length events ≤ 1
+  pub moves : IsNoMove act → (e : TokenEvent) × (events ≡ e ∷ []) × MovesTokens e
   pub run : TokenRun (net_of plan) back waiting t events new
   pub good : Good plan u new
   pub views : (c : ℕ) → DoesAll (view plan s c) (part c ks) (view plan u c)
@@ -152,9 +155,9 @@ module _ {P : Type 0} (plan : Plan) (waiting : Waiting) (Does : StepRelation P) 
     ]
 
     -- a step that a step of the token machine of ways follows
-    outer : (e : TokenEvent) (ks : List (ℕ × Comm)) (lines : ℕ → List Token) → lines ≡ u.way → b.inner ≡ a.inner → VcpHomed plan n b.vcp → Trace Does a.process ks b.process →
-        TokenLifted plan waiting (put (vcps s) n b.vcp) (switches plan s) lines t e ks → Next plan waiting Does s u t n
-    outer e ks lines el same home tr l =
+    outer : (act : Act) (e : TokenEvent) → (IsNoMove act → MovesTokens e) → (ks : List (ℕ × Comm)) (lines : ℕ → List Token) → lines ≡ u.way → b.inner ≡ a.inner → VcpHomed plan n b.vcp → Trace Does a.process ks b.process →
+        TokenLifted plan waiting (put (vcps s) n b.vcp) (switches plan s) lines t e ks → Next plan waiting Does s u t n act
+    outer act e own ks lines el same home tr l =
         let sound = sound_step plan waiting t e l.new acc g.sound l.step in
         let shows : Shows plan (vcps u) (switches plan u) u.way l.new =
         subst (λ z. Shows plan z (switches plan u) u.way l.new) (node_vcps plan s u n b eb others)
@@ -165,6 +168,7 @@ module _ {P : Type 0} (plan : Plan) (waiting : Waiting) (Does : StepRelation P) 
           new = l.new;
           events = e ∷ [];
           single = omega arith;
+          moves = λ h. (e, refl, own h);
           run = (l.new, l.step, refl);
           good = record {
             shows = shows;
@@ -190,15 +194,16 @@ module _ {P : Type 0} (plan : Plan) (waiting : Waiting) (Does : StepRelation P) 
         (subst (λ z. Shows plan (vcps s) (switches plan s) z t) (sym el) g.shows))
 
     -- a step inside the node
-    inside : u.way ≡ s.way → (c : ℕ) (x : View) (ks : List Comm) → home plan c ≡ Inside n → ByOneEvent (home plan c) ks → b.vcp ≡ a.vcp → b.inner ≡ put a.inner c x → DoesAll (a.inner c) ks x → InnerFits x →
-        Trace Does a.process (on c ks) b.process → Next plan waiting Does s u t n
-    inside el c x ks e few carrier inner does fits tr =
+    inside : (move : Move) → u.way ≡ s.way → (c : ℕ) (x : View) (ks : List Comm) → home plan c ≡ Inside n → ByOneEvent (home plan c) ks → b.vcp ≡ a.vcp → b.inner ≡ put a.inner c x → DoesAll (a.inner c) ks x → InnerFits x →
+        Trace Does a.process (on c ks) b.process → Next plan waiting Does s u t n (Proc move)
+    inside move el c x ks e few carrier inner does fits tr =
         let shows = same_shows el carrier in
         record {
           ks = on c ks;
           new = t;
           events = [];
           single = omega arith;
+          moves = λ h. absurd h;
           run = refl;
           good = record {
             shows = shows;
@@ -220,14 +225,15 @@ module _ {P : Type 0} (plan : Plan) (waiting : Waiting) (Does : StepRelation P) 
         }
 
     -- nothing but the process changes
-    alone : u.way ≡ s.way → b.vcp ≡ a.vcp → b.inner ≡ a.inner → Trace Does a.process [] b.process → Next plan waiting Does s u t n
-    alone el carrier inner tr =
+    alone : (move : Move) → u.way ≡ s.way → b.vcp ≡ a.vcp → b.inner ≡ a.inner → Trace Does a.process [] b.process → Next plan waiting Does s u t n (Proc move)
+    alone move el carrier inner tr =
         let shows = same_shows el carrier in
         record {
           ks = [];
           new = t;
           events = [];
           single = omega arith;
+          moves = λ h. absurd h;
           run = refl;
           good = record {
             shows = shows;
@@ -250,32 +256,32 @@ module _ {P : Type 0} (plan : Plan) (waiting : Waiting) (Does : StepRelation P) 
     here_carrier = ap (λ z. (vcp_of z).carrier) ea
 
     -- a move that changes the halves
-    halves : (e : NetEvent) (ks : List (ℕ × Comm)) → IsProc e → u.way ≡ s.way → ByHalves a b → CarrierHomed plan n b.vcp.carrier → Trace Does a.process ks b.process →
-        Lifted plan (put (carriers (vcps s)) n b.vcp.carrier) (losses (switches plan s)) t.nodes e ks → Next plan waiting Does s u t n
-    halves e ks is el h home tr l =
-        outer (tok.Proc e) ks s.way (sym el) h.inner (halves_homed plan n a.vcp b.vcp h.link home homed) tr
+    halves : (move : Move) (e : NetEvent) (ks : List (ℕ × Comm)) → IsProc e → u.way ≡ s.way → ByHalves a b → CarrierHomed plan n b.vcp.carrier → Trace Does a.process ks b.process →
+        Lifted plan (put (carriers (vcps s)) n b.vcp.carrier) (losses (switches plan s)) t.nodes e ks → Next plan waiting Does s u t n (Proc move)
+    halves move e ks is el h home tr l =
+        outer (Proc move) (tok.Proc e) (λ h. absurd h) ks s.way (sym el) h.inner (halves_homed plan n a.vcp b.vcp h.link home homed) tr
         (moves_lifted plan waiting (vcps s) (switches plan s) s.way t n b.vcp e ks g.shows is (h.link ∙ sym (ap (λ z. z.link) here)) l)
 
-    moved : (move : Move) → u.way ≡ s.way → Moves plan Does n a move b → Next plan waiting Does s u t n
+    moved : (move : Move) → u.way ≡ s.way → Moves plan Does n a move b → Next plan waiting Does s u t n (Proc move)
     moved (Offer site c) el h =
-        halves (net.Offer c h.0) ((c, Out h.0) ∷ []) tt el h.3 (offers_homed plan n c h.0 a.vcp.carrier b.vcp.carrier acc h.2 homed.carrier) (did (Offers site c h.0) h.1)
+        halves (Offer site c) (net.Offer c h.0) ((c, Out h.0) ∷ []) tt el h.3 (offers_homed plan n c h.0 a.vcp.carrier b.vcp.carrier acc h.2 homed.carrier) (did (Offers site c h.0) h.1)
         (offers plan (carriers (vcps s)) (losses (switches plan s)) t.nodes n c h.0 b.vcp.carrier acc g.shows.nodes (subst (λ z. node.Offers (ends plan n) z c h.0 b.vcp.carrier) (sym here_carrier) h.2))
     moved (Want site c) el h =
-        halves (net.Want c) (input_of c h.0) tt el h.5 (wants_homed plan n c h.1 h.0 a.vcp.carrier b.vcp.carrier acc h.3 h.4 homed.carrier) (did (Wants site c h.0) h.2)
+        halves (Want site c) (net.Want c) (input_of c h.0) tt el h.5 (wants_homed plan n c h.1 h.0 a.vcp.carrier b.vcp.carrier acc h.3 h.4 homed.carrier) (did (Wants site c h.0) h.2)
         (wants plan (carriers (vcps s)) (losses (switches plan s)) t.nodes n c h.1 h.0 b.vcp.carrier acc g.shows.nodes (subst (λ z. node.IsOpen (ends plan n) z c h.1) (sym here_carrier) h.3) (subst (λ z. node.Wants z c h.1 h.0 b.vcp.carrier) (sym here_carrier) h.4))
     moved (Choose site guard c) el h =
-        halves (net.Choose c) (input_of c h.0) tt el h.5 (fetches_homed plan n c h.1 h.0 a.vcp.carrier b.vcp.carrier acc h.3 h.4 homed.carrier) (did (Chooses site guard c h.0) h.2)
+        halves (Choose site guard c) (net.Choose c) (input_of c h.0) tt el h.5 (fetches_homed plan n c h.1 h.0 a.vcp.carrier b.vcp.carrier acc h.3 h.4 homed.carrier) (did (Chooses site guard c h.0) h.2)
         (chooses plan (carriers (vcps s)) (losses (switches plan s)) t.nodes n c h.1 h.0 b.vcp.carrier acc g.shows.nodes (subst (λ z. node.IsOpen (ends plan n) z c h.1) (sym here_carrier) h.3) (subst (λ z. node.Fetches z c h.1 h.0 b.vcp.carrier) (sym here_carrier) h.4))
     moved (Stopch site c) el (d, inl h) =
-        halves (net.Stop c) ((c, Stp) ∷ []) tt el h.1 (stops_homed plan n c a.vcp.carrier b.vcp.carrier h.0 homed.carrier) (did (Stops site c) d)
+        halves (Stopch site c) (net.Stop c) ((c, Stp) ∷ []) tt el h.1 (stops_homed plan n c a.vcp.carrier b.vcp.carrier h.0 homed.carrier) (did (Stops site c) d)
         (stops plan (carriers (vcps s)) (losses (switches plan s)) t.nodes n c b.vcp.carrier acc g.shows.nodes (subst (λ z. node.Stops (ends plan n) z c b.vcp.carrier) (sym here_carrier) h.0))
     moved (Stopch site c) el (d, inr h) =
         let f = subst (λ z. InnerFits (inner_of z c)) ea (g.inner n c) in
-        inside el c (record (a.inner c) { stopped = true }) (Stp ∷ []) h.0 (one_step Stp) h.1 h.2 (record (a.inner c) { stopped = true }, refl, refl) (record { taken = f.taken; finished = f.finished }) (did (Stops site c) d)
+        inside (Stopch site c) el c (record (a.inner c) { stopped = true }) (Stp ∷ []) h.0 (one_step Stp) h.1 h.2 (record (a.inner c) { stopped = true }, refl, refl) (record { taken = f.taken; finished = f.finished }) (did (Stops site c) d)
     moved (Inner i j guard c) el h =
         let f = subst (λ z. InnerFits (inner_of z c)) ea (g.inner n c) in
-        inside el c (exchanged (a.inner c) h.0) (Out h.0 ∷ In h.0 ∷ Fin ∷ []) h.2 (exchange n h.0 h.2) h.4 h.5 (exchanges (a.inner c) h.0 f h.3) (exchanged_fits (a.inner c) h.0 f) (did (Meets i j guard c h.0) h.1)
-    moved (Quiet site) el h = alone el h.1 h.2 (did (Rests site) h.0)
+        inside (Inner i j guard c) el c (exchanged (a.inner c) h.0) (Out h.0 ∷ In h.0 ∷ Fin ∷ []) h.2 (exchange n h.0 h.2) h.4 h.5 (exchanges (a.inner c) h.0 f h.3) (exchanged_fits (a.inner c) h.0 f) (did (Meets i j guard c h.0) h.1)
+    moved (Quiet site) el h = alone (Quiet site) el h.1 h.2 (did (Rests site) h.0)
 
     goes_on : (taken : Option node.Taken) → GoesOn Does a.process taken b.process → Trace Does a.process (said_by_pass taken) b.process
     goes_on (Some (node.Complete c m)) h = did (Receives c m) h
@@ -307,12 +313,12 @@ module _ {P : Type 0} (plan : Plan) (waiting : Waiting) (Does : StepRelation P) 
         by_token (links.drops_byte c rest front is long after) h = link_homed plan n l w a.vcp b.vcp _ into (ap (λ z. z.link) after) h homed
         by_token (links.passes_mark m rest what carrier front is arrives after) h = link_homed plan n l w a.vcp b.vcp _ into (ap (λ z. z.link) after) h homed
 
-    node_next : (label : Label Act Token) → ((v : ℕ) → taken_off v label ++ u.way v ≡ s.way v ++ put_on v label) → NodeStep plan Does n a label b → Next plan waiting Does s u t n
+    node_next : (label : Label Act Token) → ((v : ℕ) → taken_off v label ++ u.way v ≡ s.way v ++ put_on v label) → NodeStep plan Does n a label b → Next plan waiting Does s u t n (act_of label)
     node_next (Own (Proc move)) ways h = moved move (own_ways s u (Proc move) ways) h
     node_next (Own (Pass l)) ways h =
         let w = link_way plan n l a.vcp b.vcp h.0 homed h.1 in
         let p = subst (λ z. links.Passes (body_limit plan) (ends plan n) z l h.0 b.vcp) (sym here) h.1 in
-        outer (tok.Pass w.0) (said_by_pass h.0) s.way (sym (own_ways s u (Pass l) ways)) h.3
+        outer (Pass l) (tok.Pass w.0) (λ h. tt) (said_by_pass h.0) s.way (sym (own_ways s u (Pass l) ways)) h.3
         (link_passes_homed l w.0 h.0 w.1 h.1) (goes_on h.0 h.2)
         (node_passes l w.0 h.0 w.1 p)
     node_next (Own (Take link word)) ways h = absurd h
@@ -322,7 +328,7 @@ module _ {P : Type 0} (plan : Plan) (waiting : Waiting) (Does : StepRelation P) 
     node_next (Takes (Take l word) w k) ways h =
         let front = take_front s.way u.way w k ways in
         elim h.1 [
-          | links.due d after ↦ outer (tok.Take w word) [] (put s.way w (u.way w)) (take_ways s.way u.way w k ways) h.2.inner
+          | links.due d after ↦ outer (Take l word) (tok.Take w word) (λ h. tt) [] (put s.way w (u.way w)) (take_ways s.way u.way w k ways) h.2.inner
               (link_homed plan n l w a.vcp b.vcp (links.with_token (a.vcp.link l) k) h.0 (ap (λ z. z.link) after) (subst (CarrierHomed plan n) (sym (ap (λ z. z.carrier) after)) homed.carrier) homed) (quiet h.2.process)
               (comes plan waiting acc (vcps s) (switches plan s) s.way t g.shows n l w word k (u.way w) b.vcp h.0 front (subst (λ z. b.vcp ≡ links.set_link z l (links.with_token (z.link l) k)) (sym here) after))
           | links.not_due no_place after ↦ absurd (no_place (subst (λ z. IsDue (z.link l).sender (z.link l).receiver k) here (is_due plan (vcps s) (switches plan s) s.way t w (AtNode n l) k (u.way w) g.sound.credited g.shows h.0 front)))
@@ -333,12 +339,12 @@ module _ {P : Type 0} (plan : Plan) (waiting : Waiting) (Does : StepRelation P) 
     node_next (Takes (Fct l) w p) ways h = absurd h
     node_next (Takes (Pass l) w p) ways h = absurd h
     node_next (Puts (Put l) w k) ways h =
-        outer (tok.Put w) [] (put s.way w (s.way w ++ k ∷ [])) (put_ways s.way u.way w k ways) h.2.inner
+        outer (Put l) (tok.Put w) (λ h. tt) [] (put s.way w (s.way w ++ k ∷ [])) (put_ways s.way u.way w k ways) h.2.inner
         (link_homed plan n l (back w) a.vcp b.vcp (record (a.vcp.link l) { sender = h.1.sender }) (back_into plan w (AtNode n l) h.0) (ap (λ z. z.link) h.1.after)
         (subst (CarrierHomed plan n) (sym (ap (λ z. z.carrier) h.1.after)) (unqueued_homed plan n l a.vcp.carrier h.1.packet h.1.rest k h.1.front homed.carrier)) homed) (quiet h.2.process)
         (sends plan waiting acc (vcps s) (switches plan s) s.way t g.shows n l w k b.vcp h.0 (subst (λ z. links.Sends z l k b.vcp) (sym here) h.1))
     node_next (Puts (Fct l) w k) ways h =
-        outer (tok.PutFct (back w)) [] (put s.way w (s.way w ++ tokens.Fct ∷ [])) (ap (λ z. put s.way w (s.way w ++ z ∷ [])) (sym h.1) ∙ put_ways s.way u.way w k ways) h.3.inner
+        outer (Fct l) (tok.PutFct (back w)) (λ h. tt) [] (put s.way w (s.way w ++ tokens.Fct ∷ [])) (ap (λ z. put s.way w (s.way w ++ z ∷ [])) (sym h.1) ∙ put_ways s.way u.way w k ways) h.3.inner
         (link_homed plan n l (back w) a.vcp b.vcp (record (a.vcp.link l) { receiver = h.2.receiver }) (back_into plan w (AtNode n l) h.0) (ap (λ z. z.link) h.2.after)
         (subst (CarrierHomed plan n) (sym (ap (λ z. z.carrier) h.2.after)) homed.carrier) homed) (quiet h.3.process)
         (sends_fct plan waiting acc (vcps s) (switches plan s) s.way t g.shows n l w b.vcp h.0 (subst (λ z. links.SendsFct z l b.vcp) (sym here) h.2))
@@ -366,8 +372,8 @@ module _ {P : Type 0} (plan : Plan) (waiting : Waiting) (Does : StepRelation P) 
       | inr ne ↦ ap (λ z. inner_of z c) (others m ne)
     ]
 
-    switched : (e : TokenEvent) (lines : ℕ → List Token) → lines ≡ u.way → SwitchHomed plan k b → TokenLifted plan waiting (vcps s) (put (switches plan s) k b) lines t e [] → Next plan waiting Does s u t n
-    switched e lines el home l =
+    switched : (act : Act) (e : TokenEvent) → (IsNoMove act → MovesTokens e) → (lines : ℕ → List Token) → lines ≡ u.way → SwitchHomed plan k b → TokenLifted plan waiting (vcps s) (put (switches plan s) k b) lines t e [] → Next plan waiting Does s u t n act
+    switched act e own lines el home l =
         let sound = sound_step plan waiting t e l.new acc g.sound l.step in
         let shows : Shows plan (vcps u) (switches plan u) u.way l.new =
         subst (λ z. Shows plan z (switches plan u) u.way l.new) cars
@@ -378,6 +384,7 @@ module _ {P : Type 0} (plan : Plan) (waiting : Waiting) (Does : StepRelation P) 
           new = l.new;
           events = e ∷ [];
           single = omega arith;
+          moves = λ h. (e, refl, own h);
           run = (l.new, l.step, refl);
           good = record {
             shows = shows;
@@ -409,15 +416,15 @@ module _ {P : Type 0} (plan : Plan) (waiting : Waiting) (Does : StepRelation P) 
     released_homed l w (tokens.EndMark m) into = input_homed plan k l w a (switch.released a l (tokens.EndMark m)) _ into refl switch_homed
     released_homed l w tokens.Fct into = switch_homed
 
-    switch_next : (label : Label Act Token) → ((v : ℕ) → taken_off v label ++ u.way v ≡ s.way v ++ put_on v label) → SwitchStep plan waiting k a label b → Next plan waiting Does s u t n
+    switch_next : (label : Label Act Token) → ((v : ℕ) → taken_off v label ++ u.way v ≡ s.way v ++ put_on v label) → SwitchStep plan waiting k a label b → Next plan waiting Does s u t n (act_of label)
     switch_next (Own (Route i o)) ways h =
         let r = subst (λ z. switch.Routes (switch_plan plan k) waiting z i o b) (sym was) h in
         let w = routed_way plan k i o a h.body switch_homed h.group in
-        switched (tok.Route w.0 (way_from plan (AtSwitch k o))) s.way (sym (own_ways s u (Route i o) ways)) (input_homed plan k i w.0 a b _ w.1 (ap (λ z. z.input) h.after) switch_homed)
+        switched (Route i o) (tok.Route w.0 (way_from plan (AtSwitch k o))) (λ h. tt) s.way (sym (own_ways s u (Route i o) ways)) (input_homed plan k i w.0 a b _ w.1 (ap (λ z. z.input) h.after) switch_homed)
         (at_switch.routes plan waiting acc (vcps s) (switches plan s) s.way t g.shows k i o w.0 b w.1 r)
     switch_next (Own (Pass l)) ways h =
         let w = input_way plan k l a b switch_homed h in
-        switched (tok.Pass w.0) s.way (sym (own_ways s u (Pass l) ways)) (passes_homed l w.0 w.1 h)
+        switched (Pass l) (tok.Pass w.0) (λ h. tt) s.way (sym (own_ways s u (Pass l) ways)) (passes_homed l w.0 w.1 h)
         (at_switch.passes_rest plan waiting acc (vcps s) (switches plan s) s.way t g.shows k l w.0 b w.1 (subst (λ z. switch.Passes (body_limit plan) (switch_plan plan k) z l b) (sym was) h)
         (λ c rest front long unmarked. in_switch plan waiting acc s t g k l w.0 c rest w.1 unmarked front long))
     switch_next (Own (Proc move)) ways h = absurd h
@@ -427,7 +434,7 @@ module _ {P : Type 0} (plan : Plan) (waiting : Waiting) (Does : StepRelation P) 
     switch_next (Takes (Take l word) w c) ways h =
         let front = take_front s.way u.way w c ways in
         elim h.1 [
-          | switch.due d after ↦ switched (tok.Take w word) (put s.way w (u.way w)) (take_ways s.way u.way w c ways) (comes_homed l word w c h.0 after)
+          | switch.due d after ↦ switched (Take l word) (tok.Take w word) (λ h. tt) (put s.way w (u.way w)) (take_ways s.way u.way w c ways) (comes_homed l word w c h.0 after)
               (at_switch.comes plan waiting acc (vcps s) (switches plan s) s.way t g.shows k l w word c (u.way w) b h.0 front (subst (λ z. b ≡ switch.with_token z l word c) (sym was) after))
           | switch.not_due no_place after ↦ absurd (no_place (subst (λ z. IsDue (z.output l) (z.input l).receiver c) was (is_due plan (vcps s) (switches plan s) s.way t w (AtSwitch k l) c (u.way w) g.sound.credited g.shows h.0 front)))
         ]
@@ -440,11 +447,11 @@ module _ {P : Type 0} (plan : Plan) (waiting : Waiting) (Does : StepRelation P) 
         let v = routed_way plan k h.1.link o a h.1.body switch_homed h.1.leaves in
         let r = subst (λ z. switch.Sends (switch_plan plan k) waiting z o c b) (sym was) h.1 in
         let rv = routed_way plan k r.link o (switches plan s k) r.body (g.switched k) r.leaves in
-        switched (tok.Put w) (put s.way w (s.way w ++ c ∷ [])) (put_ways s.way u.way w c ways)
+        switched (Put o) (tok.Put w) (λ h. tt) (put s.way w (s.way w ++ c ∷ [])) (put_ways s.way u.way w c ways)
         (subst (SwitchHomed plan k) (sym h.1.after) (released_homed h.1.link v.0 c v.1))
         (at_switch.sends plan waiting acc (vcps s) (switches plan s) s.way t g.shows k o w rv.0 c b h.0 r rv.1)
     switch_next (Puts (Fct l) w c) ways h =
-        switched (tok.PutFct (back w)) (put s.way w (s.way w ++ tokens.Fct ∷ [])) (ap (λ z. put s.way w (s.way w ++ z ∷ [])) (sym h.1) ∙ put_ways s.way u.way w c ways)
+        switched (Fct l) (tok.PutFct (back w)) (λ h. tt) (put s.way w (s.way w ++ tokens.Fct ∷ [])) (ap (λ z. put s.way w (s.way w ++ z ∷ [])) (sym h.1) ∙ put_ways s.way u.way w c ways)
         (input_homed plan k l (back w) a b _ (back_into plan w (AtSwitch k l) h.0) (ap (λ z. z.input) h.2.after) switch_homed)
         (at_switch.sends_fct plan waiting acc (vcps s) (switches plan s) s.way t g.shows k l w b h.0 (subst (λ z. switch.SendsFct z l b) (sym was) h.2))
     switch_next (Puts (Proc move) w p) ways h = absurd h
@@ -453,10 +460,10 @@ module _ {P : Type 0} (plan : Plan) (waiting : Waiting) (Does : StepRelation P) 
     switch_next (Puts (Pass l) w p) ways h = absurd h
 
 -- each step of the network
-pub next : {P : Type 0} (plan : Plan) (waiting : Waiting) (Does : StepRelation P) (acc : IsAccepted plan) (s u : Network (Actor P) Token) (t : Tokens) (n : ℕ) (label : Label Act Token) → Good plan s t → Step (Local plan waiting Does) s n label u → Next plan waiting Does s u t n
+pub next : {P : Type 0} (plan : Plan) (waiting : Waiting) (Does : StepRelation P) (acc : IsAccepted plan) (s u : Network (Actor P) Token) (t : Tokens) (n : ℕ) (label : Label Act Token) → Good plan s t → Step (Local plan waiting Does) s n label u → Next plan waiting Does s u t n (act_of label)
 next {P} plan waiting Does acc s u t n label g h = by_kind (s.state n) (u.state n) refl refl h.local
   where
-    by_kind : (x y : Actor P) → s.state n ≡ x → u.state n ≡ y → Local plan waiting Does n x label y → Next plan waiting Does s u t n
+    by_kind : (x y : Actor P) → s.state n ≡ x → u.state n ≡ y → Local plan waiting Does n x label y → Next plan waiting Does s u t n (act_of label)
     by_kind (IsNode a) (IsNode b) ea eb l = node_next plan waiting Does acc s u t g n h.others l.0 a b ea eb label h.ways l.1
     by_kind (IsSwitch a) (IsSwitch b) ea eb l = switch_next plan waiting Does acc s u t g n h.others l.0 l.1 a b ea eb label h.ways l.2
     by_kind (IsNode a) (IsSwitch b) ea eb l = absurd l

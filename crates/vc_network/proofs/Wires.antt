@@ -3,20 +3,20 @@ use Rattle.std.proofs.Common.{◌≡◌, ℕ, zero, suc, ◌+◌, ◌*◌, ◌/�
 use Rattle.std.proofs.lemmas.Bool.{cases_eq}
 use Rattle.vc_machine.proofs.Links.{not_same}
 use Rattle.vc_machine.specs.Paths.{Port, AtNode, AtSwitch}
-use Rattle.vc_network.specs.Plan.{Plan, Wire, ways, near, wire, port_of, same_port, way_among, way_from, far, IsOutOf, IsWired, IsAccepted}
+use Rattle.vc_network.specs.Plan.{Plan, Wire, ways, near, wire, port_of, port_eq, way_among, way_from, far, IsOutOf, IsWired, IsAccepted}
 
 both : (a b : Bool) → (a && b) ≡ true → (a ≡ true) × (b ≡ true)
 both true true e = (refl, refl)
 both true false e = absurd (cc)
 both false b e = absurd (cc)
 
-same_is : (p q : Port) → same_port p q ≡ true → p ≡ q
+same_is : (p q : Port) → port_eq p q ≡ true → p ≡ q
 same_is (AtNode n i) (AtNode m j) e = let r = both (n == m) (i == j) e in (λ k. AtNode (eqb-true n m r.0 k) (eqb-true i j r.1 k))
 same_is (AtSwitch n i) (AtSwitch m j) e = let r = both (n == m) (i == j) e in (λ k. AtSwitch (eqb-true n m r.0 k) (eqb-true i j r.1 k))
 same_is (AtNode n i) (AtSwitch m j) e = absurd (cc)
 same_is (AtSwitch n i) (AtNode m j) e = absurd (cc)
 
-is_same : (p : Port) → same_port p p ≡ true
+is_same : (p : Port) → port_eq p p ≡ true
 is_same (AtNode n i) = (λ k. eq-eqb n n refl k && (i == i)) ∙ eq-eqb i i refl
 is_same (AtSwitch n i) = (λ k. eq-eqb n n refl k && (i == i)) ∙ eq-eqb i i refl
 
@@ -26,18 +26,18 @@ Found i ws port d r = (k : ℕ) × (k < length ws) × (((r ≡ 2 * (i + k)) × (
 
 found : (i : ℕ) (ws : List Wire) (j : ℕ) (port : Port) (d : Wire) → j < length ws → ((get_or ws j d).one ≡ port) ⊎ ((get_or ws j d).two ≡ port) → Found i ws port d (way_among i ws port)
 found i [] j port d h e = absurd (omega arith)
-found i (w ∷ ws) j port d h e = by_test (λ j' less z. found (suc i) ws j' port d less z) (same_port w.one port) (same_port w.two port) refl refl
+found i (w ∷ ws) j port d h e = by_test (λ j' less z. found (suc i) ws j' port d less z) (port_eq w.one port) (port_eq w.two port) refl refl
   where
-    by_test : ((j' : ℕ) → j' < length ws → ((get_or ws j' d).one ≡ port) ⊎ ((get_or ws j' d).two ≡ port) → Found (suc i) ws port d (way_among (suc i) ws port)) → (a b : Bool) → same_port w.one port ≡ a → same_port w.two port ≡ b → Found i (w ∷ ws) port d (if a then 2 * i else (if b then 2 * i + 1 else way_among (suc i) ws port))
+    by_test : ((j' : ℕ) → j' < length ws → ((get_or ws j' d).one ≡ port) ⊎ ((get_or ws j' d).two ≡ port) → Found (suc i) ws port d (way_among (suc i) ws port)) → (a b : Bool) → port_eq w.one port ≡ a → port_eq w.two port ≡ b → Found i (w ∷ ws) port d (if a then 2 * i else (if b then 2 * i + 1 else way_among (suc i) ws port))
     by_test go true b p q = (0, omega arith, inl (omega arith, same_is w.one port p))
     by_test go false true p q = (0, omega arith, inr (omega arith, same_is w.two port q))
     by_test go false false p q = at j h e
       where
         no_one : w.one ≡ port → ⊥
-        no_one z = let x : true ≡ false = sym (is_same port) ∙ ap (λ y. same_port y port) (sym z) ∙ p in absurd (cc)
+        no_one z = let x : true ≡ false = sym (is_same port) ∙ ap (λ y. port_eq y port) (sym z) ∙ p in absurd (cc)
 
         no_two : w.two ≡ port → ⊥
-        no_two z = let x : true ≡ false = sym (is_same port) ∙ ap (λ y. same_port y port) (sym z) ∙ q in absurd (cc)
+        no_two z = let x : true ≡ false = sym (is_same port) ∙ ap (λ y. port_eq y port) (sym z) ∙ q in absurd (cc)
 
         further : Found (suc i) ws port d (way_among (suc i) ws port) → Found i (w ∷ ws) port d (way_among (suc i) ws port)
         further (k, less, inl r) = (suc k, omega arith, inl ((let z = r.0 in omega arith), r.1))

@@ -74,16 +74,16 @@ near plan w = port_of (wire plan (w / 2)) (w % 2 == 0)
 abbrev pub far : Plan → ℕ → Port
 far plan w = port_of (wire plan (w / 2)) (not (w % 2 == 0))
 
-abbrev pub same_port : Port → Port → Bool
-same_port (AtNode n i) (AtNode m j) = (n == m) && (i == j)
-same_port (AtSwitch n i) (AtSwitch m j) = (n == m) && (i == j)
-same_port (AtNode n i) (AtSwitch m j) = false
-same_port (AtSwitch n i) (AtNode m j) = false
+abbrev pub port_eq : Port → Port → Bool
+port_eq (AtNode n i) (AtNode m j) = (n == m) && (i == j)
+port_eq (AtSwitch n i) (AtSwitch m j) = (n == m) && (i == j)
+port_eq (AtNode n i) (AtSwitch m j) = false
+port_eq (AtSwitch n i) (AtNode m j) = false
 
 -- the way that leaves by the port, where the wires are numbered from i on
 abbrev pub way_among : ℕ → List Wire → Port → ℕ
 way_among i [] port = 2 * i
-way_among i (w ∷ ws) port = if same_port w.one port then 2 * i else if same_port w.two port then 2 * i + 1 else way_among (suc i) ws port
+way_among i (w ∷ ws) port = if port_eq w.one port then 2 * i else if port_eq w.two port then 2 * i + 1 else way_among (suc i) ws port
 
 abbrev pub way_from : Plan → Port → ℕ
 way_from plan port = way_among 0 plan.wires port

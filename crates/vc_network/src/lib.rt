@@ -26,6 +26,7 @@ ghost use Rattle.vc_network.specs.Headers.{MoreHeadersChangeNothing};
 ghost use Rattle.vc_network.specs.Headline.{HeadlineHolds};
 ghost use Rattle.vc_network.specs.Packets.{EventsAreSteps};
 ghost use Rattle.vc_network.specs.Owners.{EachHasOwner, PacketsAreShort};
+ghost use Rattle.vc_network.specs.Still.{RunsEnd};
 ghost use Rattle.vc_network.specs.Threads.{ThreadsKeepHeadline, ReplaysReach};
 
 /// On an accepted network, after any list of steps, each channel's taken messages are the first of its
@@ -69,6 +70,12 @@ pub fn each_packet_has_its_channel()
 /// On an accepted network, after any list of steps, no packet in a queue, on a way or in a switch is longer than the limit.
 pub fn no_packet_is_longer()
     ensures { OfNumbered PacketsAreShort }
+{}
+
+/// On an accepted network whose ways have ranks, from wherever a list of events leads, the number of events that can follow without a move
+/// of a process has a bound. So whichever of them happen, the network comes to where only processes can go on.
+pub fn a_run_without_processes_ends()
+    ensures { OfNumbered RunsEnd }
 {}
 
 /// On an accepted network, where more headers may be on the way than it says, the same lists of events happen, to the same states: no

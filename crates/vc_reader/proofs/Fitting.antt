@@ -41,7 +41,7 @@ use Rattle.vc_reader.specs.declared.fault.Why.TheVariants as why
 use Rattle.vc_reader.specs.declared.path.Step.TheVariants.{Field}
 use Rattle.vc_reader.specs.declared.word.Word.TheVariants as word
 use Rattle.vc_reader.specs.Reading.{◌>>=◌, wrong, cell, row, only, by_only, under, read_text}
-use Rattle.vc_reader.specs.Names.{position_of, numbered, found_of, known_or_not, one_of}
+use Rattle.vc_reader.specs.Names.{position_of, with_number, found_of, known_or_not, one_of}
 use Rattle.vc_reader.specs.Bytes.{of_kind, read_variable, hex_bytes, no_longer, read_hex, read_literal, read_fill, formed_bytes, read_bytes}
 use Rattle.vc_reader.specs.Expressions.{read_int, read_leaf, head, expr_word, read_size, read_operation, worded_expr, expr_step, read_expr, whole_expr}
 use Rattle.vc_reader.specs.Conditions.{cond_word, plain_cond, read_comparison, read_both, read_either, read_not, worded_cond, cond_step, read_cond}
@@ -55,7 +55,7 @@ abbrev names : List ValueKind → ℕ → Asking
 names kinds n = record { condition = λ t. test_fits t kinds; channel = λ c. nat_lt c n; variable = λ v. nat_lt v (length kinds); itself = names_itself kinds n }
 
 -- what is found by its name is there, at its number
-numbered_is : {A : Type 0} (known : List A) (n : ℕ) (f : ℕ × A) → numbered known n ≡ Some f → slice_get known f.0 ≡ Some f.1
+numbered_is : {A : Type 0} (known : List A) (n : ℕ) (f : ℕ × A) → with_number known n ≡ Some f → slice_get known f.0 ≡ Some f.1
 numbered_is known n f e = go (slice_get known n) refl e
   where
     go : (o : Option _) → slice_get known n ≡ o → option_map (λ x. (n, x)) o ≡ Some f → slice_get known f.0 ≡ Some f.1
@@ -65,7 +65,7 @@ numbered_is known n f e = go (slice_get known n) refl e
 pub found_is : {A : Type 0} (name_of : A → List ℕ) (known : List A) (name : List ℕ) (f : ℕ × A) → found_of name_of known name ≡ Some f → slice_get known f.0 ≡ Some f.1
 found_is name_of known name f e = go (position_of name_of known name) e
   where
-    go : (o : Option ℕ) → option_and_then (numbered known) o ≡ Some f → slice_get known f.0 ≡ Some f.1
+    go : (o : Option ℕ) → option_and_then (with_number known) o ≡ Some f → slice_get known f.0 ≡ Some f.1
     go None e = absurd cc
     go (Some n) e = numbered_is known n f e
 

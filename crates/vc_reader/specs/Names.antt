@@ -17,11 +17,11 @@ abbrev pub position_of : {A : Type 0} → (A → List ℕ) → List A → List �
 position_of name_of known name = position (λ x. bytes_eq name (name_of x)) known
 
 -- the first that has the name, behind its number
-abbrev pub numbered : {A : Type 0} → List A → ℕ → Option (ℕ × A)
-numbered known n = option_map (λ x. (n, x)) (slice_get known n)
+abbrev pub with_number : {A : Type 0} → List A → ℕ → Option (ℕ × A)
+with_number known n = option_map (λ x. (n, x)) (slice_get known n)
 
 abbrev pub found_of : {A : Type 0} → (A → List ℕ) → List A → List ℕ → Option (ℕ × A)
-found_of name_of known name = option_and_then (numbered known) (position_of name_of known name)
+found_of name_of known name = option_and_then (with_number known) (position_of name_of known name)
 
 -- some one of them has the name
 abbrev pub has_name : {A : Type 0} → (A → List ℕ) → List A → List ℕ → Bool

@@ -3,8 +3,8 @@ ghost use Rattle.std.specs.Prelude.{◌≡◌};
 ghost use Rattle.serde_json.specs.View.{view};
 ghost use Rattle.vc_reader.specs.Private.Reading.{Gives};
 ghost use Rattle.vc_reader.specs.Reading.{cell as cell_of, read_list};
-ghost use Rattle.vc_reader.specs.Processes.{channel_named, variable_named, read_value, read_set, read_send, read_receive, read_stopch, read_plain, read_branch, read_while, read_count, read_guard, process_word as process_word_of, field_word, worded_process, named_process, process_step, read_process, whole_process};
-ghost use Rattle.vc_reader.specs.Private.Processes.{cond_first as cond_first_of, read_input, guard_head as guard_head_of};
+ghost use Rattle.vc_reader.specs.Processes.{channel_named, variable_named, read_value, read_set, read_send, read_receive, read_stopch, read_plain, read_while, read_count, process_word as process_word_of, field_word, worded_process, named_process, process_step, whole_process};
+ghost use Rattle.vc_reader.specs.Private.Processes.{cond_first as cond_first_of, read_input, guard_head as guard_head_of, part_by, branch_by, guard_by};
 
 use crate::bytes::{VariableOf, bytes};
 use crate::condition::WholeCond;
@@ -219,7 +219,7 @@ impl WholeProcess<'_> {
     #[cycle(process)]
     fn process(&self, alloc: Global, depth: usize, value: &Json) -> Result<Process, Stop>
         ensures { Gives (λ x. x) result
-            (read_process depth self.now.vars.now self.now.channels.now (view value.now)) }
+            (part_by self.now depth (view value.now)) }
     {
         if depth == 0 {
             return plain(alloc, text(alloc, value)?);
@@ -231,8 +231,8 @@ impl WholeProcess<'_> {
     #[cycle(process)]
     fn step(&self, alloc: Global, depth: usize, value: &Json) -> Result<Process, Stop>
         ensures { Gives (λ x. x) result
-            (process_step (read_process depth self.now.vars.now self.now.channels.now)
-            self.now.vars.now self.now.channels.now (view value.now)) }
+            (process_step (part_by self.now depth) self.now.vars.now self.now.channels.now
+            (view value.now)) }
     {
         if let Json::String(word) = value {
             return plain(alloc, word.as_str());
@@ -247,8 +247,8 @@ impl WholeProcess<'_> {
     #[cycle(process)]
     fn named(&self, alloc: Global, depth: usize, name: &str, value: &Json) -> Result<Process, Stop>
         ensures { Gives (λ x. x) result
-            (named_process (read_process depth self.now.vars.now self.now.channels.now)
-            self.now.vars.now self.now.channels.now name.now (view value.now)) }
+            (named_process (part_by self.now depth) self.now.vars.now self.now.channels.now name.now
+            (view value.now)) }
     {
         let word = process_word(alloc, name)?;
         let read = self.worded(alloc, depth, word, value);
@@ -265,8 +265,8 @@ impl WholeProcess<'_> {
         value: &Json,
     ) -> Result<Process, Stop>
         ensures { Gives (λ x. x) result
-            (worded_process (read_process depth self.now.vars.now self.now.channels.now)
-            self.now.vars.now self.now.channels.now word (view value.now)) }
+            (worded_process (part_by self.now depth) self.now.vars.now self.now.channels.now word
+            (view value.now)) }
     {
         match word {
             ProcessWord::Set => self.set(alloc, value),
@@ -286,8 +286,7 @@ impl WholeProcess<'_> {
     #[cycle(process)]
     fn parts(&self, alloc: Global, depth: usize, value: &Json) -> Result<Items<Process>, Stop>
         ensures { Gives (λ x. x) result
-            (read_list (λ _. read_process depth self.now.vars.now self.now.channels.now)
-            (view value.now)) }
+            (read_list (λ _. part_by self.now depth) (view value.now)) }
     {
         let mut read = Items::new(alloc);
         for item in array(alloc, value)? {
@@ -300,9 +299,7 @@ impl WholeProcess<'_> {
     #[cycle(process)]
     fn branches(&self, alloc: Global, depth: usize, value: &Json) -> Result<Items<Branch>, Stop>
         ensures { Gives (λ x. x) result
-            (read_list
-            (λ _. read_branch (read_process depth self.now.vars.now self.now.channels.now)
-            self.now.vars.now) (view value.now)) }
+            (read_list (λ _. branch_by self.now depth) (view value.now)) }
     {
         let mut read = Items::new(alloc);
         for item in array(alloc, value)? {
@@ -315,8 +312,7 @@ impl WholeProcess<'_> {
     #[cycle(process)]
     fn branch(&self, alloc: Global, depth: usize, value: &Json) -> Result<Branch, Stop>
         ensures { Gives (λ x. x) result
-            (read_branch (read_process depth self.now.vars.now self.now.channels.now)
-            self.now.vars.now (view value.now)) }
+            (branch_by self.now depth (view value.now)) }
     {
         let cond = self.cond_first(alloc, 2, value)?;
         let (cond, body) = beside(cond, self.part(alloc, depth, 1, value))?;
@@ -327,8 +323,7 @@ impl WholeProcess<'_> {
     #[cycle(process)]
     fn repeated(&self, alloc: Global, depth: usize, value: &Json) -> Result<Process, Stop>
         ensures { Gives (λ x. x) result
-            (read_while (read_process depth self.now.vars.now self.now.channels.now)
-            self.now.vars.now (view value.now)) }
+            (read_while (part_by self.now depth) self.now.vars.now (view value.now)) }
     {
         let cond = self.cond_first(alloc, 2, value)?;
         let (cond, body) = beside(cond, self.boxed_part(alloc, depth, 1, value))?;
@@ -339,8 +334,7 @@ impl WholeProcess<'_> {
     #[cycle(process)]
     fn counted(&self, alloc: Global, depth: usize, value: &Json) -> Result<Process, Stop>
         ensures { Gives (λ x. x) result
-            (read_count (read_process depth self.now.vars.now self.now.channels.now)
-            self.now.vars.now (view value.now)) }
+            (read_count (part_by self.now depth) self.now.vars.now (view value.now)) }
     {
         let index = VariableOf {
             kind: ValueKind::Int,
@@ -363,8 +357,7 @@ impl WholeProcess<'_> {
     #[cycle(process)]
     fn guards(&self, alloc: Global, depth: usize, value: &Json) -> Result<Items<Guard>, Stop>
         ensures { Gives (λ x. x) result
-            (read_list (λ _. read_guard (read_process depth self.now.vars.now self.now.channels.now)
-            self.now.vars.now self.now.channels.now) (view value.now)) }
+            (read_list (λ _. guard_by self.now depth) (view value.now)) }
     {
         let mut read = Items::new(alloc);
         for item in array(alloc, value)? {
@@ -377,8 +370,7 @@ impl WholeProcess<'_> {
     #[cycle(process)]
     fn guard(&self, alloc: Global, depth: usize, value: &Json) -> Result<Guard, Stop>
         ensures { Gives (λ x. x) result
-            (read_guard (read_process depth self.now.vars.now self.now.channels.now)
-            self.now.vars.now self.now.channels.now (view value.now)) }
+            (guard_by self.now depth (view value.now)) }
     {
         let head = self.guard_head(alloc, value)?;
         let (head, body) = beside(head, self.part(alloc, depth, 3, value))?;
@@ -395,8 +387,7 @@ impl WholeProcess<'_> {
     #[cycle(process)]
     fn part(&self, alloc: Global, depth: usize, index: usize, value: &Json) -> Result<Process, Stop>
         ensures { Gives (λ x. x) result
-            (cell_of index (read_process depth self.now.vars.now self.now.channels.now)
-            (view value.now)) }
+            (cell_of index (part_by self.now depth) (view value.now)) }
     {
         let read = match value.get(index) {
             Some(item) => self.process(alloc, depth, item),
@@ -415,8 +406,7 @@ impl WholeProcess<'_> {
         value: &Json,
     ) -> Result<Boxed<Process>, Stop>
         ensures { Gives (λ x. x) result
-            (cell_of index (read_process depth self.now.vars.now self.now.channels.now)
-            (view value.now)) }
+            (cell_of index (part_by self.now depth) (view value.now)) }
     {
         boxed(alloc, self.part(alloc, depth, index, value))
     }

@@ -60,7 +60,8 @@ impl<T: Named> Model for Register<T> {
 
     ghost view = { λ r. r.items };
 
-    ghost invariant = { λ r. (name : List ℕ) → number_at r.numbers name ≡ position_of T.name_of r.items name };
+    ghost invariant = { λ r. (name : List ℕ) →
+        number_at r.numbers name ≡ position_of T.name_of r.items name };
 }
 
 impl<T: Named + Drop> Register<T> {

@@ -2,6 +2,7 @@
 use Rattle.std.proofs.Common.{◌≡◌, ◌≤◌, ◌<◌, ◌+◌, ◌-◌, ◌*◌, ◌^◌, ◌/◌, ◌%◌, ◌==◌, ◌&&◌, nat_lt, ℕ, Bool, true, false, cond, List, [], ◌∷◌, ◌++◌, length, length-append, count_by, append-nil, append_assoc, Option, Some, None, refl, sym, ap, ◌∙◌, subst, arith, eq-eqb, if◌then◌else◌}
 use Rattle.std.proofs.lemmas.List.{length-map}
 use Rattle.std.proofs.lemmas.List.Sums.{count_by-le-length}
+use Rattle.std.specs.Option.{option_to_list}
 use Rattle.vc_accepted.specs.NetworkOf.{network_of, port_at, port_of, wire_of}
 use Rattle.vc_accepted.specs.Outgoing.{link_port}
 use Rattle.vc_accepted.proofs.Crossing.{wire_is}
@@ -11,6 +12,7 @@ use Rattle.vc_accepted.proofs.Wired.{link_is_at, wired}
 use Rattle.vc_core.specs.Enabled.{NetworkState}
 use Rattle.vc_core.specs.Links.{last_of}
 use Rattle.vc_core.specs.declared.event.Event.{Event}
+use Rattle.vc_machine.specs.Seen.{read}
 use Rattle.vc_network.specs.Network.{actor_at}
 use Rattle.vc_network.specs.Plan.{IsOutOf, near}
 use Rattle.vc_network.specs.Plan as network
@@ -24,7 +26,7 @@ use Rattle.vc_plan.specs.declared.port.Spot.{Spot}
 use Rattle.vc_plan.specs.declared.port.Spot.TheVariants.{Node, Switch}
 use Rattle.vc_tokens.specs.Tokens.{Token, Byte, Fct, EndMark}
 use Rattle.vc_stats.specs.Counting.{most_events, put_in}
-use Rattle.vc_stats.specs.Packets.{ArePacketsOf, IsCountOf, PacketCount, count_at, is_ack, is_eop, link_at, listed, packets_of, puts_on, rest_of, tokens_put}
+use Rattle.vc_stats.specs.Packets.{ArePacketsOf, IsCountOf, PacketCount, count_at, is_ack, is_eop, link_at, puts_on, rest_of, tokens_put}
 use Rattle.vc_stats.specs.Private.Packets.{with_token}
 use Rattle.vc_stats.specs.Tallies.{counted, is_at}
 use Rattle.vc_stats.specs.declared.packets.Packets.{Packets}
@@ -35,7 +37,7 @@ use Rattle.vc_stats.proofs.Lined.{both_true}
 -- ---- tokens
 
 -- one token more
-packets_more : (body : List ℕ) (ts : List Token) (k : Token) → packets_of body (ts ++ k ∷ []) ≡ packets_of body ts ++ packets_of (rest_of body ts) (k ∷ [])
+packets_more : (body : List ℕ) (ts : List Token) (k : Token) → read body (ts ++ k ∷ []) ≡ read body ts ++ read (rest_of body ts) (k ∷ [])
 packets_more body [] k = refl
 packets_more body (Byte b ∷ ts) k = packets_more (body ++ b ∷ []) ts k
 packets_more body (EndMark m ∷ ts) k = ap (λ ps. record { body = body; mark = m } ∷ ps) (packets_more [] ts k)
@@ -48,7 +50,7 @@ rest_more body (EndMark m ∷ ts) k = rest_more [] ts k
 rest_more body (Fct ∷ ts) k = rest_more body ts k
 
 -- there are no more packets and bytes than tokens
-few_packets : (body : List ℕ) (ts : List Token) → length (packets_of body ts) + length (rest_of body ts) ≤ length body + length ts
+few_packets : (body : List ℕ) (ts : List Token) → length (read body ts) + length (rest_of body ts) ≤ length body + length ts
 few_packets body [] = omega arith
 few_packets body (Byte b ∷ ts) = let few = few_packets (body ++ b ∷ []) ts in let long = length-append body (b ∷ []) in omega (arith, few, long)
 few_packets body (EndMark m ∷ ts) = let few = few_packets [] ts in omega (arith, few)
@@ -61,7 +63,7 @@ counted_more false c n is few = omega (arith, is)
 count_byte : (ts : List Token) (c : PacketCount) (b : ℕ) → IsCountOf ts c → length ts < 2 ^ 64 - 1 → IsCountOf (ts ++ Byte b ∷ []) (with_token (Byte b) c)
 count_byte ts c b is less =
     let few = few_packets [] ts in
-    let more = packets_more [] ts (Byte b) ∙ append-nil (packets_of [] ts) in
+    let more = packets_more [] ts (Byte b) ∙ append-nil (read [] ts) in
     let long = ap length (rest_more [] ts (Byte b)) ∙ length-append (rest_of [] ts) (b ∷ []) in
     let bytes = is.bytes in
     record {
@@ -74,21 +76,21 @@ count_mark : (ts : List Token) (c : PacketCount) (m : Mark) → IsCountOf ts c �
 count_mark ts c m is less =
     let whole : Packet = record { body = rest_of [] ts; mark = m } in
     let few = few_packets [] ts in
-    let fewer = count_by-le-length is_ack (packets_of [] ts) in
+    let fewer = count_by-le-length is_ack (read [] ts) in
     let more = packets_more [] ts (EndMark m) in
-    let long = ap length more ∙ length-append (packets_of [] ts) (whole ∷ []) in
+    let long = ap length more ∙ length-append (read [] ts) (whole ∷ []) in
     let packets = is.packets in
     record {
       packets = omega (arith, few, long, packets, less);
-      acks = ap (λ b. counted (is_eop m && nat_lt b 32) c.acks) is.bytes ∙ counted_more (is_ack whole) c.acks (count_by is_ack (packets_of [] ts)) is.acks (omega (arith, few, fewer, less))
-          ∙ sym (ap (count_by is_ack) more ∙ count_more is_ack (packets_of [] ts) whole);
+      acks = ap (λ b. counted (is_eop m && nat_lt b 32) c.acks) is.bytes ∙ counted_more (is_ack whole) c.acks (count_by is_ack (read [] ts)) is.acks (omega (arith, few, fewer, less))
+          ∙ sym (ap (count_by is_ack) more ∙ count_more is_ack (read [] ts) whole);
       bytes = ap length (sym (rest_more [] ts (EndMark m)));
     }
 
 count_fct : (ts : List Token) (c : PacketCount) → IsCountOf ts c → IsCountOf (ts ++ Fct ∷ []) c
 count_fct ts c is = record {
-  packets = is.packets ∙ ap length (sym (packets_more [] ts Fct ∙ append-nil (packets_of [] ts)));
-  acks = is.acks ∙ ap (count_by is_ack) (sym (packets_more [] ts Fct ∙ append-nil (packets_of [] ts)));
+  packets = is.packets ∙ ap length (sym (packets_more [] ts Fct ∙ append-nil (read [] ts)));
+  acks = is.acks ∙ ap (count_by is_ack) (sym (packets_more [] ts Fct ∙ append-nil (read [] ts)));
   bytes = is.bytes ∙ ap length (sym (rest_more [] ts Fct));
 }
 
@@ -101,7 +103,7 @@ count_token ts c Fct is less = count_fct ts c is
 -- ---- events
 
 abbrev last_listed : Bool → NetworkState → ℕ → List Token
-last_listed b y way = if b then listed (last_of (y.way way)) else []
+last_listed b y way = if b then option_to_list (last_of (y.way way)) else []
 
 tokens_more : (p : Plan) (way : ℕ) (es : List Event) (xs : List NetworkState) (e : Event) (y : NetworkState) → length es ≡ length xs →
     tokens_put p way (es ++ e ∷ []) (xs ++ y ∷ []) ≡ tokens_put p way es xs ++ last_listed (puts_on p way e) y way
@@ -114,7 +116,7 @@ tokens_more p way (f ∷ es) (x ∷ xs) e y same =
 tokens_more p way [] (x ∷ xs) e y same = absurd (omega (arith, same))
 tokens_more p way (f ∷ es) [] e y same = absurd (omega (arith, same))
 
-few_listed : (b : Bool) (o : Option Token) → length (if b then listed o else []) ≤ 1
+few_listed : (b : Bool) (o : Option Token) → length (if b then option_to_list o else []) ≤ 1
 few_listed true None = omega arith
 few_listed true (Some k) = omega arith
 few_listed false o = omega arith
@@ -140,14 +142,14 @@ none_put p way es xs e y c same is not =
 pub none_there : (p : Plan) (way : ℕ) (es : List Event) (xs : List NetworkState) (e : Event) (y : NetworkState) (c : PacketCount) → length es ≡ length xs → IsCountOf (tokens_put p way es xs) c → puts_on p way e ≡ true → None ≡ last_of (y.way way) →
     IsCountOf (tokens_put p way (es ++ e ∷ []) (xs ++ y ∷ [])) c
 none_there p way es xs e y c same is put none =
-    subst (λ ts. IsCountOf ts c) (sym (tokens_more p way es xs e y same ∙ ap (λ b. tokens_put p way es xs ++ last_listed b y way) put ∙ ap (λ o. tokens_put p way es xs ++ listed o) (sym none) ∙ append-nil (tokens_put p way es xs))) is
+    subst (λ ts. IsCountOf ts c) (sym (tokens_more p way es xs e y same ∙ ap (λ b. tokens_put p way es xs ++ last_listed b y way) put ∙ ap (λ o. tokens_put p way es xs ++ option_to_list o) (sym none) ∙ append-nil (tokens_put p way es xs))) is
 
 -- it puts this token on the way
 pub one_put : (p : Plan) (way : ℕ) (es : List Event) (xs : List NetworkState) (e : Event) (y : NetworkState) (c : PacketCount) (k : Token) → length es ≡ length xs → length es < most_events → IsCountOf (tokens_put p way es xs) c →
     puts_on p way e ≡ true → Some k ≡ last_of (y.way way) → IsCountOf (tokens_put p way (es ++ e ∷ []) (xs ++ y ∷ [])) (with_token k c)
 one_put p way es xs e y c k same few is put one =
     let fewer = few_tokens p way es xs in
-    subst (λ ts. IsCountOf ts (with_token k c)) (sym (tokens_more p way es xs e y same ∙ ap (λ b. tokens_put p way es xs ++ last_listed b y way) put ∙ ap (λ o. tokens_put p way es xs ++ listed o) (sym one)))
+    subst (λ ts. IsCountOf ts (with_token k c)) (sym (tokens_more p way es xs e y same ∙ ap (λ b. tokens_put p way es xs ++ last_listed b y way) put ∙ ap (λ o. tokens_put p way es xs ++ option_to_list o) (sym one)))
     (count_token (tokens_put p way es xs) c k is (omega (arith, fewer, few)))
 
 -- ---- the way that goes out by a link

@@ -1,10 +1,12 @@
 -- The packets that ports put whole on wires.
 use Rattle.std.specs.Prelude.{◌≡◌, ℕ, ◌*◌, ◌<◌, ◌==◌, ◌&&◌, nat_lt, Bool, true, false, List, [], ◌∷◌, ◌++◌, length, count_by, Option, Some, None, if◌then◌else◌}
+use Rattle.std.specs.Option.{option_to_list}
 use Rattle.vc_accepted.specs.NetworkOf.{network_of}
 use Rattle.vc_core.specs.Enabled.{NetworkState}
 use Rattle.vc_core.specs.Links.{last_of}
 use Rattle.vc_core.specs.declared.event.Event.{Event}
 use Rattle.vc_machine.specs.Paths.{Port, AtNode, AtSwitch}
+use Rattle.vc_machine.specs.Seen.{read}
 use Rattle.vc_network.specs.Network.{actor_at}
 use Rattle.vc_network.specs.Plan.{near}
 use Rattle.vc_packets.specs.declared.mark.Mark.{Mark}
@@ -27,26 +29,14 @@ link_at (AtSwitch n link) = link
 abbrev pub puts_on : Plan → ℕ → Event → Bool
 puts_on p way e = e.actor == actor_at (network_of p) (near (network_of p) way) && is_at (link_at (near (network_of p) way)) (put_in e.act)
 
--- a token, if there is one
-abbrev pub listed : Option Token → List Token
-listed None = []
-listed (Some k) = k ∷ []
-
 -- the tokens of packets that the events put on the way, in order: each stands last on it in the state after its event
 abbrev pub tokens_put : Plan → ℕ → List Event → List NetworkState → List Token
-tokens_put p way (e ∷ es) (x ∷ xs) = (if puts_on p way e then listed (last_of (x.way way)) else []) ++ tokens_put p way es xs
+tokens_put p way (e ∷ es) (x ∷ xs) = (if puts_on p way e then option_to_list (last_of (x.way way)) else []) ++ tokens_put p way es xs
 tokens_put p way _ _ = []
 
 -- ---- the packets
 
--- the packets that tokens spell behind these bytes of the first one
-abbrev pub packets_of : List ℕ → List Token → List Packet
-packets_of body [] = []
-packets_of body (Byte b ∷ ts) = packets_of (body ++ b ∷ []) ts
-packets_of body (EndMark m ∷ ts) = record { body = body; mark = m } ∷ packets_of [] ts
-packets_of body (Fct ∷ ts) = packets_of body ts
-
--- and the bytes of the one whose mark has not come
+-- the bytes of the packet whose mark has not come, behind these
 abbrev pub rest_of : List ℕ → List Token → List ℕ
 rest_of body [] = body
 rest_of body (Byte b ∷ ts) = rest_of (body ++ b ∷ []) ts
@@ -64,7 +54,7 @@ is_ack p = is_eop p.mark && nat_lt (length p.body) 32
 
 -- the packets that were put whole on the way
 abbrev pub packets_on : Plan → List Event → List NetworkState → ℕ → List Packet
-packets_on p es xs way = packets_of [] (tokens_put p way es xs)
+packets_on p es xs way = read [] (tokens_put p way es xs)
 
 -- ---- how they are counted
 
@@ -79,8 +69,8 @@ count_at all actor link = record { packets = cell all.whole actor link; acks = c
 
 -- it is that of these tokens
 pub record IsCountOf (ts : List Token) (c : PacketCount) : Type 0 where
-  pub packets : c.packets ≡ length (packets_of [] ts)
-  pub acks : c.acks ≡ count_by is_ack (packets_of [] ts)
+  pub packets : c.packets ≡ length (read [] ts)
+  pub acks : c.acks ≡ count_by is_ack (read [] ts)
   pub bytes : c.bytes ≡ length (rest_of [] ts)
 
 -- and so of each way, at the port where it begins

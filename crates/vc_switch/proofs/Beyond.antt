@@ -5,7 +5,8 @@ use Rattle.vc_credit.specs.Ends.{HasRoom}
 use Rattle.vc_switch.specs.Switch.{new_input}
 use Rattle.vc_switch.specs.Able.{CanGrant, CanLeave, CanPass, IsFree}
 use Rattle.vc_switch.specs.Front.{front_of}
-use Rattle.vc_switch.specs.State.{State, IsSwitch, shown_or, source_at, plan_of, limit_of}
+use Rattle.vc_switch.specs.State.{State, IsSwitch, source_at, plan_of, limit_of}
+use Rattle.vc_packets.specs.Functions.{shown_or}
 use Rattle.vc_switch.specs.Seen.{seen, input_of}
 use Rattle.vc_switch.specs.declared.link_in.LinkIn.{LinkIn}
 use Rattle.vc_switch.specs.declared.link_out.LinkOut.{LinkOut}

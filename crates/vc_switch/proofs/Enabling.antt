@@ -10,7 +10,8 @@ use Rattle.vc_credit.specs.Ends.{Receiver, HasRoom}
 use Rattle.vc_switch.specs.Forward.{SwitchPlan}
 use Rattle.vc_switch.specs.Switch.{Switch, set_input, with_header, passing, Passes, passes_byte, drops_byte, passes_mark, loses, HasGroup}
 use Rattle.vc_switch.specs.Able.{CanPass, CanGrant, IsFree}
-use Rattle.vc_switch.specs.State.{State, IsSwitch, shown_or, plan_of, limit_of}
+use Rattle.vc_switch.specs.State.{State, IsSwitch, plan_of, limit_of}
+use Rattle.vc_packets.specs.Functions.{shown_or}
 use Rattle.vc_switch.specs.Seen.{seen, input_of}
 use Rattle.vc_switch.specs.declared.link_in.LinkIn.{LinkIn}
 use Rattle.vc_switch.specs.declared.link_out.LinkOut.{LinkOut}

@@ -3,10 +3,10 @@ use Rattle.std.proofs.Common.{◌≡◌, ℕ, zero, suc, ◌+◌, ◌≤◌, Lis
 use Rattle.std.proofs.lemmas.List.{length-set, take-append-le, drop-append-le, length-drop}
 use Rattle.std.proofs.lemmas.Option.{slice_get_within}
 use Rattle.std.specs.List.{AllByRecursion}
-use Rattle.vc_packets.specs.Functions.{put}
+use Rattle.vc_packets.specs.Functions.{put, shown_or}
 use Rattle.vc_switch.specs.Forward.{SwitchPlan}
 use Rattle.vc_switch.specs.Switch.{headed, BodyLeaves}
-use Rattle.vc_switch.specs.State.{State, IsSwitch, IsLinkIn, IsUnderWay, MayBeBound, ArePaired, bound_at, source_at, output_of, limit_of, plan_of, shown_or}
+use Rattle.vc_switch.specs.State.{State, IsSwitch, IsLinkIn, IsUnderWay, MayBeBound, ArePaired, bound_at, source_at, output_of, limit_of, plan_of}
 use Rattle.vc_switch.specs.Seen.{IsKept, sent_by}
 use Rattle.vc_switch.specs.declared.link_in.LinkIn.{LinkIn}
 use Rattle.vc_switch.specs.declared.link_in.Bound.{Bound}

@@ -4,8 +4,7 @@ use Rattle.std.proofs.lemmas.Bool.{cases_eq, ne_eqb, ltb-true, ltb-false}
 use Rattle.std.specs.List.{AllByRecursion}
 use Rattle.std.proofs.lemmas.Option.{get_or_from_slice_get, slice_get_read, slice_get_within, slice_get_past}
 use mathlib.Core.Path.{fun_ext}
-use Rattle.vc_packets.specs.Functions.{put}
-use Rattle.vc_switch.specs.State.{shown_or}
+use Rattle.vc_packets.specs.Functions.{put, shown_or}
 
 pub put-same : {X : Type 0} (f : ℕ → X) (i : ℕ) (x : X) → put f i x i ≡ x
 put-same f i x = ap (λ t. if t then x else f i) (eq-eqb i i refl)

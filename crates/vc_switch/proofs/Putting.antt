@@ -3,7 +3,7 @@ use Rattle.std.proofs.Common.{◌≡◌, ℕ, zero, suc, ◌+◌, ◌-◌, ◌<�
 use Rattle.std.proofs.Math.Seq.{take-suc, drop-cons}
 use Rattle.std.proofs.lemmas.List.{length-set, length-drop, length-take-le, take-append-drop}
 use Rattle.std.proofs.lemmas.Option.{slice_get_within, slice_get-get_or, get_or_from_slice_get}
-use Rattle.vc_packets.specs.Functions.{put}
+use Rattle.vc_packets.specs.Functions.{put, shown_or}
 use Rattle.vc_packets.specs.declared.mark.Mark.{Mark}
 use Rattle.vc_tokens.specs.Tokens.{Token, Byte, EndMark}
 use Rattle.vc_credit.specs.Ends.{Sender, Puts, puts_byte, puts_mark}
@@ -12,7 +12,7 @@ use Rattle.vc_switch.specs.Waiting.{Wormhole}
 use Rattle.vc_switch.specs.Switch.{Input, Switch, BodyLeaves, Sends}
 use Rattle.vc_switch.specs.Able.{CanPut, IsFree}
 use Rattle.vc_switch.specs.Private.Front.{start_of}
-use Rattle.vc_switch.specs.State.{State, IsSwitch, IsLinkIn, IsUnderWay, MayBeBound, ArePaired, bound_at, source_at, shown_or, output_of, plan_of, limit_of}
+use Rattle.vc_switch.specs.State.{State, IsSwitch, IsLinkIn, IsUnderWay, MayBeBound, ArePaired, bound_at, source_at, output_of, plan_of, limit_of}
 use Rattle.vc_switch.specs.Seen.{seen, input_of, sent_by, sent_of, sent_from, sender_of}
 use Rattle.vc_switch.specs.Private.Seen.{has_next, IsBoundTo}
 use Rattle.vc_switch.specs.declared.link_in.LinkIn.{LinkIn}

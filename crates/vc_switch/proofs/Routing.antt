@@ -1,7 +1,7 @@
 -- How a packet is bound to an output, by what changes in a switch's lists.
 use Rattle.std.proofs.Common.{◌≡◌, ℕ, ◌+◌, ◌<◌, ◌≤◌, Bool, true, false, IsTrue, ◌↔◌, List, [], ◌∷◌, length, drop, refl, sym, ap, ◌∙◌, subst, arith, slice_get, slice_set, if◌then◌else◌, Option, Some, None}
 use Rattle.std.proofs.lemmas.List.{length-set}
-use Rattle.vc_packets.specs.Functions.{put}
+use Rattle.vc_packets.specs.Functions.{put, shown_or}
 use Rattle.vc_labels.specs.declared.row.Row.{Row}
 use Rattle.vc_labels.specs.declared.action.Action.TheVariants.{Out}
 use Rattle.vc_labels.specs.Interval.{action_for, holds}
@@ -13,7 +13,7 @@ use Rattle.vc_switch.specs.Able.{CanLeave, CanRoute, IsFree}
 use Rattle.vc_switch.specs.declared.front.Front.{Front}
 use Rattle.vc_switch.specs.Front.{front_of}
 use Rattle.vc_switch.specs.Private.Front.{start_of, HasFront}
-use Rattle.vc_switch.specs.State.{State, IsSwitch, IsLinkIn, IsUnderWay, ArePaired, bound_at, source_at, shown_or, output_of, plan_of, limit_of}
+use Rattle.vc_switch.specs.State.{State, IsSwitch, IsLinkIn, IsUnderWay, ArePaired, bound_at, source_at, output_of, plan_of, limit_of}
 use Rattle.vc_switch.specs.Seen.{seen, input_of, sent_by, sent_of, sender_of}
 use Rattle.vc_switch.specs.declared.link_in.LinkIn.{LinkIn}
 use Rattle.vc_switch.specs.declared.link_in.Bound.{Bound}

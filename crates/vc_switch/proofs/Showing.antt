@@ -3,10 +3,10 @@ use Rattle.std.proofs.Common.{◌≡◌, ℕ, List, [], refl, sym, ap, ◌∙◌
 use Rattle.std.proofs.lemmas.Bool.{cases_eq}
 use Rattle.std.proofs.lemmas.Option.{slice_get_within}
 use mathlib.Core.Path.{fun_ext}
-use Rattle.vc_packets.specs.Functions.{put}
+use Rattle.vc_packets.specs.Functions.{put, shown_or}
 use Rattle.vc_credit.specs.Ends.{new_sender}
 use Rattle.vc_switch.specs.Switch.{Switch, new_input, set_input}
-use Rattle.vc_switch.specs.State.{State, shown_or, output_of, bound_at, source_at, ArePaired}
+use Rattle.vc_switch.specs.State.{State, output_of, bound_at, source_at, ArePaired}
 use Rattle.vc_switch.specs.Seen.{seen, input_of, sent_of, sent_from, sender_of}
 use Rattle.vc_switch.specs.declared.link_in.LinkIn.{LinkIn}
 use Rattle.vc_switch.specs.declared.link_out.LinkOut.{LinkOut}

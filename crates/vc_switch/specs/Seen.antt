@@ -2,7 +2,8 @@
 use Rattle.std.specs.Prelude.{◌≡◌, ℕ, List, [], take, drop, slice_get, Option, Some, None}
 use Rattle.vc_credit.specs.Ends.{Sender, new_sender}
 use Rattle.vc_switch.specs.Switch.{Input, Switch, new_input}
-use Rattle.vc_switch.specs.State.{State, shown_or, output_of, plan_of, limit_of}
+use Rattle.vc_switch.specs.State.{State, output_of, plan_of, limit_of}
+use Rattle.vc_packets.specs.Functions.{shown_or}
 use Rattle.vc_switch.specs.declared.link_in.LinkIn.{LinkIn}
 use Rattle.vc_switch.specs.declared.link_in.Bound.{Bound}
 use Rattle.vc_switch.specs.declared.link_out.LinkOut.{LinkOut}

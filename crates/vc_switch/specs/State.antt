@@ -10,6 +10,7 @@ use Rattle.vc_switch.specs.declared.random_range.RandomRange.{RandomRange}
 use Rattle.vc_switch.specs.declared.link_in.LinkIn.{LinkIn}
 use Rattle.vc_switch.specs.declared.link_in.Bound.{Bound}
 use Rattle.vc_switch.specs.declared.link_out.LinkOut.{LinkOut}
+use Rattle.vc_packets.specs.Functions.{shown_or}
 
 pub record State : Type 0 where
   pub table : List Row
@@ -18,10 +19,6 @@ pub record State : Type 0 where
   pub inputs : List LinkIn  -- by link
   pub outputs : List LinkOut  -- by link
   pub lost : ℕ
-
-abbrev pub shown_or : {X Y : Type 0} → Y → (X → Y) → Option X → Y
-shown_or d show None = d
-shown_or d show (Some x) = show x
 
 abbrev pub interval_of : Option RandomRange → Option Interval
 interval_of None = None

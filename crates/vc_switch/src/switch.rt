@@ -49,9 +49,23 @@ impl Model for Switch {
 
     ghost Value = { State };
 
-    ghost view = { λ x. record { table = x.table; ranges = x.ranges.items; deletes = x.deletes.items; inputs = x.inputs.items; outputs = x.outputs.items; lost = x.lost } };
+    ghost view = { λ x. record {
+      table = x.table;
+      ranges = x.ranges.items;
+      deletes = x.deletes.items;
+      inputs = x.inputs.items;
+      outputs = x.outputs.items;
+      lost = x.lost;
+    } };
 
-    ghost invariant = { λ x. IsSwitch (record { table = x.table; ranges = x.ranges.items; deletes = x.deletes.items; inputs = x.inputs.items; outputs = x.outputs.items; lost = x.lost }) };
+    ghost invariant = { λ x. IsSwitch (record {
+      table = x.table;
+      ranges = x.ranges.items;
+      deletes = x.deletes.items;
+      inputs = x.inputs.items;
+      outputs = x.outputs.items;
+      lost = x.lost;
+    }) };
 }
 
 impl Switch {

@@ -42,9 +42,9 @@ StepsBy Reads old new limit (Ok report) = (plan : Network) × Reads (Ok plan) ×
 StepsBy Reads old new limit (Err Write) = (plan : Network) × Reads (Ok plan) × RunsPlan plan old new limit (Err Write)
 StepsBy Reads old new limit (Err fault) = Reads (Err fault) × (new ≡ old)
 
--- the reader's network is run
-abbrev pub Steps : Option (List ℕ) → Option (List ℕ) → Option (List ℕ) → ℕ → Result StepReport RunFault → Type 0
-Steps known = StepsBy (ReadsAccepted known)
+-- the reader's network is run, each process on its node
+abbrev pub StepsApart : Option (List ℕ) → Option (List ℕ) → Option (List ℕ) → ℕ → Result StepReport RunFault → Type 0
+StepsApart known = StepsBy (ReadsAccepted known)
 
 -- all its processes are run side by side on one node
 abbrev pub StepsTogether : Option (List ℕ) → Option (List ℕ) → Option (List ℕ) → ℕ → Result StepReport RunFault → Type 0

@@ -5,7 +5,7 @@ ghost use Rattle.vc_plan.specs.declared.plan.Plan.{Plan};
 ghost use Rattle.vc_core.specs.Replaying.{IsOpening};
 ghost use Rattle.vc_core.specs.State.{State, shown, state_of, IsNetworkOf};
 ghost use Rattle.vc_core.specs.declared.event.Event.{Event};
-ghost use Rattle.vc_text.specs.Running.{IsRunWithin, RunsPlan, Steps, StepsTogether};
+ghost use Rattle.vc_text.specs.Running.{IsRunWithin, RunsPlan, StepsApart, StepsTogether};
 ghost use Rattle.vc_text.specs.Shown.{channel_of, channels_of};
 ghost use Rattle.vc_text.specs.Streams.{Writes};
 ghost use Rattle.vc_text.specs.Traffic.{traffic};
@@ -148,8 +148,8 @@ pub fn run_step<R: Read, W: Write>(
     writer: &mut W,
     limit: u64,
 ) -> Result<StepReport, RunFault>
-    ensures { Steps (R.remaining reader.old) (W.contents writer.old) (W.contents writer.new) limit
-        result }
+    ensures { StepsApart (R.remaining reader.old)
+        (W.contents writer.old) (W.contents writer.new) limit result }
 {
     let accepted = read_accepted(alloc, reader)?;
     run_plan(alloc, &accepted, writer, limit)

@@ -10,7 +10,7 @@ use Rattle.vc_network.specs.Merge.{Made, IsMerge}
 use Rattle.vc_actor.specs.Begin.{AreFirst}
 use Rattle.vc_actor.specs.Shown.{actor_of}
 use Rattle.vc_core.specs.State.{State, shown, IsNetworkOf}
-use Rattle.vc_core.specs.Turns.{HaveEnded}
+use Rattle.vc_core.specs.Turns.{AllHaveEnded}
 use Rattle.vc_actor.specs.Turns.{actors}
 use Rattle.vc_actor.specs.declared.act.Act.{Act}
 use Rattle.vc_core.specs.declared.close.Close.{Close}
@@ -22,11 +22,11 @@ use Rattle.vc_plan.specs.declared.plan.Plan.{Plan}
 use Rattle.vc_switch.specs.Switch.{new_switch}
 use Rattle.vc_tokens.specs.Spelt.{tokens}
 use Rattle.vc_tokens.specs.declared.token.Token.{Token}
-use Rattle.vc_vcp.specs.Keyed.{shown_or}
+use Rattle.vc_packets.specs.Functions.{shown_or}
 use Rattle.vc_threads.specs.Closing.{ClosesBy, stop_among}
 use Rattle.vc_threads.specs.Private.Closing.{stop_at, stop_in}
 use Rattle.vc_threads.specs.Jobs.{Ran}
-use Rattle.vc_threads.specs.Merged.{event_of}
+use Rattle.vc_threads.specs.Merged.{made_event}
 use Rattle.vc_threads.specs.Private.Order.{actor_left, outs_left, ins_left, tokens_at, LeftOn}
 use Rattle.vc_threads.specs.Order.{OnWays}
 use Rattle.vc_threads.specs.Private.Rings.{AreWired}
@@ -59,7 +59,7 @@ module _ (p : Plan) (acc : IsAccepted p) (turns seed : ℕ) (js : List Job) (rs 
     (lines : List (Vec Token)) (count : length lines ≡ 2 * length p.wires) (left : OnWays (LeftOn (length p.nodes) e lines) p.wires (length p.wires)) (merged : List (Made Act))
     (made : IsMerge (λ k. map (restamped act_of) (steps_of p turns seed js rs begins are ran k)) merged) where
   pub is_run : (s : State) (stops : List Stop) (close : Close) → stops ≡ map stop_in rs → IsNetworkOf p s → s.actors ≡ map actor_left rs → s.ways ≡ map (λ line. tokens line.items) lines
-      → close ≡ Done ↔ HaveEnded p s → (close ≢ Done → ClosesBy (length rs) (stop_at rs) close) → IsThreadRun p turns seed (map event_of merged) s stops close
+      → close ≡ Done ↔ AllHaveEnded p s → (close ≢ Done → ClosesBy (length rs) (stop_at rs) close) → IsThreadRun p turns seed (map made_event merged) s stops close
   is_run s stops close are_stops is actors_are ways_are done closes =
       let run = steps_of p turns seed js rs begins are ran in
       let last = last_of p turns seed js rs begins are ran in
@@ -69,7 +69,7 @@ module _ (p : Plan) (acc : IsAccepted p) (turns seed : ℕ) (js : List Job) (rs 
       let on : (w : ℕ) → (shown s).way w ≡ tokens (tokens_at lines w) = λ w. ap (λ xs. shown_or [] (λ ts. ts) (slice_get xs w)) ways_are ∙ shown_at lines w in
       let bare : (w : ℕ) → ways (network_of p) ≤ w → (shown s).way w ≡ [] = λ w past. let n = length-map p.wires wire_of in on w ∙ none_past lines w (omega (arith, past, count, n)) in
       let order = takes_in_order p turns seed js rs begins are ran e outs ins wired lines (shown s).way on left in
-      let leads = leads_there p acc turns seed run (stop_at rs) last each none (idle_there p turns seed js rs begins are ran) (shown s).way order bare merged made (map event_of merged) refl s is ends (λ w. refl) in
+      let leads = leads_there p acc turns seed run (stop_at rs) last each none (idle_there p turns seed js rs begins are ran) (shown s).way order bare merged made (map made_event merged) refl s is ends (λ w. refl) in
       record {
         runs = run;
         count = ap length are_stops ∙ (length-map rs stop_in ∙ runs_count p turns seed js rs begins are ran);

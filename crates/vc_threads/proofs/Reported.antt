@@ -24,7 +24,7 @@ use Rattle.vc_switch.specs.Switch.{new_switch}
 use Rattle.vc_accepted.specs.Begin.{begin_of}
 use Rattle.vc_accepted.specs.Process.{Process}
 use Rattle.vc_tokens.specs.declared.token.Token.{Token}
-use Rattle.vc_vcp.specs.Keyed.{shown_or}
+use Rattle.vc_packets.specs.Functions.{shown_or}
 use Rattle.vc_vcp.specs.Links.{new_vcp}
 use Rattle.vc_threads.specs.Private.Closing.{AreInOrder, stop_in, stop_at}
 use Rattle.vc_threads.specs.Jobs.{Ran}

@@ -43,7 +43,7 @@ use Rattle.vc_accepted.specs.Process.{Process, does}
 use Rattle.vc_tokens.specs.Spelt.{token}
 use Rattle.vc_tokens.specs.Tokens as tokens
 use Rattle.vc_tokens.specs.declared.token.Token.{Token}
-use Rattle.vc_threads.specs.Merged.{event_of}
+use Rattle.vc_threads.specs.Merged.{made_event}
 use Rattle.vc_threads.specs.Order.{OnWays}
 use Rattle.vc_threads.specs.Threads.{IsOverWires, IsRunOf, TakesInOrder}
 use Rattle.vc_threads.specs.declared.run.Stop.{Stop}
@@ -85,7 +85,7 @@ acts_by : (p : Plan) (k : ℕ) (ts : List (Turn Act Token)) → map (restamped c
 acts_by p k [] = refl
 acts_by p k (t ∷ ts) = λ i. record { at = t.at; it = act_by p k t.it i } ∷ acts_by p k ts i
 
-events_by : (ms : List (Made Act)) → map made_by (map (remade code_act) ms) ≡ map core.event_of (map event_of ms)
+events_by : (ms : List (Made Act)) → map made_by (map (remade code_act) ms) ≡ map core.event_of (map made_event ms)
 events_by [] = refl
 events_by (m ∷ ms) = ap (λ xs. made_by (remade code_act m) ∷ xs) (events_by ms)
 
@@ -184,7 +184,7 @@ module _ (p : Plan) (acc : IsAccepted p) (turns seed : ℕ) (runs : ℕ → List
     threads : AreThreads (network_of p) Wormhole does (begin_of p) by_ways last (λ w. (fits w).rest) (map (remade code_act) merged)
     threads = record { fit = record { local = local; ways = λ w. (fits w).is }; merged = merge_by }
 
-    module _ (steps : List Event) (steps_are : steps ≡ map event_of merged) where
+    module _ (steps : List Event) (steps_are : steps ≡ map made_event merged) where
       events_are : map made_by (map (remade code_act) merged) ≡ map core.event_of steps
       events_are = events_by merged ∙ ap (map core.event_of) (sym steps_are)
 

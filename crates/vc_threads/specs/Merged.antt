@@ -12,5 +12,5 @@ of_pair p = record { at = p.0; it = p.1 }
 abbrev pub numbered : ActorRun → Numbered Act
 numbered r = record { actor = r.id; run = map of_pair r.acts.items }
 
-abbrev pub event_of : Made Act → Event
-event_of m = record { actor = m.actor; act = m.act.it }
+abbrev pub made_event : Made Act → Event
+made_event m = record { actor = m.actor; act = m.act.it }

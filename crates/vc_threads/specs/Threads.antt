@@ -12,7 +12,7 @@ use Rattle.vc_actor.specs.Begin.{BeginsAs}
 use Rattle.vc_core.specs.Replaying.{Replays}
 use Rattle.vc_actor.specs.Shown.{Acting, actor_of}
 use Rattle.vc_core.specs.State.{State, state_of, shown}
-use Rattle.vc_core.specs.Turns.{HaveEnded}
+use Rattle.vc_core.specs.Turns.{AllHaveEnded}
 use Rattle.vc_actor.specs.Turns.{actors}
 use Rattle.vc_actor.specs.declared.act.Act.{Act}
 use Rattle.vc_core.specs.declared.close.Close.{Close}
@@ -26,7 +26,7 @@ use Rattle.vc_tokens.specs.Tokens.{Token as Item}
 use Rattle.vc_tokens.specs.declared.token.Token.{Token}
 use Rattle.vc_accepted.specs.Process.{Process}
 use Rattle.vc_threads.specs.Closing.{ClosesBy, stop_among}
-use Rattle.vc_threads.specs.Merged.{event_of}
+use Rattle.vc_threads.specs.Merged.{made_event}
 use Rattle.vc_threads.specs.Order.{OnWays}
 use Rattle.vc_threads.specs.Rings.{IsOnWire}
 use Rattle.vc_threads.specs.Runs.{StepsByLink, Used, Draws, generator, words_of}
@@ -78,9 +78,9 @@ pub record IsThreadRun (p : Plan) (turns seed : ℕ) (events : List Event) (s : 
   pub order : OnWays (TakesInOrder (length p.nodes) runs (shown s).way) p.wires (length p.wires)
   pub merged : List (Made Act)
   pub merge : IsMerge (λ k. map (restamped act_of) (runs k)) merged
-  pub steps : events ≡ map event_of merged
+  pub steps : events ≡ map made_event merged
   pub replays : Replays p events s
-  pub done : close ≡ Done ↔ HaveEnded p s
+  pub done : close ≡ Done ↔ AllHaveEnded p s
   pub closes : close ≢ Done → ClosesBy (actors p) (stop_among stops) close
   pub full : (k : ℕ) → k < actors p → stop_among stops k ≡ Clock → (j : ℕ) × HasGreatest (runs j)
 

@@ -2,7 +2,7 @@
 ghost use Rattle.std.specs.Prelude.{◌≡◌, ◌⊎◌, ◌↔◌, ◌<◌, List, Some, length, map, IfOk, IfSome, IsTrue, MatchOption};
 ghost use Rattle.std.specs.List.{AllByRecursion};
 ghost use Rattle.vc_network.specs.Merge.{Made, IsMerge, AreDistinct, RunRises, run_of};
-ghost use Rattle.vc_threads.specs.Merged.{numbered, event_of};
+ghost use Rattle.vc_threads.specs.Merged.{numbered, made_event};
 ghost use Rattle.vc_threads.specs.Private.Merged.{front_of, id_at, FindsFirst, FindsWith, HavePassed, IdsRise};
 ghost use Rattle.vc_actor.specs.declared.act.Act.{Act as SpeltAct};
 
@@ -148,7 +148,7 @@ pub fn merge(alloc: Global, runs: &[ActorRun]) -> Result<Vec<Event>, Memory>
         (λ events.
         (merged : List (Made SpeltAct)) ×
         IsMerge (run_of (map numbered runs.now)) merged ×
-        (events.items ≡ map event_of merged)) }
+        (events.items ≡ map made_event merged)) }
 {
     let mut events = Vec::new(alloc);
     let mut fronts = first_fronts(alloc, runs)?;

@@ -1,7 +1,7 @@
 //! What a run in threads reports.
 ghost use Rattle.std.specs.Prelude.{◌≡◌, ◌≢◌, ◌↔◌, ◌<◌, length, map, IsNone, IfOk, IfSome};
 ghost use Rattle.vc_core.specs.State.{state_of, IsNetworkOf};
-ghost use Rattle.vc_core.specs.Turns.{HaveEnded};
+ghost use Rattle.vc_core.specs.Turns.{AllHaveEnded};
 ghost use Rattle.vc_core.specs.declared.close.Close.TheVariants.{Done};
 ghost use Rattle.vc_plan.specs.declared.plan.Plan.{Plan};
 ghost use Rattle.vc_threads.specs.Private.Closing.{AreInOrder, stop_at, stop_in};
@@ -86,7 +86,7 @@ pub(crate) fn close_of(otherwise: Close, state: &Network) -> Close
     requires { otherwise ≢ Done }
     ensures done { (p : Plan) →
         IsNetworkOf p (state_of state.now) →
-        result ≡ Done ↔ HaveEnded p (state_of state.now) }
+        result ≡ Done ↔ AllHaveEnded p (state_of state.now) }
     ensures other { result ≢ Done → result ≡ otherwise }
 {
     if state.ended() {

@@ -19,7 +19,8 @@ use Rattle.vc_vcp.specs.LinkIn.{Receiving}
 use Rattle.vc_vcp.specs.Links.{Vcp, Passes, passes_byte, drops_byte, passes_mark, passing, set_link, with_token, due, not_due}
 use Rattle.vc_vcp.proofs.Passing.{receiver_at}
 use Rattle.vc_vcp.proofs.Wired.{all-at}
-use Rattle.vc_vcp.specs.Keyed.{named, shown_or}
+use Rattle.vc_vcp.specs.Keyed.{named}
+use Rattle.vc_packets.specs.Functions.{shown_or}
 use Rattle.vc_vcp.specs.Seen.{seen, ends_of, carrier_of, link_of, in_half, no_input, out_end, in_end, out_half, no_output}
 use Rattle.vc_vcp.specs.State.{State, HaveOwnNames, IsWired, IsInput, IsLinkIn, IsAckOf, limit_of}
 use Rattle.vc_vcp.specs.Steps.{Taken, Held, Stray, taken_by, acked_by, message, accept, advance, Arrives, takes, stray, stores, holds, advances}

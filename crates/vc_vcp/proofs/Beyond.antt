@@ -4,7 +4,7 @@ use Rattle.std.proofs.lemmas.Bool.{ltb-true, ltb-false}
 use Rattle.std.proofs.lemmas.Option.{slice_get_within, slice_get_read, slice_get_past}
 use Rattle.vc_credit.specs.Ends.{HasRoom, new_receiver}
 use Rattle.vc_vcp.specs.Able.{CanPut, CanGrant, CanPass}
-use Rattle.vc_vcp.specs.Keyed.{shown_or}
+use Rattle.vc_packets.specs.Functions.{shown_or}
 use Rattle.vc_vcp.specs.LinkIn.{Receiving}
 use Rattle.vc_vcp.specs.Seen.{seen, ends_of, carrier_of, link_of}
 use Rattle.vc_vcp.specs.State.{State, IsWired, MayPut, MayGrant, limit_of}

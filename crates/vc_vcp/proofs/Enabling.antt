@@ -14,7 +14,8 @@ use Rattle.vc_vcp.specs.declared.output.Output.{Output}
 use Rattle.vc_vcp.specs.declared.input.Input.{Input}
 use Rattle.vc_vcp.specs.Able.{CanOffer, CanWant, CanFetch, CanStop, CanPut, CanGrant, IsReady}
 use Rattle.vc_vcp.specs.Carrier.{Carrier, set_in, set_out, enqueue}
-use Rattle.vc_vcp.specs.Keyed.{named, shown_or}
+use Rattle.vc_vcp.specs.Keyed.{named}
+use Rattle.vc_packets.specs.Functions.{shown_or}
 use Rattle.vc_vcp.specs.LinkIn.{Receiving}
 use Rattle.vc_vcp.specs.LinkOut.{Sending}
 use Rattle.vc_vcp.specs.Private.LinkOut.{CanPutFront}

@@ -2,10 +2,9 @@
 use Rattle.std.proofs.Common.{◌≡◌, ℕ, ◌↔◌, [], ◌∷◌, refl, sym, ap, ◌∙◌, subst, slice_get, slice_set, Option, Some, None, IsSome, IfSome}
 use Rattle.std.proofs.lemmas.Option.{slice_get_within}
 use Rattle.vc_packets.specs.declared.packet.Packet.{Packet}
-use Rattle.vc_packets.specs.Functions.{put}
+use Rattle.vc_packets.specs.Functions.{put, shown_or}
 use Rattle.vc_credit.specs.Ends.{new_sender}
 use Rattle.vc_vcp.specs.Able.{CanLeaveWhole}
-use Rattle.vc_vcp.specs.Keyed.{shown_or}
 use Rattle.vc_vcp.specs.LinkOut.{Sending}
 use Rattle.vc_vcp.specs.Private.LinkOut.{FrontLeavesWhole, HasNoneWhole}
 use Rattle.vc_vcp.specs.Links.{LeavesWhole}

@@ -5,7 +5,8 @@ use Rattle.std.specs.List.{AllByRecursion}
 use Rattle.vc_credit.specs.Ends.{new_sender, new_receiver}
 use Rattle.vc_vcp.specs.declared.end.End.{End as Given}
 use Rattle.vc_vcp.specs.Carrier.{End}
-use Rattle.vc_vcp.specs.Keyed.{named, NamesDiffer, shown_or, by_name}
+use Rattle.vc_vcp.specs.Keyed.{named, NamesDiffer, by_name}
+use Rattle.vc_packets.specs.Functions.{shown_or}
 use Rattle.vc_vcp.specs.Links.{new_vcp}
 use Rattle.vc_vcp.specs.Private.Opening.{opened, with_opened, opened_output, opened_outputs, opened_input, opened_inputs, four, new_out, new_in}
 use Rattle.vc_vcp.specs.Opening.{end_with, end_at, is_chan, NoneTwice, AreDistinct, ends_given}

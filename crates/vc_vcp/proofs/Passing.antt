@@ -4,12 +4,11 @@ use Rattle.std.proofs.lemmas.Option.{slice_get_within, slice_get_read}
 use Rattle.std.proofs.lemmas.List.{length-set}
 use Rattle.std.specs.List.{AllByRecursion}
 use Rattle.vc_packets.specs.Counting.{one_more}
-use Rattle.vc_packets.specs.Functions.{put}
+use Rattle.vc_packets.specs.Functions.{put, shown_or}
 use Rattle.vc_packets.specs.declared.mark.Mark.{Mark}
 use Rattle.vc_tokens.specs.Tokens.{Token, Byte, Fct, EndMark}
 use Rattle.vc_credit.specs.Ends.{Receiver, Grants, IsFront, new_receiver, received, Passes as PassesOn}
 use Rattle.vc_credit.specs.Laws.{NeedsPlace}
-use Rattle.vc_vcp.specs.Keyed.{shown_or}
 use Rattle.vc_vcp.specs.LinkIn.{Receiving}
 use Rattle.vc_vcp.specs.LinkOut.{Sending}
 use Rattle.vc_vcp.specs.Links.{Link, Vcp, set_link, passing, Passes, passes_byte, drops_byte, passes_mark}

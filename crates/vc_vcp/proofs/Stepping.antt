@@ -1,14 +1,13 @@
 -- What a change of one output or one input is to a node's steps.
 use Rattle.std.proofs.Common.{◌≡◌, ℕ, ◌-◌, List, [], ◌∷◌, ◌++◌, refl, sym, ap, ◌∙◌, subst, arith, slice_get, slice_set, length, length-append, Some, None}
 use Rattle.std.proofs.lemmas.Option.{slice_get_within}
-use Rattle.vc_packets.specs.Functions.{put}
+use Rattle.vc_packets.specs.Functions.{put, shown_or}
 use Rattle.vc_packets.specs.Pieces.{Pieces}
 use Rattle.vc_packets.specs.Spellings.{piece_packet}
 use Rattle.vc_credit.specs.Ends.{new_sender}
 use Rattle.vc_vcp.specs.declared.output.Output.{Output}
 use Rattle.vc_vcp.specs.declared.input.Input.{Input}
 use Rattle.vc_vcp.specs.Carrier.{set_out, enqueue}
-use Rattle.vc_vcp.specs.Keyed.{shown_or}
 use Rattle.vc_vcp.specs.LinkOut.{Sending}
 use Rattle.vc_vcp.specs.Private.Queued.{Begins, StaysOutput, queued}
 use Rattle.vc_vcp.specs.Seen.{seen, ends_of, IsKept, link_of, carrier_of, out_half, in_half, no_output, no_input, out_end, in_end, finished_of}

@@ -14,7 +14,8 @@ use Rattle.vc_vcp.specs.declared.output.Output.{Output}
 use Rattle.vc_vcp.specs.declared.input.Input.{Input}
 use Rattle.vc_vcp.specs.Private.Bound.{IsStray}
 use Rattle.vc_vcp.specs.Carrier.{End}
-use Rattle.vc_vcp.specs.Keyed.{named, NamesDiffer, shown_or}
+use Rattle.vc_vcp.specs.Keyed.{named, NamesDiffer}
+use Rattle.vc_packets.specs.Functions.{shown_or}
 use Rattle.vc_vcp.specs.Seen.{ends_of, carrier_of, in_half, no_input, out_end, in_end, out_half, no_output}
 use Rattle.vc_vcp.specs.Private.Seen.{Acks}
 use Rattle.vc_vcp.specs.State.{State, HaveOwnNames, IsInput, IsPieceOf, IsAckOf}

@@ -19,7 +19,11 @@ impl Model for LinkIn {
 
     ghost Value = { Receiving };
 
-    ghost view = { λ x. record { receiver = x.receiver; passed = x.packet.passed; limit = x.packet.limit } };
+    ghost view = { λ x. record {
+      receiver = x.receiver;
+      passed = x.packet.passed;
+      limit = x.packet.limit;
+    } };
 }
 
 impl LinkIn {

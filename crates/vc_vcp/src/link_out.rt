@@ -29,7 +29,10 @@ impl Model for LinkOut {
 
     ghost Value = { Sending };
 
-    ghost view = { λ x. record { queue = x.queue.items; sender = record { sent = sent_of x.queue.items x.sent; credit = x.credit } } };
+    ghost view = { λ x. record {
+      queue = x.queue.items;
+      sender = record { sent = sent_of x.queue.items x.sent; credit = x.credit };
+    } };
 
     ghost invariant = { λ x. IsWithinFront x.queue.items x.sent };
 }

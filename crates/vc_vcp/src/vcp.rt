@@ -69,9 +69,21 @@ impl Model for Vcp {
 
     ghost Value = { State };
 
-    ghost view = { λ x. record { outputs = x.outputs.items; inputs = x.inputs.items; outs = x.outs.items; ins = x.ins.items; strays = x.strays } };
+    ghost view = { λ x. record {
+      outputs = x.outputs.items;
+      inputs = x.inputs.items;
+      outs = x.outs.items;
+      ins = x.ins.items;
+      strays = x.strays;
+    } };
 
-    ghost invariant = { λ x. IsWired (record { outputs = x.outputs.items; inputs = x.inputs.items; outs = x.outs.items; ins = x.ins.items; strays = x.strays }) };
+    ghost invariant = { λ x. IsWired (record {
+      outputs = x.outputs.items;
+      inputs = x.inputs.items;
+      outs = x.outs.items;
+      ins = x.ins.items;
+      strays = x.strays;
+    }) };
 }
 
 impl Vcp {

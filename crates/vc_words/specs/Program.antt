@@ -1,5 +1,5 @@
 -- What the program does, over streams that tell their bytes.
-use Rattle.std.specs.Prelude.{◌≡◌, ◌⊎◌, ℕ, ◌≤◌, Bool, true, false, List, Option, Some, None, Result, Ok, Err, ⊤}
+use Rattle.std.specs.Prelude.{◌≡◌, ◌⊎◌, ℕ, ◌≤◌, Bool, true, false, codes, List, [], ◌∷◌, ◌++◌, Option, Some, None, Result, Ok, Err, ⊤}
 use Rattle.vc_explain.specs.Explaining.{Explains}
 use Rattle.vc_text.specs.Checking.{Checks, ReadsAccepted}
 use Rattle.vc_text.specs.Deadlock.{TellsDeadlock}
@@ -100,12 +100,17 @@ RunsNetwork options account known old new status =
     ((ending : Ending) × RunsThreads old new (Ok ending) × (status ≡ status_of_end ending.close))
     ⊎ ((fault : RunFault) × (mid : Option (List ℕ)) × RunsThreads old mid (Err fault) × TellsFault mid new fault status)
 
--- the events that a file has are made, or a fault of that is told; where the file can't be opened, nothing is read
+-- the file of events can't be opened
+abbrev pub events_fault : List ℕ
+events_fault = codes "fault events" ++ 10 ∷ []
+
+-- The events that a file has are made, or a fault of that is told. Where the file can't be opened, or memory is short for its name, that
+-- is told, and nothing is read.
 abbrev pub ReplaysNetwork : (is_why : Bool) → Option (List ℕ) → Option (List ℕ) → Option (List ℕ) → ℕ → Type 0
 ReplaysNetwork is_why known old new status =
     ((file : Option (List ℕ)) × (replayed : Replayed) × Replays is_why known file old new (Ok replayed) × (status ≡ status_of_replay replayed))
     ⊎ (((file : Option (List ℕ)) × (fault : RunFault) × (mid : Option (List ℕ)) × Replays is_why known file old mid (Err fault) × TellsFault mid new fault status)
-    ⊎ TellsFault old new Read status)
+    ⊎ (Tells old new events_fault (status_of_fault Read) status ⊎ TellsFault old new Memory status))
 
 -- what is wrong with the words, or the help that they ask for, is told, or want of memory
 abbrev pub TellsLine : List Text → Option (List ℕ) → Option (List ℕ) → ℕ → Type 0

@@ -66,7 +66,7 @@ printed. With --why each part of a process that waits or has stopped has a line 
 
 Exit status: 0 done; 1 quiet; 2 refused; 3 more events can happen; 4 no memory; 6 a stream failed, or the file can't be opened.
 
-Example: vcnet replay --events hello.trace < examples/hello.json";
+Example: vcnet replay --events examples/hello.trace < examples/hello.json";
 
 /// What stands at the end of the help of `step`.
 const STEP_HELP: &str = "\
@@ -94,14 +94,16 @@ Example: vcnet run --seed 7 < examples/universal.json";
 const WHY: &str = "Prints, behind the traffic, who waits for what and where the packets are";
 
 /// What `--trace` asks for.
-const TRACE: &str = "Prints the events of the run, a line each, in front of its traffic";
+const TRACE: &str =
+    "Prints the events of the run, a line each, in front of its traffic; --stats and --json add nothing then";
 
 /// What `--stats` asks for.
 const STATS: &str =
     "Prints, behind the traffic, how many events there were, by kind, actor, wire and channel";
 
 /// What `--json` asks for.
-const JSON: &str = "Prints the traffic, and the counts of --stats, as JSON";
+const JSON: &str =
+    "Prints the traffic, and the counts of --stats, as JSON; --why adds nothing then";
 
 /// How many events or turns a run may be allowed: at most 1,000,000,000.
 fn counts<'a>() -> ValueParser<'a>

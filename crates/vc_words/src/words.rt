@@ -44,7 +44,7 @@ const QUIET: u8 = 1;
 /// The status for a run that made as many events or turns as it was allowed.
 const LIMIT: u8 = 3;
 
-/// The status where the reader or the writer failed.
+/// The status where the reader or the writer failed, or the file of events can't be opened.
 const BAD_STREAM: u8 = 6;
 
 /// The status for a bad command line.
@@ -329,10 +329,10 @@ fn replay_by<T: Files, R: Read, W: Write>(
         (W.contents writer.old) (W.contents writer.new) result }
 {
     let Some(name) = events_of(alloc, words) else {
-        return told(alloc, RunFault::Read, writer);
+        return told(alloc, RunFault::Memory, writer);
     };
     let Ok(mut file) = File::open(rt, name) else {
-        return told(alloc, RunFault::Read, writer);
+        return told_text(b"fault events\n", BAD_STREAM, writer);
     };
     match run_replay(alloc, reader, &mut file, writer, is_why) {
         Ok(replayed) => status_of_replay(replayed),

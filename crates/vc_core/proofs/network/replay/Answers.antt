@@ -3,7 +3,7 @@ use Rattle.vc_occam.specs.declared.moves.Move.TheVariants.{Offer}
 use Rattle.vc_actor.specs.declared.act.Act.TheVariants.{Proc}
 use Rattle.vc_core.specs.declared.event.Event.{Event}
 use Rattle.std.proofs.lemmas.Option.{slice_get-get_or}
-use Rattle.vc_core.specs.Replaying.{Reached, Replays, IsCause}
+use Rattle.vc_core.specs.Replaying.{Reached, Replays, IsWhyRefused}
 use Rattle.vc_core.specs.State.{state_of}
 use Rattle.vc_core.proofs.Replayed.{reached_first, reached_more, replays, all_taken}
 use Rattle.vc_core.proofs.network.replay.Goals as goal
@@ -29,7 +29,7 @@ returns-in-Err-step-clause-refused c =
     let before = replays p (take i events) (state_of c.loop-index.network) c.loop-index.invariant in
     let d : Event = record { actor = 0; act = Proc (Offer 0 0) } in
     let e : Event = get_or events i d in
-    (e, slice_get-get_or events i d c.loop-index-test.true, subst (Replays p (take i events)) (sym same) before, subst (λ z. IsCause p z e c.in-Err-step.why) (sym same) (c.in-Err-step.ensures.not_enabled p c.loop-index.invariant.is))
+    (e, slice_get-get_or events i d c.loop-index-test.true, subst (Replays p (take i events)) (sym same) before, subst (λ z. IsWhyRefused p z e c.in-Err-step.why) (sym same) (c.in-Err-step.ensures.not_enabled p c.loop-index.invariant.is))
 
 pub returns-clause-replayed : goal.returns-clause-replayed
 returns-clause-replayed c =

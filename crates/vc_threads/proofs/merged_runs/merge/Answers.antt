@@ -5,7 +5,7 @@ use Rattle.std.proofs.lemmas.List.{append-nil, length-map, length-set}
 use Rattle.std.proofs.lemmas.Option.{slice_get_read, slice_get_within}
 use Rattle.vc_network.specs.Merge.{IsMerge, AreDistinct, RunRises, run_of}
 use Rattle.vc_actor.specs.declared.act.Act.{Act}
-use Rattle.vc_threads.specs.Merged.{of_pair, event_of}
+use Rattle.vc_threads.specs.Merged.{of_pair, made_event}
 use Rattle.vc_threads.specs.Private.Merged.{front_of, FindsFirst, HavePassed}
 use Rattle.vc_threads.proofs.Fronts.{StandsAt, left_in, left_of, stand_first, left_first, left_next, stand_next, coming, run_at, not_after, none_left}
 use Rattle.vc_threads.proofs.Passing.{still_passed}
@@ -23,7 +23,7 @@ loop-k-init c =
       distinct = subst AreDistinct (sym left) c.requires.distinct;
       rising = subst (AllByRecursion RunRises) (sym left) c.requires.rising;
       passed = λ sure j later next. (omega arith, λ less. absurd (omega arith));
-      woven = λ more m. (more, subst (λ l. IsMerge (run_of l) more) left m, ap (λ es. es ++ map event_of more) c.new-events.ensures.items);
+      woven = λ more m. (more, subst (λ l. IsMerge (run_of l) more) left m, ap (λ es. es ++ map made_event more) c.new-events.ensures.items);
     }
 
 pub next_of-requires-clause-passed : goal.next_of-requires-clause-passed
@@ -124,8 +124,8 @@ loop-k-preserved c =
           (not_after rs fs k found.0 r f next z found.2) more (subst (λ l. IsMerge (run_of l) more) is m)) in (
             w.0,
             w.1,
-            ap (λ es. es ++ map event_of more) c.in_ok-push.ensures.items ∙ (append_assoc c.loop-k.events.items (record { actor = r.id; act = made.1 } ∷ []) (map event_of more)
-                ∙ (ap (λ (x : ℕ × Act). c.loop-k.events.items ++ (record { actor = r.id; act = x.1 } ∷ map event_of more)) same ∙ w.2)),
+            ap (λ es. es ++ map made_event more) c.in_ok-push.ensures.items ∙ (append_assoc c.loop-k.events.items (record { actor = r.id; act = made.1 } ∷ []) (map made_event more)
+                ∙ (ap (λ (x : ℕ × Act). c.loop-k.events.items ++ (record { actor = r.id; act = x.1 } ∷ map made_event more)) same ∙ w.2)),
           );
     }
 

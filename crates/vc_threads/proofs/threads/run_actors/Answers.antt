@@ -15,7 +15,7 @@ use Rattle.vc_threads.specs.Private.Closing.{AreInOrder, stop_at, stop_in}
 use Rattle.vc_threads.specs.Closing.{ClosesBy}
 use Rattle.vc_threads.specs.Private.Jobs.{IsFit}
 use Rattle.vc_threads.specs.Jobs.{Ran}
-use Rattle.vc_threads.specs.Merged.{event_of, numbered}
+use Rattle.vc_threads.specs.Merged.{made_event, numbered}
 use Rattle.vc_threads.specs.Private.Order.{actor_left, MeetAt, LeftOn, OnWires}
 use Rattle.vc_threads.specs.Order.{OnWays}
 use Rattle.vc_threads.specs.Private.Threads.{AllKeep, AreNumbered, actor_in, who}
@@ -67,8 +67,8 @@ close_of-close-requires g c = not_done (length c.as_slice-3.result.now) (stop_at
 
 -- the events of the runs: those that were merged, where acts are kept, and else some that the proof alone has
 events_of : (p : Plan) (turns seed : ℕ) (js : List Job) (rs : List ActorRun) (begins : AreFirst p (actors p) (map actor_in js)) (are : AreNumbered 0 (map who js)) (ran : AllZip (Ran turns seed) js rs)
-    (keeps : Bool) → AllKeep keeps (map who js) → (merged : List (Made Act)) → IsMerge (run_of (map numbered rs)) merged → (steps : List Event) → steps ≡ map event_of merged →
-    (made : List (Made Act)) × (keeps ≡ true → map event_of made ≡ steps) × IsMerge (λ k. map (restamped act_of) (steps_of p turns seed js rs begins are ran k)) made
+    (keeps : Bool) → AllKeep keeps (map who js) → (merged : List (Made Act)) → IsMerge (run_of (map numbered rs)) merged → (steps : List Event) → steps ≡ map made_event merged →
+    (made : List (Made Act)) × (keeps ≡ true → map made_event made ≡ steps) × IsMerge (λ k. map (restamped act_of) (steps_of p turns seed js rs begins are ran k)) made
 events_of p turns seed js rs begins are ran true keep merged merge steps is = (merged, (λ e. sym is), acts_merged p turns seed js rs begins are ran keep merged merge)
 events_of p turns seed js rs begins are ran false keep merged merge steps is =
     let m = have_merge p turns seed js rs begins are ran in
@@ -89,7 +89,7 @@ returns g c =
     let done = c.close_of-close.ensures in
     let events = events_of p c.args.turns c.args.seed js rs begins are ran c.args.keeps c.in_ok-jobs.ensures.keep
     m.0 (subst (λ xs. IsMerge (run_of (map numbered xs)) m.0) c.as_slice.ensures.value m.1) c.in_ok-steps.steps.items m.2 in (
-      map event_of events.0,
+      map made_event events.0,
       events.1,
       is_run p c.plan.ensures.accepted c.args.turns c.args.seed js rs begins are ran c.in_ok-jobs.ensures.wired
           c.in_ok-actors.ends c.in_ok-actors.ensures.outs c.in_ok-actors.ensures.ins

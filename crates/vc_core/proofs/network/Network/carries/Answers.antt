@@ -6,7 +6,7 @@ use Rattle.vc_machine.specs.Seen.{read}
 use Rattle.vc_network.specs.Plan.{ways}
 use Rattle.vc_network.specs.Views.{vcps, switches, arrived}
 use Rattle.vc_accepted.specs.NetworkOf.{network_of, port_of}
-use Rattle.vc_vcp.specs.Keyed.{shown_or}
+use Rattle.vc_packets.specs.Functions.{shown_or}
 use Rattle.vc_core.specs.Private.Placed.{HasIts}
 use Rattle.vc_core.specs.Private.Targets.{left}
 use Rattle.vc_core.specs.State.{shown, state_of}

@@ -14,10 +14,10 @@ pub returns-in-Some-last_put : goal.returns-in-Some-last_put
 returns-in-Some-last_put c = on_ok_weaker c.add.result (λ after p es xs s are same few made.
     let e = c.args.event.now in
     packets_step p c.args.self.now c.add.new.self es xs e (shown (state_of c.args.network.now)) c.in-Some.link (Some (token c.in-Some-last_put.token)) made.kept.accepted are same few (sym c.in-Some.ensures)
-    (λ way out. c.in-Some-last_put.ensures p way made.kept out) after) c.add.ensures
+    (λ way out. c.in-Some-last_put.ensures.token p way made.kept out) after) c.add.ensures
 
 pub returns-in-None : goal.returns-in-None
 returns-in-None c = λ p es xs s are same few made.
     let e = c.args.event.now in
     packets_step p c.args.self.now c.args.self.now es xs e (shown (state_of c.args.network.now)) c.in-Some.link None made.kept.accepted are same few (sym c.in-Some.ensures)
-    (λ way out. c.in-None.ensures p way made.kept out) (λ k l. same_with _ _)
+    (λ way out. c.in-None.ensures.token p way made.kept out) (λ k l. same_with _ _)

@@ -1,6 +1,7 @@
 use Rattle.std.proofs.Common.{◌≡◌, ◌∙◌, sym, ap, refl, subst, slice_get, None}
 use Rattle.vc_switch.specs.Forward.{IsDrawn, least_of}
-use Rattle.vc_switch.specs.State.{State, IsRange, interval_of, shown_or}
+use Rattle.vc_switch.specs.State.{State, IsRange, interval_of}
+use Rattle.vc_packets.specs.Functions.{shown_or}
 use Rattle.vc_switch.specs.Switch.{drawn}
 use Rattle.vc_switch.proofs.Placed.{all-at, got, got_none}
 use Rattle.vc_switch.proofs.Stepping.{least_drawn, least_is}

@@ -1,5 +1,5 @@
 use Rattle.std.proofs.Common.{[], slice_get, sym, ap, ◌∙◌}
-use Rattle.vc_vcp.specs.Keyed.{shown_or}
+use Rattle.vc_packets.specs.Functions.{shown_or}
 use Rattle.vc_vcp.specs.State.{State}
 use Rattle.vc_vcp.proofs.Beyond.{got, got_none, queue_past}
 use Rattle.vc_vcp.proofs.vcp.Vcp.front_out.Goals as goal

@@ -1,5 +1,5 @@
 use Rattle.std.proofs.Common.{rules, ap}
-use Rattle.vc_vcp.specs.Keyed.{shown_or}
+use Rattle.vc_packets.specs.Functions.{shown_or}
 use Rattle.vc_vcp.specs.Seen.{in_half, no_input}
 use Rattle.vc_vcp.proofs.vcp.Vcp.stopped.Goals as goal
 
