@@ -13,7 +13,7 @@ use Rattle.vc_plan.specs.Hops.{random_at, passage, passage_at, range_in, left_by
 use Rattle.vc_plan.specs.Hops as hops
 use Rattle.vc_plan.specs.Delivery as plan
 use Rattle.vc_plan.specs.Wires.{across, switch_at}
-use Rattle.vc_machine.specs.Paths.{AtNode, AtSwitch, GoesOn, IsWellAt, Delivers}
+use Rattle.vc_machine.specs.Paths.{GoesOn, IsWellAt, Delivers}
 use Rattle.vc_machine.specs.Paths as paths
 use Rattle.vc_switch.specs.Forward.{IsDrawn, HasRoom, behind, without_portals}
 use Rattle.vc_switch.specs.Forward as forward

@@ -13,7 +13,6 @@ use Rattle.vc_occam.specs.NodeTraces as node
 use Rattle.vc_occam.specs.First.{first_moves}
 use Rattle.vc_occam.specs.Private.Moving.{action_on}
 use Rattle.vc_occam.specs.Remains.{Rest, Done, Step, TraceRest}
-use Rattle.vc_occam.specs.States.{State}
 use Rattle.vc_occam.specs.States as occam
 use Rattle.vc_occam.specs.Traces.{Comm, Out, In, Fin, Stp, End}
 use Rattle.vc_process.specs.Usage.{Set}

@@ -1,28 +1,24 @@
 -- Lawful processes stay so in every run, so what the actors did by themselves can be replayed.
-use Rattle.std.proofs.Common.{◌≡◌, ℕ, ◌<◌, true, false, sym, subst, List, [], ◌∷◌, ◌++◌, Option, Some, None, inl, inr, nat_lt, if◌then◌else◌, arith, length, map}
+use Rattle.std.proofs.Common.{◌≡◌, ℕ, ◌<◌, true, false, sym, subst, List, [], ◌∷◌, Option, Some, None, inl, inr, nat_lt, arith, length, map}
 use Rattle.std.proofs.lemmas.Bool.{cases_eq, cases_lt}
 use Rattle.std.proofs.lemmas.Bool.Decides.{nat_tests}
 use Rattle.vc_accepted.specs.NetworkOf.{network_of}
 use Rattle.vc_accepted.proofs.Accepting.{accepted}
-use Rattle.vc_network.specs.Actors.{Network, Alike, ActBy, Label, Step}
+use Rattle.vc_network.specs.Actors.{Network, ActBy, Label}
 use Rattle.vc_network.specs.Actors.Label.{Own, Takes, Puts}
-use Rattle.vc_network.specs.LocalRun.{Stamped, Turn, LocalRun, plain}
-use Rattle.vc_network.specs.Merge.{Made}
-use Rattle.vc_machine.specs.Rendezvous.{nothing_yet}
+use Rattle.vc_network.specs.LocalRun.{Turn, LocalRun, plain}
 use Rattle.vc_network.specs.Enabled.{IsEnabled}
-use Rattle.vc_network.specs.Network.{Act, Proc, Take, Put, Route, Fct, Pass, Actor, IsNode, IsSwitch, Node, Moves, GoesOn, NodeStep, Local, first, begins, Happens, HappenAll}
+use Rattle.vc_network.specs.Network.{Act, Proc, Take, Put, Fct, Pass, Actor, IsNode, IsSwitch, Node, Moves, GoesOn, NodeStep, Local, first, begins, Happens, HappenAll}
 use Rattle.vc_network.specs.Plan as network
 use Rattle.vc_network.specs.Processes.{Move, Offer, Want, Choose, Stopch, Inner, Quiet}
 use Rattle.vc_process.specs.ProcessStep.{Offers, Wants, Chooses, Stops, Meets, Rests, Finishes, Receives}
-use Rattle.vc_network.specs.Threads.{AreThreads, made_by, ended}
+use Rattle.vc_network.specs.Threads.{AreThreads, made_by}
 use Rattle.vc_network.proofs.OneStep.{replays_reach}
 use Rattle.vc_occam.proofs.Preorder.{at_first}
 use Rattle.vc_plan.specs.declared.plan.Plan.{Plan}
 use Rattle.vc_plan.specs.Accepted.{IsAccepted}
-use Rattle.vc_switch.specs.Switch.{new_switch}
 use Rattle.vc_switch.specs.Waiting.{Waiting}
 use Rattle.vc_tokens.specs.Tokens.{Token}
-use Rattle.vc_vcp.specs.Links.{new_vcp}
 use Rattle.vc_vcp.specs.Steps as node
 use Rattle.vc_accepted.specs.Begin.{begin_of, node_plan}
 use Rattle.vc_accepted.specs.Determinate.{IsLawful, proceeds}

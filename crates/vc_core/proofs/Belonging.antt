@@ -18,7 +18,7 @@ use Rattle.vc_network.specs.Plan.{Plan, Home, Way, far, home, end_of, virtual_li
 use Rattle.vc_network.specs.Plan as network
 use Rattle.vc_network.proofs.Wiring.{carried, net_accepted}
 use Rattle.vc_vcp.specs.State.{IsPieceOf, IsAckOf}
-use Rattle.vc_core.specs.Channels.{ends_at, block_at}
+use Rattle.vc_core.specs.Channels.{ends_at, end_block}
 use Rattle.vc_core.specs.Private.Targets.{IsTargetAt, ComesTo, IsOwned}
 use Rattle.vc_core.specs.declared.channels.BlockAt.{BlockAt}
 use Rattle.vc_core.specs.declared.channels.Ends.{Ends}
@@ -82,7 +82,7 @@ are_ends plan c e h = by_home (home plan c) refl h
     by_home : (k : Home) → home plan c ≡ k → ends_at plan k ≡ Some e → AreEnds plan c e
     by_home (network.Inside n) at h = absurd (cc)
     by_home (Way v ab) at h =
-        let same : record { from = block_at (end_of (virtual_link plan v) ab); to = block_at (end_of (virtual_link plan v) (not ab)) } ≡ e = cc in
+        let same : record { from = end_block (end_of (virtual_link plan v) ab); to = end_block (end_of (virtual_link plan v) (not ab)) } ≡ e = cc in
         record {
           to_node = ap (λ z. (net_channel plan z).to.node) at ∙ ap (λ (z : Ends). z.to.node) same;
           to_block = ap (λ z. (net_channel plan z).to.block) at ∙ ap (λ (z : Ends). z.to.block) same;

@@ -25,7 +25,7 @@ use Rattle.vc_accepted.specs.Begin.{begin_of}
 use Rattle.vc_accepted.specs.Process.{does}
 use Rattle.vc_vcp.specs.Keyed.{named}
 use Rattle.vc_packets.specs.Functions.{shown_or}
-use Rattle.vc_core.specs.Channels.{ends_at, block_at}
+use Rattle.vc_core.specs.Channels.{ends_at, end_block}
 use Rattle.vc_core.specs.Private.Placed.{AreOwned, FindsOn, IsAt, packets_at}
 use Rattle.vc_core.specs.Placed.{FindsPlace, IsUnfinished}
 use Rattle.vc_core.specs.Replaying.{Reached, Replays}
@@ -72,7 +72,7 @@ none_held (Some q) p h = λ e. absurd (cc)
 
 sink_is : (plan : network.Plan) (h : Home) (e : Ends) → ends_at plan h ≡ Some e → sink_node plan h ≡ e.to.node
 sink_is plan (Way v ab) e h =
-    let same : record { from = block_at (end_of (virtual_link plan v) ab); to = block_at (end_of (virtual_link plan v) (not ab)) } ≡ e = cc in
+    let same : record { from = end_block (end_of (virtual_link plan v) ab); to = end_block (end_of (virtual_link plan v) (not ab)) } ≡ e = cc in
     ap (λ (z : Ends). z.to.node) same
 sink_is plan (network.Inside n) e h = absurd (cc)
 

@@ -12,12 +12,12 @@ use Rattle.vc_core.specs.declared.channels.ChannelInfo.{ChannelInfo}
 use Rattle.vc_core.specs.declared.channels.Ends.{Ends}
 
 -- the block of an end
-abbrev pub block_at : network.End → BlockAt
-block_at e = record { node = e.node; block = e.block }
+abbrev pub end_block : network.End → BlockAt
+end_block e = record { node = e.node; block = e.block }
 
 -- the ends of the virtual link that a channel of this home is on: there is none inside a node
 abbrev pub ends_at : network.Plan → network.Home → Option Ends
-ends_at plan (Way v ab) = Some (record { from = block_at (end_of (virtual_link plan v) ab); to = block_at (end_of (virtual_link plan v) (not ab)) })
+ends_at plan (Way v ab) = Some (record { from = end_block (end_of (virtual_link plan v) ab); to = end_block (end_of (virtual_link plan v) (not ab)) })
 ends_at plan (Inside n) = None
 
 -- this is channel c of the plan

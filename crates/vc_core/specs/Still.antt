@@ -1,4 +1,4 @@
--- Where no event can happen but moves of processes, and where the packets are then.
+-- Where no event can happen but moves of processes, where the packets are then, and how many other events can come before.
 use Rattle.std.specs.Prelude.{◌≡◌, ℕ, ◌≤◌, ◌<◌, Bool, false, List, [], length, map, Some}
 use Rattle.std.specs.List.{AllByRecursion, Contains}
 use Rattle.vc_network.specs.Actors.{Network}
@@ -66,7 +66,7 @@ pub record IsHeldUp (p : Given) (x : NetworkState) : Type 0 where
 abbrev pub OnlyProcessesHold : Type 0
 OnlyProcessesHold = (p : Given) (made : List Event) (s : State) → HasRanks p → Reached p made s → OnlyMoves p s → IsHeldUp p (shown s)
 
--- no list of events without moves of processes is longer that can happen from here on
+-- no list of events without moves of processes that can happen from here on is longer
 abbrev pub BoundsEvents : Given → State → ℕ → Type 0
 BoundsEvents p s bound =
     (later : List Event) (x : NetworkState) → AllByRecursion NoMove later → HappenAll (network_of p) Wormhole does (shown s) (map event_of later) x → length later ≤ bound

@@ -3,7 +3,7 @@ ghost use Rattle.std.specs.Prelude.{◌≡◌, IfOk};
 ghost use Rattle.std.specs.Str.{IsUtf8};
 ghost use Rattle.std.specs.String.{string_bytes};
 ghost use Rattle.vc_accepted.specs.NetworkOf.{network_of, home_of};
-ghost use Rattle.vc_core.specs.Channels.{AreChannelsOf, block_at, ends_at};
+ghost use Rattle.vc_core.specs.Channels.{AreChannelsOf, end_block, ends_at};
 ghost use Rattle.vc_core.specs.Private.Channels.{IsInfoOf};
 ghost use Rattle.vc_core.specs.Private.Targets.{target_at};
 ghost use Rattle.vc_network.specs.Plan as network;
@@ -135,7 +135,7 @@ fn ends_of(plan: &Plan, home: Home) -> Option<Ends>
 // The block of end a or end b of a virtual link.
 fn block_at(plan: &Plan, vlink: u16, is_a: bool) -> BlockAt
     ensures { result ≡
-        block_at (network.end_of (network.virtual_link (network_of plan.now) vlink) is_a) }
+        end_block (network.end_of (network.virtual_link (network_of plan.now) vlink) is_a) }
 {
     match plan.vlinks.as_slice().get(usize::from(vlink)) {
         Some(link) if is_a => block_of(&link.a),

@@ -12,11 +12,11 @@ use Rattle.vc_machine.specs.TokenMachine as tok
 use Rattle.vc_machine.proofs.Still.{taken_whole}
 use Rattle.vc_switch.specs.Waiting.{Wormhole}
 use Rattle.vc_switch.specs.Switch as switch
-use Rattle.vc_switch.specs.Switch.{Switch, Input, new_input, with_header, passes_byte, drops_byte, passes_mark, loses}
+use Rattle.vc_switch.specs.Switch.{Switch, Input, with_header, passes_byte, drops_byte, passes_mark, loses}
 use Rattle.vc_switch.specs.Able as switch_able
 use Rattle.vc_vcp.specs.Able as node_able
 use Rattle.vc_vcp.specs.Links as links
-use Rattle.vc_vcp.specs.Links.{Link, Vcp}
+use Rattle.vc_vcp.specs.Links.{Vcp}
 use Rattle.vc_vcp.specs.Steps.{takes}
 use Rattle.vc_network.specs.Plan.{Plan, body_limit, ends, switch_plan, net_of, near, far, IsAccepted, IsOutOf, IsInto}
 use Rattle.vc_network.specs.Network.{Actor}

@@ -11,7 +11,7 @@ use Rattle.vc_packets.specs.Functions.{put}
 use Rattle.vc_tokens.specs.Tokens.{Token}
 use Rattle.vc_machine.proofs.Basics.{put-same}
 use Rattle.vc_switch.specs.Forward.{SwitchPlan}
-use Rattle.vc_switch.specs.Switch.{Switch, set_input, with_header}
+use Rattle.vc_switch.specs.Switch.{Switch, with_header}
 use Rattle.vc_switch.specs.Switch as switch
 use Rattle.vc_switch.specs.Waiting.{Waiting}
 use Rattle.vc_vcp.specs.Carrier.{Ends, End as NodeEnd}

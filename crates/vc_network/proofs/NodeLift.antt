@@ -7,7 +7,7 @@ use Rattle.vc_packets.specs.Spellings.{piece_packet, ack_packet}
 use Rattle.vc_machine.specs.Paths.{AtNode, Carries}
 use Rattle.vc_machine.specs.Rendezvous.{Comm, Out, In, Fin, Stp}
 use Rattle.vc_machine.specs.Machine as net
-use Rattle.vc_machine.specs.Machine.{State, ChanState, set_way, set_chan, view_of, Step, Event}
+use Rattle.vc_machine.specs.Machine.{State, ChanState, set_chan, view_of, Step, Event}
 use Rattle.vc_packets.specs.Functions.{put}
 use Rattle.vc_machine.proofs.Basics.{put-same, every_put}
 use Rattle.vc_vcp.specs.Carrier.{Carrier, OutHalf, InHalf, set_out, set_in, enqueue, End as NodeEnd}

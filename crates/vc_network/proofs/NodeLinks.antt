@@ -5,7 +5,7 @@ use Rattle.vc_packets.specs.declared.packet.Packet.{Packet}
 use Rattle.vc_machine.specs.Paths.{AtNode}
 use Rattle.vc_machine.specs.Rendezvous.{Comm}
 use Rattle.vc_machine.specs.Machine as net
-use Rattle.vc_machine.specs.Machine.{State, set_way}
+use Rattle.vc_machine.specs.Machine.{set_way}
 use Rattle.vc_packets.specs.Functions.{put}
 use Rattle.vc_machine.proofs.Basics.{put-same, put-other, every_put}
 use Rattle.vc_tokens.specs.Tokens.{Token, Byte, EndMark}

@@ -1,23 +1,22 @@
 -- The packets of a network go as the packet machine has it.
-use Rattle.std.proofs.Common.{◌≡◌, ℕ, ◌<◌, ◌≤◌, List, [], ◌∷◌, length, Option, Some, None, refl, sym, ap, subst, ◌∙◌, arith}
-use Rattle.vc_network.specs.Actors.{Network, ActBy}
+use Rattle.std.proofs.Common.{◌≡◌, ℕ, ◌≤◌, List, [], ◌∷◌, length, Option, Some, None, refl, sym, ap, subst, ◌∙◌, arith}
+use Rattle.vc_network.specs.Actors.{Network}
 use Rattle.vc_packets.specs.declared.mark.Mark.{Mark}
 use Rattle.vc_machine.specs.Links.{Receiver, Tokens, no_tokens}
-use Rattle.vc_machine.specs.Machine.{State, Event, Enter, Route, Run, Step}
+use Rattle.vc_machine.specs.Machine.{Event, Enter, Route, Run}
 use Rattle.vc_machine.specs.Paths.{Port, AtNode, AtSwitch, Net}
 use Rattle.vc_machine.specs.Seen.{input_of, seen}
-use Rattle.vc_machine.specs.TokenMachine.{TokenEvent, TokenStep, TokenRun}
+use Rattle.vc_machine.specs.TokenMachine.{TokenEvent, TokenRun}
 use Rattle.vc_machine.specs.View as view
-use Rattle.vc_machine.specs.View.{TokenView}
 use Rattle.vc_machine.proofs.Reading.{seen_is}
 use Rattle.vc_machine.proofs.Refinement.{step_view, runs_are_runs}
 use Rattle.vc_switch.specs.Switch.{Switch}
 use Rattle.vc_switch.specs.Waiting.{Waiting, Wormhole}
 use Rattle.vc_tokens.specs.Tokens.{Token}
 use Rattle.vc_vcp.specs.Links.{Vcp}
-use Rattle.vc_network.specs.Network.{Actor, begins, Happens}
-use Rattle.vc_network.specs.Packets.{SameBound, IsMarked, IsInputAt, StandsForPackets, AtMostTwoSteps, no_step, one_step, enters_bound, IsRunOfPackets, EventsAreSteps}
-use Rattle.vc_network.specs.Plan.{Plan, ways, near, far, back, net_of, IsAccepted}
+use Rattle.vc_network.specs.Network.{Actor, begins}
+use Rattle.vc_network.specs.Packets.{IsMarked, IsInputAt, StandsForPackets, AtMostTwoSteps, no_step, one_step, enters_bound, EventsAreSteps}
+use Rattle.vc_network.specs.Plan.{Plan, ways, far, back, net_of, IsAccepted}
 use Rattle.vc_network.specs.Processes.{StepRelation}
 use Rattle.vc_network.specs.Views.{vcps, switches, Arrived, arrived, on_wire}
 use Rattle.vc_network.proofs.Main.{ran, good_start, same_arrived}

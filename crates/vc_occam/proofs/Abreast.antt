@@ -8,7 +8,7 @@ use Rattle.vc_occam.specs.declared.kind.Kind.TheVariants as kind
 use Rattle.vc_occam.specs.declared.phase.Phase.{Phase}
 use Rattle.vc_occam.specs.declared.phase.Phase.TheVariants as phase
 use Rattle.vc_process.specs.Values.{Store}
-use Rattle.vc_occam.specs.Remains.{Rest, Stopped}
+use Rattle.vc_occam.specs.Remains.{Rest}
 use Rattle.vc_occam.specs.Private.Sites.{InPreorder}
 use Rattle.vc_occam.specs.Frames.{impossible, View, besides, plan_at, rest_at, together}
 use Rattle.vc_occam.specs.Private.Frames.{Able, ChangedAt, Did, HasVariables, PartHasVariables, PartInPreorder, assigned_at, is_par, part_assigned, part_rest, place_with, plans, views}

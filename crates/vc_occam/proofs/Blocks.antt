@@ -1,9 +1,9 @@
 -- What the parts of a process are at that do not go on by themselves, frame by frame.
-use Rattle.std.proofs.Common.{◌≡◌, ℕ, ℤ, zero, suc, Bool, true, false, ◌&&◌, refl, ap, sym, ◌∙◌, subst, List, [], ◌∷◌, ◌++◌, length, map, arith, Option, Some, None, append-nil, Result, OnOk, length-append, ◌+◌}
+use Rattle.std.proofs.Common.{◌≡◌, ℕ, ℤ, true, false, ◌&&◌, refl, ap, sym, ◌∙◌, subst, List, [], ◌∷◌, ◌++◌, length, arith, Option, Some, None, append-nil, Result, OnOk, length-append, ◌+◌}
 use Rattle.std.specs.List.{flat_map}
 use Rattle.std.specs.Prelude.{slice_get, is_some, if◌then◌else◌}
 use Rattle.vc_process.specs.declared.value.Value.{Value}
-use Rattle.vc_process.specs.Syntax.{Proc, Output, Input, ALT, Procs, no_parts, part}
+use Rattle.vc_process.specs.Syntax.{ALT, Procs, no_parts, part}
 use Rattle.vc_process.specs.Usage.{Set}
 use Rattle.vc_process.specs.Values.{Store, holds}
 use Rattle.vc_occam.specs.Blocking.{blocked, blocked_fresh, open_guards, or_closed}
@@ -16,12 +16,12 @@ use Rattle.vc_occam.specs.declared.guards.GuardedInputs.{GuardedInputs}
 use Rattle.vc_occam.specs.declared.kind.Kind.{Kind}
 use Rattle.vc_occam.specs.declared.kind.Kind.TheVariants as kind
 use Rattle.vc_occam.specs.declared.phase.Phase.TheVariants as phase
-use Rattle.vc_occam.specs.First.{all_decided, is_true}
+use Rattle.vc_occam.specs.First.{all_decided}
 use Rattle.vc_occam.specs.Frames.{View, as_begun, behind, follow, going_at, goes_on_at_one_part, guards_of, place_of, plan_at, resting_at, turn_of, view}
 use Rattle.vc_occam.specs.Private.Frames.{is_counted, part_rest, views}
-use Rattle.vc_occam.specs.Gates.{Gate, gate}
+use Rattle.vc_occam.specs.Gates.{Gate}
 use Rattle.vc_occam.specs.Private.Gates.{are_decided}
-use Rattle.vc_occam.specs.Remains.{Rest, Done, Stopped, Fresh, Finishing, Getting, Then, Turns, Beside, and_then, beside_on}
+use Rattle.vc_occam.specs.Remains.{Rest, Done, and_then, beside_on}
 use Rattle.vc_occam.proofs.Frames.{going_part, rest_going, rest_resting, rest_turning, rest_waiting, resting_goes, turning_is}
 
 -- a list is pushed as another that it is

@@ -10,7 +10,7 @@ use Rattle.vc_occam.specs.declared.phase.Phase.{Phase}
 use Rattle.vc_occam.specs.declared.phase.Phase.TheVariants as phase
 use Rattle.vc_occam.specs.Gates.{Gate, gate}
 use Rattle.vc_process.specs.Syntax.{Exp, Test, Proc, STOP, Output, Input, Procs, no_parts, part}
-use Rattle.vc_occam.specs.Remains.{Rest, Stopped, Fresh, and_then}
+use Rattle.vc_occam.specs.Remains.{Rest, Fresh, and_then}
 use Rattle.vc_process.specs.Terms.{exp, as_test}
 use Rattle.vc_process.specs.Usage.{Set, just, nothing, ◌∪◌}
 use Rattle.vc_occam.specs.Sites.{sites, sites_all, sites_branches, sites_guards}

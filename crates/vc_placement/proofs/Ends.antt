@@ -1,5 +1,5 @@
 -- A process that outputs or inputs on a channel has a use of it.
-use Rattle.std.proofs.Common.{◌≡◌, ℕ, zero, suc, Bool, true, false, ◌||◌, refl, sym, List, [], ◌∷◌, ◌++◌, slice_get, Some, inl, inr, ◌⊎◌, eqb-true, true≢false}
+use Rattle.std.proofs.Common.{◌≡◌, ℕ, zero, suc, Bool, true, false, refl, sym, List, [], ◌∷◌, ◌++◌, slice_get, Some, inl, inr, ◌⊎◌, eqb-true, true≢false}
 use Rattle.vc_occam.proofs.Sites.{either}
 use Rattle.vc_process.specs.ChannelUses.{channel_uses, guard_uses, uses_of_all, uses_of_bodies, uses_of_branches}
 use Rattle.vc_process.specs.Lawful.{inputs, inputs_all, inputs_branches, inputs_guards, outputs, outputs_all, outputs_branches, outputs_guards}

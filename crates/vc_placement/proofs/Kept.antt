@@ -1,5 +1,5 @@
 -- What a process keeps over other variables: its depth, its messages, the names that fit, its uses of channels.
-use Rattle.std.proofs.Common.{◌≡◌, ℕ, ◌-◌, ◌<◌, Bool, true, false, ◌&&◌, ◌||◌, nat_lt, refl, sym, ap, ap₂, ◌∙◌, List, [], ◌∷◌, ◌++◌, length, slice_get, Some}
+use Rattle.std.proofs.Common.{◌≡◌, ℕ, ◌-◌, ◌<◌, Bool, true, false, ◌&&◌, ◌||◌, nat_lt, refl, ap, ap₂, ◌∙◌, List, [], ◌∷◌, ◌++◌, length, slice_get, Some}
 use Rattle.std.proofs.lemmas.Bool.{lt-ltb, ltb-true}
 use Rattle.vc_plan.proofs.Limited.{both}
 use Rattle.vc_process.proofs.Held.{held_there}

@@ -2,14 +2,14 @@
 use Rattle.std.proofs.Common.{◌≡◌, ℕ, zero, suc, ◌+◌, ◌-◌, ◌≤◌, ◌<◌, Bool, true, false, ◌&&◌, ◌||◌, ◌==◌, nat_le, nat_lt, refl, sym, ap, subst, ◌∙◌, List, [], ◌∷◌, ◌++◌, length, length-append, map, option_map, slice_get, Option, Some, None, inl, inr, ◌⊎◌, ◌≢◌, arith, eqb-true, true≢false, if◌then◌else◌}
 use Rattle.std.specs.List.{list_all, list_any}
 use Rattle.std.specs.Option.{option_or}
-use Rattle.std.proofs.lemmas.Bool.{lt-ltb, ltb-true, le-leb, leb-true}
+use Rattle.std.proofs.lemmas.Bool.{lt-ltb, ltb-true}
 use Rattle.std.proofs.lemmas.List.{length-map, map-append}
 use Rattle.std.proofs.lemmas.List.Folds.{list_all-append}
 use Rattle.std.proofs.lemmas.Option.{slice_get-map}
 use Rattle.vc_occam.proofs.Fitting.{uses_there}
 use Rattle.vc_occam.proofs.Sites.{either}
 use Rattle.vc_occam.proofs.Used.{changed_used}
-use Rattle.vc_placement.proofs.Ends.{HasUse, output_use, input_use}
+use Rattle.vc_placement.proofs.Ends.{output_use, input_use}
 use Rattle.vc_placement.proofs.Kept.{both_true, depth_kept, exps_kept, length_kept, names_kept, uses_kept, outputs_kept, inputs_kept}
 use Rattle.vc_placement.proofs.LawfulKept.{lawful_kept, changes_from, uses_from}
 use Rattle.vc_placement.specs.Fits.{fits_one_node, IsSize, IsSizeLimit, OneNodeIsAccepted, OnlySizesRefuseIt}
@@ -22,7 +22,7 @@ use Rattle.vc_plan.specs.Accepted.{IsAccepted, uses_of}
 use Rattle.vc_plan.specs.Check.{IsCause, PassesLimits, block_twice, misused, misused_from, port_missing, port_twice, way_twice, same_way, way_twice_from, has_end, end_is_at, end_is_there, kind_fits, channel_used, use_ok, wrong_use, same_bool}
 use Rattle.vc_plan.specs.Private.Check.{PassesUse}
 use Rattle.vc_plan.specs.Limits.{links_ok, number_ok, version_ok, ends_ok, ends_there, limit_broken, parts_ok, random_ok, routes_ok, rows_ok, switch_in_version_one, switch_links_ok, unless_ok, vars_ok, wire_ok, wire_there, depth_ok, is_name, kinds_of, message_ok, names_ok, node_names_ok, process_names, home_there}
-use Rattle.vc_plan.specs.OneNode.{all_sites, all_vars, inside, IsBehind, AreProcesses, IsOnOneNode, IsOneNodeOf}
+use Rattle.vc_plan.specs.OneNode.{all_sites, all_vars, inside, IsBehind, AreProcesses, IsOneNodeOf}
 use Rattle.vc_plan.specs.declared.channel.Channel.{Channel}
 use Rattle.vc_plan.specs.declared.channel.Home.{Home}
 use Rattle.vc_plan.specs.declared.channel.Home.TheVariants.{Way, Inside}
@@ -35,10 +35,10 @@ use Rattle.vc_plan.specs.declared.limit_word.LimitWord.{LimitWord}
 use Rattle.vc_plan.specs.declared.switch_plan.SwitchPlan.{SwitchPlan}
 use Rattle.vc_plan.specs.declared.vlink.Vlink.{Vlink}
 use Rattle.vc_process.specs.ChannelUses.{channel_uses, uses_of_all}
-use Rattle.vc_process.specs.Lawful.{inputs, outputs, Lawfully, LawfullyAll, Shared, SideBySide, With}
+use Rattle.vc_process.specs.Lawful.{inputs, outputs, Lawfully, LawfullyAll, Shared, With}
 use Rattle.vc_process.specs.Numbering.{written}
 use Rattle.vc_process.specs.ProcessLimits.{depth_within, exps_within, in_length, names_fit, parts_depth_within, parts_exps_within, parts_in_length, parts_names_fit}
-use Rattle.vc_process.specs.Syntax.{Proc, PAR, Procs, no_parts, part}
+use Rattle.vc_process.specs.Syntax.{Proc, Procs, no_parts, part}
 use Rattle.vc_process.specs.Usage.{Set, changes, uses}
 use Rattle.vc_process.specs.declared.channel_use.ChannelUse.{ChannelUse}
 use Rattle.vc_process.specs.declared.value_kind.ValueKind.{ValueKind}

@@ -9,9 +9,9 @@ use Rattle.vc_accepted.proofs.Listed.{made, made_or}
 use Rattle.vc_core.specs.Enabled.{NetworkState}
 use Rattle.vc_core.specs.Links.{buffered_in}
 use Rattle.vc_network.specs.Actors.{ActBy}
-use Rattle.vc_network.specs.Network.{Happens, actor_at}
+use Rattle.vc_network.specs.Network.{Happens}
 use Rattle.vc_network.specs.Network as net
-use Rattle.vc_network.specs.Plan.{home, near}
+use Rattle.vc_network.specs.Plan.{home}
 use Rattle.vc_network.specs.Plan as network
 use Rattle.vc_plan.specs.declared.plan.Plan.{Plan}
 use Rattle.vc_switch.specs.Waiting.{Wormhole}

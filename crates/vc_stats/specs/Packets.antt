@@ -1,5 +1,5 @@
 -- The packets that ports put whole on wires.
-use Rattle.std.specs.Prelude.{◌≡◌, ℕ, ◌*◌, ◌<◌, ◌==◌, ◌&&◌, nat_lt, Bool, true, false, List, [], ◌∷◌, ◌++◌, length, count_by, Option, Some, None, if◌then◌else◌}
+use Rattle.std.specs.Prelude.{◌≡◌, ℕ, ◌*◌, ◌<◌, ◌==◌, ◌&&◌, nat_lt, Bool, true, false, List, [], ◌∷◌, ◌++◌, length, count_by, if◌then◌else◌}
 use Rattle.std.specs.Option.{option_to_list}
 use Rattle.vc_accepted.specs.NetworkOf.{network_of}
 use Rattle.vc_core.specs.Enabled.{NetworkState}

@@ -1,15 +1,12 @@
 -- A run that goes on.
-use Rattle.std.proofs.Common.{◌≡◌, ℕ, ◌+◌, List, [], ◌∷◌, ◌++◌, Bool, true, false, Ok, Result, length, length-append, refl, sym, ap, ◌∙◌, subst, arith}
-use Rattle.vc_actor.specs.declared.act.Act.TheVariants.{Take}
-use Rattle.vc_core.specs.Enabled.{CanHappen}
+use Rattle.std.proofs.Common.{◌≡◌, ◌+◌, List, [], ◌∷◌, ◌++◌, length, length-append, sym, ap, ◌∙◌}
 use Rattle.vc_core.specs.State.{State, state_of, MakesEvent}
-use Rattle.vc_actor.specs.Turns.{TakesNone}
 use Rattle.vc_core.specs.declared.event.Event.{Event}
 use Rattle.vc_core.proofs.Replayed.{reached_next}
 use Rattle.vc_plan.specs.declared.plan.Plan.{Plan}
-use Rattle.vc_text.specs.Private.Seated.{DrawsFor, HaveGiven}
+use Rattle.vc_text.specs.Private.Seated.{HaveGiven}
 use Rattle.vc_text.specs.Private.Quiet.{AreQuiet}
-use Rattle.vc_text.specs.Private.Simulating.{HasRun, HasTaken, LeadsOn, counted}
+use Rattle.vc_text.specs.Private.Simulating.{HasRun, HasTaken, LeadsOn}
 use Rattle.vc_text.specs.declared.simulation.Simulation.{Simulation}
 
 -- one event more

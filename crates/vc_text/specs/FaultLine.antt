@@ -1,12 +1,10 @@
 -- The line of a fault.
 use Rattle.std.specs.Prelude.{ℕ, List, [], ◌∷◌, ◌++◌, Bool, if◌then◌else◌, codes, decimal, Option, Some, None}
-use Rattle.std.specs.Option.{option_map_or}
-use Rattle.std.specs.List.{flat_map, slice_get}
+use Rattle.std.specs.List.{flat_map}
 use Rattle.vc_labels.specs.declared.fault.TableFault.{TableFault}
 use Rattle.vc_labels.specs.declared.fault.TableFault.TheVariants.{NotRising, Gap, BadLink}
 use Rattle.vc_plan.specs.Names.{channel_name, node_name, spot_name, switch_name, vlink_name}
 use Rattle.vc_plan.specs.declared.plan.Plan.{Plan}
-use Rattle.vc_plan.specs.declared.port.Port.{Port}
 use Rattle.vc_plan.specs.declared.path_fault.Hop.{Hop}
 use Rattle.vc_plan.specs.declared.path_fault.PathFault.{PathFault}
 use Rattle.vc_plan.specs.declared.limit_word.LimitWord.{LimitWord}

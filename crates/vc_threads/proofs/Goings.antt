@@ -26,7 +26,7 @@ use Rattle.vc_threads.specs.Wires.{OutLooked, InLooked, Distinct, IsAmong, Sends
 use Rattle.vc_threads.specs.Runs.{StepsByLink, HasNoStep, Used, Draws, words_of}
 use Rattle.vc_threads.specs.Works.{Out, In, kept, logged, GoesOver, GoOver, IsFull, HasRun}
 use Rattle.vc_threads.specs.Private.Works.{Seen, worker_state, Uses, Stays}
-use Rattle.vc_threads.proofs.Zips.{zip_weaker, zip_then, zip_one, zip_map, zip_same, zip_length, zip_at}
+use Rattle.vc_threads.proofs.Zips.{zip_weaker, zip_then, zip_one, zip_map, zip_same}
 use Rattle.vc_threads.proofs.Looks.{producer_then, consumer_then, looked_same, in_looked_same, in_looked_then}
 use Rattle.vc_threads.proofs.Steps.{clock_then, run_then, put_then, taken_then, words_then, draws_then, used_then, run_kept}
 

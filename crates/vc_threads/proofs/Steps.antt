@@ -9,12 +9,11 @@ use Rattle.vc_network.specs.LocalRun.{Turn, LocalRun, clock_after, all_taken, al
 use Rattle.vc_network.specs.Plan.{Plan}
 use Rattle.vc_tokens.specs.declared.token.Token.{Token}
 use Rattle.vc_actor.specs.OfPlan.{IsActorOf}
-use Rattle.vc_actor.specs.Turns.{FindsTurn, IsPut, RoomLets}
+use Rattle.vc_actor.specs.Turns.{FindsTurn, IsPut}
 use Rattle.vc_actor.specs.declared.act.Act.{Act}
 use Rattle.vc_actor.specs.declared.act.Act.TheVariants.{Proc, Take, Put, Route, Fct, Pass}
 use Rattle.vc_actor.specs.Shown.{Acting}
 use Rattle.vc_threads.specs.Runs.{StepsByLink, HasNoStep, Used, Draws, words_of, word_of}
-use Rattle.std.specs.Int.{bit_at}
 use Rattle.std.specs.Prelude.{None}
 
 pub clock_then : {A I : Type 0} (clock : ℕ) (ts us : List (Turn A I)) → clock_after clock (ts ++ us) ≡ clock_after (clock_after clock ts) us

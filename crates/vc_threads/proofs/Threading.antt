@@ -28,7 +28,7 @@ use Rattle.vc_actor.specs.declared.act.Act.{Act}
 use Rattle.vc_core.specs.declared.event.Event.{Event}
 use Rattle.vc_network.specs.Network.{Actor, Local, first, begins, actor_at}
 use Rattle.vc_network.specs.Network as net
-use Rattle.vc_network.specs.Plan.{ways, near, far, IsOutOf, IsInto}
+use Rattle.vc_network.specs.Plan.{ways, near, far}
 use Rattle.vc_network.specs.Plan as network
 use Rattle.vc_network.specs.Threads.{AreThreads, ended, made_by, source, sink}
 use Rattle.vc_network.proofs.Threads.{threads_headline}

@@ -1,5 +1,5 @@
 -- What the program does, over streams that tell their bytes.
-use Rattle.std.specs.Prelude.{◌≡◌, ◌⊎◌, ℕ, ◌≤◌, Bool, true, false, codes, List, [], ◌∷◌, ◌++◌, Option, Some, None, Result, Ok, Err, ⊤}
+use Rattle.std.specs.Prelude.{◌≡◌, ◌⊎◌, ℕ, ◌≤◌, Bool, codes, List, [], ◌∷◌, ◌++◌, Option, Some, None, Result, Ok, Err, ⊤}
 use Rattle.vc_explain.specs.Explaining.{Explains}
 use Rattle.vc_text.specs.Checking.{Checks, ReadsAccepted}
 use Rattle.vc_text.specs.Deadlock.{TellsDeadlock}

@@ -1,6 +1,6 @@
 use Rattle.std.proofs.Common.{◌≡◌, ◌↔◌, ◌∙◌, Bool, false, IsTrue, sym, subst}
 use Rattle.std.proofs.lemmas.Bool.{false≢true}
-use Rattle.vc_core.specs.State.{shown, state_of}
+use Rattle.vc_core.specs.State.{state_of}
 use Rattle.vc_core.specs.Private.Turns.{GoesOn}
 use Rattle.vc_core.specs.declared.close.Close.TheVariants.{Quiet}
 use Rattle.vc_text.proofs.Closing.{processes_wait}

@@ -1,11 +1,9 @@
-use Rattle.std.proofs.Common.{Err, Ok, Result, subst, sym}
+use Rattle.std.proofs.Common.{Err, Ok, subst, sym}
 use Rattle.vc_core.specs.State.{shown, state_of}
-use Rattle.vc_core.specs.declared.close.Close.{Close}
 use Rattle.vc_plan.specs.declared.plan.Plan.{Plan}
 use Rattle.vc_text.specs.Running.{WritesRun}
 use Rattle.vc_text.specs.Private.Streams.{WritesOne}
 use Rattle.vc_text.specs.Tail.{IsTail}
-use Rattle.vc_text.specs.declared.fault.RunFault.{RunFault}
 use Rattle.vc_text.proofs.Stepped.{handed_on, run_unwritten}
 use Rattle.vc_text.proofs.unlogged.run_plan.Goals as goal
 

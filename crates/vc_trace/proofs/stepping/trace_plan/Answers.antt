@@ -1,4 +1,4 @@
-use Rattle.std.proofs.Common.{◌≡◌, Err, Ok, List, ◌++◌, refl, subst, sym}
+use Rattle.std.proofs.Common.{◌≡◌, Err, List, ◌++◌, refl, subst, sym}
 use Rattle.vc_core.specs.Replaying.{Reached}
 use Rattle.vc_core.specs.State.{shown, state_of}
 use Rattle.vc_core.specs.declared.event.Event.{Event}

@@ -1,4 +1,4 @@
-use Rattle.std.proofs.Common.{◌≡◌, ◌<◌, ◌≤◌, ◌∙◌, Option, Some, None, is_some, length, subst, sym, ap, true≢false}
+use Rattle.std.proofs.Common.{◌≡◌, ◌<◌, ◌≤◌, ◌∙◌, Some, is_some, length, subst, sym, ap, true≢false}
 use Rattle.std.proofs.lemmas.Option.{slice_get_past}
 use Rattle.vc_actor.specs.Turns.{TakesNone, kind_of}
 use Rattle.vc_actor.specs.declared.act.Act.{Act}

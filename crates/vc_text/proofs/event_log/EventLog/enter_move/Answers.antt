@@ -1,4 +1,4 @@
-use Rattle.std.proofs.Common.{◌≡◌, [], ◌∷◌, ◌++◌, sym, ap, subst, ◌∙◌}
+use Rattle.std.proofs.Common.{[], ◌∷◌, ◌++◌, sym, ap, subst, ◌∙◌}
 use Rattle.vc_actor.specs.declared.act.Act.TheVariants.{Proc}
 use Rattle.vc_text.specs.Kept.{Fit, events_of}
 use Rattle.vc_text.specs.declared.entry.Brief.TheVariants as brief

@@ -1,4 +1,4 @@
-use Rattle.std.proofs.Common.{◌≡◌, length, sym, ap, ◌∙◌}
+use Rattle.std.proofs.Common.{length, sym, ap, ◌∙◌}
 use Rattle.vc_text.proofs.Entering.{as_many}
 use Rattle.vc_text.proofs.event_log.EventLog.len.Goals as goal
 
