@@ -142,13 +142,13 @@ mutual
   begins_all no_parts s h = tt
   begins_all (part p ps) s h = (begins_apart p ps s, begins p h.0, begins_all ps (others p ps s) h.1)
 
-apart_left : (mine : Set) (r r' q : Rest) → IsPart (of_rest r') (of_rest r) → Apart mine r q → Apart mine r' q
+pub apart_left : (mine : Set) (r r' q : Rest) → IsPart (of_rest r') (of_rest r) → Apart mine r q → Apart mine r' q
 apart_left mine r r' q n a = record {
   left = λ v h. a.left v (n.changed v h);
   right = λ v h. ((a.right v h).0, unused (uses_rest r' v) (uses_rest r v) (n.used v) (a.right v h).1);
 }
 
-apart_right : (mine : Set) (r q q' : Rest) → IsPart (of_rest q') (of_rest q) → Apart mine r q → Apart mine r q'
+pub apart_right : (mine : Set) (r q q' : Rest) → IsPart (of_rest q') (of_rest q) → Apart mine r q → Apart mine r q'
 apart_right mine r q q' n a = record {
   left = λ v h. ((a.left v h).0, unused (uses_rest q' v) (uses_rest q v) (n.used v) (a.left v h).1);
   right = λ v h. a.right v (n.changed v h);

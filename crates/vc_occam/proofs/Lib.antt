@@ -1,5 +1,6 @@
 pub mod Abreast
 pub mod Acting
+pub mod Agreeing
 pub mod Beginning
 pub mod Besides
 pub mod Blocks
@@ -36,11 +37,14 @@ pub mod Waiting
 pub mod Determinate
 pub mod Unjoined
 pub mod Waited
+pub mod Weaving
 pub mod Ending
 pub mod Used
+pub mod Completeness
 pub mod Counts
 pub mod Balance
 pub mod Prefixes
 pub mod Independence
 pub mod Responses
+pub mod Receiving
 pub mod Renamings

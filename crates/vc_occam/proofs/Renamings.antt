@@ -4,7 +4,7 @@ use Rattle.std.proofs.lemmas.Bool.{cases_eq}
 use Rattle.vc_process.specs.declared.datum.Datum.{Datum}
 use Rattle.vc_process.specs.declared.datum.Datum.TheVariants as datum
 use Rattle.vc_process.specs.Renaming.{renamed_exp, renamed_test, renamed_given, Renamed, skips, never, assigns, outputs, inputs, stops, in_turn, abreast, one_of, again, counts, chooses, AllRenamed, no_part, parts, BranchesRenamed, no_branch, branches, GuardsRenamed, no_guard, guards}
-use Rattle.vc_process.specs.Syntax.{Exp, Number, Variable, Binary, SizeOf, Test, Constant, Compare, Both, Either, Negate, Literal, Contents, Filled, Given, Whole, Bytes, Proc, Procs, part, Branches, Guards}
+use Rattle.vc_process.specs.Syntax.{Exp, Number, Variable, Binary, SizeOf, Test, Constant, Compare, Both, Either, Negate, Literal, Contents, Filled, Given, Whole, Bytes, Proc, Procs, Branches, Guards}
 use Rattle.vc_process.specs.Values.{Store, whole_of, bytes_of, with_both, result, compares, within, value_of, holds, datum_of}
 use Rattle.vc_process.specs.Usage.{Set, ◌∪◌, just, in_exp, in_test, in_given, changes, changes_all, changes_branches, changes_guards, uses, uses_all, uses_branches, uses_guards}
 use Rattle.vc_occam.proofs.Stores.{or_left, or_right}

@@ -12,8 +12,6 @@ use Rattle.vc_process.specs.Usage.{changes}
 use Rattle.vc_process.specs.Syntax.{Exp, Test, Constant, Proc, SKIP, STOP, Assign, Output, Input, StopChan, SEQ, PAR, IF, WHILE, COUNT, ALT, Procs, no_parts, part, Branches, no_branches, branch, Guards, no_guards, guard}
 use Rattle.vc_process.specs.Terms.{exp, given, as_test}
 use Rattle.vc_occam.specs.Remains.{Rest, Done, Stopped, Fresh, Finishing, Getting, Then, Turns, and_then, beside_on}
-use Rattle.vc_occam.specs.Sites.{site}
-use Rattle.vc_occam.specs.States.{Waiting}
 use Rattle.vc_occam.specs.Gates.{Gate, gate}
 
 -- a process that was written, and what remains of it

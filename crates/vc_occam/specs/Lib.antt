@@ -1,4 +1,5 @@
 pub mod Blocking
+pub mod Completeness
 pub mod First
 pub mod Frames
 pub mod Gates

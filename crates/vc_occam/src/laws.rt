@@ -1,4 +1,5 @@
 //! Laws of running processes. A law is a function that does nothing, whose contract is the law.
+ghost use Rattle.vc_occam.specs.Completeness.{TracesAreMadeBySteps};
 ghost use Rattle.vc_occam.specs.InUse.{LawfulAtFirst, StepsKeepUse, DoingKeepsUse, DoingIsTraced};
 ghost use Rattle.vc_occam.specs.Laws.{SitesAreOwnAtFirst, StepsKeepSites, DoingKeepsSites, ListedMovesCanBeMade, WaitingAfter};
 ghost use Rattle.vc_occam.specs.Remains.{StepsAreTraces};
@@ -7,6 +8,12 @@ ghost use Rattle.vc_occam.specs.Remains.{StepsAreTraces};
 /// trace of what remained before.
 pub fn steps_are_traces()
     ensures { StepsAreTraces }
+{}
+
+/// Each trace of a process that uses its channels and variables lawfully is made by steps, and where the trace has ended nothing
+/// remains and the variables hold what it leaves. With [`steps_are_traces`] the two meanings of a process agree.
+pub fn traces_are_made_by_steps()
+    ensures { TracesAreMadeBySteps }
 {}
 
 /// A process that uses its channels and variables lawfully does so at first and after whatever it does. So what it does, followed

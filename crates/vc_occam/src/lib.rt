@@ -12,8 +12,9 @@
 //! site from one on, without a list.
 //!
 //! Laws of the definitions, for every word of the language, stand in `laws.rt`: where parts side by side keep their variables apart,
-//! what a step makes, followed by any trace of what remains, is a trace of what remained before; no step loses lawful use; each
-//! listed move can be made; an output or input that begins waits until it is finished or has its message.
+//! what a step makes, followed by any trace of what remains, is a trace of what remained before; each trace of a lawful process is
+//! made by steps, so its two meanings agree (`specs/Completeness`); no step loses lawful use; each listed move can be made; an output
+//! or input that begins waits until it is finished or has its message.
 //!
 //! A process runs as a tree of frames (`frame.rt`), one for each process that is written, with how far it is and at which part;
 //! what it stands for is said in `specs/Frames`. A part begins, ends and begins again by a change of its frame, without memory;
@@ -55,7 +56,8 @@ mod waits;
 pub use answer::Answer;
 pub use blocked::Blocked;
 pub use laws::{
-    lawful_use_is_kept, listed_moves_can_be_made, sites_are_own, steps_are_traces, waiting_after,
+    lawful_use_is_kept, listed_moves_can_be_made, sites_are_own, steps_are_traces,
+    traces_are_made_by_steps, waiting_after,
 };
 pub use moves::Move;
 pub use running::Running;

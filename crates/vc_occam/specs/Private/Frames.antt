@@ -22,7 +22,7 @@ use Rattle.vc_occam.specs.declared.waits.Waits.TheVariants as waits
 use Rattle.vc_process.specs.Values.{Store, assigned_bytes, holds}
 use Rattle.vc_occam.specs.Traces.{Comm}
 use Rattle.vc_process.specs.Usage.{changes}
-use Rattle.vc_process.specs.Syntax.{Test, Proc, STOP, Assign, Output, Input, Procs, no_parts, part}
+use Rattle.vc_process.specs.Syntax.{Test, Proc, STOP, Assign, Procs, no_parts, part}
 use Rattle.vc_process.specs.Terms.{store}
 use Rattle.vc_occam.specs.Remains.{Rest, Done, Stopped, Fresh, Finishing, Getting, Then, Turns, Beside, then_on, begin, Step}
 use Rattle.vc_occam.specs.Private.Sites.{InPreorder}
