@@ -5,5 +5,7 @@ pub mod Edges
 pub mod Adding
 pub mod Searching
 pub mod Rounding
+pub mod Orders
+pub mod Ways
 pub mod Ranked
 pub mod Cycling

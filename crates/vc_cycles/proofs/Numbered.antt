@@ -9,6 +9,7 @@ use Rattle.vc_plan.specs.declared.port.Spot.{Spot}
 use Rattle.vc_plan.specs.declared.port.Spot.TheVariants.{Node, Switch}
 use Rattle.vc_plan.specs.declared.port.Wire.{Wire}
 use Rattle.vc_plan.specs.Accepted.{IsAccepted}
+use Rattle.vc_plan.specs.Dependencies.{DependsOn}
 use Rattle.vc_plan.specs.Hops.{LimitsFit}
 use Rattle.vc_plan.specs.Limits.{wire_ok, port_ok, link_ok, ends_ok, switch_links_ok, wire_there, spot_there, ends_there, home_there, process_names}
 use Rattle.vc_plan.specs.Wires.{across, same_port}
@@ -105,3 +106,13 @@ switch_number p acc a q n e at =
     let f = fits_all p acc a q e in
     let r = numbered p n a.link (kept p acc).switches (subst (λ s. link_ok s a.link ≡ true) at f.0) (subst (λ s. spot_there p s ≡ true) at f.1) in
     (r.0, ap (λ s. port_number_at s a.link) at ∙ r.1)
+
+-- so has one on which another depends, and the port of a number
+pub number_after : (p : Plan) → IsAccepted p → (a b : Port) → DependsOn p a b → (j : ℕ) × (port_number b ≡ Some j)
+number_after p acc a b x = switch_number p acc b x.goes.to x.goes.hop.switch (ap (λ q. across p.wires q) x.goes.port ∙ x.goes.goes.far) (ap (λ (q : Port). q.spot) x.goes.port)
+
+pub number_at : (i : ℕ) → i < 1024 → port_number (port_at i) ≡ Some i
+number_at i lt =
+    let a : nat_lt (i / 32) 32 ≡ true = grind (arith, nat_tests) in
+    let b : nat_lt (i % 32) 32 ≡ true = grind (arith, nat_tests) in
+    ap (λ x. if x && nat_lt (i % 32) 32 then Some (i / 32 * 32 + i % 32) else None) a ∙ ap (λ x. if x then Some (i / 32 * 32 + i % 32) else None) b ∙ ap (λ n. Some n) (omega arith)

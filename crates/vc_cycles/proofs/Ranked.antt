@@ -1,5 +1,5 @@
 -- Where no port is on a way round the ports have ranks: a port's rank is from how many ports a way leads to it.
-use Rattle.std.proofs.Common.{◌≡◌, ◌⊎◌, inl, inr, ℕ, zero, suc, ◌+◌, ◌<◌, ◌≤◌, Bool, true, false, if◌then◌else◌, List, Option, Some, None, refl, sym, ap, subst, ◌∙◌, arith}
+use Rattle.std.proofs.Common.{◌≡◌, ◌⊎◌, inl, inr, ℕ, zero, suc, ◌+◌, ◌<◌, ◌≤◌, Bool, true, false, if◌then◌else◌, List, Option, Some, None, refl, sym, ap, subst, arith}
 use Rattle.std.specs.Global.{Vec}
 use Rattle.vc_plan.specs.declared.plan.Plan.{Plan}
 use Rattle.vc_plan.specs.declared.port.Port.{Port}
@@ -7,13 +7,12 @@ use Rattle.vc_plan.specs.declared.port.Spot.{Spot}
 use Rattle.vc_plan.specs.declared.port.Spot.TheVariants.{Node, Switch}
 use Rattle.vc_plan.specs.Accepted.{IsAccepted}
 use Rattle.vc_plan.specs.Dependencies.{DependsOn, HasRanks}
-use Rattle.vc_plan.specs.Wires.{across}
 use Rattle.vc_cycles.specs.Private.Graph.{HasEdge, AreDependencies, port_number, port_number_at}
 use Rattle.vc_cycles.specs.Private.Round.{IsAway, AreRows}
-use Rattle.vc_cycles.proofs.Numbered.{switch_number, number_small}
+use Rattle.vc_cycles.proofs.Numbered.{number_after, number_small, switch_number}
 
 pub rows_are : (net : Plan) (rows : List (Vec ℕ)) → AreDependencies net rows → AreRows rows
-rows_are net rows d = record { many = d.many; small = d.small }
+rows_are net rows d = record { many = d.many; small = d.small; rising = d.rising }
 
 -- from how many of the first n ports a way leads to this one
 module _ (rows : List (Vec ℕ)) where
@@ -87,7 +86,7 @@ pub ranks : (net : Plan) → IsAccepted net → (rows : List (Vec ℕ)) → AreD
 ranks net acc rows d w = record { rank = λ p. rank_of rows w (port_number p); rises = λ a b x. rises a b x a.spot refl }
   where
     rises : (a b : Port) → DependsOn net a b → (spot : Spot) → a.spot ≡ spot → rank_of rows w (port_number a) < rank_of rows w (port_number b)
-    rises a b x spot at = go spot at (switch_number net acc b x.goes.to x.goes.hop.switch (ap (λ p. across net.wires p) x.goes.port ∙ x.goes.goes.far) (ap (λ (p : Port). p.spot) x.goes.port))
+    rises a b x spot at = go spot at (number_after net acc a b x)
       where
         go : (spot : Spot) → a.spot ≡ spot → (j : ℕ) × (port_number b ≡ Some j) → rank_of rows w (port_number a) < rank_of rows w (port_number b)
         go (Node n) at (j, q) =

@@ -7,8 +7,8 @@ use Rattle.vc_plan.specs.declared.plan.Plan.{Plan}
 use Rattle.vc_plan.specs.declared.port.Port.{Port}
 use Rattle.vc_plan.specs.Dependencies.{DependsOn, Chain}
 use Rattle.vc_plan.proofs.Members.{In}
-use Rattle.vc_cycles.specs.Private.Graph.{HasEdge, AreDependencies, port_at, row}
-use Rattle.vc_cycles.specs.Private.Round.{AreRows, IsAway, Looking, PointsBack, Searched, found_after, is_seen, seen_after, unseen}
+use Rattle.vc_cycles.specs.Private.Graph.{HasEdge, AreDependencies, IsRising, port_at, row}
+use Rattle.vc_cycles.specs.Private.Round.{AreRows, IsAway, IsEarlier, IsFoundFrom, Looking, PointsBack, Searched, Settled, found_after, is_seen, seen_after, unseen}
 use Rattle.vc_cycles.specs.declared.round.Found.{Found}
 use Rattle.vc_cycles.proofs.Among.{contains_in, in_contains, any_in, none_in, get_append, get_left, get_last, read_at}
 use Rattle.vc_cycles.proofs.Edges.{row_is}
@@ -45,22 +45,28 @@ not_both : (b : Bool) → b ≡ false → b ≡ true → ⊥
 not_both true e f = absurd cc
 not_both false e f = absurd cc
 
-searched_first : (rows : List (Vec ℕ)) (start : ℕ) → start < 1024 → Searched rows start 0 (record { port = start; from = 0 } ∷ []) (replicate 1024 false)
+searched_first : (rows : List (Vec ℕ)) (start : ℕ) → start < 1024 → Settled rows start 0 (record { port = start; from = 0 } ∷ []) (replicate 1024 false)
 searched_first rows start lt = record {
-  many = length_replicate 1024;
-  begins = λ f e. alone start 0 f e;
-  small = λ k f e. subst (λ n. n < 1024) (sym (alone start k f e)) lt;
-  back = λ k f e. absurd cc;
-  listed = λ j e. absurd (not_both (is_seen (replicate 1024 false) j) (get_replicate 1024 j) e);
-  on = λ k f j less. absurd (omega arith);
-  apart = get_replicate 1024 start;
-  count = let r = unseen_none 1024 in omega (arith, r);
-  some = omega arith;
+  base = record {
+    many = length_replicate 1024;
+    begins = λ f e. alone start 0 f e;
+    small = λ k f e. subst (λ n. n < 1024) (sym (alone start k f e)) lt;
+    back = λ k f e. absurd cc;
+    listed = λ j e. absurd (not_both (is_seen (replicate 1024 false) j) (get_replicate 1024 j) e);
+    on = λ k f j less. absurd (omega arith);
+    soon = λ k f j less. absurd (omega arith);
+    order = λ k m f g less e. absurd cc;
+    recent = λ k f e. absurd cc;
+    apart = get_replicate 1024 start;
+    count = let r = unseen_none 1024 in omega (arith, r);
+    some = omega arith;
+  };
+  before = λ k f e. absurd cc;
 }
 
 pub searched_start : (rows : List (Vec ℕ)) (start : ℕ) (found : List Found) (seen : List Bool) → start < 1024 → found ≡ record { port = start; from = 0 } ∷ [] → seen ≡ replicate 1024 false →
-    Searched rows start 0 found seen
-searched_start rows start found seen lt e f = subst (λ l. Searched rows start 0 l seen) (sym e) (subst (λ l. Searched rows start 0 (record { port = start; from = 0 } ∷ []) l) (sym f) (searched_first rows start lt))
+    Settled rows start 0 found seen
+searched_start rows start found seen lt e f = subst (λ l. Settled rows start 0 l seen) (sym e) (subst (λ l. Settled rows start 0 (record { port = start; from = 0 } ∷ []) l) (sym f) (searched_first rows start lt))
 
 -- marking
 marked : (bs : List Bool) (i j : ℕ) → i < length bs → is_seen (set bs i true) j ≡ true → (is_seen bs j ≡ true) ⊎ (j ≡ i)
@@ -106,8 +112,29 @@ module _ (rows : List (Vec ℕ)) (start at : ℕ) (line : List ℕ) (n port : �
       go (inl before) = keeps (get_or line k 0) (l.partly k before)
       go (inr same) = ap (λ m. is_seen seen' m) (ap (λ m. get_or line m 0) same ∙ sym is) ∙ now
 
+  -- found up to this place
+  keeps_found : (k j : ℕ) (more : List Found) → IsFoundFrom found k j → IsFoundFrom (found ++ more) k j
+  keeps_found k j more f = record { place = f.place; entry = f.entry; there = get_left found more (suc f.place) f.entry f.there; port_is = f.port_is; early = f.early }
+
+  found_partly_more : (found' : List Found) → ((j : ℕ) → IsFoundFrom found at j → IsFoundFrom found' at j) → IsFoundFrom found' at port → (k : ℕ) → k < n + 1 → IsFoundFrom found' at (get_or line k 0)
+  found_partly_more found' keeps now k less = go (let c : (k < n) ⊎ (k ≡ n) = grind arith in c)
+    where
+      go : (k < n) ⊎ (k ≡ n) → IsFoundFrom found' at (get_or line k 0)
+      go (inl before) = keeps (get_or line k 0) (l.found_partly k before)
+      go (inr same) = subst (IsFoundFrom found' at) (sym (ap (λ m. get_or line m 0) same ∙ sym is)) now
+
+  listed_soon : is_seen seen port ≡ true → IsFoundFrom found at port
+  listed_soon e = let (k, f, there, port_is) = l.base.listed port e in go k f there port_is
+    where
+      go : (k : ℕ) (f : Found) → slice_get found k ≡ Some f → f.port ≡ port → IsFoundFrom found at port
+      go zero f there port_is = absurd (l.apart (subst (λ m. Contains line m) (sym port_is ∙ l.base.begins f there) in_row))
+      go (suc k) f there port_is = record { place = k; entry = f; there = there; port_is = port_is; early = l.base.recent k f there }
+
+  only_more : (k : ℕ) (f : Found) → slice_get found (suc k) ≡ Some f → f.from ≡ at → (m : ℕ) × (m < n + 1) × (f.port ≡ get_or line m 0)
+  only_more k f there from = let (m, less, e) = l.only k f there from in (m, omega (arith, less), e)
+
   old_looking : is_seen seen port ≡ true → Looking rows start at line (n + 1) found seen
-  old_looking e = record { base = l.base; here = l.here; there = l.there; row_of = l.row_of; small = l.small; apart = l.apart; partly = partly_more seen (λ j s. s) e }
+  old_looking e = record { base = l.base; here = l.here; there = l.there; row_of = l.row_of; small = l.small; apart = l.apart; rising = l.rising; partly = partly_more seen (λ j s. s) e; found_partly = found_partly_more found (λ k f. f) (listed_soon e); only = only_more }
 
   abbrev new_found : Found
   new_found = record { port = port; from = at }
@@ -155,6 +182,42 @@ module _ (rows : List (Vec ℕ)) (start at : ℕ) (line : List ℕ) (n port : �
   on_more k f j less (inl e) edge = marks_keep seen port j within (l.base.on k f j less e edge)
   on_more k f j less (inr p) edge = let le = p.0 in let before = at_before in absurd (omega (arith, le, before, less))
 
+  soon_more : (k : ℕ) (f : Found) (j : ℕ) → k < at → (slice_get found k ≡ Some f) ⊎ ((length found ≤ k) × In f (new_found ∷ [])) → HasEdge rows f.port j → IsFoundFrom found_more k j
+  soon_more k f j less (inl e) edge = keeps_found k j (new_found ∷ []) (l.base.soon k f j less e edge)
+  soon_more k f j less (inr p) edge = let le = p.0 in let before = at_before in absurd (omega (arith, le, before, less))
+
+  new_soon : IsFoundFrom found_more at port
+  new_soon = go (length found) refl l.base.some
+    where
+      go : (m : ℕ) → length found ≡ m → 0 < length found → IsFoundFrom found_more at port
+      go zero e some = absurd (omega arith)
+      go (suc k) e some = record { place = k; entry = new_found; there = subst (λ m. slice_get found_more m ≡ Some new_found) e (get_last found new_found); port_is = refl; early = omega arith }
+
+  recent_more : (k : ℕ) (f : Found) → (slice_get found (suc k) ≡ Some f) ⊎ ((length found ≤ suc k) × In f (new_found ∷ [])) → f.from ≤ at
+  recent_more k f (inl e) = l.base.recent k f e
+  recent_more k f (inr p) = subst (λ (x : Found). x.from ≤ at) (is_new f p.1) (omega arith)
+
+  only_new : (k : ℕ) (f : Found) → (slice_get found (suc k) ≡ Some f) ⊎ ((length found ≤ suc k) × In f (new_found ∷ [])) → f.from ≡ at → (m : ℕ) × (m < n + 1) × (f.port ≡ get_or line m 0)
+  only_new k f (inl e) from = only_more k f e from
+  only_new k f (inr p) from = (n, omega arith, ap (λ (x : Found). x.port) (sym (is_new f p.1)) ∙ is)
+
+  earlier_new : (k : ℕ) (f : Found) → slice_get found (suc k) ≡ Some f → IsEarlier f new_found
+  earlier_new k f there = go (let r = l.base.recent k f there in let c : (f.from < at) ⊎ (f.from ≡ at) = grind (arith, r) in c)
+    where
+      go : (f.from < at) ⊎ (f.from ≡ at) → IsEarlier f new_found
+      go (inl less) = inl less
+      go (inr same) =
+          let (m, less, e) = l.only k f there same in
+          let r = l.rising m n less lt in
+          inr (same, omega (arith, e, r, is))
+
+  order_more : (k m : ℕ) (f g : Found) → k < m → (slice_get found (suc k) ≡ Some f) ⊎ ((length found ≤ suc k) × In f (new_found ∷ [])) →
+      (slice_get found (suc m) ≡ Some g) ⊎ ((length found ≤ suc m) × In g (new_found ∷ [])) → suc m < length found_more → IsEarlier f g
+  order_more k m f g less (inl e) (inl h) within_more = l.base.order k m f g less e h
+  order_more k m f g less (inl e) (inr q) within_more = subst (λ (x : Found). IsEarlier f x) (is_new g q.1) (earlier_new k f e)
+  order_more k m f g less (inr p) (inl h) within_more = let le = p.0 in let w = slice_get_within found (suc m) g h in absurd (omega (arith, le, w, less))
+  order_more k m f g less (inr p) (inr q) within_more = let le = p.0 in let long = long_more found new_found in absurd (omega (arith, le, long, within_more, less))
+
   new_looking : is_seen seen port ≡ false → Looking rows start at line (n + 1) found_more (set seen port true)
   new_looking e = record {
     base = record {
@@ -164,6 +227,9 @@ module _ (rows : List (Vec ℕ)) (start at : ℕ) (line : List ℕ) (n port : �
       back = λ k f r. back_more k f (get_append found (new_found ∷ []) (suc k) f r);
       listed = λ j r. listed_more j (marked seen port j within r);
       on = λ k f j less r. on_more k f j less (get_append found (new_found ∷ []) k f r);
+      soon = λ k f j less r. soon_more k f j less (get_append found (new_found ∷ []) k f r);
+      order = λ k m f g less r s. order_more k m f g less (get_append found (new_found ∷ []) (suc k) f r) (get_append found (new_found ∷ []) (suc m) g s) (slice_get_within found_more (suc m) g s);
+      recent = λ k f r. recent_more k f (get_append found (new_found ∷ []) (suc k) f r);
       apart = mark_apart seen port start (λ same. l.apart (subst (λ m. Contains line m) same in_row)) l.base.apart;
       count = let a = long_more found new_found in let b = unseen_mark seen port within e in let c = l.base.count in omega (arith, a, b, c);
       some = let a = long_more found new_found in omega (arith, a);
@@ -173,7 +239,10 @@ module _ (rows : List (Vec ℕ)) (start at : ℕ) (line : List ℕ) (n port : �
     row_of = l.row_of;
     small = l.small;
     apart = l.apart;
+    rising = l.rising;
     partly = partly_more (set seen port true) (λ j s. marks_keep seen port j within s) (get_or-set_same seen port true false within);
+    found_partly = found_partly_more found_more (λ j f. keeps_found at j (new_found ∷ []) f) new_soon;
+    only = λ k f r. only_new k f (get_append found (new_found ∷ []) (suc k) f r);
   }
 
   pub looking_more : Looking rows start at line (n + 1) (found_after found seen port at) (seen_after seen port)
@@ -184,19 +253,30 @@ module _ (rows : List (Vec ℕ)) (start at : ℕ) (line : List ℕ) (n port : �
       go false e = new_looking e
 
 -- a whole row
-pub looked : (rows : List (Vec ℕ)) (start at : ℕ) (line : List ℕ) (found : List Found) (seen : List Bool) → Looking rows start at line (length line) found seen → Searched rows start (at + 1) found seen
+pub looked : (rows : List (Vec ℕ)) (start at : ℕ) (line : List ℕ) (found : List Found) (seen : List Bool) → Looking rows start at line (length line) found seen → Settled rows start (at + 1) found seen
 looked rows start at line found seen l = record {
-  many = l.base.many;
-  begins = l.base.begins;
-  small = l.base.small;
-  back = l.base.back;
-  listed = l.base.listed;
-  on = λ k f j less is edge. on k f j is edge (let c : (k < at) ⊎ (k ≡ at) = grind arith in c);
-  apart = l.base.apart;
-  count = l.base.count;
-  some = l.base.some;
+  base = record {
+    many = l.base.many;
+    begins = l.base.begins;
+    small = l.base.small;
+    back = l.base.back;
+    listed = l.base.listed;
+    on = λ k f j less is edge. on k f j is edge (let c : (k < at) ⊎ (k ≡ at) = grind arith in c);
+    soon = λ k f j less is edge. soon k f j is edge (let c : (k < at) ⊎ (k ≡ at) = grind arith in c);
+    order = l.base.order;
+    recent = λ k f is. let r = l.base.recent k f is in omega (arith, r);
+    apart = l.base.apart;
+    count = l.base.count;
+    some = l.base.some;
+  };
+  before = λ k f is. let r = l.base.recent k f is in omega (arith, r);
 }
   where
+    here_is : (k : ℕ) (f : Found) (j : ℕ) → k ≡ at → slice_get found k ≡ Some f → HasEdge rows f.port j → Contains line j
+    here_is k f j same is edge =
+        let e : f ≡ l.here = let r : Some f ≡ Some l.here = sym is ∙ ap (slice_get found) same ∙ l.there in cc in
+        subst (λ xs. Contains xs j) l.row_of (subst (λ (x : Found). HasEdge rows x.port j) e edge)
+
     default : (xs : List ℕ) (k j : ℕ) → k < length xs → get_or xs k j ≡ get_or xs k 0
     default [] k j less = absurd (omega arith)
     default (x ∷ xs) zero j less = refl
@@ -207,9 +287,14 @@ looked rows start at line found seen l = record {
 
     on : (k : ℕ) (f : Found) (j : ℕ) → slice_get found k ≡ Some f → HasEdge rows f.port j → (k < at) ⊎ (k ≡ at) → is_seen seen j ≡ true
     on k f j is edge (inl less) = l.base.on k f j less is edge
-    on k f j is edge (inr same) =
-        let e : f ≡ l.here = let r : Some f ≡ Some l.here = sym is ∙ ap (slice_get found) same ∙ l.there in cc in
-        row_seen j (subst (λ xs. Contains xs j) l.row_of (subst (λ (x : Found). HasEdge rows x.port j) e edge))
+    on k f j is edge (inr same) = row_seen j (here_is k f j same is edge)
+
+    row_found : (j : ℕ) → Contains line j → IsFoundFrom found at j
+    row_found j (k, less, e) = subst (IsFoundFrom found at) (sym (default line k j less) ∙ e) (l.found_partly k less)
+
+    soon : (k : ℕ) (f : Found) (j : ℕ) → slice_get found k ≡ Some f → HasEdge rows f.port j → (k < at) ⊎ (k ≡ at) → IsFoundFrom found k j
+    soon k f j is edge (inl less) = l.base.soon k f j less is edge
+    soon k f j is edge (inr same) = subst (λ m. IsFoundFrom found m j) (sym same) (row_found j (here_is k f j same is edge))
 
 -- where all was looked at
 pub away : (rows : List (Vec ℕ)) (start at : ℕ) (found : List Found) (seen : List Bool) → Searched rows start at found seen → length found ≤ at → IsAway rows start
@@ -262,16 +347,19 @@ row_read rows i p v xs are small same is copy =
     let lt : i < length rows = omega (arith, many, small, same) in
     ap (λ m. row rows m) (sym same) ∙ row_is rows i v (read_at rows i v lt is) ∙ sym copy
 
-pub looking_first : (rows : List (Vec ℕ)) (start at : ℕ) (f : Found) (xs : List ℕ) (found : List Found) (seen : List Bool) → AreRows rows → Searched rows start at found seen → slice_get found at ≡ Some f →
+pub looking_first : (rows : List (Vec ℕ)) (start at : ℕ) (f : Found) (xs : List ℕ) (found : List Found) (seen : List Bool) → AreRows rows → Settled rows start at found seen → slice_get found at ≡ Some f →
     row rows f.port ≡ xs → (Contains xs start → ⊥) → Looking rows start at xs 0 found seen
 looking_first rows start at f xs found seen are s is same apart = record {
-  base = s;
+  base = s.base;
   here = f;
   there = is;
   row_of = same;
   small = λ j c. are.small f.port j (subst (λ l. Contains l j) (sym same) c);
   apart = apart;
+  rising = subst IsRising same (are.rising f.port);
   partly = λ k lt. absurd (omega arith);
+  found_partly = λ k lt. absurd (omega arith);
+  only = λ k g there from. absurd (let r = s.before k g there in omega (arith, r, from));
 }
 
 pub row_small : (rows : List (Vec ℕ)) (p j : ℕ) (xs : List ℕ) → AreRows rows → row rows p ≡ xs → Contains xs j → j < 1024

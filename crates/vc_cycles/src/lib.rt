@@ -2,8 +2,8 @@
 //!
 //! The ports of switches, each the beginning of a way, are the vertices of the channel dependency graph (Dally and Seitz, 1987). The
 //! layer above knows of [`find_cycle`] that it answers none exactly where the ports have ranks that rise along each dependency, and
-//! else a cycle of dependencies (`Dependencies` of vc_plan's specs). The cycle has the fewest ports and is the least of those by the
-//! ports in order: that is tested, and not proved.
+//! else the least cycle of dependencies (`Dependencies` of vc_plan's specs): the one with the fewest ports, and of those the first by
+//! the ports in order.
 #![tactic(auto)]
 
 mod cycle;

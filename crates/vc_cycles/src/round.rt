@@ -3,9 +3,9 @@ ghost use Rattle.std.specs.Prelude.{◌≡◌, ℕ, ◌<◌, List, length, IfNon
 ghost use Rattle.std.specs.Global.{Vec};
 ghost use Rattle.std.specs.List.{Contains};
 ghost use Rattle.vc_plan.specs.declared.plan.Plan.{Plan};
-ghost use Rattle.vc_plan.specs.Dependencies.{IsCycle};
+ghost use Rattle.vc_plan.specs.Accepted.{IsAccepted};
 ghost use Rattle.vc_cycles.specs.Private.Graph.{AreDependencies};
-ghost use Rattle.vc_cycles.specs.Private.Round.{AreRows, IsAway, LooksAt, PointsBack, Searched, WhereClosed, found_after, seen_after};
+ghost use Rattle.vc_cycles.specs.Private.Round.{AreRows, IsAway, IsLeastRound, LooksAt, PointsBack, Settled, found_after, seen_after, way_to};
 
 use crate::number::{PORTS, port_at};
 use std::alloc::Global;
@@ -31,7 +31,7 @@ impl Round {
     fn new(alloc: Global, start: u16) -> Result<Round, Memory>
         requires { start < 1024 }
         ensures { (rows : List (Vec ℕ)) →
-            IfOk result (λ r. Searched rows start 0 r.found.items r.seen.items) }
+            IfOk result (λ r. Settled rows start 0 r.found.items r.seen.items) }
     {
         let mut found = Vec::new(alloc);
         found.push(Found {
@@ -73,8 +73,7 @@ impl Round {
     fn path(&self, alloc: Global, last: usize) -> Result<Vec<Port>, Memory>
         requires within { last < length self.now.found.items }
         requires back { PointsBack self.now.found.items }
-        ensures { WhereClosed self.now last
-            (λ net start. IfOk result (λ ports. IsCycle net ports.items)) }
+        ensures { IfOk result (λ ports. ports.items ≡ way_to self.now.found.items last) }
     {
         let mut ports = Vec::new(alloc);
         let mut at = last;
@@ -88,7 +87,8 @@ impl Round {
     }
 }
 
-/// The ports on a way from a port back to it; none where there is no way back.
+/// The ports on the least way from a port back to it: the one with the fewest ports, and of those the first by the ports in order. None
+/// where there is no way back.
 pub(crate) fn find_round(
     alloc: Global,
     rows: &[Vec<u16>],
@@ -97,8 +97,8 @@ pub(crate) fn find_round(
     requires rows { AreRows rows.now }
     requires start { start < 1024 }
     ensures none { IfOk result (λ found. IfNone found (IsAway rows.now start)) }
-    ensures some { (net : Plan) → AreDependencies net rows.now →
-        IfOk result (λ found. IfSome found (λ ports. IsCycle net ports.items)) }
+    ensures some { (net : Plan) → IsAccepted net → AreDependencies net rows.now →
+        IfOk result (λ found. IfSome found (λ ports. IsLeastRound net start ports.items)) }
 {
     let mut round = Round::new(alloc, start)?;
     let mut at = 0;

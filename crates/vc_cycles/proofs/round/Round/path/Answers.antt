@@ -1,14 +1,13 @@
-use Rattle.std.proofs.Common.{◌≡◌, ◌∙◌, ◌<◌, ◌∷◌, ap, sym, subst, arith}
-use Rattle.vc_plan.specs.Dependencies.{IsCycle}
+use Rattle.std.proofs.Common.{◌∙◌, ◌<◌, ◌∷◌, ap, arith}
 use Rattle.vc_cycles.proofs.Among.{read_at}
-use Rattle.vc_cycles.proofs.Rounding.{ChainFrom, chain_last, chain_more, chain_round, from_less}
+use Rattle.vc_cycles.proofs.Rounding.{from_less}
+use Rattle.vc_cycles.proofs.Ways.{way_more, way_round, way_whole}
 use Rattle.vc_cycles.proofs.round.Round.path.Goals as goal
 
 pub loop-at-init : goal.loop-at-init
 loop-at-init c = record {
   within = c.requires.within;
-  chain = λ net rows start looked f d s is edge.
-      subst (λ ports. ChainFrom net c.args.self.now.found.items c.args.last ports start) (sym c.new-ports.ensures.items) (chain_last net rows start c.args.self.now.found.items c.args.last f d is edge);
+  way = way_whole c.args.self.now.found.items c.args.last c.new-ports.result.items c.new-ports.ensures.items;
 }
 
 pub loop-at-smaller : goal.loop-at-smaller
@@ -25,10 +24,8 @@ loop-at-preserved c =
     let within = c.loop-at.invariant.within in
     record {
       within = omega (arith, less, within);
-      chain = λ net rows start looked g d s there edge.
-          subst (λ ports. ChainFrom net c.args.self.now.found.items f.from ports start) (sym (c.in_ok-insert.ensures.items ∙ ap (λ p. p ∷ c.loop-at.ports.items) c.port_at.ensures))
-          (chain_more net rows start looked c.args.self.now.found.items c.args.self.now.seen.items c.loop-at.at f c.loop-at.ports.items d s some is
-          (c.loop-at.invariant.chain net rows start looked g d s there edge));
+      way = way_more c.args.self.now.found.items c.requires.back c.loop-at.at f c.loop-at.ports.items c.insert.new.self.items some is
+          (c.in_ok-insert.ensures.items ∙ ap (λ p. p ∷ c.loop-at.ports.items) c.port_at.ensures) ∙ c.loop-at.invariant.way;
     }
 
 pub port_at-requires-2 : goal.port_at-requires-2
@@ -37,10 +34,8 @@ port_at-requires-2 c =
     c.requires.back.small 0 c.index.result.now (read_at c.args.self.now.found.items 0 c.index.result.now (omega (arith, within)) c.index.ensures)
 
 pub returns : goal.returns
-returns c = λ net rows start looked f d s is edge.
+returns c =
     let within = c.requires.within in
-    let there = read_at c.args.self.now.found.items 0 c.index.result.now (omega (arith, within)) c.index.ensures in
-    let first : c.loop-at.at ≡ 0 = omega arith in
-    subst (λ ports. IsCycle net ports) (sym (c.in_ok-insert-2.ensures.items ∙ ap (λ p. p ∷ c.loop-at.ports.items) c.port_at-2.ensures))
-    (chain_round net rows start looked c.args.self.now.found.items c.args.self.now.seen.items c.index.result.now c.loop-at.ports.items s there
-    (subst (λ n. ChainFrom net c.args.self.now.found.items n c.loop-at.ports.items start) first (c.loop-at.invariant.chain net rows start looked f d s is edge)))
+    way_round c.args.self.now.found.items c.loop-at.at c.args.last c.index.result.now c.loop-at.ports.items c.insert-2.new.self.items (omega arith)
+    (read_at c.args.self.now.found.items 0 c.index.result.now (omega (arith, within)) c.index.ensures) c.loop-at.invariant.way
+    (c.in_ok-insert-2.ensures.items ∙ ap (λ p. p ∷ c.loop-at.ports.items) c.port_at-2.ensures)
