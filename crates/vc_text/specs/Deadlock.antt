@@ -4,7 +4,7 @@ use Rattle.std.specs.Io.KnownBytes.{Appends}
 use Rattle.std.specs.List.{flat_map}
 use Rattle.vc_plan.specs.declared.plan.Plan.{Plan as Network}
 use Rattle.vc_plan.specs.declared.port.Port.{Port}
-use Rattle.vc_plan.specs.Dependencies.{HasRanks, IsCycle}
+use Rattle.vc_plan.specs.Dependencies.{HasRanks, IsLeastCycle}
 use Rattle.vc_text.specs.declared.fault.RunFault.{RunFault}
 use Rattle.vc_text.specs.declared.fault.RunFault.TheVariants.{Write}
 use Rattle.vc_text.specs.Checking.{ReadsAccepted}
@@ -29,10 +29,10 @@ abbrev pub deadlock_text : Network → Option (List Port) → List ℕ
 deadlock_text plan None = codes "free" ++ newline
 deadlock_text plan (Some ports) = cycle_text plan ports
 
--- no cycle is found where the ports have ranks, and else a cycle
+-- no cycle is found where the ports have ranks, and else the least one
 abbrev pub IsFound : Network → Option (List Port) → Type 0
 IsFound plan None = HasRanks plan
-IsFound plan (Some ports) = IsCycle plan ports
+IsFound plan (Some ports) = IsLeastCycle plan ports
 
 -- The line of an accepted network was written, or a front of it before a fault of the writer; else nothing was. The answer is whether
 -- the network is free.

@@ -35,7 +35,7 @@ returns-in-Ok-write_cycle g c =
       p,
       found,
       c.in_ok-accepted.ensures,
-      (rw c.in-Some.is at c.in_ok-find_cycle.ensures.cycle).cycle,
+      rw c.in-Some.is at c.in_ok-find_cycle.ensures.cycle,
       refl,
       written old new c.plan.result.now p c.as_slice.result.now c.in-Some.ports.items c.write_cycle.result (Ok c.in-Ok-write_cycle.field-0) c.plan.ensures.plan c.as_slice.ensures.value
           c.in-Ok-write_cycle.is c.write_cycle.ensures,
@@ -47,6 +47,6 @@ returns g c =
     let found = Some c.in-Some.ports.items in
     let old = g.W.Write.contents c.args.writer.now in
     let new = g.W.Write.contents c.write_cycle.new.writer in
-    untold (g.R.Read.remaining c.args.reader.now) old new p found c.in-Err-write_cycle.fault c.in_ok-accepted.ensures (rw c.in-Some.is at c.in_ok-find_cycle.ensures.cycle).cycle
+    untold (g.R.Read.remaining c.args.reader.now) old new p found c.in-Err-write_cycle.fault c.in_ok-accepted.ensures (rw c.in-Some.is at c.in_ok-find_cycle.ensures.cycle)
     (written old new c.plan.result.now p c.as_slice.result.now c.in-Some.ports.items c.write_cycle.result (Err c.in-Err-write_cycle.fault) c.plan.ensures.plan c.as_slice.ensures.value
     c.in-Err-write_cycle.is c.write_cycle.ensures)
