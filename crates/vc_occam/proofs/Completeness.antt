@@ -13,7 +13,7 @@ use Rattle.vc_occam.specs.Traces.{Comm, In, End, Open, Ended, set, join, both_en
 use Rattle.vc_occam.proofs.Keeping.{begins}
 use Rattle.vc_occam.proofs.Receiving.{received_sent}
 use Rattle.vc_occam.proofs.Rests.{join_same}
-use Rattle.vc_occam.proofs.Weaving.{Run, still, quiet, tells, then_is, turns_is, index_is, left_is, thens, then_run, turning, turns_run, append, both, weave}
+use Rattle.vc_occam.proofs.Weaving.{offers, finishes, takes, chooses, stops, Run, still, quiet, tells, then_is, turns_is, index_is, left_is, thens, then_run, turning, turns_run, append, both, weave}
 
 -- a process at first has not ended
 and_then_goes : (r : Rest) (ps : Procs) → (r ≡ Done → ⊥) → and_then r ps ≡ Done → ⊥
@@ -37,10 +37,10 @@ begin_goes (COUNT i v a n p) h = absurd cc
 begin_goes (ALT i gs) h = absurd cc
 
 -- steps that make a list of communications, to an end
-record Makes (s : State) (t : List Comm) (x : End) : Type 0 where
-  last : State
-  run : Run s t last
-  ends : EndsAs last x
+pub record Makes (s : State) (t : List Comm) (x : End) : Type 0 where
+  pub last : State
+  pub run : Run s t last
+  pub ends : EndsAs last x
 
 abbrev from : Rest → Store → State
 from r e = record { rest = r; store = e }
@@ -88,17 +88,17 @@ of_others : {b : Test} {c v : ℕ} {p : Proc} {gs : Guards} {e : Store} {t : Lis
 of_others (choice at h k m) = choice (later at) h k m
 
 by_choice : (i : ℕ) {gs : Guards} {e : Store} {t : List Comm} {x : End} → Decided gs e → Choice gs e t x → Makes (from (Fresh (ALT i gs)) e) t x
-by_choice i {e = e} d (choice {v = v} {x = x} at h k m) = record { last = m.last; run = tells (does_choose {m = message x} d at h (sym (received_sent x (e v) k))) m.run; ends = m.ends }
+by_choice i {e = e} d (choice {v = v} {x = x} at h k m) = record { last = m.last; run = tells (chooses refl) (does_choose {m = message x} d at h (sym (received_sent x (e v) k))) m.run; ends = m.ends }
 
 mutual
-  made : {p : Proc} {e : Store} {t : List Comm} {x : End} → Trace p e t x → Lawfully p → Makes (at_first p e) t x
+  pub made : {p : Proc} {e : Store} {t : List Comm} {x : End} → Trace p e t x → Lawfully p → Makes (at_first p e) t x
   made {p} {e} cut l = record { last = at_first p e; run = still; ends = tt }
   made {e = e} skip l = record { last = from Done e; run = quiet does_skip still; ends = (refl, refl) }
   made (assign {v = v} {e = e} {x = x} q) l = record { last = from Done (set e v x); run = quiet (does_assign q) still; ends = (refl, refl) }
-  made (begin_out q) l = record { last = _; run = tells (does_offer q) still; ends = tt }
-  made (out {e = e} q) l = record { last = from Done e; run = tells (does_offer q) (tells does_finish still); ends = (refl, refl) }
-  made (input {v = v} {e = e} {x = x} k) l = record { last = from Done (set e v x); run = tells (does_input {m = message x} (sym (received_sent x (e v) k))) still; ends = (refl, refl) }
-  made {e = e} stop_chan l = record { last = from Done e; run = tells does_stop still; ends = (refl, refl) }
+  made (begin_out q) l = record { last = _; run = tells offers (does_offer q) still; ends = tt }
+  made (out {e = e} q) l = record { last = from Done e; run = tells offers (does_offer q) (tells finishes does_finish still); ends = (refl, refl) }
+  made (input {v = v} {e = e} {x = x} k) l = record { last = from Done (set e v x); run = tells (takes refl) (does_input {m = message x} (sym (received_sent x (e v) k))) still; ends = (refl, refl) }
+  made {e = e} stop_chan l = record { last = from Done e; run = tells stops does_stop still; ends = (refl, refl) }
   made (seq {ps = no_parts} {e = e} seq_end) l = record { last = from Done e; run = quiet does_empty_seq still; ends = (refl, refl) }
   made (seq {ps = part p ps} q) l = made_seq q l
   made (par {ps = no_parts} {e = e} par_end) l = record { last = from Done e; run = quiet does_empty_par still; ends = (refl, refl) }
@@ -147,7 +147,7 @@ mutual
 as_steps : {s t : State} {ks : List Comm} → Run s ks t → Steps s ks t
 as_steps still = no_more
 as_steps (quiet st h) = one_more st (as_steps h)
-as_steps (tells st h) = one_more st (as_steps h)
+as_steps (tells w st h) = one_more st (as_steps h)
 
 pub traces_are_made_by_steps : TracesAreMadeBySteps
 traces_are_made_by_steps p e ks x l h = let m = made h l in record { last = m.last; steps = as_steps m.run; ends = m.ends }

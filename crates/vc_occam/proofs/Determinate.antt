@@ -150,7 +150,7 @@ getting_on {c = c} (in_left {r = r} {q = q} st) = or_left (inputs_rest r c) (inp
 getting_on {c = c} (in_right {r = r} {q = q} st) = or_right (inputs_rest r c) (inputs_rest q c) (getting_on st)
 
 -- by lawful use one site only waits for a channel's output to be finished, and one for a message
-finishing_one : {r r' r'' : Rest} {e e' e'' : Store} {i j c d : ℕ} → Step r e i Finish (Fin c ∷ []) r' e' → Step r e j Finish (Fin d ∷ []) r'' e'' → c ≡ d → UsesLawfully r → i ≡ j
+pub finishing_one : {r r' r'' : Rest} {e e' e'' : Store} {i j c d : ℕ} → Step r e i Finish (Fin c ∷ []) r' e' → Step r e j Finish (Fin d ∷ []) r'' e'' → c ≡ d → UsesLawfully r → i ≡ j
 finishing_one does_finish does_finish on u = refl
 finishing_one (in_then st) (in_then st') on u = finishing_one st st' on u.0
 finishing_one (in_turns st) (in_turns st') on u = finishing_one st st' on u.0

@@ -6,6 +6,7 @@ pub mod Besides
 pub mod Blocks
 pub mod Checked
 pub mod ProcessStep
+pub mod Exchanges
 pub mod Fitting
 pub mod Found
 pub mod Frames
@@ -16,6 +17,7 @@ pub mod Inside
 pub mod Keeping
 pub mod Kinded
 pub mod Law
+pub mod Listing
 pub mod Made
 pub mod Meets
 pub mod Making
@@ -40,6 +42,7 @@ pub mod Waited
 pub mod Weaving
 pub mod Ending
 pub mod Used
+pub mod Commuting
 pub mod Completeness
 pub mod Counts
 pub mod Balance

@@ -412,7 +412,7 @@ output_chan_same : (j i d c : ℕ) → output j d ≡ output i c → d ≡ c
 output_chan_same j i d c h = cc
 
 -- an output that waits can be finished
-finishes : (r : Rest) (e : Store) (i c : ℕ) → Contains (waiting r) (output i c) → (q : Rest) × (f : Store) × Step r e i action.Finish (Fin c ∷ []) q f
+pub finishes : (r : Rest) (e : Store) (i c : ℕ) → Contains (waiting r) (output i c) → (q : Rest) × (f : Store) × Step r e i action.Finish (Fin c ∷ []) q f
 finishes Done e i c h = absurd (none (output i c) h)
 finishes (Stopped s) e i c h = absurd (none (output i c) h)
 finishes (Fresh p) e i c h = absurd (none (output i c) h)

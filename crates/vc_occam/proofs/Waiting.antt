@@ -49,12 +49,12 @@ mutual
   begin_all_waits no_parts = refl
   begin_all_waits (part p ps) = both_wait (begin_waits p) (begin_all_waits ps)
 
-then_waits : (r : Rest) (ps : Procs) → waiting (then_on r ps) ≡ waiting r
+pub then_waits : (r : Rest) (ps : Procs) → waiting (then_on r ps) ≡ waiting r
 then_waits Done no_parts = refl
 then_waits Done (part p ps) = and_then_waits (begin p) ps ∙ begin_waits p
 then_waits r ps = refl
 
-turns_waits : (r : Rest) (v : ℕ) (b : ℤ) (n : ℕ) (p : Proc) → waiting (turns_on r v b n p) ≡ waiting r
+pub turns_waits : (r : Rest) (v : ℕ) (b : ℤ) (n : ℕ) (p : Proc) → waiting (turns_on r v b n p) ≡ waiting r
 turns_waits Done v b zero p = refl
 turns_waits Done v b (suc n) p = begin_waits p
 turns_waits r v b n p = refl

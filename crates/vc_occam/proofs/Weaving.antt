@@ -1,10 +1,12 @@
 -- Steps one after another: those of a part lift to what it is a part of, and those of two parts side by side are woven together.
-use Rattle.std.proofs.Common.{◌≡◌, ℕ, ℤ, Bool, true, false, not, refl, sym, ap, subst, ◌∙◌, List, [], ◌∷◌, ◌++◌, if◌then◌else◌, eqb, arith}
+use Rattle.std.proofs.Common.{◌≡◌, ℕ, ℤ, Bool, true, false, not, refl, sym, ap, subst, ◌∙◌, List, [], ◌∷◌, ◌++◌, Some, if◌then◌else◌, eqb, arith}
 use Rattle.std.proofs.lemmas.Bool.Decides.{nat_tests}
 use Rattle.vc_process.specs.declared.datum.Datum.{Datum}
 use Rattle.vc_occam.specs.declared.site_action.SiteAction.{SiteAction}
+use Rattle.vc_occam.specs.declared.site_action.SiteAction.TheVariants as action
+use Rattle.vc_process.specs.Messages.{message}
 use Rattle.vc_occam.specs.States.{State, StepsTo}
-use Rattle.vc_occam.specs.Traces.{Comm, set, Merge, neither, from_left, from_right, join}
+use Rattle.vc_occam.specs.Traces.{Comm, Out, Fin, In, Stp, set, Merge, neither, from_left, from_right, join}
 use Rattle.vc_occam.specs.Remains.{Rest, Done, Stopped, Fresh, Finishing, Getting, Then, Turns, Beside, then_on, turns_on, index_on, beside_on, Step, in_then, in_turns, in_left, in_right, changes_rest, uses_rest, Apart}
 use Rattle.vc_process.specs.Syntax.{Proc, Procs}
 use Rattle.vc_process.specs.Usage.{Set}
@@ -15,14 +17,22 @@ use Rattle.vc_occam.proofs.Shrinking.{step_in}
 use Rattle.vc_occam.proofs.Sites.{clash, not_true}
 use Rattle.vc_occam.proofs.Stores.{same_store}
 
+-- what is done at once where this is communicated: an input has its message, that of the value that it gets
+pub data Speaks : SiteAction → Comm → Type 0 where
+  offers : {c : ℕ} {x : Datum} → Speaks (action.Offer c) (Out c x)
+  finishes : {c : ℕ} → Speaks action.Finish (Fin c)
+  takes : {c : ℕ} {m : List ℕ} {x : Datum} → m ≡ message x → Speaks (action.Want c (Some m)) (In c x)
+  chooses : {k c : ℕ} {m : List ℕ} {x : Datum} → m ≡ message x → Speaks (action.Choose k c (Some m)) (In c x)
+  stops : {c : ℕ} → Speaks (action.StopChannel c) (Stp c)
+
 -- steps one after another, each of which communicates nothing or once
 pub data Run : State → List Comm → State → Type 0 where
   still : {s : State} → Run s [] s
-  quiet : {s t u : State} {i : ℕ} {d : SiteAction} {ks : List Comm} → StepsTo s i d [] t → Run t ks u → Run s ks u
-  tells : {s t u : State} {i : ℕ} {d : SiteAction} {k : Comm} {ks : List Comm} → StepsTo s i d (k ∷ []) t → Run t ks u → Run s (k ∷ ks) u
+  quiet : {s t u : State} {i : ℕ} {ks : List Comm} → StepsTo s i action.Quiet [] t → Run t ks u → Run s ks u
+  tells : {s t u : State} {i : ℕ} {d : SiteAction} {k : Comm} {ks : List Comm} → Speaks d k → StepsTo s i d (k ∷ []) t → Run t ks u → Run s (k ∷ ks) u
 
 -- what steps has not ended
-goes : {r r' : Rest} {e e' : Store} {i : ℕ} {d : SiteAction} {m : List Comm} → Step r e i d m r' e' → r ≡ Done → ⊥
+pub goes : {r r' : Rest} {e e' : Store} {i : ℕ} {d : SiteAction} {m : List Comm} → Step r e i d m r' e' → r ≡ Done → ⊥
 goes {r = Done} st h = elim st [ ]
 goes {r = Stopped i} st h = absurd cc
 goes {r = Fresh p} st h = absurd cc
@@ -48,9 +58,13 @@ pub left_is : (mine : Set) (r q : Rest) → (r ≡ Done → ⊥) → Beside mine
 left_is mine Done q h = absurd (h refl)
 left_is mine r q h = refl
 
-right_is : (mine : Set) (r q : Rest) → (q ≡ Done → ⊥) → Beside mine r q ≡ beside_on mine r q
+pub right_is : (mine : Set) (r q : Rest) → (q ≡ Done → ⊥) → Beside mine r q ≡ beside_on mine r q
 right_is mine Done Done h = absurd (h refl)
 right_is mine r q h = refl
+
+pub beside_is : (mine : Set) (r q : Rest) → (beside_on mine r q ≡ Done → ⊥) → Beside mine r q ≡ beside_on mine r q
+beside_is mine Done Done h = absurd (h refl)
+beside_is mine r q h = refl
 
 -- inside a SEQ, and inside a replicated SEQ
 abbrev pub thens : Procs → State → State
@@ -59,15 +73,15 @@ thens ps s = record { rest = then_on s.rest ps; store = s.store }
 abbrev pub turning : ℕ → ℤ → ℕ → Proc → State → State
 turning v b n p s = record { rest = turns_on s.rest v b n p; store = index_on s.rest v b n s.store }
 
-then_step : (ps : Procs) {s t : State} {i : ℕ} {d : SiteAction} {m : List Comm} → StepsTo s i d m t → StepsTo (thens ps s) i d m (thens ps t)
+pub then_step : (ps : Procs) {s t : State} {i : ℕ} {d : SiteAction} {m : List Comm} → StepsTo s i d m t → StepsTo (thens ps s) i d m (thens ps t)
 then_step ps {s} {t} {i} {d} {m} st = subst (λ r. Step r s.store i d m (then_on t.rest ps) t.store) (then_is s.rest ps (goes st)) (in_then st)
 
 pub then_run : (ps : Procs) {s t : State} {ks : List Comm} → Run s ks t → Run (thens ps s) ks (thens ps t)
 then_run ps still = still
 then_run ps (quiet st h) = quiet (then_step ps st) (then_run ps h)
-then_run ps (tells st h) = tells (then_step ps st) (then_run ps h)
+then_run ps (tells w st h) = tells w (then_step ps st) (then_run ps h)
 
-turns_step : (v : ℕ) (b : ℤ) (n : ℕ) (p : Proc) {s t : State} {i : ℕ} {d : SiteAction} {m : List Comm} → StepsTo s i d m t → StepsTo (turning v b n p s) i d m (turning v b n p t)
+pub turns_step : (v : ℕ) (b : ℤ) (n : ℕ) (p : Proc) {s t : State} {i : ℕ} {d : SiteAction} {m : List Comm} → StepsTo s i d m t → StepsTo (turning v b n p s) i d m (turning v b n p t)
 turns_step v b n p {s} {t} {i} {d} {m} st =
     subst (λ r. Step r (index_on s.rest v b n s.store) i d m (turns_on t.rest v b n p) (index_on t.rest v b n t.store)) (turns_is s.rest v b n p (goes st))
     (subst (λ e. Step (Turns s.rest v b n p) e i d m (turns_on t.rest v b n p) (index_on t.rest v b n t.store)) (index_is s.rest v b n s.store (goes st)) (in_turns st))
@@ -75,12 +89,12 @@ turns_step v b n p {s} {t} {i} {d} {m} st =
 pub turns_run : (v : ℕ) (b : ℤ) (n : ℕ) (p : Proc) {s t : State} {ks : List Comm} → Run s ks t → Run (turning v b n p s) ks (turning v b n p t)
 turns_run v b n p still = still
 turns_run v b n p (quiet st h) = quiet (turns_step v b n p st) (turns_run v b n p h)
-turns_run v b n p (tells st h) = tells (turns_step v b n p st) (turns_run v b n p h)
+turns_run v b n p (tells w st h) = tells w (turns_step v b n p st) (turns_run v b n p h)
 
 pub append : {s t u : State} {ks ls : List Comm} → Run s ks t → Run t ls u → Run s (ks ++ ls) u
 append still g = g
 append (quiet st h) g = quiet st (append h g)
-append (tells st h) g = tells st (append h g)
+append (tells w st h) g = tells w st (append h g)
 
 -- two parts side by side, each over variables of its own
 abbrev pub both : Set → State → State → State
@@ -137,7 +151,7 @@ write_right mine (w ∷ ws) e f a =
     ∙ write_right mine ws e (set f w.0 w.1) a.1
 
 -- a variable that is not among those written keeps what it holds
-kept : (s : Set) (ws : Written) (e : Store) (v : ℕ) → s v ≡ false → AllIn s ws → write ws e v ≡ e v
+pub kept : (s : Set) (ws : Written) (e : Store) (v : ℕ) → s v ≡ false → AllIn s ws → write ws e v ≡ e v
 kept s [] e v h a = refl
 kept s (w ∷ ws) e v h a =
     kept s ws (set e w.0 w.1) v h a.1 ∙ ap (λ (b : Bool). if b then w.1 else e v) (not_true (eqb w.0 v) (λ q. clash (sym (ap s (eqb_is w.0 v q)) ∙ a.0) h))
@@ -185,20 +199,20 @@ right_step mine s {t} {t'} {i} {d} {m} h st =
 alone : (mine : Set) (s : State) {t t' : State} {ls u : List Comm} → Run t ls t' → Merge [] ls u → Fit mine s t → Run (both mine s t) u (both mine s t')
 alone mine s still neither h = still
 alone mine s {t} (quiet st g) m h = let l = right_step mine s h st in quiet l.step (alone mine s g m l.fit)
-alone mine s {t} (tells st g) (from_right m) h = let l = right_step mine s h st in tells l.step (alone mine s g m l.fit)
+alone mine s {t} (tells w st g) (from_right m) h = let l = right_step mine s h st in tells w l.step (alone mine s g m l.fit)
 
 -- the first goes on from where it communicates next
 abbrev GoesOn : Set → State → State → State → List Comm → Type 0
 GoesOn mine s s' t' ks = (t : State) (ls u : List Comm) → Run t ls t' → Merge ks ls u → Fit mine s t → Run (both mine s t) u (both mine s' t')
 
-next : (mine : Set) {s r : State} (s' t' : State) {t : State} {i : ℕ} {d : SiteAction} {k : Comm} {ks ls u : List Comm} → StepsTo s i d (k ∷ []) r → GoesOn mine r s' t' ks → Run t ls t' → Merge (k ∷ ks) ls u → Fit mine s t → Run (both mine s t) u (both mine s' t')
-next mine s' t' {t} {ls = ls} st f still (from_left {u = u} m) h = let l = left_step mine t h st in tells l.step (f t ls u still m l.fit)
-next mine {s} s' t' st f (quiet st' g) m h = let l = right_step mine s h st' in quiet l.step (next mine s' t' st f g m l.fit)
-next mine s' t' {t} {ls = ls} st f (tells st' g) (from_left {u = u} m) h = let l = left_step mine t h st in tells l.step (f t ls u (tells st' g) m l.fit)
-next mine {s} s' t' st f (tells st' g) (from_right m) h = let l = right_step mine s h st' in tells l.step (next mine s' t' st f g m l.fit)
+next : (mine : Set) {s r : State} (s' t' : State) {t : State} {i : ℕ} {d : SiteAction} {k : Comm} {ks ls u : List Comm} → Speaks d k → StepsTo s i d (k ∷ []) r → GoesOn mine r s' t' ks → Run t ls t' → Merge (k ∷ ks) ls u → Fit mine s t → Run (both mine s t) u (both mine s' t')
+next mine s' t' {t} {ls = ls} w st f still (from_left {u = u} m) h = let l = left_step mine t h st in tells w l.step (f t ls u still m l.fit)
+next mine {s} s' t' w st f (quiet st' g) m h = let l = right_step mine s h st' in quiet l.step (next mine s' t' w st f g m l.fit)
+next mine s' t' {t} {ls = ls} w st f (tells w' st' g) (from_left {u = u} m) h = let l = left_step mine t h st in tells w l.step (f t ls u (tells w' st' g) m l.fit)
+next mine {s} s' t' w st f (tells w' st' g) (from_right m) h = let l = right_step mine s h st' in tells w' l.step (next mine s' t' w st f g m l.fit)
 
 -- the steps of two parts make any merge of their communications
 pub weave : (mine : Set) {s s' t t' : State} {ks ls u : List Comm} → Run s ks s' → Run t ls t' → Merge ks ls u → Fit mine s t → Run (both mine s t) u (both mine s' t')
 weave mine {s} still g m h = alone mine s g m h
 weave mine {t = t} (quiet st f) g m h = let l = left_step mine t h st in quiet l.step (weave mine f g m l.fit)
-weave mine {s' = s'} {t' = t'} (tells st f) g m h = next mine s' t' st (λ t ls u g m h. weave mine f g m h) g m h
+weave mine {s' = s'} {t' = t'} (tells w st f) g m h = next mine s' t' w st (λ t ls u g m h. weave mine f g m h) g m h

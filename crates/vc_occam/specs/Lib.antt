@@ -1,5 +1,6 @@
 pub mod Blocking
 pub mod Completeness
+pub mod Exchanges
 pub mod First
 pub mod Frames
 pub mod Gates

@@ -1,5 +1,6 @@
 //! Laws of running processes. A law is a function that does nothing, whose contract is the law.
 ghost use Rattle.vc_occam.specs.Completeness.{TracesAreMadeBySteps};
+ghost use Rattle.vc_occam.specs.Exchanges.{ExchangesAreMeetings};
 ghost use Rattle.vc_occam.specs.InUse.{LawfulAtFirst, StepsKeepUse, DoingKeepsUse, DoingIsTraced};
 ghost use Rattle.vc_occam.specs.Laws.{SitesAreOwnAtFirst, StepsKeepSites, DoingKeepsSites, ListedMovesCanBeMade, WaitingAfter};
 ghost use Rattle.vc_occam.specs.Remains.{StepsAreTraces};
@@ -14,6 +15,12 @@ pub fn steps_are_traces()
 /// remains and the variables hold what it leaves. With [`steps_are_traces`] the two meanings of a process agree.
 pub fn traces_are_made_by_steps()
     ensures { TracesAreMadeBySteps }
+{}
+
+/// Each trace of a lawful process whose channels are all inside its node, where each output is directly followed by the input that
+/// gets its message and by its own end, is made by moves that are listed: meetings, stops and steps without a communication.
+pub fn exchanges_are_meetings()
+    ensures { ExchangesAreMeetings }
 {}
 
 /// A process that uses its channels and variables lawfully does so at first and after whatever it does. So what it does, followed

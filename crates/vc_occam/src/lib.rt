@@ -13,7 +13,8 @@
 //!
 //! Laws of the definitions, for every word of the language, stand in `laws.rt`: where parts side by side keep their variables apart,
 //! what a step makes, followed by any trace of what remains, is a trace of what remained before; each trace of a lawful process is
-//! made by steps, so its two meanings agree (`specs/Completeness`); no step loses lawful use; each listed move can be made; an output
+//! made by steps, so its two meanings agree (`specs/Completeness`), and by meetings alone where all its channels
+//! are inside its node (`specs/Exchanges`); no step loses lawful use; each listed move can be made; an output
 //! or input that begins waits until it is finished or has its message.
 //!
 //! A process runs as a tree of frames (`frame.rt`), one for each process that is written, with how far it is and at which part;
@@ -56,8 +57,8 @@ mod waits;
 pub use answer::Answer;
 pub use blocked::Blocked;
 pub use laws::{
-    lawful_use_is_kept, listed_moves_can_be_made, sites_are_own, steps_are_traces,
-    traces_are_made_by_steps, waiting_after,
+    exchanges_are_meetings, lawful_use_is_kept, listed_moves_can_be_made, sites_are_own,
+    steps_are_traces, traces_are_made_by_steps, waiting_after,
 };
 pub use moves::Move;
 pub use running::Running;
