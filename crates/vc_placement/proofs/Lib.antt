@@ -8,6 +8,7 @@ pub mod Linearizability
 pub mod Interleavings
 pub mod Networks
 pub mod OneNode
+pub mod Running
 pub mod SameProgram
 pub mod Kept
 pub mod LawfulKept

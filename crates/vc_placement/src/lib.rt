@@ -1,5 +1,5 @@
 //! Placement is invisible: whatever the network of an accepted plan did, one transputer that runs the same processes side by side, with
-//! every channel inside it, could have done, message for message. Definitions and laws.
+//! every channel inside it, can do, message for message, and its network runs it. Definitions and laws.
 //!
 //! What the nodes communicated is a history in the sense of Herlihy and Wing (1990), whose objects are channels. A channel on a wire
 //! holds an output until it is taken and finished. A linearization of the history lets each message be output, input and finished at
@@ -9,7 +9,7 @@
 
 ghost use Rattle.vc_placement.specs.Fits.{OneNodeIsAccepted, OnlySizesRefuseIt};
 ghost use Rattle.vc_placement.specs.Linearization.{EveryHistoryLinearizes};
-ghost use Rattle.vc_placement.specs.OneNode.{OneNodeCanDoIt};
+ghost use Rattle.vc_placement.specs.OneNode.{OneNodeCanDoIt, OneNodeRunsIt};
 ghost use Rattle.vc_placement.specs.Parallel.{AllIsOneTrace};
 ghost use Rattle.vc_placement.specs.Placement.{PlacementIsInvisible};
 ghost use Rattle.vc_placement.specs.SameProgram.{OneProgramOneMeaning};
@@ -35,6 +35,12 @@ pub fn placement_is_invisible()
 /// message for message, and it has ended where all processes have.
 pub fn one_node_can_do_it()
     ensures { OneNodeCanDoIt }
+{}
+
+/// Where the plan of one node is accepted, its network runs what the other's did: there are events, from its opening state on, to a
+/// state in which each channel shows what was completed there, and its process has ended where all processes have.
+pub fn one_node_runs_it()
+    ensures { OneNodeRunsIt }
 {}
 
 /// Of two plans of one program, with other wires, switches, labels and homes of channels: what a node of the one can perform, the node

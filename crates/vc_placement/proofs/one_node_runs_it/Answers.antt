@@ -1,0 +1,5 @@
+use Rattle.vc_placement.proofs.Running.{one_node_runs}
+use Rattle.vc_placement.proofs.one_node_runs_it.Goals as goal
+
+pub returns : goal.returns
+returns c = one_node_runs
