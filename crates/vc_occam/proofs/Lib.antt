@@ -47,6 +47,7 @@ pub mod Completeness
 pub mod Counts
 pub mod Balance
 pub mod Prefixes
+pub mod Halting
 pub mod Independence
 pub mod Responses
 pub mod Receiving

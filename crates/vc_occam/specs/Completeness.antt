@@ -1,6 +1,7 @@
--- Traces and steps say the same: whatever a lawful process may communicate, it makes by steps.
+-- Traces and steps say the same: what a lawful process may communicate is what it makes by steps.
 use Rattle.std.specs.Prelude.{◌≡◌, ℕ, List, [], ◌++◌}
 use Rattle.vc_occam.specs.declared.site_action.SiteAction.{SiteAction}
+use Rattle.vc_occam.specs.NodeTraces.{so_far}
 use Rattle.vc_occam.specs.Remains.{Done, begin}
 use Rattle.vc_occam.specs.States.{State, StepsTo}
 use Rattle.vc_occam.specs.Traces.{Comm, End, Open, Ended, Trace}
@@ -31,3 +32,7 @@ pub record IsMadeBySteps (s : State) (ks : List Comm) (x : End) : Type 0 where
 -- each trace of a process that uses its channels and variables lawfully is made by steps
 abbrev pub TracesAreMadeBySteps : Type 0
 TracesAreMadeBySteps = (p : Proc) (e : Store) (ks : List Comm) (x : End) → Lawfully p → Trace p e ks x → IsMadeBySteps (at_first p e) ks x
+
+-- and whatever its steps make is a trace of it: ended where nothing remains, and cut off where something does
+abbrev pub StepsMakeTraces : Type 0
+StepsMakeTraces = (p : Proc) (e : Store) (ks : List Comm) (s : State) → Lawfully p → Steps (at_first p e) ks s → Trace p e ks (so_far s.rest s.store)

@@ -1,5 +1,5 @@
 //! Laws of running processes. A law is a function that does nothing, whose contract is the law.
-ghost use Rattle.vc_occam.specs.Completeness.{TracesAreMadeBySteps};
+ghost use Rattle.vc_occam.specs.Completeness.{StepsMakeTraces, TracesAreMadeBySteps};
 ghost use Rattle.vc_occam.specs.Exchanges.{ExchangesAreMeetings};
 ghost use Rattle.vc_occam.specs.InUse.{LawfulAtFirst, StepsKeepUse, DoingKeepsUse, DoingIsTraced};
 ghost use Rattle.vc_occam.specs.Laws.{SitesAreOwnAtFirst, StepsKeepSites, DoingKeepsSites, ListedMovesCanBeMade, WaitingAfter};
@@ -11,10 +11,12 @@ pub fn steps_are_traces()
     ensures { StepsAreTraces }
 {}
 
-/// Each trace of a process that uses its channels and variables lawfully is made by steps, and where the trace has ended nothing
-/// remains and the variables hold what it leaves. With [`steps_are_traces`] the two meanings of a process agree.
+/// What a process that uses its channels and variables lawfully may communicate is exactly what its steps make. Each of its traces is
+/// made by steps, and where the trace has ended nothing remains and the variables hold what it leaves. What steps make is a trace,
+/// which has ended where nothing remains and is cut off where something does.
 pub fn traces_are_made_by_steps()
-    ensures { TracesAreMadeBySteps }
+    ensures made { TracesAreMadeBySteps }
+    ensures no_others { StepsMakeTraces }
 {}
 
 /// Each trace of a lawful process whose channels are all inside its node, where each output is directly followed by the input that
