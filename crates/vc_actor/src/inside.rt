@@ -3,19 +3,20 @@ ghost use Rattle.std.specs.Prelude.{◌≡◌, ◌<◌, ◌≤◌, ◌↔◌, []
 ghost use Rattle.vc_actor.specs.Inside.{IsOpen};
 ghost use Rattle.vc_actor.specs.Private.Inside.{exchanged_on, stopped_on, opened_inside, opened_internal};
 ghost use Rattle.vc_actor.specs.Shown.{views_of};
+ghost use Rattle.vc_blocks.specs.Listed.{listed};
 ghost use Rattle.vc_vcp.specs.Keyed.{named, NamesDiffer};
 
-use sqlite_items::Items;
 use std::alloc::Global;
 use std::marker::Model;
-use vc_packets::{Bytes, Memory};
+use vc_blocks::{MessageLog, Messages};
+use vc_packets::Memory;
 use vc_plan::{Channel, Home};
 
 /// A channel inside a node: the messages that went over it, and whether it is stopped.
 #[derive(Drop)]
 pub(crate) struct Internal {
     pub(crate) chan: u16,
-    pub(crate) messages: Items<Bytes>,
+    pub(crate) messages: MessageLog,
     pub(crate) stopped: bool,
 }
 
@@ -61,7 +62,7 @@ impl Inside {
     {
         let channel = Internal {
             chan,
-            messages: Items::new(alloc),
+            messages: MessageLog::new(alloc),
             stopped: false,
         };
         self.channels.push(channel)?;
@@ -86,18 +87,17 @@ impl Inside {
     }
 
     /// A message is offered, taken and finished at once.
-    pub(crate) fn exchange(&mut self, chan: u16, message: Bytes) -> Result<(), Memory>
+    pub(crate) fn exchange(&mut self, chan: u16, message: &[u8]) -> Result<(), Memory>
         requires { IsOpen self.old chan }
         ensures ok { OnOk result
-            (views_of self.new ≡ exchanged_on (views_of self.old) chan message) }
+            (views_of self.new ≡ exchanged_on (views_of self.old) chan message.now) }
         ensures err { OnErr result (self.new ≡ self.old) }
         ensures names { (c : ℕ) →
             IsSome (named (λ x. x.chan) c self.new) ↔ IsSome (named (λ x. x.chan) c self.old) }
     {
         match self.place(chan) {
             Some(at) => {
-                self.channels[at].messages.push(message)?;
-                Ok(())
+                self.channels[at].messages.push(message)
             }
             None => unreachable!(),
         }
@@ -117,12 +117,12 @@ impl Inside {
     }
 
     /// The messages that went over a channel, the first one first; none where the node does not have it.
-    pub(crate) fn messages(&self, chan: u16) -> &[Bytes]
-        ensures { result.now ≡ (views_of self.now chan).taken }
+    pub(crate) fn messages(&self, chan: u16) -> Messages<'_>
+        ensures { listed result ≡ (views_of self.now chan).taken }
     {
         match self.place(chan) {
-            Some(at) => self.channels[at].messages.as_slice(),
-            None => &[],
+            Some(at) => Messages::of(&self.channels[at].messages),
+            None => Messages::none(),
         }
     }
 

@@ -1,6 +1,7 @@
 //! A node: its process, and the virtual channel processor that carries its channels.
 ghost use Rattle.std.specs.Prelude.{◌≡◌, ◌≢◌, ◌<◌, ◌≤◌, ◌↔◌, ◌++◌, ℕ, [], length, true, false, Option, Some, None, IsTrue, IfOk, IfSome, OnOk, OnErr};
 ghost use Rattle.std.specs.List.{Contains};
+ghost use Rattle.vc_blocks.specs.Listed.{listed};
 ghost use Rattle.vc_occam.specs.Blocking.{blocked as blocked_at};
 ghost use Rattle.vc_occam.specs.Remains.{Done};
 ghost use Rattle.vc_occam.specs.Runnings.{inner_channels, moves as moves_of, state};
@@ -31,6 +32,7 @@ use crate::inside::Inside;
 use crate::room::has_room;
 use sqlite_items::Items;
 use std::alloc::Global;
+use vc_blocks::Messages;
 use vc_occam::{Answer, Blocked, Move, Running};
 use vc_packets::{Bytes, Memory, Packet};
 use vc_tokens::Token;
@@ -231,8 +233,8 @@ impl Node {
     }
 
     /// The messages offered on a channel here, the first one first.
-    pub fn offered(&self, chan: u16) -> &[Bytes]
-        ensures { result.now ≡ (node_view self.now chan).offered }
+    pub fn offered(&self, chan: u16) -> Messages<'_>
+        ensures { listed result ≡ (node_view self.now chan).offered }
     {
         if self.inside.has(chan) {
             self.inside.messages(chan)
@@ -242,8 +244,8 @@ impl Node {
     }
 
     /// The messages taken on a channel here, the first one first.
-    pub fn taken(&self, chan: u16) -> &[Bytes]
-        ensures { result.now ≡ (node_view self.now chan).taken }
+    pub fn taken(&self, chan: u16) -> Messages<'_>
+        ensures { listed result ≡ (node_view self.now chan).taken }
     {
         if self.inside.has(chan) {
             self.inside.messages(chan)
@@ -462,8 +464,7 @@ impl Node {
         let Some(message) = self.process.value(made)? else {
             unreachable!();
         };
-        let copy = Bytes::from_slice(self.alloc, message.as_slice())?;
-        self.inside.exchange(chan, copy)?;
+        self.inside.exchange(chan, message.as_slice())?;
         self.process.act(made, Answer::Got(message))
     }
 

@@ -3,3 +3,5 @@ pub mod Sending
 pub mod Advancing
 pub mod Arriving
 pub mod Carrying
+pub mod Listed
+pub mod Private

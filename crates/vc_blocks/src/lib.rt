@@ -6,10 +6,15 @@
 //! whole, when its last piece was stored (`specs/Carrying`).
 #![tactic(auto)]
 
+mod ends;
 mod in_half;
 mod laws;
+mod message_log;
+mod messages;
 mod out_half;
 
 pub use in_half::{Arrival, InHalf, Want};
 pub use laws::messages_arrive_whole;
+pub use message_log::MessageLog;
+pub use messages::{Messages, MessagesIter};
 pub use out_half::{Advance, OutHalf};

@@ -8,6 +8,7 @@ ghost use Rattle.vc_plan.specs.Accepted.{port_of as side_of};
 ghost use Rattle.vc_plan.specs.declared.channel.Channel.{Channel};
 ghost use Rattle.vc_accepted.specs.NetworkOf.{network_of};
 ghost use Rattle.vc_accepted.specs.Outgoing.{link_port};
+ghost use Rattle.vc_blocks.specs.Listed.{listed};
 ghost use Rattle.vc_packets.specs.Functions.{shown_or};
 ghost use Rattle.vc_network.specs.Plan.{home, IsOutOf};
 ghost use Rattle.vc_network.specs.Views.{view, source_node, sink_node, vcps};
@@ -40,8 +41,9 @@ use crate::way::Way;
 use sqlite_items::{Items, at};
 use std::alloc::Global;
 use vc_actor::{Act, ActKind, Actor, Node, actors, has_room, lowest};
+use vc_blocks::Messages;
 use vc_occam::{Blocked, ValueKind};
-use vc_packets::{Bytes, Memory};
+use vc_packets::Memory;
 use vc_plan::{Accepted, Port, Wire};
 use vc_tokens::Token;
 
@@ -695,28 +697,28 @@ impl Network {
     }
 
     /// The messages offered on a channel, the first one first.
-    pub fn offered(&self, chan: u16) -> &[Bytes]
+    pub fn offered(&self, chan: u16) -> Messages<'_>
         ensures { (p : Plan) →
             IsNetworkOf p (state_of self.now) →
             chan < length p.channels →
-            result.now ≡ (view (network_of p) (shown (state_of self.now)) chan).offered }
+            listed result ≡ (view (network_of p) (shown (state_of self.now)) chan).offered }
     {
         match self.source(chan) {
             Some(node) => node.offered(chan),
-            None => &[],
+            None => Messages::none(),
         }
     }
 
     /// The messages taken on a channel, the first one first.
-    pub fn taken(&self, chan: u16) -> &[Bytes]
+    pub fn taken(&self, chan: u16) -> Messages<'_>
         ensures { (p : Plan) →
             IsNetworkOf p (state_of self.now) →
             chan < length p.channels →
-            result.now ≡ (view (network_of p) (shown (state_of self.now)) chan).taken }
+            listed result ≡ (view (network_of p) (shown (state_of self.now)) chan).taken }
     {
         match self.sink(chan) {
             Some(node) => node.taken(chan),
-            None => &[],
+            None => Messages::none(),
         }
     }
 

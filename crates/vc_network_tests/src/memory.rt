@@ -69,7 +69,7 @@ fn takes_all(alloc: Global, text: &str, messages: &[&[u8]]) -> Result<bool, Fail
                 .taken(0)
                 .iter()
                 .zip(messages)
-                .all(|(taken, message)| taken.as_slice() == *message),
+                .all(|(taken, message)| taken == *message),
     )
 }
 

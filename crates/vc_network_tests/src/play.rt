@@ -1,8 +1,8 @@
 //! Networks whose events are made one by one.
 use std::alloc::Global;
 use std::test::Fail;
+use vc_blocks::Messages;
 use vc_core::{Act, Event, Network};
-use vc_packets::Bytes;
 use vc_plan::Accepted;
 
 /// A network as it goes on, with the events that were made.
@@ -33,12 +33,12 @@ impl Play {
 }
 
 /// Each message is there, in order.
-fn same_messages(left: &[Bytes], right: &[Bytes]) -> bool {
+fn same_messages(left: Messages<'_>, right: Messages<'_>) -> bool {
     left.len() == right.len()
         && left
             .iter()
             .zip(right.iter())
-            .all(|(x, y)| x.as_slice() == y.as_slice())
+            .all(|(x, y)| x == y)
 }
 
 /// Whether two networks show the same of a channel.

@@ -1,6 +1,7 @@
 //! Counts with their names.
 ghost use Rattle.std.specs.Prelude.{◌≡◌, ◌≤◌, ◌++◌, codes, List, OnOk};
 ghost use Rattle.std.specs.List.{flat_map};
+ghost use Rattle.vc_blocks.specs.Listed.{listed};
 ghost use Rattle.vc_core.specs.declared.event.Event.{Event};
 ghost use Rattle.vc_stats.specs.Counting.{AreCounts};
 ghost use Rattle.vc_stats.specs.Fields.{begun_text, bound_text, bytes_of as bytes_in, field_text, figures_text, kind_text, kinds_text, packets_text, puts_text, taken_text, tokens_text, unfinished_text, way_figures_text, whole_text};
@@ -9,7 +10,8 @@ use crate::form::Form;
 use crate::kind::{KINDS, Kind};
 use crate::state_figures::WayFigures;
 use crate::stats::Stats;
-use vc_packets::{Bytes, Memory};
+use vc_blocks::Messages;
+use vc_packets::Memory;
 use vc_plan::{Port, Spot};
 use vc_text::push_number;
 
@@ -193,11 +195,11 @@ pub(crate) fn push_unfinished(
 }
 
 /// How many bytes messages have together.
-fn bytes_of(messages: &[Bytes]) -> u64
-    ensures { result ≡ bytes_in messages.now }
+fn bytes_of(messages: Messages<'_>) -> u64
+    ensures { result ≡ bytes_in (listed messages) }
 {
     let mut bytes = 0u64;
-    for message in messages {
+    for message in messages.iter() {
         bytes = bytes.saturating_add(message.len() as u64);
     }
     bytes
@@ -205,8 +207,12 @@ fn bytes_of(messages: &[Bytes]) -> u64
 
 /// Adds how many messages were taken, and their bytes.
 #[tactic(auto, using(std::proofs::Common::append_assoc))]
-pub(crate) fn push_taken(out: &mut Vec<u8>, form: Form, messages: &[Bytes]) -> Result<(), Memory>
-    ensures { OnOk result (out.new.items ≡ out.old.items ++ taken_text form messages.now) }
+pub(crate) fn push_taken(
+    out: &mut Vec<u8>,
+    form: Form,
+    messages: Messages<'_>,
+) -> Result<(), Memory>
+    ensures { OnOk result (out.new.items ≡ out.old.items ++ taken_text form (listed messages)) }
 {
     push_field(out, form, b"messages", messages.len() as u64)?;
     push_field(out, form, b"bytes", bytes_of(messages))

@@ -1,6 +1,7 @@
 //! A run's traffic as JSON.
 ghost use Rattle.std.specs.Prelude.{◌≡◌, ◌++◌, map, OnOk};
 ghost use Rattle.std.specs.List.{enumerate_from, flat_map};
+ghost use Rattle.vc_blocks.specs.Listed.{listed};
 ghost use Rattle.vc_stats.specs.Json.{channel_json, end_word as word_of_end, kind_json, kind_word as word_of_kind, message_json, messages_json, stop_json, traffic_json, value_json};
 ghost use Rattle.vc_text.specs.Views.{shown};
 
@@ -8,9 +9,10 @@ use crate::fields::push_field;
 use crate::form::Form;
 use crate::json::{push_comma, push_named};
 use std::alloc::Global;
+use vc_blocks::Messages;
 use vc_core::Close;
 use vc_occam::ValueKind;
-use vc_packets::{Bytes, Memory};
+use vc_packets::Memory;
 use vc_text::{ChannelView, push_value};
 
 /// Bytes as a text of hexadecimal digits.
@@ -61,13 +63,13 @@ fn push_messages(
     alloc: Global,
     out: &mut Vec<u8>,
     kind: ValueKind,
-    messages: &[Bytes],
+    messages: Messages<'_>,
 ) -> Result<(), Memory>
     ensures { OnOk result (out.new.items ≡
-        out.old.items ++ flat_map (message_json kind) (enumerate_from 0 messages.now)) }
+        out.old.items ++ flat_map (message_json kind) (enumerate_from 0 (listed messages))) }
 {
     for (n, message) in messages.iter().enumerate() {
-        push_message(alloc, out, kind, n, message.as_slice())?;
+        push_message(alloc, out, kind, n, message)?;
     }
     Ok(())
 }
@@ -78,9 +80,9 @@ fn push_taken(
     alloc: Global,
     out: &mut Vec<u8>,
     kind: ValueKind,
-    messages: &[Bytes],
+    messages: Messages<'_>,
 ) -> Result<(), Memory>
-    ensures { OnOk result (out.new.items ≡ out.old.items ++ messages_json kind messages.now) }
+    ensures { OnOk result (out.new.items ≡ out.old.items ++ messages_json kind (listed messages)) }
 {
     out.extend_from_slice(b",\"taken\":[")?;
     push_messages(alloc, out, kind, messages)?;

@@ -4,8 +4,8 @@ use crate::streams::Kept;
 use std::alloc::Global;
 use std::sync::Wait;
 use std::thread::Threads;
+use vc_blocks::Messages;
 use vc_core::{Close, Network, replay};
-use vc_packets::Bytes;
 use vc_plan::{CheckRefused, Refusal};
 use vc_reader::ReadRefused;
 use vc_text::{RunFault, run_net, run_step};
@@ -44,12 +44,12 @@ fn a_run_of_the_squares_network_is_whole_or_writes_nothing(rt: HostRuntime) {
 }
 
 /// Each message is there, in order.
-fn same_messages(left: &[Bytes], right: &[Bytes]) -> bool {
+fn same_messages(left: Messages<'_>, right: Messages<'_>) -> bool {
     left.len() == right.len()
         && left
             .iter()
             .zip(right.iter())
-            .all(|(x, y)| x.as_slice() == y.as_slice())
+            .all(|(x, y)| x == y)
 }
 
 /// Whether two networks show the same of their first channel.

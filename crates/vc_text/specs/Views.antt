@@ -1,5 +1,6 @@
 -- What a view of a channel shows.
 use Rattle.std.specs.Prelude.{◌≡◌, List, map}
+use Rattle.vc_blocks.specs.Listed.{listed}
 use Rattle.vc_core.specs.Enabled.{NetworkState}
 use Rattle.vc_plan.specs.declared.plan.Plan.{Plan}
 use Rattle.vc_text.specs.Shown.{channels_of}
@@ -7,7 +8,7 @@ use Rattle.vc_text.specs.Traffic.{ChannelTraffic}
 use Rattle.vc_text.specs.declared.traffic.ChannelView.{ChannelView}
 
 abbrev pub shown : ChannelView → ChannelTraffic
-shown v = record { name = (v.name).now; kind = v.kind; offered = v.offered; taken = (v.taken).now; finished = v.finished; is_stopped = v.is_stopped }
+shown v = record { name = (v.name).now; kind = v.kind; offered = v.offered; taken = listed v.taken; finished = v.finished; is_stopped = v.is_stopped }
 
 -- the views show the plan's channels, in order
 abbrev pub AreViews : Plan → NetworkState → List ChannelView → Type 0

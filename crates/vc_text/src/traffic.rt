@@ -1,6 +1,7 @@
 //! The text of a network's traffic.
 ghost use Rattle.std.specs.Prelude.{◌≡◌, ◌++◌, ◌+◌, map, OnOk, IfOk, length, slice_index};
 ghost use Rattle.std.specs.Int.{w64, from_le_bytes, cast_signed};
+ghost use Rattle.vc_blocks.specs.Listed.{listed};
 ghost use Rattle.vc_text.specs.Streams.{Writes};
 ghost use Rattle.vc_text.specs.Views.{shown};
 ghost use Rattle.vc_text.specs.Traffic.{bytes_text, value_text, message_line, message_lines, channel_line, channel_lines, close_text, counts_text, traffic};
@@ -11,9 +12,10 @@ use crate::streams::write_text;
 use itoa::Buffer;
 use std::alloc::Global;
 use std::io::Write;
+use vc_blocks::Messages;
 use vc_core::Close;
 use vc_occam::ValueKind;
-use vc_packets::{Bytes, Memory};
+use vc_packets::Memory;
 use vc_waits::push_number;
 
 /// What a channel is and has done.
@@ -26,7 +28,7 @@ pub struct ChannelView<'a> {
     /// How many messages were offered.
     pub offered: usize,
     /// The messages that were taken, in order.
-    pub taken: &'a [Bytes],
+    pub taken: Messages<'a>,
     /// How many outputs were finished.
     pub finished: u64,
     /// Whether the channel was stopped.
@@ -114,12 +116,12 @@ fn push_messages(
     alloc: Global,
     out: &mut Vec<u8>,
     kind: ValueKind,
-    messages: &[Bytes],
+    messages: Messages<'_>,
 ) -> Result<(), Memory>
-    ensures { OnOk result (out.new.items ≡ out.old.items ++ message_lines kind 0 messages.now) }
+    ensures { OnOk result (out.new.items ≡ out.old.items ++ message_lines kind 0 (listed messages)) }
 {
     for (n, message) in messages.iter().enumerate() {
-        push_message(alloc, out, kind, n, message.as_slice())?;
+        push_message(alloc, out, kind, n, message)?;
     }
     Ok(())
 }

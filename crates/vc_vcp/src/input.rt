@@ -18,7 +18,7 @@ use crate::link_out::LinkOut;
 use crate::taken::{self, Taken};
 use sqlite_items::Items;
 use std::alloc::Global;
-use vc_blocks::{Arrival, InHalf, Want};
+use vc_blocks::{Arrival, InHalf, MessageLog, Want};
 use vc_packets::{Bytes, Mark, Memory, ack};
 
 /// A channel that the node inputs on: the end of its virtual link, the half, and the messages taken.
@@ -29,7 +29,7 @@ pub(crate) struct Input {
     pub(crate) block: u16,
     pub(crate) route: Items<u16>,
     pub(crate) half: InHalf,
-    pub(crate) taken: Items<Bytes>,
+    pub(crate) taken: MessageLog,
 }
 
 impl Input {
@@ -161,7 +161,7 @@ impl Input {
         let answer = ack(alloc, self.route.as_slice())?;
         queue.enqueue(answer)?;
         if let Some(message) = message {
-            if self.taken.push(message).is_err() {
+            if self.taken.push(message.as_slice()).is_err() {
                 queue.unqueue();
                 return Err(Memory);
             }
@@ -179,7 +179,7 @@ impl Input {
     {
         queue.unqueue();
         if is_whole {
-            let _message = self.taken.pop();
+            self.taken.pop();
         }
     }
 }

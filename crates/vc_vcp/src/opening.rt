@@ -9,7 +9,7 @@ use crate::link_out::LinkOut;
 use crate::output::Output;
 use sqlite_items::Items;
 use std::alloc::Global;
-use vc_blocks::{InHalf, OutHalf};
+use vc_blocks::{InHalf, MessageLog, OutHalf};
 use vc_packets::Memory;
 
 /// How many links a node has.
@@ -75,7 +75,7 @@ fn output(alloc: Global, end: &End, chan: u16) -> Result<Output, Memory>
         link: end.link,
         block: end.block,
         half,
-        offered: Items::new(alloc),
+        offered: MessageLog::new(alloc),
     })
 }
 
@@ -90,6 +90,6 @@ fn input(alloc: Global, end: &End, chan: u16) -> Result<Input, Memory>
         block: end.block,
         route,
         half: InHalf::new(alloc),
-        taken: Items::new(alloc),
+        taken: MessageLog::new(alloc),
     })
 }

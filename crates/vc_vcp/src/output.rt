@@ -11,9 +11,8 @@ ghost use Rattle.vc_vcp.specs.Seen.{finished_of};
 ghost use Rattle.vc_vcp.specs.State.{IsOutput};
 
 use crate::link_out::LinkOut;
-use sqlite_items::Items;
 use std::alloc::Global;
-use vc_blocks::{Advance, OutHalf};
+use vc_blocks::{Advance, MessageLog, OutHalf};
 use vc_packets::{Bytes, Memory, piece};
 
 /// A channel that the node outputs on: the end of its virtual link, the half, and the messages offered.
@@ -23,7 +22,7 @@ pub(crate) struct Output {
     pub(crate) link: u8,
     pub(crate) block: u16,
     pub(crate) half: OutHalf,
-    pub(crate) offered: Items<Bytes>,
+    pub(crate) offered: MessageLog,
 }
 
 impl Output {
@@ -98,10 +97,9 @@ impl Output {
         ensures err { OnErr result (self.new ≡ self.old) }
         ensures err_queue { OnErr result (queue.new ≡ queue.old) }
     {
-        let copy = Bytes::from_slice(alloc, message)?;
         let first = piece(alloc, self.half.route(), message, 0)?;
         queue.enqueue(first)?;
-        if self.offered.push(copy).is_err() {
+        if self.offered.push(message).is_err() {
             queue.unqueue();
             return Err(Memory);
         }

@@ -5,6 +5,7 @@
 ghost use Rattle.std.specs.Prelude.{◌≡◌, ◌≢◌, ◌<◌, ◌≤◌, None, Ok, ℕ, List, length, slice_get, ◌↔◌, [], false, Some, IsTrue, IsOk, IsSome, IfOk, IfSome, OnOk, OnErr};
 ghost use Rattle.vc_vcp.specs.Keyed.{named};
 ghost use Rattle.std.specs.List.{AllByRecursion};
+ghost use Rattle.vc_blocks.specs.Listed.{listed};
 ghost use Rattle.vc_packets.specs.declared.packet.Packet.{Packet};
 ghost use Rattle.vc_vcp.specs.Private.Bound.{IsBound};
 ghost use Rattle.vc_vcp.specs.State.{CountsStray, IsInput, IsIdle, IsUnwanted, IsOpen, MayPut, MayGrant, IsPieceOf, limit_of};
@@ -32,8 +33,8 @@ use crate::places::{input_of, input_on, output_of, output_on};
 use crate::taken::{self, Taken};
 use std::alloc::Global;
 use std::marker::Model;
-use vc_blocks::Want;
-use vc_packets::{Bytes, Kind, Mark, Memory, Packet, kind_of};
+use vc_blocks::{Messages, Want};
+use vc_packets::{Kind, Mark, Memory, Packet, kind_of};
 use vc_tokens::Token;
 
 /// The virtual channel processor of a node: the halves of its virtual links, and the two ends of its four links.
@@ -212,12 +213,12 @@ impl Vcp {
     }
 
     /// The messages offered on a channel, the first one first; none where the node does not output on it.
-    pub fn offered(&self, chan: u16) -> &[Bytes]
-        ensures { result.now ≡ ((seen self.now).carrier.out chan).offered }
+    pub fn offered(&self, chan: u16) -> Messages<'_>
+        ensures { listed result ≡ ((seen self.now).carrier.out chan).offered }
     {
         match self.output(chan) {
-            Some(output) => output.offered.as_slice(),
-            None => &[],
+            Some(output) => Messages::of(&output.offered),
+            None => Messages::none(),
         }
     }
 
@@ -233,12 +234,12 @@ impl Vcp {
     }
 
     /// The messages taken on a channel, the first one first; none where the node does not input on it.
-    pub fn taken(&self, chan: u16) -> &[Bytes]
-        ensures { result.now ≡ ((seen self.now).carrier.into chan).taken }
+    pub fn taken(&self, chan: u16) -> Messages<'_>
+        ensures { listed result ≡ ((seen self.now).carrier.into chan).taken }
     {
         match self.input(chan) {
-            Some(input) => input.taken.as_slice(),
-            None => &[],
+            Some(input) => Messages::of(&input.taken),
+            None => Messages::none(),
         }
     }
 
