@@ -1,2 +1,3 @@
 pub mod UnderWay
 pub mod Carrying
+pub mod Logging

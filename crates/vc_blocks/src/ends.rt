@@ -1,6 +1,7 @@
 //! Where the messages of a log end.
 ghost use Rattle.std.specs.Prelude.{◌≡◌, [], ◌∷◌, ◌++◌, ◌-◌, length, take, slice_get, slice_index, OnOk, OnErr};
 
+use sqlite_items::Items;
 use std::alloc::Global;
 use std::marker::Model;
 use vc_packets::Memory;
@@ -11,7 +12,7 @@ use vc_packets::Memory;
 pub(crate) struct Ends {
     step: usize,
     even: usize,
-    others: Vec<usize>,
+    others: Items<usize>,
 }
 
 impl Model for Ends {
@@ -20,9 +21,9 @@ impl Model for Ends {
 
     ghost Value = { List ℕ };
 
-    ghost view = { λ x. multiples x.step x.even ++ x.others.items };
+    ghost view = { λ x. multiples x.step x.even ++ x.others };
 
-    ghost invariant = { λ x. Countable x.step x.even x.others.items };
+    ghost invariant = { λ x. Countable x.step x.even x.others };
 }
 
 impl Ends {
@@ -33,7 +34,7 @@ impl Ends {
         Ends {
             step: 0,
             even: 0,
-            others: Vec::new(alloc),
+            others: Items::new(alloc),
         }
     }
 
@@ -68,6 +69,7 @@ impl Ends {
     }
 
     /// Adds a number at the end. For want of memory nothing changes.
+    #[inline(always)]
     pub(crate) fn push(&mut self, number: usize) -> Result<(), Memory>
         ensures ok { OnOk result (self.new ≡ self.old ++ number ∷ []) }
         ensures err { OnErr result (self.new ≡ self.old) }

@@ -114,18 +114,11 @@ impl InHalf {
         self.held.as_ref()
     }
 
-    /// The bytes stored of the message that is arriving, and behind them those that a piece with these headers and data carries behind
-    /// its block's header. Nothing is stored.
-    pub fn with_body(&self, body: &[u8]) -> Result<Bytes, Memory>
-        requires { 2 ≤ length body.now }
-        ensures { IfOk result (λ message. message ≡ self.now.stored ++ drop 2 body.now) }
+    /// The bytes stored of the message that is arriving.
+    pub fn stored(&self) -> &[u8]
+        ensures { result.now ≡ self.now.stored }
     {
-        let load = &body[2..];
-        let room = self.stored.len().saturating_add(load.len());
-        let mut message = Bytes::with_capacity(self.alloc, room)?;
-        message.extend_from_slice(self.stored.as_slice())?;
-        message.extend_from_slice(load)?;
-        Ok(message)
+        self.stored.as_slice()
     }
 
     /// A piece arrives: it is stored where a process inputs, and else held.

@@ -58,13 +58,24 @@ impl MessageLog {
         ensures ok { OnOk result (self.new ≡ self.old ++ message.now ∷ []) }
         ensures err { OnErr result (self.new ≡ self.old) }
     {
+        self.push_joined(message, &[])
+    }
+
+    /// Adds a message at the end, which is given in two parts. For want of memory nothing changes.
+    #[inline(always)]
+    pub fn push_joined(&mut self, front: &[u8], back: &[u8]) -> Result<(), Memory>
+        ensures ok { OnOk result (self.new ≡ self.old ++ (front.now ++ back.now) ∷ []) }
+        ensures err { OnErr result (self.new ≡ self.old) }
+    {
         let before = self.bytes.len();
-        self.bytes.extend_from_slice(message)?;
-        let pushed = self.ends.push(self.bytes.len());
-        if pushed.is_err() {
+        self.bytes.extend_from_slice(front)?;
+        if self.bytes.extend_from_slice(back).is_err()
+            || self.ends.push(self.bytes.len()).is_err()
+        {
             self.bytes.truncate(before);
+            return Err(Memory);
         }
-        pushed
+        Ok(())
     }
 
     /// Takes the last message away, if there is one.

@@ -28,8 +28,8 @@ impl<'a> Messages<'a> {
     }
 
     /// How many messages.
-    pub fn len(self) -> usize
-        ensures { result ≡ length (listed self) }
+    pub fn len(&self) -> usize
+        ensures { result ≡ length (listed self.now) }
     {
         match self.log {
             Some(log) => log.len(),
@@ -38,24 +38,27 @@ impl<'a> Messages<'a> {
     }
 
     /// Whether there are none.
-    pub fn is_empty(self) -> bool
-        ensures { IsTrue result ↔ (listed self ≡ []) }
+    pub fn is_empty(&self) -> bool
+        ensures { IsTrue result ↔ (listed self.now ≡ []) }
     {
         self.len() == 0
     }
 
     /// The message at a place.
-    pub fn get(self, at: usize) -> Option<&'a [u8]>
-        ensures { option_copied result ≡ slice_get (listed self) at }
+    pub fn get(&self, at: usize) -> Option<&'a [u8]>
+        ensures { option_copied result ≡ slice_get (listed self.now) at }
     {
         self.log?.get(at)
     }
 
     /// Goes through the messages, the first one first.
-    pub fn iter(self) -> MessagesIter<'a>
-        ensures { listed_left result ≡ listed self }
+    pub fn iter(&self) -> MessagesIter<'a>
+        ensures { listed_left result ≡ listed self.now }
     {
-        MessagesIter { messages: self, at: 0 }
+        MessagesIter {
+            messages: *self,
+            at: 0,
+        }
     }
 }
 
@@ -74,8 +77,11 @@ impl<'a> Iterator for MessagesIter<'a> {
     ghost remaining = { item_count listed_left };
 
     fn next(&mut self) -> Option<&'a [u8]> {
-        let message = self.messages.get(self.at)?;
+        if self.at >= self.messages.len() {
+            return None;
+        }
+        let message = self.messages.get(self.at);
         self.at += 1;
-        Some(message)
+        message
     }
 }

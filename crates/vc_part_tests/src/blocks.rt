@@ -127,8 +127,8 @@ enum Input<'a> {
     Full(&'a [u8], Comes<'a>),
     /// A process inputs.
     Want(Comes<'a>),
-    /// The stored bytes with those of this packet.
-    WithBody([u8; 3], &'a [u8]),
+    /// The bytes stored of the message that is arriving.
+    Stored(&'a [u8]),
     /// Nothing more is taken.
     Stop,
 }
@@ -173,7 +173,7 @@ fn inputs(half: &mut InHalf, alloc: Global, step: Input) -> Result<bool, Memory>
         }
         Input::Last(_, _) | Input::Full(_, _) => Ok(false),
         Input::Want(comes) => finds(half, comes),
-        Input::WithBody(body, wanted) => Ok(half.with_body(&body)?.as_slice() == wanted),
+        Input::Stored(wanted) => Ok(half.stored() == wanted),
         Input::Stop => Ok(stops(half)),
     }
 }
@@ -241,7 +241,7 @@ fn pieces_are_put_together_for_a_process_that_inputs(rt: HostRuntime) -> Result<
         Input::Full(&[7; 32], Comes::Stored),
         Input::Wants(true),
         Input::MayArrive(true),
-        Input::WithBody([0, 1, 7], &[7; 33]),
+        Input::Stored(&[7; 32]),
         Input::Last(&[7], Comes::Complete(&[7; 33])),
         Input::Wants(false),
         Input::MayArrive(true),

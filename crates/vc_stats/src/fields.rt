@@ -196,7 +196,7 @@ pub(crate) fn push_unfinished(
 
 /// How many bytes messages have together.
 fn bytes_of(messages: Messages<'_>) -> u64
-    ensures { result ≡ bytes_in (listed messages) }
+    ensures { result ≡ bytes_in (listed messages.entry) }
 {
     let mut bytes = 0u64;
     for message in messages.iter() {
@@ -212,7 +212,7 @@ pub(crate) fn push_taken(
     form: Form,
     messages: Messages<'_>,
 ) -> Result<(), Memory>
-    ensures { OnOk result (out.new.items ≡ out.old.items ++ taken_text form (listed messages)) }
+    ensures { OnOk result (out.new.items ≡ out.old.items ++ taken_text form (listed messages.entry)) }
 {
     push_field(out, form, b"messages", messages.len() as u64)?;
     push_field(out, form, b"bytes", bytes_of(messages))

@@ -66,7 +66,7 @@ fn push_messages(
     messages: Messages<'_>,
 ) -> Result<(), Memory>
     ensures { OnOk result (out.new.items ≡
-        out.old.items ++ flat_map (message_json kind) (enumerate_from 0 (listed messages))) }
+        out.old.items ++ flat_map (message_json kind) (enumerate_from 0 (listed messages.entry))) }
 {
     for (n, message) in messages.iter().enumerate() {
         push_message(alloc, out, kind, n, message)?;
@@ -82,7 +82,7 @@ fn push_taken(
     kind: ValueKind,
     messages: Messages<'_>,
 ) -> Result<(), Memory>
-    ensures { OnOk result (out.new.items ≡ out.old.items ++ messages_json kind (listed messages)) }
+    ensures { OnOk result (out.new.items ≡ out.old.items ++ messages_json kind (listed messages.entry)) }
 {
     out.extend_from_slice(b",\"taken\":[")?;
     push_messages(alloc, out, kind, messages)?;

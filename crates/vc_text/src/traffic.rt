@@ -118,7 +118,7 @@ fn push_messages(
     kind: ValueKind,
     messages: Messages<'_>,
 ) -> Result<(), Memory>
-    ensures { OnOk result (out.new.items ≡ out.old.items ++ message_lines kind 0 (listed messages)) }
+    ensures { OnOk result (out.new.items ≡ out.old.items ++ message_lines kind 0 (listed messages.entry)) }
 {
     for (n, message) in messages.iter().enumerate() {
         push_message(alloc, out, kind, n, message)?;

@@ -3,7 +3,7 @@
 //! A stored piece is acknowledged, a held one is not. The acknowledge is queued and a whole message logged before the half
 //! changes, and both are taken back where the half finds no memory, so that the input and the queue are then as they were.
 ghost use Rattle.std.specs.Prelude.{◌≡◌, ◌≤◌, [], ◌++◌, ℕ, List, length, Some, None, false, true, if◌then◌else◌, IfOk, OnOk, OnErr};
-ghost use Rattle.vc_blocks.specs.Halves.{IsPiece};
+ghost use Rattle.vc_blocks.specs.Halves.{IsPiece, ends_message};
 ghost use Rattle.vc_blocks.specs.Arriving.{after_arrival, arrival_of, after_want, want_of};
 ghost use Rattle.std.specs.Option.{option_to_list};
 ghost use Rattle.vc_packets.specs.Spellings.{ack_packet};
@@ -92,15 +92,14 @@ impl Input {
         ensures err { OnErr result (self.new ≡ self.old) }
         ensures err_queue { OnErr result (queue.new ≡ queue.old) }
     {
-        let copy = match self.half.held() {
+        let (body, mark) = match self.half.held() {
             None => return self.half.want(),
-            Some(packet) => whole(&self.half, packet.body.as_slice(), packet.mark)?,
+            Some(packet) => (Bytes::from_slice(alloc, packet.body.as_slice())?, packet.mark),
         };
-        let is_whole = copy.is_some();
-        self.prepare(queue, alloc, copy)?;
+        self.prepare(queue, alloc, body.as_slice(), mark)?;
         let wanted = self.half.want();
         if wanted.is_err() {
-            self.undo(queue, is_whole);
+            self.undo(queue, mark);
         }
         wanted
     }
@@ -134,25 +133,30 @@ impl Input {
         ensures err { OnErr result (self.new ≡ self.old) }
         ensures err_queue { OnErr result (queue.new ≡ queue.old) }
     {
-        let copy = whole(&self.half, body, mark)?;
-        let is_whole = copy.is_some();
-        self.prepare(queue, alloc, copy)?;
+        self.prepare(queue, alloc, body, mark)?;
         let arrived = self.half.arrive_body(body, mark);
         if arrived.is_err() {
-            self.undo(queue, is_whole);
+            self.undo(queue, mark);
         }
         arrived
     }
 
-    // An acknowledge is queued, and the message logged where it is whole.
+    // An acknowledge is queued, and the message logged that a piece of these headers and data completes.
     fn prepare(
         &mut self,
         queue: &mut LinkOut,
         alloc: Global,
-        message: Option<Bytes>,
+        body: &[u8],
+        mark: Mark,
     ) -> Result<(), Memory>
+        requires { 2 ≤ length body.now }
         ensures input { OnOk result
-            (self.new ≡ record self.old { taken = self.old.taken ++ option_to_list message }) }
+            (self.new ≡
+            record self.old {
+              taken = self.old.taken ++
+                  option_to_list
+                  (completed self.old.half.stored (record { body = body.now; mark = mark }));
+            }) }
         ensures queue { OnOk result (queue.new ≡ queued queue.old (ack_packet self.old.route)) }
         ensures begun { OnOk result (queue.old.queue ≡ [] → queue.old.sender.sent ≡ []) }
         ensures err { OnErr result (self.new ≡ self.old) }
@@ -160,26 +164,43 @@ impl Input {
     {
         let answer = ack(alloc, self.route.as_slice())?;
         queue.enqueue(answer)?;
-        if let Some(message) = message {
-            if self.taken.push(message.as_slice()).is_err() {
-                queue.unqueue();
-                return Err(Memory);
-            }
+        if self.log(body, mark).is_err() {
+            queue.unqueue();
+            return Err(Memory);
         }
         Ok(())
     }
 
-    // What was prepared is taken back.
-    fn undo(&mut self, queue: &mut LinkOut, is_whole: bool)
+    // The message is logged that a piece of these headers and data completes.
+    fn log(&mut self, body: &[u8], mark: Mark) -> Result<(), Memory>
+        requires { 2 ≤ length body.now }
+        ensures ok { OnOk result
+            (self.new ≡
+            record self.old {
+              taken = self.old.taken ++
+                  option_to_list
+                  (completed self.old.half.stored (record { body = body.now; mark = mark }));
+            }) }
+        ensures err { OnErr result (self.new ≡ self.old) }
+    {
+        match mark {
+            Mark::Eop => Ok(()),
+            Mark::Eom => self.taken.push_joined(self.half.stored(), &body[2..]),
+        }
+    }
+
+    // What was prepared for a piece of this mark is taken back.
+    fn undo(&mut self, queue: &mut LinkOut, mark: Mark)
         ensures queue { Unqueues queue.old queue.new }
         ensures input { (taken : List (List ℕ)) (more : List (List ℕ)) →
-            length more ≡ (if is_whole then 1 else 0) →
+            length more ≡ (if ends_message mark then 1 else 0) →
             self.old.taken ≡ taken ++ more →
             self.new ≡ record self.old { taken = taken } }
     {
         queue.unqueue();
-        if is_whole {
-            self.taken.pop();
+        match mark {
+            Mark::Eop => {}
+            Mark::Eom => self.taken.pop(),
         }
     }
 }
@@ -208,16 +229,4 @@ pub(crate) fn arrive(
     let queue = &mut outs[usize::from(input.link)];
     let arrival = input.arrive(queue, alloc, body, mark)?;
     Ok(taken::of_arrival(input.chan, arrival))
-}
-
-// The message that the piece completes, where it is a message's last.
-fn whole(half: &InHalf, body: &[u8], mark: Mark) -> Result<Option<Bytes>, Memory>
-    requires { 2 ≤ length body.now }
-    ensures { IfOk result
-        (λ message. message ≡ completed half.now.stored (record { body = body.now; mark = mark })) }
-{
-    match mark {
-        Mark::Eop => Ok(None),
-        Mark::Eom => Ok(Some(half.with_body(body)?)),
-    }
 }
