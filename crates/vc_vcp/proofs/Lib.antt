@@ -1,7 +1,5 @@
 pub mod KeyedLemmas
 pub mod PutLemmas
-pub mod Undoing
-pub mod Storing
 pub mod Placed
 pub mod Showing
 pub mod Opened
@@ -16,5 +14,6 @@ pub mod Passing
 pub mod Enabling
 pub mod Arriving
 pub mod Hinting
+pub mod Holding
 pub mod Beyond
 pub mod LeavingWhole

@@ -92,11 +92,15 @@ impl Input {
         ensures err { OnErr result (self.new ≡ self.old) }
         ensures err_queue { OnErr result (queue.new ≡ queue.old) }
     {
-        let (body, mark) = match self.half.held() {
+        let mark = match self.half.held() {
             None => return self.half.want(),
-            Some(packet) => (Bytes::from_slice(alloc, packet.body.as_slice())?, packet.mark),
+            Some(packet) => {
+                let body = Bytes::from_slice(alloc, packet.body.as_slice())?;
+                let mark = packet.mark;
+                self.prepare(queue, alloc, body.as_slice(), mark)?;
+                mark
+            }
         };
-        self.prepare(queue, alloc, body.as_slice(), mark)?;
         let wanted = self.half.want();
         if wanted.is_err() {
             self.undo(queue, mark);
