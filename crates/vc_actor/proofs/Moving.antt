@@ -190,16 +190,16 @@ stops_inside plan k n u m i c e is listed has vcp views names acts same =
     (ap (λ z. (seen z).carrier.out) vcp) (λ d. ap (λ z. ((seen z).carrier.into d).wants) vcp) a same)
 
 -- an output meets an input, or a guard, inside the node
-pub meets : (plan : Plan) (k : ℕ) (n u : Node) (m : Move) (i j : ℕ) (g : Option ℕ) (c : ℕ) (message copy : List ℕ) (a : Answer) → copy ≡ message → m ≡ move.Inner i j g c → Some message ≡ sent_by (state n.process) m → IsNodeOf plan k n → Contains (moves n.process) m → IsGoing n.inside c →
-    u.vcp ≡ n.vcp → views_of u.inside ≡ exchanged_on (views_of n.inside) c copy → ((d : ℕ) → IsSome (named (λ x. x.chan) d u.inside) ↔ IsSome (named (λ x. x.chan) d n.inside)) →
+pub meets : (plan : Plan) (k : ℕ) (n u : Node) (m : Move) (i j : ℕ) (g : Option ℕ) (c : ℕ) (message : List ℕ) (a : Answer) → m ≡ move.Inner i j g c → Some message ≡ sent_by (state n.process) m → IsNodeOf plan k n → Contains (moves n.process) m → IsGoing n.inside c →
+    u.vcp ≡ n.vcp → views_of u.inside ≡ exchanged_on (views_of n.inside) c message → ((d : ℕ) → IsSome (named (λ x. x.chan) d u.inside) ↔ IsSome (named (λ x. x.chan) d n.inside)) →
     Acts (state n.process) (doing m (sent_by (state n.process) m) a) (state u.process) → inner_channels u.process ≡ inner_channels n.process → MakesMove plan k n m u
-meets plan k n u m i j g c message copy a copied e sent is listed going vcp views names acts same =
+meets plan k n u m i j g c message a e sent is listed going vcp views names acts same =
     is_named plan k n u m (move.Inner i j g c) a e listed acts (λ l b.
     let s = state n.process in
     let d = subst (λ z. Acts s (step.Meets i j g c (bytes_or_none z)) (state u.process)) (sym (sent ∙ ap (sent_by s) e)) b in
     let w = waits_after s (state u.process) (step.Meets i j g c message) d.0 d.1 in
     record {
-      moves = (message, (l, went n u (step.Meets i j g c message) d same), (is.inside c).0 (ap is_some going.here), ap (λ x. (shown_or nothing_yet view_of x).stopped) going.here ∙ going.going, ap seen vcp, views ∙ ap (exchanged_on (views_of n.inside) c) copied);
+      moves = (message, (l, went n u (step.Meets i j g c message) d same), (is.inside c).0 (ap is_some going.here), ap (λ x. (shown_or nothing_yet view_of x).stopped) going.here ∙ going.going, ap seen vcp, views);
       kept = stays plan k n u (step.Meets i j g c message) is d (same_kept n u vcp) (same_inside plan k n.inside u.inside is.inside names)
           (in_step_same n u (step.Meets i j g c message) is.in_step (ap (λ z. (seen z).carrier.out) vcp) (λ x. ap (λ z. ((seen z).carrier.into x).wants) vcp) (halved.kept (waiting s.rest) (waiting (state u.process).rest) w));
     })

@@ -4,7 +4,6 @@ use Rattle.std.specs.List.{Contains}
 use Rattle.vc_packets.specs.declared.packet.Packet.{Packet}
 use Rattle.vc_process.specs.ProcessStep.{Finishes, Receives}
 use Rattle.vc_occam.specs.States.{Waiting, output, input, waiting}
-use Rattle.vc_occam.specs.States as occam
 use Rattle.vc_occam.specs.Laws.{IsOutputOn, IsInputOn}
 use Rattle.vc_occam.specs.Sites.{OwnSites}
 use Rattle.vc_occam.proofs.Sites.{doing_keeps}

@@ -4,6 +4,8 @@
 //!
 //! The layer above knows that an [`OutHalf`] has at most one piece under way (`specs/Halves`), and that an [`InHalf`] gives a message
 //! whole, when its last piece was stored (`specs/Carrying`).
+//!
+//! A [`MessageLog`] keeps the messages that went over a channel, packed into one buffer, and [`Messages`] shows them.
 #![tactic(auto)]
 
 mod ends;

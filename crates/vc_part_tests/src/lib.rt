@@ -15,6 +15,8 @@ mod expressions;
 #[cfg(test)]
 mod labels;
 #[cfg(test)]
+mod logs;
+#[cfg(test)]
 mod loops;
 #[cfg(test)]
 mod meetings;

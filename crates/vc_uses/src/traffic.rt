@@ -1,6 +1,7 @@
 //! What the headline gives to whoever looks at a network: after a replay, after a run in threads, or after events that a scheduler of
 //! one's own made (`events_lead_on` of vc_core).
 ghost use Rattle.std.specs.Prelude.{◌≡◌, ◌-◌, ◌≤◌, ◌<◌, ◌++◌, List, length};
+ghost use Rattle.std.specs.Option.{option_copied, option_to_list};
 ghost use Rattle.vc_accepted.specs.NetworkOf.{network_of};
 ghost use Rattle.vc_core.specs.Replaying.{Replays};
 ghost use Rattle.vc_core.specs.State.{shown, state_of};
@@ -9,7 +10,6 @@ ghost use Rattle.vc_network.specs.Views.{view};
 ghost use Rattle.vc_plan.specs.declared.plan.Plan.{Plan};
 
 use vc_core::Network;
-use vc_packets::Bytes;
 
 /// How many outputs on a channel are not finished: none or one. No test is needed before the subtraction.
 pub fn under_way(network: &Network, chan: u16) -> u64
@@ -24,15 +24,13 @@ pub fn under_way(network: &Network, chan: u16) -> u64
     network.offered(chan).len() as u64 - network.finished(chan)
 }
 
-/// The messages that were offered on a channel and have not been taken: they stand behind those that have, so no test is needed
-/// before the slice is cut.
-pub fn to_come(network: &Network, chan: u16) -> &[Bytes]
-    requires { (p : Plan) × (events : List Event)
-        × Replays p events (state_of network.now) × (chan < length p.channels) }
+/// The message that was offered on a channel and has not been taken, if there is one: it stands behind those that have.
+pub fn to_come(network: &Network, chan: u16) -> Option<&[u8]>
     ensures { (p : Plan) (events : List Event) →
         Replays p events (state_of network.now) → chan < length p.channels →
         (view (network_of p) (shown (state_of network.now)) chan).offered
-        ≡ (view (network_of p) (shown (state_of network.now)) chan).taken ++ result.now }
+        ≡ (view (network_of p) (shown (state_of network.now)) chan).taken
+        ++ option_to_list (option_copied result) }
 {
-    &network.offered(chan)[network.taken(chan).len()..]
+    network.offered(chan).get(network.taken(chan).len())
 }

@@ -7,7 +7,7 @@ use Rattle.vc_actor.specs.Able.{CanMove, SwitchCan}
 use Rattle.vc_actor.specs.Acting.{MakesOwn}
 use Rattle.vc_actor.specs.Shown.{Acting}
 use Rattle.vc_actor.specs.declared.act.Act.{Act}
-use Rattle.vc_actor.specs.declared.act.Act.TheVariants.{Proc, Put, Route}
+use Rattle.vc_actor.specs.declared.act.Act.TheVariants.{Proc, Route}
 use Rattle.vc_actor.specs.declared.node.Node.{Node}
 use Rattle.vc_actor.specs.declared.turn.Turn.{Turn}
 use Rattle.vc_actor.specs.declared.turn.Turn.TheVariants as turn

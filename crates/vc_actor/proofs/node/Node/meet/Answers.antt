@@ -18,6 +18,6 @@ unreachable-requires c =
 pub returns-clause-ok : goal.returns-clause-ok
 returns-clause-ok c = λ plan k is.
     on_ok c.act.result (λ acts.
-    meets plan k c.args.self.now _ c.args.made.now c.requires.is.0 c.requires.is.1 c.requires.is.2 c.args.chan c.as_slice.result.now c.in_ok-copy.copy _ c.in_ok-copy.ensures.copy c.requires.is.3 (ap Some c.as_slice.ensures ∙ sym c.in-Some.is ∙ c.in_ok-message.ensures) is c.requires.may.listed
+    meets plan k c.args.self.now _ c.args.made.now c.requires.is.0 c.requires.is.1 c.requires.is.2 c.args.chan c.as_slice.result.now _ c.requires.is.3 (ap Some c.as_slice.ensures ∙ sym c.in-Some.is ∙ c.in_ok-message.ensures) is c.requires.may.listed
     (subst (AnswersMove c.args.self.now) c.requires.is.3 c.requires.may.answers) refl
     c.in_ok-exchange.ensures.ok c.in_ok-exchange.ensures.names acts c.act.ensures.inside) c.act.ensures.made
