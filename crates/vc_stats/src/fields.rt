@@ -212,7 +212,8 @@ pub(crate) fn push_taken(
     form: Form,
     messages: Messages<'_>,
 ) -> Result<(), Memory>
-    ensures { OnOk result (out.new.items ≡ out.old.items ++ taken_text form (listed messages.entry)) }
+    ensures { OnOk result
+        (out.new.items ≡ out.old.items ++ taken_text form (listed messages.entry)) }
 {
     push_field(out, form, b"messages", messages.len() as u64)?;
     push_field(out, form, b"bytes", bytes_of(messages))

@@ -68,7 +68,10 @@ fn push_messages(
     ensures { OnOk result (out.new.items ≡
         out.old.items ++ flat_map (message_json kind) (enumerate_from 0 (listed messages.entry))) }
 {
-    for (n, message) in messages.iter().enumerate() {
+    for n in 0..messages.len() {
+        let Some(message) = messages.get(n) else {
+            unreachable!();
+        };
         push_message(alloc, out, kind, n, message)?;
     }
     Ok(())
@@ -82,7 +85,8 @@ fn push_taken(
     kind: ValueKind,
     messages: Messages<'_>,
 ) -> Result<(), Memory>
-    ensures { OnOk result (out.new.items ≡ out.old.items ++ messages_json kind (listed messages.entry)) }
+    ensures { OnOk result
+        (out.new.items ≡ out.old.items ++ messages_json kind (listed messages.entry)) }
 {
     out.extend_from_slice(b",\"taken\":[")?;
     push_messages(alloc, out, kind, messages)?;

@@ -118,9 +118,13 @@ fn push_messages(
     kind: ValueKind,
     messages: Messages<'_>,
 ) -> Result<(), Memory>
-    ensures { OnOk result (out.new.items ≡ out.old.items ++ message_lines kind 0 (listed messages.entry)) }
+    ensures { OnOk result
+        (out.new.items ≡ out.old.items ++ message_lines kind 0 (listed messages.entry)) }
 {
-    for (n, message) in messages.iter().enumerate() {
+    for n in 0..messages.len() {
+        let Some(message) = messages.get(n) else {
+            unreachable!();
+        };
         push_message(alloc, out, kind, n, message)?;
     }
     Ok(())

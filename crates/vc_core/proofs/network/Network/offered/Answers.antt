@@ -11,4 +11,4 @@ returns-in-Some c = λ p is less.
 pub returns-in-None : goal.returns-in-None
 returns-in-None c = λ p is less.
     let shows = source_found p (state_of c.args.self.now) c.args.chan None is (c.in-None.ensures p is less) in
-    shows.offered
+    c.none.ensures ∙ shows.offered
