@@ -1,12 +1,12 @@
 -- A trace that is exchanges is made by meetings: steps without a communication move out of them, and each output is finished at once.
-use Rattle.std.proofs.Common.{◌≡◌, ℕ, zero, suc, ◌≤◌, refl, sym, ap, subst, ◌∙◌, List, [], ◌∷◌, Option, Some, None, arith}
+use Rattle.std.proofs.Common.{◌≡◌, ℕ, zero, suc, ◌≤◌, refl, sym, ap, subst, ◌∙◌, List, [], ◌∷◌, ◌++◌, Option, Some, None, arith}
 use Rattle.std.specs.List.{Contains}
 use Rattle.vc_process.specs.declared.datum.Datum.{Datum}
 use Rattle.vc_process.specs.Messages.{message}
-use Rattle.vc_process.specs.ProcessStep.{Stops, Meets, Rests}
+use Rattle.vc_process.specs.ProcessStep.{Offers, Wants, Chooses, Stops, Meets, Rests, Finishes, Receives}
 use Rattle.vc_process.specs.Usage.{Set}
 use Rattle.vc_process.specs.Values.{Store}
-use Rattle.vc_occam.specs.Completeness.{at_first}
+use Rattle.vc_occam.specs.Completeness.{Steps, no_more as no_steps, one_more as a_step, at_first}
 use Rattle.vc_occam.specs.Exchanges.{AreExchanges, Moves, no_more, one_more, ExchangesAreMeetings}
 use Rattle.vc_occam.specs.First.{own}
 use Rattle.vc_occam.specs.InUse.{outputs_rest, inputs_rest, UsesLawfully}
@@ -161,3 +161,17 @@ exchanges_are_meetings inside p e ks x l only z h =
     let b = begin_in p in
     let moves = by_moves inside m.last r.0 r.0 (at_first p e) ks (omega arith) r.1 z (begins p l) (record { outputs = λ c o. only.outputs c (b.output c o); inputs = λ c o. only.inputs c (b.input c o) }) in
     record { last = m.last; moves = moves; ends = m.ends }
+
+-- moves are steps, one after another
+pub as_steps : {inside : Set} {s t : State} {ks : List Comm} → Moves inside s ks t → Steps s ks t
+as_steps no_more = no_steps
+as_steps {s = s} {t = t} (one_more {t = u} {ls = ls} (Rests i) ks listed did rest) =
+    subst (λ z. Steps s (z ++ ls) t) (sym did.0) (a_step (subst (λ z. StepsTo s i action.Quiet z u) did.0 did.1) (as_steps rest))
+as_steps {s = s} {t = t} (one_more {t = u} {ls = ls} (Stops i c) ks listed did rest) =
+    subst (λ z. Steps s (z ++ ls) t) (sym did.0) (a_step (subst (λ z. StepsTo s i (action.StopChannel c) z u) did.0 did.1) (as_steps rest))
+as_steps {s = s} {t = t} (one_more {ls = ls} (Meets i j k c m) ks listed did rest) = subst (λ z. Steps s (z ++ ls) t) (sym did.5) (a_step did.6 (a_step did.7 (a_step did.8 (as_steps rest))))
+as_steps (one_more (Offers i c m) ks listed did rest) = absurd listed
+as_steps (one_more (Wants i c m) ks listed did rest) = absurd listed
+as_steps (one_more (Chooses i k c m) ks listed did rest) = absurd listed
+as_steps (one_more (Finishes c) ks listed did rest) = absurd listed
+as_steps (one_more (Receives c m) ks listed did rest) = absurd listed

@@ -15,11 +15,11 @@ use Rattle.vc_network.specs.Plan as network
 use Rattle.vc_network.specs.Plan.{home}
 use Rattle.vc_network.specs.Processes as moves
 use Rattle.vc_network.specs.Views.{view, view_at, inner_of}
-use Rattle.vc_occam.proofs.Exchanges.{exchanges_are_meetings}
+use Rattle.vc_occam.proofs.Exchanges.{exchanges_are_meetings, as_steps}
+use Rattle.vc_occam.proofs.Halting.{steps_make_traces}
 use Rattle.vc_occam.specs.Completeness.{EndsAs}
 use Rattle.vc_occam.specs.Exchanges.{AreExchanges, UsesOnly, IsMade, no_more, one_more}
 use Rattle.vc_occam.specs.Exchanges as exchanges
-use Rattle.vc_occam.specs.Remains.{Done}
 use Rattle.vc_occam.specs.States.{State}
 use Rattle.vc_occam.specs.Traces.{Comm, Out, Fin, In, Stp}
 use Rattle.vc_placement.proofs.Ends.{output_use, input_use}
@@ -247,21 +247,22 @@ one_node_runs p one waiting es s acc is acc1 h =
     let could = one_node_can p one s hs acc is.is lin in
     let exchanges_of = are_exchanges hs lin.faithful in
     let node = node_plan one 0 in
-    let made = exchanges_are_meetings (begin_of one 0).inside (written node.process) (begin_of one 0).state.store ks could.0 (acc1.lawful_use 0 node (here_is p one waiting is acc1)) (uses_only p one waiting is acc1) exchanges_of could.1.0 in
+    let lawful = acc1.lawful_use 0 node (here_is p one waiting is acc1) in
+    let made = exchanges_are_meetings (begin_of one 0).inside (written node.process) (begin_of one 0).state.store ks could.0 lawful (uses_only p one waiting is acc1) exchanges_of could.1.0 in
     let opens = begins (network_of one) (begin_of one) in
     let r = run p one waiting is made.moves opens new_vcp (λ c. nothing_yet) (λ c. completed (view (network_of p) s c))
     (ap (λ b. if b then IsNode (record { vcp = new_vcp; process = begin_of one 0; inner = λ c. nothing_yet }) else IsSwitch new_switch) (lt-ltb 0 (length one.nodes) (one_there p one waiting is)))
     exchanges_of (λ c l. subst (λ z. DoesAll nothing_yet z (completed (view (network_of p) s c))) (sym (without_is c (all_comms hs))) (lin.on_channel c l)) in
-    record {
-      events = r.events;
-      end = r.end;
-      happen = r.happen;
-      on_channel = λ c l. ap (view_at (network_of one) r.end c) (at_home p one waiting is c l) ∙ ap (λ a. inner_of a c) r.here ∙ r.shows c l;
-      ended = λ all n l. (
-          let e = ap length is.is.nodes in
-          let first : 0 ≡ n = omega arith in
-          let end = could.2 all in
-          subst (λ k. (a : Node Process) × (r.end.state k ≡ IsNode a) × (a.process.state.rest ≡ Done)) first
-          (record { vcp = r.vcp; process = record { inside = (begin_of one 0).inside; state = made.last }; inner = r.inner }, r.here, (subst (EndsAs made.last) end.1 made.ends).0)
-          );
-    }
+    let now : Node Process = record { vcp = r.vcp; process = record { inside = (begin_of one 0).inside; state = made.last }; inner = r.inner } in (
+      found,
+      record {
+        events = r.events;
+        end = r.end;
+        happen = r.happen;
+        node = now;
+        is_node = r.here;
+        makes = (steps_make_traces (written node.process) (begin_of one 0).state.store ks made.last lawful (as_steps made.moves), could.1.1);
+        on_channel = λ c l. ap (view_at (network_of one) r.end c) (at_home p one waiting is c l) ∙ ap (λ a. inner_of a c) r.here ∙ r.shows c l;
+        ended = λ all. (let end = could.2 all in (subst (EndsAs made.last) end.1 made.ends).0);
+      },
+    )

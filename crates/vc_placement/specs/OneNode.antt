@@ -8,13 +8,14 @@ use Rattle.vc_occam.specs.Remains.{Done}
 use Rattle.vc_occam.specs.Traces.{End}
 use Rattle.vc_placement.specs.Linearization.{Atomic, all_comms, completed}
 use Rattle.vc_placement.specs.Parallel.{without_nodes, IsEnded}
-use Rattle.vc_placement.specs.Placement.{IsLinearizationOf}
+use Rattle.vc_placement.specs.Placement.{IsLinearizationOf, Linearizes}
 use Rattle.vc_plan.specs.Accepted.{IsAccepted}
 use Rattle.vc_plan.specs.OneNode.{IsOnOneNode, IsOneNodeOf}
 use Rattle.vc_plan.specs.declared.plan.Plan.{Plan}
 use Rattle.vc_process.specs.Numbering.{written}
 use Rattle.vc_accepted.specs.Begin.{node_plan, begin_of}
 use Rattle.vc_accepted.specs.NetworkOf.{network_of}
+use Rattle.vc_accepted.specs.OneList.{IsMadeBy}
 use Rattle.vc_accepted.specs.Process.{Process, does}
 use Rattle.vc_switch.specs.Waiting.{Waiting}
 use Rattle.vc_tokens.specs.Tokens.{Token}
@@ -29,17 +30,21 @@ OneNodeCanDoIt =
     (p one : Plan) (s : Network (Actor Process) Token) (hs : List Atomic) → IsAccepted p → IsOnOneNode p one → IsLinearizationOf p s hs
     → (x : End) × NodeTrace (begin_of one 0).inside (written (node_plan one 0).process) (begin_of one 0).state.store (without_nodes (all_comms hs)) x × (HaveEnded p s → IsEnded x)
 
--- events of the one node's network, from its opening, to a state in which each channel shows what was completed on p's network in s, and
--- the one node's process has ended where all of p's have
-pub record RunsOnOneNode (p one : Plan) (waiting : Waiting) (s : Network (Actor Process) Token) : Type 0 where
+-- events of the one node's network, from its opening: its process makes exactly these atomic communications, in this order, each channel
+-- shows what was completed on p's network in s, and the process has ended where all of p's have
+pub record RunsOnOneNode (p one : Plan) (waiting : Waiting) (s : Network (Actor Process) Token) (hs : List Atomic) : Type 0 where
   pub events : List (ActBy Act)
   pub end : Network (Actor Process) Token
   pub happen : HappenAll (network_of one) waiting does (begins (network_of one) (begin_of one)) events end
+  pub node : Node Process
+  pub is_node : end.state 0 ≡ IsNode node
+  pub makes : IsMadeBy one 0 (without_nodes (all_comms hs)) node.process.state
   pub on_channel : (c : ℕ) → c < length p.channels → view (network_of one) end c ≡ completed (view (network_of p) s c)
-  pub ended : HaveEnded p s → HaveEnded one end
+  pub ended : HaveEnded p s → node.process.state.rest ≡ Done
 
--- whatever an accepted plan's network did, under either waiting rule, the plan of one node runs, where it is accepted too
+-- whatever an accepted plan's network did, under either waiting rule, has a linearization that the one node's network runs, where the
+-- plan of one node is accepted too
 abbrev pub OneNodeRunsIt : Type 0
 OneNodeRunsIt =
     (p one : Plan) (waiting : Waiting) (es : List (ActBy Act)) (s : Network (Actor Process) Token) → IsAccepted p → IsOneNodeOf p one → IsAccepted one
-    → HappenAll (network_of p) waiting does (begins (network_of p) (begin_of p)) es s → RunsOnOneNode p one waiting s
+    → HappenAll (network_of p) waiting does (begins (network_of p) (begin_of p)) es s → (l : Linearizes p s) × RunsOnOneNode p one waiting s l.atomics
