@@ -25,6 +25,8 @@ use Rattle.vc_vcp.specs.Links.{new_vcp}
 use Rattle.vc_machine.specs.Rendezvous.{nothing_yet}
 use Rattle.vc_actor.specs.Begin.{AreFirst}
 use Rattle.vc_placement.proofs.Networks.{invisible}
+use Rattle.vc_placement.proofs.Running.{one_node_runs}
+use Rattle.vc_placement.specs.Placement.{Linearizes}
 use Rattle.vc_accepted.specs.Begin.{begin_of}
 use Rattle.vc_core.specs.Channels.{AreChannelsOf}
 use Rattle.vc_accepted.specs.Process.{Process, does}
@@ -100,15 +102,18 @@ by_steps p events s r = (both p events s r).1
 
 -- and it is told in occam's words, with a linearization
 pub replays : (p : Plan) (events : List Event) (s : State) → Reached p events s → Replays p events s
-replays p events s r = record {
-  is = r.is;
-  runs = record {
-    accepted = r.is.accepted;
-    happen = r.happen;
-    headline = (both p events s r).0;
-    linearizes = invisible p Wormhole (map event_of events) (shown s) r.is.accepted r.happen;
-  };
-}
+replays p events s r =
+    let lin : Linearizes p (shown s) = invisible p Wormhole (map event_of events) (shown s) r.is.accepted r.happen in
+    record {
+      is = r.is;
+      runs = record {
+        accepted = r.is.accepted;
+        happen = r.happen;
+        headline = (both p events s r).0;
+        linearizes = lin;
+        on_one_node = λ one is accepted. one_node_runs p one Wormhole (shown s) lin.atomics r.is.accepted is accepted lin.linearization;
+      };
+    }
 
 pub all_taken : {X : Type 0} (xs : List X) (n : ℕ) → length xs ≤ n → take n xs ≡ xs
 all_taken [] zero h = refl

@@ -2,7 +2,9 @@
 use Rattle.std.specs.Prelude.{◌≡◌, ◌↔◌, ℕ, List, map, take, slice_get, Option, Some, None}
 use Rattle.vc_network.specs.Headline.{Headline}
 use Rattle.vc_network.specs.Network.{begins, HappenAll}
+use Rattle.vc_placement.specs.OneNode.{RunsOnOneNode}
 use Rattle.vc_placement.specs.Placement.{Linearizes}
+use Rattle.vc_plan.specs.OneNode.{IsOneNodeOf}
 use Rattle.vc_plan.specs.declared.plan.Plan.{Plan}
 use Rattle.vc_accepted.specs.NetworkOf.{network_of}
 use Rattle.vc_switch.specs.Waiting.{Wormhole}
@@ -28,12 +30,14 @@ pub record Reached (p : Plan) (events : List Event) (s : State) : Type 0 where
   pub happen : HappenAll (network_of p) Wormhole does (begins (network_of p) (begin_of p)) (map event_of events) (shown s)
 
 -- these events lead from the opening state of an accepted plan to this one. There the headline holds, and one list tells all that the nodes
--- communicated, which has a linearization: each message passes at one moment, and each node's part is a trace of its process
+-- communicated, which has a linearization: each message passes at one moment, and each node's part is a trace of its process. One node
+-- that has all processes runs that linearization, where its plan is accepted too.
 pub record RunsTo (p : Plan) (events : List Event) (x : NetworkState) : Type 0 where
   pub accepted : IsAccepted p
   pub happen : HappenAll (network_of p) Wormhole does (begins (network_of p) (begin_of p)) (map event_of events) x
   pub headline : Headline (network_of p) Wormhole does x
   pub linearizes : Linearizes p x
+  pub on_one_node : (one : Plan) → IsOneNodeOf p one → IsAccepted one → RunsOnOneNode p one Wormhole x linearizes.atomics
 
 -- and so for a state of the code
 pub record Replays (p : Plan) (events : List Event) (s : State) : Type 0 where

@@ -23,7 +23,6 @@ use Rattle.vc_occam.specs.Exchanges as exchanges
 use Rattle.vc_occam.specs.States.{State}
 use Rattle.vc_occam.specs.Traces.{Comm, Out, Fin, In, Stp}
 use Rattle.vc_placement.proofs.Ends.{output_use, input_use}
-use Rattle.vc_placement.proofs.Networks.{invisible}
 use Rattle.vc_placement.proofs.OneNode.{one_node_can}
 use Rattle.vc_placement.specs.Linearization.{Atomic, Exchange, Stop, all_comms, AreFaithful, completed}
 use Rattle.vc_placement.specs.OneNode.{OneNodeRunsIt}
@@ -239,10 +238,7 @@ module _ (p one : Plan) (waiting : Waiting) (is : IsOneNodeOf p one) where
         }
 
 pub one_node_runs : OneNodeRunsIt
-one_node_runs p one waiting es s acc is acc1 h =
-    let found = invisible p waiting es s acc h in
-    let lin = found.linearization in
-    let hs = found.atomics in
+one_node_runs p one waiting s hs acc is acc1 lin =
     let ks = without_nodes (all_comms hs) in
     let could = one_node_can p one s hs acc is.is lin in
     let exchanges_of = are_exchanges hs lin.faithful in
@@ -253,16 +249,14 @@ one_node_runs p one waiting es s acc is acc1 h =
     let r = run p one waiting is made.moves opens new_vcp (λ c. nothing_yet) (λ c. completed (view (network_of p) s c))
     (ap (λ b. if b then IsNode (record { vcp = new_vcp; process = begin_of one 0; inner = λ c. nothing_yet }) else IsSwitch new_switch) (lt-ltb 0 (length one.nodes) (one_there p one waiting is)))
     exchanges_of (λ c l. subst (λ z. DoesAll nothing_yet z (completed (view (network_of p) s c))) (sym (without_is c (all_comms hs))) (lin.on_channel c l)) in
-    let now : Node Process = record { vcp = r.vcp; process = record { inside = (begin_of one 0).inside; state = made.last }; inner = r.inner } in (
-      found,
-      record {
-        events = r.events;
-        end = r.end;
-        happen = r.happen;
-        node = now;
-        is_node = r.here;
-        makes = (steps_make_traces (written node.process) (begin_of one 0).state.store ks made.last lawful (as_steps made.moves), could.1.1);
-        on_channel = λ c l. ap (view_at (network_of one) r.end c) (at_home p one waiting is c l) ∙ ap (λ a. inner_of a c) r.here ∙ r.shows c l;
-        ended = λ all. (let end = could.2 all in (subst (EndsAs made.last) end.1 made.ends).0);
-      },
-    )
+    let now : Node Process = record { vcp = r.vcp; process = record { inside = (begin_of one 0).inside; state = made.last }; inner = r.inner } in
+    record {
+      events = r.events;
+      end = r.end;
+      happen = r.happen;
+      node = now;
+      is_node = r.here;
+      makes = (steps_make_traces (written node.process) (begin_of one 0).state.store ks made.last lawful (as_steps made.moves), could.1.1);
+      on_channel = λ c l. ap (view_at (network_of one) r.end c) (at_home p one waiting is c l) ∙ ap (λ a. inner_of a c) r.here ∙ r.shows c l;
+      ended = λ all. (let end = could.2 all in (subst (EndsAs made.last) end.1 made.ends).0);
+    }

@@ -8,7 +8,7 @@ use Rattle.vc_occam.specs.Remains.{Done}
 use Rattle.vc_occam.specs.Traces.{End}
 use Rattle.vc_placement.specs.Linearization.{Atomic, all_comms, completed}
 use Rattle.vc_placement.specs.Parallel.{without_nodes, IsEnded}
-use Rattle.vc_placement.specs.Placement.{IsLinearizationOf, Linearizes}
+use Rattle.vc_placement.specs.Placement.{IsLinearizationOf}
 use Rattle.vc_plan.specs.Accepted.{IsAccepted}
 use Rattle.vc_plan.specs.OneNode.{IsOnOneNode, IsOneNodeOf}
 use Rattle.vc_plan.specs.declared.plan.Plan.{Plan}
@@ -42,9 +42,9 @@ pub record RunsOnOneNode (p one : Plan) (waiting : Waiting) (s : Network (Actor 
   pub on_channel : (c : ℕ) → c < length p.channels → view (network_of one) end c ≡ completed (view (network_of p) s c)
   pub ended : HaveEnded p s → node.process.state.rest ≡ Done
 
--- whatever an accepted plan's network did, under either waiting rule, has a linearization that the one node's network runs, where the
--- plan of one node is accepted too
+-- each linearization of what an accepted plan's network did the one node's network runs, under either waiting rule, where the plan of one
+-- node is accepted too
 abbrev pub OneNodeRunsIt : Type 0
 OneNodeRunsIt =
-    (p one : Plan) (waiting : Waiting) (es : List (ActBy Act)) (s : Network (Actor Process) Token) → IsAccepted p → IsOneNodeOf p one → IsAccepted one
-    → HappenAll (network_of p) waiting does (begins (network_of p) (begin_of p)) es s → (l : Linearizes p s) × RunsOnOneNode p one waiting s l.atomics
+    (p one : Plan) (waiting : Waiting) (s : Network (Actor Process) Token) (hs : List Atomic) → IsAccepted p → IsOneNodeOf p one → IsAccepted one → IsLinearizationOf p s hs
+    → RunsOnOneNode p one waiting s hs

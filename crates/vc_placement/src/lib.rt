@@ -37,9 +37,9 @@ pub fn one_node_can_do_it()
     ensures { OneNodeCanDoIt }
 {}
 
-/// Where the plan of one node is accepted, its network runs what the other's did: there are events, from its opening state on, by which
-/// its process makes a linearization's communications in their order. Each channel shows then what was completed on the other network,
-/// and the process has ended where all processes have.
+/// Where the plan of one node is accepted, its network runs what the other's did: for each linearization of that there are events, from
+/// its opening state on, by which its process makes the linearization's communications in their order. Each channel shows then what was
+/// completed on the other network, and the process has ended where all processes have.
 pub fn one_node_runs_it()
     ensures { OneNodeRunsIt }
 {}
