@@ -1,4 +1,4 @@
-use Rattle.std.proofs.Common.{ap, length}
+use Rattle.std.proofs.Common.{ap, ◌∙◌, length}
 use Rattle.std.proofs.lemmas.Option.{slice_get_within}
 use Rattle.vc_text.proofs.run.view_of.Goals as goal
 
@@ -8,7 +8,7 @@ returns c = λ p x is there.
     λ i. record {
       name = c.name.ensures p x is there i;
       kind = c.kind.ensures p x is there i;
-      offered = ap length (c.offered.ensures p is less) i;
+      offered = (c.len.ensures ∙ ap length (c.offered.ensures p is less)) i;
       taken = c.taken.ensures p is less i;
       finished = c.finished.ensures p is less i;
       is_stopped = c.stopped.ensures p is less i;
