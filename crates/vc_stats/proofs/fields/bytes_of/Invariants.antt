@@ -5,4 +5,4 @@ use Rattle.vc_stats.specs.Fields.{bytes_of}
 use Rattle.vc_stats.proofs.fields.bytes_of.Given as goal
 
 abbrev pub invariant-loop-message : goal.invariant-loop-message
-invariant-loop-message l = min (l.bytes + sum_by length (listed_left l.message-iterator)) (2 ^ 64 - 1) ≡ bytes_of (listed l.messages)
+invariant-loop-message l = min (l.bytes + sum_by length (listed_left l.message-iterator)) (2 ^ 64 - 1) ≡ bytes_of (listed l.fn.messages)
