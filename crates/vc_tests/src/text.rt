@@ -4,21 +4,21 @@ use crate::streams::Stubborn;
 use std::alloc::{AllocError, Global};
 use std::io::Write;
 use std::test::Fail;
+use vc_blocks::{MessageLog, Messages};
 use vc_core::Close;
 use vc_occam::ValueKind;
-use vc_packets::Bytes;
 use vc_reader::read_network;
 use vc_text::{ChannelView, RunFault, run_step, write_channels, write_fault};
 
 /// The traffic of the hello network.
 fn write_hello<W: Write>(alloc: Global, writer: &mut W) -> Result<(), RunFault> {
-    let mut taken = Vec::new(alloc);
-    taken.push(Bytes::from_slice(alloc, b"hello")?)?;
+    let mut taken = MessageLog::new(alloc);
+    taken.push(b"hello")?;
     let view = ChannelView {
         name: "c",
         kind: ValueKind::Bytes,
         offered: 1,
-        taken: taken.as_slice(),
+        taken: Messages::of(&taken),
         finished: 1,
         is_stopped: false,
     };
