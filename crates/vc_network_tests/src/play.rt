@@ -34,11 +34,7 @@ impl Play {
 
 /// Each message is there, in order.
 fn same_messages(left: Messages<'_>, right: Messages<'_>) -> bool {
-    left.len() == right.len()
-        && left
-            .iter()
-            .zip(right.iter())
-            .all(|(x, y)| x == y)
+    left.len() == right.len() && left.iter().zip(right.iter()).all(|(x, y)| x == y)
 }
 
 /// Whether two networks show the same of a channel.

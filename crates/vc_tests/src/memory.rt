@@ -45,11 +45,7 @@ fn a_run_of_the_squares_network_is_whole_or_writes_nothing(rt: HostRuntime) {
 
 /// Each message is there, in order.
 fn same_messages(left: Messages<'_>, right: Messages<'_>) -> bool {
-    left.len() == right.len()
-        && left
-            .iter()
-            .zip(right.iter())
-            .all(|(x, y)| x == y)
+    left.len() == right.len() && left.iter().zip(right.iter()).all(|(x, y)| x == y)
 }
 
 /// Whether two networks show the same of their first channel.
