@@ -1,5 +1,5 @@
 //! What the label of a channel says of its messages and of its packet.
-ghost use Rattle.std.specs.Prelude.{◌≡◌, ◌++◌, Some, Option, map, option_copied, slice_get, IfOk, OnOk};
+ghost use Rattle.std.specs.Prelude.{◌≡◌, ◌++◌, Some, Option, map, slice_get, IfOk, OnOk};
 ghost use Rattle.std.specs.List.{enumerate_from};
 ghost use Rattle.vc_core.specs.State.{IsNetworkOf, shown, state_of};
 ghost use Rattle.vc_draw.specs.State.{channel_label as label_of_channel, counts_line, packet_line, place_at as place_in};

@@ -1,5 +1,5 @@
 //! Lines that a drawing adds to its labels.
-ghost use Rattle.std.specs.Prelude.{◌≡◌, ℕ, List, IfOk};
+ghost use Rattle.std.specs.Prelude.{◌≡◌, List, IfOk};
 ghost use Rattle.vc_core.specs.Replaying.{Reached};
 ghost use Rattle.vc_core.specs.State.{shown, state_of};
 ghost use Rattle.vc_core.specs.declared.event.Event.{Event};
