@@ -104,6 +104,10 @@ RunsNetwork options account known old new status =
 abbrev pub events_fault : List ℕ
 events_fault = codes "fault events" ++ 10 ∷ []
 
+-- the words of the command line are no text
+abbrev pub no_text_fault : List ℕ
+no_text_fault = codes "error: the command line is no UTF-8" ++ 10 ∷ []
+
 -- The events that a file has are made, or a fault of that is told. Where the file can't be opened, or memory is short for its name, that
 -- is told, and nothing is read.
 abbrev pub ReplaysNetwork : (is_why : Bool) → Option (List ℕ) → Option (List ℕ) → Option (List ℕ) → ℕ → Type 0

@@ -1,12 +1,12 @@
 //! From the words of the command line to the program's status.
-ghost use Rattle.std.specs.Prelude.{◌≡◌, ℕ, List, Some, None};
+ghost use Rattle.std.specs.Prelude.{◌≡◌, List, Some, None};
 ghost use Rattle.vc_text.specs.declared.fault.RunFault.TheVariants.{Memory as OutOfMemory};
 ghost use Rattle.clap.specs.Walk.{Text, texts};
 ghost use Rattle.vc_text.specs.OneNode.{ReadsAs};
 ghost use Rattle.vc_text.specs.Running.{WritesRunBy};
 ghost use Rattle.vc_text.specs.Threading.{WritesThreads};
 ghost use Rattle.vc_words.specs.CommandLine.{faults, IsFaultOf};
-ghost use Rattle.vc_words.specs.Program.{ChecksNetwork, DrawsNetwork, ExplainsNetwork, FindsDeadlock, IsTextOf, IsThreadTextOf, ReplaysNetwork, Runs, RunsNetwork, StepsNetwork, Tells, TellsFault, TellsLine};
+ghost use Rattle.vc_words.specs.Program.{ChecksNetwork, DrawsNetwork, ExplainsNetwork, FindsDeadlock, IsTextOf, IsThreadTextOf, ReplaysNetwork, Runs, RunsNetwork, StepsNetwork, Tells, TellsFault, TellsLine, no_text_fault};
 ghost use Rattle.vc_words.specs.Status.{status_of_acceptance as status_for_acceptance, status_of_check as status_for_check, status_of_text as status_for_text, status_of_fault, status_of_freedom as status_for_freedom, status_of_end, status_of_replay as status_for_replay};
 
 use crate::account::Account;
@@ -134,10 +134,9 @@ pub fn tell_memory<W: Write>(alloc: Global, writer: &mut W) -> u8
     told(alloc, RunFault::Memory, writer)
 }
 
-/// Writes that the words of the command line are no text, as a bad line.
+/// Writes that the words of the command line are no text. The status is that of a bad line, or of a fault in writing it.
 pub fn tell_no_text<W: Write>(writer: &mut W) -> u8
-    ensures { (text : List ℕ) ×
-        Tells (W.contents writer.old) (W.contents writer.new) text 5 result }
+    ensures { Tells (W.contents writer.old) (W.contents writer.new) no_text_fault 5 result }
 {
     told_text(b"error: the command line is no UTF-8\n", BAD_LINE, writer)
 }
