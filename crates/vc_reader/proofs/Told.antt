@@ -25,7 +25,7 @@ use Rattle.vc_reader.specs.declared.word.Word.{Word}
 use Rattle.vc_reader.specs.declared.word.Word.TheVariants as word
 use Rattle.vc_reader.specs.declared.path.Step.{Step}
 use Rattle.vc_reader.specs.declared.path.Step.TheVariants.{Field, Index}
-use Rattle.vc_reader.specs.Faulty.{Fields, Wants}
+use Rattle.vc_reader.specs.Faulty.{Fields, Whole, Wants}
 use Rattle.vc_reader.specs.Faulty as wants
 use Rattle.vc_reader.specs.Names.{new_name, has_name, known_or_not, one_of}
 use Rattle.vc_reader.specs.Network.{at_most, read_kind, read_way, read_link, read_header, read_limit, read_var, read_head, read_node, portal_word, portal_row, out_row, table_row, read_random, switch_words, is_place, read_switch, place_named, read_place, read_wire, read_end, read_vlink, vlink_number, way_home, node_home, channel_words, read_home, read_channel}

@@ -37,7 +37,7 @@ use Rattle.vc_reader.specs.declared.process.ProcessWord.{ProcessWord}
 use Rattle.vc_reader.specs.declared.process.ProcessWord.TheVariants as head_of
 use Rattle.vc_reader.specs.declared.word.Word.{Word}
 use Rattle.vc_reader.specs.declared.word.Word.TheVariants as word
-use Rattle.vc_reader.specs.Faulty.{Fields, Wants, InProcess, part, process_words, integer, message, fill_byte, fill_count, too_great, too_long, unknown_field}
+use Rattle.vc_reader.specs.Faulty.{Wanted, Fields, Wants, InProcess, part, process_words, integer, message, fill_byte, fill_count, too_great, too_long, unknown_field}
 use Rattle.vc_reader.specs.Faulty as faulty
 use Rattle.vc_reader.specs.Bytes.{of_kind, read_variable, no_longer, hex_digit, hex_bytes, read_hex, read_literal, read_fill, formed_bytes, read_bytes}
 use Rattle.vc_reader.specs.Conditions.{cond_word, plain_cond, read_comparison, read_both, read_either, read_not, worded_cond, cond_step, read_cond, whole_cond}

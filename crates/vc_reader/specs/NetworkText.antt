@@ -19,7 +19,7 @@ use Rattle.vc_reader.specs.declared.fault.Fault.{Fault}
 use Rattle.vc_reader.specs.declared.node.Head.{Head}
 use Rattle.vc_reader.specs.declared.refused.ReadRefused.{ReadRefused}
 use Rattle.vc_reader.specs.declared.refused.ReadRefused.TheVariants.{Json, Missing, Kind, Range, Unknown, Memory}
-use Rattle.vc_reader.specs.Reading.{field, read_list, list_field, read_object, read_number}
+use Rattle.vc_reader.specs.Reading.{◌>>=◌, field, read_list, list_field, read_object, read_number}
 use Rattle.vc_reader.specs.Network.{read_head, read_switch, read_wire, read_vlink, read_channel}
 use Rattle.vc_reader.specs.Processes.{whole_process}
 
