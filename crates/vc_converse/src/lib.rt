@@ -1,0 +1,12 @@
+//! The converse of `vc_placement`: what the wires add to one transputer takes nothing away. Where the ports of an accepted plan have
+//! ranks, its network delivers by itself. Definitions and laws.
+#![tactic(auto)]
+
+ghost use Rattle.vc_converse.specs.Delivery.{FreeNetworksDeliver};
+
+/// Wherever an accepted plan's network has come, under either waiting rule, and if its ports have ranks: there are events without moves
+/// of processes, after which nothing but processes can go on. Then no way carries a token, each message is through whose receiver
+/// inputs, and every other packet is held where no process inputs.
+pub fn a_free_network_delivers()
+    ensures { FreeNetworksDeliver }
+{}
