@@ -3,4 +3,10 @@ pub mod InStep
 pub mod Lifting
 pub mod Held
 pub mod Placing
+pub mod Outcomes
+pub mod Stages
+pub mod Exchanging
+pub mod Runs
 pub mod Main
+pub mod Moving
+pub mod Doing

@@ -34,7 +34,7 @@ rests a p e = record {
   outputs = λ c h. absurd (h (ap (λ (z : Carrier). (z.out c).unacked) e));
 }
 
-first_vcp : (p : Plan) (n : ℕ) → vcp_of (first (network_of p) (begin_of p) n) ≡ new_vcp
+pub first_vcp : (p : Plan) (n : ℕ) → vcp_of (first (network_of p) (begin_of p) n) ≡ new_vcp
 first_vcp p n = by_test (nat_lt n (length p.nodes))
   where
     by_test : (b : Bool) → vcp_of {P = Process} (if b then IsNode (record { vcp = new_vcp; process = begin_of p n; inner = λ c. nothing_yet }) else IsSwitch new_switch) ≡ new_vcp

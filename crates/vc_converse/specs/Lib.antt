@@ -1,1 +1,2 @@
 pub mod Delivery
+pub mod Together
