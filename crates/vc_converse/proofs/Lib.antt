@@ -10,3 +10,6 @@ pub mod Runs
 pub mod Main
 pub mod Moving
 pub mod Doing
+pub mod Unrenamed
+pub mod Splitting
+pub mod Converse

@@ -1,2 +1,3 @@
 pub mod Delivery
 pub mod Together
+pub mod Converse

@@ -1,7 +1,13 @@
-//! The converse of `vc_placement`: what the wires add to one transputer takes nothing away. Where the ports of an accepted plan have
-//! ranks, its network delivers by itself. Definitions and laws.
+//! The converse of `vc_placement`: on a free network, one whose ports have ranks, placement is invisible both ways. Whatever processes
+//! may do together, as on one transputer, the network does, and so whatever the plan of one node does. Definitions and laws.
+//!
+//! The network delivers by itself: as long as a token can move, one does, and it comes to an end. So an exchange goes through wherever
+//! both processes can make it. An output is offered and its first piece delivered. There the input or guard takes it, and the
+//! network delivers the rest and the acknowledges. A trace of the one node is split into its parts' traces, and these have a
+//! linearization (`every_history_linearizes`), which the network does exchange by exchange.
 #![tactic(auto)]
 
+ghost use Rattle.vc_converse.specs.Converse.{NetworkRunsIt};
 ghost use Rattle.vc_converse.specs.Delivery.{FreeNetworksDeliver};
 ghost use Rattle.vc_converse.specs.Together.{FreeNetworksDoAll};
 
@@ -17,4 +23,11 @@ pub fn a_free_network_delivers()
 /// process has ended where its trace has.
 pub fn a_free_network_does_all()
     ensures { FreeNetworksDoAll }
+{}
+
+/// The converse of `one_node_runs_it` (vc_placement): whatever the plan of one node does, where it is accepted too, the plan's network
+/// runs, if its ports have ranks: there are events from its opening state on, to a state in which each channel shows the same, and all
+/// processes have ended where the one node's process has. So on a free network placement is invisible both ways.
+pub fn the_network_runs_it()
+    ensures { NetworkRunsIt }
 {}
