@@ -74,7 +74,7 @@ get_there (x ∷ xs) (suc m) h = get_there xs m (omega arith)
 inner_completed : (v : View) → InnerFits v → completed v ≡ v
 inner_completed v f = λ i. record { offered = f.taken i; taken = v.taken; finished = (ap length f.taken ∙ sym f.finished) i; stopped = v.stopped }
 
-ended_done : (s : State) (x : End) → IsEnded x → EndsAs s x → s.rest ≡ Done
+pub ended_done : (s : State) (x : End) → IsEnded x → EndsAs s x → s.rest ≡ Done
 ended_done s (Ended f) i e = e.0
 ended_done s Open i e = absurd (let z : Open ≡ Ended i.0 = i.1 in cc)
 

@@ -13,3 +13,4 @@ pub mod Doing
 pub mod Unrenamed
 pub mod Splitting
 pub mod Converse
+pub mod Placements

@@ -1,3 +1,4 @@
 pub mod Delivery
 pub mod Together
+pub mod Placements
 pub mod Converse

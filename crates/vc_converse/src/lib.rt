@@ -9,6 +9,7 @@
 
 ghost use Rattle.vc_converse.specs.Converse.{NetworkRunsIt};
 ghost use Rattle.vc_converse.specs.Delivery.{FreeNetworksDeliver};
+ghost use Rattle.vc_converse.specs.Placements.{FreePlacementsDoTheSame};
 ghost use Rattle.vc_converse.specs.Together.{FreeNetworksDoAll};
 
 /// Wherever an accepted plan's network has come, under either waiting rule, and if its ports have ranks: there are events without moves
@@ -30,4 +31,11 @@ pub fn a_free_network_does_all()
 /// processes have ended where the one node's process has. So on a free network placement is invisible both ways.
 pub fn the_network_runs_it()
     ensures { NetworkRunsIt }
+{}
+
+/// Of two placements of one program, with other wires, switches, labels, homes of channels and waiting rules: what the network of the
+/// one did, that of the other runs, if its ports have ranks. Each channel shows what was completed, and all processes have ended where
+/// all had.
+pub fn free_placements_do_the_same()
+    ensures { FreePlacementsDoTheSame }
 {}
