@@ -398,9 +398,9 @@ module _ (p : Plan) (waiting : Waiting) (acc : IsAccepted p) (ranks : HasRanks p
             packet = u.packet;
             now = g.now;
             later = g.later;
-            held = sym (ap (λ (z : InHalf). z.held) (in_is c v ab h k)) ∙ u.held;
+            held = subst (λ (z : InHalf). z.held ≡ Some u.packet) (in_is c v ab h k) u.held;
             piece = record { body = for_net.body ∙ ap (λ z. spelled (z ∷ []) ++ g.now) block; kind = for_net.kind };
-            whole = ap (λ z. z ++ joined (g.now ∷ g.later)) (sym stored) ∙ g.whole ∙ message_is;
+            whole = subst (λ z. z ++ joined (g.now ∷ g.later) ≡ sent) stored (subst (λ z. (a.tokens.nodes.chans c).stored ++ joined (g.now ∷ g.later) ≡ z) message_is g.whole);
           }
 
       is_open : node.IsOpen (ends N n) vcp.carrier c end
