@@ -8,10 +8,10 @@ use Rattle.vc_accepted.specs.Begin.{node_plan, no_node, begin_of}
 use Rattle.vc_accepted.specs.NetworkOf.{network_of, home_in}
 use Rattle.vc_accepted.specs.OneList.{by, on, to_channel, IsTold}
 use Rattle.vc_accepted.specs.Process.{Process}
-use Rattle.vc_converse.proofs.Doing.{do_all}
-use Rattle.vc_converse.proofs.Placing.{arrived}
-use Rattle.vc_converse.proofs.Splitting.{empty, Split, split}
-use Rattle.vc_converse.specs.Converse.{NetworkRunsIt}
+use Rattle.vc_free.proofs.Doing.{do_all}
+use Rattle.vc_free.proofs.Placing.{arrived}
+use Rattle.vc_free.proofs.Splitting.{empty, Split, split}
+use Rattle.vc_free.specs.Converse.{NetworkRunsIt}
 use Rattle.vc_machine.specs.Rendezvous as rendezvous
 use Rattle.vc_machine.specs.Rendezvous.{View, DoesAll, part as part_on, nothing_yet}
 use Rattle.vc_network.proofs.Steps.{InnerFits}

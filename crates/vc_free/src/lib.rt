@@ -7,10 +7,10 @@
 //! linearization (`every_history_linearizes`), which the network does exchange by exchange.
 #![tactic(auto)]
 
-ghost use Rattle.vc_converse.specs.Converse.{NetworkRunsIt};
-ghost use Rattle.vc_converse.specs.Delivery.{FreeNetworksDeliver};
-ghost use Rattle.vc_converse.specs.Placements.{FreePlacementsDoTheSame};
-ghost use Rattle.vc_converse.specs.Together.{FreeNetworksDoAll};
+ghost use Rattle.vc_free.specs.Converse.{NetworkRunsIt};
+ghost use Rattle.vc_free.specs.Delivery.{FreeNetworksDeliver};
+ghost use Rattle.vc_free.specs.Placements.{FreePlacementsDoTheSame};
+ghost use Rattle.vc_free.specs.Together.{FreeNetworksDoAll};
 
 /// Wherever an accepted plan's network has come, under either waiting rule, and if its ports have ranks: there are events without moves
 /// of processes, after which nothing but processes can go on. Then no way carries a token, each message is through whose receiver

@@ -6,11 +6,11 @@ use Rattle.vc_accepted.proofs.Ranked.{ranked}
 use Rattle.vc_accepted.specs.Begin.{begin_of}
 use Rattle.vc_accepted.specs.NetworkOf.{network_of, home_in}
 use Rattle.vc_accepted.specs.Process.{Process, does}
-use Rattle.vc_converse.proofs.Held.{all_held, ways_empty, held_unasked, asked_through}
-use Rattle.vc_converse.proofs.Lifting.{Moved, lifted}
-use Rattle.vc_converse.proofs.Placing.{Arrived, happened, arrived}
-use Rattle.vc_converse.proofs.Progress.{Progress, goes_on}
-use Rattle.vc_converse.specs.Delivery.{HasDelivered, Delivers, FreeNetworksDeliver}
+use Rattle.vc_free.proofs.Held.{all_held, ways_empty, held_unasked, asked_through}
+use Rattle.vc_free.proofs.Lifting.{Moved, lifted}
+use Rattle.vc_free.proofs.Placing.{Arrived, happened, arrived}
+use Rattle.vc_free.proofs.Progress.{Progress, goes_on}
+use Rattle.vc_free.specs.Delivery.{HasDelivered, Delivers, FreeNetworksDeliver}
 use Rattle.vc_machine.proofs.Still.{Standing, stands, still_is_clear}
 use Rattle.vc_machine.specs.Dependencies as ways_ranks
 use Rattle.vc_machine.specs.Paths.{Net}

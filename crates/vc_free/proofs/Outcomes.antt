@@ -15,7 +15,7 @@ use Rattle.vc_process.specs.ProcessStep.{Finishes, Receives}
 use Rattle.vc_tokens.specs.Tokens.{Token, Byte, EndMark}
 use Rattle.vc_tokens.specs.Tokens as tokens
 use Rattle.vc_vcp.specs.Carrier.{End, Ends, OutHalf, InHalf, Carrier}
-use Rattle.vc_vcp.specs.Links.{Vcp, passes_byte, drops_byte, passes_mark, unqueued}
+use Rattle.vc_vcp.specs.Links.{passes_byte, drops_byte, passes_mark, unqueued}
 use Rattle.vc_vcp.specs.Links as links
 use Rattle.vc_vcp.specs.Steps.{Taken, Held, Stored, Complete, More, Finished, Stray, Arrives, takes, stray, stores, holds, advances, store, message, taken_by, acked_by, advance}
 

@@ -6,7 +6,7 @@ use Rattle.std.specs.List.{AllByRecursion, Contains}
 use Rattle.vc_accepted.proofs.Accepting.{accepted}
 use Rattle.vc_accepted.specs.NetworkOf.{network_of}
 use Rattle.vc_accepted.specs.Process.{Process}
-use Rattle.vc_converse.specs.Delivery.{IsHeld, in_half, IsUnasked, IsThrough}
+use Rattle.vc_free.specs.Delivery.{IsHeld, in_half, IsUnasked, IsThrough}
 use Rattle.vc_machine.proofs.Labels.{Phase, Calm, Coming, Waiting, Returning, PhaseFits}
 use Rattle.vc_machine.proofs.Owned.{all_both}
 use Rattle.vc_machine.specs.Links.{Tokens}

@@ -11,18 +11,18 @@ use Rattle.vc_accepted.specs.Determinate.{IsLawful}
 use Rattle.vc_accepted.specs.NetworkOf.{network_of, home_in, home_of, link_of}
 use Rattle.vc_accepted.specs.OneList.{by, on}
 use Rattle.vc_accepted.specs.Process.{Process, does, Goes}
-use Rattle.vc_converse.proofs.Exchanging.{before, taken}
-use Rattle.vc_converse.proofs.Moving.{Made, AreEven, offered_more, stopped_view, with_state, calmed, went_through, rested, offered, stopped_way, stopped_inside, met_inside, Took, at_once, waits, took}
-use Rattle.vc_converse.proofs.Runs.{RestsAt, OffersAt, TakesAt, StopsAt, Rests, no_rest, one_rest, rests_only, NextOut, NextIn, Early, next_out, next_in, next_stop, early, meeting_of, want_on, choose_on}
-use Rattle.vc_converse.specs.Delivery.{HasDelivered}
-use Rattle.vc_converse.proofs.Stages.{got_more, finished_more}
+use Rattle.vc_free.proofs.Exchanging.{before, taken}
+use Rattle.vc_free.proofs.Moving.{Made, AreEven, offered_more, stopped_view, with_state, calmed, went_through, rested, offered, stopped_way, stopped_inside, met_inside, Took, at_once, waits, took}
+use Rattle.vc_free.proofs.Runs.{RestsAt, OffersAt, TakesAt, StopsAt, Rests, no_rest, one_rest, rests_only, NextOut, NextIn, Early, next_out, next_in, next_stop, early, meeting_of, want_on, choose_on}
+use Rattle.vc_free.specs.Delivery.{HasDelivered}
+use Rattle.vc_free.proofs.Stages.{got_more, finished_more}
 use Rattle.vc_machine.proofs.Basics.{put-same, put-other, every_put}
 use Rattle.vc_network.proofs.Seen.{put_twice}
 use Rattle.vc_machine.specs.Rendezvous as rendezvous
 use Rattle.vc_machine.specs.Rendezvous.{View, DoesAll, nothing_yet}
 use Rattle.vc_network.specs.Network.{begins, HappenAll, exchanged}
 use Rattle.vc_network.specs.Plan as network
-use Rattle.vc_network.specs.Plan.{Way, Inside, home, virtual_link}
+use Rattle.vc_network.specs.Plan.{Way, Inside, home}
 use Rattle.vc_network.specs.Views.{source_node, sink_node}
 use Rattle.vc_occam.proofs.Keeping.{step_uses, doing_keeps_use}
 use Rattle.vc_occam.proofs.Listing.{offer_on, stop_on}
@@ -50,8 +50,8 @@ use Rattle.vc_plan.specs.declared.node_plan.NodePlan.{NodePlan}
 use Rattle.vc_plan.specs.declared.plan.Plan.{Plan}
 use Rattle.vc_plan.specs.declared.vlink.Vlink.{Vlink}
 use Rattle.vc_process.specs.Lawful.{inputs, outputs}
-use Rattle.vc_converse.specs.Together.{FreeNetworksDoAll}
-use Rattle.vc_converse.proofs.Placing.{arrived, first_vcp}
+use Rattle.vc_free.specs.Together.{FreeNetworksDoAll}
+use Rattle.vc_free.proofs.Placing.{arrived, first_vcp}
 use Rattle.vc_network.proofs.Main.{first_node, first_view}
 use Rattle.vc_occam.proofs.Completeness.{made as traces_made}
 use Rattle.vc_occam.proofs.Keeping.{begins as begins_lawful}

@@ -4,8 +4,8 @@ use Rattle.std.proofs.Common.{◌≡◌, ℕ, suc, ◌<◌, Bool, true, false, n
 use Rattle.std.proofs.lemmas.Bool.{cases_eq}
 use Rattle.vc_accepted.specs.NetworkOf.{network_of}
 use Rattle.vc_accepted.specs.Process.{Process, does, Goes}
-use Rattle.vc_converse.proofs.Outcomes.{SameOut, SameIn, finished_out, completed_in, Outcome, nothing, completes, finishes, outcome}
-use Rattle.vc_converse.specs.Delivery.{in_half}
+use Rattle.vc_free.proofs.Outcomes.{SameOut, SameIn, finished_out, completed_in, Outcome, nothing, completes, finishes, outcome}
+use Rattle.vc_free.specs.Delivery.{in_half}
 use Rattle.vc_machine.proofs.Basics.{every_put}
 use Rattle.vc_machine.specs.Rendezvous.{View}
 use Rattle.vc_network.specs.Actors.{Label, Network, Step, act_of}

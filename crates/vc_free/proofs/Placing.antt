@@ -6,8 +6,8 @@ use Rattle.vc_accepted.proofs.Accepting.{accepted}
 use Rattle.vc_accepted.specs.Begin.{begin_of}
 use Rattle.vc_accepted.specs.NetworkOf.{network_of}
 use Rattle.vc_accepted.specs.Process.{Process, does}
-use Rattle.vc_converse.proofs.InStep.{InStep, stays_in_step}
-use Rattle.vc_converse.proofs.Lifting.{Placed}
+use Rattle.vc_free.proofs.InStep.{InStep, stays_in_step}
+use Rattle.vc_free.proofs.Lifting.{Placed}
 use Rattle.vc_machine.specs.Links.{Tokens, no_tokens}
 use Rattle.vc_machine.specs.Rendezvous.{nothing_yet}
 use Rattle.vc_machine.specs.TokenMachine.{TokenEvent, TokenRun}

@@ -6,9 +6,9 @@ use Rattle.vc_accepted.proofs.Determinate.{one_state}
 use Rattle.vc_accepted.specs.Determinate.{IsLawful}
 use Rattle.vc_accepted.specs.NetworkOf.{network_of}
 use Rattle.vc_accepted.specs.Process.{Process, does, Goes}
-use Rattle.vc_converse.proofs.Placing.{Arrived, happened}
-use Rattle.vc_converse.proofs.Stages.{State, got_more, finished_more, IsAt, stays_there, comes, ended, leads}
-use Rattle.vc_converse.specs.Delivery.{HasDelivered}
+use Rattle.vc_free.proofs.Placing.{Arrived, happened}
+use Rattle.vc_free.proofs.Stages.{State, got_more, finished_more, IsAt, stays_there, comes, ended, leads}
+use Rattle.vc_free.specs.Delivery.{HasDelivered}
 use Rattle.vc_machine.proofs.Basics.{put-same, put-other}
 use Rattle.vc_machine.proofs.Labels.{Phase, Calm, Coming, Waiting as WaitingPhase, Returning, PhaseFits}
 use Rattle.vc_machine.specs.Machine.{ChanState}
@@ -21,7 +21,7 @@ use Rattle.vc_network.specs.Actors.{ActBy}
 use Rattle.vc_network.specs.Headline.{IsFaithful}
 use Rattle.vc_network.specs.Network.{Act, HappenAll, Happens}
 use Rattle.vc_network.specs.Plan as network
-use Rattle.vc_network.specs.Plan.{Home, Way, home, net_of}
+use Rattle.vc_network.specs.Plan.{Way, home, net_of}
 use Rattle.vc_network.specs.Still.{IsNoMove}
 use Rattle.vc_network.specs.Views.{source_node, sink_node, view}
 use Rattle.vc_packets.specs.Functions.{put}

@@ -8,7 +8,7 @@ use Rattle.vc_accepted.proofs.Ported.{side_of}
 use Rattle.vc_accepted.proofs.Wired.{wired}
 use Rattle.vc_accepted.specs.NetworkOf.{network_of, wire_of, port_at}
 use Rattle.vc_accepted.specs.Process.{Process, does}
-use Rattle.vc_converse.proofs.InStep.{InStep, awaited, goes_on}
+use Rattle.vc_free.proofs.InStep.{InStep, awaited, goes_on}
 use Rattle.vc_credit.specs.Ends.{Sender, Puts, puts_byte, puts_mark}
 use Rattle.vc_machine.specs.Links.{Tokens}
 use Rattle.vc_machine.specs.Machine as net

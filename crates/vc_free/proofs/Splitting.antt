@@ -2,7 +2,7 @@
 use Rattle.std.proofs.Common.{◌≡◌, ◌≢◌, ℕ, zero, suc, ◌+◌, ◌≤◌, ◌<◌, Bool, true, false, length-append, refl, sym, ap, ap₂, subst, ◌∙◌, List, [], ◌∷◌, ◌++◌, length, map, slice_get, Some, arith, ◌==◌, eq-eqb, ne_eqb, if◌then◌else◌}
 use Rattle.std.proofs.lemmas.List.{length-map, map-append}
 use Rattle.vc_accepted.specs.OneList.{by}
-use Rattle.vc_converse.proofs.Unrenamed.{moved_back}
+use Rattle.vc_free.proofs.Unrenamed.{moved_back}
 use Rattle.vc_occam.proofs.Fitting.{uses_there}
 use Rattle.vc_occam.specs.Opening.{empty_of}
 use Rattle.vc_occam.specs.Traces.{Comm, End, Open, Ended, both_ended, Merge, neither, from_left, from_right, Trace, TracePar, par_end, par_more}

@@ -5,13 +5,13 @@ use Rattle.vc_accepted.specs.Begin.{begin_of}
 use Rattle.vc_accepted.specs.Determinate.{IsLawful}
 use Rattle.vc_accepted.specs.NetworkOf.{network_of}
 use Rattle.vc_accepted.specs.Process.{Process, does, Goes}
-use Rattle.vc_converse.proofs.Exchanging.{calm, Exchanging, exchanged}
-use Rattle.vc_converse.proofs.Main.{delivers}
-use Rattle.vc_converse.proofs.Outcomes.{SameOut, SameIn}
-use Rattle.vc_converse.proofs.Placing.{Arrived, happened}
-use Rattle.vc_converse.proofs.Runs.{RestsAt, OffersAt, TakesAt, StopsAt, EndsAt, want_waits, choose_waits}
-use Rattle.vc_converse.proofs.Stages.{State, got_more, finished_more, IsAt, process_changes, out_changes, in_changes, inner_changes}
-use Rattle.vc_converse.specs.Delivery.{in_half, HasDelivered, Delivers}
+use Rattle.vc_free.proofs.Exchanging.{calm, Exchanging, exchanged}
+use Rattle.vc_free.proofs.Main.{delivers}
+use Rattle.vc_free.proofs.Outcomes.{SameOut, SameIn}
+use Rattle.vc_free.proofs.Placing.{Arrived, happened}
+use Rattle.vc_free.proofs.Runs.{RestsAt, OffersAt, TakesAt, StopsAt, EndsAt, want_waits, choose_waits}
+use Rattle.vc_free.proofs.Stages.{State, got_more, finished_more, IsAt, process_changes, out_changes, in_changes, inner_changes}
+use Rattle.vc_free.specs.Delivery.{in_half, HasDelivered, Delivers}
 use Rattle.vc_machine.proofs.Basics.{put-same, put-other}
 use Rattle.vc_machine.proofs.Halves.{last_of, waiting_when_held}
 use Rattle.vc_machine.proofs.Labels.{Phase, Calm, Coming, Waiting as WaitingPhase, Returning, PhaseFits, LeftAfter}
@@ -24,10 +24,10 @@ use Rattle.vc_network.proofs.Wiring.{carried}
 use Rattle.vc_network.proofs.Writes.{own_step}
 use Rattle.vc_network.specs.Actors.{ActBy, Step}
 use Rattle.vc_network.specs.Actors.Label.{Own}
-use Rattle.vc_network.specs.Network.{Act, Proc, Node, Actor, IsNode, Local, Moves, Happens, HappenAll, begins}
+use Rattle.vc_network.specs.Network.{Act, Proc, Node, IsNode, Local, Moves, Happens, HappenAll, begins}
 use Rattle.vc_network.specs.Network as network_step
 use Rattle.vc_network.specs.Plan as network
-use Rattle.vc_network.specs.Plan.{Home, Way, Inside, home, ends, end_of, end_here, virtual_link, input_end, output_end, net_of, net_channel}
+use Rattle.vc_network.specs.Plan.{Way, Inside, home, ends, end_of, end_here, virtual_link, input_end, output_end, net_of, net_channel}
 use Rattle.vc_network.specs.Processes as moves
 use Rattle.vc_network.specs.Views.{vcp_of, inner_of, vcps, source_node, sink_node, view_at}
 use Rattle.vc_occam.proofs.Listing.{quiet_own, stop_own, want_own, choose_own}
@@ -48,7 +48,7 @@ use Rattle.vc_plan.specs.Accepted.{IsAccepted}
 use Rattle.vc_plan.specs.Dependencies.{HasRanks}
 use Rattle.vc_plan.specs.declared.plan.Plan.{Plan}
 use Rattle.vc_process.specs.Messages.{message}
-use Rattle.vc_process.specs.ProcessStep.{Offers, Wants, Chooses, Stops, Meets, Finishes, Receives}
+use Rattle.vc_process.specs.ProcessStep.{Wants, Chooses, Finishes, Receives}
 use Rattle.vc_process.specs.ProcessStep as step
 use Rattle.vc_process.specs.declared.datum.Datum.{Datum}
 use Rattle.vc_switch.specs.Waiting.{Waiting}

@@ -1,5 +1,0 @@
-use Rattle.vc_converse.proofs.Doing.{do_all}
-use Rattle.vc_converse.proofs.a_free_network_does_all.Goals as goal
-
-pub returns : goal.returns
-returns c = do_all
