@@ -408,38 +408,38 @@ module _ (p : Plan) (waiting : Waiting) (acc : IsAccepted p) (ranks : HasRanks p
       at_src : r2.procs2 src ≡ with_state (procs src) o.before
       at_src = r2.others src ne ∙ r1.here
 
-      abbrev P3 : ℕ → Process
-      P3 = put r2.procs2 src (with_state (r2.procs2 src) o.after)
+      abbrev offering : ℕ → Process
+      offering = put r2.procs2 src (with_state (r2.procs2 src) o.after)
 
-      abbrev V3 : ℕ → View
-      V3 = put views c (offered_more (views c) sent)
+      abbrev views_offered : ℕ → View
+      views_offered = put views c (offered_more (views c) sent)
 
-      m3 : Here P3 V3 none_wants
-      m3 = offered p waiting acc ranks r2.procs2 views none_wants r2.made src few_src c v ab h refl all (even c v ab h)
+      made_offered : Here offering views_offered none_wants
+      made_offered = offered p waiting acc ranks r2.procs2 views none_wants r2.made src few_src c v ab h refl all (even c v ab h)
           (ap (λ (z : Process). z.inside c) at_src ∙ outside src c v ab (with_state (procs src) o.before) kept_out h) o.site x o.after (subst (λ (z : Process). OffersAt z.state o.site c x o.after) (sym at_src) o.step)
 
-      v3 : V3 c ≡ offered_more (views c) sent
-      v3 = put-same views c (offered_more (views c) sent)
+      view_offered : views_offered c ≡ offered_more (views c) sent
+      view_offered = put-same views c (offered_more (views c) sent)
 
-      even3 : AreEven p waiting acc ranks V3
-      even3 d w f e = every_put (λ j z. (w : ℕ) (f : Bool) → home N j ≡ Way w f → z.finished ≡ length z.taken) views c (offered_more (views c) sent) (λ w f e. even c w f e) (λ j ne w f e. even j w f e) d w f e
+      even_offered : AreEven p waiting acc ranks views_offered
+      even_offered d w f e = every_put (λ j z. (w : ℕ) (f : Bool) → home N j ≡ Way w f → z.finished ≡ length z.taken) views c (offered_more (views c) sent) (λ w f e. even c w f e) (λ j ne w f e. even j w f e) d w f e
 
-      offers3 : (V3 c).offered ≡ (V3 c).taken ++ sent ∷ []
-      offers3 = subst (λ (z : View). z.offered ≡ z.taken ++ sent ∷ []) (sym v3) (ap (λ z. z ++ sent ∷ []) (sym all))
+      offers_it : (views_offered c).offered ≡ (views_offered c).taken ++ sent ∷ []
+      offers_it = subst (λ (z : View). z.offered ≡ z.taken ++ sent ∷ []) (sym view_offered) (ap (λ z. z ++ sent ∷ []) (sym all))
 
-      p3_src : P3 src ≡ with_state (procs src) o.after
-      p3_src = put-same r2.procs2 src (with_state (r2.procs2 src) o.after) ∙ ap (λ z. with_state z o.after) at_src
+      offering_src : offering src ≡ with_state (procs src) o.after
+      offering_src = put-same r2.procs2 src (with_state (r2.procs2 src) o.after) ∙ ap (λ z. with_state z o.after) at_src
 
-      p3_snk : P3 snk ≡ with_state (procs snk) i.before
-      p3_snk = put-other r2.procs2 src (with_state (r2.procs2 src) o.after) snk back ∙ r2.here
+      offering_snk : offering snk ≡ with_state (procs snk) i.before
+      offering_snk = put-other r2.procs2 src (with_state (r2.procs2 src) o.after) snk back ∙ r2.here
 
-      abbrev calm : (m4 : Here P3 V3 none_wants) × HasDelivered p waiting m4.state
-      calm = calmed p waiting acc ranks m3 even3 (λ d. refl)
+      abbrev calm : (m4 : Here offering views_offered none_wants) × HasDelivered p waiting m4.state
+      calm = calmed p waiting acc ranks made_offered even_offered (λ d. refl)
 
-      took_it : Took p waiting acc ranks P3 V3 none_wants calm.0 snk few_snk c sent i.after
-      took_it = took p waiting acc ranks P3 V3 none_wants calm.0 snk few_snk c v ab h refl calm.1 sent offers3 (even3 c v ab h) (ap (λ (z : View). z.stopped) v3 ∙ going) refl
-          (ap (λ (z : Process). z.inside c) p3_snk ∙ outside_in) less i.site i.guard y i.after
-          (subst (λ (z : Process). TakesAt z.state i.site i.guard c sent y i.after) (sym p3_snk) (subst (λ z. TakesAt i.before i.site i.guard c z y i.after) (sym carries) i.step))
+      took_it : Took p waiting acc ranks offering views_offered none_wants calm.0 snk few_snk c sent i.after
+      took_it = took p waiting acc ranks offering views_offered none_wants calm.0 snk few_snk c v ab h refl calm.1 sent offers_it (even_offered c v ab h) (ap (λ (z : View). z.stopped) view_offered ∙ going) refl
+          (ap (λ (z : Process). z.inside c) offering_snk ∙ outside_in) less i.site i.guard y i.after
+          (subst (λ (z : Process). TakesAt z.state i.site i.guard c sent y i.after) (sym offering_snk) (subst (λ z. TakesAt i.before i.site i.guard c z y i.after) (sym carries) i.step))
         where
           outside_in : (with_state (procs snk) i.before).inside c ≡ false
           outside_in = outside snk c v ab (with_state (procs snk) i.before) kept_in h
@@ -447,22 +447,22 @@ module _ (p : Plan) (waiting : Waiting) (acc : IsAccepted p) (ranks : HasRanks p
       e : Early o.after c ks out.last
       e = early o.run kept_began.lawful.uses
 
-      abbrev A2 : Process
-      A2 = with_state (procs src) e.next
+      abbrev sender_after : Process
+      sender_after = with_state (procs src) e.next
 
-      abbrev B2 : Process
-      B2 = with_state (P3 snk) i.after
+      abbrev receiver_after : Process
+      receiver_after = with_state (offering snk) i.after
 
-      goes_out : Goes (with_state (procs src) o.after) (Finishes c) A2
+      goes_out : Goes (with_state (procs src) o.after) (Finishes c) sender_after
       goes_out = record { comms = Fin c ∷ []; does = (e.site, refl, e.ends); inside = refl }
 
       abbrev end_procs : ℕ → Process
-      end_procs = put (put P3 snk B2) src A2
+      end_procs = put (put offering snk receiver_after) src sender_after
 
-      view_end : (z : View) → z ≡ V3 c → finished_more (got_more z sent) ≡ exchanged (views c) sent
-      view_end z e = ap (λ (w : View). finished_more (got_more w sent)) (e ∙ v3)
+      view_end : (z : View) → z ≡ views_offered c → finished_more (got_more z sent) ≡ exchanged (views c) sent
+      view_end z e = ap (λ (w : View). finished_more (got_more w sent)) (e ∙ view_offered)
 
-      views_end : (W : ℕ → View) → W ≡ V3 → put (put W c (got_more (W c) sent)) c (finished_more (put W c (got_more (W c) sent) c)) ≡ put views c (exchanged (views c) sent)
+      views_end : (W : ℕ → View) → W ≡ views_offered → put (put W c (got_more (W c) sent)) c (finished_more (put W c (got_more (W c) sent) c)) ≡ put views c (exchanged (views c) sent)
       views_end W same =
           put_twice W c (got_more (W c) sent) (finished_more (put W c (got_more (W c) sent) c))
           ∙ ap (λ z. put W c (finished_more z)) (put-same W c (got_more (W c) sent))
@@ -470,44 +470,44 @@ module _ (p : Plan) (waiting : Waiting) (acc : IsAccepted p) (ranks : HasRanks p
           ∙ ap (λ f. put f c (exchanged (views c) sent)) same
           ∙ put_twice views c (offered_more (views c) sent) (exchanged (views c) sent)
 
-      same_views : put V3 c (V3 c) ≡ V3
-      same_views = λ k d. every_put (λ j z. z ≡ V3 j) V3 c (V3 c) refl (λ j ne. refl) d k
+      same_views : put views_offered c (views_offered c) ≡ views_offered
+      same_views = λ k d. every_put (λ j z. z ≡ views_offered j) views_offered c (views_offered c) refl (λ j ne. refl) d k
 
-      lawful_after : (q : Process) (d : ProcessStep) → Goes (P3 snk) d q → IsLawful q
+      lawful_after : (q : Process) (d : ProcessStep) → Goes (offering snk) d q → IsLawful q
       lawful_after q d goes =
-          let l = subst IsLawful (sym p3_snk) kept_in.lawful in
-          record { uses = doing_keeps_use (P3 snk).state q.state d goes.comms goes.does l.uses; sites = doing_keeps (P3 snk).state q.state d goes.comms goes.does l.sites }
+          let l = subst IsLawful (sym offering_snk) kept_in.lawful in
+          record { uses = doing_keeps_use (offering snk).state q.state d goes.comms goes.does l.uses; sites = doing_keeps (offering snk).state q.state d goes.comms goes.does l.sites }
 
       ended_made : Here end_procs (put views c (exchanged (views c) sent)) none_wants
       ended_made = elim took_it [
         | at_once m5 ↦ same_made
-            (went_through p waiting acc ranks m5 P3 V3 none_wants c v ab h sent A2 B2 (taken m5.at) ne (subst (λ z. Goes z (Finishes c) A2) (sym p3_src) goes_out) (subst IsLawful (sym p3_src) kept_began.lawful) (λ d ne. refl) even3 offers3 less)
-            (λ k. refl) (λ d. ap (λ f. f d) (views_end V3 refl)) (λ d. idle_still c d)
+            (went_through p waiting acc ranks m5 offering views_offered none_wants c v ab h sent sender_after receiver_after (taken m5.at) ne (subst (λ z. Goes z (Finishes c) sender_after) (sym offering_src) goes_out) (subst IsLawful (sym offering_src) kept_began.lawful) (λ d ne. refl) even_offered offers_it less)
+            (λ k. refl) (λ d. ap (λ f. f d) (views_end views_offered refl)) (λ d. idle_still c d)
         | waits q d g1 g2 m5 ↦ (
-            let P4 : ℕ → Process = put P3 snk q in
-            let V4 : ℕ → View = put V3 c (V3 c) in
-            let W4 : ℕ → Bool = put none_wants c true in
-            let at4 : P4 snk ≡ q = put-same P3 snk q in
-            let src4 : P4 src ≡ with_state (procs src) o.after = put-other P3 snk q src ne ∙ p3_src in
-            let even4 : AreEven p waiting acc ranks V4 = subst (AreEven p waiting acc ranks) (sym same_views) even3 in
-            let offers4 = subst (λ (f : ℕ → View). (f c).offered ≡ (f c).taken ++ sent ∷ []) (sym same_views) offers3 in
+            let waiting_procs : ℕ → Process = put offering snk q in
+            let views_waiting : ℕ → View = put views_offered c (views_offered c) in
+            let wants_waiting : ℕ → Bool = put none_wants c true in
+            let waits_snk : waiting_procs snk ≡ q = put-same offering snk q in
+            let waits_src : waiting_procs src ≡ with_state (procs src) o.after = put-other offering snk q src ne ∙ offering_src in
+            let even_waiting : AreEven p waiting acc ranks views_waiting = subst (AreEven p waiting acc ranks) (sym same_views) even_offered in
+            let offers_still = subst (λ (f : ℕ → View). (f c).offered ≡ (f c).taken ++ sent ∷ []) (sym same_views) offers_it in
             same_made
-            (went_through p waiting acc ranks m5 P4 V4 W4 c v ab h sent A2 B2
-            (before (put-same none_wants c true) (subst (λ z. Goes z (Receives c sent) B2) (sym at4) g2) (subst IsLawful (sym at4) (lawful_after q d g1)) m5.at) ne
-            (subst (λ z. Goes z (Finishes c) A2) (sym src4) goes_out) (subst IsLawful (sym src4) kept_began.lawful) (λ d ne. put-other none_wants c true d ne) even4 offers4 less)
-            (λ k. ap (λ f. put f src A2 k) (put_twice P3 snk q B2)) (λ d. ap (λ f. f d) (views_end V4 same_views)) (λ d. ap (λ f. f d) (put_twice none_wants c true false) ∙ idle_still c d))
+            (went_through p waiting acc ranks m5 waiting_procs views_waiting wants_waiting c v ab h sent sender_after receiver_after
+            (before (put-same none_wants c true) (subst (λ z. Goes z (Receives c sent) receiver_after) (sym waits_snk) g2) (subst IsLawful (sym waits_snk) (lawful_after q d g1)) m5.at) ne
+            (subst (λ z. Goes z (Finishes c) sender_after) (sym waits_src) goes_out) (subst IsLawful (sym waits_src) kept_began.lawful) (λ d ne. put-other none_wants c true d ne) even_waiting offers_still less)
+            (λ k. ap (λ f. put f src sender_after k) (put_twice offering snk q receiver_after)) (λ d. ap (λ f. f d) (views_end views_waiting same_views)) (λ d. ap (λ f. f d) (put_twice none_wants c true false) ∙ idle_still c d))
       ]
 
       passed : Passed ks ls end_src end_snk sent
       passed = record {
         procs2 = end_procs;
         made = ended_made;
-        sender = ready_at src A2 (end_procs src) ks end_src (put-same (put P3 snk B2) src A2)
+        sender = ready_at src sender_after (end_procs src) ks end_src (put-same (put offering snk receiver_after) src sender_after)
             (record { kept = kept_by src (with_state (procs src) o.after) e.next kept_began e.ends; last = out.last; run = e.run; ends = out.ends });
         receiver = ready_at snk (with_state (procs snk) i.after) (end_procs snk) ls end_snk
-            (put-other (put P3 snk B2) src A2 snk back ∙ put-same P3 snk B2 ∙ ap (λ z. with_state z i.after) p3_snk)
+            (put-other (put offering snk receiver_after) src sender_after snk back ∙ put-same offering snk receiver_after ∙ ap (λ z. with_state z i.after) offering_snk)
             (record { kept = kept_by snk (with_state (procs snk) i.before) i.after kept_in i.step; last = get.last; run = i.run; ends = get.ends });
-        others = λ j a b. put-other (put P3 snk B2) src A2 j a ∙ put-other P3 snk B2 j b ∙ put-other r2.procs2 src (with_state (r2.procs2 src) o.after) j a ∙ r2.others j b ∙ r1.others j a;
+        others = λ j a b. put-other (put offering snk receiver_after) src sender_after j a ∙ put-other offering snk receiver_after j b ∙ put-other r2.procs2 src (with_state (r2.procs2 src) o.after) j a ∙ r2.others j b ∙ r1.others j a;
       }
 
   -- ---- all of a list
