@@ -6,7 +6,8 @@ use Rattle.std.specs.List.{AllByRecursion, Contains}
 use Rattle.vc_accepted.proofs.Accepting.{accepted}
 use Rattle.vc_accepted.specs.NetworkOf.{network_of}
 use Rattle.vc_accepted.specs.Process.{Process}
-use Rattle.vc_free.specs.Delivery.{IsHeld, in_half, IsUnasked, IsThrough}
+use Rattle.vc_core.specs.Still.{IsHeld, IsUnasked}
+use Rattle.vc_free.specs.Delivery.{in_half, IsThrough}
 use Rattle.vc_machine.proofs.Labels.{Phase, Calm, Coming, Waiting, Returning, PhaseFits}
 use Rattle.vc_machine.proofs.Owned.{all_both}
 use Rattle.vc_machine.specs.Links.{Tokens}
@@ -96,7 +97,7 @@ module _ (p : Plan) (acc : IsAccepted p) (s : Network (Actor Process) Token) (t 
   pub ways_empty : (w : ℕ) → w < ways M → s.way w ≡ []
   ways_empty w real = sym (g.shows.wire w) ∙ (clear w real).wire
 
-  pub held_unasked : (c v : ℕ) (ab : Bool) → home M c ≡ Way v ab → c < length M.channels → length (view M s c).offered ≡ suc (view M s c).finished → IsUnasked p s c
+  pub held_unasked : (c v : ℕ) (ab : Bool) → home M c ≡ Way v ab → c < length M.channels → length (view M s c).offered ≡ suc (view M s c).finished → IsUnasked M s c
   held_unasked c v ab at less unfinished =
       let one = (packets M s t g (accepted p acc) c v ab less at).one_packet unfinished in
       let q = held_one M s c (length M.channels) (subst (λ xs. Number (BelongsTo (net_of M) c) xs 1) halves_only one) in

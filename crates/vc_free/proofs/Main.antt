@@ -70,8 +70,7 @@ module _ (p : Plan) (waiting : Waiting) (acc : IsAccepted p) (ranks : HasRanks p
       still_is_clear ways_net back waiting plan.headers (net_accepted plan ok) (has_headers plan ok) ways_ranked (wires plan) (λ v h. back_real plan v h) a.events a.tokens a.run still in
       record {
         still = no_event s a still;
-        packets = all_held p acc s a.tokens a.good clear;
-        ways = ways_empty p acc s a.tokens a.good clear;
+        held = record { packets = all_held p acc s a.tokens a.good clear; ways = ways_empty p acc s a.tokens a.good clear };
         asked = λ c v ab at less. asked_through p acc s a.tokens a.good clear c v ab at (subst (λ n. c < n) same_channels less);
         unasked = λ c v ab at less. held_unasked p acc s a.tokens a.good clear c v ab at (subst (λ n. c < n) same_channels less);
       }
