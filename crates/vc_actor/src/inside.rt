@@ -96,7 +96,7 @@ impl Inside {
             IsSome (named (λ x. x.chan) c self.new) ↔ IsSome (named (λ x. x.chan) c self.old) }
     {
         match self.place(chan) {
-            Some(at) => { self.channels[at].messages.push(message) }
+            Some(at) => self.channels[at].messages.push(message),
             None => unreachable!(),
         }
     }

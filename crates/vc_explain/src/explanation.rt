@@ -3,7 +3,7 @@ ghost use Rattle.std.specs.Prelude.{◌≡◌, ◌++◌, ◌-◌, ◌≤◌, len
 ghost use Rattle.std.specs.List.{flat_map};
 ghost use Rattle.vc_plan.specs.KeptLimits.{KeepsLimits};
 ghost use Rattle.vc_text.specs.declared.fault.RunFault.TheVariants.{Text, Plan as InPlan};
-ghost use Rattle.vc_explain.specs.Explaining.{Explains, IsRefusal, IsTold, IsToldOfAccepted, IsToldOfRefusal, accepted_told, plan_places, refusal_told, summary_text, text_place};
+ghost use Rattle.vc_explain.specs.Explaining.{Explains, IsTold, IsToldOfAccepted, IsToldOfRefusal, accepted_told, plan_places, refusal_told, summary_text, text_place};
 ghost use Rattle.vc_explain.specs.Offenders.{path_of};
 ghost use Rattle.vc_explain.specs.Place.{path_line};
 ghost use Rattle.vc_text.specs.Checking.{ReadsAccepted};

@@ -1,6 +1,5 @@
 //! What a refusal names.
-ghost use Rattle.std.specs.Prelude.{◌≡◌, ◌++◌, ◌∷◌, [], IfOk, OnOk, Some, slice_get};
-ghost use Rattle.std.specs.List.{enumerate_from, flat_map};
+ghost use Rattle.std.specs.Prelude.{◌≡◌, ◌++◌, ◌∷◌, IfOk, OnOk, Some, slice_get};
 ghost use Rattle.vc_explain.specs.Offenders.{end_field as field_of_end, has_block as has_block_of, of_block, of_channel, of_first, of_item, of_limit, of_misuse, of_part, of_path, of_port, of_spot, of_usage, of_vlink, of_wire, offenders as offenders_of, path_of};
 ghost use Rattle.vc_explain.specs.Place.{path_line};
 ghost use Rattle.vc_plan.specs.Wires.{same_port, same_spot};

@@ -1,5 +1,5 @@
 //! Places in a text, as they are told.
-ghost use Rattle.std.specs.Prelude.{◌≡◌, ◌++◌, ◌≤◌, length, take, OnOk};
+ghost use Rattle.std.specs.Prelude.{◌≡◌, ◌++◌, take, OnOk};
 ghost use Rattle.vc_text.specs.FaultLine.{steps_text};
 ghost use Rattle.vc_explain.specs.Place.{byte_line, column_from, line_from, path_line, place_text};
 

@@ -1,6 +1,6 @@
 //! Where a process first uses what is wanted.
 ghost use Rattle.std.specs.Prelude.{◌≡◌, ◌++◌, ◌∷◌, [], ℕ, IfOk, Some, None, if◌then◌else◌, map};
-ghost use Rattle.vc_explain.specs.Uses.{branch_uses, first_marked, first_of, guard_uses, items_at, own_place as place_of_own, own_uses, place, place_if, uses_of_count};
+ghost use Rattle.vc_explain.specs.Uses.{branch_uses, first_marked, first_of, guard_uses, items_at, own_place as place_of_own, place, place_if, uses_of_count};
 ghost use Rattle.vc_process.specs.InOrder.{number};
 ghost use Rattle.vc_process.specs.Private.InOrder.{number_branch, number_guard};
 ghost use Rattle.vc_process.specs.Numbering.{branches_from, guards_from};

@@ -1,6 +1,5 @@
 //! A path that leads astray, hop by hop.
 ghost use Rattle.std.specs.Prelude.{◌≡◌, ◌++◌, IfOk, OnOk};
-ghost use Rattle.std.specs.List.{flat_map};
 ghost use Rattle.vc_explain.specs.Walk.{header_text, headers_behind as headers_behind_hop, headers_text, hop_line, hops_text, last_line, past_portals as headers_past_portals, path_walked, route_of as route_of_path, start_line, walk_text};
 ghost use Rattle.vc_plan.specs.Hops.{after_link as headers_after_link, deletes as does_delete, put_in_front as headers_in_front};
 

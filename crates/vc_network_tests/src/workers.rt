@@ -1,5 +1,5 @@
 //! A worker by itself, its stamps, its gate, and the merge of what workers did.
-ghost use Rattle.std.specs.Prelude.{◌≡◌, ℕ, ◌∷◌, [], IfOk};
+ghost use Rattle.std.specs.Prelude.{◌≡◌, ◌∷◌, [], IfOk};
 ghost use Rattle.vc_actor.specs.declared.act.Act.{Act as SpeltAct};
 
 use crate::networks::HELLO;

@@ -1,5 +1,5 @@
 //! Counts with their names.
-ghost use Rattle.std.specs.Prelude.{◌≡◌, ◌≤◌, ◌++◌, codes, List, OnOk};
+ghost use Rattle.std.specs.Prelude.{◌≡◌, ◌≤◌, ◌++◌, List, OnOk};
 ghost use Rattle.std.specs.List.{flat_map};
 ghost use Rattle.vc_blocks.specs.Listed.{listed};
 ghost use Rattle.vc_core.specs.declared.event.Event.{Event};

@@ -1,5 +1,5 @@
 //! A monitor of a run.
-ghost use Rattle.std.specs.Prelude.{◌≡◌, ◌≤◌, ◌<◌, ◌*◌, ◌/◌, ◌∷◌, ◌++◌, [], List, length, IfOk, OnOk};
+ghost use Rattle.std.specs.Prelude.{◌≡◌, ◌<◌, ◌*◌, ◌/◌, ◌∷◌, ◌++◌, [], List, length, IfOk, OnOk};
 ghost use Rattle.vc_accepted.specs.NetworkOf.{network_of, port_of};
 ghost use Rattle.vc_core.specs.Enabled.{NetworkState};
 ghost use Rattle.vc_core.specs.Replaying.{IsOpening};

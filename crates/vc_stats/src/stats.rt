@@ -1,5 +1,5 @@
 //! Counts of the events of a run.
-ghost use Rattle.std.specs.Prelude.{◌≡◌, ℕ, [], ◌∷◌, ◌++◌, List, length, IfOk, OnOk};
+ghost use Rattle.std.specs.Prelude.{◌≡◌, [], ◌∷◌, ◌++◌, List, length, IfOk, OnOk};
 ghost use Rattle.vc_core.specs.declared.event.Event.{Event};
 ghost use Rattle.vc_stats.specs.Counting.{AreCounts, Counts, actor_count_at, count_at, fct_in, kind_count, kind_in, offer_in, output_in, put_in, want_in};
 

@@ -1,5 +1,5 @@
 //! For how many events outputs are not finished.
-ghost use Rattle.std.specs.Prelude.{◌≡◌, ◌≤◌, ◌<◌, ◌∷◌, ◌++◌, [], ℕ, List, length, map, IfOk, OnOk};
+ghost use Rattle.std.specs.Prelude.{◌≡◌, ◌≤◌, ◌<◌, ◌∷◌, ◌++◌, [], List, length, map, IfOk};
 ghost use Rattle.vc_accepted.specs.Begin.{begin_of};
 ghost use Rattle.vc_accepted.specs.NetworkOf.{home_of, network_of};
 ghost use Rattle.vc_core.specs.Enabled.{NetworkState};

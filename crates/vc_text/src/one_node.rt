@@ -1,5 +1,4 @@
 //! All processes of a network on one node.
-ghost use Rattle.std.specs.Prelude.{◌≡◌};
 ghost use Rattle.vc_text.specs.OneNode.{JoinsNodes, ReadsAs, ReadsTogether};
 
 use crate::check::read_accepted;

@@ -1,5 +1,5 @@
 //! A network run event by event, in rounds over its actors.
-ghost use Rattle.std.specs.Prelude.{◌≡◌, ◌⊎◌, ◌<◌, ◌≤◌, ◌+◌, ◌^◌, ◌-◌, ◌∷◌, ◌++◌, [], ℕ, true, false, List, length, None, Ok, IfOk, OnOk};
+ghost use Rattle.std.specs.Prelude.{◌≡◌, ◌⊎◌, ◌<◌, ◌≤◌, ◌+◌, ◌^◌, ◌-◌, [], ℕ, true, false, List, None, Ok, IfOk, OnOk};
 ghost use Rattle.vc_plan.specs.declared.plan.Plan.{Plan};
 ghost use Rattle.vc_core.specs.Replaying.{IsOpening};
 ghost use Rattle.vc_core.specs.State.{shown, state_of, IsNetworkOf};

@@ -1,7 +1,6 @@
 //! Reading all of a reader, and writing a whole text.
-ghost use Rattle.std.specs.Prelude.{◌≡◌, ◌≤◌, length, IfOk, OnOk, OnErr, IfErr};
-ghost use Rattle.std.specs.Io.KnownBytes.{Appends};
-ghost use Rattle.vc_text.specs.Streams.{AppendsFront, IsAllOf, Writes, IsReadFault, most_bytes};
+ghost use Rattle.std.specs.Prelude.{◌≤◌, length, IfOk, IfErr};
+ghost use Rattle.vc_text.specs.Streams.{IsAllOf, Writes, IsReadFault, most_bytes};
 ghost use Rattle.vc_text.specs.Private.Streams.{ReadsPlan};
 
 use crate::fault::RunFault;

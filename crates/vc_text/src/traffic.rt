@@ -1,10 +1,10 @@
 //! The text of a network's traffic.
-ghost use Rattle.std.specs.Prelude.{◌≡◌, ◌++◌, ◌+◌, map, OnOk, IfOk, length, slice_index};
+ghost use Rattle.std.specs.Prelude.{◌≡◌, ◌++◌, ◌+◌, map, OnOk, IfOk, slice_index};
 ghost use Rattle.std.specs.Int.{w64, from_le_bytes, cast_signed};
 ghost use Rattle.vc_blocks.specs.Listed.{listed};
 ghost use Rattle.vc_text.specs.Streams.{Writes};
 ghost use Rattle.vc_text.specs.Views.{shown};
-ghost use Rattle.vc_text.specs.Traffic.{bytes_text, value_text, message_line, message_lines, channel_line, channel_lines, close_text, counts_text, traffic};
+ghost use Rattle.vc_text.specs.Traffic.{bytes_text, value_text, message_line, message_lines, channel_line, close_text, counts_text, traffic};
 ghost use Rattle.vc_waits.specs.Waits.{stop_text};
 
 use crate::fault::RunFault;

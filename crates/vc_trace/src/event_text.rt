@@ -1,7 +1,6 @@
 //! The text of an event.
 ghost use Rattle.std.specs.Prelude.{◌≡◌, ◌++◌, ◌∷◌, codes, decimal, OnOk, OnErr};
 ghost use Rattle.vc_plan.specs.Names.{channel_name};
-ghost use Rattle.vc_waits.specs.Waits.{newline};
 ghost use Rattle.vc_trace.specs.EventText.{act_words, event_line, guard_word as word_of_guard, move_words, spaced};
 ghost use Rattle.vc_trace.specs.Private.EventText.{spaced_word, word_text, words_text};
 ghost use Rattle.vc_text.specs.Streams.{AppendsFront};

@@ -1,5 +1,5 @@
 //! Numbers, guards and channels among the words of a line.
-ghost use Rattle.std.specs.Prelude.{◌≡◌, decimal};
+ghost use Rattle.std.specs.Prelude.{decimal};
 ghost use Rattle.vc_plan.specs.declared.plan.Plan.{Plan};
 ghost use Rattle.vc_plan.specs.Names.{actor_name, channel_name};
 ghost use Rattle.vc_trace.specs.Private.EventOf.{Finds};

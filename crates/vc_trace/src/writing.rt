@@ -1,5 +1,5 @@
 //! Writing the events of a run and its traffic.
-ghost use Rattle.std.specs.Prelude.{◌≡◌, ◌++◌, [], OnOk, OnErr};
+ghost use Rattle.std.specs.Prelude.{◌++◌, OnOk, OnErr};
 ghost use Rattle.std.specs.Io.KnownBytes.{Appends};
 ghost use Rattle.vc_text.specs.Streams.{AppendsFront, Writes};
 ghost use Rattle.vc_trace.specs.EventText.{events_text};

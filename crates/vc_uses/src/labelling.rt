@@ -1,5 +1,5 @@
 //! The labelling checker by itself.
-ghost use Rattle.std.specs.Prelude.{◌≡◌, ◌↔◌, IfOk, IsTrue};
+ghost use Rattle.std.specs.Prelude.{◌↔◌, IfOk, IsTrue};
 ghost use Rattle.vc_plan.specs.Accepted.{IsAccepted};
 
 use std::alloc::Global;

@@ -1,5 +1,4 @@
 //! A scheduler of one's own.
-ghost use Rattle.std.specs.Prelude.{List};
 ghost use Rattle.vc_core.specs.Replaying.{Reached};
 ghost use Rattle.vc_core.specs.State.{state_of};
 ghost use Rattle.vc_plan.specs.declared.plan.Plan.{Plan};

@@ -1,6 +1,5 @@
 //! The text of who waits for what.
 ghost use Rattle.std.specs.Prelude.{◌≡◌, ◌++◌, IfOk, OnOk};
-ghost use Rattle.std.specs.List.{enumerate_from, flat_map};
 ghost use Rattle.vc_core.specs.State.{IsNetworkOf, state_of};
 ghost use Rattle.vc_waits.specs.Waits.{blocked_line, blocked_lines, blocked_text, blocked_word as word_of, channel_text, node_lines, path_text, process_path, processes_text, site_text, state_in};
 ghost use Rattle.vc_waits.specs.Paths.{paths as paths_of};
