@@ -32,7 +32,8 @@ use Rattle.vc_occam.proofs.Law.{law}
 use Rattle.vc_process.proofs.Lists.{at_front, behind, front_or, only, none}
 use Rattle.vc_occam.proofs.Insertion.{is_inserted}
 use Rattle.vc_occam.proofs.Made.{no_meeting, not_there}
-use Rattle.vc_occam.proofs.Places.{doers, itself, step_site}
+use Rattle.vc_occam.proofs.Doers.{doers, step_site}
+use Rattle.vc_occam.proofs.Places.{itself}
 use Rattle.vc_occam.proofs.Sites.{Within, clash, either, not_true, within_none}
 use Rattle.vc_occam.proofs.Stores.{or_left, or_right}
 use Rattle.vc_occam.proofs.Waiting.{step_waits}

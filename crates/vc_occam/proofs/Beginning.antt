@@ -1,135 +1,225 @@
--- How processes with parts begin.
-use Rattle.std.proofs.Common.{◌≡◌, ℕ, zero, suc, ◌+◌, ◌≤◌, ◌<◌, Bool, true, false, refl, ap, sym, ◌∙◌, subst, List, [], ◌∷◌, map, length, get_or, set, drop, arith, Option, Some, None}
+-- What has begun.
+use Rattle.std.proofs.Common.{◌≡◌, ℕ, zero, suc, Bool, true, false, ◌&&◌, refl, ap, sym, ◌∙◌, List, [], ◌∷◌, length, map, set, get_or, arith, ◌<◌, ◌≤◌}
 use Rattle.std.proofs.lemmas.Bool.Decides.{nat_tests}
-use Rattle.std.specs.Prelude.{slice_get, nat_lt}
-use Rattle.vc_process.specs.declared.condition.Cond.{Cond}
-use Rattle.vc_occam.specs.declared.begins.Begins.TheVariants as begins
-use Rattle.vc_occam.specs.declared.site_action.SiteAction.{SiteAction}
+use Rattle.std.specs.Prelude.{nat_lt}
 use Rattle.vc_occam.specs.declared.frame.Frame.{Frame}
-use Rattle.vc_occam.specs.declared.progress.Next.{Next}
-use Rattle.vc_occam.specs.declared.kind.Kind.{Kind}
-use Rattle.vc_occam.specs.declared.kind.Kind.TheVariants as kind
-use Rattle.vc_occam.specs.declared.phase.Phase.{Phase}
-use Rattle.vc_occam.specs.declared.phase.Phase.TheVariants as phase
-use Rattle.vc_process.specs.Syntax.{Test, PAR, IF, no_parts}
-use Rattle.vc_process.specs.Terms.{as_test}
-use Rattle.vc_process.specs.Values.{Store, holds}
-use Rattle.vc_occam.specs.Remains.{Rest, Done, Stopped, Fresh, begin, branch_on, chosen, does_empty_par, does_if}
-use Rattle.vc_occam.specs.Frames.{impossible, View, branches_of, follow, plan_at, plans_of, rest_at, view}
-use Rattle.vc_occam.specs.Private.Frames.{Able, BeginsWith, Did, begun_at, chosen_from, plans, place_on, views}
-use Rattle.vc_occam.specs.Private.Nexts.{branch_next, turn_begun}
+use Rattle.vc_occam.specs.declared.frame.Frame.TheViews.{out-Frame}
+use Rattle.vc_occam.specs.declared.frame.Task.{Task}
+use Rattle.vc_occam.specs.declared.outcome.Outcome.{Outcome}
+use Rattle.vc_occam.specs.declared.outcome.Outcome.TheVariants as outcome
+use Rattle.vc_process.specs.Syntax.{Proc, SKIP, STOP, Assign, Output, Input, StopChan, SEQ, PAR, IF, WHILE, COUNT, ALT, Procs, no_parts, part}
+use Rattle.vc_process.specs.Syntax.{Whole, Bytes}
+use Rattle.vc_process.specs.Usage.{Set, changes}
+use Rattle.vc_occam.specs.Remains.{Rest, Done, Beside, and_then, begin, begin_seq, begin_par, begin_all, beside_on}
+use Rattle.vc_occam.specs.Frames.{View, Shape, seq, par, all_sound, begun, besides, fresh_outcome, has_ended, is_sound, left_by, outcome_of, plan_of, plans_of, same_outcome, task_view, unless_ended, view, view_of}
+use Rattle.vc_occam.specs.Private.Frames.{seen_task, shape, views}
+use Rattle.vc_occam.proofs.Views.{view_out}
 
--- the frame at a place has begun
-pub start_views : (fs : List Frame) (k : ℕ) (f g : Frame) → k < length fs → f ≡ get_or fs k f → view g ≡ ((view f).0, begin (view f).0) → views (set fs k g) ≡ begun_at k (views fs)
-start_views [] k f g l h b = refl
-start_views (x ∷ fs) zero f g l h b = ap (λ (v : View). v ∷ views fs) (b ∙ ap (λ (y : Frame). ((view y).0, begin (view y).0)) h)
-start_views (x ∷ fs) (suc k) f g l h b = ap (λ vs. view x ∷ vs) (start_views fs k f g (omega arith) h b)
+-- both, where both are true
+pub and_left : (a b : Bool) → (a && b) ≡ true → a ≡ true
+and_left true b h = refl
+and_left false b h = h
 
-pub begun_none : (vs : List View) (k : ℕ) → length vs ≤ k → vs ≡ begun_at k vs
-begun_none [] k h = refl
-begun_none (v ∷ vs) zero h = absurd (omega arith)
-begun_none (v ∷ vs) (suc k) h = ap (λ ws. v ∷ ws) (begun_none vs k (omega arith))
+pub and_right : (a b : Bool) → (a && b) ≡ true → b ≡ true
+and_right true b h = h
+and_right false b h = absurd (let z : false ≡ true = h in cc)
 
-pub begun_plans : (k : ℕ) (vs : List View) → plans (begun_at k vs) ≡ plans vs
-begun_plans k [] = refl
-begun_plans zero (v ∷ vs) = refl
-begun_plans (suc k) (v ∷ vs) = ap (λ ps. v.0 ∷ ps) (begun_plans k vs)
+-- the shape of a sound frame is sound, whether it has stopped or not
+shape_sound : (i : ℕ) (stopped : Bool) (s : Shape) → (view_of i stopped s).sound ≡ true → is_sound s ≡ true
+shape_sound i true s h = and_right _ _ h
+shape_sound i false s h = h
 
--- one condition more
-pub chosen_more : (cs : List Cond) (i k : ℕ) (c : Cond) (e : Store) → i < length cs → c ≡ get_or cs i c → chosen_from k (map as_test (drop i cs)) e ≡ place_on (holds (as_test c) e) k (chosen_from (suc k) (map as_test (drop (suc i) cs)) e)
-chosen_more [] i k c e l h = absurd (omega arith)
-chosen_more (d ∷ cs) zero k c e l h = ap (λ x. place_on (holds (as_test x) e) k (chosen_from (suc k) (map as_test cs) e)) (sym h)
-chosen_more (d ∷ cs) (suc i) k c e l h = chosen_more cs i k c e (omega arith) h
+pub frame_sound : (f : Frame) → (view f).sound ≡ true → is_sound (shape (out-Frame f).construct) ≡ true
+frame_sound f h = shape_sound (out-Frame f).site (out-Frame f).stopped (shape (out-Frame f).construct) (ap (λ (v : View). v.sound) (sym (view_out f)) ∙ h)
 
--- a branch that begins
-abbrev pub branch_rest : (site : ℕ) → Option View → Rest
-branch_rest s None = Stopped s
-branch_rest s (Some v) = begin v.0
-
-abbrev Chosen : ℕ → List Test → List View → Store → ℕ → ℕ → Type 0
-Chosen i bs vs e j k = (m : ℕ) × (k ≡ j + m) × (chosen i (branches_of bs vs) e ≡ branch_rest i (slice_get vs m))
-
-chosen_none : (i : ℕ) (bs : List Test) (vs : List View) (e : Store) (j : ℕ) → chosen_from j bs e ≡ None → chosen i (branches_of bs vs) e ≡ Stopped i
-chosen_none i bs [] e j h = refl
-chosen_none i [] (v ∷ vs) e j h = chosen_none i [] vs e j h
-chosen_none i (b ∷ bs) (v ∷ vs) e j h = on (holds b e) refl h (chosen_none i bs vs e (suc j))
+-- what was written stays, whether the site has stopped or not
+pub plan_out : (f : Frame) → (view f).plan ≡ plan_of (out-Frame f).site (shape (out-Frame f).construct)
+plan_out f = ap (λ (v : View). v.plan) (view_out f) ∙ written (out-Frame f).stopped
   where
-    on : (o : Option Bool) → holds b e ≡ o → place_on o j (chosen_from (suc j) bs e) ≡ None → (chosen_from (suc j) bs e ≡ None → chosen i (branches_of bs vs) e ≡ Stopped i) → branch_on i (holds b e) (begin v.0) (chosen i (branches_of bs vs) e) ≡ Stopped i
-    on (Some true) g k f = absurd cc
-    on (Some false) g k f = rw g (f k)
-    on None g k f = rw g refl
+    written : (b : Bool) → (view_of (out-Frame f).site b (shape (out-Frame f).construct)).plan ≡ plan_of (out-Frame f).site (shape (out-Frame f).construct)
+    written true = refl
+    written false = refl
 
-same_place : (j k : ℕ) → Some j ≡ Some k → k ≡ j
-same_place j k h = cc
-
-chosen_some : (i : ℕ) (bs : List Test) (vs : List View) (e : Store) (j k : ℕ) → chosen_from j bs e ≡ Some k → Chosen i bs vs e j k
-chosen_some i [] vs e j k h = absurd cc
-chosen_some i (b ∷ bs) [] e j k h = on (holds b e) h (chosen_some i bs [] e (suc j) k)
+-- what begins has not ended
+then_remains : (r : Rest) (ps : Procs) → has_ended (outcome_of r) ≡ false → outcome_of (and_then r ps) ≡ outcome_of r
+then_remains r no_parts h = refl
+then_remains r (part p ps) h = kept (outcome_of r) h
   where
-    on : (o : Option Bool) → place_on o j (chosen_from (suc j) bs e) ≡ Some k → (chosen_from (suc j) bs e ≡ Some k → Chosen i bs [] e (suc j) k) → Chosen i (b ∷ bs) [] e j k
-    on (Some true) g f = let z = same_place j k g in (0, omega arith, refl)
-    on (Some false) g f = let n = f g in let z = n.1 in (suc n.0, omega arith, refl)
-    on None g f = absurd cc
-chosen_some i (b ∷ bs) (v ∷ vs) e j k h = on (holds b e) refl h (chosen_some i bs vs e (suc j) k)
+    kept : (o : Outcome) → has_ended o ≡ false → unless_ended o ≡ o
+    kept outcome.Ended h = absurd (let z : true ≡ false = h in cc)
+    kept outcome.Nothing h = refl
+    kept (outcome.Quiet i) h = refl
+    kept outcome.Other h = refl
+
+fresh_remains : (p : Proc) → has_ended (fresh_outcome p) ≡ false
+fresh_remains (SKIP i) = refl
+fresh_remains (STOP i) = refl
+fresh_remains (Assign i v (Whole a)) = refl
+fresh_remains (Assign i v (Bytes a)) = refl
+fresh_remains (Output i c a) = refl
+fresh_remains (Input i c v) = refl
+fresh_remains (StopChan i c) = refl
+fresh_remains (SEQ i no_parts) = refl
+fresh_remains (SEQ i (part p ps)) = refl
+fresh_remains (PAR i no_parts) = refl
+fresh_remains (PAR i (part p ps)) = refl
+fresh_remains (IF i bs) = refl
+fresh_remains (WHILE i b p) = refl
+fresh_remains (COUNT i v a k p) = refl
+fresh_remains (ALT i gs) = refl
+
+mutual
+  pub begin_remains : (p : Proc) → has_ended (outcome_of (begin p)) ≡ false
+  begin_remains (SKIP i) = refl
+  begin_remains (STOP i) = refl
+  begin_remains (Assign i v a) = fresh_remains (Assign i v a)
+  begin_remains (Output i c a) = refl
+  begin_remains (Input i c v) = refl
+  begin_remains (StopChan i c) = refl
+  begin_remains (SEQ i ps) = begin_seq_remains i ps
+  begin_remains (PAR i ps) = begin_par_remains i ps
+  begin_remains (IF i bs) = refl
+  begin_remains (WHILE i b p) = refl
+  begin_remains (COUNT i v a k p) = refl
+  begin_remains (ALT i gs) = refl
+
+  begin_seq_remains : (i : ℕ) (ps : Procs) → has_ended (outcome_of (begin_seq i ps)) ≡ false
+  begin_seq_remains i no_parts = refl
+  begin_seq_remains i (part p ps) = ap has_ended (then_remains (begin p) ps (begin_remains p)) ∙ begin_remains p
+
+  begin_par_remains : (i : ℕ) (ps : Procs) → has_ended (outcome_of (begin_par i ps)) ≡ false
+  begin_par_remains i no_parts = refl
+  begin_par_remains i (part p ps) = refl
+
+-- a SEQ that begins comes to what its first part comes to
+pub seq_outcome : (i : ℕ) (p : Proc) (ps : Procs) → outcome_of (begin (SEQ i (part p ps))) ≡ outcome_of (begin p)
+seq_outcome i p ps = then_remains (begin p) ps (begin_remains p)
+
+-- what has not ended remains as it is
+left_rest : (o : Outcome) (r : Rest) → has_ended o ≡ false → left_by o r ≡ r
+left_rest outcome.Ended r h = absurd (let z : true ≡ false = h in cc)
+left_rest outcome.Nothing r h = refl
+left_rest (outcome.Quiet i) r h = refl
+left_rest outcome.Other r h = refl
+
+pub same_as_itself : (o : Outcome) → same_outcome o o ≡ true
+same_as_itself outcome.Ended = refl
+same_as_itself outcome.Nothing = refl
+same_as_itself (outcome.Quiet i) = grind (arith, nat_tests)
+same_as_itself outcome.Other = refl
+
+-- a process that goes on by itself has begun, where what it begins with is kept
+pub task_begun : (v : View) (o : Outcome) (p : Proc) → v ≡ begun p → o ≡ outcome_of (begin p) → task_view (record { frame = v; begins = o }) ≡ begun p
+task_begun v o p h g =
+    let at : View → Outcome → View = λ w q. task_view (record { frame = w; begins = q }) in
+    let whole : Rest → View = λ r. record { plan = p; rest = r; sound = true && same_outcome (outcome_of (begin p)) (outcome_of r) } in
+    let known : Bool → View = λ b. record { plan = p; rest = begin p; sound = b } in
+    ap (λ w. at w o) h ∙ ap (at (begun p)) g ∙ ap whole (left_rest (outcome_of (begin p)) (begin p) (begin_remains p)) ∙ ap known (same_as_itself (outcome_of (begin p)))
+
+-- the first part of a SEQ has begun
+pub seq_begins : (i at : ℕ) (fs : List Frame) (f g : Frame) → is_sound (seq (views fs) at) ≡ true → f ≡ get_or fs 0 f → view g ≡ begun (view f).plan → view_of i false (seq (views (set fs 0 g)) 0) ≡ begun (plan_of i (seq (views fs) at))
+seq_begins i at [] f g s h b = absurd (grind (arith, nat_tests))
+seq_begins i at (x ∷ fs) f g s h b =
+    let ps = plans_of (views fs) in
+    let e : view g ≡ begun (view x).plan = b ∙ ap (λ (y : Frame). begun (view y).plan) h in
+    let rest = and_right (view x).sound (all_sound (views fs)) (and_right _ _ s) in
+    let known : Bool → View = λ c. record { plan = SEQ i (part (view x).plan ps); rest = and_then (begin (view x).plan) ps; sound = c } in
+    ap (λ (v : View). view_of i false (seq (v ∷ views fs) 0)) e ∙ ap known (all (length (views fs)) (all_sound (views fs)) rest)
   where
-    on : (o : Option Bool) → holds b e ≡ o → place_on o j (chosen_from (suc j) bs e) ≡ Some k → (chosen_from (suc j) bs e ≡ Some k → Chosen i bs vs e (suc j) k) → Chosen i (b ∷ bs) (v ∷ vs) e j k
-    on (Some true) q g f = let z = same_place j k g in (0, omega arith, rw q refl)
-    on (Some false) q g f = let n = f g in let z = n.1 in (suc n.0, omega arith, rw q n.2)
-    on None q g f = absurd cc
+    all : (n : ℕ) (c : Bool) → c ≡ true → (nat_lt 0 (suc n) && (true && c)) ≡ true
+    all n true h = grind (arith, nat_tests)
+    all n false h = absurd (let z : false ≡ true = h in cc)
 
-chosen_at : (i : ℕ) (bs : List Test) (vs : List View) (e : Store) (k : ℕ) → chosen_from 0 bs e ≡ Some k → chosen i (branches_of bs vs) e ≡ branch_rest i (slice_get vs k)
-chosen_at i bs vs e k h =
-    let n = chosen_some i bs vs e 0 k h in
-    let z : n.0 ≡ k = let y = n.1 in omega arith in
-    n.2 ∙ ap (λ m. branch_rest i (slice_get vs m)) z
+-- what a SEQ begins with is what its first part begins with
+pub seq_begins_with : (i at : ℕ) (fs : List Frame) (f : Frame) (o : Outcome) → is_sound (seq (views fs) at) ≡ true → f ≡ get_or fs 0 f → o ≡ outcome_of (begin (view f).plan) → o ≡ outcome_of (begin (plan_of i (seq (views fs) at)))
+seq_begins_with i at [] f o s h b = absurd (grind (arith, nat_tests))
+seq_begins_with i at (x ∷ fs) f o s h b =
+    b ∙ ap (λ (y : Frame). outcome_of (begin (view y).plan)) h ∙ sym (seq_outcome i (view x).plan (plans_of (views fs)))
 
-abbrev after_phase : ℕ → Phase → Rest → Rest
-after_phase i phase.Ready r = impossible
-after_phase i phase.Waiting r = r
-after_phase i phase.Resting r = impossible
-after_phase i (phase.Turning x y) r = impossible
-after_phase i phase.Together r = impossible
-after_phase i phase.Chosen r = impossible
-after_phase i phase.Ended r = Done
-after_phase i phase.Stuck r = Stopped i
+-- a sound SEQ has a part
+pub seq_has_first : (at : ℕ) (fs : List Frame) → is_sound (seq (views fs) at) ≡ true → 0 < length fs
+seq_has_first at [] s = absurd (grind (arith, nat_tests))
+seq_has_first at (x ∷ fs) s = omega arith
 
-abbrev after : ℕ → Next → List View → Rest
-after i n vs = after_phase i n.phase (follow (slice_get vs n.at) no_parts)
+-- each part of a sound frame is sound
+pub view_sound : (k : ℕ) (fs : List Frame) (f : Frame) → k < length fs → f ≡ get_or fs k f → all_sound (views fs) ≡ true → (view f).sound ≡ true
+view_sound k [] f l h s = absurd (omega arith)
+view_sound zero (x ∷ fs) f l h s = ap (λ (y : Frame). (view y).sound) h ∙ and_left _ _ s
+view_sound (suc k) (x ∷ fs) f l h s = view_sound k fs f (omega arith) h (and_right (view x).sound _ s)
 
-branch_is : (i : ℕ) (vs : List View) (k : ℕ) (b : Bool) → b ≡ nat_lt k (length vs) → branch_rest i (slice_get vs k) ≡ after i (branch_next k b) (begun_at k vs)
-branch_is i [] k true h = absurd (grind (arith, nat_tests))
-branch_is i [] k false h = refl
-branch_is i (v ∷ vs) zero true h = refl
-branch_is i (v ∷ vs) zero false h = absurd (grind (arith, nat_tests))
-branch_is i (v ∷ vs) (suc k) true h = branch_is i vs k true (grind (arith, nat_tests))
-branch_is i (v ∷ vs) (suc k) false h = branch_is i vs k false (grind (arith, nat_tests))
+-- the parts of a PAR begin one by one
+abbrev pub task_views : List (Task Frame) → List View
+task_views ts = map task_view (map seen_task ts)
 
-if_did : (i : ℕ) (cs : List Cond) (vs : List View) (e : Store) (s : ℕ) (d : SiteAction) (r : Rest) → chosen i (branches_of (map as_test cs) vs) e ≡ r → Able (Fresh (IF i (branches_of (map as_test cs) vs))) e s d → Did (Fresh (IF i (branches_of (map as_test cs) vs))) e s d r e
-if_did i cs vs e s d r h (ks, q, f, does_if) = subst (λ x. Did (Fresh (IF i (branches_of (map as_test cs) vs))) e s d x e) h ([], does_if)
+abbrev pub all_begun : List View → List View
+all_begun [] = []
+all_begun (v ∷ vs) = begun v.plan ∷ all_begun vs
 
-placed : (i : ℕ) (cs : List Cond) (vs : List View) (e : Store) (s : ℕ) (d : SiteAction) (k : ℕ) (b : Bool) → b ≡ nat_lt k (length vs) → chosen i (branches_of (map as_test cs) vs) e ≡ branch_rest i (slice_get vs k) → Able (Fresh (plan_at (kind.If cs) i vs)) e s d →
-    Did (Fresh (plan_at (kind.If cs) i vs)) e s d (rest_at (kind.If cs) (branch_next k b).phase i (begun_at k vs) (branch_next k b).at) e
-placed i cs vs e s d k true h c a = if_did i cs vs e s d _ (c ∙ branch_is i vs k true h) a
-placed i cs vs e s d k false h c a = if_did i cs vs e s d _ (c ∙ branch_is i vs k false h) a
+-- as many of them have begun
+abbrev pub begun_to : ℕ → List View → List View
+begun_to zero vs = vs
+begun_to (suc k) [] = []
+begun_to (suc k) (v ∷ vs) = begun v.plan ∷ begun_to k vs
 
-pub branch_did : (i : ℕ) (cs : List Cond) (vs ws : List View) (e : Store) (s : ℕ) (d : SiteAction) (k : ℕ) (n : Next) → Some k ≡ chosen_from 0 (map as_test cs) e → ws ≡ begun_at k vs → n ≡ branch_next k (nat_lt k (length vs)) → Able (Fresh (plan_at (kind.If cs) i vs)) e s d →
-    Did (Fresh (plan_at (kind.If cs) i vs)) e s d (rest_at (kind.If cs) n.phase i ws n.at) e
-branch_did i cs vs ws e s d k n h w g a =
-    subst (λ m. Did (Fresh (plan_at (kind.If cs) i vs)) e s d (rest_at (kind.If cs) m.phase i ws m.at) e) (sym g)
-    (subst (λ us. Did (Fresh (plan_at (kind.If cs) i vs)) e s d (rest_at (kind.If cs) (branch_next k (nat_lt k (length vs))).phase i us (branch_next k (nat_lt k (length vs))).at) e) (sym w)
-    (placed i cs vs e s d k (nat_lt k (length vs)) refl (chosen_at i (map as_test cs) vs e k (sym h)) a))
+-- each task of a sound PAR has a sound frame
+pub task_sound : (k : ℕ) (ts : List (Task Frame)) (t : Task Frame) → k < length ts → t ≡ get_or ts k t → all_sound (task_views ts) ≡ true → (view t.frame).sound ≡ true
+task_sound k [] t l h s = absurd (omega arith)
+task_sound zero (x ∷ ts) t l h s = ap (λ (y : Task Frame). (view y.frame).sound) h ∙ and_left _ _ (and_left _ (all_sound (task_views ts)) s)
+task_sound (suc k) (x ∷ ts) t l h s = task_sound k ts t (omega arith) h (and_right (task_view (seen_task x)).sound _ s)
 
-pub fault_did : (i : ℕ) (cs : List Cond) (vs : List View) (e : Store) (s : ℕ) (d : SiteAction) → None ≡ chosen_from 0 (map as_test cs) e → Able (Fresh (plan_at (kind.If cs) i vs)) e s d → Did (Fresh (plan_at (kind.If cs) i vs)) e s d (Stopped i) e
-fault_did i cs vs e s d h a = if_did i cs vs e s d (Stopped i) (chosen_none i (map as_test cs) vs e 0 (sym h)) a
+-- the next one has begun, where those before it have
+pub begun_more : (k : ℕ) (ts : List (Task Frame)) (vs : List View) (t u : Task Frame) → k < length ts → t ≡ get_or ts k t → task_views ts ≡ begun_to k vs → task_view (seen_task u) ≡ begun (view t.frame).plan → task_views (set ts k u) ≡ begun_to (suc k) vs
+begun_more k [] vs t u l h e b = absurd (omega arith)
+begun_more zero (x ∷ ts) vs t u l h e b =
+    ap (λ (v : View). v ∷ task_views ts) (b ∙ ap (λ (y : Task Frame). begun (view y.frame).plan) h) ∙ ap first e
+  where
+    first : List View → List View
+    first = begun_to 1
+begun_more (suc k) (x ∷ ts) [] t u l h e b = absurd (cc)
+begun_more (suc k) (x ∷ ts) (v ∷ vs) t u l h e b =
+    let head : task_view (seen_task x) ≡ begun v.plan = cc in
+    let tail : task_views ts ≡ begun_to k vs = cc in
+    ap (λ (w : View). w ∷ task_views (set ts k u)) head ∙ ap (λ ws. begun v.plan ∷ ws) (begun_more k ts vs t u (omega arith) h tail b)
 
-pub empty_par : (i : ℕ) (vs : List View) (e : Store) (s : ℕ) (d : SiteAction) → Able (Fresh (PAR i (plans_of vs))) e s d → Did (Fresh (PAR i (plans_of vs))) e s d Done e
-empty_par i [] e s d (ks, q, f, does_empty_par) = ([], does_empty_par)
-empty_par i (v ∷ vs) e s d (ks, q, f, st) = elim st [ ]
+-- then all have
+pub begun_whole : (k : ℕ) (vs : List View) → length vs ≤ k → begun_to k vs ≡ all_begun vs
+begun_whole zero [] l = refl
+begun_whole (suc k) [] l = refl
+begun_whole zero (v ∷ vs) l = absurd (omega arith)
+begun_whole (suc k) (v ∷ vs) l = ap (λ ws. begun v.plan ∷ ws) (begun_whole k vs (omega arith))
 
-pub turn_plans : (b : Bool) (vs : List View) → plans (turn_begun b vs) ≡ plans vs
-turn_plans true vs = begun_plans 0 vs
-turn_plans false vs = refl
+goes_beside : (mine : Set) (r q : Rest) → has_ended (outcome_of r) ≡ false → beside_on mine r q ≡ Beside mine r q
+goes_beside mine Done Done h = absurd (let z : true ≡ false = h in cc)
+goes_beside mine r q h = refl
 
--- an IF begins with a step
-pub if_begins : (k : Kind) (cs : List Cond) (i : ℕ) (vs : List View) → k ≡ kind.If cs → BeginsWith (begins.Quiet i) (Fresh (plan_at k i vs))
-if_begins k cs i vs h = subst (λ (j : Kind). BeginsWith (begins.Quiet i) (Fresh (plan_at j i vs))) (sym h) (λ e. (refl, λ j. refl))
+besides_begun : (vs : List View) → besides (all_begun vs) ≡ begin_all (plans_of vs)
+besides_begun [] = refl
+besides_begun (v ∷ vs) = goes_beside (changes v.plan) (begin v.plan) (besides (all_begun vs)) (begin_remains v.plan) ∙ ap (Beside (changes v.plan) (begin v.plan)) (besides_begun vs)
+
+begun_plans_of : (vs : List View) → plans_of (all_begun vs) ≡ plans_of vs
+begun_plans_of [] = refl
+begun_plans_of (v ∷ vs) = ap (part v.plan) (begun_plans_of vs)
+
+pub all_begun_sound : (vs : List View) → all_sound (all_begun vs) ≡ true
+all_begun_sound [] = refl
+all_begun_sound (v ∷ vs) = all_begun_sound vs
+
+-- a PAR all of whose parts have begun has begun
+pub par_begins : (i : ℕ) (xs ys : List (Task View)) → is_sound (par xs) ≡ true → map task_view ys ≡ all_begun (map task_view xs) → view_of i false (par ys) ≡ begun (plan_of i (par xs))
+par_begins i [] ys s e = absurd (grind (arith, nat_tests))
+par_begins i (x ∷ xs) [] s e = absurd (cc)
+par_begins i (x ∷ xs) (y ∷ ys) s e =
+    let vs = map task_view (x ∷ xs) in
+    let whole : List View → View = λ ws. record { plan = PAR i (plans_of ws); rest = besides ws; sound = nat_lt 0 (length (y ∷ ys)) && all_sound ws } in
+    let planned : Procs → View = λ ps. record { plan = PAR i ps; rest = besides (all_begun vs); sound = nat_lt 0 (length (y ∷ ys)) && all_sound (all_begun vs) } in
+    let resting : Rest → View = λ r. record { plan = PAR i (plans_of vs); rest = r; sound = nat_lt 0 (length (y ∷ ys)) && all_sound (all_begun vs) } in
+    let known : Bool → View = λ b. record { plan = PAR i (plans_of vs); rest = begin (PAR i (plans_of vs)); sound = b } in
+    ap whole e ∙ ap planned (begun_plans_of vs) ∙ ap resting (besides_begun vs) ∙ ap known (all (length ys) _ (all_begun_sound vs))
+  where
+    all : (n : ℕ) (c : Bool) → c ≡ true → (nat_lt 0 (suc n) && c) ≡ true
+    all n true h = grind (arith, nat_tests)
+    all n false h = absurd (let z : false ≡ true = h in cc)
+
+pub par_begins_with : (i : ℕ) (xs : List (Task View)) → is_sound (par xs) ≡ true → outcome_of (begin (plan_of i (par xs))) ≡ outcome.Other
+par_begins_with i [] s = absurd (grind (arith, nat_tests))
+par_begins_with i (x ∷ xs) s = refl

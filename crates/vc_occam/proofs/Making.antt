@@ -1,78 +1,164 @@
 -- How frames are made of a process.
-use Rattle.std.proofs.Common.{◌≡◌, ℕ, append_assoc, append-nil, drop, ◌≤◌, ◌<◌, subst, suc, ◌+◌, refl, ap, sym, ◌∙◌, List, [], ◌∷◌, ◌++◌, map, length, get_or, arith, add-one}
-use Rattle.std.proofs.lemmas.List.{at_drop_all, map-append}
-use Rattle.vc_process.specs.declared.condition.Cond.{Cond}
-use Rattle.vc_process.specs.declared.expression.Expr.{Expr}
-use Rattle.vc_occam.specs.declared.frame.Frame.{Frame}
-use Rattle.vc_occam.specs.declared.guards.GuardedInput.{GuardedInput}
-use Rattle.vc_occam.specs.declared.guards.GuardedInputs.{GuardedInputs}
-use Rattle.vc_process.specs.declared.process.Branch.{Branch}
-use Rattle.vc_process.specs.declared.process.Guard.{Guard}
+use Rattle.std.proofs.Common.{◌≡◌, ℕ, zero, suc, Bool, true, false, ◌&&◌, append_assoc, append-nil, drop, ◌≤◌, ◌<◌, subst, ◌+◌, refl, ap, sym, ◌∙◌, List, [], ◌∷◌, ◌++◌, map, length, arith, None, Vec, Global, vec_len}
+use Rattle.std.proofs.lemmas.Bool.Decides.{nat_tests}
+use Rattle.std.proofs.lemmas.List.{at_drop_all, length-map}
+use Rattle.std.specs.Prelude.{nat_lt, ◌==◌}
 use Rattle.vc_process.specs.declared.process.Process.{Process}
-use Rattle.vc_process.specs.declared.process.Process.TheVariants as process
+use Rattle.vc_process.specs.declared.process.Guard.{Guard as WrittenGuard}
 use Rattle.vc_process.specs.declared.process.Process.TheOpen as layer
 use Rattle.vc_process.specs.declared.process.Process.TheFolds.{fold_out-Process}
-use Rattle.vc_process.specs.declared.process.Process.TheViews.{out-Branch, out-Guard}
-use Rattle.vc_occam.specs.Frames.{View, branches_of, count_of, guards_of, plans_of, view, while_of}
-use Rattle.vc_occam.specs.Private.Frames.{views}
-use Rattle.vc_occam.specs.Gates.{Gate, gate}
+use Rattle.vc_process.specs.declared.process.Process.TheViews.{out-Guard}
 use Rattle.vc_process.specs.InOrder.{branch_layer, guard_layer, number}
-use Rattle.vc_process.specs.Private.InOrder.{number_branch, number_guard}
+use Rattle.vc_process.specs.Private.InOrder.{number_guard}
 use Rattle.vc_process.specs.Numbering.{Numbered, NumberedBranch, NumberedGuard, branch_sites, branches_from, guard_sites, guards_from, numbered, part_sites, parts_from}
-use Rattle.vc_occam.specs.Remains.{Fresh}
-use Rattle.vc_process.specs.Syntax.{Branches, Guards, Proc, Procs, ALT, COUNT, IF, PAR, SEQ, WHILE, branch, guard, part, Test}
-use Rattle.vc_process.specs.Terms.{exp, as_test}
-use Rattle.vc_occam.specs.Private.Wholes.{branch_wholes_from, gates, guard_wholes_from, tests, whole_from, wholes_from}
-use Rattle.vc_process.proofs.Numbers.{number_alt, number_branch_out, number_count, number_guard_out, number_if, number_par, number_seq, number_while}
-use Rattle.vc_process.proofs.Reaching.{drop_at}
+use Rattle.vc_process.specs.Syntax.{Branches, Guards, Proc, Test, ALT, IF, PAR, SEQ, branch, guard, no_parts, part}
+use Rattle.vc_process.specs.Terms.{as_test}
+use Rattle.vc_process.proofs.Numbers.{number_guard_out}
+use Rattle.vc_occam.specs.declared.frame.Branch.{Branch}
+use Rattle.vc_occam.specs.declared.frame.Choice.TheVariants.{Open}
+use Rattle.vc_occam.specs.declared.frame.Frame.{Frame}
+use Rattle.vc_occam.specs.declared.frame.Guard.{Guard}
+use Rattle.vc_occam.specs.declared.frame.Task.{Task}
+use Rattle.vc_occam.specs.declared.outcome.Outcome.{Outcome}
+use Rattle.vc_occam.specs.declared.outcome.Outcome.TheVariants as outcome
+use Rattle.vc_occam.specs.Remains.{Rest, Fresh, and_then, begin}
+use Rattle.vc_occam.specs.Frames.{View, all_sound, begun, bodies, branches_of, branching, guarded, guarding, guards_of, outcome_of, par, plans_of, seq, task_view, view, view_of}
+use Rattle.vc_occam.specs.Private.Frames.{seen_branch, seen_guard, seen_task, views}
+use Rattle.vc_occam.proofs.Beginning.{all_begun, all_begun_sound, par_begins, seq_outcome, task_views}
 
-pub plans_wholes : (i : ℕ) (ns : List Numbered) → plans_of (wholes_from i ns) ≡ parts_from i ns
-plans_wholes i [] = refl
-plans_wholes i (n ∷ ns) = ap (part (n.tree i)) (plans_wholes (i + n.sites) ns)
+-- how many sites each of these has, and what is made of it from one site on
+pub record Way (N X : Type 0) : Type 0 where
+  pub sites : N → ℕ
+  pub sum : List N → ℕ
+  pub at : ℕ → N → X
+  pub none : sum [] ≡ 0
+  pub more : (n : N) (ns : List N) → sum (n ∷ ns) ≡ sites n + sum ns
 
-pub views_push : (fs : List Frame) (f : Frame) → views (fs ++ f ∷ []) ≡ views fs ++ view f ∷ []
-views_push [] f = refl
-views_push (g ∷ fs) f = ap (λ vs. view g ∷ vs) (views_push fs f)
+abbrev pub made_from : {N X : Type 0} → Way N X → ℕ → List N → List X
+made_from w i [] = []
+made_from w i (n ∷ ns) = w.at i n ∷ made_from w (i + w.sites n) ns
 
-pub seq_whole : (site : ℕ) (p : Process) (ps : List Process) (vs : List View) → p ≡ process.Seq ps → vs ≡ wholes_from (site + 1) (map number ps) → ◌≡◌ {A = View} (SEQ site (plans_of vs), Fresh (SEQ site (plans_of vs))) (whole_from site (number p))
-seq_whole site p ps vs h g =
-    let W : Procs → View = λ qs. (SEQ site qs, Fresh (SEQ site qs)) in
-    ap W (ap plans_of g ∙ plans_wholes (site + 1) (map number ps) ∙ ap (λ k. parts_from k (map number ps)) (add-one site)) ∙ ap (whole_from site) (sym (number_seq p ps h))
+-- of all of these some are left, and what is made of the others is made
+abbrev pub IsMade : {N X : Type 0} → Way N X → (start next : ℕ) → (all left : List N) → List X → Type 0
+IsMade w start next all left xs = (next + w.sum left ≡ start + w.sum all) × (xs ++ made_from w next left ≡ made_from w start all)
 
-pub par_whole : (site : ℕ) (p : Process) (ps : List Process) (vs : List View) → p ≡ process.Par ps → vs ≡ wholes_from (site + 1) (map number ps) → ◌≡◌ {A = View} (PAR site (plans_of vs), Fresh (PAR site (plans_of vs))) (whole_from site (number p))
-par_whole site p ps vs h g =
-    let W : Procs → View = λ qs. (PAR site qs, Fresh (PAR site qs)) in
-    ap W (ap plans_of g ∙ plans_wholes (site + 1) (map number ps) ∙ ap (λ k. parts_from k (map number ps)) (add-one site)) ∙ ap (whole_from site) (sym (number_par p ps h))
+-- one more is made
+pub one_made : {N X : Type 0} (w : Way N X) (start next later : ℕ) (n : N) (all ns left : List N) (x : X) (xs ys : List X) → ns ≡ n ∷ left → later ≡ next + w.sites n → x ≡ w.at next n → ys ≡ xs ++ x ∷ [] → IsMade w start next all ns xs → IsMade w start later all left ys
+one_made w start next later n all ns left x xs ys h e g f (b, c) =
+    let m : next + (w.sites n + w.sum left) ≡ start + w.sum all = ap (λ k. next + k) (sym (ap w.sum h ∙ w.more n left)) ∙ b in (
+      omega arith,
+      ap (λ us. us ++ made_from w later left) f ∙ append_assoc xs (x ∷ []) (made_from w later left) ∙ ap (λ k. xs ++ x ∷ made_from w k left) e
+          ∙ ap (λ y. xs ++ y ∷ made_from w (next + w.sites n) left) g ∙ ap (λ us. xs ++ made_from w next us) (sym h) ∙ c,
+    )
 
--- a WHILE as it is numbered
-pub while_whole : (site : ℕ) (p : Process) (b c : Cond) (q : Process) (vs : List View) → p ≡ process.While b q → c ≡ b → vs ≡ whole_from (site + 1) (number q) ∷ [] → ◌≡◌ {A = View} (while_of site (as_test c) vs, Fresh (while_of site (as_test c) vs)) (whole_from site (number p))
-while_whole site p b c q vs h e g =
-    let W : Proc → View = λ x. (x, Fresh x) in
-    ap W (ap (while_of site (as_test c)) g ∙ ap (λ d. WHILE site (as_test d) ((number q).tree (site + 1))) e ∙ ap (λ k. WHILE site (as_test b) ((number q).tree k)) (add-one site)) ∙ ap (whole_from site) (sym (number_while p b q h))
+-- the first that is left has sites among theirs
+pub one_fits : {N X : Type 0} (w : Way N X) (start next limit : ℕ) (n : N) (all ns left : List N) (xs : List X) → ns ≡ n ∷ left → IsMade w start next all ns xs → start + w.sum all ≤ limit → next + w.sites n ≤ limit
+one_fits w start next limit n all ns left xs h m l =
+    let e : next + (w.sites n + w.sum left) ≡ start + w.sum all = ap (λ k. next + k) (sym (ap w.sum h ∙ w.more n left)) ∙ m.0 in omega arith
 
--- an IF as it is numbered
-pub branches_wholes : (i : ℕ) (bs : List NumberedBranch) → branches_of (tests bs) (branch_wholes_from i bs) ≡ branches_from i bs
-branches_wholes i [] = refl
-branches_wholes i (b ∷ bs) = ap (branch b.when (b.then_do.tree i)) (branches_wholes (i + b.then_do.sites) bs)
+-- none is left
+pub all_made : {N P X : Type 0} (w : Way N X) (num : P → N) (start next k : ℕ) (ps qs : List P) (xs : List X) → ps ≡ qs → length ps ≤ k → IsMade w start next (map num ps) (map num (drop k ps)) xs →
+    (next ≡ start + w.sum (map num qs)) × (xs ≡ made_from w start (map num qs))
+all_made w num start next k ps qs xs e l (b, c) =
+    let none : next + w.sum (map num (drop k ps)) ≡ next + w.sum [] = at_drop_all (λ us. next + w.sum (map num us)) ps k l in
+    let all : start + w.sum (map num ps) ≡ start + w.sum (map num qs) = ap (λ us. start + w.sum (map num us)) e in
+    let zero = w.none in (
+      omega arith,
+      sym (append-nil xs) ∙ sym (at_drop_all (λ us. xs ++ made_from w next (map num us)) ps k l) ∙ c ∙ ap (λ us. made_from w start (map num us)) e,
+    )
 
-pub if_whole : (site : ℕ) (p : Process) (bs : List Branch) (cs : List Cond) (vs : List View) → p ≡ process.If bs → map as_test cs ≡ tests (map number_branch bs) → vs ≡ branch_wholes_from (site + 1) (map number_branch bs) →
-    ◌≡◌ {A = View} (IF site (branches_of (map as_test cs) vs), Fresh (IF site (branches_of (map as_test cs) vs))) (whole_from site (number p))
-if_whole site p bs cs vs h e g =
-    let W : Branches → View = λ qs. (IF site qs, Fresh (IF site qs)) in
-    let ns = map number_branch bs in
-    ap W (ap (branches_of (map as_test cs)) g ∙ ap (λ ts. branches_of ts (branch_wholes_from (site + 1) ns)) e ∙ branches_wholes (site + 1) ns ∙ ap (λ k. branches_from k ns) (add-one site)) ∙ ap (whole_from site) (sym (number_if p bs h))
+-- parts that have begun
+abbrev pub parts_way : Way Numbered View
+parts_way = record { sites = λ n. n.sites; sum = part_sites; at = λ i n. begun (n.tree i); none = refl; more = λ n ns. refl }
 
--- an ALT as it is numbered
-pub guards_wholes : (i : ℕ) (gs : List NumberedGuard) → guards_of (gates gs) (guard_wholes_from i gs) ≡ guards_from i gs
-guards_wholes i [] = refl
-guards_wholes i (g ∷ gs) = ap (guard g.when g.chan g.var (g.then_do.tree i)) (guards_wholes (i + g.then_do.sites) gs)
+abbrev pub shown_branch : Branch Frame → Test × View
+shown_branch b = (as_test b.cond, view b.body)
 
-pub alt_whole : (site : ℕ) (p : Process) (gs : List Guard) (hs : GuardedInputs) (xs : List GuardedInput) (vs : List View) → p ≡ process.Alt gs → hs.inputs ≡ xs → map gate xs ≡ gates (map number_guard gs) → vs ≡ guard_wholes_from (site + 1) (map number_guard gs) →
-    ◌≡◌ {A = View} (ALT site (guards_of (map gate hs.inputs) vs), Fresh (ALT site (guards_of (map gate hs.inputs) vs))) (whole_from site (number p))
-alt_whole site p gs hs xs vs h q e g =
-    let W : Guards → View = λ qs. (ALT site qs, Fresh (ALT site qs)) in
-    let ns = map number_guard gs in
-    ap W (ap (guards_of (map gate hs.inputs)) g ∙ ap (λ ts. guards_of ts (guard_wholes_from (site + 1) ns)) (ap (map gate) q ∙ e) ∙ guards_wholes (site + 1) ns ∙ ap (λ k. guards_from k ns) (add-one site)) ∙ ap (whole_from site) (sym (number_alt p gs h))
+abbrev pub branches_way : Way NumberedBranch (Test × View)
+branches_way = record { sites = λ b. b.then_do.sites; sum = branch_sites; at = λ i b. (b.when, begun (b.then_do.tree i)); none = refl; more = λ b bs. refl }
+
+abbrev pub shown_guard : Guard Frame → Test × ℕ × ℕ × View
+shown_guard g = (as_test g.cond, g.chan, g.var, view g.body)
+
+abbrev pub guards_way : Way NumberedGuard (Test × ℕ × ℕ × View)
+guards_way = record { sites = λ g. g.then_do.sites; sum = guard_sites; at = λ i g. (g.when, g.chan, g.var, begun (g.then_do.tree i)); none = refl; more = λ g gs. refl }
+
+pub plans_made : (i : ℕ) (ns : List Numbered) → plans_of (made_from parts_way i ns) ≡ parts_from i ns
+plans_made i [] = refl
+plans_made i (n ∷ ns) = ap (part (n.tree i)) (plans_made (i + n.sites) ns)
+
+parts_begun : (i : ℕ) (ns : List Numbered) → all_begun (made_from parts_way i ns) ≡ made_from parts_way i ns
+parts_begun i [] = refl
+parts_begun i (n ∷ ns) = ap (λ vs. begun (n.tree i) ∷ vs) (parts_begun (i + n.sites) ns)
+
+pub made_begun : (i : ℕ) (ns : List Numbered) (vs : List View) → vs ≡ made_from parts_way i ns → all_begun vs ≡ vs
+made_begun i ns vs h = ap all_begun h ∙ parts_begun i ns ∙ sym h
+
+all_begun_stand : (vs : List View) → all_begun vs ≡ vs → all_sound vs ≡ true
+all_begun_stand vs h = ap all_sound (sym h) ∙ all_begun_sound vs
+
+filled : (n : ℕ) (b : Bool) → b ≡ true → (nat_lt 0 (suc n) && b) ≡ true
+filled n true h = grind (arith, nat_tests)
+filled n false h = absurd (let z : false ≡ true = h in cc)
+
+-- a SEQ whose parts have begun stands for one that has begun
+pub seq_stands : (i : ℕ) (v : View) (vs : List View) → all_begun (v ∷ vs) ≡ v ∷ vs → view_of i false (seq (v ∷ vs) 0) ≡ begun (SEQ i (plans_of (v ∷ vs)))
+seq_stands i v vs h =
+    let e : begun v.plan ≡ v = cc in
+    let ps = plans_of vs in
+    let whole : Rest → Bool → View = λ r b. record { plan = SEQ i (part v.plan ps); rest = r; sound = b } in
+    ap (λ (w : View). whole (and_then w.rest ps) (nat_lt 0 (suc (length vs)) && all_sound (v ∷ vs))) (sym e)
+    ∙ ap (whole (and_then (begin v.plan) ps)) (filled (length vs) _ (all_begun_stand (v ∷ vs) h))
+
+-- and so does a PAR
+pub par_stands : (i : ℕ) (t : Task View) (ts : List (Task View)) → all_begun (map task_view (t ∷ ts)) ≡ map task_view (t ∷ ts) → view_of i false (par (t ∷ ts)) ≡ begun (PAR i (plans_of (map task_view (t ∷ ts))))
+par_stands i t ts h = par_begins i (t ∷ ts) (t ∷ ts) (filled (length ts) _ (all_begun_stand (map task_view (t ∷ ts)) h)) (sym h)
+
+-- branches that have begun
+pub branches_made : (i : ℕ) (bs : List (Branch Frame)) (ns : List NumberedBranch) → map shown_branch bs ≡ made_from branches_way i ns → (branches_of (map seen_branch bs) ≡ branches_from i ns) × (all_sound (bodies (map seen_branch bs)) ≡ true)
+branches_made i [] [] h = (refl, refl)
+branches_made i [] (n ∷ ns) h = absurd (cc)
+branches_made i (b ∷ bs) [] h = absurd (cc)
+branches_made i (b ∷ bs) (n ∷ ns) h =
+    let first : shown_branch b ≡ (n.when, begun (n.then_do.tree i)) = cc in
+    let later = branches_made (i + n.then_do.sites) bs ns cc in (
+      ap (λ (x : Test × View). branch x.0 x.1.plan (branches_of (map seen_branch bs))) first ∙ ap (branch n.when (n.then_do.tree i)) later.0,
+      ap (λ (x : Test × View). x.1.sound && all_sound (bodies (map seen_branch bs))) first ∙ later.1,
+    )
+
+pub if_stands : (site i : ℕ) (bs : List (Branch Frame)) (ns : List NumberedBranch) → map shown_branch bs ≡ made_from branches_way i ns → view_of site false (branching (map seen_branch bs) None) ≡ begun (IF site (branches_from i ns))
+if_stands site i bs ns h =
+    let made = branches_made i bs ns h in
+    let whole : Branches → Bool → View = λ qs b. record { plan = IF site qs; rest = Fresh (IF site qs); sound = true && b } in
+    ap (λ qs. whole qs (all_sound (bodies (map seen_branch bs)))) made.0 ∙ ap (whole (branches_from i ns)) made.1
+
+-- guards that have begun
+pub guards_made : (i : ℕ) (gs : List (Guard Frame)) (ns : List NumberedGuard) → map shown_guard gs ≡ made_from guards_way i ns → (guards_of (map seen_guard gs) ≡ guards_from i ns) × (all_sound (guarded (map seen_guard gs)) ≡ true)
+guards_made i [] [] h = (refl, refl)
+guards_made i [] (n ∷ ns) h = absurd (cc)
+guards_made i (g ∷ gs) [] h = absurd (cc)
+guards_made i (g ∷ gs) (n ∷ ns) h =
+    let first : shown_guard g ≡ (n.when, n.chan, n.var, begun (n.then_do.tree i)) = cc in
+    let later = guards_made (i + n.then_do.sites) gs ns cc in (
+      ap (λ (x : Test × ℕ × ℕ × View). guard x.0 x.1 x.2 x.3.plan (guards_of (map seen_guard gs))) first ∙ ap (guard n.when n.chan n.var (n.then_do.tree i)) later.0,
+      ap (λ (x : Test × ℕ × ℕ × View). x.3.sound && all_sound (guarded (map seen_guard gs))) first ∙ later.1,
+    )
+
+length-made : {N X : Type 0} (w : Way N X) (i : ℕ) (ns : List N) → length (made_from w i ns) ≡ length ns
+length-made w i [] = refl
+length-made w i (n ∷ ns) = ap suc (length-made w (i + w.sites n) ns)
+
+few : (n : ℕ) (b : Bool) → n < 65536 → b ≡ true → (nat_lt n 65536 && (true && b)) ≡ true
+few n true l h = grind (arith, nat_tests)
+few n false l h = absurd (let z : false ≡ true = h in cc)
+
+pub alt_stands : (site i : ℕ) (gs : List (Guard Frame)) (ns : List NumberedGuard) → length ns < 65536 → map shown_guard gs ≡ made_from guards_way i ns → view_of site false (guarding (map seen_guard gs) Open) ≡ begun (ALT site (guards_from i ns))
+alt_stands site i gs ns l h =
+    let made = guards_made i gs ns h in
+    let same : length (map shown_guard gs) ≡ length ns = ap length h ∙ length-made guards_way i ns in
+    let k : length (map seen_guard gs) < 65536 = simp length-map (let z : length gs ≡ length ns = simp length-map at same in omega arith) in
+    let whole : Guards → Bool → View = λ qs b. record { plan = ALT site qs; rest = Fresh (ALT site qs); sound = b } in
+    ap (λ qs. whole qs (nat_lt (length (map seen_guard gs)) 65536 && (true && all_sound (guarded (map seen_guard gs))))) made.0 ∙ ap (whole (guards_from i ns)) (few (length (map seen_guard gs)) _ k made.1)
 
 -- each process has a site
 some_site : (l : layer.Process-F Numbered NumberedBranch NumberedGuard) → 1 ≤ (numbered l).sites
@@ -89,169 +175,74 @@ some_site (layer.While b p) = omega arith
 some_site (layer.Count v a n p) = omega arith
 some_site (layer.Alt gs) = omega arith
 
-has_site : (p : Process) → 1 ≤ (number p).sites
+pub has_site : (p : Process) → 1 ≤ (number p).sites
 unfolding number
 has_site p = subst (λ (n : Numbered). 1 ≤ n.sites) (sym (fold_out-Process Numbered NumberedBranch NumberedGuard numbered branch_layer guard_layer p)) (some_site _)
 
--- so where its sites have 16 bits, its own has
-pub site_fits : (site limit : ℕ) (p : Process) → site + (number p).sites ≤ limit → site < limit
-site_fits site limit p l = let h = has_site p in omega arith
-
-guards_have_sites : (gs : List Guard) → length gs ≤ guard_sites (map number_guard gs)
-guards_have_sites [] = omega arith
-guards_have_sites (g ∷ gs) =
-    let s : 1 ≤ (number_guard g).then_do.sites = subst (λ (n : NumberedGuard). 1 ≤ n.then_do.sites) (sym (number_guard_out g)) (has_site (out-Guard g).body) in
-    let r = guards_have_sites gs in omega arith
-
-map_length : {X Y : Type 0} (f : X → Y) (xs : List X) → length (map f xs) ≡ length xs
-map_length f [] = refl
-map_length f (x ∷ xs) = ap suc (map_length f xs)
-
-gates_length : (ns : List NumberedGuard) → length (gates ns) ≡ length ns
-gates_length [] = refl
-gates_length (n ∷ ns) = ap suc (gates_length ns)
-
--- an ALT whose sites have 16 bits has fewer guards than 65,536
-pub few_inputs : (site : ℕ) (p : Process) (gs : List Guard) (xs : List GuardedInput) → p ≡ process.Alt gs → map gate xs ≡ gates (map number_guard gs) → site + (number p).sites ≤ 65536 → length xs < 65536
-few_inputs site p gs xs h e l =
-    let s : site + suc (guard_sites (map number_guard gs)) ≤ 65536 = subst (λ (n : Numbered). site + n.sites ≤ 65536) (number_alt p gs h) l in
-    let m : length xs ≡ length gs = sym (map_length gate xs) ∙ ap length e ∙ gates_length (map number_guard gs) ∙ map_length number_guard gs in
-    let n = guards_have_sites gs in
+-- there are no more guards than sites
+pub few_guards : (gs : List WrittenGuard) → length (map number_guard gs) ≤ guard_sites (map number_guard gs)
+few_guards [] = omega arith
+few_guards (g ∷ gs) =
+    let one : 1 ≤ (number_guard g).then_do.sites = subst (λ (n : NumberedGuard). 1 ≤ n.then_do.sites) (sym (number_guard_out g)) (has_site (out-Guard g).body) in
+    let rest = few_guards gs in
     omega arith
 
--- a replicated SEQ as it is numbered
-pub count_whole : (site : ℕ) (p : Process) (v : ℕ) (a n b m : Expr) (q : Process) (vs : List View) → p ≡ process.Count v a n q → b ≡ a → m ≡ n → vs ≡ whole_from (site + 1) (number q) ∷ [] →
-    ◌≡◌ {A = View} (count_of site v (exp b) (exp m) vs, Fresh (count_of site v (exp b) (exp m) vs)) (whole_from site (number p))
-count_whole site p v a n b m q vs h e f g =
-    let W : Proc → View = λ x. (x, Fresh x) in
-    ap W (ap (count_of site v (exp b) (exp m)) g ∙ ap (λ d. COUNT site v (exp d) (exp m) ((number q).tree (site + 1))) e ∙ ap (λ d. COUNT site v (exp a) (exp d) ((number q).tree (site + 1))) f ∙ ap (λ k. COUNT site v (exp a) (exp n) ((number q).tree k)) (add-one site))
-    ∙ ap (whole_from site) (sym (number_count p v a n q h))
+-- one frame more
+pub views_push : (fs : List Frame) (f : Frame) → views (fs ++ f ∷ []) ≡ views fs ++ view f ∷ []
+views_push [] f = refl
+views_push (g ∷ fs) f = ap (λ vs. view g ∷ vs) (views_push fs f)
 
--- one part more, or one branch
-pub part_made : (next later top : ℕ) (n : Numbered) (ns rest : List Numbered) (vs ws whole : List View) → ns ≡ n ∷ rest → later ≡ next + n.sites → ws ≡ vs ++ whole_from next n ∷ [] →
-    (next + part_sites ns ≡ top) × (vs ++ wholes_from next ns ≡ whole) → (later + part_sites rest ≡ top) × (ws ++ wholes_from later rest ≡ whole)
-part_made next later top n ns rest vs ws whole h e f (b, c) =
-    let m : next + (n.sites + part_sites rest) ≡ top = ap (λ xs. next + part_sites xs) (sym h) ∙ b in (
-      omega arith,
-      (ap (λ us. us ++ wholes_from later rest) f ∙ append_assoc vs (whole_from next n ∷ []) (wholes_from later rest) ∙ ap (λ k. vs ++ whole_from next n ∷ wholes_from k rest) e
-          ∙ ap (λ xs. vs ++ wholes_from next xs) (sym h) ∙ c),
-    )
+pub tasks_push : (ts : List (Task Frame)) (t : Task Frame) → task_views (ts ++ t ∷ []) ≡ task_views ts ++ task_view (seen_task t) ∷ []
+tasks_push [] t = refl
+tasks_push (x ∷ ts) t = ap (λ vs. task_view (seen_task x) ∷ vs) (tasks_push ts t)
 
-pub branch_made : (next later top : ℕ) (n : NumberedBranch) (ns rest : List NumberedBranch) (vs ws whole : List View) → ns ≡ n ∷ rest → later ≡ next + n.then_do.sites → ws ≡ vs ++ whole_from next n.then_do ∷ [] →
-    (next + branch_sites ns ≡ top) × (vs ++ branch_wholes_from next ns ≡ whole) → (later + branch_sites rest ≡ top) × (ws ++ branch_wholes_from later rest ≡ whole)
-branch_made next later top n ns rest vs ws whole h e f (b, c) =
-    let p = n.then_do in
-    let m : next + (p.sites + branch_sites rest) ≡ top = ap (λ xs. next + branch_sites xs) (sym h) ∙ b in (
-      omega arith,
-      (ap (λ us. us ++ branch_wholes_from later rest) f ∙ append_assoc vs (whole_from next p ∷ []) (branch_wholes_from later rest) ∙ ap (λ k. vs ++ whole_from next p ∷ branch_wholes_from k rest) e
-          ∙ ap (λ xs. vs ++ branch_wholes_from next xs) (sym h) ∙ c),
-    )
+-- a SEQ begins with its first part
+pub begins_first : (site : ℕ) (fs : List Frame) (f : Frame) (p : Proc) (o : Outcome) → fs ≡ [] → view f ≡ begun p → o ≡ outcome_of (begin p) → o ≡ outcome_of (begin (SEQ site (plans_of (views (fs ++ f ∷ [])))))
+begins_first site [] f p o e h g = g ∙ ap (λ (v : View). outcome_of (begin v.plan)) (sym h)
+begins_first site (x ∷ fs) f p o e h g = absurd (cc)
 
-pub guard_made : (next later top : ℕ) (n : NumberedGuard) (ns rest : List NumberedGuard) (vs ws whole : List View) → ns ≡ n ∷ rest → later ≡ next + n.then_do.sites → ws ≡ vs ++ whole_from next n.then_do ∷ [] →
-    (next + guard_sites ns ≡ top) × (vs ++ guard_wholes_from next ns ≡ whole) → (later + guard_sites rest ≡ top) × (ws ++ guard_wholes_from later rest ≡ whole)
-guard_made next later top n ns rest vs ws whole h e f (b, c) =
-    let p = n.then_do in
-    let m : next + (p.sites + guard_sites rest) ≡ top = ap (λ xs. next + guard_sites xs) (sym h) ∙ b in (
-      omega arith,
-      (ap (λ us. us ++ guard_wholes_from later rest) f ∙ append_assoc vs (whole_from next p ∷ []) (guard_wholes_from later rest) ∙ ap (λ k. vs ++ whole_from next p ∷ guard_wholes_from k rest) e
-          ∙ ap (λ xs. vs ++ guard_wholes_from next xs) (sym h) ∙ c),
-    )
+pub begins_still : (site : ℕ) (fs : List Frame) (f : Frame) (o : Outcome) → 0 < length fs → o ≡ outcome_of (begin (SEQ site (plans_of (views fs)))) → o ≡ outcome_of (begin (SEQ site (plans_of (views (fs ++ f ∷ [])))))
+begins_still site [] f o l h = absurd (omega arith)
+begins_still site (x ∷ fs) f o l h = h ∙ seq_outcome site (view x).plan (plans_of (views fs)) ∙ sym (seq_outcome site (view x).plan (plans_of (views (fs ++ f ∷ []))))
 
--- the first of the parts that are left has sites among theirs
-pub part_fits : (next top limit : ℕ) (n : Numbered) (ns rest : List Numbered) → ns ≡ n ∷ rest → next + part_sites ns ≡ top → top ≤ limit → next + n.sites ≤ limit
-part_fits next top limit n ns rest h b l =
-    let m : next + (n.sites + part_sites rest) ≡ top = ap (λ xs. next + part_sites xs) (sym h) ∙ b in omega arith
+-- a frame of a SEQ that has no part, or some
+abbrev Stands : View → Outcome → Proc → Type 0
+Stands v o p = (v ≡ begun p) × (o ≡ outcome_of (begin p))
 
-pub branch_fits : (next top limit : ℕ) (n : NumberedBranch) (ns rest : List NumberedBranch) → ns ≡ n ∷ rest → next + branch_sites ns ≡ top → top ≤ limit → next + n.then_do.sites ≤ limit
-branch_fits next top limit n ns rest h b l =
-    let p = n.then_do in
-    let m : next + (p.sites + branch_sites rest) ≡ top = ap (λ xs. next + branch_sites xs) (sym h) ∙ b in omega arith
+pub no_part_stands : (site i : ℕ) (fs : List Frame) (ns : List Numbered) (v : View) (o : Outcome) → fs ≡ [] → views fs ≡ made_from parts_way i ns → v ≡ begun (SEQ site no_parts) → o ≡ outcome_of (begin (SEQ site (plans_of (views fs)))) → Stands v o (SEQ site (parts_from i ns))
+no_part_stands site i fs ns v o e m h g =
+    let same : plans_of (views fs) ≡ parts_from i ns = ap plans_of m ∙ plans_made i ns in
+    let none : no_parts ≡ parts_from i ns = ap (λ us. plans_of (views us)) (sym e) ∙ same in
+    (h ∙ ap (λ ps. begun (SEQ site ps)) none, g ∙ ap (λ ps. outcome_of (begin (SEQ site ps))) same)
 
-pub guard_fits : (next top limit : ℕ) (n : NumberedGuard) (ns rest : List NumberedGuard) → ns ≡ n ∷ rest → next + guard_sites ns ≡ top → top ≤ limit → next + n.then_do.sites ≤ limit
-guard_fits next top limit n ns rest h b l =
-    let p = n.then_do in
-    let m : next + (p.sites + guard_sites rest) ≡ top = ap (λ xs. next + guard_sites xs) (sym h) ∙ b in omega arith
+pub parts_stand : (site i : ℕ) (fs : List Frame) (ns : List Numbered) (v : View) (o : Outcome) → 0 < length fs → views fs ≡ made_from parts_way i ns → v ≡ view_of site false (seq (views fs) 0) → o ≡ outcome_of (begin (SEQ site (plans_of (views fs)))) → Stands v o (SEQ site (parts_from i ns))
+parts_stand site i [] ns v o l m h g = absurd (omega arith)
+parts_stand site i (f ∷ fs) ns v o l m h g =
+    let same : plans_of (views (f ∷ fs)) ≡ parts_from i ns = ap plans_of m ∙ plans_made i ns in
+    (h ∙ seq_stands site (view f) (views fs) (made_begun i ns (views (f ∷ fs)) m) ∙ ap (λ ps. begun (SEQ site ps)) same, g ∙ ap (λ ps. outcome_of (begin (SEQ site ps))) same)
 
--- no part is left
-pub parts_end : (next site k : ℕ) (xs ps : List Process) (vs : List View) → xs ≡ ps → length xs ≤ k →
-    (next + part_sites (map number (drop k xs)) ≡ site + part_sites (map number xs)) × (vs ++ wholes_from next (map number (drop k xs)) ≡ wholes_from site (map number xs)) →
-    (next ≡ site + part_sites (map number ps)) × (vs ≡ wholes_from site (map number ps))
-parts_end next site k xs ps vs e l (b, c) =
-    let none : next + part_sites (map number (drop k xs)) ≡ next + 0 = at_drop_all (λ ys. next + part_sites (map number ys)) xs k l in
-    let all : site + part_sites (map number xs) ≡ site + part_sites (map number ps) = ap (λ ys. site + part_sites (map number ys)) e in (
-      omega arith,
-      (sym (append-nil vs) ∙ sym (at_drop_all (λ ys. vs ++ wholes_from next (map number ys)) xs k l) ∙ c ∙ ap (λ ys. wholes_from site (map number ys)) e),
-    )
+-- a frame of a PAR that has parts
+pub tasks_stand : (site i : ℕ) (ts : List (Task Frame)) (ns : List Numbered) (v : View) (o : Outcome) → 0 < length ts → task_views ts ≡ made_from parts_way i ns → v ≡ view_of site false (par (map seen_task ts)) → o ≡ outcome.Other → Stands v o (PAR site (parts_from i ns))
+tasks_stand site i [] ns v o l m h g = absurd (omega arith)
+tasks_stand site i (t ∷ ts) ns v o l m h g =
+    let same : plans_of (task_views (t ∷ ts)) ≡ parts_from i ns = ap plans_of m ∙ plans_made i ns in
+    (h ∙ par_stands site (seen_task t) (map seen_task ts) (made_begun i ns (task_views (t ∷ ts)) m) ∙ ap (λ ps. begun (PAR site ps)) same, g ∙ ap (λ ps. outcome_of (begin (PAR site ps))) same)
 
-pub branches_end : (next site k : ℕ) (xs bs : List Branch) (vs : List View) → xs ≡ bs → length xs ≤ k →
-    (next + branch_sites (map number_branch (drop k xs)) ≡ site + branch_sites (map number_branch xs)) × (vs ++ branch_wholes_from next (map number_branch (drop k xs)) ≡ branch_wholes_from site (map number_branch xs)) →
-    (next ≡ site + branch_sites (map number_branch bs)) × (vs ≡ branch_wholes_from site (map number_branch bs))
-branches_end next site k xs bs vs e l (b, c) =
-    let none : next + branch_sites (map number_branch (drop k xs)) ≡ next + 0 = at_drop_all (λ ys. next + branch_sites (map number_branch ys)) xs k l in
-    let all : site + branch_sites (map number_branch xs) ≡ site + branch_sites (map number_branch bs) = ap (λ ys. site + branch_sites (map number_branch ys)) e in (
-      omega arith,
-      (sym (append-nil vs) ∙ sym (at_drop_all (λ ys. vs ++ branch_wholes_from next (map number_branch ys)) xs k l) ∙ c ∙ ap (λ ys. branch_wholes_from site (map number_branch ys)) e),
-    )
+-- what a test for emptiness tells
+no_length : {X : Type 0} (xs : List X) → length xs ≡ 0 → xs ≡ []
+no_length [] h = refl
+no_length (x ∷ xs) h = absurd (omega arith)
 
-pub guards_end : (next site k : ℕ) (xs gs : List Guard) (vs : List View) → xs ≡ gs → length xs ≤ k →
-    (next + guard_sites (map number_guard (drop k xs)) ≡ site + guard_sites (map number_guard xs)) × (vs ++ guard_wholes_from next (map number_guard (drop k xs)) ≡ guard_wholes_from site (map number_guard xs)) →
-    (next ≡ site + guard_sites (map number_guard gs)) × (vs ≡ guard_wholes_from site (map number_guard gs))
-guards_end next site k xs gs vs e l (b, c) =
-    let none : next + guard_sites (map number_guard (drop k xs)) ≡ next + 0 = at_drop_all (λ ys. next + guard_sites (map number_guard ys)) xs k l in
-    let all : site + guard_sites (map number_guard xs) ≡ site + guard_sites (map number_guard gs) = ap (λ ys. site + guard_sites (map number_guard ys)) e in (
-      omega arith,
-      (sym (append-nil vs) ∙ sym (at_drop_all (λ ys. vs ++ guard_wholes_from next (map number_guard ys)) xs k l) ∙ c ∙ ap (λ ys. guard_wholes_from site (map number_guard ys)) e),
-    )
+is_zero : (n : ℕ) → true ≡ (n == 0) → n ≡ 0
+is_zero zero h = refl
+is_zero (suc n) h = absurd (grind (arith, nat_tests))
 
--- where the sites of a process with parts end
-pub seq_next : (site : ℕ) (p : Process) (ps : List Process) → p ≡ process.Seq ps → site + 1 + part_sites (map number ps) ≡ site + (number p).sites
-seq_next site p ps h =
-    let is : (number p).sites ≡ suc (part_sites (map number ps)) = ap (λ n. n.sites) (number_seq p ps h) in omega arith
+not_zero : (n : ℕ) → false ≡ (n == 0) → 0 < n
+not_zero zero h = absurd (grind (arith, nat_tests))
+not_zero (suc n) h = omega arith
 
-pub par_next : (site : ℕ) (p : Process) (ps : List Process) → p ≡ process.Par ps → site + 1 + part_sites (map number ps) ≡ site + (number p).sites
-par_next site p ps h =
-    let is : (number p).sites ≡ suc (part_sites (map number ps)) = ap (λ n. n.sites) (number_par p ps h) in omega arith
+pub none_there : {X : Type 0} (v : Vec X Global) → true ≡ (vec_len v == 0) → v.items ≡ []
+none_there v h = no_length v.items (sym v.ok.0 ∙ is_zero (vec_len v) h)
 
-pub if_next : (site : ℕ) (p : Process) (bs : List Branch) → p ≡ process.If bs → site + 1 + branch_sites (map number_branch bs) ≡ site + (number p).sites
-if_next site p bs h =
-    let is : (number p).sites ≡ suc (branch_sites (map number_branch bs)) = ap (λ n. n.sites) (number_if p bs h) in omega arith
-
-pub alt_next : (site : ℕ) (p : Process) (gs : List Guard) → p ≡ process.Alt gs → site + 1 + guard_sites (map number_guard gs) ≡ site + (number p).sites
-alt_next site p gs h =
-    let is : (number p).sites ≡ suc (guard_sites (map number_guard gs)) = ap (λ n. n.sites) (number_alt p gs h) in omega arith
-
-pub while_next : (site : ℕ) (p : Process) (b : Cond) (q : Process) → p ≡ process.While b q → site + 1 + (number q).sites ≡ site + (number p).sites
-while_next site p b q h =
-    let is : (number p).sites ≡ suc (number q).sites = ap (λ n. n.sites) (number_while p b q h) in omega arith
-
-pub count_next : (site : ℕ) (p : Process) (v : ℕ) (a n : Expr) (q : Process) → p ≡ process.Count v a n q → site + 1 + (number q).sites ≡ site + (number p).sites
-count_next site p v a n q h =
-    let is : (number p).sites ≡ suc (number q).sites = ap (λ m. m.sites) (number_count p v a n q h) in omega arith
-
--- one condition more, and no branch left
-pub test_made : (k : ℕ) (xs : List Branch) (b : Branch) (t : Cond) (cs ts : List Cond) (whole : List Test) → k < length xs → b ≡ get_or xs k b → t ≡ (out-Branch b).cond → ts ≡ cs ++ t ∷ [] →
-    map as_test cs ++ tests (map number_branch (drop k xs)) ≡ whole → map as_test ts ++ tests (map number_branch (drop (k + 1) xs)) ≡ whole
-test_made k xs b t cs ts whole l h e f g =
-    let us = map as_test cs in
-    let rest = tests (map number_branch (drop (k + 1) xs)) in
-    ap (λ ys. map as_test ys ++ rest) f ∙ ap (λ ys. ys ++ rest) (map-append as_test cs (t ∷ [])) ∙ append_assoc us (as_test t ∷ []) rest ∙ ap (λ c. us ++ as_test c ∷ rest) e
-    ∙ ap (λ n. us ++ n.when ∷ rest) (sym (number_branch_out b)) ∙ ap (λ ns. us ++ tests ns) (sym (drop_at number_branch k xs b l h)) ∙ g
-
-pub tests_end : (k : ℕ) (xs bs : List Branch) (cs : List Cond) → xs ≡ bs → length xs ≤ k → map as_test cs ++ tests (map number_branch (drop k xs)) ≡ tests (map number_branch xs) → map as_test cs ≡ tests (map number_branch bs)
-tests_end k xs bs cs e l g =
-    sym (append-nil (map as_test cs)) ∙ sym (at_drop_all (λ ys. map as_test cs ++ tests (map number_branch ys)) xs k l) ∙ g ∙ ap (λ ys. tests (map number_branch ys)) e
-
--- one input more, and no guard left
-pub gate_made : (k : ℕ) (xs : List Guard) (b : Guard) (t : Cond) (cs ts : List GuardedInput) (whole : List Gate) → k < length xs → b ≡ get_or xs k b → t ≡ (out-Guard b).cond →
-    ts ≡ cs ++ record { cond = t; chan = (out-Guard b).chan; var = (out-Guard b).var } ∷ [] → map gate cs ++ gates (map number_guard (drop k xs)) ≡ whole → map gate ts ++ gates (map number_guard (drop (k + 1) xs)) ≡ whole
-gate_made k xs b t cs ts whole l h e f g =
-    let us = map gate cs in
-    let rest = gates (map number_guard (drop (k + 1) xs)) in
-    let one : Cond → GuardedInput = λ c. record { cond = c; chan = (out-Guard b).chan; var = (out-Guard b).var } in
-    let shown : NumberedGuard → Gate = λ n. record { when = n.when; chan = n.chan; var = n.var } in
-    ap (λ ys. map gate ys ++ rest) f ∙ ap (λ ys. ys ++ rest) (map-append gate cs (one t ∷ [])) ∙ append_assoc us (gate (one t) ∷ []) rest ∙ ap (λ c. us ++ gate (one c) ∷ rest) e
-    ∙ ap (λ n. us ++ shown n ∷ rest) (sym (number_guard_out b)) ∙ ap (λ ns. us ++ gates ns) (sym (drop_at number_guard k xs b l h)) ∙ g
-
-pub gates_end : (k : ℕ) (xs gs : List Guard) (cs : List GuardedInput) → xs ≡ gs → length xs ≤ k → map gate cs ++ gates (map number_guard (drop k xs)) ≡ gates (map number_guard xs) → map gate cs ≡ gates (map number_guard gs)
-gates_end k xs gs cs e l g =
-    sym (append-nil (map gate cs)) ∙ sym (at_drop_all (λ ys. map gate cs ++ gates (map number_guard ys)) xs k l) ∙ g ∙ ap (λ ys. gates (map number_guard ys)) e
+pub some_there : {X : Type 0} (v : Vec X Global) → false ≡ (vec_len v == 0) → 0 < length v.items
+some_there v h = let e : vec_len v ≡ length v.items = v.ok.0 in let l = not_zero (vec_len v) h in omega arith

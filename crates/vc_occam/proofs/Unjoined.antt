@@ -1,18 +1,19 @@
 -- Where no channel is inside the node, each site's own moves are the moves.
-use Rattle.std.proofs.Common.{◌≡◌, ℕ, true, false, arith, Option, Some, None, refl, ap, sym, ◌∙◌, subst, List, [], ◌∷◌, ◌++◌, length, take, drop}
-use Rattle.vc_occam.specs.declared.begins.Begins.{Begins}
-use Rattle.vc_occam.specs.declared.begins.Begins.TheVariants as begins
+use Rattle.std.proofs.Common.{Ok, Err, ◌≡◌, ℕ, true, false, arith, Option, Some, None, refl, ap, sym, ◌∙◌, List, [], ◌∷◌, ◌++◌, length, take, drop}
+use Rattle.vc_occam.specs.declared.outcome.Outcome.TheVariants as outcome
 use Rattle.vc_occam.specs.declared.moves.Move.{Move}
 use Rattle.vc_occam.specs.declared.moves.Move.TheVariants.{Offer, Want, Choose, Stopch, Inner, Quiet}
 use Rattle.vc_occam.specs.declared.running.Running.{Running}
 use Rattle.std.proofs.lemmas.Bool.Decides.{nat_tests}
-use Rattle.std.specs.Prelude.{◌==◌, if◌then◌else◌}
+use Rattle.std.specs.Prelude.{◌==◌, OnOk, Result, ⊤, if◌then◌else◌}
 use Rattle.vc_occam.specs.First.{joined, meetings}
-use Rattle.vc_occam.specs.Private.Frames.{BeginsWith}
-use Rattle.vc_occam.specs.Frames.{view}
+use Rattle.vc_occam.specs.Frames.{remains}
 use Rattle.vc_occam.specs.Runnings.{inner_channels, moves, state}
+use Rattle.vc_packets.specs.declared.memory.Memory.{Memory}
 use Rattle.vc_process.specs.Terms.{store}
 use Rattle.vc_process.specs.Usage.{Set, among}
+use Rattle.vc_occam.proofs.Outcomes.{quiet_own}
+use Rattle.vc_occam.proofs.Tasks.{kept}
 
 pub apart : (inside : Set) → ((c : ℕ) → inside c ≡ false) → (all ms : List Move) → joined inside all ms ≡ ms
 apart inside h all [] = refl
@@ -27,11 +28,9 @@ pub unjoined : (all ms : List Move) → joined (among []) all ms ≡ ms
 unjoined all ms = apart (among []) (λ c. refl) all ms
 
 -- a step is the only move of a process that is known to begin with it
-pub only_moves : (r : Running) (i : ℕ) → r.begins ≡ begins.Quiet i → moves r ≡ Quiet i ∷ []
+pub only_moves : (r : Running) (i : ℕ) → r.task.begins ≡ outcome.Quiet i → moves r ≡ Quiet i ∷ []
 unfolding state inner_channels
-only_moves r i h =
-    let all = subst (λ (b : Begins). BeginsWith b (view r.frame).1) h r.begins_so (store r.vars.items) in
-    ap (λ ms. joined (among r.inside) ms ms) all.0
+only_moves r i h = ap (λ ms. joined (among r.inside) ms ms) (quiet_own (remains r.task) i (store r.vars.items) (kept r.task r.sound ∙ h))
 
 -- what is joined behind the moves that each site can begin with is left where these are taken out
 pub joined_left : (inside : Set) (old all new : List Move) (n : ℕ) → n ≡ length old → all ≡ old ++ joined inside (take n old) (take n old) → new ≡ drop n all → new ≡ joined inside old old
@@ -59,3 +58,8 @@ meets_guard s c j k d m r old new h t e n =
     let on : c ≡ d = e ∙ ap (λ x. x.2) t in
     let here : (c == d) ≡ true = grind (arith, nat_tests) in
     n ∙ ap (λ x. old ++ Inner s x.0 x.1 c ∷ []) t ∙ sym (ap (λ y. old ++ meetings s c (y ∷ [])) h ∙ ap (λ b. old ++ ((if b then (Inner s j (Some k) c ∷ []) else []) ++ [])) here)
+
+-- what is put in an empty list
+pub all_listed : (o : Result ⊤ Memory) (old new ms ns : List Move) → old ++ ms ≡ ns → OnOk o (new ≡ old ++ ms) → OnOk o (new ≡ ns)
+all_listed (Ok u) old new ms ns h q = q ∙ h
+all_listed (Err e) old new ms ns h q = tt

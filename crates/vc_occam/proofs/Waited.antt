@@ -20,9 +20,8 @@ use Rattle.vc_process.specs.ProcessStep.{Wants}
 use Rattle.vc_occam.specs.Traces.{Comm}
 use Rattle.vc_process.proofs.Lists.{alone, at_front, behind, front_or, none}
 use Rattle.vc_occam.proofs.Acting.{doers_rest}
-use Rattle.vc_occam.proofs.Besides.{beside_own}
-use Rattle.vc_occam.proofs.Found.{mover}
-use Rattle.vc_occam.proofs.Places.{step_site}
+use Rattle.vc_occam.proofs.SideBySide.{beside_own}
+use Rattle.vc_occam.proofs.Doers.{mover, step_site}
 use Rattle.vc_occam.proofs.Sites.{clash}
 
 -- the first of two lists has a move at the site

@@ -1,170 +1,227 @@
 -- What the running code stands for: a tree of frames, each with the process that was written and what remains of it.
-use Rattle.std.specs.Prelude.{ℕ, zero, suc, ℤ, pos, ◌+ℤ◌, ◌-ℤ◌, int_lt, Bool, true, false, List, [], ◌∷◌, map, drop, slice_get, Option, Some, None, if◌then◌else◌}
+use Rattle.std.specs.Prelude.{ℕ, suc, ℤ, pos, ◌+ℤ◌, ◌-ℤ◌, int_lt, Bool, true, false, ◌&&◌, List, [], ◌∷◌, map, drop, length, nat_lt, ◌==◌, slice_get, Option, Some, None, if◌then◌else◌}
 use lib.Signed.{mag}
-use Rattle.vc_occam.specs.declared.kind.Kind.{Kind}
-use Rattle.vc_occam.specs.declared.kind.Kind.TheVariants as kind
-use Rattle.vc_occam.specs.declared.phase.Phase.{Phase}
-use Rattle.vc_occam.specs.declared.phase.Phase.TheVariants as phase
 use Rattle.vc_occam.specs.declared.frame.Frame.{Frame}
 use Rattle.vc_occam.specs.declared.frame.Frame.TheOpen.{Frame-F}
 use Rattle.vc_occam.specs.declared.frame.Frame.TheFolds.{fold-Frame}
+use Rattle.vc_occam.specs.declared.frame.Construct.{Construct}
+use Rattle.vc_occam.specs.declared.frame.Construct.TheVariants as run
+use Rattle.vc_occam.specs.declared.frame.Task.{Task}
+use Rattle.vc_occam.specs.declared.frame.Branch.{Branch}
+use Rattle.vc_occam.specs.declared.frame.Guard.{Guard}
+use Rattle.vc_occam.specs.declared.frame.Turn.{Turn}
+use Rattle.vc_occam.specs.declared.frame.Choice.{Choice}
+use Rattle.vc_occam.specs.declared.frame.Choice.TheVariants.{Open, Taken, Within}
+use Rattle.vc_occam.specs.declared.outcome.Outcome.{Outcome}
+use Rattle.vc_occam.specs.declared.outcome.Outcome.TheVariants as outcome
 use Rattle.vc_process.specs.Usage.{changes}
-use Rattle.vc_process.specs.Syntax.{Exp, Test, Constant, Proc, SKIP, STOP, Assign, Output, Input, StopChan, SEQ, PAR, IF, WHILE, COUNT, ALT, Procs, no_parts, part, Branches, no_branches, branch, Guards, no_guards, guard}
+use Rattle.vc_process.specs.Syntax.{Exp, Test, Given, Whole, Proc, SKIP, STOP, Assign, Output, Input, StopChan, SEQ, PAR, IF, WHILE, COUNT, ALT, Procs, no_parts, part, Branches, no_branches, branch, Guards, no_guards, guard}
 use Rattle.vc_process.specs.Terms.{exp, given, as_test}
-use Rattle.vc_occam.specs.Remains.{Rest, Done, Stopped, Fresh, Finishing, Getting, Then, Turns, and_then, beside_on}
-use Rattle.vc_occam.specs.Gates.{Gate, gate}
+use Rattle.vc_occam.specs.Remains.{Rest, Done, Stopped, Fresh, Finishing, Getting, Then, Turns, Beside, and_then, beside_on, begin}
 
--- a process that was written, and what remains of it
-abbrev pub View : Type 0
-View = Proc × Rest
+-- a process that was written, what remains of it, and whether its frames are ones that can be
+pub record View : Type 0 where
+  pub plan : Proc
+  pub rest : Rest
+  pub sound : Bool
 
+-- what a frame runs and how far it is, with what its parts stand for
+pub data Shape : Type 0 where
+  skip : Shape
+  empty_seq : Shape
+  empty_par : Shape
+  stop : Shape
+  assign : (var : ℕ) → Given → Shape
+  send : (chan : ℕ) → Given → (begun : Bool) → Shape
+  receive : (chan var : ℕ) → (begun : Bool) → Shape
+  stop_chan : (chan : ℕ) → Shape
+  seq : List View → (at : ℕ) → Shape
+  par : List (Task View) → Shape
+  branching : List (Branch View) → (taken : Option ℕ) → Shape
+  looping : Test → View → (turning : Bool) → Shape
+  counting : (var : ℕ) → (base count : Exp) → View → Option Turn → Shape
+  guarding : List (Guard View) → Choice → Shape
+
+-- the processes that were written
 abbrev pub plans_of : List View → Procs
 plans_of [] = no_parts
-plans_of (v ∷ vs) = part v.0 (plans_of vs)
+plans_of (v ∷ vs) = part v.plan (plans_of vs)
 
--- a branch without a condition is never taken
-abbrev pub branches_of : List Test → List View → Branches
-branches_of bs [] = no_branches
-branches_of [] (v ∷ vs) = branch (Constant false) v.0 (branches_of [] vs)
-branches_of (b ∷ bs) (v ∷ vs) = branch b v.0 (branches_of bs vs)
+abbrev pub branches_of : List (Branch View) → Branches
+branches_of [] = no_branches
+branches_of (b ∷ bs) = branch (as_test b.cond) b.body.plan (branches_of bs)
 
-abbrev pub while_of : ℕ → Test → List View → Proc
-while_of i b [] = STOP i
-while_of i b (v ∷ vs) = WHILE i b v.0
+abbrev pub guards_of : List (Guard View) → Guards
+guards_of [] = no_guards
+guards_of (g ∷ gs) = guard (as_test g.cond) g.chan g.var g.body.plan (guards_of gs)
 
-abbrev pub count_of : ℕ → ℕ → Exp → Exp → List View → Proc
-count_of i v a n [] = STOP i
-count_of i v a n (w ∷ vs) = COUNT i v a n w.0
+-- what a process comes to by what remains of it: it ends, or begins with nothing, or with one quiet step that assigns no bytes
+abbrev pub fresh_outcome : Proc → Outcome
+fresh_outcome (SKIP i) = outcome.Quiet i
+fresh_outcome (STOP i) = outcome.Nothing
+fresh_outcome (Assign i v (Whole a)) = outcome.Quiet i
+fresh_outcome (SEQ i no_parts) = outcome.Quiet i
+fresh_outcome (PAR i no_parts) = outcome.Quiet i
+fresh_outcome (IF i bs) = outcome.Quiet i
+fresh_outcome (WHILE i b p) = outcome.Quiet i
+fresh_outcome (COUNT i v a n p) = outcome.Quiet i
+fresh_outcome p = outcome.Other
 
--- a part that isn't there is STOP
-abbrev pub part_plan : Option View → Proc
-part_plan None = STOP 0
-part_plan (Some v) = v.0
+abbrev pub unless_ended : Outcome → Outcome
+unless_ended outcome.Ended = outcome.Other
+unless_ended o = o
 
--- a body without a guard is never taken
-abbrev pub guards_of : List Gate → List View → Guards
-guards_of [] [] = no_guards
-guards_of [] (v ∷ vs) = guard (Constant false) 0 0 v.0 (guards_of [] vs)
-guards_of (g ∷ gs) [] = guard g.when g.chan g.var (STOP 0) (guards_of gs [])
-guards_of (g ∷ gs) (v ∷ vs) = guard g.when g.chan g.var v.0 (guards_of gs vs)
+abbrev pub outcome_of : Rest → Outcome
+outcome_of Done = outcome.Ended
+outcome_of (Stopped i) = outcome.Nothing
+outcome_of (Fresh p) = fresh_outcome p
+outcome_of (Finishing i c) = outcome.Nothing
+outcome_of (Getting i c v) = outcome.Nothing
+outcome_of (Then r ps) = unless_ended (outcome_of r)
+outcome_of (Turns r v b n p) = unless_ended (outcome_of r)
+outcome_of (Beside mine r q) = outcome.Other
 
-abbrev pub plan_at : Kind → ℕ → List View → Proc
-plan_at kind.Skip i vs = SKIP i
-plan_at kind.Stop i vs = STOP i
-plan_at (kind.Set v a) i vs = Assign i v (given a)
-plan_at (kind.Send c a) i vs = Output i c (given a)
-plan_at (kind.Receive c v) i vs = Input i c v
-plan_at (kind.Stopch c) i vs = StopChan i c
-plan_at kind.Seq i vs = SEQ i (plans_of vs)
-plan_at kind.Par i vs = PAR i (plans_of vs)
-plan_at (kind.If bs) i vs = IF i (branches_of (map as_test bs) vs)
-plan_at (kind.While b) i vs = while_of i (as_test b) vs
-plan_at (kind.Count v a n) i vs = count_of i v (exp a) (exp n) vs
-plan_at (kind.Alt gs) i vs = ALT i (guards_of (map gate gs.inputs) vs)
+abbrev pub has_ended : Outcome → Bool
+has_ended outcome.Ended = true
+has_ended o = false
 
--- what comes behind the part that a process is at: the later parts of a SEQ, or a WHILE again
-abbrev pub behind : Kind → ℕ → List View → ℕ → Procs
-behind kind.Seq i vs k = plans_of (drop (suc k) vs)
-behind (kind.While b) i vs k = part (while_of i (as_test b) vs) no_parts
-behind p i vs k = no_parts
+-- nothing remains of a frame that has ended
+abbrev pub left_by : Outcome → Rest → Rest
+left_by outcome.Ended r = Done
+left_by o r = r
 
--- the part that goes on, and what comes behind it
+abbrev pub same_outcome : Outcome → Outcome → Bool
+same_outcome outcome.Ended outcome.Ended = true
+same_outcome outcome.Nothing outcome.Nothing = true
+same_outcome (outcome.Quiet i) (outcome.Quiet j) = i == j
+same_outcome outcome.Other outcome.Other = true
+same_outcome o q = false
+
+-- a process that has begun
+abbrev pub begun : Proc → View
+begun p = record { plan = p; rest = begin p; sound = true }
+
+-- a process that goes on by itself; what it comes to is kept, and is true of what remains
+abbrev pub task_view : Task View → View
+task_view t =
+    let r = left_by t.begins t.frame.rest in
+    record { plan = t.frame.plan; rest = r; sound = t.frame.sound && same_outcome t.begins (outcome_of r) }
+
+-- the part that goes on, and what comes behind it; a part that isn't there never goes on
 abbrev pub follow : Option View → Procs → Rest
 follow None ps = Fresh (STOP 0)
-follow (Some v) ps = and_then v.1 ps
+follow (Some v) ps = and_then v.rest ps
 
--- it goes on at one of its parts; a replicated SEQ goes on by turns of its body, and a PAR at all its parts
-abbrev pub goes_on_at_one_part : Kind → Bool
-goes_on_at_one_part kind.Seq = true
-goes_on_at_one_part (kind.If bs) = true
-goes_on_at_one_part (kind.While b) = true
-goes_on_at_one_part (kind.Alt gs) = true
-goes_on_at_one_part p = false
-
--- the part that a process is at; a WHILE has one only
-abbrev pub place_of : Kind → ℕ → ℕ
-place_of (kind.While b) k = 0
-place_of p k = k
-
--- a frame that cannot be: its kind and its phase do not go together
-abbrev pub impossible : Rest
-impossible = Stopped 0
-
--- a process that goes on, at its k-th part
-abbrev pub going_at : Kind → ℕ → List View → ℕ → Rest
-going_at (kind.Send c a) i vs k = Finishing i c
-going_at (kind.Receive c v) i vs k = Getting i c v
-going_at kind.Seq i vs k = follow (slice_get vs k) (behind kind.Seq i vs k)
-going_at (kind.If bs) i vs k = follow (slice_get vs k) (behind (kind.If bs) i vs k)
-going_at (kind.While b) i vs k = follow (slice_get vs 0) (behind (kind.While b) i vs k)
-going_at (kind.Alt gs) i vs k = follow (slice_get vs k) (behind (kind.Alt gs) i vs k)
-going_at p i vs k = impossible
+-- parts that go on side by side
+abbrev pub besides : List View → Rest
+besides [] = Done
+besides (v ∷ vs) = beside_on (changes v.plan) v.rest (besides vs)
 
 -- the turns behind the one with index x, where y is the last index
 abbrev pub turns_left : ℤ → ℤ → ℕ
 turns_left x y = if int_lt x y then mag (y -ℤ x) else 0
 
--- a replicated SEQ in the turn with index x, where y is the last index
-abbrev pub turn_of : ℕ → List View → ℤ → ℤ → Rest
-turn_of v [] x y = impossible
-turn_of v (w ∷ vs) x y = Turns w.1 v (x +ℤ pos 1) (turns_left x y) w.0
+abbrev pub bodies : List (Branch View) → List View
+bodies = map (λ b. b.body)
 
-abbrev pub turning : Kind → List View → ℤ → ℤ → Rest
-turning (kind.Count v a n) vs x y = turn_of v vs x y
-turning k vs x y = impossible
+abbrev pub guarded : List (Guard View) → List View
+guarded = map (λ g. g.body)
 
--- parts that go on side by side
-abbrev pub besides : List View → Rest
-besides [] = Done
-besides (v ∷ vs) = beside_on (changes v.0) v.1 (besides vs)
+abbrev pub plan_of : ℕ → Shape → Proc
+plan_of i skip = SKIP i
+plan_of i empty_seq = SEQ i no_parts
+plan_of i empty_par = PAR i no_parts
+plan_of i stop = STOP i
+plan_of i (assign v a) = Assign i v a
+plan_of i (send c a b) = Output i c a
+plan_of i (receive c v b) = Input i c v
+plan_of i (stop_chan c) = StopChan i c
+plan_of i (seq vs k) = SEQ i (plans_of vs)
+plan_of i (par ts) = PAR i (plans_of (map task_view ts))
+plan_of i (branching bs t) = IF i (branches_of bs)
+plan_of i (looping b v t) = WHILE i b v.plan
+plan_of i (counting x a n v t) = COUNT i x a n v.plan
+plan_of i (guarding gs c) = ALT i (guards_of gs)
 
--- a PAR whose parts go on
-abbrev pub together : Kind → List View → Rest
-together kind.Par vs = besides vs
-together k vs = impossible
+-- the guard that an ALT took, which waits for its message; then its body begins
+abbrev pub taken_rest : ℕ → Option (Guard View) → Rest
+taken_rest i None = Fresh (STOP 0)
+taken_rest i (Some g) = Then (Getting i g.chan g.var) (part g.body.plan no_parts)
 
--- an ALT that took its k-th guard and waits for the message; then the guard's body begins
-abbrev pub chosen_at : ℕ → Option Gate → Option View → Rest
-chosen_at i None v = impossible
-chosen_at i (Some g) v = Then (Getting i g.chan g.var) (part (part_plan v) no_parts)
+abbrev pub rest_of : ℕ → Shape → Rest
+rest_of i (send c a true) = Finishing i c
+rest_of i (receive c v true) = Getting i c v
+rest_of i (seq vs k) = follow (slice_get vs k) (plans_of (drop (suc k) vs))
+rest_of i (par ts) = besides (map task_view ts)
+rest_of i (branching bs (Some k)) = follow (slice_get (bodies bs) k) no_parts
+rest_of i (looping b v true) = Then v.rest (part (WHILE i b v.plan) no_parts)
+rest_of i (counting x a n v (Some t)) = Turns v.rest x (t.index +ℤ pos 1) (turns_left t.index t.last) v.plan
+rest_of i (guarding gs (Taken k)) = taken_rest i (slice_get gs k)
+rest_of i (guarding gs (Within k)) = follow (slice_get (guarded gs) k) no_parts
+rest_of i s = Fresh (plan_of i s)
 
-abbrev pub awaiting : Kind → ℕ → List View → ℕ → Rest
-awaiting (kind.Alt gs) i vs k = chosen_at i (slice_get (map gate gs.inputs) k) (slice_get vs k)
-awaiting p i vs k = impossible
+-- its own site is at work, and none of its parts
+abbrev pub is_at_itself : Shape → Bool
+is_at_itself (seq vs k) = false
+is_at_itself (par ts) = false
+is_at_itself (branching bs (Some k)) = false
+is_at_itself (looping b v true) = false
+is_at_itself (counting x a n v (Some t)) = false
+is_at_itself (guarding gs (Within k)) = false
+is_at_itself s = true
 
--- an output or input that has begun and hasn't ended; no other process goes on so
-abbrev pub as_begun : Proc → Rest
-as_begun (Output i c a) = Finishing i c
-as_begun (Input i c v) = Getting i c v
-as_begun p = impossible
+-- the place that is kept is among so many
+abbrev pub has_place : Option ℕ → ℕ → Bool
+has_place None n = true
+has_place (Some k) n = nat_lt k n
 
--- the k-th part has begun and hasn't ended
-abbrev pub resting_at : ℕ → List View → List View
-resting_at k [] = []
-resting_at zero (v ∷ vs) = (v.0, as_begun v.0) ∷ vs
-resting_at (suc k) (v ∷ vs) = v ∷ resting_at k vs
+abbrev pub has_guard : Choice → ℕ → Bool
+has_guard Open n = true
+has_guard (Taken k) n = nat_lt k n
+has_guard (Within k) n = nat_lt k n
 
--- a process that goes on at such a part
-abbrev pub resting : Kind → ℕ → List View → ℕ → Rest
-resting k i vs at = if goes_on_at_one_part k then going_at k i (resting_at (place_of k at) vs) at else impossible
+abbrev pub all_sound : List View → Bool
+all_sound [] = true
+all_sound (v ∷ vs) = v.sound && all_sound vs
 
--- what remains of a process that is so far
-abbrev pub so_far : Phase → ℕ → Proc → Rest → Rest → Rest → Rest → (ℤ → ℤ → Rest) → Rest
-so_far phase.Ready i p r z w b t = Fresh p
-so_far phase.Waiting i p r z w b t = r
-so_far phase.Resting i p r z w b t = z
-so_far (phase.Turning x y) i p r z w b t = t x y
-so_far phase.Together i p r z w b t = b
-so_far phase.Chosen i p r z w b t = w
-so_far phase.Ended i p r z w b t = Done
-so_far phase.Stuck i p r z w b t = Stopped i
+abbrev pub is_sound : Shape → Bool
+is_sound (seq vs k) = nat_lt k (length vs) && all_sound vs
+is_sound (par ts) = nat_lt 0 (length ts) && all_sound (map task_view ts)
+is_sound (branching bs t) = has_place t (length bs) && all_sound (bodies bs)
+is_sound (looping b v t) = v.sound
+is_sound (counting x a n v t) = v.sound
+is_sound (guarding gs c) = nat_lt (length gs) 65536 && (has_guard c (length gs) && all_sound (guarded gs))
+is_sound s = true
 
-abbrev pub rest_at : Kind → Phase → ℕ → List View → ℕ → Rest
-rest_at k ph i vs at = so_far ph i (plan_at k i vs) (going_at k i vs at) (resting k i vs at) (awaiting k i vs at) (together k vs) (turning k vs)
+-- a frame with this site, which a fault has stopped or has not
+abbrev pub view_of : ℕ → Bool → Shape → View
+view_of i true s = record { plan = plan_of i s; rest = Stopped i; sound = is_at_itself s && is_sound s }
+view_of i false s = record { plan = plan_of i s; rest = rest_of i s; sound = is_sound s }
+
+-- what a construct is whose parts stand for these
+abbrev pub shape_of : Construct View → Shape
+shape_of run.Skip = skip
+shape_of run.EmptySeq = empty_seq
+shape_of run.EmptyPar = empty_par
+shape_of run.Stop = stop
+shape_of (run.Set a) = assign a.var (given a.value)
+shape_of (run.Send o) = send o.chan (given o.value) o.begun
+shape_of (run.Receive i) = receive i.chan i.var i.begun
+shape_of (run.Stopch c) = stop_chan c
+shape_of (run.Seq s) = seq s.parts.items s.at
+shape_of (run.Par p) = par p.tasks.items
+shape_of (run.If b) = branching b.branches.items b.taken
+shape_of (run.While w) = looping (as_test w.cond) w.body.value w.turning
+shape_of (run.Count c) = counting c.var (exp c.base) (exp c.count) c.body.value c.turn
+shape_of (run.Alt a) = guarding a.guards.items a.choice
 
 -- one frame, with what its parts stand for in their place
 unfoldable pub view_step : Frame-F View → View
-view_step f = (plan_at f.kind f.site f.parts.items, rest_at f.kind f.phase f.site f.parts.items f.at)
+view_step f = view_of f.site f.stopped (shape_of f.construct)
 
 unfoldable pub view : Frame → View
 view = fold-Frame View view_step
+
+-- what remains of a process that goes on by itself
+abbrev pub remains : Task Frame → Rest
+remains t = left_by t.begins (view t.frame).rest

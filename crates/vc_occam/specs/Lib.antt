@@ -3,7 +3,6 @@ pub mod Completeness
 pub mod Exchanges
 pub mod First
 pub mod Frames
-pub mod Gates
 pub mod InUse
 pub mod Laws
 pub mod Moving

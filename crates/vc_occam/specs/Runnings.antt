@@ -2,7 +2,7 @@
 use Rattle.std.specs.Prelude.{List}
 use Rattle.vc_occam.specs.declared.running.Running.{Running}
 use Rattle.vc_occam.specs.declared.moves.Move.{Move}
-use Rattle.vc_occam.specs.Frames.{view}
+use Rattle.vc_occam.specs.Frames.{remains}
 use Rattle.vc_occam.specs.First.{first_moves}
 use Rattle.vc_process.specs.Terms.{store}
 use Rattle.vc_process.specs.Usage.{Set, among}
@@ -10,7 +10,7 @@ use Rattle.vc_occam.specs.States.{State}
 
 -- what remains of it, and what its variables hold
 unfoldable pub state : Running → State
-state r = record { rest = (view r.frame).1; store = store r.vars.items }
+state r = record { rest = remains r.task; store = store r.vars.items }
 
 -- the channels inside its node
 unfoldable pub inner_channels : Running → Set

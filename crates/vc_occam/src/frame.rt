@@ -1,172 +1,290 @@
-//! Processes that run: a tree of frames, each with its parts and how far it is.
-ghost use Rattle.std.specs.Prelude.{◌≡◌, ℕ, slice_get};
-ghost use Rattle.vc_occam.specs.Private.Frames.{all_begun, begun_parts, begun_phase, is_choice, is_counted, is_par, is_done, is_last as nothing_behind, part_done, views};
-ghost use Rattle.vc_occam.specs.Frames.{besides, goes_on_at_one_part as is_composed, place_of, rest_at, view};
+//! Processes that run: a tree of frames.
+ghost use Rattle.std.specs.Prelude.{◌≡◌, ℕ, MatchOption, false, true};
+ghost use Rattle.vc_occam.specs.Frames.{begun, fresh_outcome, is_sound, outcome_of, plan_of, task_view, view, view_of};
+ghost use Rattle.vc_occam.specs.Private.Frames.{GoesAlone, IsPart, assigned_shape, par_shape, seen_task, seq_shape, shape};
 ghost use Rattle.vc_occam.specs.Remains.{begin};
 
-use crate::kind::Kind;
-use crate::phase::Phase;
+use crate::outcome::Outcome;
+use vc_process::{Cond, Expr, Value};
 
-/// A process with its site, how far it is, and its parts, at one of which it is.
+/// A process that runs, with its site.
 #[derive(Drop)]
 pub(crate) struct Frame {
     pub(crate) site: u16,
-    pub(crate) kind: Kind,
-    pub(crate) phase: Phase,
-    pub(crate) at: usize,
-    pub(crate) parts: Vec<Frame>,
+    /// Whether a fault, or an IF without a true condition, has stopped this site for good.
+    pub(crate) stopped: bool,
+    pub(crate) construct: Construct<Frame>,
 }
 
-impl Kind {
-    /// Whether it goes on at one of its parts; a replicated SEQ goes on by turns of its body, and a PAR at all its parts.
-    pub(crate) fn goes_on_at_one_part(&self) -> bool
-        ensures { result ≡ is_composed self.now }
-    {
-        match self {
-            Kind::Seq => true,
-            Kind::If { .. } => true,
-            Kind::While { .. } => true,
-            Kind::Alt { .. } => true,
-            _ => false,
-        }
-    }
+/// What a frame runs, and how far it is, with its parts. One that has ended is left, and is not looked at until it begins again.
+#[derive(Drop)]
+pub(crate) enum Construct<F> {
+    /// SKIP.
+    Skip,
+    /// A SEQ without parts.
+    EmptySeq,
+    /// A PAR without parts.
+    EmptyPar,
+    /// STOP.
+    Stop,
+    /// An assignment.
+    Set(Assignment),
+    /// An output.
+    Send(Output),
+    /// An input.
+    Receive(Input),
+    /// The stop of a channel.
+    Stopch { chan: u16 },
+    /// SEQ.
+    Seq(Seq<F>),
+    /// PAR.
+    Par(Par<F>),
+    /// IF.
+    If(If<F>),
+    /// WHILE.
+    While(While<F>),
+    /// A replicated SEQ.
+    Count(Count<F>),
+    /// ALT.
+    Alt(Alt<F>),
+}
 
-    /// Whether it is a replicated SEQ.
-    pub(crate) fn is_counted(&self) -> bool
-        ensures { result ≡ is_counted self.now }
-    {
-        matches!(self, Kind::Count { .. })
-    }
+/// An assignment.
+#[derive(Drop)]
+pub(crate) struct Assignment {
+    pub(crate) var: u8,
+    pub(crate) value: Value,
+}
 
-    /// Whether it is a PAR.
-    pub(crate) fn is_par(&self) -> bool
-        ensures { result ≡ is_par self.now }
-    {
-        matches!(self, Kind::Par)
-    }
+/// An output, which waits to be finished once it has begun.
+#[derive(Drop)]
+pub(crate) struct Output {
+    pub(crate) chan: u16,
+    pub(crate) value: Value,
+    pub(crate) begun: bool,
+}
 
-    /// Whether it is an ALT.
-    pub(crate) fn is_choice(&self) -> bool
-        ensures { result ≡ is_choice self.now }
-    {
-        matches!(self, Kind::Alt { .. })
-    }
+/// An input, which waits for its message once it has begun.
+#[derive(Clone, Copy, Drop)]
+pub(crate) struct Input {
+    pub(crate) chan: u16,
+    pub(crate) var: u8,
+    pub(crate) begun: bool,
+}
 
-    /// The part that a process is at; a WHILE has one only.
-    pub(crate) fn place(&self, at: usize) -> usize
-        ensures { result ≡ place_of self.now at }
-    {
-        match self {
-            Kind::While { .. } => 0,
-            _ => at,
-        }
-    }
+/// A SEQ: the part at a place goes on.
+#[derive(Drop)]
+pub(crate) struct Seq<F> {
+    pub(crate) parts: Vec<F>,
+    pub(crate) at: usize,
+}
 
-    /// Whether nothing comes behind the part at a place, of so many parts.
-    pub(crate) fn is_last(&self, at: usize, count: usize) -> bool
-        ensures { result ≡ nothing_behind self.now at count }
-    {
-        match self {
-            Kind::Seq => at >= count || count - at == 1,
-            Kind::If { .. } => true,
-            Kind::Alt { .. } => true,
-            _ => false,
-        }
-    }
+/// A PAR: its parts go on side by side.
+#[derive(Drop)]
+pub(crate) struct Par<F> {
+    pub(crate) tasks: Vec<Task<F>>,
+}
+
+/// A process that goes on by itself, as a part of a PAR or as the whole, and what it begins with.
+#[derive(Drop)]
+pub(crate) struct Task<F> {
+    pub(crate) frame: F,
+    pub(crate) begins: Outcome,
+}
+
+/// An IF, and which of its branches goes on.
+#[derive(Drop)]
+pub(crate) struct If<F> {
+    pub(crate) branches: Vec<Branch<F>>,
+    pub(crate) taken: Option<usize>,
+}
+
+/// A branch of an IF.
+#[derive(Drop)]
+pub(crate) struct Branch<F> {
+    pub(crate) cond: Cond,
+    pub(crate) body: F,
+}
+
+/// A WHILE, and whether its body goes on.
+#[derive(Drop)]
+pub(crate) struct While<F> {
+    pub(crate) cond: Cond,
+    pub(crate) body: Box<F>,
+    pub(crate) turning: bool,
+}
+
+/// A replicated SEQ, and which of its turns goes on.
+#[derive(Drop)]
+pub(crate) struct Count<F> {
+    pub(crate) var: u8,
+    pub(crate) base: Expr,
+    pub(crate) count: Expr,
+    pub(crate) body: Box<F>,
+    pub(crate) turn: Option<Turn>,
+}
+
+/// A turn of a replicated SEQ: its index, and the last one.
+#[derive(Clone, Copy, Drop)]
+pub(crate) struct Turn {
+    pub(crate) index: i64,
+    pub(crate) last: i64,
+}
+
+/// An ALT, and which of its guards it has taken.
+#[derive(Drop)]
+pub(crate) struct Alt<F> {
+    pub(crate) guards: Vec<Guard<F>>,
+    pub(crate) choice: Choice,
+}
+
+/// A guard of an ALT, with its body.
+#[derive(Drop)]
+pub(crate) struct Guard<F> {
+    pub(crate) cond: Cond,
+    pub(crate) chan: u16,
+    pub(crate) var: u8,
+    pub(crate) body: F,
+}
+
+/// How far an ALT is.
+#[derive(Clone, Copy, Drop)]
+pub(crate) enum Choice {
+    /// It has taken none of its guards.
+    Open,
+    /// It has taken the guard at this place, whose message hasn't come.
+    Taken(usize),
+    /// The body of the guard at this place goes on.
+    Within(usize),
 }
 
 impl Frame {
-    /// Whether nothing remains.
-    #[cycle(ended)]
-    pub(crate) fn ended(&self) -> bool
-        ensures { result ≡ is_done (view self.now).1 }
+    /// Begins, whatever went on before; answers what it begins with.
+    #[cycle(start)]
+    pub(crate) fn start(&mut self) -> Outcome
+        requires sound { (view self.old).sound ≡ true }
+        ensures begun { view self.new ≡ begun (view self.old).plan }
+        ensures outcome { result ≡ outcome_of (begin (view self.old).plan) }
     {
-        is_ended(&self.kind, self.phase, &self.parts, self.at)
+        self.stopped = false;
+        self.construct.start(self.site)
     }
 
-    /// The process begins, whatever went on before.
+    /// The part that goes on alone, if one does; a PAR's parts go on side by side.
+    #[inline(always)]
+    pub(crate) fn part(&self) -> Option<&Frame>
+        requires sound { (view self.now).sound ≡ true }
+        ensures { MatchOption result (GoesAlone self.now) (λ part. IsPart part.now self.now) }
+    {
+        match &self.construct {
+            Construct::Seq(seq) => Some(&seq.parts[seq.at]),
+            Construct::If(branching) => match branching.taken {
+                Some(at) => Some(&branching.branches[at].body),
+                None => None,
+            },
+            Construct::While(looping) if looping.turning => Some(&looping.body),
+            Construct::Count(counting) if counting.turn.is_some() => Some(&counting.body),
+            Construct::Alt(alt) => match alt.choice {
+                Choice::Within(at) => Some(&alt.guards[at].body),
+                _ => None,
+            },
+            _ => None,
+        }
+    }
+}
+
+impl Construct<Frame> {
+    /// Begins at this site, whatever went on before; answers what it begins with.
+    #[cycle(start)]
+    fn start(&mut self, site: u16) -> Outcome
+        requires sound { is_sound (shape self.old) ≡ true }
+        ensures begun { view_of site false (shape self.new) ≡ begun (plan_of site (shape self.old)) }
+        ensures outcome { result ≡ outcome_of (begin (plan_of site (shape self.old))) }
+    {
+        match self {
+            Construct::Skip | Construct::EmptySeq | Construct::EmptyPar => Outcome::Quiet { site },
+            Construct::Stop => Outcome::Nothing,
+            Construct::Set(set) => set.begins(site),
+            Construct::Send(output) => {
+                output.begun = false;
+                Outcome::Other
+            }
+            Construct::Receive(input) => {
+                input.begun = false;
+                Outcome::Other
+            }
+            Construct::Stopch { .. } => Outcome::Other,
+            Construct::Seq(seq) => seq.start(),
+            Construct::Par(par) => par.start(),
+            Construct::If(branching) => {
+                branching.taken = None;
+                Outcome::Quiet { site }
+            }
+            Construct::While(looping) => {
+                looping.turning = false;
+                Outcome::Quiet { site }
+            }
+            Construct::Count(counting) => {
+                counting.turn = None;
+                Outcome::Quiet { site }
+            }
+            Construct::Alt(alt) => {
+                alt.choice = Choice::Open;
+                Outcome::Other
+            }
+        }
+    }
+}
+
+impl Assignment {
+    /// What it begins with at this site.
+    pub(crate) fn begins(&self, site: u16) -> Outcome
+        ensures { result ≡ fresh_outcome (plan_of site (assigned_shape self.now)) }
+    {
+        match self.value {
+            Value::Int(_) => Outcome::Quiet { site },
+            Value::Bytes(_) => Outcome::Other,
+        }
+    }
+}
+
+impl Seq<Frame> {
+    /// Begins with its first part, whatever went on before; answers what it begins with.
+    #[cycle(start)]
+    fn start(&mut self) -> Outcome
+        requires sound { is_sound (seq_shape self.old) ≡ true }
+        ensures begun { (i : ℕ) →
+            view_of i false (seq_shape self.new) ≡ begun (plan_of i (seq_shape self.old)) }
+        ensures outcome { (i : ℕ) → result ≡ outcome_of (begin (plan_of i (seq_shape self.old))) }
+    {
+        self.at = 0;
+        self.parts[0].start()
+    }
+}
+
+impl Par<Frame> {
+    /// Begins with all its parts, whatever went on before; answers what it begins with.
+    #[cycle(start)]
+    fn start(&mut self) -> Outcome
+        requires sound { is_sound (par_shape self.old) ≡ true }
+        ensures begun { (i : ℕ) →
+            view_of i false (par_shape self.new) ≡ begun (plan_of i (par_shape self.old)) }
+        ensures outcome { (i : ℕ) → result ≡ outcome_of (begin (plan_of i (par_shape self.old))) }
+    {
+        for place in 0..self.tasks.len() {
+            self.tasks[place].start();
+        }
+        Outcome::Other
+    }
+}
+
+impl Task<Frame> {
+    /// Begins, whatever went on before.
     #[cycle(start)]
     pub(crate) fn start(&mut self)
-        ensures { view self.new ≡ ((view self.old).0, begin (view self.old).0) }
+        requires sound { (view self.old.frame).sound ≡ true }
+        ensures { task_view (seen_task self.new) ≡ begun (view self.old.frame).plan }
     {
-        self.phase = start_parts(&self.kind, &mut self.parts);
-        self.at = 0;
-    }
-}
-
-/// Whether nothing remains of a process that is so far.
-#[inline(always)]
-#[cycle(ended)]
-pub(crate) fn is_ended(kind: &Kind, phase: Phase, parts: &Vec<Frame>, at: usize) -> bool
-    ensures { (own : ℕ) → result ≡ is_done (rest_at kind.now phase own (views parts.now.items) at) }
-{
-    if let Phase::Ended = phase {
-        return true;
-    }
-    if let Phase::Waiting = phase {
-        return kind.is_last(at, parts.len()) && part_ended(parts, kind.place(at));
-    }
-    if let Phase::Together = phase {
-        return kind.is_par() && all_ended(parts);
-    }
-    false
-}
-
-/// Whether nothing remains of the part at a place.
-#[cycle(ended)]
-fn part_ended(parts: &Vec<Frame>, at: usize) -> bool
-    ensures { result ≡ part_done (slice_get (views parts.now.items) at) }
-{
-    if at < parts.len() {
-        return parts[at].ended();
-    }
-    false
-}
-
-/// Whether nothing remains of any part.
-#[cycle(ended)]
-pub(crate) fn all_ended(parts: &Vec<Frame>) -> bool
-    ensures { result ≡ is_done (besides (views parts.now.items)) }
-{
-    for behind in 0..parts.len() {
-        if !parts[parts.len() - 1 - behind].ended() {
-            return false;
-        }
-    }
-    true
-}
-
-/// Begins the first part of a SEQ, if it has one, or all parts of a PAR; answers how far the process is then.
-#[cycle(start)]
-fn start_parts(kind: &Kind, parts: &mut Vec<Frame>) -> Phase
-    ensures parts { views parts.new.items ≡ begun_parts kind.now (views parts.old.items) }
-    ensures phase { result ≡ begun_phase kind.now (views parts.old.items) }
-{
-    match kind {
-        Kind::Seq => {
-            if parts.is_empty() {
-                return Phase::Ready;
-            }
-            parts[0].start();
-            Phase::Waiting
-        }
-        Kind::Par => {
-            if parts.is_empty() {
-                return Phase::Ready;
-            }
-            start_all(parts);
-            Phase::Together
-        }
-        _ => Phase::Ready,
-    }
-}
-
-/// Begins each part.
-#[cycle(start)]
-fn start_all(parts: &mut Vec<Frame>)
-    ensures { views parts.new.items ≡ all_begun (views parts.old.items) }
-{
-    for place in 0..parts.len() {
-        parts[place].start();
+        self.begins = self.frame.start();
     }
 }

@@ -17,37 +17,34 @@
 //! are inside its node (`specs/Exchanges`); no step loses lawful use; each listed move can be made; an output
 //! or input that begins waits until it is finished or has its message.
 //!
-//! A process runs as a tree of frames (`frame.rt`), one for each process that is written, with how far it is and at which part;
-//! what it stands for is said in `specs/Frames`. A part begins, ends and begins again by a change of its frame, without memory;
-//! what a site does is handed down to it by one borrow (`site_step.rt`), and each frame answers on the way up what it came to
-//! (`outcome.rt`): that it has ended, or what it begins with next. The parts of a PAR all go on, and since sites are in preorder the
-//! one that has a site is found by halving. Who waits on a channel is looked for first at the site that last began on it
-//! (`hints.rt`). A part of a PAR that is at an output or input that waits rests, and is passed over at once where moves are listed;
-//! where all that a process begins with is nothing or one step without a communication, that is kept and nothing is listed
-//! (`begins.rt`). A number is worked out at its assignment, and bytes, which need memory, before the site is gone to. The invariant
-//! of a [`Running`] is that what is kept is what it begins with, that the variables that its process changes are there, that its
-//! sites are in preorder, and that parts side by side have no site in common and use channels and variables lawfully.
+//! A process runs as a tree of frames (`frame.rt`), one for each process that is written. A frame is an enum: each construct of the
+//! language is a variant, which holds how far it is. What a frame stands for, the process that was written and what remains of it, is
+//! said in `specs/Frames`. A part begins, ends and begins again by a change of its frame, without memory. What a site does is handed
+//! down to it by one borrow (`site_step.rt`, `go.rt`), it does it there (`act.rt`), and each frame answers on the way up what it came
+//! to (`outcome.rt`): that it has ended, or what it begins with next. A frame that has ended is left, and has no state of its own.
+//! A part of a PAR keeps what it came to (`Task`), and so does the whole: where that is nothing, or one step without a communication,
+//! no moves are looked for. The parts of a PAR all go on, and since sites are in preorder the one that has a site is found by
+//! halving. Who waits on a channel is looked for first at the site that last began on it (`hints.rt`). A number is worked out at its
+//! assignment, and bytes, which need memory, before the site is gone to. The invariant of a [`Running`] is that its frames are ones
+//! that can be and what is kept of them is true, that the variables that its process changes are there, that its sites are in
+//! preorder, and that parts side by side have no site in common and use channels and variables lawfully.
 #![tactic(auto)]
 
+mod act;
 mod answer;
-mod begins;
 mod blocked;
 mod blocked_parts;
-mod first_move;
+mod find;
 mod frame;
 mod frame_moves;
 mod frame_tree;
+mod go;
 mod guards;
 mod hints;
-mod kind;
 mod laws;
-mod look;
 mod meetings;
 mod moves;
-mod offers;
 mod outcome;
-mod phase;
-mod progress;
 mod running;
 mod site_action;
 mod site_step;

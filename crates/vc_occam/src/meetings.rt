@@ -166,7 +166,7 @@ fn meet_alone(sender: u16, chan: u16, receiver: u16, on: u16, inside: &[u16]) ->
 }
 
 /// The meeting that two moves come to, if one is an output and the other the input that it meets inside the node.
-fn meeting_of(first: &Move, second: &Move, inside: &[u16]) -> Option<Move>
+pub(crate) fn meeting_of(first: &Move, second: &Move, inside: &[u16]) -> Option<Move>
     ensures { IfSome result
         (λ met.
         as_joined (among inside.now) (first.now ∷ second.now ∷ [])

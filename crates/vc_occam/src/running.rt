@@ -1,24 +1,24 @@
 //! Running processes.
-ghost use Rattle.std.specs.Prelude.{◌≡◌, length};
-ghost use Rattle.vc_occam.specs.Private.Frames.{BeginsWith, HasVariables};
-ghost use Rattle.vc_occam.specs.Frames.{view};
+ghost use Rattle.std.specs.Prelude.{◌≡◌, length, true};
+ghost use Rattle.vc_occam.specs.Private.Frames.{HasVariables, seen_task};
+ghost use Rattle.vc_occam.specs.Frames.{remains, task_view, view};
 ghost use Rattle.vc_occam.specs.InUse.{UsesLawfully};
 ghost use Rattle.vc_occam.specs.First.{own};
 ghost use Rattle.vc_occam.specs.Private.Moving.{CanBegin, HasMet, at, action_for as action_of, action_on as going_on};
-ghost use Rattle.vc_occam.specs.Private.OneProof.{BeginsWith-prop, InPreorder-prop, OwnSites-prop, UsesLawfully-prop};
+ghost use Rattle.vc_occam.specs.Private.OneProof.{InPreorder-prop, OwnSites-prop, UsesLawfully-prop};
 ghost use Rattle.vc_occam.specs.Private.Sites.{InPreorder};
 ghost use Rattle.vc_occam.specs.Sites.{OwnSites};
 ghost use Rattle.vc_occam.specs.States.{came, carried, output_at};
 ghost use Rattle.vc_process.specs.Terms.{store};
 
 use crate::answer::Answer;
-use crate::begins::Begins;
 use crate::blocked::Blocked;
-use crate::frame::Frame;
-use crate::frame_tree::begin_frame;
+use crate::frame::{Frame, Task};
+use crate::frame_tree::task_of;
 use crate::hints::Hints;
 use crate::meetings::{clear, is_outside, join, partner};
 use crate::moves::{Move, site_of};
+use crate::outcome::Outcome;
 use crate::site_action::SiteAction;
 use crate::site_step::SiteStep;
 use crate::variables::empty_variables;
@@ -31,16 +31,15 @@ use vc_process::{Datum, Process, ValueKind};
 /// A process that runs on a node, with its variables: what remains of it, move by move.
 pub struct Running {
     alloc: Global,
-    frame: Frame,
+    task: Task<Frame>,
     vars: Vec<Datum>,
     inside: Items<u16>,
     hints: Hints,
-    begins: Begins,
-    ghost has_variables: { HasVariables (view frame).0 (length vars.items) },
-    ghost in_preorder: { InPreorder (view frame).0 } by { InPreorder-prop (view frame).0 },
-    ghost own_sites: { OwnSites (view frame).1 } by { OwnSites-prop (view frame).1 },
-    ghost uses_lawfully: { UsesLawfully (view frame).1 } by { UsesLawfully-prop (view frame).1 },
-    ghost begins_so: { BeginsWith begins (view frame).1 } by { BeginsWith-prop begins (view frame).1 },
+    ghost has_variables: { HasVariables (view task.frame).plan (length vars.items) },
+    ghost in_preorder: { InPreorder (view task.frame).plan } by { InPreorder-prop (view task.frame).plan },
+    ghost own_sites: { OwnSites (remains task) } by { OwnSites-prop (remains task) },
+    ghost uses_lawfully: { UsesLawfully (remains task) } by { UsesLawfully-prop (remains task) },
+    ghost sound: { (task_view (seen_task task)).sound ≡ true },
 }
 
 impl Drop for Running {
@@ -48,11 +47,10 @@ impl Drop for Running {
     fn drop(self) {
         let Running {
             alloc: _,
-            frame: _,
+            task: _,
             vars: _,
             inside: _,
             hints: _,
-            begins: _,
         } = self;
     }
 }
@@ -88,42 +86,47 @@ fn action_on(message: Option<Bytes>) -> SiteAction
     }
 }
 
-/// An output meets an input or guard inside the node: it begins, its message is taken, and it is finished; answers what the process
-/// begins with then.
+/// An output meets an input or guard inside the node: it begins, its message is taken, and it is finished.
 fn meet(
-    frame: &mut Frame,
+    task: &mut Task<Frame>,
     vars: &mut Vec<Datum>,
     sender: u16,
     chan: u16,
     taken: &Move,
     answer: Answer,
-) -> Begins
-    requires meets { CanBegin (own (view frame.old).1 (store vars.old.items)) sender chan
+)
+    requires meets { CanBegin (own (remains task.old) (store vars.old.items)) sender chan
         taken.now }
     requires fits { came answer ≡
-        carried (output_at sender (view frame.old).1 (store vars.old.items)) }
-    requires variables { HasVariables (view frame.old).0 (length vars.old.items) }
-    requires in_preorder { InPreorder (view frame.old).0 }
-    requires own_sites { OwnSites (view frame.old).1 }
-    ensures met { HasMet (at (view frame.old).1 (store vars.old.items)) sender chan taken.now answer
-        (at (view frame.new).1 (store vars.new.items)) }
-    ensures plan { (view frame.new).0 ≡ (view frame.old).0 }
+        carried (output_at sender (remains task.old) (store vars.old.items)) }
+    requires variables { HasVariables (view task.old.frame).plan (length vars.old.items) }
+    requires in_preorder { InPreorder (view task.old.frame).plan }
+    requires own_sites { OwnSites (remains task.old) }
+    requires sound { (task_view (seen_task task.old)).sound ≡ true }
+    ensures met { HasMet (at (remains task.old) (store vars.old.items)) sender chan taken.now answer
+        (at (remains task.new) (store vars.new.items)) }
+    ensures plan { (view task.new.frame).plan ≡ (view task.old.frame).plan }
+    ensures sound { (task_view (seen_task task.new)).sound ≡ true }
     ensures length { length vars.new.items ≡ length vars.old.items }
-    ensures begins { BeginsWith result (view frame.new).1 }
 {
-    frame.offer(sender);
+    let mut offers = SiteStep {
+        site: sender,
+        action: SiteAction::Offer { chan },
+        assigned: None,
+    };
+    task.go(&mut offers, vars);
     let mut takes = SiteStep {
         site: site_of(taken),
         action: action_for(taken, answer),
         assigned: None,
     };
-    frame.go(&mut takes, vars);
+    task.go(&mut takes, vars);
     let mut finishes = SiteStep {
         site: sender,
         action: SiteAction::Finish,
         assigned: None,
     };
-    frame.go(&mut finishes, vars).begins()
+    task.go(&mut finishes, vars);
 }
 
 impl Running {
@@ -163,15 +166,13 @@ impl Running {
     {
         let vars = empty_variables(alloc, kinds)?;
         let inside = Items::from_slice(alloc, inside)?;
-        let frame = begin_frame(alloc, process)?;
-        let begins = frame.begins();
+        let task = task_of(alloc, process, &mut 0)?;
         Ok(Running {
             alloc,
-            frame,
+            task,
             vars,
             inside,
             hints: Hints::new(),
-            begins,
         })
     }
 
@@ -205,14 +206,15 @@ impl Running {
         requires { found.old ≡ [] }
         ensures { OnOk result (found.new ≡ moves self.now) }
     {
-        match self.begins {
-            Begins::Nothing => Ok(()),
-            Begins::Quiet { site } => {
-                found.push(Move::Quiet { site })?;
-                Ok(())
-            }
-            Begins::Other => self.push_joined(found),
+        if self.inside.is_empty() {
+            return self.task.push_moves(found, &self.vars);
         }
+        if let Some(met) = self.task.only_meeting(self.inside.as_slice(), &self.vars) {
+            found.push(met)?;
+            return Ok(());
+        }
+        self.task.push_moves(found, &self.vars)?;
+        join(found, self.inside.as_slice())
     }
 
     /// The site of its only move, where that is known to be a step without a communication; None promises nothing.
@@ -221,8 +223,8 @@ impl Running {
     pub fn only_step(&self) -> Option<u16>
         ensures { IfSome result (λ site. moves self.now ≡ Move.Quiet site ∷ []) }
     {
-        match self.begins {
-            Begins::Quiet { site } => Some(site),
+        match self.task.begins {
+            Outcome::Quiet { site } => Some(site),
             _ => None,
         }
     }
@@ -239,7 +241,7 @@ impl Running {
         if !self.inside.is_empty() {
             return None;
         }
-        self.frame.first_from(site, &self.vars)
+        self.task.first_from(site, &self.vars)
     }
 
     /// Whether no channel is inside the node: then `first_from` looks for moves, and where it has none there is none.
@@ -248,20 +250,6 @@ impl Running {
         ensures { IsTrue result ↔ ((c : ℕ) → inner_channels self.now c ≡ false) }
     {
         self.inside.is_empty()
-    }
-
-    /// Looks for the moves that it can begin with, and puts them in an empty list; where no channel is inside the node they are its
-    /// sites' own.
-    #[tactic(auto, unfolding(crate::specs::Runnings::state, crate::specs::Runnings::inner_channels))]
-    fn push_joined(&self, found: &mut Items<Move>) -> Result<(), Memory>
-        requires { found.old ≡ [] }
-        ensures { OnOk result (found.new ≡ moves self.now) }
-    {
-        self.frame.push_moves(found, &self.vars)?;
-        if self.inside.is_empty() {
-            return Ok(());
-        }
-        join(found, self.inside.as_slice())
     }
 
     /// Whether the move is one that it can begin with.
@@ -277,7 +265,7 @@ impl Running {
                 chan,
             } => self.meet_now(*sender, *receiver, *guard, *chan),
             _ => is_outside(made, self.inside.as_slice())
-                && self.frame.begins_with(made, &self.vars),
+                && self.task.begins_with(made, &self.vars),
         }
     }
 
@@ -291,8 +279,8 @@ impl Running {
         let offer = Move::Offer { site: sender, chan };
         let taken = partner(receiver, guard, chan);
         self.inside.as_slice().contains(&chan)
-            && self.frame.begins_with(&offer, &self.vars)
-            && self.frame.begins_with(&taken, &self.vars)
+            && self.task.begins_with(&offer, &self.vars)
+            && self.task.begins_with(&taken, &self.vars)
     }
 
     /// The message that the move's output sends; None where the move has no output.
@@ -302,8 +290,8 @@ impl Running {
         ensures { IfOk result (λ sent. sent ≡ sent_by (state self.now) made.now) }
     {
         match made {
-            Move::Offer { site, .. } => self.frame.message(self.alloc, *site, &self.vars),
-            Move::Inner { sender, .. } => self.frame.message(self.alloc, *sender, &self.vars),
+            Move::Offer { site, .. } => self.task.message(self.alloc, *site, &self.vars),
+            Move::Inner { sender, .. } => self.task.message(self.alloc, *sender, &self.vars),
             _ => Ok(None),
         }
     }
@@ -334,8 +322,8 @@ impl Running {
                 chan,
             } => {
                 let taken = partner(*receiver, *guard, *chan);
-                self.begins = meet(
-                    &mut self.frame,
+                meet(
+                    &mut self.task,
                     &mut self.vars,
                     *sender,
                     *chan,
@@ -367,8 +355,7 @@ impl Running {
             action: action_for(made, answer),
             assigned: None,
         };
-        let outcome = self.frame.go(&mut step, &mut self.vars);
-        self.begins = outcome.begins();
+        self.task.go(&mut step, &mut self.vars);
         self.hints.note(made);
     }
 
@@ -381,7 +368,7 @@ impl Running {
         ensures unchanged { OnErr result (self.new ≡ self.old) }
         ensures inside { inner_channels self.new ≡ inner_channels self.old }
     {
-        if let Begins::Quiet { .. } = self.begins {
+        if let Outcome::Quiet { .. } = self.task.begins {
             self.step(site, None);
             return Ok(());
         }
@@ -397,7 +384,7 @@ impl Running {
         ensures unchanged { OnErr result (self.new ≡ self.old) }
         ensures inside { inner_channels self.new ≡ inner_channels self.old }
     {
-        let assigned = self.frame.assigned(self.alloc, site, &self.vars)?;
+        let assigned = self.task.assigned(self.alloc, site, &self.vars)?;
         self.step(site, assigned);
         Ok(())
     }
@@ -408,7 +395,7 @@ impl Running {
     fn step(&mut self, site: u16, assigned: Option<Datum>)
         requires listed { Contains (moves self.old) (Move.Quiet site) }
         requires assigned { assigned ≡
-            assigned_at site (view self.old.frame).1 (store self.old.vars.items) }
+            assigned_at site (remains self.old.task) (store self.old.vars.items) }
         ensures made { Acts (state self.old) (Rests site) (state self.new) }
         ensures inside { inner_channels self.new ≡ inner_channels self.old }
     {
@@ -417,8 +404,7 @@ impl Running {
             action: SiteAction::Quiet,
             assigned,
         };
-        let outcome = self.frame.go(&mut step, &mut self.vars);
-        self.begins = outcome.begins();
+        self.task.go(&mut step, &mut self.vars);
     }
 
     /// The site goes on: its output was finished, or here is the message for its input.
@@ -433,20 +419,21 @@ impl Running {
             action: action_on(message),
             assigned: None,
         };
-        let outcome = self.frame.go(&mut step, &mut self.vars);
-        self.begins = outcome.begins();
+        self.task.go(&mut step, &mut self.vars);
     }
 
     /// A site that waits for this, if one does; it is looked for first at the hint.
     fn waits_on(&self, hint: u16, wanted: Waits) -> Option<u16>
         ensures { MatchOption result
-            ((i : ℕ) → Contains (waiting (view self.now.frame).1) (waits_at wanted i) → ⊥)
-            (λ i. Contains (waiting (view self.now.frame).1) (waits_at wanted i)) }
+            ((i : ℕ) → Contains (waiting (remains self.now.task)) (waits_at wanted i) → ⊥)
+            (λ i. Contains (waiting (remains self.now.task)) (waits_at wanted i)) }
     {
-        match self.frame.find(hint).waits_on(wanted) {
-            Some(site) => Some(site),
-            None => self.frame.waits_on(wanted),
+        if let Some(frame) = self.task.find(hint) {
+            if frame.waits() == Some(wanted) {
+                return Some(frame.site);
+            }
         }
+        self.task.waits_on(wanted)
     }
 
     /// The site whose output on the channel waits to be finished, if there is one.
@@ -476,7 +463,7 @@ impl Running {
             found ≡ blocked (state self.now).rest (state self.now).store) }
     {
         let mut found = Items::new(self.alloc);
-        self.frame.push_blocked(&mut found, &self.vars)?;
+        self.task.push_blocked(&mut found, &self.vars)?;
         Ok(found)
     }
 
@@ -485,6 +472,6 @@ impl Running {
     pub fn ended(&self) -> bool
         ensures { IsTrue result ↔ ((state self.now).rest ≡ Done) }
     {
-        self.frame.ended()
+        self.task.begins.has_ended()
     }
 }

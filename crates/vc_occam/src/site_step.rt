@@ -1,8 +1,10 @@
 //! What one site of a running process does, on its way to the site.
 ghost use Rattle.std.specs.Prelude.{◌≡◌};
+ghost use Rattle.vc_occam.specs.Private.SiteSteps.{message_of, place_of};
 
 use crate::site_action::SiteAction;
 use std::mem;
+use vc_packets::Bytes;
 use vc_process::Datum;
 
 /// What a site does. Where that assigns bytes, they come along; a number is worked out at the site. The site takes out what it uses.
@@ -14,10 +16,25 @@ pub(crate) struct SiteStep {
 }
 
 impl SiteStep {
-    /// Takes the action out.
-    pub(crate) fn take_action(&mut self) -> SiteAction
-        ensures { result ≡ self.old.action }
+    /// The place of the guard that is taken; 0 where none is.
+    pub(crate) fn place(&self) -> usize
+        ensures { result ≡ place_of self.now.action }
     {
-        mem::replace(&mut self.action, SiteAction::Quiet)
+        match self.action {
+            SiteAction::Choose { place, .. } => usize::from(place),
+            _ => 0,
+        }
+    }
+
+    /// Takes out the message that comes, if one comes.
+    pub(crate) fn take_message(&mut self) -> Option<Bytes>
+        ensures { result ≡ message_of self.old.action }
+    {
+        match mem::replace(&mut self.action, SiteAction::Quiet) {
+            SiteAction::Want { message, .. } => message,
+            SiteAction::Choose { message, .. } => message,
+            SiteAction::Message(message) => Some(message),
+            _ => None,
+        }
     }
 }

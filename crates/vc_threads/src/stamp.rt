@@ -1,5 +1,5 @@
 //! Stamps of acts.
-ghost use Rattle.std.specs.Prelude.{◌≡◌, ℕ, ◌<◌, MatchOption};
+ghost use Rattle.std.specs.Prelude.{◌≡◌, ◌<◌, MatchOption};
 ghost use Rattle.vc_network.specs.LocalRun as local;
 ghost use Rattle.vc_threads.specs.Stamps.{step_with};
 

@@ -1,75 +1,37 @@
-use Rattle.std.proofs.Common.{◌∙◌, sym, ap}
-use Rattle.vc_occam.specs.declared.frame.Frame.TheViews.{out-Frame}
+use Rattle.std.proofs.Common.{rules, ◌≡◌, ◌++◌, ◌∙◌, ap, List, refl, subst, sym, true}
+use Rattle.vc_occam.specs.declared.frame.Frame.{Frame}
+use Rattle.vc_occam.specs.declared.frame.Frame.TheViews.{the_lemmas}
+use Rattle.vc_occam.specs.declared.frame.Task.{Task}
 use Rattle.vc_occam.specs.Blocking.{blocked}
-use Rattle.vc_occam.specs.Private.Frames.{views}
+use Rattle.vc_occam.specs.Frames.{all_sound, besides, view}
 use Rattle.vc_occam.specs.Remains.{Rest}
 use Rattle.vc_process.specs.Terms.{store}
-use Rattle.vc_occam.proofs.Blocks.{begun_blocked, blocks_none, blocks_same, going_blocked, resting_blocked, turning_blocked}
-use Rattle.vc_occam.proofs.Frames.{rest_apart, rest_chosen, rest_ended, rest_ready, rest_stuck, rest_together, resting_stopped, turning_none}
+use Rattle.vc_process.proofs.Reaching.{adds_same}
+use Rattle.vc_occam.proofs.Innermost.{same_blocked}
+use Rattle.vc_occam.proofs.Pars.{par_rest, par_sound, sound_at}
+use Rattle.vc_occam.proofs.Places.{task_views}
+use Rattle.vc_occam.proofs.SideBySide.{beside_blocked, listed_end, listed_next}
 use Rattle.vc_occam.proofs.+blocked.Goals as goal
 
-pub frame::Frame::push_blocked-returns-in-Ready : goal.frame::Frame::push_blocked-returns-in-Ready
-frame::Frame::push_blocked-returns-in-Ready t c =
-    let F = λ (r : Rest). blocked r (store c.args.vars.now) in
-    blocks_same _ _ _ _ _ (ap F (rest_ready c.args.self.now c.in-Ready.is)) c.push_fresh.ensures
+pub frame::Frame::push_blocked-returns-in-Some : goal.frame::Frame::push_blocked-returns-in-Some
+frame::Frame::push_blocked-returns-in-Some t c =
+    adds_same c.push_blocked.result _ _ _ _ (same_blocked (view c.args.self.now).rest (view c.in-Some.part.now).rest (store c.args.vars.now) c.in-Some.ensures.rest) c.push_blocked.ensures
 
-pub frame::Frame::push_blocked-returns-then-goes_on_at_one_part : goal.frame::Frame::push_blocked-returns-then-goes_on_at_one_part
-frame::Frame::push_blocked-returns-then-goes_on_at_one_part t c =
-    let k = sym c.goes_on_at_one_part.ensures ∙ c.if-goes_on_at_one_part.true in
-    blocks_same _ _ _ _ _ (going_blocked c.args.self.now c.place.result (store c.args.vars.now) c.in-Waiting.is k c.place.ensures) c.push_part.ensures
+pub frame::Frame::push_blocked-push_blocked-requires-in-loop-task :
+    goal.frame::Frame::push_blocked-push_blocked-requires-in-loop-task
+frame::Frame::push_blocked-push_blocked-requires-in-loop-task t c =
+    let all = subst (λ (ts : List (Task Frame)). all_sound (task_views ts) ≡ true) (sym c.as_slice-task-items.ensures.value) (par_sound c.args.self.now c.in-Par.par c.requires c.in-Par.is) in
+    (search (rules, the_lemmas), sound_at c.as_slice-task-items.result.now c.loop-task.task-index c.task-item.result all c.loop-task-test.true c.task-item.is)
 
-pub frame::Frame::push_blocked-returns-else-goes_on_at_one_part : goal.frame::Frame::push_blocked-returns-else-goes_on_at_one_part
-frame::Frame::push_blocked-returns-else-goes_on_at_one_part t c =
-    let F = λ (r : Rest). blocked r (store c.args.vars.now) in
-    let k = sym c.goes_on_at_one_part.ensures ∙ c.if-goes_on_at_one_part.false in
-    blocks_same _ _ _ _ _ (ap F (begun_blocked c.args.self.now c.in-Waiting.is k)) (c.push_begun.ensures (store c.args.vars.now))
-
-pub frame::Frame::push_blocked-returns-then-goes_on_at_one_part-2 : goal.frame::Frame::push_blocked-returns-then-goes_on_at_one_part-2
-frame::Frame::push_blocked-returns-then-goes_on_at_one_part-2 t c =
+pub frame::Frame::push_blocked-loop-task-preserved :
+    goal.frame::Frame::push_blocked-loop-task-preserved
+frame::Frame::push_blocked-loop-task-preserved t c =
     let e = store c.args.vars.now in
-    let k = sym c.goes_on_at_one_part-in-Resting.ensures ∙ c.if-goes_on_at_one_part-2.true in
-    blocks_same _ _ _ _ _ (resting_blocked c.args.self.now c.place-then-goes_on_at_one_part-2.result e c.in-Resting.is k c.place-then-goes_on_at_one_part-2.ensures) (c.push_part_begun.ensures e)
+    listed_next (λ (r : Rest). blocked r e) (λ m r q. beside_blocked m r q e) c.loop-task.task-index c.as_slice-task-items.result.now c.task-item.result c.loop-task.found c.push_blocked-in-loop-task.new.found _ c.loop-task-test.true c.task-item.is c.in_ok-push_blocked.ensures c.loop-task.invariant
 
-pub frame::Frame::push_blocked-returns-else-goes_on_at_one_part-2 : goal.frame::Frame::push_blocked-returns-else-goes_on_at_one_part-2
-frame::Frame::push_blocked-returns-else-goes_on_at_one_part-2 t c =
-    let F = λ (r : Rest). blocked r (store c.args.vars.now) in
-    let k = sym c.goes_on_at_one_part-in-Resting.ensures ∙ c.if-goes_on_at_one_part-2.false in
-    blocks_same _ _ _ _ _ (ap F (resting_stopped c.args.self.now c.in-Resting.is k)) c.push_impossible.ensures
-
-pub frame::Frame::push_blocked-returns-then-is_counted : goal.frame::Frame::push_blocked-returns-then-is_counted
-frame::Frame::push_blocked-returns-then-is_counted t c =
-    let F = λ (r : Rest). blocked r (store c.args.vars.now) in
-    let k = sym c.is_counted.ensures ∙ c.if-is_counted.true in
-    let s = turning_blocked c.args.self.now c.in-Turning.index c.in-Turning.last c.in-Turning.is k in
-    blocks_same _ _ _ _ _ (ap F s.1) (c.push_turn.ensures s.0 c.in-Turning.index c.in-Turning.last)
-
-pub frame::Frame::push_blocked-returns-else-is_counted : goal.frame::Frame::push_blocked-returns-else-is_counted
-frame::Frame::push_blocked-returns-else-is_counted t c =
-    let F = λ (r : Rest). blocked r (store c.args.vars.now) in
-    let k = sym c.is_counted.ensures ∙ c.if-is_counted.false in
-    blocks_same _ _ _ _ _ (ap F (turning_none c.args.self.now c.in-Turning.index c.in-Turning.last c.in-Turning.is k)) c.push_impossible-in-Turning.ensures
-
-pub frame::Frame::push_blocked-returns-then-is_par : goal.frame::Frame::push_blocked-returns-then-is_par
-frame::Frame::push_blocked-returns-then-is_par t c =
-    let F = λ (r : Rest). blocked r (store c.args.vars.now) in
-    blocks_same _ _ _ _ _ (ap F (rest_together c.args.self.now c.in-Together.is (sym c.is_par.ensures ∙ c.if-is_par.true))) c.push_parts.ensures
-
-pub frame::Frame::push_blocked-returns-else-is_par : goal.frame::Frame::push_blocked-returns-else-is_par
-frame::Frame::push_blocked-returns-else-is_par t c =
-    let F = λ (r : Rest). blocked r (store c.args.vars.now) in
-    blocks_same _ _ _ _ _ (ap F (rest_apart c.args.self.now c.in-Together.is (sym c.is_par.ensures ∙ c.if-is_par.false))) c.push_impossible-in-Together.ensures
-
-pub frame::Frame::push_blocked-returns-in-Chosen : goal.frame::Frame::push_blocked-returns-in-Chosen
-frame::Frame::push_blocked-returns-in-Chosen t c =
-    let F = λ (r : Rest). blocked r (store c.args.vars.now) in
-    blocks_same _ _ _ _ _ (ap F (rest_chosen c.args.self.now c.in-Chosen.is)) (c.push_chosen.ensures (views (out-Frame c.args.self.now).parts.items) (store c.args.vars.now))
-
-pub frame::Frame::push_blocked-returns-in-Ended : goal.frame::Frame::push_blocked-returns-in-Ended
-frame::Frame::push_blocked-returns-in-Ended t c =
-    let F = λ (r : Rest). blocked r (store c.args.vars.now) in
-    blocks_none _ _ (ap F (rest_ended c.args.self.now c.in-Ended.is))
-
-pub frame::Frame::push_blocked-returns-in-Stuck : goal.frame::Frame::push_blocked-returns-in-Stuck
-frame::Frame::push_blocked-returns-in-Stuck t c =
-    let F = λ (r : Rest). blocked r (store c.args.vars.now) in
-    blocks_same _ _ _ _ _ (ap F (rest_stuck c.args.self.now c.in-Stuck.is)) c.push_one.ensures
+pub frame::Frame::push_blocked-returns-in-Par : goal.frame::Frame::push_blocked-returns-in-Par
+frame::Frame::push_blocked-returns-in-Par t c =
+    let e = store c.args.vars.now in
+    let rest = ap (λ (ts : List (Task Frame)). besides (task_views ts)) c.as_slice-task-items.ensures.value ∙ sym (par_rest c.args.self.now c.in-Par.par c.requires c.in-Par.is) in
+    listed_end (λ (r : Rest). blocked r e) (λ m r q. beside_blocked m r q e) c.loop-task.task-index c.as_slice-task-items.result.now c.loop-task.found _ refl c.loop-task-test.false c.loop-task.invariant
+    ∙ ap (λ (r : Rest). c.args.found.now ++ blocked r e) rest

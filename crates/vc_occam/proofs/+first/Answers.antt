@@ -1,123 +1,91 @@
-use Rattle.std.proofs.Common.{◌∙◌, ◌<◌, ℕ, length, drop, rules, sym, ap, subst}
-use Rattle.std.specs.Prelude.{slice_get}
+use Rattle.std.proofs.Common.{rules, ◌≡◌, ◌∙◌, ap, List, ℕ, drop, map, subst, sym, true}
+use Rattle.vc_occam.specs.declared.frame.Frame.{Frame}
 use Rattle.vc_occam.specs.declared.frame.Frame.TheViews.{out-Frame, the_lemmas}
+use Rattle.vc_occam.specs.declared.frame.Task.{Task}
 use Rattle.vc_occam.specs.First.{own}
-use Rattle.vc_occam.specs.Private.Frames.{PartInPreorder, part_own, views}
-use Rattle.vc_occam.specs.Frames.{View, behind, besides, place_of}
+use Rattle.vc_occam.specs.Frames.{all_sound, besides, plans_of, task_view, view}
 use Rattle.vc_occam.specs.Moving.{from_site}
+use Rattle.vc_occam.specs.Private.Frames.{seen_guard, seen_task}
+use Rattle.vc_occam.specs.Private.Sites.{PartsInPreorder}
 use Rattle.vc_occam.specs.Remains.{Rest}
-use Rattle.vc_occam.specs.Private.Sites.{InPreorder}
 use Rattle.vc_process.specs.Terms.{store}
-use Rattle.vc_occam.proofs.Frames.{awaiting_own, follow_own, idle_own, is_awaiting, rest_apart, rest_ended, rest_going, rest_idle, rest_ready, rest_stuck, rest_together, resting_nothing, turning_none, turning_own, view_out}
-use Rattle.vc_occam.proofs.Inside.{frames_inside}
-use Rattle.vc_occam.proofs.Sought.{from_part, seek_found, seek_more}
-use Rattle.vc_occam.proofs.Stepping.{body_preorder, get_view, par_preorder, parts_preorder, within_preorder}
+use Rattle.vc_occam.proofs.AtItself.{at_itself}
+use Rattle.vc_occam.proofs.Choices.{moves_first}
+use Rattle.vc_occam.proofs.Innermost.{same_own}
+use Rattle.vc_occam.proofs.Inside.{tasks_inside}
+use Rattle.vc_occam.proofs.Outcomes.{nothing_own, task_outcome}
+use Rattle.vc_occam.proofs.Pars.{par_preorder, par_rest, par_sound, preorder_at, sound_at}
+use Rattle.vc_occam.proofs.Places.{task_views}
+use Rattle.vc_occam.proofs.Sought.{first_own, from_part, none_later, seek_end, seek_found, seek_more}
 use Rattle.vc_occam.proofs.+first.Goals as goal
 
-pub frame::Frame::first_from-part_from-requires : goal.frame::Frame::first_from-part_from-requires
-frame::Frame::first_from-part_from-requires t c =
-    let o = out-Frame c.args.self.now in
-    let k = sym c.goes_on_at_one_part.ensures ∙ c.if-goes_on_at_one_part.true in
-    let pre = within_preorder o.kind o.site (views o.parts.items) o.at c.place.result k c.place.ensures (subst (λ (v : View). InPreorder v.0) (view_out c.args.self.now) c.requires) in
-    (search (rules, the_lemmas), pre)
+pub frame::Frame::first_from-returns-in-Some : goal.frame::Frame::first_from-returns-in-Some
+frame::Frame::first_from-returns-in-Some t c =
+    c.first_from.ensures ∙ ap (from_site c.args.site) (sym (same_own (view c.args.self.now).rest (view c.in-Some.part.now).rest (store c.args.vars.now) c.in-Some.ensures.rest))
 
-pub frame::Frame::first_from-returns-then-goes_on_at_one_part : goal.frame::Frame::first_from-returns-then-goes_on_at_one_part
-frame::Frame::first_from-returns-then-goes_on_at_one_part t c =
+pub frame::Frame::first_from-part_with-place-requires :
+    goal.frame::Frame::first_from-part_with-place-requires
+frame::Frame::first_from-part_with-place-requires t c =
+    subst (λ (ts : List (Task Frame)). PartsInPreorder (plans_of (task_views ts))) (sym c.as_slice-tasks.ensures.value) (par_preorder c.args.self.now c.in-Par.par c.in-Par.is c.requires.in_preorder)
+
+pub frame::Frame::first_from-loop-place-init : goal.frame::Frame::first_from-loop-place-init
+frame::Frame::first_from-loop-place-init t c =
+    let ts = c.as_slice-tasks.result.now in
+    let e = store c.args.vars.now in
+    let pre = subst (λ (ts : List (Task Frame)). PartsInPreorder (plans_of (task_views ts))) (sym c.as_slice-tasks.ensures.value) (par_preorder c.args.self.now c.in-Par.par c.in-Par.is c.requires.in_preorder) in
+    ap (λ (k : ℕ). from_site c.args.site (own (besides (task_views (drop k ts))) e)) c.part_with-place.ensures ∙ from_part c.args.site ts e pre (tasks_inside ts)
+
+pub frame::Frame::first_from-first_from-requires-in-loop-place :
+    goal.frame::Frame::first_from-first_from-requires-in-loop-place
+frame::Frame::first_from-first_from-requires-in-loop-place t c =
+    let f = c.args.self.now in
+    let ts = c.as_slice-tasks.result.now in
+    let k = c.loop-place.place in
+    let task = c.index-tasks-place.result in
+    let same = sym c.as_slice-tasks.ensures.value in
+    let all = subst (λ (ts : List (Task Frame)). all_sound (task_views ts) ≡ true) same (par_sound f c.in-Par.par c.requires.sound c.in-Par.is) in
+    let pre = subst (λ (ts : List (Task Frame)). PartsInPreorder (plans_of (task_views ts))) same (par_preorder f c.in-Par.par c.in-Par.is c.requires.in_preorder) in
+    (search (rules, the_lemmas), (sound_at ts k task all c.loop-place-test.true c.index-tasks-place.is, preorder_at ts k task pre c.loop-place-test.true c.index-tasks-place.is))
+
+pub frame::Frame::first_from-returns-in-Some-first_from :
+    goal.frame::Frame::first_from-returns-in-Some-first_from
+frame::Frame::first_from-returns-in-Some-first_from t c =
+    let e = store c.args.vars.now in
+    let rest = ap (λ (ts : List (Task Frame)). besides (task_views ts)) c.as_slice-tasks.ensures.value ∙ sym (par_rest c.args.self.now c.in-Par.par c.requires.sound c.in-Par.is) in
+    seek_found c.args.site c.loop-place.place c.as_slice-tasks.result.now c.index-tasks-place.result e c.loop-place-test.true c.index-tasks-place.is _ c.in-Some-first_from.made (sym c.in-Some-first_from.ensures) c.loop-place.invariant
+    ∙ ap (λ (r : Rest). from_site c.args.site (own r e)) rest
+
+pub frame::Frame::first_from-loop-place-preserved :
+    goal.frame::Frame::first_from-loop-place-preserved
+frame::Frame::first_from-loop-place-preserved t c =
+    seek_more c.args.site c.loop-place.place c.as_slice-tasks.result.now c.index-tasks-place.result (store c.args.vars.now) c.loop-place-test.true c.index-tasks-place.is _ (sym c.in_default-first_from.ensures) c.loop-place.invariant
+
+pub frame::Frame::first_from-returns-in-Par : goal.frame::Frame::first_from-returns-in-Par
+frame::Frame::first_from-returns-in-Par t c =
+    let e = store c.args.vars.now in
+    let rest = ap (λ (ts : List (Task Frame)). besides (task_views ts)) c.as_slice-tasks.ensures.value ∙ sym (par_rest c.args.self.now c.in-Par.par c.requires.sound c.in-Par.is) in
+    seek_end c.args.site c.loop-place.place c.as_slice-tasks.result.now e _ c.loop-place-test.false c.loop-place.invariant ∙ ap (λ (r : Rest). from_site c.args.site (own r e)) rest
+
+pub frame::Frame::first_from-returns-then-self-site :
+    goal.frame::Frame::first_from-returns-then-self-site
+frame::Frame::first_from-returns-then-self-site t c =
+    let f = c.args.self.now in
+    none_later f c.args.site (store c.args.vars.now) (at_itself f c.in_default-construct.not-Par c.in_default.ensures) c.if-self-site.true
+
+pub frame::Frame::first_from-returns-in-Some-open_guards :
+    goal.frame::Frame::first_from-returns-in-Some-open_guards
+frame::Frame::first_from-returns-in-Some-open_guards t c =
     let f = c.args.self.now in
     let e = store c.args.vars.now in
-    let o = out-Frame f in
-    let vs = views o.parts.items in
-    c.part_from.ensures
-    ∙ sym (ap (from_site c.args.site) (ap (λ (r : Rest). own r e) (rest_going f c.in-Waiting.is (sym c.goes_on_at_one_part.ensures ∙ c.if-goes_on_at_one_part.true)) ∙ follow_own (slice_get vs (place_of o.kind o.at)) (behind o.kind o.site vs o.at) e ∙ ap (λ (k : ℕ). part_own (slice_get vs k) e) (sym c.place.ensures)))
+    c.first_choice.ensures ∙ sym (ap (λ (r : Rest). from_site c.args.site (own r e)) c.in-Some-open_guards.ensures.rest ∙ moves_first c.args.site (out-Frame f).site (map seen_guard c.in-Some-open_guards.guards.now) e c.if-self-site.false)
 
-pub frame::Frame::first_from-part_from-requires-then-is_counted : goal.frame::Frame::first_from-part_from-requires-then-is_counted
-frame::Frame::first_from-part_from-requires-then-is_counted t c =
-    let o = out-Frame c.args.self.now in
-    let k = sym c.is_counted.ensures ∙ c.if-is_counted.true in
-    let pre = body_preorder o.kind o.site (views o.parts.items) k (subst (λ (v : View). InPreorder v.0) (view_out c.args.self.now) c.requires) in
-    (search (rules, the_lemmas), pre)
+pub frame::Frame::first_from-returns-in-None : goal.frame::Frame::first_from-returns-in-None
+frame::Frame::first_from-returns-in-None t c =
+    let f = c.args.self.now in
+    first_own f c.args.site (store c.args.vars.now) c.own_move.result (at_itself f c.in_default-construct.not-Par c.in_default.ensures) c.if-self-site.false c.own_move.ensures
 
-pub frame::Frame::first_from-returns-then-is_counted : goal.frame::Frame::first_from-returns-then-is_counted
-frame::Frame::first_from-returns-then-is_counted t c =
-    let k = sym c.is_counted.ensures ∙ c.if-is_counted.true in
-    c.part_from-then-is_counted.ensures ∙ sym (ap (from_site c.args.site) (turning_own c.args.self.now c.in-Turning.index c.in-Turning.last (store c.args.vars.now) c.in-Turning.is k))
-
-pub frame::Frame::first_from-parts_from-requires : goal.frame::Frame::first_from-parts_from-requires
-frame::Frame::first_from-parts_from-requires t c =
-    let o = out-Frame c.args.self.now in
-    let pre = par_preorder o.kind o.site (views o.parts.items) (sym c.is_par.ensures ∙ c.if-is_par.true) (subst (λ (v : View). InPreorder v.0) (view_out c.args.self.now) c.requires) in
-    (search (rules, the_lemmas), pre)
-
-pub frame::Frame::first_from-returns-then-is_par : goal.frame::Frame::first_from-returns-then-is_par
-frame::Frame::first_from-returns-then-is_par t c =
-    let F = λ (r : Rest). from_site c.args.site (own r (store c.args.vars.now)) in
-    c.parts_from.ensures ∙ sym (ap F (rest_together c.args.self.now c.in-Together.is (sym c.is_par.ensures ∙ c.if-is_par.true)))
-
-pub frame::Frame::first_from-returns-in-Ready : goal.frame::Frame::first_from-returns-in-Ready
-frame::Frame::first_from-returns-in-Ready t c =
-    let F = λ (r : Rest). from_site c.args.site (own r (store c.args.vars.now)) in
-    c.ready_from.ensures ∙ sym (ap F (rest_ready c.args.self.now c.in-Ready.is))
-
-pub frame::Frame::first_from-returns-else-goes_on_at_one_part : goal.frame::Frame::first_from-returns-else-goes_on_at_one_part
-frame::Frame::first_from-returns-else-goes_on_at_one_part t c =
-    sym (ap (from_site c.args.site) (idle_own (store c.args.vars.now) (rest_idle c.args.self.now c.in-Waiting.is (sym c.goes_on_at_one_part.ensures ∙ c.if-goes_on_at_one_part.false))))
-
-pub frame::Frame::first_from-returns-else-is_counted : goal.frame::Frame::first_from-returns-else-is_counted
-frame::Frame::first_from-returns-else-is_counted t c =
-    let F = λ (r : Rest). from_site c.args.site (own r (store c.args.vars.now)) in
-    let k = sym c.is_counted.ensures ∙ c.if-is_counted.false in
-    sym (ap F (turning_none c.args.self.now c.in-Turning.index c.in-Turning.last c.in-Turning.is k))
-
-pub frame::Frame::first_from-returns-else-is_par : goal.frame::Frame::first_from-returns-else-is_par
-frame::Frame::first_from-returns-else-is_par t c =
-    let F = λ (r : Rest). from_site c.args.site (own r (store c.args.vars.now)) in
-    sym (ap F (rest_apart c.args.self.now c.in-Together.is (sym c.is_par.ensures ∙ c.if-is_par.false)))
-
-pub frame::Frame::first_from-returns-in-Resting : goal.frame::Frame::first_from-returns-in-Resting
-frame::Frame::first_from-returns-in-Resting t c = sym (ap (from_site c.args.site) (resting_nothing c.args.self.now (store c.args.vars.now) c.in-Resting.is))
-
-pub frame::Frame::first_from-returns-in-Chosen : goal.frame::Frame::first_from-returns-in-Chosen
-frame::Frame::first_from-returns-in-Chosen t c = sym (ap (from_site c.args.site) (awaiting_own (store c.args.vars.now) (is_awaiting c.args.self.now c.in-Chosen.is)))
-
-pub frame::Frame::first_from-returns-in-Ended : goal.frame::Frame::first_from-returns-in-Ended
-frame::Frame::first_from-returns-in-Ended t c =
-    let F = λ (r : Rest). from_site c.args.site (own r (store c.args.vars.now)) in
-    sym (ap F (rest_ended c.args.self.now c.in-Ended.is))
-
-pub frame::Frame::first_from-returns-in-Stuck : goal.frame::Frame::first_from-returns-in-Stuck
-frame::Frame::first_from-returns-in-Stuck t c =
-    let F = λ (r : Rest). from_site c.args.site (own r (store c.args.vars.now)) in
-    sym (ap F (rest_stuck c.args.self.now c.in-Stuck.is))
-
-pub first_move::parts_from-loop-place-init : goal.first_move::parts_from-loop-place-init
-first_move::parts_from-loop-place-init t c =
-    let fs = c.args.parts.now.items in
-    let e = store c.args.vars.now in
-    let i = c.args.site in
-    ap (λ (k : ℕ). from_site i (own (besides (views (drop k fs))) e)) c.part_with-place.ensures ∙ from_part i fs e c.requires (frames_inside fs)
-
-pub first_move::parts_from-first_from-requires : goal.first_move::parts_from-first_from-requires
-first_move::parts_from-first_from-requires t c =
-    let fs = c.args.parts.now.items in
-    let l : c.loop-place.place < length fs = search rules in
-    let pre = subst PartInPreorder (get_view fs c.loop-place.place c.index-in-loop-place.result.now l c.index-in-loop-place.ensures) (parts_preorder (views fs) c.loop-place.place c.requires) in
-    (search (rules, the_lemmas), pre)
-
-pub first_move::parts_from-returns-in-Some : goal.first_move::parts_from-returns-in-Some
-first_move::parts_from-returns-in-Some t c =
-    let fs = c.args.parts.now.items in
-    let l : c.loop-place.place < length fs = search rules in
-    seek_found c.args.site fs c.loop-place.place c.index-in-loop-place.result.now (store c.args.vars.now) _ c.in-Some.made l c.index-in-loop-place.ensures (sym c.first_from.ensures ∙ c.in-Some.is) c.loop-place.invariant
-
-pub first_move::parts_from-loop-place-preserved : goal.first_move::parts_from-loop-place-preserved
-first_move::parts_from-loop-place-preserved t c =
-    let fs = c.args.parts.now.items in
-    let l : c.loop-place.place < length fs = search rules in
-    seek_more c.args.site fs c.loop-place.place c.index-in-loop-place.result.now (store c.args.vars.now) _ l c.index-in-loop-place.ensures (sym c.first_from.ensures ∙ c.in_default.is) c.loop-place.invariant
-
-pub first_move::parts_from-loop-place-preserved-then-rests : goal.first_move::parts_from-loop-place-preserved-then-rests
-first_move::parts_from-loop-place-preserved-then-rests t c =
-    let fs = c.args.parts.now.items in
-    let e = store c.args.vars.now in
-    let l : c.loop-place.place < length fs = search rules in
-    seek_more c.args.site fs c.loop-place.place c.index.result.now e _ l c.index.ensures (ap (from_site c.args.site) (c.rests.ensures c.if-rests.true e)) c.loop-place.invariant
+pub frame_moves::Task+Frame::first_from-returns-in-Nothing :
+    goal.frame_moves::Task+Frame::first_from-returns-in-Nothing
+frame_moves::Task+Frame::first_from-returns-in-Nothing t c =
+    let task = seen_task c.args.self.now in
+    sym (ap (from_site c.args.site) (nothing_own (task_view task).rest (store c.args.vars.now) (task_outcome task c.requires.sound ∙ c.in-Nothing.is)))

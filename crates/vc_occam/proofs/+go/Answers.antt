@@ -1,394 +1,375 @@
-use Rattle.std.proofs.Common.{◌≡◌, ◌∙◌, ℕ, List, Option, refl, sym, ap, subst, rules, arith, ◌<◌, length, set}
-use Rattle.std.specs.Prelude.{slice_get}
-use Rattle.vc_occam.specs.declared.frame.Frame.TheViews.{the_lemmas, out-Frame, roll-Frame}
+use Rattle.std.proofs.Common.{◌≡◌, ◌∙◌, ◌<◌, ℕ, List, Bool, true, false, Option, Some, length, map, set, sym, ap, subst, rules, arith}
+use Rattle.std.specs.Prelude.{nat_lt}
+use Rattle.std.proofs.lemmas.Bool.Decides.{nat_tests}
+use Rattle.std.proofs.lemmas.List.{length-map, map-set}
+use Rattle.std.specs.Box.{with_value}
+use Rattle.std.specs.Vec.{with_item}
+use Rattle.vc_occam.specs.declared.frame.Branch.{Branch}
+use Rattle.vc_occam.specs.declared.frame.Choice.{Choice}
+use Rattle.vc_occam.specs.declared.frame.Choice.TheVariants.{Within}
+use Rattle.vc_occam.specs.declared.frame.Construct.TheVariants as run
 use Rattle.vc_occam.specs.declared.frame.Frame.{Frame}
 use Rattle.vc_occam.specs.declared.frame.Frame.TheOpen.{Frame-F}
-use Rattle.vc_occam.specs.declared.phase.Phase.{Phase}
-use Rattle.vc_occam.specs.declared.phase.Phase.TheVariants.{Turning, Ended, Stuck}
-use Rattle.vc_occam.specs.Private.Frames.{Able, BeginsWith, Did, HasVariables, PartHasVariables, PartInPreorder, assigned_at, gone_on, is_done, part_assigned, part_done, part_rest, plans, views}
-use Rattle.vc_occam.specs.Frames.{View, besides, plan_at, rest_at, view}
-use Rattle.vc_occam.specs.Private.Nexts.{TurnEnded}
-use Rattle.vc_occam.specs.Remains.{Done, Rest}
-use Rattle.vc_occam.specs.Private.Sites.{InPreorder}
-use Rattle.vc_process.specs.Syntax.{Proc, STOP}
-use Rattle.vc_process.specs.Terms.{store}
-use Rattle.vc_occam.specs.Private.Outcome.{has_ended, then_begins}
-use Rattle.vc_occam.proofs.Abreast.{beside_rest, none_beside, part_able, part_did, part_preorder, part_value, part_variables}
-use Rattle.vc_occam.proofs.Ending.{able_there, besides_goes, same_length}
-use Rattle.vc_occam.proofs.Frames.{parts_len, view_roll, view_out}
-use Rattle.vc_occam.proofs.Outset.{part_begins, turn_begins}
-use Rattle.vc_occam.proofs.Stepping.{body_preorder, get_view, goes_undone, going_on, never, never_done, never_there, none_changed, none_view, par_preorder, phase_able, phase_did, same_plan, set_changed, set_plans, set_view, within_able, within_assigned, within_did, within_preorder, within_variables}
-use Rattle.vc_occam.proofs.Turns.{counted_is, none_turns, turn_goes, turn_gone, turn_undone, turning_able, turning_value, turning_variables}
+use Rattle.vc_occam.specs.declared.frame.Frame.TheViews.{the_lemmas, out-Frame, out-roll-Frame, roll-Frame}
+use Rattle.vc_occam.specs.declared.frame.Guard.{Guard}
+use Rattle.vc_occam.specs.declared.frame.While.{While}
+use Rattle.vc_occam.specs.declared.frame.Count.{Count}
+use Rattle.vc_occam.specs.declared.frame.Task.{Task}
+use Rattle.vc_occam.specs.declared.frame.Turn.{Turn}
+use Rattle.vc_occam.specs.declared.outcome.Outcome.TheVariants.{Other, Quiet}
+use Rattle.vc_process.specs.Terms.{as_test, exp, store}
+use Rattle.vc_occam.specs.Frames.{all_sound, bodies, branching, counting, guarded, guarding, is_sound, looping, plans_of, seq, task_view, view, view_of}
+use Rattle.vc_occam.specs.Private.Frames.{CanGo, HasNext, HasTurned, Went, counting_shape, place_with, seen_branch, seen_guard, seen_task, views}
+use Rattle.vc_occam.specs.Private.Sites.{PartsInPreorder}
+use Rattle.vc_occam.proofs.Abreast.{par_goes, par_part, par_preorder, par_went, part_there, task_at, tasks_still_sound}
+use Rattle.vc_occam.proofs.Acted.{frame_can, index_there, rolled_went, sound_as}
+use Rattle.vc_occam.proofs.Bodies.{branch_part, branch_went, count_goes, count_part, count_went, guard_part, guard_went, turn_ended, turn_goes, turn_part}
+use Rattle.vc_occam.proofs.Going.{and_left, and_right, seq_goes, seq_part, seq_sound, seq_went}
+use Rattle.vc_occam.proofs.Places.{task_views}
+use Rattle.vc_occam.proofs.Taking.{map_get}
 use Rattle.vc_occam.proofs.+go.Goals as goal
 
-pub frame::Frame::go-go_within-outcome-requires : goal.frame::Frame::go-go_within-outcome-requires
-frame::Frame::go-go_within-outcome-requires t c =
-    let o = out-Frame c.args.self.now in
-    let is = view_out c.args.self.now in
-    let vs = views o.parts.items in
-    let e = store c.args.vars.now.items in
-    let s = c.args.step.now.site in
-    let d = c.args.step.now.action in
-    let h = sym c.goes_on_at_one_part.ensures ∙ c.if-goes_on_at_one_part.true in
-    let able = subst (λ (v : View). Able v.1 e s d) is c.requires.able in
-    let has = subst (λ (v : View). HasVariables v.0 (length c.args.vars.now.items)) is c.requires.variables in
-    let pre = subst (λ (v : View). InPreorder v.0) is c.requires.in_preorder in (
-      search (rules, the_lemmas),
-      (
-        simp the_lemmas (within_able o.kind o.site o.phase vs o.at c.place-place.result e s d c.in-Waiting.is h c.place-place.ensures able),
-        (
-          λ q. simp the_lemmas (c.requires.assigned q ∙ ap (λ (v : View). assigned_at s v.1 e) is ∙ within_assigned o.kind o.site s o.phase vs o.at c.place-place.result e c.in-Waiting.is h c.place-place.ensures),
-          (simp the_lemmas (within_variables o.kind o.site vs o.at c.place-place.result _ h c.place-place.ensures has), simp the_lemmas (within_preorder o.kind o.site vs o.at c.place-place.result h c.place-place.ensures pre)),
-        ),
-      ),
-    )
+-- a test of a place in a list, and what it says
+among : (k n m : ℕ) → nat_lt k n ≡ true → n ≡ m → k < m
+among k n m h e = let l : k < n = grind (arith, nat_tests) in omega arith
 
-pub frame::Frame::go-returns-then-has_ended-clause-did : goal.frame::Frame::go-returns-then-has_ended-clause-did
-frame::Frame::go-returns-then-has_ended-clause-did t c =
-    let o = out-Frame c.args.self.now in
-    let vs = views o.parts.items in
-    let ws = views c.go_within-outcome.new.parts.items in
-    let us = views (out-Frame (roll-Frame (record { site = o.site; kind = o.kind; phase = o.phase; at = o.at; parts = o.parts }))).parts.items in
-    let unrolled : us ≡ vs = simp the_lemmas refl in
-    let s = c.args.step.now.site in
-    let d = c.args.step.now.action in
-    let h = sym c.goes_on_at_one_part.ensures ∙ c.if-goes_on_at_one_part.true in
-    let r : (view c.leave_part.new.self).1 ≡ gone_on o.kind o.site ws o.at = c.leave_part.ensures.rest ∙ simp the_lemmas refl in
-    let same : plans ws ≡ plans vs = c.go_within-outcome.ensures.plans ∙ ap plans unrolled in
-    let st = subst (λ (xs : List View). Did (part_rest (slice_get xs c.place-place.result)) (store c.args.vars.now.items) s d (part_rest (slice_get ws c.place-place.result)) (store c.go_within-outcome.new.vars.items)) unrolled c.go_within-outcome.ensures.did in
-    subst (λ (v : View). Did v.1 (store c.args.vars.now.items) s d (view c.leave_part.new.self).1 (store c.go_within-outcome.new.vars.items)) (sym (view_out c.args.self.now))
-    (within_did o.kind o.site o.phase vs ws o.at c.place-place.result _ _ s d (view c.leave_part.new.self).1 c.in-Waiting.is h c.place-place.ensures same r st)
+pub frame::Frame::go-index_mut-requires : goal.frame::Frame::go-index_mut-requires
+frame::Frame::go-index_mut-requires t c =
+    let s = c.in-Seq.seq in
+    let sound = sound_as c.args.step.now c.args.self.now (run.Seq s) c.args.vars.now.items c.requires.can c.in-Seq.is in
+    let l = among s.at (length (views s.parts.items)) (length s.parts.items) (and_left (nat_lt s.at (length (views s.parts.items))) (all_sound (views s.parts.items)) sound) (length-map s.parts.items view) in
+    let o = s.parts.ok.0 in
+    omega arith
 
-pub frame::Frame::go-returns-then-has_ended-clause-plan : goal.frame::Frame::go-returns-then-has_ended-clause-plan
-frame::Frame::go-returns-then-has_ended-clause-plan t c =
-    let o = out-Frame c.args.self.now in
-    let vs = views o.parts.items in
-    let ws = views c.go_within-outcome.new.parts.items in
-    let us = views (out-Frame (roll-Frame (record { site = o.site; kind = o.kind; phase = o.phase; at = o.at; parts = o.parts }))).parts.items in
-    let unrolled : us ≡ vs = simp the_lemmas refl in
-    let same : plans ws ≡ plans vs = c.go_within-outcome.ensures.plans ∙ ap plans unrolled in
-    let p : (view c.leave_part.new.self).0 ≡ plan_at o.kind o.site ws = c.leave_part.ensures.plan ∙ simp (the_lemmas, view_roll, view_out) refl in
-    p ∙ same_plan o.kind o.site vs ws same ∙ ap (λ (v : View). v.0) (sym (view_out c.args.self.now))
+pub frame::Frame::go-go-outcome-requires : goal.frame::Frame::go-go-outcome-requires
+frame::Frame::go-go-outcome-requires t c =
+    let s = c.in-Seq.seq in
+    let can = frame_can c.args.step.now c.args.self.now (run.Seq s) c.args.vars.now.items c.requires.can c.in-Seq.is in
+    let l = among s.at (length (views s.parts.items)) (length s.parts.items) (and_left (nat_lt s.at (length (views s.parts.items))) (all_sound (views s.parts.items)) can.sound) (length-map s.parts.items view) in
+    let is = map_get view s.parts.items s.at c.index_mut.result.now l c.index_mut.ensures.value in
+    (search (rules, the_lemmas), seq_part c.args.step.now (out-Frame c.args.self.now).site (views s.parts.items) s.at (view c.index_mut.result.now) is c.args.vars.now.items can)
 
-pub frame::Frame::go-returns-then-goes_on_at_one_part-clause-did : goal.frame::Frame::go-returns-then-goes_on_at_one_part-clause-did
-frame::Frame::go-returns-then-goes_on_at_one_part-clause-did t c =
-    let o = out-Frame c.args.self.now in
-    let vs = views o.parts.items in
-    let ws = views c.go_within-outcome.new.parts.items in
-    let us = views (out-Frame (roll-Frame (record { site = o.site; kind = o.kind; phase = o.phase; at = o.at; parts = o.parts }))).parts.items in
-    let unrolled : us ≡ vs = simp the_lemmas refl in
-    let s = c.args.step.now.site in
-    let d = c.args.step.now.action in
-    let h = sym c.goes_on_at_one_part.ensures ∙ c.if-goes_on_at_one_part.true in
-    let same : plans ws ≡ plans vs = c.go_within-outcome.ensures.plans ∙ ap plans unrolled in
-    let st = subst (λ (xs : List View). Did (part_rest (slice_get xs c.place-place.result)) (store c.args.vars.now.items) s d (part_rest (slice_get ws c.place-place.result)) (store c.go_within-outcome.new.vars.items)) unrolled c.go_within-outcome.ensures.did in
-    let r = going_on o.kind o.site o.phase ws o.at c.place-place.result c.in-Waiting.is h c.place-place.ensures (sym c.go_within-outcome.ensures.ended ∙ sym c.has_ended.ensures ∙ c.if-has_ended.false) in
-    simp (the_lemmas, view_roll, view_out) (within_did o.kind o.site o.phase vs ws o.at c.place-place.result _ _ s d _ c.in-Waiting.is h c.place-place.ensures same r st)
+pub frame::Frame::go-next-requires : goal.frame::Frame::go-next-requires
+frame::Frame::go-next-requires t c =
+    let s = c.in-Seq.seq in
+    let vs = views s.parts.items in
+    let sound = sound_as c.args.step.now c.args.self.now (run.Seq s) c.args.vars.now.items c.requires.can c.in-Seq.is in
+    let l = among s.at (length vs) (length s.parts.items) (and_left (nat_lt s.at (length vs)) (all_sound vs) sound) (length-map s.parts.items view) in
+    let is = map_get view s.parts.items s.at c.index_mut.result.now l c.index_mut.ensures.value in
+    record {
+      sound = subst (λ ws. is_sound (seq ws s.at) ≡ true) (sym (map-set view s.parts.items s.at c.go-outcome.new.self))
+          (seq_sound c.args.step.now (out-Frame c.args.self.now).site vs s.at (view c.index_mut.result.now) is (store c.args.vars.now.items) c.go-outcome.result (view c.go-outcome.new.self) (store c.go-outcome.new.vars.items) sound c.go-outcome.ensures.went);
+    }
 
-pub frame::Frame::go-returns-then-goes_on_at_one_part-clause-plan : goal.frame::Frame::go-returns-then-goes_on_at_one_part-clause-plan
-frame::Frame::go-returns-then-goes_on_at_one_part-clause-plan t c =
-    let o = out-Frame c.args.self.now in
-    let vs = views o.parts.items in
-    let ws = views c.go_within-outcome.new.parts.items in
-    let us = views (out-Frame (roll-Frame (record { site = o.site; kind = o.kind; phase = o.phase; at = o.at; parts = o.parts }))).parts.items in
-    let unrolled : us ≡ vs = simp the_lemmas refl in
-    let same : plans ws ≡ plans vs = c.go_within-outcome.ensures.plans ∙ ap plans unrolled in
-    simp (the_lemmas, view_roll, view_out) (same_plan o.kind o.site vs ws same)
-
-pub frame::Frame::go-returns-then-goes_on_at_one_part-clause-ended : goal.frame::Frame::go-returns-then-goes_on_at_one_part-clause-ended
-frame::Frame::go-returns-then-goes_on_at_one_part-clause-ended t c =
-    let o = out-Frame c.args.self.now in
-    let ws = views c.go_within-outcome.new.parts.items in
-    let h = sym c.goes_on_at_one_part.ensures ∙ c.if-goes_on_at_one_part.true in
-    let n = goes_undone o.kind o.site o.phase ws o.at c.place-place.result c.in-Waiting.is h c.place-place.ensures (sym c.go_within-outcome.ensures.ended ∙ sym c.has_ended.ensures ∙ c.if-has_ended.false) in
-    simp (the_lemmas, view_roll, view_out) (sym c.has_ended.ensures ∙ c.if-has_ended.false ∙ sym n)
-
-pub frame::Frame::go-returns-then-goes_on_at_one_part-clause-begins : goal.frame::Frame::go-returns-then-goes_on_at_one_part-clause-begins
-frame::Frame::go-returns-then-goes_on_at_one_part-clause-begins t c =
-    let o = out-Frame c.args.self.now in
-    let h = sym c.goes_on_at_one_part.ensures ∙ c.if-goes_on_at_one_part.true in
-    simp (the_lemmas, view_roll, view_out) (part_begins _ o.kind o.site o.phase (views c.go_within-outcome.new.parts.items) o.at c.place-place.result c.in-Waiting.is h c.place-place.ensures c.go_within-outcome.ensures.begins)
-
-pub frame::Frame::go_apart-go_within-outcome-requires : goal.frame::Frame::go_apart-go_within-outcome-requires
-frame::Frame::go_apart-go_within-outcome-requires t c =
-    let o = out-Frame c.args.self.now in
-    let is = view_out c.args.self.now in
-    let vs = views o.parts.items in
-    let e = store c.args.vars.now.items in
-    let s = c.args.step.now.site in
-    let d = c.args.step.now.action in
-    let h = sym c.is_counted.ensures ∙ c.if-is_counted.true in
-    let z = counted_is o.kind h in
-    let x = c.in-Turning.index in
-    let y = c.in-Turning.last in
-    let able = phase_able o.kind o.site _ (Turning x y) vs o.at e s d c.in-Turning.is (subst (λ (v : View). Able v.1 e s d) is c.requires.able) in
-    let has = subst (λ (v : View). HasVariables v.0 (length c.args.vars.now.items)) is c.requires.variables in
-    let pre = subst (λ (v : View). InPreorder v.0) is c.requires.in_preorder in (
-      search (rules, the_lemmas),
-      (
-        turning_able o.kind z.0 z.1 z.2 vs x y e s d z.3 able,
-        (
-          λ q. c.requires.assigned q ∙ ap (λ (v : View). assigned_at s v.1 e) is ∙ ap (λ (p : Phase). assigned_at s (rest_at o.kind p o.site vs o.at) e) c.in-Turning.is ∙ turning_value o.kind s z.0 z.1 z.2 vs x y e z.3,
-          (turning_variables o.kind o.site z.0 z.1 z.2 vs _ z.3 has, body_preorder o.kind o.site vs h pre),
-        ),
-      ),
-    )
-
-pub frame::Frame::go_apart-leave_turn-requires-clause-variables : goal.frame::Frame::go_apart-leave_turn-requires-clause-variables
-frame::Frame::go_apart-leave_turn-requires-clause-variables t c =
-    let o = out-Frame c.args.self.now in
-    let vs = views o.parts.items in
-    let ws = views c.go_within-outcome.new.parts.items in
-    let has = subst (λ (v : View). HasVariables v.0 (length c.args.vars.now.items)) (view_out c.args.self.now) c.requires.variables in
-    let p = subst (λ (m : ℕ). HasVariables (plan_at o.kind o.site vs) m) (sym c.go_within-outcome.ensures.length) has in
-    let w = subst (λ (p : Proc). HasVariables p (length c.go_within-outcome.new.vars.items)) (sym (same_plan o.kind o.site vs ws c.go_within-outcome.ensures.plans)) p in
-    simp (the_lemmas, view_roll, view_out) w
-
-pub frame::Frame::go_apart-returns-then-has_ended-clause-did : goal.frame::Frame::go_apart-returns-then-has_ended-clause-did
-frame::Frame::go_apart-returns-then-has_ended-clause-did t c =
-    let o = out-Frame c.args.self.now in
-    let vs = views o.parts.items in
-    let ws = views c.go_within-outcome.new.parts.items in
-    let s = c.args.step.now.site in
-    let d = c.args.step.now.action in
-    let h = sym c.is_counted.ensures ∙ c.if-is_counted.true in
-    let g : Frame-F Frame = record { site = o.site; kind = o.kind; phase = o.phase; at = o.at; parts = c.go_within-outcome.new.parts } in
-    let unrolled : out-Frame (roll-Frame g) ≡ g = simp the_lemmas refl in
-    let n = subst (λ (m : Frame-F Frame). TurnEnded m.kind m.phase m.site (views m.parts.items) (store c.go_within-outcome.new.vars.items) (view c.leave_turn.new.self).1 (store c.leave_turn.new.vars.items)) unrolled c.leave_turn.ensures.turned in
-    subst (λ (v : View). Did v.1 (store c.args.vars.now.items) s d (view c.leave_turn.new.self).1 (store c.leave_turn.new.vars.items)) (sym (view_out c.args.self.now))
-    (turn_gone o.kind o.site o.phase c.in-Turning.index c.in-Turning.last vs ws _ _ _ s d o.at _ c.in-Turning.is h c.go_within-outcome.ensures.plans c.go_within-outcome.ensures.did (sym c.go_within-outcome.ensures.ended ∙ sym c.has_ended.ensures ∙ c.if-has_ended.true) n)
-
-pub frame::Frame::go_apart-returns-then-has_ended-clause-plan : goal.frame::Frame::go_apart-returns-then-has_ended-clause-plan
-frame::Frame::go_apart-returns-then-has_ended-clause-plan t c =
-    let o = out-Frame c.args.self.now in
-    let vs = views o.parts.items in
-    let ws = views c.go_within-outcome.new.parts.items in
-    let p : (view c.leave_turn.new.self).0 ≡ plan_at o.kind o.site ws = c.leave_turn.ensures.plan ∙ simp (the_lemmas, view_roll, view_out) refl in
-    p ∙ same_plan o.kind o.site vs ws c.go_within-outcome.ensures.plans ∙ ap (λ (v : View). v.0) (sym (view_out c.args.self.now))
-
-pub frame::Frame::go_apart-returns-then-is_counted-clause-did : goal.frame::Frame::go_apart-returns-then-is_counted-clause-did
-frame::Frame::go_apart-returns-then-is_counted-clause-did t c =
-    let o = out-Frame c.args.self.now in
-    let vs = views o.parts.items in
-    let ws = views c.go_within-outcome.new.parts.items in
-    let h = sym c.is_counted.ensures ∙ c.if-is_counted.true in
-    simp (the_lemmas, view_roll, view_out)
-    (turn_goes o.kind o.site o.phase c.in-Turning.index c.in-Turning.last vs ws _ _ c.args.step.now.site c.args.step.now.action o.at c.in-Turning.is h c.go_within-outcome.ensures.plans c.go_within-outcome.ensures.did (sym c.go_within-outcome.ensures.ended ∙ sym c.has_ended.ensures ∙ c.if-has_ended.false))
-
-pub frame::Frame::go_apart-returns-then-is_counted-clause-plan : goal.frame::Frame::go_apart-returns-then-is_counted-clause-plan
-frame::Frame::go_apart-returns-then-is_counted-clause-plan t c =
-    let o = out-Frame c.args.self.now in
-    simp (the_lemmas, view_roll, view_out) (same_plan o.kind o.site (views o.parts.items) (views c.go_within-outcome.new.parts.items) c.go_within-outcome.ensures.plans)
-
-pub frame::Frame::go_apart-returns-then-is_counted-clause-ended : goal.frame::Frame::go_apart-returns-then-is_counted-clause-ended
-frame::Frame::go_apart-returns-then-is_counted-clause-ended t c =
-    let o = out-Frame c.args.self.now in
-    let ws = views c.go_within-outcome.new.parts.items in
-    let h = sym c.is_counted.ensures ∙ c.if-is_counted.true in
-    simp (the_lemmas, view_roll, view_out) (sym c.has_ended.ensures ∙ c.if-has_ended.false ∙ sym (turn_undone o.kind o.site o.phase c.in-Turning.index c.in-Turning.last ws o.at c.in-Turning.is h))
-
-pub frame::Frame::go_apart-returns-then-is_counted-clause-begins : goal.frame::Frame::go_apart-returns-then-is_counted-clause-begins
-frame::Frame::go_apart-returns-then-is_counted-clause-begins t c =
-    let o = out-Frame c.args.self.now in
-    let h = sym c.is_counted.ensures ∙ c.if-is_counted.true in
-    simp (the_lemmas, view_roll, view_out) (turn_begins _ o.kind o.site o.phase c.in-Turning.index c.in-Turning.last (views c.go_within-outcome.new.parts.items) o.at c.in-Turning.is h c.go_within-outcome.ensures.begins)
-
-pub frame::Frame::go_apart-part_with-place-requires : goal.frame::Frame::go_apart-part_with-place-requires
-frame::Frame::go_apart-part_with-place-requires t c =
-    let o = out-Frame c.args.self.now in
-    let h = sym c.is_par.ensures ∙ c.if-is_par.true in
-    par_preorder o.kind o.site (views o.parts.items) h (subst (λ (v : View). InPreorder v.0) (view_out c.args.self.now) c.requires.in_preorder)
-
-pub frame::Frame::go_apart-go_within-outcome-requires-then-is_par : goal.frame::Frame::go_apart-go_within-outcome-requires-then-is_par
-frame::Frame::go_apart-go_within-outcome-requires-then-is_par t c =
-    let o = out-Frame c.args.self.now in
-    let is = view_out c.args.self.now in
-    let fs = o.parts.items in
-    let e = store c.args.vars.now.items in
-    let s = c.args.step.now.site in
-    let p = c.part_with-place.result in
-    let h = sym c.is_par.ensures ∙ c.if-is_par.true in
-    let pre = subst (λ (v : View). InPreorder v.0) is c.requires.in_preorder in
-    let has = subst (λ (v : View). HasVariables v.0 (length c.args.vars.now.items)) is c.requires.variables in (
-      search (rules, the_lemmas),
-      (
-        (part_able o.kind o.site o.phase fs o.at p e s c.in-Together.is h pre c.part_with-place.ensures c.args.step.now.action (subst (λ (v : View). Able v.1 e s c.args.step.now.action) is c.requires.able)),
-        (
-          λ q. (c.requires.assigned q ∙ ap (λ (v : View). assigned_at s v.1 e) is ∙ part_value o.kind o.site o.phase fs o.at p e s c.in-Together.is h pre c.part_with-place.ensures),
-          ((part_variables o.kind o.site (views fs) p _ h has), (part_preorder o.kind o.site (views fs) p h pre)),
-        ),
-      ),
-    )
-
-pub frame::Frame::go_apart-returns-then-has_ended-2-clause-did : goal.frame::Frame::go_apart-returns-then-has_ended-2-clause-did
-frame::Frame::go_apart-returns-then-has_ended-2-clause-did t c =
-    let o = out-Frame c.args.self.now in
-    let vs = views o.parts.items in
-    let h = sym c.is_par.ensures ∙ c.if-is_par.true in
-    let e = store c.args.vars.now.items in
-    let s = c.args.step.now.site in
-    let d = c.args.step.now.action in
-    let settled : views c.settle_part.new.parts.items ≡ views c.go_within-outcome-then-is_par.new.parts.items = c.settle_part.ensures ∙ simp the_lemmas refl in
-    let st = part_did o.kind o.site o.phase vs (views c.go_within-outcome-then-is_par.new.parts.items) c.part_with-place.result o.at _ _ s d c.in-Together.is h c.go_within-outcome-then-is_par.ensures.plans c.go_within-outcome-then-is_par.ensures.others c.go_within-outcome-then-is_par.ensures.did in
-    simp (the_lemmas, view_roll, view_out) (subst (λ (ws : List View). Did (rest_at o.kind o.phase o.site vs o.at) e s d (rest_at o.kind o.phase o.site ws o.at) (store c.go_within-outcome-then-is_par.new.vars.items)) (sym settled) st)
-
-pub frame::Frame::go_apart-returns-then-has_ended-2-clause-plan : goal.frame::Frame::go_apart-returns-then-has_ended-2-clause-plan
-frame::Frame::go_apart-returns-then-has_ended-2-clause-plan t c =
-    let o = out-Frame c.args.self.now in
-    let settled : views c.settle_part.new.parts.items ≡ views c.go_within-outcome-then-is_par.new.parts.items = c.settle_part.ensures ∙ simp the_lemmas refl in
-    simp (the_lemmas, view_roll, view_out) (same_plan o.kind o.site (views o.parts.items) (views c.settle_part.new.parts.items) (ap plans settled ∙ c.go_within-outcome-then-is_par.ensures.plans))
-
-pub frame::Frame::go_apart-returns-then-has_ended-2-clause-ended : goal.frame::Frame::go_apart-returns-then-has_ended-2-clause-ended
-frame::Frame::go_apart-returns-then-has_ended-2-clause-ended t c =
-    let o = out-Frame c.args.self.now in
-    let ws = views c.settle_part.new.parts.items in
-    let h = sym c.is_par.ensures ∙ c.if-is_par.true in
-    let n : has_ended c.went_beside.result ≡ is_done (besides ws) = c.went_beside.ensures.ended ∙ simp the_lemmas refl in
-    simp (the_lemmas, view_roll, view_out) (n ∙ sym (ap is_done (beside_rest o.kind o.site o.phase ws o.at c.in-Together.is h)))
-
-pub frame::Frame::go_apart-returns-then-is_par-clause-did : goal.frame::Frame::go_apart-returns-then-is_par-clause-did
-frame::Frame::go_apart-returns-then-is_par-clause-did t c =
-    let o = out-Frame c.args.self.now in
-    let vs = views o.parts.items in
-    let h = sym c.is_par.ensures ∙ c.if-is_par.true in
-    let e = store c.args.vars.now.items in
-    let s = c.args.step.now.site in
-    let d = c.args.step.now.action in
-    let settled : views c.settle_part.new.parts.items ≡ views c.go_within-outcome-then-is_par.new.parts.items = c.settle_part.ensures ∙ simp the_lemmas refl in
-    let st = part_did o.kind o.site o.phase vs (views c.go_within-outcome-then-is_par.new.parts.items) c.part_with-place.result o.at _ _ s d c.in-Together.is h c.go_within-outcome-then-is_par.ensures.plans c.go_within-outcome-then-is_par.ensures.others c.go_within-outcome-then-is_par.ensures.did in
-    simp (the_lemmas, view_roll, view_out) (subst (λ (ws : List View). Did (rest_at o.kind o.phase o.site vs o.at) e s d (rest_at o.kind o.phase o.site ws o.at) (store c.go_within-outcome-then-is_par.new.vars.items)) (sym settled) st)
-
-pub frame::Frame::go_apart-returns-then-is_par-clause-plan : goal.frame::Frame::go_apart-returns-then-is_par-clause-plan
-frame::Frame::go_apart-returns-then-is_par-clause-plan t c =
-    let o = out-Frame c.args.self.now in
-    let settled : views c.settle_part.new.parts.items ≡ views c.go_within-outcome-then-is_par.new.parts.items = c.settle_part.ensures ∙ simp the_lemmas refl in
-    simp (the_lemmas, view_roll, view_out) (same_plan o.kind o.site (views o.parts.items) (views c.settle_part.new.parts.items) (ap plans settled ∙ c.go_within-outcome-then-is_par.ensures.plans))
-
-pub frame::Frame::go_apart-returns-then-is_par-clause-ended : goal.frame::Frame::go_apart-returns-then-is_par-clause-ended
-frame::Frame::go_apart-returns-then-is_par-clause-ended t c =
-    let o = out-Frame c.args.self.now in
-    let is = view_out c.args.self.now in
-    let fs = o.parts.items in
+pub frame::Frame::go-returns-then-has_ended-clause-went : goal.frame::Frame::go-returns-then-has_ended-clause-went
+frame::Frame::go-returns-then-has_ended-clause-went t c =
+    let s = c.in-Seq.seq in
+    let f = c.args.self.now in
+    let i = (out-Frame f).site in
+    let fs = s.parts.items in
     let vs = views fs in
-    let ws = views c.go_within-outcome-then-is_par.new.parts.items in
-    let us = views c.settle_part.new.parts.items in
     let e = store c.args.vars.now.items in
-    let s = c.args.step.now.site in
-    let d = c.args.step.now.action in
-    let p = c.part_with-place.result in
-    let h = sym c.is_par.ensures ∙ c.if-is_par.true in
-    let pre = subst (λ (v : View). InPreorder v.0) is c.requires.in_preorder in
-    let able = part_able o.kind o.site o.phase fs o.at p e s c.in-Together.is h pre c.part_with-place.ensures d (subst (λ (v : View). Able v.1 e s d) is c.requires.able) in
-    let there = subst (λ (n : ℕ). p < n) (same_length vs ws c.go_within-outcome-then-is_par.ensures.plans) (able_there vs p e s d able) in
-    let settled : us ≡ ws = c.settle_part.ensures ∙ simp the_lemmas refl in
-    let goes = ap (λ (xs : List View). is_done (besides xs)) settled ∙ besides_goes ws p there (sym c.go_within-outcome-then-is_par.ensures.ended ∙ sym c.has_ended-then-is_par.ensures ∙ c.if-has_ended-2.false) in
-    simp (the_lemmas, view_roll, view_out) (sym goes ∙ sym (ap is_done (beside_rest o.kind o.site o.phase us o.at c.in-Together.is h)))
+    let h = store c.go-outcome.new.vars.items in
+    let can = frame_can c.args.step.now f (run.Seq s) c.args.vars.now.items c.requires.can c.in-Seq.is in
+    let l = among s.at (length vs) (length fs) (and_left (nat_lt s.at (length vs)) (all_sound vs) can.sound) (length-map fs view) in
+    let is = map_get view fs s.at c.index_mut.result.now l c.index_mut.ensures.value in
+    let w = view c.go-outcome.new.self in
+    let changed = map-set view fs s.at c.go-outcome.new.self in
+    let new = c.next.new.self in
+    let next = subst (λ ws. HasNext ws s.at c.next.result (views new.parts.items) new.at) changed c.next.ensures in
+    rolled_went c.args.step.now f (run.Seq s) (run.Seq new) c.args.vars.now.items c.next.result h c.requires.can c.in-Seq.is
+    (seq_went c.args.step.now i vs s.at (view c.index_mut.result.now) is e c.go-outcome.result w h can.sound c.go-outcome.ensures.went c.next.result (views new.parts.items) new.at (sym c.has_ended.ensures ∙ c.if-has_ended.true) next)
 
-pub frame::Frame::go_apart-go_resting-requires-clause-resting : goal.frame::Frame::go_apart-go_resting-requires-clause-resting
-frame::Frame::go_apart-go_resting-requires-clause-resting t c = c.in-Resting.is
+pub frame::Frame::go-part_with-place-requires : goal.frame::Frame::go-part_with-place-requires
+frame::Frame::go-part_with-place-requires t c =
+    let f = c.args.self.now in
+    let i = (out-Frame f).site in
+    let s = c.in-Par.par in
+    let ts = s.tasks.items in
+    let can = frame_can c.args.step.now f (run.Par s) c.args.vars.now.items c.requires.can c.in-Par.is in
+    subst (λ (us : List (Task Frame)). PartsInPreorder (plans_of (task_views us))) (sym c.as_slice.ensures.value) (par_preorder c.args.step.now i ts c.args.vars.now.items can)
 
-pub frame::Frame::go_apart-returns-else-is_counted-clause-did : goal.frame::Frame::go_apart-returns-else-is_counted-clause-did
-frame::Frame::go_apart-returns-else-is_counted-clause-did t c =
-    let o = out-Frame c.args.self.now in
-    let is = view_out c.args.self.now in
+pub frame::Frame::go-index_mut-requires-in-Par : goal.frame::Frame::go-index_mut-requires-in-Par
+frame::Frame::go-index_mut-requires-in-Par t c =
+    let f = c.args.self.now in
+    let i = (out-Frame f).site in
+    let s = c.in-Par.par in
+    let ts = s.tasks.items in
+    let can = frame_can c.args.step.now f (run.Par s) c.args.vars.now.items c.requires.can c.in-Par.is in
+    let k = c.part_with-place.result in
+    let at : k ≡ place_with c.args.step.now.site (task_views ts) = c.part_with-place.ensures ∙ ap (λ (us : List (Task Frame)). place_with c.args.step.now.site (task_views us)) c.as_slice.ensures.value in
+    let l = part_there c.args.step.now i ts c.args.vars.now.items can k at in
+    let o = s.tasks.ok.0 in
+    omega arith
+
+pub frame::Frame::go-go-outcome-requires-in-Par : goal.frame::Frame::go-go-outcome-requires-in-Par
+frame::Frame::go-go-outcome-requires-in-Par t c =
+    let f = c.args.self.now in
+    let i = (out-Frame f).site in
+    let s = c.in-Par.par in
+    let ts = s.tasks.items in
+    let can = frame_can c.args.step.now f (run.Par s) c.args.vars.now.items c.requires.can c.in-Par.is in
+    let k = c.part_with-place.result in
+    let at : k ≡ place_with c.args.step.now.site (task_views ts) = c.part_with-place.ensures ∙ ap (λ (us : List (Task Frame)). place_with c.args.step.now.site (task_views us)) c.as_slice.ensures.value in
+    let l = part_there c.args.step.now i ts c.args.vars.now.items can k at in
+    let old = c.index_mut-in-Par.result.now in
+    let is = task_at ts k old l c.index_mut-in-Par.ensures.value in
+    (search (rules, the_lemmas), par_part c.args.step.now i ts c.args.vars.now.items can k (task_view (seen_task old)) at is)
+
+pub frame::Frame::go-outcome-requires : goal.frame::Frame::go-outcome-requires
+frame::Frame::go-outcome-requires t c =
+    let f = c.args.self.now in
+    let i = (out-Frame f).site in
+    let s = c.in-Par.par in
+    let ts = s.tasks.items in
+    let can = frame_can c.args.step.now f (run.Par s) c.args.vars.now.items c.requires.can c.in-Par.is in
+    let k = c.part_with-place.result in
+    let at : k ≡ place_with c.args.step.now.site (task_views ts) = c.part_with-place.ensures ∙ ap (λ (us : List (Task Frame)). place_with c.args.step.now.site (task_views us)) c.as_slice.ensures.value in
+    let l = part_there c.args.step.now i ts c.args.vars.now.items can k at in
+    let old = c.index_mut-in-Par.result.now in
+    let is = task_at ts k old l c.index_mut-in-Par.ensures.value in
     let e = store c.args.vars.now.items in
-    let h = sym c.is_counted.ensures ∙ c.if-is_counted.false in
-    let able = subst (λ (v : View). Able v.1 e c.args.step.now.site c.args.step.now.action) is c.requires.able in
-    subst (λ (v : View). Did v.1 e c.args.step.now.site c.args.step.now.action (view c.args.self.now).1 e) (sym is)
-    (none_turns o.kind o.site o.phase c.in-Turning.index c.in-Turning.last (views o.parts.items) o.at e _ _ _ c.in-Turning.is h able)
+    let h = store c.go-outcome-in-Par.new.vars.items in
+    let o = c.go-outcome-in-Par.result in
+    let new = c.go-outcome-in-Par.new.self in
+    let went = c.go-outcome-in-Par.ensures.went in
+    let begins = c.go-outcome-in-Par.ensures.begins in
+    record { sound = tasks_still_sound c.args.step.now i ts k (task_view (seen_task old)) is can.sound e h o new begins went }
 
-pub frame::Frame::go_apart-returns-else-is_par-clause-did : goal.frame::Frame::go_apart-returns-else-is_par-clause-did
-frame::Frame::go_apart-returns-else-is_par-clause-did t c =
-    let o = out-Frame c.args.self.now in
-    let is = view_out c.args.self.now in
+pub frame::Frame::go-returns-then-has_ended-2-clause-went : goal.frame::Frame::go-returns-then-has_ended-2-clause-went
+frame::Frame::go-returns-then-has_ended-2-clause-went t c =
+    let f = c.args.self.now in
+    let i = (out-Frame f).site in
+    let s = c.in-Par.par in
+    let ts = s.tasks.items in
+    let can = frame_can c.args.step.now f (run.Par s) c.args.vars.now.items c.requires.can c.in-Par.is in
+    let k = c.part_with-place.result in
+    let at : k ≡ place_with c.args.step.now.site (task_views ts) = c.part_with-place.ensures ∙ ap (λ (us : List (Task Frame)). place_with c.args.step.now.site (task_views us)) c.as_slice.ensures.value in
+    let l = part_there c.args.step.now i ts c.args.vars.now.items can k at in
+    let old = c.index_mut-in-Par.result.now in
+    let is = task_at ts k old l c.index_mut-in-Par.ensures.value in
     let e = store c.args.vars.now.items in
-    let h = sym c.is_par.ensures ∙ c.if-is_par.false in
-    let able = subst (λ (v : View). Able v.1 e c.args.step.now.site c.args.step.now.action) is c.requires.able in
-    subst (λ (v : View). Did v.1 e c.args.step.now.site c.args.step.now.action (view c.args.self.now).1 e) (sym is)
-    (none_beside o.kind o.site o.phase (views o.parts.items) o.at e _ _ _ c.in-Together.is h able)
+    let h = store c.go-outcome-in-Par.new.vars.items in
+    let o = c.go-outcome-in-Par.result in
+    let new = c.go-outcome-in-Par.new.self in
+    let went = c.go-outcome-in-Par.ensures.went in
+    let begins = c.go-outcome-in-Par.ensures.begins in
+    rolled_went c.args.step.now f (run.Par s) (run.Par (record { tasks = with_item s.tasks k new })) c.args.vars.now.items c.outcome.result h c.requires.can c.in-Par.is
+    (par_went c.args.step.now i ts k (task_view (seen_task old)) is can.sound e h o new begins went c.outcome.result c.outcome.ensures)
 
-pub frame::Frame::go_apart-returns-in-Ended-clause-did : goal.frame::Frame::go_apart-returns-in-Ended-clause-did
-frame::Frame::go_apart-returns-in-Ended-clause-did t c =
-    let o = out-Frame c.args.self.now in
-    let is = view_out c.args.self.now in
-    let vs = views o.parts.items in
+pub frame::Frame::go-index_mut-requires-in-Some : goal.frame::Frame::go-index_mut-requires-in-Some
+frame::Frame::go-index_mut-requires-in-Some t c =
+    let s = c.in-If.branching in
+    let bs = map seen_branch s.branches.items in
+    let sound = subst (λ (p : Option ℕ). is_sound (branching bs p) ≡ true) c.in-Some.is (sound_as c.args.step.now c.args.self.now (run.If s) c.args.vars.now.items c.requires.can c.in-If.is) in
+    let l = among c.in-Some.at (length bs) (length s.branches.items) (and_left (nat_lt c.in-Some.at (length bs)) (all_sound (bodies bs)) sound) (length-map s.branches.items seen_branch) in
+    let o = s.branches.ok.0 in
+    omega arith
+
+pub frame::Frame::go-go-requires : goal.frame::Frame::go-go-requires
+frame::Frame::go-go-requires t c =
+    let s = c.in-If.branching in
+    let bs = map seen_branch s.branches.items in
+    let i = (out-Frame c.args.self.now).site in
+    let can = subst (λ (p : Option ℕ). CanGo c.args.step.now (view_of i false (branching bs p)) c.args.vars.now.items) c.in-Some.is (frame_can c.args.step.now c.args.self.now (run.If s) c.args.vars.now.items c.requires.can c.in-If.is) in
+    let l = among c.in-Some.at (length bs) (length s.branches.items) (and_left (nat_lt c.in-Some.at (length bs)) (all_sound (bodies bs)) can.sound) (length-map s.branches.items seen_branch) in
+    let is = map_get seen_branch s.branches.items c.in-Some.at c.index_mut-in-Some.result.now l c.index_mut-in-Some.ensures.value in
+    (search (rules, the_lemmas), branch_part c.args.step.now i bs c.in-Some.at (seen_branch c.index_mut-in-Some.result.now) is c.args.vars.now.items can)
+
+pub frame::Frame::go-go-outcome-requires-in-While : goal.frame::Frame::go-go-outcome-requires-in-While
+frame::Frame::go-go-outcome-requires-in-While t c =
+    let s = c.in-While.looping in
+    let i = (out-Frame c.args.self.now).site in
+    let can = subst (λ (b : Bool). CanGo c.args.step.now (view_of i false (looping (as_test s.cond) (view s.body.value) b)) c.args.vars.now.items) c.if-looping.true (frame_can c.args.step.now c.args.self.now (run.While s) c.args.vars.now.items c.requires.can c.in-While.is) in
+    (search (rules, the_lemmas), subst (λ (f : Frame). CanGo c.args.step.now (view f) c.args.vars.now.items) (sym c.deref_mut.ensures.value) (turn_part c.args.step.now i (as_test s.cond) (view s.body.value) c.args.vars.now.items can))
+
+pub frame::Frame::go-returns-then-has_ended-3-clause-went : goal.frame::Frame::go-returns-then-has_ended-3-clause-went
+frame::Frame::go-returns-then-has_ended-3-clause-went t c =
+    let s = c.in-While.looping in
+    let f = c.args.self.now in
+    let i = (out-Frame f).site in
+    let b = as_test s.cond in
+    let v = view s.body.value in
+    let w = view c.go-outcome-in-While.new.self in
     let e = store c.args.vars.now.items in
-    let able = subst (λ (v : View). Able v.1 e c.args.step.now.site c.args.step.now.action) is c.requires.able in
-    subst (λ (v : View). Did v.1 e c.args.step.now.site c.args.step.now.action (view c.args.self.now).1 e) (sym is)
-    (phase_did o.kind o.site _ Ended vs o.at e e _ _ _ c.in-Ended.is (never_done _ _ e e _ _ (phase_able o.kind o.site _ Ended vs o.at e _ _ c.in-Ended.is able)))
+    let o = c.go-outcome-in-While.result in
+    let h = store c.go-outcome-in-While.new.vars.items in
+    let inside = subst (λ (g : Frame). Went c.args.step.now (view g) e o w h) c.deref_mut.ensures.value c.go-outcome-in-While.ensures.went in
+    let new : While Frame = record { cond = s.cond; body = with_value s.body c.go-outcome-in-While.new.self; turning = false } in
+    let whole : Frame-F Frame = record { site = i; stopped = (out-Frame f).stopped; construct = run.While new } in
+    let went = turn_ended c.args.step.now i b v e o w h inside (sym c.has_ended-in-While.ensures ∙ c.if-has_ended-3.true) in
+    subst (λ (x : Frame-F Frame). Went c.args.step.now (view f) e (Quiet x.site) (view (roll-Frame whole)) h) (sym (out-roll-Frame whole))
+    (rolled_went c.args.step.now f (run.While s) (run.While new) c.args.vars.now.items (Quiet i) h c.requires.can c.in-While.is
+    (subst (λ (p : Bool). Went c.args.step.now (view_of i false (looping b v p)) e (Quiet i) (view_of i false (looping b w false)) h) (sym c.if-looping.true) went))
 
-pub frame::Frame::go_apart-returns-in-Ended-clause-ended : goal.frame::Frame::go_apart-returns-in-Ended-clause-ended
-frame::Frame::go_apart-returns-in-Ended-clause-ended t c =
-    let o = out-Frame c.args.self.now in
-    sym (ap (λ (v : View). is_done v.1) (view_out c.args.self.now) ∙ ap (λ (p : Phase). is_done (rest_at o.kind p o.site (views o.parts.items) o.at)) c.in-Ended.is)
+pub frame::Frame::go-go-outcome-requires-in-Some-turn : goal.frame::Frame::go-go-outcome-requires-in-Some-turn
+frame::Frame::go-go-outcome-requires-in-Some-turn t c =
+    let s = c.in-Count.counting in
+    let i = (out-Frame c.args.self.now).site in
+    let can = subst (λ (u : Option Turn). CanGo c.args.step.now (view_of i false (counting s.var (exp s.base) (exp s.count) (view s.body.value) u)) c.args.vars.now.items) c.in-Some-turn.is (frame_can c.args.step.now c.args.self.now (run.Count s) c.args.vars.now.items c.requires.can c.in-Count.is) in
+    (search (rules, the_lemmas), subst (λ (f : Frame). CanGo c.args.step.now (view f) c.args.vars.now.items) (sym c.deref_mut-in-Some-turn.ensures.value) (count_part c.args.step.now i s.var (exp s.base) (exp s.count) (view s.body.value) c.in-Some-turn.turn c.args.vars.now.items can))
 
-pub frame::Frame::go_apart-returns-in-Stuck-clause-did : goal.frame::Frame::go_apart-returns-in-Stuck-clause-did
-frame::Frame::go_apart-returns-in-Stuck-clause-did t c =
-    let o = out-Frame c.args.self.now in
-    let is = view_out c.args.self.now in
-    let vs = views o.parts.items in
+pub frame::Frame::go-next-requires-then-has_ended-4-clause-variable : goal.frame::Frame::go-next-requires-then-has_ended-4-clause-variable
+frame::Frame::go-next-requires-then-has_ended-4-clause-variable t c =
+    let s = c.in-Count.counting in
+    let can = frame_can c.args.step.now c.args.self.now (run.Count s) c.args.vars.now.items c.requires.can c.in-Count.is in
+    let l = index_there c.args.step.now (out-Frame c.args.self.now).site s.var (exp s.base) (exp s.count) (view s.body.value) s.turn c.args.vars.now.items can in
+    let n = c.go-outcome-in-Some-turn.ensures.length in
+    omega arith
+
+pub frame::Frame::go-returns-then-has_ended-4-clause-went : goal.frame::Frame::go-returns-then-has_ended-4-clause-went
+frame::Frame::go-returns-then-has_ended-4-clause-went t c =
+    let s = c.in-Count.counting in
+    let f = c.args.self.now in
+    let i = (out-Frame f).site in
+    let a = exp s.base in
+    let n = exp s.count in
+    let v = view s.body.value in
+    let w = view c.go-outcome-in-Some-turn.new.self in
     let e = store c.args.vars.now.items in
-    let able = subst (λ (v : View). Able v.1 e c.args.step.now.site c.args.step.now.action) is c.requires.able in
-    subst (λ (v : View). Did v.1 e c.args.step.now.site c.args.step.now.action (view c.args.self.now).1 e) (sym is)
-    (phase_did o.kind o.site _ Stuck vs o.at e e _ _ _ c.in-Stuck.is (never _ _ e e _ _ (phase_able o.kind o.site _ Stuck vs o.at e _ _ c.in-Stuck.is able)))
+    let o = c.go-outcome-in-Some-turn.result in
+    let h = store c.go-outcome-in-Some-turn.new.vars.items in
+    let turn = c.in-Some-turn.turn in
+    let inside = subst (λ (g : Frame). Went c.args.step.now (view g) e o w h) c.deref_mut-in-Some-turn.ensures.value c.go-outcome-in-Some-turn.ensures.went in
+    let new = c.next-then-has_ended-4.new.self in
+    let p = c.next-then-has_ended-4.result in
+    let k = store c.next-then-has_ended-4.new.vars.items in
+    let turned = subst (λ (u : Option Turn). HasTurned turn (counting s.var a n w u) h p (counting_shape new) k) c.in-Some-turn.is c.next-then-has_ended-4.ensures.turned in
+    let went = count_went c.args.step.now i s.var a n v turn e o w h p new.var (exp new.base) (exp new.count) (view new.body.value) new.turn k inside (sym c.has_ended-in-Some-turn.ensures ∙ c.if-has_ended-4.true) turned in
+    rolled_went c.args.step.now f (run.Count s) (run.Count new) c.args.vars.now.items p k c.requires.can c.in-Count.is
+    (subst (λ (u : Option Turn). Went c.args.step.now (view_of i false (counting s.var a n v u)) e p (view_of i false (counting_shape new)) k) (sym c.in-Some-turn.is) went)
 
-pub progress::go_within-returns-then-at-len-clause-did : goal.progress::go_within-returns-then-at-len-clause-did
-progress::go_within-returns-then-at-len-clause-did t c =
-    let fs = c.args.parts.now.items in
-    let o = c.args.parts.now.ok.0 in
-    let l : c.args.at < length fs = omega (arith, c.len.ensures) in
-    subst (λ (r : Rest). Did r (store c.args.vars.now.items) c.args.step.now.site c.args.step.now.action (part_rest (slice_get (views (set fs c.args.at c.go.new.self)) c.args.at)) (store c.go.new.vars.items)) (sym (ap part_rest (get_view fs c.args.at _ l c.index_mut.ensures.value)))
-    (subst (λ (r : Rest). Did (view c.index_mut.result.now).1 (store c.args.vars.now.items) c.args.step.now.site c.args.step.now.action r (store c.go.new.vars.items)) (sym (ap part_rest (set_view fs c.args.at c.go.new.self l))) c.go.ensures.did)
+pub frame::Frame::go-index_mut-requires-in-Within : goal.frame::Frame::go-index_mut-requires-in-Within
+frame::Frame::go-index_mut-requires-in-Within t c =
+    let s = c.in-Alt.alt in
+    let gs = map seen_guard s.guards.items in
+    let sound = subst (λ (p : Choice). is_sound (guarding gs p) ≡ true) c.in-Within.is (sound_as c.args.step.now c.args.self.now (run.Alt s) c.args.vars.now.items c.requires.can c.in-Alt.is) in
+    let l = among c.in-Within.at (length gs) (length s.guards.items) (and_left (nat_lt c.in-Within.at (length gs)) (all_sound (guarded gs)) (and_right (nat_lt (length gs) 65536) _ sound)) (length-map s.guards.items seen_guard) in
+    let o = s.guards.ok.0 in
+    omega arith
 
-pub progress::go_within-returns-then-at-len-clause-plans : goal.progress::go_within-returns-then-at-len-clause-plans
-progress::go_within-returns-then-at-len-clause-plans t c = set_plans c.args.parts.now.items c.args.at _ c.go.new.self c.index_mut.ensures.value c.go.ensures.plan
+pub frame::Frame::go-go-requires-in-Within : goal.frame::Frame::go-go-requires-in-Within
+frame::Frame::go-go-requires-in-Within t c =
+    let s = c.in-Alt.alt in
+    let gs = map seen_guard s.guards.items in
+    let i = (out-Frame c.args.self.now).site in
+    let can = subst (λ (p : Choice). CanGo c.args.step.now (view_of i false (guarding gs p)) c.args.vars.now.items) c.in-Within.is (frame_can c.args.step.now c.args.self.now (run.Alt s) c.args.vars.now.items c.requires.can c.in-Alt.is) in
+    let l = among c.in-Within.at (length gs) (length s.guards.items) (and_left (nat_lt c.in-Within.at (length gs)) (all_sound (guarded gs)) (and_right (nat_lt (length gs) 65536) _ can.sound)) (length-map s.guards.items seen_guard) in
+    let is = map_get seen_guard s.guards.items c.in-Within.at c.index_mut-in-Within.result.now l c.index_mut-in-Within.ensures.value in
+    (search (rules, the_lemmas), guard_part c.args.step.now i gs c.in-Within.at (seen_guard c.index_mut-in-Within.result.now) is c.args.vars.now.items can)
 
-pub progress::go_within-returns-clause-did : goal.progress::go_within-returns-clause-did
-progress::go_within-returns-clause-did t c =
-    let fs = c.args.parts.now.items in
-    let o = c.args.parts.now.ok.0 in
-    let n = none_view fs c.args.at (omega (arith, c.len.ensures)) in
-    never_there _ _ _ _ c.args.step.now.site c.args.step.now.action (subst (λ (r : Rest). Able r (store c.args.vars.now.items) c.args.step.now.site c.args.step.now.action) (ap part_rest n) c.requires.able)
-
-pub progress::go_within-returns-then-at-len-clause-others : goal.progress::go_within-returns-then-at-len-clause-others
-progress::go_within-returns-then-at-len-clause-others t c = (view c.go.new.self, set_changed c.args.parts.now.items c.args.at c.go.new.self)
-
-pub progress::go_within-returns-clause-others : goal.progress::go_within-returns-clause-others
-progress::go_within-returns-clause-others t c =
-    let o = parts_len c.args.parts.now in
-    let nothing : View = (STOP 0, Done) in
-    (nothing, none_changed (views c.args.parts.now.items) c.args.at nothing (omega (arith, c.len.ensures)))
-
-pub progress::go_within-returns-then-at-len-clause-ended : goal.progress::go_within-returns-then-at-len-clause-ended
-progress::go_within-returns-then-at-len-clause-ended t c =
-    let fs = c.args.parts.now.items in
-    let o = c.args.parts.now.ok.0 in
-    let l : c.args.at < length fs = omega (arith, c.len.ensures) in
-    c.go.ensures.ended ∙ sym (ap part_done (set_view fs c.args.at c.go.new.self l))
-
-pub progress::go_within-returns-clause-ended : goal.progress::go_within-returns-clause-ended
-progress::go_within-returns-clause-ended t c =
-    let o = c.args.parts.now.ok.0 in
-    sym (ap part_done (none_view c.args.parts.now.items c.args.at (omega (arith, c.len.ensures))))
-
-pub progress::go_within-returns-then-at-len-clause-begins : goal.progress::go_within-returns-then-at-len-clause-begins
-progress::go_within-returns-then-at-len-clause-begins t c =
-    let fs = c.args.parts.now.items in
-    let o = c.args.parts.now.ok.0 in
-    let l : c.args.at < length fs = omega (arith, c.len.ensures) in
-    subst (λ (v : Option View). BeginsWith (then_begins c.go.result) (part_rest v)) (sym (set_view fs c.args.at c.go.new.self l)) c.go.ensures.begins
-
-pub progress::go_within-go-requires : goal.progress::go_within-go-requires
-progress::go_within-go-requires t c =
-    let fs = c.args.parts.now.items in
-    let o = c.args.parts.now.ok.0 in
-    let l : c.args.at < length fs = omega (arith, c.len.ensures) in
-    let is = get_view fs c.args.at _ l c.index_mut.ensures.value in
+pub frame::Frame::go-returns-else-has_ended-clause-went : goal.frame::Frame::go-returns-else-has_ended-clause-went
+frame::Frame::go-returns-else-has_ended-clause-went t c =
+    let s = c.in-Seq.seq in
+    let f = c.args.self.now in
+    let i = (out-Frame f).site in
+    let fs = s.parts.items in
+    let vs = views fs in
     let e = store c.args.vars.now.items in
-    let s = c.args.step.now.site in (
-      search (rules, the_lemmas),
-      (
-        subst (λ (v : Option View). Able (part_rest v) e s c.args.step.now.action) is c.requires.able,
-        (λ q. c.requires.assigned q ∙ ap (λ (v : Option View). part_assigned s v e) is, (subst (λ (v : Option View). PartHasVariables v (length c.args.vars.now.items)) is c.requires.variables, subst PartInPreorder is c.requires.in_preorder)),
-      ),
-    )
+    let h = store c.go-outcome.new.vars.items in
+    let can = frame_can c.args.step.now f (run.Seq s) c.args.vars.now.items c.requires.can c.in-Seq.is in
+    let l = among s.at (length vs) (length fs) (and_left (nat_lt s.at (length vs)) (all_sound vs) can.sound) (length-map fs view) in
+    let is = map_get view fs s.at c.index_mut.result.now l c.index_mut.ensures.value in
+    let w = view c.go-outcome.new.self in
+    let changed = map-set view fs s.at c.go-outcome.new.self in
+    let went = seq_goes c.args.step.now i vs s.at (view c.index_mut.result.now) is e c.go-outcome.result w h can.sound c.go-outcome.ensures.went (sym c.has_ended.ensures ∙ c.if-has_ended.false) in
+    rolled_went c.args.step.now f (run.Seq s) (run.Seq (record { parts = with_item s.parts s.at c.go-outcome.new.self; at = s.at })) c.args.vars.now.items c.go-outcome.result h c.requires.can c.in-Seq.is
+    (subst (λ ws. Went c.args.step.now (view_of i false (seq vs s.at)) e c.go-outcome.result (view_of i false (seq ws s.at)) h) (sym changed) went)
+
+pub frame::Frame::go-returns-else-has_ended-2-clause-went : goal.frame::Frame::go-returns-else-has_ended-2-clause-went
+frame::Frame::go-returns-else-has_ended-2-clause-went t c =
+    let f = c.args.self.now in
+    let i = (out-Frame f).site in
+    let s = c.in-Par.par in
+    let ts = s.tasks.items in
+    let can = frame_can c.args.step.now f (run.Par s) c.args.vars.now.items c.requires.can c.in-Par.is in
+    let k = c.part_with-place.result in
+    let at : k ≡ place_with c.args.step.now.site (task_views ts) = c.part_with-place.ensures ∙ ap (λ (us : List (Task Frame)). place_with c.args.step.now.site (task_views us)) c.as_slice.ensures.value in
+    let l = part_there c.args.step.now i ts c.args.vars.now.items can k at in
+    let old = c.index_mut-in-Par.result.now in
+    let is = task_at ts k old l c.index_mut-in-Par.ensures.value in
+    let e = store c.args.vars.now.items in
+    let h = store c.go-outcome-in-Par.new.vars.items in
+    let o = c.go-outcome-in-Par.result in
+    let new = c.go-outcome-in-Par.new.self in
+    let went = c.go-outcome-in-Par.ensures.went in
+    let begins = c.go-outcome-in-Par.ensures.begins in
+    rolled_went c.args.step.now f (run.Par s) (run.Par (record { tasks = with_item s.tasks k new })) c.args.vars.now.items Other h c.requires.can c.in-Par.is
+    (par_goes c.args.step.now i ts k (task_view (seen_task old)) is can.sound e h o new begins went (sym c.has_ended-in-Par.ensures ∙ c.if-has_ended-2.false))
+
+pub frame::Frame::go-returns-in-Some-clause-went : goal.frame::Frame::go-returns-in-Some-clause-went
+frame::Frame::go-returns-in-Some-clause-went t c =
+    let s = c.in-If.branching in
+    let f = c.args.self.now in
+    let i = (out-Frame f).site in
+    let fs = s.branches.items in
+    let bs = map seen_branch fs in
+    let k = c.in-Some.at in
+    let e = store c.args.vars.now.items in
+    let h = store c.go.new.vars.items in
+    let can = subst (λ (p : Option ℕ). CanGo c.args.step.now (view_of i false (branching bs p)) c.args.vars.now.items) c.in-Some.is (frame_can c.args.step.now f (run.If s) c.args.vars.now.items c.requires.can c.in-If.is) in
+    let l = among k (length bs) (length fs) (and_left (nat_lt k (length bs)) (all_sound (bodies bs)) can.sound) (length-map fs seen_branch) in
+    let b = c.index_mut-in-Some.result.now in
+    let is = map_get seen_branch fs k b l c.index_mut-in-Some.ensures.value in
+    let new : Branch Frame = record { cond = b.cond; body = c.go.new.self } in
+    let went = branch_went c.args.step.now i bs k (seen_branch b) is e c.go.result (view c.go.new.self) h can.sound c.go.ensures.went in
+    let seen = subst (λ cs. Went c.args.step.now (view_of i false (branching bs (Some k))) e c.go.result (view_of i false (branching cs (Some k))) h) (sym (map-set seen_branch fs k new)) went in
+    rolled_went c.args.step.now f (run.If s) (run.If (record { branches = with_item s.branches k new; taken = s.taken })) c.args.vars.now.items c.go.result h c.requires.can c.in-If.is
+    (subst (λ (p : Option ℕ). Went c.args.step.now (view_of i false (branching bs p)) e c.go.result (view_of i false (branching (map seen_branch (set fs k new)) p)) h) (sym c.in-Some.is) seen)
+
+pub frame::Frame::go-returns-else-has_ended-3-clause-went : goal.frame::Frame::go-returns-else-has_ended-3-clause-went
+frame::Frame::go-returns-else-has_ended-3-clause-went t c =
+    let s = c.in-While.looping in
+    let f = c.args.self.now in
+    let i = (out-Frame f).site in
+    let b = as_test s.cond in
+    let v = view s.body.value in
+    let w = view c.go-outcome-in-While.new.self in
+    let e = store c.args.vars.now.items in
+    let o = c.go-outcome-in-While.result in
+    let h = store c.go-outcome-in-While.new.vars.items in
+    let inside = subst (λ (g : Frame). Went c.args.step.now (view g) e o w h) c.deref_mut.ensures.value c.go-outcome-in-While.ensures.went in
+    let new : While Frame = record { cond = s.cond; body = with_value s.body c.go-outcome-in-While.new.self; turning = s.turning } in
+    let went = turn_goes c.args.step.now i b v e o w h inside (sym c.has_ended-in-While.ensures ∙ c.if-has_ended-3.false) in
+    rolled_went c.args.step.now f (run.While s) (run.While new) c.args.vars.now.items o h c.requires.can c.in-While.is
+    (subst (λ (p : Bool). Went c.args.step.now (view_of i false (looping b v p)) e o (view_of i false (looping b w p)) h) (sym c.if-looping.true) went)
+
+pub frame::Frame::go-returns-else-has_ended-4-clause-went : goal.frame::Frame::go-returns-else-has_ended-4-clause-went
+frame::Frame::go-returns-else-has_ended-4-clause-went t c =
+    let s = c.in-Count.counting in
+    let f = c.args.self.now in
+    let i = (out-Frame f).site in
+    let a = exp s.base in
+    let n = exp s.count in
+    let v = view s.body.value in
+    let w = view c.go-outcome-in-Some-turn.new.self in
+    let e = store c.args.vars.now.items in
+    let o = c.go-outcome-in-Some-turn.result in
+    let h = store c.go-outcome-in-Some-turn.new.vars.items in
+    let turn = c.in-Some-turn.turn in
+    let inside = subst (λ (g : Frame). Went c.args.step.now (view g) e o w h) c.deref_mut-in-Some-turn.ensures.value c.go-outcome-in-Some-turn.ensures.went in
+    let new : Count Frame = record { var = s.var; base = s.base; count = s.count; body = with_value s.body c.go-outcome-in-Some-turn.new.self; turn = s.turn } in
+    let went = count_goes c.args.step.now i s.var a n v turn e o w h inside (sym c.has_ended-in-Some-turn.ensures ∙ c.if-has_ended-4.false) in
+    rolled_went c.args.step.now f (run.Count s) (run.Count new) c.args.vars.now.items o h c.requires.can c.in-Count.is
+    (subst (λ (u : Option Turn). Went c.args.step.now (view_of i false (counting s.var a n v u)) e o (view_of i false (counting s.var a n w u)) h) (sym c.in-Some-turn.is) went)
+
+pub frame::Frame::go-returns-in-Within-clause-went : goal.frame::Frame::go-returns-in-Within-clause-went
+frame::Frame::go-returns-in-Within-clause-went t c =
+    let s = c.in-Alt.alt in
+    let f = c.args.self.now in
+    let i = (out-Frame f).site in
+    let fs = s.guards.items in
+    let gs = map seen_guard fs in
+    let k = c.in-Within.at in
+    let e = store c.args.vars.now.items in
+    let o = c.go-in-Within.result in
+    let h = store c.go-in-Within.new.vars.items in
+    let can = subst (λ (p : Choice). CanGo c.args.step.now (view_of i false (guarding gs p)) c.args.vars.now.items) c.in-Within.is (frame_can c.args.step.now f (run.Alt s) c.args.vars.now.items c.requires.can c.in-Alt.is) in
+    let l = among k (length gs) (length fs) (and_left (nat_lt k (length gs)) (all_sound (guarded gs)) (and_right (nat_lt (length gs) 65536) _ can.sound)) (length-map fs seen_guard) in
+    let g = c.index_mut-in-Within.result.now in
+    let is = map_get seen_guard fs k g l c.index_mut-in-Within.ensures.value in
+    let new : Guard Frame = record { cond = g.cond; chan = g.chan; var = g.var; body = c.go-in-Within.new.self } in
+    let went = guard_went c.args.step.now i gs k (seen_guard g) is e o (view c.go-in-Within.new.self) h can.sound c.go-in-Within.ensures.went in
+    let seen = subst (λ cs. Went c.args.step.now (view_of i false (guarding gs (Within k))) e o (view_of i false (guarding cs (Within k))) h) (sym (map-set seen_guard fs k new)) went in
+    rolled_went c.args.step.now f (run.Alt s) (run.Alt (record { guards = with_item s.guards k new; choice = s.choice })) c.args.vars.now.items o h c.requires.can c.in-Alt.is
+    (subst (λ (p : Choice). Went c.args.step.now (view_of i false (guarding gs p)) e o (view_of i false (guarding (map seen_guard (set fs k new)) p)) h) (sym c.in-Within.is) seen)

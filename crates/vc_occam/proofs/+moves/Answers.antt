@@ -1,71 +1,52 @@
-use Rattle.std.proofs.Common.{◌∙◌, ℕ, sym, ap, arith, Option}
-use Rattle.std.specs.Prelude.{slice_get}
-use Rattle.vc_occam.specs.declared.frame.Frame.TheViews.{out-Frame}
+use Rattle.std.proofs.Common.{rules, ◌≡◌, ◌++◌, ◌∙◌, ap, append-nil, List, refl, subst, sym, true}
+use Rattle.vc_occam.specs.declared.frame.Frame.{Frame}
+use Rattle.vc_occam.specs.declared.frame.Frame.TheViews.{the_lemmas}
+use Rattle.vc_occam.specs.declared.frame.Task.{Task}
+use Rattle.vc_occam.specs.declared.moves.Move.{Move}
 use Rattle.vc_occam.specs.First.{own}
-use Rattle.vc_occam.specs.Frames.{View, behind, place_of}
-use Rattle.vc_occam.specs.Private.Frames.{part_own, views}
+use Rattle.vc_occam.specs.Frames.{all_sound, besides, task_view, view}
+use Rattle.vc_occam.specs.Private.Frames.{seen_task}
 use Rattle.vc_occam.specs.Remains.{Rest}
 use Rattle.vc_process.specs.Terms.{store}
-use Rattle.vc_occam.proofs.Frames.{awaiting_own, is_awaiting, turning_own, turning_none, rest_apart, rest_together, rest_ready, rest_going, rest_idle, rest_ended, rest_stuck, resting_nothing, follow_own, idle_own}
-use Rattle.vc_occam.proofs.Gates.{pushed_none, pushed_same}
-use Rattle.vc_occam.proofs.Stepping.{none_view}
+use Rattle.vc_process.proofs.Reaching.{adds_same}
+use Rattle.vc_occam.proofs.Innermost.{same_own}
+use Rattle.vc_occam.proofs.Outcomes.{nothing_own, quiet_own, task_outcome}
+use Rattle.vc_occam.proofs.Pars.{par_rest, par_sound, sound_at}
+use Rattle.vc_occam.proofs.Places.{task_views}
+use Rattle.vc_occam.proofs.SideBySide.{beside_own, listed_end, listed_next}
 use Rattle.vc_occam.proofs.+moves.Goals as goal
 
-pub frame::Frame::push_moves-returns-in-Ready : goal.frame::Frame::push_moves-returns-in-Ready
-frame::Frame::push_moves-returns-in-Ready t c =
-    let F = λ (r : Rest). own r (store c.args.vars.now) in
-    pushed_same c.push_ready.result _ _ _ _ (ap F (rest_ready c.args.self.now c.in-Ready.is)) c.push_ready.ensures
+pub frame::Frame::push_moves-returns-in-Some : goal.frame::Frame::push_moves-returns-in-Some
+frame::Frame::push_moves-returns-in-Some t c =
+    adds_same c.push_moves.result _ _ _ _ (same_own (view c.args.self.now).rest (view c.in-Some.part.now).rest (store c.args.vars.now) c.in-Some.ensures.rest) c.push_moves.ensures
 
-pub frame::Frame::push_moves-returns-then-goes_on_at_one_part : goal.frame::Frame::push_moves-returns-then-goes_on_at_one_part
-frame::Frame::push_moves-returns-then-goes_on_at_one_part t c =
-    let f = c.args.self.now in
-    let F = λ (r : Rest). own r (store c.args.vars.now) in
-    let o = out-Frame f in
-    pushed_same c.push_part.result _ _ _ _ (ap F (rest_going f c.in-Waiting.is (sym c.goes_on_at_one_part.ensures ∙ c.if-goes_on_at_one_part.true)) ∙ follow_own (slice_get (views o.parts.items) (place_of o.kind o.at)) (behind o.kind o.site (views o.parts.items) o.at) (store c.args.vars.now) ∙ ap (λ (k : ℕ). part_own (slice_get (views o.parts.items) k) (store c.args.vars.now)) (sym c.place.ensures)) c.push_part.ensures
+pub frame::Frame::push_moves-push_moves-requires-in-loop-task :
+    goal.frame::Frame::push_moves-push_moves-requires-in-loop-task
+frame::Frame::push_moves-push_moves-requires-in-loop-task t c =
+    let all = subst (λ (ts : List (Task Frame)). all_sound (task_views ts) ≡ true) (sym c.as_slice-task-items.ensures.value) (par_sound c.args.self.now c.in-Par.par c.requires c.in-Par.is) in
+    (search (rules, the_lemmas), sound_at c.as_slice-task-items.result.now c.loop-task.task-index c.task-item.result all c.loop-task-test.true c.task-item.is)
 
-pub frame::Frame::push_moves-returns-else-goes_on_at_one_part : goal.frame::Frame::push_moves-returns-else-goes_on_at_one_part
-frame::Frame::push_moves-returns-else-goes_on_at_one_part t c =
-    pushed_none _ _ (idle_own (store c.args.vars.now) (rest_idle c.args.self.now c.in-Waiting.is (sym c.goes_on_at_one_part.ensures ∙ c.if-goes_on_at_one_part.false)))
+pub frame::Frame::push_moves-loop-task-preserved :
+    goal.frame::Frame::push_moves-loop-task-preserved
+frame::Frame::push_moves-loop-task-preserved t c =
+    let e = store c.args.vars.now in
+    listed_next (λ (r : Rest). own r e) (λ m r q. beside_own m r q e) c.loop-task.task-index c.as_slice-task-items.result.now c.task-item.result c.loop-task.found c.push_moves-in-loop-task.new.found _ c.loop-task-test.true c.task-item.is c.in_ok-push_moves.ensures c.loop-task.invariant
 
-pub frame::Frame::push_moves-returns-in-Chosen : goal.frame::Frame::push_moves-returns-in-Chosen
-frame::Frame::push_moves-returns-in-Chosen t c = pushed_none _ _ (awaiting_own (store c.args.vars.now) (is_awaiting c.args.self.now c.in-Chosen.is))
+pub frame::Frame::push_moves-returns-in-Par : goal.frame::Frame::push_moves-returns-in-Par
+frame::Frame::push_moves-returns-in-Par t c =
+    let e = store c.args.vars.now in
+    let rest = ap (λ (ts : List (Task Frame)). besides (task_views ts)) c.as_slice-task-items.ensures.value ∙ sym (par_rest c.args.self.now c.in-Par.par c.requires c.in-Par.is) in
+    listed_end (λ (r : Rest). own r e) (λ m r q. beside_own m r q e) c.loop-task.task-index c.as_slice-task-items.result.now c.loop-task.found _ refl c.loop-task-test.false c.loop-task.invariant
+    ∙ ap (λ (r : Rest). c.args.found.now ++ own r e) rest
 
-pub frame::Frame::push_moves-returns-in-Ended : goal.frame::Frame::push_moves-returns-in-Ended
-frame::Frame::push_moves-returns-in-Ended t c =
-    let F = λ (r : Rest). own r (store c.args.vars.now) in
-    pushed_none _ _ (ap F (rest_ended c.args.self.now c.in-Ended.is))
+pub frame_moves::Task+Frame::push_moves-returns-in-Nothing :
+    goal.frame_moves::Task+Frame::push_moves-returns-in-Nothing
+frame_moves::Task+Frame::push_moves-returns-in-Nothing t c =
+    let task = seen_task c.args.self.now in
+    sym (append-nil c.args.found.now) ∙ ap (λ (ms : List Move). c.args.found.now ++ ms) (sym (nothing_own (task_view task).rest (store c.args.vars.now) (task_outcome task c.requires ∙ c.in-Nothing.is)))
 
-pub frame::Frame::push_moves-returns-in-Stuck : goal.frame::Frame::push_moves-returns-in-Stuck
-frame::Frame::push_moves-returns-in-Stuck t c =
-    let F = λ (r : Rest). own r (store c.args.vars.now) in
-    pushed_none _ _ (ap F (rest_stuck c.args.self.now c.in-Stuck.is))
-
-pub frame::Frame::push_moves-returns-then-is_counted : goal.frame::Frame::push_moves-returns-then-is_counted
-frame::Frame::push_moves-returns-then-is_counted t c =
-    let f = c.args.self.now in
-    let k = sym c.is_counted.ensures ∙ c.if-is_counted.true in
-    pushed_same c.push_part-then-is_counted.result _ _ _ _ (turning_own f c.in-Turning.index c.in-Turning.last (store c.args.vars.now) c.in-Turning.is k) c.push_part-then-is_counted.ensures
-
-pub frame::Frame::push_moves-returns-else-is_counted : goal.frame::Frame::push_moves-returns-else-is_counted
-frame::Frame::push_moves-returns-else-is_counted t c =
-    let f = c.args.self.now in
-    let k = sym c.is_counted.ensures ∙ c.if-is_counted.false in
-    pushed_none _ _ (ap (λ (r : Rest). own r (store c.args.vars.now)) (turning_none f c.in-Turning.index c.in-Turning.last c.in-Turning.is k))
-
-pub frame_moves::push_part-returns : goal.frame_moves::push_part-returns
-frame_moves::push_part-returns t c =
-    let o = c.args.parts.now.ok.0 in
-    pushed_none _ _ (ap (λ (v : Option View). part_own v (store c.args.vars.now)) (none_view c.args.parts.now.items c.args.at (omega (arith, c.len.ensures))))
-
-pub frame::Frame::push_moves-returns-then-is_par : goal.frame::Frame::push_moves-returns-then-is_par
-frame::Frame::push_moves-returns-then-is_par t c =
-    let F = λ (r : Rest). own r (store c.args.vars.now) in
-    pushed_same c.push_parts.result _ _ _ _ (ap F (rest_together c.args.self.now c.in-Together.is (sym c.is_par.ensures ∙ c.if-is_par.true))) c.push_parts.ensures
-
-pub frame::Frame::push_moves-returns-else-is_par : goal.frame::Frame::push_moves-returns-else-is_par
-frame::Frame::push_moves-returns-else-is_par t c =
-    let F = λ (r : Rest). own r (store c.args.vars.now) in
-    pushed_none _ _ (ap F (rest_apart c.args.self.now c.in-Together.is (sym c.is_par.ensures ∙ c.if-is_par.false)))
-
-pub frame::Frame::push_moves-returns-in-Resting : goal.frame::Frame::push_moves-returns-in-Resting
-frame::Frame::push_moves-returns-in-Resting t c = pushed_none _ _ (resting_nothing c.args.self.now (store c.args.vars.now) c.in-Resting.is)
+pub frame_moves::Task+Frame::push_moves-returns-in_ok-push-in-Quiet :
+    goal.frame_moves::Task+Frame::push_moves-returns-in_ok-push-in-Quiet
+frame_moves::Task+Frame::push_moves-returns-in_ok-push-in-Quiet t c =
+    let task = seen_task c.args.self.now in
+    c.in_ok-push-in-Quiet.ensures.ok ∙ ap (λ (ms : List Move). c.args.found.now ++ ms) (sym (quiet_own (task_view task).rest c.in-Quiet.site (store c.args.vars.now) (task_outcome task c.requires ∙ c.in-Quiet.is)))

@@ -2,9 +2,6 @@
 use denote.Struct.Props as logic
 use Rattle.std.specs.Prelude.{◌≡◌, ℕ, false}
 use Rattle.std.specs.Coded.{×_prop, Unit-prop}
-use Rattle.vc_occam.specs.declared.begins.Begins.{Begins}
-use Rattle.vc_occam.specs.declared.begins.Begins.TheVariants as begins
-use Rattle.vc_occam.specs.Private.Frames.{BeginsWith}
 use Rattle.vc_occam.specs.InUse.{UseApart, UsesLawfully}
 use Rattle.vc_process.specs.Lawful.{Lawfully, LawfullyAll, LawfullyBranches, LawfullyGuards, SideBySide}
 use Rattle.vc_occam.specs.Remains.{Rest, Done, Stopped, Fresh, Finishing, Getting, Then, Turns, Beside, changes_rest}
@@ -138,8 +135,3 @@ UsesLawfully-prop (Getting s c v) = Unit-prop
 UsesLawfully-prop (Then r ps) = ×_prop (UsesLawfully-prop r) (LawfullyAll-prop ps)
 UsesLawfully-prop (Turns r v b n p) = four_prop (UsesLawfully-prop r) (unchanged-prop (changes_rest r) v) (unchanged-prop (changes p) v) (Lawfully-prop p)
 UsesLawfully-prop (Beside mine r q) = three_prop (UseApart-prop mine r q) (UsesLawfully-prop r) (UsesLawfully-prop q)
-
-pub BeginsWith-prop : (b : Begins) (r : Rest) → IsProp (BeginsWith b r)
-BeginsWith-prop begins.Nothing r = Prim.hlevel logic.props
-BeginsWith-prop (begins.Quiet i) r = Prim.hlevel logic.props
-BeginsWith-prop begins.Other r = Unit-prop

@@ -1,32 +1,88 @@
-use Rattle.std.proofs.Common.{◌≡◌, ◌∙◌, ◌<◌, ap, sym, add-one, arith, length, rules, List}
-use Rattle.vc_occam.specs.declared.frame.Frame.TheViews.{the_lemmas, out-Frame}
-use Rattle.vc_occam.specs.declared.phase.Phase.{Phase}
-use Rattle.vc_occam.specs.Frames.{View, plan_at, rest_at}
-use Rattle.vc_occam.specs.Private.Frames.{views, begun_at, begun_parts, begun_phase, begun_to}
-use Rattle.vc_occam.proofs.Beginning.{start_views}
-use Rattle.vc_occam.proofs.Besides.{begun_more, begun_whole}
-use Rattle.vc_occam.proofs.Frames.{view_roll, view_out, frame_begun, parts_len}
+use Rattle.std.proofs.Common.{◌≡◌, ◌∙◌, ◌<◌, ap, sym, add-one, arith, length, map, rules, ◌≤◌, false, get_or, vec_len}
+use Rattle.std.proofs.lemmas.List.{length-map}
+use Rattle.vc_occam.specs.Frames.{begun, is_sound, outcome_of, plan_of, view_of}
+use Rattle.vc_occam.specs.Private.Frames.{seen_task, shape}
+use Rattle.vc_occam.specs.declared.frame.Frame.TheViews.{the_lemmas, out-Frame, out-roll-Frame}
+use Rattle.vc_occam.specs.declared.frame.Frame.TheOpen.{Frame-F}
+use Rattle.vc_occam.specs.declared.frame.Frame.{Frame}
+use Rattle.vc_occam.specs.Remains.{begin}
+use Rattle.vc_occam.proofs.Views.{view_roll}
+use Rattle.vc_occam.proofs.Beginning.{and_right, begun_more, begun_to, begun_whole, frame_sound, par_begins, par_begins_with, plan_out, seq_begins, seq_begins_with, seq_has_first, task_begun, task_sound, task_views, view_sound}
 use Rattle.vc_occam.proofs.frame.+start.Goals as goal
 
-pub Frame::start-returns : goal.Frame::start-returns
-Frame::start-returns t c =
+pub Construct+Frame::start-start-requires : goal.Construct+Frame::start-start-requires
+Construct+Frame::start-start-requires t c = (search (rules, the_lemmas), ap (λ x. is_sound (shape x)) (sym c.in-Seq.is) ∙ c.requires.sound)
+
+pub Construct+Frame::start-start-requires-in-Par : goal.Construct+Frame::start-start-requires-in-Par
+Construct+Frame::start-start-requires-in-Par t c = (search (rules, the_lemmas), ap (λ x. is_sound (shape x)) (sym c.in-Par.is) ∙ c.requires.sound)
+
+pub Frame::start-start-requires : goal.Frame::start-start-requires
+Frame::start-start-requires t c = (search (rules, the_lemmas), simp the_lemmas (frame_sound c.args.self.now c.requires.sound))
+
+pub Frame::start-returns-clause-begun : goal.Frame::start-returns-clause-begun
+Frame::start-returns-clause-begun t c =
     let o = out-Frame c.args.self.now in
-    let P : List View → Phase → View = λ vs ph. (plan_at o.kind o.site vs, rest_at o.kind ph o.site vs 0) in
-    let h : views c.start_parts-self.new.parts.items ≡ begun_parts o.kind (views o.parts.items) = c.start_parts-self.ensures.parts in
-    let k : c.start_parts-self.result ≡ begun_phase o.kind (views o.parts.items) = c.start_parts-self.ensures.phase in
-    simp (the_lemmas, view_roll, view_out) (ap (λ vs. P vs c.start_parts-self.result) h ∙ ap (P (begun_parts o.kind (views o.parts.items))) k ∙ frame_begun o.kind o.site (views o.parts.items))
+    let b : view_of o.site false (shape c.start.new.self) ≡ begun (plan_of o.site (shape o.construct)) = simp the_lemmas at c.start.ensures.begun in
+    let opened = out-roll-Frame (record { site = o.site; stopped = false; construct = o.construct }) in
+    view_roll _ ∙ ap (λ (x : Frame-F Frame). view_of x.site x.stopped (shape c.start.new.self)) opened ∙ b ∙ ap begun (sym (plan_out c.args.self.now))
 
-pub start_all-loop-place-preserved : goal.start_all-loop-place-preserved
-start_all-loop-place-preserved t c =
-    let fs = c.loop-place.parts.items in
-    let k = c.loop-place.place in
-    let vs = views c.args.parts.now.items in
-    let o = c.loop-place.parts.ok.0 in
-    let l : k < length fs = search rules in
-    (search rules, start_views fs k _ c.start.new.self l c.index_mut.ensures.value c.start.ensures ∙ ap (begun_at k) c.loop-place.invariant.1 ∙ begun_more k vs ∙ ap (λ j. begun_to j vs) (sym (add-one k)))
+pub Frame::start-returns-clause-outcome : goal.Frame::start-returns-clause-outcome
+Frame::start-returns-clause-outcome t c =
+    let o = out-Frame c.args.self.now in
+    let b : c.start.result ≡ outcome_of (begin (plan_of o.site (shape o.construct))) = simp the_lemmas at c.start.ensures.outcome in
+    b ∙ ap (λ p. outcome_of (begin p)) (sym (plan_out c.args.self.now))
 
-pub start_all-returns : goal.start_all-returns
-start_all-returns t c =
-    let vs = views c.args.parts.now.items in
-    let o = parts_len c.args.parts.now in
-    c.loop-place.invariant.1 ∙ begun_whole c.loop-place.place vs (omega (arith, c.len-place-end.ensures, c.loop-place-test.false))
+pub Seq+Frame::start-index_mut-requires : goal.Seq+Frame::start-index_mut-requires
+Seq+Frame::start-index_mut-requires t c =
+    let v = c.args.self.now.parts in
+    let e : vec_len v ≡ length v.items = v.ok.0 in
+    omega (arith, seq_has_first c.args.self.now.at v.items c.requires.sound)
+
+pub Seq+Frame::start-start-requires : goal.Seq+Frame::start-start-requires
+Seq+Frame::start-start-requires t c =
+    let fs = c.args.self.now.parts.items in
+    let l : 0 < length fs = seq_has_first c.args.self.now.at fs c.requires.sound in
+    (search (rules, the_lemmas), view_sound 0 fs c.index_mut.result.now l c.index_mut.ensures.value (and_right _ _ c.requires.sound))
+
+pub Seq+Frame::start-returns-clause-begun : goal.Seq+Frame::start-returns-clause-begun
+Seq+Frame::start-returns-clause-begun t c =
+    let s = c.args.self.now in
+    λ i. seq_begins i s.at s.parts.items c.index_mut.result.now c.start.new.self c.requires.sound c.index_mut.ensures.value c.start.ensures.begun
+
+pub Seq+Frame::start-returns-clause-outcome : goal.Seq+Frame::start-returns-clause-outcome
+Seq+Frame::start-returns-clause-outcome t c =
+    let s = c.args.self.now in
+    λ i. seq_begins_with i s.at s.parts.items c.index_mut.result.now c.start.result c.requires.sound c.index_mut.ensures.value c.start.ensures.outcome
+
+pub Par+Frame::start-start-requires : goal.Par+Frame::start-start-requires
+Par+Frame::start-start-requires t c =
+    let x = c.loop-place in
+    let ts = c.args.self.now.tasks.items in
+    let u = c.index_mut.result.now in
+    let e : vec_len c.args.self.now.tasks ≡ length ts = c.args.self.now.tasks.ok.0 in
+    let l : x.place < length ts = omega (arith, c.len-place-end.ensures, c.loop-place-test.true) in
+    let same : u ≡ get_or ts x.place u = c.index_mut.ensures.value ∙ x.invariant.0.1 x.place u (omega arith) in
+    (search (rules, the_lemmas), task_sound x.place ts u l same (and_right _ _ c.requires.sound))
+
+pub Par+Frame::start-returns-clause-begun : goal.Par+Frame::start-returns-clause-begun
+Par+Frame::start-returns-clause-begun t c =
+    let x = c.loop-place in
+    let ts = c.args.self.now.tasks.items in
+    let e : vec_len c.args.self.now.tasks ≡ length ts = c.args.self.now.tasks.ok.0 in
+    let l : length (task_views ts) ≤ x.place = simp length-map (omega (arith, c.len-place-end.ensures, c.loop-place-test.false)) in
+    λ i. par_begins i (map seen_task ts) (map seen_task x.self.tasks.items) c.requires.sound (x.invariant.1 ∙ begun_whole x.place (task_views ts) l)
+
+pub Par+Frame::start-returns-clause-outcome : goal.Par+Frame::start-returns-clause-outcome
+Par+Frame::start-returns-clause-outcome t c = λ i. sym (par_begins_with i (map seen_task c.args.self.now.tasks.items) c.requires.sound)
+
+pub Par+Frame::start-loop-place-preserved : goal.Par+Frame::start-loop-place-preserved
+Par+Frame::start-loop-place-preserved t c =
+    let x = c.loop-place in
+    let us = x.self.tasks.items in
+    let vs = task_views c.args.self.now.tasks.items in
+    let e : vec_len c.args.self.now.tasks ≡ length c.args.self.now.tasks.items = c.args.self.now.tasks.ok.0 in
+    let l : x.place < length us = omega (arith, c.len-place-end.ensures, c.loop-place-test.true, x.invariant.0.0) in
+    (search rules, begun_more x.place us vs c.index_mut.result.now c.start.new.self l c.index_mut.ensures.value x.invariant.1 c.start.ensures ∙ ap (λ n. begun_to n vs) (sym (add-one x.place)))
+
+pub Task+Frame::start-returns : goal.Task+Frame::start-returns
+Task+Frame::start-returns t c = task_begun _ c.start-self.result _ c.start-self.ensures.begun c.start-self.ensures.outcome

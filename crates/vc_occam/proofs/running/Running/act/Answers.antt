@@ -2,7 +2,7 @@ use Rattle.std.proofs.Common.{◌≡◌, ◌∙◌, ap, refl, sym, subst}
 use Rattle.std.specs.List.{Contains}
 use Rattle.vc_occam.specs.declared.moves.Move.{Move}
 use Rattle.vc_occam.specs.First.{own, first_moves}
-use Rattle.vc_occam.specs.Frames.{view}
+use Rattle.vc_occam.specs.Frames.{remains}
 use Rattle.vc_occam.specs.Private.Moving.{CanBegin, HasMet, at}
 use Rattle.vc_occam.specs.Moving.{site_of, without}
 use Rattle.vc_occam.specs.Runnings.{state, inner_channels}
@@ -14,12 +14,12 @@ use Rattle.vc_occam.proofs.Unjoined.{apart}
 use Rattle.vc_occam.proofs.Waited.{stays}
 use Rattle.vc_occam.proofs.running.Running.act.Goals as goal
 
-pub meet-self-requires-clause-meets : goal.meet-self-requires-clause-meets
+pub meet-requires-clause-meets : goal.meet-requires-clause-meets
 unfolding state inner_channels
-meet-self-requires-clause-meets c =
+meet-requires-clause-meets c =
     let self = c.args.self.now in
     let ins = among self.inside in
-    let r = (view self.frame).1 in
+    let r = remains self.task in
     let e = store self.vars.items in
     let i = c.in-Inner.sender in
     let j = c.in-Inner.receiver in
@@ -31,40 +31,40 @@ meet-self-requires-clause-meets c =
 pub invariant_of-self-clause-own_sites : goal.invariant_of-self-clause-own_sites
 invariant_of-self-clause-own_sites c =
     let self = c.args.self.now in
-    let before = at (view self.frame).1 (store self.vars.items) in
-    let after = at (view c.meet-self.new.frame).1 (store c.meet-self.new.vars.items) in
+    let before = at (remains self.task) (store self.vars.items) in
+    let after = at (remains c.meet.new.task) (store c.meet.new.vars.items) in
     let i = c.in-Inner.sender in
     let d = c.in-Inner.chan in
-    met_sites before after i c.in-Inner.receiver c.in-Inner.guard d c.args.answer self.own_sites (subst (λ (m : Move). HasMet before i d m c.args.answer after) c.partner-taken.ensures c.meet-self.ensures.met)
+    met_sites before after i c.in-Inner.receiver c.in-Inner.guard d c.args.answer self.own_sites (subst (λ (m : Move). HasMet before i d m c.args.answer after) c.partner-taken.ensures c.meet.ensures.met)
 
 pub invariant_of-self-clause-uses_lawfully : goal.invariant_of-self-clause-uses_lawfully
 invariant_of-self-clause-uses_lawfully c =
     let self = c.args.self.now in
-    let before = at (view self.frame).1 (store self.vars.items) in
-    let after = at (view c.meet-self.new.frame).1 (store c.meet-self.new.vars.items) in
+    let before = at (remains self.task) (store self.vars.items) in
+    let after = at (remains c.meet.new.task) (store c.meet.new.vars.items) in
     let i = c.in-Inner.sender in
     let d = c.in-Inner.chan in
-    met_use before after i c.in-Inner.receiver c.in-Inner.guard d c.args.answer self.uses_lawfully (subst (λ (m : Move). HasMet before i d m c.args.answer after) c.partner-taken.ensures c.meet-self.ensures.met)
+    met_use before after i c.in-Inner.receiver c.in-Inner.guard d c.args.answer self.uses_lawfully (subst (λ (m : Move). HasMet before i d m c.args.answer after) c.partner-taken.ensures c.meet.ensures.met)
 
 pub returns-in-Inner-clause-made : goal.returns-in-Inner-clause-made
 unfolding state inner_channels
 returns-in-Inner-clause-made c =
     let self = c.args.self.now in
-    let before = at (view self.frame).1 (store self.vars.items) in
-    let after = at (view c.meet-self.new.frame).1 (store c.meet-self.new.vars.items) in
+    let before = at (remains self.task) (store self.vars.items) in
+    let after = at (remains c.meet.new.task) (store c.meet.new.vars.items) in
     let i = c.in-Inner.sender in
     let j = c.in-Inner.receiver in
     let k = c.in-Inner.guard in
     let d = c.in-Inner.chan in
     let fits = subst (λ (m : Move). FitsMove m (sent_by before m) c.args.answer) c.in-Inner.is c.requires.fits in
     subst (λ (m : Move). Acts before (doing m (sent_by before m) c.args.answer) after) (sym c.in-Inner.is)
-    (acts_met before after i j k d c.args.answer self.uses_lawfully fits (subst (λ (m : Move). HasMet before i d m c.args.answer after) c.partner-taken.ensures c.meet-self.ensures.met))
+    (acts_met before after i j k d c.args.answer self.uses_lawfully fits (subst (λ (m : Move). HasMet before i d m c.args.answer after) c.partner-taken.ensures c.meet.ensures.met))
 
 pub act_alone-requires-clause-listed : goal.act_alone-requires-clause-listed
 unfolding state inner_channels
 act_alone-requires-clause-listed c =
     let self = c.args.self.now in
-    (other_listed (among self.inside) (view self.frame).1 (store self.vars.items) c.args.made.now c.in_default.not-Inner c.requires.listed).1
+    (other_listed (among self.inside) (remains self.task) (store self.vars.items) c.args.made.now c.in_default.not-Inner c.requires.listed).1
 
 pub returns-in_default-clause-waits : goal.returns-in_default-clause-waits
 unfolding state inner_channels
@@ -72,14 +72,14 @@ returns-in_default-clause-waits c = λ waits none.
     let self = c.args.self.now in
     let next = c.act_alone.new.self in
     let i = site_of c.args.made.now in
-    let ms = own (view self.frame).1 (store self.vars.items) in
-    let ns = own (view next.frame).1 (store next.vars.items) in
+    let ms = own (remains self.task) (store self.vars.items) in
+    let ns = own (remains next.task) (store next.vars.items) in
     let kept : ns ≡ without i ms = stays (state self) (state next) c.args.made.now (sent_by (state self) c.args.made.now) c.args.answer self.own_sites c.act_alone.ensures.made waits in
     apart (inner_channels next) (λ d. ap (λ s. s d) c.act_alone.ensures.inside ∙ none d) ns ns ∙ kept ∙ ap (without i) (sym (apart (inner_channels self) none ms ms))
 
-pub meet-self-requires-clause-fits : goal.meet-self-requires-clause-fits
+pub meet-requires-clause-fits : goal.meet-requires-clause-fits
 unfolding state inner_channels
-meet-self-requires-clause-fits c =
+meet-requires-clause-fits c =
     let s = state c.args.self.now in
     subst (λ (m : Move). FitsMove m (sent_by s m) c.args.answer) c.in-Inner.is c.requires.fits
 

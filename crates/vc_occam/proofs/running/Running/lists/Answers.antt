@@ -4,7 +4,7 @@ use Rattle.vc_process.specs.declared.datum.Datum.{Datum}
 use Rattle.vc_occam.specs.declared.moves.Move.{Move}
 use Rattle.vc_occam.specs.First.{own, first_moves}
 use Rattle.vc_occam.specs.Private.Frames.{is_outside}
-use Rattle.vc_occam.specs.Frames.{view}
+use Rattle.vc_occam.specs.Frames.{remains}
 use Rattle.vc_occam.specs.Runnings.{state, inner_channels}
 use Rattle.vc_process.specs.Terms.{store}
 use Rattle.vc_process.specs.Usage.{among}
@@ -16,7 +16,7 @@ unfolding state inner_channels
 returns-in-Inner c =
     let self = c.args.self.now in
     let ins = among self.inside in
-    let r = (view self.frame).1 in
+    let r = remains self.task in
     let e = store self.vars.items in
     let i = c.in-Inner.sender in
     let j = c.in-Inner.receiver in
@@ -31,7 +31,7 @@ unfolding state inner_channels
 returns-then-is_outside c =
     let self = c.args.self.now in
     let ins = among self.inside in
-    let r = (view self.frame).1 in
+    let r = remains self.task in
     let e = store self.vars.items in
     let made = c.args.made.now in
     let o : is_outside ins made ≡ true = ap (λ (xs : List ℕ). is_outside (among xs) made) (sym c.as_slice.ensures) ∙ sym c.is_outside.ensures ∙ c.if-is_outside.true in (
@@ -44,7 +44,7 @@ unfolding state inner_channels
 returns-else-is_outside c =
     let self = c.args.self.now in
     let ins = among self.inside in
-    let r = (view self.frame).1 in
+    let r = remains self.task in
     let e = store self.vars.items in
     let made = c.args.made.now in
     let o : is_outside ins made ≡ false = ap (λ (xs : List ℕ). is_outside (among xs) made) (sym c.as_slice.ensures) ∙ sym c.is_outside.ensures ∙ c.if-is_outside.false in (

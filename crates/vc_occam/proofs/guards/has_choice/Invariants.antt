@@ -1,0 +1,11 @@
+use Rattle.std.proofs.Common.{◌↔◌, drop, map}
+use Rattle.std.specs.List.{Contains}
+use Rattle.vc_occam.specs.First.{choices}
+use Rattle.vc_occam.specs.Frames.{guards_of}
+use Rattle.vc_occam.specs.Private.Frames.{seen_guard}
+use Rattle.vc_process.specs.Terms.{store}
+use Rattle.vc_occam.proofs.guards.has_choice.Given as goal
+
+abbrev pub invariant-loop-place : goal.invariant-loop-place
+invariant-loop-place l =
+    Contains (choices l.site 0 (guards_of (map seen_guard l.guards)) (store l.vars)) l.made ↔ Contains (choices l.site l.place (guards_of (map seen_guard (drop l.place l.guards))) (store l.vars)) l.made

@@ -1,0 +1,215 @@
+//! Where a site stands among frames, and what it is about to do there.
+ghost use Rattle.std.specs.Prelude.{◌≡◌, ℕ, ◌<◌, ◌↔◌, IfOk, IsTrue, MatchOption, length, map, true};
+ghost use Rattle.std.specs.List.{Contains};
+ghost use Rattle.vc_occam.specs.First.{own};
+ghost use Rattle.vc_occam.specs.Frames.{plans_of, rest_of, task_view, view};
+ghost use Rattle.vc_occam.specs.Moving.{site_of as its_site};
+ghost use Rattle.vc_occam.specs.Private.Frames.{HasNothingAt, IsAtItself, StandsAt, assigned_at, output_shape, place_with, seen_task};
+ghost use Rattle.vc_occam.specs.Private.Sites.{InPreorder, PartsInPreorder};
+ghost use Rattle.vc_occam.specs.States.{carried, output_at};
+ghost use Rattle.vc_process.specs.Terms.{store};
+
+use crate::frame::{Construct, Frame, Output, Task};
+use crate::guards::has_choice;
+use crate::moves::{Move, site_of};
+use std::alloc::Global;
+use vc_packets::{Bytes, Memory};
+use vc_process::Datum;
+
+impl Task<Frame> {
+    /// The frame that a site is at, down the parts that go on; None where the part that has it has ended.
+    #[cycle(find)]
+    pub(crate) fn find(&self, site: u16) -> Option<&Frame>
+        requires sound { (task_view (seen_task self.now)).sound ≡ true }
+        requires in_preorder { InPreorder (view self.now.frame).plan }
+        ensures { MatchOption result
+            (HasNothingAt site (task_view (seen_task self.now)).rest)
+            (λ frame. StandsAt site frame.now (task_view (seen_task self.now)).rest) }
+    {
+        if self.begins.has_ended() {
+            return None;
+        }
+        self.frame.find(site)
+    }
+
+    /// Whether the move is one that it can begin with.
+    pub(crate) fn begins_with(&self, made: &Move, vars: &[Datum]) -> bool
+        requires sound { (task_view (seen_task self.now)).sound ≡ true }
+        requires in_preorder { InPreorder (view self.now.frame).plan }
+        ensures { IsTrue result ↔
+            Contains (own (task_view (seen_task self.now)).rest (store vars.now)) made.now }
+    {
+        match self.find(site_of(made)) {
+            Some(frame) => frame.has_move(made, vars),
+            None => false,
+        }
+    }
+
+    /// The message of the output that can begin at a site, if there is one.
+    pub(crate) fn message(
+        &self,
+        alloc: Global,
+        site: u16,
+        vars: &[Datum],
+    ) -> Result<Option<Bytes>, Memory>
+        requires sound { (task_view (seen_task self.now)).sound ≡ true }
+        requires in_preorder { InPreorder (view self.now.frame).plan }
+        ensures { IfOk result (λ sent. sent ≡
+            carried (output_at site (task_view (seen_task self.now)).rest (store vars.now))) }
+    {
+        match self.find(site) {
+            Some(frame) => frame.own_message(alloc, site, vars),
+            None => Ok(None),
+        }
+    }
+
+    /// The bytes that the assignment at a site is about to assign; None where it assigns a number, or none begins there.
+    #[inline(never)]
+    pub(crate) fn assigned(
+        &self,
+        alloc: Global,
+        site: u16,
+        vars: &[Datum],
+    ) -> Result<Option<Datum>, Memory>
+        requires sound { (task_view (seen_task self.now)).sound ≡ true }
+        requires in_preorder { InPreorder (view self.now.frame).plan }
+        ensures { IfOk result (λ value. value ≡
+            assigned_at site (task_view (seen_task self.now)).rest (store vars.now)) }
+    {
+        match self.find(site) {
+            Some(frame) => frame.own_assigned(alloc, site, vars),
+            None => Ok(None),
+        }
+    }
+}
+
+impl Frame {
+    /// The frame that a site is at: this one, or one within it, down the parts that go on; None where the part that has it has ended.
+    #[cycle(find)]
+    fn find(&self, site: u16) -> Option<&Frame>
+        requires sound { (view self.now).sound ≡ true }
+        requires in_preorder { InPreorder (view self.now).plan }
+        ensures { MatchOption result (HasNothingAt site (view self.now).rest)
+            (λ frame. StandsAt site frame.now (view self.now).rest) }
+    {
+        if let Some(part) = self.part() {
+            return part.find(site);
+        }
+        match &self.construct {
+            Construct::Par(par) => par.tasks[part_with(par.tasks.as_slice(), site)].find(site),
+            _ => Some(self),
+        }
+    }
+
+    /// The message of the output that can begin at its own site, if that is this site.
+    fn own_message(&self, alloc: Global, site: u16, vars: &[Datum]) -> Result<Option<Bytes>, Memory>
+        requires alone { IsAtItself self.now }
+        ensures { IfOk result (λ sent. sent ≡
+            carried (output_at site (view self.now).rest (store vars.now))) }
+    {
+        if self.site != site || self.stopped {
+            return Ok(None);
+        }
+        match &self.construct {
+            Construct::Send(output) => output.message(alloc, vars),
+            _ => Ok(None),
+        }
+    }
+
+    /// The bytes that the assignment at its own site is about to assign, if that is this site.
+    fn own_assigned(
+        &self,
+        alloc: Global,
+        site: u16,
+        vars: &[Datum],
+    ) -> Result<Option<Datum>, Memory>
+        requires alone { IsAtItself self.now }
+        ensures { IfOk result (λ value. value ≡
+            assigned_at site (view self.now).rest (store vars.now)) }
+    {
+        if self.site != site || self.stopped {
+            return Ok(None);
+        }
+        match &self.construct {
+            Construct::Set(set) => set.value.assigned_bytes(alloc, vars),
+            _ => Ok(None),
+        }
+    }
+
+    /// Whether the move is one of its own site.
+    fn has_move(&self, made: &Move, vars: &[Datum]) -> bool
+        requires alone { IsAtItself self.now }
+        requires sound { (view self.now).sound ≡ true }
+        ensures { IsTrue result ↔ Contains (own (view self.now).rest (store vars.now)) made.now }
+    {
+        match self.open_guards() {
+            Some(guards) => has_choice(guards, made, self.site, vars),
+            None => self.own_move(vars) == Some(*made),
+        }
+    }
+}
+
+impl Output {
+    /// The message with which it can begin, if it can.
+    fn message(&self, alloc: Global, vars: &[Datum]) -> Result<Option<Bytes>, Memory>
+        ensures { IfOk result (λ sent. (site : ℕ) → sent ≡
+            carried (output_at site (rest_of site (output_shape self.now)) (store vars.now))) }
+    {
+        if self.begun {
+            return Ok(None);
+        }
+        match self.value.datum(alloc, vars)? {
+            Some(datum) => Ok(Some(datum.into_message(alloc)?)),
+            None => Ok(None),
+        }
+    }
+}
+
+/// The place of the part that has a site: the last that begins at this site or before it. It is looked for first where it stands
+/// if all parts are as long as the first one, and else by halving.
+pub(crate) fn part_with(tasks: &[Task<Frame>], site: u16) -> usize
+    requires { PartsInPreorder (plans_of (map task_view (map seen_task tasks.now))) }
+    ensures { result ≡ place_with site (map task_view (map seen_task tasks.now)) }
+{
+    let guess = place_by_length(tasks, site);
+    if begins_last(guess, tasks, site) {
+        return guess;
+    }
+    place_by_halving(tasks, site)
+}
+
+/// The place of the part that has a site, if all parts are as long as the first one.
+fn place_by_length(tasks: &[Task<Frame>], site: u16) -> usize {
+    if tasks.len() < 2 {
+        return 0;
+    }
+    if tasks.len() == 2 {
+        return usize::from(tasks[1].frame.site <= site);
+    }
+    let first = tasks[0].frame.site;
+    let length = tasks[1].frame.site.saturating_sub(first);
+    match site.saturating_sub(first).checked_div(length) {
+        Some(place) => usize::from(place),
+        None => 0,
+    }
+}
+
+/// Whether the part at a place is the last that begins at a site or before it.
+fn begins_last(at: usize, tasks: &[Task<Frame>], site: u16) -> bool
+    requires { PartsInPreorder (plans_of (map task_view (map seen_task tasks.now))) }
+    ensures { IsTrue result → at ≡ place_with site (map task_view (map seen_task tasks.now)) }
+{
+    if at >= tasks.len() || tasks[at].frame.site > site {
+        return false;
+    }
+    tasks.len() - at == 1 || tasks[at + 1].frame.site > site
+}
+
+/// The place of the part that has a site, by halving.
+fn place_by_halving(tasks: &[Task<Frame>], site: u16) -> usize
+    requires { PartsInPreorder (plans_of (map task_view (map seen_task tasks.now))) }
+    ensures { result ≡ place_with site (map task_view (map seen_task tasks.now)) }
+{
+    let later = tasks.partition_point(|task| task.frame.site <= site);
+    later.saturating_sub(1)
+}
