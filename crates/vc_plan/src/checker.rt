@@ -1,12 +1,12 @@
 //! The checker: a plan is accepted, or refused for the first thing that is wrong.
-ghost use Rattle.std.specs.Prelude.{◌≡◌, ◌==◌, ◌+◌, ◌<◌, ◌≤◌, IfErr, IfNone, IfOk, IfSome, MatchOption, MatchResult, None, Some, length, true};
-ghost use Rattle.std.specs.List.{list_all, list_any};
+ghost use Rattle.std.specs.Prelude.{◌≡◌, ◌==◌, ◌<◌, IfErr, IfNone, IfOk, IfSome, MatchOption, MatchResult, None, Some, length, true};
+ghost use Rattle.std.specs.List.{list_any};
 ghost use Rattle.vc_plan.specs.Accepted.{IsAccepted, AreApart, HasLawfulTables, IsLawfulSwitch, uses_of};
 ghost use Rattle.vc_plan.specs.Check.{IsCause, IsFirstSameNode, IsFirstTable, IsSwitchFault, PassesPaths, PassesTables, block_twice as twice_block, channel_fault as fault_of_channels, has_end as end_there, kind_fits as fits_kind, misused_from, end_is_at as is_end_at, port_missing, port_twice, same_block, same_bool as is_same_bool, same_way as is_same_way, unwired_port, use_ok as is_use_ok, way_twice, wrong_use};
 ghost use Rattle.vc_plan.specs.Private.Check.{IsRefusedPath, PassesUse};
 ghost use Rattle.vc_plan.specs.declared.check_refused.CheckRefused.TheVariants as refused;
 ghost use Rattle.vc_plan.specs.Limits.{limit_broken};
-ghost use Rattle.vc_plan.specs.Wires.{across, same_port};
+ghost use Rattle.vc_plan.specs.Wires.{same_port};
 
 use crate::accepted::Accepted;
 use crate::channel::{Channel, Home};

@@ -1,6 +1,6 @@
 //! One passage through a switch.
 
-ghost use Rattle.std.specs.Prelude.{◌≡◌, ℕ, ◌+◌, ◌≤◌, List, ◌++◌, [], ◌∷◌, IfOk, IsTrue, ◌↔◌};
+ghost use Rattle.std.specs.Prelude.{◌≡◌, [], IfOk};
 ghost use Rattle.vc_plan.specs.Hops.{passage, look_up, deletes, random_at, after_link};
 ghost use Rattle.vc_plan.specs.Wires.{across, same_spot, same_port};
 

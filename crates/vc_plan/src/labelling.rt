@@ -1,10 +1,10 @@
 //! Whether the labels take every packet of every virtual link to its end.
 
-ghost use Rattle.std.specs.Prelude.{◌≡◌, ℕ, ◌<◌, List, IfOk, IfSome, IfNone, IsSome, Some, true, false, slice_get, length};
+ghost use Rattle.std.specs.Prelude.{◌≡◌, ◌<◌, IfOk, IfSome, IfNone, Some, true, false, length};
 ghost use Rattle.vc_plan.specs.declared.vlink.Vlink.{Vlink};
 ghost use Rattle.vc_plan.specs.Delivery.{DeliversTo, IsLabelled, IsLabelledLink};
 ghost use Rattle.vc_plan.specs.Hops.{LimitsFit};
-ghost use Rattle.vc_plan.specs.Wires.{IsWired, across, sending_port};
+ghost use Rattle.vc_plan.specs.Wires.{IsWired};
 ghost use Rattle.vc_plan.specs.Labelling.{IsFaultOfWay, IsFaultOfLink, IsFirstFault};
 
 use crate::fault::Fault;

@@ -1,5 +1,4 @@
 //! Readers of channels.
-ghost use Rattle.std.specs.Prelude.{◌≡◌};
 ghost use Rattle.serde_json.specs.View.{view};
 ghost use Rattle.vc_reader.specs.Private.Reading.{Gives};
 ghost use Rattle.vc_reader.specs.Reading.{read_object};

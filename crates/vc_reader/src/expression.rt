@@ -1,5 +1,4 @@
 //! Readers of expressions of whole numbers.
-ghost use Rattle.std.specs.Prelude.{◌≡◌};
 ghost use Rattle.serde_json.specs.View.{view};
 ghost use Rattle.vc_reader.specs.Private.Reading.{Gives};
 ghost use Rattle.vc_reader.specs.Reading.{cell as cell_of};

@@ -1,5 +1,5 @@
 //! Readers of names, and of texts that refer to them.
-ghost use Rattle.std.specs.Prelude.{◌≡◌, option_map};
+ghost use Rattle.std.specs.Prelude.{◌≡◌};
 ghost use Rattle.std.specs.List.{list_all};
 ghost use Rattle.serde_json.specs.View.{view};
 ghost use Rattle.vc_reader.specs.Private.Reading.{Gives};

@@ -1,8 +1,4 @@
 //! Readers of nodes, but for their processes.
-ghost use Rattle.std.specs.Prelude.{◌≡◌};
-ghost use Rattle.serde_json.specs.View.{view};
-ghost use Rattle.vc_reader.specs.Private.Reading.{Gives};
-ghost use Rattle.vc_reader.specs.Reading.{read_list};
 ghost use Rattle.vc_reader.specs.Network.{read_var, read_head, read_node};
 
 use crate::fault::Stop;

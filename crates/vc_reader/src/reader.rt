@@ -5,7 +5,7 @@ ghost use Rattle.serde_json.specs.View.{view, items_view, members_view};
 ghost use Rattle.vc_reader.specs.declared.fault.Fault.{Fault as FaultData};
 ghost use Rattle.vc_reader.specs.declared.path.Step.{Step as StepData};
 ghost use Rattle.vc_reader.specs.Private.Reading.{Gives, joins, beside as put_beside};
-ghost use Rattle.vc_reader.specs.Reading.{wrong as wrong_here, under as under_step, field as field_of, cell as cell_of, read_text, read_number, read_array, read_list, list_field as list_field_of, count as count_of, items_in as items_in_list, row as row_of, is_word as is_word_of, has_only as has_only_words, read_object, has_field as has_field_of, only as only_field};
+ghost use Rattle.vc_reader.specs.Reading.{under as under_step, field as field_of, cell as cell_of, read_text, read_number, read_array, read_list, list_field as list_field_of, count as count_of, items_in as items_in_list, row as row_of, is_word as is_word_of, has_only as has_only_words, read_object, has_field as has_field_of, only as only_field};
 
 use crate::fault::{Fault, Stop, Why};
 use crate::path::{Path, Step};

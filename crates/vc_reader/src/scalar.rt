@@ -1,7 +1,4 @@
 //! Readers of single words and numbers.
-ghost use Rattle.std.specs.Prelude.{◌≡◌};
-ghost use Rattle.serde_json.specs.View.{view};
-ghost use Rattle.vc_reader.specs.Private.Reading.{Gives};
 ghost use Rattle.vc_reader.specs.Reading.{read_list, read_number};
 ghost use Rattle.vc_reader.specs.Network.{read_kind, read_way, read_link, read_header, read_limit, portal_word};
 

@@ -1,7 +1,4 @@
 //! Readers of virtual links.
-ghost use Rattle.std.specs.Prelude.{◌≡◌};
-ghost use Rattle.serde_json.specs.View.{view};
-ghost use Rattle.vc_reader.specs.Private.Reading.{Gives};
 ghost use Rattle.vc_reader.specs.Network.{read_end, read_vlink, vlink_number};
 
 use crate::fault::Stop;

@@ -1,6 +1,5 @@
 //! Readers of wires.
 ghost use Rattle.std.specs.Prelude.{◌≡◌};
-ghost use Rattle.serde_json.specs.View.{view};
 ghost use Rattle.vc_reader.specs.Private.Reading.{Gives};
 ghost use Rattle.vc_reader.specs.Names.{known_or_not};
 ghost use Rattle.vc_reader.specs.Network.{place_named as place_of_name, read_place, read_wire};
