@@ -1,9 +1,9 @@
 //! What a frame's own site does, where none of its parts goes on.
-ghost use Rattle.std.specs.Prelude.{◌≡◌, ◌<◌, ℕ, List, false, length, map, true};
+ghost use Rattle.std.specs.Prelude.{◌≡◌, ◌<◌, ℕ, List, length, map, true};
 ghost use Rattle.vc_occam.specs.declared.frame.Frame.TheViews.{out-Frame};
 ghost use Rattle.vc_occam.specs.declared.site_step.SiteStep.{SiteStep};
-ghost use Rattle.vc_occam.specs.Frames.{is_at_itself, is_sound, view, view_of};
-ghost use Rattle.vc_occam.specs.Private.Frames.{Acted, CanGo, Went, alt_shape, assigned_shape, branching_shape, chosen_from, count_turn, counting_shape, input_shape, looping_shape, output_shape, shape};
+ghost use Rattle.vc_occam.specs.Frames.{is_at_itself, is_sound, view};
+ghost use Rattle.vc_occam.specs.Private.Frames.{Acted, CanGo, Went, alt_shape, assigned_shape, branching_shape, chosen_from, count_turn, counting_shape, input_shape, looping_shape, output_shape, shape, unstopped};
 ghost use Rattle.vc_process.specs.declared.datum.Datum.{Datum};
 ghost use Rattle.vc_process.specs.Terms.{as_test, exp, store};
 ghost use Rattle.vc_process.specs.Values.{value_of};
@@ -64,10 +64,10 @@ impl Frame {
 impl Assignment {
     /// Assigns a number that it works out, or the bytes that come along; None at a fault.
     fn act(&self, step: &mut SiteStep, vars: &mut Vec<Datum>) -> Option<Outcome>
-        requires can { (i : ℕ) × CanGo step.old (view_of i false (assigned_shape self.now))
+        requires can { (i : ℕ) × CanGo step.old (unstopped i (assigned_shape self.now))
             vars.old.items }
         ensures acted { (i : ℕ) →
-            CanGo step.old (view_of i false (assigned_shape self.now)) vars.old.items →
+            CanGo step.old (unstopped i (assigned_shape self.now)) vars.old.items →
             Acted i step.old (assigned_shape self.now) (store vars.old.items) result
             (assigned_shape self.now) (store vars.new.items) }
         ensures length { length vars.new.items ≡ length vars.old.items }
@@ -82,7 +82,7 @@ impl Output {
     /// Begins, or is finished; None at a fault of its value.
     fn act(&mut self, step: &SiteStep) -> Option<Outcome>
         ensures acted { (i : ℕ) (vars : List Datum) →
-            CanGo step.now (view_of i false (output_shape self.old)) vars →
+            CanGo step.now (unstopped i (output_shape self.old)) vars →
             Acted i step.now (output_shape self.old) (store vars) result (output_shape self.new)
             (store vars) }
     {
@@ -100,12 +100,12 @@ impl Output {
 impl Input {
     /// Takes its message, or waits for it.
     fn act(&mut self, step: &mut SiteStep, vars: &mut Vec<Datum>) -> Outcome
-        requires can { (i : ℕ) × CanGo step.old (view_of i false (input_shape self.old))
+        requires can { (i : ℕ) × CanGo step.old (unstopped i (input_shape self.old))
             vars.old.items }
         ensures acted { (i : ℕ) →
-            CanGo step.old (view_of i false (input_shape self.old)) vars.old.items →
-            Went step.old (view_of i false (input_shape self.old)) (store vars.old.items) result
-            (view_of i false (input_shape self.new)) (store vars.new.items) }
+            CanGo step.old (unstopped i (input_shape self.old)) vars.old.items →
+            Went step.old (unstopped i (input_shape self.old)) (store vars.old.items) result
+            (unstopped i (input_shape self.new)) (store vars.new.items) }
         ensures length { length vars.new.items ≡ length vars.old.items }
     {
         match step.take_message() {
@@ -127,7 +127,7 @@ impl If<Frame> {
         requires itself { is_at_itself (branching_shape self.old) ≡ true }
         requires sound { is_sound (branching_shape self.old) ≡ true }
         ensures acted { (i : ℕ) (step : SiteStep) →
-            CanGo step (view_of i false (branching_shape self.old)) vars.now →
+            CanGo step (unstopped i (branching_shape self.old)) vars.now →
             Acted i step (branching_shape self.old) (store vars.now) result
             (branching_shape self.new) (store vars.now) }
     {
@@ -143,7 +143,7 @@ impl While<Frame> {
         requires itself { is_at_itself (looping_shape self.old) ≡ true }
         requires sound { is_sound (looping_shape self.old) ≡ true }
         ensures acted { (i : ℕ) (step : SiteStep) →
-            CanGo step (view_of i false (looping_shape self.old)) vars.now →
+            CanGo step (unstopped i (looping_shape self.old)) vars.now →
             Acted i step (looping_shape self.old) (store vars.now) result
             (looping_shape self.new) (store vars.now) }
     {
@@ -162,7 +162,7 @@ impl Count<Frame> {
         requires sound { is_sound (counting_shape self.old) ≡ true }
         requires variable { self.old.var < length vars.old.items }
         ensures acted { (i : ℕ) (step : SiteStep) →
-            CanGo step (view_of i false (counting_shape self.old)) vars.old.items →
+            CanGo step (unstopped i (counting_shape self.old)) vars.old.items →
             Acted i step (counting_shape self.old) (store vars.old.items) result
             (counting_shape self.new) (store vars.new.items) }
         ensures length { length vars.new.items ≡ length vars.old.items }
@@ -198,12 +198,12 @@ impl Alt<Frame> {
     /// Takes a guard, or the message of the guard that it took: with its message the guard's body begins, and else the guard waits.
     fn act(&mut self, step: &mut SiteStep, vars: &mut Vec<Datum>) -> Outcome
         requires itself { is_at_itself (alt_shape self.old) ≡ true }
-        requires can { (i : ℕ) × CanGo step.old (view_of i false (alt_shape self.old))
+        requires can { (i : ℕ) × CanGo step.old (unstopped i (alt_shape self.old))
             vars.old.items }
         ensures acted { (i : ℕ) →
-            CanGo step.old (view_of i false (alt_shape self.old)) vars.old.items →
-            Went step.old (view_of i false (alt_shape self.old)) (store vars.old.items) result
-            (view_of i false (alt_shape self.new)) (store vars.new.items) }
+            CanGo step.old (unstopped i (alt_shape self.old)) vars.old.items →
+            Went step.old (unstopped i (alt_shape self.old)) (store vars.old.items) result
+            (unstopped i (alt_shape self.new)) (store vars.new.items) }
         ensures length { length vars.new.items ≡ length vars.old.items }
     {
         let at = match self.choice {

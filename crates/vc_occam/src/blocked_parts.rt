@@ -2,8 +2,8 @@
 ghost use Rattle.std.specs.Prelude.{◌≡◌, false, map, true};
 ghost use Rattle.vc_occam.specs.Private.Blocking.{Adds, listed_one};
 ghost use Rattle.vc_occam.specs.Blocking.{blocked as blocked_at, blocked_fresh, open_guards};
-ghost use Rattle.vc_occam.specs.Frames.{guards_of, rest_of, task_view, view};
-ghost use Rattle.vc_occam.specs.Private.Frames.{IsAtItself, is_open_alt, output_shape, seen_guard, seen_task};
+ghost use Rattle.vc_occam.specs.Frames.{guards_of, rest_of, view};
+ghost use Rattle.vc_occam.specs.Private.Frames.{IsAtItself, is_open_alt, output_shape, seen_guard, shown};
 ghost use Rattle.vc_process.specs.Syntax.{ALT};
 ghost use Rattle.vc_process.specs.Terms.{store};
 
@@ -22,9 +22,9 @@ impl Task<Frame> {
         found: &mut Items<Blocked>,
         vars: &[Datum],
     ) -> Result<(), Memory>
-        requires { (task_view (seen_task self.now)).sound ≡ true }
+        requires { (shown self.now).sound ≡ true }
         ensures { Adds found.old found.new
-            (blocked_at (task_view (seen_task self.now)).rest (store vars.now)) result }
+            (blocked_at (shown self.now).rest (store vars.now)) result }
     {
         if self.begins.has_ended() {
             return Ok(());

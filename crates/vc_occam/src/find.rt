@@ -1,10 +1,9 @@
 //! Where a site stands among frames, and what it is about to do there.
-ghost use Rattle.std.specs.Prelude.{◌≡◌, ℕ, ◌<◌, ◌↔◌, IfOk, IsTrue, MatchOption, length, map, true};
+ghost use Rattle.std.specs.Prelude.{◌≡◌, ℕ, ◌<◌, ◌↔◌, IfOk, IsTrue, MatchOption, length, true};
 ghost use Rattle.std.specs.List.{Contains};
 ghost use Rattle.vc_occam.specs.First.{own};
-ghost use Rattle.vc_occam.specs.Frames.{plans_of, rest_of, task_view, view};
-ghost use Rattle.vc_occam.specs.Moving.{site_of as its_site};
-ghost use Rattle.vc_occam.specs.Private.Frames.{HasNothingAt, IsAtItself, StandsAt, assigned_at, output_shape, place_with, seen_task};
+ghost use Rattle.vc_occam.specs.Frames.{plans_of, rest_of, view};
+ghost use Rattle.vc_occam.specs.Private.Frames.{HasNothingAt, IsAtItself, StandsAt, assigned_at, output_shape, place_with, shown, task_views, whole};
 ghost use Rattle.vc_occam.specs.Private.Sites.{InPreorder, PartsInPreorder};
 ghost use Rattle.vc_occam.specs.States.{carried, output_at};
 ghost use Rattle.vc_process.specs.Terms.{store};
@@ -20,11 +19,11 @@ impl Task<Frame> {
     /// The frame that a site is at, down the parts that go on; None where the part that has it has ended.
     #[cycle(find)]
     pub(crate) fn find(&self, site: u16) -> Option<&Frame>
-        requires sound { (task_view (seen_task self.now)).sound ≡ true }
-        requires in_preorder { InPreorder (view self.now.frame).plan }
+        requires sound { (shown self.now).sound ≡ true }
+        requires in_preorder { InPreorder (whole self.now) }
         ensures { MatchOption result
-            (HasNothingAt site (task_view (seen_task self.now)).rest)
-            (λ frame. StandsAt site frame.now (task_view (seen_task self.now)).rest) }
+            (HasNothingAt site (shown self.now).rest)
+            (λ frame. StandsAt site frame.now (shown self.now).rest) }
     {
         if self.begins.has_ended() {
             return None;
@@ -34,10 +33,10 @@ impl Task<Frame> {
 
     /// Whether the move is one that it can begin with.
     pub(crate) fn begins_with(&self, made: &Move, vars: &[Datum]) -> bool
-        requires sound { (task_view (seen_task self.now)).sound ≡ true }
-        requires in_preorder { InPreorder (view self.now.frame).plan }
+        requires sound { (shown self.now).sound ≡ true }
+        requires in_preorder { InPreorder (whole self.now) }
         ensures { IsTrue result ↔
-            Contains (own (task_view (seen_task self.now)).rest (store vars.now)) made.now }
+            Contains (own (shown self.now).rest (store vars.now)) made.now }
     {
         match self.find(site_of(made)) {
             Some(frame) => frame.has_move(made, vars),
@@ -52,10 +51,10 @@ impl Task<Frame> {
         site: u16,
         vars: &[Datum],
     ) -> Result<Option<Bytes>, Memory>
-        requires sound { (task_view (seen_task self.now)).sound ≡ true }
-        requires in_preorder { InPreorder (view self.now.frame).plan }
+        requires sound { (shown self.now).sound ≡ true }
+        requires in_preorder { InPreorder (whole self.now) }
         ensures { IfOk result (λ sent. sent ≡
-            carried (output_at site (task_view (seen_task self.now)).rest (store vars.now))) }
+            carried (output_at site (shown self.now).rest (store vars.now))) }
     {
         match self.find(site) {
             Some(frame) => frame.own_message(alloc, site, vars),
@@ -71,10 +70,10 @@ impl Task<Frame> {
         site: u16,
         vars: &[Datum],
     ) -> Result<Option<Datum>, Memory>
-        requires sound { (task_view (seen_task self.now)).sound ≡ true }
-        requires in_preorder { InPreorder (view self.now.frame).plan }
+        requires sound { (shown self.now).sound ≡ true }
+        requires in_preorder { InPreorder (whole self.now) }
         ensures { IfOk result (λ value. value ≡
-            assigned_at site (task_view (seen_task self.now)).rest (store vars.now)) }
+            assigned_at site (shown self.now).rest (store vars.now)) }
     {
         match self.find(site) {
             Some(frame) => frame.own_assigned(alloc, site, vars),
@@ -168,8 +167,8 @@ impl Output {
 /// The place of the part that has a site: the last that begins at this site or before it. It is looked for first where it stands
 /// if all parts are as long as the first one, and else by halving.
 pub(crate) fn part_with(tasks: &[Task<Frame>], site: u16) -> usize
-    requires { PartsInPreorder (plans_of (map task_view (map seen_task tasks.now))) }
-    ensures { result ≡ place_with site (map task_view (map seen_task tasks.now)) }
+    requires { PartsInPreorder (plans_of (task_views tasks.now)) }
+    ensures { result ≡ place_with site (task_views tasks.now) }
 {
     let guess = place_by_length(tasks, site);
     if begins_last(guess, tasks, site) {
@@ -196,8 +195,8 @@ fn place_by_length(tasks: &[Task<Frame>], site: u16) -> usize {
 
 /// Whether the part at a place is the last that begins at a site or before it.
 fn begins_last(at: usize, tasks: &[Task<Frame>], site: u16) -> bool
-    requires { PartsInPreorder (plans_of (map task_view (map seen_task tasks.now))) }
-    ensures { IsTrue result → at ≡ place_with site (map task_view (map seen_task tasks.now)) }
+    requires { PartsInPreorder (plans_of (task_views tasks.now)) }
+    ensures { IsTrue result → at ≡ place_with site (task_views tasks.now) }
 {
     if at >= tasks.len() || tasks[at].frame.site > site {
         return false;
@@ -207,8 +206,8 @@ fn begins_last(at: usize, tasks: &[Task<Frame>], site: u16) -> bool
 
 /// The place of the part that has a site, by halving.
 fn place_by_halving(tasks: &[Task<Frame>], site: u16) -> usize
-    requires { PartsInPreorder (plans_of (map task_view (map seen_task tasks.now))) }
-    ensures { result ≡ place_with site (map task_view (map seen_task tasks.now)) }
+    requires { PartsInPreorder (plans_of (task_views tasks.now)) }
+    ensures { result ≡ place_with site (task_views tasks.now) }
 {
     let later = tasks.partition_point(|task| task.frame.site <= site);
     later.saturating_sub(1)

@@ -1,7 +1,7 @@
 //! Processes that run: a tree of frames.
 ghost use Rattle.std.specs.Prelude.{◌≡◌, ℕ, MatchOption, false, true};
-ghost use Rattle.vc_occam.specs.Frames.{begun, fresh_outcome, is_sound, outcome_of, plan_of, task_view, view, view_of};
-ghost use Rattle.vc_occam.specs.Private.Frames.{GoesAlone, IsPart, assigned_shape, par_shape, seen_task, seq_shape, shape};
+ghost use Rattle.vc_occam.specs.Frames.{begun, fresh_outcome, is_sound, outcome_of, plan_of, view};
+ghost use Rattle.vc_occam.specs.Private.Frames.{GoesAlone, IsPart, assigned_shape, par_shape, seq_shape, shape, shown, unstopped, whole};
 ghost use Rattle.vc_occam.specs.Remains.{begin};
 
 use crate::outcome::Outcome;
@@ -198,7 +198,7 @@ impl Construct<Frame> {
     #[cycle(start)]
     fn start(&mut self, site: u16) -> Outcome
         requires sound { is_sound (shape self.old) ≡ true }
-        ensures begun { view_of site false (shape self.new) ≡ begun (plan_of site (shape self.old)) }
+        ensures begun { unstopped site (shape self.new) ≡ begun (plan_of site (shape self.old)) }
         ensures outcome { result ≡ outcome_of (begin (plan_of site (shape self.old))) }
     {
         match self {
@@ -254,7 +254,7 @@ impl Seq<Frame> {
     fn start(&mut self) -> Outcome
         requires sound { is_sound (seq_shape self.old) ≡ true }
         ensures begun { (i : ℕ) →
-            view_of i false (seq_shape self.new) ≡ begun (plan_of i (seq_shape self.old)) }
+            unstopped i (seq_shape self.new) ≡ begun (plan_of i (seq_shape self.old)) }
         ensures outcome { (i : ℕ) → result ≡ outcome_of (begin (plan_of i (seq_shape self.old))) }
     {
         self.at = 0;
@@ -268,7 +268,7 @@ impl Par<Frame> {
     fn start(&mut self) -> Outcome
         requires sound { is_sound (par_shape self.old) ≡ true }
         ensures begun { (i : ℕ) →
-            view_of i false (par_shape self.new) ≡ begun (plan_of i (par_shape self.old)) }
+            unstopped i (par_shape self.new) ≡ begun (plan_of i (par_shape self.old)) }
         ensures outcome { (i : ℕ) → result ≡ outcome_of (begin (plan_of i (par_shape self.old))) }
     {
         for place in 0..self.tasks.len() {
@@ -283,7 +283,7 @@ impl Task<Frame> {
     #[cycle(start)]
     pub(crate) fn start(&mut self)
         requires sound { (view self.old.frame).sound ≡ true }
-        ensures { task_view (seen_task self.new) ≡ begun (view self.old.frame).plan }
+        ensures { shown self.new ≡ begun (whole self.old) }
     {
         self.begins = self.frame.start();
     }

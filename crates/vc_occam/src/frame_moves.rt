@@ -1,10 +1,10 @@
 //! What frames may begin with, and what they wait for.
-ghost use Rattle.std.specs.Prelude.{◌≡◌, ℕ, ◌++◌, ◌∷◌, [], IfSome, OnOk, false, map, true};
+ghost use Rattle.std.specs.Prelude.{◌≡◌, ℕ, ◌++◌, ◌∷◌, [], IfSome, OnOk, false, true};
 ghost use Rattle.vc_occam.specs.declared.frame.Frame.TheViews.{out-Frame};
 ghost use Rattle.vc_occam.specs.First.{joined, own};
-ghost use Rattle.vc_occam.specs.Frames.{all_sound, besides, rest_of, task_view, view};
+ghost use Rattle.vc_occam.specs.Frames.{all_sound, besides, rest_of, view};
 ghost use Rattle.vc_occam.specs.Moving.{from_site};
-ghost use Rattle.vc_occam.specs.Private.Frames.{IsAtItself, first_waits, input_shape, is_open_alt, listed, output_shape, seen_task, waits_of};
+ghost use Rattle.vc_occam.specs.Private.Frames.{IsAtItself, first_waits, input_shape, is_open_alt, listed, output_shape, shown, task_views, waits_of, whole};
 ghost use Rattle.vc_occam.specs.Private.Sites.{InPreorder};
 ghost use Rattle.vc_occam.specs.States.{waiting};
 ghost use Rattle.vc_process.specs.Terms.{store};
@@ -27,9 +27,9 @@ impl Task<Frame> {
     #[cycle(moves)]
     #[inline(always)]
     pub(crate) fn push_moves(&self, found: &mut Items<Move>, vars: &[Datum]) -> Result<(), Memory>
-        requires { (task_view (seen_task self.now)).sound ≡ true }
+        requires { (shown self.now).sound ≡ true }
         ensures { OnOk result (found.new ≡
-            found.old ++ own (task_view (seen_task self.now)).rest (store vars.now)) }
+            found.old ++ own (shown self.now).rest (store vars.now)) }
     {
         match self.begins {
             Outcome::Ended => Ok(()),
@@ -45,10 +45,10 @@ impl Task<Frame> {
     /// The meeting that it comes to alone, where it is at a PAR of two parts of which one outputs what the other inputs; None promises
     /// nothing.
     pub(crate) fn only_meeting(&self, inside: &[u16], vars: &[Datum]) -> Option<Move>
-        requires { (task_view (seen_task self.now)).sound ≡ true }
+        requires { (shown self.now).sound ≡ true }
         ensures { IfSome result (λ met. joined (among inside.now)
-            (own (task_view (seen_task self.now)).rest (store vars.now))
-            (own (task_view (seen_task self.now)).rest (store vars.now)) ≡
+            (own (shown self.now).rest (store vars.now))
+            (own (shown self.now).rest (store vars.now)) ≡
             met ∷ []) }
     {
         match self.begins {
@@ -60,9 +60,9 @@ impl Task<Frame> {
     /// Its only move, where it begins with one that is no step without a communication; None promises nothing.
     #[inline(always)]
     fn only_move(&self, vars: &[Datum]) -> Option<Move>
-        requires { (task_view (seen_task self.now)).sound ≡ true }
+        requires { (shown self.now).sound ≡ true }
         ensures { IfSome result (λ made.
-            own (task_view (seen_task self.now)).rest (store vars.now) ≡ made ∷ []) }
+            own (shown self.now).rest (store vars.now) ≡ made ∷ []) }
     {
         match self.begins {
             Outcome::Other => self.frame.only_move(vars),
@@ -73,10 +73,10 @@ impl Task<Frame> {
     /// The first move at a site from this one on.
     #[cycle(first)]
     pub(crate) fn first_from(&self, site: u16, vars: &[Datum]) -> Option<Move>
-        requires sound { (task_view (seen_task self.now)).sound ≡ true }
-        requires in_preorder { InPreorder (view self.now.frame).plan }
+        requires sound { (shown self.now).sound ≡ true }
+        requires in_preorder { InPreorder (whole self.now) }
         ensures { result ≡
-            from_site site (own (task_view (seen_task self.now)).rest (store vars.now)) }
+            from_site site (own (shown self.now).rest (store vars.now)) }
     {
         match self.begins {
             Outcome::Ended => None,
@@ -88,8 +88,8 @@ impl Task<Frame> {
     /// The first of its sites that waits for this, if one does.
     #[cycle(waits)]
     pub(crate) fn waits_on(&self, wanted: Waits) -> Option<u16>
-        requires { (task_view (seen_task self.now)).sound ≡ true }
-        ensures { result ≡ first_waits wanted (waiting (task_view (seen_task self.now)).rest) }
+        requires { (shown self.now).sound ≡ true }
+        ensures { result ≡ first_waits wanted (waiting (shown self.now).rest) }
     {
         if self.begins.has_ended() {
             return None;
@@ -101,10 +101,10 @@ impl Task<Frame> {
 impl Par<Frame> {
     /// The meeting of two parts, where it has no others and one outputs what the other inputs; None promises nothing.
     fn only_meeting(&self, inside: &[u16], vars: &[Datum]) -> Option<Move>
-        requires { all_sound (map task_view (map seen_task self.now.tasks.items)) ≡ true }
+        requires { all_sound (task_views self.now.tasks.items) ≡ true }
         ensures { IfSome result (λ met. joined (among inside.now)
-            (own (besides (map task_view (map seen_task self.now.tasks.items))) (store vars.now))
-            (own (besides (map task_view (map seen_task self.now.tasks.items))) (store vars.now)) ≡
+            (own (besides (task_views self.now.tasks.items)) (store vars.now))
+            (own (besides (task_views self.now.tasks.items)) (store vars.now)) ≡
             met ∷ []) }
     {
         if self.tasks.len() != 2 {
@@ -146,7 +146,8 @@ impl Frame {
     fn only_meeting(&self, inside: &[u16], vars: &[Datum]) -> Option<Move>
         requires { (view self.now).sound ≡ true }
         ensures { IfSome result (λ met. joined (among inside.now)
-            (own (view self.now).rest (store vars.now)) (own (view self.now).rest (store vars.now)) ≡
+            (own (view self.now).rest (store vars.now))
+            (own (view self.now).rest (store vars.now)) ≡
             met ∷ []) }
     {
         if let Some(part) = self.part() {

@@ -1,8 +1,8 @@
 //! How a tree of frames is made of a process, which begins.
 ghost use Rattle.std.specs.Prelude.{◌≡◌, ◌+◌, ◌≤◌, ◌<◌, IfOk, None, OnOk, false, map, true};
-ghost use Rattle.vc_occam.specs.Frames.{counting, looping, view, view_of};
+ghost use Rattle.vc_occam.specs.Frames.{counting, looping, view};
 ghost use Rattle.vc_process.specs.Terms.{as_test, exp};
-ghost use Rattle.vc_occam.specs.Private.Frames.{shape};
+ghost use Rattle.vc_occam.specs.Private.Frames.{shape, unstopped};
 ghost use Rattle.vc_occam.specs.Private.Wholes.{Begins, is_alone};
 ghost use Rattle.vc_process.specs.InOrder.{number};
 ghost use Rattle.vc_process.specs.Private.InOrder.{number_branch, number_guard};
@@ -58,7 +58,7 @@ pub(crate) fn task_of(
 
 /// A frame with its site.
 fn task(site: u16, construct: Construct<Frame>, begins: Outcome) -> Task<Frame>
-    ensures frame { view result.frame ≡ view_of site false (shape construct) }
+    ensures frame { view result.frame ≡ unstopped site (shape construct) }
     ensures begins { result.begins ≡ begins }
 {
     Task {
@@ -73,7 +73,7 @@ fn task(site: u16, construct: Construct<Frame>, begins: Outcome) -> Task<Frame>
 
 /// One that begins with a step of its own site.
 fn quiet_task(site: u16, construct: Construct<Frame>) -> Task<Frame>
-    ensures frame { view result.frame ≡ view_of site false (shape construct) }
+    ensures frame { view result.frame ≡ unstopped site (shape construct) }
     ensures begins { result.begins ≡ Quiet site }
 {
     task(site, construct, Outcome::Quiet { site })
@@ -82,7 +82,7 @@ fn quiet_task(site: u16, construct: Construct<Frame>) -> Task<Frame>
 /// A WHILE that begins, with this body.
 fn while_task(alloc: Global, site: u16, cond: &Cond, body: Frame) -> Result<Task<Frame>, Memory>
     ensures frame { IfOk result (λ task.
-        view task.frame ≡ view_of site false (looping (as_test cond.now) (view body) false)) }
+        view task.frame ≡ unstopped site (looping (as_test cond.now) (view body) false)) }
     ensures begins { IfOk result (λ task. task.begins ≡ Quiet site) }
 {
     let looping = While {
@@ -104,7 +104,7 @@ fn count_task(
 ) -> Result<Task<Frame>, Memory>
     ensures frame { IfOk result (λ task.
         view task.frame ≡
-        view_of site false (counting var (exp base.now) (exp count.now) (view body) None)) }
+        unstopped site (counting var (exp base.now) (exp count.now) (view body) None)) }
     ensures begins { IfOk result (λ task. task.begins ≡ Quiet site) }
 {
     let counting = Count {

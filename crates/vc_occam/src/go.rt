@@ -1,7 +1,7 @@
 //! How frames go on: one site does something.
-ghost use Rattle.std.specs.Prelude.{◌≡◌, ◌<◌, ◌+ℤ◌, ℕ, length, map, pos, true};
-ghost use Rattle.vc_occam.specs.Frames.{all_sound, besides, is_sound, outcome_of, task_view, turns_left, view};
-ghost use Rattle.vc_occam.specs.Private.Frames.{CanGo, HasNext, HasTurned, Went, counting_shape, seen_task, seq_shape, views};
+ghost use Rattle.std.specs.Prelude.{◌≡◌, ◌<◌, length, true};
+ghost use Rattle.vc_occam.specs.Frames.{all_sound, besides, is_sound, outcome_of, view};
+ghost use Rattle.vc_occam.specs.Private.Frames.{CanGo, HasNext, HasTurned, Went, counting_shape, seq_shape, shown, task_views, views};
 ghost use Rattle.vc_process.specs.Terms.{store};
 
 use crate::find::part_with;
@@ -16,9 +16,9 @@ impl Task<Frame> {
     #[cycle(go)]
     #[inline(always)]
     pub(crate) fn go(&mut self, step: &mut SiteStep, vars: &mut Vec<Datum>) -> Outcome
-        requires can { CanGo step.old (task_view (seen_task self.old)) vars.old.items }
-        ensures went { Went step.old (task_view (seen_task self.old)) (store vars.old.items) result
-            (task_view (seen_task self.new)) (store vars.new.items) }
+        requires can { CanGo step.old (shown self.old) vars.old.items }
+        ensures went { Went step.old (shown self.old) (store vars.old.items) result
+            (shown self.new) (store vars.new.items) }
         ensures begins { self.new.begins ≡ result }
         ensures length { length vars.new.items ≡ length vars.old.items }
     {
@@ -104,9 +104,9 @@ impl Seq<Frame> {
 impl Par<Frame> {
     /// What it comes to: it ends when all its parts have. The last one mostly goes on.
     fn outcome(&self) -> Outcome
-        requires sound { all_sound (map task_view (map seen_task self.now.tasks.items)) ≡ true }
+        requires sound { all_sound (task_views self.now.tasks.items) ≡ true }
         ensures { result ≡
-            outcome_of (besides (map task_view (map seen_task self.now.tasks.items))) }
+            outcome_of (besides (task_views self.now.tasks.items)) }
     {
         for behind in 0..self.tasks.len() {
             if !self.tasks[self.tasks.len() - 1 - behind].begins.has_ended() {

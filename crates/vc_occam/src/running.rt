@@ -1,7 +1,7 @@
 //! Running processes.
 ghost use Rattle.std.specs.Prelude.{◌≡◌, length, true};
-ghost use Rattle.vc_occam.specs.Private.Frames.{HasVariables, seen_task};
-ghost use Rattle.vc_occam.specs.Frames.{remains, task_view, view};
+ghost use Rattle.vc_occam.specs.Private.Frames.{HasVariables, shown, whole};
+ghost use Rattle.vc_occam.specs.Frames.{remains};
 ghost use Rattle.vc_occam.specs.InUse.{UsesLawfully};
 ghost use Rattle.vc_occam.specs.First.{own};
 ghost use Rattle.vc_occam.specs.Private.Moving.{CanBegin, HasMet, at, action_for as action_of, action_on as going_on};
@@ -35,11 +35,11 @@ pub struct Running {
     vars: Vec<Datum>,
     inside: Items<u16>,
     hints: Hints,
-    ghost has_variables: { HasVariables (view task.frame).plan (length vars.items) },
-    ghost in_preorder: { InPreorder (view task.frame).plan } by { InPreorder-prop (view task.frame).plan },
+    ghost has_variables: { HasVariables (whole task) (length vars.items) },
+    ghost in_preorder: { InPreorder (whole task) } by { InPreorder-prop (whole task) },
     ghost own_sites: { OwnSites (remains task) } by { OwnSites-prop (remains task) },
     ghost uses_lawfully: { UsesLawfully (remains task) } by { UsesLawfully-prop (remains task) },
-    ghost sound: { (task_view (seen_task task)).sound ≡ true },
+    ghost sound: { (shown task).sound ≡ true },
 }
 
 impl Drop for Running {
@@ -99,14 +99,14 @@ fn meet(
         taken.now }
     requires fits { came answer ≡
         carried (output_at sender (remains task.old) (store vars.old.items)) }
-    requires variables { HasVariables (view task.old.frame).plan (length vars.old.items) }
-    requires in_preorder { InPreorder (view task.old.frame).plan }
+    requires variables { HasVariables (whole task.old) (length vars.old.items) }
+    requires in_preorder { InPreorder (whole task.old) }
     requires own_sites { OwnSites (remains task.old) }
-    requires sound { (task_view (seen_task task.old)).sound ≡ true }
+    requires sound { (shown task.old).sound ≡ true }
     ensures met { HasMet (at (remains task.old) (store vars.old.items)) sender chan taken.now answer
         (at (remains task.new) (store vars.new.items)) }
-    ensures plan { (view task.new.frame).plan ≡ (view task.old.frame).plan }
-    ensures sound { (task_view (seen_task task.new)).sound ≡ true }
+    ensures plan { whole task.new ≡ whole task.old }
+    ensures sound { (shown task.new).sound ≡ true }
     ensures length { length vars.new.items ≡ length vars.old.items }
 {
     let mut offers = SiteStep {
@@ -130,7 +130,7 @@ fn meet(
 }
 
 impl Running {
-    ghost use Rattle.std.specs.Prelude.{◌≡◌, ◌≤◌, ◌↔◌, ◌++◌, ◌∷◌, [], IsTrue, IfOk, IfSome, OnOk, OnErr, MatchOption, Some, None, true, false, ℕ};
+    ghost use Rattle.std.specs.Prelude.{◌≡◌, ◌≤◌, ◌↔◌, ◌∷◌, [], IsTrue, IfOk, IfSome, OnOk, OnErr, MatchOption, Some, None, true, false, ℕ};
     ghost use Rattle.std.specs.List.{Contains};
     ghost use Rattle.vc_occam.specs.Blocking.{blocked};
     ghost use Rattle.vc_occam.specs.First.{own};

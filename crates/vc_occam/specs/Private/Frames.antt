@@ -39,7 +39,7 @@ use Rattle.vc_occam.specs.Sites.{site}
 use Rattle.vc_occam.specs.States.{Waiting, output, input, waiting, output_at}
 use Rattle.vc_occam.specs.First.{all_decided, choices, is_true, own}
 use Rattle.vc_occam.specs.Moving.{site_of}
-use Rattle.vc_occam.specs.Frames.{View, Shape, skip, empty_seq, empty_par, stop, assign, send, receive, stop_chan, seq, par, branching, looping, counting, guarding, guards_of, is_at_itself, is_sound, left_by, outcome_of, plan_of, plans_of, rest_of, turns_left, view, view_of}
+use Rattle.vc_occam.specs.Frames.{View, Shape, skip, empty_seq, empty_par, stop, assign, send, receive, stop_chan, seq, par, branching, looping, counting, guarding, guards_of, is_at_itself, is_sound, left_by, outcome_of, plan_of, plans_of, rest_of, task_view, turns_left, view, view_of}
 
 -- frames, each with what it stands for
 abbrev pub views : List Frame → List View
@@ -47,6 +47,21 @@ views = map view
 
 abbrev pub seen_task : Task Frame → Task View
 seen_task t = record { frame = view t.frame; begins = t.begins }
+
+-- a task that goes on by itself
+abbrev pub shown : Task Frame → View
+shown t = task_view (seen_task t)
+
+-- the process that its frames came of
+abbrev pub whole : Task Frame → Proc
+whole t = (view t.frame).plan
+
+abbrev pub task_views : List (Task Frame) → List View
+task_views ts = map task_view (map seen_task ts)
+
+-- a frame with this site that no fault has stopped
+abbrev pub unstopped : ℕ → Shape → View
+unstopped i s = view_of i false s
 
 abbrev pub seen_branch : Branch Frame → Branch View
 seen_branch b = record { cond = b.cond; body = view b.body }
@@ -169,7 +184,7 @@ pub record Went (step : SiteStep) (v : View) (e : Store) (o : Outcome) (w : View
 
 -- the own site of a construct made it and came to this, or it is a fault, and nothing has changed
 abbrev pub Acted : ℕ → SiteStep → Shape → Store → Option Outcome → Shape → Store → Type 0
-Acted i step s e (Some o) t f = Went step (view_of i false s) e o (view_of i false t) f
+Acted i step s e (Some o) t f = Went step (unstopped i s) e o (unstopped i t) f
 Acted i step s e None t f = (t ≡ s) × (f ≡ e) × Did (rest_of i s) e step.site step.action (Stopped i) e
 
 -- the part of a SEQ has ended, and the next one has begun, if there is one
