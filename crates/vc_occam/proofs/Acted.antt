@@ -1,123 +1,136 @@
 -- What a frame's own site did, by its construct.
-use Rattle.std.proofs.Common.{◌≡◌, ◌∙◌, ℕ, true, false, refl, sym, ap, subst, List, Option, None, arith, length, ◌<◌}
-use Rattle.std.proofs.lemmas.Bool.Decides.{nat_tests}
+use Rattle.std.proofs.Common.{◌≡◌, ◌∙◌, ℕ, Bool, true, false, refl, sym, ap, subst, List, Option, Some, None, length, ◌<◌}
+use Rattle.std.specs.Prelude.{slice_get}
+use Rattle.std.proofs.lemmas.Bool.{and_from}
 use Rattle.vc_process.specs.declared.datum.Datum.{Datum}
-use Rattle.vc_process.specs.Syntax.{Exp, SKIP, STOP, StopChan, SEQ, PAR, no_parts}
+use Rattle.vc_process.specs.Syntax.{Exp}
 use Rattle.vc_process.specs.Terms.{store}
 use Rattle.vc_process.specs.Usage.{changes, just}
 use Rattle.vc_process.specs.Values.{Store}
-use Rattle.vc_occam.specs.declared.frame.Alt.{Alt}
-use Rattle.vc_occam.specs.declared.frame.Assignment.{Assignment}
+use Rattle.vc_occam.specs.declared.frame.Choice.{Choice}
+use Rattle.vc_occam.specs.declared.frame.Choice.TheVariants.{Open, Taken, Within}
 use Rattle.vc_occam.specs.declared.frame.Construct.{Construct}
 use Rattle.vc_occam.specs.declared.frame.Construct.TheVariants as run
-use Rattle.vc_occam.specs.declared.frame.Count.{Count}
 use Rattle.vc_occam.specs.declared.frame.Frame.{Frame}
+use Rattle.vc_occam.specs.declared.frame.Frame.TheOpen.{Frame-F}
 use Rattle.vc_occam.specs.declared.frame.Frame.TheViews.{out-Frame, roll-Frame}
-use Rattle.vc_occam.specs.declared.frame.If.{If}
-use Rattle.vc_occam.specs.declared.frame.Input.{Input}
-use Rattle.vc_occam.specs.declared.frame.Output.{Output}
+use Rattle.vc_occam.specs.declared.frame.Guard.{Guard}
 use Rattle.vc_occam.specs.declared.frame.Turn.{Turn}
-use Rattle.vc_occam.specs.declared.frame.While.{While}
 use Rattle.vc_occam.specs.declared.outcome.Outcome.{Outcome}
 use Rattle.vc_occam.specs.declared.outcome.Outcome.TheVariants as outcome
-use Rattle.vc_occam.specs.declared.site_action.SiteAction.{SiteAction}
-use Rattle.vc_occam.specs.declared.site_step.SiteStep.{SiteStep}
-use Rattle.vc_occam.specs.Frames.{Shape, View, counting, is_at_itself, is_sound, view, view_of}
-use Rattle.vc_occam.specs.Remains.{Done, Fresh, does_skip, does_empty_seq, does_empty_par, does_stop}
-use Rattle.vc_occam.specs.Private.Frames.{Able, Acted, CanGo, Did, Went, shape}
-use Rattle.vc_occam.proofs.Going.{and_both, runs_on}
+use Rattle.vc_occam.specs.SiteActions as action
+use Rattle.vc_occam.specs.Private.SiteSteps.{Actions, StepAt, first_action, one, quiet_at, step_at}
+use Rattle.vc_occam.specs.Frames.{View, counting, guarding, is_at_itself, is_sound, left_by, receive, rest_of, taken_rest, view, view_of}
+use Rattle.vc_occam.specs.Remains.{Done, Stopped, does_skip, does_empty_seq, does_empty_par, in_then}
+use Rattle.vc_occam.specs.Private.Frames.{Able, Acted, CanGo, Did, IsAtItself, Went, seen_guards, shape, unstopped}
+use Rattle.vc_occam.proofs.Going.{runs_on}
+use Rattle.vc_occam.proofs.OwnSite.{frame_is_own, own_does}
+use Rattle.vc_occam.proofs.Places.{itself}
 use Rattle.vc_occam.proofs.Stores.{or_left}
 use Rattle.vc_occam.proofs.Views.{view_out, view_roll}
 
 -- a frame that can do something has not been stopped
-pub frame_runs : (step : SiteStep) (f : Frame) (vars : List Datum) → CanGo step (view f) vars → (out-Frame f).stopped ≡ false
+frame_runs : (step : StepAt) (f : Frame) (vars : List Datum) → CanGo step (view f) vars → (out-Frame f).stopped ≡ false
 frame_runs step f vars c = let o = out-Frame f in runs_on step o.site o.stopped (shape o.construct) vars (subst (λ (v : View). CanGo step v vars) (view_out f) c)
 
-pub running_view : (f : Frame) (k : Construct Frame) → (out-Frame f).stopped ≡ false → (out-Frame f).construct ≡ k → view f ≡ view_of (out-Frame f).site false (shape k)
+running_view : (f : Frame) (k : Construct Frame) → (out-Frame f).stopped ≡ false → (out-Frame f).construct ≡ k → view f ≡ view_of (out-Frame f).site false (shape k)
 running_view f k h g = let o = out-Frame f in view_out f ∙ ap (λ b. view_of o.site b (shape o.construct)) h ∙ ap (λ (c : Construct Frame). view_of o.site false (shape c)) g
 
-pub frame_can : (step : SiteStep) (f : Frame) (k : Construct Frame) (vars : List Datum) → CanGo step (view f) vars → (out-Frame f).construct ≡ k → CanGo step (view_of (out-Frame f).site false (shape k)) vars
+pub frame_can : (step : StepAt) (f : Frame) (k : Construct Frame) (vars : List Datum) → CanGo step (view f) vars → (out-Frame f).construct ≡ k → CanGo step (view_of (out-Frame f).site false (shape k)) vars
 frame_can step f k vars c h = subst (λ (v : View). CanGo step v vars) (running_view f k (frame_runs step f vars c) h) c
 
--- the construct of a frame, by what an arm says of it
-pub acted_as : (i : ℕ) (step : SiteStep) (k l : Construct Frame) (e : Store) (o : Option Outcome) (t : Shape) (f : Store) → k ≡ l → Acted i step (shape l) e o t f → Acted i step (shape k) e o t f
-acted_as i step k l e o t f h = subst (λ (c : Construct Frame). Acted i step (shape c) e o t f) (sym h)
-
-pub went_as : (i : ℕ) (step : SiteStep) (k l : Construct Frame) (e : Store) (o : Outcome) (w : View) (f : Store) → k ≡ l → Went step (view_of i false (shape l)) e o w f → Went step (view_of i false (shape k)) e o w f
-went_as i step k l e o w f h = subst (λ (c : Construct Frame). Went step (view_of i false (shape c)) e o w f) (sym h)
-
-pub sound_as : (step : SiteStep) (f : Frame) (k : Construct Frame) (vars : List Datum) → CanGo step (view f) vars → (out-Frame f).construct ≡ k → is_sound (shape k) ≡ true
+pub sound_as : (step : StepAt) (f : Frame) (k : Construct Frame) (vars : List Datum) → CanGo step (view f) vars → (out-Frame f).construct ≡ k → is_sound (shape k) ≡ true
 sound_as step f k vars c h = (frame_can step f k vars c h).sound
 
-itself : (v : ℕ) → just v v ≡ true
-itself v = grind (arith, nat_tests)
-
-pub index_there : (step : SiteStep) (i x : ℕ) (a n : Exp) (v : View) (t : Option Turn) (vars : List Datum) → CanGo step (view_of i false (counting x a n v t)) vars → x < length vars
+pub index_there : (step : StepAt) (i x : ℕ) (a n : Exp) (v : View) (t : Option Turn) (vars : List Datum) → CanGo step (view_of i false (counting x a n v t)) vars → x < length vars
 index_there step i x a n v t vars c = c.variables x (or_left (just x x) (changes v.plan x) (itself x))
 
--- the frame goes on, or a fault has stopped it
-pub frame_went : (step : SiteStep) (f g : Frame) (vars : List Datum) (o : Outcome) (h : Store) → CanGo step (view f) vars → (out-Frame g).site ≡ (out-Frame f).site → (out-Frame g).stopped ≡ (out-Frame f).stopped →
-    Went step (view_of (out-Frame f).site false (shape (out-Frame f).construct)) (store vars) o (view_of (out-Frame f).site false (shape (out-Frame g).construct)) h → Went step (view f) (store vars) o (view g) h
-frame_went step f g vars o h c site stopped went =
-    let runs = frame_runs step f vars c in
-    let after = running_view g (out-Frame g).construct (stopped ∙ runs) refl ∙ ap (λ i. view_of i false (shape (out-Frame g).construct)) site in
-    subst (λ (v : View). Went step v (store vars) o (view g) h) (sym (running_view f (out-Frame f).construct runs refl))
-    (subst (λ (w : View). Went step (view_of (out-Frame f).site false (shape (out-Frame f).construct)) (store vars) o w h) (sym after) went)
+-- the construct, by what an arm says of it
+pub can_as : (step : StepAt) (i : ℕ) (k l : Construct Frame) (vars : List Datum) → k ≡ l → CanGo step (unstopped i (shape k)) vars → CanGo step (unstopped i (shape l)) vars
+can_as step i k l vars h = subst (λ (c : Construct Frame). CanGo step (unstopped i (shape c)) vars) h
 
-stopped_went : (step : SiteStep) (i : ℕ) (s t : Shape) (vars : List Datum) (h : Store) → is_at_itself s ≡ true → is_sound s ≡ true → Acted i step s (store vars) None t h → Went step (view_of i false s) (store vars) outcome.Nothing (view_of i true t) h
-stopped_went step i s t vars h itself sound (same, value, did) =
-    subst (λ (u : Shape). Went step (view_of i false s) (store vars) outcome.Nothing (view_of i true u) h) (sym same)
-    (subst (λ (f : Store). Went step (view_of i false s) (store vars) outcome.Nothing (view_of i true s) f) (sym value) (record { did = did; plan = refl; sound = and_both (is_at_itself s) (is_sound s) itself sound; outcome = refl }))
-
-pub frame_stopped : (step : SiteStep) (f : Frame) (j : ℕ) (k : Construct Frame) (vars : List Datum) (h : Store) → CanGo step (view f) vars → is_at_itself (shape (out-Frame f).construct) ≡ true → j ≡ (out-Frame f).site →
-    Acted (out-Frame f).site step (shape (out-Frame f).construct) (store vars) None (shape k) h → Went step (view f) (store vars) outcome.Nothing (view_of j true (shape k)) h
-frame_stopped step f j k vars h c itself site acted =
-    let o = out-Frame f in
-    let can = frame_can step f o.construct vars c refl in
-    subst (λ (v : View). Went step v (store vars) outcome.Nothing (view_of j true (shape k)) h) (sym (running_view f o.construct (frame_runs step f vars c) refl))
-    (subst (λ i. Went step (view_of o.site false (shape o.construct)) (store vars) outcome.Nothing (view_of i true (shape k)) h) (sym site) (stopped_went step o.site (shape o.construct) (shape k) vars h itself can.sound acted))
-
--- the other constructs end
-ended : (step : SiteStep) (i : ℕ) (s : Shape) (vars : List Datum) → is_sound s ≡ true → Did (view_of i false s).rest (store vars) step.site step.action Done (store vars) → Went step (view_of i false s) (store vars) outcome.Ended (view_of i false s) (store vars)
-ended step i s vars sound did = record { did = did; plan = refl; sound = sound; outcome = refl }
-
-skip_did : (i : ℕ) (e : Store) (s : ℕ) (d : SiteAction) → Able (Fresh (SKIP i)) e s d → Did (Fresh (SKIP i)) e s d Done e
-skip_did i e s d (ks, q, f, does_skip) = (ks, does_skip)
-
-seq_did : (i : ℕ) (e : Store) (s : ℕ) (d : SiteAction) → Able (Fresh (SEQ i no_parts)) e s d → Did (Fresh (SEQ i no_parts)) e s d Done e
-seq_did i e s d (ks, q, f, does_empty_seq) = (ks, does_empty_seq)
-
-par_did : (i : ℕ) (e : Store) (s : ℕ) (d : SiteAction) → Able (Fresh (PAR i no_parts)) e s d → Did (Fresh (PAR i no_parts)) e s d Done e
-par_did i e s d (ks, q, f, does_empty_par) = (ks, does_empty_par)
-
-stop_did : (i : ℕ) (e : Store) (s : ℕ) (d : SiteAction) → Able (Fresh (STOP i)) e s d → Did (Fresh (STOP i)) e s d Done e
-stop_did i e s d (ks, q, f, st) = elim st [ ]
-
-channel_did : (i c : ℕ) (e : Store) (s : ℕ) (d : SiteAction) → Able (Fresh (StopChan i c)) e s d → Did (Fresh (StopChan i c)) e s d Done e
-channel_did i c e s d (ks, q, f, does_stop) = (ks, does_stop)
-
-pub leaf_went : (step : SiteStep) (i : ℕ) (k : Construct Frame) (vars : List Datum) → is_at_itself (shape k) ≡ true → CanGo step (view_of i false (shape k)) vars → ((x : Assignment) → k ≡ run.Set x → ⊥) → ((x : Output) → k ≡ run.Send x → ⊥) → ((x : Input) → k ≡ run.Receive x → ⊥) → ((x : If Frame) → k ≡ run.If x → ⊥) →
-    ((x : While Frame) → k ≡ run.While x → ⊥) → ((x : Count Frame) → k ≡ run.Count x → ⊥) → ((x : Alt Frame) → k ≡ run.Alt x → ⊥) → Went step (view_of i false (shape k)) (store vars) outcome.Ended (view_of i false (shape k)) (store vars)
-leaf_went step i run.Skip vars h c a b d e f g j = ended step i (shape run.Skip) vars refl (skip_did i (store vars) step.site step.action c.able)
-leaf_went step i run.EmptySeq vars h c a b d e f g j = ended step i (shape run.EmptySeq) vars refl (seq_did i (store vars) step.site step.action c.able)
-leaf_went step i run.EmptyPar vars h c a b d e f g j = ended step i (shape run.EmptyPar) vars refl (par_did i (store vars) step.site step.action c.able)
-leaf_went step i run.Stop vars h c a b d e f g j = ended step i (shape run.Stop) vars refl (stop_did i (store vars) step.site step.action c.able)
-leaf_went step i (run.Stopch n) vars h c a b d e f g j = ended step i (shape (run.Stopch n)) vars refl (channel_did i n (store vars) step.site step.action c.able)
-leaf_went step i (run.Set s) vars h c a b d e f g j = absurd (a s refl)
-leaf_went step i (run.Send s) vars h c a b d e f g j = absurd (b s refl)
-leaf_went step i (run.Receive s) vars h c a b d e f g j = absurd (d s refl)
-leaf_went step i (run.If s) vars h c a b d e f g j = absurd (e s refl)
-leaf_went step i (run.While s) vars h c a b d e f g j = absurd (f s refl)
-leaf_went step i (run.Count s) vars h c a b d e f g j = absurd (g s refl)
-leaf_went step i (run.Alt s) vars h c a b d e f g j = absurd (j s refl)
-leaf_went step i (run.Seq s) vars h c a b d e f g j = absurd (let z : false ≡ true = h in cc)
-leaf_went step i (run.Par s) vars h c a b d e f g j = absurd (let z : false ≡ true = h in cc)
+pub went_as : (step : StepAt) (i : ℕ) (k l : Construct Frame) (e : Store) (o : Outcome) (w : View) (f : Store) → k ≡ l → Went step (unstopped i (shape l)) e o w f → Went step (unstopped i (shape k)) e o w f
+went_as step i k l e o w f h = subst (λ (c : Construct Frame). Went step (unstopped i (shape c)) e o w f) (sym h)
 
 -- a frame is made anew with another construct
-pub rolled_went : (step : SiteStep) (f : Frame) (k l : Construct Frame) (vars : List Datum) (o : Outcome) (h : Store) → CanGo step (view f) vars → (out-Frame f).construct ≡ k → Went step (view_of (out-Frame f).site false (shape k)) (store vars) o (view_of (out-Frame f).site false (shape l)) h →
+pub rolled_went : (step : StepAt) (f : Frame) (k l : Construct Frame) (vars : List Datum) (o : Outcome) (h : Store) → CanGo step (view f) vars → (out-Frame f).construct ≡ k → Went step (view_of (out-Frame f).site false (shape k)) (store vars) o (view_of (out-Frame f).site false (shape l)) h →
     Went step (view f) (store vars) o (view (roll-Frame (record { site = (out-Frame f).site; stopped = (out-Frame f).stopped; construct = l }))) h
 rolled_went step f k l vars o h c is went =
     let runs = frame_runs step f vars c in
-    let after = view_roll (record { site = (out-Frame f).site; stopped = (out-Frame f).stopped; construct = l }) ∙ ap (λ b. view_of (out-Frame f).site b (shape l)) runs in
-    subst (λ (v : View). Went step v (store vars) o (view (roll-Frame (record { site = (out-Frame f).site; stopped = (out-Frame f).stopped; construct = l }))) h) (sym (running_view f k runs is))
+    let new : Frame-F Frame = record { site = (out-Frame f).site; stopped = (out-Frame f).stopped; construct = l } in
+    let after = view_roll new ∙ ap (λ b. view_of (out-Frame f).site b (shape l)) runs in
+    subst (λ (v : View). Went step v (store vars) o (view (roll-Frame new)) h) (sym (running_view f k runs is))
     (subst (λ (w : View). Went step (view_of (out-Frame f).site false (shape k)) (store vars) o w h) (sym after) went)
+
+-- a frame that has ended stays as it was
+pub ended_went : (step : StepAt) (f : Frame) (vars : List Datum) → CanGo step (view f) vars → Did (view f).rest (store vars) step.site step.actions Done (store vars) → Went step (view f) (store vars) outcome.Ended (view f) (store vars)
+ended_went step f vars c did = record { did = did; plan = refl; sound = c.sound; outcome = refl }
+
+-- a frame that is at itself does what its own site does
+module _ (s : ℕ) (d : Actions) (x : Option Datum) (f : Frame) (vars : List Datum) (at : IsAtItself f) (can : CanGo (record { site = s; actions = d; assigned = x }) (view f) vars) where
+  here : s ≡ (out-Frame f).site
+  here = own_does (out-Frame f).site (view f).rest (store vars) s (first_action d) (frame_is_own f at) can.able
+
+  pub can_here : CanGo (record { site = (out-Frame f).site; actions = d; assigned = x }) (unstopped (out-Frame f).site (shape (out-Frame f).construct)) vars
+  can_here =
+      let o = out-Frame f in
+      subst (λ i. CanGo (record { site = i; actions = d; assigned = x }) (unstopped o.site (shape o.construct)) vars) here (frame_can (record { site = s; actions = d; assigned = x }) f o.construct vars can refl)
+
+  pub went_here : (l : Construct Frame) (o : Outcome) (h : Store) → Went (step_at (out-Frame f).site d) (unstopped (out-Frame f).site (shape (out-Frame f).construct)) (store vars) o (unstopped (out-Frame f).site (shape l)) h →
+      Went (record { site = s; actions = d; assigned = x }) (view f) (store vars) o (view (roll-Frame (record { site = (out-Frame f).site; stopped = (out-Frame f).stopped; construct = l }))) h
+  went_here l o h went =
+      let k = (out-Frame f).construct in
+      let i = (out-Frame f).site in
+      let did = subst (λ j. Did (rest_of i (shape k)) (store vars) j d (left_by o (rest_of i (shape l))) h) (sym here) went.did in
+      rolled_went (record { site = s; actions = d; assigned = x }) f k l vars o h can refl (record { did = did; plan = went.plan; sound = went.sound; outcome = went.outcome })
+
+-- a fault stops the frame
+pub stopped_went : (s : ℕ) (x : Option Datum) (f : Frame) (l : Construct Frame) (vars : List Datum) (h : Store) → IsAtItself f → CanGo (quiet_at s x) (view f) vars → Acted (out-Frame f).site (shape (out-Frame f).construct) (store vars) None (shape l) h →
+    Went (quiet_at s x) (view f) (store vars) outcome.Nothing (view (roll-Frame (record { site = (out-Frame f).site; stopped = true; construct = l }))) h
+stopped_went s x f l vars h at can (same, value, did) =
+    let i = (out-Frame f).site in
+    let t = shape (out-Frame f).construct in
+    let step = quiet_at s x in
+    let can_do = frame_can step f (out-Frame f).construct vars can refl in
+    let after = view_roll (record { site = i; stopped = true; construct = l }) ∙ ap (view_of i true) same in
+    let here_did = subst (λ j. Did (rest_of i t) (store vars) j (one action.Quiet) (Stopped i) (store vars)) (sym (here s (one action.Quiet) x f vars at can)) did in
+    let went : Went step (unstopped i t) (store vars) outcome.Nothing (view_of i true t) (store vars) = record { did = here_did; plan = refl; sound = and_from (is_at_itself t) (is_sound t) at can_do.sound; outcome = refl } in
+    subst (λ (v : View). Went step v (store vars) outcome.Nothing (view (roll-Frame (record { site = i; stopped = true; construct = l }))) h) (sym (running_view f (out-Frame f).construct (frame_runs step f vars can) refl))
+    (subst (λ (w : View). Went step (unstopped i t) (store vars) outcome.Nothing w h) (sym after)
+    (subst (λ (g : Store). Went step (unstopped i t) (store vars) outcome.Nothing (view_of i true t) g) (sym value) went))
+
+-- an input or an ALT makes no step without a communication
+receive_not_quiet : (i c v : ℕ) (b : Bool) (e : Store) (s : ℕ) → Able (rest_of i (receive c v b)) e s action.Quiet → ⊥
+receive_not_quiet i c v true e s (ks, q, f, st) = elim st [ ]
+receive_not_quiet i c v false e s (ks, q, f, st) = elim st [ ]
+
+taken_not_quiet : (i : ℕ) (o : Option (Guard View)) (e : Store) (s : ℕ) → Able (taken_rest i o) e s action.Quiet → ⊥
+taken_not_quiet i None e s (ks, q, f, st) = elim st [ ]
+taken_not_quiet i (Some g) e s (ks, q, f, in_then st) = elim st [ ]
+
+alt_not_quiet : (i : ℕ) (gs : List (Guard View)) (c : Choice) (e : Store) (s : ℕ) → is_at_itself (guarding gs c) ≡ true → Able (rest_of i (guarding gs c)) e s action.Quiet → ⊥
+alt_not_quiet i gs Open e s h (ks, q, f, st) = elim st [ ]
+alt_not_quiet i gs (Taken k) e s h can = taken_not_quiet i (slice_get gs k) e s can
+alt_not_quiet i gs (Within k) e s h can = absurd cc
+
+-- SKIP, and SEQ and PAR without parts, end
+leaf_did : (i : ℕ) (k : Construct Frame) (e : Store) (s : ℕ) → is_at_itself (shape k) ≡ true → Able (rest_of i (shape k)) e s action.Quiet → ((x : _) → k ≡ run.Set x → ⊥) → ((x : _) → k ≡ run.Send x → ⊥) → ((x : _) → k ≡ run.If x → ⊥) → ((x : _) → k ≡ run.While x → ⊥) → ((x : _) → k ≡ run.Count x → ⊥) →
+    Did (rest_of i (shape k)) e s (one action.Quiet) Done e
+leaf_did i run.Skip e s h (ks, q, f, does_skip) a b c d g = (ks, does_skip)
+leaf_did i run.EmptySeq e s h (ks, q, f, does_empty_seq) a b c d g = (ks, does_empty_seq)
+leaf_did i run.EmptyPar e s h (ks, q, f, does_empty_par) a b c d g = (ks, does_empty_par)
+leaf_did i run.Stop e s h (ks, q, f, st) a b c d g = elim st [ ]
+leaf_did i (run.Stopch n) e s h (ks, q, f, st) a b c d g = elim st [ ]
+leaf_did i (run.Receive n) e s h can a b c d g = absurd (receive_not_quiet i n.chan n.var n.begun e s can)
+leaf_did i (run.Alt x) e s h can a b c d g = absurd (alt_not_quiet i (seen_guards x) x.choice e s h can)
+leaf_did i (run.Seq x) e s h can a b c d g = absurd cc
+leaf_did i (run.Par x) e s h can a b c d g = absurd cc
+leaf_did i (run.Set x) e s h can a b c d g = absurd (a x refl)
+leaf_did i (run.Send x) e s h can a b c d g = absurd (b x refl)
+leaf_did i (run.If x) e s h can a b c d g = absurd (c x refl)
+leaf_did i (run.While x) e s h can a b c d g = absurd (d x refl)
+leaf_did i (run.Count x) e s h can a b c d g = absurd (g x refl)
+
+pub leaf_acted : (i : ℕ) (x : Option Datum) (k : Construct Frame) (vars : List Datum) → is_at_itself (shape k) ≡ true → CanGo (quiet_at i x) (unstopped i (shape k)) vars → ((x : _) → k ≡ run.Set x → ⊥) → ((x : _) → k ≡ run.Send x → ⊥) → ((x : _) → k ≡ run.If x → ⊥) → ((x : _) → k ≡ run.While x → ⊥) → ((x : _) → k ≡ run.Count x → ⊥) →
+    Acted i (shape k) (store vars) (Some outcome.Ended) (shape k) (store vars)
+leaf_acted i x k vars h can a b c d g = record { did = leaf_did i k (store vars) i h can.able a b c d g; plan = refl; sound = can.sound; outcome = refl }

@@ -7,8 +7,8 @@ use Rattle.std.specs.List.{Contains}
 use Rattle.std.specs.Option.{option_or}
 use Rattle.vc_occam.specs.declared.answer.Answer.{Answer}
 use Rattle.vc_process.specs.declared.datum.Datum.{Datum}
-use Rattle.vc_occam.specs.declared.site_action.SiteAction.{SiteAction}
-use Rattle.vc_occam.specs.declared.site_action.SiteAction.TheVariants as action
+use Rattle.vc_occam.specs.SiteActions.{SiteAction}
+use Rattle.vc_occam.specs.SiteActions as action
 use Rattle.vc_occam.specs.declared.moves.Move.{Move}
 use Rattle.vc_occam.specs.declared.moves.Move.TheVariants.{Offer, Want, Choose, Stopch, Inner, Quiet}
 use Rattle.vc_process.specs.Syntax.{Proc, STOP}
@@ -23,6 +23,7 @@ use Rattle.vc_occam.specs.declared.waits.Waits.{Waits}
 use Rattle.vc_occam.specs.declared.waits.Waits.TheVariants as waits
 use Rattle.vc_occam.specs.Private.Frames.{Did, first_waits, waits_at, waits_there}
 use Rattle.vc_occam.specs.Private.Moving.{IsAlone, action_for, action_on}
+use Rattle.vc_occam.specs.Private.SiteSteps.{one}
 use Rattle.vc_occam.specs.Moving.{site_of}
 use Rattle.vc_occam.specs.Sites.{sites, sites_all, sites_rest, OwnSites}
 use Rattle.vc_occam.specs.States.{State, Acts, IsTraced, Resumes, StepsTo, bytes_or_none, came, carried, doing, output_at, sent_by, Waiting, output, input, waiting}
@@ -122,7 +123,7 @@ chose s s' i k c u None ks st = (ks, (says st, st), traced s s' i (action.Choose
 chose s s' i k c u (Some m) ks st = let n = says st in (ks, (n.0, n.1, st), traced s s' i (action.Choose k c (Some m)) ks u st)
 
 -- a move that was made
-pub acts : (s s' : State) (m : Move) (a : Answer) → OwnSites s.rest → UsesLawfully s.rest → IsAlone m → Did s.rest s.store (site_of m) (action_for m a) s'.rest s'.store → Acts s (doing m (sent_by s m) a) s'
+pub acts : (s s' : State) (m : Move) (a : Answer) → OwnSites s.rest → UsesLawfully s.rest → IsAlone m → Did s.rest s.store (site_of m) (one (action_for m a)) s'.rest s'.store → Acts s (doing m (sent_by s m) a) s'
 acts s s' (Offer i c) a o u al (ks, st) =
     let n = says st in
     let sent : bytes_or_none (carried (output_at i s.rest s.store)) ≡ message n.0 = ap (λ y. bytes_or_none (carried y)) (sends n.0 st o n.1) in
@@ -188,7 +189,7 @@ input_chan : (i j c d : ℕ) → input i c ≡ input j d → c ≡ d
 input_chan i j c d h = cc
 
 -- a site that went on
-pub resumes : (s s' : State) (i : ℕ) (m : Option (List ℕ)) → OwnSites s.rest → UsesLawfully s.rest → Did s.rest s.store i (action_on m) s'.rest s'.store → Resumes s i m s'
+pub resumes : (s s' : State) (i : ℕ) (m : Option (List ℕ)) → OwnSites s.rest → UsesLawfully s.rest → Did s.rest s.store i (one (action_on m)) s'.rest s'.store → Resumes s i m s'
 unfolding waits_site
 resumes s s' i None o u (ks, st) = λ c w.
     let n = step_waits st in

@@ -2,8 +2,7 @@
 use Rattle.std.proofs.Common.{◌≡◌, ℕ, zero, suc, ℤ, pos, true, false, not, refl, sym, ap, ap₂, subst, ◌∙◌, List, [], ◌∷◌, ◌++◌, length, Some, option_and_then, if◌then◌else◌, eq-eqb}
 use Rattle.vc_process.specs.declared.datum.Datum.{Datum}
 use Rattle.vc_process.specs.declared.datum.Datum.TheVariants as datum
-use Rattle.vc_occam.specs.declared.site_action.SiteAction.{SiteAction}
-use Rattle.vc_occam.specs.declared.site_action.SiteAction.TheVariants.{Quiet}
+use Rattle.vc_occam.specs.SiteActions.{SiteAction, Quiet}
 use Rattle.vc_process.specs.Messages.{received}
 use Rattle.vc_process.specs.Syntax.{Exp, Number, Variable, Binary, SizeOf, Test, Constant, Compare, Both, Either, Negate, Literal, Contents, Filled, Given, Whole, Bytes, Proc, IF, Branches, no_branches, branch, Guards, no_guards, guard}
 use Rattle.vc_process.specs.Values.{Store, whole_of, bytes_of, with_both, result, compares, within, value_of, holds, datum_of}

@@ -33,8 +33,8 @@ stopped_itself i s true e h = (and_parts (is_at_itself s) (is_sound s) h).0
 stopped_itself i s false e h = absurd cc
 
 -- a frame that can be is made of parts that can be
-pub sound_shape : (f : Frame) → (view f).sound ≡ true → is_sound (shape (out-Frame f).construct) ≡ true
-sound_shape f h =
+pub frame_sound : (f : Frame) → (view f).sound ≡ true → is_sound (shape (out-Frame f).construct) ≡ true
+frame_sound f h =
     let o = out-Frame f in
     sound_parts o.site o.stopped (shape o.construct) (subst (λ (v : View). v.sound ≡ true) (view_out f) h)
 
@@ -83,14 +83,14 @@ pub at_itself : (f : Frame) → ((p : _) → (out-Frame f).construct ≡ run.Par
 at_itself f n h = alone_itself (out-Frame f).construct n h
 
 -- what keeps whether it waits
-abbrev is_waiter : Shape → Bool
+abbrev pub is_waiter : Shape → Bool
 is_waiter (send c a b) = true
 is_waiter (receive c v b) = true
 is_waiter (guarding gs c) = true
 is_waiter s = false
 
 -- any other that is at itself hasn't begun
-fresh_shape : (i : ℕ) (s : Shape) → is_at_itself s ≡ true → is_waiter s ≡ false → rest_of i s ≡ Fresh (plan_of i s)
+pub fresh_shape : (i : ℕ) (s : Shape) → is_at_itself s ≡ true → is_waiter s ≡ false → rest_of i s ≡ Fresh (plan_of i s)
 fresh_shape i skip h q = refl
 fresh_shape i empty_seq h q = refl
 fresh_shape i empty_par h q = refl
@@ -393,7 +393,7 @@ has_taken (Taken j) k n h q = let e : j ≡ k = cc in let l : j < n = grind (ari
 has_taken (Within j) k n h q = absurd cc
 
 alt_sound : (f : Frame) (a : Alt Frame) → (view f).sound ≡ true → (out-Frame f).construct ≡ run.Alt a → is_sound (alt_shape a) ≡ true
-alt_sound f a h e = subst (λ (c : Construct Frame). is_sound (shape c) ≡ true) e (sound_shape f h)
+alt_sound f a h e = subst (λ (c : Construct Frame). is_sound (shape c) ≡ true) e (frame_sound f h)
 
 -- its guards are few, and the one that it took is one of them
 pub few_guards : (f : Frame) (a : Alt Frame) → (view f).sound ≡ true → (out-Frame f).construct ≡ run.Alt a → length a.guards.items < 65536

@@ -1,5 +1,6 @@
 -- What the body that goes on of an IF, an ALT or a loop can do and has done, the process around it can do and has done.
 use Rattle.std.proofs.Common.{◌≡◌, ℕ, zero, suc, ℤ, pos, ◌+ℤ◌, true, false, ◌||◌, refl, ap, sym, ◌∙◌, subst, List, [], ◌∷◌, length, set, Option, Some, length-set}
+use Rattle.std.proofs.lemmas.Bool.{and_from, and_parts}
 use Rattle.std.proofs.lemmas.List.{map-set}
 use Rattle.std.specs.Prelude.{slice_get, nat_lt}
 use Rattle.vc_process.specs.declared.datum.Datum.{Datum}
@@ -9,18 +10,19 @@ use Rattle.vc_occam.specs.declared.frame.Turn.{Turn}
 use Rattle.vc_occam.specs.declared.frame.Choice.TheVariants.{Within}
 use Rattle.vc_occam.specs.declared.outcome.Outcome.{Outcome}
 use Rattle.vc_occam.specs.declared.outcome.Outcome.TheVariants as outcome
-use Rattle.vc_occam.specs.declared.site_action.SiteAction.{SiteAction}
-use Rattle.vc_occam.specs.declared.site_step.SiteStep.{SiteStep}
-use Rattle.vc_process.specs.Syntax.{Exp, Test, IF, WHILE, COUNT, ALT, no_parts, part, branch, guard}
+use Rattle.vc_occam.specs.SiteActions.{SiteAction}
+use Rattle.vc_occam.specs.Private.SiteSteps.{Actions, StepAt, first_action, one, whole_output}
+use Rattle.vc_process.specs.Syntax.{Exp, Test, Proc, IF, WHILE, COUNT, ALT, no_parts, part, branch, guard}
 use Rattle.vc_process.specs.Terms.{as_test, store}
 use Rattle.vc_process.specs.Usage.{changes, changes_branches, changes_guards, just}
 use Rattle.vc_process.specs.Values.{Store}
-use Rattle.vc_occam.specs.Remains.{Rest, Done, Fresh, Then, Turns, in_then, in_turns, index_on, turns_on}
-use Rattle.vc_occam.specs.Frames.{View, all_sound, bodies, branches_of, branching, counting, follow, guarded, guarding, guards_of, has_ended, has_place, is_sound, left_by, looping, outcome_of, rest_of, turns_left, view_of}
-use Rattle.vc_occam.specs.Private.Frames.{Able, CanGo, Did, HasTurned, Went, assigned_at, turns_behind}
+use Rattle.vc_occam.specs.Remains.{Rest, Done, Fresh, Then, Turns, Step, in_turns, index_on, turns_on}
+use Rattle.vc_occam.specs.Traces.{Comm}
+use Rattle.vc_occam.specs.Frames.{View, all_sound, bodies, branches_of, branching, counting, follow, guarded, guarding, guards_of, has_place, is_sound, left_by, looping, outcome_of, rest_of, turns_left}
+use Rattle.vc_occam.specs.Private.Frames.{Able, CanGo, Did, HasTurned, Went, assigned_at, has_ended, turns_behind, unstopped}
 use Rattle.vc_occam.specs.Private.Sites.{InPreorder, BranchesInPreorder, GuardsInPreorder}
-use Rattle.vc_occam.proofs.Endings.{left_goes, left_ended, index_stays, turns_go}
-use Rattle.vc_occam.proofs.Going.{and_both, and_left, and_right, part_is_changed, part_is_sound, parts_still_sound, then_did, then_outcome}
+use Rattle.vc_occam.proofs.Endings.{does_go, left_goes, left_ended, index_stays, turns_go}
+use Rattle.vc_occam.proofs.Going.{part_is_changed, part_is_sound, parts_still_sound, then_able, then_did, then_ended, then_outcome}
 use Rattle.vc_occam.proofs.Stores.{or_left, or_right}
 
 -- the body in a list of branches
@@ -50,38 +52,38 @@ branch_body (c ∷ bs) zero b h = let e : c ≡ b = cc in ap (λ (x : Branch Vie
 branch_body (c ∷ bs) (suc k) b h = branch_body bs k b h
 
 -- the body of an IF
-module _ (step : SiteStep) (i : ℕ) (bs : List (Branch View)) (k : ℕ) (b : Branch View) (is : slice_get bs k ≡ Some b) where
-  pub branch_part : (vars : List Datum) → CanGo step (view_of i false (branching bs (Some k))) vars → CanGo step b.body vars
+module _ (step : StepAt) (i : ℕ) (bs : List (Branch View)) (k : ℕ) (b : Branch View) (is : slice_get bs k ≡ Some b) where
+  pub branch_part : (vars : List Datum) → CanGo step (unstopped i (branching bs (Some k))) vars → CanGo step b.body vars
   branch_part vars c =
       let at = branch_body bs k b is in
       let rest : follow (slice_get (bodies bs) k) no_parts ≡ b.body.rest = ap (λ o. follow o no_parts) at in
       record {
-        able = subst (λ (r : Rest). Able r (store vars) step.site step.action) rest c.able;
+        able = subst (λ (r : Rest). Able r (store vars) step.site (first_action step.actions)) rest c.able;
         brings = λ q. c.brings q ∙ ap (λ (r : Rest). assigned_at step.site r (store vars)) rest;
         variables = λ x h. c.variables x (branch_changes bs k b.body x at h);
         in_preorder = branch_in_preorder bs k b.body at c.in_preorder.1;
-        sound = part_is_sound (bodies bs) k b.body at (and_right (has_place (Some k) (length bs)) (all_sound (bodies bs)) c.sound);
+        sound = part_is_sound (bodies bs) k b.body at (and_parts (has_place (Some k) (length bs)) (all_sound (bodies bs)) c.sound).1;
       }
 
   pub branch_sound : (w : View) → nat_lt k (length bs) ≡ true → all_sound (bodies bs) ≡ true → w.sound ≡ true → is_sound (branching (set bs k (with_body b w)) (Some k)) ≡ true
   branch_sound w l s h =
       let cs = set bs k (with_body b w) in
-      and_both (nat_lt k (length cs)) (all_sound (bodies cs)) (ap (nat_lt k) (length-set bs k (with_body b w)) ∙ l)
+      and_from (nat_lt k (length cs)) (all_sound (bodies cs)) (ap (nat_lt k) (length-set bs k (with_body b w)) ∙ l)
       (ap all_sound (map-set (λ (b : Branch View). b.body) bs k (with_body b w)) ∙ parts_still_sound (bodies bs) k w s h)
 
   pub branch_rest : (w : View) → rest_of i (branching (set bs k (with_body b w)) (Some k)) ≡ w.rest
   branch_rest w =
       ap (λ vs. follow (slice_get vs k) no_parts) (map-set (λ (b : Branch View). b.body) bs k (with_body b w)) ∙ ap (λ o. follow o no_parts) (part_is_changed (bodies bs) k b.body w (branch_body bs k b is))
 
-  pub branch_went : (e : Store) (o : Outcome) (w : View) (f : Store) → is_sound (branching bs (Some k)) ≡ true → Went step b.body e o w f → Went step (view_of i false (branching bs (Some k))) e o (view_of i false (branching (set bs k (with_body b w)) (Some k))) f
+  pub branch_went : (e : Store) (o : Outcome) (w : View) (f : Store) → is_sound (branching bs (Some k)) ≡ true → Went step b.body e o w f → Went step (unstopped i (branching bs (Some k))) e o (unstopped i (branching (set bs k (with_body b w)) (Some k))) f
   branch_went e o w f sound went =
       let at = branch_body bs k b is in
       let before : rest_of i (branching bs (Some k)) ≡ b.body.rest = ap (λ o. follow o no_parts) at in
       let after = branch_rest w in
       record {
-        did = subst (λ (r : Rest). Did r e step.site step.action (left_by o (rest_of i (branching (set bs k (with_body b w)) (Some k)))) f) (sym before) (subst (λ (r : Rest). Did b.body.rest e step.site step.action (left_by o r) f) (sym after) went.did);
+        did = subst (λ (r : Rest). Did r e step.site step.actions (left_by o (rest_of i (branching (set bs k (with_body b w)) (Some k)))) f) (sym before) (subst (λ (r : Rest). Did b.body.rest e step.site step.actions (left_by o r) f) (sym after) went.did);
         plan = ap (IF i) (same_branches bs k b w is went.plan);
-        sound = branch_sound w (and_left (nat_lt k (length bs)) (all_sound (bodies bs)) sound) (and_right (nat_lt k (length bs)) (all_sound (bodies bs)) sound) went.sound;
+        sound = branch_sound w (and_parts (nat_lt k (length bs)) (all_sound (bodies bs)) sound).0 (and_parts (nat_lt k (length bs)) (all_sound (bodies bs)) sound).1 went.sound;
         outcome = went.outcome ∙ ap (λ (r : Rest). outcome_of (left_by o r)) (sym after);
       }
 
@@ -116,74 +118,72 @@ guard_body (c ∷ gs) zero g h = let e : c ≡ g = cc in ap (λ (x : Guard View)
 guard_body (c ∷ gs) (suc k) g h = guard_body gs k g h
 
 -- the body of an ALT
-module _ (step : SiteStep) (i : ℕ) (gs : List (Guard View)) (k : ℕ) (g : Guard View) (is : slice_get gs k ≡ Some g) where
-  pub guard_part : (vars : List Datum) → CanGo step (view_of i false (guarding gs (Within k))) vars → CanGo step g.body vars
+module _ (step : StepAt) (i : ℕ) (gs : List (Guard View)) (k : ℕ) (g : Guard View) (is : slice_get gs k ≡ Some g) where
+  pub guard_part : (vars : List Datum) → CanGo step (unstopped i (guarding gs (Within k))) vars → CanGo step g.body vars
   guard_part vars c =
       let at = guard_body gs k g is in
       let rest : follow (slice_get (guarded gs) k) no_parts ≡ g.body.rest = ap (λ o. follow o no_parts) at in
       record {
-        able = subst (λ (r : Rest). Able r (store vars) step.site step.action) rest c.able;
+        able = subst (λ (r : Rest). Able r (store vars) step.site (first_action step.actions)) rest c.able;
         brings = λ q. c.brings q ∙ ap (λ (r : Rest). assigned_at step.site r (store vars)) rest;
         variables = λ x h. c.variables x (guard_changes gs k g.body x at h);
         in_preorder = guard_in_preorder gs k g.body at c.in_preorder.1;
-        sound = part_is_sound (guarded gs) k g.body at (and_right (nat_lt k (length gs)) (all_sound (guarded gs)) (and_right (nat_lt (length gs) 65536) _ c.sound));
+        sound = part_is_sound (guarded gs) k g.body at (and_parts (nat_lt k (length gs)) (all_sound (guarded gs)) (and_parts (nat_lt (length gs) 65536) _ c.sound).1).1;
       }
 
   pub guard_sound : (w : View) → nat_lt (length gs) 65536 ≡ true → nat_lt k (length gs) ≡ true → all_sound (guarded gs) ≡ true → w.sound ≡ true → is_sound (guarding (set gs k (guarding_body g w)) (Within k)) ≡ true
   guard_sound w m l s h =
       let cs = set gs k (guarding_body g w) in
       let same = length-set gs k (guarding_body g w) in
-      and_both (nat_lt (length cs) 65536) _ (ap (λ n. nat_lt n 65536) same ∙ m)
-      (and_both (nat_lt k (length cs)) (all_sound (guarded cs)) (ap (nat_lt k) same ∙ l) (ap all_sound (map-set (λ (g : Guard View). g.body) gs k (guarding_body g w)) ∙ parts_still_sound (guarded gs) k w s h))
+      and_from (nat_lt (length cs) 65536) _ (ap (λ n. nat_lt n 65536) same ∙ m)
+      (and_from (nat_lt k (length cs)) (all_sound (guarded cs)) (ap (nat_lt k) same ∙ l) (ap all_sound (map-set (λ (g : Guard View). g.body) gs k (guarding_body g w)) ∙ parts_still_sound (guarded gs) k w s h))
 
   pub guard_rest : (w : View) → rest_of i (guarding (set gs k (guarding_body g w)) (Within k)) ≡ w.rest
   guard_rest w =
       ap (λ vs. follow (slice_get vs k) no_parts) (map-set (λ (g : Guard View). g.body) gs k (guarding_body g w)) ∙ ap (λ o. follow o no_parts) (part_is_changed (guarded gs) k g.body w (guard_body gs k g is))
 
-  pub guard_went : (e : Store) (o : Outcome) (w : View) (f : Store) → is_sound (guarding gs (Within k)) ≡ true → Went step g.body e o w f → Went step (view_of i false (guarding gs (Within k))) e o (view_of i false (guarding (set gs k (guarding_body g w)) (Within k))) f
+  pub guard_went : (e : Store) (o : Outcome) (w : View) (f : Store) → is_sound (guarding gs (Within k)) ≡ true → Went step g.body e o w f → Went step (unstopped i (guarding gs (Within k))) e o (unstopped i (guarding (set gs k (guarding_body g w)) (Within k))) f
   guard_went e o w f sound went =
       let at = guard_body gs k g is in
       let before : rest_of i (guarding gs (Within k)) ≡ g.body.rest = ap (λ o. follow o no_parts) at in
       let after = guard_rest w in
-      let behind = and_right (nat_lt (length gs) 65536) _ sound in
+      let behind = (and_parts (nat_lt (length gs) 65536) _ sound).1 in
       record {
-        did = subst (λ (r : Rest). Did r e step.site step.action (left_by o (rest_of i (guarding (set gs k (guarding_body g w)) (Within k)))) f) (sym before) (subst (λ (r : Rest). Did g.body.rest e step.site step.action (left_by o r) f) (sym after) went.did);
+        did = subst (λ (r : Rest). Did r e step.site step.actions (left_by o (rest_of i (guarding (set gs k (guarding_body g w)) (Within k)))) f) (sym before) (subst (λ (r : Rest). Did g.body.rest e step.site step.actions (left_by o r) f) (sym after) went.did);
         plan = ap (ALT i) (same_guards gs k g w is went.plan);
-        sound = guard_sound w (and_left (nat_lt (length gs) 65536) _ sound) (and_left (nat_lt k (length gs)) (all_sound (guarded gs)) behind) (and_right (nat_lt k (length gs)) (all_sound (guarded gs)) behind) went.sound;
+        sound = guard_sound w (and_parts (nat_lt (length gs) 65536) _ sound).0 (and_parts (nat_lt k (length gs)) (all_sound (guarded gs)) behind).0 (and_parts (nat_lt k (length gs)) (all_sound (guarded gs)) behind).1 went.sound;
         outcome = went.outcome ∙ ap (λ (r : Rest). outcome_of (left_by o r)) (sym after);
       }
 
 -- the body of a WHILE
-inside_able : (r : Rest) (ps : _) (e : Store) (s : ℕ) (d : SiteAction) → Able (Then r ps) e s d → Able r e s d
-inside_able r ps e s d (ks, q, f, in_then {r' = r'} {e' = e'} st) = (ks, r', e', st)
-
-module _ (step : SiteStep) (i : ℕ) (b : Test) (v : View) where
-  pub turn_part : (vars : List Datum) → CanGo step (view_of i false (looping b v true)) vars → CanGo step v vars
+module _ (step : StepAt) (i : ℕ) (b : Test) (v : View) where
+  pub turn_part : (vars : List Datum) → CanGo step (unstopped i (looping b v true)) vars → CanGo step v vars
   turn_part vars c =
       record {
-        able = inside_able v.rest (part (WHILE i b v.plan) no_parts) (store vars) step.site step.action c.able;
+        able = then_able v.rest (part (WHILE i b v.plan) no_parts) (store vars) step.site (first_action step.actions) c.able;
         brings = c.brings;
         variables = c.variables;
         in_preorder = c.in_preorder.1;
         sound = c.sound;
       }
 
-  pub turn_goes : (e : Store) (o : Outcome) (w : View) (f : Store) → Went step v e o w f → has_ended o ≡ false → Went step (view_of i false (looping b v true)) e o (view_of i false (looping b w true)) f
+  pub turn_goes : (e : Store) (o : Outcome) (w : View) (f : Store) → Went step v e o w f → has_ended o ≡ false → Went step (unstopped i (looping b v true)) e o (unstopped i (looping b w true)) f
   turn_goes e o w f went n =
       let ps = part (WHILE i b v.plan) no_parts in
       let same : part (WHILE i b w.plan) no_parts ≡ ps = ap (λ p. part (WHILE i b p) no_parts) went.plan in
       record {
-        did = subst (λ qs. Did (Then v.rest ps) e step.site step.action (left_by o (Then w.rest qs)) f) (sym same) (then_did v.rest w.rest ps o e f step.site step.action went.did went.outcome n);
+        did = subst (λ qs. Did (Then v.rest ps) e step.site step.actions (left_by o (Then w.rest qs)) f) (sym same) (then_did v.rest w.rest ps o e f step.site step.actions went.did went.outcome n);
         plan = ap (WHILE i b) went.plan;
         sound = went.sound;
         outcome = then_outcome w.rest ps o went.outcome n ∙ ap (λ qs. outcome_of (left_by o (Then w.rest qs))) (sym same);
       }
 
-  pub turn_ended : (e : Store) (o : Outcome) (w : View) (f : Store) → Went step v e o w f → has_ended o ≡ true → Went step (view_of i false (looping b v true)) e (outcome.Quiet i) (view_of i false (looping b w false)) f
+  pub turn_ended : (e : Store) (o : Outcome) (w : View) (f : Store) → Went step v e o w f → has_ended o ≡ true → Went step (unstopped i (looping b v true)) e (outcome.Quiet i) (unstopped i (looping b w false)) f
   turn_ended e o w f went n =
-      let st = subst (λ (r : Rest). Did v.rest e step.site step.action r f) (left_ended o w.rest n) went.did in
+      let ps = part (WHILE i b v.plan) no_parts in
+      let did = then_ended v.rest ps e f step.site step.actions (subst (λ (r : Rest). Did v.rest e step.site step.actions r f) (left_ended o w.rest n) went.did) in
       record {
-        did = subst (λ p. Did (Then v.rest (part (WHILE i b v.plan) no_parts)) e step.site step.action (Fresh (WHILE i b p)) f) (sym went.plan) (st.0, in_then st.1);
+        did = subst (λ p. Did (Then v.rest ps) e step.site step.actions (Fresh (WHILE i b p)) f) (sym went.plan) did;
         plan = ap (WHILE i b) went.plan;
         sound = went.sound;
         outcome = refl;
@@ -193,46 +193,55 @@ module _ (step : SiteStep) (i : ℕ) (b : Test) (v : View) where
 counted_able : (r : Rest) (v : ℕ) (b : ℤ) (n : ℕ) (p : _) (e : Store) (s : ℕ) (d : SiteAction) → Able (Turns r v b n p) e s d → Able r e s d
 counted_able r v b n p e s d (ks, q, f, in_turns {r' = r'} {e' = e'} st) = (ks, r', e', st)
 
-module _ (step : SiteStep) (i x : ℕ) (a n : Exp) (v : View) (t : Turn) where
-  pub count_part : (vars : List Datum) → CanGo step (view_of i false (counting x a n v (Some t))) vars → CanGo step v vars
+-- what it does, it does with the turns behind it
+turns_steps : {i : ℕ} {d : SiteAction} {ks : List Comm} {q : Rest} {e f : Store} (r : Rest) (v : ℕ) (b : ℤ) (n : ℕ) (p : Proc) → Step r e i d ks q f → Step (turns_on r v b n p) (index_on r v b n e) i d ks (turns_on q v b n p) (index_on q v b n f)
+turns_steps {i = i} {d = d} {ks = ks} {q = q} {e = e} {f = f} r v b n p st =
+    let goes = does_go r st in
+    subst (λ (x : Rest). Step x (index_on r v b n e) i d ks (turns_on q v b n p) (index_on q v b n f)) (sym (turns_go r v b n p goes))
+    (subst (λ (g : Store). Step (Turns r v b n p) g i d ks (turns_on q v b n p) (index_on q v b n f)) (sym (index_stays r v b n e goes)) (in_turns st))
+
+in_turns_did : (r q : Rest) (v : ℕ) (b : ℤ) (n : ℕ) (p : Proc) (e f : Store) (i : ℕ) (ds : Actions) → Did r e i ds q f → Did (Turns r v b n p) e i ds (turns_on q v b n p) (index_on q v b n f)
+in_turns_did r q v b n p e f i (one d) (ks, st) = (ks, in_turns st)
+in_turns_did r q v b n p e f i (whole_output c) (ks, m, g, ls, begins, finishes) = (ks, turns_on m v b n p, index_on m v b n g, ls, in_turns begins, turns_steps m v b n p finishes)
+
+module _ (step : StepAt) (i x : ℕ) (a n : Exp) (v : View) (t : Turn) where
+  pub count_part : (vars : List Datum) → CanGo step (unstopped i (counting x a n v (Some t))) vars → CanGo step v vars
   count_part vars c =
       record {
-        able = counted_able v.rest x (t.index +ℤ pos 1) (turns_left t.index t.last) v.plan (store vars) step.site step.action c.able;
+        able = counted_able v.rest x (t.index +ℤ pos 1) (turns_left t.index t.last) v.plan (store vars) step.site (first_action step.actions) c.able;
         brings = c.brings;
         variables = λ y h. c.variables y (or_right (just x y) (changes v.plan y) h);
         in_preorder = c.in_preorder.1;
         sound = c.sound;
       }
 
-  pub count_goes : (e : Store) (o : Outcome) (w : View) (f : Store) → Went step v e o w f → has_ended o ≡ false → Went step (view_of i false (counting x a n v (Some t))) e o (view_of i false (counting x a n w (Some t))) f
+  pub count_goes : (e : Store) (o : Outcome) (w : View) (f : Store) → Went step v e o w f → has_ended o ≡ false → Went step (unstopped i (counting x a n v (Some t))) e o (unstopped i (counting x a n w (Some t))) f
   count_goes e o w f went still =
       let b = t.index +ℤ pos 1 in
       let m = turns_left t.index t.last in
       let left = left_goes o w.rest still in
       let is : o ≡ outcome_of w.rest = went.outcome ∙ ap outcome_of left in
       let goes : has_ended (outcome_of w.rest) ≡ false = ap has_ended (sym is) ∙ still in
-      let st = subst (λ (r : Rest). Did v.rest e step.site step.action r f) left went.did in
-      let whole : Did (Turns v.rest x b m v.plan) e step.site step.action (turns_on w.rest x b m v.plan) (index_on w.rest x b m f) = (st.0, in_turns st.1) in
-      let by_store = subst (λ (g : Store). Did (Turns v.rest x b m v.plan) e step.site step.action (turns_on w.rest x b m v.plan) g) (index_stays w.rest x b m f goes) whole in
+      let whole = in_turns_did v.rest w.rest x b m v.plan e f step.site step.actions (subst (λ (r : Rest). Did v.rest e step.site step.actions r f) left went.did) in
+      let by_store = subst (λ (g : Store). Did (Turns v.rest x b m v.plan) e step.site step.actions (turns_on w.rest x b m v.plan) g) (index_stays w.rest x b m f goes) whole in
       let after : left_by o (Turns w.rest x b m w.plan) ≡ turns_on w.rest x b m v.plan = left_goes o (Turns w.rest x b m w.plan) still ∙ ap (Turns w.rest x b m) went.plan ∙ sym (turns_go w.rest x b m v.plan goes) in
       record {
-        did = subst (λ (r : Rest). Did (Turns v.rest x b m v.plan) e step.site step.action r f) (sym after) by_store;
+        did = subst (λ (r : Rest). Did (Turns v.rest x b m v.plan) e step.site step.actions r f) (sym after) by_store;
         plan = ap (COUNT i x a n) went.plan;
         sound = went.sound;
         outcome = then_outcome w.rest (part w.plan no_parts) o went.outcome still ∙ ap outcome_of (left_goes o (Then w.rest (part w.plan no_parts)) still) ∙ ap outcome_of (sym (left_goes o (Turns w.rest x b m w.plan) still));
       }
 
   pub count_went : (e : Store) (o : Outcome) (w : View) (f : Store) (p : Outcome) (y : ℕ) (c d : Exp) (u : View) (s : Option Turn) (g : Store) → Went step v e o w f → has_ended o ≡ true → HasTurned t (counting x a n w (Some t)) f p (counting y c d u s) g →
-      Went step (view_of i false (counting x a n v (Some t))) e p (view_of i false (counting y c d u s)) g
+      Went step (unstopped i (counting x a n v (Some t))) e p (unstopped i (counting y c d u s)) g
   count_went e o w f p y c d u s g went ended turned =
       let b = t.index +ℤ pos 1 in
       let m = turns_behind t in
-      let st = subst (λ (r : Rest). Did v.rest e step.site step.action r f) (left_ended o w.rest ended) went.did in
-      let whole : Did (Turns v.rest x b m v.plan) e step.site step.action (turns_on Done x b m v.plan) (index_on Done x b m f) = (st.0, in_turns st.1) in
+      let whole = in_turns_did v.rest Done x b m v.plan e f step.site step.actions (subst (λ (r : Rest). Did v.rest e step.site step.actions r f) (left_ended o w.rest ended) went.did) in
       let same : turns_on Done x b m w.plan ≡ turns_on Done x b m v.plan = ap (turns_on Done x b m) went.plan in
       let after : left_by p (rest_of i (counting y c d u s)) ≡ turns_on Done x b m v.plan = turned.rest i ∙ same in
       record {
-        did = subst (λ (r : Rest). Did (Turns v.rest x b m v.plan) e step.site step.action r g) (sym after) (subst (λ (h : Store). Did (Turns v.rest x b m v.plan) e step.site step.action (turns_on Done x b m v.plan) h) (sym turned.value) whole);
+        did = subst (λ (r : Rest). Did (Turns v.rest x b m v.plan) e step.site step.actions r g) (sym after) (subst (λ (h : Store). Did (Turns v.rest x b m v.plan) e step.site step.actions (turns_on Done x b m v.plan) h) (sym turned.value) whole);
         plan = turned.plan i ∙ ap (COUNT i x a n) went.plan;
         sound = turned.sound;
         outcome = turned.outcome ∙ ap outcome_of (same ∙ sym after);

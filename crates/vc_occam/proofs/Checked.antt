@@ -1,5 +1,6 @@
 -- What is asked of a process says that its values are of their kinds.
-use Rattle.std.proofs.Common.{◌≡◌, ℕ, zero, suc, ◌<◌, Bool, true, false, ◌&&◌, refl, ap, ◌∙◌, List, [], ◌∷◌, ◌++◌, length, map, slice_get, Option, Some, None, nat_lt, arith}
+use Rattle.std.proofs.Common.{◌≡◌, ℕ, zero, suc, ◌<◌, true, false, ◌&&◌, refl, ap, ◌∙◌, List, [], ◌∷◌, ◌++◌, length, map, slice_get, Option, Some, None, nat_lt, arith}
+use Rattle.std.proofs.lemmas.Bool.{and_parts}
 use Rattle.std.proofs.lemmas.Bool.Decides.{nat_tests}
 use Rattle.vc_process.specs.declared.channel_use.ChannelUse.{ChannelUse}
 use Rattle.vc_process.specs.declared.value_kind.ValueKind.{ValueKind}
@@ -11,10 +12,6 @@ use Rattle.vc_process.specs.ProcessLimits.{test_fits, names_fit, parts_names_fit
 use Rattle.vc_process.specs.Syntax.{Proc, SKIP, STOP, Assign, Output, Input, StopChan, SEQ, PAR, IF, WHILE, COUNT, ALT, Procs, no_parts, part, Branches, no_branches, branch, Guards, no_guards, guard}
 use Rattle.vc_process.specs.Terms.{store}
 use Rattle.vc_occam.proofs.Kinded.{kind_of, HasKind, StoreHasKinds, Kinded, AllKinded, BranchesKinded, GuardsKinded}
-
-both : (a b : Bool) → (a && b) ≡ true → (a ≡ true) × (b ≡ true)
-both true b h = (refl, h)
-both false b h = absurd (let z : false ≡ true = h in cc)
 
 pub kinds_same : (j k : ValueKind) → same_kind j k ≡ true → j ≡ k
 kinds_same kind.Int kind.Int h = refl
@@ -58,39 +55,39 @@ module _ (channel : ℕ → ValueKind) (kinds : List ValueKind) (n : ℕ) where
     pub kinded : (p : Proc) → names_fit p kinds n ≡ true → AreKinded channel (channel_uses kinds p) → Kinded channel kinds p
     kinded (SKIP i) h u = tt
     kinded (STOP i) h u = tt
-    kinded (Assign i v a) h u = held (slice_get kinds v) (given_kind a) (both (holds_kind kinds v (given_kind a)) (given_fits a kinds) h).0
+    kinded (Assign i v a) h u = held (slice_get kinds v) (given_kind a) (and_parts (holds_kind kinds v (given_kind a)) (given_fits a kinds) h).0
     kinded (Output i c a) h u = u.0 (given_kind a) refl
-    kinded (Input i c v) h u = input_kinded c v (both (nat_lt c n) (nat_lt v (length kinds)) h).1 u.0
+    kinded (Input i c v) h u = input_kinded c v (and_parts (nat_lt c n) (nat_lt v (length kinds)) h).1 u.0
     kinded (StopChan i c) h u = tt
     kinded (SEQ i ps) h u = all_kinded ps h u
     kinded (PAR i ps) h u = all_kinded ps h u
     kinded (IF i bs) h u = branches_kinded bs h u
-    kinded (WHILE i b p) h u = kinded p (both (test_fits b kinds) (names_fit p kinds n) h).1 u
+    kinded (WHILE i b p) h u = kinded p (and_parts (test_fits b kinds) (names_fit p kinds n) h).1 u
     kinded (COUNT i v a k p) h u =
-        let parts = both (holds_kind kinds v kind.Int && exp_fits a kinds && exp_fits k kinds) (names_fit p kinds n) h in
-        let index = both (holds_kind kinds v kind.Int) (exp_fits a kinds) (both (holds_kind kinds v kind.Int && exp_fits a kinds) (exp_fits k kinds) parts.0).0 in
+        let parts = and_parts (holds_kind kinds v kind.Int && exp_fits a kinds && exp_fits k kinds) (names_fit p kinds n) h in
+        let index = and_parts (holds_kind kinds v kind.Int) (exp_fits a kinds) (and_parts (holds_kind kinds v kind.Int && exp_fits a kinds) (exp_fits k kinds) parts.0).0 in
         (held (slice_get kinds v) kind.Int index.0, kinded p parts.1 u)
     kinded (ALT i gs) h u = guards_kinded gs h (first_ones (guard_uses kinds gs) (uses_of_bodies kinds gs) u) (last_ones (guard_uses kinds gs) (uses_of_bodies kinds gs) u)
 
     all_kinded : (ps : Procs) → parts_names_fit ps kinds n ≡ true → AreKinded channel (uses_of_all kinds ps) → AllKinded channel kinds ps
     all_kinded no_parts h u = tt
     all_kinded (part p ps) h u =
-        let parts = both (names_fit p kinds n) (parts_names_fit ps kinds n) h in
+        let parts = and_parts (names_fit p kinds n) (parts_names_fit ps kinds n) h in
         (kinded p parts.0 (first_ones (channel_uses kinds p) (uses_of_all kinds ps) u), all_kinded ps parts.1 (last_ones (channel_uses kinds p) (uses_of_all kinds ps) u))
 
     branches_kinded : (bs : Branches) → branches_names_fit bs kinds n ≡ true → AreKinded channel (uses_of_branches kinds bs) → BranchesKinded channel kinds bs
     branches_kinded no_branches h u = tt
     branches_kinded (branch b p bs) h u =
-        let parts = both (test_fits b kinds && names_fit p kinds n) (branches_names_fit bs kinds n) h in
-        let body = (both (test_fits b kinds) (names_fit p kinds n) parts.0).1 in
+        let parts = and_parts (test_fits b kinds && names_fit p kinds n) (branches_names_fit bs kinds n) h in
+        let body = (and_parts (test_fits b kinds) (names_fit p kinds n) parts.0).1 in
         (kinded p body (first_ones (channel_uses kinds p) (uses_of_branches kinds bs) u), branches_kinded bs parts.1 (last_ones (channel_uses kinds p) (uses_of_branches kinds bs) u))
 
     guards_kinded : (gs : Guards) → guards_names_fit gs kinds n ≡ true → AreKinded channel (guard_uses kinds gs) → AreKinded channel (uses_of_bodies kinds gs) → GuardsKinded channel kinds gs
     guards_kinded no_guards h u w = tt
     guards_kinded (guard b c v p gs) h u w =
-        let one = both (test_fits b kinds && nat_lt c n && nat_lt v (length kinds) && names_fit p kinds n) (guards_names_fit gs kinds n) h in
-        let two = both (test_fits b kinds && nat_lt c n && nat_lt v (length kinds)) (names_fit p kinds n) one.0 in
-        let three = both (test_fits b kinds && nat_lt c n) (nat_lt v (length kinds)) two.0 in (
+        let one = and_parts (test_fits b kinds && nat_lt c n && nat_lt v (length kinds) && names_fit p kinds n) (guards_names_fit gs kinds n) h in
+        let two = and_parts (test_fits b kinds && nat_lt c n && nat_lt v (length kinds)) (names_fit p kinds n) one.0 in
+        let three = and_parts (test_fits b kinds && nat_lt c n) (nat_lt v (length kinds)) two.0 in (
           input_kinded c v three.1 u.0,
           kinded p two.1 (first_ones (channel_uses kinds p) (uses_of_bodies kinds gs) w),
           guards_kinded gs one.1 u.1 (last_ones (channel_uses kinds p) (uses_of_bodies kinds gs) w),

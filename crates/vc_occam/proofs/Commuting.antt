@@ -8,8 +8,7 @@ use Rattle.vc_process.proofs.Lists.{none}
 use Rattle.vc_process.specs.Syntax.{Proc, Procs}
 use Rattle.vc_process.specs.Usage.{Set}
 use Rattle.vc_process.specs.Values.{Store}
-use Rattle.vc_occam.specs.declared.site_action.SiteAction.{SiteAction}
-use Rattle.vc_occam.specs.declared.site_action.SiteAction.TheVariants.{Quiet, Offer, Finish}
+use Rattle.vc_occam.specs.SiteActions.{SiteAction, Quiet, Offer, Finish}
 use Rattle.vc_occam.specs.Remains.{Rest, Done, Then, Turns, Beside, then_on, turns_on, index_on, beside_on, Step, does_offer, does_finish, in_then, in_turns, in_left, in_right, changes_rest, uses_rest, Apart, KeepsVariablesApart}
 use Rattle.vc_occam.specs.States.{output, waiting}
 use Rattle.vc_occam.specs.Traces.{Comm, set}

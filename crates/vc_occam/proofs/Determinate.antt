@@ -3,8 +3,7 @@ use Rattle.std.proofs.Common.{◌≡◌, ℕ, suc, ℤ, pos, ◌+ℤ◌, true, f
 use Rattle.std.proofs.lemmas.Option.{same_Some}
 use Rattle.vc_process.specs.declared.datum.Datum.{Datum}
 use Rattle.vc_process.specs.declared.datum.Datum.TheVariants as datum
-use Rattle.vc_occam.specs.declared.site_action.SiteAction.{SiteAction}
-use Rattle.vc_occam.specs.declared.site_action.SiteAction.TheVariants.{Quiet, Offer, Finish, Want, Choose, Message, StopChannel}
+use Rattle.vc_occam.specs.SiteActions.{SiteAction, Quiet, Offer, Finish, Want, Choose, Message, StopChannel}
 use Rattle.vc_occam.specs.InUse.{UsesLawfully, outputs_rest, inputs_rest}
 use Rattle.vc_process.specs.Lawful.{outputs_all, inputs_all, outputs, inputs}
 use Rattle.vc_process.specs.Messages.{message, received}
@@ -66,7 +65,7 @@ step_site {i = i} (in_left {r = r} {q = q} st) = or_left (sites_rest r i) (sites
 step_site {i = i} (in_right {r = r} {q = q} st) = or_right (sites_rest r i) (sites_rest q i) (step_site st)
 
 -- where parts side by side have sites of their own, what a site does leads to one state
-step_one : {r r' r'' : Rest} {e e' e'' : Store} {i j : ℕ} {d f : SiteAction} {ks ls : List Comm} → Step r e i d ks r' e' → Step r e j f ls r'' e'' → i ≡ j → d ≡ f → OwnSites r → ◌≡◌ {A = Outcome} (ks, r', e') (ls, r'', e'')
+pub step_one : {r r' r'' : Rest} {e e' e'' : Store} {i j : ℕ} {d f : SiteAction} {ks ls : List Comm} → Step r e i d ks r' e' → Step r e j f ls r'' e'' → i ≡ j → d ≡ f → OwnSites r → ◌≡◌ {A = Outcome} (ks, r', e') (ls, r'', e'')
 step_one does_skip does_skip at it o = refl
 step_one does_empty_seq does_empty_seq at it o = refl
 step_one does_empty_par does_empty_par at it o = refl

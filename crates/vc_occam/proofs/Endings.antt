@@ -1,12 +1,15 @@
 -- What a process comes to, and what remains of it.
-use Rattle.std.proofs.Common.{◌≡◌, ℕ, ℤ, Bool, true, false, refl, sym, ◌∙◌}
+use Rattle.std.proofs.Common.{◌≡◌, ℕ, ℤ, Bool, true, false, refl, sym, ◌∙◌, List}
 use Rattle.vc_occam.specs.declared.outcome.Outcome.{Outcome}
 use Rattle.vc_occam.specs.declared.outcome.Outcome.TheVariants as outcome
 use Rattle.vc_process.specs.Syntax.{Whole, Bytes, Proc, SKIP, STOP, Assign, Output, Input, StopChan, SEQ, PAR, IF, WHILE, COUNT, ALT, Procs, no_parts, part}
 use Rattle.vc_process.specs.Usage.{Set}
 use Rattle.vc_process.specs.Values.{Store}
-use Rattle.vc_occam.specs.Remains.{Rest, Done, Stopped, Fresh, Finishing, Getting, Then, Turns, Beside, and_then, begin, begin_seq, begin_par, beside_on, index_on, then_on, turns_on}
-use Rattle.vc_occam.specs.Frames.{fresh_outcome, has_ended, left_by, outcome_of, unless_ended}
+use Rattle.vc_occam.specs.SiteActions.{SiteAction}
+use Rattle.vc_occam.specs.Remains.{Rest, Done, Stopped, Fresh, Finishing, Getting, Then, Turns, Beside, and_then, begin, begin_seq, begin_par, beside_on, index_on, then_on, turns_on, Step}
+use Rattle.vc_occam.specs.Traces.{Comm}
+use Rattle.vc_occam.specs.Frames.{fresh_outcome, left_by, outcome_of, unless_ended}
+use Rattle.vc_occam.specs.Private.Frames.{has_ended}
 
 -- where nothing has ended, all remains
 pub left_goes : (o : Outcome) (r : Rest) → has_ended o ≡ false → left_by o r ≡ r
@@ -62,6 +65,23 @@ ended_done (Then r ps) h = absurd (let z : false ≡ true = sym (unless_still (o
 ended_done (Turns r v b n p) h = absurd (let z : false ≡ true = sym (unless_still (outcome_of r)) ∙ h in cc)
 ended_done (Beside mine r q) h = absurd (let z : false ≡ true = h in cc)
 
+-- what can do something has not ended
+pub does_go : {i : ℕ} {d : SiteAction} {ks : List Comm} {q : Rest} {e f : Store} (r : Rest) → Step r e i d ks q f → has_ended (outcome_of r) ≡ false
+does_go Done st = elim st [ ]
+does_go (Stopped i) st = refl
+does_go (Fresh p) st = fresh_goes p
+does_go (Finishing i c) st = refl
+does_go (Getting i c v) st = refl
+does_go (Then r ps) st = unless_still (outcome_of r)
+does_go (Turns r v b n p) st = unless_still (outcome_of r)
+does_go (Beside mine r q) st = refl
+
+pub left_again : (o : Outcome) (r : Rest) → left_by o (left_by o r) ≡ left_by o r
+left_again outcome.Ended r = refl
+left_again outcome.Nothing r = refl
+left_again (outcome.Quiet i) r = refl
+left_again outcome.Other r = refl
+
 pub left_same : (r : Rest) → left_by (outcome_of r) r ≡ r
 left_same r = by (has_ended (outcome_of r)) refl
   where
@@ -109,6 +129,10 @@ beside_goes mine (Getting i c w) q h = refl
 beside_goes mine (Then r qs) q h = refl
 beside_goes mine (Turns r w c m p) q h = refl
 beside_goes mine (Beside m r p) q h = refl
+
+pub goes_beside : (mine : Set) (r q : Rest) → has_ended (outcome_of q) ≡ false → beside_on mine r q ≡ Beside mine r q
+goes_beside mine Done Done h = absurd (let z : true ≡ false = h in cc)
+goes_beside mine r q h = refl
 
 -- a process that begins has not ended
 pub and_then_goes : (r : Rest) (ps : Procs) → has_ended (outcome_of r) ≡ false → has_ended (outcome_of (and_then r ps)) ≡ false

@@ -15,8 +15,8 @@ use Rattle.vc_occam.specs.Remains.{Rest}
 use Rattle.vc_occam.specs.States.{State, StepsTo, meeting, output, waiting}
 use Rattle.vc_occam.specs.Traces.{Comm, Out, Fin, In, Stp}
 use Rattle.vc_occam.specs.declared.moves.Move.TheVariants as move
-use Rattle.vc_occam.specs.declared.site_action.SiteAction.{SiteAction}
-use Rattle.vc_occam.specs.declared.site_action.SiteAction.TheVariants as action
+use Rattle.vc_occam.specs.SiteActions.{SiteAction}
+use Rattle.vc_occam.specs.SiteActions as action
 use Rattle.vc_occam.proofs.Commuting.{after_output, before_end, swap}
 use Rattle.vc_occam.proofs.Completeness.{made}
 use Rattle.vc_occam.proofs.Determinate.{finishing_one}

@@ -7,9 +7,9 @@ use Rattle.vc_occam.specs.declared.frame.Task.{Task}
 use Rattle.vc_occam.specs.declared.moves.Move.{Move}
 use Rattle.vc_process.specs.Values.{Store}
 use Rattle.vc_occam.specs.First.{own}
-use Rattle.vc_occam.specs.Frames.{besides, plans_of, task_view, view}
+use Rattle.vc_occam.specs.Frames.{besides, plans_of, view}
 use Rattle.vc_occam.specs.Moving.{site_of}
-use Rattle.vc_occam.specs.Private.Frames.{HasNothingAt, IsPart, StandsAt, assigned_at, place_with, seen_task}
+use Rattle.vc_occam.specs.Private.Frames.{HasNothingAt, IsPart, StandsAt, assigned_at, place_with, shown, task_views}
 use Rattle.vc_occam.specs.Private.Sites.{PartsInPreorder}
 use Rattle.vc_occam.specs.Remains.{Rest}
 use Rattle.vc_occam.specs.States.{Waiting, output_at, waiting}
@@ -17,7 +17,6 @@ use Rattle.vc_occam.proofs.Doers.{besides_own, besides_wait, found_assigned, fou
 use Rattle.vc_occam.proofs.Innermost.{same_assigned, same_output, same_own, same_waiting}
 use Rattle.vc_occam.proofs.Inside.{tasks_inside}
 use Rattle.vc_occam.proofs.Pars.{task_at}
-use Rattle.vc_occam.proofs.Places.{task_views}
 
 -- what begins at a site begins in this part, and what the part waits for is waited for
 pub record GoesOnIn (i : ℕ) (q r : Rest) : Type 0 where
@@ -61,10 +60,10 @@ alone_in i part whole p =
 
 -- the part of a PAR that has a site
 pub together_in : (i k : ℕ) (ts : List (Task Frame)) (t : Task Frame) → PartsInPreorder (plans_of (task_views ts)) → k < length ts → t ≡ get_or ts k t → k ≡ place_with i (task_views ts) →
-    GoesOnIn i (task_view (seen_task t)).rest (besides (task_views ts))
+    GoesOnIn i (shown t).rest (besides (task_views ts))
 together_in i k ts t pre l h p =
     let vs = task_views ts in
-    let q = (task_view (seen_task t)).rest in
+    let q = (shown t).rest in
     let inside = tasks_inside ts in
     let at : part_at (slice_get vs (place_with i vs)) ≡ q = ap (λ (n : ℕ). part_at (slice_get vs n)) (sym p) ∙ ap part_at (task_at ts k t l h) in record {
       output = λ e. found_output i vs e pre inside ∙ ap (λ (r : Rest). output_at i r e) at;

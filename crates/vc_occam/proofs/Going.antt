@@ -1,42 +1,32 @@
 -- What the part that goes on can do and has done, the process around it can do and has done.
-use Rattle.std.proofs.Common.{◌≡◌, ℕ, zero, suc, Bool, true, false, ◌&&◌, refl, ap, sym, ◌∙◌, subst, List, [], ◌∷◌, length, set, drop, arith, Some, None, length-set}
+use Rattle.std.proofs.Common.{◌≡◌, ℕ, zero, suc, Bool, true, false, refl, ap, sym, ◌∙◌, subst, List, [], ◌∷◌, length, set, drop, arith, Some, None, length-set}
 use Rattle.std.specs.Prelude.{slice_get, nat_lt}
+use Rattle.std.proofs.lemmas.Bool.{and_from, and_parts}
 use Rattle.std.proofs.lemmas.Bool.Decides.{nat_tests}
 use Rattle.std.proofs.lemmas.List.{drop-set-lt}
 use Rattle.std.proofs.lemmas.Option.{slice_get_within}
 use Rattle.vc_process.specs.declared.datum.Datum.{Datum}
 use Rattle.vc_occam.specs.declared.outcome.Outcome.{Outcome}
-use Rattle.vc_occam.specs.declared.site_action.SiteAction.{SiteAction}
-use Rattle.vc_occam.specs.declared.site_step.SiteStep.{SiteStep}
+use Rattle.vc_occam.specs.SiteActions.{SiteAction}
+use Rattle.vc_occam.specs.Private.SiteSteps.{Actions, StepAt, first_action, one, whole_output}
 use Rattle.vc_process.specs.Syntax.{SEQ, Procs, no_parts, part}
 use Rattle.vc_process.specs.Usage.{changes, changes_all}
 use Rattle.vc_process.specs.Terms.{store}
 use Rattle.vc_process.specs.Values.{Store}
-use Rattle.vc_occam.specs.Remains.{Rest, Done, Stopped, Then, and_then, begin, then_on, in_then}
-use Rattle.vc_occam.specs.Frames.{Shape, View, all_sound, begun, follow, has_ended, is_sound, left_by, outcome_of, plans_of, rest_of, seq, view_of}
-use Rattle.vc_occam.specs.Private.Frames.{Able, CanGo, Did, HasNext, Went, assigned_at}
+use Rattle.vc_occam.specs.Traces.{Comm}
+use Rattle.vc_occam.specs.Remains.{Rest, Done, Stopped, Then, and_then, begin, then_on, Step, in_then}
+use Rattle.vc_occam.specs.Frames.{Shape, View, all_sound, begun, follow, is_sound, left_by, outcome_of, plans_of, rest_of, seq, view_of}
+use Rattle.vc_occam.specs.Private.Frames.{Able, CanGo, Did, HasNext, Went, assigned_at, has_ended, unstopped}
 use Rattle.vc_occam.specs.Private.Sites.{InPreorder, PartsInPreorder}
-use Rattle.vc_occam.proofs.Endings.{and_then_outcome, begin_goes, left_goes, left_ended, left_same, then_goes, unless_goes}
+use Rattle.vc_occam.proofs.Endings.{and_then_outcome, begin_goes, does_go, left_goes, left_ended, left_same, then_goes, unless_goes}
 use Rattle.vc_occam.proofs.Stores.{or_left, or_right}
 
--- tests of both
-pub and_left : (a b : Bool) → (a && b) ≡ true → a ≡ true
-and_left true b h = refl
-and_left false b h = absurd (let z : false ≡ true = h in cc)
-
-pub and_right : (a b : Bool) → (a && b) ≡ true → b ≡ true
-and_right true b h = h
-and_right false b h = absurd (let z : false ≡ true = h in cc)
-
-pub and_both : (a b : Bool) → a ≡ true → b ≡ true → (a && b) ≡ true
-and_both a b h g = rw h g
-
 -- what can do something has not been stopped
-pub runs_on : (step : SiteStep) (i : ℕ) (b : Bool) (s : Shape) (vars : List Datum) → CanGo step (view_of i b s) vars → b ≡ false
+pub runs_on : (step : StepAt) (i : ℕ) (b : Bool) (s : Shape) (vars : List Datum) → CanGo step (view_of i b s) vars → b ≡ false
 runs_on step i false s vars c = refl
 runs_on step i true s vars c = stuck c.able
   where
-    stuck : Able (Stopped i) (store vars) step.site step.action → true ≡ false
+    stuck : Able (Stopped i) (store vars) step.site (first_action step.actions) → true ≡ false
     stuck (ks, q, f, st) = elim st [ ]
 
 pub then_able : (r : Rest) (ps : Procs) (e : Store) (s : ℕ) (d : SiteAction) → Able (and_then r ps) e s d → Able r e s d
@@ -47,14 +37,22 @@ pub then_assigned : (i : ℕ) (r : Rest) (ps : Procs) (e : Store) → assigned_a
 then_assigned i r no_parts e = refl
 then_assigned i r (part p ps) e = refl
 
--- what something did, it did with what comes behind it, where it goes on
-pub then_did : (r q : Rest) (ps : Procs) (o : Outcome) (e f : Store) (s : ℕ) (d : SiteAction) → Did r e s d (left_by o q) f → o ≡ outcome_of (left_by o q) → has_ended o ≡ false → Did (and_then r ps) e s d (left_by o (and_then q ps)) f
-then_did r q no_parts o e f s d h g n = h
-then_did r q (part p ps) o e f s d h g n =
+-- what something does, it does with what comes behind it
+then_steps : {i : ℕ} {d : SiteAction} {ks : List Comm} {q : Rest} {e f : Store} (r : Rest) (ps : Procs) → Step r e i d ks q f → Step (then_on r ps) e i d ks (then_on q ps) f
+then_steps {i = i} {d = d} {ks = ks} {q = q} {e = e} {f = f} r ps st = subst (λ (x : Rest). Step x e i d ks (then_on q ps) f) (sym (then_goes r ps (does_go r st))) (in_then st)
+
+in_then_did : (r q : Rest) (ps : Procs) (e f : Store) (i : ℕ) (ds : Actions) → Did r e i ds q f → Did (Then r ps) e i ds (then_on q ps) f
+in_then_did r q ps e f i (one d) (ks, st) = (ks, in_then st)
+in_then_did r q ps e f i (whole_output c) (ks, m, g, ls, begins, finishes) = (ks, then_on m ps, g, ls, in_then begins, then_steps m ps finishes)
+
+-- also where it goes on
+pub then_did : (r q : Rest) (ps : Procs) (o : Outcome) (e f : Store) (i : ℕ) (ds : Actions) → Did r e i ds (left_by o q) f → o ≡ outcome_of (left_by o q) → has_ended o ≡ false → Did (and_then r ps) e i ds (left_by o (and_then q ps)) f
+then_did r q no_parts o e f i ds h g n = h
+then_did r q (part p ps) o e f i ds h g n =
     let is = left_goes o q n in
     let goes : has_ended (outcome_of q) ≡ false = ap has_ended (ap outcome_of (sym is) ∙ sym g) ∙ n in
-    let st = subst (λ (x : Rest). Did r e s d x f) is h in
-    subst (λ (x : Rest). Did (Then r (part p ps)) e s d x f) (then_goes q (part p ps) goes ∙ sym (left_goes o (Then q (part p ps)) n)) (st.0, in_then st.1)
+    let did = in_then_did r q (part p ps) e f i ds (subst (λ (x : Rest). Did r e i ds x f) is h) in
+    subst (λ (x : Rest). Did (Then r (part p ps)) e i ds x f) (then_goes q (part p ps) goes ∙ sym (left_goes o (Then q (part p ps)) n)) did
 
 pub then_outcome : (q : Rest) (ps : Procs) (o : Outcome) → o ≡ outcome_of (left_by o q) → has_ended o ≡ false → o ≡ outcome_of (left_by o (and_then q ps))
 then_outcome q no_parts o g n = g
@@ -64,20 +62,20 @@ then_outcome q (part p ps) o g n =
     is ∙ sym goes ∙ ap outcome_of (sym (left_goes o (Then q (part p ps)) n))
 
 -- where it has ended, what comes behind it begins
-pub then_ended : (r : Rest) (ps : Procs) (e f : Store) (s : ℕ) (d : SiteAction) → Did r e s d Done f → Did (and_then r ps) e s d (then_on Done ps) f
-then_ended r no_parts e f s d h = h
-then_ended r (part p ps) e f s d h = (h.0, in_then h.1)
+pub then_ended : (r : Rest) (ps : Procs) (e f : Store) (i : ℕ) (ds : Actions) → Did r e i ds Done f → Did (and_then r ps) e i ds (then_on Done ps) f
+then_ended r no_parts e f i ds h = h
+then_ended r (part p ps) e f i ds h = in_then_did r Done (part p ps) e f i ds h
 
 -- a part in a list
 pub part_is_sound : (vs : List View) (k : ℕ) (v : View) → slice_get vs k ≡ Some v → all_sound vs ≡ true → v.sound ≡ true
 part_is_sound [] k v h s = absurd cc
-part_is_sound (w ∷ vs) zero v h s = let e : w ≡ v = cc in ap (λ (u : View). u.sound) (sym e) ∙ and_left w.sound (all_sound vs) s
-part_is_sound (w ∷ vs) (suc k) v h s = part_is_sound vs k v h (and_right w.sound (all_sound vs) s)
+part_is_sound (w ∷ vs) zero v h s = let e : w ≡ v = cc in ap (λ (u : View). u.sound) (sym e) ∙ (and_parts w.sound (all_sound vs) s).0
+part_is_sound (w ∷ vs) (suc k) v h s = part_is_sound vs k v h (and_parts w.sound (all_sound vs) s).1
 
 pub parts_still_sound : (vs : List View) (k : ℕ) (w : View) → all_sound vs ≡ true → w.sound ≡ true → all_sound (set vs k w) ≡ true
 parts_still_sound [] k w s h = refl
-parts_still_sound (v ∷ vs) zero w s h = and_both w.sound (all_sound vs) h (and_right v.sound (all_sound vs) s)
-parts_still_sound (v ∷ vs) (suc k) w s h = and_both v.sound (all_sound (set vs k w)) (and_left v.sound (all_sound vs) s) (parts_still_sound vs k w (and_right v.sound (all_sound vs) s) h)
+parts_still_sound (v ∷ vs) zero w s h = and_from w.sound (all_sound vs) h (and_parts v.sound (all_sound vs) s).1
+parts_still_sound (v ∷ vs) (suc k) w s h = and_from v.sound (all_sound (set vs k w)) (and_parts v.sound (all_sound vs) s).0 (parts_still_sound vs k w (and_parts v.sound (all_sound vs) s).1 h)
 
 -- the part at a place is changed, and the processes that were written stay
 pub part_is_changed : (vs : List View) (k : ℕ) (v w : View) → slice_get vs k ≡ Some v → slice_get (set vs k w) k ≡ Some w
@@ -101,17 +99,17 @@ same_plans (u ∷ vs) zero v w h p = let e : v ≡ u = cc in ap (λ q. part q (p
 same_plans (u ∷ vs) (suc k) v w h p = ap (part u.plan) (same_plans vs k v w h p)
 
 -- the part of a SEQ
-module _ (step : SiteStep) (i : ℕ) (vs : List View) (k : ℕ) (v : View) (is : slice_get vs k ≡ Some v) where
-  pub seq_part : (vars : List Datum) → CanGo step (view_of i false (seq vs k)) vars → CanGo step v vars
+module _ (step : StepAt) (i : ℕ) (vs : List View) (k : ℕ) (v : View) (is : slice_get vs k ≡ Some v) where
+  pub seq_part : (vars : List Datum) → CanGo step (unstopped i (seq vs k)) vars → CanGo step v vars
   seq_part vars c =
       let ps = plans_of (drop (suc k) vs) in
       let rest : follow (slice_get vs k) ps ≡ and_then v.rest ps = ap (λ o. follow o ps) is in
       record {
-        able = then_able v.rest ps (store vars) step.site step.action (subst (λ (r : Rest). Able r (store vars) step.site step.action) rest c.able);
+        able = then_able v.rest ps (store vars) step.site (first_action step.actions) (subst (λ (r : Rest). Able r (store vars) step.site (first_action step.actions)) rest c.able);
         brings = λ q. c.brings q ∙ ap (λ (r : Rest). assigned_at step.site r (store vars)) rest ∙ then_assigned step.site v.rest ps (store vars);
         variables = λ x h. c.variables x (part_changes vs k v x is h);
         in_preorder = part_is_in_preorder vs k v is c.in_preorder.1;
-        sound = part_is_sound vs k v is (and_right (nat_lt k (length vs)) (all_sound vs) c.sound);
+        sound = part_is_sound vs k v is (and_parts (nat_lt k (length vs)) (all_sound vs) c.sound).1;
       }
 
   module _ (e : Store) (o : Outcome) (w : View) (f : Store) (sound : is_sound (seq vs k) ≡ true) (went : Went step v e o w f) where
@@ -120,31 +118,31 @@ module _ (step : SiteStep) (i : ℕ) (vs : List View) (k : ℕ) (v : View) (is :
 
     pub seq_sound : is_sound (seq (set vs k w) k) ≡ true
     seq_sound =
-        and_both (nat_lt k (length (set vs k w))) (all_sound (set vs k w)) (ap (nat_lt k) (length-set vs k w) ∙ and_left (nat_lt k (length vs)) (all_sound vs) sound)
-        (parts_still_sound vs k w (and_right (nat_lt k (length vs)) (all_sound vs) sound) went.sound)
+        and_from (nat_lt k (length (set vs k w))) (all_sound (set vs k w)) (ap (nat_lt k) (length-set vs k w) ∙ (and_parts (nat_lt k (length vs)) (all_sound vs) sound).0)
+        (parts_still_sound vs k w (and_parts (nat_lt k (length vs)) (all_sound vs) sound).1 went.sound)
 
-    pub seq_goes : has_ended o ≡ false → Went step (view_of i false (seq vs k)) e o (view_of i false (seq (set vs k w) k)) f
+    pub seq_goes : has_ended o ≡ false → Went step (unstopped i (seq vs k)) e o (unstopped i (seq (set vs k w) k)) f
     seq_goes n =
         let ps = plans_of (drop (suc k) vs) in
         let before : follow (slice_get vs k) ps ≡ and_then v.rest ps = ap (λ o. follow o ps) is in
         let after : rest_of i (seq (set vs k w) k) ≡ and_then w.rest ps = ap (λ o. follow o (plans_of (drop (suc k) (set vs k w)))) (part_is_changed vs k v w is) ∙ ap (and_then w.rest) behind in
-        let st = then_did v.rest w.rest ps o e f step.site step.action went.did went.outcome n in
+        let st = then_did v.rest w.rest ps o e f step.site step.actions went.did went.outcome n in
         record {
-          did = subst (λ (r : Rest). Did r e step.site step.action (left_by o (rest_of i (seq (set vs k w) k))) f) (sym before) (subst (λ (r : Rest). Did (and_then v.rest ps) e step.site step.action (left_by o r) f) (sym after) st);
+          did = subst (λ (r : Rest). Did r e step.site step.actions (left_by o (rest_of i (seq (set vs k w) k))) f) (sym before) (subst (λ (r : Rest). Did (and_then v.rest ps) e step.site step.actions (left_by o r) f) (sym after) st);
           plan = ap (SEQ i) (same_plans vs k v w is went.plan);
           sound = seq_sound;
           outcome = then_outcome w.rest ps o went.outcome n ∙ ap (λ (r : Rest). outcome_of (left_by o r)) (sym after);
         }
 
-    pub seq_went : (t : Outcome) (ws : List View) (m : ℕ) → has_ended o ≡ true → HasNext (set vs k w) k t ws m → Went step (view_of i false (seq vs k)) e t (view_of i false (seq ws m)) f
+    pub seq_went : (t : Outcome) (ws : List View) (m : ℕ) → has_ended o ≡ true → HasNext (set vs k w) k t ws m → Went step (unstopped i (seq vs k)) e t (unstopped i (seq ws m)) f
     seq_went t ws m n next =
         let ps = plans_of (drop (suc k) vs) in
         let before : follow (slice_get vs k) ps ≡ and_then v.rest ps = ap (λ o. follow o ps) is in
         let on : then_on Done (plans_of (drop (suc k) (set vs k w))) ≡ then_on Done ps = ap (then_on Done) behind in
         let after : left_by t (rest_of i (seq ws m)) ≡ then_on Done ps = next.rest i ∙ on in
-        let st = then_ended v.rest ps e f step.site step.action (subst (λ (r : Rest). Did v.rest e step.site step.action r f) (left_ended o w.rest n) went.did) in
+        let st = then_ended v.rest ps e f step.site step.actions (subst (λ (r : Rest). Did v.rest e step.site step.actions r f) (left_ended o w.rest n) went.did) in
         record {
-          did = subst (λ (r : Rest). Did r e step.site step.action (left_by t (rest_of i (seq ws m))) f) (sym before) (subst (λ (r : Rest). Did (and_then v.rest ps) e step.site step.action r f) (sym after) st);
+          did = subst (λ (r : Rest). Did r e step.site step.actions (left_by t (rest_of i (seq ws m))) f) (sym before) (subst (λ (r : Rest). Did (and_then v.rest ps) e step.site step.actions r f) (sym after) st);
           plan = ap (SEQ i) (next.plans ∙ same_plans vs k v w is went.plan);
           sound = next.sound;
           outcome = next.outcome ∙ ap outcome_of (on ∙ sym after);
@@ -169,6 +167,6 @@ seq_begun vs k v w o is h g sound =
     record {
       rest = λ i. ap (left_by o) after ∙ kept ∙ sym next;
       plans = same_plans vs m v w is (ap (λ (u : View). u.plan) h);
-      sound = and_both (nat_lt m (length (set vs m w))) (all_sound (set vs m w)) (ap (nat_lt m) (length-set vs m w) ∙ within) (parts_still_sound vs m w (and_right (nat_lt k (length vs)) (all_sound vs) sound) (ap (λ (u : View). u.sound) h));
+      sound = and_from (nat_lt m (length (set vs m w))) (all_sound (set vs m w)) (ap (nat_lt m) (length-set vs m w) ∙ within) (parts_still_sound vs m w (and_parts (nat_lt k (length vs)) (all_sound vs) sound).1 (ap (λ (u : View). u.sound) h));
       outcome = g ∙ sym same ∙ ap outcome_of (sym next);
     }

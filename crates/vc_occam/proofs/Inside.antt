@@ -15,11 +15,10 @@ use Rattle.vc_occam.specs.declared.outcome.Outcome.TheVariants as outcome
 use Rattle.vc_process.specs.Syntax.{Proc, STOP, Procs, no_parts, part}
 use Rattle.vc_process.specs.Usage.{Set, just, nothing, ◌∪◌}
 use Rattle.vc_occam.specs.Frames.{View, Shape, skip, empty_seq, empty_par, stop, assign, send, receive, stop_chan, seq, par, branching, looping, counting, guarding, bodies, branches_of, follow, guarded, guards_of, left_by, plan_of, plans_of, rest_of, taken_rest, task_view, view, view_of}
-use Rattle.vc_occam.specs.Private.Frames.{seen_branch, seen_guard, shape, views}
+use Rattle.vc_occam.specs.Private.Frames.{seen_branch, seen_guard, shape, task_views, views, whole}
 use Rattle.vc_occam.specs.Remains.{Rest, Fresh, and_then}
 use Rattle.vc_occam.specs.Sites.{sites, sites_all, sites_branches, sites_guards}
 use Rattle.vc_occam.proofs.Doers.{AllWithin, besides_sites, doers}
-use Rattle.vc_occam.proofs.Places.{task_views}
 use Rattle.vc_occam.proofs.Sites.{Within, within_left, within_none, within_right}
 use Rattle.vc_occam.proofs.Views.{view_roll}
 
@@ -149,4 +148,4 @@ frame_inside = ind-Frame IsInside (λ x y is.
 
 pub tasks_inside : (ts : List (Task Frame)) → AllWithin (task_views ts)
 tasks_inside [] = tt
-tasks_inside (t ∷ ts) = (left_inside t.begins (view t.frame).rest (sites (view t.frame).plan) (frame_inside t.frame), tasks_inside ts)
+tasks_inside (t ∷ ts) = (left_inside t.begins (view t.frame).rest (sites (whole t)) (frame_inside t.frame), tasks_inside ts)

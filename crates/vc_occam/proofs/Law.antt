@@ -4,7 +4,7 @@ use Rattle.std.specs.Prelude.{if◌then◌else◌}
 use Rattle.vc_process.specs.declared.datum.Datum.{Datum}
 use Rattle.vc_process.specs.declared.datum.Datum.TheVariants as datum
 use Rattle.vc_process.proofs.Bytes.{number_within}
-use Rattle.vc_occam.specs.declared.site_action.SiteAction.{SiteAction}
+use Rattle.vc_occam.specs.SiteActions.{SiteAction}
 use Rattle.vc_process.specs.Syntax.{Exp, Test, Proc, IF, WHILE, COUNT, Procs, no_parts, part, Branches, no_branches, branch, Guards}
 use Rattle.vc_process.specs.Values.{Store, value_of, holds}
 use Rattle.vc_process.specs.Messages.{received}

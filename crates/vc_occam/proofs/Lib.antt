@@ -33,6 +33,7 @@ pub mod Making
 pub mod Meets
 pub mod Offered
 pub mod Openly
+pub mod OwnSite
 pub mod Outcomes
 pub mod Pars
 pub mod Parts
@@ -52,6 +53,7 @@ pub mod Stores
 pub mod Taking
 pub mod Tasks
 pub mod Unjoined
+pub mod TakenFirst
 pub mod Unused
 pub mod Used
 pub mod Views

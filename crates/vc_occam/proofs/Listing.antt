@@ -12,7 +12,7 @@ use Rattle.vc_occam.specs.InUse.{outputs_rest, inputs_rest}
 use Rattle.vc_occam.specs.Remains.{Rest, GuardAt, first, later, Step, does_skip, does_empty_seq, does_empty_par, does_assign, faults_assign, faults_out, does_if, does_turn, does_leave, faults_while, does_count, does_count_none, faults_count, does_offer, does_input, does_stop, does_choose, in_then, in_turns, in_left, in_right}
 use Rattle.vc_occam.specs.Traces.{Comm, Decided}
 use Rattle.vc_occam.specs.declared.moves.Move.TheVariants as move
-use Rattle.vc_occam.specs.declared.site_action.SiteAction.TheVariants.{Quiet, Offer, Want, Choose, StopChannel}
+use Rattle.vc_occam.specs.SiteActions.{Quiet, Offer, Want, Choose, StopChannel}
 use Rattle.vc_occam.proofs.Stores.{or_left, or_right}
 
 pub quiet_own : {r q : Rest} {e f : Store} {i : ℕ} {ks : List Comm} → Step r e i Quiet ks q f → Contains (own r e) (move.Quiet i)

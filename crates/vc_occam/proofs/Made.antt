@@ -1,5 +1,6 @@
 -- Each move that is listed can be made.
-use Rattle.std.proofs.Common.{◌≡◌, ◌≢◌, ℕ, zero, suc, ℤ, pos, negsuc, ◌+◌, ◌<◌, Bool, true, false, ◌&&◌, refl, sym, ap, ◌∙◌, subst, List, [], ◌∷◌, ◌++◌, Option, Some, None, ◌⊎◌, inl, inr, arith, if◌then◌else◌}
+use Rattle.std.proofs.Common.{◌≡◌, ◌≢◌, ℕ, zero, suc, ℤ, pos, negsuc, ◌+◌, ◌<◌, Bool, true, false, refl, sym, ap, ◌∙◌, subst, List, [], ◌∷◌, ◌++◌, Option, Some, None, ◌⊎◌, inl, inr, arith, if◌then◌else◌}
+use Rattle.std.proofs.lemmas.Bool.{and_parts}
 use Rattle.std.proofs.lemmas.Bool.Decides.{nat_tests}
 use Rattle.std.proofs.lemmas.List.Elements.{Contains-append_left, Contains-append_right, Contains-append_cases}
 use borrow.Author.Count.{below_more}
@@ -8,8 +9,8 @@ use Rattle.std.specs.List.{Contains}
 use Rattle.std.specs.Option.{option_or}
 use Rattle.vc_occam.specs.declared.answer.Answer.{Answer}
 use Rattle.vc_process.specs.declared.datum.Datum.{Datum}
-use Rattle.vc_occam.specs.declared.site_action.SiteAction.{SiteAction}
-use Rattle.vc_occam.specs.declared.site_action.SiteAction.TheVariants as action
+use Rattle.vc_occam.specs.SiteActions.{SiteAction}
+use Rattle.vc_occam.specs.SiteActions as action
 use Rattle.vc_occam.specs.declared.moves.Move.{Move}
 use Rattle.vc_occam.specs.declared.moves.Move.TheVariants.{Offer, Want, Choose, Stopch, Inner, Quiet}
 use Rattle.vc_process.specs.Syntax.{Exp, Test, Given, Proc, SKIP, STOP, Assign, Output, Input, StopChan, SEQ, PAR, IF, WHILE, COUNT, ALT, Procs, no_parts, part, Guards, no_guards, guard}
@@ -123,10 +124,6 @@ counts i v a k p e m (Some b) None ha hk h = quiet h (faults_count (λ c l q. le
 counts i v a k p e m (Some b) (Some (negsuc n)) ha hk h = quiet h (faults_count (λ c l q. let z = sym hk ∙ q.1 in cc))
 counts i v a k p e m (Some b) (Some (pos n)) ha hk h = counts_range i v a k p e m b n ha hk h (in_range b n)
 
-both_true : (a b : Bool) → (a && b) ≡ true → (a ≡ true) × (b ≡ true)
-both_true true b h = (refl, h)
-both_true false b h = absurd (let e : false ≡ true = h in cc)
-
 some_not_none : {A : Type 0} (o : Option A) → is_some o ≡ true → o ≢ None
 some_not_none (Some x) h = λ k. cc
 some_not_none None h = absurd (let e : false ≡ true = h in cc)
@@ -134,7 +131,7 @@ some_not_none None h = absurd (let e : false ≡ true = h in cc)
 decided : (gs : Guards) (e : Store) → all_decided gs e ≡ true → Decided gs e
 decided no_guards e h = tt
 decided (guard b c v p gs) e h =
-    let n = both_true (is_some (holds b e)) (all_decided gs e) h in
+    let n = and_parts (is_some (holds b e)) (all_decided gs e) h in
     (some_not_none (holds b e) n.0, decided gs e n.1)
 
 -- a choice is that of a guard whose condition is true

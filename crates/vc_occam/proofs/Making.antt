@@ -22,9 +22,9 @@ use Rattle.vc_occam.specs.declared.frame.Task.{Task}
 use Rattle.vc_occam.specs.declared.outcome.Outcome.{Outcome}
 use Rattle.vc_occam.specs.declared.outcome.Outcome.TheVariants as outcome
 use Rattle.vc_occam.specs.Remains.{Rest, Fresh, and_then, begin}
-use Rattle.vc_occam.specs.Frames.{View, all_sound, begun, bodies, branches_of, branching, guarded, guarding, guards_of, outcome_of, par, plans_of, seq, task_view, view, view_of}
-use Rattle.vc_occam.specs.Private.Frames.{seen_branch, seen_guard, seen_task, views}
-use Rattle.vc_occam.proofs.Beginning.{all_begun, all_begun_sound, par_begins, seq_outcome, task_views}
+use Rattle.vc_occam.specs.Frames.{View, all_sound, begun, bodies, branches_of, branching, guarded, guarding, guards_of, outcome_of, par, plans_of, seq, task_view, view}
+use Rattle.vc_occam.specs.Private.Frames.{seen_branch, seen_guard, seen_task, shown, task_views, unstopped, views}
+use Rattle.vc_occam.proofs.Beginning.{all_begun, all_begun_sound, par_begins, seq_outcome}
 
 -- how many sites each of these has, and what is made of it from one site on
 pub record Way (N X : Type 0) : Type 0 where
@@ -102,7 +102,7 @@ filled n true h = grind (arith, nat_tests)
 filled n false h = absurd (let z : false ≡ true = h in cc)
 
 -- a SEQ whose parts have begun stands for one that has begun
-pub seq_stands : (i : ℕ) (v : View) (vs : List View) → all_begun (v ∷ vs) ≡ v ∷ vs → view_of i false (seq (v ∷ vs) 0) ≡ begun (SEQ i (plans_of (v ∷ vs)))
+pub seq_stands : (i : ℕ) (v : View) (vs : List View) → all_begun (v ∷ vs) ≡ v ∷ vs → unstopped i (seq (v ∷ vs) 0) ≡ begun (SEQ i (plans_of (v ∷ vs)))
 seq_stands i v vs h =
     let e : begun v.plan ≡ v = cc in
     let ps = plans_of vs in
@@ -111,7 +111,7 @@ seq_stands i v vs h =
     ∙ ap (whole (and_then (begin v.plan) ps)) (filled (length vs) _ (all_begun_stand (v ∷ vs) h))
 
 -- and so does a PAR
-pub par_stands : (i : ℕ) (t : Task View) (ts : List (Task View)) → all_begun (map task_view (t ∷ ts)) ≡ map task_view (t ∷ ts) → view_of i false (par (t ∷ ts)) ≡ begun (PAR i (plans_of (map task_view (t ∷ ts))))
+pub par_stands : (i : ℕ) (t : Task View) (ts : List (Task View)) → all_begun (map task_view (t ∷ ts)) ≡ map task_view (t ∷ ts) → unstopped i (par (t ∷ ts)) ≡ begun (PAR i (plans_of (map task_view (t ∷ ts))))
 par_stands i t ts h = par_begins i (t ∷ ts) (t ∷ ts) (filled (length ts) _ (all_begun_stand (map task_view (t ∷ ts)) h)) (sym h)
 
 -- branches that have begun
@@ -126,7 +126,7 @@ branches_made i (b ∷ bs) (n ∷ ns) h =
       ap (λ (x : Test × View). x.1.sound && all_sound (bodies (map seen_branch bs))) first ∙ later.1,
     )
 
-pub if_stands : (site i : ℕ) (bs : List (Branch Frame)) (ns : List NumberedBranch) → map shown_branch bs ≡ made_from branches_way i ns → view_of site false (branching (map seen_branch bs) None) ≡ begun (IF site (branches_from i ns))
+pub if_stands : (site i : ℕ) (bs : List (Branch Frame)) (ns : List NumberedBranch) → map shown_branch bs ≡ made_from branches_way i ns → unstopped site (branching (map seen_branch bs) None) ≡ begun (IF site (branches_from i ns))
 if_stands site i bs ns h =
     let made = branches_made i bs ns h in
     let whole : Branches → Bool → View = λ qs b. record { plan = IF site qs; rest = Fresh (IF site qs); sound = true && b } in
@@ -152,7 +152,7 @@ few : (n : ℕ) (b : Bool) → n < 65536 → b ≡ true → (nat_lt n 65536 && (
 few n true l h = grind (arith, nat_tests)
 few n false l h = absurd (let z : false ≡ true = h in cc)
 
-pub alt_stands : (site i : ℕ) (gs : List (Guard Frame)) (ns : List NumberedGuard) → length ns < 65536 → map shown_guard gs ≡ made_from guards_way i ns → view_of site false (guarding (map seen_guard gs) Open) ≡ begun (ALT site (guards_from i ns))
+pub alt_stands : (site i : ℕ) (gs : List (Guard Frame)) (ns : List NumberedGuard) → length ns < 65536 → map shown_guard gs ≡ made_from guards_way i ns → unstopped site (guarding (map seen_guard gs) Open) ≡ begun (ALT site (guards_from i ns))
 alt_stands site i gs ns l h =
     let made = guards_made i gs ns h in
     let same : length (map shown_guard gs) ≡ length ns = ap length h ∙ length-made guards_way i ns in
@@ -192,9 +192,9 @@ pub views_push : (fs : List Frame) (f : Frame) → views (fs ++ f ∷ []) ≡ vi
 views_push [] f = refl
 views_push (g ∷ fs) f = ap (λ vs. view g ∷ vs) (views_push fs f)
 
-pub tasks_push : (ts : List (Task Frame)) (t : Task Frame) → task_views (ts ++ t ∷ []) ≡ task_views ts ++ task_view (seen_task t) ∷ []
+pub tasks_push : (ts : List (Task Frame)) (t : Task Frame) → task_views (ts ++ t ∷ []) ≡ task_views ts ++ shown t ∷ []
 tasks_push [] t = refl
-tasks_push (x ∷ ts) t = ap (λ vs. task_view (seen_task x) ∷ vs) (tasks_push ts t)
+tasks_push (x ∷ ts) t = ap (λ vs. shown x ∷ vs) (tasks_push ts t)
 
 -- a SEQ begins with its first part
 pub begins_first : (site : ℕ) (fs : List Frame) (f : Frame) (p : Proc) (o : Outcome) → fs ≡ [] → view f ≡ begun p → o ≡ outcome_of (begin p) → o ≡ outcome_of (begin (SEQ site (plans_of (views (fs ++ f ∷ [])))))
@@ -215,14 +215,14 @@ no_part_stands site i fs ns v o e m h g =
     let none : no_parts ≡ parts_from i ns = ap (λ us. plans_of (views us)) (sym e) ∙ same in
     (h ∙ ap (λ ps. begun (SEQ site ps)) none, g ∙ ap (λ ps. outcome_of (begin (SEQ site ps))) same)
 
-pub parts_stand : (site i : ℕ) (fs : List Frame) (ns : List Numbered) (v : View) (o : Outcome) → 0 < length fs → views fs ≡ made_from parts_way i ns → v ≡ view_of site false (seq (views fs) 0) → o ≡ outcome_of (begin (SEQ site (plans_of (views fs)))) → Stands v o (SEQ site (parts_from i ns))
+pub parts_stand : (site i : ℕ) (fs : List Frame) (ns : List Numbered) (v : View) (o : Outcome) → 0 < length fs → views fs ≡ made_from parts_way i ns → v ≡ unstopped site (seq (views fs) 0) → o ≡ outcome_of (begin (SEQ site (plans_of (views fs)))) → Stands v o (SEQ site (parts_from i ns))
 parts_stand site i [] ns v o l m h g = absurd (omega arith)
 parts_stand site i (f ∷ fs) ns v o l m h g =
     let same : plans_of (views (f ∷ fs)) ≡ parts_from i ns = ap plans_of m ∙ plans_made i ns in
     (h ∙ seq_stands site (view f) (views fs) (made_begun i ns (views (f ∷ fs)) m) ∙ ap (λ ps. begun (SEQ site ps)) same, g ∙ ap (λ ps. outcome_of (begin (SEQ site ps))) same)
 
 -- a frame of a PAR that has parts
-pub tasks_stand : (site i : ℕ) (ts : List (Task Frame)) (ns : List Numbered) (v : View) (o : Outcome) → 0 < length ts → task_views ts ≡ made_from parts_way i ns → v ≡ view_of site false (par (map seen_task ts)) → o ≡ outcome.Other → Stands v o (PAR site (parts_from i ns))
+pub tasks_stand : (site i : ℕ) (ts : List (Task Frame)) (ns : List Numbered) (v : View) (o : Outcome) → 0 < length ts → task_views ts ≡ made_from parts_way i ns → v ≡ unstopped site (par (map seen_task ts)) → o ≡ outcome.Other → Stands v o (PAR site (parts_from i ns))
 tasks_stand site i [] ns v o l m h g = absurd (omega arith)
 tasks_stand site i (t ∷ ts) ns v o l m h g =
     let same : plans_of (task_views (t ∷ ts)) ≡ parts_from i ns = ap plans_of m ∙ plans_made i ns in

@@ -6,12 +6,13 @@ use Rattle.std.specs.Prelude.{◌==◌, if◌then◌else◌, not}
 use Rattle.std.specs.List.{Contains}
 use Rattle.vc_occam.specs.declared.answer.Answer.{Answer}
 use Rattle.vc_process.specs.declared.datum.Datum.{Datum}
-use Rattle.vc_occam.specs.declared.site_action.SiteAction.{SiteAction}
-use Rattle.vc_occam.specs.declared.site_action.SiteAction.TheVariants as action
+use Rattle.vc_occam.specs.SiteActions.{SiteAction}
+use Rattle.vc_occam.specs.SiteActions as action
 use Rattle.vc_occam.specs.declared.moves.Move.{Move}
 use Rattle.vc_occam.specs.declared.moves.Move.TheVariants.{Offer, Want, Choose, Stopch, Inner, Quiet}
 use Rattle.vc_occam.specs.First.{own, first_moves, joined, meetings}
 use Rattle.vc_occam.specs.Private.Frames.{Able, Did, is_outside}
+use Rattle.vc_occam.specs.Private.SiteSteps.{one}
 use Rattle.vc_occam.specs.InUse.{UsesLawfully}
 use Rattle.vc_process.specs.Messages.{message}
 use Rattle.vc_occam.specs.Private.Moving.{CanBegin, CanMeet, HasMet, at, action_for, partner}
@@ -27,7 +28,7 @@ use Rattle.vc_occam.proofs.Acting.{one_waits, says, sends, waits_site}
 use Rattle.vc_occam.proofs.Keeping.{doing_is_traced, doing_keeps_use}
 use Rattle.vc_process.proofs.Lists.{at_front, behind, front_or, none, only}
 use Rattle.vc_occam.proofs.Insertion.{is_inserted}
-use Rattle.vc_occam.proofs.Made.{able, able_on, began, met, no_meeting, taking_partner}
+use Rattle.vc_occam.proofs.Made.{able, began, met, no_meeting, taking_partner}
 use Rattle.vc_occam.proofs.Sites.{doing_keeps, step_keeps}
 use Rattle.vc_occam.proofs.Waiting.{step_waits}
 
@@ -51,15 +52,15 @@ module _ (inside : Set) (all : List Move) where
   joined_more ms x (Quiet i) h = (h.0, behind x ms (Quiet i) h.1)
 
   -- what one move comes to
-  abbrev one : Move → List Move
-  one (Offer i c) = if inside c then meetings i c all else (Offer i c ∷ [])
-  one (Want i c) = if inside c then [] else (Want i c ∷ [])
-  one (Choose i k c) = if inside c then [] else (Choose i k c ∷ [])
-  one (Stopch i c) = Stopch i c ∷ []
-  one (Inner i j k c) = Inner i j k c ∷ []
-  one (Quiet i) = Quiet i ∷ []
+  abbrev comes_to : Move → List Move
+  comes_to (Offer i c) = if inside c then meetings i c all else (Offer i c ∷ [])
+  comes_to (Want i c) = if inside c then [] else (Want i c ∷ [])
+  comes_to (Choose i k c) = if inside c then [] else (Choose i k c ∷ [])
+  comes_to (Stopch i c) = Stopch i c ∷ []
+  comes_to (Inner i j k c) = Inner i j k c ∷ []
+  comes_to (Quiet i) = Quiet i ∷ []
 
-  one_and_rest : (x : Move) (ms : List Move) → joined inside all (x ∷ ms) ≡ one x ++ joined inside all ms
+  one_and_rest : (x : Move) (ms : List Move) → joined inside all (x ∷ ms) ≡ comes_to x ++ joined inside all ms
   one_and_rest (Offer i c) ms = refl
   one_and_rest (Want i c) ms = refl
   one_and_rest (Choose i k c) ms = refl
@@ -81,7 +82,7 @@ module _ (inside : Set) (all : List Move) where
   choose_has true i k c ms m e h = absurd (none m h)
   choose_has false i k c ms m e h = subst (Joined inside all (Choose i k c ∷ ms)) (only (Choose i k c) m h) (ap not e, at_front (Choose i k c) ms)
 
-  one_has : (x : Move) (ms : List Move) (m : Move) → Contains (one x) m → Joined inside all (x ∷ ms) m
+  one_has : (x : Move) (ms : List Move) (m : Move) → Contains (comes_to x) m → Joined inside all (x ∷ ms) m
   one_has (Offer i c) ms m h = offer_has (inside c) i c ms m refl h
   one_has (Want i c) ms m h = want_has (inside c) i c ms m refl h
   one_has (Choose i k c) ms m h = choose_has (inside c) i k c ms m refl h
@@ -91,7 +92,7 @@ module _ (inside : Set) (all : List Move) where
 
   pub joined_has : (ms : List Move) (m : Move) → Contains (joined inside all ms) m → Joined inside all ms m
   joined_has [] m h = absurd (none m h)
-  joined_has (x ∷ ms) m h = elim (Contains-append_cases (one x) (joined inside all ms) m (subst (λ ys. Contains ys m) (one_and_rest x ms) h)) [
+  joined_has (x ∷ ms) m h = elim (Contains-append_cases (comes_to x) (joined inside all ms) m (subst (λ ys. Contains ys m) (one_and_rest x ms) h)) [
     | inl k ↦ one_has x ms m k
     | inr k ↦ joined_more ms x m (joined_has ms m k)
   ]
@@ -105,7 +106,7 @@ module _ (inside : Set) (all : List Move) where
   offer_alone true i c h = absurd (let z : false ≡ true = h in cc)
   offer_alone false i c h = at_front (Offer i c) []
 
-  one_itself : (x : Move) → is_outside inside x ≡ true → Contains (one x) x
+  one_itself : (x : Move) → is_outside inside x ≡ true → Contains (comes_to x) x
   one_itself (Offer i c) h = offer_alone (inside c) i c h
   one_itself (Want i c) h = unless_inside (inside c) (Want i c) h
   one_itself (Choose i k c) h = unless_inside (inside c) (Choose i k c) h
@@ -140,11 +141,11 @@ module _ (inside : Set) (all : List Move) where
   offer_meets true i j k c e h = met_there i j k c all h
   offer_meets false i j k c e h = absurd (let z : false ≡ true = e in cc)
 
-  in_one : (x : Move) (ms : List Move) (m : Move) → Contains (one x) m → Contains (joined inside all (x ∷ ms)) m
-  in_one x ms m h = subst (λ ys. Contains ys m) (sym (one_and_rest x ms)) (Contains-append_left (one x) (joined inside all ms) m h)
+  in_one : (x : Move) (ms : List Move) (m : Move) → Contains (comes_to x) m → Contains (joined inside all (x ∷ ms)) m
+  in_one x ms m h = subst (λ ys. Contains ys m) (sym (one_and_rest x ms)) (Contains-append_left (comes_to x) (joined inside all ms) m h)
 
   in_rest : (x : Move) (ms : List Move) (m : Move) → Contains (joined inside all ms) m → Contains (joined inside all (x ∷ ms)) m
-  in_rest x ms m h = subst (λ ys. Contains ys m) (sym (one_and_rest x ms)) (Contains-append_right (one x) (joined inside all ms) m h)
+  in_rest x ms m h = subst (λ ys. Contains ys m) (sym (one_and_rest x ms)) (Contains-append_right (comes_to x) (joined inside all ms) m h)
 
   pub outside_joined : (ms : List Move) (m : Move) → is_outside inside m ≡ true → Contains ms m → Contains (joined inside all ms) m
   outside_joined [] m o h = absurd (none m h)
@@ -156,7 +157,7 @@ module _ (inside : Set) (all : List Move) where
   pub meeting_joined : (ms : List Move) (i j : ℕ) (k : Option ℕ) (c : ℕ) → inside c ≡ true → Contains ms (Offer i c) → Contains all (partner j k c) → Contains (joined inside all ms) (Inner i j k c)
   meeting_joined [] i j k c e o h = absurd (none (Offer i c) o)
   meeting_joined (x ∷ ms) i j k c e o h = elim (front_or x ms (Offer i c) o) [
-    | inl f ↦ in_one x ms (Inner i j k c) (subst (λ z. Contains (one z) (Inner i j k c)) (sym f) (offer_meets (inside c) i j k c e h))
+    | inl f ↦ in_one x ms (Inner i j k c) (subst (λ z. Contains (comes_to z) (Inner i j k c)) (sym f) (offer_meets (inside c) i j k c e h))
     | inr l ↦ in_rest x ms (Inner i j k c) (meeting_joined ms i j k c e l h)
   ]
 
@@ -218,7 +219,7 @@ record Took (r : Rest) (e : Store) (i : ℕ) (j : ℕ) (k : Option ℕ) (c : ℕ
   takes : Step q f j (meeting k c (bytes_or_none (came a))) (In c got ∷ []) s g
   waits : Contains (waiting s) (output i c)
 
-took : {r q s : Rest} {e f g : Store} (i j : ℕ) (k : Option ℕ) (c : ℕ) (a : Answer) → OwnSites r → came a ≡ carried (output_at i r e) → Did r e i (action.Offer c) q f → Did q f (site_of (partner j k c)) (action_for (partner j k c) a) s g → Took r e i j k c a q f s g
+took : {r q s : Rest} {e f g : Store} (i j : ℕ) (k : Option ℕ) (c : ℕ) (a : Answer) → OwnSites r → came a ≡ carried (output_at i r e) → Did r e i (one (action.Offer c)) q f → Did q f (site_of (partner j k c)) (one (action_for (partner j k c) a)) s g → Took r e i j k c a q f s g
 took {r} {q} {s} {e} {f} {g} i j k c a o fits (ks, st) (ls, tk) =
     let n = says st in
     let x = n.0 in
@@ -238,12 +239,8 @@ took {r} {q} {s} {e} {f} {g} i j k c a o fits (ks, st) (ls, tk) =
       waits = subst (λ ws. Contains ws (output i c)) (sym (taken_waits j k c m step)) (is_inserted (step_waits st));
     }
 
--- then the output can be finished
-pub able_finish : {r q s : Rest} {e f g : Store} (i j : ℕ) (k : Option ℕ) (c : ℕ) (a : Answer) → OwnSites r → came a ≡ carried (output_at i r e) → Did r e i (action.Offer c) q f → Did q f (site_of (partner j k c)) (action_for (partner j k c) a) s g → Able s g i action.Finish
-able_finish {s = s} {g = g} i j k c a o fits st tk = able_on s g i None (c, (took i j k c a o fits st tk).waits)
-
--- and it has met its partner
-pub has_met : {r q s t : Rest} {e f g h : Store} (i j : ℕ) (k : Option ℕ) (c : ℕ) (a : Answer) → OwnSites r → came a ≡ carried (output_at i r e) → Did r e i (action.Offer c) q f → Did q f (site_of (partner j k c)) (action_for (partner j k c) a) s g → Did s g i action.Finish t h → (ks : List Comm) × Does (at r e) (Meets i j k c (bytes_or_none (came a))) ks (at t h)
+-- it has met its partner, once it is finished
+pub has_met : {r q s t : Rest} {e f g h : Store} (i j : ℕ) (k : Option ℕ) (c : ℕ) (a : Answer) → OwnSites r → came a ≡ carried (output_at i r e) → Did r e i (one (action.Offer c)) q f → Did q f (site_of (partner j k c)) (one (action_for (partner j k c) a)) s g → Did s g i (one action.Finish) t h → (ks : List Comm) × Does (at r e) (Meets i j k c (bytes_or_none (came a))) ks (at t h)
 unfolding waits_site
 has_met {r} {q} {s} {t} {e} {f} {g} {h} i j k c a o fits st tk (ms, fin) =
     let n = took i j k c a o fits st tk in

@@ -3,7 +3,7 @@ use Rattle.std.proofs.Common.{ℕ, sym, ap, subst, List, [], ◌∷◌, if◌the
 use Rattle.std.specs.Prelude.{is_some}
 use Rattle.std.specs.List.{Contains}
 use Rattle.std.proofs.lemmas.List.Elements.{Contains-append_left, Contains-append_right}
-use Rattle.vc_occam.specs.declared.site_action.SiteAction.TheVariants.{Offer}
+use Rattle.vc_occam.specs.SiteActions.{Offer}
 use Rattle.vc_occam.specs.declared.moves.Move.TheVariants as move
 use Rattle.vc_occam.specs.First.{own}
 use Rattle.vc_occam.specs.Remains.{Rest, Step, does_offer, in_then, in_turns, in_left, in_right}

@@ -1,5 +1,6 @@
 -- The part of a frame that goes on alone.
 use Rattle.std.proofs.Common.{◌≡◌, ◌<◌, ℕ, zero, suc, Bool, true, false, ◌&&◌, refl, ap, sym, ◌∙◌, subst, List, [], ◌∷◌, Option, Some, None, length, map, get_or, arith}
+use Rattle.std.proofs.lemmas.Bool.{and_parts}
 use Rattle.std.proofs.lemmas.Bool.Decides.{nat_tests}
 use Rattle.std.specs.Prelude.{is_some, nat_lt, slice_get}
 use Rattle.vc_occam.specs.declared.frame.Branch.{Branch}
@@ -10,10 +11,11 @@ use Rattle.vc_occam.specs.declared.frame.Guard.{Guard}
 use Rattle.vc_occam.specs.declared.frame.Turn.{Turn}
 use Rattle.vc_process.specs.Syntax.{Exp, Procs, no_parts, part}
 use Rattle.vc_occam.specs.Remains.{Rest, and_then}
-use Rattle.vc_occam.specs.Frames.{View, Shape, seq, par, branching, looping, counting, guarding, skip, empty_seq, empty_par, stop, assign, send, receive, stop_chan, all_sound, bodies, branches_of, follow, guarded, guards_of, is_at_itself, is_sound, plan_of, plans_of, rest_of, view, view_of}
-use Rattle.vc_occam.specs.Private.Frames.{IsPart, innermost, shape}
+use Rattle.vc_occam.specs.Frames.{View, Shape, seq, par, branching, looping, counting, guarding, skip, empty_seq, empty_par, stop, assign, send, receive, stop_chan, bodies, branches_of, follow, guarded, guards_of, is_at_itself, is_sound, plan_of, plans_of, rest_of, view, view_of}
+use Rattle.vc_occam.specs.Private.Frames.{IsPart, innermost, shape, unstopped}
 use Rattle.vc_occam.specs.Private.Sites.{InPreorder, PartsInPreorder, BranchesInPreorder, GuardsInPreorder}
-use Rattle.vc_occam.proofs.Beginning.{and_left, and_right, frame_sound}
+use Rattle.vc_occam.proofs.AtItself.{frame_sound}
+use Rattle.vc_occam.proofs.Going.{part_is_sound}
 use Rattle.vc_occam.proofs.Views.{view_out}
 
 -- the part that goes on alone, if one does
@@ -51,11 +53,6 @@ innermost_then r (part p ps) = refl
 innermost_follow : (o : Option View) (v : View) (ps : Procs) → o ≡ Some v → innermost (follow o ps) ≡ innermost v.rest
 innermost_follow o v ps h = ap (λ x. innermost (follow x ps)) h ∙ innermost_then v.rest ps
 
-sound_at : (vs : List View) (k : ℕ) (v : View) → slice_get vs k ≡ Some v → all_sound vs ≡ true → v.sound ≡ true
-sound_at [] k v h s = absurd (cc)
-sound_at (w ∷ vs) zero v h s = let e : v ≡ w = cc in ap (λ (x : View). x.sound) e ∙ and_left w.sound _ s
-sound_at (w ∷ vs) (suc k) v h s = sound_at vs k v h (and_right w.sound _ s)
-
 part_at : (vs : List View) (k : ℕ) (v : View) → slice_get vs k ≡ Some v → PartsInPreorder (plans_of vs) → InPreorder v.plan
 part_at [] k v h s = absurd (cc)
 part_at (w ∷ vs) zero v h s = let e : w ≡ v = cc in subst (λ (x : View). InPreorder x.plan) e s.1
@@ -72,15 +69,15 @@ guard_at (g ∷ gs) zero v h s = let e : g.body ≡ v = cc in subst (λ (x : Vie
 guard_at (g ∷ gs) (suc k) v h s = guard_at gs k v h s.2
 
 shape_tells : (s : Shape) (v : View) → goes_on_at s ≡ Some v → Tells s v
-shape_tells (seq vs k) v h = (refl, λ i. innermost_follow (slice_get vs k) v _ h, λ i p. part_at vs k v h p.1, λ s. sound_at vs k v h (and_right _ _ s))
-shape_tells (branching bs (Some k)) v h = (refl, λ i. innermost_follow (slice_get (bodies bs) k) v _ h, λ i p. branch_at bs k v h p.1, λ s. sound_at (bodies bs) k v h (and_right _ _ s))
+shape_tells (seq vs k) v h = (refl, λ i. innermost_follow (slice_get vs k) v _ h, λ i p. part_at vs k v h p.1, λ s. part_is_sound vs k v h (and_parts _ _ s).1)
+shape_tells (branching bs (Some k)) v h = (refl, λ i. innermost_follow (slice_get (bodies bs) k) v _ h, λ i p. branch_at bs k v h p.1, λ s. part_is_sound (bodies bs) k v h (and_parts _ _ s).1)
 shape_tells (looping b w true) v h =
     let e : w ≡ v = cc in
     (refl, λ i. ap (λ (x : View). innermost x.rest) e, λ i p. subst (λ (x : View). InPreorder x.plan) e p.1, λ s. subst (λ (x : View). x.sound ≡ true) e s)
 shape_tells (counting x a n w (Some t)) v h =
     let e : w ≡ v = cc in
     (refl, λ i. ap (λ (x : View). innermost x.rest) e, λ i p. subst (λ (x : View). InPreorder x.plan) e p.1, λ s. subst (λ (x : View). x.sound ≡ true) e s)
-shape_tells (guarding gs (Within k)) v h = (refl, λ i. innermost_follow (slice_get (guarded gs) k) v _ h, λ i p. guard_at gs k v h p.1, λ s. sound_at (guarded gs) k v h (and_right _ _ (and_right _ _ s)))
+shape_tells (guarding gs (Within k)) v h = (refl, λ i. innermost_follow (slice_get (guarded gs) k) v _ h, λ i p. guard_at gs k v h p.1, λ s. part_is_sound (guarded gs) k v h (and_parts _ _ (and_parts _ _ s).1).1)
 shape_tells skip v h = absurd (cc)
 shape_tells empty_seq v h = absurd (cc)
 shape_tells empty_par v h = absurd (cc)
@@ -97,8 +94,8 @@ shape_tells (guarding gs Open) v h = absurd (cc)
 shape_tells (guarding gs (Taken k)) v h = absurd (cc)
 
 -- a sound frame at one of its parts has not stopped
-going : (i : ℕ) (stopped : Bool) (s : Shape) → is_at_itself s ≡ false → (view_of i stopped s).sound ≡ true → view_of i stopped s ≡ view_of i false s
-going i true s n h = absurd (let z : true ≡ false = sym (and_left _ (is_sound s) h) ∙ n in cc)
+going : (i : ℕ) (stopped : Bool) (s : Shape) → is_at_itself s ≡ false → (view_of i stopped s).sound ≡ true → view_of i stopped s ≡ unstopped i s
+going i true s n h = absurd (let z : true ≡ false = sym (and_parts _ (is_sound s) h).0 ∙ n in cc)
 going i false s n h = refl
 
 -- so it stands for what its shape does
@@ -127,10 +124,10 @@ sound_shape f s h k = ap is_sound (sym h) ∙ frame_sound f k
 
 -- the place of the part that goes on is there
 pub place_there : (k n : ℕ) (b : Bool) → (nat_lt k n && b) ≡ true → k < n
-place_there k n b h = let z : nat_lt k n ≡ true = and_left _ b h in grind (arith, nat_tests)
+place_there k n b h = let z : nat_lt k n ≡ true = (and_parts _ b h).0 in grind (arith, nat_tests)
 
 pub guard_there : (k : ℕ) (gs : List (Guard View)) → is_sound (guarding gs (Within k)) ≡ true → k < length gs
-guard_there k gs h = place_there k (length gs) _ (and_right _ _ h)
+guard_there k gs h = place_there k (length gs) _ (and_parts _ _ h).1
 
 -- a replicated SEQ that has a turn goes on at its body
 pub count_goes_on : (x : ℕ) (a n : Exp) (v : View) (turn : Option Turn) → true ≡ is_some turn → goes_on_at (counting x a n v turn) ≡ Some v

@@ -1,5 +1,5 @@
 -- Where the part that has a site stands.
-use Rattle.std.proofs.Common.{◌≡◌, ℕ, zero, suc, length, Bool, true, false, ◌≤◌, ◌<◌, refl, ap, sym, ◌∙◌, subst, List, [], ◌∷◌, map, inl, inr, arith}
+use Rattle.std.proofs.Common.{◌≡◌, ℕ, zero, suc, length, Bool, true, false, ◌≤◌, ◌<◌, refl, ap, sym, ◌∙◌, subst, List, [], ◌∷◌, inl, inr, arith}
 use Rattle.std.specs.List.Sorted.{IsNonDecreasingBy, IsPartitionPoint}
 use Rattle.std.specs.Prelude.{slice_index_or, nat_le, ◌-◌}
 use Rattle.std.proofs.lemmas.Bool.Decides.{nat_tests}
@@ -11,8 +11,8 @@ use Rattle.vc_process.specs.Syntax.{Proc, SKIP, STOP, Assign, Output, Input, Sto
 use Rattle.vc_process.specs.Usage.{Set, just, ◌∪◌}
 use Rattle.vc_occam.specs.Sites.{sites, sites_all, sites_branches, sites_guards, site}
 use Rattle.vc_occam.specs.Private.Sites.{Precedes, InPreorder, PartsInPreorder}
-use Rattle.vc_occam.specs.Private.Frames.{place_with, seen_task, shape}
-use Rattle.vc_occam.specs.Frames.{View, Shape, skip, empty_seq, empty_par, stop, assign, send, receive, stop_chan, seq, par, branching, looping, counting, guarding, plan_of, plans_of, task_view, view, view_of}
+use Rattle.vc_occam.specs.Private.Frames.{place_with, shape, task_views, whole}
+use Rattle.vc_occam.specs.Frames.{View, Shape, skip, empty_seq, empty_par, stop, assign, send, receive, stop_chan, seq, par, branching, looping, counting, guarding, plan_of, plans_of, view, view_of}
 use Rattle.vc_occam.proofs.Sites.{either}
 use Rattle.vc_occam.proofs.Stores.{or_left, or_right}
 use Rattle.vc_occam.proofs.Views.{view_out}
@@ -56,7 +56,7 @@ first_site (COUNT i v a n p) k h g = first_of i k (sites p) h.0 g
 first_site (ALT i gs) k h g = first_of i k (sites_guards gs) h.0 g
 
 -- a frame's site is that of its process
-plan_site : (i : ℕ) (s : Shape) → site (plan_of i s) ≡ i
+pub plan_site : (i : ℕ) (s : Shape) → site (plan_of i s) ≡ i
 plan_site i skip = refl
 plan_site i empty_seq = refl
 plan_site i empty_par = refl
@@ -79,26 +79,22 @@ view_site i false s = plan_site i s
 pub frame_site : (f : Frame) → site (view f).plan ≡ (out-Frame f).site
 frame_site f = let o = out-Frame f in ap (λ (v : View). site v.plan) (view_out f) ∙ view_site o.site o.stopped (shape o.construct)
 
--- what processes that go on by themselves stand for
-abbrev pub task_views : List (Task Frame) → List View
-task_views ts = map task_view (map seen_task ts)
-
 -- the site of such a process
 abbrev begins_at : Task Frame → ℕ
-begins_at t = site (view t.frame).plan
+begins_at t = site (whole t)
 
 -- sites of parts rise
 has_site : (fs : List (Task Frame)) (k : ℕ) (d : Task Frame) → k < length fs → sites_all (plans_of (task_views fs)) (begins_at (slice_index_or fs k d)) ≡ true
 has_site [] k d l = absurd (omega arith)
-has_site (x ∷ fs) zero d l = let j = begins_at x in or_left (sites (view x.frame).plan j) (sites_all (plans_of (task_views fs)) j) (own_site (view x.frame).plan)
+has_site (x ∷ fs) zero d l = let j = begins_at x in or_left (sites (whole x) j) (sites_all (plans_of (task_views fs)) j) (own_site (whole x))
 has_site (x ∷ fs) (suc k) d l =
     let j = begins_at (slice_index_or fs k d) in
-    or_right (sites (view x.frame).plan j) (sites_all (plans_of (task_views fs)) j) (has_site fs k d (omega arith))
+    or_right (sites (whole x) j) (sites_all (plans_of (task_views fs)) j) (has_site fs k d (omega arith))
 
 pub sites_rise : (fs : List (Task Frame)) → PartsInPreorder (plans_of (task_views fs)) → IsNonDecreasingBy (λ (f : Task Frame). begins_at f) fs
 sites_rise [] h i j d le l = absurd (omega arith)
 sites_rise (x ∷ fs) h zero zero d le l = omega arith
-sites_rise (x ∷ fs) h zero (suc j) d le l = let z = h.0 (begins_at x) (begins_at (slice_index_or fs j d)) (own_site (view x.frame).plan) (has_site fs j d (omega arith)) in omega arith
+sites_rise (x ∷ fs) h zero (suc j) d le l = let z = h.0 (begins_at x) (begins_at (slice_index_or fs j d)) (own_site (whole x)) (has_site fs j d (omega arith)) in omega arith
 sites_rise (x ∷ fs) h (suc i) zero d le l = absurd (omega arith)
 sites_rise (x ∷ fs) h (suc i) (suc j) d le l = sites_rise fs h.2 i j d (omega arith) (omega arith)
 
@@ -119,7 +115,7 @@ rises : (x : Task Frame) (fs : List (Task Frame)) (k : ℕ) (f : Task Frame) →
 rises x fs zero f h l e = let z = ap (λ (g : Task Frame). begins_at g) e in omega arith
 rises x fs (suc k) f h l e =
     let a = subst (λ (g : Task Frame). sites_all (plans_of (task_views fs)) (begins_at g) ≡ true) (sym e) (has_site fs k f (omega arith)) in
-    let z = h.0 (begins_at x) (begins_at f) (own_site (view x.frame).plan) a in
+    let z = h.0 (begins_at x) (begins_at f) (own_site (whole x)) a in
     omega arith
 
 -- a part that begins at a site or before it has the site, where none stands behind it

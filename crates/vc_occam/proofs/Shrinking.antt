@@ -1,6 +1,6 @@
 -- What remains after a step changes and uses no more variables, and outputs and inputs on no more channels, than what remained before.
 use Rattle.std.proofs.Common.{◌≡◌, ℕ, zero, suc, ℤ, Bool, true, false, List, Option, Some, None, inl, inr}
-use Rattle.vc_occam.specs.declared.site_action.SiteAction.{SiteAction}
+use Rattle.vc_occam.specs.SiteActions.{SiteAction}
 use Rattle.vc_process.specs.Syntax.{Test, Proc, SKIP, STOP, Assign, Output, Input, StopChan, SEQ, PAR, IF, WHILE, COUNT, ALT, Procs, no_parts, part, Branches, no_branches, branch, Guards, guard}
 use Rattle.vc_process.specs.Values.{Store, holds}
 use Rattle.vc_process.specs.Usage.{Set, nothing, just, ◌∪◌, in_exp, in_test, changes, changes_all, changes_branches, changes_guards, uses, uses_all, uses_branches, uses_guards}

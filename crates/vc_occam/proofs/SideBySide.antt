@@ -8,12 +8,11 @@ use Rattle.vc_process.specs.Usage.{Set, changes}
 use Rattle.vc_process.specs.Values.{Store}
 use Rattle.vc_occam.specs.Blocking.{blocked}
 use Rattle.vc_occam.specs.First.{own}
-use Rattle.vc_occam.specs.Frames.{View, besides, task_view, view}
-use Rattle.vc_occam.specs.Private.Frames.{assigned_at, first_waits, seen_task, waits_there}
+use Rattle.vc_occam.specs.Frames.{View, besides, task_view}
+use Rattle.vc_occam.specs.Private.Frames.{assigned_at, first_waits, seen_task, shown, task_views, waits_there, whole}
 use Rattle.vc_occam.specs.Remains.{Rest, Done, beside_on}
 use Rattle.vc_occam.specs.States.{Waiting, output_at, waiting}
 use Rattle.vc_process.proofs.Reaching.{drop_all, drop_at}
-use Rattle.vc_occam.proofs.Places.{task_views}
 
 pub beside_own : (mine : Set) (r q : Rest) (e : Store) → own (beside_on mine r q) e ≡ own r e ++ own q e
 beside_own mine Done Done e = refl
@@ -37,7 +36,7 @@ beside_assigned i mine r q e = refl
 
 -- parts gone through from one on
 pub drop_task : (k : ℕ) (ts : List (Task Frame)) (t : Task Frame) → k < length ts → t ≡ get_or ts k t →
-    besides (task_views (drop k ts)) ≡ beside_on (changes (view t.frame).plan) (task_view (seen_task t)).rest (besides (task_views (drop (k + 1) ts)))
+    besides (task_views (drop k ts)) ≡ beside_on (changes (whole t)) (shown t).rest (besides (task_views (drop (k + 1) ts)))
 drop_task k ts t l h = ap (λ (vs : List (Task View)). besides (map task_view vs)) (drop_at seen_task k ts t l h)
 
 pub drop_tasks : (k : ℕ) (ts : List (Task Frame)) → length ts ≤ k → besides (task_views (drop k ts)) ≡ Done
@@ -45,12 +44,12 @@ drop_tasks k ts l = ap (λ (vs : List (Task View)). besides (map task_view vs)) 
 
 -- what is listed of all parts, from the first on
 module _ {A : Type 0} (G : Rest → List A) (both : (mine : Set) (r q : Rest) → G (beside_on mine r q) ≡ G r ++ G q) where
-  pub listed_next : (k : ℕ) (ts : List (Task Frame)) (t : Task Frame) (found new all : List A) → k < length ts → t ≡ get_or ts k t → new ≡ found ++ G (task_view (seen_task t)).rest →
+  pub listed_next : (k : ℕ) (ts : List (Task Frame)) (t : Task Frame) (found new all : List A) → k < length ts → t ≡ get_or ts k t → new ≡ found ++ G (shown t).rest →
       found ++ G (besides (task_views (drop k ts))) ≡ all → new ++ G (besides (task_views (drop (k + 1) ts))) ≡ all
   listed_next k ts t found new all l h n q =
-      let r = (task_view (seen_task t)).rest in
+      let r = (shown t).rest in
       let rest = besides (task_views (drop (k + 1) ts)) in
-      ap (λ xs. xs ++ G rest) n ∙ append_assoc found (G r) (G rest) ∙ ap (λ xs. found ++ xs) (sym (both (changes (view t.frame).plan) r rest)) ∙ ap (λ x. found ++ G x) (sym (drop_task k ts t l h)) ∙ q
+      ap (λ xs. xs ++ G rest) n ∙ append_assoc found (G r) (G rest) ∙ ap (λ xs. found ++ xs) (sym (both (changes (whole t)) r rest)) ∙ ap (λ x. found ++ G x) (sym (drop_task k ts t l h)) ∙ q
 
   pub listed_end : (k : ℕ) (ts : List (Task Frame)) (found all : List A) → G Done ≡ [] → length ts ≤ k → found ++ G (besides (task_views (drop k ts))) ≡ all → found ≡ all
   listed_end k ts found all n l q = sym (append-nil found) ∙ ap (λ xs. found ++ xs) (sym (ap G (drop_tasks k ts l) ∙ n)) ∙ q
@@ -65,18 +64,18 @@ first_append w (x ∷ xs) ys = ap (option_or (waits_there w x)) (first_append w 
     first_of (Some x) b c = refl
 
 -- what is waited for from one part on
-waits_from : (k : ℕ) (ts : List (Task Frame)) (t : Task Frame) (w : Waits) (x : Option ℕ) → k < length ts → t ≡ get_or ts k t → x ≡ first_waits w (waiting (task_view (seen_task t)).rest) →
+waits_from : (k : ℕ) (ts : List (Task Frame)) (t : Task Frame) (w : Waits) (x : Option ℕ) → k < length ts → t ≡ get_or ts k t → x ≡ first_waits w (waiting (shown t).rest) →
     option_or x (first_waits w (waiting (besides (task_views (drop (k + 1) ts))))) ≡ first_waits w (waiting (besides (task_views (drop k ts))))
 waits_from k ts t w x l h g =
-    let r = (task_view (seen_task t)).rest in
+    let r = (shown t).rest in
     let rest = besides (task_views (drop (k + 1) ts)) in
-    ap (λ y. option_or y (first_waits w (waiting rest))) g ∙ sym (first_append w (waiting r) (waiting rest)) ∙ ap (first_waits w) (sym (beside_waits (changes (view t.frame).plan) r rest)) ∙ ap (λ y. first_waits w (waiting y)) (sym (drop_task k ts t l h))
+    ap (λ y. option_or y (first_waits w (waiting rest))) g ∙ sym (first_append w (waiting r) (waiting rest)) ∙ ap (first_waits w) (sym (beside_waits (changes (whole t)) r rest)) ∙ ap (λ y. first_waits w (waiting y)) (sym (drop_task k ts t l h))
 
-pub waits_more : (k : ℕ) (ts : List (Task Frame)) (t : Task Frame) (w : Waits) (o : Option ℕ) → k < length ts → t ≡ get_or ts k t → None ≡ first_waits w (waiting (task_view (seen_task t)).rest) →
+pub waits_more : (k : ℕ) (ts : List (Task Frame)) (t : Task Frame) (w : Waits) (o : Option ℕ) → k < length ts → t ≡ get_or ts k t → None ≡ first_waits w (waiting (shown t).rest) →
     first_waits w (waiting (besides (task_views (drop k ts)))) ≡ o → first_waits w (waiting (besides (task_views (drop (k + 1) ts)))) ≡ o
 waits_more k ts t w o l h g q = waits_from k ts t w None l h g ∙ q
 
-pub waits_found : (k : ℕ) (ts : List (Task Frame)) (t : Task Frame) (w : Waits) (o : Option ℕ) (i : ℕ) → k < length ts → t ≡ get_or ts k t → Some i ≡ first_waits w (waiting (task_view (seen_task t)).rest) →
+pub waits_found : (k : ℕ) (ts : List (Task Frame)) (t : Task Frame) (w : Waits) (o : Option ℕ) (i : ℕ) → k < length ts → t ≡ get_or ts k t → Some i ≡ first_waits w (waiting (shown t).rest) →
     first_waits w (waiting (besides (task_views (drop k ts)))) ≡ o → Some i ≡ o
 waits_found k ts t w o i l h g q = waits_from k ts t w (Some i) l h g ∙ q
 

@@ -12,9 +12,9 @@ use Rattle.vc_occam.specs.declared.moves.Move.TheVariants as move
 use Rattle.vc_process.specs.Usage.{among, changes}
 use Rattle.vc_process.specs.Values.{Store, datum_of}
 use Rattle.vc_occam.specs.First.{own}
-use Rattle.vc_occam.specs.Frames.{View, Shape, stop, send, receive, stop_chan, seq, par, guarding, besides, guards_of, is_at_itself, plans_of, rest_of, task_view, view, view_of}
+use Rattle.vc_occam.specs.Frames.{View, Shape, stop, send, receive, stop_chan, seq, par, guarding, besides, guards_of, is_at_itself, plans_of, rest_of, view, view_of}
 use Rattle.vc_occam.specs.Moving.{from_site, site_of}
-use Rattle.vc_occam.specs.Private.Frames.{listed, place_with, seen_task, shape}
+use Rattle.vc_occam.specs.Private.Frames.{listed, place_with, shape, shown, task_views, whole}
 use Rattle.vc_occam.specs.Private.Sites.{PartsInPreorder}
 use Rattle.vc_occam.specs.Remains.{Rest}
 use Rattle.vc_occam.specs.Sites.{site, sites, sites_all}
@@ -22,7 +22,7 @@ use Rattle.vc_process.proofs.Lists.{at_front, behind, none, only}
 use Rattle.vc_occam.proofs.AtItself.{quiet_shape, taken_own}
 use Rattle.vc_occam.proofs.Choices.{moves_at}
 use Rattle.vc_occam.proofs.Doers.{AllWithin, mover}
-use Rattle.vc_occam.proofs.Places.{own_site, task_views}
+use Rattle.vc_occam.proofs.Places.{own_site}
 use Rattle.vc_occam.proofs.SideBySide.{beside_own, drop_task, drop_tasks}
 use Rattle.vc_occam.proofs.Stores.{or_left}
 use Rattle.vc_occam.proofs.Views.{view_out}
@@ -63,10 +63,10 @@ all_before i (x ∷ ms) h = on (nat_le i (site_of x)) refl (all_before i ms (λ 
     on false q r = r
 
 -- a part has no move at a site from the next part's own on
-part_before : (t u : Task Frame) (ts : List (Task Frame)) (e : Store) (i : ℕ) → PartsInPreorder (plans_of (task_views (t ∷ u ∷ ts))) → AllWithin (task_views (t ∷ u ∷ ts)) → site (view u.frame).plan ≤ i → from_site i (own (task_view (seen_task t)).rest e) ≡ None
+part_before : (t u : Task Frame) (ts : List (Task Frame)) (e : Store) (i : ℕ) → PartsInPreorder (plans_of (task_views (t ∷ u ∷ ts))) → AllWithin (task_views (t ∷ u ∷ ts)) → site (whole u) ≤ i → from_site i (own (shown t).rest e) ≡ None
 part_before t u ts e i h w l =
-    let r = (task_view (seen_task t)).rest in
-    let p = (view u.frame).plan in
+    let r = (shown t).rest in
+    let p = whole u in
     all_before i (own r e) (λ m c k.
     let here = w.0 (site_of m) (mover r e m (site_of m) refl c) in
     let z = h.0 (site_of m) (site p) here (or_left (sites p (site p)) (sites_all (plans_of (task_views ts)) (site p)) (own_site p)) in
@@ -77,33 +77,33 @@ pub from_part : (i : ℕ) (ts : List (Task Frame)) (e : Store) → PartsInPreord
     from_site i (own (besides (task_views (drop (place_with i (task_views ts)) ts))) e) ≡ from_site i (own (besides (task_views ts)) e)
 from_part i [] e h w = refl
 from_part i (t ∷ []) e h w = refl
-from_part i (t ∷ u ∷ ts) e h w = on (nat_le (site (view u.frame).plan) i) refl (from_part i (u ∷ ts) e h.2 w.1)
+from_part i (t ∷ u ∷ ts) e h w = on (nat_le (site (whole u)) i) refl (from_part i (u ∷ ts) e h.2 w.1)
   where
-    on : (b : Bool) → nat_le (site (view u.frame).plan) i ≡ b → from_site i (own (besides (task_views (drop (place_with i (task_views (u ∷ ts))) (u ∷ ts)))) e) ≡ from_site i (own (besides (task_views (u ∷ ts))) e) →
+    on : (b : Bool) → nat_le (site (whole u)) i ≡ b → from_site i (own (besides (task_views (drop (place_with i (task_views (u ∷ ts))) (u ∷ ts)))) e) ≡ from_site i (own (besides (task_views (u ∷ ts))) e) →
         from_site i (own (besides (task_views (drop (if b then suc (place_with i (task_views (u ∷ ts))) else 0) (t ∷ u ∷ ts)))) e) ≡ from_site i (own (besides (task_views (t ∷ u ∷ ts))) e)
     on true q r =
-        let l : site (view u.frame).plan ≤ i = grind (arith, nat_tests) in
+        let l : site (whole u) ≤ i = grind (arith, nat_tests) in
         let before = part_before t u ts e i h w l in
-        let first = (task_view (seen_task t)).rest in
+        let first = (shown t).rest in
         let later = besides (task_views (u ∷ ts)) in
-        r ∙ sym (from_none i (own first e) (own later e) before) ∙ ap (from_site i) (sym (beside_own (changes (view t.frame).plan) first later e))
+        r ∙ sym (from_none i (own first e) (own later e) before) ∙ ap (from_site i) (sym (beside_own (changes (whole t)) first later e))
     on false q r = refl
 
 -- parts gone through from one on
 module _ (i k : ℕ) (ts : List (Task Frame)) (t : Task Frame) (e : Store) (l : k < length ts) (h : t ≡ get_or ts k t) where
   abbrev first : Rest
-  first = (task_view (seen_task t)).rest
+  first = (shown t).rest
 
   abbrev later : Rest
   later = besides (task_views (drop (k + 1) ts))
 
   from_here : from_site i (own first e ++ own later e) ≡ from_site i (own (besides (task_views (drop k ts))) e)
-  from_here = ap (from_site i) (sym (beside_own (changes (view t.frame).plan) first later e)) ∙ ap (λ r. from_site i (own r e)) (sym (drop_task k ts t l h))
+  from_here = ap (from_site i) (sym (beside_own (changes (whole t)) first later e)) ∙ ap (λ r. from_site i (own r e)) (sym (drop_task k ts t l h))
 
-  pub seek_more : (o : Option Move) → from_site i (own (task_view (seen_task t)).rest e) ≡ None → from_site i (own (besides (task_views (drop k ts))) e) ≡ o → from_site i (own (besides (task_views (drop (k + 1) ts))) e) ≡ o
+  pub seek_more : (o : Option Move) → from_site i (own (shown t).rest e) ≡ None → from_site i (own (besides (task_views (drop k ts))) e) ≡ o → from_site i (own (besides (task_views (drop (k + 1) ts))) e) ≡ o
   seek_more o nothing q = sym (from_none i (own first e) (own later e) nothing) ∙ from_here ∙ q
 
-  pub seek_found : (o : Option Move) (m : Move) → from_site i (own (task_view (seen_task t)).rest e) ≡ Some m → from_site i (own (besides (task_views (drop k ts))) e) ≡ o → Some m ≡ o
+  pub seek_found : (o : Option Move) (m : Move) → from_site i (own (shown t).rest e) ≡ Some m → from_site i (own (besides (task_views (drop k ts))) e) ≡ o → Some m ≡ o
   seek_found o m some q = sym (from_some i (own first e) (own later e) m some) ∙ from_here ∙ q
 
 pub seek_end : (i k : ℕ) (ts : List (Task Frame)) (e : Store) (o : Option Move) → length ts ≤ k → from_site i (own (besides (task_views (drop k ts))) e) ≡ o → None ≡ o

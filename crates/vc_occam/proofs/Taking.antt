@@ -1,28 +1,27 @@
 -- How an IF, an ALT or a loop takes one of its parts.
 use Rattle.std.proofs.Common.{◌≡◌, ◌≢◌, ℕ, zero, suc, ℤ, ◌+◌, ◌<◌, ◌≤◌, ◌^◌, Bool, true, false, refl, ap, sym, ◌∙◌, subst, List, [], ◌∷◌, map, length, get_or, set, arith, Option, Some, None}
 use Rattle.std.specs.Prelude.{pos, negsuc, ◌+ℤ◌, ◌-ℤ◌, int_lt, nat_lt, slice_get, if◌then◌else◌}
+use Rattle.std.proofs.lemmas.Bool.{and_parts}
 use Rattle.std.proofs.lemmas.Bool.Decides.{nat_tests}
 use Rattle.std.proofs.lemmas.Int.{ints}
 use lib.Signed.{mag}
-use Rattle.vc_process.specs.declared.datum.Datum.{Datum}
 use Rattle.vc_process.specs.declared.datum.Datum.TheVariants as datum
 use Rattle.vc_occam.specs.declared.frame.Frame.{Frame}
 use Rattle.vc_occam.specs.declared.frame.Branch.{Branch}
 use Rattle.vc_occam.specs.declared.frame.Turn.{Turn}
 use Rattle.vc_occam.specs.declared.outcome.Outcome.{Outcome}
-use Rattle.vc_occam.specs.declared.site_action.SiteAction.{SiteAction}
-use Rattle.vc_occam.specs.declared.site_action.SiteAction.TheVariants as action
-use Rattle.vc_occam.specs.declared.site_step.SiteStep.{SiteStep}
-use Rattle.vc_process.specs.Syntax.{Exp, Test, Proc, IF, WHILE, COUNT, Branches, no_parts, part}
-use Rattle.vc_process.specs.Terms.{as_test, store}
+use Rattle.vc_occam.specs.declared.outcome.Outcome.TheVariants as outcome
+use Rattle.vc_occam.specs.SiteActions as action
+use Rattle.vc_occam.specs.Private.SiteSteps.{one, step_at}
+use Rattle.vc_process.specs.Syntax.{Exp, Test, Proc, IF, WHILE, COUNT, no_parts, part}
+use Rattle.vc_process.specs.Terms.{as_test}
 use Rattle.vc_process.specs.Values.{Store, holds, value_of, within}
 use Rattle.vc_occam.specs.Traces.{Counts, set as set_to}
-use Rattle.vc_occam.specs.Remains.{Rest, Done, Stopped, Fresh, Then, Turns, begin, index_on, turns_on, branch_on, chosen, does_if, does_turn, does_leave, faults_while, does_count, does_count_none, faults_count}
-use Rattle.vc_occam.specs.Frames.{View, all_sound, begun, bodies, branches_of, branching, counting, has_place, is_at_itself, left_by, looping, outcome_of, rest_of, turns_left, view_of}
-use Rattle.vc_occam.specs.Private.Frames.{Able, CanGo, Did, HasTurned, Went, chosen_from, count_turn, place_on, seen_branch, turn_to}
+use Rattle.vc_occam.specs.Remains.{Rest, Done, Stopped, Fresh, Then, Turns, Step, begin, index_on, turns_on, branch_on, chosen, does_if, does_turn, does_leave, faults_while, does_count, does_count_none, faults_count}
+use Rattle.vc_occam.specs.Frames.{View, all_sound, begun, bodies, branches_of, branching, counting, has_place, is_at_itself, is_sound, left_by, looping, outcome_of, rest_of, turns_left}
+use Rattle.vc_occam.specs.Private.Frames.{Acted, HasTurned, chosen_from, count_turn, place_on, seen_branch, turn_to}
 use Rattle.vc_occam.proofs.Bodies.{branch_rest, branch_sound, same_branches, with_body}
 use Rattle.vc_occam.proofs.Endings.{begin_goes, left_same, unless_goes}
-use Rattle.vc_occam.proofs.Going.{and_right}
 
 -- an element of a list, as what it stands for
 pub map_get : {A B : Type 0} (m : A → B) (xs : List A) (k : ℕ) (x : A) → k < length xs → x ≡ get_or xs k x → slice_get (map m xs) k ≡ Some (m x)
@@ -76,19 +75,16 @@ pub not_taken : (bs : List (Branch View)) (t : Option ℕ) → is_at_itself (bra
 not_taken bs None h = refl
 not_taken bs (Some k) h = absurd (let z : false ≡ true = h in cc)
 
-if_did : (i : ℕ) (bs : Branches) (e : Store) (s : ℕ) (d : SiteAction) → Able (Fresh (IF i bs)) e s d → Did (Fresh (IF i bs)) e s d (chosen i bs e) e
-if_did i bs e s d (ks, q, f, does_if) = (ks, does_if)
-
-pub no_branch_did : (step : SiteStep) (i : ℕ) (bs : List (Branch View)) (vars : List Datum) → CanGo step (view_of i false (branching bs None)) vars → chosen_from 0 (map (λ b. as_test b.cond) bs) (store vars) ≡ None →
-    Did (Fresh (IF i (branches_of bs))) (store vars) step.site step.action (Stopped i) (store vars)
-no_branch_did step i bs vars c h =
-    subst (λ (r : Rest). Did (Fresh (IF i (branches_of bs))) (store vars) step.site step.action r (store vars)) (chosen_none i bs (store vars) 0 h) (if_did i (branches_of bs) (store vars) step.site step.action c.able)
+-- where no branch is taken, the IF is stopped
+pub no_branch_acted : (i : ℕ) (bs : List (Branch View)) (t : Option ℕ) (e : Store) → is_at_itself (branching bs t) ≡ true → chosen_from 0 (map (λ b. as_test b.cond) bs) e ≡ None → Acted i (branching bs t) e None (branching bs t) e
+no_branch_acted i bs None e at h = (refl, refl, ([], subst (λ (r : Rest). Step (Fresh (IF i (branches_of bs))) e i action.Quiet [] r e) (chosen_none i bs e 0 h) does_if))
+no_branch_acted i bs (Some k) e at h = absurd cc
 
 -- the branch that is chosen has begun
-pub branch_taken : (step : SiteStep) (i : ℕ) (bs : List (Branch View)) (k : ℕ) (b : Branch View) (w : View) (o : Outcome) (vars : List Datum) → CanGo step (view_of i false (branching bs None)) vars → slice_get bs k ≡ Some b → nat_lt k (length bs) ≡ true →
-    chosen_from 0 (map (λ b. as_test b.cond) bs) (store vars) ≡ Some k → w ≡ begun b.body.plan → o ≡ outcome_of (begin b.body.plan) → Went step (view_of i false (branching bs None)) (store vars) o (view_of i false (branching (set bs k (with_body b w)) (Some k))) (store vars)
-branch_taken step i bs k b w o vars c is l h g n =
-    let e = store vars in
+pub branch_taken : (i : ℕ) (bs : List (Branch View)) (k : ℕ) (b : Branch View) (w : View) (o : Outcome) (e : Store) → is_sound (branching bs None) ≡ true → slice_get bs k ≡ Some b → nat_lt k (length bs) ≡ true →
+    chosen_from 0 (map (λ b. as_test b.cond) bs) e ≡ Some k → w ≡ begun b.body.plan → o ≡ outcome_of (begin b.body.plan) → Acted i (branching bs None) e (Some o) (branching (set bs k (with_body b w)) (Some k)) e
+branch_taken i bs k b w o e sound is l h g n =
+    let step = step_at i (one action.Quiet) in
     let took = chosen_first i bs e k h in
     let same : Some took.0 ≡ Some b = sym took.1 ∙ is in
     let the : took.0 ≡ b = cc in
@@ -96,9 +92,9 @@ branch_taken step i bs k b w o vars c is l h g n =
     let rest : w.rest ≡ begin b.body.plan = ap (λ (v : View). v.rest) g in
     let after : left_by o (rest_of i (branching (set bs k (with_body b w)) (Some k))) ≡ begin b.body.plan = ap (left_by o) (branch_rest step i bs k b is w ∙ rest) ∙ begun_outcome b.body.plan o n in
     record {
-      did = subst (λ (r : Rest). Did (Fresh (IF i (branches_of bs))) e step.site step.action r e) (q ∙ sym after) (if_did i (branches_of bs) e step.site step.action c.able);
+      did = ([], subst (λ (r : Rest). Step (Fresh (IF i (branches_of bs))) e i action.Quiet [] r e) (q ∙ sym after) does_if);
       plan = ap (IF i) (same_branches bs k b w is (ap (λ (v : View). v.plan) g));
-      sound = branch_sound step i bs k b is w l (and_right (has_place None (length bs)) (all_sound (bodies bs)) c.sound) (ap (λ (v : View). v.sound) g);
+      sound = branch_sound step i bs k b is w l (and_parts (has_place None (length bs)) (all_sound (bodies bs)) sound).1 (ap (λ (v : View). v.sound) g);
       outcome = n ∙ ap outcome_of (sym after);
     }
 
@@ -107,22 +103,24 @@ pub not_turning : (b : Test) (v : View) (t : Bool) → is_at_itself (looping b v
 not_turning b v false h = refl
 not_turning b v true h = absurd (let z : false ≡ true = h in cc)
 
-while_did : (i : ℕ) (b : Test) (p : Proc) (e : Store) (s : ℕ) (d : SiteAction) → holds b e ≡ Some true → Able (Fresh (WHILE i b p)) e s d → Did (Fresh (WHILE i b p)) e s d (Then (begin p) (part (WHILE i b p) no_parts)) e
-while_did i b p e s d h (ks, q, f, does_turn g) = (ks, does_turn h)
-while_did i b p e s d h (ks, q, f, does_leave g) = (ks, does_turn h)
-while_did i b p e s d h (ks, q, f, faults_while g) = (ks, does_turn h)
+-- it ends, or its condition is a fault
+pub while_left : (i : ℕ) (b : Test) (v : View) (t : Bool) (e : Store) → is_at_itself (looping b v t) ≡ true → is_sound (looping b v t) ≡ true → holds b e ≡ Some false → Acted i (looping b v t) e (Some outcome.Ended) (looping b v t) e
+while_left i b v false e at sound h = record { did = ([], does_leave h); plan = refl; sound = sound; outcome = refl }
+while_left i b v true e at sound h = absurd cc
+
+pub while_faulted : (i : ℕ) (b : Test) (v : View) (t : Bool) (e : Store) → is_at_itself (looping b v t) ≡ true → holds b e ≡ None → Acted i (looping b v t) e None (looping b v t) e
+while_faulted i b v false e at h = (refl, refl, ([], faults_while h))
+while_faulted i b v true e at h = absurd cc
 
 -- the body of a WHILE has begun
-pub turn_taken : (step : SiteStep) (i : ℕ) (b : Test) (v w : View) (o : Outcome) (vars : List Datum) → CanGo step (view_of i false (looping b v false)) vars → holds b (store vars) ≡ Some true → w ≡ begun v.plan → o ≡ outcome_of (begin v.plan) →
-    Went step (view_of i false (looping b v false)) (store vars) o (view_of i false (looping b w true)) (store vars)
-turn_taken step i b v w o vars c h g n =
-    subst (λ (x : View). Went step (view_of i false (looping b v false)) (store vars) o (view_of i false (looping b x true)) (store vars)) (sym g)
-    (let e = store vars in
-    let ps = part (WHILE i b v.plan) no_parts in
+pub turn_taken : (i : ℕ) (b : Test) (v w : View) (o : Outcome) (e : Store) → holds b e ≡ Some true → w ≡ begun v.plan → o ≡ outcome_of (begin v.plan) → Acted i (looping b v false) e (Some o) (looping b w true) e
+turn_taken i b v w o e h g n =
+    subst (λ (x : View). Acted i (looping b v false) e (Some o) (looping b x true) e) (sym g)
+    (let ps = part (WHILE i b v.plan) no_parts in
     let u : outcome_of (Then (begin v.plan) ps) ≡ outcome_of (begin v.plan) = unless_goes (outcome_of (begin v.plan)) (begin_goes v.plan) in
     let after : left_by o (Then (begin v.plan) ps) ≡ Then (begin v.plan) ps = ap (λ x. left_by x (Then (begin v.plan) ps)) (n ∙ sym u) ∙ left_same (Then (begin v.plan) ps) in
     record {
-      did = subst (λ (r : Rest). Did (Fresh (WHILE i b v.plan)) e step.site step.action r e) (sym after) (while_did i b v.plan e step.site step.action h c.able);
+      did = ([], subst (λ (r : Rest). Step (Fresh (WHILE i b v.plan)) e i action.Quiet [] r e) (sym after) (does_turn h));
       plan = refl;
       sound = refl;
       outcome = n ∙ sym u ∙ ap outcome_of (sym after);
@@ -184,29 +182,57 @@ first_turn (Some x) (Some (pos (suc m))) t h l = by (within (x +ℤ pos m)) refl
         let turns : Turned (Some x) (Some (pos (suc m))) made = (m, counts, ap (turns_left x) (sym u.1) ∙ left_of x m) in
         subst (λ (t : Turn). Turned (Some x) (Some (pos (suc m))) t) same turns
 
-count_same : (i v : ℕ) (a n : Exp) (q : Proc) (e : Store) (s : ℕ) (d : SiteAction) (x : Rest) (y : Store) → Able (Fresh (COUNT i v a n q)) e s d → Did (Fresh (COUNT i v a n q)) e i action.Quiet x y → Did (Fresh (COUNT i v a n q)) e s d x y
-count_same i v a n q e s d x y (ks, p, f, does_count c) z = z
-count_same i v a n q e s d x y (ks, p, f, does_count_none c) z = z
-count_same i v a n q e s d x y (ks, p, f, faults_count c) z = z
+-- it has no turn, or its base or count is a fault
+no_turns : (o w : Option ℤ) → count_turn o w ≡ Some None → (b : ℤ) × Counts o w b 0
+no_turns None w h = absurd (let z : None ≡ Some None = h in cc)
+no_turns (Some x) None h = absurd (let z : None ≡ Some None = h in cc)
+no_turns (Some x) (Some (negsuc k)) h = absurd (let z : None ≡ Some None = h in cc)
+no_turns (Some x) (Some (pos zero)) h = (x, (refl, refl, λ k l. absurd (omega arith)))
+no_turns (Some x) (Some (pos (suc m))) h = by (within (x +ℤ pos m)) h
+  where
+    by : (o : Option ℤ) → turn_to x o ≡ Some None → (b : ℤ) × Counts (Some x) (Some (pos (suc m))) b 0
+    by None g = absurd (let z : None ≡ Some None = g in cc)
+    by (Some y) g = absurd cc
+
+no_count : (o w : Option ℤ) → count_turn o w ≡ None → (b : ℤ) (n : ℕ) → Counts o w b n → ⊥
+no_count None w h b n c = let z = c.0 in cc
+no_count (Some x) None h b n c = let z = c.1 in cc
+no_count (Some x) (Some (negsuc k)) h b n c = let z = c.1 in cc
+no_count (Some x) (Some (pos zero)) h b n c = cc
+no_count (Some x) (Some (pos (suc m))) h b n c =
+    let base : x ≡ b = let z = c.0 in cc in
+    let count : suc m ≡ n = let z = c.1 in cc in
+    by (within (x +ℤ pos m)) (ap (λ y. within (y +ℤ pos m)) base) h (c.2 m (omega arith))
+  where
+    by : (o : Option ℤ) → o ≡ within (b +ℤ pos m) → turn_to x o ≡ None → within (b +ℤ pos m) ≢ None → ⊥
+    by None q g l = l (sym q)
+    by (Some y) q g l = cc
+
+pub count_left : (i x : ℕ) (a n : Exp) (v : View) (t : Option Turn) (e : Store) → is_at_itself (counting x a n v t) ≡ true → is_sound (counting x a n v t) ≡ true → count_turn (value_of a e) (value_of n e) ≡ Some None →
+    Acted i (counting x a n v t) e (Some outcome.Ended) (counting x a n v t) e
+count_left i x a n v None e at sound h = let c = no_turns (value_of a e) (value_of n e) h in record { did = ([], does_count_none c.1); plan = refl; sound = sound; outcome = refl }
+count_left i x a n v (Some t) e at sound h = absurd cc
+
+pub count_faulted : (i x : ℕ) (a n : Exp) (v : View) (t : Option Turn) (e : Store) → is_at_itself (counting x a n v t) ≡ true → count_turn (value_of a e) (value_of n e) ≡ None → Acted i (counting x a n v t) e None (counting x a n v t) e
+count_faulted i x a n v None e at h = (refl, refl, ([], faults_count (no_count (value_of a e) (value_of n e) h)))
+count_faulted i x a n v (Some t) e at h = absurd cc
 
 -- the first turn has begun
-pub count_taken : (step : SiteStep) (i x : ℕ) (a n : Exp) (v w : View) (t : Turn) (o : Outcome) (vars : List Datum) (f : Store) → CanGo step (view_of i false (counting x a n v None)) vars → count_turn (value_of a (store vars)) (value_of n (store vars)) ≡ Some (Some t) →
-    mag t.index < 2 ^ 63 → w ≡ begun v.plan → o ≡ outcome_of (begin v.plan) → f ≡ set_to (store vars) x (datum.Int t.index) →
-    Went step (view_of i false (counting x a n v None)) (store vars) o (view_of i false (counting x a n w (Some t))) f
-count_taken step i x a n v w t o vars f c h l g q z =
-    subst (λ (u : View). Went step (view_of i false (counting x a n v None)) (store vars) o (view_of i false (counting x a n u (Some t))) f) (sym g)
-    (let e = store vars in
-    let p = v.plan in
+pub count_taken : (i x : ℕ) (a n : Exp) (v w : View) (t : Turn) (o : Outcome) (e f : Store) → count_turn (value_of a e) (value_of n e) ≡ Some (Some t) → mag t.index < 2 ^ 63 → w ≡ begun v.plan → o ≡ outcome_of (begin v.plan) → f ≡ set_to e x (datum.Int t.index) →
+    Acted i (counting x a n v None) e (Some o) (counting x a n w (Some t)) f
+count_taken i x a n v w t o e f h l g q z =
+    subst (λ (u : View). Acted i (counting x a n v None) e (Some o) (counting x a n u (Some t)) f) (sym g)
+    (let p = v.plan in
     let b = t.index +ℤ pos 1 in
     let m = turns_left t.index t.last in
     let turns = first_turn (value_of a e) (value_of n e) t h l in
-    let made : Did (Fresh (COUNT i x a n p)) e i action.Quiet (Turns (begin p) x b turns.0 p) (set_to e x (datum.Int t.index)) = ([], does_count turns.1) in
-    let by_turns = subst (λ k. Did (Fresh (COUNT i x a n p)) e i action.Quiet (Turns (begin p) x b k p) (set_to e x (datum.Int t.index))) (sym turns.2) made in
-    let by_store = subst (λ (k : Store). Did (Fresh (COUNT i x a n p)) e i action.Quiet (Turns (begin p) x b m p) k) (sym z) by_turns in
+    let made : Step (Fresh (COUNT i x a n p)) e i action.Quiet [] (Turns (begin p) x b turns.0 p) (set_to e x (datum.Int t.index)) = does_count turns.1 in
+    let by_turns = subst (λ k. Step (Fresh (COUNT i x a n p)) e i action.Quiet [] (Turns (begin p) x b k p) (set_to e x (datum.Int t.index))) (sym turns.2) made in
+    let by_store = subst (λ (k : Store). Step (Fresh (COUNT i x a n p)) e i action.Quiet [] (Turns (begin p) x b m p) k) (sym z) by_turns in
     let u : outcome_of (Turns (begin p) x b m p) ≡ outcome_of (begin p) = unless_goes (outcome_of (begin p)) (begin_goes p) in
     let after : left_by o (Turns (begin p) x b m p) ≡ Turns (begin p) x b m p = ap (λ y. left_by y (Turns (begin p) x b m p)) (q ∙ sym u) ∙ left_same (Turns (begin p) x b m p) in
     record {
-      did = subst (λ (r : Rest). Did (Fresh (COUNT i x a n p)) e step.site step.action r f) (sym after) (count_same i x a n p e step.site step.action (Turns (begin p) x b m p) f c.able by_store);
+      did = ([], subst (λ (r : Rest). Step (Fresh (COUNT i x a n p)) e i action.Quiet [] r f) (sym after) by_store);
       plan = refl;
       sound = refl;
       outcome = q ∙ sym u ∙ ap outcome_of (sym after);

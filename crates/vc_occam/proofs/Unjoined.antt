@@ -8,12 +8,12 @@ use Rattle.std.proofs.lemmas.Bool.Decides.{nat_tests}
 use Rattle.std.specs.Prelude.{◌==◌, OnOk, Result, ⊤, if◌then◌else◌}
 use Rattle.vc_occam.specs.First.{joined, meetings}
 use Rattle.vc_occam.specs.Frames.{remains}
+use Rattle.vc_occam.specs.Private.Frames.{seen_task}
 use Rattle.vc_occam.specs.Runnings.{inner_channels, moves, state}
 use Rattle.vc_packets.specs.declared.memory.Memory.{Memory}
 use Rattle.vc_process.specs.Terms.{store}
 use Rattle.vc_process.specs.Usage.{Set, among}
-use Rattle.vc_occam.proofs.Outcomes.{quiet_own}
-use Rattle.vc_occam.proofs.Tasks.{kept}
+use Rattle.vc_occam.proofs.Outcomes.{quiet_own, task_outcome}
 
 pub apart : (inside : Set) → ((c : ℕ) → inside c ≡ false) → (all ms : List Move) → joined inside all ms ≡ ms
 apart inside h all [] = refl
@@ -30,7 +30,7 @@ unjoined all ms = apart (among []) (λ c. refl) all ms
 -- a step is the only move of a process that is known to begin with it
 pub only_moves : (r : Running) (i : ℕ) → r.task.begins ≡ outcome.Quiet i → moves r ≡ Quiet i ∷ []
 unfolding state inner_channels
-only_moves r i h = ap (λ ms. joined (among r.inside) ms ms) (quiet_own (remains r.task) i (store r.vars.items) (kept r.task r.sound ∙ h))
+only_moves r i h = ap (λ ms. joined (among r.inside) ms ms) (quiet_own (remains r.task) i (store r.vars.items) (task_outcome (seen_task r.task) r.sound ∙ h))
 
 -- what is joined behind the moves that each site can begin with is left where these are taken out
 pub joined_left : (inside : Set) (old all new : List Move) (n : ℕ) → n ≡ length old → all ≡ old ++ joined inside (take n old) (take n old) → new ≡ drop n all → new ≡ joined inside old old

@@ -5,7 +5,7 @@ use Rattle.std.proofs.lemmas.List.Elements.{Contains-append_left, Contains-appen
 use Rattle.std.specs.List.{Contains}
 use Rattle.std.specs.Prelude.{◌==◌, if◌then◌else◌, is_some}
 use Rattle.vc_occam.specs.declared.answer.Answer.{Answer}
-use Rattle.vc_occam.specs.declared.site_action.SiteAction.TheVariants as action
+use Rattle.vc_occam.specs.SiteActions as action
 use Rattle.vc_occam.specs.declared.moves.Move.{Move}
 use Rattle.vc_occam.specs.declared.moves.Move.TheVariants.{Offer, Want, Choose, Stopch, Inner, Quiet}
 use Rattle.vc_process.specs.Syntax.{Proc, Procs, Output}

@@ -2,8 +2,8 @@
 use Rattle.std.proofs.Common.{◌≡◌, ℕ, ℤ, Bool, true, false, not, refl, sym, ap, subst, ◌∙◌, List, [], ◌∷◌, ◌++◌, Some, if◌then◌else◌, eqb, arith}
 use Rattle.std.proofs.lemmas.Bool.Decides.{nat_tests}
 use Rattle.vc_process.specs.declared.datum.Datum.{Datum}
-use Rattle.vc_occam.specs.declared.site_action.SiteAction.{SiteAction}
-use Rattle.vc_occam.specs.declared.site_action.SiteAction.TheVariants as action
+use Rattle.vc_occam.specs.SiteActions.{SiteAction}
+use Rattle.vc_occam.specs.SiteActions as action
 use Rattle.vc_process.specs.Messages.{message}
 use Rattle.vc_occam.specs.States.{State, StepsTo}
 use Rattle.vc_occam.specs.Traces.{Comm, Out, Fin, In, Stp, set, Merge, neither, from_left, from_right, join}

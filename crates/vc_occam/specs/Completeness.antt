@@ -1,6 +1,6 @@
 -- Traces and steps say the same: what a lawful process may communicate is what it makes by steps.
 use Rattle.std.specs.Prelude.{◌≡◌, ℕ, List, [], ◌++◌}
-use Rattle.vc_occam.specs.declared.site_action.SiteAction.{SiteAction}
+use Rattle.vc_occam.specs.SiteActions.{SiteAction}
 use Rattle.vc_occam.specs.NodeTraces.{so_far}
 use Rattle.vc_occam.specs.Remains.{Done, begin}
 use Rattle.vc_occam.specs.States.{State, StepsTo}

@@ -81,10 +81,6 @@ outcome_of (Then r ps) = unless_ended (outcome_of r)
 outcome_of (Turns r v b n p) = unless_ended (outcome_of r)
 outcome_of (Beside mine r q) = outcome.Other
 
-abbrev pub has_ended : Outcome → Bool
-has_ended outcome.Ended = true
-has_ended o = false
-
 -- nothing remains of a frame that has ended
 abbrev pub left_by : Outcome → Rest → Rest
 left_by outcome.Ended r = Done

@@ -1,6 +1,6 @@
 -- Lawful use of what remains of a process: no step loses it.
 use Rattle.std.specs.Prelude.{◌≡◌, ℕ, false, List}
-use Rattle.vc_occam.specs.declared.site_action.SiteAction.{SiteAction}
+use Rattle.vc_occam.specs.SiteActions.{SiteAction}
 use Rattle.vc_process.specs.Lawful.{outputs, outputs_all, inputs, inputs_all, Lawfully, LawfullyAll}
 use Rattle.vc_occam.specs.Remains.{Rest, Done, Stopped, Fresh, Finishing, Getting, Then, Turns, Beside, begin, changes_rest, Apart}
 use Rattle.vc_occam.specs.Sites.{Disjoint}

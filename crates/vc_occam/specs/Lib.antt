@@ -11,6 +11,7 @@ pub mod Opening
 pub mod Private
 pub mod Remains
 pub mod Runnings
+pub mod SiteActions
 pub mod Sites
 pub mod States
 pub mod Traces

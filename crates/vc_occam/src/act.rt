@@ -1,123 +1,101 @@
 //! What a frame's own site does, where none of its parts goes on.
-ghost use Rattle.std.specs.Prelude.{◌≡◌, ◌<◌, ℕ, List, length, map, true};
-ghost use Rattle.vc_occam.specs.declared.frame.Frame.TheViews.{out-Frame};
-ghost use Rattle.vc_occam.specs.declared.site_step.SiteStep.{SiteStep};
-ghost use Rattle.vc_occam.specs.Frames.{is_at_itself, is_sound, view};
-ghost use Rattle.vc_occam.specs.Private.Frames.{Acted, CanGo, Went, alt_shape, assigned_shape, branching_shape, chosen_from, count_turn, counting_shape, input_shape, looping_shape, output_shape, shape, unstopped};
-ghost use Rattle.vc_process.specs.declared.datum.Datum.{Datum};
-ghost use Rattle.vc_process.specs.Terms.{as_test, exp, store};
-ghost use Rattle.vc_process.specs.Values.{value_of};
+ghost use Rattle.std.specs.Prelude.{◌≡◌, ◌<◌, ℕ, length, map, true};
+ghost use Rattle.vc_occam.specs.Traces.{set};
+ghost use Rattle.vc_occam.specs.declared.outcome.Outcome.TheVariants.{Ended};
+ghost use Rattle.vc_occam.specs.Frames.{is_at_itself, is_sound};
+ghost use Rattle.vc_occam.specs.Private.Frames.{Acted, CanGo, HasGot, HasGuard, Went, alt_shape, assigned_shape, branching_shape, chosen_from, count_turn, counting_shape, looping_shape, seen_guards, shape, unstopped};
+ghost use Rattle.vc_occam.specs.Private.SiteSteps.{message_at, quiet_at};
+ghost use Rattle.vc_process.specs.Messages.{received};
+ghost use Rattle.vc_process.specs.Terms.{as_test, exp, given, store};
+ghost use Rattle.vc_process.specs.Values.{assigned_bytes, value_of};
 
 use crate::frame::{
-    Alt, Assignment, Branch, Choice, Construct, Count, Frame, If, Input, Output, Turn, While,
+    Alt, Assignment, Branch, Choice, Construct, Count, Frame, If, Input, Turn, While,
 };
 use crate::outcome::Outcome;
-use crate::site_action::SiteAction;
-use crate::site_step::SiteStep;
 use crate::variables::{put, set_variable};
+use vc_packets::Bytes;
 use vc_process::Datum;
 
-impl Frame {
-    /// Its own site does something; answers what it comes to.
-    #[inline(never)]
-    pub(crate) fn act(&mut self, step: &mut SiteStep, vars: &mut Vec<Datum>) -> Outcome
-        requires itself { is_at_itself (shape (out-Frame self.old).construct) ≡ true }
-        requires can { CanGo step.old (view self.old) vars.old.items }
-        ensures went { Went step.old (view self.old) (store vars.old.items) result (view self.new)
+impl Construct<Frame> {
+    /// A step without a communication at its own site; None where a fault, or an IF without a true condition, stops it for good.
+    #[inline(always)]
+    pub(crate) fn step(
+        &mut self,
+        assigned: &mut Option<Datum>,
+        vars: &mut Vec<Datum>,
+    ) -> Option<Outcome>
+        requires itself { is_at_itself (shape self.old) ≡ true }
+        requires can { (i : ℕ) × CanGo (quiet_at i assigned.old) (unstopped i (shape self.old))
+            vars.old.items }
+        ensures acted { (i : ℕ) →
+            CanGo (quiet_at i assigned.old) (unstopped i (shape self.old)) vars.old.items →
+            Acted i (shape self.old) (store vars.old.items) result (shape self.new)
             (store vars.new.items) }
         ensures length { length vars.new.items ≡ length vars.old.items }
     {
-        match self.try_act(step, vars) {
-            Some(outcome) => outcome,
-            None => {
-                self.stopped = true;
-                Outcome::Nothing
-            }
-        }
-    }
-
-    /// The same; None where a fault, or an IF without a true condition, stops it for good, which is not noted yet.
-    #[inline(always)]
-    fn try_act(&mut self, step: &mut SiteStep, vars: &mut Vec<Datum>) -> Option<Outcome>
-        requires itself { is_at_itself (shape (out-Frame self.old).construct) ≡ true }
-        requires can { CanGo step.old (view self.old) vars.old.items }
-        ensures acted { Acted (out-Frame self.old).site step.old
-            (shape (out-Frame self.old).construct) (store vars.old.items) result
-            (shape (out-Frame self.new).construct) (store vars.new.items) }
-        ensures site { (out-Frame self.new).site ≡ (out-Frame self.old).site }
-        ensures running { (out-Frame self.new).stopped ≡ (out-Frame self.old).stopped }
-        ensures length { length vars.new.items ≡ length vars.old.items }
-    {
-        match &mut self.construct {
-            Construct::Set(set) => set.act(step, vars),
-            Construct::Send(output) => output.act(step),
-            Construct::Receive(input) => Some(input.act(step, vars)),
+        match self {
+            Construct::Set(set) => set.act(assigned, vars),
+            Construct::Send(_) => None,
             Construct::If(branching) => branching.act(vars),
             Construct::While(looping) => looping.act(vars),
             Construct::Count(counting) => counting.act(vars),
-            Construct::Alt(alt) => Some(alt.act(step, vars)),
             _ => Some(Outcome::Ended),
+        }
+    }
+
+    /// The message comes that its own site waits for.
+    #[inline(always)]
+    pub(crate) fn receive(&mut self, message: Bytes, vars: &mut Vec<Datum>) -> Outcome
+        requires itself { is_at_itself (shape self.old) ≡ true }
+        requires can { (i : ℕ) × CanGo (message_at i message) (unstopped i (shape self.old))
+            vars.old.items }
+        ensures received { (i : ℕ) →
+            CanGo (message_at i message) (unstopped i (shape self.old)) vars.old.items →
+            Went (message_at i message) (unstopped i (shape self.old)) (store vars.old.items) result
+            (unstopped i (shape self.new)) (store vars.new.items) }
+        ensures length { length vars.new.items ≡ length vars.old.items }
+    {
+        match self {
+            Construct::Receive(input) => input.take(message, vars),
+            Construct::Alt(alt) => match alt.choice {
+                Choice::Taken(place) => alt.take(place, message, vars),
+                _ => Outcome::Nothing,
+            },
+            _ => Outcome::Nothing,
         }
     }
 }
 
 impl Assignment {
     /// Assigns a number that it works out, or the bytes that come along; None at a fault.
-    fn act(&self, step: &mut SiteStep, vars: &mut Vec<Datum>) -> Option<Outcome>
-        requires can { (i : ℕ) × CanGo step.old (unstopped i (assigned_shape self.now))
-            vars.old.items }
+    fn act(&self, assigned: &mut Option<Datum>, vars: &mut Vec<Datum>) -> Option<Outcome>
+        requires variable { self.now.var < length vars.old.items }
+        requires assigned { assigned.old ≡
+            assigned_bytes (given self.now.value) (store vars.old.items) }
         ensures acted { (i : ℕ) →
-            CanGo step.old (unstopped i (assigned_shape self.now)) vars.old.items →
-            Acted i step.old (assigned_shape self.now) (store vars.old.items) result
+            Acted i (assigned_shape self.now) (store vars.old.items) result
             (assigned_shape self.now) (store vars.new.items) }
         ensures length { length vars.new.items ≡ length vars.old.items }
     {
-        let datum = self.value.assigned(&mut step.assigned, vars)?;
+        let datum = self.value.assigned(assigned, vars)?;
         set_variable(vars, self.var, datum);
         Some(Outcome::Ended)
     }
 }
 
-impl Output {
-    /// Begins, or is finished; None at a fault of its value.
-    fn act(&mut self, step: &SiteStep) -> Option<Outcome>
-        ensures acted { (i : ℕ) (vars : List Datum) →
-            CanGo step.now (unstopped i (output_shape self.old)) vars →
-            Acted i step.now (output_shape self.old) (store vars) result (output_shape self.new)
-            (store vars) }
-    {
-        match step.action {
-            SiteAction::Offer { .. } => {
-                self.begun = true;
-                Some(Outcome::Nothing)
-            }
-            SiteAction::Finish => Some(Outcome::Ended),
-            _ => None,
-        }
-    }
-}
-
 impl Input {
-    /// Takes its message, or waits for it.
-    fn act(&mut self, step: &mut SiteStep, vars: &mut Vec<Datum>) -> Outcome
-        requires can { (i : ℕ) × CanGo step.old (unstopped i (input_shape self.old))
-            vars.old.items }
-        ensures acted { (i : ℕ) →
-            CanGo step.old (unstopped i (input_shape self.old)) vars.old.items →
-            Went step.old (unstopped i (input_shape self.old)) (store vars.old.items) result
-            (unstopped i (input_shape self.new)) (store vars.new.items) }
+    /// Its message comes.
+    #[inline(always)]
+    pub(crate) fn take(&self, message: Bytes, vars: &mut Vec<Datum>) -> Outcome
+        requires variable { self.now.var < length vars.old.items }
+        ensures ended { result ≡ Ended }
+        ensures value { store vars.new.items ≡ set (store vars.old.items) self.now.var
+            (received (store vars.old.items self.now.var) message) }
         ensures length { length vars.new.items ≡ length vars.old.items }
     {
-        match step.take_message() {
-            Some(message) => {
-                put(vars, self.var, message);
-                Outcome::Ended
-            }
-            None => {
-                self.begun = true;
-                Outcome::Nothing
-            }
-        }
+        put(vars, self.var, message);
+        Outcome::Ended
     }
 }
 
@@ -126,9 +104,8 @@ impl If<Frame> {
     fn act(&mut self, vars: &[Datum]) -> Option<Outcome>
         requires itself { is_at_itself (branching_shape self.old) ≡ true }
         requires sound { is_sound (branching_shape self.old) ≡ true }
-        ensures acted { (i : ℕ) (step : SiteStep) →
-            CanGo step (unstopped i (branching_shape self.old)) vars.now →
-            Acted i step (branching_shape self.old) (store vars.now) result
+        ensures acted { (i : ℕ) →
+            Acted i (branching_shape self.old) (store vars.now) result
             (branching_shape self.new) (store vars.now) }
     {
         let at = chosen(self.branches.as_slice(), vars)?;
@@ -142,9 +119,8 @@ impl While<Frame> {
     fn act(&mut self, vars: &[Datum]) -> Option<Outcome>
         requires itself { is_at_itself (looping_shape self.old) ≡ true }
         requires sound { is_sound (looping_shape self.old) ≡ true }
-        ensures acted { (i : ℕ) (step : SiteStep) →
-            CanGo step (unstopped i (looping_shape self.old)) vars.now →
-            Acted i step (looping_shape self.old) (store vars.now) result
+        ensures acted { (i : ℕ) →
+            Acted i (looping_shape self.old) (store vars.now) result
             (looping_shape self.new) (store vars.now) }
     {
         if !self.cond.holds(vars)? {
@@ -161,9 +137,8 @@ impl Count<Frame> {
         requires itself { is_at_itself (counting_shape self.old) ≡ true }
         requires sound { is_sound (counting_shape self.old) ≡ true }
         requires variable { self.old.var < length vars.old.items }
-        ensures acted { (i : ℕ) (step : SiteStep) →
-            CanGo step (unstopped i (counting_shape self.old)) vars.old.items →
-            Acted i step (counting_shape self.old) (store vars.old.items) result
+        ensures acted { (i : ℕ) →
+            Acted i (counting_shape self.old) (store vars.old.items) result
             (counting_shape self.new) (store vars.new.items) }
         ensures length { length vars.new.items ≡ length vars.old.items }
     {
@@ -195,32 +170,17 @@ impl Count<Frame> {
 }
 
 impl Alt<Frame> {
-    /// Takes a guard, or the message of the guard that it took: with its message the guard's body begins, and else the guard waits.
-    fn act(&mut self, step: &mut SiteStep, vars: &mut Vec<Datum>) -> Outcome
-        requires itself { is_at_itself (alt_shape self.old) ≡ true }
-        requires can { (i : ℕ) × CanGo step.old (unstopped i (alt_shape self.old))
-            vars.old.items }
-        ensures acted { (i : ℕ) →
-            CanGo step.old (unstopped i (alt_shape self.old)) vars.old.items →
-            Went step.old (unstopped i (alt_shape self.old)) (store vars.old.items) result
-            (unstopped i (alt_shape self.new)) (store vars.new.items) }
+    /// The message comes of the guard at a place, whose body begins.
+    pub(crate) fn take(&mut self, place: usize, message: Bytes, vars: &mut Vec<Datum>) -> Outcome
+        requires sound { is_sound (alt_shape self.old) ≡ true }
+        requires there { HasGuard (seen_guards self.old) place (length vars.old.items) }
+        ensures got { HasGot place message (seen_guards self.old) (store vars.old.items) result
+            (alt_shape self.new) (store vars.new.items) }
         ensures length { length vars.new.items ≡ length vars.old.items }
     {
-        let at = match self.choice {
-            Choice::Taken(at) => at,
-            _ => step.place(),
-        };
-        match step.take_message() {
-            Some(message) => {
-                put(vars, self.guards[at].var, message);
-                self.choice = Choice::Within(at);
-                self.guards[at].body.start()
-            }
-            None => {
-                self.choice = Choice::Taken(at);
-                Outcome::Nothing
-            }
-        }
+        put(vars, self.guards[place].var, message);
+        self.choice = Choice::Within(place);
+        self.guards[place].body.start()
     }
 }
 

@@ -1,7 +1,7 @@
 //! How frames go on: one site does something.
-ghost use Rattle.std.specs.Prelude.{◌≡◌, ◌<◌, length, true};
+ghost use Rattle.std.specs.Prelude.{◌≡◌, ◌<◌, ℕ, length, true};
 ghost use Rattle.vc_occam.specs.Frames.{all_sound, besides, is_sound, outcome_of, view};
-ghost use Rattle.vc_occam.specs.Private.Frames.{CanGo, HasNext, HasTurned, Went, counting_shape, seq_shape, shown, task_views, views};
+ghost use Rattle.vc_occam.specs.Private.Frames.{CanGo, HasNext, HasTurned, Went, counting_shape, par_shape, seq_shape, shown, task_views, unstopped, views};
 ghost use Rattle.vc_process.specs.Terms.{store};
 
 use crate::find::part_with;
@@ -15,9 +15,9 @@ impl Task<Frame> {
     /// A site of it does something; answers what it comes to.
     #[cycle(go)]
     #[inline(always)]
-    pub(crate) fn go(&mut self, step: &mut SiteStep, vars: &mut Vec<Datum>) -> Outcome
-        requires can { CanGo step.old (shown self.old) vars.old.items }
-        ensures went { Went step.old (shown self.old) (store vars.old.items) result
+    pub(crate) fn go<S: SiteStep>(&mut self, step: &mut S, vars: &mut Vec<Datum>) -> Outcome
+        requires can { CanGo (S.stands_for step.old) (shown self.old) vars.old.items }
+        ensures went { Went (S.stands_for step.old) (shown self.old) (store vars.old.items) result
             (shown self.new) (store vars.new.items) }
         ensures begins { self.new.begins ≡ result }
         ensures length { length vars.new.items ≡ length vars.old.items }
@@ -31,10 +31,10 @@ impl Task<Frame> {
 impl Frame {
     /// A site of it does something, and what is round that site goes on where it has ended; answers what it comes to.
     #[cycle(go)]
-    pub(crate) fn go(&mut self, step: &mut SiteStep, vars: &mut Vec<Datum>) -> Outcome
-        requires can { CanGo step.old (view self.old) vars.old.items }
-        ensures went { Went step.old (view self.old) (store vars.old.items) result (view self.new)
-            (store vars.new.items) }
+    pub(crate) fn go<S: SiteStep>(&mut self, step: &mut S, vars: &mut Vec<Datum>) -> Outcome
+        requires can { CanGo (S.stands_for step.old) (view self.old) vars.old.items }
+        ensures went { Went (S.stands_for step.old) (view self.old) (store vars.old.items) result
+            (view self.new) (store vars.new.items) }
         ensures length { length vars.new.items ≡ length vars.old.items }
     {
         match &mut self.construct {
@@ -45,17 +45,10 @@ impl Frame {
                 }
                 outcome
             }
-            Construct::Par(par) => {
-                let place = part_with(par.tasks.as_slice(), step.site);
-                let outcome = par.tasks[place].go(step, vars);
-                if outcome.has_ended() {
-                    return par.outcome();
-                }
-                Outcome::Other
-            }
+            Construct::Par(par) => par.go(step, vars),
             Construct::If(branching) => match branching.taken {
                 Some(at) => branching.branches[at].body.go(step, vars),
-                None => self.act(step, vars),
+                None => step.act(self, vars),
             },
             Construct::While(looping) if looping.turning => {
                 let outcome = looping.body.go(step, vars);
@@ -73,13 +66,13 @@ impl Frame {
                     }
                     outcome
                 }
-                None => self.act(step, vars),
+                None => step.act(self, vars),
             },
             Construct::Alt(alt) => match alt.choice {
                 Choice::Within(at) => alt.guards[at].body.go(step, vars),
-                _ => self.act(step, vars),
+                _ => step.act(self, vars),
             },
-            _ => self.act(step, vars),
+            _ => step.act(self, vars),
         }
     }
 }
@@ -102,6 +95,26 @@ impl Seq<Frame> {
 }
 
 impl Par<Frame> {
+    /// The part with the site goes on; answers what the PAR comes to.
+    #[cycle(go)]
+    #[inline(never)]
+    fn go<S: SiteStep>(&mut self, step: &mut S, vars: &mut Vec<Datum>) -> Outcome
+        requires can { (i : ℕ) × CanGo (S.stands_for step.old) (unstopped i (par_shape self.old))
+            vars.old.items }
+        ensures went { (i : ℕ) →
+            CanGo (S.stands_for step.old) (unstopped i (par_shape self.old)) vars.old.items →
+            Went (S.stands_for step.old) (unstopped i (par_shape self.old)) (store vars.old.items)
+            result (unstopped i (par_shape self.new)) (store vars.new.items) }
+        ensures length { length vars.new.items ≡ length vars.old.items }
+    {
+        let place = part_with(self.tasks.as_slice(), step.site());
+        let outcome = self.tasks[place].go(step, vars);
+        if outcome.has_ended() {
+            return self.outcome();
+        }
+        Outcome::Other
+    }
+
     /// What it comes to: it ends when all its parts have. The last one mostly goes on.
     fn outcome(&self) -> Outcome
         requires sound { all_sound (task_views self.now.tasks.items) ≡ true }

@@ -19,9 +19,11 @@
 //!
 //! A process runs as a tree of frames (`frame.rt`), one for each process that is written. A frame is an enum: each construct of the
 //! language is a variant, which holds how far it is. What a frame stands for, the process that was written and what remains of it, is
-//! said in `specs/Frames`. A part begins, ends and begins again by a change of its frame, without memory. What a site does is handed
-//! down to it by one borrow (`site_step.rt`, `go.rt`), it does it there (`act.rt`), and each frame answers on the way up what it came
-//! to (`outcome.rt`): that it has ended, or what it begins with next. A frame that has ended is left, and has no state of its own.
+//! said in `specs/Frames`. A part begins, ends and begins again by a change of its frame, without memory. Each kind of thing that a site
+//! does is a type of its own (`site_step.rt`), which is handed down to the site (`go.rt`), so that the way there is compiled for each. It
+//! does it there (`act.rt`), and each frame answers on the way up what it came to (`outcome.rt`): that it has ended, or what it begins with
+//! next. A frame that has ended is left, and has no state of its own. Where an output meets an input inside the node, the message is taken
+//! first, and then the output begins and is finished at once; the same comes of it as in the other order (`proofs/TakenFirst`).
 //! A part of a PAR keeps what it came to (`Task`), and so does the whole: where that is nothing, or one step without a communication,
 //! no moves are looked for. The parts of a PAR all go on, and since sites are in preorder the one that has a site is found by
 //! halving. Who waits on a channel is looked for first at the site that last began on it (`hints.rt`). A number is worked out at its
@@ -46,7 +48,6 @@ mod meetings;
 mod moves;
 mod outcome;
 mod running;
-mod site_action;
 mod site_step;
 mod variables;
 mod waits;

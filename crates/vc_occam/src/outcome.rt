@@ -1,6 +1,6 @@
 //! What a process comes to.
 ghost use Rattle.std.specs.Prelude.{◌≡◌};
-ghost use Rattle.vc_occam.specs.Frames.{has_ended};
+ghost use Rattle.vc_occam.specs.Private.Frames.{has_ended};
 
 /// What a process comes to as it begins, or by what one of its sites does: it ends, or it begins with something, whatever its
 /// variables hold.

@@ -1,14 +1,16 @@
 //! Running processes.
 ghost use Rattle.std.specs.Prelude.{◌≡◌, length, true};
-ghost use Rattle.vc_occam.specs.Private.Frames.{HasVariables, shown, whole};
+ghost use Rattle.vc_occam.specs.Private.Frames.{Able, Did, HasVariables, shown, whole};
 ghost use Rattle.vc_occam.specs.Frames.{remains};
 ghost use Rattle.vc_occam.specs.InUse.{UsesLawfully};
 ghost use Rattle.vc_occam.specs.First.{own};
-ghost use Rattle.vc_occam.specs.Private.Moving.{CanBegin, HasMet, at, action_for as action_of, action_on as going_on};
+ghost use Rattle.vc_occam.specs.Private.Moving.{CanBegin, HasMet, IsAlone, action_for, at};
+ghost use Rattle.vc_occam.specs.Private.SiteSteps.{one};
+ghost use Rattle.vc_occam.specs.Moving.{site_of};
 ghost use Rattle.vc_occam.specs.Private.OneProof.{InPreorder-prop, OwnSites-prop, UsesLawfully-prop};
 ghost use Rattle.vc_occam.specs.Private.Sites.{InPreorder};
 ghost use Rattle.vc_occam.specs.Sites.{OwnSites};
-ghost use Rattle.vc_occam.specs.States.{came, carried, output_at};
+ghost use Rattle.vc_occam.specs.States.{IsQuiet, came, carried, output_at};
 ghost use Rattle.vc_process.specs.Terms.{store};
 
 use crate::answer::Answer;
@@ -17,10 +19,9 @@ use crate::frame::{Frame, Task};
 use crate::frame_tree::task_of;
 use crate::hints::Hints;
 use crate::meetings::{clear, is_outside, join, partner};
-use crate::moves::{Move, site_of};
+use crate::moves::Move;
 use crate::outcome::Outcome;
-use crate::site_action::SiteAction;
-use crate::site_step::SiteStep;
+use crate::site_step::{Choose, Offer, Quiet, Resume, SendAtOnce, StopChannel, Want};
 use crate::variables::empty_variables;
 use crate::waits::Waits;
 use sqlite_items::Items;
@@ -55,38 +56,47 @@ impl Drop for Running {
     }
 }
 
-/// What the move's site does, where the channel gave this answer.
-fn action_for(made: &Move, answer: Answer) -> SiteAction
-    ensures { result ≡ action_of made.now answer }
+/// The site of a move with a communication makes it, where the channel gave this answer.
+fn go_alone(task: &mut Task<Frame>, vars: &mut Vec<Datum>, made: &Move, answer: Answer)
+    requires alone { IsAlone made.now }
+    requires loud { IsQuiet made.now → ⊥ }
+    requires able { Able (remains task.old) (store vars.old.items) (site_of made.now)
+        (action_for made.now answer) }
+    requires variables { HasVariables (whole task.old) (length vars.old.items) }
+    requires in_preorder { InPreorder (whole task.old) }
+    requires sound { (shown task.old).sound ≡ true }
+    ensures did { Did (remains task.old) (store vars.old.items) (site_of made.now)
+        (one (action_for made.now answer)) (remains task.new) (store vars.new.items) }
+    ensures plan { whole task.new ≡ whole task.old }
+    ensures sound { (shown task.new).sound ≡ true }
+    ensures length { length vars.new.items ≡ length vars.old.items }
 {
-    match made {
-        Move::Offer { chan, .. } => SiteAction::Offer { chan: *chan },
-        Move::Want { chan, .. } => SiteAction::Want {
-            chan: *chan,
-            message: answer.message(),
-        },
-        Move::Choose { guard, chan, .. } => SiteAction::Choose {
-            place: *guard,
-            chan: *chan,
-            message: answer.message(),
-        },
-        Move::Stopch { chan, .. } => SiteAction::StopChannel { chan: *chan },
-        Move::Inner { chan, .. } => SiteAction::Offer { chan: *chan },
-        Move::Quiet { .. } => SiteAction::Quiet,
-    }
+    match *made {
+        Move::Offer { site, chan } => task.go(&mut Offer { site, chan }, vars),
+        Move::Want { site, chan } => task.go(
+            &mut Want {
+                site,
+                chan,
+                message: answer.message(),
+            },
+            vars,
+        ),
+        Move::Choose { site, guard, chan } => task.go(
+            &mut Choose {
+                site,
+                place: guard,
+                chan,
+                message: answer.message(),
+            },
+            vars,
+        ),
+        Move::Stopch { site, chan } => task.go(&mut StopChannel { site, chan }, vars),
+        _ => Outcome::Nothing,
+    };
 }
 
-/// An output is finished, or a message comes.
-fn action_on(message: Option<Bytes>) -> SiteAction
-    ensures { result ≡ going_on message }
-{
-    match message {
-        Some(message) => SiteAction::Message(message),
-        None => SiteAction::Finish,
-    }
-}
-
-/// An output meets an input or guard inside the node: it begins, its message is taken, and it is finished.
+/// An output meets an input or guard inside the node: it begins, its message is taken, and it is finished. Since an output may begin
+/// later than its message is taken, the frames are gone through twice.
 fn meet(
     task: &mut Task<Frame>,
     vars: &mut Vec<Datum>,
@@ -102,6 +112,7 @@ fn meet(
     requires variables { HasVariables (whole task.old) (length vars.old.items) }
     requires in_preorder { InPreorder (whole task.old) }
     requires own_sites { OwnSites (remains task.old) }
+    requires uses_lawfully { UsesLawfully (remains task.old) }
     requires sound { (shown task.old).sound ≡ true }
     ensures met { HasMet (at (remains task.old) (store vars.old.items)) sender chan taken.now answer
         (at (remains task.new) (store vars.new.items)) }
@@ -109,24 +120,8 @@ fn meet(
     ensures sound { (shown task.new).sound ≡ true }
     ensures length { length vars.new.items ≡ length vars.old.items }
 {
-    let mut offers = SiteStep {
-        site: sender,
-        action: SiteAction::Offer { chan },
-        assigned: None,
-    };
-    task.go(&mut offers, vars);
-    let mut takes = SiteStep {
-        site: site_of(taken),
-        action: action_for(taken, answer),
-        assigned: None,
-    };
-    task.go(&mut takes, vars);
-    let mut finishes = SiteStep {
-        site: sender,
-        action: SiteAction::Finish,
-        assigned: None,
-    };
-    task.go(&mut finishes, vars);
+    go_alone(task, vars, taken, answer);
+    task.go(&mut SendAtOnce { site: sender, chan }, vars);
 }
 
 impl Running {
@@ -350,12 +345,7 @@ impl Running {
             (doing made.now (sent_by (state self.old) made.now) answer) (state self.new) }
         ensures inside { inner_channels self.new ≡ inner_channels self.old }
     {
-        let mut step = SiteStep {
-            site: site_of(made),
-            action: action_for(made, answer),
-            assigned: None,
-        };
-        self.task.go(&mut step, &mut self.vars);
+        go_alone(&mut self.task, &mut self.vars, made, answer);
         self.hints.note(made);
     }
 
@@ -399,12 +389,7 @@ impl Running {
         ensures made { Acts (state self.old) (Rests site) (state self.new) }
         ensures inside { inner_channels self.new ≡ inner_channels self.old }
     {
-        let mut step = SiteStep {
-            site,
-            action: SiteAction::Quiet,
-            assigned,
-        };
-        self.task.go(&mut step, &mut self.vars);
+        self.task.go(&mut Quiet { site, assigned }, &mut self.vars);
     }
 
     /// The site goes on: its output was finished, or here is the message for its input.
@@ -414,12 +399,7 @@ impl Running {
         ensures resumed { Resumes (state self.old) site message (state self.new) }
         ensures inside { inner_channels self.new ≡ inner_channels self.old }
     {
-        let mut step = SiteStep {
-            site,
-            action: action_on(message),
-            assigned: None,
-        };
-        self.task.go(&mut step, &mut self.vars);
+        self.task.go(&mut Resume { site, message }, &mut self.vars);
     }
 
     /// A site that waits for this, if one does; it is looked for first at the hint.

@@ -5,11 +5,11 @@ use Rattle.vc_occam.specs.declared.frame.Task.{Task}
 use Rattle.vc_occam.specs.Blocking.{blocked}
 use Rattle.vc_occam.specs.Frames.{all_sound, besides, view}
 use Rattle.vc_occam.specs.Remains.{Rest}
+use Rattle.vc_occam.specs.Private.Frames.{task_views}
 use Rattle.vc_process.specs.Terms.{store}
 use Rattle.vc_process.proofs.Reaching.{adds_same}
 use Rattle.vc_occam.proofs.Innermost.{same_blocked}
 use Rattle.vc_occam.proofs.Pars.{par_rest, par_sound, sound_at}
-use Rattle.vc_occam.proofs.Places.{task_views}
 use Rattle.vc_occam.proofs.SideBySide.{beside_blocked, listed_end, listed_next}
 use Rattle.vc_occam.proofs.+blocked.Goals as goal
 

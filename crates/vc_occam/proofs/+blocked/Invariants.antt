@@ -1,8 +1,8 @@
 use Rattle.std.proofs.Common.{◌≡◌, ◌++◌, drop}
 use Rattle.vc_occam.specs.Blocking.{blocked}
 use Rattle.vc_occam.specs.Frames.{besides}
+use Rattle.vc_occam.specs.Private.Frames.{task_views}
 use Rattle.vc_process.specs.Terms.{store}
-use Rattle.vc_occam.proofs.Places.{task_views}
 use Rattle.vc_occam.proofs.+blocked.Given as goal
 
 abbrev pub invariant-frame::Frame::push_blocked-loop-task : goal.invariant-frame::Frame::push_blocked-loop-task

@@ -2,13 +2,12 @@ use Rattle.std.proofs.Common.{rules, ◌<◌, ◌∙◌, ap, List, length, subst
 use Rattle.vc_occam.specs.declared.frame.Frame.{Frame}
 use Rattle.vc_occam.specs.declared.frame.Frame.TheViews.{the_lemmas}
 use Rattle.vc_occam.specs.declared.frame.Task.{Task}
-use Rattle.vc_occam.specs.Frames.{plans_of, task_view, view}
-use Rattle.vc_occam.specs.Private.Frames.{place_with, seen_task}
+use Rattle.vc_occam.specs.Frames.{plans_of, view}
+use Rattle.vc_occam.specs.Private.Frames.{place_with, shown, task_views}
 use Rattle.vc_occam.specs.Private.Sites.{PartsInPreorder}
 use Rattle.vc_occam.specs.Remains.{Rest}
 use Rattle.vc_occam.proofs.Found.{GoesOnIn, alone_in, found_in, together_in}
 use Rattle.vc_occam.proofs.Pars.{par_preorder, par_rest, par_some, par_sound, place_there, preorder_at, sound_at}
-use Rattle.vc_occam.proofs.Places.{task_views}
 use Rattle.vc_occam.proofs.+find.Goals as goal
 
 pub frame::Frame::find-returns-in-Some : goal.frame::Frame::find-returns-in-Some
@@ -54,5 +53,5 @@ frame::Frame::find-returns-in-Par t c =
     let p = c.part_with.ensures ∙ ap (λ (ts : List (Task Frame)). place_with c.args.site (task_views ts)) c.as_slice.ensures.value in
     let there : c.part_with.result < length ts = omega arith in
     let goes = together_in c.args.site c.part_with.result ts task (par_preorder f par c.in-Par.is c.requires.in_preorder) there c.index.ensures p in
-    let within = subst (λ (r : Rest). GoesOnIn c.args.site (task_view (seen_task task)).rest r) (sym (par_rest f par c.requires.sound c.in-Par.is)) goes in
-    found_in (λ f. f.now) c.args.site c.find-in-Par.result (task_view (seen_task task)).rest (view f).rest within c.find-in-Par.ensures
+    let within = subst (λ (r : Rest). GoesOnIn c.args.site (shown task).rest r) (sym (par_rest f par c.requires.sound c.in-Par.is)) goes in
+    found_in (λ f. f.now) c.args.site c.find-in-Par.result (shown task).rest (view f).rest within c.find-in-Par.ensures

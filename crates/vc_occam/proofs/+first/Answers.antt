@@ -5,7 +5,7 @@ use Rattle.vc_occam.specs.declared.frame.Task.{Task}
 use Rattle.vc_occam.specs.First.{own}
 use Rattle.vc_occam.specs.Frames.{all_sound, besides, plans_of, task_view, view}
 use Rattle.vc_occam.specs.Moving.{from_site}
-use Rattle.vc_occam.specs.Private.Frames.{seen_guard, seen_task}
+use Rattle.vc_occam.specs.Private.Frames.{seen_guard, seen_task, task_views}
 use Rattle.vc_occam.specs.Private.Sites.{PartsInPreorder}
 use Rattle.vc_occam.specs.Remains.{Rest}
 use Rattle.vc_process.specs.Terms.{store}
@@ -15,7 +15,6 @@ use Rattle.vc_occam.proofs.Innermost.{same_own}
 use Rattle.vc_occam.proofs.Inside.{tasks_inside}
 use Rattle.vc_occam.proofs.Outcomes.{nothing_own, task_outcome}
 use Rattle.vc_occam.proofs.Pars.{par_preorder, par_rest, par_sound, preorder_at, sound_at}
-use Rattle.vc_occam.proofs.Places.{task_views}
 use Rattle.vc_occam.proofs.Sought.{first_own, from_part, none_later, seek_end, seek_found, seek_more}
 use Rattle.vc_occam.proofs.+first.Goals as goal
 

@@ -5,14 +5,13 @@ use Rattle.vc_occam.specs.declared.frame.Task.{Task}
 use Rattle.vc_occam.specs.declared.moves.Move.{Move}
 use Rattle.vc_occam.specs.First.{own}
 use Rattle.vc_occam.specs.Frames.{all_sound, besides, task_view, view}
-use Rattle.vc_occam.specs.Private.Frames.{seen_task}
+use Rattle.vc_occam.specs.Private.Frames.{seen_task, task_views}
 use Rattle.vc_occam.specs.Remains.{Rest}
 use Rattle.vc_process.specs.Terms.{store}
 use Rattle.vc_process.proofs.Reaching.{adds_same}
 use Rattle.vc_occam.proofs.Innermost.{same_own}
 use Rattle.vc_occam.proofs.Outcomes.{nothing_own, quiet_own, task_outcome}
 use Rattle.vc_occam.proofs.Pars.{par_rest, par_sound, sound_at}
-use Rattle.vc_occam.proofs.Places.{task_views}
 use Rattle.vc_occam.proofs.SideBySide.{beside_own, listed_end, listed_next}
 use Rattle.vc_occam.proofs.+moves.Goals as goal
 

@@ -1,8 +1,8 @@
 use Rattle.std.proofs.Common.{◌≡◌, ◌++◌, drop}
 use Rattle.vc_occam.specs.First.{own}
 use Rattle.vc_occam.specs.Frames.{besides}
+use Rattle.vc_occam.specs.Private.Frames.{task_views}
 use Rattle.vc_process.specs.Terms.{store}
-use Rattle.vc_occam.proofs.Places.{task_views}
 use Rattle.vc_occam.proofs.+moves.Given as goal
 
 abbrev pub invariant-frame::Frame::push_moves-loop-task : goal.invariant-frame::Frame::push_moves-loop-task

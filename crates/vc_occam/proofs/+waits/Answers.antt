@@ -3,12 +3,11 @@ use Rattle.vc_occam.specs.declared.frame.Frame.{Frame}
 use Rattle.vc_occam.specs.declared.frame.Frame.TheViews.{the_lemmas}
 use Rattle.vc_occam.specs.declared.frame.Task.{Task}
 use Rattle.vc_occam.specs.Frames.{all_sound, besides, view}
-use Rattle.vc_occam.specs.Private.Frames.{first_waits}
+use Rattle.vc_occam.specs.Private.Frames.{first_waits, task_views}
 use Rattle.vc_occam.specs.Remains.{Rest}
 use Rattle.vc_occam.specs.States.{waiting}
 use Rattle.vc_occam.proofs.Innermost.{same_waiting}
 use Rattle.vc_occam.proofs.Pars.{par_rest, par_sound, sound_at}
-use Rattle.vc_occam.proofs.Places.{task_views}
 use Rattle.vc_occam.proofs.SideBySide.{waits_end, waits_found, waits_more}
 use Rattle.vc_occam.proofs.+waits.Goals as goal
 

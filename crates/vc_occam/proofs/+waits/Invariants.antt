@@ -1,8 +1,7 @@
 use Rattle.std.proofs.Common.{◌≡◌, drop}
 use Rattle.vc_occam.specs.Frames.{besides}
-use Rattle.vc_occam.specs.Private.Frames.{first_waits}
+use Rattle.vc_occam.specs.Private.Frames.{first_waits, task_views}
 use Rattle.vc_occam.specs.States.{waiting}
-use Rattle.vc_occam.proofs.Places.{task_views}
 use Rattle.vc_occam.proofs.+waits.Given as goal
 
 abbrev pub invariant-frame::Frame::waits_on-loop-task : goal.invariant-frame::Frame::waits_on-loop-task

@@ -1,5 +1,5 @@
 -- How frames go on, and what is asked of them on the way.
-use Rattle.std.specs.Prelude.{◌≡◌, ℕ, zero, suc, ℤ, pos, negsuc, ◌+ℤ◌, Bool, true, false, not, ◌==◌, List, [], ◌∷◌, ◌<◌, ◌↔◌, nat_le, map, drop, length, Option, Some, None, if◌then◌else◌}
+use Rattle.std.specs.Prelude.{◌≡◌, ℕ, zero, suc, ℤ, pos, negsuc, ◌+ℤ◌, Bool, true, false, not, ◌==◌, List, [], ◌∷◌, ◌<◌, ◌↔◌, nat_le, map, drop, length, slice_get, Option, Some, None, if◌then◌else◌}
 use Rattle.std.specs.List.{Contains}
 use Rattle.std.specs.Option.{option_or}
 use Rattle.vc_occam.specs.declared.frame.Frame.{Frame}
@@ -20,26 +20,33 @@ use Rattle.vc_occam.specs.declared.frame.Branch.{Branch}
 use Rattle.vc_occam.specs.declared.frame.Guard.{Guard}
 use Rattle.vc_occam.specs.declared.frame.Turn.{Turn}
 use Rattle.vc_occam.specs.declared.outcome.Outcome.{Outcome}
+use Rattle.vc_occam.specs.declared.outcome.Outcome.TheVariants as outcome
 use Rattle.vc_occam.specs.declared.moves.Move.{Move}
 use Rattle.vc_occam.specs.declared.moves.Move.TheVariants as move
 use Rattle.vc_process.specs.declared.datum.Datum.{Datum}
-use Rattle.vc_occam.specs.declared.site_action.SiteAction.{SiteAction}
-use Rattle.vc_occam.specs.declared.site_action.SiteAction.TheVariants as action
-use Rattle.vc_occam.specs.declared.site_step.SiteStep.{SiteStep}
+use Rattle.vc_occam.specs.SiteActions.{SiteAction}
+use Rattle.vc_occam.specs.SiteActions as action
+use Rattle.vc_occam.specs.Private.SiteSteps.{Actions, StepAt, first_action, one, step_at, whole_output}
 use Rattle.vc_occam.specs.declared.waits.Waits.{Waits}
 use Rattle.vc_occam.specs.declared.waits.Waits.TheVariants as waits
 use Rattle.vc_process.specs.Values.{Store, assigned_bytes, holds, within}
-use Rattle.vc_occam.specs.Traces.{Comm}
+use Rattle.vc_occam.specs.Traces.{Comm, set}
+use Rattle.vc_process.specs.Messages.{received}
 use Rattle.vc_process.specs.Usage.{changes}
 use Rattle.vc_process.specs.Syntax.{Test, Proc, Assign, ALT}
 use Rattle.vc_process.specs.Terms.{as_test, exp, given, store}
-use Rattle.vc_occam.specs.Remains.{Rest, Done, Stopped, Fresh, Then, Turns, Beside, then_on, turns_on, index_on, Step}
+use Rattle.vc_occam.specs.Remains.{Rest, Done, Stopped, Fresh, Then, Turns, Beside, begin, then_on, turns_on, index_on, Step}
 use Rattle.vc_occam.specs.Private.Sites.{InPreorder}
 use Rattle.vc_occam.specs.Sites.{site}
 use Rattle.vc_occam.specs.States.{Waiting, output, input, waiting, output_at}
 use Rattle.vc_occam.specs.First.{all_decided, choices, is_true, own}
 use Rattle.vc_occam.specs.Moving.{site_of}
 use Rattle.vc_occam.specs.Frames.{View, Shape, skip, empty_seq, empty_par, stop, assign, send, receive, stop_chan, seq, par, branching, looping, counting, guarding, guards_of, is_at_itself, is_sound, left_by, outcome_of, plan_of, plans_of, rest_of, task_view, turns_left, view, view_of}
+
+-- nothing remains
+abbrev pub has_ended : Outcome → Bool
+has_ended outcome.Ended = true
+has_ended o = false
 
 -- frames, each with what it stands for
 abbrev pub views : List Frame → List View
@@ -69,6 +76,9 @@ seen_branch b = record { cond = b.cond; body = view b.body }
 abbrev pub seen_guard : Guard Frame → Guard View
 seen_guard g = record { cond = g.cond; chan = g.chan; var = g.var; body = view g.body }
 
+abbrev pub seen_guards : Alt Frame → List (Guard View)
+seen_guards a = map seen_guard a.guards.items
+
 -- what each construct is, with what its frames stand for
 abbrev pub assigned_shape : Assignment → Shape
 assigned_shape a = assign a.var (given a.value)
@@ -95,7 +105,7 @@ abbrev pub counting_shape : Count Frame → Shape
 counting_shape c = counting c.var (exp c.base) (exp c.count) (view c.body.value) c.turn
 
 abbrev pub alt_shape : Alt Frame → Shape
-alt_shape a = guarding (map seen_guard a.guards.items) a.choice
+alt_shape a = guarding (seen_guards a) a.choice
 
 abbrev pub shape : Construct Frame → Shape
 shape run.Skip = skip
@@ -160,32 +170,34 @@ abbrev pub Able : Rest → Store → ℕ → SiteAction → Type 0
 Able r e i d = (ks : List Comm) × (q : Rest) × (f : Store) × Step r e i d ks q f
 
 -- a site did this
-abbrev pub Did : Rest → Store → ℕ → SiteAction → Rest → Store → Type 0
-Did r e i d q f = (ks : List Comm) × Step r e i d ks q f
+abbrev pub Did : Rest → Store → ℕ → Actions → Rest → Store → Type 0
+Did r e i (one d) q f = (ks : List Comm) × Step r e i d ks q f
+Did r e i (whole_output c) q f =
+    (ks : List Comm) × (m : Rest) × (g : Store) × (ls : List Comm) × Step r e i (action.Offer c) ks m g × Step m g i action.Finish ls q f
 
 -- the variables that a process changes are among so many
 abbrev pub HasVariables : Proc → ℕ → Type 0
 HasVariables p n = (v : ℕ) → changes p v ≡ true → v < n
 
 -- the step of a site can be made, and where it assigns bytes it brings them
-pub record CanGo (step : SiteStep) (v : View) (vars : List Datum) : Type 0 where
-  pub able : Able v.rest (store vars) step.site step.action
-  pub brings : step.action ≡ action.Quiet → step.assigned ≡ assigned_at step.site v.rest (store vars)
+pub record CanGo (step : StepAt) (v : View) (vars : List Datum) : Type 0 where
+  pub able : Able v.rest (store vars) step.site (first_action step.actions)
+  pub brings : step.actions ≡ one action.Quiet → step.assigned ≡ assigned_at step.site v.rest (store vars)
   pub variables : HasVariables v.plan (length vars)
   pub in_preorder : InPreorder v.plan
   pub sound : v.sound ≡ true
 
 -- it was made, and came to this; of what has ended nothing remains
-pub record Went (step : SiteStep) (v : View) (e : Store) (o : Outcome) (w : View) (f : Store) : Type 0 where
-  pub did : Did v.rest e step.site step.action (left_by o w.rest) f
+pub record Went (step : StepAt) (v : View) (e : Store) (o : Outcome) (w : View) (f : Store) : Type 0 where
+  pub did : Did v.rest e step.site step.actions (left_by o w.rest) f
   pub plan : w.plan ≡ v.plan
   pub sound : w.sound ≡ true
   pub outcome : o ≡ outcome_of (left_by o w.rest)
 
--- the own site of a construct made it and came to this, or it is a fault, and nothing has changed
-abbrev pub Acted : ℕ → SiteStep → Shape → Store → Option Outcome → Shape → Store → Type 0
-Acted i step s e (Some o) t f = Went step (unstopped i s) e o (unstopped i t) f
-Acted i step s e None t f = (t ≡ s) × (f ≡ e) × Did (rest_of i s) e step.site step.action (Stopped i) e
+-- the own site of a construct made a step without a communication and came to this, or it is a fault, and nothing has changed
+abbrev pub Acted : ℕ → Shape → Store → Option Outcome → Shape → Store → Type 0
+Acted i s e (Some o) t f = Went (step_at i (one action.Quiet)) (unstopped i s) e o (unstopped i t) f
+Acted i s e None t f = (t ≡ s) × (f ≡ e) × Did (rest_of i s) e i (one action.Quiet) (Stopped i) e
 
 -- the part of a SEQ has ended, and the next one has begun, if there is one
 pub record HasNext (vs : List View) (k : ℕ) (o : Outcome) (ws : List View) (m : ℕ) : Type 0 where
@@ -212,6 +224,20 @@ pub record HasTurned (t : Turn) (s : Shape) (e : Store) (o : Outcome) (u : Shape
   pub sound : is_sound u ≡ true
   pub outcome : o ≡ outcome_of (turned_rest t s)
   pub value : f ≡ turned_store t s e
+
+-- an ALT has a guard at this place, whose variable is among so many
+abbrev pub HasGuard : List (Guard View) → ℕ → ℕ → Type 0
+HasGuard gs k n = (g : Guard View) × (slice_get gs k ≡ Some g) × (g.var < n)
+
+-- the message of that guard has come, and its body has begun
+pub record HasGot (k : ℕ) (m : List ℕ) (gs : List (Guard View)) (e : Store) (o : Outcome) (t : Shape) (f : Store) : Type 0 where
+  pub guard : Guard View
+  pub there : slice_get gs k ≡ Some guard
+  pub rest : (i : ℕ) → left_by o (rest_of i t) ≡ begin guard.body.plan
+  pub plan : (i : ℕ) → plan_of i t ≡ ALT i (guards_of gs)
+  pub sound : is_sound t ≡ true
+  pub outcome : o ≡ outcome_of (begin guard.body.plan)
+  pub value : f ≡ set e guard.var (received (e guard.var) m)
 
 -- what goes on, without what comes behind it
 abbrev pub innermost : Rest → Rest

@@ -2,8 +2,8 @@
 use Rattle.std.specs.Prelude.{◌≡◌, ℕ, true, List, Option, Some, None}
 use Rattle.std.specs.List.{Contains}
 use Rattle.vc_occam.specs.declared.answer.Answer.{Answer}
-use Rattle.vc_occam.specs.declared.site_action.SiteAction.{SiteAction}
-use Rattle.vc_occam.specs.declared.site_action.SiteAction.TheVariants as action
+use Rattle.vc_occam.specs.SiteActions.{SiteAction}
+use Rattle.vc_occam.specs.SiteActions as action
 use Rattle.vc_occam.specs.declared.moves.Move.{Move}
 use Rattle.vc_occam.specs.declared.moves.Move.TheVariants.{Offer, Want, Choose, Stopch, Inner, Quiet}
 use Rattle.vc_occam.specs.Remains.{Rest}

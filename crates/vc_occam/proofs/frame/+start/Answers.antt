@@ -1,13 +1,15 @@
 use Rattle.std.proofs.Common.{◌≡◌, ◌∙◌, ◌<◌, ap, sym, add-one, arith, length, map, rules, ◌≤◌, false, get_or, vec_len}
+use Rattle.std.proofs.lemmas.Bool.{and_parts}
 use Rattle.std.proofs.lemmas.List.{length-map}
 use Rattle.vc_occam.specs.Frames.{begun, is_sound, outcome_of, plan_of, view_of}
-use Rattle.vc_occam.specs.Private.Frames.{seen_task, shape}
+use Rattle.vc_occam.specs.Private.Frames.{seen_task, shape, task_views, unstopped}
 use Rattle.vc_occam.specs.declared.frame.Frame.TheViews.{the_lemmas, out-Frame, out-roll-Frame}
 use Rattle.vc_occam.specs.declared.frame.Frame.TheOpen.{Frame-F}
 use Rattle.vc_occam.specs.declared.frame.Frame.{Frame}
 use Rattle.vc_occam.specs.Remains.{begin}
 use Rattle.vc_occam.proofs.Views.{view_roll}
-use Rattle.vc_occam.proofs.Beginning.{and_right, begun_more, begun_to, begun_whole, frame_sound, par_begins, par_begins_with, plan_out, seq_begins, seq_begins_with, seq_has_first, task_begun, task_sound, task_views, view_sound}
+use Rattle.vc_occam.proofs.AtItself.{frame_sound}
+use Rattle.vc_occam.proofs.Beginning.{begun_more, begun_to, begun_whole, par_begins, par_begins_with, plan_out, seq_begins, seq_begins_with, seq_has_first, task_begun, task_sound, view_sound}
 use Rattle.vc_occam.proofs.frame.+start.Goals as goal
 
 pub Construct+Frame::start-start-requires : goal.Construct+Frame::start-start-requires
@@ -22,7 +24,7 @@ Frame::start-start-requires t c = (search (rules, the_lemmas), simp the_lemmas (
 pub Frame::start-returns-clause-begun : goal.Frame::start-returns-clause-begun
 Frame::start-returns-clause-begun t c =
     let o = out-Frame c.args.self.now in
-    let b : view_of o.site false (shape c.start.new.self) ≡ begun (plan_of o.site (shape o.construct)) = simp the_lemmas at c.start.ensures.begun in
+    let b : unstopped o.site (shape c.start.new.self) ≡ begun (plan_of o.site (shape o.construct)) = simp the_lemmas at c.start.ensures.begun in
     let opened = out-roll-Frame (record { site = o.site; stopped = false; construct = o.construct }) in
     view_roll _ ∙ ap (λ (x : Frame-F Frame). view_of x.site x.stopped (shape c.start.new.self)) opened ∙ b ∙ ap begun (sym (plan_out c.args.self.now))
 
@@ -42,7 +44,7 @@ pub Seq+Frame::start-start-requires : goal.Seq+Frame::start-start-requires
 Seq+Frame::start-start-requires t c =
     let fs = c.args.self.now.parts.items in
     let l : 0 < length fs = seq_has_first c.args.self.now.at fs c.requires.sound in
-    (search (rules, the_lemmas), view_sound 0 fs c.index_mut.result.now l c.index_mut.ensures.value (and_right _ _ c.requires.sound))
+    (search (rules, the_lemmas), view_sound 0 fs c.index_mut.result.now l c.index_mut.ensures.value (and_parts _ _ c.requires.sound).1)
 
 pub Seq+Frame::start-returns-clause-begun : goal.Seq+Frame::start-returns-clause-begun
 Seq+Frame::start-returns-clause-begun t c =
@@ -62,7 +64,7 @@ Par+Frame::start-start-requires t c =
     let e : vec_len c.args.self.now.tasks ≡ length ts = c.args.self.now.tasks.ok.0 in
     let l : x.place < length ts = omega (arith, c.len-place-end.ensures, c.loop-place-test.true) in
     let same : u ≡ get_or ts x.place u = c.index_mut.ensures.value ∙ x.invariant.0.1 x.place u (omega arith) in
-    (search (rules, the_lemmas), task_sound x.place ts u l same (and_right _ _ c.requires.sound))
+    (search (rules, the_lemmas), task_sound x.place ts u l same (and_parts _ _ c.requires.sound).1)
 
 pub Par+Frame::start-returns-clause-begun : goal.Par+Frame::start-returns-clause-begun
 Par+Frame::start-returns-clause-begun t c =

@@ -3,10 +3,10 @@ use Rattle.vc_process.specs.InOrder.{number}
 use Rattle.vc_process.specs.Private.InOrder.{number_guard, number_branch}
 use Rattle.vc_process.proofs.Reaching.{drop_at}
 use Rattle.vc_process.specs.Syntax.{SEQ}
-use Rattle.vc_occam.specs.Frames.{outcome_of, plans_of, task_view, view}
+use Rattle.vc_occam.specs.Frames.{outcome_of, plans_of, view}
 use Rattle.vc_occam.specs.Remains.{begin}
-use Rattle.vc_occam.specs.Private.Frames.{seen_task, views}
-use Rattle.vc_occam.proofs.Beginning.{task_begun, task_views}
+use Rattle.vc_occam.specs.Private.Frames.{shown, task_views, views}
+use Rattle.vc_occam.proofs.Beginning.{task_begun}
 use Rattle.vc_occam.proofs.Making.{all_made, alt_stands, begins_first, begins_still, branches_way, few_guards, guards_way, if_stands, no_part_stands, none_there, one_made, parts_stand, parts_way, some_there, shown_branch, shown_guard, tasks_push, tasks_stand, views_push}
 use Rattle.vc_occam.proofs.frame_tree.+framing.Goals as goal
 use Rattle.vc_occam.proofs.frame_tree.+framing.Goals.{seq_of-then-is_empty, seq_of-else-is_empty}
@@ -34,7 +34,7 @@ par_of-loop-part-preserved t c =
     let is = c.in_ok-task_of.ensures.made in
     let us = c.push.new.self.items in
     let pushed : us ≡ c.loop-part.tasks.items ++ made ∷ [] = c.in_ok-push.ensures.items in
-    one_made parts_way c.args.next.now c.loop-part.next c.task_of.new.next (number c.part-item.result) (map number xs) (map number (drop k xs)) (map number (drop (k + 1) xs)) (task_view (seen_task made)) (task_views c.loop-part.tasks.items) (task_views us) (drop_at number k xs c.part-item.result c.loop-part-test.true c.part-item.is)
+    one_made parts_way c.args.next.now c.loop-part.next c.task_of.new.next (number c.part-item.result) (map number xs) (map number (drop k xs)) (map number (drop (k + 1) xs)) (shown made) (task_views c.loop-part.tasks.items) (task_views us) (drop_at number k xs c.part-item.result c.loop-part-test.true c.part-item.is)
     c.in_ok-task_of.ensures.next (task_begun (view made.frame) made.begins _ is.0 is.1) (ap task_views pushed ∙ tasks_push c.loop-part.tasks.items made) c.loop-part.invariant
 
 pub par_of-returns-clause-made : goal.par_of-returns-clause-made

@@ -1,4 +1,5 @@
-use Rattle.std.proofs.Common.{◌≡◌, ◌∙◌, ◌<◌, ℕ, length, map, set, sym, ap, subst, refl, List, Option, Some, None, arith, true, false}
+use Rattle.std.proofs.Common.{◌≡◌, ◌∙◌, ◌<◌, ℕ, length, map, set, sym, ap, subst, List, Option, Some, None, arith, true}
+use Rattle.std.proofs.lemmas.Bool.{and_parts}
 use Rattle.std.proofs.lemmas.Bool.Decides.{nat_tests}
 use Rattle.std.proofs.lemmas.List.{length-map, map-set}
 use Rattle.std.proofs.lemmas.Option.{slice_get_within}
@@ -8,11 +9,11 @@ use Rattle.vc_process.specs.Values.{Store}
 use Rattle.vc_occam.specs.declared.frame.Branch.{Branch}
 use Rattle.vc_occam.specs.declared.frame.Frame.{Frame}
 use Rattle.vc_occam.specs.declared.outcome.Outcome.{Outcome}
-use Rattle.vc_occam.specs.Frames.{View, all_sound, bodies, branching, has_place, view, view_of}
-use Rattle.vc_occam.specs.Private.Frames.{Acted, CanGo, Went, chosen_from, seen_branch}
-use Rattle.vc_occam.proofs.Going.{and_right, part_is_sound}
+use Rattle.vc_occam.specs.Frames.{View, all_sound, bodies, branching, has_place, is_sound, view}
+use Rattle.vc_occam.specs.Private.Frames.{Acted, chosen_from, seen_branch}
+use Rattle.vc_occam.proofs.Going.{part_is_sound}
 use Rattle.vc_occam.proofs.Bodies.{branch_body}
-use Rattle.vc_occam.proofs.Taking.{branch_taken, chosen_first, map_get, no_branch_did, not_taken, seen_tests}
+use Rattle.vc_occam.proofs.Taking.{branch_taken, chosen_first, map_get, no_branch_acted, not_taken, seen_tests}
 use Rattle.vc_occam.proofs.act.If+Frame.act.Goals as goal
 
 -- the choice among branches, as what they stand for
@@ -29,14 +30,13 @@ there fs e k h =
 pub returns-in_err-at : goal.returns-in_err-at
 returns-in_err-at c =
     record {
-      acted = λ i step can.
+      acted = λ i.
           let fs = c.args.self.now.branches.items in
           let bs = map seen_branch fs in
           let e = store c.args.vars.now in
           let t = c.args.self.now.taken in
           let none = seen_choice fs c.as_slice.result.now e c.chosen.result None c.as_slice.ensures.value c.chosen.ensures c.in_err-at.was in
-          subst (λ (o : Option Outcome). Acted i step (branching bs t) e o (branching bs t) e) (sym c.from_residual.ensures)
-          (subst (λ (t : Option ℕ). CanGo step (view_of i false (branching bs t)) c.args.vars.now → Acted i step (branching bs t) e None (branching bs t) e) (sym (not_taken bs t c.requires.itself)) (λ can. (refl, refl, no_branch_did step i bs c.args.vars.now can none)) can);
+          subst (λ (o : Option Outcome). Acted i (branching bs t) e o (branching bs t) e) (sym c.from_residual.ensures) (no_branch_acted i bs t e c.requires.itself none);
     }
 
 pub index_mut-requires : goal.index_mut-requires
@@ -55,12 +55,12 @@ start-requires c =
     let l = there fs (store c.args.vars.now) c.in_ok-at.at took in
     let b = seen_branch c.index_mut.result.now in
     let is = map_get seen_branch fs c.in_ok-at.at c.index_mut.result.now l c.index_mut.ensures.value in
-    record { sound = part_is_sound (bodies bs) c.in_ok-at.at b.body (branch_body bs c.in_ok-at.at b is) (and_right (has_place c.args.self.now.taken (length bs)) (all_sound (bodies bs)) c.requires.sound) }
+    record { sound = part_is_sound (bodies bs) c.in_ok-at.at b.body (branch_body bs c.in_ok-at.at b is) (and_parts (has_place c.args.self.now.taken (length bs)) (all_sound (bodies bs)) c.requires.sound).1 }
 
 pub returns : goal.returns
 returns c =
     record {
-      acted = λ i step can.
+      acted = λ i.
           let fs = c.args.self.now.branches.items in
           let bs = map seen_branch fs in
           let e = store c.args.vars.now in
@@ -72,8 +72,9 @@ returns c =
           let l = there fs e k took in
           let is = map_get seen_branch fs k f l c.index_mut.ensures.value in
           let within : nat_lt k (length bs) ≡ true = let m = length-map fs seen_branch in let n : k < length bs = omega arith in grind (arith, nat_tests) in
-          let open_before : CanGo step (view_of i false (branching bs None)) c.args.vars.now = subst (λ (t : Option ℕ). CanGo step (view_of i false (branching bs t)) c.args.vars.now) (not_taken bs t c.requires.itself) can in
-          let went = branch_taken step i bs k (seen_branch f) (view c.start.new.self) c.start.result c.args.vars.now open_before is within took c.start.ensures.begun c.start.ensures.outcome in
-          subst (λ (t : Option ℕ). Went step (view_of i false (branching bs t)) e c.start.result (view_of i false (branching (map seen_branch (set fs k g)) (Some k))) e) (sym (not_taken bs t c.requires.itself))
-          (subst (λ cs. Went step (view_of i false (branching bs None)) e c.start.result (view_of i false (branching cs (Some k))) e) (sym (map-set seen_branch fs k g)) went);
+          let still = not_taken bs t c.requires.itself in
+          let sound = subst (λ (t : Option ℕ). is_sound (branching bs t) ≡ true) still c.requires.sound in
+          let acted = branch_taken i bs k (seen_branch f) (view c.start.new.self) c.start.result e sound is within took c.start.ensures.begun c.start.ensures.outcome in
+          subst (λ (t : Option ℕ). Acted i (branching bs t) e (Some c.start.result) (branching (map seen_branch (set fs k g)) (Some k)) e) (sym still)
+          (subst (λ cs. Acted i (branching bs None) e (Some c.start.result) (branching cs (Some k)) e) (sym (map-set seen_branch fs k g)) acted);
     }

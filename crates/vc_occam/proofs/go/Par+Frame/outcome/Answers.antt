@@ -1,14 +1,15 @@
-use Rattle.std.proofs.Common.{◌≡◌, ◌∙◌, ◌+◌, ◌-◌, ◌<◌, suc, length, map, drop, ap, sym, arith}
+use Rattle.std.proofs.Common.{◌≡◌, ◌∙◌, ◌+◌, ◌-◌, ◌<◌, suc, length, drop, ap, sym, arith}
 use Rattle.vc_occam.specs.Frames.{besides, outcome_of, task_view}
-use Rattle.vc_occam.specs.Private.Frames.{seen_task}
-use Rattle.vc_occam.proofs.Abreast.{besides_end, besides_go, besides_more, task_at, task_count, task_ended, task_goes}
+use Rattle.vc_occam.specs.Private.Frames.{seen_task, task_views}
+use Rattle.vc_occam.proofs.Abreast.{besides_end, besides_go, besides_more, task_count, task_ended, task_goes}
 use Rattle.vc_occam.proofs.Going.{part_is_sound}
+use Rattle.vc_occam.proofs.Pars.{task_at}
 use Rattle.vc_occam.proofs.go.Par+Frame.outcome.Goals as goal
 
 pub loop-behind-init : goal.loop-behind-init
 loop-behind-init c =
     let ts = c.args.self.now.tasks.items in
-    let vs = map task_view (map seen_task ts) in
+    let vs = task_views ts in
     let n = task_count ts in
     let all : length ts - 0 ≡ length vs = omega arith in
     ap (λ k. besides (drop k vs)) all ∙ besides_end vs
@@ -17,7 +18,7 @@ pub returns-then-not-has_ended : goal.returns-then-not-has_ended
 returns-then-not-has_ended c =
     let s = c.args.self.now in
     let ts = s.tasks.items in
-    let vs = map task_view (map seen_task ts) in
+    let vs = task_views ts in
     let o = s.tasks.ok.0 in
     let k = c.len.result - 1 - c.loop-behind.behind in
     let l : k < length ts = omega (arith, c.len.ensures, c.len-behind-end.ensures) in
@@ -29,7 +30,7 @@ pub loop-behind-preserved : goal.loop-behind-preserved
 loop-behind-preserved c =
     let s = c.args.self.now in
     let ts = s.tasks.items in
-    let vs = map task_view (map seen_task ts) in
+    let vs = task_views ts in
     let o = s.tasks.ok.0 in
     let k = c.len.result - 1 - c.loop-behind.behind in
     let l : k < length ts = omega (arith, c.len.ensures, c.len-behind-end.ensures) in
@@ -43,7 +44,7 @@ pub returns : goal.returns
 returns c =
     let s = c.args.self.now in
     let ts = s.tasks.items in
-    let vs = map task_view (map seen_task ts) in
+    let vs = task_views ts in
     let o = s.tasks.ok.0 in
     let none : length ts - c.loop-behind.behind ≡ 0 = omega (arith, c.len-behind-end.ensures) in
     ap outcome_of (sym c.loop-behind.invariant ∙ ap (λ n. besides (drop n vs)) none)

@@ -1,9 +1,10 @@
 use Rattle.std.proofs.Common.{◌∙◌, ◌+◌, ◌<◌, length, set, sym, ap, subst, arith, add-one}
 use Rattle.std.specs.Prelude.{nat_lt, slice_get}
+use Rattle.std.proofs.lemmas.Bool.{and_parts}
 use Rattle.std.proofs.lemmas.List.{map-set}
 use Rattle.vc_occam.specs.Frames.{all_sound, view}
 use Rattle.vc_occam.specs.Private.Frames.{HasNext, views}
-use Rattle.vc_occam.proofs.Going.{and_right, part_is_sound, seq_begun}
+use Rattle.vc_occam.proofs.Going.{part_is_sound, seq_begun}
 use Rattle.vc_occam.proofs.Taking.{map_get}
 use Rattle.vc_occam.proofs.go.Seq+Frame.next.Goals as goal
 
@@ -13,7 +14,7 @@ start-requires c =
     let o = s.parts.ok.0 in
     let l : s.at + 1 < length s.parts.items = omega (arith, c.len.ensures) in
     let is = map_get view s.parts.items (s.at + 1) c.index_mut.result.now l c.index_mut.ensures.value in
-    record { sound = part_is_sound (views s.parts.items) (s.at + 1) (view c.index_mut.result.now) is (and_right (nat_lt s.at (length (views s.parts.items))) (all_sound (views s.parts.items)) c.requires.sound) }
+    record { sound = part_is_sound (views s.parts.items) (s.at + 1) (view c.index_mut.result.now) is (and_parts (nat_lt s.at (length (views s.parts.items))) (all_sound (views s.parts.items)) c.requires.sound).1 }
 
 pub returns-then-next-len : goal.returns-then-next-len
 returns-then-next-len c =

@@ -1,7 +1,4 @@
-use Rattle.std.proofs.Common.{◌∙◌, sym, subst}
-use Rattle.vc_occam.specs.declared.site_action.SiteAction.{SiteAction}
 use Rattle.vc_occam.specs.Frames.{remains}
-use Rattle.vc_occam.specs.Private.Frames.{Able, Did}
 use Rattle.vc_occam.specs.Runnings.{state}
 use Rattle.vc_occam.specs.States.{State}
 use Rattle.vc_process.specs.Terms.{store}
@@ -19,8 +16,8 @@ go-requires c =
     let r = remains self.task in
     let e = store self.vars.items in record {
       can = record {
-        able = subst (λ (d : SiteAction). Able r e c.args.site d) (sym c.action_on.ensures) (able_on r e c.args.site c.args.message c.requires);
-        brings = λ q. goes_on_loud c.args.message _ (sym c.action_on.ensures ∙ q);
+        able = able_on r e c.args.site c.args.message c.requires;
+        brings = λ q. goes_on_loud c.args.message _ q;
         variables = self.has_variables;
         in_preorder = self.in_preorder;
         sound = self.sound;
@@ -49,5 +46,4 @@ returns-clause-resumed c =
     let f = store c.go.new.vars.items in
     let before : State = record { rest = r; store = e } in
     let after : State = record { rest = q; store = f } in
-    resumes before after c.args.site c.args.message self.own_sites self.uses_lawfully
-    (subst (λ (d : SiteAction). Did r e c.args.site d q f) c.action_on.ensures (task_did _ _ _ c.go.result c.go.new.self _ c.go.ensures.begins c.go.ensures.went))
+    resumes before after c.args.site c.args.message self.own_sites self.uses_lawfully (task_did _ _ _ c.go.result c.go.new.self _ c.go.ensures.begins c.go.ensures.went)
