@@ -201,6 +201,11 @@ impl Actor {
         ensures idle { IfOk result (λ turn. turn ≡ Turn.Idle → self.new ≡ self.old) }
         ensures refused { OnErr result (self.new ≡ self.old) }
     {
+        if let Some(act) = self.still_step() {
+            let turn = self.turn_by(act)?;
+            self.settle();
+            return Ok(turn);
+        }
         match self.next(room)? {
             None => Ok(Turn::Idle),
             Some(act) => self.turn_by(act),
