@@ -18,6 +18,8 @@ pub trait Gate: Sync {
 #[derive(Drop)]
 pub struct EndGate {
     nodes: u8,
+    // what `ended` is once all have ended
+    all: u64,
     ended: AtomicU64,
 }
 
@@ -35,8 +37,14 @@ impl EndGate {
     pub fn new(nodes: u8) -> EndGate
         ensures { result ≡ nodes }
     {
+        let all = if nodes < 64 {
+            (1u64 << nodes) - 1
+        } else {
+            u64::MAX
+        };
         EndGate {
             nodes,
+            all,
             ended: AtomicU64::new(0),
         }
     }
@@ -44,12 +52,11 @@ impl EndGate {
 
 impl Gate for EndGate {
     fn pass(&self, _actor: u8, _turn: u64) -> bool {
-        let ended = self.ended.load(Ordering::SeqCst);
-        ended.count_ones() < u32::from(self.nodes)
+        self.ended.load(Ordering::SeqCst) != self.all
     }
 
     fn ended(&self, actor: u8) {
-        if actor < self.nodes && actor < 64 {
+        if actor < self.nodes && self.nodes <= 64 {
             self.ended.fetch_or(1u64 << actor, Ordering::SeqCst);
         }
     }

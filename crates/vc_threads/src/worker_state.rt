@@ -17,6 +17,7 @@ use rand_core::utils::NextWord;
 use rand_pcg::Lcg64Xsh32;
 use std::alloc::Global;
 use vc_core::{Act, Actor, Turn};
+use vc_occam::Move;
 
 /// An actor at work.
 #[derive(Drop)]
@@ -27,6 +28,8 @@ pub(crate) struct WorkerState {
     keeps: bool,
     acts: Vec<(u64, Act)>,
     ends: Ends,
+    // its outgoing links, a bit for each
+    whole: u32,
     words: Lcg64Xsh32,
     idle: u32,
 }
@@ -55,6 +58,26 @@ fn room_of(outs: &mut [(u8, Out)]) -> u32
         }
     }
     room
+}
+
+// The outgoing links, a bit for each.
+fn links_of(outs: &[(u8, Out)]) -> u32
+    requires { All (λ o. o.0 < 32) outs.now }
+{
+    let mut links = 0u32;
+    for k in 0..outs.len() {
+        links |= 1u32 << outs[k].0;
+    }
+    links
+}
+
+// Where the actor made a step without a communication, and every link has room, its links are known to have nothing to do.
+fn settle_after(actor: &mut Actor, act: &Act, has_room: bool)
+    ensures { actor.new ≡ actor.old }
+{
+    if has_room && matches!(act, Act::Proc(Move::Quiet { .. })) {
+        actor.settle();
+    }
 }
 
 // The place of the link whose ring has room.
@@ -214,6 +237,7 @@ impl WorkerState {
         keeps: bool,
         seed: u32,
     ) -> WorkerState
+        requires low { All (λ o. o.0 < 32) ends.outs.items }
         ensures actor { result.actor ≡ actor }
         ensures clock { result.clock ≡ 0 }
         ensures keeps { result.keeps ≡ keeps }
@@ -228,6 +252,7 @@ impl WorkerState {
             clock: 0,
             keeps,
             acts,
+            whole: links_of(ends.outs.as_slice()),
             ends,
             words: Lcg64Xsh32::new(u64::from(seed), u64::from(id)),
             idle: 0,
@@ -248,6 +273,7 @@ impl WorkerState {
             keeps: _,
             acts,
             ends,
+            whole: _,
             words: _,
             idle: _,
         } = self;
@@ -343,6 +369,7 @@ impl WorkerState {
                 Ok(Some(room))
             }
             Ok(Turn::Local(act)) => {
+                settle_after(&mut self.actor, &act, room == self.whole);
                 self.log(stamp, act);
                 Ok(None)
             }
