@@ -152,12 +152,7 @@ fn number_option<'a>(
     ensures rule { rule_of result ≡ option_of name.entry.now numbers.entry usual.entry.now }
     ensures local { result.global ≡ false }
 {
-    Arg::new(alloc, name)
-        .long(name)
-        .value_name("N")
-        .help(help)
-        .value_parser(numbers)
-        .default_value(usual)
+    optional_number(alloc, name, help, numbers).default_value(usual)
 }
 
 /// A flag `--name`.
