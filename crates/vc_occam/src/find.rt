@@ -1,9 +1,8 @@
 //! Where a site stands among frames, and what it is about to do there.
 ghost use Rattle.std.specs.Prelude.{◌≡◌, ℕ, ◌<◌, ◌↔◌, IfOk, IsTrue, MatchOption, length, true};
 ghost use Rattle.std.specs.List.{Contains};
-ghost use Rattle.vc_occam.specs.First.{own};
 ghost use Rattle.vc_occam.specs.Frames.{plans_of, rest_of, view};
-ghost use Rattle.vc_occam.specs.Private.Frames.{HasNothingAt, IsAtItself, StandsAt, assigned_at, output_shape, place_with, shown, task_views, whole};
+ghost use Rattle.vc_occam.specs.Private.Frames.{HasNothingAt, IsAtItself, StandsAt, assigned_at, output_shape, own_moves, place_with, shown, task_views, whole};
 ghost use Rattle.vc_occam.specs.Private.Sites.{InPreorder, PartsInPreorder};
 ghost use Rattle.vc_occam.specs.States.{carried, output_at};
 ghost use Rattle.vc_process.specs.Terms.{store};
@@ -36,7 +35,7 @@ impl Task<Frame> {
         requires sound { (shown self.now).sound ≡ true }
         requires in_preorder { InPreorder (whole self.now) }
         ensures { IsTrue result ↔
-            Contains (own (shown self.now).rest (store vars.now)) made.now }
+            Contains (own_moves (shown self.now) vars.now) made.now }
     {
         match self.find(site_of(made)) {
             Some(frame) => frame.has_move(made, vars),
@@ -139,7 +138,7 @@ impl Frame {
     fn has_move(&self, made: &Move, vars: &[Datum]) -> bool
         requires alone { IsAtItself self.now }
         requires sound { (view self.now).sound ≡ true }
-        ensures { IsTrue result ↔ Contains (own (view self.now).rest (store vars.now)) made.now }
+        ensures { IsTrue result ↔ Contains (own_moves (view self.now) vars.now) made.now }
     {
         match self.open_guards() {
             Some(guards) => has_choice(guards, made, self.site, vars),

@@ -1,8 +1,7 @@
 //! Processes that run: a tree of frames.
 ghost use Rattle.std.specs.Prelude.{◌≡◌, ℕ, MatchOption, false, true};
-ghost use Rattle.vc_occam.specs.Frames.{begun, fresh_outcome, is_sound, outcome_of, plan_of, view};
-ghost use Rattle.vc_occam.specs.Private.Frames.{GoesAlone, IsPart, assigned_shape, par_shape, seq_shape, shape, shown, unstopped, whole};
-ghost use Rattle.vc_occam.specs.Remains.{begin};
+ghost use Rattle.vc_occam.specs.Frames.{begun, fresh_outcome, is_sound, plan_of, view};
+ghost use Rattle.vc_occam.specs.Private.Frames.{GoesAlone, IsPart, assigned_shape, first_outcome, par_shape, seq_shape, shape, shown, unstopped, whole};
 
 use crate::outcome::Outcome;
 use vc_process::{Cond, Expr, Value};
@@ -164,7 +163,7 @@ impl Frame {
     pub(crate) fn start(&mut self) -> Outcome
         requires sound { (view self.old).sound ≡ true }
         ensures begun { view self.new ≡ begun (view self.old).plan }
-        ensures outcome { result ≡ outcome_of (begin (view self.old).plan) }
+        ensures outcome { result ≡ first_outcome (view self.old).plan }
     {
         self.stopped = false;
         self.construct.start(self.site)
@@ -199,7 +198,7 @@ impl Construct<Frame> {
     fn start(&mut self, site: u16) -> Outcome
         requires sound { is_sound (shape self.old) ≡ true }
         ensures begun { unstopped site (shape self.new) ≡ begun (plan_of site (shape self.old)) }
-        ensures outcome { result ≡ outcome_of (begin (plan_of site (shape self.old))) }
+        ensures outcome { result ≡ first_outcome (plan_of site (shape self.old)) }
     {
         match self {
             Construct::Skip | Construct::EmptySeq | Construct::EmptyPar => Outcome::Quiet { site },
@@ -255,7 +254,7 @@ impl Seq<Frame> {
         requires sound { is_sound (seq_shape self.old) ≡ true }
         ensures begun { (i : ℕ) →
             unstopped i (seq_shape self.new) ≡ begun (plan_of i (seq_shape self.old)) }
-        ensures outcome { (i : ℕ) → result ≡ outcome_of (begin (plan_of i (seq_shape self.old))) }
+        ensures outcome { (i : ℕ) → result ≡ first_outcome (plan_of i (seq_shape self.old)) }
     {
         self.at = 0;
         self.parts[0].start()
@@ -269,7 +268,7 @@ impl Par<Frame> {
         requires sound { is_sound (par_shape self.old) ≡ true }
         ensures begun { (i : ℕ) →
             unstopped i (par_shape self.new) ≡ begun (plan_of i (par_shape self.old)) }
-        ensures outcome { (i : ℕ) → result ≡ outcome_of (begin (plan_of i (par_shape self.old))) }
+        ensures outcome { (i : ℕ) → result ≡ first_outcome (plan_of i (par_shape self.old)) }
     {
         for place in 0..self.tasks.len() {
             self.tasks[place].start();

@@ -1,10 +1,10 @@
 //! What frames may begin with, and what they wait for.
 ghost use Rattle.std.specs.Prelude.{◌≡◌, ℕ, ◌++◌, ◌∷◌, [], IfSome, OnOk, false, true};
 ghost use Rattle.vc_occam.specs.declared.frame.Frame.TheViews.{out-Frame};
-ghost use Rattle.vc_occam.specs.First.{joined, own};
+ghost use Rattle.vc_occam.specs.First.{first_moves, own};
 ghost use Rattle.vc_occam.specs.Frames.{all_sound, besides, rest_of, view};
 ghost use Rattle.vc_occam.specs.Moving.{from_site};
-ghost use Rattle.vc_occam.specs.Private.Frames.{IsAtItself, first_waits, input_shape, is_open_alt, listed, output_shape, shown, task_views, waits_of, whole};
+ghost use Rattle.vc_occam.specs.Private.Frames.{IsAtItself, first_waits, input_shape, is_open_alt, listed, output_shape, own_moves, shown, task_views, waits_of, whole};
 ghost use Rattle.vc_occam.specs.Private.Sites.{InPreorder};
 ghost use Rattle.vc_occam.specs.States.{waiting};
 ghost use Rattle.vc_process.specs.Terms.{store};
@@ -29,7 +29,7 @@ impl Task<Frame> {
     pub(crate) fn push_moves(&self, found: &mut Items<Move>, vars: &[Datum]) -> Result<(), Memory>
         requires { (shown self.now).sound ≡ true }
         ensures { OnOk result (found.new ≡
-            found.old ++ own (shown self.now).rest (store vars.now)) }
+            found.old ++ own_moves (shown self.now) vars.now) }
     {
         match self.begins {
             Outcome::Ended => Ok(()),
@@ -46,10 +46,8 @@ impl Task<Frame> {
     /// nothing.
     pub(crate) fn only_meeting(&self, inside: &[u16], vars: &[Datum]) -> Option<Move>
         requires { (shown self.now).sound ≡ true }
-        ensures { IfSome result (λ met. joined (among inside.now)
-            (own (shown self.now).rest (store vars.now))
-            (own (shown self.now).rest (store vars.now)) ≡
-            met ∷ []) }
+        ensures { IfSome result (λ met.
+            first_moves (among inside.now) (shown self.now).rest (store vars.now) ≡ met ∷ []) }
     {
         match self.begins {
             Outcome::Other => self.frame.only_meeting(inside, vars),
@@ -62,7 +60,7 @@ impl Task<Frame> {
     fn only_move(&self, vars: &[Datum]) -> Option<Move>
         requires { (shown self.now).sound ≡ true }
         ensures { IfSome result (λ made.
-            own (shown self.now).rest (store vars.now) ≡ made ∷ []) }
+            own_moves (shown self.now) vars.now ≡ made ∷ []) }
     {
         match self.begins {
             Outcome::Other => self.frame.only_move(vars),
@@ -76,7 +74,7 @@ impl Task<Frame> {
         requires sound { (shown self.now).sound ≡ true }
         requires in_preorder { InPreorder (whole self.now) }
         ensures { result ≡
-            from_site site (own (shown self.now).rest (store vars.now)) }
+            from_site site (own_moves (shown self.now) vars.now) }
     {
         match self.begins {
             Outcome::Ended => None,
@@ -102,9 +100,9 @@ impl Par<Frame> {
     /// The meeting of two parts, where it has no others and one outputs what the other inputs; None promises nothing.
     fn only_meeting(&self, inside: &[u16], vars: &[Datum]) -> Option<Move>
         requires { all_sound (task_views self.now.tasks.items) ≡ true }
-        ensures { IfSome result (λ met. joined (among inside.now)
-            (own (besides (task_views self.now.tasks.items)) (store vars.now))
-            (own (besides (task_views self.now.tasks.items)) (store vars.now)) ≡
+        ensures { IfSome result (λ met.
+            first_moves (among inside.now) (besides (task_views self.now.tasks.items))
+            (store vars.now) ≡
             met ∷ []) }
     {
         if self.tasks.len() != 2 {
@@ -121,7 +119,7 @@ impl Frame {
     #[cycle(moves)]
     fn push_moves(&self, found: &mut Items<Move>, vars: &[Datum]) -> Result<(), Memory>
         requires { (view self.now).sound ≡ true }
-        ensures { OnOk result (found.new ≡ found.old ++ own (view self.now).rest (store vars.now)) }
+        ensures { OnOk result (found.new ≡ found.old ++ own_moves (view self.now) vars.now) }
     {
         if let Some(part) = self.part() {
             return part.push_moves(found, vars);
@@ -145,10 +143,8 @@ impl Frame {
     /// nothing.
     fn only_meeting(&self, inside: &[u16], vars: &[Datum]) -> Option<Move>
         requires { (view self.now).sound ≡ true }
-        ensures { IfSome result (λ met. joined (among inside.now)
-            (own (view self.now).rest (store vars.now))
-            (own (view self.now).rest (store vars.now)) ≡
-            met ∷ []) }
+        ensures { IfSome result (λ met.
+            first_moves (among inside.now) (view self.now).rest (store vars.now) ≡ met ∷ []) }
     {
         if let Some(part) = self.part() {
             return part.only_meeting(inside, vars);
@@ -162,7 +158,7 @@ impl Frame {
     /// Its only move, where one is known; None promises nothing.
     fn only_move(&self, vars: &[Datum]) -> Option<Move>
         requires { (view self.now).sound ≡ true }
-        ensures { IfSome result (λ made. own (view self.now).rest (store vars.now) ≡ made ∷ []) }
+        ensures { IfSome result (λ made. own_moves (view self.now) vars.now ≡ made ∷ []) }
     {
         if let Some(part) = self.part() {
             return part.only_move(vars);
@@ -181,7 +177,7 @@ impl Frame {
     pub(crate) fn own_move(&self, vars: &[Datum]) -> Option<Move>
         requires alone { IsAtItself self.now }
         requires decided { is_open_alt (view self.now).rest ≡ false }
-        ensures { own (view self.now).rest (store vars.now) ≡ listed result }
+        ensures { own_moves (view self.now) vars.now ≡ listed result }
     {
         let site = self.site;
         if self.stopped {
@@ -202,7 +198,7 @@ impl Frame {
     fn first_from(&self, site: u16, vars: &[Datum]) -> Option<Move>
         requires sound { (view self.now).sound ≡ true }
         requires in_preorder { InPreorder (view self.now).plan }
-        ensures { result ≡ from_site site (own (view self.now).rest (store vars.now)) }
+        ensures { result ≡ from_site site (own_moves (view self.now) vars.now) }
     {
         if let Some(part) = self.part() {
             return part.first_from(site, vars);

@@ -3,10 +3,10 @@ ghost use Rattle.std.specs.Prelude.{◌≡◌, ◌+◌, ◌≤◌, ◌<◌, IfOk
 ghost use Rattle.vc_occam.specs.Frames.{counting, looping, view};
 ghost use Rattle.vc_process.specs.Terms.{as_test, exp};
 ghost use Rattle.vc_occam.specs.Private.Frames.{shape, unstopped};
-ghost use Rattle.vc_occam.specs.Private.Wholes.{Begins, is_alone};
+ghost use Rattle.vc_occam.specs.Private.Wholes.{Begins, is_alone, sites_of_guards};
 ghost use Rattle.vc_process.specs.InOrder.{number};
 ghost use Rattle.vc_process.specs.Private.InOrder.{number_branch, number_guard};
-ghost use Rattle.vc_process.specs.Numbering.{branch_sites, branches_from, guard_sites, guards_from, part_sites, parts_from};
+ghost use Rattle.vc_process.specs.Numbering.{branch_sites, branches_from, guards_from, part_sites, parts_from};
 ghost use Rattle.vc_process.specs.Syntax.{ALT, IF, PAR, SEQ};
 ghost use Rattle.vc_occam.specs.declared.outcome.Outcome.TheVariants.{Quiet};
 
@@ -246,11 +246,11 @@ fn alt_of(
     written: &Items<WrittenGuard>,
     next: &mut u32,
 ) -> Result<Task<Frame>, Memory>
-    requires sites { next.old + guard_sites (map number_guard written.now) ≤ 65536 }
+    requires sites { next.old + sites_of_guards written.now ≤ 65536 }
     requires behind { 0 < next.old }
     ensures made { IfOk result (λ task.
         Begins task (ALT site (guards_from next.old (map number_guard written.now)))) }
-    ensures next { OnOk result (next.new ≡ next.old + guard_sites (map number_guard written.now)) }
+    ensures next { OnOk result (next.new ≡ next.old + sites_of_guards written.now) }
 {
     let mut guards = Vec::new(alloc);
     for guard in written.as_slice() {

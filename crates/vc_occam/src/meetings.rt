@@ -188,7 +188,8 @@ pub(crate) fn meeting_of(first: &Move, second: &Move, inside: &[u16]) -> Option<
 
 /// The meeting that the moves come to, if there are two of them, an output and the input that it meets inside the node.
 fn only_meeting(found: &[Move], inside: &[u16]) -> Option<Move>
-    ensures { IfSome result (λ met. as_joined (among inside.now) found.now found.now ≡ met ∷ []) }
+    ensures { IfSome result (λ met.
+        as_joined (among inside.now) found.now found.now ≡ met ∷ []) }
 {
     if found.len() == 2 {
         return meeting_of(&found[0], &found[1], inside);

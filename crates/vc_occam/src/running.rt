@@ -21,7 +21,7 @@ use crate::hints::Hints;
 use crate::meetings::{clear, is_outside, join, partner};
 use crate::moves::Move;
 use crate::outcome::Outcome;
-use crate::site_step::{Choose, Offer, Quiet, Resume, SendAtOnce, StopChannel, Want};
+use crate::site_step::{Choose, Offer, Quiet, Resume, StopChannel, Want, WholeOutput};
 use crate::variables::empty_variables;
 use crate::waits::Waits;
 use sqlite_items::Items;
@@ -121,7 +121,7 @@ fn meet(
     ensures length { length vars.new.items ≡ length vars.old.items }
 {
     go_alone(task, vars, taken, answer);
-    task.go(&mut SendAtOnce { site: sender, chan }, vars);
+    task.go(&mut WholeOutput { site: sender, chan }, vars);
 }
 
 impl Running {

@@ -84,12 +84,12 @@ impl SiteStep for Offer {
 
 /// An output begins and is finished at once, since its message has been taken.
 #[derive(Drop)]
-pub(crate) struct SendAtOnce {
+pub(crate) struct WholeOutput {
     pub(crate) site: u16,
     pub(crate) chan: u16,
 }
 
-impl SiteStep for SendAtOnce {
+impl SiteStep for WholeOutput {
     ghost stands_for = { λ s. step_at s.site (whole_output s.chan) };
 
     #[inline(always)]

@@ -48,6 +48,14 @@ abbrev pub has_ended : Outcome → Bool
 has_ended outcome.Ended = true
 has_ended o = false
 
+-- what a process comes to as it begins
+abbrev pub first_outcome : Proc → Outcome
+first_outcome p = outcome_of (begin p)
+
+-- the moves that the sites of what remains can begin with
+abbrev pub own_moves : View → List Datum → List Move
+own_moves v vars = own v.rest (store vars)
+
 -- frames, each with what it stands for
 abbrev pub views : List Frame → List View
 views = map view

@@ -1,11 +1,13 @@
 -- The frames of a process that begins.
-use Rattle.std.specs.Prelude.{◌≡◌, Bool, true, false}
+use Rattle.std.specs.Prelude.{◌≡◌, ℕ, Bool, true, false, List, map}
 use Rattle.vc_process.specs.Syntax.{Proc}
 use Rattle.vc_process.specs.declared.process.Process.{Process}
 use Rattle.vc_process.specs.declared.process.Process.TheOpen as layer
 use Rattle.vc_process.specs.declared.process.Process.TheViews.{out-Process}
 use Rattle.vc_process.specs.declared.process.Branch.{Branch}
 use Rattle.vc_process.specs.declared.process.Guard.{Guard}
+use Rattle.vc_process.specs.Numbering.{guard_sites}
+use Rattle.vc_process.specs.Private.InOrder.{number_guard}
 use Rattle.vc_occam.specs.declared.frame.Frame.{Frame}
 use Rattle.vc_occam.specs.declared.frame.Task.{Task}
 use Rattle.vc_occam.specs.Frames.{begun, outcome_of, view}
@@ -27,3 +29,7 @@ is_alone p = stands_alone (out-Process p)
 -- it has begun to run this process, and what it begins with is kept
 abbrev pub Begins : Task Frame → Proc → Type 0
 Begins t p = (view t.frame ≡ begun p) × (t.begins ≡ outcome_of (begin p))
+
+-- how many sites the guards of an ALT have
+abbrev pub sites_of_guards : List Guard → ℕ
+sites_of_guards gs = guard_sites (map number_guard gs)

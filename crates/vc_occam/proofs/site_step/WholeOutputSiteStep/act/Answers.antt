@@ -4,7 +4,7 @@ use Rattle.vc_occam.specs.Private.SiteSteps.{step_at, whole_output}
 use Rattle.vc_process.specs.Terms.{store}
 use Rattle.vc_occam.proofs.Acted.{ended_went}
 use Rattle.vc_occam.proofs.OwnSite.{frame_is_own, whole_did}
-use Rattle.vc_occam.proofs.site_step.SendAtOnceSiteStep.act.Goals as goal
+use Rattle.vc_occam.proofs.site_step.WholeOutputSiteStep.act.Goals as goal
 
 pub returns-clause-went : goal.returns-clause-went
 returns-clause-went c =
