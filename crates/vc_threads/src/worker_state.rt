@@ -1,5 +1,5 @@
 //! An actor at work, with its ends of the rings.
-ghost use Rattle.std.specs.Prelude.{◌≡◌, ◌≢◌, ℕ, ◌+◌, ◌<◌, ◌≤◌, ◌++◌, ◌⊎◌, [], ◌∷◌, length, OnErr, IfOk, IfSome, IfErr, IsSome, IsTrue, ◌↔◌};
+ghost use Rattle.std.specs.Prelude.{◌≡◌, ◌≢◌, ℕ, ◌<◌, ◌≤◌, ◌++◌, ◌⊎◌, true, false, [], ◌∷◌, length, OnErr, IfOk, IfSome, IfErr, IsSome, IsTrue, ◌↔◌};
 ghost use Rattle.std.specs.List.{All, AllZip, HoldsAt};
 ghost use Rattle.std.specs.Int.{bit_at};
 ghost use Rattle.rtrb.specs.Ring.{sent, known_free, SameProducer};
@@ -8,7 +8,7 @@ ghost use Rattle.vc_network.specs.Plan.{Plan};
 ghost use Rattle.vc_threads.specs.Wires.{OutLooked, InLooked, HasRoom, IsFree, IsReady};
 ghost use Rattle.vc_threads.specs.Private.Works.{CanTake, TakesFront};
 ghost use Rattle.vc_threads.specs.Works.{IsGreatest, IsLate};
-ghost use Rattle.vc_threads.specs.Private.Least.{IsFound, IsLeast, TakesLeast};
+ghost use Rattle.vc_threads.specs.Private.Least.{TakesLeast};
 
 use crate::link::{Ends, In, Out, Stamped};
 use crate::run::{ActorRun, Stop};
@@ -18,6 +18,9 @@ use rand_pcg::Lcg64Xsh32;
 use std::alloc::Global;
 use vc_core::{Act, Actor, Turn};
 use vc_occam::Move;
+
+/// The links of an actor, of which a node has four.
+const LINKS: u8 = 32;
 
 /// An actor at work.
 #[derive(Drop)]
@@ -112,41 +115,13 @@ fn can_take(actor: &Actor, end: &mut (u8, In)) -> bool
     is_ready(end) && actor.may_take(end.0)
 }
 
-// An end from which the actor can take, and its link.
-#[derive(Clone, Copy, Drop)]
-struct Found {
-    place: usize,
-    link: u8,
-}
-
-// Whether a link is below that of the end that was found, if one was.
-fn is_below(link: u8, least: Option<Found>) -> bool
-    ensures { IsTrue result ↔ IfSome least (λ found. link < found.link) }
+// Whether the actor may take from an end whose link is below this one, and whose ring has an item. No other ring is asked.
+fn is_below(actor: &Actor, end: &mut (u8, In), link: u8) -> bool
+    ensures looked { InLooked end.old end.new }
+    ensures below { result ≡ true → (end.new.0 < link) × CanTake actor.now end.new }
+    ensures not_below { result ≡ false → CanTake actor.now end.new → link ≤ end.new.0 }
 {
-    match least {
-        Some(found) => link < found.link,
-        None => true,
-    }
-}
-
-// The end of the least link among one more, the k-th. Its ring is asked only where its link is below that of the others.
-fn look(actor: &Actor, ins: &mut [(u8, In)], k: usize, least: Option<Found>) -> Option<Found>
-    requires within { k < length ins.old }
-    requires found { IsFound actor.now ins.old k least }
-    requires least { IsLeast actor.now ins.old k least }
-    ensures looked { AllZip InLooked ins.old ins.new }
-    ensures found { IsFound actor.now ins.new (k + 1) result }
-    ensures least { IsLeast actor.now ins.new (k + 1) result }
-{
-    let link = ins[k].0;
-    if !is_below(link, least) {
-        return least;
-    }
-    if can_take(actor, &mut ins[k]) {
-        Some(Found { place: k, link })
-    } else {
-        least
-    }
+    end.0 < link && can_take(actor, end)
 }
 
 // The place of the least link from which the actor may take and whose ring has an item.
@@ -156,14 +131,16 @@ fn find_in(actor: &Actor, ins: &mut [(u8, In)]) -> Option<usize>
         (λ k. (k < length ins.new) × HoldsAt (CanTake actor.now) ins.new k) }
     ensures least { TakesLeast actor.now ins.new result }
 {
-    let mut least = None;
+    // two numbers: an option of both would be copied with its padding for each end, and each copy waits for the one before
+    let mut place = 0;
+    let mut least = LINKS;
     for k in 0..ins.len() {
-        least = look(actor, ins, k, least);
+        if is_below(actor, &mut ins[k], least) {
+            place = k;
+            least = ins[k].0;
+        }
     }
-    match least {
-        Some(found) => Some(found.place),
-        None => None,
-    }
+    if least < LINKS { Some(place) } else { None }
 }
 
 // Whether this was the room when the actor had no step.

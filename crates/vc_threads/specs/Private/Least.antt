@@ -1,19 +1,17 @@
 -- The end from which a worker takes: of those from which its actor can take, the one of the least link.
-use Rattle.std.specs.Prelude.{◌≡◌, ℕ, ◌≤◌, ◌<◌, List, length, Option, Some, IfSome, slice_index_or}
+use Rattle.std.specs.Prelude.{◌≡◌, ℕ, ◌≤◌, ◌<◌, List, length, Option, Some, slice_index_or}
 use Rattle.vc_actor.specs.Shown.{Acting}
 use Rattle.vc_threads.specs.Works.{In}
 use Rattle.vc_threads.specs.Private.Works.{CanTake}
-use Rattle.vc_threads.specs.declared.worker_state.Found.{Found}
 
--- what was found is one of the first n ends, with its link, and the actor can take from it
-abbrev pub IsFound : Acting → List In → ℕ → Option Found → Type 0
-IsFound x ins n found =
-    IfSome found (λ f. (f.place < n) × ((d : In) → ((slice_index_or ins f.place d).0 ≡ f.link) × CanTake x (slice_index_or ins f.place d)))
+-- where the link is one at all, it is that of the end at the place, one of the first n, from which the actor can take
+abbrev pub IsFound : Acting → List In → ℕ → ℕ → ℕ → Type 0
+IsFound x ins n place link =
+    link < 32 → (place < n) × ((d : In) → ((slice_index_or ins place d).0 ≡ link) × CanTake x (slice_index_or ins place d))
 
--- of the first n ends, each from which the actor can take has a link that is not below that of the one that was found
-abbrev pub IsLeast : Acting → List In → ℕ → Option Found → Type 0
-IsLeast x ins n found =
-    (j : ℕ) (d : In) → j < n → CanTake x (slice_index_or ins j d) → (f : Found) × (found ≡ Some f) × (f.link ≤ (slice_index_or ins j d).0)
+-- of the first n ends, none from which the actor can take has a link below this one
+abbrev pub IsLeast : Acting → List In → ℕ → ℕ → Type 0
+IsLeast x ins n link = (j : ℕ) (d : In) → j < n → CanTake x (slice_index_or ins j d) → link ≤ (slice_index_or ins j d).0
 
 -- no end from which the actor can take has a link below that of the end at this place
 abbrev pub TakesLeast : Acting → List In → Option ℕ → Type 0

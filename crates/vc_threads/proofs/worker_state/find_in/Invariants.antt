@@ -6,5 +6,5 @@ use Rattle.vc_threads.proofs.worker_state.find_in.Given as goal
 abbrev pub invariant-loop-k : goal.invariant-loop-k
 invariant-loop-k l =
     AllZip InLooked l.fn.ins l.ins
-    × IsFound l.fn.actor l.ins l.k l.least
+    × IsFound l.fn.actor l.ins l.k l.place l.least
     × IsLeast l.fn.actor l.ins l.k l.least
