@@ -1,5 +1,6 @@
 -- How a turn of a worker_state is put together.
 use Rattle.std.proofs.Common.{◌≡◌, ◌≢◌, ℕ, zero, suc, ◌+◌, ◌<◌, ◌≤◌, List, [], ◌∷◌, ◌++◌, length, get_or, Bool, true, false, eqb, inl, inr, refl, ap, sym, subst, arith, map, ◌∙◌, append_assoc, length-append, eq-eqb}
+use Rattle.std.specs.Global.{Vec}
 use Rattle.std.specs.List.{AllZip, All, AllByRecursion}
 use Rattle.std.proofs.Math.ListN.{set}
 use Rattle.std.proofs.lemmas.List.{append-nil, map-append}
@@ -25,6 +26,7 @@ use Rattle.vc_threads.specs.Stamps.{stamped, all_stamped}
 use Rattle.vc_threads.specs.Wires.{OutLooked, InLooked, Distinct, IsAmong, Sends, Receives, out_links, in_links}
 use Rattle.vc_threads.specs.Runs.{StepsByLink, HasNoStep, Used, Draws, words_of}
 use Rattle.vc_threads.specs.Works.{Out, In, kept, logged, GoesOver, GoOver, IsFull, HasRun}
+use Rattle.vc_threads.specs.Private.Rooms.{HasPut}
 use Rattle.vc_threads.specs.Private.Works.{Seen, worker_state, Uses, Stays}
 use Rattle.vc_threads.proofs.Zips.{zip_weaker, zip_then, zip_one, zip_map, zip_same}
 use Rattle.vc_threads.proofs.Looks.{producer_then, consumer_then, looked_same, in_looked_same, in_looked_then}
@@ -102,6 +104,10 @@ sends_one outs k r y at act x dist within is link ring got =
     (λ d. subst (λ v. Sends ts v y) (is ∙ any_default outs k r d within)
     (link, ring, ap all_stamped got ∙ (map-append stamped (sent r.1) (x ∷ []) ∙ rw (eq-eqb r.0 r.0 refl) refl)))
     (λ j d l ne. (refl, ((refl, refl, refl, refl), refl), rw (apart_from outs j k d r dist l within ne is) (sym (append-nil (all_stamped (sent (get_or outs j d).1))))))
+
+-- after a put the ends are of the same links
+pub put_links : (link : ℕ) (x : Stamped) (act : Act) (os ps : List Out) → HasPut link x os ps → out_links ps ≡ out_links os
+put_links link x act os ps put = zip_map (λ o. o.0) (λ o. o.0) (Sends (record { at = x.at; it = Puts act link (stamped x) } ∷ [])) (λ a b s. s.0) os ps (put act)
 
 -- a look first changes nothing
 pub looked_sends : (ts : List (Turn Act Token)) (os ps qs : List Out) → AllZip OutLooked os ps → AllZip (Sends ts) ps qs → AllZip (Sends ts) os qs
@@ -282,14 +288,14 @@ actor_kept plan k n a b p h = run_kept plan k a.clock a.actor p.steps b.actor p.
 -- what a worker gives back
 pub has_run : (plan : Plan) (k n m id seed : ℕ) (a b c : WorkerState) (actor : Acting) (ends : Ends) (keeps : Bool) (r : ActorRun)
     → Uses plan k n (worker_state a) (worker_state b) → Stays (worker_state b) (worker_state c) → n ≤ m
-    → a.actor ≡ actor → a.clock ≡ 0 → a.keeps ≡ keeps → a.acts.items ≡ [] → a.ends ≡ ends → a.words ≡ started 64 multiplier_64 seed (increment_of 64 id)
-    → r.actor ≡ c.actor → r.acts ≡ c.acts → r.ends ≡ c.ends → (r.stop ≡ Turns → n ≡ m) → (r.stop ≡ Clock → IsFull c.clock c.ends.ins.items)
+    → a.actor ≡ actor → a.clock ≡ 0 → a.keeps ≡ keeps → a.acts.items ≡ [] → a.outs.ends ≡ ends.outs → a.ins ≡ ends.ins → a.words ≡ started 64 multiplier_64 seed (increment_of 64 id)
+    → r.actor ≡ c.actor → r.acts ≡ c.acts → r.ends.outs ≡ c.outs.ends → r.ends.ins ≡ c.ins → (r.stop ≡ Turns → n ≡ m) → (r.stop ≡ Clock → IsFull c.clock c.ins.items)
     → HasRun plan k m id seed actor ends keeps r
-has_run plan k n m id seed a b c actor ends keeps r p s le actor_is clock_is keeps_is acts_is ends_is words_is actor' acts' ends' turns full =
+has_run plan k n m id seed a b c actor ends keeps r p s le actor_is clock_is keeps_is acts_is outs_is ins_is words_is actor' acts' outs' ins' turns full =
     let few = p.few in
     let last : r.actor ≡ b.actor = actor' ∙ s.actor in
-    let outs = sends_looked p.steps a.ends.outs.items b.ends.outs.items c.ends.outs.items p.goes.outs s.outs in
-    let ins = receives_looked p.steps a.ends.ins.items b.ends.ins.items c.ends.ins.items p.goes.ins s.ins in
+    let outs = sends_looked p.steps a.outs.ends.items b.outs.ends.items c.outs.ends.items p.goes.outs s.outs in
+    let ins = receives_looked p.steps a.ins.items b.ins.items c.ins.items p.goes.ins s.ins in
     record {
       steps = p.steps;
       few = omega (arith, few, le);
@@ -297,15 +303,15 @@ has_run plan k n m id seed a b c actor ends keeps r p s le actor_is clock_is kee
           (subst (λ w. LocalRun (StepsByLink plan) k w a.actor p.steps r.actor) clock_is
           (subst (λ v. LocalRun (StepsByLink plan) k a.clock a.actor p.steps v) (sym last) p.goes.run));
       acts = ap (λ v. v.items) acts' ∙ (s.log ∙ (p.goes.log ∙ (ap (λ w. w ++ kept a.keeps (map logged p.steps)) acts_is ∙ ap (λ h. kept h (map logged p.steps)) keeps_is)));
-      outs = subst (λ e. AllZip (Sends p.steps) e.outs.items r.ends.outs.items) ends_is (subst (λ e. AllZip (Sends p.steps) a.ends.outs.items e.outs.items) (sym ends') outs);
-      ins = subst (λ e. AllZip (Receives p.steps) e.ins.items r.ends.ins.items) ends_is (subst (λ e. AllZip (Receives p.steps) a.ends.ins.items e.ins.items) (sym ends') ins);
-      links = subst (λ e. GoOver e.outs.items e.ins.items p.steps) ends_is p.goes.links;
+      outs = subst (λ (v : Vec Out). AllZip (Sends p.steps) v.items r.ends.outs.items) outs_is (subst (λ (v : Vec Out). AllZip (Sends p.steps) a.outs.ends.items v.items) (sym outs') outs);
+      ins = subst (λ (v : Vec In). AllZip (Receives p.steps) v.items r.ends.ins.items) ins_is (subst (λ (v : Vec In). AllZip (Receives p.steps) a.ins.items v.items) (sym ins') ins);
+      links = subst (λ (v : Vec Out). GoOver v.items ends.ins.items p.steps) outs_is (subst (λ (v : Vec In). GoOver a.outs.ends.items v.items p.steps) ins_is p.goes.links);
       rest = b.words;
       words = subst (λ g. Draws g (words_of p.steps) b.words) words_is p.goes.words;
       used = λ h. subst (λ j. Used plan k j 0 actor p.steps r.actor) (turns h)
           (subst (λ v. Used plan k n 0 v p.steps r.actor) actor_is
           (subst (λ w. Used plan k n w a.actor p.steps r.actor) clock_is
           (subst (λ v. Used plan k n a.clock a.actor p.steps v) (sym last) p.used)));
-      full = λ h. subst (λ e. IsFull (clock_after 0 p.steps) e.ins.items) (sym ends')
-          (subst (λ w. IsFull w c.ends.ins.items) (s.clock ∙ (p.goes.clock ∙ ap (λ w. clock_after w p.steps) clock_is)) (full h));
+      full = λ h. subst (λ (v : Vec In). IsFull (clock_after 0 p.steps) v.items) (sym ins')
+          (subst (λ w. IsFull w c.ins.items) (s.clock ∙ (p.goes.clock ∙ ap (λ w. clock_after w p.steps) clock_is)) (full h));
     }

@@ -5,5 +5,6 @@ pub mod Least
 pub mod Merged
 pub mod Order
 pub mod Rings
+pub mod Rooms
 pub mod Threads
 pub mod Works

@@ -1,7 +1,6 @@
 -- What the ends of the rings show of a run.
 use Rattle.std.specs.Prelude.{◌≡◌, ◌≢◌, ℕ, ◌<◌, List, ◌++◌, length, map, slice_index}
-use Rattle.std.specs.List.{HoldsAt}
-use Rattle.rtrb.specs.Ring.{sent, received, known_free, known_items, SameProducer, SameConsumer, ProducerLooked, ConsumerLooked}
+use Rattle.rtrb.specs.Ring.{sent, received, known_items, SameProducer, SameConsumer, ProducerLooked, ConsumerLooked}
 use Rattle.rtrb.specs.declared.producer.Producer.{Producer}
 use Rattle.rtrb.specs.declared.consumer.Consumer.{Consumer}
 use Rattle.vc_network.specs.LocalRun.{Turn, all_put, all_taken}
@@ -44,14 +43,6 @@ module _ {A P : Type 0} where
   -- the same end of the same ring
   abbrev pub SameIn : ℕ × Consumer Stamped A P → ℕ × Consumer Stamped A P → Type 0
   SameIn a b = (b.0 ≡ a.0) × SameConsumer a.1 b.1
-
-  -- a slot is known to be free in this link's ring
-  abbrev pub IsFree : ℕ → ℕ × Producer Stamped A P → Type 0
-  IsFree link o = (o.0 ≡ link) × (0 < known_free o.1)
-
-  -- some ring of this link has a free slot
-  abbrev pub HasRoom : List (ℕ × Producer Stamped A P) → ℕ → Type 0
-  HasRoom outs link = (k : ℕ) × (k < length outs) × HoldsAt (IsFree link) outs k
 
   -- an item is known in the link's ring
   abbrev pub IsReady : ℕ × Consumer Stamped A P → Type 0

@@ -13,6 +13,7 @@ mod jobs;
 mod link;
 mod merged_runs;
 mod order;
+mod outs;
 mod report;
 mod run;
 mod spawn;

@@ -1,16 +1,15 @@
 //! An actor at work, with its ends of the rings.
 ghost use Rattle.std.specs.Prelude.{◌≡◌, ◌≢◌, ℕ, ◌<◌, ◌≤◌, ◌++◌, ◌⊎◌, true, false, [], ◌∷◌, length, OnErr, IfOk, IfSome, IfErr, IsSome, IsTrue, ◌↔◌};
 ghost use Rattle.std.specs.List.{All, AllZip, HoldsAt};
-ghost use Rattle.std.specs.Int.{bit_at};
-ghost use Rattle.rtrb.specs.Ring.{sent, known_free, SameProducer};
 ghost use Rattle.vc_actor.specs.OfPlan.{IsActorOf};
 ghost use Rattle.vc_network.specs.Plan.{Plan};
-ghost use Rattle.vc_threads.specs.Wires.{OutLooked, InLooked, HasRoom, IsFree, IsReady};
+ghost use Rattle.vc_threads.specs.Wires.{InLooked, IsReady};
 ghost use Rattle.vc_threads.specs.Private.Works.{CanTake, TakesFront};
 ghost use Rattle.vc_threads.specs.Works.{IsGreatest, IsLate};
 ghost use Rattle.vc_threads.specs.Private.Least.{TakesLeast};
 
-use crate::link::{Ends, In, Out, Stamped};
+use crate::link::{Ends, In, Stamped};
+use crate::outs::Outs;
 use crate::run::{ActorRun, Stop};
 use crate::stamp::next_stamp;
 use rand_core::utils::NextWord;
@@ -30,48 +29,10 @@ pub(crate) struct WorkerState {
     // whether its acts are kept
     keeps: bool,
     acts: Vec<(u64, Act)>,
-    ends: Ends,
-    // its outgoing links, a bit for each
-    whole: u32,
+    outs: Outs,
+    ins: Vec<(u8, In)>,
     words: Lcg64Xsh32,
     idle: u32,
-}
-
-// Whether a link's ring has room.
-fn has_room(out: &mut (u8, Out)) -> bool
-    ensures looked { OutLooked out.old out.new }
-    ensures room { IsTrue result → 0 < known_free out.new.1 }
-{
-    let (_, producer) = out;
-    !producer.is_full()
-}
-
-// The outgoing links whose rings have room, a bit for each.
-fn room_of(outs: &mut [(u8, Out)]) -> u32
-    requires { All (λ o. o.0 < 32) outs.old }
-    ensures looked { AllZip OutLooked outs.old outs.new }
-    ensures room { (link : ℕ) → bit_at result link ≡ 1 → HasRoom outs.new link }
-{
-    let mut room = 0u32;
-    for k in 0..outs.len() {
-        let out = &mut outs[k];
-        let link = out.0;
-        if has_room(out) {
-            room |= 1u32 << link;
-        }
-    }
-    room
-}
-
-// The outgoing links, a bit for each.
-fn links_of(outs: &[(u8, Out)]) -> u32
-    requires { All (λ o. o.0 < 32) outs.now }
-{
-    let mut links = 0u32;
-    for k in 0..outs.len() {
-        links |= 1u32 << outs[k].0;
-    }
-    links
 }
 
 // Where the actor made a step without a communication, and every link has room, its links are known to have nothing to do.
@@ -81,21 +42,6 @@ fn settle_after(actor: &mut Actor, act: &Act, has_room: bool)
     if has_room && matches!(act, Act::Proc(Move::Quiet { .. })) {
         actor.settle();
     }
-}
-
-// The place of the link whose ring has room.
-fn find_out(outs: &[(u8, Out)], link: u8) -> usize
-    requires { HasRoom outs.now link }
-    ensures within { result < length outs.now }
-    ensures free { HoldsAt (IsFree link) outs.now result }
-{
-    for k in 0..outs.len() {
-        let (of, producer) = &outs[k];
-        if *of == link && producer.cached_slots() > 0 {
-            return k;
-        }
-    }
-    unreachable!()
 }
 
 // Whether a link's ring has an item.
@@ -182,18 +128,6 @@ fn take_front(
     Ok((stamp, act))
 }
 
-// Puts an item on a ring with room.
-fn put_item(end: &mut (u8, Out), item: Stamped)
-    requires room { 0 < known_free end.old.1 }
-    requires stamp { 1 ≤ item.at }
-    ensures link { end.new.0 ≡ end.old.0 }
-    ensures ring { SameProducer end.old.1 end.new.1 }
-    ensures sent { sent end.new.1 ≡ sent end.old.1 ++ item ∷ [] }
-{
-    let (_, producer) = end;
-    producer.push_reserved(item);
-}
-
 impl WorkerState {
     ghost use Rattle.std.specs.Prelude.{◌≡◌, ◌≢◌, ◌<◌, ◌++◌, ℕ, [], ◌∷◌, length, OnOk, OnErr, IfOk, IfErr, IfSome};
     ghost use Rattle.std.specs.List.{All, HoldsAt};
@@ -219,9 +153,11 @@ impl WorkerState {
         ensures clock { result.clock ≡ 0 }
         ensures keeps { result.keeps ≡ keeps }
         ensures acts { result.acts.items ≡ [] }
-        ensures ends { result.ends ≡ ends }
+        ensures outs { result.outs.ends ≡ ends.outs }
+        ensures ins { result.ins ≡ ends.ins }
         ensures words { result.words ≡ generator seed id }
     {
+        let Ends { outs, ins } = ends;
         let mut acts = Vec::new(alloc);
         let _room = acts.reserve(1);
         WorkerState {
@@ -229,8 +165,8 @@ impl WorkerState {
             clock: 0,
             keeps,
             acts,
-            whole: links_of(ends.outs.as_slice()),
-            ends,
+            outs: Outs::new(outs),
+            ins,
             words: Lcg64Xsh32::new(u64::from(seed), u64::from(id)),
             idle: 0,
         }
@@ -241,7 +177,8 @@ impl WorkerState {
         ensures id { result.id ≡ id }
         ensures actor { result.actor ≡ self.actor }
         ensures acts { result.acts ≡ self.acts }
-        ensures ends { result.ends ≡ self.ends }
+        ensures outs { result.ends.outs ≡ self.outs.ends }
+        ensures ins { result.ends.ins ≡ self.ins }
         ensures stop { result.stop ≡ stop }
     {
         let WorkerState {
@@ -249,8 +186,8 @@ impl WorkerState {
             clock: _,
             keeps: _,
             acts,
-            ends,
-            whole: _,
+            outs,
+            ins,
             words: _,
             idle: _,
         } = self;
@@ -258,7 +195,10 @@ impl WorkerState {
             id,
             actor,
             acts,
-            ends,
+            ends: Ends {
+                outs: outs.into_ends(),
+                ins,
+            },
             stop,
         }
     }
@@ -290,9 +230,9 @@ impl WorkerState {
 
     // Takes the front item of the k-th incoming link.
     fn take_from(&mut self, k: usize) -> Result<Option<u32>, Stop>
-        requires links { Distinct (in_links self.old.ends.ins.items) }
-        requires within { k < length self.old.ends.ins.items }
-        requires can { HoldsAt (CanTake self.old.actor) self.old.ends.ins.items k }
+        requires links { Distinct (in_links self.old.ins.items) }
+        requires within { k < length self.old.ins.items }
+        requires can { HoldsAt (CanTake self.old.actor) self.old.ins.items k }
         requires room { vec_len self.old.acts < vec_capacity self.old.acts }
         ensures done { (plan : Plan) (n : ℕ) →
             IsActorOf plan n self.old.actor →
@@ -301,21 +241,21 @@ impl WorkerState {
         ensures ends { SameLinks (worker_state self.old) (worker_state self.new) }
         ensures why { IfErr result (λ why. why ≢ Stop.Turns) }
         ensures full { IfErr result
-            (λ why. why ≡ Stop.Clock → IsFull self.new.clock self.new.ends.ins.items) }
+            (λ why. why ≡ Stop.Clock → IsFull self.new.clock self.new.ins.items) }
         ensures rests { (plan : Plan) (n : ℕ) →
             IsActorOf plan n self.new.actor →
             IfOk result (λ rested. IfSome rested (λ room. HasNoStep plan n self.new.actor)) }
     {
         let word = self.words.next_word();
-        let (stamp, act) = take_front(&mut self.actor, &mut self.ends.ins[k], self.clock, word)?;
+        let (stamp, act) = take_front(&mut self.actor, &mut self.ins[k], self.clock, word)?;
         self.log(stamp, act);
         Ok(None)
     }
 
     // What the actor does where it takes nothing. It is not asked where it had no step with this room before.
     fn make_turn(&mut self, rested: Option<u32>) -> Result<Option<u32>, Stop>
-        requires links { Distinct (out_links self.old.ends.outs.items) }
-        requires low { All (λ o. o.0 < 32) self.old.ends.outs.items }
+        requires links { Distinct (out_links self.old.outs.ends.items) }
+        requires low { All (λ o. o.0 < 32) self.old.outs.ends.items }
         requires room { vec_len self.old.acts < vec_capacity self.old.acts }
         requires rests { (plan : Plan) (n : ℕ) →
             IsActorOf plan n self.old.actor →
@@ -327,7 +267,7 @@ impl WorkerState {
         ensures ends { SameLinks (worker_state self.old) (worker_state self.new) }
         ensures why { IfErr result (λ why. why ≢ Stop.Turns) }
         ensures full { IfErr result
-            (λ why. why ≡ Stop.Clock → IsFull self.new.clock self.new.ends.ins.items) }
+            (λ why. why ≡ Stop.Clock → IsFull self.new.clock self.new.ins.items) }
         ensures rests { (plan : Plan) (n : ℕ) →
             IsActorOf plan n self.new.actor →
             IfOk result (λ rested. IfSome rested (λ room. HasNoStep plan n self.new.actor)) }
@@ -335,7 +275,7 @@ impl WorkerState {
         let Some(stamp) = next_stamp(self.clock, None) else {
             return Err(Stop::Clock);
         };
-        let room = room_of(self.ends.outs.as_mut_slice());
+        let room = self.outs.look();
         if is_same(rested, room) {
             self.idle = self.idle.saturating_add(1);
             return Ok(rested);
@@ -346,13 +286,12 @@ impl WorkerState {
                 Ok(Some(room))
             }
             Ok(Turn::Local(act)) => {
-                settle_after(&mut self.actor, &act, room == self.whole);
+                settle_after(&mut self.actor, &act, self.outs.all_have_room());
                 self.log(stamp, act);
                 Ok(None)
             }
             Ok(Turn::Put { link, act, item }) => {
-                let k = find_out(self.ends.outs.as_slice(), link);
-                put_item(&mut self.ends.outs[k], Stamped { at: stamp, item });
+                self.outs.put(link, Stamped { at: stamp, item });
                 self.log(stamp, act);
                 Ok(None)
             }
@@ -363,9 +302,9 @@ impl WorkerState {
     /// One turn: the take of an item from the least link that may take one and whose ring has one, or else what the actor does. The
     /// answer is the room with which the actor has no step, where that is known, and the next turn is given it.
     pub(crate) fn turn(&mut self, rested: Option<u32>) -> Result<Option<u32>, Stop>
-        requires outs { Distinct (out_links self.old.ends.outs.items) }
-        requires ins { Distinct (in_links self.old.ends.ins.items) }
-        requires low { All (λ o. o.0 < 32) self.old.ends.outs.items }
+        requires outs { Distinct (out_links self.old.outs.ends.items) }
+        requires ins { Distinct (in_links self.old.ins.items) }
+        requires low { All (λ o. o.0 < 32) self.old.outs.ends.items }
         requires rests { (plan : Plan) (n : ℕ) →
             IsActorOf plan n self.old.actor →
             IfSome rested (λ room. HasNoStep plan n self.old.actor) }
@@ -376,7 +315,7 @@ impl WorkerState {
         ensures ends { SameLinks (worker_state self.old) (worker_state self.new) }
         ensures why { IfErr result (λ why. why ≢ Stop.Turns) }
         ensures full { IfErr result
-            (λ why. why ≡ Stop.Clock → IsFull self.new.clock self.new.ends.ins.items) }
+            (λ why. why ≡ Stop.Clock → IsFull self.new.clock self.new.ins.items) }
         ensures rests { (plan : Plan) (n : ℕ) →
             IsActorOf plan n self.new.actor →
             IfOk result (λ rested. IfSome rested (λ room. HasNoStep plan n self.new.actor)) }
@@ -384,7 +323,7 @@ impl WorkerState {
         if self.acts.capacity() <= self.acts.len() {
             return Err(Stop::Memory);
         }
-        match find_in(&self.actor, self.ends.ins.as_mut_slice()) {
+        match find_in(&self.actor, self.ins.as_mut_slice()) {
             Some(k) => self.take_from(k),
             None => self.make_turn(rested),
         }

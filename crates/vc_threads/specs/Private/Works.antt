@@ -1,5 +1,5 @@
 -- What a worker does.
-use Rattle.std.specs.Prelude.{◌≡◌, ℕ, ◌+◌, ◌≤◌, ◌++◌, Bool, List, [], ◌∷◌, length, map}
+use Rattle.std.specs.Prelude.{◌≡◌, ℕ, ◌≤◌, ◌++◌, Bool, List, [], ◌∷◌, length, map}
 use Rattle.std.specs.List.{AllZip}
 use Rattle.rand_pcg.specs.Lcg.{Lcg}
 use Rattle.rtrb.specs.Ring.{received, SameConsumer}
@@ -39,7 +39,7 @@ pub record Seen : Type 0 where
   pub words : Lcg
 
 abbrev pub worker_state : WorkerState → Seen
-worker_state d = record { actor = d.actor; clock = d.clock; keeps = d.keeps; log = d.acts.items; outs = d.ends.outs.items; ins = d.ends.ins.items; words = d.words }
+worker_state d = record { actor = d.actor; clock = d.clock; keeps = d.keeps; log = d.acts.items; outs = d.outs.ends.items; ins = d.ins.items; words = d.words }
 
 -- the ends are of the same links, in order
 abbrev pub SameLinks : Seen → Seen → Type 0

@@ -12,16 +12,16 @@ loop-turn-init g c = record { run = λ plan n of. uses_zero plan n (worker_state
 
 pub turn-requires-clause-outs : goal.turn-requires-clause-outs
 turn-requires-clause-outs g c =
-    subst Distinct (sym c.loop-turn.invariant.ends.0) (subst (λ e. Distinct (out_links e.outs.items)) (sym c.new-worker_state.ensures.ends) c.requires.outs)
+    subst Distinct (sym c.loop-turn.invariant.ends.0) (subst (λ v. Distinct (out_links v.items)) (sym c.new-worker_state.ensures.outs) c.requires.outs)
 
 pub turn-requires-clause-ins : goal.turn-requires-clause-ins
 turn-requires-clause-ins g c =
-    subst Distinct (sym c.loop-turn.invariant.ends.1) (subst (λ e. Distinct (in_links e.ins.items)) (sym c.new-worker_state.ensures.ends) c.requires.ins)
+    subst Distinct (sym c.loop-turn.invariant.ends.1) (subst (λ v. Distinct (in_links v.items)) (sym c.new-worker_state.ensures.ins) c.requires.ins)
 
 pub turn-requires-clause-low : goal.turn-requires-clause-low
 turn-requires-clause-low g c =
     low_kept (worker_state c.new-worker_state.result).outs (worker_state c.loop-turn.worker_state).outs c.loop-turn.invariant.ends.0
-    (subst (λ e. All (λ o. o.0 < 32) e.outs.items) (sym c.new-worker_state.ensures.ends) c.requires.low)
+    (subst (λ v. All (λ o. o.0 < 32) v.items) (sym c.new-worker_state.ensures.outs) c.requires.low)
 
 pub returns-then-not-pass : goal.returns-then-not-pass
 returns-then-not-pass g c = (
@@ -32,7 +32,7 @@ returns-then-not-pass g c = (
       let less = c.loop-turn-test.true in
       has_run plan n c.loop-turn.turn c.args.turns c.args.job.id c.args.seed c.new-worker_state.result c.loop-turn.worker_state c.loop-turn.worker_state c.args.job.actor c.args.job.ends c.args.job.keeps c.into_run.result
       (c.loop-turn.invariant.run plan n (subst (λ a. IsActorOf plan n a) (sym d.actor) of)) (stays_same (worker_state c.loop-turn.worker_state)) (omega (arith, less))
-      d.actor d.clock d.keeps d.acts d.ends d.words e.actor e.acts e.ends (λ h. let f : Gate ≡ Turns = sym e.stop ∙ h in cc) (λ h. let f : Gate ≡ Clock = sym e.stop ∙ h in cc),
+      d.actor d.clock d.keeps d.acts d.outs d.ins d.words e.actor e.acts e.outs e.ins (λ h. let f : Gate ≡ Turns = sym e.stop ∙ h in cc) (λ h. let f : Gate ≡ Clock = sym e.stop ∙ h in cc),
 )
 
 pub returns-in-Err : goal.returns-in-Err
@@ -44,7 +44,7 @@ returns-in-Err g c = (
       let less = c.loop-turn-test.true in
       has_run plan n c.loop-turn.turn c.args.turns c.args.job.id c.args.seed c.new-worker_state.result c.loop-turn.worker_state c.turn.new.self c.args.job.actor c.args.job.ends c.args.job.keeps c.into_run-in-Err.result
       (c.loop-turn.invariant.run plan n (subst (λ a. IsActorOf plan n a) (sym d.actor) of)) c.in-Err.ensures.stopped (omega (arith, less))
-      d.actor d.clock d.keeps d.acts d.ends d.words e.actor e.acts e.ends (λ h. absurd (c.in-Err.ensures.why (sym e.stop ∙ h))) (λ h. c.in-Err.ensures.full (sym e.stop ∙ h)),
+      d.actor d.clock d.keeps d.acts d.outs d.ins d.words e.actor e.acts e.outs e.ins (λ h. absurd (c.in-Err.ensures.why (sym e.stop ∙ h))) (λ h. c.in-Err.ensures.full (sym e.stop ∙ h)),
 )
 
 pub loop-turn-preserved : goal.loop-turn-preserved
@@ -70,5 +70,5 @@ returns g c = (
       let end = c.loop-turn.auto.turn-end in
       has_run plan n c.loop-turn.turn c.args.turns c.args.job.id c.args.seed c.new-worker_state.result c.loop-turn.worker_state c.loop-turn.worker_state c.args.job.actor c.args.job.ends c.args.job.keeps c.into_run-2.result
       (c.loop-turn.invariant.run plan n (subst (λ a. IsActorOf plan n a) (sym d.actor) of)) (stays_same (worker_state c.loop-turn.worker_state)) (omega (arith, end))
-      d.actor d.clock d.keeps d.acts d.ends d.words e.actor e.acts e.ends (λ h. omega (arith, all, end)) (λ h. let f : Turns ≡ Clock = sym e.stop ∙ h in cc),
+      d.actor d.clock d.keeps d.acts d.outs d.ins d.words e.actor e.acts e.outs e.ins (λ h. omega (arith, all, end)) (λ h. let f : Turns ≡ Clock = sym e.stop ∙ h in cc),
 )

@@ -1,4 +1,4 @@
-use Rattle.std.proofs.Common.{◌≡◌, ◌++◌, [], ◌∷◌, true, false, ap, sym, ◌∙◌, append-nil}
+use Rattle.std.proofs.Common.{◌≡◌, ◌++◌, [], ◌∷◌, ap, sym, ◌∙◌, append-nil}
 use Rattle.vc_threads.specs.Private.Works.{worker_state}
 use Rattle.vc_threads.specs.Works.{kept}
 use Rattle.vc_threads.proofs.worker_state.WorkerState.log.Goals as goal

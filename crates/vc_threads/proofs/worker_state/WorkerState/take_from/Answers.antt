@@ -20,15 +20,15 @@ pub returns-in_err-stamp-clause-stopped : goal.returns-in_err-stamp-clause-stopp
 returns-in_err-stamp-clause-stopped c =
     let a = c.args.self.now in
     let same = c.in_err-stamp.ensures.err in
-    let looked : InLooked (get_or a.ends.ins.items c.args.k c.index_mut.result.now) c.take_front.new.end =
+    let looked : InLooked (get_or a.ins.items c.args.k c.index_mut.result.now) c.take_front.new.end =
     subst (λ v. InLooked v c.take_front.new.end) (same.1 ∙ c.index_mut.ensures.value) (in_looked_same c.take_front.new.end) in
     on_err _ c.from_residual.result (record {
       actor = same.0;
       clock = refl;
       keeps = refl;
       log = refl;
-      outs = zip_same OutLooked looked_same a.ends.outs.items;
-      ins = zip_step InLooked in_looked_then a.ends.ins.items a.ends.ins.items c.args.k c.index_mut.result.now c.take_front.new.end (zip_same InLooked in_looked_same a.ends.ins.items) c.requires.within looked;
+      outs = zip_same OutLooked looked_same a.outs.ends.items;
+      ins = zip_step InLooked in_looked_then a.ins.items a.ins.items c.args.k c.index_mut.result.now c.take_front.new.end (zip_same InLooked in_looked_same a.ins.items) c.requires.within looked;
     })
 
 pub returns-clause-done : goal.returns-clause-done
@@ -38,27 +38,27 @@ returns-clause-done c = λ plan n of.
     let made : ℕ × Act = (c.in_ok-stamp.stamp, c.in_ok-stamp.act) in
     let t = take_of made c.index_mut.result.now.0 h.item in
     subst (λ b. Uses plan n 1 (worker_state a) b) (sym c.log.ensures) (uses_one plan n (worker_state a)
-    (record { actor = c.take_front.new.actor; clock = c.in_ok-stamp.stamp; keeps = a.keeps; log = a.acts.items ++ kept a.keeps (made ∷ []); outs = a.ends.outs.items; ins = set a.ends.ins.items c.args.k c.take_front.new.end; words = c.next_word-word.new.self })
-    t h.step h.stamp tt (among a.ends.ins.items c.args.k c.index_mut.result.now c.requires.within c.index_mut.ensures.value) refl
+    (record { actor = c.take_front.new.actor; clock = c.in_ok-stamp.stamp; keeps = a.keeps; log = a.acts.items ++ kept a.keeps (made ∷ []); outs = a.outs.ends.items; ins = set a.ins.items c.args.k c.take_front.new.end; words = c.next_word-word.new.self })
+    t h.step h.stamp tt (among a.ins.items c.args.k c.index_mut.result.now c.requires.within c.index_mut.ensures.value) refl
     refl refl
     (subst (λ x. Draws a.words (word_of (Takes x c.index_mut.result.now.0 (stamped h.item)) ++ []) c.next_word-word.new.self) (sym h.act)
     (ap (λ (p : ℕ × Lcg). p.0) c.next_word-word.ensures, ap (λ (p : ℕ × Lcg). p.1) c.next_word-word.ensures))
-    (sends_quiet (t ∷ []) (λ l. refl) a.ends.outs.items a.ends.outs.items (zip_same OutLooked looked_same a.ends.outs.items))
-    (receives_one a.ends.ins.items c.args.k c.index_mut.result.now c.take_front.new.end c.in_ok-stamp.stamp c.in_ok-stamp.act h.item c.requires.links c.requires.within c.index_mut.ensures.value h.link h.ring h.got))
+    (sends_quiet (t ∷ []) (λ l. refl) a.outs.ends.items a.outs.ends.items (zip_same OutLooked looked_same a.outs.ends.items))
+    (receives_one a.ins.items c.args.k c.index_mut.result.now c.take_front.new.end c.in_ok-stamp.stamp c.in_ok-stamp.act h.item c.requires.links c.requires.within c.index_mut.ensures.value h.link h.ring h.got))
 
 pub returns-in_err-stamp-clause-full : goal.returns-in_err-stamp-clause-full
 returns-in_err-stamp-clause-full c =
     full_passed _ c.from_residual.result c.in_err-stamp.field-0.0 c.from_residual.ensures.1 (λ is. elim (c.in_err-stamp.ensures.full is) [
       | inl own ↦ inl own
-      | inr late ↦ inr (c.take_front.new.end, written_in c.args.self.now.ends.ins.items c.args.k c.take_front.new.end c.requires.within, late)
+      | inr late ↦ inr (c.take_front.new.end, written_in c.args.self.now.ins.items c.args.k c.take_front.new.end c.requires.within, late)
     ])
 
 pub returns-in_err-stamp-clause-ends : goal.returns-in_err-stamp-clause-ends
 returns-in_err-stamp-clause-ends c =
-    (refl, map-set_same (λ (i : In). i.0) c.args.self.now.ends.ins.items c.args.k c.take_front.new.end c.index_mut.result.now (c.in_err-stamp.ensures.link ∙ ap (λ (i : In). i.0) c.index_mut.ensures.value))
+    (refl, map-set_same (λ (i : In). i.0) c.args.self.now.ins.items c.args.k c.take_front.new.end c.index_mut.result.now (c.in_err-stamp.ensures.link ∙ ap (λ (i : In). i.0) c.index_mut.ensures.value))
 
 pub returns-clause-ends : goal.returns-clause-ends
 returns-clause-ends c =
     let a = c.args.self.now in
     subst (SameLinks (worker_state a)) (sym c.log.ensures)
-    (refl, map-set_same (λ (i : In). i.0) a.ends.ins.items c.args.k c.take_front.new.end c.index_mut.result.now (c.in_ok-stamp.ensures.link ∙ ap (λ (i : In). i.0) c.index_mut.ensures.value))
+    (refl, map-set_same (λ (i : In). i.0) a.ins.items c.args.k c.take_front.new.end c.index_mut.result.now (c.in_ok-stamp.ensures.link ∙ ap (λ (i : In). i.0) c.index_mut.ensures.value))
