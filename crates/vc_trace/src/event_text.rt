@@ -2,7 +2,7 @@
 ghost use Rattle.std.specs.Prelude.{◌≡◌, ◌++◌, ◌∷◌, codes, decimal, OnOk, OnErr};
 ghost use Rattle.vc_plan.specs.Names.{channel_name};
 ghost use Rattle.vc_trace.specs.EventText.{act_words, event_line, guard_word as word_of_guard, move_words, spaced};
-ghost use Rattle.vc_trace.specs.Private.EventText.{spaced_word, word_text, words_text};
+ghost use Rattle.vc_trace.specs.Private.EventText.{site_text, spaced_word, word_text, words_text};
 ghost use Rattle.vc_text.specs.Streams.{AppendsFront};
 ghost use Rattle.vc_trace.specs.Private.Pieces.{Passes};
 
@@ -89,6 +89,24 @@ fn put_words<W: Write>(
     Ok(())
 }
 
+/// The word for a move of a site on a channel, the site and the channel, each behind a space.
+fn put_site<W: Write>(
+    piece: &mut Piece,
+    writer: &mut W,
+    plan: &Plan,
+    word: &[u8],
+    site: u16,
+    chan: u16,
+) -> Result<(), WriteFailed>
+    ensures ok { OnOk result (Passes (W.contents writer.old) piece.old.items
+        (W.contents writer.new) piece.new.items (site_text plan.now word.now site chan)) }
+    ensures err { OnErr result (AppendsFront (W.contents writer.old)
+        (W.contents writer.new) (piece.old.items ++ (site_text plan.now word.now site chan))) }
+{
+    let words = [Word::Text(word), number(site), channel_word(plan, chan)];
+    put_words(piece, writer, &words)
+}
+
 /// The words of a move of a process, each behind a space.
 fn put_move<W: Write>(
     piece: &mut Piece,
@@ -102,31 +120,14 @@ fn put_move<W: Write>(
         (W.contents writer.new) (piece.old.items ++ (spaced (move_words plan.now made)))) }
 {
     match made {
-        Move::Offer { site, chan } => {
-            let words = [Word::Text(b"offer"), number(site), channel_word(plan, chan)];
-            put_words(piece, writer, &words)
-        }
-        Move::Want { site, chan } => {
-            let words = [Word::Text(b"want"), number(site), channel_word(plan, chan)];
-            put_words(piece, writer, &words)
-        }
+        Move::Offer { site, chan } => put_site(piece, writer, plan, b"offer", site, chan),
+        Move::Want { site, chan } => put_site(piece, writer, plan, b"want", site, chan),
         Move::Choose { site, guard, chan } => {
-            let words = [
-                Word::Text(b"choose"),
-                number(site),
-                number(guard),
-                channel_word(plan, chan),
-            ];
+            let (site, guard) = (number(site), number(guard));
+            let words = [Word::Text(b"choose"), site, guard, channel_word(plan, chan)];
             put_words(piece, writer, &words)
         }
-        Move::Stopch { site, chan } => {
-            let words = [
-                Word::Text(b"stopch"),
-                number(site),
-                channel_word(plan, chan),
-            ];
-            put_words(piece, writer, &words)
-        }
+        Move::Stopch { site, chan } => put_site(piece, writer, plan, b"stopch", site, chan),
         Move::Inner {
             sender,
             receiver,
