@@ -1,5 +1,5 @@
 -- How a turn of a worker_state is put together.
-use Rattle.std.proofs.Common.{◌≡◌, ◌≢◌, ℕ, zero, suc, ◌+◌, ◌<◌, ◌≤◌, List, [], ◌∷◌, ◌++◌, length, get_or, Bool, true, false, eqb, inl, inr, refl, ap, sym, subst, arith, map, ◌∙◌, append_assoc, length-append, eq-eqb}
+use Rattle.std.proofs.Common.{◌≡◌, ◌≢◌, ℕ, zero, suc, ◌+◌, ◌<◌, ◌≤◌, List, [], ◌∷◌, ◌++◌, length, get_or, Bool, true, false, Option, eqb, inl, inr, refl, ap, sym, subst, arith, map, ◌∙◌, append_assoc, length-append, eq-eqb}
 use Rattle.std.specs.Global.{Vec}
 use Rattle.std.specs.List.{AllZip, All, AllByRecursion}
 use Rattle.std.proofs.Math.ListN.{set}
@@ -21,13 +21,14 @@ use Rattle.vc_threads.specs.declared.worker_state.WorkerState.{WorkerState}
 use Rattle.vc_threads.specs.declared.link.Ends.{Ends}
 use Rattle.vc_threads.specs.declared.link.Stamped.{Stamped}
 use Rattle.vc_threads.specs.declared.run.ActorRun.{ActorRun}
+use Rattle.vc_threads.specs.declared.run.Stop.{Stop}
 use Rattle.vc_threads.specs.declared.run.Stop.TheVariants.{Turns, Clock}
 use Rattle.vc_threads.specs.Stamps.{stamped, all_stamped}
 use Rattle.vc_threads.specs.Wires.{OutLooked, InLooked, Distinct, IsAmong, Sends, Receives, out_links, in_links}
 use Rattle.vc_threads.specs.Runs.{StepsByLink, HasNoStep, Used, Draws, words_of}
 use Rattle.vc_threads.specs.Works.{Out, In, kept, logged, GoesOver, GoOver, IsFull, HasRun}
 use Rattle.vc_threads.specs.Private.Rooms.{HasPut}
-use Rattle.vc_threads.specs.Private.Works.{Seen, worker_state, Uses, Stays}
+use Rattle.vc_threads.specs.Private.Works.{Seen, worker_state, Uses, Stays, TakesTurn, StopsFor}
 use Rattle.vc_threads.proofs.Zips.{zip_weaker, zip_then, zip_one, zip_map, zip_same}
 use Rattle.vc_threads.proofs.Looks.{producer_then, consumer_then, looked_same, in_looked_same, in_looked_then}
 use Rattle.vc_threads.proofs.Steps.{clock_then, run_then, put_then, taken_then, words_then, draws_then, used_then, run_kept}
@@ -280,6 +281,13 @@ stays_same a = record { actor = refl; clock = refl; keeps = refl; log = refl; ou
 -- nothing was done after a look
 pub stays_looked : (a b : Seen) (ins : List In) → AllZip InLooked ins a.ins → Stays a b → Stays (record a { ins = ins }) b
 stays_looked a b ins looked p = record { actor = p.actor; clock = p.clock; keeps = p.keeps; log = p.log; outs = p.outs; ins = zip_then InLooked InLooked InLooked in_looked_then ins a.ins b.ins looked p.ins }
+
+-- a turn after a look, and a stop
+pub turn_looked : (a b : Seen) (ins : List In) (rested : Option ℕ) → AllZip InLooked ins a.ins → TakesTurn a b rested → TakesTurn (record a { ins = ins }) b rested
+turn_looked a b ins rested looked t = record { uses = λ plan k of. uses_looked plan k 1 a b ins looked (t.uses plan k of); rests = t.rests }
+
+pub stop_looked : (a b : Seen) (ins : List In) (why : Stop) → AllZip InLooked ins a.ins → StopsFor a b why → StopsFor (record a { ins = ins }) b why
+stop_looked a b ins why looked s = record { stays = stays_looked a b ins looked s.stays; early = s.early; full = s.full }
 
 -- an actor of the plan stays one
 pub actor_kept : (plan : Plan) (k n : ℕ) (a b : Seen) → Uses plan k n a b → IsActorOf plan k a.actor → IsActorOf plan k b.actor

@@ -62,7 +62,7 @@ fn can_take(actor: &Actor, end: &mut (u8, In)) -> bool
 }
 
 // Whether the actor may take from an end whose link is below this one, and whose ring has an item. No other ring is asked.
-fn is_below(actor: &Actor, end: &mut (u8, In), link: u8) -> bool
+fn can_take_below(actor: &Actor, end: &mut (u8, In), link: u8) -> bool
     ensures looked { InLooked end.old end.new }
     ensures below { result ≡ true → (end.new.0 < link) × CanTake actor.now end.new }
     ensures not_below { result ≡ false → CanTake actor.now end.new → link ≤ end.new.0 }
@@ -81,7 +81,7 @@ fn find_in(actor: &Actor, ins: &mut [(u8, In)]) -> Option<usize>
     let mut place = 0;
     let mut least = LINKS;
     for k in 0..ins.len() {
-        if is_below(actor, &mut ins[k], least) {
+        if can_take_below(actor, &mut ins[k], least) {
             place = k;
             least = ins[k].0;
         }
@@ -129,15 +129,13 @@ fn take_front(
 }
 
 impl WorkerState {
-    ghost use Rattle.std.specs.Prelude.{◌≡◌, ◌≢◌, ◌<◌, ◌++◌, ℕ, [], ◌∷◌, length, OnOk, OnErr, IfOk, IfErr, IfSome};
+    ghost use Rattle.std.specs.Prelude.{◌≡◌, ◌<◌, ◌++◌, [], ◌∷◌, length, IfOk, IfErr};
     ghost use Rattle.std.specs.List.{All, HoldsAt};
     ghost use Rattle.std.specs.Vec.{vec_len, vec_capacity};
-    ghost use Rattle.vc_actor.specs.OfPlan.{IsActorOf};
-    ghost use Rattle.vc_network.specs.Plan.{Plan};
-    ghost use Rattle.vc_threads.specs.Runs.{HasNoStep, generator};
+    ghost use Rattle.vc_threads.specs.Runs.{generator};
     ghost use Rattle.vc_threads.specs.Wires.{Distinct, in_links, out_links};
-    ghost use Rattle.vc_threads.specs.Private.Works.{CanTake, SameLinks, Uses, Stays, worker_state};
-    ghost use Rattle.vc_threads.specs.Works.{IsFull, kept};
+    ghost use Rattle.vc_threads.specs.Private.Works.{CanTake, IsRested, SameLinks, StopsFor, TakesTurn, worker_state};
+    ghost use Rattle.vc_threads.specs.Works.{kept};
 
     /// An actor that did nothing yet. Its words are those of the generator of this seed and number.
     pub(crate) fn new(
@@ -234,17 +232,9 @@ impl WorkerState {
         requires within { k < length self.old.ins.items }
         requires can { HoldsAt (CanTake self.old.actor) self.old.ins.items k }
         requires room { vec_len self.old.acts < vec_capacity self.old.acts }
-        ensures done { (plan : Plan) (n : ℕ) →
-            IsActorOf plan n self.old.actor →
-            OnOk result (Uses plan n 1 (worker_state self.old) (worker_state self.new)) }
-        ensures stopped { OnErr result (Stays (worker_state self.old) (worker_state self.new)) }
+        ensures turn { IfOk result (TakesTurn (worker_state self.old) (worker_state self.new)) }
+        ensures stop { IfErr result (StopsFor (worker_state self.old) (worker_state self.new)) }
         ensures ends { SameLinks (worker_state self.old) (worker_state self.new) }
-        ensures why { IfErr result (λ why. why ≢ Stop.Turns) }
-        ensures full { IfErr result
-            (λ why. why ≡ Stop.Clock → IsFull self.new.clock self.new.ins.items) }
-        ensures rests { (plan : Plan) (n : ℕ) →
-            IsActorOf plan n self.new.actor →
-            IfOk result (λ rested. IfSome rested (λ room. HasNoStep plan n self.new.actor)) }
     {
         let word = self.words.next_word();
         let (stamp, act) = take_front(&mut self.actor, &mut self.ins[k], self.clock, word)?;
@@ -257,20 +247,10 @@ impl WorkerState {
         requires links { Distinct (out_links self.old.outs.ends.items) }
         requires low { All (λ o. o.0 < 32) self.old.outs.ends.items }
         requires room { vec_len self.old.acts < vec_capacity self.old.acts }
-        requires rests { (plan : Plan) (n : ℕ) →
-            IsActorOf plan n self.old.actor →
-            IfSome rested (λ room. HasNoStep plan n self.old.actor) }
-        ensures done { (plan : Plan) (n : ℕ) →
-            IsActorOf plan n self.old.actor →
-            OnOk result (Uses plan n 1 (worker_state self.old) (worker_state self.new)) }
-        ensures stopped { OnErr result (Stays (worker_state self.old) (worker_state self.new)) }
+        requires rests { IsRested self.old.actor rested }
+        ensures turn { IfOk result (TakesTurn (worker_state self.old) (worker_state self.new)) }
+        ensures stop { IfErr result (StopsFor (worker_state self.old) (worker_state self.new)) }
         ensures ends { SameLinks (worker_state self.old) (worker_state self.new) }
-        ensures why { IfErr result (λ why. why ≢ Stop.Turns) }
-        ensures full { IfErr result
-            (λ why. why ≡ Stop.Clock → IsFull self.new.clock self.new.ins.items) }
-        ensures rests { (plan : Plan) (n : ℕ) →
-            IsActorOf plan n self.new.actor →
-            IfOk result (λ rested. IfSome rested (λ room. HasNoStep plan n self.new.actor)) }
     {
         let Some(stamp) = next_stamp(self.clock, None) else {
             return Err(Stop::Clock);
@@ -305,20 +285,10 @@ impl WorkerState {
         requires outs { Distinct (out_links self.old.outs.ends.items) }
         requires ins { Distinct (in_links self.old.ins.items) }
         requires low { All (λ o. o.0 < 32) self.old.outs.ends.items }
-        requires rests { (plan : Plan) (n : ℕ) →
-            IsActorOf plan n self.old.actor →
-            IfSome rested (λ room. HasNoStep plan n self.old.actor) }
-        ensures done { (plan : Plan) (n : ℕ) →
-            IsActorOf plan n self.old.actor →
-            OnOk result (Uses plan n 1 (worker_state self.old) (worker_state self.new)) }
-        ensures stopped { OnErr result (Stays (worker_state self.old) (worker_state self.new)) }
+        requires rests { IsRested self.old.actor rested }
+        ensures turn { IfOk result (TakesTurn (worker_state self.old) (worker_state self.new)) }
+        ensures stop { IfErr result (StopsFor (worker_state self.old) (worker_state self.new)) }
         ensures ends { SameLinks (worker_state self.old) (worker_state self.new) }
-        ensures why { IfErr result (λ why. why ≢ Stop.Turns) }
-        ensures full { IfErr result
-            (λ why. why ≡ Stop.Clock → IsFull self.new.clock self.new.ins.items) }
-        ensures rests { (plan : Plan) (n : ℕ) →
-            IsActorOf plan n self.new.actor →
-            IfOk result (λ rested. IfSome rested (λ room. HasNoStep plan n self.new.actor)) }
     {
         if self.acts.capacity() <= self.acts.len() {
             return Err(Stop::Memory);

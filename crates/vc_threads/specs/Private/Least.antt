@@ -4,7 +4,7 @@ use Rattle.vc_actor.specs.Shown.{Acting}
 use Rattle.vc_threads.specs.Works.{In}
 use Rattle.vc_threads.specs.Private.Works.{CanTake}
 
--- where the link is one at all, it is that of the end at the place, one of the first n, from which the actor can take
+-- a link below 32 is that of the end at this place, which is one of the first n, and the actor can take from it; 32 says that none was found
 abbrev pub IsFound : Acting → List In → ℕ → ℕ → ℕ → Type 0
 IsFound x ins n place link =
     link < 32 → (place < n) × ((d : In) → ((slice_index_or ins place d).0 ≡ link) × CanTake x (slice_index_or ins place d))

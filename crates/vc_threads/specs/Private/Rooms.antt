@@ -16,7 +16,7 @@ module _ {A P : Type 0} where
   abbrev pub IsFree : ℕ → ℕ × Producer Stamped A P → Type 0
   IsFree link o = (o.0 ≡ link) × (0 < known_free o.1)
 
-  -- not every ring of this link is without a slot that is known to be free
+  -- Not every ring of this link is without a slot that is known to be free. As a denial it has one proof at most, so it may stand in an invariant.
   abbrev pub HasRoom : List (ℕ × Producer Stamped A P) → ℕ → Type 0
   HasRoom outs link = ((k : ℕ) → k < length outs → HoldsAt (IsFree link) outs k → ⊥) → ⊥
 

@@ -1,5 +1,5 @@
 -- What a worker does.
-use Rattle.std.specs.Prelude.{◌≡◌, ℕ, ◌≤◌, ◌++◌, Bool, List, [], ◌∷◌, length, map}
+use Rattle.std.specs.Prelude.{◌≡◌, ◌≢◌, ℕ, ◌≤◌, ◌++◌, Bool, List, [], ◌∷◌, length, map, Option, IfSome}
 use Rattle.std.specs.List.{AllZip}
 use Rattle.rand_pcg.specs.Lcg.{Lcg}
 use Rattle.rtrb.specs.Ring.{received, SameConsumer}
@@ -15,10 +15,12 @@ use Rattle.vc_actor.specs.declared.act.Act.TheVariants.{Take}
 use Rattle.vc_actor.specs.Shown.{Acting}
 use Rattle.vc_threads.specs.declared.worker_state.WorkerState.{WorkerState}
 use Rattle.vc_threads.specs.declared.link.Stamped.{Stamped}
-use Rattle.vc_threads.specs.Runs.{StepsByLink, Used, Draws, words_of}
+use Rattle.vc_threads.specs.declared.run.Stop.{Stop}
+use Rattle.vc_threads.specs.declared.run.Stop.TheVariants.{Turns, Clock}
+use Rattle.vc_threads.specs.Runs.{StepsByLink, HasNoStep, Used, Draws, words_of}
 use Rattle.vc_threads.specs.Stamps.{stamped}
 use Rattle.vc_threads.specs.Wires.{Sends, Receives, OutLooked, InLooked, IsReady, out_links, in_links}
-use Rattle.vc_threads.specs.Works.{Out, In, logged, kept, GoOver}
+use Rattle.vc_threads.specs.Works.{Out, In, IsFull, logged, kept, GoOver}
 
 -- the actor is one of some plan
 abbrev pub IsOfSomePlan : Acting → Type 0
@@ -28,7 +30,7 @@ IsOfSomePlan n = (plan : Plan) × (k : ℕ) × IsActorOf plan k n
 abbrev pub CanTake : Acting → In → Type 0
 CanTake x i = HasLink x i.0 × IsReady i
 
--- what is seen of a worker_state: also whether its acts are kept in the log
+-- what is seen of a worker's state: also whether its acts are kept in the log
 pub record Seen : Type 0 where
   pub actor : Acting
   pub clock : ℕ
@@ -45,7 +47,7 @@ worker_state d = record { actor = d.actor; clock = d.clock; keeps = d.keeps; log
 abbrev pub SameLinks : Seen → Seen → Type 0
 SameLinks a b = (out_links b.outs ≡ out_links a.outs) × (in_links b.ins ≡ in_links a.ins)
 
--- Some steps lead from one worker_state to the other: they are a run of actor k by itself, they are logged where acts are kept, the rings show what they took and
+-- Some steps lead from one state of a worker to the other: they are a run of actor k by itself, they are logged where acts are kept, the rings show what they took and
 -- put, all over the links of these rings, and the words of their takes were drawn.
 pub record Goes (plan : Plan) (k : ℕ) (a : Seen) (ts : List (Turn Act Token)) (b : Seen) : Type 0 where
   pub run : LocalRun (StepsByLink plan) k a.clock a.actor ts b.actor
@@ -57,7 +59,7 @@ pub record Goes (plan : Plan) (k : ℕ) (a : Seen) (ts : List (Turn Act Token)) 
   pub links : GoOver a.outs a.ins ts
   pub words : Draws a.words (words_of ts) b.words
 
--- at most n steps lead from one worker_state to the other, which use n turns
+-- at most n steps lead from one state of a worker to the other, which use n turns
 pub record Uses (plan : Plan) (k n : ℕ) (a b : Seen) : Type 0 where
   pub steps : List (Turn Act Token)
   pub few : length steps ≤ n
@@ -72,6 +74,21 @@ pub record Stays (a b : Seen) : Type 0 where
   pub log : b.log ≡ a.log
   pub outs : AllZip OutLooked a.outs b.outs
   pub ins : AllZip InLooked a.ins b.ins
+
+-- where it is known with which room the actor had no step, it has none
+abbrev pub IsRested : Acting → Option ℕ → Type 0
+IsRested x rested = (plan : Plan) (k : ℕ) → IsActorOf plan k x → IfSome rested (λ room. HasNoStep plan k x)
+
+-- one turn was made, after which it may be known that the actor has no step
+pub record TakesTurn (a b : Seen) (rested : Option ℕ) : Type 0 where
+  pub uses : (plan : Plan) (k : ℕ) → IsActorOf plan k a.actor → Uses plan k 1 a b
+  pub rests : IsRested b.actor rested
+
+-- nothing was done, before the turns were over; where it was for the clock, that is full
+pub record StopsFor (a b : Seen) (why : Stop) : Type 0 where
+  pub stays : Stays a b
+  pub early : why ≢ Turns
+  pub full : why ≡ Clock → IsFull b.clock b.ins
 
 -- the take of this item from this link
 abbrev pub take_of : ℕ × Act → ℕ → Stamped → Turn Act Token

@@ -43,8 +43,8 @@ returns-in-Err g c = (
       let e = c.into_run-in-Err.ensures in
       let less = c.loop-turn-test.true in
       has_run plan n c.loop-turn.turn c.args.turns c.args.job.id c.args.seed c.new-worker_state.result c.loop-turn.worker_state c.turn.new.self c.args.job.actor c.args.job.ends c.args.job.keeps c.into_run-in-Err.result
-      (c.loop-turn.invariant.run plan n (subst (λ a. IsActorOf plan n a) (sym d.actor) of)) c.in-Err.ensures.stopped (omega (arith, less))
-      d.actor d.clock d.keeps d.acts d.outs d.ins d.words e.actor e.acts e.outs e.ins (λ h. absurd (c.in-Err.ensures.why (sym e.stop ∙ h))) (λ h. c.in-Err.ensures.full (sym e.stop ∙ h)),
+      (c.loop-turn.invariant.run plan n (subst (λ a. IsActorOf plan n a) (sym d.actor) of)) c.in-Err.ensures.stop.stays (omega (arith, less))
+      d.actor d.clock d.keeps d.acts d.outs d.ins d.words e.actor e.acts e.outs e.ins (λ h. absurd (c.in-Err.ensures.stop.early (sym e.stop ∙ h))) (λ h. c.in-Err.ensures.stop.full (sym e.stop ∙ h)),
 )
 
 pub loop-turn-preserved : goal.loop-turn-preserved
@@ -52,9 +52,9 @@ loop-turn-preserved g c = record {
   run = λ plan n of.
       let p = c.loop-turn.invariant.run plan n of in
       uses_then plan n c.loop-turn.turn 1 (worker_state c.new-worker_state.result) (worker_state c.loop-turn.worker_state) (worker_state c.turn.new.self) p
-      (c.in-Ok.ensures.done plan n (actor_kept plan n c.loop-turn.turn (worker_state c.new-worker_state.result) (worker_state c.loop-turn.worker_state) p of));
+      (c.in-Ok.ensures.turn.uses plan n (actor_kept plan n c.loop-turn.turn (worker_state c.new-worker_state.result) (worker_state c.loop-turn.worker_state) p of));
   ends = (c.in-Ok.ensures.ends.0 ∙ c.loop-turn.invariant.ends.0, c.in-Ok.ensures.ends.1 ∙ c.loop-turn.invariant.ends.1);
-  rests = λ plan n of. c.in-Ok.ensures.rests plan n of;
+  rests = c.in-Ok.ensures.turn.rests;
 }
 
 pub turn-requires-clause-rests : goal.turn-requires-clause-rests

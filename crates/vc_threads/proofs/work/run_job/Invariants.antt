@@ -1,8 +1,7 @@
-use Rattle.std.proofs.Common.{ℕ, IfSome}
+use Rattle.std.proofs.Common.{ℕ}
 use Rattle.vc_actor.specs.OfPlan.{IsActorOf}
 use Rattle.vc_network.specs.Plan.{Plan}
-use Rattle.vc_threads.specs.Runs.{HasNoStep}
-use Rattle.vc_threads.specs.Private.Works.{SameLinks, Uses, worker_state}
+use Rattle.vc_threads.specs.Private.Works.{IsRested, SameLinks, Uses, worker_state}
 use Rattle.vc_threads.proofs.work.run_job.Given as goal
 
 -- so far each turn was used, and the ends are of the same links; and where the actor is known to have no step of its own, it has none
@@ -10,5 +9,5 @@ abbrev pub invariant-loop-turn : goal.invariant-loop-turn
 invariant-loop-turn g l = record {
   run : (plan : Plan) (n : ℕ) → IsActorOf plan n l.initial.worker_state.actor → Uses plan n l.turn (worker_state l.initial.worker_state) (worker_state l.worker_state);
   ends : SameLinks (worker_state l.initial.worker_state) (worker_state l.worker_state);
-  rests : (plan : Plan) (n : ℕ) → IsActorOf plan n l.worker_state.actor → IfSome l.rested (λ room. HasNoStep plan n l.worker_state.actor);
+  rests : IsRested l.worker_state.actor l.rested;
 }

@@ -1,4 +1,4 @@
-use Rattle.std.proofs.Common.{◌≡◌, ℕ, refl, sym, subst, ◌∙◌, ◌++◌, ◌∷◌, []}
+use Rattle.std.proofs.Common.{◌≡◌, ℕ, inl, refl, sym, subst, ◌∙◌, ◌++◌, ◌∷◌, []}
 use Rattle.vc_network.specs.Actors.Label.{Own, Puts}
 use Rattle.vc_network.specs.LocalRun.{Turn}
 use Rattle.vc_actor.specs.Shown.{Acting}
@@ -7,59 +7,55 @@ use Rattle.vc_actor.specs.declared.turn.Turn.TheVariants as turn
 use Rattle.vc_actor.specs.declared.act.Act.{Act}
 use Rattle.vc_tokens.specs.declared.token.Token.{Token}
 use Rattle.vc_threads.specs.declared.link.Stamped.{Stamped}
+use Rattle.vc_threads.specs.declared.run.Stop.TheVariants.{Turns, Clock, Memory}
 use Rattle.vc_threads.specs.Stamps.{stamped}
-use Rattle.vc_threads.specs.Wires.{OutLooked, InLooked, Distinct, IsAmong}
+use Rattle.vc_threads.specs.Wires.{InLooked, Distinct, IsAmong}
 use Rattle.vc_threads.specs.Works.{kept}
 use Rattle.vc_threads.specs.Private.Works.{SameLinks, Uses, worker_state}
 use Rattle.vc_threads.proofs.Zips.{zip_same}
-use Rattle.vc_threads.proofs.Looks.{looked_same, in_looked_same, low_kept}
+use Rattle.vc_threads.proofs.Looks.{in_looked_same, low_kept}
 use Rattle.vc_threads.proofs.Steps.{finds_quiet}
-use Rattle.vc_threads.proofs.Goings.{uses_idle, uses_one, put_links, sends_quiet, receives_quiet, looked_sends, looked_out_links}
+use Rattle.vc_threads.proofs.Goings.{uses_idle, uses_one, stays_same, put_links, sends_quiet, receives_quiet, looked_sends, looked_out_links}
 use Rattle.vc_threads.proofs.Outcomes.{of_some}
 use Rattle.vc_actor.specs.OfPlan.{IsActorOf}
+use Rattle.vc_network.specs.Plan.{Plan}
 use Rattle.vc_threads.specs.Runs.{HasNoStep}
 use Rattle.vc_threads.proofs.worker_state.WorkerState.make_turn.Goals as goal
 
-pub returns-in_default-clause-stopped : goal.returns-in_default-clause-stopped
-returns-in_default-clause-stopped c =
+pub returns-in_default-clause-stop : goal.returns-in_default-clause-stop
+returns-in_default-clause-stop c = record {
+  stays = stays_same (worker_state c.args.self.now);
+  early = λ same. absurd (let e : Clock ≡ Turns = same in cc);
+  full = λ clock. inl c.in_default.ensures;
+}
+
+pub returns-in-Err-clause-stop : goal.returns-in-Err-clause-stop
+returns-in-Err-clause-stop c =
     let a = c.args.self.now in
     record {
-      actor = refl;
-      clock = refl;
-      keeps = refl;
-      log = refl;
-      outs = zip_same OutLooked looked_same a.outs.ends.items;
-      ins = zip_same InLooked in_looked_same a.ins.items;
+      stays = record {
+        actor = c.in-Err.ensures.refused;
+        clock = refl;
+        keeps = refl;
+        log = refl;
+        outs = c.look-room.ensures.looked;
+        ins = zip_same InLooked in_looked_same a.ins.items;
+      };
+      early = λ same. absurd (let e : Memory ≡ Turns = same in cc);
+      full = λ same. absurd (let e : Memory ≡ Clock = same in cc);
     }
 
-pub returns-in-Err-clause-stopped : goal.returns-in-Err-clause-stopped
-returns-in-Err-clause-stopped c =
-    let a = c.args.self.now in
-    record {
-      actor = c.in-Err.ensures.refused;
-      clock = refl;
-      keeps = refl;
-      log = refl;
-      outs = c.look-room.ensures.looked;
-      ins = zip_same InLooked in_looked_same a.ins.items;
-    }
-
-pub returns-then-is_same-clause-done : goal.returns-then-is_same-clause-done
-returns-then-is_same-clause-done c = λ plan n of.
+pub returns-then-is_same-clause-turn : goal.returns-then-is_same-clause-turn
+returns-then-is_same-clause-turn c =
     let a = c.args.self.now in
     let mid = c.look-room.new.self.ends.items in
-    let outs' = c.look-room.ensures.looked in
-    uses_idle plan n (worker_state a)
-    (record { actor = a.actor; clock = a.clock; keeps = a.keeps; log = a.acts.items; outs = mid; ins = a.ins.items; words = a.words })
-    (of_some (HasNoStep plan n a.actor) c.args.rested (c.is_same.ensures c.if-is_same.true) (c.requires.rests plan n of)) refl refl refl refl refl outs' (zip_same InLooked in_looked_same a.ins.items)
-
-pub returns-in-Ok-Idle-clause-rests : goal.returns-in-Ok-Idle-clause-rests
-returns-in-Ok-Idle-clause-rests c = λ plan n of.
-    let a = c.args.self.now in
-    let same : c.turn.new.self ≡ a.actor = c.in-Ok-Idle.ensures.idle c.in-Ok-Idle.field-0-is in
-    let of' : IsActorOf plan n a.actor = subst (IsActorOf plan n) same of in
-    let did = subst (λ t. MakesTurn plan n a.actor c.look-room.result t c.turn.new.self) c.in-Ok-Idle.field-0-is (c.in-Ok-Idle.ensures.makes plan n of') in
-    subst (HasNoStep plan n) (sym same) (finds_quiet plan n a.actor c.look-room.result did.1)
+    record {
+      uses = λ plan n of. uses_idle plan n (worker_state a)
+          (record { actor = a.actor; clock = a.clock; keeps = a.keeps; log = a.acts.items; outs = mid; ins = a.ins.items; words = a.words })
+          (of_some (HasNoStep plan n a.actor) c.args.rested (c.is_same.ensures c.if-is_same.true) (c.requires.rests plan n of)) refl refl refl refl refl
+          c.look-room.ensures.looked (zip_same InLooked in_looked_same a.ins.items);
+      rests = c.requires.rests;
+    }
 
 pub put-requires-clause-low : goal.put-requires-clause-low
 put-requires-clause-low c = low_kept c.args.self.now.outs.ends.items c.look-room.new.self.ends.items c.look-room.ensures.looked c.requires.low
@@ -70,54 +66,60 @@ put-requires-clause-links c = subst Distinct (sym (looked_out_links c.args.self.
 pub put-requires-clause-room : goal.put-requires-clause-room
 put-requires-clause-room c = c.look-room.ensures.room c.in-Ok-Put.link (subst (PutsWithRoom c.look-room.result) c.in-Ok-Put.field-0-is c.in-Ok-Put.ensures.room)
 
-pub returns-in-Ok-Idle-clause-done : goal.returns-in-Ok-Idle-clause-done
-returns-in-Ok-Idle-clause-done c = λ plan n of.
+pub returns-in-Ok-Idle-clause-turn : goal.returns-in-Ok-Idle-clause-turn
+returns-in-Ok-Idle-clause-turn c =
     let a = c.args.self.now in
-    let outs' = c.look-room.ensures.looked in
-    let did = subst (λ t. MakesTurn plan n a.actor c.look-room.result t c.turn.new.self) c.in-Ok-Idle.field-0-is (c.in-Ok-Idle.ensures.makes plan n of) in
-    uses_idle plan n (worker_state a)
-    (record { actor = c.turn.new.self; clock = a.clock; keeps = a.keeps; log = a.acts.items; outs = c.look-room.new.self.ends.items; ins = a.ins.items; words = a.words })
-    (finds_quiet plan n a.actor c.look-room.result did.1) did.0 refl refl refl refl outs' (zip_same InLooked in_looked_same a.ins.items)
+    let room = c.look-room.result in
+    let same : c.turn.new.self ≡ a.actor = c.in-Ok-Idle.ensures.idle c.in-Ok-Idle.field-0-is in
+    let rests : (plan : Plan) (n : ℕ) → IsActorOf plan n a.actor → HasNoStep plan n a.actor = λ plan n of.
+        let did = subst (λ t. MakesTurn plan n a.actor room t c.turn.new.self) c.in-Ok-Idle.field-0-is (c.in-Ok-Idle.ensures.makes plan n of) in
+        finds_quiet plan n a.actor room did.1 in
+    record {
+      uses = λ plan n of. uses_idle plan n (worker_state a)
+          (record { actor = c.turn.new.self; clock = a.clock; keeps = a.keeps; log = a.acts.items; outs = c.look-room.new.self.ends.items; ins = a.ins.items; words = a.words })
+          (rests plan n of) same refl refl refl refl c.look-room.ensures.looked (zip_same InLooked in_looked_same a.ins.items);
+      rests = λ plan n of. subst (HasNoStep plan n) (sym same) (rests plan n (subst (IsActorOf plan n) same of));
+    }
 
-pub returns-in-Ok-Local-clause-done : goal.returns-in-Ok-Local-clause-done
-returns-in-Ok-Local-clause-done c = λ plan n of.
-    let a = c.args.self.now in
-    let mid = c.look-room.new.self.ends.items in
-    let outs' = c.look-room.ensures.looked in
-    let did = subst (λ t. MakesTurn plan n a.actor c.look-room.result t c.turn.new.self) c.in-Ok-Local.field-0-is (c.in-Ok-Local.ensures.makes plan n of) in
-    let next = c.settle_after.new.actor in
-    let makes = subst (λ (x : Acting). MakesTurn plan n a.actor c.look-room.result (turn.Local c.in-Ok-Local.act) x) (sym c.settle_after.ensures) did in
-    let made : ℕ × Act = (c.in-Some.stamp, c.in-Ok-Local.act) in
-    let t : Turn Act Token = record { at = c.in-Some.stamp; it = Own c.in-Ok-Local.act } in
-    subst (λ b. Uses plan n 1 (worker_state a) b) (sym c.log.ensures) (uses_one plan n (worker_state a)
-    (record { actor = next; clock = c.in-Some.stamp; keeps = a.keeps; log = a.acts.items ++ kept a.keeps (made ∷ []); outs = mid; ins = a.ins.items; words = a.words })
-    t makes.1 c.in-Some.ensures tt tt refl refl refl refl
-    (sends_quiet (t ∷ []) (λ l. refl) a.outs.ends.items mid outs')
-    (receives_quiet (t ∷ []) (λ l. refl) a.ins.items a.ins.items (zip_same InLooked in_looked_same a.ins.items)))
+pub returns-in-Ok-Local-clause-turn : goal.returns-in-Ok-Local-clause-turn
+returns-in-Ok-Local-clause-turn c = record {
+  uses = λ plan n of.
+      let a = c.args.self.now in
+      let mid = c.look-room.new.self.ends.items in
+      let outs' = c.look-room.ensures.looked in
+      let did = subst (λ t. MakesTurn plan n a.actor c.look-room.result t c.turn.new.self) c.in-Ok-Local.field-0-is (c.in-Ok-Local.ensures.makes plan n of) in
+      let next = c.settle_after.new.actor in
+      let makes = subst (λ (x : Acting). MakesTurn plan n a.actor c.look-room.result (turn.Local c.in-Ok-Local.act) x) (sym c.settle_after.ensures) did in
+      let made : ℕ × Act = (c.in-Some.stamp, c.in-Ok-Local.act) in
+      let t : Turn Act Token = record { at = c.in-Some.stamp; it = Own c.in-Ok-Local.act } in
+      subst (λ b. Uses plan n 1 (worker_state a) b) (sym c.log.ensures) (uses_one plan n (worker_state a)
+      (record { actor = next; clock = c.in-Some.stamp; keeps = a.keeps; log = a.acts.items ++ kept a.keeps (made ∷ []); outs = mid; ins = a.ins.items; words = a.words })
+      t makes.1 c.in-Some.ensures tt tt refl refl refl refl
+      (sends_quiet (t ∷ []) (λ l. refl) a.outs.ends.items mid outs')
+      (receives_quiet (t ∷ []) (λ l. refl) a.ins.items a.ins.items (zip_same InLooked in_looked_same a.ins.items)));
+  rests = λ plan n of. tt;
+}
 
-pub returns-in-Ok-Put-clause-done : goal.returns-in-Ok-Put-clause-done
-returns-in-Ok-Put-clause-done c = λ plan n of.
-    let a = c.args.self.now in
-    let mid = c.look-room.new.self.ends.items in
-    let outs' = c.look-room.ensures.looked in
-    let new = c.put.new.self.ends.items in
-    let did = subst (λ t. MakesTurn plan n a.actor c.look-room.result t c.turn.new.self) c.in-Ok-Put.field-0-is (c.in-Ok-Put.ensures.makes plan n of) in
-    let act = c.in-Ok-Put.act in
-    let link = c.in-Ok-Put.link in
-    let made : ℕ × Act = (c.in-Some.stamp, act) in
-    let x : Stamped = record { at = c.in-Some.stamp; item = c.in-Ok-Put.item } in
-    let t : Turn Act Token = record { at = c.in-Some.stamp; it = Puts act link (stamped x) } in
-    subst (λ b. Uses plan n 1 (worker_state a) b) (sym c.log-in-Ok-Put.ensures) (uses_one plan n (worker_state a)
-    (record { actor = c.turn.new.self; clock = c.in-Some.stamp; keeps = a.keeps; log = a.acts.items ++ kept a.keeps (made ∷ []); outs = new; ins = a.ins.items; words = a.words })
-    t did.1 c.in-Some.ensures refl (subst (λ ls. IsAmong ls link) (looked_out_links a.outs.ends.items mid outs') c.put.ensures.among) refl refl refl refl
-    (looked_sends (t ∷ []) a.outs.ends.items mid new outs' (c.put.ensures.put act))
-    (receives_quiet (t ∷ []) (λ l. refl) a.ins.items a.ins.items (zip_same InLooked in_looked_same a.ins.items)))
-
-pub returns-then-is_same-clause-full : goal.returns-then-is_same-clause-full
-returns-then-is_same-clause-full c = tt
-
-pub returns-then-is_same-clause-stopped : goal.returns-then-is_same-clause-stopped
-returns-then-is_same-clause-stopped c = tt
+pub returns-in-Ok-Put-clause-turn : goal.returns-in-Ok-Put-clause-turn
+returns-in-Ok-Put-clause-turn c = record {
+  uses = λ plan n of.
+      let a = c.args.self.now in
+      let mid = c.look-room.new.self.ends.items in
+      let outs' = c.look-room.ensures.looked in
+      let new = c.put.new.self.ends.items in
+      let did = subst (λ t. MakesTurn plan n a.actor c.look-room.result t c.turn.new.self) c.in-Ok-Put.field-0-is (c.in-Ok-Put.ensures.makes plan n of) in
+      let act = c.in-Ok-Put.act in
+      let link = c.in-Ok-Put.link in
+      let made : ℕ × Act = (c.in-Some.stamp, act) in
+      let x : Stamped = record { at = c.in-Some.stamp; item = c.in-Ok-Put.item } in
+      let t : Turn Act Token = record { at = c.in-Some.stamp; it = Puts act link (stamped x) } in
+      subst (λ b. Uses plan n 1 (worker_state a) b) (sym c.log-in-Ok-Put.ensures) (uses_one plan n (worker_state a)
+      (record { actor = c.turn.new.self; clock = c.in-Some.stamp; keeps = a.keeps; log = a.acts.items ++ kept a.keeps (made ∷ []); outs = new; ins = a.ins.items; words = a.words })
+      t did.1 c.in-Some.ensures refl (subst (λ ls. IsAmong ls link) (looked_out_links a.outs.ends.items mid outs') c.put.ensures.among) refl refl refl refl
+      (looked_sends (t ∷ []) a.outs.ends.items mid new outs' (c.put.ensures.put act))
+      (receives_quiet (t ∷ []) (λ l. refl) a.ins.items a.ins.items (zip_same InLooked in_looked_same a.ins.items)));
+  rests = λ plan n of. tt;
+}
 
 pub returns-in_default-clause-ends : goal.returns-in_default-clause-ends
 returns-in_default-clause-ends c = (refl, refl)

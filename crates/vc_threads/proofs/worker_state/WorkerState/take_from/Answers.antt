@@ -11,47 +11,49 @@ use Rattle.vc_threads.specs.Works.{In, kept}
 use Rattle.vc_threads.specs.Private.Works.{SameLinks, Uses, take_of, worker_state}
 use Rattle.vc_threads.proofs.Zips.{zip_same, zip_step}
 use Rattle.vc_threads.proofs.Looks.{looked_same, in_looked_same, in_looked_then}
-use Rattle.vc_threads.proofs.Late.{full_passed, written_in}
-use Rattle.vc_threads.proofs.Outcomes.{on_err}
+use Rattle.vc_threads.proofs.Late.{passed, written_in}
 use Rattle.vc_threads.proofs.Goings.{among, uses_one, receives_one, sends_quiet}
 use Rattle.vc_threads.proofs.worker_state.WorkerState.take_from.Goals as goal
 
-pub returns-in_err-stamp-clause-stopped : goal.returns-in_err-stamp-clause-stopped
-returns-in_err-stamp-clause-stopped c =
+pub returns-in_err-stamp-clause-stop : goal.returns-in_err-stamp-clause-stop
+returns-in_err-stamp-clause-stop c =
     let a = c.args.self.now in
+    let end = c.take_front.new.end in
     let same = c.in_err-stamp.ensures.err in
-    let looked : InLooked (get_or a.ins.items c.args.k c.index_mut.result.now) c.take_front.new.end =
-    subst (λ v. InLooked v c.take_front.new.end) (same.1 ∙ c.index_mut.ensures.value) (in_looked_same c.take_front.new.end) in
-    on_err _ c.from_residual.result (record {
-      actor = same.0;
-      clock = refl;
-      keeps = refl;
-      log = refl;
-      outs = zip_same OutLooked looked_same a.outs.ends.items;
-      ins = zip_step InLooked in_looked_then a.ins.items a.ins.items c.args.k c.index_mut.result.now c.take_front.new.end (zip_same InLooked in_looked_same a.ins.items) c.requires.within looked;
+    let looked : InLooked (get_or a.ins.items c.args.k c.index_mut.result.now) end = subst (λ v. InLooked v end) (same.1 ∙ c.index_mut.ensures.value) (in_looked_same end) in
+    passed _ c.from_residual.result c.in_err-stamp.field-0.0 c.from_residual.ensures.1 (record {
+      stays = record {
+        actor = same.0;
+        clock = refl;
+        keeps = refl;
+        log = refl;
+        outs = zip_same OutLooked looked_same a.outs.ends.items;
+        ins = zip_step InLooked in_looked_then a.ins.items a.ins.items c.args.k c.index_mut.result.now end (zip_same InLooked in_looked_same a.ins.items) c.requires.within looked;
+      };
+      early = c.in_err-stamp.ensures.why;
+      full = λ is. elim (c.in_err-stamp.ensures.full is) [
+        | inl own ↦ inl own
+        | inr late ↦ inr (end, written_in a.ins.items c.args.k end c.requires.within, late)
+      ];
     })
 
-pub returns-clause-done : goal.returns-clause-done
-returns-clause-done c = λ plan n of.
-    let a = c.args.self.now in
-    let h = c.in_ok-stamp.ensures.ok plan n of in
-    let made : ℕ × Act = (c.in_ok-stamp.stamp, c.in_ok-stamp.act) in
-    let t = take_of made c.index_mut.result.now.0 h.item in
-    subst (λ b. Uses plan n 1 (worker_state a) b) (sym c.log.ensures) (uses_one plan n (worker_state a)
-    (record { actor = c.take_front.new.actor; clock = c.in_ok-stamp.stamp; keeps = a.keeps; log = a.acts.items ++ kept a.keeps (made ∷ []); outs = a.outs.ends.items; ins = set a.ins.items c.args.k c.take_front.new.end; words = c.next_word-word.new.self })
-    t h.step h.stamp tt (among a.ins.items c.args.k c.index_mut.result.now c.requires.within c.index_mut.ensures.value) refl
-    refl refl
-    (subst (λ x. Draws a.words (word_of (Takes x c.index_mut.result.now.0 (stamped h.item)) ++ []) c.next_word-word.new.self) (sym h.act)
-    (ap (λ (p : ℕ × Lcg). p.0) c.next_word-word.ensures, ap (λ (p : ℕ × Lcg). p.1) c.next_word-word.ensures))
-    (sends_quiet (t ∷ []) (λ l. refl) a.outs.ends.items a.outs.ends.items (zip_same OutLooked looked_same a.outs.ends.items))
-    (receives_one a.ins.items c.args.k c.index_mut.result.now c.take_front.new.end c.in_ok-stamp.stamp c.in_ok-stamp.act h.item c.requires.links c.requires.within c.index_mut.ensures.value h.link h.ring h.got))
-
-pub returns-in_err-stamp-clause-full : goal.returns-in_err-stamp-clause-full
-returns-in_err-stamp-clause-full c =
-    full_passed _ c.from_residual.result c.in_err-stamp.field-0.0 c.from_residual.ensures.1 (λ is. elim (c.in_err-stamp.ensures.full is) [
-      | inl own ↦ inl own
-      | inr late ↦ inr (c.take_front.new.end, written_in c.args.self.now.ins.items c.args.k c.take_front.new.end c.requires.within, late)
-    ])
+pub returns-clause-turn : goal.returns-clause-turn
+returns-clause-turn c = record {
+  uses = λ plan n of.
+      let a = c.args.self.now in
+      let h = c.in_ok-stamp.ensures.ok plan n of in
+      let made : ℕ × Act = (c.in_ok-stamp.stamp, c.in_ok-stamp.act) in
+      let t = take_of made c.index_mut.result.now.0 h.item in
+      subst (λ b. Uses plan n 1 (worker_state a) b) (sym c.log.ensures) (uses_one plan n (worker_state a)
+      (record { actor = c.take_front.new.actor; clock = c.in_ok-stamp.stamp; keeps = a.keeps; log = a.acts.items ++ kept a.keeps (made ∷ []); outs = a.outs.ends.items; ins = set a.ins.items c.args.k c.take_front.new.end; words = c.next_word-word.new.self })
+      t h.step h.stamp tt (among a.ins.items c.args.k c.index_mut.result.now c.requires.within c.index_mut.ensures.value) refl
+      refl refl
+      (subst (λ x. Draws a.words (word_of (Takes x c.index_mut.result.now.0 (stamped h.item)) ++ []) c.next_word-word.new.self) (sym h.act)
+      (ap (λ (p : ℕ × Lcg). p.0) c.next_word-word.ensures, ap (λ (p : ℕ × Lcg). p.1) c.next_word-word.ensures))
+      (sends_quiet (t ∷ []) (λ l. refl) a.outs.ends.items a.outs.ends.items (zip_same OutLooked looked_same a.outs.ends.items))
+      (receives_one a.ins.items c.args.k c.index_mut.result.now c.take_front.new.end c.in_ok-stamp.stamp c.in_ok-stamp.act h.item c.requires.links c.requires.within c.index_mut.ensures.value h.link h.ring h.got));
+  rests = λ plan n of. tt;
+}
 
 pub returns-in_err-stamp-clause-ends : goal.returns-in_err-stamp-clause-ends
 returns-in_err-stamp-clause-ends c =

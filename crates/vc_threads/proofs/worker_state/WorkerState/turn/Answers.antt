@@ -1,14 +1,19 @@
-use Rattle.std.proofs.Common.{refl, sym, ◌∙◌, subst, ◌++◌, take, drop, length}
+use Rattle.std.proofs.Common.{◌≡◌, refl, sym, ◌∙◌, subst, ◌++◌, take, drop, length}
 use Rattle.std.specs.List.{HoldsAt}
 use Rattle.vc_threads.specs.Wires.{InLooked, Distinct}
+use Rattle.vc_threads.specs.declared.run.Stop.TheVariants.{Turns, Clock, Memory}
 use Rattle.vc_threads.specs.Private.Works.{Seen, CanTake, worker_state}
-use Rattle.vc_threads.proofs.Goings.{uses_looked, stays_same, stays_looked, looked_in_links}
-use Rattle.vc_threads.proofs.Outcomes.{on_ok_map, on_err_map}
+use Rattle.vc_threads.proofs.Goings.{stays_same, turn_looked, stop_looked, looked_in_links}
+use Rattle.vc_threads.proofs.Outcomes.{if_ok_map, if_err_map}
 use Rattle.vc_threads.proofs.Backs.{same_back, zip_back}
 use Rattle.vc_threads.proofs.worker_state.WorkerState.turn.Goals as goal
 
-pub returns-then-capacity-len-clause-stopped : goal.returns-then-capacity-len-clause-stopped
-returns-then-capacity-len-clause-stopped c = stays_same (worker_state c.args.self.now)
+pub returns-then-capacity-len-clause-stop : goal.returns-then-capacity-len-clause-stop
+returns-then-capacity-len-clause-stop c = record {
+  stays = stays_same (worker_state c.args.self.now);
+  early = λ same. absurd (let e : Memory ≡ Turns = same in cc);
+  full = λ same. absurd (let e : Memory ≡ Clock = same in cc);
+}
 
 pub take_from-requires-clause-links : goal.take_from-requires-clause-links
 take_from-requires-clause-links c =
@@ -16,37 +21,37 @@ take_from-requires-clause-links c =
     let z = zip_back InLooked ins.len ins.items c.as_mut_slice.result.now c.find_in.new.ins ins.ok.0 c.as_mut_slice.ensures.value c.find_in.ensures.looked in
     subst Distinct (sym (looked_in_links ins.items (take ins.len (c.find_in.new.ins ++ drop (length c.find_in.new.ins) ins.items)) z)) c.requires.ins
 
-pub returns-in-Some-clause-done : goal.returns-in-Some-clause-done
-returns-in-Some-clause-done c = λ plan n of.
+pub returns-in-Some-clause-turn : goal.returns-in-Some-clause-turn
+returns-in-Some-clause-turn c =
     let a = c.args.self.now in
     let ins = a.ins in
     let z = zip_back InLooked ins.len ins.items c.as_mut_slice.result.now c.find_in.new.ins ins.ok.0 c.as_mut_slice.ensures.value c.find_in.ensures.looked in
     let mid : Seen = record (worker_state a) { ins = take ins.len (c.find_in.new.ins ++ drop (length c.find_in.new.ins) ins.items) } in
-    on_ok_map _ _ c.take_from.result (uses_looked plan n 1 mid (worker_state c.take_from.new.self) ins.items z) (c.take_from.ensures.done plan n of)
+    if_ok_map _ _ c.take_from.result (λ rested. turn_looked mid (worker_state c.take_from.new.self) ins.items rested z) c.take_from.ensures.turn
 
-pub returns-in-Some-clause-stopped : goal.returns-in-Some-clause-stopped
-returns-in-Some-clause-stopped c =
+pub returns-in-Some-clause-stop : goal.returns-in-Some-clause-stop
+returns-in-Some-clause-stop c =
     let a = c.args.self.now in
     let ins = a.ins in
     let z = zip_back InLooked ins.len ins.items c.as_mut_slice.result.now c.find_in.new.ins ins.ok.0 c.as_mut_slice.ensures.value c.find_in.ensures.looked in
     let mid : Seen = record (worker_state a) { ins = take ins.len (c.find_in.new.ins ++ drop (length c.find_in.new.ins) ins.items) } in
-    on_err_map _ _ c.take_from.result (stays_looked mid (worker_state c.take_from.new.self) ins.items z) c.take_from.ensures.stopped
+    if_err_map _ _ c.take_from.result (λ why. stop_looked mid (worker_state c.take_from.new.self) ins.items why z) c.take_from.ensures.stop
 
-pub returns-in-None-clause-done : goal.returns-in-None-clause-done
-returns-in-None-clause-done c = λ plan n of.
+pub returns-in-None-clause-turn : goal.returns-in-None-clause-turn
+returns-in-None-clause-turn c =
     let a = c.args.self.now in
     let ins = a.ins in
     let z = zip_back InLooked ins.len ins.items c.as_mut_slice.result.now c.find_in.new.ins ins.ok.0 c.as_mut_slice.ensures.value c.find_in.ensures.looked in
     let mid : Seen = record (worker_state a) { ins = take ins.len (c.find_in.new.ins ++ drop (length c.find_in.new.ins) ins.items) } in
-    on_ok_map _ _ c.make_turn.result (uses_looked plan n 1 mid (worker_state c.make_turn.new.self) ins.items z) (c.make_turn.ensures.done plan n of)
+    if_ok_map _ _ c.make_turn.result (λ rested. turn_looked mid (worker_state c.make_turn.new.self) ins.items rested z) c.make_turn.ensures.turn
 
-pub returns-in-None-clause-stopped : goal.returns-in-None-clause-stopped
-returns-in-None-clause-stopped c =
+pub returns-in-None-clause-stop : goal.returns-in-None-clause-stop
+returns-in-None-clause-stop c =
     let a = c.args.self.now in
     let ins = a.ins in
     let z = zip_back InLooked ins.len ins.items c.as_mut_slice.result.now c.find_in.new.ins ins.ok.0 c.as_mut_slice.ensures.value c.find_in.ensures.looked in
     let mid : Seen = record (worker_state a) { ins = take ins.len (c.find_in.new.ins ++ drop (length c.find_in.new.ins) ins.items) } in
-    on_err_map _ _ c.make_turn.result (stays_looked mid (worker_state c.make_turn.new.self) ins.items z) c.make_turn.ensures.stopped
+    if_err_map _ _ c.make_turn.result (λ why. stop_looked mid (worker_state c.make_turn.new.self) ins.items why z) c.make_turn.ensures.stop
 
 pub take_from-requires-clause-can : goal.take_from-requires-clause-can
 take_from-requires-clause-can c =
