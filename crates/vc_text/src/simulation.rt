@@ -43,6 +43,7 @@ impl Simulation {
     }
 
     /// An actor makes the event, but a take, that it makes next, if it has one. The answer is whether it had one.
+    #[inline(always)]
     fn turn<K: EventSink>(&mut self, events: &mut K, actor: u8) -> Result<bool, Memory>
         requires actor { actor < 64 }
         requires few { self.old.made < 2 ^ 64 - 1 }
@@ -66,6 +67,7 @@ impl Simulation {
 
     /// An actor makes the event that it makes next, if it has one: a take from the least link that has a token, else what it does
     /// where every way has room. The answer is whether it had one.
+    #[inline(always)]
     pub(crate) fn act<K: EventSink>(&mut self, events: &mut K, actor: u8) -> Result<bool, Memory>
         requires actor { actor < 64 }
         requires few { self.old.made < 2 ^ 64 - 1 }
@@ -93,6 +95,7 @@ impl Simulation {
     }
 
     /// One round over the actors: each makes at most one event, up to so many events in all. The answer is whether an event was made.
+    #[inline(always)]
     pub(crate) fn round<K: EventSink>(&mut self, events: &mut K, limit: u64) -> Result<bool, Memory>
         requires { self.old.made ≤ limit }
         ensures few { OnOk result (self.new.made ≤ limit) }
@@ -124,11 +127,8 @@ impl Simulation {
         ensures runs { OnOk result (LeadsOn K.holds self.old events.old self.new events.new) }
         ensures ends { OnOk result (RunsOut K.holds limit self.old events.old self.new) }
     {
-        for _ in 0..limit {
+        while self.made < limit {
             if !self.round(events, limit)? {
-                return Ok(());
-            }
-            if self.made >= limit {
                 return Ok(());
             }
         }
