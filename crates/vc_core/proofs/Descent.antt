@@ -1,5 +1,5 @@
 -- Where ports have ranks, only so many events can follow without a move of a process.
-use Rattle.std.proofs.Common.{List, [], ◌∷◌, length, map, arith}
+use Rattle.std.proofs.Common.{List, [], ◌∷◌, map, arith}
 use Rattle.std.proofs.lemmas.List.{length-map}
 use Rattle.std.specs.List.{AllByRecursion}
 use Rattle.vc_accepted.specs.NetworkOf.{network_of}

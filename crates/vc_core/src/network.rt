@@ -26,7 +26,7 @@ ghost use Rattle.vc_actor.specs.OfPlan.{IsActorOf};
 ghost use Rattle.vc_actor.specs.Shown.{Acting, actor_of};
 ghost use Rattle.vc_actor.specs.Turns.{actors};
 ghost use Rattle.vc_core.specs.Turns.{FindsFront, FindsTake, FindsEvent, FindsEventOf, AllHaveEnded};
-ghost use Rattle.vc_core.specs.Private.Turns.{IsRoom};
+ghost use Rattle.vc_core.specs.Private.Turns.{IsNodeAt, IsRoom, IsSwitchAt};
 ghost use Rattle.vc_core.specs.declared.event.Event.{Event as Happening};
 ghost use Rattle.vc_core.specs.State.{shown, state_of, IsNetworkOf, MayHappen, WaysLet, HasFront, HasWay, MakesEvent, MakesOne, MayActAt};
 ghost use Rattle.vc_core.specs.Private.State.{Accepts, GrantsBy};
@@ -490,10 +490,29 @@ impl Network {
             return Ok(None);
         }
         let room = self.lines.room(actor);
-        if let Some(event) = self.turn_of(actor, ActKind::Pass, room)? {
-            return Ok(Some(event));
+        if self.actors[place].node().is_some() {
+            self.node_turn(actor, room)
+        } else {
+            self.switch_turn(actor, room)
         }
-        if let Some(event) = self.turn_of(actor, ActKind::Route, room)? {
+    }
+
+    // A node makes its next event but a take where every way has room: it binds no packet. `room` has a bit for each of its links by
+    // which a way goes out.
+    #[inline(always)]
+    fn node_turn(&mut self, actor: u8, room: u32) -> Result<Option<Event>, Memory>
+        requires here { actor < length (state_of self.old).actors }
+        requires room { IsRoom (state_of self.old) actor room }
+        requires node { IsNodeAt (state_of self.old) actor }
+        ensures finds { (p : Plan) →
+            IsNetworkOf p (state_of self.old) →
+            IfOk result (FindsEvent p (state_of self.old) actor) }
+        ensures makes { (p : Plan) →
+            IsNetworkOf p (state_of self.old) →
+            IfOk result (λ made. MakesOne p (state_of self.old) made (state_of self.new)) }
+        ensures refused { OnErr result (state_of self.new ≡ state_of self.old) }
+    {
+        if let Some(event) = self.turn_of(actor, ActKind::Pass, room)? {
             return Ok(Some(event));
         }
         if let Some(event) = self.turn_of(actor, ActKind::Put, room)? {
@@ -506,6 +525,33 @@ impl Network {
             return Ok(Some(event));
         }
         self.turn_of(actor, ActKind::Proc, room)
+    }
+
+    // A switch makes its next event but a take where every way has room: it has no process. `room` has a bit for each of its links by
+    // which a way goes out.
+    #[inline(always)]
+    fn switch_turn(&mut self, actor: u8, room: u32) -> Result<Option<Event>, Memory>
+        requires here { actor < length (state_of self.old).actors }
+        requires room { IsRoom (state_of self.old) actor room }
+        requires switch { IsSwitchAt (state_of self.old) actor }
+        ensures finds { (p : Plan) →
+            IsNetworkOf p (state_of self.old) →
+            IfOk result (FindsEvent p (state_of self.old) actor) }
+        ensures makes { (p : Plan) →
+            IsNetworkOf p (state_of self.old) →
+            IfOk result (λ made. MakesOne p (state_of self.old) made (state_of self.new)) }
+        ensures refused { OnErr result (state_of self.new ≡ state_of self.old) }
+    {
+        if let Some(event) = self.turn_of(actor, ActKind::Pass, room)? {
+            return Ok(Some(event));
+        }
+        if let Some(event) = self.turn_of(actor, ActKind::Route, room)? {
+            return Ok(Some(event));
+        }
+        if let Some(event) = self.turn_of(actor, ActKind::Put, room)? {
+            return Ok(Some(event));
+        }
+        self.turn_of(actor, ActKind::Fct, room)
     }
 
     // An actor makes an event of this kind where every way has room; nothing where it has none. `room` has a bit for each of its

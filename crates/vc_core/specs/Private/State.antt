@@ -2,7 +2,6 @@
 use Rattle.std.specs.Prelude.{◌≡◌, ℕ, List, Some, slice_get, slice_set}
 use Rattle.vc_network.specs.Plan.{ways}
 use Rattle.vc_network.specs.Plan as network
-use Rattle.vc_plan.specs.declared.plan.Plan.{Plan}
 use Rattle.vc_tokens.specs.Tokens.{Token}
 use Rattle.vc_actor.specs.Acting.{MakesTake, MakesGrant}
 use Rattle.vc_actor.specs.OfPlan.{IsActorOf}

@@ -1,17 +1,8 @@
-use Rattle.std.proofs.Common.{◌≡◌, ◌<◌, ◌≤◌, ℕ, List, length, Some, IfSome, sym, ◌∙◌, subst}
-use Rattle.std.proofs.lemmas.Option.{slice_get_past}
-use Rattle.vc_core.specs.State.{state_of, IsNetworkOf, MakesOne}
-use Rattle.vc_core.specs.Turns.{FindsEvent, FindsEventOf}
-use Rattle.vc_core.specs.Private.Turns.{IsRoom}
-use Rattle.vc_actor.specs.Shown.{Acting}
-use Rattle.vc_actor.specs.declared.act.ActKind.TheVariants as kind
-use Rattle.vc_core.proofs.Happening.{on_err}
-use Rattle.vc_actor.proofs.Turning.{if_ok}
-use Rattle.vc_core.proofs.Turning.{event_of, events_of_all, no_actor, sure_err}
+use Rattle.std.proofs.Common.{◌≡◌, ◌<◌, ◌≤◌, length, slice_get, Some, refl, ap, ◌∙◌, subst}
+use Rattle.std.proofs.lemmas.Option.{slice_get_past, slice_get_read}
+use Rattle.vc_core.specs.State.{state_of}
+use Rattle.vc_core.proofs.Turning.{no_actor, told_node, told_switch}
 use Rattle.vc_core.proofs.network.Network.whole_turn.Goals as goal
-
-turn_of-here : (k : ℕ) (xs : List Acting) (place count : ℕ) → place ≡ k → count ≡ length xs → place < count → k < length xs
-turn_of-here k xs place count same all less = subst (λ z. z < length xs) same (subst (λ z. place < z) all less)
 
 pub returns-then-place-len-clause-finds : goal.returns-then-place-len-clause-finds
 returns-then-place-len-clause-finds c = λ p is.
@@ -19,189 +10,20 @@ returns-then-place-len-clause-finds c = λ p is.
     let past = subst (λ z. length xs ≤ z) c.from-place.ensures (subst (λ z. z ≤ c.from-place.result) (c.len.ensures ∙ c.args.self.now.actors.ok.0) c.if-place-len.true) in
     no_actor p (state_of c.args.self.now) c.args.actor is (slice_get_past xs c.args.actor past)
 
-pub turn_of-requires-clause-here : goal.turn_of-requires-clause-here
-turn_of-requires-clause-here c = subst (λ z. z < length c.args.self.now.actors.items) c.from-place.ensures (subst (λ z. c.from-place.result < z) (c.len.ensures ∙ c.args.self.now.actors.ok.0) c.if-place-len.false)
+pub node_turn-requires-clause-node : goal.node_turn-requires-clause-node
+node_turn-requires-clause-node c =
+    let xs = c.args.self.now.actors.items in
+    let a = c.index.result.now in
+    let less : c.from-place.result < length xs = subst (λ z. c.from-place.result < z) (c.len.ensures ∙ c.args.self.now.actors.ok.0) c.if-place-len.false in
+    let here = subst (λ z. slice_get xs z ≡ Some a) c.from-place.ensures (slice_get_read xs (length xs) c.from-place.result a refl less c.index.ensures) in
+    let node = told_node a c.node.result c.is_some.result c.is_some.ensures c.if-is_some.true c.node.ensures in
+    (node.0, here ∙ ap Some node.1)
 
-pub turn_of-requires-2-clause-here : goal.turn_of-requires-2-clause-here
-turn_of-requires-2-clause-here c =
-    let same1 : state_of c.turn_of.new.self ≡ state_of c.args.self.now = c.in_ok-event.ensures.none c.in_default.is in
-    subst (λ z. c.args.actor < length z.actors) (sym same1) (turn_of-here c.args.actor c.args.self.now.actors.items c.from-place.result c.len.result c.from-place.ensures (c.len.ensures ∙ c.args.self.now.actors.ok.0) c.if-place-len.false)
-
-pub turn_of-requires-2-clause-room : goal.turn_of-requires-2-clause-room
-turn_of-requires-2-clause-room c =
-    let same1 : state_of c.turn_of.new.self ≡ state_of c.args.self.now = c.in_ok-event.ensures.none c.in_default.is in
-    subst (λ z. IsRoom z c.args.actor c.room-room.result) (sym same1) c.room-room.ensures
-
-pub turn_of-requires-3-clause-here : goal.turn_of-requires-3-clause-here
-turn_of-requires-3-clause-here c =
-    let same1 : state_of c.turn_of.new.self ≡ state_of c.args.self.now = c.in_ok-event.ensures.none c.in_default.is in
-    let same2 : state_of c.turn_of-2.new.self ≡ state_of c.args.self.now = c.in_ok-event-2.ensures.none c.in_default-2.is ∙ same1 in
-    subst (λ z. c.args.actor < length z.actors) (sym same2) (turn_of-here c.args.actor c.args.self.now.actors.items c.from-place.result c.len.result c.from-place.ensures (c.len.ensures ∙ c.args.self.now.actors.ok.0) c.if-place-len.false)
-
-pub turn_of-requires-3-clause-room : goal.turn_of-requires-3-clause-room
-turn_of-requires-3-clause-room c =
-    let same1 : state_of c.turn_of.new.self ≡ state_of c.args.self.now = c.in_ok-event.ensures.none c.in_default.is in
-    let same2 : state_of c.turn_of-2.new.self ≡ state_of c.args.self.now = c.in_ok-event-2.ensures.none c.in_default-2.is ∙ same1 in
-    subst (λ z. IsRoom z c.args.actor c.room-room.result) (sym same2) c.room-room.ensures
-
-pub turn_of-requires-4-clause-here : goal.turn_of-requires-4-clause-here
-turn_of-requires-4-clause-here c =
-    let same1 : state_of c.turn_of.new.self ≡ state_of c.args.self.now = c.in_ok-event.ensures.none c.in_default.is in
-    let same2 : state_of c.turn_of-2.new.self ≡ state_of c.args.self.now = c.in_ok-event-2.ensures.none c.in_default-2.is ∙ same1 in
-    let same3 : state_of c.turn_of-3.new.self ≡ state_of c.args.self.now = c.in_ok-event-3.ensures.none c.in_default-3.is ∙ same2 in
-    subst (λ z. c.args.actor < length z.actors) (sym same3) (turn_of-here c.args.actor c.args.self.now.actors.items c.from-place.result c.len.result c.from-place.ensures (c.len.ensures ∙ c.args.self.now.actors.ok.0) c.if-place-len.false)
-
-pub turn_of-requires-4-clause-room : goal.turn_of-requires-4-clause-room
-turn_of-requires-4-clause-room c =
-    let same1 : state_of c.turn_of.new.self ≡ state_of c.args.self.now = c.in_ok-event.ensures.none c.in_default.is in
-    let same2 : state_of c.turn_of-2.new.self ≡ state_of c.args.self.now = c.in_ok-event-2.ensures.none c.in_default-2.is ∙ same1 in
-    let same3 : state_of c.turn_of-3.new.self ≡ state_of c.args.self.now = c.in_ok-event-3.ensures.none c.in_default-3.is ∙ same2 in
-    subst (λ z. IsRoom z c.args.actor c.room-room.result) (sym same3) c.room-room.ensures
-
-pub turn_of-requires-5-clause-here : goal.turn_of-requires-5-clause-here
-turn_of-requires-5-clause-here c =
-    let same1 : state_of c.turn_of.new.self ≡ state_of c.args.self.now = c.in_ok-event.ensures.none c.in_default.is in
-    let same2 : state_of c.turn_of-2.new.self ≡ state_of c.args.self.now = c.in_ok-event-2.ensures.none c.in_default-2.is ∙ same1 in
-    let same3 : state_of c.turn_of-3.new.self ≡ state_of c.args.self.now = c.in_ok-event-3.ensures.none c.in_default-3.is ∙ same2 in
-    let same4 : state_of c.turn_of-4.new.self ≡ state_of c.args.self.now = c.in_ok-event-4.ensures.none c.in_default-4.is ∙ same3 in
-    let same5 : state_of c.only_turn.new.self ≡ state_of c.args.self.now = c.in_ok-event-5.ensures.none c.in_default-5.is ∙ same4 in
-    subst (λ z. c.args.actor < length z.actors) (sym same5) (turn_of-here c.args.actor c.args.self.now.actors.items c.from-place.result c.len.result c.from-place.ensures (c.len.ensures ∙ c.args.self.now.actors.ok.0) c.if-place-len.false)
-
-pub turn_of-requires-5-clause-room : goal.turn_of-requires-5-clause-room
-turn_of-requires-5-clause-room c =
-    let same1 : state_of c.turn_of.new.self ≡ state_of c.args.self.now = c.in_ok-event.ensures.none c.in_default.is in
-    let same2 : state_of c.turn_of-2.new.self ≡ state_of c.args.self.now = c.in_ok-event-2.ensures.none c.in_default-2.is ∙ same1 in
-    let same3 : state_of c.turn_of-3.new.self ≡ state_of c.args.self.now = c.in_ok-event-3.ensures.none c.in_default-3.is ∙ same2 in
-    let same4 : state_of c.turn_of-4.new.self ≡ state_of c.args.self.now = c.in_ok-event-4.ensures.none c.in_default-4.is ∙ same3 in
-    let same5 : state_of c.only_turn.new.self ≡ state_of c.args.self.now = c.in_ok-event-5.ensures.none c.in_default-5.is ∙ same4 in
-    subst (λ z. IsRoom z c.args.actor c.room-room.result) (sym same5) c.room-room.ensures
-
-pub only_turn-requires : goal.only_turn-requires
-only_turn-requires c =
-    let same1 : state_of c.turn_of.new.self ≡ state_of c.args.self.now = c.in_ok-event.ensures.none c.in_default.is in
-    let same2 : state_of c.turn_of-2.new.self ≡ state_of c.args.self.now = c.in_ok-event-2.ensures.none c.in_default-2.is ∙ same1 in
-    let same3 : state_of c.turn_of-3.new.self ≡ state_of c.args.self.now = c.in_ok-event-3.ensures.none c.in_default-3.is ∙ same2 in
-    let same4 : state_of c.turn_of-4.new.self ≡ state_of c.args.self.now = c.in_ok-event-4.ensures.none c.in_default-4.is ∙ same3 in
-    subst (λ z. c.args.actor < length z.actors) (sym same4) (turn_of-here c.args.actor c.args.self.now.actors.items c.from-place.result c.len.result c.from-place.ensures (c.len.ensures ∙ c.args.self.now.actors.ok.0) c.if-place-len.false)
-
-pub returns-in_err-event-5-clause-refused : goal.returns-in_err-event-5-clause-refused
-returns-in_err-event-5-clause-refused c =
-    let same1 : state_of c.turn_of.new.self ≡ state_of c.args.self.now = c.in_ok-event.ensures.none c.in_default.is in
-    let same2 : state_of c.turn_of-2.new.self ≡ state_of c.args.self.now = c.in_ok-event-2.ensures.none c.in_default-2.is ∙ same1 in
-    let same3 : state_of c.turn_of-3.new.self ≡ state_of c.args.self.now = c.in_ok-event-3.ensures.none c.in_default-3.is ∙ same2 in
-    let same4 : state_of c.turn_of-4.new.self ≡ state_of c.args.self.now = c.in_ok-event-4.ensures.none c.in_default-4.is ∙ same3 in
-    sure_err c.from_residual-in_err-event-5.result (c.in_err-event-5.ensures.refused ∙ same4)
-
-pub returns-in-Some-5-clause-finds : goal.returns-in-Some-5-clause-finds
-returns-in-Some-5-clause-finds c = λ p is.
-    let s = state_of c.args.self.now in
-    let k = c.args.actor in
-    let same1 : state_of c.turn_of.new.self ≡ state_of c.args.self.now = c.in_ok-event.ensures.none c.in_default.is in
-    let same2 : state_of c.turn_of-2.new.self ≡ state_of c.args.self.now = c.in_ok-event-2.ensures.none c.in_default-2.is ∙ same1 in
-    let same3 : state_of c.turn_of-3.new.self ≡ state_of c.args.self.now = c.in_ok-event-3.ensures.none c.in_default-3.is ∙ same2 in
-    let same4 : state_of c.turn_of-4.new.self ≡ state_of c.args.self.now = c.in_ok-event-4.ensures.none c.in_default-4.is ∙ same3 in
-    let found = subst (λ o. IfSome o (λ e. FindsEvent p (state_of c.turn_of-4.new.self) k (Some e))) c.in-Some-5.is (c.in_ok-event-5.ensures.finds p (subst (IsNetworkOf p) (sym same4) is)) in
-    subst (λ z. FindsEvent p z k (Some c.in-Some-5.event)) same4 found
-
-pub returns-in-Some-5-clause-makes : goal.returns-in-Some-5-clause-makes
-returns-in-Some-5-clause-makes c = λ p is.
-    let same1 : state_of c.turn_of.new.self ≡ state_of c.args.self.now = c.in_ok-event.ensures.none c.in_default.is in
-    let same2 : state_of c.turn_of-2.new.self ≡ state_of c.args.self.now = c.in_ok-event-2.ensures.none c.in_default-2.is ∙ same1 in
-    let same3 : state_of c.turn_of-3.new.self ≡ state_of c.args.self.now = c.in_ok-event-3.ensures.none c.in_default-3.is ∙ same2 in
-    let same4 : state_of c.turn_of-4.new.self ≡ state_of c.args.self.now = c.in_ok-event-4.ensures.none c.in_default-4.is ∙ same3 in
-    let t = state_of c.only_turn.new.self in
-    subst (λ o. MakesOne p (state_of c.args.self.now) o t) c.in-Some-5.is (subst (λ z. MakesOne p z c.in_ok-event-5.field-0 t) same4 (c.in_ok-event-5.ensures.makes p (subst (IsNetworkOf p) (sym same4) is)))
-
-pub returns-in_err-event-2-clause-refused : goal.returns-in_err-event-2-clause-refused
-returns-in_err-event-2-clause-refused c =
-    let same1 : state_of c.turn_of.new.self ≡ state_of c.args.self.now = c.in_ok-event.ensures.none c.in_default.is in
-    sure_err c.from_residual-in_err-event-2.result (c.in_err-event-2.ensures.refused ∙ same1)
-
-pub returns-in_err-event-3-clause-refused : goal.returns-in_err-event-3-clause-refused
-returns-in_err-event-3-clause-refused c =
-    let same1 : state_of c.turn_of.new.self ≡ state_of c.args.self.now = c.in_ok-event.ensures.none c.in_default.is in
-    let same2 : state_of c.turn_of-2.new.self ≡ state_of c.args.self.now = c.in_ok-event-2.ensures.none c.in_default-2.is ∙ same1 in
-    sure_err c.from_residual-in_err-event-3.result (c.in_err-event-3.ensures.refused ∙ same2)
-
-pub returns-in_err-event-4-clause-refused : goal.returns-in_err-event-4-clause-refused
-returns-in_err-event-4-clause-refused c =
-    let same1 : state_of c.turn_of.new.self ≡ state_of c.args.self.now = c.in_ok-event.ensures.none c.in_default.is in
-    let same2 : state_of c.turn_of-2.new.self ≡ state_of c.args.self.now = c.in_ok-event-2.ensures.none c.in_default-2.is ∙ same1 in
-    let same3 : state_of c.turn_of-3.new.self ≡ state_of c.args.self.now = c.in_ok-event-3.ensures.none c.in_default-3.is ∙ same2 in
-    sure_err c.from_residual-in_err-event-4.result (c.in_err-event-4.ensures.refused ∙ same3)
-
-pub returns-in-Some-clause-finds : goal.returns-in-Some-clause-finds
-returns-in-Some-clause-finds c = λ p is.
-    event_of kind.Pass p (state_of c.args.self.now) c.args.actor c.in-Some.event (subst (FindsEventOf kind.Pass p (state_of c.args.self.now) c.args.actor) c.in-Some.is (c.in_ok-event.ensures.finds p is))
-
-pub returns-in-Some-2-clause-finds : goal.returns-in-Some-2-clause-finds
-returns-in-Some-2-clause-finds c = λ p is.
-    let same1 : state_of c.turn_of.new.self ≡ state_of c.args.self.now = c.in_ok-event.ensures.none c.in_default.is in
-    event_of kind.Route p (state_of c.args.self.now) c.args.actor c.in-Some-2.event (subst (FindsEventOf kind.Route p (state_of c.args.self.now) c.args.actor) c.in-Some-2.is (subst (λ z. FindsEventOf kind.Route p z c.args.actor c.in_ok-event-2.field-0) same1 (c.in_ok-event-2.ensures.finds p (subst (IsNetworkOf p) (sym same1) is))))
-
-pub returns-in-Some-2-clause-makes : goal.returns-in-Some-2-clause-makes
-returns-in-Some-2-clause-makes c = λ p is.
-    let same1 : state_of c.turn_of.new.self ≡ state_of c.args.self.now = c.in_ok-event.ensures.none c.in_default.is in
-    let t = state_of c.turn_of-2.new.self in
-    subst (λ o. MakesOne p (state_of c.args.self.now) o t) c.in-Some-2.is (subst (λ z. MakesOne p z c.in_ok-event-2.field-0 t) same1 (c.in_ok-event-2.ensures.makes p (subst (IsNetworkOf p) (sym same1) is)))
-
-pub returns-in-Some-3-clause-finds : goal.returns-in-Some-3-clause-finds
-returns-in-Some-3-clause-finds c = λ p is.
-    let same1 : state_of c.turn_of.new.self ≡ state_of c.args.self.now = c.in_ok-event.ensures.none c.in_default.is in
-    let same2 : state_of c.turn_of-2.new.self ≡ state_of c.args.self.now = c.in_ok-event-2.ensures.none c.in_default-2.is ∙ same1 in
-    event_of kind.Put p (state_of c.args.self.now) c.args.actor c.in-Some-3.event (subst (FindsEventOf kind.Put p (state_of c.args.self.now) c.args.actor) c.in-Some-3.is (subst (λ z. FindsEventOf kind.Put p z c.args.actor c.in_ok-event-3.field-0) same2 (c.in_ok-event-3.ensures.finds p (subst (IsNetworkOf p) (sym same2) is))))
-
-pub returns-in-Some-3-clause-makes : goal.returns-in-Some-3-clause-makes
-returns-in-Some-3-clause-makes c = λ p is.
-    let same1 : state_of c.turn_of.new.self ≡ state_of c.args.self.now = c.in_ok-event.ensures.none c.in_default.is in
-    let same2 : state_of c.turn_of-2.new.self ≡ state_of c.args.self.now = c.in_ok-event-2.ensures.none c.in_default-2.is ∙ same1 in
-    let t = state_of c.turn_of-3.new.self in
-    subst (λ o. MakesOne p (state_of c.args.self.now) o t) c.in-Some-3.is (subst (λ z. MakesOne p z c.in_ok-event-3.field-0 t) same2 (c.in_ok-event-3.ensures.makes p (subst (IsNetworkOf p) (sym same2) is)))
-
-pub returns-in-Some-4-clause-finds : goal.returns-in-Some-4-clause-finds
-returns-in-Some-4-clause-finds c = λ p is.
-    let same1 : state_of c.turn_of.new.self ≡ state_of c.args.self.now = c.in_ok-event.ensures.none c.in_default.is in
-    let same2 : state_of c.turn_of-2.new.self ≡ state_of c.args.self.now = c.in_ok-event-2.ensures.none c.in_default-2.is ∙ same1 in
-    let same3 : state_of c.turn_of-3.new.self ≡ state_of c.args.self.now = c.in_ok-event-3.ensures.none c.in_default-3.is ∙ same2 in
-    event_of kind.Fct p (state_of c.args.self.now) c.args.actor c.in-Some-4.event (subst (FindsEventOf kind.Fct p (state_of c.args.self.now) c.args.actor) c.in-Some-4.is (subst (λ z. FindsEventOf kind.Fct p z c.args.actor c.in_ok-event-4.field-0) same3 (c.in_ok-event-4.ensures.finds p (subst (IsNetworkOf p) (sym same3) is))))
-
-pub returns-in-Some-4-clause-makes : goal.returns-in-Some-4-clause-makes
-returns-in-Some-4-clause-makes c = λ p is.
-    let same1 : state_of c.turn_of.new.self ≡ state_of c.args.self.now = c.in_ok-event.ensures.none c.in_default.is in
-    let same2 : state_of c.turn_of-2.new.self ≡ state_of c.args.self.now = c.in_ok-event-2.ensures.none c.in_default-2.is ∙ same1 in
-    let same3 : state_of c.turn_of-3.new.self ≡ state_of c.args.self.now = c.in_ok-event-3.ensures.none c.in_default-3.is ∙ same2 in
-    let t = state_of c.turn_of-4.new.self in
-    subst (λ o. MakesOne p (state_of c.args.self.now) o t) c.in-Some-4.is (subst (λ z. MakesOne p z c.in_ok-event-4.field-0 t) same3 (c.in_ok-event-4.ensures.makes p (subst (IsNetworkOf p) (sym same3) is)))
-
-pub returns-clause-refused : goal.returns-clause-refused
-returns-clause-refused c =
-    let same1 : state_of c.turn_of.new.self ≡ state_of c.args.self.now = c.in_ok-event.ensures.none c.in_default.is in
-    let same2 : state_of c.turn_of-2.new.self ≡ state_of c.args.self.now = c.in_ok-event-2.ensures.none c.in_default-2.is ∙ same1 in
-    let same3 : state_of c.turn_of-3.new.self ≡ state_of c.args.self.now = c.in_ok-event-3.ensures.none c.in_default-3.is ∙ same2 in
-    let same4 : state_of c.turn_of-4.new.self ≡ state_of c.args.self.now = c.in_ok-event-4.ensures.none c.in_default-4.is ∙ same3 in
-    let same5 : state_of c.only_turn.new.self ≡ state_of c.args.self.now = c.in_ok-event-5.ensures.none c.in_default-5.is ∙ same4 in
-    on_err c.turn_of-5.result (λ same. same ∙ same5) c.turn_of-5.ensures.refused
-
-pub returns-clause-makes : goal.returns-clause-makes
-returns-clause-makes c = λ p is.
-    let same1 : state_of c.turn_of.new.self ≡ state_of c.args.self.now = c.in_ok-event.ensures.none c.in_default.is in
-    let same2 : state_of c.turn_of-2.new.self ≡ state_of c.args.self.now = c.in_ok-event-2.ensures.none c.in_default-2.is ∙ same1 in
-    let same3 : state_of c.turn_of-3.new.self ≡ state_of c.args.self.now = c.in_ok-event-3.ensures.none c.in_default-3.is ∙ same2 in
-    let same4 : state_of c.turn_of-4.new.self ≡ state_of c.args.self.now = c.in_ok-event-4.ensures.none c.in_default-4.is ∙ same3 in
-    let same5 : state_of c.only_turn.new.self ≡ state_of c.args.self.now = c.in_ok-event-5.ensures.none c.in_default-5.is ∙ same4 in
-    if_ok _ _ c.turn_of-5.result (λ o made. subst (λ z. MakesOne p z o (state_of c.turn_of-5.new.self)) same5 made) (c.turn_of-5.ensures.makes p (subst (IsNetworkOf p) (sym same5) is))
-
-pub returns-clause-finds : goal.returns-clause-finds
-returns-clause-finds c = λ p is.
-    let s = state_of c.args.self.now in
-    let k = c.args.actor in
-    let same1 : state_of c.turn_of.new.self ≡ state_of c.args.self.now = c.in_ok-event.ensures.none c.in_default.is in
-    let same2 : state_of c.turn_of-2.new.self ≡ state_of c.args.self.now = c.in_ok-event-2.ensures.none c.in_default-2.is ∙ same1 in
-    let same3 : state_of c.turn_of-3.new.self ≡ state_of c.args.self.now = c.in_ok-event-3.ensures.none c.in_default-3.is ∙ same2 in
-    let same4 : state_of c.turn_of-4.new.self ≡ state_of c.args.self.now = c.in_ok-event-4.ensures.none c.in_default-4.is ∙ same3 in
-    let same5 : state_of c.only_turn.new.self ≡ state_of c.args.self.now = c.in_ok-event-5.ensures.none c.in_default-5.is ∙ same4 in
-    let one = subst (FindsEventOf kind.Pass p s k) c.in_default.is (c.in_ok-event.ensures.finds p is) in
-    let two = subst (FindsEventOf kind.Route p s k) c.in_default-2.is (subst (λ z. FindsEventOf kind.Route p z k c.in_ok-event-2.field-0) same1 (c.in_ok-event-2.ensures.finds p (subst (IsNetworkOf p) (sym same1) is))) in
-    let three = subst (FindsEventOf kind.Put p s k) c.in_default-3.is (subst (λ z. FindsEventOf kind.Put p z k c.in_ok-event-3.field-0) same2 (c.in_ok-event-3.ensures.finds p (subst (IsNetworkOf p) (sym same2) is))) in
-    let four = subst (FindsEventOf kind.Fct p s k) c.in_default-4.is (subst (λ z. FindsEventOf kind.Fct p z k c.in_ok-event-4.field-0) same3 (c.in_ok-event-4.ensures.finds p (subst (IsNetworkOf p) (sym same3) is))) in
-    if_ok _ _ c.turn_of-5.result (λ o found. events_of_all p s k o one two three four (subst (λ z. FindsEventOf kind.Proc p z k o) same5 found)) (c.turn_of-5.ensures.finds p (subst (IsNetworkOf p) (sym same5) is))
+pub switch_turn-requires-clause-switch : goal.switch_turn-requires-clause-switch
+switch_turn-requires-clause-switch c =
+    let xs = c.args.self.now.actors.items in
+    let a = c.index.result.now in
+    let less : c.from-place.result < length xs = subst (λ z. c.from-place.result < z) (c.len.ensures ∙ c.args.self.now.actors.ok.0) c.if-place-len.false in
+    let here = subst (λ z. slice_get xs z ≡ Some a) c.from-place.ensures (slice_get_read xs (length xs) c.from-place.result a refl less c.index.ensures) in
+    let switch = told_switch a c.node.result c.is_some.result c.is_some.ensures c.if-is_some.false c.node.ensures in
+    (switch.0, here ∙ ap Some switch.1)
