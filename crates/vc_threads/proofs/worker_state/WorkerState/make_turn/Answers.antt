@@ -72,8 +72,8 @@ returns-in-Ok-Idle-clause-turn c =
     let room = c.look-room.result in
     let same : c.turn.new.self ≡ a.actor = c.in-Ok-Idle.ensures.idle c.in-Ok-Idle.field-0-is in
     let rests : (plan : Plan) (n : ℕ) → IsActorOf plan n a.actor → HasNoStep plan n a.actor = λ plan n of.
-        let did = subst (λ t. MakesTurn plan n a.actor room t c.turn.new.self) c.in-Ok-Idle.field-0-is (c.in-Ok-Idle.ensures.makes plan n of) in
-        finds_quiet plan n a.actor room did.1 in
+    let did = subst (λ t. MakesTurn plan n a.actor room t c.turn.new.self) c.in-Ok-Idle.field-0-is (c.in-Ok-Idle.ensures.makes plan n of) in
+    finds_quiet plan n a.actor room did.1 in
     record {
       uses = λ plan n of. uses_idle plan n (worker_state a)
           (record { actor = c.turn.new.self; clock = a.clock; keeps = a.keeps; log = a.acts.items; outs = c.look-room.new.self.ends.items; ins = a.ins.items; words = a.words })
