@@ -113,6 +113,11 @@ module _ (plan : network.Plan) (k : ℕ) (n : Node) (room : ℕ) where
       by_act (act.Route i o) e t = t.can
       by_act (act.Take l w) e t = absurd (cc)
 
+  -- what a node does: it binds no packet
+  pub of_node : (o : Option Act) → FindsOf kind.Pass plan k (OfNode n) room None → FindsOf kind.Put plan k (OfNode n) room None → FindsOf kind.Fct plan k (OfNode n) room None → FindsOf kind.Proc plan k (OfNode n) room o →
+      FindsTurn plan k (OfNode n) room o
+  of_node o f h i j = of_all plan k (OfNode n) room o f no_route h i j
+
 module _ (plan : network.Plan) (k : ℕ) (s : SwitchState) (room : ℕ) where
   pub passes_here : (o : Option Act) → FindsAt (λ l. act.Pass l) (SwitchCan s) o → FindsOf kind.Pass plan k (OfSwitch s) room o
   passes_here (Some a) (l, e, can, least) = (subst (IsTurn plan k (OfSwitch s) room) (sym e) (record { can = can; lets = tt }), ap kind_of e)
@@ -148,6 +153,12 @@ module _ (plan : network.Plan) (k : ℕ) (s : SwitchState) (room : ℕ) where
       by_act (act.Fct l) e t = absurd (cc)
       by_act (act.Route i o) e t = absurd (cc)
       by_act (act.Take l w) e t = absurd (cc)
+
+  -- what a switch does: it has no process
+  pub of_switch : (o : Option Act) → FindsOf kind.Pass plan k (OfSwitch s) room None → FindsOf kind.Route plan k (OfSwitch s) room None → FindsOf kind.Put plan k (OfSwitch s) room None → FindsOf kind.Fct plan k (OfSwitch s) room o →
+      FindsTurn plan k (OfSwitch s) room o
+  of_switch (Some a) f g h i = i.0
+  of_switch None f g h i = of_all plan k (OfSwitch s) room None f g h i no_move
 
 -- A turn.
 

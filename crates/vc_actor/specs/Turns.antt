@@ -2,7 +2,6 @@
 use Rattle.std.specs.Prelude.{◌≡◌, ℕ, ◌+◌, length, Option, Some, None}
 use Rattle.std.specs.Int.{bit_at}
 use Rattle.vc_network.specs.Plan.{Plan}
-use Rattle.vc_occam.specs.declared.moves.Move.TheVariants.{Quiet}
 use Rattle.vc_plan.specs.declared.plan.Plan.{Plan as Given}
 use Rattle.vc_tokens.specs.Spelt.{token}
 use Rattle.vc_tokens.specs.Tokens as tokens
@@ -49,10 +48,6 @@ kind_of (Take link word) = None
 abbrev pub FindsOf : ActKind → Plan → ℕ → Acting → ℕ → Option Act → Type 0
 FindsOf kind plan k x room None = (a : Act) → kind_of a ≡ Some kind → IsTurn plan k x room a → ⊥
 FindsOf kind plan k x room (Some a) = IsTurn plan k x room a × (kind_of a ≡ Some kind)
-
--- the act is a step of a process without a communication
-abbrev pub IsQuiet : Act → Type 0
-IsQuiet a = (site : ℕ) × (a ≡ Proc (Quiet site))
 
 -- the act takes no token
 abbrev pub TakesNone : Act → Type 0

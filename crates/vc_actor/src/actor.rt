@@ -6,7 +6,7 @@ ghost use Rattle.vc_actor.specs.Acting.{HasLink, MayAct, MakesOwn, MakesTake, Ma
 ghost use Rattle.vc_actor.specs.OfPlan.{IsActorOf};
 ghost use Rattle.vc_actor.specs.Parts.{HasEnded, node_in, switch_in, strays_of, lost_of, faults_of};
 ghost use Rattle.vc_actor.specs.Shown.{OfNode, OfSwitch};
-ghost use Rattle.vc_actor.specs.Turns.{FindsOf, FindsTurn, IsQuiet, IsTurn, MakesTurn, PutsWithRoom, RoomLets};
+ghost use Rattle.vc_actor.specs.Turns.{FindsOf, FindsTurn, MakesTurn, PutsWithRoom, RoomLets};
 ghost use Rattle.vc_actor.specs.Private.Turns.{IsTold};
 ghost use Rattle.vc_network.specs.Plan.{Plan};
 ghost use Rattle.vc_tokens.specs.Spelt.{token};
@@ -201,11 +201,6 @@ impl Actor {
         ensures idle { IfOk result (λ turn. turn ≡ Turn.Idle → self.new ≡ self.old) }
         ensures refused { OnErr result (self.new ≡ self.old) }
     {
-        if let Some(act) = self.still_step() {
-            let turn = self.turn_by(act)?;
-            self.settle();
-            return Ok(turn);
-        }
         match self.next(room)? {
             None => Ok(Turn::Idle),
             Some(act) => self.turn_by(act),
@@ -251,19 +246,10 @@ impl Actor {
             IsActorOf plan k self.old →
             IfOk result (FindsTurn plan k self.old room) }
     {
-        if let Some(act) = self.next_of(ActKind::Pass, room)? {
-            return Ok(Some(act));
+        match &mut self.part {
+            Part::Node(node) => node.next(room),
+            Part::Switch(switch) => Ok(switch.next(room)),
         }
-        if let Some(act) = self.next_of(ActKind::Route, room)? {
-            return Ok(Some(act));
-        }
-        if let Some(act) = self.next_of(ActKind::Put, room)? {
-            return Ok(Some(act));
-        }
-        if let Some(act) = self.next_of(ActKind::Fct, room)? {
-            return Ok(Some(act));
-        }
-        self.next_of(ActKind::Proc, room)
     }
 
     /// An act of this kind that the actor can make where its links have this room.
@@ -279,48 +265,6 @@ impl Actor {
         match &mut self.part {
             Part::Node(node) => node.next_of(kind, room),
             Part::Switch(switch) => Ok(switch.next_of(kind, room)),
-        }
-    }
-
-    /// The only move of a node's process, where that is known to be a step without a communication. Room has no part in it.
-    #[inline(always)]
-    pub fn only_step(&self) -> Option<Act>
-        ensures may { IfSome result (λ a. MayAct self.now a) }
-        ensures quiet { IfSome result IsQuiet }
-        ensures finds { (plan : Plan) (k room : ℕ) →
-            IsActorOf plan k self.now →
-            IfSome result (λ a. IsTurn plan k self.now room a) }
-    {
-        match &self.part {
-            Part::Node(node) => node.only_step(),
-            Part::Switch(_) => None,
-        }
-    }
-
-    /// The same, where a node's links are known to have nothing to do, so that it is what the node does next.
-    #[inline(always)]
-    pub fn still_step(&self) -> Option<Act>
-        ensures may { IfSome result (λ a. MayAct self.now a) }
-        ensures quiet { IfSome result IsQuiet }
-        ensures finds { (plan : Plan) (k room : ℕ) →
-            IsActorOf plan k self.now →
-            IfSome result (λ a. IsTurn plan k self.now room a) }
-    {
-        match &self.part {
-            Part::Node(node) => node.still_step(),
-            Part::Switch(_) => None,
-        }
-    }
-
-    /// Says that a node's links have nothing to do where every way has room, and that its process has made a step without a
-    /// communication since. It is known of them until a token comes, or the process makes another move.
-    #[inline(always)]
-    pub fn settle(&mut self)
-        ensures { self.new ≡ self.old }
-    {
-        match &mut self.part {
-            Part::Node(node) => node.settle(),
-            Part::Switch(_) => {}
         }
     }
 

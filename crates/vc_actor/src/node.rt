@@ -7,7 +7,7 @@ ghost use Rattle.vc_occam.specs.Remains.{Done};
 ghost use Rattle.vc_occam.specs.Runnings.{inner_channels, moves as moves_of, state};
 ghost use Rattle.vc_occam.specs.declared.moves.Move.{Move as SpeltMove};
 ghost use Rattle.vc_actor.specs.Acting.{NodeMay};
-ghost use Rattle.vc_actor.specs.Turns.{IsTurn, IsQuiet, RoomLets};
+ghost use Rattle.vc_actor.specs.Turns.{IsTurn, RoomLets};
 ghost use Rattle.vc_actor.specs.Private.Turns.{FindsAt, FindsMove, NeedsNoRoom};
 ghost use Rattle.vc_occam.specs.Moving.{site_of as its_site, without};
 ghost use Rattle.vc_occam.specs.States.{came};
@@ -100,7 +100,6 @@ impl Node {
     }
 
     /// The least link whose buffer has a token.
-    #[inline(always)]
     pub(crate) fn next_pass(&self) -> Option<Act>
         ensures may { IfSome result (λ a. NodeMay self.now a) }
         ensures lets { IfSome result NeedsNoRoom }
@@ -118,7 +117,6 @@ impl Node {
     }
 
     /// The least link with room on which a token may be put.
-    #[inline(always)]
     pub(crate) fn next_put(&self, room: u32) -> Option<Act>
         ensures may { IfSome result (λ a. NodeMay self.now a) }
         ensures lets { IfSome result (RoomLets room) }
@@ -135,7 +133,6 @@ impl Node {
     }
 
     /// The least link with room on which a flow control token may be put.
-    #[inline(always)]
     pub(crate) fn next_grant(&self, room: u32) -> Option<Act>
         ensures may { IfSome result (λ a. NodeMay self.now a) }
         ensures lets { IfSome result (RoomLets room) }
@@ -152,11 +149,9 @@ impl Node {
     }
 
     /// The process's only move, where that is known to be a step without a communication.
-    #[inline(always)]
     pub(crate) fn only_step(&self) -> Option<Act>
         ensures may { IfSome result (λ a. NodeMay self.now a) }
         ensures lets { IfSome result NeedsNoRoom }
-        ensures quiet { IfSome result IsQuiet }
         ensures finds { (plan : Plan) (k : ℕ) →
             IsNodeOf plan k self.now →
             IfSome result (λ a. FindsMove plan k self.now (Some a)) }

@@ -5,7 +5,7 @@ ghost use Rattle.vc_actor.specs.Able.{NodeCan};
 ghost use Rattle.vc_actor.specs.OfPlan.{IsNodeOf, IsActorOf};
 ghost use Rattle.vc_actor.specs.Shown.{OfNode};
 ghost use Rattle.vc_actor.specs.Private.Turns.{FindsMove, NeedsNoRoom};
-ghost use Rattle.vc_actor.specs.Turns.{FindsOf, IsQuiet, RoomLets};
+ghost use Rattle.vc_actor.specs.Turns.{FindsOf, FindsTurn, RoomLets};
 ghost use Rattle.vc_occam.specs.Moving.{without};
 ghost use Rattle.vc_occam.specs.Remains.{Done};
 ghost use Rattle.vc_occam.specs.Runnings.{inner_channels, moves as moves_of, state};
@@ -33,8 +33,8 @@ pub(crate) struct NodeActor {
     is_listed: bool,
     // whether they were many when they were listed last
     are_many: bool,
-    // whether the links are known to have nothing to do where every way has room
-    is_still: bool,
+    // the room with which the links are known to have nothing to do
+    still_room: Option<u32>,
     next_site: u16,
 }
 
@@ -62,7 +62,7 @@ impl NodeActor {
             node,
             is_listed: false,
             are_many: false,
-            is_still: false,
+            still_room: None,
             next_site: 0,
         }
     }
@@ -100,7 +100,7 @@ impl NodeActor {
             MakesTake plan k (OfNode self.old) link word (token came) (OfNode self.new) }
     {
         self.node.vcp.accept(link, came);
-        self.is_still = false;
+        self.still_room = None;
     }
 
     /// Makes a step of its own: a move of the process, or a token that passes.
@@ -116,7 +116,7 @@ impl NodeActor {
         match *act {
             Act::Proc(made) => {
                 let waits = self.node.make(&made)?;
-                self.is_still = false;
+                self.still_room = still_after(self.still_room, &made);
                 self.next_site = site_of(&made).saturating_add(1);
                 self.is_listed = stay_listed(
                     &mut self.moves,
@@ -179,40 +179,58 @@ impl NodeActor {
         }
     }
 
-    /// The process's only move, where that is known to be a step without a communication.
+    /// What the node does next where its links have this room: by the least link, or a move of the process, beginning behind the
+    /// site that acted last.
     #[inline(always)]
-    pub(crate) fn only_step(&self) -> Option<Act>
-        ensures may { IfSome result (λ a. NodeMay self.now a) }
-        ensures lets { IfSome result NeedsNoRoom }
-        ensures quiet { IfSome result IsQuiet }
+    pub(crate) fn next(&mut self, room: u32) -> Result<Option<Act>, Memory>
+        ensures same { self.new ≡ self.old }
+        ensures may { IfOk result (λ act. IfSome act (λ a. NodeMay self.old a)) }
+        ensures lets { IfOk result (λ act. IfSome act (RoomLets room)) }
         ensures finds { (plan : Plan) (k : ℕ) →
-            IsNodeOf plan k self.now →
-            IfSome result (λ a. FindsMove plan k self.now (Some a)) }
+            IsNodeOf plan k self.old →
+            IfOk result (FindsTurn plan k (OfNode self.old) room) }
     {
-        self.node.only_step()
+        if let Some(act) = self.still_step(room) {
+            return Ok(Some(act));
+        }
+        if let Some(act) = self.node.next_pass() {
+            return Ok(Some(act));
+        }
+        if let Some(act) = self.node.next_put(room) {
+            return Ok(Some(act));
+        }
+        if let Some(act) = self.node.next_grant(room) {
+            return Ok(Some(act));
+        }
+        self.still_room = Some(room);
+        self.next_move()
     }
 
-    /// The same, where the links are known to have nothing to do.
-    #[inline(always)]
-    pub(crate) fn still_step(&self) -> Option<Act>
+    // The process's only move, where that is known to be a step without a communication, and the links are known to have nothing to do
+    // with this room.
+    fn still_step(&self, room: u32) -> Option<Act>
         ensures may { IfSome result (λ a. NodeMay self.now a) }
-        ensures quiet { IfSome result IsQuiet }
+        ensures lets { IfSome result NeedsNoRoom }
         ensures finds { (plan : Plan) (k : ℕ) →
             IsNodeOf plan k self.now →
             IfSome result (λ a. FindsMove plan k self.now (Some a)) }
     {
-        if !self.is_still {
+        let still = self.still_room?;
+        if room & !still != 0 {
             return None;
         }
         self.only_step()
     }
 
-    /// Until a token comes, or another move is made, the links are known to have nothing to do.
-    #[inline(always)]
-    pub(crate) fn settle(&mut self)
-        ensures { self.new ≡ self.old }
+    // The process's only move, where that is known to be a step without a communication.
+    fn only_step(&self) -> Option<Act>
+        ensures may { IfSome result (λ a. NodeMay self.now a) }
+        ensures lets { IfSome result NeedsNoRoom }
+        ensures finds { (plan : Plan) (k : ℕ) →
+            IsNodeOf plan k self.now →
+            IfSome result (λ a. FindsMove plan k self.now (Some a)) }
     {
-        self.is_still = true;
+        self.node.only_step()
     }
 
     // The next move that the process can make, where the links have nothing to do, going round behind the site that acted last.
@@ -299,6 +317,14 @@ impl NodeActor {
         ensures { result ≡ (seen self.now.vcp).carrier.strays }
     {
         self.node.vcp.strays()
+    }
+}
+
+// The room with which the links have nothing to do after this move. A step without a communication leaves them as they are.
+fn still_after(still_room: Option<u32>, made: &Move) -> Option<u32> {
+    match made {
+        Move::Quiet { .. } => still_room,
+        _ => None,
     }
 }
 

@@ -4,7 +4,7 @@ ghost use Rattle.vc_actor.specs.Acting.{SwitchMay, MakesOwn, MakesTake, MakesPut
 ghost use Rattle.vc_actor.specs.Able.{SwitchCan};
 ghost use Rattle.vc_actor.specs.OfPlan.{IsActorOf};
 ghost use Rattle.vc_actor.specs.Shown.{OfSwitch};
-ghost use Rattle.vc_actor.specs.Turns.{IsTurn, FindsOf, RoomLets};
+ghost use Rattle.vc_actor.specs.Turns.{IsTurn, FindsOf, FindsTurn, RoomLets};
 ghost use Rattle.vc_actor.specs.Private.Turns.{FindsAt, FindsRoute, NeedsNoRoom};
 ghost use Rattle.vc_network.specs.Plan.{Plan};
 ghost use Rattle.vc_switch.specs.Able.{CanLeave};
@@ -127,8 +127,28 @@ impl SwitchActor {
         }
     }
 
-    // The least link whose buffer has a token that may pass.
+    /// What the switch does next where its links have this room: by the least link, or it binds the packet of the least input to the
+    /// least output.
     #[inline(always)]
+    pub(crate) fn next(&self, room: u32) -> Option<Act>
+        ensures may { IfSome result (λ a. SwitchMay self.now.switch a) }
+        ensures lets { IfSome result (RoomLets room) }
+        ensures finds { (plan : Plan) (k : ℕ) →
+            FindsTurn plan k (OfSwitch self.now.switch) room result }
+    {
+        if let Some(act) = self.next_pass() {
+            return Some(act);
+        }
+        if let Some(act) = self.next_route() {
+            return Some(act);
+        }
+        if let Some(act) = self.next_put(room) {
+            return Some(act);
+        }
+        self.next_grant(room)
+    }
+
+    // The least link whose buffer has a token that may pass.
     fn next_pass(&self) -> Option<Act>
         ensures may { IfSome result (λ a. SwitchMay self.now.switch a) }
         ensures lets { IfSome result NeedsNoRoom }
@@ -139,7 +159,6 @@ impl SwitchActor {
     }
 
     // The least input whose packet may be bound, and the least output to which it may.
-    #[inline(always)]
     fn next_route(&self) -> Option<Act>
         ensures may { IfSome result (λ a. SwitchMay self.now.switch a) }
         ensures lets { IfSome result NeedsNoRoom }
@@ -203,7 +222,6 @@ impl SwitchActor {
     }
 
     // The least link with room on which a token may be put.
-    #[inline(always)]
     fn next_put(&self, room: u32) -> Option<Act>
         ensures may { IfSome result (λ a. SwitchMay self.now.switch a) }
         ensures lets { IfSome result (RoomLets room) }
@@ -223,7 +241,6 @@ impl SwitchActor {
     }
 
     // The least link with room on which a flow control token may be put.
-    #[inline(always)]
     fn next_grant(&self, room: u32) -> Option<Act>
         ensures may { IfSome result (λ a. SwitchMay self.now.switch a) }
         ensures lets { IfSome result (RoomLets room) }

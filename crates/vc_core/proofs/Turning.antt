@@ -1,5 +1,5 @@
 -- What an actor does next is an event that can happen, and where it does nothing none can.
-use Rattle.std.proofs.Common.{◌≡◌, ◌↔◌, ℕ, ◌+◌, ◌*◌, ◌%◌, ◌^◌, ◌≤◌, ◌<◌, max, bit_or, nat_lt, Bool, true, false, Result, Ok, Err, OnErr, inl, inr, List, length, slice_get, Option, Some, None, is_some, Bor, refl, sym, ap, ◌∙◌, subst, arith, if◌then◌else◌}
+use Rattle.std.proofs.Common.{◌≡◌, ◌↔◌, ℕ, ◌+◌, ◌*◌, ◌%◌, ◌^◌, ◌≤◌, ◌<◌, max, bit_or, nat_lt, Bool, true, false, Result, Ok, Err, OnErr, inl, inr, List, length, slice_get, Option, Some, None, refl, sym, ap, ◌∙◌, subst, arith, if◌then◌else◌}
 use Rattle.std.proofs.lemmas.Bool.{cases_lt}
 use Rattle.std.proofs.lemmas.Bool.Decides.{nat_tests}
 use Rattle.std.proofs.lemmas.Nat.Bits.{bit_at_or, bit_at-pow_same, bit_at-pow_other}
@@ -15,16 +15,14 @@ use Rattle.vc_actor.specs.Acting.{MayAct}
 use Rattle.vc_core.specs.Enabled.{CanHappen}
 use Rattle.vc_actor.specs.OfPlan.{IsActorOf}
 use Rattle.vc_actor.specs.Private.Parts.{IsDone}
-use Rattle.vc_actor.specs.Parts.{node_in, strays_of, lost_of}
-use Rattle.vc_switch.specs.State.{State as SwitchState}
-use Rattle.std.specs.Option.{option_copied}
+use Rattle.vc_actor.specs.Parts.{strays_of, lost_of}
 use Rattle.vc_accepted.specs.Process.{Process}
 use Rattle.vc_core.specs.Replaying.{Replays}
 use Rattle.vc_actor.specs.Shown.{Acting, OfNode, OfSwitch, node_of}
 use Rattle.vc_core.specs.State.{State, shown, IsNetworkOf, HasFront, HasWay, WaysLet}
-use Rattle.vc_actor.specs.Turns.{RoomLets, IsTurn, IsQuiet, FindsTurn, kind_of, FindsOf, TakesNone, actors}
+use Rattle.vc_actor.specs.Turns.{RoomLets, IsTurn, FindsTurn, kind_of, FindsOf, TakesNone, actors}
 use Rattle.vc_core.specs.Turns.{FindsEvent, FindsEventOf, FindsFront, FindsTake, AllHaveEnded}
-use Rattle.vc_core.specs.Private.Turns.{IsNodeAt, IsSwitchAt, Rests, IsAtRest}
+use Rattle.vc_core.specs.Private.Turns.{Rests, IsAtRest}
 use Rattle.vc_core.specs.Wired.{out_at, there}
 use Rattle.vc_actor.specs.declared.act.Act.{Act}
 use Rattle.vc_actor.specs.declared.act.Act.TheVariants as act
@@ -125,72 +123,6 @@ module _ (p : Plan) (s : State) (k room : ℕ) (bits : (link : ℕ) → link < 3
   no_event_of z a here none b e can =
       let act = has_act p s (event b) a is here can in
       none b e (record { can = act; lets = lets_by b (takes_of z b e) (has_ways p s (event b) a is here can) })
-
--- a step without a communication, whatever has room
-pub quiet_event : (p : Plan) (s : State) (k : ℕ) (a : Acting) → IsNetworkOf p s → slice_get s.actors k ≡ Some a → (b : Act) → IsQuiet b → IsTurn (network_of p) k a 0 b → FindsEvent p s k (Some (record { actor = k; act = b }))
-quiet_event p s k a is here b (site, e) t = (refl, subst TakesNone (sym e) tt, happens p s (record { actor = k; act = b }) a is here t.can (subst (WaysLet s k) (sym e) tt))
-
--- of whatever kind
-pub event_of : (z : ActKind) (p : Plan) (s : State) (k : ℕ) (e : Event) → FindsEventOf z p s k (Some e) → FindsEvent p s k (Some e)
-event_of z p s k e found = (found.0, found.1, found.2)
-
--- of all kinds
-module _ (p : Plan) (s : State) (k : ℕ) where
-  events_of_all : FindsEventOf kind.Pass p s k None → FindsEventOf kind.Route p s k None → FindsEventOf kind.Put p s k None → FindsEventOf kind.Fct p s k None → FindsEventOf kind.Proc p s k None → FindsEvent p s k None
-  events_of_all f g h i j = by_act
-    where
-      by_act : (a : Act) → TakesNone a → CanHappen p s (record { actor = k; act = a }) → ⊥
-      by_act (act.Proc m) t can = j (act.Proc m) refl can
-      by_act (act.Pass l) t can = f (act.Pass l) refl can
-      by_act (act.Put l) t can = h (act.Put l) refl can
-      by_act (act.Fct l) t can = i (act.Fct l) refl can
-      by_act (act.Route i o) t can = g (act.Route i o) refl can
-      by_act (act.Take l w) t can = t
-
-  -- a node binds no packet
-  no_route : IsNetworkOf p s → IsNodeAt s k → FindsEventOf kind.Route p s k None
-  no_route is (n, here) = by_act
-    where
-      by_act : (b : Act) → kind_of b ≡ Some kind.Route → CanHappen p s (record { actor = k; act = b }) → ⊥
-      by_act (act.Route i o) e can = has_act p s (record { actor = k; act = act.Route i o }) (OfNode n) is here can
-      by_act (act.Proc m) e can = absurd (cc)
-      by_act (act.Pass l) e can = absurd (cc)
-      by_act (act.Put l) e can = absurd (cc)
-      by_act (act.Fct l) e can = absurd (cc)
-      by_act (act.Take l w) e can = absurd (cc)
-
-  -- a switch has no process
-  no_move : IsNetworkOf p s → IsSwitchAt s k → FindsEventOf kind.Proc p s k None
-  no_move is (x, here) = by_act
-    where
-      by_act : (b : Act) → kind_of b ≡ Some kind.Proc → CanHappen p s (record { actor = k; act = b }) → ⊥
-      by_act (act.Proc m) e can = has_act p s (record { actor = k; act = act.Proc m }) (OfSwitch x) is here can
-      by_act (act.Route i o) e can = absurd (cc)
-      by_act (act.Pass l) e can = absurd (cc)
-      by_act (act.Put l) e can = absurd (cc)
-      by_act (act.Fct l) e can = absurd (cc)
-      by_act (act.Take l w) e can = absurd (cc)
-
-  pub events_of_node : (o : Option Event) → IsNetworkOf p s → IsNodeAt s k → FindsEventOf kind.Pass p s k None → FindsEventOf kind.Put p s k None → FindsEventOf kind.Fct p s k None → FindsEventOf kind.Proc p s k o →
-      FindsEvent p s k o
-  events_of_node (Some e) is node f h i j = event_of kind.Proc p s k e j
-  events_of_node None is node f h i j = events_of_all f (no_route is node) h i j
-
-  pub events_of_switch : (o : Option Event) → IsNetworkOf p s → IsSwitchAt s k → FindsEventOf kind.Pass p s k None → FindsEventOf kind.Route p s k None → FindsEventOf kind.Put p s k None → FindsEventOf kind.Fct p s k o →
-      FindsEvent p s k o
-  events_of_switch (Some e) is switch f g h i = event_of kind.Fct p s k e i
-  events_of_switch None is switch f g h i = events_of_all f g h i (no_move is switch)
-
--- what an actor's node says of it
-pub told_node : (x : Acting) (o : Option (Bor Node)) (t : Bool) → t ≡ is_some o → t ≡ true → option_copied o ≡ node_in x → (n : Node) × (x ≡ OfNode n)
-told_node (OfNode n) o t e f g = (n, refl)
-told_node (OfSwitch s) (Some n) t e f g = absurd (cc)
-told_node (OfSwitch s) None t e f g = absurd (cc)
-
-pub told_switch : (x : Acting) (o : Option (Bor Node)) (t : Bool) → t ≡ is_some o → t ≡ false → option_copied o ≡ node_in x → (s : SwitchState) × (x ≡ OfSwitch s)
-told_switch (OfSwitch s) o t e f g = (s, refl)
-told_switch (OfNode n) (Some m) t e f g = absurd (cc)
-told_switch (OfNode n) None t e f g = absurd (cc)
 
 pub no_actor : (p : Plan) (s : State) (k : ℕ) → IsNetworkOf p s → slice_get s.actors k ≡ None → FindsEvent p s k None
 no_actor p s k is none b takes can = has_actor p s (record { actor = k; act = b }) is can none

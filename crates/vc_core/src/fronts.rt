@@ -61,7 +61,6 @@ impl Fronts {
     }
 
     /// From now on a token comes by a link of an actor.
-    #[inline(always)]
     pub(crate) fn set(&mut self, actor: u16, link: u8)
         requires actor { actor < length self.old }
         requires link { link < 32 }
@@ -74,7 +73,6 @@ impl Fronts {
     }
 
     /// No token comes by a link of an actor any more.
-    #[inline(always)]
     pub(crate) fn clear(&mut self, actor: u8, link: u8)
         requires actor { actor < length self.old }
         requires link { link < 32 }

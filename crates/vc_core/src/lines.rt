@@ -99,7 +99,6 @@ impl Lines {
     }
 
     /// The way that goes out by a link of an actor, if the link is on a wire.
-    #[inline(always)]
     pub(crate) fn outgoing(&self, actor: u8, link: u8) -> Option<usize>
         ensures way { result ≡ out_at self.now.wiring actor link }
         ensures real { IfSome result (λ way. way < length self.now.ways) }
@@ -140,7 +139,6 @@ impl Lines {
     }
 
     /// The front token of the way that comes in by a link of an actor is taken off, if there is one.
-    #[inline(always)]
     pub(crate) fn take(&mut self, actor: u8, link: u8) -> Option<Token>
         ensures { TakesOff self.old actor link result self.new }
     {
@@ -154,7 +152,6 @@ impl Lines {
     }
 
     /// A token more comes to the end of a way.
-    #[inline(always)]
     pub(crate) fn push(&mut self, way: usize, token: Token) -> Result<(), Memory>
         requires { way < length self.old.ways }
         ensures ok { (ts : List SpeltToken) →

@@ -24,9 +24,9 @@ ghost use Rattle.vc_actor.specs.Parts.{strays_of, lost_of, saturated};
 ghost use Rattle.std.specs.List.{sum_by};
 ghost use Rattle.vc_actor.specs.OfPlan.{IsActorOf};
 ghost use Rattle.vc_actor.specs.Shown.{Acting, actor_of};
-ghost use Rattle.vc_actor.specs.Turns.{actors};
+ghost use Rattle.vc_actor.specs.Turns.{TakesNone, actors};
 ghost use Rattle.vc_core.specs.Turns.{FindsFront, FindsTake, FindsEvent, FindsEventOf, AllHaveEnded};
-ghost use Rattle.vc_core.specs.Private.Turns.{IsNodeAt, IsRoom, IsSwitchAt};
+ghost use Rattle.vc_core.specs.Private.Turns.{IsRoom};
 ghost use Rattle.vc_core.specs.declared.event.Event.{Event as Happening};
 ghost use Rattle.vc_core.specs.State.{shown, state_of, IsNetworkOf, MayHappen, WaysLet, HasFront, HasWay, MakesEvent, MakesOne, MayActAt};
 ghost use Rattle.vc_core.specs.Private.State.{Accepts, GrantsBy};
@@ -42,7 +42,7 @@ use sqlite_items::{Items, at};
 use std::alloc::Global;
 use vc_actor::{Act, ActKind, Actor, Node, actors, has_room, lowest};
 use vc_blocks::Messages;
-use vc_occam::{Blocked, ValueKind};
+use vc_occam::{Blocked, Move, ValueKind};
 use vc_packets::Memory;
 use vc_plan::{Accepted, Port, Wire};
 use vc_tokens::Token;
@@ -215,13 +215,34 @@ impl Network {
         ensures refused { OnErr result (state_of self.new ≡ state_of self.old) }
     {
         match event.act {
-            Act::Proc(_) | Act::Pass { .. } | Act::Route { .. } => self.act(event),
             Act::Take { link, word } => {
                 let _taken = self.take(event.actor, link, word);
                 Ok(())
             }
+            Act::Proc(_)
+            | Act::Pass { .. }
+            | Act::Route { .. }
+            | Act::Put { .. }
+            | Act::Fct { .. } => self.make_turn(event),
+        }
+    }
+
+    // The same of an event that is no take.
+    #[inline(always)]
+    fn make_turn(&mut self, event: &Event) -> Result<(), Memory>
+        requires may { MayActAt (state_of self.old) event.now.actor event.now.act }
+        requires takes { TakesNone event.now.act }
+        ensures makes { (p : Plan) →
+            IsNetworkOf p (state_of self.old) →
+            WaysLet (state_of self.old) event.now.actor event.now.act →
+            OnOk result (MakesEvent p (state_of self.old) event.now (state_of self.new)) }
+        ensures refused { OnErr result (state_of self.new ≡ state_of self.old) }
+    {
+        match event.act {
+            Act::Proc(_) | Act::Pass { .. } | Act::Route { .. } => self.act(event),
             Act::Put { link } => self.put(event, link),
             Act::Fct { link } => self.grant(event, link),
+            Act::Take { .. } => unreachable!(),
         }
     }
 
@@ -361,6 +382,7 @@ impl Network {
         ensures same { state_of self.new ≡ state_of self.old }
         ensures may { IfOk result
             (λ found. IfSome found (λ e. MayActAt (state_of self.old) e.actor e.act)) }
+        ensures takes { IfOk result (λ found. IfSome found (λ e. TakesNone e.act)) }
         ensures finds { (p : Plan) →
             IsNetworkOf p (state_of self.old) →
             IfOk result (FindsEvent p (state_of self.old) actor) }
@@ -387,10 +409,11 @@ impl Network {
             IfOk result (λ made. MakesOne p (state_of self.old) made (state_of self.new)) }
         ensures refused { OnErr result (state_of self.new ≡ state_of self.old) }
     {
-        if let Some(event) = self.still_turn(actor)? {
-            return Ok(Some(event));
-        }
-        self.whole_turn(actor)
+        let Some(next) = self.next(actor)? else {
+            return Ok(None);
+        };
+        self.make_turn(&next)?;
+        Ok(Some(next))
     }
 
     /// An actor makes an event of this kind, if it has one where every way has room. Whoever chooses the kinds makes events in an order of
@@ -408,150 +431,6 @@ impl Network {
         }
         let room = self.lines.room(actor);
         self.turn_of(actor, kind, room)
-    }
-
-    // An actor makes the only move of its process, where that is known to be a step without a communication, and its links are known to
-    // have nothing to do.
-    #[inline(always)]
-    fn still_turn(&mut self, actor: u8) -> Result<Option<Event>, Memory>
-        ensures finds { (p : Plan) →
-            IsNetworkOf p (state_of self.old) →
-            IfOk result
-            (λ made. IfSome made (λ e. FindsEvent p (state_of self.old) actor (Some e))) }
-        ensures makes { (p : Plan) →
-            IsNetworkOf p (state_of self.old) →
-            IfOk result (λ made. MakesOne p (state_of self.old) made (state_of self.new)) }
-        ensures none { IfOk result (λ made. made ≡ None → state_of self.new ≡ state_of self.old) }
-        ensures refused { OnErr result (state_of self.new ≡ state_of self.old) }
-    {
-        if let Some(event) = self.still_step(actor) {
-            self.make_quietly(&event)?;
-            return Ok(Some(event));
-        }
-        Ok(None)
-    }
-
-    // The only move of an actor's process, where that is known to be a step without a communication, and its links are known to have
-    // nothing to do.
-    #[inline(always)]
-    fn still_step(&self, actor: u8) -> Option<Event>
-        ensures may { IfSome result (λ e. MayActAt (state_of self.now) e.actor e.act) }
-        ensures finds { (p : Plan) →
-            IsNetworkOf p (state_of self.now) →
-            IfSome result (λ e. FindsEvent p (state_of self.now) actor (Some e)) }
-    {
-        let place = usize::from(actor);
-        if place >= self.actors.len() {
-            return None;
-        }
-        let act = self.actors[place].still_step()?;
-        Some(Event { actor, act })
-    }
-
-    // Makes a step without a communication, where the actor's links have nothing to do.
-    #[inline(always)]
-    fn make_quietly(&mut self, event: &Event) -> Result<(), Memory>
-        requires { MayActAt (state_of self.old) event.now.actor event.now.act }
-        ensures makes { (p : Plan) →
-            IsNetworkOf p (state_of self.old) →
-            WaysLet (state_of self.old) event.now.actor event.now.act →
-            OnOk result (MakesEvent p (state_of self.old) event.now (state_of self.new)) }
-        ensures refused { OnErr result (state_of self.new ≡ state_of self.old) }
-    {
-        self.make(event)?;
-        self.settle(event.actor);
-        Ok(())
-    }
-
-    // An actor's links are known to have nothing to do.
-    #[inline(always)]
-    fn settle(&mut self, actor: u8)
-        ensures { state_of self.new ≡ state_of self.old }
-    {
-        let place = usize::from(actor);
-        if place < self.actors.len() {
-            self.actors[place].settle();
-        }
-    }
-
-    // The same, where its links may have something to do.
-    #[inline(always)]
-    fn whole_turn(&mut self, actor: u8) -> Result<Option<Event>, Memory>
-        ensures finds { (p : Plan) →
-            IsNetworkOf p (state_of self.old) →
-            IfOk result (FindsEvent p (state_of self.old) actor) }
-        ensures makes { (p : Plan) →
-            IsNetworkOf p (state_of self.old) →
-            IfOk result (λ made. MakesOne p (state_of self.old) made (state_of self.new)) }
-        ensures refused { OnErr result (state_of self.new ≡ state_of self.old) }
-    {
-        let place = usize::from(actor);
-        if place >= self.actors.len() {
-            return Ok(None);
-        }
-        let room = self.lines.room(actor);
-        if self.actors[place].node().is_some() {
-            self.node_turn(actor, room)
-        } else {
-            self.switch_turn(actor, room)
-        }
-    }
-
-    // A node makes its next event but a take where every way has room: it binds no packet. `room` has a bit for each of its links by
-    // which a way goes out.
-    #[inline(always)]
-    fn node_turn(&mut self, actor: u8, room: u32) -> Result<Option<Event>, Memory>
-        requires here { actor < length (state_of self.old).actors }
-        requires room { IsRoom (state_of self.old) actor room }
-        requires node { IsNodeAt (state_of self.old) actor }
-        ensures finds { (p : Plan) →
-            IsNetworkOf p (state_of self.old) →
-            IfOk result (FindsEvent p (state_of self.old) actor) }
-        ensures makes { (p : Plan) →
-            IsNetworkOf p (state_of self.old) →
-            IfOk result (λ made. MakesOne p (state_of self.old) made (state_of self.new)) }
-        ensures refused { OnErr result (state_of self.new ≡ state_of self.old) }
-    {
-        if let Some(event) = self.turn_of(actor, ActKind::Pass, room)? {
-            return Ok(Some(event));
-        }
-        if let Some(event) = self.turn_of(actor, ActKind::Put, room)? {
-            return Ok(Some(event));
-        }
-        if let Some(event) = self.turn_of(actor, ActKind::Fct, room)? {
-            return Ok(Some(event));
-        }
-        if let Some(event) = self.only_turn(actor)? {
-            return Ok(Some(event));
-        }
-        self.turn_of(actor, ActKind::Proc, room)
-    }
-
-    // A switch makes its next event but a take where every way has room: it has no process. `room` has a bit for each of its links by
-    // which a way goes out.
-    #[inline(always)]
-    fn switch_turn(&mut self, actor: u8, room: u32) -> Result<Option<Event>, Memory>
-        requires here { actor < length (state_of self.old).actors }
-        requires room { IsRoom (state_of self.old) actor room }
-        requires switch { IsSwitchAt (state_of self.old) actor }
-        ensures finds { (p : Plan) →
-            IsNetworkOf p (state_of self.old) →
-            IfOk result (FindsEvent p (state_of self.old) actor) }
-        ensures makes { (p : Plan) →
-            IsNetworkOf p (state_of self.old) →
-            IfOk result (λ made. MakesOne p (state_of self.old) made (state_of self.new)) }
-        ensures refused { OnErr result (state_of self.new ≡ state_of self.old) }
-    {
-        if let Some(event) = self.turn_of(actor, ActKind::Pass, room)? {
-            return Ok(Some(event));
-        }
-        if let Some(event) = self.turn_of(actor, ActKind::Route, room)? {
-            return Ok(Some(event));
-        }
-        if let Some(event) = self.turn_of(actor, ActKind::Put, room)? {
-            return Ok(Some(event));
-        }
-        self.turn_of(actor, ActKind::Fct, room)
     }
 
     // An actor makes an event of this kind where every way has room; nothing where it has none. `room` has a bit for each of its
@@ -592,40 +471,6 @@ impl Network {
             Some(act) => Ok(Some(Event { actor, act })),
             None => Ok(None),
         }
-    }
-
-    // An actor makes the only move of its process, where that is known to be a step without a communication.
-    #[inline(always)]
-    fn only_turn(&mut self, actor: u8) -> Result<Option<Event>, Memory>
-        requires { actor < length (state_of self.old).actors }
-        ensures finds { (p : Plan) →
-            IsNetworkOf p (state_of self.old) →
-            IfOk result
-            (λ made. IfSome made (λ e. FindsEvent p (state_of self.old) actor (Some e))) }
-        ensures makes { (p : Plan) →
-            IsNetworkOf p (state_of self.old) →
-            IfOk result (λ made. MakesOne p (state_of self.old) made (state_of self.new)) }
-        ensures none { IfOk result (λ made. made ≡ None → state_of self.new ≡ state_of self.old) }
-        ensures refused { OnErr result (state_of self.new ≡ state_of self.old) }
-    {
-        if let Some(event) = self.only_step(actor) {
-            self.make_quietly(&event)?;
-            return Ok(Some(event));
-        }
-        Ok(None)
-    }
-
-    // The only move of an actor's process, where that is known to be a step without a communication.
-    #[inline(always)]
-    fn only_step(&self, actor: u8) -> Option<Event>
-        requires { actor < length (state_of self.now).actors }
-        ensures may { IfSome result (λ e. MayActAt (state_of self.now) e.actor e.act) }
-        ensures finds { (p : Plan) →
-            IsNetworkOf p (state_of self.now) →
-            IfSome result (λ e. FindsEvent p (state_of self.now) actor (Some e)) }
-    {
-        let act = self.actors[usize::from(actor)].only_step()?;
-        Some(Event { actor, act })
     }
 
     /// Whether every process has ended.

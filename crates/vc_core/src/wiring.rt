@@ -71,7 +71,6 @@ impl Wiring {
     }
 
     /// The port to which a way leads.
-    #[inline(always)]
     pub(crate) fn end(&self, way: usize) -> Option<End>
         ensures { (actor link : ℕ) →
             (in_at self.now actor link ≡ Some way) ↔
@@ -84,7 +83,6 @@ impl Wiring {
     }
 
     /// The way that goes out by a link of an actor, if the link is on a wire.
-    #[inline(always)]
     pub(crate) fn outgoing(&self, actor: u8, link: u8) -> Option<usize>
         ensures way { result ≡ out_at self.now actor link }
         ensures small { IfSome result (λ way. way < 65536) }

@@ -143,10 +143,7 @@ impl Simulation {
         ensures ends { OnOk result (RunsOut K.holds limit self.old events.old self.new) }
     {
         let mut draws = Draws::new(seed);
-        for _ in 0..limit {
-            if self.made >= limit {
-                return Ok(());
-            }
+        while self.made < limit {
             if !self.try_events(events, &mut draws)? && !self.round(events, limit)? {
                 return Ok(());
             }

@@ -37,7 +37,7 @@ moves_send : IsSend (Items.the_row Move.the_row)
 moves_send = search (sendable, crosses, move.the_send, move.the_field_send) depth 20
 
 node_actor_field : IsSend NodeActor.the_field.row
-node_actor_field = search (sendable, node_field, moves_send) depth 20
+node_actor_field = search (sendable, crosses, node_field, moves_send) depth 30
 
 part_field : IsSend Part.the_field.row
 part_field = search (sendable, node_actor_field, switch.the_field_send) depth 20

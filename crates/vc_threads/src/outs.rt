@@ -134,11 +134,6 @@ impl Outs {
         self.room
     }
 
-    /// Whether all rings are known to have room.
-    pub(crate) fn all_have_room(&self) -> bool {
-        self.room == self.links
-    }
-
     /// Puts an item on the ring of a link, which is known to have room.
     pub(crate) fn put(&mut self, link: u8, item: Stamped)
         requires low { All (λ o. o.0 < 32) self.old.ends.items }

@@ -16,7 +16,6 @@ use rand_core::utils::NextWord;
 use rand_pcg::Lcg64Xsh32;
 use std::alloc::Global;
 use vc_core::{Act, Actor, Turn};
-use vc_occam::Move;
 
 /// The links of an actor, of which a node has four.
 const LINKS: u8 = 32;
@@ -33,15 +32,6 @@ pub(crate) struct WorkerState {
     ins: Vec<(u8, In)>,
     words: Lcg64Xsh32,
     idle: u32,
-}
-
-// Where the actor made a step without a communication, and every link has room, its links are known to have nothing to do.
-fn settle_after(actor: &mut Actor, act: &Act, has_room: bool)
-    ensures { actor.new ≡ actor.old }
-{
-    if has_room && matches!(act, Act::Proc(Move::Quiet { .. })) {
-        actor.settle();
-    }
 }
 
 // Whether a link's ring has an item.
@@ -266,7 +256,6 @@ impl WorkerState {
                 Ok(Some(room))
             }
             Ok(Turn::Local(act)) => {
-                settle_after(&mut self.actor, &act, self.outs.all_have_room());
                 self.log(stamp, act);
                 Ok(None)
             }

@@ -75,7 +75,7 @@ pub record Stays (a b : Seen) : Type 0 where
   pub outs : AllZip OutLooked a.outs b.outs
   pub ins : AllZip InLooked a.ins b.ins
 
--- where it is known with which room the actor had no step, it has none
+-- where a room is told with which the actor had no step, it has none
 abbrev pub IsRested : Acting → Option ℕ → Type 0
 IsRested x rested = (plan : Plan) (k : ℕ) → IsActorOf plan k x → IfSome rested (λ room. HasNoStep plan k x)
 
@@ -84,7 +84,7 @@ pub record TakesTurn (a b : Seen) (rested : Option ℕ) : Type 0 where
   pub uses : (plan : Plan) (k : ℕ) → IsActorOf plan k a.actor → Uses plan k 1 a b
   pub rests : IsRested b.actor rested
 
--- nothing was done, before the turns were over; where it was for the clock, that is full
+-- the worker stops and has done nothing: before its turns are over, and for the clock only where that is full
 pub record StopsFor (a b : Seen) (why : Stop) : Type 0 where
   pub stays : Stays a b
   pub early : why ≢ Turns

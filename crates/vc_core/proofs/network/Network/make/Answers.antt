@@ -1,12 +1,6 @@
 use Rattle.std.proofs.Common.{sym, subst}
-use Rattle.vc_core.specs.State.{state_of, MakesEvent, MayHappen, WaysLet}
+use Rattle.vc_core.specs.State.{state_of, MakesEvent, MayHappen}
 use Rattle.vc_core.proofs.network.Network.make.Goals as goal
-
-pub act-requires-clause-may : goal.act-requires-clause-may
-act-requires-clause-may c = c.requires
-
-pub returns-in-Proc-clause-makes : goal.returns-in-Proc-clause-makes
-returns-in-Proc-clause-makes c = λ p is lets. c.act.ensures.makes p is
 
 pub returns-in-Take-clause-makes : goal.returns-in-Take-clause-makes
 returns-in-Take-clause-makes c = λ p is lets.
@@ -15,9 +9,3 @@ returns-in-Take-clause-makes c = λ p is lets.
     let m = c.requires in
     let may = subst (λ b. MayHappen s (record { actor = e.actor; act = b })) c.in-Take.is (record { actor = m.actor; here = m.here; may = m.may; ways = lets }) in
     subst (λ b. MakesEvent p s (record { actor = e.actor; act = b }) (state_of c.take-taken.new.self)) (sym c.in-Take.is) (c.take-taken.ensures.makes p is (c.take-taken.ensures.may.1 may))
-
-pub returns-in-Put-clause-makes : goal.returns-in-Put-clause-makes
-returns-in-Put-clause-makes c = λ p is lets. c.put.ensures.makes p is (subst (WaysLet (state_of c.args.self.now) c.args.event.now.actor) c.in-Put.is lets)
-
-pub returns-in-Fct-clause-makes : goal.returns-in-Fct-clause-makes
-returns-in-Fct-clause-makes c = λ p is lets. c.grant.ensures.makes p is (subst (WaysLet (state_of c.args.self.now) c.args.event.now.actor) c.in-Fct.is lets)

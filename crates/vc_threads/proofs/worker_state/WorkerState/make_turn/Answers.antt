@@ -1,9 +1,7 @@
 use Rattle.std.proofs.Common.{◌≡◌, ℕ, inl, refl, sym, subst, ◌∙◌, ◌++◌, ◌∷◌, []}
 use Rattle.vc_network.specs.Actors.Label.{Own, Puts}
 use Rattle.vc_network.specs.LocalRun.{Turn}
-use Rattle.vc_actor.specs.Shown.{Acting}
 use Rattle.vc_actor.specs.Turns.{PutsWithRoom, MakesTurn}
-use Rattle.vc_actor.specs.declared.turn.Turn.TheVariants as turn
 use Rattle.vc_actor.specs.declared.act.Act.{Act}
 use Rattle.vc_tokens.specs.declared.token.Token.{Token}
 use Rattle.vc_threads.specs.declared.link.Stamped.{Stamped}
@@ -88,13 +86,11 @@ returns-in-Ok-Local-clause-turn c = record {
       let mid = c.look-room.new.self.ends.items in
       let outs' = c.look-room.ensures.looked in
       let did = subst (λ t. MakesTurn plan n a.actor c.look-room.result t c.turn.new.self) c.in-Ok-Local.field-0-is (c.in-Ok-Local.ensures.makes plan n of) in
-      let next = c.settle_after.new.actor in
-      let makes = subst (λ (x : Acting). MakesTurn plan n a.actor c.look-room.result (turn.Local c.in-Ok-Local.act) x) (sym c.settle_after.ensures) did in
       let made : ℕ × Act = (c.in-Some.stamp, c.in-Ok-Local.act) in
       let t : Turn Act Token = record { at = c.in-Some.stamp; it = Own c.in-Ok-Local.act } in
       subst (λ b. Uses plan n 1 (worker_state a) b) (sym c.log.ensures) (uses_one plan n (worker_state a)
-      (record { actor = next; clock = c.in-Some.stamp; keeps = a.keeps; log = a.acts.items ++ kept a.keeps (made ∷ []); outs = mid; ins = a.ins.items; words = a.words })
-      t makes.1 c.in-Some.ensures tt tt refl refl refl refl
+      (record { actor = c.turn.new.self; clock = c.in-Some.stamp; keeps = a.keeps; log = a.acts.items ++ kept a.keeps (made ∷ []); outs = mid; ins = a.ins.items; words = a.words })
+      t did.1 c.in-Some.ensures tt tt refl refl refl refl
       (sends_quiet (t ∷ []) (λ l. refl) a.outs.ends.items mid outs')
       (receives_quiet (t ∷ []) (λ l. refl) a.ins.items a.ins.items (zip_same InLooked in_looked_same a.ins.items)));
   rests = λ plan n of. tt;
