@@ -1,4 +1,4 @@
-use Rattle.std.proofs.Common.{ℕ, ◌≤◌, ◌-◌}
+use Rattle.std.proofs.Common.{◌≤◌, ◌-◌}
 use Rattle.vc_text.specs.Private.Simulating.{LeadsOn}
 use Rattle.vc_text.proofs.simulation.Simulation.rounds.Given as goal
 
