@@ -1,11 +1,10 @@
 -- By which links ways go out, as bits, and where ways lead.
-use Rattle.std.proofs.Common.{◌≡◌, ◌↔◌, ℕ, zero, suc, ◌+◌, ◌-◌, ◌*◌, ◌/◌, ◌%◌, ◌<◌, ◌≤◌, ◌==◌, ◌&&◌, Bool, true, false, not, nat_lt, is_some, List, [], ◌∷◌, ◌++◌, length, take, get_or, slice_get, Option, Some, None, refl, sym, ap, ◌∙◌, subst, arith, inl, inr, if◌then◌else◌, eq-eqb}
+use Rattle.std.proofs.Common.{◌≡◌, ◌↔◌, ℕ, zero, suc, ◌+◌, ◌-◌, ◌*◌, ◌/◌, ◌%◌, ◌<◌, ◌≤◌, ◌==◌, ◌&&◌, Bool, true, false, not, nat_lt, is_some, List, [], ◌∷◌, ◌++◌, length, take, get_or, slice_get, slice_set, Option, Some, None, refl, sym, ap, ◌∙◌, subst, arith, inl, inr, if◌then◌else◌, eq-eqb}
 use Rattle.std.proofs.lemmas.Bool.{cases_lt}
 use Rattle.std.proofs.lemmas.Bool.Decides.{nat_tests}
-use Rattle.std.proofs.lemmas.List.{get_or_append_left, length-map}
+use Rattle.std.proofs.lemmas.List.{length-map}
 use Rattle.std.proofs.lemmas.Nat.Bits.{bit_at-zero}
-use Rattle.std.proofs.lemmas.Option.{slice_get_past, slice_get_within}
-use Rattle.std.proofs.Math.Seq.{get_or-append_seam}
+use Rattle.std.proofs.lemmas.Option.{slice_get-get_or, slice_get_past, slice_get_within}
 use Rattle.std.specs.Int.{bit_at}
 use Rattle.std.specs.Option.{option_map}
 use Rattle.vc_network.specs.Plan.{back, far, ways, IsInto}
@@ -22,12 +21,14 @@ use Rattle.vc_machine.specs.Paths.{AtNode, AtSwitch}
 use Rattle.vc_plan.specs.declared.port.Spot.{Spot}
 use Rattle.vc_plan.specs.declared.port.Spot.TheVariants.{Node, Switch}
 use Rattle.vc_accepted.proofs.Crossing.{wire_is}
+use Rattle.vc_accepted.proofs.Limited.{kept}
 use Rattle.vc_accepted.proofs.Listed.{there as found_there}
 use Rattle.vc_accepted.proofs.Ported.{side_of}
 use Rattle.vc_accepted.proofs.Wired.{incoming_is, link_is_at, wired}
 use Rattle.vc_core.specs.Wired.{there, out_at, in_at, AreWaysAt, IsWired, AreRooms, AreEnds}
 use Rattle.vc_core.specs.Private.Wired.{end_at, ends_of}
 use Rattle.vc_core.specs.declared.ends.End.{End}
+use Rattle.vc_core.proofs.Bits.{elsewhere, there_now}
 
 -- the port that a link stands for names its actor and the link
 
@@ -70,13 +71,13 @@ none_past out k l past = by_test (nat_lt l 32)
     by_test true = gone
     by_test false = refl
 
-pub rooms_more : (out : List (Option ℕ)) (old : List ℕ) (room n : ℕ) → length old ≡ n →
+pub rooms_more : (out : List (Option ℕ)) (old : List ℕ) (room n : ℕ) → n < length old →
     ((k l : ℕ) → k < n → l < 32 → (bit_at (get_or old k 0) l ≡ 1) ↔ IsWired out k l) → ((l : ℕ) → l < 32 → (bit_at room l ≡ 1) ↔ IsWired out n l) →
-    (k l : ℕ) → k < n + 1 → l < 32 → (bit_at (get_or (old ++ room ∷ []) k 0) l ≡ 1) ↔ IsWired out k l
-rooms_more out old room n count before one k l less few = elim (cases_lt k n) [
-  | inl sooner ↦ subst (λ z. (bit_at z l ≡ 1) ↔ IsWired out k l) (sym (get_or_append_left old (room ∷ []) 0 k (let c = count in omega arith))) (before k l sooner few)
+    (k l : ℕ) → k < n + 1 → l < 32 → (bit_at (get_or (slice_set old n room) k 0) l ≡ 1) ↔ IsWired out k l
+rooms_more out old room n within before one k l less few = elim (cases_lt k n) [
+  | inl sooner ↦ subst (λ z. (bit_at z l ≡ 1) ↔ IsWired out k l) (sym (elsewhere old n k room (λ same. omega arith))) (before k l sooner few)
   | inr later ↦ (let same : k ≡ n = omega arith in
-      let here : get_or (old ++ room ∷ []) k 0 ≡ room = ap (λ z. get_or (old ++ room ∷ []) z 0) (same ∙ sym count) ∙ get_or-append_seam old room [] 0 in
+      let here : get_or (slice_set old n room) k 0 ≡ room = ap (λ z. get_or (slice_set old n room) z 0) same ∙ there_now old n (get_or old n 0) room (slice_get-get_or old n 0 within) in
       subst (λ z. (bit_at z l ≡ 1) ↔ IsWired out k l) (sym here) (subst (λ z. (bit_at room l ≡ 1) ↔ IsWired out z l) (sym same) (one l few)))
 ]
 
@@ -93,6 +94,10 @@ rooms_all out rooms n count long told k l few = elim (cases_lt k n) [
     (λ w. absurd (let none = none_past out k l (omega arith) in let e = w.1 in cc)),
   )
 ]
+
+-- the nodes and the switches together
+pub few_actors : (p : Plan) → IsAccepted p → length p.nodes + length p.switches ≤ 64
+few_actors p acc = let k = kept p acc in let n = k.nodes in let m = k.switches in grind (arith, nat_tests)
 
 -- a way of an actor is in the table
 pub out_within : (out : List (Option ℕ)) (k l w : ℕ) → out_at out k l ≡ Some w → k * 32 + l < length out

@@ -24,7 +24,7 @@ use Rattle.vc_core.specs.Turns.{FindsFront}
 use Rattle.vc_core.proofs.Enabled.{has}
 use Rattle.vc_actor.proofs.Masks.{not_both}
 use Rattle.vc_core.proofs.Replayed.{no_token}
-use Rattle.vc_core.proofs.Leading.{out_within, in_out}
+use Rattle.vc_core.proofs.Leading.{few_actors, out_within, in_out}
 use Rattle.vc_core.proofs.Turning.{few_at}
 
 pub in_few : (wiring : List (Option ℕ)) (k l w : ℕ) → in_at wiring k l ≡ Some w → l < 32
@@ -43,12 +43,12 @@ empty_at ways all w t rest e = let z : t ∷ rest ≡ [] = sym (ap (shown_or [] 
 
 pub at_first : (p : Plan) → IsAccepted p → (wiring : List (Option ℕ)) (ways : List (List Token)) (fronts : List ℕ) → AreWaysAt p wiring → length wiring ≡ (length p.nodes + length p.switches) * 32 →
     ((k l j i way : ℕ) → in_at wiring k l ≡ Some way → in_at wiring j i ≡ Some way → (j ≡ k) × (i ≡ l)) → length ways ≡ 2 * length p.wires → AllByRecursion (λ way. way ≡ []) ways →
-    length fronts ≡ length p.nodes + length p.switches → ((k : ℕ) → get_or fronts k 0 ≡ 0) → AreLined wiring ways fronts
+    length fronts ≡ 256 → ((k : ℕ) → get_or fronts k 0 ≡ 0) → AreLined wiring ways fronts
 at_first p acc wiring ways fronts tells long one count empty actors none = record {
   real = λ k l w out. (let o = (outgoing_is p acc k l w).0 (sym (tells k l) ∙ out) in let less = o.0 in let many = length-map p.wires wire_of in omega arith);
   near = λ k l w into. (let o = (incoming_is p acc k l w).0 (sym (ap (option_map back) (tells k l)) ∙ into) in let less = o.0 in let many = length-map p.wires wire_of in omega arith);
   one = one;
-  long = λ k l w into. (let v = in_out (out_at wiring k l) w into in let within = out_within wiring k l v.0 v.1 in omega arith);
+  long = λ k l w into. (let v = in_out (out_at wiring k l) w into in let within = out_within wiring k l v.0 v.1 in let few = few_actors p acc in omega (arith, within, long, actors, few));
   told = λ k l few. (
     (λ t. absurd (let z : bit_of fronts k l ≡ 0 = ap (λ y. bit_at y l) (none k) ∙ bit_at-zero l in omega (arith, z, t))),
     (λ f. absurd (empty_at ways empty f.way f.token f.rest f.stands)),

@@ -1,5 +1,5 @@
 -- By which way a body leaves a switch of the network, as the code finds it.
-use Rattle.std.proofs.Common.{◌≡◌, ℕ, ◌+◌, ◌≤◌, List, length, Option, Some, None, slice_get, refl, arith, sym, ap, ◌∙◌, subst}
+use Rattle.std.proofs.Common.{◌≡◌, ℕ, ◌+◌, ◌≤◌, List, Option, Some, None, slice_get, refl, arith, sym, ap, ◌∙◌, subst}
 use Rattle.vc_machine.specs.Machine.{BodyLeaves}
 use Rattle.vc_machine.specs.Paths.{AtSwitch}
 use Rattle.vc_network.specs.Plan.{IsOutOf, net_of}
@@ -7,11 +7,8 @@ use Rattle.vc_plan.specs.declared.plan.Plan.{Plan}
 use Rattle.vc_labels.specs.declared.action.Action.TheVariants.{Out}
 use Rattle.vc_labels.specs.Interval.{action_for}
 use Rattle.vc_accepted.specs.NetworkOf.{network_of}
-use Rattle.std.proofs.lemmas.Bool.Decides.{nat_tests}
-use Rattle.vc_plan.specs.Accepted.{IsAccepted}
 use Rattle.vc_accepted.specs.Outgoing.{outgoing}
 use Rattle.vc_accepted.proofs.Accepting.{accepted}
-use Rattle.vc_accepted.proofs.Limited.{kept}
 use Rattle.vc_accepted.proofs.Wired.{outgoing_is}
 use Rattle.vc_switch.specs.State.{State as SwitchState, plan_of}
 use Rattle.vc_switch.specs.Switch as switch
@@ -20,6 +17,7 @@ use Rattle.vc_actor.specs.Private.Parts.{switch_at}
 use Rattle.vc_core.specs.State.{State, IsNetworkOf}
 use Rattle.vc_core.specs.Wired.{out_at}
 use Rattle.vc_core.proofs.Enabled.{real_out}
+use Rattle.vc_core.proofs.Leading.{few_actors}
 use Rattle.vc_core.proofs.Placing.{switch_plan_is, no_switch_there, no_switch_plan}
 use Rattle.vc_actor.proofs.Switching.{port_is}
 
@@ -87,9 +85,6 @@ by_way p s k link way x b left is here leaves out =
     }
 
 -- no way goes out of an actor past them all
-pub few_actors : (p : Plan) → IsAccepted p → length p.nodes + length p.switches ≤ 64
-few_actors p acc = let k = kept p acc in let n = k.nodes in let m = k.switches in grind (arith, nat_tests)
-
 pub none_far : (p : Plan) (s : State) (k link : ℕ) → IsNetworkOf p s → 256 ≤ s.nodes + k → None ≡ out_at s.wiring (s.nodes + k) link
 none_far p s k link is past = by_way_out (outgoing p (s.nodes + k) link) refl
   where

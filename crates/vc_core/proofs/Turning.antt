@@ -27,7 +27,6 @@ use Rattle.vc_core.specs.Wired.{out_at, there}
 use Rattle.vc_actor.specs.declared.act.Act.{Act}
 use Rattle.vc_actor.specs.declared.act.Act.TheVariants as act
 use Rattle.vc_actor.specs.declared.act.ActKind.{ActKind}
-use Rattle.vc_actor.specs.declared.act.ActKind.TheVariants as kind
 use Rattle.vc_core.specs.declared.event.Event.{Event}
 use Rattle.vc_actor.specs.declared.node.Node.{Node}
 use Rattle.vc_core.proofs.Happening.{state_at}

@@ -1,18 +1,17 @@
 //! By which links of which actors tokens come, as bits.
-ghost use Rattle.std.specs.Prelude.{◌≡◌, ◌<◌, ℕ, IfOk, length, get_or};
+ghost use Rattle.std.specs.Prelude.{◌≡◌, ◌<◌, ℕ, length, get_or, replicate};
 ghost use Rattle.std.specs.Int.{bit_at};
 ghost use Rattle.vc_core.specs.Fronts.{HasBit};
 ghost use Rattle.vc_core.specs.Private.Fronts.{Marked};
 
-use std::alloc::Global;
 use std::marker::Model;
 use vc_actor::without;
-use vc_packets::Memory;
 
 /// For each actor a bit for each link by which a token comes.
 #[derive(Drop)]
 pub(crate) struct Fronts {
-    links: Vec<u32>,
+    // by the actor's number, of which there are so many
+    links: [u32; 256],
     // a bit for each of the first 64 actors with a bit
     awake: u64,
 }
@@ -23,29 +22,35 @@ impl Model for Fronts {
 
     ghost Value = { List ℕ };
 
-    ghost view = { λ x. x.links.items };
+    ghost view = { λ x. x.links };
 
-    ghost invariant = { λ x. AreAwake x.links.items x.awake };
+    ghost invariant = { λ x. AreAwake x.links x.awake };
+}
+
+// No link of any actor.
+fn no_links() -> [u32; 256]
+    ensures { result ≡ replicate 256 0 }
+{
+    [0; 256]
 }
 
 impl Fronts {
-    /// So many actors, to which no token comes.
-    pub(crate) fn new(alloc: Global, actors: usize) -> Result<Fronts, Memory>
-        ensures count { IfOk result (λ fronts. length fronts ≡ actors) }
-        ensures none { IfOk result (λ fronts. (k : ℕ) → get_or fronts k 0 ≡ 0) }
+    /// No token comes to any actor.
+    pub(crate) fn new() -> Fronts
+        ensures count { length result ≡ 256 }
+        ensures none { (k : ℕ) → get_or result k 0 ≡ 0 }
     {
-        let links = vec![in alloc; 0; actors]?;
-        Ok(Fronts { links, awake: 0 })
+        Fronts {
+            links: no_links(),
+            awake: 0,
+        }
     }
 
     /// A bit for each link of an actor by which a token comes.
     pub(crate) fn links(&self, actor: u8) -> u32
         ensures { result ≡ get_or self.now actor 0 }
     {
-        match self.links.get(usize::from(actor)) {
-            Some(links) => *links,
-            None => 0,
-        }
+        self.links[usize::from(actor)]
     }
 
     /// A bit for each of the first 64 actors to which a token comes.

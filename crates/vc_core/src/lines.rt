@@ -46,12 +46,10 @@ impl Lines {
         ensures count { IfOk result (λ lines. length lines.ways ≡ 2 * length plan.now.wires) }
         ensures empty { IfOk result (λ lines. AllByRecursion (λ way. way ≡ []) lines.ways) }
     {
-        let nodes = plan.nodes.len();
-        let switches = plan.switches.len();
         let wires = plan.wires.len();
         let wiring = Wiring::new(alloc, plan)?;
         let ways = ways_of(alloc, wires)?;
-        let fronts = Fronts::new(alloc, nodes + switches)?;
+        let fronts = Fronts::new();
         Ok(Lines {
             wiring,
             ways,

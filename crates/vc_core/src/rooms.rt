@@ -1,11 +1,9 @@
 //! By which links of each actor a way goes out.
-ghost use Rattle.std.specs.Prelude.{◌≡◌, ◌↔◌, ◌≤◌, ◌<◌, ℕ, IfOk, is_some, length};
+ghost use Rattle.std.specs.Prelude.{◌≡◌, ◌↔◌, ◌≤◌, ◌<◌, ℕ, is_some, length};
 ghost use Rattle.std.specs.Int.{bit_at};
 ghost use Rattle.vc_core.specs.Wired.{out_at, IsWired, AreRooms};
 
 use crate::wiring::LINKS;
-use std::alloc::Global;
-use vc_packets::Memory;
 
 // Whether a way goes out by a link.
 fn is_wired(out: &[Option<u16>], actor: usize, link: u8) -> bool
@@ -34,13 +32,13 @@ fn room_of(out: &[Option<u16>], actor: usize) -> u32
 }
 
 /// For each actor a bit for each link by which a way goes out.
-pub(crate) fn rooms_of(alloc: Global, out: &[Option<u16>]) -> Result<Vec<u32>, Memory>
-    requires { length out.now ≤ 20480 }
-    ensures { IfOk result (λ rooms. AreRooms out.now rooms.items) }
+pub(crate) fn rooms_of(out: &[Option<u16>]) -> [u32; 256]
+    requires { length out.now ≤ 8192 }
+    ensures { AreRooms out.now result }
 {
-    let mut rooms = Vec::new(alloc);
-    for actor in 0..out.len() / LINKS + 1 {
-        rooms.push(room_of(out, actor))?;
+    let mut rooms = [0; 256];
+    for actor in 0..256 {
+        rooms[actor] = room_of(out, actor);
     }
-    Ok(rooms)
+    rooms
 }

@@ -23,7 +23,7 @@ pub(crate) const LINKS: usize = 32;
 pub(crate) struct Wiring {
     out: Vec<Option<u16>>,
     // for each actor a bit for each link by which a way goes out
-    rooms: Vec<u32>,
+    rooms: [u32; 256],
     // the port to which each way leads
     ends: Vec<End>,
 }
@@ -37,7 +37,7 @@ impl Model for Wiring {
     ghost view = { λ x. x.out.items };
 
     ghost invariant = { λ x.
-        AreRooms x.out.items x.rooms.items × AreEnds x.out.items x.ends.items };
+        AreRooms x.out.items x.rooms × AreEnds x.out.items x.ends.items };
 }
 
 impl Wiring {
@@ -55,7 +55,7 @@ impl Wiring {
             (j ≡ k) × (i ≡ l)) }
     {
         let out = ways_out(alloc, plan)?;
-        let rooms = rooms_of(alloc, out.as_slice())?;
+        let rooms = rooms_of(out.as_slice());
         let ends = ends_of(alloc, plan)?;
         Ok(Wiring { out, rooms, ends })
     }
@@ -64,10 +64,7 @@ impl Wiring {
     pub(crate) fn room(&self, actor: u8) -> u32
         ensures { (link : ℕ) → link < 32 → (bit_at result link ≡ 1) ↔ IsWired self.now actor link }
     {
-        match at(self.rooms.as_slice(), usize::from(actor)) {
-            Some(room) => *room,
-            None => 0,
-        }
+        self.rooms[usize::from(actor)]
     }
 
     /// The port to which a way leads.

@@ -5,6 +5,7 @@ use itoa::Buffer;
 use vc_packets::Memory;
 
 /// Adds a number to a text, in decimal. It fails for want of memory alone.
+#[inline(always)]
 pub fn push_number(out: &mut Vec<u8>, n: u64) -> Result<(), Memory>
     ensures { OnOk result (out.new.items ≡ out.old.items ++ decimal n) }
 {

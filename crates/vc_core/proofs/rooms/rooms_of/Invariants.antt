@@ -5,6 +5,6 @@ use Rattle.vc_core.proofs.rooms.rooms_of.Given as goal
 
 abbrev pub invariant-loop-actor : goal.invariant-loop-actor
 invariant-loop-actor l = record {
-  count : length l.rooms.items ≡ l.actor;
-  told : (actor link : ℕ) → actor < l.actor → link < 32 → (bit_at (get_or l.rooms.items actor 0) link ≡ 1) ↔ IsWired l.out actor link;
+  count : length l.rooms ≡ 256;
+  told : (actor link : ℕ) → actor < l.actor → link < 32 → (bit_at (get_or l.rooms actor 0) link ≡ 1) ↔ IsWired l.out actor link;
 }

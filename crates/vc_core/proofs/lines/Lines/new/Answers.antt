@@ -1,10 +1,10 @@
-use Rattle.std.proofs.Common.{◌+◌, ◌*◌, ap, ◌∙◌}
+use Rattle.std.proofs.Common.{◌*◌, ap, ◌∙◌}
 use Rattle.vc_core.proofs.Lined.{at_first}
 use Rattle.vc_core.proofs.lines.Lines.new.Goals as goal
 
 pub invariant_of-result : goal.invariant_of-result
 invariant_of-result c =
     let w = c.in_ok-wiring.ensures in
-    at_first c.args.plan.now c.requires c.in_ok-wiring.wiring c.in_ok-ways.ways.items c.in_ok-fronts.fronts w.tells w.long w.one
+    at_first c.args.plan.now c.requires c.in_ok-wiring.wiring c.in_ok-ways.ways.items c.new-fronts.result w.tells w.long w.one
     (c.in_ok-ways.ensures.count ∙ ap (λ n. 2 * n) c.len-wires.ensures) c.in_ok-ways.ensures.empty
-    (c.in_ok-fronts.ensures.count ∙ (λ i. c.len-nodes.ensures i + c.len-switches.ensures i)) c.in_ok-fronts.ensures.none
+    c.new-fronts.ensures.count c.new-fronts.ensures.none

@@ -6,7 +6,7 @@ use Rattle.vc_core.proofs.wiring.Wiring.new.Goals as goal
 pub invariant_of-result : goal.invariant_of-result
 invariant_of-result c =
     let out = c.in_ok-out.out.items in (
-      subst (λ o. AreRooms o c.in_ok-rooms.rooms.items) c.as_slice.ensures.value c.in_ok-rooms.ensures,
+      subst (λ o. AreRooms o c.rooms_of-rooms.result) c.as_slice.ensures.value c.rooms_of-rooms.ensures,
       subst (AreEnds out) (sym c.in_ok-ends.ensures) (are_ends c.args.plan.now c.requires out c.in_ok-out.ensures.tells),
     )
 
