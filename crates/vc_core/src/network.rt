@@ -26,7 +26,6 @@ ghost use Rattle.vc_actor.specs.OfPlan.{IsActorOf};
 ghost use Rattle.vc_actor.specs.Shown.{Acting, actor_of};
 ghost use Rattle.vc_actor.specs.Turns.{TakesNone, actors};
 ghost use Rattle.vc_core.specs.Turns.{FindsFront, FindsTake, FindsEvent, FindsEventOf, AllHaveEnded};
-ghost use Rattle.vc_core.specs.Private.Turns.{IsRoom};
 ghost use Rattle.vc_core.specs.declared.event.Event.{Event as Happening};
 ghost use Rattle.vc_core.specs.State.{shown, state_of, IsNetworkOf, MayHappen, WaysLet, HasFront, HasWay, MakesEvent, MakesOne, MayActAt};
 ghost use Rattle.vc_core.specs.Private.State.{Accepts, GrantsBy};
@@ -425,30 +424,7 @@ impl Network {
             IfOk result (λ made. MakesOne p (state_of self.old) made (state_of self.new)) }
         ensures refused { OnErr result (state_of self.new ≡ state_of self.old) }
     {
-        let place = usize::from(actor);
-        if place >= self.actors.len() {
-            return Ok(None);
-        }
-        let room = self.lines.room(actor);
-        self.turn_of(actor, kind, room)
-    }
-
-    // An actor makes an event of this kind where every way has room; nothing where it has none. `room` has a bit for each of its
-    // links by which a way goes out.
-    #[inline(always)]
-    fn turn_of(&mut self, actor: u8, kind: ActKind, room: u32) -> Result<Option<Event>, Memory>
-        requires here { actor < length (state_of self.old).actors }
-        requires room { IsRoom (state_of self.old) actor room }
-        ensures finds { (p : Plan) →
-            IsNetworkOf p (state_of self.old) →
-            IfOk result (FindsEventOf kind p (state_of self.old) actor) }
-        ensures makes { (p : Plan) →
-            IsNetworkOf p (state_of self.old) →
-            IfOk result (λ made. MakesOne p (state_of self.old) made (state_of self.new)) }
-        ensures none { IfOk result (λ made. made ≡ None → state_of self.new ≡ state_of self.old) }
-        ensures refused { OnErr result (state_of self.new ≡ state_of self.old) }
-    {
-        let Some(event) = self.next_of(actor, kind, room)? else {
+        let Some(event) = self.next_of(actor, kind)? else {
             return Ok(None);
         };
         self.make(&event)?;
@@ -456,10 +432,7 @@ impl Network {
     }
 
     // An event of this kind that an actor can make where every way has room; nothing where it has none.
-    #[inline(always)]
-    fn next_of(&mut self, actor: u8, kind: ActKind, room: u32) -> Result<Option<Event>, Memory>
-        requires here { actor < length (state_of self.old).actors }
-        requires room { IsRoom (state_of self.old) actor room }
+    fn next_of(&mut self, actor: u8, kind: ActKind) -> Result<Option<Event>, Memory>
         ensures same { state_of self.new ≡ state_of self.old }
         ensures may { IfOk result
             (λ found. IfSome found (λ e. MayActAt (state_of self.old) e.actor e.act)) }
@@ -467,7 +440,12 @@ impl Network {
             IsNetworkOf p (state_of self.old) →
             IfOk result (FindsEventOf kind p (state_of self.old) actor) }
     {
-        match self.actors[usize::from(actor)].next_of(kind, room)? {
+        let place = usize::from(actor);
+        if place >= self.actors.len() {
+            return Ok(None);
+        }
+        let room = self.lines.room(actor);
+        match self.actors[place].next_of(kind, room)? {
             Some(act) => Ok(Some(Event { actor, act })),
             None => Ok(None),
         }

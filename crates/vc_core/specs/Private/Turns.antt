@@ -1,15 +1,10 @@
 -- What an actor's turn is to the network; and when no event can happen at all.
-use Rattle.std.specs.Prelude.{◌≡◌, ◌↔◌, ℕ, ◌<◌, Bool, true, false, None}
+use Rattle.std.specs.Prelude.{ℕ, Bool, true, false, None}
 use Rattle.vc_plan.specs.declared.plan.Plan.{Plan as Given}
 use Rattle.vc_core.specs.Enabled.{CanHappen}
-use Rattle.std.specs.Int.{bit_at}
-use Rattle.vc_core.specs.State.{State, shown, HasWay}
+use Rattle.vc_core.specs.State.{State, shown}
 use Rattle.vc_core.specs.declared.event.Event.{Event}
 use Rattle.vc_core.specs.Turns.{FindsEvent, FindsTake, IsAtRestIn}
-
--- room has a bit for each link by which a way goes out
-abbrev pub IsRoom : State → ℕ → ℕ → Type 0
-IsRoom s k room = (link : ℕ) → link < 32 → (bit_at room link ≡ 1) ↔ HasWay s k link
 
 -- actor k has no event
 pub record Rests (p : Given) (s : State) (k : ℕ) : Type 0 where
