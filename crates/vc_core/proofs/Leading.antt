@@ -5,6 +5,7 @@ use Rattle.std.proofs.lemmas.Bool.Decides.{nat_tests}
 use Rattle.std.proofs.lemmas.List.{length-map}
 use Rattle.std.proofs.lemmas.Nat.Bits.{bit_at-zero}
 use Rattle.std.proofs.lemmas.Option.{slice_get-get_or, slice_get_past, slice_get_within}
+use Rattle.std.proofs.Math.ListN.{get_or-eq_default}
 use Rattle.std.specs.Int.{bit_at}
 use Rattle.std.specs.Option.{option_map}
 use Rattle.vc_network.specs.Plan.{back, far, ways, IsInto}
@@ -81,16 +82,11 @@ rooms_more out old room n within before one k l less few = elim (cases_lt k n) [
       subst (λ z. (bit_at z l ≡ 1) ↔ IsWired out k l) (sym here) (subst (λ z. (bit_at room l ≡ 1) ↔ IsWired out z l) (sym same) (one l few)))
 ]
 
-past_zero : (xs : List ℕ) (k : ℕ) → length xs ≤ k → get_or xs k 0 ≡ 0
-past_zero [] k past = refl
-past_zero (x ∷ xs) zero past = absurd (omega arith)
-past_zero (x ∷ xs) (suc k) past = past_zero xs k (omega arith)
-
 pub rooms_all : (out : List (Option ℕ)) (rooms : List ℕ) (n : ℕ) → length rooms ≡ n → length out ≤ n * 32 → ((k l : ℕ) → k < n → l < 32 → (bit_at (get_or rooms k 0) l ≡ 1) ↔ IsWired out k l) → AreRooms out rooms
 rooms_all out rooms n count long told k l few = elim (cases_lt k n) [
   | inl less ↦ told k l less few
   | inr past ↦ (
-    (λ t. absurd (let z : bit_at (get_or rooms k 0) l ≡ 0 = ap (λ y. bit_at y l) (past_zero rooms k (let c = count in omega arith)) ∙ bit_at-zero l in omega (arith, z, t))),
+    (λ t. absurd (let z : bit_at (get_or rooms k 0) l ≡ 0 = ap (λ y. bit_at y l) (get_or-eq_default rooms 0 {n = k} (let c = count in omega arith)) ∙ bit_at-zero l in omega (arith, z, t))),
     (λ w. absurd (let none = none_past out k l (omega arith) in let e = w.1 in cc)),
   )
 ]
