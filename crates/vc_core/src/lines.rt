@@ -141,7 +141,7 @@ impl Lines {
         ensures { TakesOff self.old actor link result self.new }
     {
         let way = self.wiring.incoming(actor, link)?;
-        let line = self.ways.get_mut(way)?;
+        let line = &mut self.ways[way];
         let token = line.take()?;
         if line.is_empty() {
             self.fronts.clear(actor, link);

@@ -1,5 +1,4 @@
-use Rattle.std.proofs.Common.{◌≡◌, ◌<◌, length, slice_get, slice_set, None, Some, refl, sym, ap, ◌∙◌, subst}
-use Rattle.std.proofs.lemmas.Bool.{false≢true}
+use Rattle.std.proofs.Common.{◌≡◌, length, slice_get, slice_set, None, Some, refl, sym, ap, ◌∙◌, subst}
 use Rattle.std.proofs.lemmas.Option.{slice_get_read}
 use Rattle.vc_tokens.specs.Spelt.{token as spelt}
 use Rattle.vc_core.specs.Lined.{Lined, AreLined}
@@ -17,30 +16,22 @@ returns-in_err-way c =
     subst (λ o. TakesOff n c.args.actor c.args.link o n) (sym c.from_residual.ensures) (refl, (λ f. no_some f.way (none ∙ f.into)))
 
 pub invariant_of-self : goal.invariant_of-self
-invariant_of-self c = c.self.invariant
-
-pub returns-in_err-line : goal.returns-in_err-line
-returns-in_err-line c =
-    let less = c.self.invariant.near c.args.actor c.args.link c.in_ok-way.way (sym c.in_ok-way.ensures) in
-    absurd (false≢true (c.in_err-line.ensures.variant.1 (subst (λ n. c.in_ok-way.way < n) (sym c.self.inside.ways.ok.0) less)))
-
-pub invariant_of-self-in_err-token : goal.invariant_of-self-in_err-token
-invariant_of-self-in_err-token c =
+invariant_of-self c =
     let x = c.self.inside in
     let w = c.in_ok-way.way in
-    let read = slice_get_read x.ways.items (length x.ways.items) w c.in_ok-line.line.now refl (c.self.invariant.near c.args.actor c.args.link w (sym c.in_ok-way.ensures)) c.in_ok-line.ensures.value in
-    subst (λ z. AreLined x.wiring z x.fronts) (sym (written_back x.ways.items w c.in_ok-line.line.now c.take.new.self read (c.in_err-token.ensures.1 ∙ sym c.in_err-token.ensures.0))) c.self.invariant
+    let read = slice_get_read x.ways.items (length x.ways.items) w c.index_mut-line.result.now refl (c.self.invariant.near c.args.actor c.args.link w (sym c.in_ok-way.ensures)) c.index_mut-line.ensures.value in
+    subst (λ z. AreLined x.wiring z x.fronts) (sym (written_back x.ways.items w c.index_mut-line.result.now c.take.new.self read (c.in_err-token.ensures.1 ∙ sym c.in_err-token.ensures.0))) c.self.invariant
 
 pub returns-in_err-token : goal.returns-in_err-token
 returns-in_err-token c =
     let x = c.self.inside in
     let w = c.in_ok-way.way in
     let into : in_at x.wiring c.args.actor c.args.link ≡ Some w = sym c.in_ok-way.ensures in
-    let read = slice_get_read x.ways.items (length x.ways.items) w c.in_ok-line.line.now refl (c.self.invariant.near c.args.actor c.args.link w into) c.in_ok-line.ensures.value in
+    let read = slice_get_read x.ways.items (length x.ways.items) w c.index_mut-line.result.now refl (c.self.invariant.near c.args.actor c.args.link w into) c.index_mut-line.ensures.value in
     let after : Lined = record { ways = slice_set x.ways.items w c.take.new.self; wiring = x.wiring } in
-    let same : after ≡ c.args.self.now = (λ i. record { ways = written_back x.ways.items w c.in_ok-line.line.now c.take.new.self read (c.in_err-token.ensures.1 ∙ sym c.in_err-token.ensures.0) i; wiring = x.wiring }) ∙ c.self.view_is in
+    let same : after ≡ c.args.self.now = (λ i. record { ways = written_back x.ways.items w c.index_mut-line.result.now c.take.new.self read (c.in_err-token.ensures.1 ∙ sym c.in_err-token.ensures.0) i; wiring = x.wiring }) ∙ c.self.view_is in
     subst (λ o. TakesOff c.args.self.now c.args.actor c.args.link o after) (sym c.from_residual-in_err-token.ensures)
-    (same, (λ f. none_comes x.wiring x.ways.items c.args.actor c.args.link w c.in_ok-line.line.now into read c.in_err-token.ensures.0 (subst (λ (z : Lined). Comes z.wiring z.ways c.args.actor c.args.link) (sym c.self.view_is) f)))
+    (same, (λ f. none_comes x.wiring x.ways.items c.args.actor c.args.link w c.index_mut-line.result.now into read c.in_err-token.ensures.0 (subst (λ (z : Lined). Comes z.wiring z.ways c.args.actor c.args.link) (sym c.self.view_is) f)))
 
 pub clear-requires-clause-actor : goal.clear-requires-clause-actor
 clear-requires-clause-actor c = c.self.invariant.long c.args.actor c.args.link c.in_ok-way.way (sym c.in_ok-way.ensures)
@@ -61,7 +52,7 @@ invariant_of-self-else-is_empty c =
     let w = c.in_ok-way.way in
     let into : in_at x.wiring c.args.actor c.args.link ≡ Some w = sym c.in_ok-way.ensures in
     let less = c.self.invariant.near c.args.actor c.args.link w into in
-    let read = slice_get_read x.ways.items (length x.ways.items) w c.in_ok-line.line.now refl less c.in_ok-line.ensures.value in
+    let read = slice_get_read x.ways.items (length x.ways.items) w c.index_mut-line.result.now refl less c.index_mut-line.ensures.value in
     let some = not_empty c.take.new.self (λ e. clash c.is_empty.result c.if-is_empty.false (c.is_empty.ensures.1 e)) in
     comes_yet x.wiring x.ways.items x.fronts c.self.invariant w c.take.new.self c.args.actor c.args.link into less some.0 some.1 some.2
     (record { way = w; token = spelt c.in_ok-token.token; rest = c.take.new.self; into = into; stands = read ∙ ap Some c.in_ok-token.ensures })
@@ -71,7 +62,7 @@ returns-then-is_empty c =
     let x = c.self.inside in
     let w = c.in_ok-way.way in
     let into : in_at x.wiring c.args.actor c.args.link ≡ Some w = sym c.in_ok-way.ensures in
-    let read = slice_get_read x.ways.items (length x.ways.items) w c.in_ok-line.line.now refl (c.self.invariant.near c.args.actor c.args.link w into) c.in_ok-line.ensures.value in
+    let read = slice_get_read x.ways.items (length x.ways.items) w c.index_mut-line.result.now refl (c.self.invariant.near c.args.actor c.args.link w into) c.index_mut-line.ensures.value in
     let front : Comes c.args.self.now.wiring c.args.self.now.ways c.args.actor c.args.link = record {
       way = w;
       token = spelt c.in_ok-token.token;
@@ -86,7 +77,7 @@ returns-else-is_empty c =
     let x = c.self.inside in
     let w = c.in_ok-way.way in
     let into : in_at x.wiring c.args.actor c.args.link ≡ Some w = sym c.in_ok-way.ensures in
-    let read = slice_get_read x.ways.items (length x.ways.items) w c.in_ok-line.line.now refl (c.self.invariant.near c.args.actor c.args.link w into) c.in_ok-line.ensures.value in
+    let read = slice_get_read x.ways.items (length x.ways.items) w c.index_mut-line.result.now refl (c.self.invariant.near c.args.actor c.args.link w into) c.index_mut-line.ensures.value in
     let front : Comes c.args.self.now.wiring c.args.self.now.ways c.args.actor c.args.link = record {
       way = w;
       token = spelt c.in_ok-token.token;
