@@ -156,8 +156,8 @@ pub placed : (p : Plan) (s u : State) (e : Event) (l : ℕ) (a b : Acting) (f : 
 placed p s u e l a b f k is_put here puts after is = subst (MakesEvent p s e) (sym after) (put_happens p s e l a b f k is_put is here (puts (network_of p) e.actor (is.actors e.actor a here)))
 
 -- the way that the code found, as the event's
-pub way_found : (s : State) (a l w : ℕ) (f : HasWay s a l) → Some w ≡ out_at s.wiring a l → slice_get s.ways w ≡ Some f.tokens
-way_found s a l w f out = let e : Some w ≡ Some f.way = out ∙ f.out in let same : w ≡ f.way = cc in ap (slice_get s.ways) same ∙ f.stand
+pub way_found : (s : State) (a l w : ℕ) (f : HasWay s a l) → out_at s.wiring a l ≡ Some w → slice_get s.ways w ≡ Some f.tokens
+way_found s a l w f out = let e : Some w ≡ Some f.way = sym out ∙ f.out in let same : w ≡ f.way = cc in ap (slice_get s.ways) same ∙ f.stand
 
-abbrev pub way_is : (s : State) (a l w : ℕ) (f : HasWay s a l) → Some w ≡ out_at s.wiring a l → HasWay s a l
-way_is s a l w f out = record { way = w; tokens = f.tokens; out = sym out; stand = way_found s a l w f out }
+abbrev pub way_is : (s : State) (a l w : ℕ) (f : HasWay s a l) → out_at s.wiring a l ≡ Some w → HasWay s a l
+way_is s a l w f out = record { way = w; tokens = f.tokens; out = out; stand = way_found s a l w f out }

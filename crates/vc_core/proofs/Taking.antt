@@ -1,5 +1,5 @@
 -- A take can happen exactly where its actor has the link and a token comes by it.
-use Rattle.std.proofs.Common.{◌≡◌, ℕ, Option, Some, None, slice_get, refl}
+use Rattle.std.proofs.Common.{◌≡◌, ℕ, Option, Some, None, slice_get, refl, sym, subst}
 use Rattle.vc_plan.specs.declared.plan.Plan.{Plan}
 use Rattle.vc_accepted.specs.NetworkOf.{network_of}
 use Rattle.vc_network.specs.Plan as network
@@ -38,6 +38,10 @@ module _ (p : Plan) (s : State) (is : IsNetworkOf p s) (k l w : ℕ) where
   pub can_at : MayHappen s event → CanHappen p s event
   can_at m = happens p s event m.actor is m.here (can_take p s k l w m.actor m.ways is m.here) m.ways
 
--- the ways let an event that can happen
-pub ways_of : (p : Plan) (s : State) (e : Event) (m : MayActAt s e.actor e.act) → IsNetworkOf p s → CanHappen p s e → WaysLet s e.actor e.act
-ways_of p s e m is can = has_ways p s e m.actor is m.here can
+-- an event that can be made can be made by its actor
+pub acts_at : (s : State) (e : Event) → MayHappen s e → MayActAt s e.actor e.act
+acts_at s e m = record { actor = m.actor; here = m.here; may = m.may }
+
+-- and is one that its actor can make and the ways let
+pub happens_at : (s t : State) (e : Event) → t ≡ s → MayActAt s e.actor e.act → WaysLet s e.actor e.act → MayHappen t e
+happens_at s t e same m lets = subst (λ z. MayHappen z e) (sym same) (record { actor = m.actor; here = m.here; may = m.may; ways = lets })

@@ -72,10 +72,8 @@ few_links (OfSwitch s) (act.Pass l) may = tt
 few_links (OfSwitch s) (act.Take l w) may = tt
 few_links (OfSwitch s) (act.Route l o) may = tt
 
-module _ (p : Plan) (s : State) (k room : ℕ) (bits : (link : ℕ) → link < 32 → (bit_at room link ≡ 1) ↔ HasWay s k link) (is : IsNetworkOf p s) where
-  abbrev event : Act → Event
-  event b = record { actor = k; act = b }
-
+-- the ways let what the room lets
+module _ (s : State) (k room : ℕ) (bits : (link : ℕ) → link < 32 → (bit_at room link ≡ 1) ↔ HasWay s k link) where
   lets_by : (b : Act) → TakesNone b → WaysLet s k b → RoomLets room b
   lets_by (act.Put l) none ways = (bits l (way_few s k l ways)).1 ways
   lets_by (act.Fct l) none ways = (bits l (way_few s k l ways)).1 ways
@@ -84,13 +82,17 @@ module _ (p : Plan) (s : State) (k room : ℕ) (bits : (link : ℕ) → link < 3
   lets_by (act.Take l w) none ways = none
   lets_by (act.Route l o) none ways = tt
 
-  ways_by : (b : Act) → FewLinks b → RoomLets room b → WaysLet s k b
+  pub ways_by : (b : Act) → FewLinks b → RoomLets room b → WaysLet s k b
   ways_by (act.Put l) few lets = (bits l few).0 lets
   ways_by (act.Fct l) few lets = (bits l few).0 lets
   ways_by (act.Proc m) few lets = tt
   ways_by (act.Pass l) few lets = tt
   ways_by (act.Take l w) few lets = absurd lets
   ways_by (act.Route l o) few lets = tt
+
+module _ (p : Plan) (s : State) (k room : ℕ) (bits : (link : ℕ) → link < 32 → (bit_at room link ≡ 1) ↔ HasWay s k link) (is : IsNetworkOf p s) where
+  abbrev event : Act → Event
+  event b = record { actor = k; act = b }
 
   takes_none : (b : Act) → RoomLets room b → TakesNone b
   takes_none (act.Put l) lets = tt
@@ -101,12 +103,12 @@ module _ (p : Plan) (s : State) (k room : ℕ) (bits : (link : ℕ) → link < 3
   takes_none (act.Route l o) lets = tt
 
   pub some_event : (a : Acting) → slice_get s.actors k ≡ Some a → (b : Act) → FewLinks b → IsTurn (network_of p) k a room b → FindsEvent p s k (Some (record { actor = k; act = b }))
-  some_event a here b few t = (refl, takes_none b t.lets, happens p s (event b) a is here t.can (ways_by b few t.lets))
+  some_event a here b few t = (refl, takes_none b t.lets, happens p s (event b) a is here t.can (ways_by s k room bits b few t.lets))
 
   pub no_event : (a : Acting) → slice_get s.actors k ≡ Some a → FindsTurn (network_of p) k a room None → FindsEvent p s k None
   no_event a here none b takes can =
       let act = has_act p s (event b) a is here can in
-      none b (record { can = act; lets = lets_by b takes (has_ways p s (event b) a is here can) })
+      none b (record { can = act; lets = lets_by s k room bits b takes (has_ways p s (event b) a is here can) })
 
   -- of one kind
 
@@ -121,7 +123,7 @@ module _ (p : Plan) (s : State) (k room : ℕ) (bits : (link : ℕ) → link < 3
   pub no_event_of : (z : ActKind) (a : Acting) → slice_get s.actors k ≡ Some a → FindsOf z (network_of p) k a room None → FindsEventOf z p s k None
   no_event_of z a here none b e can =
       let act = has_act p s (event b) a is here can in
-      none b e (record { can = act; lets = lets_by b (takes_of z b e) (has_ways p s (event b) a is here can) })
+      none b e (record { can = act; lets = lets_by s k room bits b (takes_of z b e) (has_ways p s (event b) a is here can) })
 
 pub no_actor : (p : Plan) (s : State) (k : ℕ) → IsNetworkOf p s → slice_get s.actors k ≡ None → FindsEvent p s k None
 no_actor p s k is none b takes can = has_actor p s (record { actor = k; act = b }) is can none

@@ -104,6 +104,15 @@ impl Lines {
         self.wiring.outgoing(actor, link)
     }
 
+    /// The way that goes out by an actor's link, which is on a wire.
+    pub(crate) fn way_out(&self, actor: u8, link: u8) -> usize
+        requires { Goes self.now.wiring self.now.ways actor link }
+        ensures way { out_at self.now.wiring actor link ≡ Some result }
+        ensures real { result < length self.now.ways }
+    {
+        self.wiring.way_out(actor, link)
+    }
+
     /// A bit for each link of an actor by which a way goes out.
     pub(crate) fn room(&self, actor: u8) -> u32
         ensures { (link : ℕ) →

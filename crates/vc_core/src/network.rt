@@ -206,10 +206,9 @@ impl Network {
     // Makes an event that its actor can make, and its ways let it.
     #[inline(always)]
     fn make(&mut self, event: &Event) -> Result<(), Memory>
-        requires { MayActAt (state_of self.old) event.now.actor event.now.act }
+        requires { MayHappen (state_of self.old) event.now }
         ensures makes { (p : Plan) →
             IsNetworkOf p (state_of self.old) →
-            WaysLet (state_of self.old) event.now.actor event.now.act →
             OnOk result (MakesEvent p (state_of self.old) event.now (state_of self.new)) }
         ensures refused { OnErr result (state_of self.new ≡ state_of self.old) }
     {
@@ -229,11 +228,10 @@ impl Network {
     // The same of an event that is no take.
     #[inline(always)]
     fn make_turn(&mut self, event: &Event) -> Result<(), Memory>
-        requires may { MayActAt (state_of self.old) event.now.actor event.now.act }
+        requires may { MayHappen (state_of self.old) event.now }
         requires takes { TakesNone event.now.act }
         ensures makes { (p : Plan) →
             IsNetworkOf p (state_of self.old) →
-            WaysLet (state_of self.old) event.now.actor event.now.act →
             OnOk result (MakesEvent p (state_of self.old) event.now (state_of self.new)) }
         ensures refused { OnErr result (state_of self.new ≡ state_of self.old) }
     {
@@ -309,16 +307,14 @@ impl Network {
     #[inline(always)]
     fn put(&mut self, event: &Event, link: u8) -> Result<(), Memory>
         requires may { MayActAt (state_of self.old) event.now.actor event.now.act }
+        requires way { HasWay (state_of self.old) event.now.actor link }
         requires is { event.now.act ≡ Act.Put link }
         ensures makes { (p : Plan) →
             IsNetworkOf p (state_of self.old) →
-            HasWay (state_of self.old) event.now.actor link →
             OnOk result (MakesEvent p (state_of self.old) event.now (state_of self.new)) }
         ensures refused { OnErr result (state_of self.new ≡ state_of self.old) }
     {
-        let Some(way) = self.lines.outgoing(event.actor, link) else {
-            return Ok(());
-        };
+        let way = self.lines.way_out(event.actor, link);
         self.lines
             .put(way, &mut self.actors[usize::from(event.actor)], link)
     }
@@ -327,16 +323,14 @@ impl Network {
     #[inline(always)]
     fn grant(&mut self, event: &Event, link: u8) -> Result<(), Memory>
         requires may { MayActAt (state_of self.old) event.now.actor event.now.act }
+        requires way { HasWay (state_of self.old) event.now.actor link }
         requires is { event.now.act ≡ Act.Fct link }
         ensures makes { (p : Plan) →
             IsNetworkOf p (state_of self.old) →
-            HasWay (state_of self.old) event.now.actor link →
             OnOk result (MakesEvent p (state_of self.old) event.now (state_of self.new)) }
         ensures refused { OnErr result (state_of self.new ≡ state_of self.old) }
     {
-        let Some(way) = self.lines.outgoing(event.actor, link) else {
-            return Ok(());
-        };
+        let way = self.lines.way_out(event.actor, link);
         self.lines.push(way, Token::Fct)?;
         self.grant_by(event.actor, link);
         Ok(())
@@ -381,6 +375,8 @@ impl Network {
         ensures same { state_of self.new ≡ state_of self.old }
         ensures may { IfOk result
             (λ found. IfSome found (λ e. MayActAt (state_of self.old) e.actor e.act)) }
+        ensures lets { IfOk result
+            (λ found. IfSome found (λ e. WaysLet (state_of self.old) e.actor e.act)) }
         ensures takes { IfOk result (λ found. IfSome found (λ e. TakesNone e.act)) }
         ensures finds { (p : Plan) →
             IsNetworkOf p (state_of self.old) →
@@ -436,6 +432,8 @@ impl Network {
         ensures same { state_of self.new ≡ state_of self.old }
         ensures may { IfOk result
             (λ found. IfSome found (λ e. MayActAt (state_of self.old) e.actor e.act)) }
+        ensures lets { IfOk result
+            (λ found. IfSome found (λ e. WaysLet (state_of self.old) e.actor e.act)) }
         ensures finds { (p : Plan) →
             IsNetworkOf p (state_of self.old) →
             IfOk result (FindsEventOf kind p (state_of self.old) actor) }

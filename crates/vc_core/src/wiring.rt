@@ -94,6 +94,17 @@ impl Wiring {
         }
     }
 
+    /// The way that goes out by an actor's link, which is on a wire.
+    pub(crate) fn way_out(&self, actor: u8, link: u8) -> usize
+        requires { IsWired self.now actor link }
+        ensures { out_at self.now actor link ≡ Some result }
+    {
+        match self.out[usize::from(actor) * LINKS + usize::from(link)] {
+            Some(way) => usize::from(way),
+            None => unreachable!(),
+        }
+    }
+
     /// The way that comes in by a link of an actor, if the link is on a wire.
     pub(crate) fn incoming(&self, actor: u8, link: u8) -> Option<usize>
         ensures { result ≡ in_at self.now actor link }

@@ -1,15 +1,19 @@
 use Rattle.std.proofs.Common.{subst}
 use Rattle.vc_core.specs.State.{state_of, WaysLet}
+use Rattle.vc_core.proofs.Taking.{acts_at}
 use Rattle.vc_core.proofs.network.Network.make_turn.Goals as goal
 
 pub act-requires-clause-may : goal.act-requires-clause-may
-act-requires-clause-may c = c.requires.may
+act-requires-clause-may c = acts_at (state_of c.args.self.now) c.args.event.now c.requires.may
 
-pub returns-in-Proc-clause-makes : goal.returns-in-Proc-clause-makes
-returns-in-Proc-clause-makes c = λ p is lets. c.act.ensures.makes p is
+pub put-requires-clause-may : goal.put-requires-clause-may
+put-requires-clause-may c = acts_at (state_of c.args.self.now) c.args.event.now c.requires.may
 
-pub returns-in-Put-clause-makes : goal.returns-in-Put-clause-makes
-returns-in-Put-clause-makes c = λ p is lets. c.put.ensures.makes p is (subst (WaysLet (state_of c.args.self.now) c.args.event.now.actor) c.in-Put.is lets)
+pub put-requires-clause-way : goal.put-requires-clause-way
+put-requires-clause-way c = subst (WaysLet (state_of c.args.self.now) c.args.event.now.actor) c.in-Put.is c.requires.may.ways
 
-pub returns-in-Fct-clause-makes : goal.returns-in-Fct-clause-makes
-returns-in-Fct-clause-makes c = λ p is lets. c.grant.ensures.makes p is (subst (WaysLet (state_of c.args.self.now) c.args.event.now.actor) c.in-Fct.is lets)
+pub grant-requires-clause-may : goal.grant-requires-clause-may
+grant-requires-clause-may c = acts_at (state_of c.args.self.now) c.args.event.now c.requires.may
+
+pub grant-requires-clause-way : goal.grant-requires-clause-way
+grant-requires-clause-way c = subst (WaysLet (state_of c.args.self.now) c.args.event.now.actor) c.in-Fct.is c.requires.may.ways

@@ -2,9 +2,9 @@ use Rattle.std.proofs.Common.{◌≡◌, ◌<◌, ◌≤◌, length, slice_get, 
 use Rattle.std.proofs.lemmas.Option.{slice_get_read, slice_get_past}
 use Rattle.vc_actor.specs.Acting.{MayAct}
 use Rattle.vc_core.specs.State.{state_of}
-use Rattle.vc_actor.specs.Turns.{FindsOf, TakesNone, kind_of}
+use Rattle.vc_actor.specs.Turns.{FindsOf, RoomLets, TakesNone, kind_of}
 use Rattle.vc_core.proofs.Staying.{unchanged}
-use Rattle.vc_core.proofs.Turning.{some_event, no_event_of, no_actor, few_links}
+use Rattle.vc_core.proofs.Turning.{some_event, no_event_of, no_actor, few_links, ways_by}
 use Rattle.vc_actor.specs.declared.act.Act.{Act}
 use Rattle.vc_actor.specs.declared.act.Act.TheVariants.{Proc, Take, Put, Route, Fct, Pass}
 use Rattle.vc_actor.specs.declared.act.ActKind.{ActKind}
@@ -32,6 +32,12 @@ returns-in-Some-clause-may c =
     let less = subst (λ z. c.from-place.result < z) (c.len.ensures ∙ c.args.self.now.actors.ok.0) c.if-place-len.false in
     let read = slice_get_read xs (length xs) c.from-place.result a refl less c.index_mut.ensures.value in
     record { actor = a; here = subst (λ z. slice_get xs z ≡ Some a) c.from-place.ensures read; may = subst (λ o. IfSome o (λ b. MayAct a b)) c.in-Some.is c.in_ok-act.ensures.may }
+
+pub returns-in-Some-clause-lets : goal.returns-in-Some-clause-lets
+returns-in-Some-clause-lets c =
+    let may = subst (λ o. IfSome o (λ b. MayAct c.index_mut.result.now b)) c.in-Some.is c.in_ok-act.ensures.may in
+    let lets = subst (λ o. IfSome o (RoomLets c.room-room.result)) c.in-Some.is c.in_ok-act.ensures.lets in
+    ways_by (state_of c.args.self.now) c.args.actor c.room-room.result c.room-room.ensures c.in-Some.act (few_links c.index_mut.result.now c.in-Some.act may) lets
 
 pub returns-in-Some-clause-finds : goal.returns-in-Some-clause-finds
 returns-in-Some-clause-finds c = λ p is.

@@ -6,7 +6,6 @@ use Rattle.vc_core.specs.Private.Lined.{with_way}
 use Rattle.vc_core.specs.State.{state_of, HasWay}
 use Rattle.vc_actor.specs.declared.act.Act.TheVariants as act
 use Rattle.vc_core.proofs.Happening.{on_err, placed, written_back}
-use Rattle.vc_core.proofs.Lined.{no_some}
 use Rattle.vc_core.proofs.network.Network.put.Goals as goal
 
 pub put-requires-clause-may : goal.put-requires-clause-may
@@ -23,7 +22,7 @@ put-requires-clause-may c =
     subst (λ z. MayAct z (act.Put c.args.link)) same (subst (MayAct m.actor) c.requires.is m.may)
 
 pub returns-clause-makes : goal.returns-clause-makes
-returns-clause-makes c = λ p is lets.
+returns-clause-makes c = λ p is.
     let n = c.args.self.now in
     let s = state_of n in
     let e = c.args.event.now in
@@ -33,8 +32,8 @@ returns-clause-makes c = λ p is lets.
     let read = slice_get_read n.actors.items (length n.actors.items) c.from.result x refl less c.index_mut.ensures.value in
     let here = subst (λ z. slice_get n.actors.items z ≡ Some x) c.from.ensures read in
     on_ok c.put.result (λ puts.
-    let f : HasWay s e.actor c.args.link = record { way = c.in-Some.way; tokens = puts.tokens; out = sym c.in-Some.ensures.way; stand = puts.stand } in
-    let line = puts.new_is ∙ (λ i. with_way n.lines c.in-Some.way (puts.puts.ends i)) in
+    let f : HasWay s e.actor c.args.link = record { way = c.way_out-way.result; tokens = puts.tokens; out = c.way_out-way.ensures.way; stand = puts.stand } in
+    let line = puts.new_is ∙ (λ i. with_way n.lines c.way_out-way.result (puts.puts.ends i)) in
     placed p s _ e c.args.link x c.put.new.from f puts.puts.token c.requires.is here puts.puts.puts
     (λ i. record { actors = slice_set n.actors.items (c.from.ensures i) c.put.new.from; nodes = n.nodes; ways = (line i).ways; wiring = (line i).wiring; wires = n.wires; channels = n.channels.items }) is) c.put.ensures.ok
 
@@ -47,6 +46,3 @@ returns-clause-refused c =
     let less = subst (λ z. z < length n.actors.items) (sym c.from.ensures) (slice_get_within n.actors.items e.actor m.actor m.here) in
     let read = slice_get_read n.actors.items (length n.actors.items) c.from.result x refl less c.index_mut.ensures.value in
     on_err c.put.result (λ same. (λ i. record { actors = written_back n.actors.items c.from.result x c.put.new.from read same.0 i; nodes = n.nodes; ways = (same.1 i).ways; wiring = (same.1 i).wiring; wires = n.wires; channels = n.channels.items })) c.put.ensures.err
-
-pub returns-in_default-clause-makes : goal.returns-in_default-clause-makes
-returns-in_default-clause-makes c = λ p is lets. absurd (no_some lets.way (c.in_default.ensures.way ∙ lets.out))
