@@ -4,7 +4,7 @@ ghost use Rattle.vc_occam.specs.declared.frame.Frame.TheViews.{out-Frame};
 ghost use Rattle.vc_occam.specs.First.{first_moves, own};
 ghost use Rattle.vc_occam.specs.Frames.{all_sound, besides, rest_of, view};
 ghost use Rattle.vc_occam.specs.Moving.{from_site};
-ghost use Rattle.vc_occam.specs.Private.Frames.{IsAtItself, first_waits, input_shape, is_open_alt, listed, output_shape, own_moves, shown, task_views, waits_of, whole};
+ghost use Rattle.vc_occam.specs.Private.Frames.{GoesAlone, IsAtItself, first_waits, innermost, input_shape, is_open_alt, listed, output_shape, own_moves, shown, task_views, waits_of, whole};
 ghost use Rattle.vc_occam.specs.Private.Sites.{InPreorder};
 ghost use Rattle.vc_occam.specs.States.{waiting};
 ghost use Rattle.vc_process.specs.Terms.{store};
@@ -146,10 +146,7 @@ impl Frame {
         ensures { IfSome result (λ met.
             first_moves (among inside.now) (view self.now).rest (store vars.now) ≡ met ∷ []) }
     {
-        if let Some(part) = self.part() {
-            return part.only_meeting(inside, vars);
-        }
-        match &self.construct {
+        match &self.innermost().construct {
             Construct::Par(par) => par.only_meeting(inside, vars),
             _ => None,
         }
@@ -160,15 +157,26 @@ impl Frame {
         requires { (view self.now).sound ≡ true }
         ensures { IfSome result (λ made. own_moves (view self.now) vars.now ≡ made ∷ []) }
     {
-        if let Some(part) = self.part() {
-            return part.only_move(vars);
-        }
-        if let Construct::Par(_) = &self.construct {
+        let frame = self.innermost();
+        if let Construct::Par(_) = &frame.construct {
             return None;
         }
-        match self.open_guards() {
+        match frame.open_guards() {
             Some(_) => None,
-            None => self.own_move(vars),
+            None => frame.own_move(vars),
+        }
+    }
+
+    /// The frame within it that goes on, down to one that is at itself, or at a PAR.
+    fn innermost(&self) -> &Frame
+        requires { (view self.now).sound ≡ true }
+        ensures sound { (view result.now).sound ≡ true }
+        ensures alone { GoesAlone result.now }
+        ensures rest { innermost (view self.now).rest ≡ innermost (view result.now).rest }
+    {
+        match self.part() {
+            Some(part) => part.innermost(),
+            None => self,
         }
     }
 

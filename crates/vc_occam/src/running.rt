@@ -204,10 +204,6 @@ impl Running {
         if self.inside.is_empty() {
             return self.task.push_moves(found, &self.vars);
         }
-        if let Some(met) = self.task.only_meeting(self.inside.as_slice(), &self.vars) {
-            found.push(met)?;
-            return Ok(());
-        }
         self.task.push_moves(found, &self.vars)?;
         join(found, self.inside.as_slice())
     }
@@ -222,6 +218,17 @@ impl Running {
             Outcome::Quiet { site } => Some(site),
             _ => None,
         }
+    }
+
+    /// Its only move, where that is known to be a meeting inside the node; None promises nothing.
+    #[tactic(auto, unfolding(crate::specs::Runnings::state, crate::specs::Runnings::inner_channels))]
+    pub fn only_meeting(&self) -> Option<Move>
+        ensures { IfSome result (λ made. moves self.now ≡ made ∷ []) }
+    {
+        if self.inside.is_empty() {
+            return None;
+        }
+        self.task.only_meeting(self.inside.as_slice(), &self.vars)
     }
 
     /// The first move at a site from this one on, found without a list. Where a channel is inside the node none is looked for, since
