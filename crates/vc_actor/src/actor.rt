@@ -17,6 +17,7 @@ use crate::node_actor::NodeActor;
 use crate::switch_actor::SwitchActor;
 use crate::turn::Turn;
 use std::marker::Model;
+use vc_occam::Move;
 use vc_packets::Memory;
 use vc_switch::{ReadySwitch, Switch};
 use vc_tokens::Token;
@@ -154,9 +155,61 @@ impl Actor {
             OnOk result (MakesOwn plan k self.old act.now self.new) }
         ensures err { OnErr result (self.new ≡ self.old) }
     {
+        match *act {
+            Act::Proc(made) => self.make_move(&made),
+            Act::Pass { link } => self.pass(link),
+            Act::Route { input, output } => {
+                self.route(input, output);
+                Ok(())
+            }
+            Act::Take { .. } | Act::Put { .. } | Act::Fct { .. } => unreachable!(),
+        }
+    }
+
+    /// The process makes a move.
+    #[inline(always)]
+    pub fn make_move(&mut self, made: &Move) -> Result<(), Memory>
+        requires { MayAct self.old (Act.Proc made.now) }
+        ensures ok { (plan : Plan) (k : ℕ) →
+            IsActorOf plan k self.old →
+            OnOk result (MakesOwn plan k self.old (Act.Proc made.now) self.new) }
+        ensures err { OnErr result (self.new ≡ self.old) }
+    {
         match &mut self.part {
-            Part::Node(node) => node.make(act),
-            Part::Switch(switch) => switch.make(act),
+            Part::Node(node) => node.make_move(made),
+            Part::Switch(_) => unreachable!(),
+        }
+    }
+
+    /// A token passes from a link's buffer.
+    #[inline(always)]
+    pub fn pass(&mut self, link: u8) -> Result<(), Memory>
+        requires { MayAct self.old (Act.Pass link) }
+        ensures ok { (plan : Plan) (k : ℕ) →
+            IsActorOf plan k self.old →
+            OnOk result (MakesOwn plan k self.old (Act.Pass link) self.new) }
+        ensures err { OnErr result (self.new ≡ self.old) }
+    {
+        match &mut self.part {
+            Part::Node(node) => node.pass(link),
+            Part::Switch(switch) => {
+                switch.pass(link);
+                Ok(())
+            }
+        }
+    }
+
+    /// A switch binds an input's packet to an output.
+    #[inline(always)]
+    pub fn route(&mut self, input: u8, output: u8)
+        requires { MayAct self.old (Act.Route input output) }
+        ensures { (plan : Plan) (k : ℕ) →
+            IsActorOf plan k self.old →
+            MakesOwn plan k self.old (Act.Route input output) self.new }
+    {
+        match &mut self.part {
+            Part::Node(_) => unreachable!(),
+            Part::Switch(switch) => switch.route(input, output),
         }
     }
 

@@ -463,9 +463,9 @@ impl Node {
         self.process.act(made, Answer::Got(message))
     }
 
-    // A step without a communication.
+    /// A step without a communication.
     #[inline(always)]
-    fn rest(&mut self, site: u16) -> Result<(), Memory>
+    pub(crate) fn rest(&mut self, site: u16) -> Result<(), Memory>
         requires may { MayMove self.old (Move.Quiet site) }
         ensures ok { (plan : Plan) (k : ℕ) →
             IsNodeOf plan k self.old →

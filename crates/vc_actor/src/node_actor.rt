@@ -1,6 +1,6 @@
 //! A node as an actor.
 ghost use Rattle.std.specs.Prelude.{◌≡◌, ◌<◌, ◌↔◌, ℕ, [], true, false, Some, IsTrue, IfOk, IfSome, OnOk, OnErr};
-ghost use Rattle.vc_actor.specs.Acting.{NodeMay, MakesOwn, MakesTake, MakesPut, MakesGrant, IsOwn};
+ghost use Rattle.vc_actor.specs.Acting.{NodeMay, MakesOwn, MakesTake, MakesPut, MakesGrant};
 ghost use Rattle.vc_actor.specs.Able.{NodeCan};
 ghost use Rattle.vc_actor.specs.OfPlan.{IsNodeOf, IsActorOf};
 ghost use Rattle.vc_actor.specs.Shown.{OfNode};
@@ -103,38 +103,68 @@ impl NodeActor {
         self.still_room = None;
     }
 
-    /// Makes a step of its own: a move of the process, or a token that passes.
+    /// The process makes a move. For a step without a communication this is a way of its own: the links stay as they are.
     #[inline(always)]
-    pub(crate) fn make(&mut self, act: &Act) -> Result<(), Memory>
-        requires may { NodeMay self.old act.now }
-        requires own { IsOwn act.now }
+    pub(crate) fn make_move(&mut self, made: &Move) -> Result<(), Memory>
+        requires { NodeMay self.old (Act.Proc made.now) }
         ensures ok { (plan : Plan) (k : ℕ) →
             IsActorOf plan k (OfNode self.old) →
-            OnOk result (MakesOwn plan k (OfNode self.old) act.now (OfNode self.new)) }
+            OnOk result (MakesOwn plan k (OfNode self.old) (Act.Proc made.now) (OfNode self.new)) }
         ensures err { OnErr result (self.new ≡ self.old) }
     {
-        match *act {
-            Act::Proc(made) => {
-                let waits = self.node.make(&made)?;
-                self.still_room = still_after(self.still_room, &made);
-                self.next_site = site_of(&made).saturating_add(1);
-                self.is_listed = stay_listed(
-                    &mut self.moves,
-                    self.is_listed,
-                    waits,
-                    site_of(&made),
-                );
-                Ok(())
-            }
-            Act::Pass { link } => {
-                if self.node.pass(link)? {
-                    self.is_listed = false;
-                    self.are_many = false;
-                }
-                Ok(())
-            }
-            _ => unreachable!(),
+        match *made {
+            Move::Quiet { site } => self.rest(site),
+            _ => self.use_channel(made),
         }
+    }
+
+    // The process makes a move on a channel.
+    #[inline(always)]
+    fn use_channel(&mut self, made: &Move) -> Result<(), Memory>
+        requires { NodeMay self.old (Act.Proc made.now) }
+        ensures ok { (plan : Plan) (k : ℕ) →
+            IsActorOf plan k (OfNode self.old) →
+            OnOk result (MakesOwn plan k (OfNode self.old) (Act.Proc made.now) (OfNode self.new)) }
+        ensures err { OnErr result (self.new ≡ self.old) }
+    {
+        let site = site_of(made);
+        let waits = self.node.make(made)?;
+        self.still_room = None;
+        self.next_site = site.saturating_add(1);
+        self.is_listed = stay_listed(&mut self.moves, self.is_listed, waits, site);
+        Ok(())
+    }
+
+    // The process makes a step without a communication.
+    #[inline(always)]
+    fn rest(&mut self, site: u16) -> Result<(), Memory>
+        requires { NodeMay self.old (Act.Proc (Move.Quiet site)) }
+        ensures ok { (plan : Plan) (k : ℕ) →
+            IsActorOf plan k (OfNode self.old) →
+            OnOk result
+            (MakesOwn plan k (OfNode self.old) (Act.Proc (Move.Quiet site)) (OfNode self.new)) }
+        ensures err { OnErr result (self.new ≡ self.old) }
+    {
+        self.node.rest(site)?;
+        self.next_site = site.saturating_add(1);
+        self.is_listed = false;
+        Ok(())
+    }
+
+    /// A token passes from a link's buffer.
+    #[inline(always)]
+    pub(crate) fn pass(&mut self, link: u8) -> Result<(), Memory>
+        requires { NodeMay self.old (Act.Pass link) }
+        ensures ok { (plan : Plan) (k : ℕ) →
+            IsActorOf plan k (OfNode self.old) →
+            OnOk result (MakesOwn plan k (OfNode self.old) (Act.Pass link) (OfNode self.new)) }
+        ensures err { OnErr result (self.new ≡ self.old) }
+    {
+        if self.node.pass(link)? {
+            self.is_listed = false;
+            self.are_many = false;
+        }
+        Ok(())
     }
 
     /// Puts the next token on a link.
@@ -252,8 +282,8 @@ impl NodeActor {
         self.next_listed()
     }
 
-    // The next move, found without a list, where the process has changed and its moves were many when they were listed last.
-    #[inline(never)]
+    // The next move, found without a list, where the process has changed: one of many, if they were many when they were listed last, or
+    // else its only one, where that is known to be a meeting inside the node.
     fn found_move(&mut self) -> Option<Act>
         ensures same { self.new ≡ self.old }
         ensures may { IfSome result (λ a. NodeMay self.old a) }
@@ -262,8 +292,12 @@ impl NodeActor {
             IsNodeOf plan k self.old →
             IfSome result (λ a. FindsMove plan k self.old (Some a)) }
     {
-        if self.is_listed || !self.are_many {
+        if self.is_listed {
             return None;
+        }
+        if !self.are_many {
+            let made = self.node.process.only_meeting()?;
+            return self.node.let_move(made);
         }
         match self.node.first_round(self.next_site) {
             Some(made) => self.node.let_move(made),
@@ -288,7 +322,6 @@ impl NodeActor {
     }
 
     // The next of the process's moves that can be made, which are listed where the process has changed.
-    #[inline(never)]
     fn next_listed(&mut self) -> Result<Option<Act>, Memory>
         ensures same { self.new ≡ self.old }
         ensures may { IfOk result (λ act. IfSome act (λ a. NodeMay self.old a)) }
@@ -317,14 +350,6 @@ impl NodeActor {
         ensures { result ≡ (seen self.now.vcp).carrier.strays }
     {
         self.node.vcp.strays()
-    }
-}
-
-// The room with which the links have nothing to do after this move. A step without a communication leaves them as they are.
-fn still_after(still_room: Option<u32>, made: &Move) -> Option<u32> {
-    match made {
-        Move::Quiet { .. } => still_room,
-        _ => None,
     }
 }
 

@@ -1,22 +1,22 @@
 //! A switch as an actor.
-ghost use Rattle.std.specs.Prelude.{◌≡◌, ◌<◌, ◌≤◌, ◌↔◌, ℕ, IsTrue, IsOk, IfSome};
-ghost use Rattle.vc_actor.specs.Acting.{SwitchMay, MakesOwn, MakesTake, MakesPut, MakesGrant, IsOwn};
+ghost use Rattle.std.specs.Prelude.{◌≡◌, ◌<◌, ◌≤◌, ◌↔◌, ℕ, IsTrue, IfSome};
+ghost use Rattle.vc_actor.specs.Acting.{SwitchMay, MakesOwn, MakesTake, MakesPut, MakesGrant};
 ghost use Rattle.vc_actor.specs.Able.{SwitchCan};
 ghost use Rattle.vc_actor.specs.OfPlan.{IsActorOf};
 ghost use Rattle.vc_actor.specs.Shown.{OfSwitch};
 ghost use Rattle.vc_actor.specs.Turns.{IsTurn, FindsOf, FindsTurn, RoomLets};
 ghost use Rattle.vc_actor.specs.Private.Turns.{FindsAt, FindsRoute, NeedsNoRoom};
 ghost use Rattle.vc_network.specs.Plan.{Plan};
-ghost use Rattle.vc_switch.specs.Able.{CanLeave};
 ghost use Rattle.vc_switch.specs.Seen.{seen};
-ghost use Rattle.vc_switch.specs.State.{plan_of};
 ghost use Rattle.vc_tokens.specs.Spelt.{token};
 
 use crate::act::{Act, ActKind};
 use crate::room::{lowest, without};
-use vc_packets::Memory;
 use vc_switch::{ReadySwitch, Switch};
 use vc_tokens::Token;
+
+/// The links of a switch.
+const LINKS: u8 = 32;
 
 /// A switch, which makes its steps by itself.
 #[derive(Drop)]
@@ -43,7 +43,7 @@ impl SwitchActor {
         ensures can { IsTrue result ↔ SwitchCan self.now.switch act.now }
     {
         let switch = self.switch.switch();
-        prove!(switch.links() == 32);
+        prove!(switch.links() == LINKS);
         match *act {
             Act::Proc(_) => false,
             Act::Take { link, .. } => switch.may_take(link),
@@ -66,24 +66,26 @@ impl SwitchActor {
         let _taken = self.switch.take(link, came, word);
     }
 
-    /// Makes a step of its own: a token passes, or a packet is bound to an output. It takes no memory, so the answer is `Ok`.
+    /// A token passes from a link's buffer.
     #[inline(always)]
-    pub(crate) fn make(&mut self, act: &Act) -> Result<(), Memory>
-        requires may { SwitchMay self.old.switch act.now }
-        requires own { IsOwn act.now }
-        ensures makes { (plan : Plan) (k : ℕ) →
+    pub(crate) fn pass(&mut self, link: u8)
+        requires { SwitchMay self.old.switch (Act.Pass link) }
+        ensures { (plan : Plan) (k : ℕ) →
             IsActorOf plan k (OfSwitch self.old.switch) →
-            MakesOwn plan k (OfSwitch self.old.switch) act.now (OfSwitch self.new.switch) }
-        ensures ok { IsOk result }
+            MakesOwn plan k (OfSwitch self.old.switch) (Act.Pass link) (OfSwitch self.new.switch) }
     {
-        match *act {
-            Act::Pass { link } => self.switch.pass(link),
-            Act::Route { input, output } => {
-                self.switch.route(input, output);
-                Ok(())
-            }
-            _ => unreachable!(),
-        }
+        let _passed = self.switch.pass(link);
+    }
+
+    /// A packet is bound to an output.
+    pub(crate) fn route(&mut self, input: u8, output: u8)
+        requires { SwitchMay self.old.switch (Act.Route input output) }
+        ensures { (plan : Plan) (k : ℕ) →
+            IsActorOf plan k (OfSwitch self.old.switch) →
+            MakesOwn plan k (OfSwitch self.old.switch) (Act.Route input output)
+            (OfSwitch self.new.switch) }
+    {
+        self.switch.route(input, output);
     }
 
     /// Puts the next token of the packet that is bound to an output.
@@ -154,7 +156,8 @@ impl SwitchActor {
         ensures lets { IfSome result NeedsNoRoom }
         ensures finds { FindsAt (λ link. Act.Pass link) (SwitchCan self.now.switch) result }
     {
-        let link = lowest(self.switch.passes(), self.switch.switch().links())?;
+        prove!(self.switch.switch().links() == LINKS);
+        let link = lowest(self.switch.passes(), LINKS)?;
         Some(Act::Pass { link })
     }
 
@@ -164,61 +167,9 @@ impl SwitchActor {
         ensures lets { IfSome result NeedsNoRoom }
         ensures finds { FindsRoute self.now.switch result }
     {
-        let _input = lowest(self.switch.routes(), self.switch.switch().links())?;
-        self.first_route()
-    }
-
-    // The least input whose packet may be bound, and the least output to which it may, where some input's may be.
-    #[inline(never)]
-    fn first_route(&self) -> Option<Act>
-        ensures may { IfSome result (λ a. SwitchMay self.now.switch a) }
-        ensures lets { IfSome result NeedsNoRoom }
-        ensures finds { FindsRoute self.now.switch result }
-    {
-        let links = self.switch.switch().links();
-        let mut left = self.switch.routes();
-        for _ in 0..links {
-            let input = lowest(left, links)?;
-            if let Some(act) = self.route_of(input) {
-                return Some(act);
-            }
-            left = without(left, input);
-        }
-        None
-    }
-
-    // The least output to which the packet at an input may be bound.
-    fn route_of(&self, input: u8) -> Option<Act>
-        requires { input < 32 }
-        ensures may { IfSome result (λ a. SwitchMay self.now.switch a) }
-        ensures lets { IfSome result NeedsNoRoom }
-        ensures finds { FindsAt (λ output. Act.Route input output) (SwitchCan self.now.switch)
-            result }
-    {
-        match self.switch.switch().choices(input) {
-            None => None,
-            Some((first, last)) => self.route_within(input, first, last),
-        }
-    }
-
-    // The least free output of the group by which the packet at an input may leave.
-    fn route_within(&self, input: u8, first: u8, last: u8) -> Option<Act>
-        requires input { input < 32 }
-        requires few { last < 32 }
-        requires group { (output : ℕ) →
-            CanLeave (plan_of self.now.switch) (seen self.now.switch) input output ↔
-            ((first ≤ output) × (output ≤ last)) }
-        ensures may { IfSome result (λ a. SwitchMay self.now.switch a) }
-        ensures lets { IfSome result NeedsNoRoom }
-        ensures finds { FindsAt (λ output. Act.Route input output) (SwitchCan self.now.switch)
-            result }
-    {
-        for output in first..last + 1 {
-            if self.switch.switch().free(output) {
-                return Some(Act::Route { input, output });
-            }
-        }
-        None
+        prove!(self.switch.switch().links() == LINKS);
+        let (input, output) = self.switch.next_route()?;
+        Some(Act::Route { input, output })
     }
 
     // The least link with room on which a token may be put.
@@ -228,10 +179,10 @@ impl SwitchActor {
         ensures finds { (plan : Plan) (k : ℕ) →
             FindsAt (λ link. Act.Put link) (IsTurn plan k (OfSwitch self.now.switch) room) result }
     {
-        let links = self.switch.switch().links();
+        prove!(self.switch.switch().links() == LINKS);
         let mut left = self.switch.puts() & room;
-        for _ in 0..links {
-            let link = lowest(left, links)?;
+        for _ in 0..LINKS {
+            let link = lowest(left, LINKS)?;
             if self.switch.switch().may_put(link) {
                 return Some(Act::Put { link });
             }
@@ -247,7 +198,7 @@ impl SwitchActor {
         ensures finds { (plan : Plan) (k : ℕ) →
             FindsAt (λ link. Act.Fct link) (IsTurn plan k (OfSwitch self.now.switch) room) result }
     {
-        let link = lowest(self.switch.grants() & room, self.switch.switch().links())?;
+        let link = lowest(self.switch.grants() & room, LINKS)?;
         Some(Act::Fct { link })
     }
 

@@ -56,7 +56,6 @@ impl Task<Frame> {
     }
 
     /// Its only move, where it begins with one that is no step without a communication; None promises nothing.
-    #[inline(always)]
     fn only_move(&self, vars: &[Datum]) -> Option<Move>
         requires { (shown self.now).sound ≡ true }
         ensures { IfSome result (λ made.

@@ -97,7 +97,6 @@ impl Seq<Frame> {
 impl Par<Frame> {
     /// The part with the site goes on; answers what the PAR comes to.
     #[cycle(go)]
-    #[inline(never)]
     fn go<S: SiteStep>(&mut self, step: &mut S, vars: &mut Vec<Datum>) -> Outcome
         requires can { (i : ℕ) × CanGo (S.stands_for step.old) (unstopped i (par_shape self.old))
             vars.old.items }

@@ -46,7 +46,6 @@ impl SiteStep for Quiet {
         self.site
     }
 
-    #[inline(never)]
     fn act(&mut self, frame: &mut Frame, vars: &mut Vec<Datum>) -> Outcome {
         match frame.construct.step(&mut self.assigned, vars) {
             Some(outcome) => outcome,

@@ -174,6 +174,46 @@ leaves_more plan b out d more h = record {
   after_is = ap (λ z. z ++ more) h.after_is ∙ append_assoc (spelled h.after) h.rest more;
 }
 
+-- what a body's front header is told by does not change as the body grows
+
+front_by_more : (o : Option Action) (later longer : Option Front) (f : Front) → ((g : Front) → later ≡ Some g → longer ≡ Some g) → front_by o later ≡ Some f → front_by o longer ≡ Some f
+front_by_more None later longer f more is = absurd (cc)
+front_by_more (Some (Out first last)) later longer f more is = is
+front_by_more (Some Portal) None longer f more is = absurd (cc)
+front_by_more (Some Portal) (Some g) longer f more is = ap behind_portal (more g refl) ∙ is
+
+pub front_more : (table : List Row) (b more : List ℕ) (f : Front) → front_of table b ≡ Some f → front_of table (b ++ more) ≡ Some f
+front_more table [] more f is = absurd (cc)
+front_more table (x ∷ []) more f is = absurd (cc)
+front_more table (hi ∷ lo ∷ rest) more f is = front_by_more (action_for table (256 * hi + lo)) (front_of table rest) (front_of table (rest ++ more)) f (λ g e. front_more table rest more g e) is
+
+-- a body that leaves has a group
+pub leaves_group : (plan : SwitchPlan) (b : List ℕ) (out : ℕ) (d : List ℕ) → BodyLeaves plan b out d → HasGroup plan b
+leaves_group plan b out d h =
+    let l = h.leaves in
+    record { stack = h.stack; rest = h.rest; header = l.header; behind_it = l.rest; first = l.first; last = l.last; is = h.before_is; front = l.front; group = l.group }
+
+-- where a body leaves by one link, it leaves by each by which it leaves with more bytes
+pub leaves_before : (plan : SwitchPlan) (b more : List ℕ) (one other : ℕ) (d e : List ℕ) → BodyLeaves plan b one d → BodyLeaves plan (b ++ more) other e → (left : List ℕ) × BodyLeaves plan b other left
+leaves_before plan b more one other d e h longer =
+    let l = h.leaves in
+    let f = found plan.table h.stack h.rest l.header l.rest l.first l.last l.front l.group in
+    let front : Front = record { at = f.at; first = l.first; last = l.last } in
+    let g = gone plan (b ++ more) other e longer in
+    let q : Some front ≡ Some g.front = sym (front_more plan.table b more front (ap (front_of plan.table) h.before_is ∙ f.is)) ∙ g.is in
+    let same : g.front ≡ front = cc in
+    let left = (if plan.deletes other then l.rest else l.header ∷ l.rest) in (
+      spelled left ++ h.rest,
+      record {
+        stack = h.stack;
+        after = left;
+        rest = h.rest;
+        before_is = h.before_is;
+        leaves = record { header = l.header; rest = l.rest; first = l.first; last = l.last; front = l.front; group = l.group; low = subst (λ z. z.first ≤ other) same g.low; high = subst (λ z. other ≤ z.last) same g.high; left = refl };
+        after_is = refl;
+      },
+    )
+
 -- where a search found a front
 pub headed_where : (table : List Row) (b : List ℕ) (o : Option Front) → ((k : ℕ) → get_or b k 0 < 256) → o ≡ front_of table b → IfSome o (λ f. HasFront table b f)
 headed_where table b None bytes is = tt

@@ -1,3 +1,4 @@
+pub mod Masks
 pub mod Placed
 pub mod Fronts
 pub mod Pairing

@@ -16,8 +16,7 @@ use Rattle.vc_switch.specs.Forward.{SwitchPlan}
 use Rattle.vc_switch.specs.Waiting.{Wormhole}
 use Rattle.vc_switch.specs.Switch.{Switch, Input, new_switch, set_input, with_header, passing, BodyLeaves, Comes, due, not_due, Passes, passes_byte, drops_byte, passes_mark, loses, HasGroup, Routes, Sends, SendsFct}
 use Rattle.vc_switch.specs.Able.{CanPass, CanLeave, CanPut, CanGrant, IsFree}
-use Rattle.vc_switch.specs.Private.Ready.{Tells, Looks}
-use Rattle.vc_switch.specs.Ready.{Waits, IsReady}
+use Rattle.vc_switch.specs.Private.Ready.{IsReady, Looks, Tells, Waits}
 use Rattle.vc_switch.specs.Seen.{seen, IsKept}
 use Rattle.vc_switch.specs.State.{State, IsSwitch, plan_of, limit_of}
 use Rattle.vc_switch.specs.declared.link_out.LinkOut.{LinkOut}
@@ -113,7 +112,7 @@ pub told_is : {P Q R : Type 0} → P ↔ Q → Q ↔ R → P ↔ R
 told_is a b = (λ p. b.0 (a.0 p), λ r. a.1 (b.1 r))
 
 -- a mask that was told of one link, where the others are as before
-told_more : (P Q : ℕ → Type 0) (link old new : ℕ) → ((l : ℕ) → l < 32 → (bit_at old l ≡ 1) ↔ P l) → Tells (Q link) link old new → ((l : ℕ) → l ≢ link → P l → Q l) → ((l : ℕ) → l ≢ link → Q l → P l) →
+pub told_more : (P Q : ℕ → Type 0) (link old new : ℕ) → ((l : ℕ) → l < 32 → (bit_at old l ≡ 1) ↔ P l) → Tells (Q link) link old new → ((l : ℕ) → l ≢ link → P l → Q l) → ((l : ℕ) → l ≢ link → Q l → P l) →
     (l : ℕ) → l < 32 → (bit_at new l ≡ 1) ↔ Q l
 told_more P Q link old new was tells to from l less = elim (cases_eq l link) [
   | inl same ↦ subst (λ z. (bit_at new z ≡ 1) ↔ Q z) (sym same) tells.it
@@ -122,15 +121,13 @@ told_more P Q link old new was tells to from l less = elim (cases_eq l link) [
 ]
 
 -- one input is another, and the masks were told of it and of the outputs
-ready_by : (s t : State) (link : ℕ) (old looked new : Ready) → IsKept s t → SameBut (seen s) link (seen t) → IsReady s old → Looks t link old looked → new.passes ≡ looked.passes → new.waits ≡ looked.waits → new.grants ≡ looked.grants →
+ready_by : (s t : State) (link : ℕ) (old looked new : Ready) → IsKept s t → SameBut (seen s) link (seen t) → IsReady s old → Looks t link old looked → new.passes ≡ looked.passes → new.grants ≡ looked.grants →
     ((o : ℕ) → o < 32 → (bit_at new.puts o ≡ 1) ↔ (IsFree (seen t) o → ⊥)) → IsReady t new
-ready_by s t link old looked new kept others was looks e f g puts = record {
+ready_by s t link old looked new kept others was looks e g puts = record {
   passes = subst (λ m. (l : ℕ) → l < 32 → (bit_at m l ≡ 1) ↔ CanPass (limit_of t.inputs) (plan_of t) (seen t) l) (sym e)
       (told_more (CanPass (limit_of s.inputs) (plan_of s) (seen s)) (CanPass (limit_of t.inputs) (plan_of t) (seen t)) link old.passes looked.passes was.passes looks.passes
       (λ l ne can. subst (λ p. CanPass (limit_of t.inputs) p (seen t) l) (sym kept.plan) (subst (λ m. CanPass m (plan_of s) (seen t) l) (sym kept.limit) (pass_same (limit_of s.inputs) (plan_of s) (seen s) (seen t) l (sym (others l ne)) can)))
       (λ l ne can. subst (λ p. CanPass (limit_of s.inputs) p (seen s) l) kept.plan (subst (λ m. CanPass m (plan_of t) (seen s) l) kept.limit (pass_same (limit_of t.inputs) (plan_of t) (seen t) (seen s) l (others l ne) can))));
-  waits = subst (λ m. (l : ℕ) → l < 32 → (bit_at m l ≡ 1) ↔ Waits ((seen t).input l)) (sym f)
-      (told_more (λ l. Waits ((seen s).input l)) (λ l. Waits ((seen t).input l)) link old.waits looked.waits was.waits looks.waits (λ l ne h. subst Waits (sym (others l ne)) h) (λ l ne h. subst Waits (others l ne) h));
   puts = puts;
   grants = subst (λ m. (l : ℕ) → l < 32 → (bit_at m l ≡ 1) ↔ CanGrant (seen t) l) (sym g)
       (told_more (CanGrant (seen s)) (CanGrant (seen t)) link old.grants looked.grants was.grants looks.grants (λ l ne h. grant_same (seen s) (seen t) l (sym (others l ne)) h) (λ l ne h. grant_same (seen t) (seen s) l (others l ne) h));
@@ -145,7 +142,7 @@ free_iff_else s t link m n o one same was = (
 -- a token came or passed, or an FCT went out
 pub ready_else : (s t : State) (link : ℕ) (old new : Ready) → IsKept s t → OneElse (seen s) link (seen t) → IsReady s old → Looks t link old new → IsReady t new
 ready_else s t link old new kept one was looks =
-    ready_by s t link old new new kept one.others was looks refl refl refl (λ o less. free_iff_else s t link old.puts new.puts o one looks.puts (was.puts o less))
+    ready_by s t link old new new kept one.others was looks refl refl (λ o less. free_iff_else s t link old.puts new.puts o one looks.puts (was.puts o less))
 
 -- what came is a place less that is promised: as many may be granted as before
 pub came_grants : (s : Switch) (link word : ℕ) (k : Token) (t : Switch) → Comes s link word k t → CanGrant s link ↔ CanGrant t link
@@ -159,17 +156,9 @@ pub ready_came : (s t : State) (link word n : ℕ) (k : Token) (old : Ready) →
     IsReady t (record old { passes = n })
 ready_came s t link word n k old kept comes less was tells =
     let one = comes_else (seen s) link word k (seen t) comes in
-    let got = came_got (seen s) link word k (seen t) comes in
     let grants = came_grants (seen s) link word k (seen t) comes in
     ready_else s t link old (record old { passes = n }) kept one was (record {
       passes = tells;
-      waits = record {
-        it = (
-          λ e. (let w = (was.waits link less).0 e in (one.bound ∙ w.0, λ none. w.1 (sym got ∙ none))),
-          λ w. (was.waits link less).1 (sym one.bound ∙ w.0, λ none. w.1 (got ∙ none)),
-        );
-        others = λ l few ne. refl;
-      };
       puts = refl;
       grants = record { it = (λ e. grants.0 ((was.grants link less).0 e), λ can. (was.grants link less).1 (grants.1 can)); others = λ l few ne. refl };
     })
@@ -181,7 +170,7 @@ ready_routed s t link output n old looked kept routes was looks tells =
     let is = ap (λ z. z.input) routes.after in
     let others : SameBut (seen s) link (seen t) = λ l ne. ap (λ f. f l) is ∙ put-other (seen s).input link l _ ne in
     let here : ((seen t).input link).bound ≡ Some output = ap (λ f. (f link).bound) is ∙ ap (λ x. x.bound) (put-same (seen s).input link _) in
-    ready_by s t link old looked (record looked { puts = n }) kept others was looks refl refl refl
+    ready_by s t link old looked (record looked { puts = n }) kept others was looks refl refl
     (told_more (λ o. IsFree (seen s) o → ⊥) (λ o. IsFree (seen t) o → ⊥) output looked.puts n (subst (λ m. (o : ℕ) → o < 32 → (bit_at m o ≡ 1) ↔ (IsFree (seen s) o → ⊥)) (sym looks.puts) was.puts)
     (record { it = (λ e free. free link here, λ none. tells.it.1 refl); others = tells.others })
     (λ o ne none free. none (free_same (seen t) (seen s) o (λ i h. elim (cases_eq i link) [
@@ -205,7 +194,7 @@ ready_marked s t link output n m old looked kept sends bound was looks tells =
       | inl same ↦ absurd (let e : None ≡ Some output = sym here ∙ subst (λ z. ((seen t).input z).bound ≡ Some output) same h in cc)
       | inr far ↦ far (sends.only i (sym (ap (λ x. x.bound) (others i far)) ∙ h) ∙ same_link)
     ] in
-    ready_by s t link old looked (record looked { puts = n }) kept others was looks refl refl refl
+    ready_by s t link old looked (record looked { puts = n }) kept others was looks refl refl
     (told_more (λ o. IsFree (seen s) o → ⊥) (λ o. IsFree (seen t) o → ⊥) output looked.puts n (subst (λ m. (o : ℕ) → o < 32 → (bit_at m o ≡ 1) ↔ (IsFree (seen s) o → ⊥)) (sym looks.puts) was.puts)
     (record { it = (λ e f. (let no : false ≡ true = tells.it.0 e in absurd (cc)), λ none. absurd (none free)); others = tells.others })
     (λ o ne none f. none (free_same (seen t) (seen s) o (λ i h. elim (cases_eq i link) [
@@ -226,7 +215,6 @@ ready_sent s t old kept same was =
         λ e. subst (λ p. CanPass (limit_of t.inputs) p (seen t) l) (sym kept.plan) (subst (λ m. CanPass m (plan_of s) (seen t) l) (sym kept.limit) (pass_same (limit_of s.inputs) (plan_of s) (seen s) (seen t) l (sym (at l)) ((was.passes l less).0 e))),
         λ can. (was.passes l less).1 (subst (λ p. CanPass (limit_of s.inputs) p (seen s) l) kept.plan (subst (λ m. CanPass m (plan_of t) (seen s) l) kept.limit (pass_same (limit_of t.inputs) (plan_of t) (seen t) (seen s) l (at l) can))),
       );
-      waits = λ l less. (λ e. subst Waits (sym (at l)) ((was.waits l less).0 e), λ h. (was.waits l less).1 (subst Waits (at l) h));
       puts = λ o less. (
         λ e f. (was.puts o less).0 e (free_same (seen t) (seen s) o (λ i h. ap (λ x. x.bound) (at i) ∙ h) f),
         λ none. (was.puts o less).1 (λ f. none (free_same (seen s) (seen t) o (λ i h. sym (ap (λ x. x.bound) (at i)) ∙ h) f)),
@@ -257,15 +245,11 @@ leaving_waits plan s l o h = (h.unbound, λ e. none_waits plan (s.input l) o h.b
 pub putting_bound : (plan : SwitchPlan) (s : Switch) (o : ℕ) → CanPut plan s o → IsFree s o → ⊥
 putting_bound plan s o h free = free h.sends.link h.sends.bound
 
-pub ready_first : (s : State) (r : Ready) → seen s ≡ new_switch → r.passes ≡ 0 → r.waits ≡ 0 → r.puts ≡ 0 → r.grants ≡ 4294967295 → IsReady s r
-ready_first s r e a b c d = record {
+pub ready_first : (s : State) (r : Ready) → seen s ≡ new_switch → r.passes ≡ 0 → r.puts ≡ 0 → r.grants ≡ 4294967295 → IsReady s r
+ready_first s r e a c d = record {
   passes = λ l less. (
     λ one. absurd (let z = bit_at-zero l in let q = ap (λ m. bit_at m l) a in cc),
     λ can. absurd (none_pass (limit_of s.inputs) (plan_of s) (seen s) l (ap (λ z. (z.input l).receiver.buffer) e) can),
-  );
-  waits = λ l less. (
-    λ one. absurd (let z = bit_at-zero l in let q = ap (λ m. bit_at m l) b in cc),
-    λ w. absurd (w.1 (ap (λ z. (z.input l).got) e)),
   );
   puts = λ o less. (
     λ one. absurd (let z = bit_at-zero o in let q = ap (λ m. bit_at m o) c in cc),

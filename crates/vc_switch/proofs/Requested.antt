@@ -1,38 +1,46 @@
 -- What the packets at a switch's inputs ask for after a step, and which of them can be bound.
-use Rattle.std.proofs.Common.{◌≡◌, ◌≢◌, ◌+◌, ◌-◌, ◌*◌, ◌%◌, ◌<◌, ◌^◌, ℕ, zero, suc, Bool, true, false, IsTrue, List, [], ◌∷◌, ◌++◌, append-nil, length, get_or, replicate, slice_get, refl, sym, ap, ◌∙◌, subst, arith, Option, Some, None, inl, inr}
+use Rattle.std.proofs.Common.{◌≡◌, ◌≢◌, ◌↔◌, ◌+◌, ◌-◌, ◌*◌, ◌%◌, ◌<◌, ◌≤◌, ◌^◌, ℕ, List, [], ◌∷◌, ◌++◌, append-nil, length, get_or, replicate, refl, sym, ap, ◌∙◌, subst, arith, Option, Some, None, inl, inr}
 use Rattle.std.proofs.lemmas.Bool.{cases_eq, cases_lt}
 use Rattle.std.proofs.lemmas.List.{get_or-replicate, length-replicate}
 use Rattle.std.proofs.lemmas.Nat.{pow_below}
-use Rattle.std.proofs.lemmas.Nat.Bits.{bit_at-lt, bit_at-zero, bit_at_above, bit_at_mask_inside}
+use Rattle.std.proofs.lemmas.Nat.Bits.{bit_at-zero, bit_at_mask_above, bit_at_mask_below, bit_at_mask_inside}
 use Rattle.std.proofs.Math.ListN.{get_or-eq_default}
 use Rattle.std.proofs.Math.Nat.{mod-eq_of_lt}
 use Rattle.std.specs.Int.{bit_at}
-use Rattle.vc_labels.specs.declared.action.Action.{Action}
-use Rattle.vc_labels.specs.declared.action.Action.TheVariants.{Out, Portal}
-use Rattle.vc_labels.specs.declared.row.Row.{Row}
-use Rattle.vc_labels.specs.Interval.{action_for}
+use Rattle.vc_packets.specs.Functions.{put}
 use Rattle.vc_packets.specs.declared.mark.Mark.{Mark}
 use Rattle.vc_tokens.specs.Tokens.{Token, EndMark}
-use Rattle.vc_switch.specs.Able.{CanRoute}
-use Rattle.vc_switch.specs.Requested.{links_of, AreRequested, AreRouted, OnlyWaiting}
+use Rattle.vc_switch.specs.Able.{CanLeave, CanRoute, IsFree}
+use Rattle.vc_switch.specs.Private.Requested.{AreAsking, AreRequested, AreRouted, HasMore, IsKnown}
 use Rattle.vc_switch.specs.Forward.{SwitchPlan}
-use Rattle.vc_switch.specs.Front.{front_of, front_by, behind_portal}
-use Rattle.vc_switch.specs.Private.Ready.{Tells}
-use Rattle.vc_switch.specs.Ready.{Waits, IsReady}
+use Rattle.vc_switch.specs.Private.Ready.{IsReady, Tells, Waits}
 use Rattle.vc_switch.specs.Seen.{seen, IsKept}
 use Rattle.vc_switch.specs.State.{State, plan_of, limit_of}
-use Rattle.vc_switch.specs.Switch.{Switch, new_switch, BodyLeaves, headed, Comes, Passes, passes_byte, drops_byte, passes_mark, loses, Routes, Sends, SendsFct}
+use Rattle.vc_switch.specs.Switch.{Switch, new_switch, BodyLeaves, HasGroup, headed, Comes, Passes, passes_byte, drops_byte, passes_mark, loses, Routes, Sends, SendsFct}
 use Rattle.vc_switch.specs.Waiting.{Wormhole}
-use Rattle.vc_switch.specs.declared.front.Front.{Front}
 use Rattle.vc_switch.specs.declared.ready_switch.Ready.{Ready}
-use Rattle.vc_switch.specs.declared.link_in.LinkIn.{LinkIn}
-use Rattle.vc_switch.proofs.Fronts.{gone}
+use Rattle.vc_switch.proofs.Fronts.{leaves_before, leaves_group, leaves_more}
+use Rattle.vc_switch.proofs.Masks.{bit_within, is_zero, not_both, some_bit}
 use Rattle.vc_switch.proofs.Placed.{put-same, put-other}
-use Rattle.vc_switch.proofs.Readying.{SameBut, OneElse, came_got, leaving_waits, passes_else}
+use Rattle.vc_switch.proofs.Readying.{SameBut, OneElse, came_got, leaving_waits, passes_else, told_more}
 use Rattle.vc_switch.proofs.Routing.{can_route, route_leaves}
-use Rattle.vc_switch.proofs.Showing.{input_at}
 
 -- The links of a group, as bits.
+
+pub group_bits : (first last n l : ℕ) → n ≡ 2 ^ (last + 1) - 2 ^ first → (bit_at n l ≡ 1) ↔ ((first ≤ l) × (l ≤ last))
+group_bits first last n l is = (
+  λ e. (let one = sym (ap (λ m. bit_at m l) is) ∙ e in (
+    elim (cases_lt l first) [
+      | inl low ↦ absurd (not_both (bit_at_mask_below first (last + 1) l low) one)
+      | inr from ↦ from
+    ],
+    elim (cases_lt last l) [
+      | inl past ↦ absurd (not_both (bit_at_mask_above first (last + 1) l (omega (arith, past))) one)
+      | inr to ↦ to
+    ],
+  )),
+  λ within. ap (λ m. bit_at m l) is ∙ bit_at_mask_inside first (last + 1) l within.0 (let high = within.1 in omega (arith, high)),
+)
 
 pub small_pow : (k : ℕ) → k < 64 → 1 * 2 ^ k % 18446744073709551616 ≡ 2 ^ k
 small_pow k less =
@@ -46,168 +54,154 @@ none_asked n k requests is = elim (cases_lt k n) [
   | inr past ↦ get_or-eq_default requests 0 (let e : length requests ≡ n = ap length is ∙ length-replicate n 0 in omega (arith, e, past))
 ]
 
--- What a body's front header is told by does not change as the body grows.
+-- what asks for none has no bit
+pub no_bit : (m o : ℕ) → m ≡ 0 → bit_at m o ≡ 1 → ⊥
+no_bit m o none one = not_both (ap (λ z. bit_at z o) none ∙ bit_at-zero o) one
 
-front_by_more : (o : Option Action) (later longer : Option Front) (f : Front) → ((g : Front) → later ≡ Some g → longer ≡ Some g) → front_by o later ≡ Some f → front_by o longer ≡ Some f
-front_by_more None later longer f more is = absurd (cc)
-front_by_more (Some (Out first last)) later longer f more is = is
-front_by_more (Some Portal) None longer f more is = absurd (cc)
-front_by_more (Some Portal) (Some g) longer f more is = ap behind_portal (more g refl) ∙ is
-
-pub front_more : (table : List Row) (b more : List ℕ) (f : Front) → front_of table b ≡ Some f → front_of table (b ++ more) ≡ Some f
-front_more table [] more f is = absurd (cc)
-front_more table (x ∷ []) more f is = absurd (cc)
-front_more table (hi ∷ lo ∷ rest) more f is = front_by_more (action_for table (256 * hi + lo)) (front_of table rest) (front_of table (rest ++ more)) f (λ g e. front_more table rest more g e) is
-
-asked_more : (table : List Row) (b more : List ℕ) (o : Option Front) → front_of table b ≡ o → links_of o ≢ 0 → links_of (front_of table (b ++ more)) ≡ links_of o
-asked_more table b more None is some = absurd (some refl)
-asked_more table b more (Some f) is some = ap links_of (front_more table b more f is)
-
-not_headed : (v : Option ℕ) (got : List ℕ) → got ≢ [] → headed v got ≡ got
-not_headed v [] some = absurd (some refl)
-not_headed v (b ∷ bs) some = refl
-
--- what was there of a packet stays in front
-pub grows : (limit : ℕ) (plan : SwitchPlan) (s : Switch) (l : ℕ) (t : Switch) → Passes limit plan s l t → (s.input l).got ≢ [] → (t.input l).got ≢ [] → (more : List ℕ) × ((t.input l).got ≡ (s.input l).got ++ more)
-grows limit plan s l t (passes_byte b rest going front room is) some left =
-    (b ∷ [], ap (λ z. (z.input l).got) is ∙ ap (λ x. x.got) (put-same s.input l _) ∙ ap (λ z. z ++ b ∷ []) (not_headed _ (s.input l).got some))
-grows limit plan s l t (drops_byte b rest going front full is) some left =
-    ([], ap (λ z. (z.input l).got) is ∙ ap (λ x. x.got) (put-same s.input l _) ∙ not_headed _ (s.input l).got some ∙ sym (append-nil (s.input l).got))
-grows limit plan s l t (passes_mark m rest going front group is) some left =
-    ([], ap (λ z. (z.input l).got) is ∙ ap (λ x. x.got) (put-same s.input l _) ∙ not_headed _ (s.input l).got some ∙ sym (append-nil (s.input l).got))
-grows limit plan s l t (loses m rest going front none is) some left =
-    absurd (left (ap (λ z. (z.input l).got) is ∙ ap (λ x. x.got) (put-same s.input l _)))
-
-pub asks_at : (s : State) (l : ℕ) (x : LinkIn) (o : Option Front) (m : ℕ) → slice_get s.inputs l ≡ Some x → front_of s.table x.got.passed ≡ o → m ≡ links_of o → m ≡ links_of (front_of s.table ((seen s).input l).got)
-asks_at s l x o m here front is = is ∙ sym (ap links_of (ap (λ z. front_of s.table z.got) (input_at s l x here) ∙ front))
+-- no input asks for any output
+pub none_asking : (requests : List ℕ) → requests ≡ replicate 32 0 → AreAsking requests 0
+none_asking requests is = record {
+  count = ap length is ∙ length-replicate {A = ℕ} 32 0;
+  told = λ l less. (λ one. absurd (no_bit 0 l refl one), λ some. absurd (some (none_asked 32 l requests is)));
+}
 
 -- What is asked after a step.
 
-table_kept : (s t : State) → IsKept s t → t.table ≡ s.table
-table_kept s t kept = ap (λ p. p.table) kept.plan
-
--- what an input asks for, where its packet is as it was
-asked_as : (s t : State) (requests new : List ℕ) (l : ℕ) → IsKept s t → AreRequested s requests → l < 32 → (seen t).input l ≡ (seen s).input l → get_or new l 0 ≡ get_or requests l 0 → Waits ((seen t).input l) → get_or new l 0 ≡ links_of (front_of t.table ((seen t).input l).got)
-asked_as s t requests new l kept was less at same w =
-    same ∙ was.waiting l less (subst Waits at w) ∙ sym (ap (λ x. links_of (front_of t.table x.got)) at ∙ ap (λ r. links_of (front_of r ((seen s).input l).got)) (table_kept s t kept))
-
--- one input is another, and this was told of what it asks for
-pub asked_else : (s t : State) (link : ℕ) (requests new : List ℕ) → IsKept s t → SameBut (seen s) link (seen t) → AreRequested s requests → ((k : ℕ) → k ≢ link → get_or new k 0 ≡ get_or requests k 0) →
-    (Waits ((seen t).input link) → get_or new link 0 ≡ links_of (front_of t.table ((seen t).input link).got)) → ((Waits ((seen t).input link) → ⊥) → get_or new link 0 ≡ 0) → AreRequested t new
-asked_else s t link requests new kept others was same waiting none = record {
-  waiting = λ l less w. elim (cases_eq l link) [
-    | inl e ↦ subst (λ z. get_or new z 0 ≡ links_of (front_of t.table ((seen t).input z).got)) (sym e) (waiting (subst (λ z. Waits ((seen t).input z)) e w))
-    | inr ne ↦ asked_as s t requests new l kept was less (others l ne) (same l ne) w
-  ];
-  others = λ l less no. elim (cases_eq l link) [
-    | inl e ↦ subst (λ z. get_or new z 0 ≡ 0) (sym e) (none (λ w. no (subst (λ z. Waits ((seen t).input z)) (sym e) w)))
-    | inr ne ↦ same l ne ∙ was.others l less (λ w. no (subst Waits (sym (others l ne)) w))
-  ];
+-- a packet may leave that could leave before
+leave_as : (s t : State) (l o : ℕ) → plan_of t ≡ plan_of s → ((seen t).input l).got ≡ ((seen s).input l).got → ((seen t).input l).bound ≡ ((seen s).input l).bound → CanLeave (plan_of s) (seen s) l o → CanLeave (plan_of t) (seen t) l o
+leave_as s t l o plan got bound can = record {
+  body = can.body;
+  unbound = bound ∙ can.unbound;
+  leaves = subst (λ p. BodyLeaves p ((seen t).input l).got o can.body) (sym plan) (subst (λ b. BodyLeaves (plan_of s) b o can.body) (sym got) can.leaves);
 }
+
+leave_same : (s t : State) (m l o : ℕ) → plan_of t ≡ plan_of s → ((seen t).input l).got ≡ ((seen s).input l).got → ((seen t).input l).bound ≡ ((seen s).input l).bound → (bit_at m o ≡ 1) ↔ CanLeave (plan_of s) (seen s) l o → (bit_at m o ≡ 1) ↔ CanLeave (plan_of t) (seen t) l o
+leave_same s t m l o plan got bound was = (λ e. leave_as s t l o plan got bound (was.0 e), λ can. was.1 (leave_as t s l o (sym plan) (sym got) (sym bound) can))
 
 -- each packet is as it was, and bound as it was
 abbrev pub SamePackets : Switch → Switch → Type 0
 SamePackets s t = (l : ℕ) → ((t.input l).got ≡ (s.input l).got) × ((t.input l).bound ≡ (s.input l).bound)
 
-waits_as : (s t : Switch) (l : ℕ) → SamePackets s t → Waits (t.input l) → Waits (s.input l)
-waits_as s t l same w = (sym (same l).1 ∙ w.0, λ e. w.1 ((same l).0 ∙ e))
-
-same_back : (s t : Switch) → SamePackets s t → SamePackets t s
-same_back s t same = λ l. (sym (same l).0, sym (same l).1)
-
 pub asked_same : (s t : State) (requests : List ℕ) → IsKept s t → SamePackets (seen s) (seen t) → AreRequested s requests → AreRequested t requests
-asked_same s t requests kept same was = record {
-  waiting = λ l less w. was.waiting l less (waits_as (seen s) (seen t) l same w) ∙ sym (ap (λ b. links_of (front_of t.table b)) (same l).0 ∙ ap (λ r. links_of (front_of r ((seen s).input l).got)) (table_kept s t kept));
-  others = λ l less no. was.others l less (λ w. no (waits_as (seen t) (seen s) l (same_back (seen s) (seen t) same) w));
+asked_same s t requests kept same was = record { few = was.few; leave = λ l o less. leave_same s t (get_or requests l 0) l o kept.plan (same l).0 (same l).1 (was.leave l o less) }
+
+-- one input is another, and this was told of what it asks for
+pub asked_else : (s t : State) (link : ℕ) (requests new : List ℕ) → IsKept s t → SameBut (seen s) link (seen t) → AreRequested s requests → ((k : ℕ) → k ≢ link → get_or new k 0 ≡ get_or requests k 0) →
+    get_or new link 0 < 2 ^ 32 → ((o : ℕ) → link < 32 → (bit_at (get_or new link 0) o ≡ 1) ↔ CanLeave (plan_of t) (seen t) link o) → AreRequested t new
+asked_else s t link requests new kept others was same few here = record {
+  few = λ l less. elim (cases_eq l link) [
+    | inl e ↦ subst (λ z. get_or new z 0 < 2 ^ 32) (sym e) few
+    | inr ne ↦ subst (λ m. m < 2 ^ 32) (sym (same l ne)) (was.few l less)
+  ];
+  leave = λ l o less. elim (cases_eq l link) [
+    | inl e ↦ subst (λ z. (bit_at (get_or new z 0) o ≡ 1) ↔ CanLeave (plan_of t) (seen t) z o) (sym e) (here o (subst (λ z. z < 32) e less))
+    | inr ne ↦ subst (λ m. (bit_at m o ≡ 1) ↔ CanLeave (plan_of t) (seen t) l o) (sym (same l ne))
+        (leave_same s t (get_or requests l 0) l o kept.plan (ap (λ x. x.got) (others l ne)) (ap (λ x. x.bound) (others l ne)) (was.leave l o less))
+  ];
 }
 
--- a token passed: what was known of its packet is known still
-pub asked_passed : (s t : State) (link known asks_now : ℕ) (requests new : List ℕ) → IsKept s t → Passes (limit_of s.inputs) (plan_of s) (seen s) link (seen t) → AreRequested s requests → link < 32 → known ≡ get_or requests link 0 →
-    (Waits ((seen t).input link) → known ≢ 0 → asks_now ≡ known) → (Waits ((seen t).input link) → known ≡ 0 → asks_now ≡ links_of (front_of t.table ((seen t).input link).got)) → ((Waits ((seen t).input link) → ⊥) → asks_now ≡ 0) →
-    get_or new link 0 ≡ asks_now → ((k : ℕ) → k ≢ link → get_or new k 0 ≡ get_or requests k 0) → AreRequested t new
-asked_passed s t link known asks_now requests new kept passes was less is stays told none it others =
-    let one = passes_else (limit_of s.inputs) (plan_of s) (seen s) link (seen t) passes in
-    asked_else s t link requests new kept one.others was others
-    (λ w. it ∙ elim (cases_eq known 0) [
-      | inl zero_now ↦ told w zero_now
-      | inr some ↦ stays w some ∙ still w some
-    ])
-    (λ no. it ∙ none no)
-  where
-    still : Waits ((seen t).input link) → known ≢ 0 → known ≡ links_of (front_of t.table ((seen t).input link).got)
-    still w some =
-        let one = passes_else (limit_of s.inputs) (plan_of s) (seen s) link (seen t) passes in
-        let bytes : ((seen s).input link).got ≢ [] = λ e. some (is ∙ was.others link less (λ v. v.1 e)) in
-        let before : Waits ((seen s).input link) = (sym one.bound ∙ w.0, bytes) in
-        let tells = is ∙ was.waiting link less before in
-        let grown = grows (limit_of s.inputs) (plan_of s) (seen s) link (seen t) passes bytes w.1 in
-        tells
-        ∙ sym (ap (λ b. links_of (front_of t.table b)) grown.1 ∙ ap (λ r. links_of (front_of r (((seen s).input link).got ++ grown.0))) (table_kept s t kept)
-        ∙ asked_more s.table ((seen s).input link).got grown.0 (front_of s.table ((seen s).input link).got) refl (λ e. some (tells ∙ e)))
+-- A token passed.
+
+not_headed : (v : Option ℕ) (got : List ℕ) → got ≢ [] → headed v got ≡ got
+not_headed v [] some = absurd (some refl)
+not_headed v (b ∷ bs) some = refl
+
+-- a packet that may leave is not lost, and what was there of it stays in front
+grows : (limit : ℕ) (plan : SwitchPlan) (s : Switch) (l o : ℕ) (t : Switch) → CanLeave plan s l o → Passes limit plan s l t → (more : List ℕ) × ((t.input l).got ≡ (s.input l).got ++ more)
+grows limit plan s l o t can (passes_byte b rest going front room is) =
+    (b ∷ [], ap (λ z. (z.input l).got) is ∙ ap (λ x. x.got) (put-same s.input l _) ∙ ap (λ z. z ++ b ∷ []) (not_headed _ (s.input l).got (leaving_waits plan s l o can).1))
+grows limit plan s l o t can (drops_byte b rest going front full is) =
+    ([], ap (λ z. (z.input l).got) is ∙ ap (λ x. x.got) (put-same s.input l _) ∙ not_headed _ (s.input l).got (leaving_waits plan s l o can).1 ∙ sym (append-nil (s.input l).got))
+grows limit plan s l o t can (passes_mark m rest going front group is) =
+    ([], ap (λ z. (z.input l).got) is ∙ ap (λ x. x.got) (put-same s.input l _) ∙ not_headed _ (s.input l).got (leaving_waits plan s l o can).1 ∙ sym (append-nil (s.input l).got))
+grows limit plan s l o t can (loses m rest going front none is) =
+    absurd (none (subst (HasGroup plan) (sym (not_headed _ (s.input l).got (leaving_waits plan s l o can).1)) (leaves_group plan (s.input l).got o can.body can.leaves)))
+
+-- a packet that may leave may do so by the same outputs
+leave_grown : (s t : State) (l one o : ℕ) → IsKept s t → Passes (limit_of s.inputs) (plan_of s) (seen s) l (seen t) → CanLeave (plan_of s) (seen s) l one → CanLeave (plan_of s) (seen s) l o ↔ CanLeave (plan_of t) (seen t) l o
+leave_grown s t l one o kept passes can =
+    let bound = (passes_else (limit_of s.inputs) (plan_of s) (seen s) l (seen t) passes).bound in
+    let g = grows (limit_of s.inputs) (plan_of s) (seen s) l one (seen t) can passes in (
+      λ c. record {
+        body = c.body ++ g.0;
+        unbound = bound ∙ c.unbound;
+        leaves = subst (λ p. BodyLeaves p ((seen t).input l).got o (c.body ++ g.0)) (sym kept.plan)
+            (subst (λ b. BodyLeaves (plan_of s) b o (c.body ++ g.0)) (sym g.1) (leaves_more (plan_of s) ((seen s).input l).got o c.body g.0 c.leaves));
+      },
+      λ c. (let longer = subst (λ b. BodyLeaves (plan_of s) b o c.body) g.1 (subst (λ p. BodyLeaves p ((seen t).input l).got o c.body) kept.plan c.leaves) in
+          let before = leaves_before (plan_of s) ((seen s).input l).got g.0 one o can.body c.body can.leaves longer in
+          record { body = before.0; unbound = can.unbound; leaves = before.1 }),
+    )
+
+-- what was known of its packet is known still
+pub asked_still : (s t : State) (link : ℕ) (requests : List ℕ) → IsKept s t → Passes (limit_of s.inputs) (plan_of s) (seen s) link (seen t) → AreRequested s requests → link < 32 → get_or requests link 0 ≢ 0 → AreRequested t requests
+asked_still s t link requests kept passes was less some =
+    let one = some_bit (get_or requests link 0) (was.few link less) some in
+    let can = (was.leave link one.0 less).0 one.1 in
+    asked_else s t link requests requests kept (passes_else (limit_of s.inputs) (plan_of s) (seen s) link (seen t) passes).others was (λ k ne. refl) (was.few link less)
+    (λ o less. (let grown = leave_grown s t link one.0 o kept passes can in
+    (λ e. grown.0 ((was.leave link o less).0 e), λ c. (was.leave link o less).1 (grown.1 c))))
+
+-- nothing was known of its packet, and now it has none, or one that is bound
+pub asked_idle : (s t : State) (link : ℕ) (requests : List ℕ) → IsKept s t → Passes (limit_of s.inputs) (plan_of s) (seen s) link (seen t) → AreRequested s requests → link < 32 → get_or requests link 0 ≡ 0 → (Waits ((seen t).input link) → ⊥) → AreRequested t requests
+asked_idle s t link requests kept passes was less none idle =
+    asked_else s t link requests requests kept (passes_else (limit_of s.inputs) (plan_of s) (seen s) link (seen t) passes).others was (λ k ne. refl) (was.few link less)
+    (λ o less. (λ e. absurd (no_bit _ o none e), λ can. absurd (idle (leaving_waits (plan_of t) (seen t) link o can))))
+
+-- an input was told of what it asks for
+pub routed_told : (requests new : List ℕ) (busy link routes next : ℕ) → AreRouted requests busy routes → ((k : ℕ) → k ≢ link → get_or new k 0 ≡ get_or requests k 0) → Tells (HasMore (get_or new link 0) busy) link routes next → AreRouted new busy next
+routed_told requests new busy link routes next was same tells =
+    told_more (λ l. HasMore (get_or requests l 0) busy) (λ l. HasMore (get_or new l 0) busy) link routes next was tells (λ l ne. subst (λ m. HasMore m busy) (sym (same l ne))) (λ l ne. subst (λ m. HasMore m busy) (same l ne))
 
 -- Which packets can be bound.
 
--- such a packet waits and asks for the output
-routed_asks : (t : State) (requests : List ℕ) (l o : ℕ) → AreRequested t requests → l < 32 → CanRoute (plan_of t) (seen t) l o → Waits ((seen t).input l) × (bit_at (get_or requests l 0) o ≡ 1)
-routed_asks t requests l o are less can =
-    let leaves = route_leaves (plan_of t) (seen t) l o can in
-    let w = leaving_waits (plan_of t) (seen t) l o leaves in
-    let g = gone (plan_of t) ((seen t).input l).got o leaves.body leaves.leaves in
-    let low = g.low in
-    let high = g.high in
-    let inside : bit_at (2 ^ (g.front.last + 1) - 2 ^ g.front.first) o ≡ 1 = bit_at_mask_inside g.front.first (g.front.last + 1) o low (omega (arith, high)) in
-    (w, ap (λ m. bit_at m o) (are.waiting l less w ∙ ap links_of g.is) ∙ inside)
+-- an output is free where it is not busy
+bind_iff : (s : State) (r : Ready) (requests : List ℕ) (l o : ℕ) → IsReady s r → AreRequested s requests → l < 32 → ((bit_at (get_or requests l 0) o ≡ 1) × (bit_at r.puts o ≡ 0)) ↔ CanRoute (plan_of s) (seen s) l o
+bind_iff s r requests l o ready are less = (
+  λ h. (let few = bit_within (get_or requests l 0) o (are.few l less) h.0 in
+      let free : IsFree (seen s) o = λ i e. not_both h.1 ((ready.puts o few).1 (λ f. f i e)) in
+      can_route (plan_of s) (seen s) l o ((are.leave l o less).0 h.0) free),
+  λ can. (let asked = (are.leave l o less).1 (route_leaves (plan_of s) (seen s) l o can) in
+      let few = bit_within (get_or requests l 0) o (are.few l less) asked in
+      (asked, is_zero r.puts o (λ e. (ready.puts o few).0 e can.1.free))),
+)
 
-one_of : (n : ℕ) → n < 2 → n ≢ 0 → n ≡ 1
-one_of zero less some = absurd (some refl)
-one_of (suc zero) less some = refl
-one_of (suc (suc n)) less some = absurd (omega (arith, less))
+pub route_iff : (s : State) (r : Ready) (requests : List ℕ) (routes l : ℕ) → IsKnown s r requests routes → l < 32 → (bit_at routes l ≡ 1) ↔ ((o : ℕ) × CanRoute (plan_of s) (seen s) l o)
+route_iff s r requests routes l known less = (
+  λ e. (let more = (known.routed l less).0 e in (more.0, (bind_iff s r requests l more.0 known.masks known.asked less).0 (more.1, more.2))),
+  λ can. (let both = (bind_iff s r requests l can.0 known.masks known.asked less).1 can.1 in (known.routed l less).1 (can.0, both.0, both.1)),
+)
 
--- and the output is free
-routed_free : (t : State) (r : Ready) (l o : ℕ) → IsReady t r → o < 32 → CanRoute (plan_of t) (seen t) l o → bit_at r.puts o ≡ 0
-routed_free t r l o ready few can = elim (cases_eq (bit_at r.puts o) 0) [
-  | inl none ↦ none
-  | inr some ↦ absurd ((ready.puts o few).0 (one_of (bit_at r.puts o) (bit_at-lt r.puts o) some) can.1.free)
-]
+abbrev pub NoRoute : State → Type 0
+NoRoute s = (i o : ℕ) → i < 32 → CanRoute (plan_of s) (seen s) i o → ⊥
 
--- a packet can be bound now that could be bound before
-route_back : (s t : State) (l o : ℕ) → IsKept s t → ((seen t).input l).got ≡ ((seen s).input l).got → ((i : ℕ) → ((seen t).input i).bound ≡ ((seen s).input i).bound) → CanRoute (plan_of t) (seen t) l o → CanRoute (plan_of s) (seen s) l o
-route_back s t l o kept got bound can =
-    let r = can.1 in
-    can_route (plan_of s) (seen s) l o
-    (record { body = r.body; unbound = sym (bound l) ∙ r.unbound; leaves = subst (λ p. BodyLeaves p ((seen s).input l).got o r.body) kept.plan (subst (λ b. BodyLeaves (plan_of t) b o r.body) got r.group) })
-    (λ i e. r.free i (bound i ∙ e))
+-- where no input has its bit
+pub no_route : (s : State) (r : Ready) (requests : List ℕ) (routes : ℕ) → IsKnown s r requests routes → ((l : ℕ) → bit_at routes l ≡ 0) → NoRoute s
+no_route s r requests routes known none i o few can = not_both (none i) ((route_iff s r requests routes i known few).1 (o, can))
 
-pub routed_same : (s t : State) (routes : ℕ) → IsKept s t → SamePackets (seen s) (seen t) → AreRouted s routes → AreRouted t routes
-routed_same s t routes kept same was = λ l o less can. was l o less (route_back s t l o kept (same l).0 (λ i. (same i).1) can)
+-- an input that has its bit asks for an output that is not busy
+pub no_output : (s : State) (r : Ready) (requests : List ℕ) (routes input asked left : ℕ) → IsKnown s r requests routes → input < 32 → bit_at routes input ≡ 1 → asked ≡ get_or requests input 0 → ((o : ℕ) → (bit_at left o ≡ 1) ↔ ((bit_at asked o ≡ 1) × (bit_at r.puts o ≡ 0))) → ((o : ℕ) → bit_at left o ≡ 0) → ⊥
+no_output s r requests routes input asked left known few has is left_is none =
+    let more = (known.routed input few).0 has in
+    not_both (none more.0) ((left_is more.0).1 (ap (λ m. bit_at m more.0) is ∙ more.1, more.2))
 
--- a token passed
-pub routed_passed : (s t : State) (r : Ready) (link routes new : ℕ) (requests : List ℕ) (more : Bool) → IsKept s t → OneElse (seen s) link (seen t) → IsReady t r → AreRequested t requests → get_or requests link 0 < 2 ^ 32 → AreRouted s routes →
-    ((o : ℕ) → bit_at (get_or requests link 0) o ≡ 1 → bit_at r.puts o ≡ 0 → IsTrue more) → Tells (IsTrue more) link routes new → AreRouted t new
-routed_passed s t r link routes new requests more kept one ready are fits was has tells = λ l o less can. elim (cases_eq l link) [
-  | inl e ↦ subst (λ z. bit_at new z ≡ 1) (sym e) (tells.it.1 (here o (subst (λ z. z < 32) e less) (subst (λ z. CanRoute (plan_of t) (seen t) z o) e can)))
-  | inr ne ↦ tells.others l less ne ∙ was l o less (route_back s t l o kept (ap (λ x. x.got) (one.others l ne)) (bound_as one) can)
-]
-  where
-    bound_as : OneElse (seen s) link (seen t) → (i : ℕ) → ((seen t).input i).bound ≡ ((seen s).input i).bound
-    bound_as one i = elim (cases_eq i link) [
-      | inl e ↦ subst (λ z. ((seen t).input z).bound ≡ ((seen s).input z).bound) (sym e) one.bound
-      | inr ne ↦ ap (λ x. x.bound) (one.others i ne)
-    ]
+abbrev pub IsNextRoute : State → ℕ → ℕ → Type 0
+IsNextRoute s input output =
+    (input < 32) × (output < 32) × CanRoute (plan_of s) (seen s) input output × ((i o : ℕ) → i < input → CanRoute (plan_of s) (seen s) i o → ⊥) × ((o : ℕ) → o < output → CanRoute (plan_of s) (seen s) input o → ⊥)
 
-    here : (o : ℕ) → link < 32 → CanRoute (plan_of t) (seen t) link o → IsTrue more
-    here o less can = (let asked = (routed_asks t requests link o are less can).1 in elim (cases_lt o 32) [
-      | inl few ↦ has o asked (routed_free t r link o ready few can)
-      | inr far ↦ absurd (let none = bit_at_above (get_or requests link 0) 32 o fits (omega (arith, far)) in let q : 0 ≡ 1 = sym none ∙ asked in cc)
-    ])
-
--- all that wait were asked
-pub routed_all : (t : State) (r : Ready) (requests : List ℕ) (routes : ℕ) → IsReady t r → AreRequested t requests → r.puts < 2 ^ 32 →
-    ((l o : ℕ) → l < 32 → bit_at r.waits l ≡ 1 → bit_at (get_or requests l 0) o ≡ 1 → bit_at r.puts o ≡ 0 → bit_at routes l ≡ 1) → AreRouted t routes
-routed_all t r requests routes ready are fits all = λ l o less can. (let asked = routed_asks t requests l o are less can in all l o less ((ready.waits l less).1 asked.0) asked.1 (elim (cases_lt o 32) [
-  | inl few ↦ routed_free t r l o ready few can
-  | inr far ↦ bit_at_above r.puts 32 o fits (omega (arith, far))
-]))
+-- the least input that has its bit, and the least output that it asks for and that is not busy
+pub least_route : (s : State) (r : Ready) (requests : List ℕ) (routes input output asked left : ℕ) → IsKnown s r requests routes → (input < 32) × (bit_at routes input ≡ 1) × ((l : ℕ) → l < input → bit_at routes l ≡ 0) → asked ≡ get_or requests input 0 →
+    ((o : ℕ) → (bit_at left o ≡ 1) ↔ ((bit_at asked o ≡ 1) × (bit_at r.puts o ≡ 0))) → (output < 32) × (bit_at left output ≡ 1) × ((l : ℕ) → l < output → bit_at left l ≡ 0) → IsNextRoute s input output
+least_route s r requests routes input output asked left known at is left_is out =
+    let few = at.0 in
+    let bind : (o : ℕ) → ((bit_at (get_or requests input 0) o ≡ 1) × (bit_at r.puts o ≡ 0)) ↔ CanRoute (plan_of s) (seen s) input o = λ o. bind_iff s r requests input o known.masks known.asked few in
+    let both = (left_is output).0 out.1 in (
+      few,
+      out.0,
+      (bind output).0 (sym (ap (λ m. bit_at m output) is) ∙ both.0, both.1),
+      (λ i o low can. (let below : i < 32 = omega (arith, few, low) in not_both (at.2 i low) ((route_iff s r requests routes i known below).1 (o, can)))),
+      (λ o low can. (let has = (bind o).1 can in not_both (out.2 o low) ((left_is o).1 (ap (λ m. bit_at m o) is ∙ has.0, has.1)))),
+    )
 
 -- Which packets a step leaves as they are.
 
@@ -231,54 +225,28 @@ pub asked_routed : (s t : State) (link output : ℕ) (requests new : List ℕ) �
 asked_routed s t link output requests new kept routes was it others =
     let is = ap (λ z. z.input) routes.after in
     let here : ((seen t).input link).bound ≡ Some output = ap (λ f. (f link).bound) is ∙ ap (λ x. x.bound) (put-same (seen s).input link _) in
-    asked_else s t link requests new kept (λ l ne. ap (λ f. f l) is ∙ put-other (seen s).input link l _ ne) was others (λ w. absurd (let e : None ≡ Some output = sym w.0 ∙ here in cc)) (λ no. it)
+    asked_else s t link requests new kept (λ l ne. ap (λ f. f l) is ∙ put-other (seen s).input link l _ ne) was others (omega (arith, it))
+    (λ o less. (λ e. absurd (no_bit _ o it e), λ can. absurd (let e : None ≡ Some output = sym can.unbound ∙ here in cc)))
 
 -- a packet is gone with its mark
-pub asked_marked : (s t : State) (output : ℕ) (m : Mark) (requests : List ℕ) → IsKept s t → Sends (plan_of s) Wormhole (seen s) output (EndMark m) (seen t) → AreRequested s requests → AreRequested t requests
-asked_marked s t output m requests kept sends was =
-    let is = ap (λ z. z.input) sends.after in
-    let link = sends.link in
+pub asked_marked : (s t : State) (link output : ℕ) (m : Mark) (requests : List ℕ) → IsKept s t → Sends (plan_of s) Wormhole (seen s) output (EndMark m) (seen t) → ((seen s).input link).bound ≡ Some output → link < 32 → AreRequested s requests → AreRequested t requests
+asked_marked s t link output m requests kept sends bound less was =
+    let same : sends.link ≡ link = sym (sends.only link bound) in
+    let is = ap (λ z. z.input) sends.after ∙ ap (λ j. put (seen s).input j (record ((seen s).input j) { got = []; mark = None; bound = None })) same in
     let empty : ((seen t).input link).got ≡ [] = ap (λ f. (f link).got) is ∙ ap (λ x. x.got) (put-same (seen s).input link _) in
-    record {
-      waiting = λ l less w. elim (cases_eq l link) [
-        | inl e ↦ absurd (w.1 (subst (λ z. ((seen t).input z).got ≡ []) (sym e) empty))
-        | inr ne ↦ asked_as s t requests requests l kept was less (ap (λ f. f l) is ∙ put-other (seen s).input link l _ ne) refl w
-      ];
-      others = λ l less no. elim (cases_eq l link) [
-        | inl e ↦ was.others l less (λ w. (let q : None ≡ Some output = sym (subst (λ z. ((seen s).input z).bound ≡ None) e w.0) ∙ sends.bound in absurd (cc)))
-        | inr ne ↦ was.others l less (λ w. no (subst Waits (sym (ap (λ f. f l) is ∙ put-other (seen s).input link l _ ne)) w))
-      ];
-    }
-
--- Only what waits.
-
-pub only_same : (s t : State) (routes : ℕ) → SamePackets (seen s) (seen t) → OnlyWaiting s routes → OnlyWaiting t routes
-only_same s t routes same was = λ l less one. waits_as (seen t) (seen s) l (same_back (seen s) (seen t) same) (was l less one)
-
-pub only_passed : (s t : State) (link routes new : ℕ) (more : Bool) → SameBut (seen s) link (seen t) → OnlyWaiting s routes → (IsTrue more → Waits ((seen t).input link)) → Tells (IsTrue more) link routes new → OnlyWaiting t new
-only_passed s t link routes new more others was waits tells = λ l less one. elim (cases_eq l link) [
-  | inl e ↦ subst (λ z. Waits ((seen t).input z)) (sym e) (waits (tells.it.0 (subst (λ z. bit_at new z ≡ 1) e one)))
-  | inr ne ↦ subst Waits (sym (others l ne)) (was l less (sym (tells.others l less ne) ∙ one))
-]
-
-pub only_all : (t : State) (r : Ready) (routes : ℕ) → IsReady t r → ((l : ℕ) → l < 32 → bit_at routes l ≡ 1 → bit_at r.waits l ≡ 1) → OnlyWaiting t routes
-only_all t r routes ready all = λ l less one. (ready.waits l less).0 (all l less one)
-
--- a link's bit is cleared, and no other is set
-pub fewer : (link old new : ℕ) → Tells (IsTrue false) link old new → (l : ℕ) → l < 32 → bit_at new l ≡ 1 → bit_at old l ≡ 1
-fewer link old new tells l less one = elim (cases_eq l link) [
-  | inl e ↦ absurd (let no : false ≡ true = tells.it.0 (subst (λ z. bit_at new z ≡ 1) e one) in cc)
-  | inr ne ↦ sym (tells.others l less ne) ∙ one
-]
+    asked_else s t link requests requests kept (λ l ne. ap (λ f. f l) is ∙ put-other (seen s).input link l _ ne) was (λ k ne. refl) (was.few link less)
+    (λ o less. (
+      λ e. absurd (let q : None ≡ Some output = sym ((was.leave link o less).0 e).unbound ∙ bound in cc),
+      λ can. absurd ((leaving_waits (plan_of t) (seen t) link o can).1 empty),
+    ))
 
 -- What is asked as the switch begins.
 
-pub only_first : (s : State) → OnlyWaiting s 0
-only_first s = λ l less one. absurd (let z = bit_at-zero l in let q : 0 ≡ 1 = sym z ∙ one in cc)
-
 pub asked_first : (s : State) (requests : List ℕ) → seen s ≡ new_switch → ((k : ℕ) → get_or requests k 0 ≡ 0) → AreRequested s requests
-asked_first s requests e none = record { waiting = λ l less w. absurd (w.1 (ap (λ z. (z.input l).got) e)); others = λ l less no. none l }
+asked_first s requests e none = record {
+  few = λ l less. (let zero = none l in omega (arith, zero));
+  leave = λ l o less. (λ one. absurd (no_bit _ o (none l) one), λ can. absurd ((leaving_waits (plan_of s) (seen s) l o can).1 (ap (λ z. (z.input l).got) e)));
+}
 
-pub routed_first : (s : State) (routes : ℕ) → seen s ≡ new_switch → AreRouted s routes
-routed_first s routes e = λ l o less can.
-    absurd ((leaving_waits (plan_of s) (seen s) l o (route_leaves (plan_of s) (seen s) l o can)).1 (ap (λ z. (z.input l).got) e))
+pub routed_first : (requests : List ℕ) (busy : ℕ) → ((k : ℕ) → get_or requests k 0 ≡ 0) → AreRouted requests busy 0
+routed_first requests busy none = λ l less. (λ one. absurd (no_bit 0 l refl one), λ more. absurd (no_bit _ more.0 (none l) more.1))

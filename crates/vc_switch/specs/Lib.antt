@@ -3,8 +3,6 @@ pub mod Forward
 pub mod Front
 pub mod Opening
 pub mod Private
-pub mod Ready
-pub mod Requested
 pub mod Seen
 pub mod State
 pub mod Switch

@@ -1,6 +1,6 @@
 //! The front header of a body: portals passed, the first header that has a group.
-ghost use Rattle.std.specs.Prelude.{◌≡◌, ◌+◌, ◌^◌, ◌≤◌, ◌<◌, length, Some, IfSome};
-ghost use Rattle.vc_switch.specs.Requested.{links_of};
+ghost use Rattle.std.specs.Prelude.{◌≡◌, ◌+◌, ◌^◌, ◌≤◌, ◌<◌, ◌↔◌, ℕ, length, IfSome};
+ghost use Rattle.std.specs.Int.{bit_at};
 ghost use Rattle.vc_switch.specs.Front.{front_of, behind_portal};
 ghost use Rattle.vc_switch.specs.Private.Front.{start_of, HasFront};
 
@@ -30,7 +30,8 @@ impl Front {
     pub(crate) fn links(&self) -> u32
         requires group { self.now.first ≤ self.now.last }
         requires few { self.now.last < 32 }
-        ensures { result ≡ links_of (Some self.now) }
+        ensures { (l : ℕ) →
+            (bit_at result l ≡ 1) ↔ ((self.now.first ≤ l) × (l ≤ self.now.last)) }
     {
         let past = 1u64 << (self.last + 1);
         let below = 1u64 << self.first;

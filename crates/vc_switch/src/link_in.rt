@@ -8,11 +8,13 @@ ghost use Rattle.vc_credit.specs.Ends.{received, HasRoom, Grants, IsFront, Passe
 ghost use Rattle.vc_switch.specs.declared.front.Front.{Front};
 ghost use Rattle.vc_switch.specs.Front.{front_of};
 ghost use Rattle.vc_switch.specs.Private.Front.{HasFront};
-ghost use Rattle.vc_switch.specs.Switch.{headed};
+ghost use Rattle.vc_switch.specs.Switch.{drawn, headed};
+ghost use Rattle.vc_switch.specs.State.{interval_of, IsRange};
 ghost use Rattle.vc_switch.specs.Private.Opening.{new_link_in};
 ghost use Rattle.vc_switch.specs.Private.Seen.{has_next};
 
 use crate::front::find_front;
+use crate::random_range::{RandomRange, draw};
 use std::alloc::Global;
 use vc_credit::Receiver;
 use vc_labels::Table;
@@ -109,14 +111,17 @@ impl LinkIn {
     }
 
     // The random header goes before a packet's first token.
-    fn begin(&mut self, header: Option<u16>)
-        requires { 2 ≤ self.old.got.limit }
+    fn begin(&mut self, range: Option<RandomRange>)
+        requires limit { 2 ≤ self.old.got.limit }
+        requires range { IsRange range }
         ensures { self.new ≡
-            record self.old
-            { got = record self.old.got { passed = headed header self.old.got.passed } } }
+            record self.old {
+              got = record self.old.got
+                  { passed = headed (drawn (interval_of range) self.old.word) self.old.got.passed };
+            } }
     {
         if self.got.is_empty() {
-            if let Some(header) = header {
+            if let Some(header) = draw(range, self.word) {
                 let [high, low] = header.to_be_bytes();
                 self.got.push(high);
                 self.got.push(low);
@@ -124,49 +129,62 @@ impl LinkIn {
         }
     }
 
-    /// The byte at the front passes, behind the header that was drawn for the packet: it joins the packet, or is dropped where the
+    /// The byte at the front passes, behind the header that is drawn for the packet: it joins the packet, or is dropped where the
     /// packet has as many as it may.
-    pub(crate) fn pass_byte(&mut self, header: Option<u16>, byte: u8) -> bool
+    pub(crate) fn pass_byte(&mut self, range: Option<RandomRange>, byte: u8) -> bool
         requires limit { 2 ≤ self.old.got.limit }
+        requires range { IsRange range }
         requires front { IsFront self.old.receiver (Byte byte) }
         ensures front { Passes self.old.receiver (Byte byte) self.new.receiver }
         ensures room { IsTrue result ↔
-            (length (headed header self.old.got.passed) < self.old.got.limit) }
+            (length (headed (drawn (interval_of range) self.old.word) self.old.got.passed) <
+            self.old.got.limit) }
         ensures added { OnTrue result
             (self.new ≡
             record self.old {
               receiver = self.new.receiver;
-              got = record self.old.got
-                  { passed = headed header self.old.got.passed ++ byte ∷ [] };
+              got = record self.old.got {
+                passed = headed (drawn (interval_of range) self.old.word)
+                    self.old.got.passed ++ byte ∷ [];
+              };
             }) }
         ensures dropped { OnFalse result
             (self.new ≡
             record self.old {
               receiver = self.new.receiver;
               got = record self.old.got
-                  { passed = headed header self.old.got.passed };
+                  { passed = headed (drawn (interval_of range) self.old.word) self.old.got.passed };
             }) }
     {
         let _byte = self.receiver.pop();
-        self.begin(header);
+        self.begin(range);
         self.got.push(byte)
     }
 
     /// The mark at the front passes, and the packet is whole. It is dropped where it has no group.
-    pub(crate) fn pass_mark(&mut self, table: &Table, header: Option<u16>, mark: Mark) -> bool
+    pub(crate) fn pass_mark(
+        &mut self,
+        table: &Table,
+        range: Option<RandomRange>,
+        mark: Mark,
+    ) -> bool
         requires limit { 2 ≤ self.old.got.limit }
+        requires range { IsRange range }
         requires front { IsFront self.old.receiver (EndMark mark) }
         ensures front { Passes self.old.receiver (EndMark mark) self.new.receiver }
         ensures group { OnTrue result
-            ((front : Front) × HasFront table.now (headed header self.old.got.passed) front) }
+            ((front : Front) ×
+            HasFront table.now
+            (headed (drawn (interval_of range) self.old.word) self.old.got.passed) front) }
         ensures none { OnFalse result
-            (front_of table.now (headed header self.old.got.passed) ≡ None) }
+            (front_of table.now
+            (headed (drawn (interval_of range) self.old.word) self.old.got.passed) ≡ None) }
         ensures whole { OnTrue result
             (self.new ≡
             record self.old {
               receiver = self.new.receiver;
               got = record self.old.got
-                  { passed = headed header self.old.got.passed };
+                  { passed = headed (drawn (interval_of range) self.old.word) self.old.got.passed };
               mark = Some mark;
             }) }
         ensures dropped { OnFalse result
@@ -175,7 +193,7 @@ impl LinkIn {
             { receiver = self.new.receiver; got = record self.old.got { passed = [] } }) }
     {
         let _mark = self.receiver.pop();
-        self.begin(header);
+        self.begin(range);
         let has_group = find_front(table, self.got.bytes()).is_some();
         if has_group {
             self.mark = Some(mark);

@@ -1,21 +1,18 @@
 //! A switch that knows at which of its links there is something to do, so that nobody looks at the others.
-ghost use Rattle.std.specs.Prelude.{◌≡◌, ◌≢◌, ◌<◌, ◌≤◌, ◌↔◌, ℕ, IsOk, IfOk, get_or};
+ghost use Rattle.std.specs.Prelude.{◌≡◌, ◌≢◌, ◌<◌, ◌≤◌, ◌↔◌, ◌^◌, ℕ, IsOk, IfOk, MatchOption, get_or};
 ghost use Rattle.std.specs.Int.{bit_at};
 ghost use Rattle.std.specs.List.{AllByRecursion};
 ghost use Rattle.vc_tokens.specs.Spelt.{token};
 ghost use Rattle.vc_switch.specs.Waiting.{Wormhole};
 ghost use Rattle.vc_switch.specs.Switch.{new_switch, Comes, Passes, Routes, Sends, SendsFct};
-ghost use Rattle.vc_switch.specs.Able.{CanPass, CanRoute, CanPut, CanGrant, IsFree};
+ghost use Rattle.vc_switch.specs.Able.{CanPass, CanLeave, CanRoute, CanPut, CanGrant, IsFree};
 ghost use Rattle.vc_switch.specs.Opening.{plan_given, IsRandomInput};
-ghost use Rattle.vc_switch.specs.Requested.{links_of};
-ghost use Rattle.vc_switch.specs.Front.{front_of};
-ghost use Rattle.vc_switch.specs.Private.Ready.{Looks};
-ghost use Rattle.vc_switch.specs.Ready.{Waits};
+ghost use Rattle.vc_switch.specs.Private.Requested.{HasMore};
+ghost use Rattle.vc_switch.specs.Private.Ready.{Looks, Tells, Waits};
 ghost use Rattle.vc_switch.specs.State.{plan_of, limit_of};
 ghost use Rattle.vc_switch.specs.Seen.{seen, IsKept};
 
-use crate::bits::{has_more, told};
-use crate::opening::LINKS;
+use crate::bits::{has_more, lowest, told, without};
 use crate::requests::Requests;
 use crate::switch::Switch;
 use crate::switch_plan::SwitchPlan;
@@ -29,8 +26,6 @@ use vc_tokens::Token;
 pub(crate) struct Ready {
     /// The inputs from whose buffer a token may pass.
     pub(crate) passes: u32,
-    /// The inputs with bytes of a packet that is bound to no output.
-    pub(crate) waits: u32,
     /// The outputs to which a packet is bound.
     pub(crate) puts: u32,
     /// The inputs of whose places eight may be granted.
@@ -44,7 +39,6 @@ impl Ready {
         ensures { Looks switch.now link self.old self.new }
     {
         self.passes = told(self.passes, link, switch.may_pass(link));
-        self.waits = told(self.waits, link, switch.waits(link));
         self.grants = told(self.grants, link, switch.may_grant(link));
     }
 }
@@ -73,7 +67,7 @@ impl Drop for ReadySwitch {
 
 impl Model for ReadySwitch {
     ghost use Rattle.vc_switch.specs.State.{State};
-    ghost use Rattle.vc_switch.specs.Requested.{IsKnown};
+    ghost use Rattle.vc_switch.specs.Private.Requested.{IsKnown};
 
     ghost Value = { State };
 
@@ -96,11 +90,10 @@ impl ReadySwitch {
             switch: Switch::new(alloc, plan, body_limit)?,
             ready: Ready {
                 passes: 0,
-                waits: 0,
                 puts: 0,
                 grants: u32::MAX,
             },
-            requests: Requests::new(alloc)?,
+            requests: Requests::new(),
             routes: 0,
         })
     }
@@ -122,16 +115,20 @@ impl ReadySwitch {
         self.ready.passes
     }
 
-    /// A bit for each input whose packet may be bound to an output; any other that has one waits too, with bytes of a packet that is
-    /// bound to no output.
-    pub fn routes(&self) -> u32
-        ensures waits { (l : ℕ) → l < 32 → bit_at result l ≡ 1 → Waits ((seen self.now).input l) }
-        ensures can { (l output : ℕ) →
-            l < 32 →
-            CanRoute (plan_of self.now) (seen self.now) l output →
-            bit_at result l ≡ 1 }
+    /// The least input whose packet may be bound to an output, and the least such output.
+    pub fn next_route(&self) -> Option<(u8, u8)>
+        ensures { MatchOption result
+            ((i o : ℕ) → i < 32 → CanRoute (plan_of self.now) (seen self.now) i o → ⊥)
+            (λ route.
+            (route.0 < 32) ×
+            (route.1 < 32) ×
+            CanRoute (plan_of self.now) (seen self.now) route.0 route.1 ×
+            ((i o : ℕ) → i < route.0 → CanRoute (plan_of self.now) (seen self.now) i o → ⊥) ×
+            ((o : ℕ) → o < route.1 → CanRoute (plan_of self.now) (seen self.now) route.0 o → ⊥)) }
     {
-        self.routes
+        let input = lowest(self.routes)?;
+        let output = lowest(without(self.requests.of(input), self.ready.puts))?;
+        Some((input, output))
     }
 
     /// A bit for each output to which a packet is bound, and so for each on which a token may be put.
@@ -177,9 +174,16 @@ impl ReadySwitch {
     {
         let passed = self.switch.pass(link);
         self.ready.look(&self.switch, link);
-        let requests = asked(&self.switch, link, self.requests.of(link));
-        self.requests.set(link, requests);
-        self.routes = told(self.routes, link, has_more(requests, self.ready.puts));
+        // what a packet asks for stays the same until it is bound
+        if self.requests.of(link) == 0 && self.switch.waits(link) {
+            self.routes = ask(
+                &self.switch,
+                &mut self.requests,
+                link,
+                self.ready.puts,
+                self.routes,
+            );
+        }
         passed
     }
 
@@ -196,7 +200,7 @@ impl ReadySwitch {
         self.ready.look(&self.switch, input);
         self.ready.puts = told(self.ready.puts, output, true);
         self.requests.set(input, 0);
-        self.routes = asking(&self.requests, self.ready.waits, self.ready.puts);
+        self.routes = self.requests.asking(self.ready.puts);
     }
 
     /// Puts the next token of the packet that is bound to an output; with its mark the packet leaves its input, and the output is
@@ -218,7 +222,7 @@ impl ReadySwitch {
             Token::Eop | Token::Eom => {
                 self.ready.look(&self.switch, source);
                 self.ready.puts = told(self.ready.puts, output, false);
-                self.routes = asking(&self.requests, self.ready.waits, self.ready.puts);
+                self.routes = self.requests.asking(self.ready.puts);
             }
         }
         token
@@ -236,47 +240,18 @@ impl ReadySwitch {
     }
 }
 
-// What an input's packet asks for, where this was known of it before its latest token.
-fn asked(switch: &Switch, link: u8, known: u32) -> u32
-    requires { link < 32 }
-    ensures known { Waits ((seen switch.now).input link) → known ≢ 0 → result ≡ known }
-    ensures told { Waits ((seen switch.now).input link) →
-        known ≡ 0 →
-        result ≡ links_of (front_of switch.now.table ((seen switch.now).input link).got) }
-    ensures others { (Waits ((seen switch.now).input link) → ⊥) → result ≡ 0 }
-    ensures waits { result ≢ 0 → Waits ((seen switch.now).input link) }
+// Finds what an input's packet asks for, and answers the mask `routes` with the input's bit set by it.
+fn ask(switch: &Switch, requests: &mut Requests, link: u8, busy: u32, routes: u32) -> u32
+    requires link { link < 32 }
+    requires waits { Waits ((seen switch.now).input link) }
+    ensures few { get_or requests.new link 0 < 2 ^ 32 }
+    ensures leave { (output : ℕ) →
+        (bit_at (get_or requests.new link 0) output ≡ 1) ↔
+        CanLeave (plan_of switch.now) (seen switch.now) link output }
+    ensures others { (k : ℕ) → k ≢ link → get_or requests.new k 0 ≡ get_or requests.old k 0 }
+    ensures routes { Tells (HasMore (get_or requests.new link 0) busy) link routes result }
 {
-    if !switch.waits(link) {
-        0
-    } else if known != 0 {
-        known
-    } else {
-        switch.requests(link)
-    }
-}
-
-// The inputs that wait, but those that ask for busy outputs alone.
-fn asking(requests: &Requests, waits: u32, busy: u32) -> u32
-    ensures only { (l : ℕ) → l < 32 → bit_at result l ≡ 1 → bit_at waits l ≡ 1 }
-    ensures all { (l output : ℕ) →
-        l < 32 →
-        bit_at waits l ≡ 1 →
-        bit_at (get_or requests.now l 0) output ≡ 1 →
-        bit_at busy output ≡ 0 →
-        bit_at result l ≡ 1 }
-{
-    let mut routes = waits;
-    let mut left = waits;
-    for _ in 0..LINKS {
-        let link = left.trailing_zeros();
-        if link >= u32::from(LINKS) {
-            return routes;
-        }
-        let link = link as u8;
-        if !has_more(requests.of(link), busy) {
-            routes = told(routes, link, false);
-        }
-        left = told(left, link, false);
-    }
-    routes
+    let asked = switch.requests(link);
+    requests.set(link, asked);
+    told(routes, link, has_more(asked, busy))
 }

@@ -1,34 +1,48 @@
 //! What the packets at the inputs ask for, as bits.
-ghost use Rattle.std.specs.Prelude.{◌≡◌, ◌≢◌, ◌<◌, ℕ, IfOk, get_or};
+ghost use Rattle.std.specs.Prelude.{◌≡◌, ◌≢◌, ◌<◌, ◌↔◌, ℕ, get_or, replicate};
+ghost use Rattle.std.specs.Int.{bit_at};
+ghost use Rattle.vc_switch.specs.Private.Requested.{HasMore};
 
+use crate::bits::{has_more, lowest, told};
 use crate::opening::LINKS;
-use std::alloc::Global;
 use std::marker::Model;
-use vc_packets::Memory;
 
 /// For each input a bit for each output that its packet asks for.
 #[derive(Drop)]
 pub(crate) struct Requests {
-    outputs: Vec<u32>,
+    // by the input's link, of which there are so many
+    outputs: [u32; 32],
+    // a bit for each input whose packet asks for an output
+    asking: u32,
 }
 
 impl Model for Requests {
-    ghost use Rattle.std.specs.Prelude.{◌≡◌, ℕ, List, length};
+    ghost use Rattle.std.specs.Prelude.{ℕ, List};
+    ghost use Rattle.vc_switch.specs.Private.Requested.{AreAsking};
 
     ghost Value = { List ℕ };
 
-    ghost view = { λ x. x.outputs.items };
+    ghost view = { λ x. x.outputs };
 
-    ghost invariant = { λ x. length x.outputs.items ≡ 32 };
+    ghost invariant = { λ x. AreAsking x.outputs x.asking };
+}
+
+// No output for any input.
+fn no_outputs() -> [u32; 32]
+    ensures { result ≡ replicate 32 0 }
+{
+    [0; 32]
 }
 
 impl Requests {
     /// No input asks for any output.
-    pub(crate) fn new(alloc: Global) -> Result<Requests, Memory>
-        ensures { IfOk result (λ requests. (k : ℕ) → get_or requests k 0 ≡ 0) }
+    pub(crate) fn new() -> Requests
+        ensures { (k : ℕ) → get_or result k 0 ≡ 0 }
     {
-        let outputs = vec![in alloc; 0; usize::from(LINKS)]?;
-        Ok(Requests { outputs })
+        Requests {
+            outputs: no_outputs(),
+            asking: 0,
+        }
     }
 
     /// A bit for each output that an input's packet asks for.
@@ -46,5 +60,22 @@ impl Requests {
         ensures others { (k : ℕ) → k ≢ input → get_or self.new k 0 ≡ get_or self.old k 0 }
     {
         self.outputs[usize::from(input)] = outputs;
+        self.asking = told(self.asking, input, outputs != 0);
+    }
+
+    /// A bit for each input whose packet asks for an output that is not busy.
+    pub(crate) fn asking(&self, busy: u32) -> u32
+        ensures { (l : ℕ) → l < 32 → (bit_at result l ≡ 1) ↔ HasMore (get_or self.now l 0) busy }
+    {
+        let mut routes = 0;
+        let mut left = self.asking;
+        for _ in 0..LINKS {
+            let Some(link) = lowest(left) else {
+                return routes;
+            };
+            left = told(left, link, false);
+            routes = told(routes, link, has_more(self.of(link), busy));
+        }
+        routes
     }
 }

@@ -3,6 +3,7 @@
 //! A link is named by its number at the switch, 0 to 31. A question about another is answered false, or with nothing. Only
 //! [`Switch::new`] takes memory.
 ghost use Rattle.std.specs.Prelude.{◌≡◌, ◌<◌, ◌≤◌, ◌↔◌, ◌++◌, ℕ, List, length, drop, None, Some, IsTrue, IsOk, IfOk, MatchOption};
+ghost use Rattle.std.specs.Int.{bit_at};
 ghost use Rattle.std.specs.List.{AllByRecursion};
 ghost use Rattle.vc_packets.specs.Counting.{one_more};
 ghost use Rattle.vc_tokens.specs.Spelt.{token, tokens};
@@ -14,11 +15,9 @@ ghost use Rattle.vc_switch.specs.Forward.{IsDrawn, least_of};
 ghost use Rattle.vc_switch.specs.Switch.{new_switch, BodyLeaves, Comes, Passes, Routes, Sends, SendsFct};
 ghost use Rattle.vc_switch.specs.Able.{CanPass, CanRoute, CanPut, CanGrant, CanLeave, IsFirst, IsFree};
 ghost use Rattle.vc_switch.specs.Opening.{plan_given, IsRandomInput};
-ghost use Rattle.vc_switch.specs.Requested.{links_of};
-ghost use Rattle.vc_switch.specs.Front.{front_of};
-ghost use Rattle.vc_switch.specs.Ready.{Waits};
 ghost use Rattle.vc_switch.specs.State.{plan_of, limit_of, IsSwitch};
 ghost use Rattle.vc_switch.specs.Seen.{seen, IsKept};
+ghost use Rattle.vc_switch.specs.Private.Ready.{Waits};
 ghost use Rattle.vc_switch.specs.Private.Seen.{IsBoundTo, IsNext};
 
 use crate::front::find_front;
@@ -153,6 +152,7 @@ impl Switch {
     /// A token passes from a link's buffer: a byte joins the packet that is arriving, or is dropped and counted past the limit; with
     /// its mark the packet is whole, or is dropped and counted where it has no group. Before a packet's first token goes the random
     /// header, if the input has a range. It takes no memory, so the answer is `Ok`.
+    #[inline(always)]
     pub fn pass(&mut self, link: u8) -> Result<(), Memory>
         requires link { link < 32 }
         requires may { CanPass (limit_of self.old.inputs) (plan_of self.old) (seen self.old) link }
@@ -180,8 +180,7 @@ impl Switch {
         ensures kept { IsKept self.old self.new }
     {
         let at = usize::from(link);
-        let header = draw(self.ranges[at], self.inputs[at].word);
-        if !self.inputs[at].pass_byte(header, byte) {
+        if !self.inputs[at].pass_byte(self.ranges[at], byte) {
             self.drop_one();
         }
     }
@@ -196,8 +195,7 @@ impl Switch {
         ensures kept { IsKept self.old self.new }
     {
         let at = usize::from(link);
-        let header = draw(self.ranges[at], self.inputs[at].word);
-        if !self.inputs[at].pass_mark(&self.table, header, mark) {
+        if !self.inputs[at].pass_mark(&self.table, self.ranges[at], mark) {
             self.drop_one();
         }
     }
@@ -244,10 +242,12 @@ impl Switch {
         }
     }
 
-    /// A bit for each link of the group that the front header of an input's packet has; none where it has no group yet.
+    /// A bit for each output by which an input's packet may leave, which is bound to none yet: those of its front header's group.
     pub(crate) fn requests(&self, input: u8) -> u32
-        requires { input < 32 }
-        ensures { result ≡ links_of (front_of self.now.table ((seen self.now).input input).got) }
+        requires input { input < 32 }
+        requires unbound { ((seen self.now).input input).bound ≡ None }
+        ensures { (output : ℕ) →
+            (bit_at result output ≡ 1) ↔ CanLeave (plan_of self.now) (seen self.now) input output }
     {
         match find_front(&self.table, self.inputs[usize::from(input)].got.bytes()) {
             Some(front) => front.links(),

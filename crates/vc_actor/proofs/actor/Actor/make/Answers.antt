@@ -1,16 +1,6 @@
-use Rattle.std.proofs.Common.{OnOk, sym, ap, ◌∙◌, subst}
+use Rattle.std.proofs.Common.{sym, subst}
 use Rattle.vc_actor.specs.Acting.{MakesOwn}
-use Rattle.vc_actor.specs.OfPlan.{IsActorOf}
-use Rattle.vc_actor.specs.Parts.{acting}
-use Rattle.vc_actor.specs.Shown.{OfNode}
-use Rattle.vc_actor.proofs.Parting.{alike, on_ok_of}
-use Rattle.vc_actor.proofs.actor.Actor.make.Goals.{in-Node, in-Switch}
 use Rattle.vc_actor.proofs.actor.Actor.make.Goals as goal
 
-pub returns-clause-ok : goal.returns-clause-ok
-returns-clause-ok c = elim c.match-self.branch [
-  | in-Node w ↦ alike (λ x y. (plan : _) (k : _) → IsActorOf plan k x → OnOk c.match-self.result (MakesOwn plan k x c.args.act.now y)) _ c.args.self.now _ _ (sym (ap acting w.in-Node.is) ∙ c.self.view_is) (sym (ap (λ z. acting z.part) w.self-inside-is))
-      (λ plan k is. subst (λ r. OnOk r (MakesOwn plan k (OfNode w.in-Node.node) c.args.act.now (OfNode w.make.new.self))) (sym w.result-is) (w.make.ensures.ok plan k is))
-  | in-Switch w ↦ alike (λ x y. (plan : _) (k : _) → IsActorOf plan k x → OnOk c.match-self.result (MakesOwn plan k x c.args.act.now y)) _ c.args.self.now _ _ (sym (ap acting w.in-Switch.is) ∙ c.self.view_is) (sym (ap (λ z. acting z.part) w.self-inside-is))
-      (λ plan k is. on_ok_of c.match-self.result (w.make-in-Switch.ensures.makes plan k is))
-]
+pub returns-in-Route-clause-ok : goal.returns-in-Route-clause-ok
+returns-in-Route-clause-ok c = λ plan k is. subst (λ a. MakesOwn plan k c.args.self.now a c.route.new.self) (sym c.in-Route.is) (c.route.ensures plan k is)

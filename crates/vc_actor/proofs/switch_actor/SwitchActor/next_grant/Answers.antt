@@ -11,14 +11,12 @@ returns-in_err-link-clause-finds c = λ plan k.
     let s = c.args.self.now.switch in
     subst (FindsAt (λ l. Fct l) (IsTurn plan k (OfSwitch s) c.args.room)) (sym c.from_residual.ensures) (λ l turn.
     let few = turn.can.0 in
-    let all = c.links.ensures.count in
     not_both (c.in_err-link.ensures l (omega arith)) (both_bits c.grants.result c.args.room l ((c.grants.ensures l few).1 turn.can.1) turn.lets))
 
 pub returns-clause-may : goal.returns-clause-may
 returns-clause-may c =
     let l = c.in_ok-link.link in
     let less = c.in_ok-link.ensures.0 in
-    let all = c.links.ensures.count in
     let few : l < 32 = omega arith in
     let bits = bits_both c.grants.result c.args.room l c.in_ok-link.ensures.1 in
     record { links = few; can = (few, (c.grants.ensures l few).0 bits.0) }
@@ -27,7 +25,6 @@ pub returns-clause-finds : goal.returns-clause-finds
 returns-clause-finds c = λ plan k.
     let l = c.in_ok-link.link in
     let less = c.in_ok-link.ensures.0 in
-    let all = c.links.ensures.count in
     let few : l < 32 = omega arith in
     let bits = bits_both c.grants.result c.args.room l c.in_ok-link.ensures.1 in (
       l,

@@ -13,7 +13,6 @@ returns-in_err-link-clause-finds c =
     let holds = subst IsSwitch c.switch.ensures c.links.ensures.holds in
     subst (FindsAt (λ l. Pass l) (SwitchCan s)) (sym c.from_residual.ensures) (λ l can.
     let few = within s holds (Pass l) can in
-    let all = c.links.ensures.count in
     not_both (c.in_err-link.ensures l (omega arith)) ((c.passes.ensures l few).1 can))
 
 pub returns-clause-finds : goal.returns-clause-finds
@@ -21,6 +20,5 @@ returns-clause-finds c =
     let s = c.args.self.now.switch in
     let l = c.in_ok-link.link in
     let less = c.in_ok-link.ensures.0 in
-    let all = c.links.ensures.count in
     let few : l < 32 = omega arith in
     (l, refl, (c.passes.ensures l few).0 c.in_ok-link.ensures.1, λ j low can. (let small : j < 32 = omega arith in not_both (c.in_ok-link.ensures.2 j low) ((c.passes.ensures j small).1 can)))

@@ -24,28 +24,25 @@ loop-init c = record {
 pub returns-in_err-link-clause-finds : goal.returns-in_err-link-clause-finds
 returns-in_err-link-clause-finds c = λ plan k.
     let s = c.args.self.now.switch in
-    let holds = subst IsSwitch c.switch.ensures c.links-links.ensures.holds in
+    let holds = subst IsSwitch c.switch.ensures c.links.ensures.holds in
     subst (FindsAt (λ l. Put l) (IsTurn plan k (OfSwitch s) c.args.room)) (sym c.from_residual.ensures) (λ l turn.
     let m = may s holds (Put l) turn.can in
     let few = m.links in
-    let all = c.links-links.ensures.count in
     not_both (c.in_err-link.ensures l (omega arith)) (c.loop.invariant.tried l m turn.lets))
 
 pub returns-then-may_put-clause-may : goal.returns-then-may_put-clause-may
 returns-then-may_put-clause-may c =
     let l = c.in_ok-link.link in
     let less = c.in_ok-link.ensures.0 in
-    let all = c.links-links.ensures.count in
     let few : l < 32 = omega arith in
     record { links = few; can = subst (λ z. CanPut (plan_of z) (seen z) l) c.switch-in-loop.ensures (c.if-may_put.ensures.0 refl) }
 
 pub returns-then-may_put-clause-finds : goal.returns-then-may_put-clause-finds
 returns-then-may_put-clause-finds c = λ plan k.
     let s = c.args.self.now.switch in
-    let holds = subst IsSwitch c.switch.ensures c.links-links.ensures.holds in
+    let holds = subst IsSwitch c.switch.ensures c.links.ensures.holds in
     let l = c.in_ok-link.link in
     let less = c.in_ok-link.ensures.0 in
-    let all = c.links-links.ensures.count in
     let few : l < 32 = omega arith in
     let can = subst (λ z. CanPut (plan_of z) (seen z) l) c.switch-in-loop.ensures (c.if-may_put.ensures.0 refl) in (
       l,
@@ -63,7 +60,6 @@ loop-preserved c =
     let l = c.in_ok-link.link in
     let old = c.loop.left in
     let new = c.without-left.result in
-    let all = c.links-links.ensures.count in
     let test = c.loop-test.true in
     let under : c.loop.counter < 32 = omega arith in
     record {
@@ -79,10 +75,9 @@ loop-preserved c =
 pub returns-clause-finds : goal.returns-clause-finds
 returns-clause-finds c = λ plan k l turn.
     let s = c.args.self.now.switch in
-    let holds = subst IsSwitch c.switch.ensures c.links-links.ensures.holds in
+    let holds = subst IsSwitch c.switch.ensures c.links.ensures.holds in
     let m = may s holds (Put l) turn.can in
     let few = m.links in
-    let all = c.links-links.ensures.count in
     let test = c.loop-test.false in
     let past : l < c.loop.counter = omega arith in
     not_both (c.loop.invariant.gone l past) (c.loop.invariant.tried l m turn.lets)

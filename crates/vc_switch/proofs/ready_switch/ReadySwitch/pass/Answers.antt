@@ -1,12 +1,13 @@
-use Rattle.std.proofs.Common.{◌≡◌, ◌<◌, ◌^◌, sym, subst}
-use Rattle.std.specs.Int.{bit_at}
+use Rattle.std.proofs.Common.{◌≡◌, true, sym, ◌∙◌, subst}
 use Rattle.vc_switch.specs.Able.{CanPass}
+use Rattle.vc_switch.specs.Private.Requested.{AreRouted}
 use Rattle.vc_switch.specs.Seen.{seen}
 use Rattle.vc_switch.specs.State.{plan_of, limit_of}
 use Rattle.vc_switch.specs.Switch.{Passes}
-use Rattle.vc_switch.proofs.Requested.{asked_passed, routed_passed, only_passed}
+use Rattle.vc_switch.proofs.Requested.{asked_else, asked_idle, asked_still, routed_told}
 use Rattle.vc_switch.proofs.Readying.{ready_else, passes_else}
 use Rattle.vc_switch.proofs.ready_switch.ReadySwitch.pass.Goals as goal
+use Rattle.vc_switch.proofs.ready_switch.ReadySwitch.pass.Goals.{else-of-eq0-via-then-of-eq0+else-waits, else-of-eq0-via-else-of-eq0}
 
 pub pass-passed-requires-clause-may : goal.pass-passed-requires-clause-may
 pass-passed-requires-clause-may c = subst (λ s. CanPass (limit_of s.inputs) (plan_of s) (seen s) c.args.link) (sym c.self.view_is) c.requires.may
@@ -16,18 +17,48 @@ invariant_of-self c =
     let s = c.self.inside.switch in
     let t = c.pass-passed.new.self in
     let kept = c.pass-passed.ensures.kept in
-    let passes = c.pass-passed.ensures.passes in
-    let one = passes_else (limit_of s.inputs) (plan_of s) (seen s) c.args.link (seen t) passes in
-    let masks = ready_else s t c.args.link c.self.inside.ready c.look.new.self kept one c.self.invariant.masks c.look.ensures in
-    let now = asked_passed s t c.args.link c.of.result c.asked-requests.result c.self.inside.requests c.set.new.self kept passes c.self.invariant.asked c.requires.link c.of.ensures c.asked-requests.ensures.known c.asked-requests.ensures.told
-    c.asked-requests.ensures.others c.set.ensures.it c.set.ensures.others in
+    let one = passes_else (limit_of s.inputs) (plan_of s) (seen s) c.args.link (seen t) c.pass-passed.ensures.passes in
+    let asked = c.ask-self-inside.ensures in
     record {
-      masks = masks;
-      asked = now;
-      routed = routed_passed s t c.look.new.self c.args.link c.self.inside.routes c.told-self-inside.result c.set.new.self c.has_more.result kept one masks now (subst (λ m. m < 2 ^ 32) (sym c.set.ensures.it) c.asked-requests.type_inv) c.self.invariant.routed
-          (λ o requests free. c.has_more.ensures.more o (subst (λ m. bit_at m o ≡ 1) c.set.ensures.it requests) free) c.told-self-inside.ensures;
-      only = only_passed s t c.args.link c.self.inside.routes c.told-self-inside.result c.has_more.result one.others c.self.invariant.only (λ more. c.asked-requests.ensures.waits (c.has_more.ensures.some more)) c.told-self-inside.ensures;
+      masks = ready_else s t c.args.link c.self.inside.ready c.look.new.self kept one c.self.invariant.masks c.look.ensures;
+      asked = asked_else s t c.args.link c.self.inside.requests c.ask-self-inside.new.requests kept one.others c.self.invariant.asked asked.others asked.few (λ o less. asked.leave o);
+      routed = routed_told c.self.inside.requests c.ask-self-inside.new.requests _ c.args.link c.self.inside.routes c.ask-self-inside.result
+          (subst (λ m. AreRouted c.self.inside.requests m c.self.inside.routes) (sym c.look.ensures.puts) c.self.invariant.routed) asked.others asked.routes;
     }
 
-pub returns-clause-passes : goal.returns-clause-passes
-returns-clause-passes c = subst (λ s. Passes (limit_of s.inputs) (plan_of s) (seen s) c.args.link (seen c.pass-passed.new.self)) c.self.view_is c.pass-passed.ensures.passes
+pub invariant_of-self-else-waits : goal.invariant_of-self-else-waits
+invariant_of-self-else-waits c =
+    let s = c.self.inside.switch in
+    let t = c.pass-passed.new.self in
+    let kept = c.pass-passed.ensures.kept in
+    let passes = c.pass-passed.ensures.passes in
+    let one = passes_else (limit_of s.inputs) (plan_of s) (seen s) c.args.link (seen t) passes in
+    record {
+      masks = ready_else s t c.args.link c.self.inside.ready c.look.new.self kept one c.self.invariant.masks c.look.ensures;
+      asked = asked_idle s t c.args.link c.self.inside.requests kept passes c.self.invariant.asked c.requires.link (sym c.of.ensures ∙ c.if-of-eq0.true) (λ w. (let yes : c.waits.result ≡ true = c.waits.ensures.1 w in absurd (let f = c.if-waits.false in cc)));
+      routed = subst (λ m. AreRouted c.self.inside.requests m c.self.inside.routes) (sym c.look.ensures.puts) c.self.invariant.routed;
+    }
+
+pub invariant_of-self-else-of-eq0 : goal.invariant_of-self-else-of-eq0
+invariant_of-self-else-of-eq0 c =
+    let s = c.self.inside.switch in
+    let t = c.pass-passed.new.self in
+    let kept = c.pass-passed.ensures.kept in
+    let passes = c.pass-passed.ensures.passes in
+    let one = passes_else (limit_of s.inputs) (plan_of s) (seen s) c.args.link (seen t) passes in
+    record {
+      masks = ready_else s t c.args.link c.self.inside.ready c.look.new.self kept one c.self.invariant.masks c.look.ensures;
+      asked = asked_still s t c.args.link c.self.inside.requests kept passes c.self.invariant.asked c.requires.link (λ none. c.if-of-eq0.false (c.of.ensures ∙ none));
+      routed = subst (λ m. AreRouted c.self.inside.requests m c.self.inside.routes) (sym c.look.ensures.puts) c.self.invariant.routed;
+    }
+
+pub returns-then-waits-clause-passes : goal.returns-then-waits-clause-passes
+returns-then-waits-clause-passes c = subst (λ s. Passes (limit_of s.inputs) (plan_of s) (seen s) c.args.link (seen c.pass-passed.new.self)) c.self.view_is c.pass-passed.ensures.passes
+
+pub returns-else-of-eq0-clause-passes : goal.returns-else-of-eq0-clause-passes
+returns-else-of-eq0-clause-passes c =
+    let passes = subst (λ s. Passes (limit_of s.inputs) (plan_of s) (seen s) c.args.link (seen c.pass-passed.new.self)) c.self.view_is c.pass-passed.ensures.passes in
+    elim c.else-of-eq0.branch [
+      | else-of-eq0-via-then-of-eq0+else-waits w ↦ rw w.self-is passes
+      | else-of-eq0-via-else-of-eq0 w ↦ rw w.self-is passes
+    ]

@@ -1,6 +1,6 @@
 use Rattle.vc_switch.specs.Seen.{seen}
 use Rattle.vc_switch.specs.State.{plan_of}
-use Rattle.vc_switch.proofs.Requested.{sent_same, asked_same, routed_same, asked_marked, routed_all, only_same, only_all}
+use Rattle.vc_switch.proofs.Requested.{sent_same, asked_same, asked_marked}
 use Rattle.vc_switch.proofs.Readying.{ready_sent, sent_inputs, sent_mark, ready_marked}
 use Rattle.vc_switch.proofs.ready_switch.ReadySwitch.put.Goals as goal
 
@@ -12,8 +12,7 @@ invariant_of-self c =
     record {
       masks = ready_sent s t c.self.inside.ready c.put-token.ensures.kept same c.self.invariant.masks;
       asked = asked_same s t c.self.inside.requests c.put-token.ensures.kept (sent_same (seen s) (seen t) same) c.self.invariant.asked;
-      routed = routed_same s t c.self.inside.routes c.put-token.ensures.kept (sent_same (seen s) (seen t) same) c.self.invariant.routed;
-      only = only_same s t c.self.inside.routes (sent_same (seen s) (seen t) same) c.self.invariant.only;
+      routed = c.self.invariant.routed;
     }
 
 pub invariant_of-self-in-Eop : goal.invariant_of-self-in-Eop
@@ -22,10 +21,8 @@ invariant_of-self-in-Eop c =
     let t = c.put-token.new.self in
     let sent = sent_mark (plan_of s) (seen s) (seen t) c.args.output c.put-token.result c.in-Eop.is c.put-token.ensures.sends in
     let masks = ready_marked s t c.in-Some.source c.args.output c.told-self-inside.result sent.0 c.self.inside.ready c.look.new.self c.put-token.ensures.kept sent.1 c.in-Some.ensures.1 c.self.invariant.masks c.look.ensures c.told-self-inside.ensures in
-    let now = asked_marked s t c.args.output sent.0 c.self.inside.requests c.put-token.ensures.kept sent.1 c.self.invariant.asked in
     record {
       masks = masks;
-      asked = now;
-      routed = routed_all t _ c.self.inside.requests c.asking-self-inside.result masks now c.told-self-inside.type_inv c.asking-self-inside.ensures.all;
-      only = only_all t _ c.asking-self-inside.result masks c.asking-self-inside.ensures.only;
+      asked = asked_marked s t c.in-Some.source c.args.output sent.0 c.self.inside.requests c.put-token.ensures.kept sent.1 c.in-Some.ensures.1 c.in-Some.ensures.0 c.self.invariant.asked;
+      routed = c.asking-self-inside.ensures;
     }

@@ -1,4 +1,4 @@
-use Rattle.vc_switch.proofs.Requested.{asked_routed, routed_all, only_all}
+use Rattle.vc_switch.proofs.Requested.{asked_routed}
 use Rattle.vc_switch.proofs.Readying.{ready_routed}
 use Rattle.vc_switch.proofs.ready_switch.ReadySwitch.route.Goals as goal
 
@@ -11,6 +11,5 @@ invariant_of-self c =
     record {
       masks = masks;
       asked = now;
-      routed = routed_all t _ c.set.new.self c.asking-self-inside.result masks now c.told-self-inside.type_inv c.asking-self-inside.ensures.all;
-      only = only_all t _ c.asking-self-inside.result masks c.asking-self-inside.ensures.only;
+      routed = c.asking-self-inside.ensures;
     }

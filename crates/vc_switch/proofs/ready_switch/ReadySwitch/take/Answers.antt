@@ -2,7 +2,7 @@ use Rattle.std.proofs.Common.{subst}
 use Rattle.vc_tokens.specs.Spelt.{token}
 use Rattle.vc_switch.specs.Switch.{Comes}
 use Rattle.vc_switch.specs.Seen.{seen, IsKept}
-use Rattle.vc_switch.proofs.Requested.{came_same, asked_same, routed_same, only_same}
+use Rattle.vc_switch.proofs.Requested.{came_same, asked_same}
 use Rattle.vc_switch.proofs.Readying.{ready_came, comes_else, told_is}
 use Rattle.vc_switch.proofs.ready_switch.ReadySwitch.take.Goals as goal
 
@@ -15,8 +15,7 @@ invariant_of-self c =
     record {
       masks = ready_came s t c.args.link c.args.word c.told-self-inside.result _ c.self.inside.ready c.take-taken.ensures.kept c.take-taken.ensures.comes c.requires c.self.invariant.masks (record { it = told_is c.told-self-inside.ensures.it c.may_pass.ensures; others = c.told-self-inside.ensures.others });
       asked = asked_same s t c.self.inside.requests c.take-taken.ensures.kept same c.self.invariant.asked;
-      routed = routed_same s t c.self.inside.routes c.take-taken.ensures.kept same c.self.invariant.routed;
-      only = only_same s t c.self.inside.routes same c.self.invariant.only;
+      routed = c.self.invariant.routed;
     }
 
 pub returns-clause-comes : goal.returns-clause-comes

@@ -1,5 +1,8 @@
-use Rattle.vc_switch.proofs.Requested.{none_asked}
+use Rattle.vc_switch.proofs.Requested.{none_asked, none_asking}
 use Rattle.vc_switch.proofs.requests.Requests.new.Goals as goal
 
+pub invariant_of-result : goal.invariant_of-result
+invariant_of-result c = none_asking c.no_outputs.result c.no_outputs.ensures
+
 pub returns : goal.returns
-returns c = λ k. none_asked c.from.result k c.in_ok-outputs.outputs.items (c.in_ok-outputs.ensures.items_if_clones_equal (λ y e. e))
+returns c = λ k. none_asked 32 k c.no_outputs.result c.no_outputs.ensures

@@ -3,9 +3,9 @@ use Rattle.std.proofs.lemmas.Option.{slice_get_read}
 use Rattle.vc_tokens.specs.Tokens.{Byte}
 use Rattle.vc_credit.specs.Ends.{IsFront}
 use Rattle.vc_switch.specs.Switch.{Passes, drawn}
-use Rattle.vc_switch.specs.State.{State, IsRange, plan_of, limit_of, output_of}
+use Rattle.vc_switch.specs.State.{State, IsRange, interval_of, plan_of, limit_of, output_of}
 use Rattle.vc_switch.specs.Seen.{seen, IsKept}
-use Rattle.vc_switch.proofs.Placed.{same_read, all-at, at_link}
+use Rattle.vc_switch.proofs.Placed.{all-at, at_link}
 use Rattle.vc_switch.proofs.Showing.{input_at}
 use Rattle.vc_packets.specs.Counting.{one_more}
 use Rattle.vc_switch.proofs.Keeping.{link_in, switch_in, kept_limit, room_at}
@@ -22,10 +22,9 @@ invariant_of-self c =
     let here = slice_get_read x.inputs.items 32 k a (sym c.self.invariant.input_links) within c.index_mut.ensures.value in
     let r = c.index.result.now in
     let range = slice_get_read x.ranges.items 32 k r (sym c.self.invariant.range_links) within c.index.ensures in
-    let e = same_read x.inputs.items k c.index-2.result.now a (slice_get_read x.inputs.items 32 k c.index-2.result.now (sym c.self.invariant.input_links) within c.index-2.ensures) here in
-    let drew = c.draw-header.ensures ∙ header_at o k c.index-2.result.now.word r range ∙ ap (λ z. drawn ((plan_of o).random k) z.word) e in
+    let drew = header_at o k a.word r range in
     let is = c.if-not-pass_byte.ensures.dropped in
-    switch_in o k x.lost a c.pass_byte.new.self c.self.invariant here (link_dropped (plan_of o) (limit_of x.inputs.items) c.args.byte c.draw-header.result a c.pass_byte.new.self (link_in o k a c.self.invariant here) c.pass_byte.ensures.front is) (ap (λ z. output_of z.bound) is)
+    switch_in o k x.lost a c.pass_byte.new.self c.self.invariant here (link_dropped (plan_of o) (limit_of x.inputs.items) c.args.byte (drawn (interval_of r) a.word) a c.pass_byte.new.self (link_in o k a c.self.invariant here) c.pass_byte.ensures.front is) (ap (λ z. output_of z.bound) is)
 
 pub invariant_of-self-else-not-pass_byte : goal.invariant_of-self-else-not-pass_byte
 invariant_of-self-else-not-pass_byte c =
@@ -37,10 +36,9 @@ invariant_of-self-else-not-pass_byte c =
     let here = slice_get_read x.inputs.items 32 k a (sym c.self.invariant.input_links) within c.index_mut.ensures.value in
     let r = c.index.result.now in
     let range = slice_get_read x.ranges.items 32 k r (sym c.self.invariant.range_links) within c.index.ensures in
-    let e = same_read x.inputs.items k c.index-2.result.now a (slice_get_read x.inputs.items 32 k c.index-2.result.now (sym c.self.invariant.input_links) within c.index-2.ensures) here in
-    let drew = c.draw-header.ensures ∙ header_at o k c.index-2.result.now.word r range ∙ ap (λ z. drawn ((plan_of o).random k) z.word) e in
+    let drew = header_at o k a.word r range in
     let is = c.if-not-pass_byte.ensures.added in
-    switch_in o k x.lost a c.pass_byte.new.self c.self.invariant here (link_byte (plan_of o) (limit_of x.inputs.items) c.args.byte c.draw-header.result a c.pass_byte.new.self (link_in o k a c.self.invariant here) c.pass_byte.ensures.front is) (ap (λ z. output_of z.bound) is)
+    switch_in o k x.lost a c.pass_byte.new.self c.self.invariant here (link_byte (plan_of o) (limit_of x.inputs.items) c.args.byte (drawn (interval_of r) a.word) a c.pass_byte.new.self (link_in o k a c.self.invariant here) c.pass_byte.ensures.front is) (ap (λ z. output_of z.bound) is)
 
 pub returns-then-not-pass_byte-clause-passes : goal.returns-then-not-pass_byte-clause-passes
 returns-then-not-pass_byte-clause-passes c =
@@ -52,13 +50,12 @@ returns-then-not-pass_byte-clause-passes c =
     let here = slice_get_read x.inputs.items 32 k a (sym c.self.invariant.input_links) within c.index_mut.ensures.value in
     let r = c.index.result.now in
     let range = slice_get_read x.ranges.items 32 k r (sym c.self.invariant.range_links) within c.index.ensures in
-    let e = same_read x.inputs.items k c.index-2.result.now a (slice_get_read x.inputs.items 32 k c.index-2.result.now (sym c.self.invariant.input_links) within c.index-2.ensures) here in
-    let drew = c.draw-header.ensures ∙ header_at o k c.index-2.result.now.word r range ∙ ap (λ z. drawn ((plan_of o).random k) z.word) e in
+    let drew = header_at o k a.word r range in
     let going = sym (ap (λ z. z.mark) (input_at o k a here)) ∙ subst (λ z. ((seen z).input k).mark ≡ None) (sym c.self.view_is) (subst (λ j. ((seen c.args.self.now).input j).mark ≡ None) (sym c.from-at.ensures) c.requires.open) in
     subst (λ z. Passes (limit_of c.args.self.now.inputs) (plan_of c.args.self.now) (seen c.args.self.now) c.args.link (seen z)) (sym c.drop_one.ensures)
     (subst (λ z. Passes (limit_of z.inputs) (plan_of z) (seen z) c.args.link (seen (record o { inputs = slice_set x.inputs.items k c.pass_byte.new.self; lost = one_more x.lost }))) c.self.view_is
     (subst (λ j. Passes (limit_of x.inputs.items) (plan_of o) (seen o) j (seen (record o { inputs = slice_set x.inputs.items k c.pass_byte.new.self; lost = one_more x.lost }))) c.from-at.ensures
-    (byte_drops o k c.args.byte c.draw-header.result a c.pass_byte.new.self c.self.invariant here drew going c.pass_byte.ensures.front (λ room. (let t : c.pass_byte.result ≡ true = c.pass_byte.ensures.room.1 room in absurd (cc))) c.if-not-pass_byte.ensures.dropped)))
+    (byte_drops o k c.args.byte (drawn (interval_of r) a.word) a c.pass_byte.new.self c.self.invariant here drew going c.pass_byte.ensures.front (λ room. (let t : c.pass_byte.result ≡ true = c.pass_byte.ensures.room.1 room in absurd (cc))) c.if-not-pass_byte.ensures.dropped)))
 
 pub returns-else-not-pass_byte-clause-passes : goal.returns-else-not-pass_byte-clause-passes
 returns-else-not-pass_byte-clause-passes c =
@@ -70,21 +67,17 @@ returns-else-not-pass_byte-clause-passes c =
     let here = slice_get_read x.inputs.items 32 k a (sym c.self.invariant.input_links) within c.index_mut.ensures.value in
     let r = c.index.result.now in
     let range = slice_get_read x.ranges.items 32 k r (sym c.self.invariant.range_links) within c.index.ensures in
-    let e = same_read x.inputs.items k c.index-2.result.now a (slice_get_read x.inputs.items 32 k c.index-2.result.now (sym c.self.invariant.input_links) within c.index-2.ensures) here in
-    let drew = c.draw-header.ensures ∙ header_at o k c.index-2.result.now.word r range ∙ ap (λ z. drawn ((plan_of o).random k) z.word) e in
+    let drew = header_at o k a.word r range in
     let going = sym (ap (λ z. z.mark) (input_at o k a here)) ∙ subst (λ z. ((seen z).input k).mark ≡ None) (sym c.self.view_is) (subst (λ j. ((seen c.args.self.now).input j).mark ≡ None) (sym c.from-at.ensures) c.requires.open) in
     subst (λ z. Passes (limit_of z.inputs) (plan_of z) (seen z) c.args.link (seen (record o { inputs = slice_set x.inputs.items k c.pass_byte.new.self }))) c.self.view_is
     (subst (λ j. Passes (limit_of x.inputs.items) (plan_of o) (seen o) j (seen (record o { inputs = slice_set x.inputs.items k c.pass_byte.new.self }))) c.from-at.ensures
-    (byte_passes o k c.args.byte c.draw-header.result a c.pass_byte.new.self c.self.invariant here drew going c.pass_byte.ensures.front (c.pass_byte.ensures.room.0 c.if-not-pass_byte.false) c.if-not-pass_byte.ensures.added))
+    (byte_passes o k c.args.byte (drawn (interval_of r) a.word) a c.pass_byte.new.self c.self.invariant here drew going c.pass_byte.ensures.front (c.pass_byte.ensures.room.0 c.if-not-pass_byte.false) c.if-not-pass_byte.ensures.added))
 
 pub index-requires : goal.index-requires
 index-requires c = at_link c.self.inside.ranges c.from-at.result c.args.link c.from-at.ensures c.requires.link c.self.invariant.range_links
 
-pub index-requires-2 : goal.index-requires-2
-index-requires-2 c = at_link c.self.inside.inputs c.from-at.result c.args.link c.from-at.ensures c.requires.link c.self.invariant.input_links
-
-pub draw-header-requires : goal.draw-header-requires
-draw-header-requires c =
+pub pass_byte-requires-clause-range : goal.pass_byte-requires-clause-range
+pass_byte-requires-clause-range c =
     let x = c.self.inside in
     let r = c.index.result.now in
     all-at IsRange x.ranges.items c.from-at.result r c.self.invariant.ranges (slice_get_read x.ranges.items 32 c.from-at.result r (sym c.self.invariant.range_links) (subst (λ z. z < 32) (sym c.from-at.ensures) c.requires.link) c.index.ensures)

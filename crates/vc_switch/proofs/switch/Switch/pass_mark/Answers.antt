@@ -3,9 +3,9 @@ use Rattle.std.proofs.lemmas.Option.{slice_get_read}
 use Rattle.vc_tokens.specs.Tokens.{EndMark}
 use Rattle.vc_credit.specs.Ends.{IsFront}
 use Rattle.vc_switch.specs.Switch.{Passes, drawn}
-use Rattle.vc_switch.specs.State.{State, IsRange, plan_of, limit_of, output_of}
+use Rattle.vc_switch.specs.State.{State, IsRange, interval_of, plan_of, limit_of, output_of}
 use Rattle.vc_switch.specs.Seen.{seen, IsKept}
-use Rattle.vc_switch.proofs.Placed.{same_read, all-at, at_link}
+use Rattle.vc_switch.proofs.Placed.{all-at, at_link}
 use Rattle.vc_switch.proofs.Showing.{input_at}
 use Rattle.vc_packets.specs.Counting.{one_more}
 use Rattle.vc_switch.proofs.Keeping.{link_in, switch_in, kept, kept_limit, room_at}
@@ -22,10 +22,9 @@ invariant_of-self c =
     let here = slice_get_read x.inputs.items 32 k a (sym c.self.invariant.input_links) within c.index_mut.ensures.value in
     let r = c.index.result.now in
     let range = slice_get_read x.ranges.items 32 k r (sym c.self.invariant.range_links) within c.index.ensures in
-    let e = same_read x.inputs.items k c.index-2.result.now a (slice_get_read x.inputs.items 32 k c.index-2.result.now (sym c.self.invariant.input_links) within c.index-2.ensures) here in
-    let drew = c.draw-header.ensures ∙ header_at o k c.index-2.result.now.word r range ∙ ap (λ z. drawn ((plan_of o).random k) z.word) e in
+    let drew = header_at o k a.word r range in
     let is = c.if-not-pass_mark.ensures.dropped in
-    switch_in o k x.lost a c.pass_mark.new.self c.self.invariant here (link_lost (plan_of o) (limit_of x.inputs.items) c.args.mark c.draw-header.result a c.pass_mark.new.self (link_in o k a c.self.invariant here) c.pass_mark.ensures.front c.if-not-pass_mark.ensures.none is) (ap (λ z. output_of z.bound) is)
+    switch_in o k x.lost a c.pass_mark.new.self c.self.invariant here (link_lost (plan_of o) (limit_of x.inputs.items) c.args.mark (drawn (interval_of r) a.word) a c.pass_mark.new.self (link_in o k a c.self.invariant here) c.pass_mark.ensures.front c.if-not-pass_mark.ensures.none is) (ap (λ z. output_of z.bound) is)
 
 pub invariant_of-self-else-not-pass_mark : goal.invariant_of-self-else-not-pass_mark
 invariant_of-self-else-not-pass_mark c =
@@ -37,10 +36,9 @@ invariant_of-self-else-not-pass_mark c =
     let here = slice_get_read x.inputs.items 32 k a (sym c.self.invariant.input_links) within c.index_mut.ensures.value in
     let r = c.index.result.now in
     let range = slice_get_read x.ranges.items 32 k r (sym c.self.invariant.range_links) within c.index.ensures in
-    let e = same_read x.inputs.items k c.index-2.result.now a (slice_get_read x.inputs.items 32 k c.index-2.result.now (sym c.self.invariant.input_links) within c.index-2.ensures) here in
-    let drew = c.draw-header.ensures ∙ header_at o k c.index-2.result.now.word r range ∙ ap (λ z. drawn ((plan_of o).random k) z.word) e in
+    let drew = header_at o k a.word r range in
     let is = c.if-not-pass_mark.ensures.whole in
-    switch_in o k x.lost a c.pass_mark.new.self c.self.invariant here (link_whole (plan_of o) (limit_of x.inputs.items) c.args.mark c.draw-header.result a c.pass_mark.new.self (link_in o k a c.self.invariant here) c.pass_mark.ensures.front is) (ap (λ z. output_of z.bound) is)
+    switch_in o k x.lost a c.pass_mark.new.self c.self.invariant here (link_whole (plan_of o) (limit_of x.inputs.items) c.args.mark (drawn (interval_of r) a.word) a c.pass_mark.new.self (link_in o k a c.self.invariant here) c.pass_mark.ensures.front is) (ap (λ z. output_of z.bound) is)
 
 pub returns-then-not-pass_mark-clause-kept : goal.returns-then-not-pass_mark-clause-kept
 returns-then-not-pass_mark-clause-kept c =
@@ -52,12 +50,11 @@ returns-then-not-pass_mark-clause-kept c =
     let here = slice_get_read x.inputs.items 32 k a (sym c.self.invariant.input_links) within c.index_mut.ensures.value in
     let r = c.index.result.now in
     let range = slice_get_read x.ranges.items 32 k r (sym c.self.invariant.range_links) within c.index.ensures in
-    let e = same_read x.inputs.items k c.index-2.result.now a (slice_get_read x.inputs.items 32 k c.index-2.result.now (sym c.self.invariant.input_links) within c.index-2.ensures) here in
-    let drew = c.draw-header.ensures ∙ header_at o k c.index-2.result.now.word r range ∙ ap (λ z. drawn ((plan_of o).random k) z.word) e in
+    let drew = header_at o k a.word r range in
     let new : State = record o { inputs = slice_set x.inputs.items k c.pass_mark.new.self; lost = one_more x.lost } in
     subst (IsKept c.args.self.now) (sym c.drop_one.ensures) (subst (λ z. IsKept z new) c.self.view_is
     (kept o k (one_more x.lost) a c.pass_mark.new.self x.outputs.items c.self.invariant here
-    (link_lost (plan_of o) (limit_of x.inputs.items) c.args.mark c.draw-header.result a c.pass_mark.new.self (link_in o k a c.self.invariant here) c.pass_mark.ensures.front c.if-not-pass_mark.ensures.none c.if-not-pass_mark.ensures.dropped)))
+    (link_lost (plan_of o) (limit_of x.inputs.items) c.args.mark (drawn (interval_of r) a.word) a c.pass_mark.new.self (link_in o k a c.self.invariant here) c.pass_mark.ensures.front c.if-not-pass_mark.ensures.none c.if-not-pass_mark.ensures.dropped)))
 
 pub returns-then-not-pass_mark-clause-passes : goal.returns-then-not-pass_mark-clause-passes
 returns-then-not-pass_mark-clause-passes c =
@@ -69,13 +66,12 @@ returns-then-not-pass_mark-clause-passes c =
     let here = slice_get_read x.inputs.items 32 k a (sym c.self.invariant.input_links) within c.index_mut.ensures.value in
     let r = c.index.result.now in
     let range = slice_get_read x.ranges.items 32 k r (sym c.self.invariant.range_links) within c.index.ensures in
-    let e = same_read x.inputs.items k c.index-2.result.now a (slice_get_read x.inputs.items 32 k c.index-2.result.now (sym c.self.invariant.input_links) within c.index-2.ensures) here in
-    let drew = c.draw-header.ensures ∙ header_at o k c.index-2.result.now.word r range ∙ ap (λ z. drawn ((plan_of o).random k) z.word) e in
+    let drew = header_at o k a.word r range in
     let going = sym (ap (λ z. z.mark) (input_at o k a here)) ∙ subst (λ z. ((seen z).input k).mark ≡ None) (sym c.self.view_is) (subst (λ j. ((seen c.args.self.now).input j).mark ≡ None) (sym c.from-at.ensures) c.requires.open) in
     subst (λ z. Passes (limit_of c.args.self.now.inputs) (plan_of c.args.self.now) (seen c.args.self.now) c.args.link (seen z)) (sym c.drop_one.ensures)
     (subst (λ z. Passes (limit_of z.inputs) (plan_of z) (seen z) c.args.link (seen (record o { inputs = slice_set x.inputs.items k c.pass_mark.new.self; lost = one_more x.lost }))) c.self.view_is
     (subst (λ j. Passes (limit_of x.inputs.items) (plan_of o) (seen o) j (seen (record o { inputs = slice_set x.inputs.items k c.pass_mark.new.self; lost = one_more x.lost }))) c.from-at.ensures
-    (mark_loses o k c.args.mark c.draw-header.result a c.pass_mark.new.self c.self.invariant here drew going c.pass_mark.ensures.front c.if-not-pass_mark.ensures.none c.if-not-pass_mark.ensures.dropped)))
+    (mark_loses o k c.args.mark (drawn (interval_of r) a.word) a c.pass_mark.new.self c.self.invariant here drew going c.pass_mark.ensures.front c.if-not-pass_mark.ensures.none c.if-not-pass_mark.ensures.dropped)))
 
 pub returns-else-not-pass_mark-clause-passes : goal.returns-else-not-pass_mark-clause-passes
 returns-else-not-pass_mark-clause-passes c =
@@ -87,21 +83,17 @@ returns-else-not-pass_mark-clause-passes c =
     let here = slice_get_read x.inputs.items 32 k a (sym c.self.invariant.input_links) within c.index_mut.ensures.value in
     let r = c.index.result.now in
     let range = slice_get_read x.ranges.items 32 k r (sym c.self.invariant.range_links) within c.index.ensures in
-    let e = same_read x.inputs.items k c.index-2.result.now a (slice_get_read x.inputs.items 32 k c.index-2.result.now (sym c.self.invariant.input_links) within c.index-2.ensures) here in
-    let drew = c.draw-header.ensures ∙ header_at o k c.index-2.result.now.word r range ∙ ap (λ z. drawn ((plan_of o).random k) z.word) e in
+    let drew = header_at o k a.word r range in
     let going = sym (ap (λ z. z.mark) (input_at o k a here)) ∙ subst (λ z. ((seen z).input k).mark ≡ None) (sym c.self.view_is) (subst (λ j. ((seen c.args.self.now).input j).mark ≡ None) (sym c.from-at.ensures) c.requires.open) in
     subst (λ z. Passes (limit_of z.inputs) (plan_of z) (seen z) c.args.link (seen (record o { inputs = slice_set x.inputs.items k c.pass_mark.new.self }))) c.self.view_is
     (subst (λ j. Passes (limit_of x.inputs.items) (plan_of o) (seen o) j (seen (record o { inputs = slice_set x.inputs.items k c.pass_mark.new.self }))) c.from-at.ensures
-    (mark_passes o k c.args.mark c.if-not-pass_mark.ensures.group.0 c.draw-header.result a c.pass_mark.new.self c.self.invariant here drew going c.pass_mark.ensures.front c.if-not-pass_mark.ensures.group.1 c.if-not-pass_mark.ensures.whole))
+    (mark_passes o k c.args.mark c.if-not-pass_mark.ensures.group.0 (drawn (interval_of r) a.word) a c.pass_mark.new.self c.self.invariant here drew going c.pass_mark.ensures.front c.if-not-pass_mark.ensures.group.1 c.if-not-pass_mark.ensures.whole))
 
 pub index-requires : goal.index-requires
 index-requires c = at_link c.self.inside.ranges c.from-at.result c.args.link c.from-at.ensures c.requires.link c.self.invariant.range_links
 
-pub index-requires-2 : goal.index-requires-2
-index-requires-2 c = at_link c.self.inside.inputs c.from-at.result c.args.link c.from-at.ensures c.requires.link c.self.invariant.input_links
-
-pub draw-header-requires : goal.draw-header-requires
-draw-header-requires c =
+pub pass_mark-requires-clause-range : goal.pass_mark-requires-clause-range
+pass_mark-requires-clause-range c =
     let x = c.self.inside in
     let r = c.index.result.now in
     all-at IsRange x.ranges.items c.from-at.result r c.self.invariant.ranges (slice_get_read x.ranges.items 32 c.from-at.result r (sym c.self.invariant.range_links) (subst (λ z. z < 32) (sym c.from-at.ensures) c.requires.link) c.index.ensures)

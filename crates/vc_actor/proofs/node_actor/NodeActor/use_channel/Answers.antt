@@ -1,0 +1,17 @@
+use Rattle.std.proofs.Common.{refl, ap}
+use Rattle.vc_actor.specs.Acting.{MakesOwn}
+use Rattle.vc_actor.specs.OfPlan.{IsActorOf}
+use Rattle.vc_actor.specs.Shown.{OfNode}
+use Rattle.vc_actor.specs.declared.act.Act.TheVariants.{Proc}
+use Rattle.vc_actor.proofs.Linking.{moved}
+use Rattle.vc_actor.proofs.Parting.{alike}
+use Rattle.vc_actor.proofs.node_actor.NodeActor.use_channel.Goals as goal
+
+pub returns : goal.returns
+returns c =
+    let act = Proc c.args.made.now in
+    record {
+      ok = alike (λ x y. (plan : _) (k : _) → IsActorOf plan k x → MakesOwn plan k x act y) (OfNode c.self.inside.node) (OfNode c.args.self.now) _ _ (ap OfNode c.self.view_is) refl
+          (λ plan k is. moved plan k c.self.inside.node _ c.args.made.now act is.0 refl (c.in_ok-waits.ensures.ok plan k is.1));
+      err = tt;
+    }
