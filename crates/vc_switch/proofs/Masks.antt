@@ -58,8 +58,8 @@ bit_within m l fits one = elim (cases_lt l 32) [
 
 -- Two masks.
 
-pub without_bits : (m other l : ℕ) → m < 2 ^ 32 → other < 2 ^ 32 → (bit_at (bit_and m (bit_not w32 other)) l ≡ 1) ↔ ((bit_at m l ≡ 1) × (bit_at other l ≡ 0))
-without_bits m other l fits small =
+pub minus_bits : (m other l : ℕ) → m < 2 ^ 32 → other < 2 ^ 32 → (bit_at (bit_and m (bit_not w32 other)) l ≡ 1) ↔ ((bit_at m l ≡ 1) × (bit_at other l ≡ 0))
+minus_bits m other l fits small =
     let both = bit_at_and m (bit_not w32 other) l in
     let a = bit_at-lt m l in
     let b = bit_at-lt (bit_not w32 other) l in (

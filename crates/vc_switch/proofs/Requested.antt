@@ -10,10 +10,10 @@ use Rattle.std.specs.Int.{bit_at}
 use Rattle.vc_packets.specs.Functions.{put}
 use Rattle.vc_packets.specs.declared.mark.Mark.{Mark}
 use Rattle.vc_tokens.specs.Tokens.{Token, EndMark}
-use Rattle.vc_switch.specs.Able.{CanLeave, CanRoute, IsFree}
+use Rattle.vc_switch.specs.Able.{CanLeave, CanRoute, IsNextRoute, NoneCanRoute, IsFree}
 use Rattle.vc_switch.specs.Private.Requested.{AreAsking, AreRequested, AreRouted, HasMore, IsKnown}
 use Rattle.vc_switch.specs.Forward.{SwitchPlan}
-use Rattle.vc_switch.specs.Private.Ready.{IsReady, Tells, Waits}
+use Rattle.vc_switch.specs.Private.Ready.{IsLowest, IsReady, Tells, Waits}
 use Rattle.vc_switch.specs.Seen.{seen, IsKept}
 use Rattle.vc_switch.specs.State.{State, plan_of, limit_of}
 use Rattle.vc_switch.specs.Switch.{Switch, new_switch, BodyLeaves, HasGroup, headed, Comes, Passes, passes_byte, drops_byte, passes_mark, loses, Routes, Sends, SendsFct}
@@ -83,7 +83,7 @@ abbrev pub SamePackets : Switch → Switch → Type 0
 SamePackets s t = (l : ℕ) → ((t.input l).got ≡ (s.input l).got) × ((t.input l).bound ≡ (s.input l).bound)
 
 pub asked_same : (s t : State) (requests : List ℕ) → IsKept s t → SamePackets (seen s) (seen t) → AreRequested s requests → AreRequested t requests
-asked_same s t requests kept same was = record { few = was.few; leave = λ l o less. leave_same s t (get_or requests l 0) l o kept.plan (same l).0 (same l).1 (was.leave l o less) }
+asked_same s t requests kept same was = record { few = was.few; leave = λ l less o. leave_same s t (get_or requests l 0) l o kept.plan (same l).0 (same l).1 (was.leave l less o) }
 
 -- one input is another, and this was told of what it asks for
 pub asked_else : (s t : State) (link : ℕ) (requests new : List ℕ) → IsKept s t → SameBut (seen s) link (seen t) → AreRequested s requests → ((k : ℕ) → k ≢ link → get_or new k 0 ≡ get_or requests k 0) →
@@ -93,10 +93,10 @@ asked_else s t link requests new kept others was same few here = record {
     | inl e ↦ subst (λ z. get_or new z 0 < 2 ^ 32) (sym e) few
     | inr ne ↦ subst (λ m. m < 2 ^ 32) (sym (same l ne)) (was.few l less)
   ];
-  leave = λ l o less. elim (cases_eq l link) [
+  leave = λ l less o. elim (cases_eq l link) [
     | inl e ↦ subst (λ z. (bit_at (get_or new z 0) o ≡ 1) ↔ CanLeave (plan_of t) (seen t) z o) (sym e) (here o (subst (λ z. z < 32) e less))
     | inr ne ↦ subst (λ m. (bit_at m o ≡ 1) ↔ CanLeave (plan_of t) (seen t) l o) (sym (same l ne))
-        (leave_same s t (get_or requests l 0) l o kept.plan (ap (λ x. x.got) (others l ne)) (ap (λ x. x.bound) (others l ne)) (was.leave l o less))
+        (leave_same s t (get_or requests l 0) l o kept.plan (ap (λ x. x.got) (others l ne)) (ap (λ x. x.bound) (others l ne)) (was.leave l less o))
   ];
 }
 
@@ -137,10 +137,10 @@ leave_grown s t l one o kept passes can =
 pub asked_still : (s t : State) (link : ℕ) (requests : List ℕ) → IsKept s t → Passes (limit_of s.inputs) (plan_of s) (seen s) link (seen t) → AreRequested s requests → link < 32 → get_or requests link 0 ≢ 0 → AreRequested t requests
 asked_still s t link requests kept passes was less some =
     let one = some_bit (get_or requests link 0) (was.few link less) some in
-    let can = (was.leave link one.0 less).0 one.1 in
+    let can = (was.leave link less one.0).0 one.1 in
     asked_else s t link requests requests kept (passes_else (limit_of s.inputs) (plan_of s) (seen s) link (seen t) passes).others was (λ k ne. refl) (was.few link less)
     (λ o less. (let grown = leave_grown s t link one.0 o kept passes can in
-    (λ e. grown.0 ((was.leave link o less).0 e), λ c. (was.leave link o less).1 (grown.1 c))))
+    (λ e. grown.0 ((was.leave link less o).0 e), λ c. (was.leave link less o).1 (grown.1 c))))
 
 -- nothing was known of its packet, and now it has none, or one that is bound
 pub asked_idle : (s t : State) (link : ℕ) (requests : List ℕ) → IsKept s t → Passes (limit_of s.inputs) (plan_of s) (seen s) link (seen t) → AreRequested s requests → link < 32 → get_or requests link 0 ≡ 0 → (Waits ((seen t).input link) → ⊥) → AreRequested t requests
@@ -160,8 +160,8 @@ bind_iff : (s : State) (r : Ready) (requests : List ℕ) (l o : ℕ) → IsReady
 bind_iff s r requests l o ready are less = (
   λ h. (let few = bit_within (get_or requests l 0) o (are.few l less) h.0 in
       let free : IsFree (seen s) o = λ i e. not_both h.1 ((ready.puts o few).1 (λ f. f i e)) in
-      can_route (plan_of s) (seen s) l o ((are.leave l o less).0 h.0) free),
-  λ can. (let asked = (are.leave l o less).1 (route_leaves (plan_of s) (seen s) l o can) in
+      can_route (plan_of s) (seen s) l o ((are.leave l less o).0 h.0) free),
+  λ can. (let asked = (are.leave l less o).1 (route_leaves (plan_of s) (seen s) l o can) in
       let few = bit_within (get_or requests l 0) o (are.few l less) asked in
       (asked, is_zero r.puts o (λ e. (ready.puts o few).0 e can.1.free))),
 )
@@ -173,7 +173,7 @@ route_iff s r requests routes l known less = (
 )
 
 abbrev pub NoRoute : State → Type 0
-NoRoute s = (i o : ℕ) → i < 32 → CanRoute (plan_of s) (seen s) i o → ⊥
+NoRoute s = NoneCanRoute (plan_of s) (seen s)
 
 -- where no input has its bit
 pub no_route : (s : State) (r : Ready) (requests : List ℕ) (routes : ℕ) → IsKnown s r requests routes → ((l : ℕ) → bit_at routes l ≡ 0) → NoRoute s
@@ -185,22 +185,23 @@ no_output s r requests routes input asked left known few has is left_is none =
     let more = (known.routed input few).0 has in
     not_both (none more.0) ((left_is more.0).1 (ap (λ m. bit_at m more.0) is ∙ more.1, more.2))
 
-abbrev pub IsNextRoute : State → ℕ → ℕ → Type 0
-IsNextRoute s input output =
-    (input < 32) × (output < 32) × CanRoute (plan_of s) (seen s) input output × ((i o : ℕ) → i < input → CanRoute (plan_of s) (seen s) i o → ⊥) × ((o : ℕ) → o < output → CanRoute (plan_of s) (seen s) input o → ⊥)
+abbrev pub NextRoute : State → ℕ → ℕ → Type 0
+NextRoute s input output = (input < 32) × (output < 32) × IsNextRoute (plan_of s) (seen s) input output
 
 -- the least input that has its bit, and the least output that it asks for and that is not busy
-pub least_route : (s : State) (r : Ready) (requests : List ℕ) (routes input output asked left : ℕ) → IsKnown s r requests routes → (input < 32) × (bit_at routes input ≡ 1) × ((l : ℕ) → l < input → bit_at routes l ≡ 0) → asked ≡ get_or requests input 0 →
-    ((o : ℕ) → (bit_at left o ≡ 1) ↔ ((bit_at asked o ≡ 1) × (bit_at r.puts o ≡ 0))) → (output < 32) × (bit_at left output ≡ 1) × ((l : ℕ) → l < output → bit_at left l ≡ 0) → IsNextRoute s input output
+pub least_route : (s : State) (r : Ready) (requests : List ℕ) (routes input output asked left : ℕ) → IsKnown s r requests routes → (input < 32) × IsLowest routes input → asked ≡ get_or requests input 0 →
+    ((o : ℕ) → (bit_at left o ≡ 1) ↔ ((bit_at asked o ≡ 1) × (bit_at r.puts o ≡ 0))) → (output < 32) × IsLowest left output → NextRoute s input output
 least_route s r requests routes input output asked left known at is left_is out =
     let few = at.0 in
     let bind : (o : ℕ) → ((bit_at (get_or requests input 0) o ≡ 1) × (bit_at r.puts o ≡ 0)) ↔ CanRoute (plan_of s) (seen s) input o = λ o. bind_iff s r requests input o known.masks known.asked few in
-    let both = (left_is output).0 out.1 in (
+    let both = (left_is output).0 out.1.0 in (
       few,
       out.0,
-      (bind output).0 (sym (ap (λ m. bit_at m output) is) ∙ both.0, both.1),
-      (λ i o low can. (let below : i < 32 = omega (arith, few, low) in not_both (at.2 i low) ((route_iff s r requests routes i known below).1 (o, can)))),
-      (λ o low can. (let has = (bind o).1 can in not_both (out.2 o low) ((left_is o).1 (ap (λ m. bit_at m o) is ∙ has.0, has.1)))),
+      record {
+        can = (bind output).0 (sym (ap (λ m. bit_at m output) is) ∙ both.0, both.1);
+        least = λ l o low can. (let below : l < 32 = omega (arith, few, low) in not_both (at.1.1 l low) ((route_iff s r requests routes l known below).1 (o, can)));
+        first = λ o low can. (let has = (bind o).1 can in not_both (out.1.1 o low) ((left_is o).1 (ap (λ m. bit_at m o) is ∙ has.0, has.1)));
+      },
     )
 
 -- Which packets a step leaves as they are.
@@ -236,7 +237,7 @@ asked_marked s t link output m requests kept sends bound less was =
     let empty : ((seen t).input link).got ≡ [] = ap (λ f. (f link).got) is ∙ ap (λ x. x.got) (put-same (seen s).input link _) in
     asked_else s t link requests requests kept (λ l ne. ap (λ f. f l) is ∙ put-other (seen s).input link l _ ne) was (λ k ne. refl) (was.few link less)
     (λ o less. (
-      λ e. absurd (let q : None ≡ Some output = sym ((was.leave link o less).0 e).unbound ∙ bound in cc),
+      λ e. absurd (let q : None ≡ Some output = sym ((was.leave link less o).0 e).unbound ∙ bound in cc),
       λ can. absurd ((leaving_waits (plan_of t) (seen t) link o can).1 empty),
     ))
 
@@ -245,7 +246,7 @@ asked_marked s t link output m requests kept sends bound less was =
 pub asked_first : (s : State) (requests : List ℕ) → seen s ≡ new_switch → ((k : ℕ) → get_or requests k 0 ≡ 0) → AreRequested s requests
 asked_first s requests e none = record {
   few = λ l less. (let zero = none l in omega (arith, zero));
-  leave = λ l o less. (λ one. absurd (no_bit _ o (none l) one), λ can. absurd ((leaving_waits (plan_of s) (seen s) l o can).1 (ap (λ z. (z.input l).got) e)));
+  leave = λ l less o. (λ one. absurd (no_bit _ o (none l) one), λ can. absurd ((leaving_waits (plan_of s) (seen s) l o can).1 (ap (λ z. (z.input l).got) e)));
 }
 
 pub routed_first : (requests : List ℕ) (busy : ℕ) → ((k : ℕ) → get_or requests k 0 ≡ 0) → AreRouted requests busy 0

@@ -1,5 +1,5 @@
 -- Which steps a switch can make: those that lead to some state.
-use Rattle.std.specs.Prelude.{◌≡◌, ◌≤◌, ℕ, List, Some, None}
+use Rattle.std.specs.Prelude.{◌≡◌, ◌≤◌, ◌<◌, ℕ, List, Some, None}
 use Rattle.vc_tokens.specs.Tokens.{Token}
 use Rattle.vc_switch.specs.Forward.{SwitchPlan}
 use Rattle.vc_switch.specs.Waiting.{Wormhole}
@@ -26,6 +26,16 @@ IsFree s output = (i : ℕ) → (s.input i).bound ≡ Some output → ⊥
 -- the packet at the input can be bound to the output
 abbrev pub CanRoute : SwitchPlan → Switch → ℕ → ℕ → Type 0
 CanRoute plan old link output = (new : Switch) × Routes plan Wormhole old link output new
+
+-- at none of the 32 inputs is a packet that can be bound
+abbrev pub NoneCanRoute : SwitchPlan → Switch → Type 0
+NoneCanRoute plan s = (link output : ℕ) → link < 32 → CanRoute plan s link output → ⊥
+
+-- the least input whose packet can be bound, and the least output to which it can
+pub record IsNextRoute (plan : SwitchPlan) (s : Switch) (link output : ℕ) : Type 0 where
+  pub can : CanRoute plan s link output
+  pub least : (l o : ℕ) → l < link → CanRoute plan s l o → ⊥
+  pub first : (o : ℕ) → o < output → CanRoute plan s link o → ⊥
 
 -- a token of the packet that is bound to the output can go out
 pub record CanPut (plan : SwitchPlan) (old : Switch) (output : ℕ) : Type 0 where

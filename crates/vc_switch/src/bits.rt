@@ -2,7 +2,7 @@
 ghost use Rattle.std.specs.Prelude.{◌≡◌, ◌<◌, ◌↔◌, ℕ, IsTrue, MatchOption};
 ghost use Rattle.std.specs.Int.{bit_at};
 ghost use Rattle.vc_switch.specs.Private.Requested.{HasMore};
-ghost use Rattle.vc_switch.specs.Private.Ready.{Tells};
+ghost use Rattle.vc_switch.specs.Private.Ready.{IsLowest, Tells};
 
 /// The mask with one link's bit as told, and the other bits as before.
 pub(crate) fn told(mask: u32, link: u8, is: bool) -> u32
@@ -17,7 +17,7 @@ pub(crate) fn told(mask: u32, link: u8, is: bool) -> u32
 }
 
 /// The bits of a mask that another has not.
-pub(crate) fn without(mask: u32, other: u32) -> u32
+pub(crate) fn minus(mask: u32, other: u32) -> u32
     ensures { (l : ℕ) →
         (bit_at result l ≡ 1) ↔ ((bit_at mask l ≡ 1) × (bit_at other l ≡ 0)) }
 {
@@ -28,14 +28,13 @@ pub(crate) fn without(mask: u32, other: u32) -> u32
 pub(crate) fn has_more(mask: u32, other: u32) -> bool
     ensures { IsTrue result ↔ HasMore mask other }
 {
-    without(mask, other) != 0
+    minus(mask, other) != 0
 }
 
 /// The least link that has its bit.
 pub(crate) fn lowest(mask: u32) -> Option<u8>
     ensures { MatchOption result ((l : ℕ) → bit_at mask l ≡ 0)
-        (λ link.
-        (link < 32) × (bit_at mask link ≡ 1) × ((l : ℕ) → l < link → bit_at mask l ≡ 0)) }
+        (λ link. (link < 32) × IsLowest mask link) }
 {
     let link = mask.trailing_zeros();
     if link < 32 { Some(link as u8) } else { None }

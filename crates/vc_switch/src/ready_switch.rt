@@ -5,14 +5,14 @@ ghost use Rattle.std.specs.List.{AllByRecursion};
 ghost use Rattle.vc_tokens.specs.Spelt.{token};
 ghost use Rattle.vc_switch.specs.Waiting.{Wormhole};
 ghost use Rattle.vc_switch.specs.Switch.{new_switch, Comes, Passes, Routes, Sends, SendsFct};
-ghost use Rattle.vc_switch.specs.Able.{CanPass, CanLeave, CanRoute, CanPut, CanGrant, IsFree};
+ghost use Rattle.vc_switch.specs.Able.{CanPass, CanRoute, CanPut, CanGrant, IsFree, IsNextRoute, NoneCanRoute};
 ghost use Rattle.vc_switch.specs.Opening.{plan_given, IsRandomInput};
-ghost use Rattle.vc_switch.specs.Private.Requested.{HasMore};
+ghost use Rattle.vc_switch.specs.Private.Requested.{AsksFor, HasMore, OthersAskTheSame};
 ghost use Rattle.vc_switch.specs.Private.Ready.{Looks, Tells, Waits};
 ghost use Rattle.vc_switch.specs.State.{plan_of, limit_of};
 ghost use Rattle.vc_switch.specs.Seen.{seen, IsKept};
 
-use crate::bits::{has_more, lowest, told, without};
+use crate::bits::{has_more, lowest, minus, told};
 use crate::requests::Requests;
 use crate::switch::Switch;
 use crate::switch_plan::SwitchPlan;
@@ -117,17 +117,14 @@ impl ReadySwitch {
 
     /// The least input whose packet may be bound to an output, and the least such output.
     pub fn next_route(&self) -> Option<(u8, u8)>
-        ensures { MatchOption result
-            ((i o : ℕ) → i < 32 → CanRoute (plan_of self.now) (seen self.now) i o → ⊥)
+        ensures { MatchOption result (NoneCanRoute (plan_of self.now) (seen self.now))
             (λ route.
             (route.0 < 32) ×
             (route.1 < 32) ×
-            CanRoute (plan_of self.now) (seen self.now) route.0 route.1 ×
-            ((i o : ℕ) → i < route.0 → CanRoute (plan_of self.now) (seen self.now) i o → ⊥) ×
-            ((o : ℕ) → o < route.1 → CanRoute (plan_of self.now) (seen self.now) route.0 o → ⊥)) }
+            IsNextRoute (plan_of self.now) (seen self.now) route.0 route.1) }
     {
         let input = lowest(self.routes)?;
-        let output = lowest(without(self.requests.of(input), self.ready.puts))?;
+        let output = lowest(minus(self.requests.of(input), self.ready.puts))?;
         Some((input, output))
     }
 
@@ -245,10 +242,8 @@ fn ask(switch: &Switch, requests: &mut Requests, link: u8, busy: u32, routes: u3
     requires link { link < 32 }
     requires waits { Waits ((seen switch.now).input link) }
     ensures few { get_or requests.new link 0 < 2 ^ 32 }
-    ensures leave { (output : ℕ) →
-        (bit_at (get_or requests.new link 0) output ≡ 1) ↔
-        CanLeave (plan_of switch.now) (seen switch.now) link output }
-    ensures others { (k : ℕ) → k ≢ link → get_or requests.new k 0 ≡ get_or requests.old k 0 }
+    ensures leave { AsksFor switch.now link (get_or requests.new link 0) }
+    ensures others { OthersAskTheSame link requests.old requests.new }
     ensures routes { Tells (HasMore (get_or requests.new link 0) busy) link routes result }
 {
     let asked = switch.requests(link);

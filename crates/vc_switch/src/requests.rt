@@ -1,7 +1,6 @@
 //! What the packets at the inputs ask for, as bits.
-ghost use Rattle.std.specs.Prelude.{◌≡◌, ◌≢◌, ◌<◌, ◌↔◌, ℕ, get_or, replicate};
-ghost use Rattle.std.specs.Int.{bit_at};
-ghost use Rattle.vc_switch.specs.Private.Requested.{HasMore};
+ghost use Rattle.std.specs.Prelude.{◌≡◌, ◌<◌, ℕ, get_or, replicate};
+ghost use Rattle.vc_switch.specs.Private.Requested.{AreRouted, OthersAskTheSame};
 
 use crate::bits::{has_more, lowest, told};
 use crate::opening::LINKS;
@@ -57,7 +56,7 @@ impl Requests {
     pub(crate) fn set(&mut self, input: u8, outputs: u32)
         requires { input < 32 }
         ensures it { get_or self.new input 0 ≡ outputs }
-        ensures others { (k : ℕ) → k ≢ input → get_or self.new k 0 ≡ get_or self.old k 0 }
+        ensures others { OthersAskTheSame input self.old self.new }
     {
         self.outputs[usize::from(input)] = outputs;
         self.asking = told(self.asking, input, outputs != 0);
@@ -65,7 +64,7 @@ impl Requests {
 
     /// A bit for each input whose packet asks for an output that is not busy.
     pub(crate) fn asking(&self, busy: u32) -> u32
-        ensures { (l : ℕ) → l < 32 → (bit_at result l ≡ 1) ↔ HasMore (get_or self.now l 0) busy }
+        ensures { AreRouted self.now busy result }
     {
         let mut routes = 0;
         let mut left = self.asking;

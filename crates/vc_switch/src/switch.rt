@@ -18,6 +18,7 @@ ghost use Rattle.vc_switch.specs.Opening.{plan_given, IsRandomInput};
 ghost use Rattle.vc_switch.specs.State.{plan_of, limit_of, IsSwitch};
 ghost use Rattle.vc_switch.specs.Seen.{seen, IsKept};
 ghost use Rattle.vc_switch.specs.Private.Ready.{Waits};
+ghost use Rattle.vc_switch.specs.Private.Requested.{AsksFor};
 ghost use Rattle.vc_switch.specs.Private.Seen.{IsBoundTo, IsNext};
 
 use crate::front::find_front;
@@ -246,8 +247,7 @@ impl Switch {
     pub(crate) fn requests(&self, input: u8) -> u32
         requires input { input < 32 }
         requires unbound { ((seen self.now).input input).bound ≡ None }
-        ensures { (output : ℕ) →
-            (bit_at result output ≡ 1) ↔ CanLeave (plan_of self.now) (seen self.now) input output }
+        ensures { AsksFor self.now input result }
     {
         match find_front(&self.table, self.inputs[usize::from(input)].got.bytes()) {
             Some(front) => front.links(),

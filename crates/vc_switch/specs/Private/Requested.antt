@@ -11,10 +11,18 @@ use Rattle.vc_switch.specs.declared.ready_switch.Ready.{Ready}
 abbrev pub HasMore : ℕ → ℕ → Type 0
 HasMore mask other = (l : ℕ) × (bit_at mask l ≡ 1) × (bit_at other l ≡ 0)
 
+-- a bit for each output by which the packet at the input may leave
+abbrev pub AsksFor : State → ℕ → ℕ → Type 0
+AsksFor s link mask = (output : ℕ) → (bit_at mask output ≡ 1) ↔ CanLeave (plan_of s) (seen s) link output
+
+-- every other input asks for what it asked for before
+abbrev pub OthersAskTheSame : ℕ → List ℕ → List ℕ → Type 0
+OthersAskTheSame link old new = (l : ℕ) → l ≢ link → get_or new l 0 ≡ get_or old l 0
+
 -- a packet that is bound to no output asks for each by which it may leave, and no other input asks for any
 pub record AreRequested (s : State) (requests : List ℕ) : Type 0 where
   pub few : (l : ℕ) → l < 32 → get_or requests l 0 < 2 ^ 32
-  pub leave : (l output : ℕ) → l < 32 → (bit_at (get_or requests l 0) output ≡ 1) ↔ CanLeave (plan_of s) (seen s) l output
+  pub leave : (l : ℕ) → l < 32 → AsksFor s l (get_or requests l 0)
 
 -- an input has its bit exactly where it asks for an output that is not busy
 abbrev pub AreRouted : List ℕ → ℕ → ℕ → Type 0

@@ -14,4 +14,4 @@ returns-in_err-input-clause-finds c =
 pub returns-clause-finds : goal.returns-clause-finds
 returns-clause-finds c =
     let found = c.in_ok-input.ensures in
-    (c.in_ok-input.input, c.in_ok-input.output, refl, found.2, found.3, found.4)
+    (c.in_ok-input.input, c.in_ok-input.output, refl, found.2.can, found.2.least, found.2.first)
