@@ -9,7 +9,7 @@ use Rattle.vc_vcp.specs.Links.{Vcp, Comes, due, not_due, Sends, SendsFct, unqueu
 use Rattle.vc_vcp.specs.Seen.{seen, IsKept}
 use Rattle.vc_network.specs.Plan.{Plan, IsOutOf, IsInto}
 use Rattle.vc_actor.proofs.Passing.{unmoved}
-use Rattle.vc_actor.specs.Acting.{port, MakesOwn, MakesTake, MakesPut, MakesGrant}
+use Rattle.vc_actor.specs.Acting.{HasLink, port, MakesOwn, MakesTake, MakesPut, MakesGrant}
 use Rattle.vc_actor.specs.MayMove.{MakesMove}
 use Rattle.vc_actor.specs.Private.Passing.{MakesPass}
 use Rattle.vc_actor.specs.declared.act.Act.{Act}
@@ -18,7 +18,7 @@ use Rattle.vc_occam.specs.declared.moves.Move.{Move}
 use Rattle.vc_occam.specs.Runnings.{state}
 use Rattle.vc_occam.specs.Sites.{OwnSites}
 use Rattle.vc_actor.specs.OfPlan.{IsNodeOf, IsActorOf, AreInside}
-use Rattle.vc_actor.specs.Shown.{OfNode, process_of, views_of}
+use Rattle.vc_actor.specs.Shown.{Acting, OfNode, OfSwitch, process_of, views_of}
 use Rattle.vc_actor.specs.declared.node.Node.{Node}
 
 -- the halves are as they were
@@ -48,6 +48,11 @@ stays plan k n u is kept same process inside = record {
   in_step = unmoved (seen n.vcp).carrier (seen u.vcp).carrier (process_of n.process) (process_of u.process) same.into same.out (ap process_of process) is.in_step;
   own = subst (λ z. OwnSites (state z).rest) (sym process) is.own;
 }
+
+-- a switch has 32 links, and a node has fewer
+pub few_links : (a : Acting) (l : ℕ) → HasLink a l → l < 32
+few_links (OfNode n) l less = omega arith
+few_links (OfSwitch s) l less = less
 
 -- the port at a node's link
 less_is : (m n : ℕ) → m < n → nat_lt m n ≡ true

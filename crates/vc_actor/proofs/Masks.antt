@@ -1,22 +1,8 @@
 -- Going through the links of a mask, the least one first.
-use Rattle.std.proofs.Common.{◌≡◌, ◌≢◌, ◌+◌, ◌<◌, ◌^◌, ℕ, zero, suc, refl, sym, ◌∙◌, subst, arith, inl, inr, bit_and}
+use Rattle.std.proofs.Common.{◌≡◌, ◌≢◌, ◌+◌, ◌<◌, ℕ, sym, ◌∙◌, subst, arith, inl, inr, bit_and}
 use Rattle.std.proofs.lemmas.Bool.{cases_eq, cases_lt}
-use Rattle.std.proofs.lemmas.Nat.Bits.{bit_at-zero, bit_at-trailing_zeros, bit_at_and, bit_at-lt}
-use Rattle.std.specs.Int.{bit_at, trailing_zeros, w32}
-
--- no bit of 0 is set
-none_set : trailing_zeros w32 0 ≡ 32
-unfolding lib.Count.count_trailing_zeros
-none_set = refl
-
--- the lowest bit is set, and those below it are not
-pub lowest_set : (m : ℕ) → m < 2 ^ 32 → trailing_zeros w32 m < 32 → (bit_at m (trailing_zeros w32 m) ≡ 1) × ((l : ℕ) → l < trailing_zeros w32 m → bit_at m l ≡ 0)
-lowest_set zero fits less = absurd (let none = none_set in omega (arith, none, less))
-lowest_set (suc m) fits less = let low = bit_at-trailing_zeros w32 (suc m) (omega arith) fits in (low.1, low.2)
-
-pub below_lowest : (m l : ℕ) → m < 2 ^ 32 → l < trailing_zeros w32 m → bit_at m l ≡ 0
-below_lowest zero l fits less = bit_at-zero l
-below_lowest (suc m) l fits less = (bit_at-trailing_zeros w32 (suc m) (omega arith) fits).2 l less
+use Rattle.std.proofs.lemmas.Nat.Bits.{bit_at_and, bit_at-lt}
+use Rattle.std.specs.Int.{bit_at}
 
 -- a bit of two masks
 pub both_bits : (a b l : ℕ) → bit_at a l ≡ 1 → bit_at b l ≡ 1 → bit_at (bit_and a b) l ≡ 1

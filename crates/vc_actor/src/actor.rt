@@ -1,5 +1,5 @@
 //! Actors: what the simulator and a thread run alike.
-ghost use Rattle.std.specs.Prelude.{◌≡◌, ◌↔◌, ℕ, IsTrue, IfOk, IsOk, IfSome, OnOk, OnErr};
+ghost use Rattle.std.specs.Prelude.{◌≡◌, ◌<◌, ◌↔◌, ℕ, IsTrue, IfOk, IsOk, IfSome, OnOk, OnErr};
 ghost use Rattle.std.specs.Option.{option_copied};
 ghost use Rattle.vc_actor.specs.Able.{CanAct};
 ghost use Rattle.vc_actor.specs.Acting.{HasLink, MayAct, MakesOwn, MakesTake, MakesPut, MakesGrant, IsOwn};
@@ -134,9 +134,10 @@ impl Actor {
     /// A token comes over a link, with a word.
     #[inline(always)]
     pub fn accept(&mut self, link: u8, came: Token, word: u32)
-        requires { HasLink self.old link }
+        requires { link < 32 }
         ensures { (plan : Plan) (k : ℕ) →
             IsActorOf plan k self.old →
+            HasLink self.old link →
             MakesTake plan k self.old link word (token came) self.new }
     {
         match &mut self.part {

@@ -21,5 +21,5 @@ pub use act::{Act, ActKind};
 pub use actor::Actor;
 pub use node::Node;
 pub use plan_actors::actors;
-pub use room::{has_room, lowest, without};
+pub use room::{has_room, without};
 pub use turn::Turn;

@@ -91,12 +91,12 @@ impl NodeActor {
         }
     }
 
-    /// A token comes over a link.
+    /// A token comes over a link; one of a link that the node has not is dropped.
     #[inline(always)]
     pub(crate) fn accept(&mut self, link: u8, came: Token)
-        requires { link < 4 }
         ensures { (plan : Plan) (k word : ℕ) →
             IsActorOf plan k (OfNode self.old) →
+            link < 4 →
             MakesTake plan k (OfNode self.old) link word (token came) (OfNode self.new) }
     {
         self.node.vcp.accept(link, came);

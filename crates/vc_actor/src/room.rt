@@ -1,5 +1,5 @@
 //! Which links have room, or something to do, as bits.
-ghost use Rattle.std.specs.Prelude.{◌≡◌, ◌≢◌, ◌<◌, ◌≤◌, ◌↔◌, ℕ, IsTrue, MatchOption};
+ghost use Rattle.std.specs.Prelude.{◌≡◌, ◌≢◌, ◌<◌, ◌↔◌, ℕ, IsTrue};
 ghost use Rattle.std.specs.Int.{bit_at};
 
 /// Whether the outgoing link has room: `room` has a bit for each that has.
@@ -8,21 +8,6 @@ pub fn has_room(room: u32, link: u8) -> bool
     ensures { IsTrue result ↔ (bit_at room link ≡ 1) }
 {
     room >> link & 1 == 1
-}
-
-/// The least of so many links that has its bit.
-pub fn lowest(mask: u32, links: u8) -> Option<u8>
-    requires { links ≤ 32 }
-    ensures { MatchOption result ((l : ℕ) → l < links → bit_at mask l ≡ 0)
-        (λ link.
-        (link < links) × (bit_at mask link ≡ 1) × ((l : ℕ) → l < link → bit_at mask l ≡ 0)) }
-{
-    let link = mask.trailing_zeros();
-    if link < u32::from(links) {
-        Some(link as u8)
-    } else {
-        None
-    }
 }
 
 /// The mask without a link's bit.

@@ -11,8 +11,8 @@ ghost use Rattle.vc_switch.specs.Seen.{seen};
 ghost use Rattle.vc_tokens.specs.Spelt.{token};
 
 use crate::act::{Act, ActKind};
-use crate::room::{lowest, without};
-use vc_switch::{ReadySwitch, Switch};
+use crate::room::without;
+use vc_switch::{ReadySwitch, Switch, lowest};
 use vc_tokens::Token;
 
 /// The links of a switch.
@@ -157,7 +157,7 @@ impl SwitchActor {
         ensures finds { FindsAt (λ link. Act.Pass link) (SwitchCan self.now.switch) result }
     {
         prove!(self.switch.switch().links() == LINKS);
-        let link = lowest(self.switch.passes(), LINKS)?;
+        let link = lowest(self.switch.passes())?;
         Some(Act::Pass { link })
     }
 
@@ -182,7 +182,7 @@ impl SwitchActor {
         prove!(self.switch.switch().links() == LINKS);
         let mut left = self.switch.puts() & room;
         for _ in 0..LINKS {
-            let link = lowest(left, LINKS)?;
+            let link = lowest(left)?;
             if self.switch.switch().may_put(link) {
                 return Some(Act::Put { link });
             }
@@ -198,7 +198,7 @@ impl SwitchActor {
         ensures finds { (plan : Plan) (k : ℕ) →
             FindsAt (λ link. Act.Fct link) (IsTurn plan k (OfSwitch self.now.switch) room) result }
     {
-        let link = lowest(self.switch.grants() & room, LINKS)?;
+        let link = lowest(self.switch.grants() & room)?;
         Some(Act::Fct { link })
     }
 

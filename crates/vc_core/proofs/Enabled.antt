@@ -1,5 +1,5 @@
 -- An event has a step of the definitions where its actor has the act and its ways let it, and only there.
-use Rattle.std.proofs.Common.{◌≡◌, ℕ, zero, suc, ◌+◌, ◌/◌, ◌%◌, ◌<◌, ◌≤◌, Bool, true, false, ◌&&◌, List, [], ◌∷◌, ◌++◌, length, slice_get, Option, Some, None, refl, sym, ap, ◌∙◌, subst, arith, append-nil, if◌then◌else◌, ◌==◌, eq-eqb}
+use Rattle.std.proofs.Common.{◌≡◌, ℕ, zero, suc, ◌+◌, ◌-◌, ◌/◌, ◌%◌, ◌<◌, ◌≤◌, Bool, true, false, ◌&&◌, List, [], ◌∷◌, ◌++◌, length, slice_get, Option, Some, None, refl, sym, ap, ◌∙◌, subst, arith, append-nil, if◌then◌else◌, ◌==◌, eq-eqb}
 use Rattle.std.proofs.lemmas.Bool.Decides.{nat_tests}
 use Rattle.std.specs.List.{list_all}
 use Rattle.std.specs.Option.{option_map}
@@ -181,6 +181,15 @@ can_take p s k l x (OfNode n) f is here = few_into p is.accepted f.way k l (subs
 can_take p s k l x (OfSwitch y) f is here =
     let (i, at, of) = is.actors k (OfSwitch y) here in
     (real_into p is.accepted f.way i l (subst (IsInto (network_of p) f.way) (switching.port_is (network_of p) k i l at) (into p s k l f is))).1
+
+-- where a token comes there is an actor
+pub comes_to : (p : Plan) (s : State) (k l : ℕ) → HasFront s k l → IsNetworkOf p s → slice_get s.actors k ≡ None → ⊥
+comes_to p s k l f is none =
+    let past : actors p ≤ k = subst (λ z. z ≤ k) is.count (none_past s.actors k none) in
+    let i = k - length p.nodes in
+    let at : k ≡ length p.nodes + i = omega (arith, past) in
+    let less = (real_into p is.accepted f.way i l (subst (IsInto (network_of p) f.way) (switching.port_is (network_of p) k i l at) (into p s k l f is))).0 in
+    omega (arith, past, less)
 
 -- what stands on a way stands there for the code too
 stands_by : (o : Option (List Token)) (t : Token) (rest : List Token) → shown_or [] (λ ts. ts) o ≡ t ∷ rest → o ≡ Some (t ∷ rest)

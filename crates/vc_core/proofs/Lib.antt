@@ -17,6 +17,7 @@ pub mod Turning
 pub mod Quiet
 pub mod Taking
 pub mod Leading
+pub mod Awake
 pub mod Bits
 pub mod Lined
 pub mod Laying

@@ -11,6 +11,7 @@ use Rattle.vc_accepted.specs.NetworkOf.{wire_of}
 use Rattle.vc_accepted.proofs.Wired.{outgoing_is, incoming_is}
 use Rattle.vc_plan.specs.Accepted.{IsAccepted}
 use Rattle.vc_plan.specs.declared.plan.Plan.{Plan}
+use Rattle.vc_switch.specs.Masks.{IsLowest}
 use Rattle.vc_tokens.specs.Tokens.{Token}
 use Rattle.vc_packets.specs.Functions.{shown_or}
 use Rattle.vc_vcp.proofs.Placed.{place-set_same, place-set_other}
@@ -149,9 +150,9 @@ end_first (z ∷ zs) x = (z, zs ++ x ∷ [], refl)
 
 -- the least link that has its bit is the least by which a token comes
 pub least_front : (s : State) (k mask : ℕ) (o : Option ℕ) → ((l : ℕ) → l < 32 → (bit_at mask l ≡ 1) ↔ HasFront s k l) →
-    MatchOption o ((l : ℕ) → l < 32 → bit_at mask l ≡ 0) (λ link. (link < 32) × (bit_at mask link ≡ 1) × ((l : ℕ) → l < link → bit_at mask l ≡ 0)) → FindsFront s k o
-least_front s k mask None bits none = λ l f. (let few = in_few s.wiring k l f.way f.into in not_both (none l few) ((bits l few).1 f))
-least_front s k mask (Some link) bits (few, set, least) = ((bits link few).0 set, (λ l less f. not_both (least l less) ((bits l (omega arith)).1 f)))
+    MatchOption o ((l : ℕ) → bit_at mask l ≡ 0) (λ link. (link < 32) × IsLowest mask link) → FindsFront s k o
+least_front s k mask None bits none = λ l f. not_both (none l) ((bits l (in_few s.wiring k l f.way f.into)).1 f)
+least_front s k mask (Some link) bits (few, (set, least)) = ((bits link few).0 set, (λ l less f. not_both (least l less) ((bits l (omega arith)).1 f)))
 
 -- no token comes by a link whose way is empty
 pub none_comes : (wiring : List (Option ℕ)) (ways : List (List Token)) (k l w : ℕ) (ts : List Token) → in_at wiring k l ≡ Some w → slice_get ways w ≡ Some ts → ts ≡ [] → Comes wiring ways k l → ⊥

@@ -1,3 +1,4 @@
+pub mod Awake
 pub mod Blocking
 pub mod Channels
 pub mod Enabled

@@ -1,7 +1,5 @@
 //! By which links of which actors tokens come, as bits.
 ghost use Rattle.std.specs.Prelude.{◌≡◌, ◌<◌, ℕ, length, get_or, replicate};
-ghost use Rattle.std.specs.Int.{bit_at};
-ghost use Rattle.vc_core.specs.Fronts.{HasBit};
 ghost use Rattle.vc_core.specs.Private.Fronts.{Marked};
 
 use std::marker::Model;
@@ -12,19 +10,14 @@ use vc_actor::without;
 pub(crate) struct Fronts {
     // by the actor's number, of which there are so many
     links: [u32; 256],
-    // a bit for each of the first 64 actors with a bit
-    awake: u64,
 }
 
 impl Model for Fronts {
     ghost use Rattle.std.specs.Prelude.{ℕ, List};
-    ghost use Rattle.vc_core.specs.Fronts.{AreAwake};
 
     ghost Value = { List ℕ };
 
     ghost view = { λ x. x.links };
-
-    ghost invariant = { λ x. AreAwake x.links x.awake };
 }
 
 // No link of any actor.
@@ -40,10 +33,7 @@ impl Fronts {
         ensures count { length result ≡ 256 }
         ensures none { (k : ℕ) → get_or result k 0 ≡ 0 }
     {
-        Fronts {
-            links: no_links(),
-            awake: 0,
-        }
+        Fronts { links: no_links() }
     }
 
     /// A bit for each link of an actor by which a token comes.
@@ -53,18 +43,6 @@ impl Fronts {
         self.links[usize::from(actor)]
     }
 
-    /// A bit for each of the first 64 actors to which a token comes.
-    pub(crate) fn awake(&self) -> u64
-        ensures told { (k l : ℕ) →
-            k < 64 →
-            l < 32 →
-            bit_at (get_or self.now k 0) l ≡ 1 →
-            bit_at result k ≡ 1 }
-        ensures only { (k : ℕ) → k < 64 → bit_at result k ≡ 1 → HasBit self.now k }
-    {
-        self.awake
-    }
-
     /// From now on a token comes by a link of an actor.
     pub(crate) fn set(&mut self, actor: u16, link: u8)
         requires actor { actor < length self.old }
@@ -72,9 +50,6 @@ impl Fronts {
         ensures { Marked self.old actor link 1 self.new }
     {
         self.links[usize::from(actor)] |= 1u32 << link;
-        if actor < 64 {
-            self.awake |= 1u64 << actor;
-        }
     }
 
     /// No token comes by a link of an actor any more.
@@ -85,8 +60,5 @@ impl Fronts {
     {
         let left = without(self.links[usize::from(actor)], link);
         self.links[usize::from(actor)] = left;
-        if left == 0 && actor < 64 {
-            self.awake &= !(1u64 << actor);
-        }
     }
 }

@@ -4,7 +4,7 @@ ghost use Rattle.std.specs.Int.{bit_at};
 ghost use Rattle.std.specs.List.{AllByRecursion};
 ghost use Rattle.vc_plan.specs.Accepted.{IsAccepted};
 ghost use Rattle.vc_actor.specs.Acting.{MayAct};
-ghost use Rattle.vc_core.specs.Private.Lined.{TakesOff, PutsOnWay, Wakes, with_way};
+ghost use Rattle.vc_core.specs.Private.Lined.{LeadsTo, TakesOff, PutsOnWay, Wakes, with_way};
 ghost use Rattle.vc_core.specs.Wired.{out_at, in_at, AreWaysAt, Comes, Goes};
 ghost use Rattle.vc_actor.specs.declared.act.Act.TheVariants as act;
 ghost use Rattle.vc_tokens.specs.Tokens.{Token as SpeltToken};
@@ -131,69 +131,64 @@ impl Lines {
         self.fronts.links(actor)
     }
 
-    /// A bit for each of the first 64 actors to which a token comes.
-    pub(crate) fn awake(&self) -> u64
-        ensures told { (actor link : ℕ) →
-            actor < 64 →
-            Comes self.now.wiring self.now.ways actor link →
-            bit_at result actor ≡ 1 }
-        ensures only { (actor : ℕ) →
-            actor < 64 →
-            bit_at result actor ≡ 1 →
-            (link : ℕ) × Comes self.now.wiring self.now.ways actor link }
-    {
-        self.fronts.awake()
-    }
-
-    /// The front token of the way that comes in by a link of an actor is taken off, if there is one.
-    pub(crate) fn take(&mut self, actor: u8, link: u8) -> Option<Token>
+    /// The front token of the way that comes in by a link of an actor is taken off.
+    #[inline(always)]
+    pub(crate) fn take_front(&mut self, actor: u8, link: u8) -> Token
+        requires { Comes self.old.wiring self.old.ways actor link }
         ensures { TakesOff self.old actor link result self.new }
     {
-        let way = self.wiring.incoming(actor, link)?;
+        let way = self.wiring.way_in(actor, link);
         let line = &mut self.ways[way];
-        let token = line.take()?;
+        let token = line.take_front();
         if line.is_empty() {
             self.fronts.clear(actor, link);
         }
-        Some(token)
+        token
     }
 
-    /// A token more comes to the end of a way.
-    pub(crate) fn push(&mut self, way: usize, token: Token) -> Result<(), Memory>
+    /// A token more comes to the end of a way. The answer is the actor to which the way leads, if it leads to one.
+    pub(crate) fn push(&mut self, way: usize, token: Token) -> Result<Option<u16>, Memory>
         requires { way < length self.old.ways }
         ensures ok { (ts : List SpeltToken) →
             slice_get self.old.ways way ≡ Some ts →
             OnOk result (self.new ≡ with_way self.old way (ts ++ spelt token ∷ [])) }
+        ensures to { IfOk result (LeadsTo self.old.wiring way) }
         ensures err { OnErr result (self.new ≡ self.old) }
     {
         self.ways[way].push(token)?;
-        wake(&self.wiring, &mut self.fronts, way);
-        Ok(())
+        Ok(wake(&self.wiring, &mut self.fronts, way))
     }
 
-    /// The next token that an actor puts on a link comes to the end of a way.
+    /// The next token that an actor puts on a link comes to the end of a way. The answer is the actor to which the way leads, if it
+    /// leads to one.
     #[inline(always)]
-    pub(crate) fn put(&mut self, way: usize, from: &mut Actor, link: u8) -> Result<(), Memory>
+    pub(crate) fn put(
+        &mut self,
+        way: usize,
+        from: &mut Actor,
+        link: u8,
+    ) -> Result<Option<u16>, Memory>
         requires way { way < length self.old.ways }
         requires may { MayAct from.old (act.Put link) }
         ensures ok { OnOk result (PutsOnWay self.old way from.old link from.new self.new) }
+        ensures to { IfOk result (LeadsTo self.old.wiring way) }
         ensures err { OnErr result ((from.new ≡ from.old) × (self.new ≡ self.old)) }
     {
         self.ways[way].put(from, link)?;
-        wake(&self.wiring, &mut self.fronts, way);
-        Ok(())
+        Ok(wake(&self.wiring, &mut self.fronts, way))
     }
 }
 
-// From now on a token comes by the link to which a way leads.
+// From now on a token comes by the link to which a way leads. The answer is its actor, if the way leads to one.
 #[inline(always)]
-fn wake(wiring: &Wiring, fronts: &mut Fronts, way: usize)
+fn wake(wiring: &Wiring, fronts: &mut Fronts, way: usize) -> Option<u16>
     requires { (k l : ℕ) → in_at wiring.now k l ≡ Some way → k < length fronts.old }
-    ensures { Wakes wiring.now fronts.old way fronts.new }
+    ensures wakes { Wakes wiring.now fronts.old way fronts.new }
+    ensures to { LeadsTo wiring.now way result }
 {
-    if let Some(end) = wiring.end(way) {
-        fronts.set(end.actor, end.link);
-    }
+    let end = wiring.end(way)?;
+    fronts.set(end.actor, end.link);
+    Some(end.actor)
 }
 
 // Two ways for each wire, with no token on them.

@@ -1,5 +1,5 @@
 //! A network: its actors, and the ways that join them.
-ghost use Rattle.std.specs.Prelude.{◌≡◌, ◌≢◌, ◌+◌, ◌*◌, ◌<◌, ◌++◌, ◌↔◌, [], ℕ, true, false, List, length, map, slice_get, Some, None, IsTrue, IsSome, IfOk, IfErr, IfSome, OnOk, OnErr, MatchResult};
+ghost use Rattle.std.specs.Prelude.{◌≡◌, ◌≢◌, ◌⊎◌, ◌+◌, ◌*◌, ◌<◌, ◌++◌, ◌↔◌, [], ℕ, true, false, List, length, map, slice_get, Some, None, IsTrue, IsSome, IfOk, IfErr, IfSome, OnOk, OnErr, MatchResult};
 ghost use Rattle.vc_core.specs.Replaying.{IsOpening, Reached, Replays, RefusedAt};
 ghost use Rattle.vc_plan.specs.declared.plan.Plan.{Plan};
 ghost use Rattle.vc_actor.specs.Acting.{IsOwn};
@@ -27,6 +27,7 @@ ghost use Rattle.vc_actor.specs.Shown.{Acting, actor_of};
 ghost use Rattle.vc_actor.specs.Turns.{TakesNone, actors};
 ghost use Rattle.vc_core.specs.Turns.{FindsFront, FindsTake, FindsEvent, FindsEventOf, AllHaveEnded};
 ghost use Rattle.vc_core.specs.declared.event.Event.{Event as Happening};
+ghost use Rattle.vc_core.specs.Awake.{StaysAwake, awake_of};
 ghost use Rattle.vc_core.specs.State.{shown, state_of, IsNetworkOf, MayHappen, WaysLet, HasFront, HasWay, MakesEvent, MakesOne, MayActAt};
 ghost use Rattle.vc_core.specs.Private.State.{Accepts, GrantsBy};
 ghost use Rattle.vc_tokens.specs.Spelt.{token as spelt, tokens as all_spelt};
@@ -39,11 +40,12 @@ use crate::refused::{ReplayRefused, StepRefused};
 use crate::way::Way;
 use sqlite_items::{Items, at};
 use std::alloc::Global;
-use vc_actor::{Act, ActKind, Actor, Node, actors, has_room, lowest};
+use vc_actor::{Act, ActKind, Actor, Node, actors, has_room};
 use vc_blocks::Messages;
 use vc_occam::{Blocked, Move, ValueKind};
 use vc_packets::Memory;
 use vc_plan::{Accepted, Port, Wire};
+use vc_switch::lowest;
 use vc_tokens::Token;
 
 /// The links of an actor, of which a node has four.
@@ -55,6 +57,8 @@ pub struct Network {
     /// How many of the actors are nodes.
     pub(crate) nodes: u8,
     pub(crate) lines: Lines,
+    // a bit for each of the first 64 actors that is awake
+    awake: u64,
     pub(crate) wires: Items<Wire>,
     channels: Vec<ChannelInfo>,
 }
@@ -66,6 +70,7 @@ impl Drop for Network {
             actors: _,
             nodes: _,
             lines: _,
+            awake: _,
             wires: _,
             channels: _,
         } = self;
@@ -73,15 +78,17 @@ impl Drop for Network {
 }
 
 impl Network {
-    /// The network of an accepted plan, about to begin: each process whole, and no token anywhere.
+    /// The network of an accepted plan, about to begin: each process whole, no token anywhere, and all actors awake.
     pub fn new(alloc: Global, accepted: &Accepted) -> Result<Network, Memory>
-        ensures { IfOk result (λ network. IsOpening accepted.now (state_of network)) }
+        ensures opening { IfOk result (λ network. IsOpening accepted.now (state_of network)) }
+        ensures awake { IfOk result (λ network. (k : ℕ) → k < 64 → bit_at (awake_of network) k ≡ 1) }
     {
         let plan = accepted.plan();
         Ok(Network {
             actors: actors(alloc, accepted)?,
             nodes: plan.nodes.len() as u8,
             lines: Lines::new(alloc, plan)?,
+            awake: u64::MAX,
             wires: Items::from_slice(alloc, plan.wires.as_slice())?,
             channels: channels_of(alloc, plan)?,
         })
@@ -110,6 +117,7 @@ impl Network {
             actors,
             nodes: plan.nodes.len() as u8,
             lines: Lines::with_tokens(alloc, plan, tokens)?,
+            awake: u64::MAX,
             wires: Items::from_slice(alloc, plan.wires.as_slice())?,
             channels: channels_of(alloc, plan)?,
         })
@@ -166,41 +174,12 @@ impl Network {
             why ≡ StepRefused.NotEnabled ↔
             (CanHappen p (state_of self.old) event.now → ⊥)) }
     {
-        if let Act::Take { link, word } = event.act {
-            return self.take_only(event.actor, link, word);
-        }
         if self.enabled(event) {
             self.make(event)?;
             Ok(())
         } else {
             Err(StepRefused::NotEnabled)
         }
-    }
-
-    // A token is taken, if one can be.
-    fn take_only(&mut self, actor: u8, link: u8, word: u32) -> Result<(), StepRefused>
-        ensures makes { (p : Plan) →
-            IsNetworkOf p (state_of self.old) →
-            OnOk result
-            (MakesEvent p (state_of self.old)
-            (record { actor = actor; act = Act.Take link word }) (state_of self.new)) }
-        ensures refused { OnErr result (state_of self.new ≡ state_of self.old) }
-        ensures not_enabled { (p : Plan) →
-            IsNetworkOf p (state_of self.old) →
-            MatchResult result
-            (λ _.
-            CanHappen p (state_of self.old)
-            (record { actor = actor; act = Act.Take link word }))
-            (λ why.
-            why ≡ StepRefused.NotEnabled ↔
-            (CanHappen p (state_of self.old)
-            (record { actor = actor; act = Act.Take link word }) →
-            ⊥)) }
-    {
-        if !self.take(actor, link, word) {
-            return Err(StepRefused::NotEnabled);
-        }
-        Ok(())
     }
 
     // Makes an event that its actor can make, and its ways let it.
@@ -210,11 +189,13 @@ impl Network {
         ensures makes { (p : Plan) →
             IsNetworkOf p (state_of self.old) →
             OnOk result (MakesEvent p (state_of self.old) event.now (state_of self.new)) }
+        ensures awake { OnOk result (StaysAwake (state_of self.old) (awake_of self.old)
+            (state_of self.new) (awake_of self.new)) }
         ensures refused { OnErr result (state_of self.new ≡ state_of self.old) }
     {
         match event.act {
             Act::Take { link, word } => {
-                let _taken = self.take(event.actor, link, word);
+                self.take_front(event.actor, link, word);
                 Ok(())
             }
             Act::Proc(_)
@@ -233,6 +214,8 @@ impl Network {
         ensures makes { (p : Plan) →
             IsNetworkOf p (state_of self.old) →
             OnOk result (MakesEvent p (state_of self.old) event.now (state_of self.new)) }
+        ensures awake { OnOk result (StaysAwake (state_of self.old) (awake_of self.old)
+            (state_of self.new) (awake_of self.new)) }
         ensures refused { OnErr result (state_of self.new ≡ state_of self.old) }
     {
         match event.act {
@@ -251,56 +234,29 @@ impl Network {
         ensures makes { (p : Plan) →
             IsNetworkOf p (state_of self.old) →
             OnOk result (MakesEvent p (state_of self.old) event.now (state_of self.new)) }
+        ensures awake { OnOk result (StaysAwake (state_of self.old) (awake_of self.old)
+            (state_of self.new) (awake_of self.new)) }
         ensures refused { OnErr result (state_of self.new ≡ state_of self.old) }
     {
         self.actors[usize::from(event.actor)].make(&event.act)
     }
 
-    /// An actor takes the front token of the way that comes in by a link. The answer is whether it can.
+    /// An actor takes the front token of the way that comes in by a link, where one does (`link_to_take` names such a link). The word is
+    /// for a switch that puts a random header in front of a packet.
     #[inline(always)]
-    pub fn take(&mut self, actor: u8, link: u8, word: u32) -> bool
-        ensures may { IsTrue result ↔
-            MayHappen (state_of self.old) (record { actor = actor; act = Act.Take link word }) }
-        ensures can { (p : Plan) →
-            IsNetworkOf p (state_of self.old) →
-            IsTrue result ↔
-            CanHappen p (state_of self.old)
-            (record { actor = actor; act = Act.Take link word }) }
+    pub fn take_front(&mut self, actor: u8, link: u8, word: u32)
+        requires { HasFront (state_of self.old) actor link }
         ensures makes { (p : Plan) →
             IsNetworkOf p (state_of self.old) →
-            result ≡ true →
             MakesEvent p (state_of self.old) (record { actor = actor; act = Act.Take link word })
             (state_of self.new) }
-        ensures refused { result ≡ false → state_of self.new ≡ state_of self.old }
+        ensures awake { StaysAwake (state_of self.old) (awake_of self.old) (state_of self.new)
+            (awake_of self.new) }
     {
-        if !self.has_link(actor, link) {
-            return false;
+        if let Some(acting) = self.actors.get_mut(usize::from(actor)) {
+            let token = self.lines.take_front(actor, link);
+            acting.accept(link, token, word);
         }
-        let Some(token) = self.lines.take(actor, link) else {
-            return false;
-        };
-        self.accept(actor, link, token, word);
-        true
-    }
-
-    // Whether an actor is there, and has a link.
-    fn has_link(&self, actor: u8, link: u8) -> bool
-        ensures { (word : ℕ) →
-            IsTrue result ↔ MayActAt (state_of self.now) actor (Act.Take link word) }
-    {
-        match at(self.actors.as_slice(), usize::from(actor)) {
-            Some(acting) => acting.may_take(link),
-            None => false,
-        }
-    }
-
-    // A token comes to an actor.
-    #[inline(always)]
-    fn accept(&mut self, actor: u8, link: u8, token: Token, word: u32)
-        requires { MayActAt (state_of self.old) actor (Act.Take link word) }
-        ensures { Accepts (state_of self.old) actor link word (spelt token) (state_of self.new) }
-    {
-        self.actors[usize::from(actor)].accept(link, token, word);
     }
 
     // The next token of a packet goes to the end of the way that goes out by a link.
@@ -312,11 +268,16 @@ impl Network {
         ensures makes { (p : Plan) →
             IsNetworkOf p (state_of self.old) →
             OnOk result (MakesEvent p (state_of self.old) event.now (state_of self.new)) }
+        ensures awake { OnOk result (StaysAwake (state_of self.old) (awake_of self.old)
+            (state_of self.new) (awake_of self.new)) }
         ensures refused { OnErr result (state_of self.new ≡ state_of self.old) }
     {
         let way = self.lines.way_out(event.actor, link);
-        self.lines
-            .put(way, &mut self.actors[usize::from(event.actor)], link)
+        let to = self
+            .lines
+            .put(way, &mut self.actors[usize::from(event.actor)], link)?;
+        wake(&mut self.awake, to);
+        Ok(())
     }
 
     // A flow control token goes to the end of the way that goes out by a link.
@@ -328,10 +289,13 @@ impl Network {
         ensures makes { (p : Plan) →
             IsNetworkOf p (state_of self.old) →
             OnOk result (MakesEvent p (state_of self.old) event.now (state_of self.new)) }
+        ensures awake { OnOk result (StaysAwake (state_of self.old) (awake_of self.old)
+            (state_of self.new) (awake_of self.new)) }
         ensures refused { OnErr result (state_of self.new ≡ state_of self.old) }
     {
         let way = self.lines.way_out(event.actor, link);
-        self.lines.push(way, Token::Fct)?;
+        let to = self.lines.push(way, Token::Fct)?;
+        wake(&mut self.awake, to);
         self.grant_by(event.actor, link);
         Ok(())
     }
@@ -340,7 +304,8 @@ impl Network {
     #[inline(always)]
     fn grant_by(&mut self, actor: u8, link: u8)
         requires { MayActAt (state_of self.old) actor (Act.Fct link) }
-        ensures { GrantsBy (state_of self.old) actor link (state_of self.new) }
+        ensures grants { GrantsBy (state_of self.old) actor link (state_of self.new) }
+        ensures awake { awake_of self.new ≡ awake_of self.old }
     {
         self.actors[usize::from(actor)].grant(link);
     }
@@ -352,27 +317,35 @@ impl Network {
             IsNetworkOf p (state_of self.now) →
             FindsTake p (state_of self.now) actor result }
     {
-        lowest(self.lines.fronts(actor), LINKS)
+        lowest(self.lines.fronts(actor))
     }
 
-    /// A mask that has a bit for each of the first 64 actors to which a token comes, and no other.
+    /// A mask that has a bit for each of the first 64 actors that is awake: at first each is, and later each to which a token came
+    /// since `rest` was said of it.
     pub fn awake(&self) -> u64
-        ensures told { (actor link : ℕ) →
-            actor < 64 →
-            HasFront (state_of self.now) actor link →
-            bit_at result actor ≡ 1 }
-        ensures only { (actor : ℕ) →
-            actor < 64 →
-            bit_at result actor ≡ 1 →
-            (link : ℕ) × HasFront (state_of self.now) actor link }
+        ensures { result ≡ awake_of self.now }
     {
-        self.lines.awake()
+        self.awake
+    }
+
+    /// An actor is awake no more, until a token comes to it: whoever runs the network says so of one that has no event.
+    pub fn rest(&mut self, actor: u8)
+        requires { actor < 64 }
+        ensures same { state_of self.new ≡ state_of self.old }
+        ensures it { bit_at (awake_of self.new) actor ≡ 0 }
+        ensures others { (k : ℕ) →
+            k < 64 →
+            k ≢ actor →
+            bit_at (awake_of self.new) k ≡ bit_at (awake_of self.old) k }
+    {
+        self.awake &= !(1u64 << actor);
     }
 
     /// What an actor does next where every way has room; nothing where it has no step but to take.
     #[inline(always)]
     pub fn next(&mut self, actor: u8) -> Result<Option<Event>, Memory>
         ensures same { state_of self.new ≡ state_of self.old }
+        ensures awake { awake_of self.new ≡ awake_of self.old }
         ensures may { IfOk result
             (λ found. IfSome found (λ e. MayActAt (state_of self.old) e.actor e.act)) }
         ensures lets { IfOk result
@@ -402,6 +375,8 @@ impl Network {
         ensures makes { (p : Plan) →
             IsNetworkOf p (state_of self.old) →
             IfOk result (λ made. MakesOne p (state_of self.old) made (state_of self.new)) }
+        ensures awake { OnOk result (StaysAwake (state_of self.old) (awake_of self.old)
+            (state_of self.new) (awake_of self.new)) }
         ensures refused { OnErr result (state_of self.new ≡ state_of self.old) }
     {
         let Some(next) = self.next(actor)? else {
@@ -418,6 +393,8 @@ impl Network {
             IfOk result (FindsEventOf kind p (state_of self.old) actor) }
         ensures makes { (p : Plan) → IsNetworkOf p (state_of self.old) →
             IfOk result (λ made. MakesOne p (state_of self.old) made (state_of self.new)) }
+        ensures awake { OnOk result (StaysAwake (state_of self.old) (awake_of self.old)
+            (state_of self.new) (awake_of self.new)) }
         ensures refused { OnErr result (state_of self.new ≡ state_of self.old) }
     {
         let Some(event) = self.next_of(actor, kind)? else {
@@ -430,6 +407,7 @@ impl Network {
     // An event of this kind that an actor can make where every way has room; nothing where it has none.
     fn next_of(&mut self, actor: u8, kind: ActKind) -> Result<Option<Event>, Memory>
         ensures same { state_of self.new ≡ state_of self.old }
+        ensures awake { awake_of self.new ≡ awake_of self.old }
         ensures may { IfOk result
             (λ found. IfSome found (λ e. MayActAt (state_of self.old) e.actor e.act)) }
         ensures lets { IfOk result
@@ -747,6 +725,23 @@ impl Network {
                 None => None,
             },
             None => None,
+        }
+    }
+}
+
+// An actor to which a token came is awake from now on; past the first 64 none has a bit.
+#[inline(always)]
+fn wake(awake: &mut u64, to: Option<u16>)
+    ensures kept { (k : ℕ) → k < 64 → bit_at awake.old k ≡ 1 → bit_at awake.new k ≡ 1 }
+    ensures it { (k : ℕ) → k < 64 → to ≡ Some k → bit_at awake.new k ≡ 1 }
+    ensures only { (k : ℕ) →
+        k < 64 →
+        bit_at awake.new k ≡ 1 →
+        (bit_at awake.old k ≡ 1) ⊎ (to ≡ Some k) }
+{
+    if let Some(actor) = to {
+        if actor < 64 {
+            *awake |= 1u64 << actor;
         }
     }
 }

@@ -23,7 +23,7 @@ impl Model for Way {
 }
 
 impl Way {
-    ghost use Rattle.std.specs.Prelude.{◌≡◌, ◌↔◌, [], ◌∷◌, ◌++◌, List, length, IsTrue, OnOk, OnErr, MatchOption};
+    ghost use Rattle.std.specs.Prelude.{◌≡◌, ◌≢◌, ◌↔◌, [], ◌∷◌, ◌++◌, List, length, IsTrue, OnOk, OnErr};
     ghost use Rattle.vc_tokens.specs.Tokens.{Token};
     ghost use Rattle.vc_tokens.specs.Spelt.{token, tokens};
     ghost use Rattle.vc_actor.specs.Acting.{MayAct};
@@ -62,13 +62,16 @@ impl Way {
         self.queue.back().copied()
     }
 
-    /// The front token is taken off, if there is one.
+    /// The front token is taken off.
     #[inline(always)]
-    pub(crate) fn take(&mut self) -> Option<Token>
-        ensures { MatchOption result ((self.old ≡ []) × (self.new ≡ []))
-            (λ k. self.old ≡ token k ∷ self.new) }
+    pub(crate) fn take_front(&mut self) -> Token
+        requires { self.old ≢ [] }
+        ensures { self.old ≡ token result ∷ self.new }
     {
-        self.queue.pop_front()
+        match self.queue.pop_front() {
+            Some(token) => token,
+            None => unreachable!(),
+        }
     }
 
     /// Whether no token is on the way.

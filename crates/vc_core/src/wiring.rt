@@ -97,7 +97,8 @@ impl Wiring {
     /// The way that goes out by an actor's link, which is on a wire.
     pub(crate) fn way_out(&self, actor: u8, link: u8) -> usize
         requires { IsWired self.now actor link }
-        ensures { out_at self.now actor link ≡ Some result }
+        ensures way { out_at self.now actor link ≡ Some result }
+        ensures small { result < 65536 }
     {
         match self.out[usize::from(actor) * LINKS + usize::from(link)] {
             Some(way) => usize::from(way),
@@ -105,14 +106,12 @@ impl Wiring {
         }
     }
 
-    /// The way that comes in by a link of an actor, if the link is on a wire.
-    pub(crate) fn incoming(&self, actor: u8, link: u8) -> Option<usize>
-        ensures { result ≡ in_at self.now actor link }
+    /// The way that comes in by an actor's link, which is on a wire.
+    pub(crate) fn way_in(&self, actor: u8, link: u8) -> usize
+        requires { (way : ℕ) × (in_at self.now actor link ≡ Some way) }
+        ensures { in_at self.now actor link ≡ Some result }
     {
-        match self.outgoing(actor, link) {
-            Some(way) => Some(back(way)),
-            None => None,
-        }
+        back(self.way_out(actor, link))
     }
 }
 

@@ -23,23 +23,6 @@ is_zero m l none = elim (cases_eq (bit_at m l) 0) [
   | inr ne ↦ absurd (none (is_one m l ne))
 ]
 
--- The least bit.
-
--- no bit of 0 is set
-none_set : trailing_zeros w32 0 ≡ 32
-unfolding lib.Count.count_trailing_zeros
-none_set = refl
-
--- the lowest bit is set, and those below it are not
-pub lowest_set : (m : ℕ) → m < 2 ^ 32 → trailing_zeros w32 m < 32 → (bit_at m (trailing_zeros w32 m) ≡ 1) × ((l : ℕ) → l < trailing_zeros w32 m → bit_at m l ≡ 0)
-lowest_set zero fits less = absurd (let none = none_set in omega (arith, none, less))
-lowest_set (suc m) fits less = let low = bit_at-trailing_zeros w32 (suc m) (omega arith) fits in (low.1, low.2)
-
--- none is set where none of the 32 is
-pub none_lowest : (m l : ℕ) → m < 2 ^ 32 → 32 ≤ trailing_zeros w32 m → bit_at m l ≡ 0
-none_lowest zero l fits far = bit_at-zero l
-none_lowest (suc m) l fits far = absurd (let low = (bit_at-trailing_zeros w32 (suc m) (omega arith) fits).0 in omega (arith, far, low))
-
 -- a mask that is not 0 has a bit
 pub some_bit : (m : ℕ) → m < 2 ^ 32 → m ≢ 0 → (l : ℕ) × (bit_at m l ≡ 1)
 some_bit zero fits some = absurd (some refl)

@@ -1,6 +1,7 @@
 pub mod Able
 pub mod Forward
 pub mod Front
+pub mod Masks
 pub mod Opening
 pub mod Private
 pub mod Seen

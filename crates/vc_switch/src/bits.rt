@@ -2,7 +2,8 @@
 ghost use Rattle.std.specs.Prelude.{◌≡◌, ◌<◌, ◌↔◌, ℕ, IsTrue, MatchOption};
 ghost use Rattle.std.specs.Int.{bit_at};
 ghost use Rattle.vc_switch.specs.Private.Requested.{HasMore};
-ghost use Rattle.vc_switch.specs.Private.Ready.{IsLowest, Tells};
+ghost use Rattle.vc_switch.specs.Masks.{IsLowest};
+ghost use Rattle.vc_switch.specs.Private.Ready.{Tells};
 
 /// The mask with one link's bit as told, and the other bits as before.
 pub(crate) fn told(mask: u32, link: u8, is: bool) -> u32
@@ -31,11 +32,13 @@ pub(crate) fn has_more(mask: u32, other: u32) -> bool
     minus(mask, other) != 0
 }
 
-/// The least link that has its bit.
-pub(crate) fn lowest(mask: u32) -> Option<u8>
+/// The least link that has its bit in a mask; none where the mask is 0.
+pub fn lowest(mask: u32) -> Option<u8>
     ensures { MatchOption result ((l : ℕ) → bit_at mask l ≡ 0)
         (λ link. (link < 32) × IsLowest mask link) }
 {
-    let link = mask.trailing_zeros();
-    if link < 32 { Some(link as u8) } else { None }
+    if mask == 0 {
+        return None;
+    }
+    Some(mask.trailing_zeros() as u8)
 }

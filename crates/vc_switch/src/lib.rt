@@ -26,6 +26,7 @@ mod requests;
 mod switch;
 mod switch_plan;
 
+pub use bits::lowest;
 pub use laws::each_token_comes;
 pub use ready_switch::ReadySwitch;
 pub use switch::Switch;

@@ -13,9 +13,9 @@ use Rattle.vc_plan.specs.declared.plan.Plan.{Plan}
 use Rattle.vc_switch.proofs.Placed.{place-set_other, place-set_same}
 use Rattle.vc_threads.proofs.Steps.{draws_then}
 use Rattle.vc_threads.specs.Runs.{Draws, generator}
-use Rattle.vc_text.specs.Private.Seated.{DrawsFor, HaveGiven, generator_of}
+use Rattle.vc_text.specs.Private.Generators.{DrawsFor, HaveGiven, generator_of}
 use Rattle.vc_text.specs.Takes.{HasWordsOf, take_word, word_by, words_by}
-use Rattle.vc_text.specs.declared.seats.Seats.{Seats}
+use Rattle.vc_text.specs.declared.generators.Generators.{Generators}
 
 some_is : (g h : Lcg) → Some g ≡ Some h → g ≡ h
 some_is g h e = cc
@@ -41,7 +41,7 @@ generators_begun ws n count begun k less = elim (cases_lt k n) [
 ]
 
 -- the next word is drawn of a generator, which is written back
-pub draws_for : (a b : Seats) (k i word : ℕ) (g h : Lcg) → i ≡ k → b.words.items ≡ slice_set a.words.items i h → slice_get a.words.items i ≡ Some g → (word, h) ≡ pcg32 g → DrawsFor a k word b
+pub draws_for : (a b : Generators) (k i word : ℕ) (g h : Lcg) → i ≡ k → b.words.items ≡ slice_set a.words.items i h → slice_get a.words.items i ≡ Some g → (word, h) ≡ pcg32 g → DrawsFor a k word b
 draws_for a b k i word g h at is here step = record {
   its = λ f there.
       let same : Some g ≡ Some f = sym here ∙ ap (slice_get a.words.items) at ∙ there in
@@ -54,19 +54,19 @@ draws_for a b k i word g h at is here step = record {
 }
 
 -- there is no such generator
-pub draws_none : (a : Seats) (k i word : ℕ) → i ≡ k → length a.words.items ≤ i → DrawsFor a k word a
+pub draws_none : (a : Generators) (k i word : ℕ) → i ≡ k → length a.words.items ≤ i → DrawsFor a k word a
 draws_none a k i word at past = record {
   its = λ g there. absurd (let less = slice_get_within a.words.items k g there in omega (arith, at, past, less));
   others = λ j ne. refl;
 }
 
 -- at first none has given a word
-pub none_given : (p : Plan) (n : ℕ) (seats : Seats) → actors p ≤ n → ((k : ℕ) → k < n → generator_of seats k ≡ Some (generator 0 k)) → HaveGiven p [] seats
-none_given p n seats few begin = λ k less. (generator 0 k, begin k (omega (arith, few, less)), refl)
+pub none_given : (p : Plan) (n : ℕ) (generators : Generators) → actors p ≤ n → ((k : ℕ) → k < n → generator_of generators k ≡ Some (generator 0 k)) → HaveGiven p [] generators
+none_given p n generators few begin = λ k less. (generator 0 k, begin k (omega (arith, few, less)), refl)
 
 -- a run's words are those that were given
-pub given_words : (p : Plan) (es : List Event) (seats : Seats) → HaveGiven p es seats → HasWordsOf p 0 es
-given_words p es seats given = λ k less. (let g = given k less in (g.0, g.2))
+pub given_words : (p : Plan) (es : List Event) (generators : Generators) → HaveGiven p es generators → HasWordsOf p 0 es
+given_words p es generators given = λ k less. (let g = given k less in (g.0, g.2))
 
 -- an act that is no take has no word
 no_word : (a : Act) → TakesNone a → take_word a ≡ []
@@ -90,39 +90,26 @@ silent : (k : ℕ) (es : List Event) (e : Event) → word_by k e ≡ [] → word
 silent k es e none = words_more k es e ∙ ap (λ ws. words_by k es ++ (ws ++ [])) none ∙ append-nil (words_by k es)
 
 -- an event that is no take
-pub given_still : (p : Plan) (es : List Event) (e : Event) (a b : Seats) → TakesNone e.act → b.words ≡ a.words → HaveGiven p es a → HaveGiven p (es ++ e ∷ []) b
+pub given_still : (p : Plan) (es : List Event) (e : Event) (a b : Generators) → TakesNone e.act → b.words ≡ a.words → HaveGiven p es a → HaveGiven p (es ++ e ∷ []) b
 given_still p es e a b none same given = λ k less. (
     let g = given k less in
     let quiet = silent k es e (none_either (e.actor == k) (take_word e.act) (no_word e.act none)) in
     (g.0, ap (λ ws. slice_get ws.items k) same ∙ g.1, subst (λ ws. Draws (generator 0 k) ws g.0) (sym quiet) g.2))
 
--- no event
-pub given_same : (p : Plan) (es : List Event) (a b : Seats) → b.words ≡ a.words → HaveGiven p es a → HaveGiven p es b
-given_same p es a b same given = λ k less. (let g = given k less in (g.0, ap (λ ws. slice_get ws.items k) same ∙ g.1, g.2))
-
--- a word for what is no actor
-pub given_past : (p : Plan) (es : List Event) (a b : Seats) (actor word : ℕ) → (actor < actors p → ⊥) → DrawsFor a actor word b → HaveGiven p es a → HaveGiven p es b
-given_past p es a b actor word past draws given = λ k less.
-    elim (cases_eq k actor) [
-      | inl same ↦ absurd (past (subst (λ z. z < actors p) same less))
-      | inr ne ↦ (let g = given k less in (g.0, draws.others k ne ∙ g.1, g.2))
-    ]
-
 -- a take, with the next word of its actor
-pub given_take : (p : Plan) (es : List Event) (a m b : Seats) (actor link word : ℕ) → DrawsFor a actor word m → b.words ≡ m.words → HaveGiven p es a →
+pub given_take : (p : Plan) (es : List Event) (a b : Generators) (actor link word : ℕ) → DrawsFor a actor word b → HaveGiven p es a →
     HaveGiven p (es ++ record { actor = actor; act = Take link word } ∷ []) b
-given_take p es a m b actor link word draws same given = λ k less.
+given_take p es a b actor link word draws given = λ k less.
     let g = given k less in
     let e : Event = record { actor = actor; act = Take link word } in
-    let kept : generator_of b k ≡ generator_of m k = ap (λ ws. slice_get ws.items k) same in
     elim (cases_eq k actor) [
       | inl is ↦ (let own = draws.its g.0 (subst (λ z. generator_of a z ≡ Some g.0) is g.1) in
           let its : word_by k e ≡ word ∷ [] = ap (λ b. if b then word ∷ [] else []) (eq-eqb actor k (sym is)) in
           let more : words_by k (es ++ e ∷ []) ≡ words_by k es ++ word ∷ [] = words_more k es e ∙ ap (λ ws. words_by k es ++ (ws ++ [])) its in (
             (pcg32 g.0).1,
-            kept ∙ subst (λ z. generator_of m z ≡ Some (pcg32 g.0).1) (sym is) own.1,
+            subst (λ z. generator_of b z ≡ Some (pcg32 g.0).1) (sym is) own.1,
             subst (λ ws. Draws (generator 0 k) ws (pcg32 g.0).1) (sym more) (draws_then (generator 0 k) g.0 (pcg32 g.0).1 (words_by k es) (word ∷ []) g.2 (own.0, refl)),
           ))
       | inr ne ↦ (let none : word_by k e ≡ [] = ap (λ b. if b then word ∷ [] else []) (ne_eqb actor k (λ s. ne (sym s))) in
-          (g.0, kept ∙ draws.others k ne ∙ g.1, subst (λ ws. Draws (generator 0 k) ws g.0) (sym (silent k es e none)) g.2))
+          (g.0, draws.others k ne ∙ g.1, subst (λ ws. Draws (generator 0 k) ws g.0) (sym (silent k es e none)) g.2))
     ]

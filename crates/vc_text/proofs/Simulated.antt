@@ -1,18 +1,19 @@
 -- A run that goes on.
 use Rattle.std.proofs.Common.{◌≡◌, ◌+◌, List, [], ◌∷◌, ◌++◌, length-append, sym, ap, ◌∙◌}
+use Rattle.vc_core.specs.Awake.{awake_of}
 use Rattle.vc_core.specs.State.{State, state_of, MakesEvent}
 use Rattle.vc_core.specs.declared.event.Event.{Event}
 use Rattle.vc_core.proofs.Replayed.{reached_next}
 use Rattle.vc_plan.specs.declared.plan.Plan.{Plan}
-use Rattle.vc_text.specs.Private.Seated.{HaveGiven}
+use Rattle.vc_text.specs.Private.Generators.{HaveGiven}
 use Rattle.vc_text.specs.Private.Quiet.{AreQuiet}
 use Rattle.vc_text.specs.Private.Simulating.{HasRun, HasTaken, LeadsOn}
 use Rattle.vc_text.specs.declared.simulation.Simulation.{Simulation}
 
 -- one event more
 pub one_more : {K : Type 0} (holds : K → Plan → List Event → State → Type 0) (p : Plan) (es : List Event) (e : Event) (old new : Simulation) (taken : K) →
-    HasTaken holds taken p (es ++ e ∷ []) new → new.made ≡ old.made + 1 → MakesEvent p (state_of old.network) e (state_of new.network) → HaveGiven p (es ++ e ∷ []) new.seats →
-    AreQuiet p (state_of new.network) new.seats → HasRun p es old → (es' : List Event) × HasTaken holds taken p es' new × HasRun p es' new
+    HasTaken holds taken p (es ++ e ∷ []) new → new.made ≡ old.made + 1 → MakesEvent p (state_of old.network) e (state_of new.network) → HaveGiven p (es ++ e ∷ []) new.generators →
+    AreQuiet p (state_of new.network) (awake_of new.network) → HasRun p es old → (es' : List Event) × HasTaken holds taken p es' new × HasRun p es' new
 one_more holds p es e old new taken kept made makes words quiet run = (
   es ++ e ∷ [],
   kept,

@@ -3,7 +3,7 @@ ghost use Rattle.std.specs.Prelude.{◌≡◌, ◌<◌, ◌≤◌, ◌-◌, ◌^
 ghost use Rattle.vc_text.specs.Private.Simulating.{LeadsOn, RunsOut, counted};
 
 use crate::event_sink::EventSink;
-use crate::seats::Seats;
+use crate::masks::drawn;
 use crate::simulation::Simulation;
 use rand_core::utils::NextWord;
 use rand_pcg::Lcg64Xsh32;
@@ -34,20 +34,20 @@ impl Draws {
         }
     }
 
-    /// The actor whose turn it is, of those that may have an event where these are awake; none where there is none.
-    pub(crate) fn next_actor(&mut self, seats: &Seats, awake: u64) -> Option<u8>
+    /// The actor whose turn it is, of those that are awake; none where none is.
+    pub(crate) fn next_actor(&mut self, awake: u64) -> Option<u8>
         ensures { IfSome result (λ actor. actor < 64) }
     {
         if self.left > 0 && self.actor < 64 {
             self.left -= 1;
             return Some(self.actor);
         }
-        let drawn = seats.drawn(awake, self.words.next_word());
-        if let Some(actor) = drawn {
+        let next = drawn(awake, self.words.next_word());
+        if let Some(actor) = next {
             self.actor = actor;
             self.left = self.words.next_word() % 64;
         }
-        drawn
+        next
     }
 
     /// The kind of act that the actor is to make, or none for what it makes next.
@@ -99,8 +99,7 @@ impl Simulation {
         ensures made { IfOk result (λ had. self.new.made ≡ counted had self.old.made) }
         ensures runs { OnOk result (LeadsOn K.holds self.old events.old self.new events.new) }
     {
-        let awake = self.network.awake();
-        let Some(actor) = draws.next_actor(&self.seats, awake) else {
+        let Some(actor) = draws.next_actor(self.network.awake()) else {
             return Ok(false);
         };
         if let Some(kind) = draws.kind() {

@@ -2,27 +2,27 @@
 ghost use Rattle.std.specs.Prelude.{◌≡◌, ◌⊎◌, ◌<◌, ◌≤◌, ◌+◌, ◌^◌, ◌-◌, [], ℕ, true, false, List, None, Ok, IfOk, OnOk};
 ghost use Rattle.vc_plan.specs.declared.plan.Plan.{Plan};
 ghost use Rattle.vc_core.specs.Replaying.{IsOpening};
-ghost use Rattle.vc_core.specs.State.{shown, state_of, IsNetworkOf};
+ghost use Rattle.vc_core.specs.State.{shown, state_of, HasFront, IsNetworkOf};
 ghost use Rattle.vc_core.specs.Private.Turns.{Rests, IsAtRest, GoesOn};
-ghost use Rattle.vc_core.specs.Turns.{FindsEvent};
 ghost use Rattle.vc_actor.specs.Turns.{actors};
 ghost use Rattle.vc_core.specs.declared.event.Event.{Event};
 ghost use Rattle.vc_text.specs.Closing.{HasEvent, Closes};
 ghost use Rattle.vc_text.specs.Private.Simulating.{HasRun, HasTaken, LeadsOn, RunsOut, counted};
 
 use crate::event_sink::EventSink;
+use crate::generators::Generators;
+use crate::masks::{after, least_among};
 use crate::schedule::Schedule;
-use crate::seats::{Seats, after};
 use std::alloc::Global;
 use vc_core::{Act, Close, Event, Network};
 use vc_packets::Memory;
 use vc_plan::Accepted;
 
-/// A run under way: its network, what is known of the actors, and how many events were made.
+/// A run under way: its network, the generators of its actors, and how many events were made.
 #[derive(Drop)]
 pub(crate) struct Simulation {
     pub(crate) network: Network,
-    pub(crate) seats: Seats,
+    pub(crate) generators: Generators,
     pub(crate) made: u64,
 }
 
@@ -34,30 +34,31 @@ impl Simulation {
         ensures opens { IfOk result (HasRun accepted.now []) }
     {
         let network = Network::new(alloc, accepted)?;
-        let seats = Seats::new(alloc, usize::from(network.actors()))?;
+        let generators = Generators::new(alloc, usize::from(network.actors()))?;
         Ok(Simulation {
             network,
-            seats,
+            generators,
             made: 0,
         })
     }
 
-    /// An actor makes the event, but a take, that it makes next, if it has one. The answer is whether it had one.
+    /// An actor to which no token comes makes the event that it makes next, if it has one, or else rests. The answer is whether it had
+    /// one.
     #[inline(always)]
     fn turn<K: EventSink>(&mut self, events: &mut K, actor: u8) -> Result<bool, Memory>
         requires actor { actor < 64 }
         requires few { self.old.made < 2 ^ 64 - 1 }
+        requires none { (link : ℕ) → HasFront (state_of self.old.network) actor link → ⊥ }
         ensures made { IfOk result (λ had. self.new.made ≡ counted had self.old.made) }
         ensures runs { OnOk result (LeadsOn K.holds self.old events.old self.new events.new) }
         ensures still { result ≡ Ok false → (p : Plan) →
             IsNetworkOf p (state_of self.old.network) →
             state_of self.new.network ≡ state_of self.old.network }
         ensures rests { result ≡ Ok false → (p : Plan) →
-            IsNetworkOf p (state_of self.old.network) →
-            FindsEvent p (state_of self.old.network) actor None }
+            IsNetworkOf p (state_of self.old.network) → Rests p (state_of self.old.network) actor }
     {
         let Some(event) = self.network.turn(actor)? else {
-            self.seats.rest(actor);
+            self.network.rest(actor);
             return Ok(false);
         };
         events.record(&self.network, event)?;
@@ -83,11 +84,8 @@ impl Simulation {
         let Some(link) = self.network.link_to_take(actor) else {
             return self.turn(events, actor);
         };
-        let word = self.seats.next_word(actor);
-        if !self.network.take(actor, link, word) {
-            return Ok(false);
-        }
-        self.seats.wake(actor);
+        let word = self.generators.next_word(actor);
+        self.network.take_front(actor, link, word);
         let act = Act::Take { link, word };
         events.record(&self.network, Event { actor, act })?;
         self.made += 1;
@@ -108,7 +106,7 @@ impl Simulation {
     {
         let mut moved = false;
         let mut left = u64::MAX;
-        while let Some(actor) = self.seats.next_of(self.network.awake(), left) {
+        while let Some(actor) = least_among(self.network.awake(), left) {
             if self.made >= limit {
                 return Ok(true);
             }

@@ -1,5 +1,5 @@
 -- The ways of a network, as the code keeps them at the links of its actors.
-use Rattle.std.specs.Prelude.{◌≡◌, ◌⊎◌, ℕ, List, slice_get, slice_set, Option, Some, None}
+use Rattle.std.specs.Prelude.{◌≡◌, ◌↔◌, ◌⊎◌, ℕ, List, slice_get, slice_set, Option, Some}
 use Rattle.vc_tokens.specs.Spelt.{token}
 use Rattle.vc_tokens.specs.Tokens.{Token}
 use Rattle.vc_tokens.specs.declared.token.Token.{Token as Made}
@@ -13,14 +13,17 @@ use Rattle.vc_core.specs.Lined.{Lined}
 abbrev pub Wakes : List (Option ℕ) → List ℕ → ℕ → List ℕ → Type 0
 Wakes wiring old way new = ((k : ℕ) × (l : ℕ) × (in_at wiring k l ≡ Some way) × Marked old k l 1 new) ⊎ (((k l : ℕ) → in_at wiring k l ≡ Some way → ⊥) × (new ≡ old))
 
+-- it is the actor to which the way leads, if it leads to one
+abbrev pub LeadsTo : List (Option ℕ) → ℕ → Option ℕ → Type 0
+LeadsTo wiring way to = (k : ℕ) → (to ≡ Some k) ↔ ((l : ℕ) × (in_at wiring k l ≡ Some way))
+
 -- these tokens stand on one way now
 abbrev pub with_way : Lined → ℕ → List Token → Lined
 with_way x way ts = record { ways = slice_set x.ways way ts; wiring = x.wiring }
 
 -- the front token of the way that comes in by a link was taken off
-abbrev pub TakesOff : Lined → ℕ → ℕ → Option Made → Lined → Type 0
-TakesOff old actor link None new = (new ≡ old) × (Comes old.wiring old.ways actor link → ⊥)
-TakesOff old actor link (Some t) new = (f : Comes old.wiring old.ways actor link) × (f.token ≡ token t) × (new ≡ with_way old f.way f.rest)
+abbrev pub TakesOff : Lined → ℕ → ℕ → Made → Lined → Type 0
+TakesOff old actor link t new = (f : Comes old.wiring old.ways actor link) × (f.token ≡ token t) × (new ≡ with_way old f.way f.rest)
 
 -- the actor's next token on the link came to the end of the way
 pub record PutsOnWay (old : Lined) (way : ℕ) (before : Acting) (link : ℕ) (after : Acting) (new : Lined) : Type 0 where

@@ -11,10 +11,6 @@ use Rattle.vc_switch.specs.declared.ready_switch.Ready.{Ready}
 abbrev pub Waits : Input → Type 0
 Waits x = (x.bound ≡ None) × (x.got ≢ [])
 
--- the link has its bit in the mask, and no lesser link has
-abbrev pub IsLowest : ℕ → ℕ → Type 0
-IsLowest mask link = (bit_at mask link ≡ 1) × ((l : ℕ) → l < link → bit_at mask l ≡ 0)
-
 -- the bit of one link tells whether it is so, and the other bits are as before
 pub record Tells (Is : Type 0) (link old new : ℕ) : Type 0 where
   pub it : (bit_at new link ≡ 1) ↔ Is

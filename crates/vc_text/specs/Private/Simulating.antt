@@ -1,21 +1,22 @@
 -- A run under way.
 use Rattle.std.specs.Prelude.{◌≡◌, ◌⊎◌, ℕ, ◌+◌, Bool, true, false, List, length}
+use Rattle.vc_core.specs.Awake.{awake_of}
 use Rattle.vc_core.specs.Replaying.{Reached}
 use Rattle.vc_core.specs.State.{State, state_of}
 use Rattle.vc_core.specs.Private.Turns.{IsAtRest}
 use Rattle.vc_core.specs.declared.event.Event.{Event}
 use Rattle.vc_plan.specs.declared.plan.Plan.{Plan}
 use Rattle.vc_text.specs.Private.Quiet.{AreQuiet}
-use Rattle.vc_text.specs.Private.Seated.{HaveGiven}
+use Rattle.vc_text.specs.Private.Generators.{HaveGiven}
 use Rattle.vc_text.specs.declared.simulation.Simulation.{Simulation}
 
 -- these events led from the opening state to where the run is, as many as it counts; the words of their takes are those that the
--- generators gave; and of the actors that are known to have no event but takes none has one
+-- generators gave; and of the actors that are not awake none has an event
 pub record HasRun (p : Plan) (events : List Event) (run : Simulation) : Type 0 where
   pub reached : Reached p events (state_of run.network)
   pub many : length events ≡ run.made
-  pub words : HaveGiven p events run.seats
-  pub quiet : AreQuiet p (state_of run.network) run.seats
+  pub words : HaveGiven p events run.generators
+  pub quiet : AreQuiet p (state_of run.network) (awake_of run.network)
 
 -- these events were taken, and led to where the run is
 abbrev pub HasTaken : {K : Type 0} → (K → Plan → List Event → State → Type 0) → K → Plan → List Event → Simulation → Type 0

@@ -9,7 +9,7 @@ use Rattle.vc_core.proofs.Replayed.{reached_first, reached_more, replays, all_ta
 use Rattle.vc_core.proofs.network.replay.Goals as goal
 
 pub loop-index-init : goal.loop-index-init
-loop-index-init c = reached_first c.args.accepted.now c.args.events.now (state_of c.in-Ok.network) c.in-Ok.ensures
+loop-index-init c = reached_first c.args.accepted.now c.args.events.now (state_of c.in-Ok.network) c.in-Ok.ensures.opening
 
 pub loop-index-preserved : goal.loop-index-preserved
 loop-index-preserved c =

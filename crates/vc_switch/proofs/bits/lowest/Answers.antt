@@ -1,9 +1,13 @@
-use Rattle.vc_switch.proofs.Masks.{lowest_set, none_lowest}
+use Rattle.std.proofs.Common.{ap, ◌∙◌, arith}
+use Rattle.std.proofs.lemmas.Nat.Bits.{bit_at-zero, bit_at-trailing_zeros}
+use Rattle.std.specs.Int.{bit_at, w32}
 use Rattle.vc_switch.proofs.bits.lowest.Goals as goal
 
-pub returns-then-link-lt32 : goal.returns-then-link-lt32
-returns-then-link-lt32 c =
-    (c.if-link-lt32.true, lowest_set c.args.mask c.ranges.mask.fits c.if-link-lt32.true)
+pub returns-then-mask-eq0 : goal.returns-then-mask-eq0
+returns-then-mask-eq0 c = λ l. ap (λ m. bit_at m l) c.if-mask-eq0.true ∙ bit_at-zero l
 
-pub returns-else-link-lt32 : goal.returns-else-link-lt32
-returns-else-link-lt32 c = λ l. none_lowest c.args.mask l c.ranges.mask.fits c.if-link-lt32.false
+pub returns : goal.returns
+returns c =
+    let some = c.if-mask-eq0.false in
+    let low = bit_at-trailing_zeros w32 c.args.mask (omega (arith, some)) c.ranges.mask.fits in
+    (low.0, (low.1, low.2))

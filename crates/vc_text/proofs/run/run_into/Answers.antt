@@ -34,7 +34,7 @@ returns-clause-run g c =
       record {
         few = omega (arith, few, many);
         runs = there.runs;
-        words = given_words p events mid.seats ran.2.words;
+        words = given_words p events mid.generators ran.2.words;
         closes = closes;
         waits = processes_wait p events t (length events) c.args.limit c.in_ok-close.close there closes;
       },

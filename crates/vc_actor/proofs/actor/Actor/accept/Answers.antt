@@ -1,5 +1,5 @@
 use Rattle.std.proofs.Common.{sym, ap, ◌∙◌}
-use Rattle.vc_actor.specs.Acting.{MakesTake}
+use Rattle.vc_actor.specs.Acting.{HasLink, MakesTake}
 use Rattle.vc_actor.specs.OfPlan.{IsActorOf}
 use Rattle.vc_actor.specs.Parts.{acting}
 use Rattle.vc_tokens.specs.Spelt.{token}
@@ -9,8 +9,8 @@ use Rattle.vc_actor.proofs.actor.Actor.accept.Goals as goal
 
 pub returns : goal.returns
 returns c = elim c.match-self.branch [
-  | in-Node w ↦ alike (λ x y. (plan : _) (k : _) → IsActorOf plan k x → MakesTake plan k x c.args.link c.args.word (token c.args.came) y) _ c.args.self.now _ _ (sym (ap acting w.in-Node.is) ∙ c.self.view_is) (sym (ap (λ z. acting z.part) w.self-inside-is))
-      (λ plan k is. w.accept.ensures plan k c.args.word is)
-  | in-Switch w ↦ alike (λ x y. (plan : _) (k : _) → IsActorOf plan k x → MakesTake plan k x c.args.link c.args.word (token c.args.came) y) _ c.args.self.now _ _ (sym (ap acting w.in-Switch.is) ∙ c.self.view_is) (sym (ap (λ z. acting z.part) w.self-inside-is))
-      w.accept-in-Switch.ensures
+  | in-Node w ↦ alike (λ x y. (plan : _) (k : _) → IsActorOf plan k x → HasLink x c.args.link → MakesTake plan k x c.args.link c.args.word (token c.args.came) y) _ c.args.self.now _ _ (sym (ap acting w.in-Node.is) ∙ c.self.view_is) (sym (ap (λ z. acting z.part) w.self-inside-is))
+      (λ plan k is few. w.accept.ensures plan k c.args.word is few)
+  | in-Switch w ↦ alike (λ x y. (plan : _) (k : _) → IsActorOf plan k x → HasLink x c.args.link → MakesTake plan k x c.args.link c.args.word (token c.args.came) y) _ c.args.self.now _ _ (sym (ap acting w.in-Switch.is) ∙ c.self.view_is) (sym (ap (λ z. acting z.part) w.self-inside-is))
+      (λ plan k is few. w.accept-in-Switch.ensures plan k is)
 ]

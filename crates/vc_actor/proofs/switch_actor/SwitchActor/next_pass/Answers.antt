@@ -13,7 +13,7 @@ returns-in_err-link-clause-finds c =
     let holds = subst IsSwitch c.switch.ensures c.links.ensures.holds in
     subst (FindsAt (λ l. Pass l) (SwitchCan s)) (sym c.from_residual.ensures) (λ l can.
     let few = within s holds (Pass l) can in
-    not_both (c.in_err-link.ensures l (omega arith)) ((c.passes.ensures l few).1 can))
+    not_both (c.in_err-link.ensures l) ((c.passes.ensures l few).1 can))
 
 pub returns-clause-finds : goal.returns-clause-finds
 returns-clause-finds c =
@@ -21,4 +21,4 @@ returns-clause-finds c =
     let l = c.in_ok-link.link in
     let less = c.in_ok-link.ensures.0 in
     let few : l < 32 = omega arith in
-    (l, refl, (c.passes.ensures l few).0 c.in_ok-link.ensures.1, λ j low can. (let small : j < 32 = omega arith in not_both (c.in_ok-link.ensures.2 j low) ((c.passes.ensures j small).1 can)))
+    (l, refl, (c.passes.ensures l few).0 c.in_ok-link.ensures.1.0, λ j low can. (let small : j < 32 = omega arith in not_both (c.in_ok-link.ensures.1.1 j low) ((c.passes.ensures j small).1 can)))

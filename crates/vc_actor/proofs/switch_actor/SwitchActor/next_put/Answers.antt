@@ -27,8 +27,7 @@ returns-in_err-link-clause-finds c = λ plan k.
     let holds = subst IsSwitch c.switch.ensures c.links.ensures.holds in
     subst (FindsAt (λ l. Put l) (IsTurn plan k (OfSwitch s) c.args.room)) (sym c.from_residual.ensures) (λ l turn.
     let m = may s holds (Put l) turn.can in
-    let few = m.links in
-    not_both (c.in_err-link.ensures l (omega arith)) (c.loop.invariant.tried l m turn.lets))
+    not_both (c.in_err-link.ensures l) (c.loop.invariant.tried l m turn.lets))
 
 pub returns-then-may_put-clause-may : goal.returns-then-may_put-clause-may
 returns-then-may_put-clause-may c =
@@ -47,9 +46,9 @@ returns-then-may_put-clause-finds c = λ plan k.
     let can = subst (λ z. CanPut (plan_of z) (seen z) l) c.switch-in-loop.ensures (c.if-may_put.ensures.0 refl) in (
       l,
       refl,
-      record { can = can; lets = c.loop.invariant.room l few c.in_ok-link.ensures.1 },
+      record { can = can; lets = c.loop.invariant.room l few c.in_ok-link.ensures.1.0 },
       λ j low turn.
-          not_both (c.in_ok-link.ensures.2 j low) (c.loop.invariant.tried j (may s holds (Put j) turn.can) turn.lets),
+          not_both (c.in_ok-link.ensures.1.1 j low) (c.loop.invariant.tried j (may s holds (Put j) turn.can) turn.lets),
     )
 
 pub loop-preserved : goal.loop-preserved
@@ -63,7 +62,7 @@ loop-preserved c =
     let test = c.loop-test.true in
     let under : c.loop.counter < 32 = omega arith in
     record {
-      gone = gone_more c.loop.counter old new l inv.gone c.in_ok-link.ensures.1 c.in_ok-link.ensures.2 c.without-left.ensures.gone c.without-left.ensures.others under;
+      gone = gone_more c.loop.counter old new l inv.gone c.in_ok-link.ensures.1.0 c.in_ok-link.ensures.1.1 c.without-left.ensures.gone c.without-left.ensures.others under;
       tried = λ j m has. left_more (λ z. SwitchMay s (Put z) × (bit_at room z ≡ 1)) old new l (λ z p. inv.tried z p.0 p.1) (λ z p. p.0.links) c.without-left.ensures.others
           (λ p. clash c.may_put.result c.if-may_put.false (c.may_put.ensures.1 (subst (λ z. CanPut (plan_of z) (seen z) l) (sym c.switch-in-loop.ensures) p.0.can))) j (m, has);
       room = λ j less h. elim (cases_eq j l) [

@@ -2,7 +2,7 @@ use Rattle.std.proofs.Common.{◌≡◌, ◌<◌, [], ◌∷◌, ◌++◌, lengt
 use Rattle.std.proofs.lemmas.Option.{slice_get_read}
 use Rattle.vc_tokens.specs.Spelt.{token as spelt}
 use Rattle.vc_core.specs.Lined.{Lined, AreLined}
-use Rattle.vc_core.specs.Private.Lined.{with_way}
+use Rattle.vc_core.specs.Private.Lined.{LeadsTo, with_way}
 use Rattle.vc_core.proofs.Happening.{written_back}
 use Rattle.vc_core.proofs.Lined.{woken, end_first, err_all}
 use Rattle.vc_core.proofs.lines.Lines.push.Goals as goal
@@ -15,7 +15,7 @@ invariant_of-self-2 c =
     let x = c.self.inside in
     let less = subst (λ (z : Lined). c.args.way < length z.ways) (sym c.self.view_is) c.requires in
     let first = end_first c.index_mut.result.now (spelt c.args.token) in
-    woken x.wiring x.ways.items x.fronts c.wake.new.fronts c.args.way c.push.new.self first.0 first.1 c.self.invariant less (c.in_ok-push.ensures.ok ∙ first.2) c.wake.ensures
+    woken x.wiring x.ways.items x.fronts c.wake.new.fronts c.args.way c.push.new.self first.0 first.1 c.self.invariant less (c.in_ok-push.ensures.ok ∙ first.2) c.wake.ensures.wakes
 
 pub invariant_of-self : goal.invariant_of-self
 invariant_of-self c =
@@ -40,3 +40,6 @@ returns-in_err-push-clause-err c =
     let less = subst (λ (z : Lined). c.args.way < length z.ways) (sym c.self.view_is) c.requires in
     let read = slice_get_read x.ways.items (length x.ways.items) c.args.way c.index_mut.result.now refl less c.index_mut.ensures.value in
     err_all c.from_residual.result ((λ i. record { ways = written_back x.ways.items c.args.way c.index_mut.result.now c.push.new.self read c.in_err-push.ensures.err i; wiring = x.wiring }) ∙ c.self.view_is)
+
+pub returns-clause-to : goal.returns-clause-to
+returns-clause-to c = subst (λ (z : Lined). LeadsTo z.wiring c.args.way c.wake.result) c.self.view_is c.wake.ensures.to

@@ -9,7 +9,7 @@ way_out-requires c =
     (goes.way, ap (λ (z : Lined). out_at z.wiring c.args.actor c.args.link) c.self.view_is ∙ goes.out)
 
 pub returns-clause-way : goal.returns-clause-way
-returns-clause-way c = ap (λ (z : Lined). out_at z.wiring c.args.actor c.args.link) (sym c.self.view_is) ∙ c.way_out.ensures
+returns-clause-way c = ap (λ (z : Lined). out_at z.wiring c.args.actor c.args.link) (sym c.self.view_is) ∙ c.way_out.ensures.way
 
 pub returns-clause-real : goal.returns-clause-real
-returns-clause-real c = subst (λ (z : Lined). c.way_out.result < length z.ways) c.self.view_is (c.self.invariant.real c.args.actor c.args.link c.way_out.result c.way_out.ensures)
+returns-clause-real c = subst (λ (z : Lined). c.way_out.result < length z.ways) c.self.view_is (c.self.invariant.real c.args.actor c.args.link c.way_out.result c.way_out.ensures.way)

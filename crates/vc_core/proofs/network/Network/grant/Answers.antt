@@ -1,6 +1,11 @@
-use Rattle.std.proofs.Common.{subst}
+use Rattle.std.proofs.Common.{◌≡◌, ap, ◌∙◌, inl, inr, refl, sym, subst}
+use Rattle.std.specs.Int.{bit_at}
 use Rattle.vc_actor.specs.Acting.{MayAct}
-use Rattle.vc_core.specs.State.{state_of}
+use Rattle.vc_tokens.specs.Tokens as tokens
+use Rattle.vc_core.specs.Lined.{Lined}
+use Rattle.vc_core.specs.State.{state_of, HasFront}
+use Rattle.vc_core.specs.Wired.{Comes}
+use Rattle.vc_core.proofs.Awake.{put_comes, put_wakes}
 use Rattle.vc_core.proofs.Happening.{granted, way_is, way_found}
 use Rattle.vc_core.proofs.network.Network.grant.Goals as goal
 
@@ -15,6 +20,32 @@ returns-clause-makes c = λ p is.
     let lets = c.requires.way in
     let w = c.way_out-way.result in
     let out = c.way_out-way.ensures.way in
-    let line = c.in_ok-push.ensures.ok lets.tokens (way_found s e.actor c.args.link w lets out) in
+    let line = c.in_ok-to.ensures.ok lets.tokens (way_found s e.actor c.args.link w lets out) in
     granted p s (state_of (record n { lines = c.push.new.self })) (state_of c.grant_by.new.self) e c.args.link (way_is s e.actor c.args.link w lets out) c.requires.is
-    (λ i. record { actors = n.actors.items; nodes = n.nodes; ways = (line i).ways; wiring = (line i).wiring; wires = n.wires; channels = n.channels.items }) c.grant_by.ensures is
+    (λ i. record { actors = n.actors.items; nodes = n.nodes; ways = (line i).ways; wiring = (line i).wiring; wires = n.wires; channels = n.channels.items }) c.grant_by.ensures.grants is
+
+pub returns-clause-awake : goal.returns-clause-awake
+returns-clause-awake c =
+    let n = c.args.self.now in
+    let s = state_of n in
+    let e = c.args.event.now in
+    let lets = c.requires.way in
+    let w = c.way_out-way.result in
+    let line = c.in_ok-to.ensures.ok lets.tokens (way_found s e.actor c.args.link w lets c.way_out-way.ensures.way) in
+    let same : c.grant_by.new.self.awake ≡ c.wake.new.awake = c.grant_by.ensures.awake in
+    record {
+      kept = λ k low is. ap (λ m. bit_at m k) same ∙ c.wake.ensures.kept k low is;
+      woken = λ k l low f none.
+          ap (λ m. bit_at m k) same
+          ∙ put_wakes n.lines.wiring n.lines.ways w _ c.in_ok-to.to c.wake.new.awake c.in_ok-to.ensures.to c.wake.ensures.it k l low
+          (subst (λ (z : Lined). Comes z.wiring z.ways k l) line (subst (λ z. HasFront z k l) c.grant_by.ensures.grants.new_is f)) none;
+      only = λ k low is. elim (c.wake.ensures.only k low (sym (ap (λ m. bit_at m k) same) ∙ is)) [
+        | inl was ↦ inl was
+        | inr to ↦ (let into = (c.in_ok-to.ensures.to k).0 to in
+            inr (
+              into.0,
+              subst (λ z. HasFront z k into.0) (sym c.grant_by.ensures.grants.new_is) (subst (λ (z : Lined). Comes z.wiring z.ways k into.0) (sym line)
+                  (put_comes n.lines.wiring n.lines.ways w _ lets.tokens tokens.Fct (way_found s e.actor c.args.link w lets c.way_out-way.ensures.way) refl k into.0 into.1)),
+            ))
+      ];
+    }

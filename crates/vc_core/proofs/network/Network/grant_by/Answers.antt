@@ -14,8 +14,8 @@ pub grant-requires : goal.grant-requires
 grant-requires c =
     may_there (state_of c.args.self.now) c.args.actor c.from.result c.index_mut.result.now (act.Fct c.args.link) c.requires c.from.ensures c.index_mut.ensures.value
 
-pub returns : goal.returns
-returns c =
+pub returns-clause-grants : goal.returns-clause-grants
+returns-clause-grants c =
     let n = c.args.self.now in
     let less = subst (λ z. z < length n.actors.items) (sym c.from.ensures) (slice_get_within n.actors.items c.args.actor c.requires.actor c.requires.here) in
     let here = slice_get_read n.actors.items (length n.actors.items) c.from.result c.index_mut.result.now refl less c.index_mut.ensures.value in

@@ -1,4 +1,5 @@
 use Rattle.std.proofs.Common.{sym, ◌∙◌, subst}
+use Rattle.std.proofs.lemmas.Nat.Bits.{bit_at_ones}
 use Rattle.vc_plan.specs.Accepted.{IsAccepted}
 use Rattle.vc_actor.specs.Begin.{AreFirst}
 use Rattle.vc_core.specs.Replaying.{IsOpening}
@@ -7,8 +8,8 @@ use Rattle.vc_actor.specs.Turns.{actors}
 use Rattle.vc_core.proofs.Replayed.{opened}
 use Rattle.vc_core.proofs.network.Network.new.Goals as goal
 
-pub returns : goal.returns
-returns c =
+pub returns-clause-opening : goal.returns-clause-opening
+returns-clause-opening c =
     let p = c.plan-plan.result.now in
     let same = c.plan-plan.ensures.plan in
     let lines = c.in_ok-new.field-0 in
@@ -16,3 +17,6 @@ returns c =
     subst (λ z. IsOpening z s) same
     (opened p s (subst IsAccepted (sym same) c.plan-plan.ensures.accepted) (subst (λ z. AreFirst z (actors z) c.in_ok-actors.field-0.items) (sym same) c.in_ok-actors.ensures) c.len.ensures
     c.in_ok-new.ensures.count c.in_ok-new.ensures.empty c.in_ok-new.ensures.wired (c.in_ok-from_slice.ensures ∙ c.as_slice.ensures) c.in_ok-channels_of.ensures)
+
+pub returns-clause-awake : goal.returns-clause-awake
+returns-clause-awake c = λ k low. bit_at_ones 64 k low

@@ -1,11 +1,14 @@
-use Rattle.std.proofs.Common.{◌≡◌, ◌<◌, length, slice_get, slice_set, Some, refl, sym, ◌∙◌, subst}
+use Rattle.std.proofs.Common.{◌≡◌, ◌<◌, length, slice_get, slice_set, Some, inl, inr, refl, sym, ◌∙◌, subst}
 use Rattle.std.proofs.lemmas.Option.{slice_get_read, slice_get_within}
-use Rattle.vc_vcp.proofs.Placed.{on_ok}
 use Rattle.vc_actor.specs.Acting.{MayAct}
+use Rattle.vc_core.specs.Lined.{Lined}
 use Rattle.vc_core.specs.Private.Lined.{with_way}
+use Rattle.vc_core.specs.Wired.{Comes}
 use Rattle.vc_core.specs.State.{state_of, HasWay}
 use Rattle.vc_actor.specs.declared.act.Act.TheVariants as act
-use Rattle.vc_core.proofs.Happening.{on_err, placed, written_back}
+use Rattle.vc_core.proofs.Happening.{placed, written_back}
+use Rattle.vc_core.proofs.Awake.{put_comes, put_wakes}
+use Rattle.vc_core.proofs.Lined.{err_all}
 use Rattle.vc_core.proofs.network.Network.put.Goals as goal
 
 pub put-requires-clause-may : goal.put-requires-clause-may
@@ -31,18 +34,38 @@ returns-clause-makes c = λ p is.
     let less = subst (λ z. z < length n.actors.items) (sym c.from.ensures) (slice_get_within n.actors.items e.actor m.actor m.here) in
     let read = slice_get_read n.actors.items (length n.actors.items) c.from.result x refl less c.index_mut.ensures.value in
     let here = subst (λ z. slice_get n.actors.items z ≡ Some x) c.from.ensures read in
-    on_ok c.put.result (λ puts.
+    let puts = c.in_ok-to.ensures.ok in
     let f : HasWay s e.actor c.args.link = record { way = c.way_out-way.result; tokens = puts.tokens; out = c.way_out-way.ensures.way; stand = puts.stand } in
     let line = puts.new_is ∙ (λ i. with_way n.lines c.way_out-way.result (puts.puts.ends i)) in
     placed p s _ e c.args.link x c.put.new.from f puts.puts.token c.requires.is here puts.puts.puts
-    (λ i. record { actors = slice_set n.actors.items (c.from.ensures i) c.put.new.from; nodes = n.nodes; ways = (line i).ways; wiring = (line i).wiring; wires = n.wires; channels = n.channels.items }) is) c.put.ensures.ok
+    (λ i. record { actors = slice_set n.actors.items (c.from.ensures i) c.put.new.from; nodes = n.nodes; ways = (line i).ways; wiring = (line i).wiring; wires = n.wires; channels = n.channels.items }) is
 
-pub returns-clause-refused : goal.returns-clause-refused
-returns-clause-refused c =
+pub returns-clause-awake : goal.returns-clause-awake
+returns-clause-awake c =
+    let n = c.args.self.now in
+    let puts = c.in_ok-to.ensures.ok in
+    record {
+      kept = c.wake.ensures.kept;
+      woken = λ k l low f none. put_wakes n.lines.wiring n.lines.ways c.way_out-way.result puts.more c.in_ok-to.to c.wake.new.awake c.in_ok-to.ensures.to c.wake.ensures.it k l low
+          (subst (λ (z : Lined). Comes z.wiring z.ways k l) puts.new_is f) none;
+      only = λ k low is. elim (c.wake.ensures.only k low is) [
+        | inl was ↦ inl was
+        | inr to ↦ (let into = (c.in_ok-to.ensures.to k).0 to in
+            inr (
+              into.0,
+              subst (λ (z : Lined). Comes z.wiring z.ways k into.0) (sym puts.new_is)
+                  (put_comes n.lines.wiring n.lines.ways c.way_out-way.result puts.more puts.tokens puts.puts.token puts.stand puts.puts.ends k into.0 into.1),
+            ))
+      ];
+    }
+
+pub returns-in_err-to-clause-refused : goal.returns-in_err-to-clause-refused
+returns-in_err-to-clause-refused c =
     let n = c.args.self.now in
     let e = c.args.event.now in
     let m = c.requires.may in
     let x = c.index_mut.result.now in
     let less = subst (λ z. z < length n.actors.items) (sym c.from.ensures) (slice_get_within n.actors.items e.actor m.actor m.here) in
     let read = slice_get_read n.actors.items (length n.actors.items) c.from.result x refl less c.index_mut.ensures.value in
-    on_err c.put.result (λ same. (λ i. record { actors = written_back n.actors.items c.from.result x c.put.new.from read same.0 i; nodes = n.nodes; ways = (same.1 i).ways; wiring = (same.1 i).wiring; wires = n.wires; channels = n.channels.items })) c.put.ensures.err
+    let same = c.in_err-to.ensures.err in
+    err_all c.from_residual.result (λ i. record { actors = written_back n.actors.items c.from.result x c.put.new.from read same.0 i; nodes = n.nodes; ways = (same.1 i).ways; wiring = (same.1 i).wiring; wires = n.wires; channels = n.channels.items })

@@ -1,5 +1,6 @@
 use Rattle.std.proofs.Common.{IfSome, sym, subst}
 use Rattle.vc_core.specs.State.{state_of, IsNetworkOf, MayActAt, MakesEvent, WaysLet}
+use Rattle.vc_core.proofs.Awake.{still_awake, then_awake}
 use Rattle.vc_core.proofs.Taking.{happens_at}
 use Rattle.vc_core.proofs.network.Network.turn.Goals as goal
 
@@ -15,3 +16,16 @@ pub returns-clause-makes : goal.returns-clause-makes
 returns-clause-makes c = λ p is.
     let same = c.in_ok-next.ensures.same in
     subst (λ z. MakesEvent p z c.in-Some.next (state_of c.make_turn.new.self)) same (c.in_ok-make_turn.ensures.makes p (subst (IsNetworkOf p) (sym same) is))
+
+pub returns-clause-awake : goal.returns-clause-awake
+returns-clause-awake c =
+    let a = c.args.self.now in
+    let b = c.next.new.self in
+    let d = c.make_turn.new.self in
+    then_awake (state_of a) (state_of b) (state_of d) a.awake b.awake d.awake c.in_ok-next.ensures.same c.in_ok-next.ensures.awake c.in_ok-make_turn.ensures.awake
+
+pub returns-in_default-clause-awake : goal.returns-in_default-clause-awake
+returns-in_default-clause-awake c =
+    let a = c.args.self.now in
+    let b = c.next.new.self in
+    still_awake (state_of a) (state_of b) a.awake b.awake c.in_ok-next.ensures.same c.in_ok-next.ensures.awake

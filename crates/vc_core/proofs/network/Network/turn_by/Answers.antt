@@ -1,6 +1,7 @@
 use Rattle.std.proofs.Common.{IfSome, sym, subst}
 use Rattle.vc_core.specs.State.{state_of, IsNetworkOf, MayActAt, MakesEvent, WaysLet}
 use Rattle.vc_core.specs.Turns.{FindsEventOf}
+use Rattle.vc_core.proofs.Awake.{still_awake, then_awake}
 use Rattle.vc_core.proofs.Taking.{happens_at}
 use Rattle.vc_core.proofs.network.Network.turn_by.Goals as goal
 
@@ -19,3 +20,16 @@ returns-clause-makes c = λ p is.
 
 pub returns-clause-finds : goal.returns-clause-finds
 returns-clause-finds c = λ p is. subst (FindsEventOf c.args.kind p (state_of c.args.self.now) c.args.actor) c.in-Some.is (c.in_ok-event.ensures.finds p is)
+
+pub returns-clause-awake : goal.returns-clause-awake
+returns-clause-awake c =
+    let a = c.args.self.now in
+    let b = c.next_of.new.self in
+    let d = c.make.new.self in
+    then_awake (state_of a) (state_of b) (state_of d) a.awake b.awake d.awake c.in_ok-event.ensures.same c.in_ok-event.ensures.awake c.in_ok-make.ensures.awake
+
+pub returns-in_default-clause-awake : goal.returns-in_default-clause-awake
+returns-in_default-clause-awake c =
+    let a = c.args.self.now in
+    let b = c.next_of.new.self in
+    still_awake (state_of a) (state_of b) a.awake b.awake c.in_ok-event.ensures.same c.in_ok-event.ensures.awake

@@ -2,9 +2,8 @@ use Rattle.std.proofs.Common.{◌≡◌, refl, subst, sym}
 use Rattle.vc_core.specs.State.{state_of, MakesOne}
 use Rattle.vc_core.specs.Turns.{FindsEventOf}
 use Rattle.vc_core.specs.Replaying.{Reached}
-use Rattle.vc_text.specs.Private.Quiet.{AreQuiet}
 use Rattle.vc_text.proofs.Drawing.{given_still}
-use Rattle.vc_text.proofs.Quieting.{acts_quiet}
+use Rattle.vc_text.proofs.Quieting.{acts_quiet, same_quiet}
 use Rattle.vc_text.proofs.Simulated.{one_more}
 use Rattle.vc_text.proofs.simulation.Simulation.act_by.Goals as goal
 
@@ -16,8 +15,8 @@ returns-clause-runs g c = λ p es kept run.
     let found = subst (FindsEventOf c.args.kind p s c.args.actor) c.in-Some.is (c.in_ok-event.ensures.finds p run.reached.is) in
     let makes = subst (λ m. MakesOne p s m t) c.in-Some.is (c.in_ok-event.ensures.makes p run.reached.is) in
     one_more g.K.EventSink.holds p es c.in-Some.event a _ _ (c.in_ok-record.ensures p es s kept makes) refl makes
-    (given_still p es c.in-Some.event a.seats a.seats found.1 refl run.words)
-    (acts_quiet p s t c.in-Some.event a.seats c.args.actor found.0 found.1 found.2 makes run.quiet) run
+    (given_still p es c.in-Some.event a.generators a.generators found.1 refl run.words)
+    (acts_quiet p s t c.in-Some.event a.network.awake c.turn_by.new.self.awake run.reached.is found.2 makes c.in_ok-event.ensures.awake run.quiet) run
 
 pub returns-in_default-clause-runs : goal.returns-in_default-clause-runs
 returns-in_default-clause-runs g c = λ p es kept run.
@@ -31,6 +30,6 @@ returns-in_default-clause-runs g c = λ p es kept run.
         reached = subst (Reached p es) (sym same) run.reached;
         many = run.many;
         words = run.words;
-        quiet = subst (λ z. AreQuiet p z a.seats) (sym same) run.quiet;
+        quiet = same_quiet p s t a.network.awake c.turn_by.new.self.awake same c.in_ok-event.ensures.awake run.quiet;
       },
     )

@@ -9,11 +9,11 @@ pub returns-clause-opens : goal.returns-clause-opens
 returns-clause-opens c =
     let p = c.args.accepted.now in
     let s = state_of c.in_ok-network.network in
-    let reached = reached_first p [] s c.in_ok-network.ensures in
+    let reached = reached_first p [] s c.in_ok-network.ensures.opening in
     let many = c.actors.ensures p reached.is in
     record {
       reached = reached;
       many = refl;
-      words = none_given p c.from.result c.in_ok-seats.seats (omega (arith, many, c.from.ensures)) c.in_ok-seats.ensures.words;
-      quiet = none_quiet p s c.in_ok-seats.seats c.in_ok-seats.ensures.active;
+      words = none_given p c.from.result c.in_ok-generators.generators (omega (arith, many, c.from.ensures)) c.in_ok-generators.ensures;
+      quiet = none_quiet p s c.in_ok-network.network.awake c.in_ok-network.ensures.awake;
     }

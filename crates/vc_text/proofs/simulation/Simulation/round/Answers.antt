@@ -7,7 +7,7 @@ use Rattle.vc_core.specs.Private.Turns.{Rests, IsAtRest}
 use Rattle.vc_actor.specs.Turns.{actors}
 use Rattle.vc_core.proofs.Leaving.{few}
 use Rattle.vc_text.proofs.Closing.{all_rest, grown, neither, or_true, or_false, counted_few}
-use Rattle.vc_text.proofs.Quieting.{idle_rests, bit_after, not_after, fewer_after}
+use Rattle.vc_text.proofs.Quieting.{bit_after, not_after, fewer_after}
 use Rattle.vc_text.proofs.Simulated.{stays_on, then_on}
 use Rattle.vc_text.proofs.simulation.Simulation.round.Goals.{then-branch, else-branch}
 use Rattle.vc_text.proofs.simulation.Simulation.round.Goals as goal
@@ -49,8 +49,7 @@ loop-actor-preserved g c =
           let same = inv.same b.0 p es kept run in
           elim (cases_lt k c.in-Some.actor) [
             | inl sooner ↦ elim (cases_eq (bit_at c.loop-actor.left k) 1) [
-              | inl has ↦ subst (λ z. Rests p z k) same
-                  (idle_rests p (state_of c.loop-actor.self.network) c.loop-actor.self.seats c.awake.result k mid.2.reached.is mid.2.quiet (λ l f. c.awake.ensures.told k l less f) less (next.2 k sooner has))
+              | inl has ↦ subst (λ z. Rests p z k) same (mid.2.quiet k less (subst (λ m. bit_at m k ≡ 0) c.awake.ensures (next.2 k sooner has)))
               | inr ne ↦ inv.rests b.0 p es kept run k less (let bit = bit_at-lt c.loop-actor.left k in omega (arith, bit, ne)) node
             ]
             | inr later ↦ elim (cases_lt c.in-Some.actor k) [
@@ -82,7 +81,6 @@ returns-clause-rests g c = λ e p es kept run.
     subst (IsAtRest p) (sym same) (all_rest p s run.reached.is (actors p) (omega arith) (λ k less.
     let low : k < 64 = omega arith in
     elim (cases_eq (bit_at c.loop-actor.left k) 1) [
-      | inl has ↦ subst (λ z. Rests p z k) same
-          (idle_rests p (state_of c.loop-actor.self.network) c.loop-actor.self.seats c.awake.result k mid.2.reached.is mid.2.quiet (λ l f. c.awake.ensures.told k l low f) low (c.in_default.ensures k low has))
+      | inl has ↦ subst (λ z. Rests p z k) same (mid.2.quiet k low (subst (λ m. bit_at m k ≡ 0) c.awake.ensures (c.in_default.ensures k low has)))
       | inr ne ↦ inv.rests none p es kept run k low (let bit = bit_at-lt c.loop-actor.left k in omega (arith, bit, ne)) less
     ]))

@@ -1,10 +1,11 @@
-use Rattle.std.proofs.Common.{◌≡◌, Bool, true, false, Result, Ok, refl, subst, sym}
+use Rattle.std.proofs.Common.{◌≡◌, Bool, true, false, Result, Ok, refl, subst, sym, ◌∙◌}
+use Rattle.vc_core.specs.Private.Turns.{Rests}
 use Rattle.vc_core.specs.State.{state_of, MakesOne}
 use Rattle.vc_core.specs.Turns.{FindsEvent}
 use Rattle.vc_core.specs.Replaying.{Reached}
-use Rattle.vc_text.specs.Private.Quiet.{AreQuiet}
-use Rattle.vc_text.proofs.Drawing.{given_same, given_still}
-use Rattle.vc_text.proofs.Quieting.{acts_quiet, one_quiet}
+use Rattle.vc_core.proofs.Awake.{rests_here}
+use Rattle.vc_text.proofs.Drawing.{given_still}
+use Rattle.vc_text.proofs.Quieting.{acts_quiet, one_quiet, same_quiet}
 use Rattle.vc_text.proofs.Simulated.{one_more}
 use Rattle.vc_text.proofs.simulation.Simulation.turn.Goals as goal
 
@@ -20,8 +21,8 @@ returns-clause-runs g c = λ p es kept run.
     let found = subst (FindsEvent p s c.args.actor) c.in-Some.is (c.in_ok-event.ensures.finds p run.reached.is) in
     let makes = subst (λ m. MakesOne p s m t) c.in-Some.is (c.in_ok-event.ensures.makes p run.reached.is) in
     one_more g.K.EventSink.holds p es c.in-Some.event a _ _ (c.in_ok-record.ensures p es s kept makes) refl makes
-    (given_still p es c.in-Some.event a.seats a.seats found.1 refl run.words)
-    (acts_quiet p s t c.in-Some.event a.seats c.args.actor found.0 found.1 found.2 makes run.quiet) run
+    (given_still p es c.in-Some.event a.generators a.generators found.1 refl run.words)
+    (acts_quiet p s t c.in-Some.event a.network.awake c.turn.new.self.awake run.reached.is found.2 makes c.in_ok-event.ensures.awake run.quiet) run
 
 pub returns-in_default-clause-runs : goal.returns-in_default-clause-runs
 returns-in_default-clause-runs g c = λ p es kept run.
@@ -30,13 +31,14 @@ returns-in_default-clause-runs g c = λ p es kept run.
     let t = state_of c.turn.new.self in
     let same : t ≡ s = subst (λ o. MakesOne p s o t) c.in_default.is (c.in_ok-event.ensures.makes p run.reached.is) in (
       es,
-      subst (g.K.EventSink.holds c.args.events.now p es) (sym same) kept,
+      subst (g.K.EventSink.holds c.args.events.now p es) (sym (c.rest.ensures.same ∙ same)) kept,
       record {
-        reached = subst (Reached p es) (sym same) run.reached;
+        reached = subst (Reached p es) (sym (c.rest.ensures.same ∙ same)) run.reached;
         many = run.many;
-        words = given_same p es a.seats c.rest.new.self c.rest.ensures.words run.words;
-        quiet = subst (λ z. AreQuiet p z c.rest.new.self) (sym same)
-            (one_quiet p s a.seats c.rest.new.self c.args.actor c.rest.ensures.others (subst (FindsEvent p s c.args.actor) c.in_default.is (c.in_ok-event.ensures.finds p run.reached.is)) run.quiet);
+        words = run.words;
+        quiet = one_quiet p t (state_of c.rest.new.self) c.turn.new.self.awake c.rest.new.self.awake c.args.actor c.rest.ensures.same c.rest.ensures.others
+            (subst (λ z. Rests p z c.args.actor) (sym same) (rests_here p s c.args.actor run.reached.is c.requires.none (subst (FindsEvent p s c.args.actor) c.in_default.is (c.in_ok-event.ensures.finds p run.reached.is))))
+            (same_quiet p s t a.network.awake c.turn.new.self.awake same c.in_ok-event.ensures.awake run.quiet);
       },
     )
 
@@ -50,7 +52,9 @@ pub returns-in_default-clause-still : goal.returns-in_default-clause-still
 returns-in_default-clause-still g c = λ e p is.
     let s = state_of c.args.self.now.network in
     let t = state_of c.turn.new.self in
-    subst (λ o. MakesOne p s o t) c.in_default.is (c.in_ok-event.ensures.makes p is)
+    c.rest.ensures.same ∙ subst (λ o. MakesOne p s o t) c.in_default.is (c.in_ok-event.ensures.makes p is)
 
 pub returns-in_default-clause-rests : goal.returns-in_default-clause-rests
-returns-in_default-clause-rests g c = λ e p is. subst (FindsEvent p (state_of c.args.self.now.network) c.args.actor) c.in_default.is (c.in_ok-event.ensures.finds p is)
+returns-in_default-clause-rests g c = λ e p is.
+    let s = state_of c.args.self.now.network in
+    rests_here p s c.args.actor is c.requires.none (subst (FindsEvent p s c.args.actor) c.in_default.is (c.in_ok-event.ensures.finds p is))

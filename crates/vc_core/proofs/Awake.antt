@@ -1,0 +1,96 @@
+-- Who is awake after an event.
+use Rattle.std.proofs.Common.{◌≡◌, ◌≢◌, ℕ, ◌<◌, List, [], ◌∷◌, ◌++◌, slice_get, slice_set, Option, Some, None, inl, inr, refl, sym, ap, ◌∙◌, subst, arith}
+use Rattle.std.proofs.lemmas.Bool.{cases_eq}
+use Rattle.std.proofs.lemmas.Option.{slice_get_within}
+use Rattle.std.specs.Int.{bit_at}
+use Rattle.vc_tokens.specs.Tokens.{Token}
+use Rattle.vc_vcp.proofs.Placed.{place-set_same, place-set_other}
+use Rattle.vc_core.specs.Awake.{StaysAwake}
+use Rattle.vc_core.specs.Enabled.{CanHappen}
+use Rattle.vc_core.specs.Private.Lined.{LeadsTo}
+use Rattle.vc_core.specs.Private.Turns.{Rests}
+use Rattle.vc_core.specs.State.{State, IsNetworkOf, HasFront, MakesEvent}
+use Rattle.vc_core.specs.Turns.{FindsEvent}
+use Rattle.vc_core.specs.Wired.{in_at, Comes}
+use Rattle.vc_core.specs.declared.event.Event.{Event}
+use Rattle.vc_actor.specs.Shown.{Acting}
+use Rattle.vc_actor.specs.declared.act.Act.{Act}
+use Rattle.vc_actor.specs.declared.act.Act.TheVariants.{Proc, Take, Put, Route, Fct, Pass}
+use Rattle.vc_plan.specs.declared.plan.Plan.{Plan}
+use Rattle.vc_core.proofs.Enabled.{can_take, comes_to, happens}
+use Rattle.vc_core.proofs.Lined.{end_first}
+use Rattle.vc_core.proofs.Quiet.{quiet_after}
+use Rattle.vc_core.proofs.Turning.{takes}
+
+-- Whoever is not awake rests.
+
+-- where a token comes it can be taken
+pub front_happens : (p : Plan) (s : State) (k l w : ℕ) → IsNetworkOf p s → HasFront s k l → CanHappen p s (record { actor = k; act = Take l w })
+front_happens p s k l w is f = by_place (slice_get s.actors k) refl
+  where
+    by_place : (o : Option Acting) → slice_get s.actors k ≡ o → CanHappen p s (record { actor = k; act = Take l w })
+    by_place (Some a) here = happens p s (record { actor = k; act = Take l w }) a is here (can_take p s k l w a f is here) f
+    by_place None none = absurd (comes_to p s k l f is none)
+
+-- an actor to which no token comes, and that finds no other event, rests
+pub rests_here : (p : Plan) (s : State) (k : ℕ) → IsNetworkOf p s → ((l : ℕ) → HasFront s k l → ⊥) → FindsEvent p s k None → Rests p s k
+rests_here p s k is none acts = record { takes = takes p s k None is none; acts = acts }
+
+-- an actor that rests has no event
+pub none_happens : (p : Plan) (s : State) (e : Event) → Rests p s e.actor → CanHappen p s e → ⊥
+none_happens p s e rests can = by_act e.act can
+  where
+    by_act : (a : Act) → CanHappen p s (record { actor = e.actor; act = a }) → ⊥
+    by_act (Take l w) can = rests.takes l w can
+    by_act (Proc made) can = rests.acts (Proc made) tt can
+    by_act (Put l) can = rests.acts (Put l) tt can
+    by_act (Route i o) can = rests.acts (Route i o) tt can
+    by_act (Fct l) can = rests.acts (Fct l) tt can
+    by_act (Pass l) can = rests.acts (Pass l) tt can
+
+-- one that rests still does after an event of another, if it is not awake then
+pub rests_on : (p : Plan) (s t : State) (e : Event) (a b k : ℕ) → IsNetworkOf p s → MakesEvent p s e t → StaysAwake s a t b → k ≢ e.actor → k < 64 → bit_at b k ≡ 0 → Rests p s k → Rests p t k
+rests_on p s t e a b k is made stays other low none rests = record {
+  takes = takes p t k None made.kept (λ l f. (let one = stays.woken k l low f (λ g. rests.takes l 0 (front_happens p s k l 0 is g)) in omega (arith, one, none)));
+  acts = quiet_after p s t e k other made rests.acts;
+}
+
+-- Who is awake.
+
+-- where nothing has changed
+pub still_awake : (s t : State) (a b : ℕ) → t ≡ s → b ≡ a → StaysAwake s a t b
+still_awake s t a b state mask = record {
+  kept = λ k low is. ap (λ m. bit_at m k) mask ∙ is;
+  woken = λ k l low f none. absurd (none (subst (λ z. HasFront z k l) state f));
+  only = λ k low is. inl (ap (λ m. bit_at m k) (sym mask) ∙ is);
+}
+
+-- what changed in between has not changed it
+pub then_awake : (s t u : State) (a b c : ℕ) → t ≡ s → b ≡ a → StaysAwake t b u c → StaysAwake s a u c
+then_awake s t u a b c state mask stays = subst (λ z. StaysAwake z a u c) state (subst (λ m. StaysAwake t m u c) mask stays)
+
+module _ (wiring : List (Option ℕ)) (ways : List (List Token)) (w : ℕ) (ts : List Token) where
+  -- what comes by a way to which nothing was done came by it before
+  other_came : (k l : ℕ) (f : Comes wiring (slice_set ways w ts) k l) → f.way ≢ w → Comes wiring ways k l
+  other_came k l f ne = record { way = f.way; token = f.token; rest = f.rest; into = f.into; stands = sym (place-set_other ways w f.way ts ne) ∙ f.stands }
+
+  -- a token was taken: what comes by its link came by it before
+  pub taken_came : (t : Token) (rest : List Token) → slice_get ways w ≡ Some (t ∷ rest) → (k l : ℕ) → Comes wiring (slice_set ways w ts) k l → Comes wiring ways k l
+  taken_came t rest stood k l f = elim (cases_eq f.way w) [
+    | inl same ↦ record { way = w; token = t; rest = rest; into = f.into ∙ ap Some same; stands = stood }
+    | inr ne ↦ other_came k l f ne
+  ]
+
+  -- a token was put: it comes to the actor to which the way leads
+  pub put_wakes : (to : Option ℕ) (after : ℕ) → LeadsTo wiring w to → ((k : ℕ) → k < 64 → to ≡ Some k → bit_at after k ≡ 1) → (k l : ℕ) → k < 64 → Comes wiring (slice_set ways w ts) k l →
+      (Comes wiring ways k l → ⊥) → bit_at after k ≡ 1
+  put_wakes to after leads it k l low f none = elim (cases_eq f.way w) [
+    | inl same ↦ it k low ((leads k).1 (l, f.into ∙ ap Some same))
+    | inr ne ↦ absurd (none (other_came k l f ne))
+  ]
+
+  -- and comes there
+  pub put_comes : (tokens : List Token) (t : Token) → slice_get ways w ≡ Some tokens → ts ≡ tokens ++ t ∷ [] → (k l : ℕ) → in_at wiring k l ≡ Some w → Comes wiring (slice_set ways w ts) k l
+  put_comes tokens t stood is k l into =
+      let first = end_first tokens t in
+      record { way = w; token = first.0; rest = first.1; into = into; stands = place-set_same ways w ts (slice_get_within ways w tokens stood) ∙ ap Some (is ∙ first.2) }

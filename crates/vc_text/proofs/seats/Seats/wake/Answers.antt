@@ -1,9 +1,0 @@
-use Rattle.std.proofs.lemmas.Nat.Bits.{bit_at_set_same, bit_at_set_other}
-use Rattle.std.specs.Int.{w64}
-use Rattle.vc_text.proofs.seats.Seats.wake.Goals as goal
-
-pub returns-clause-it : goal.returns-clause-it
-returns-clause-it c = bit_at_set_same w64 c.args.self.now.active c.args.actor c.requires
-
-pub returns-clause-others : goal.returns-clause-others
-returns-clause-others c = λ k ne. bit_at_set_other w64 c.args.self.now.active c.args.actor c.requires k ne

@@ -1,0 +1,49 @@
+//! Masks of the first 64 actors of a network, a bit for each.
+ghost use Rattle.std.specs.Prelude.{◌≡◌, ◌<◌, ◌+◌, ◌-◌, ◌^◌, ℕ, IfSome, MatchOption};
+ghost use Rattle.std.specs.Int.{bit_at};
+
+/// The least actor of one mask that is among those of another.
+pub(crate) fn least_among(mask: u64, among: u64) -> Option<u8>
+    ensures { MatchOption result
+        ((k : ℕ) → k < 64 → bit_at among k ≡ 1 → bit_at mask k ≡ 0)
+        (λ next. (next < 64) × (bit_at among next ≡ 1)
+        × ((k : ℕ) → k < next → bit_at among k ≡ 1 → bit_at mask k ≡ 0)) }
+{
+    lowest(mask & among)
+}
+
+/// A bit for each of the first 64 actors that come after one.
+pub(crate) fn after(actor: u8) -> u64
+    requires { actor < 64 }
+    ensures { result ≡ 2 ^ 64 - 2 ^ (actor + 1) }
+{
+    u64::MAX << actor << 1
+}
+
+/// An actor of a mask: the word says which, each as often as any other.
+pub(crate) fn drawn(mask: u64, word: u32) -> Option<u8>
+    ensures { IfSome result (λ actor. actor < 64) }
+{
+    let bits = mask.count_ones();
+    if bits == 0 {
+        return None;
+    }
+    let mut left = mask;
+    for _ in 0..word % bits {
+        left &= left.wrapping_sub(1);
+    }
+    lowest(left)
+}
+
+// The least bit of a mask.
+fn lowest(mask: u64) -> Option<u8>
+    ensures { MatchOption result
+        ((k : ℕ) → k < 64 → bit_at mask k ≡ 0)
+        (λ least. (least < 64) × (bit_at mask least ≡ 1)
+        × ((k : ℕ) → k < least → bit_at mask k ≡ 0)) }
+{
+    if mask == 0 {
+        return None;
+    }
+    Some(mask.trailing_zeros() as u8)
+}
