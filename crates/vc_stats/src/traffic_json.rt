@@ -38,7 +38,7 @@ fn push_json(
     ensures { OnOk result (out.new.items ≡ out.old.items ++ value_json kind message.now) }
 {
     match kind {
-        ValueKind::Int => push_value(alloc, out, kind, message),
+        ValueKind::Int => push_value(out, kind, message),
         ValueKind::Bytes => push_hex(alloc, out, message),
     }
 }

@@ -5,6 +5,7 @@ ghost use Rattle.vc_blocks.specs.Listed.{listed};
 ghost use Rattle.vc_text.specs.Streams.{Writes};
 ghost use Rattle.vc_text.specs.Views.{shown};
 ghost use Rattle.vc_text.specs.Traffic.{bytes_text, value_text, message_line, message_lines, channel_line, close_text, counts_text, traffic};
+ghost use Rattle.hex.specs.Hex.{encode_lower};
 ghost use Rattle.vc_waits.specs.Waits.{stop_text};
 
 use crate::fault::RunFault;
@@ -35,15 +36,25 @@ pub struct ChannelView<'a> {
     pub is_stopped: bool,
 }
 
-fn push_bytes(alloc: Global, out: &mut Vec<u8>, message: &[u8]) -> Result<(), Memory>
+fn push_bytes(out: &mut Vec<u8>, message: &[u8]) -> Result<(), Memory>
     ensures { OnOk result (out.new.items ≡ out.old.items ++ bytes_text message.now) }
 {
     if message.is_empty() {
         out.extend_from_slice(b"-")?;
-    } else {
-        let text = hex::encode(alloc, message)?;
-        out.extend_from_slice(text.as_bytes())?;
+        return Ok(());
     }
+    push_digits(out, message)
+}
+
+/// Adds two digits for each byte: room is made for them by the bytes themselves, twice.
+fn push_digits(out: &mut Vec<u8>, message: &[u8]) -> Result<(), Memory>
+    ensures { OnOk result (out.new.items ≡ out.old.items ++ encode_lower message.now) }
+{
+    let start = out.len();
+    out.extend_from_slice(message)?;
+    out.extend_from_slice(message)?;
+    let (_, digits) = out.as_mut_slice().split_at_mut(start);
+    let _written = hex::encode_to_slice(message, digits);
     Ok(())
 }
 
@@ -81,43 +92,27 @@ fn push_int(out: &mut Vec<u8>, message: &[u8]) -> Result<(), Memory>
 }
 
 /// Adds a message to a text: an int in decimal, and bytes in hexadecimal, or `-` for none. It fails for want of memory alone.
-pub fn push_value(
-    alloc: Global,
-    out: &mut Vec<u8>,
-    kind: ValueKind,
-    message: &[u8],
-) -> Result<(), Memory>
+pub fn push_value(out: &mut Vec<u8>, kind: ValueKind, message: &[u8]) -> Result<(), Memory>
     ensures { OnOk result (out.new.items ≡ out.old.items ++ value_text kind message.now) }
 {
     match kind {
         ValueKind::Int => push_int(out, message),
-        ValueKind::Bytes => push_bytes(alloc, out, message),
+        ValueKind::Bytes => push_bytes(out, message),
     }
 }
 
-fn push_message(
-    alloc: Global,
-    out: &mut Vec<u8>,
-    kind: ValueKind,
-    n: usize,
-    message: &[u8],
-) -> Result<(), Memory>
+fn push_message(out: &mut Vec<u8>, kind: ValueKind, n: usize, message: &[u8]) -> Result<(), Memory>
     ensures { OnOk result (out.new.items ≡ out.old.items ++ message_line kind n message.now) }
 {
     out.extend_from_slice(b"  ")?;
     push_number(out, n as u64)?;
     out.extend_from_slice(b" ")?;
-    push_value(alloc, out, kind, message)?;
+    push_value(out, kind, message)?;
     out.push(10)?;
     Ok(())
 }
 
-fn push_messages(
-    alloc: Global,
-    out: &mut Vec<u8>,
-    kind: ValueKind,
-    messages: Messages<'_>,
-) -> Result<(), Memory>
+fn push_messages(out: &mut Vec<u8>, kind: ValueKind, messages: Messages<'_>) -> Result<(), Memory>
     ensures { OnOk result
         (out.new.items ≡ out.old.items ++ message_lines kind 0 (listed messages.entry)) }
 {
@@ -125,7 +120,7 @@ fn push_messages(
         let Some(message) = messages.get(n) else {
             unreachable!();
         };
-        push_message(alloc, out, kind, n, message)?;
+        push_message(out, kind, n, message)?;
     }
     Ok(())
 }
@@ -188,7 +183,7 @@ pub(crate) fn traffic_text(
     let mut out = Vec::new(alloc);
     for view in views {
         push_channel(&mut out, view)?;
-        push_messages(alloc, &mut out, view.kind, view.taken)?;
+        push_messages(&mut out, view.kind, view.taken)?;
     }
     push_close(&mut out, close)?;
     out.push(10)?;
