@@ -131,7 +131,7 @@ impl Actor {
         Ok(Act::Take { link, word })
     }
 
-    /// A token comes over a link, with a word.
+    /// A token comes over a link, with a word; a node drops one of a link that it has not.
     #[inline(always)]
     pub fn accept(&mut self, link: u8, came: Token, word: u32)
         requires { link < 32 }

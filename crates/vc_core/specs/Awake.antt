@@ -8,6 +8,10 @@ use Rattle.vc_core.specs.declared.network.Network.{Network}
 abbrev pub awake_of : Network → ℕ
 awake_of n = n.awake
 
+-- all of the first 64 actors are awake
+abbrev pub AllAwake : ℕ → Type 0
+AllAwake awake = (k : ℕ) → k < 64 → bit_at awake k ≡ 1
+
 -- whoever was awake is, and so is each actor by one of whose links a token comes now, and none came before; and no other
 pub record StaysAwake (old : State) (before : ℕ) (new : State) (after : ℕ) : Type 0 where
   pub kept : (k : ℕ) → k < 64 → bit_at before k ≡ 1 → bit_at after k ≡ 1

@@ -27,7 +27,7 @@ ghost use Rattle.vc_actor.specs.Shown.{Acting, actor_of};
 ghost use Rattle.vc_actor.specs.Turns.{TakesNone, actors};
 ghost use Rattle.vc_core.specs.Turns.{FindsFront, FindsTake, FindsEvent, FindsEventOf, AllHaveEnded};
 ghost use Rattle.vc_core.specs.declared.event.Event.{Event as Happening};
-ghost use Rattle.vc_core.specs.Awake.{StaysAwake, awake_of};
+ghost use Rattle.vc_core.specs.Awake.{AllAwake, StaysAwake, awake_of};
 ghost use Rattle.vc_core.specs.State.{shown, state_of, IsNetworkOf, MayHappen, WaysLet, HasFront, HasWay, MakesEvent, MakesOne, MayActAt};
 ghost use Rattle.vc_core.specs.Private.State.{Accepts, GrantsBy};
 ghost use Rattle.vc_tokens.specs.Spelt.{token as spelt, tokens as all_spelt};
@@ -81,7 +81,7 @@ impl Network {
     /// The network of an accepted plan, about to begin: each process whole, no token anywhere, and all actors awake.
     pub fn new(alloc: Global, accepted: &Accepted) -> Result<Network, Memory>
         ensures opening { IfOk result (λ network. IsOpening accepted.now (state_of network)) }
-        ensures awake { IfOk result (λ network. (k : ℕ) → k < 64 → bit_at (awake_of network) k ≡ 1) }
+        ensures awake { IfOk result (λ network. AllAwake (awake_of network)) }
     {
         let plan = accepted.plan();
         Ok(Network {
@@ -94,7 +94,7 @@ impl Network {
         })
     }
 
-    /// The network of an accepted plan with these actors, and with these tokens on each of its ways in turn.
+    /// The network of an accepted plan with these actors, and with these tokens on each of its ways in turn; all actors are awake.
     pub fn of_parts(
         alloc: Global,
         accepted: &Accepted,
@@ -111,6 +111,7 @@ impl Network {
         ensures actors { IfOk result (λ network. (state_of network).actors ≡ actors.items) }
         ensures ways { IfOk result
             (λ network. (state_of network).ways ≡ map (λ line. all_spelt line.items) tokens.now) }
+        ensures awake { IfOk result (λ network. AllAwake (awake_of network)) }
     {
         let plan = accepted.plan();
         Ok(Network {

@@ -55,7 +55,8 @@ impl Simulation {
             IsNetworkOf p (state_of self.old.network) →
             state_of self.new.network ≡ state_of self.old.network }
         ensures rests { result ≡ Ok false → (p : Plan) →
-            IsNetworkOf p (state_of self.old.network) → Rests p (state_of self.old.network) actor }
+            IsNetworkOf p (state_of self.old.network) →
+            Rests p (state_of self.old.network) actor }
     {
         let Some(event) = self.network.turn(actor)? else {
             self.network.rest(actor);
