@@ -20,7 +20,7 @@ impl Model for Bytes {
 }
 
 impl Bytes {
-    ghost use Rattle.std.specs.Prelude.{◌≡◌, ◌<◌, ◌≤◌, [], ◌++◌, length, slice_get, IfOk, IsOk, OnOk, OnErr, OnSome};
+    ghost use Rattle.std.specs.Prelude.{◌≡◌, ◌<◌, ◌≤◌, [], ◌∷◌, ◌++◌, length, slice_get, IfOk, IsOk, OnOk, OnErr, OnSome};
     ghost use Rattle.std.specs.Option.{option_copied};
 
     /// No bytes.
@@ -81,6 +81,16 @@ impl Bytes {
         ensures within { OnSome result (at < length self.now) }
     {
         self.as_slice().get(at)
+    }
+
+    /// Adds a byte at the end. For want of memory nothing changes.
+    #[inline(always)]
+    pub(crate) fn push(&mut self, byte: u8) -> Result<(), AllocError>
+        ensures ok { OnOk result (self.new ≡ self.old ++ byte ∷ []) }
+        ensures err { OnErr result (self.new ≡ self.old) }
+    {
+        self.bytes.push(byte)?;
+        Ok(())
     }
 
     /// Adds these bytes at the end. For want of memory nothing changes.

@@ -26,8 +26,12 @@ pub(crate) fn routed(alloc: Global, route: &[u16], load: &[u8]) -> Result<Bytes,
     let room = route.len().saturating_mul(2).saturating_add(load.len());
     let mut body = Bytes::with_capacity(alloc, room)?;
     for header in route {
-        body.extend_from_slice(&header.to_be_bytes())?;
+        let [high, low] = header.to_be_bytes();
+        body.push(high)?;
+        body.push(low)?;
     }
-    body.extend_from_slice(load)?;
+    if !load.is_empty() {
+        body.extend_from_slice(load)?;
+    }
     Ok(body)
 }
