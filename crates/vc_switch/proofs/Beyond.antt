@@ -1,6 +1,6 @@
 -- No step of a switch is by a link that it does not have.
-use Rattle.std.proofs.Common.{◌≡◌, ℕ, ◌<◌, Bool, false, IsTrue, ◌↔◌, List, length, refl, sym, ap, ◌∙◌, subst, slice_get, Option, Some, None}
-use Rattle.std.proofs.lemmas.Option.{slice_get_within}
+use Rattle.std.proofs.Common.{◌≡◌, ℕ, ◌<◌, ◌≤◌, Bool, false, IsTrue, ◌↔◌, List, length, refl, sym, ap, ◌∙◌, subst, arith, slice_get, Option, Some, None}
+use Rattle.std.proofs.lemmas.Option.{slice_get_past, slice_get_within}
 use Rattle.vc_credit.specs.Ends.{HasRoom}
 use Rattle.vc_switch.specs.Switch.{new_input}
 use Rattle.vc_switch.specs.Able.{CanGrant, CanLeave, CanPass, IsFree}
@@ -32,6 +32,10 @@ input_past s l none = ap (shown_or new_input input_of) none
 pub none_passes : (s : State) (l : ℕ) → slice_get s.inputs l ≡ None → CanPass (limit_of s.inputs) (plan_of s) (seen s) l → ⊥
 none_passes s l none can = (waits_by (limit_of s.inputs) (plan_of s) (seen s) can.0 l can.1).1 (ap (λ z. z.receiver.buffer) (input_past s l none))
 
+-- nothing passes past the 32 links
+pub no_pass : (s : State) (l : ℕ) → IsSwitch s → 32 ≤ l → CanPass (limit_of s.inputs) (plan_of s) (seen s) l → ⊥
+no_pass s l w past can = none_passes s l (slice_get_past s.inputs l (let long = w.input_links in omega (arith, long, past))) can
+
 -- no packet leaves from there
 pub none_leaves : (s : State) (l j : ℕ) → slice_get s.inputs l ≡ None → CanLeave (plan_of s) (seen s) l j → ⊥
 none_leaves s l j none can =
@@ -59,9 +63,6 @@ grant_there s l x b w here is =
     let room = grant_iff s l x b here is in
     (λ t. (is_link s.inputs l x w.input_links here, room.0 t), λ can. room.1 can.1)
 
-pub no_grant : (s : State) (l : ℕ) → IsSwitch s → slice_get s.inputs l ≡ None → IsTrue false ↔ ((l < 32) × CanGrant (seen s) l)
-no_grant s l w none = (λ t. absurd (cc), λ can. absurd (no_link s.inputs l w.input_links none can.0))
-
 pub free_there : (s : State) (j : ℕ) (p : LinkOut) (b : Bool) → IsSwitch s → slice_get s.outputs j ≡ Some p → (IsTrue b ↔ (p.source ≡ None)) → IsTrue b ↔ ((j < 32) × IsFree (seen s) j)
 free_there s j p b w here is =
     let free = free_iff s j p b w here is in
@@ -69,6 +70,3 @@ free_there s j p b w here is =
 
 pub no_free : (s : State) (j : ℕ) → IsSwitch s → slice_get s.outputs j ≡ None → IsTrue false ↔ ((j < 32) × IsFree (seen s) j)
 no_free s j w none = (λ t. absurd (cc), λ h. absurd (no_link s.outputs j w.output_links none h.0))
-
-pub no_pass : (s : State) (l : ℕ) → slice_get s.inputs l ≡ None → IsTrue false ↔ CanPass (limit_of s.inputs) (plan_of s) (seen s) l
-no_pass s l none = (λ t. absurd (cc), λ can. absurd (none_passes s l none can))

@@ -1,6 +1,7 @@
 -- Where a body's front header stands, is where it leaves from.
-use Rattle.std.proofs.Common.{◌≡◌, ℕ, zero, suc, ◌+◌, ◌*◌, ◌/◌, ◌%◌, ◌<◌, ◌≤◌, Bool, true, false, List, [], ◌∷◌, ◌++◌, drop, get_or, refl, sym, ap, ◌∙◌, subst, arith, append_assoc, if◌then◌else◌, IfSome, Option, Some, None, ◌⊎◌, inl, inr}
+use Rattle.std.proofs.Common.{◌≡◌, ◌≢◌, ℕ, zero, suc, ◌+◌, ◌*◌, ◌/◌, ◌%◌, ◌<◌, ◌≤◌, Bool, true, false, ◌-◌, List, [], ◌∷◌, ◌++◌, drop, take, length, get_or, refl, sym, ap, ◌∙◌, subst, arith, append_assoc, if◌then◌else◌, IfSome, Option, Some, None, ◌⊎◌, inl, inr}
 use Rattle.std.proofs.lemmas.Bool.{cases_lt}
+use Rattle.std.proofs.lemmas.List.{take_all}
 use Rattle.vc_labels.specs.declared.row.Row.{Row}
 use Rattle.vc_labels.specs.declared.action.Action.{Action}
 use Rattle.vc_labels.specs.declared.action.Action.TheVariants.{Out, Portal}
@@ -8,6 +9,8 @@ use Rattle.vc_labels.specs.Interval.{action_for}
 use Rattle.vc_packets.specs.Headers.{spelled}
 use Rattle.vc_switch.specs.Forward.{SwitchPlan, without_portals, past_portal}
 use Rattle.vc_switch.specs.Switch.{BodyLeaves, HasGroup}
+use Rattle.vc_switch.specs.State.{MayBeBound}
+use Rattle.vc_switch.specs.declared.link_in.Bound.{Bound}
 use Rattle.vc_switch.specs.declared.front.Front.{Front}
 use Rattle.vc_switch.specs.Front.{front_of, front_by, behind_portal}
 use Rattle.vc_switch.specs.Private.Front.{start_of, HasFront}
@@ -31,6 +34,38 @@ drop_more : (n : ℕ) (xs : List ℕ) → drop (n + 2) xs ≡ drop 2 (drop n xs)
 drop_more zero xs = refl
 drop_more (suc n) [] = let k : suc n + 2 ≡ suc (n + 2) = omega arith in ap (λ m. drop m []) k
 drop_more (suc n) (x ∷ xs) = let k : suc n + 2 ≡ suc (n + 2) = omega arith in ap (λ m. drop m (x ∷ xs)) k ∙ drop_more n xs
+
+-- A front of what is left behind so many bytes of portals, as it stands in the whole.
+
+abbrev pub moved : ℕ → Option Front → Option Front
+moved n None = None
+moved n (Some f) = Some (record f { at = n + f.at })
+
+pub moved_none : (o : Option Front) → o ≡ moved 0 o
+moved_none None = refl
+moved_none (Some f) = let k : f.at ≡ 0 + f.at = omega arith in ap (λ m. Some (record f { at = m })) k
+
+pub moved_behind : (n : ℕ) (o : Option Front) → moved n (behind_portal o) ≡ moved (n + 2) o
+moved_behind n None = refl
+moved_behind n (Some f) = let k : n + (f.at + 2) ≡ n + 2 + f.at = omega arith in ap (λ m. Some (record f { at = m })) k
+
+moved_by : (at : ℕ) (whole later : Option Front) (o : Option Action) → whole ≡ moved at (front_by o later) → o ≡ Some Portal → whole ≡ moved (at + 2) later
+moved_by at whole later o is portal = is ∙ ap (λ z. moved at (front_by z later)) portal ∙ moved_behind at later
+
+-- a portal's header was passed
+pub moved_past : (table : List Row) (body rest : List ℕ) (at : ℕ) → (front_of table body ≡ moved at (front_of table rest)) × (at + length rest ≡ length body) → 2 ≤ length rest →
+    action_for table (256 * get_or rest 0 0 + get_or rest 1 0) ≡ Some Portal →
+    (front_of table body ≡ moved (at + 2) (front_of table (take (length rest - 2) (drop 2 rest)))) × (at + 2 + length (take (length rest - 2) (drop 2 rest)) ≡ length body)
+moved_past table body [] at is long portal = absurd (omega arith)
+moved_past table body (hi ∷ []) at is long portal = absurd (omega arith)
+moved_past table body (hi ∷ lo ∷ rest) at is long portal =
+    let one : length (hi ∷ lo ∷ rest) - 2 ≡ length rest = omega arith in
+    let all : take (length (hi ∷ lo ∷ rest) - 2) rest ≡ rest = ap (λ n. take n rest) one ∙ take_all (length rest) rest (omega arith) in
+    let size : at + length (hi ∷ lo ∷ rest) ≡ length body = is.1 in
+    let ends : at + 2 + length rest ≡ length body = omega (arith, size) in (
+      moved_by at (front_of table body) (front_of table rest) (action_for table (256 * hi + lo)) is.0 portal ∙ ap (λ b. moved (at + 2) (front_of table b)) (sym all),
+      ap (λ b. at + 2 + length b) all ∙ ends,
+    )
 
 -- A body that leaves, by where its front stands.
 
@@ -266,6 +301,18 @@ decided plan (hi ∷ lo ∷ rest) = elim (cases_lt lo 256) [
   | inl byte ↦ decided_by plan hi lo rest (action_for plan.table (256 * hi + lo)) byte refl (decided plan rest)
   | inr big ↦ inr (λ h. (let small = low_is_byte plan hi lo rest h in absurd (omega (arith, small, big))))
 ]
+
+-- a body that leaves has a front
+pub leaves_front : (plan : SwitchPlan) (b : List ℕ) (out : ℕ) (d : List ℕ) → BodyLeaves plan b out d → (f : Front) × HasFront plan.table b f
+leaves_front plan b out d h = elim (decided plan b) [
+  | inl some ↦ some
+  | inr none ↦ absurd (none (leaves_group plan b out d h))
+]
+
+-- a packet that is bound has a front
+pub bound_front : (plan : SwitchPlan) (b : List ℕ) (o : Option Bound) → MayBeBound plan b o → o ≢ None → (f : Front) × HasFront plan.table b f
+bound_front plan b None may some = absurd (some refl)
+bound_front plan b (Some bound) may some = leaves_front plan b bound.output (drop bound.from b) may.leaves
 
 pub either_group : (plan : SwitchPlan) (b : List ℕ) → HasGroup plan b ⊎ (HasGroup plan b → ⊥)
 either_group plan b = elim (decided plan b) [

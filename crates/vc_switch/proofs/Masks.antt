@@ -1,5 +1,5 @@
 -- Masks of links, bit by bit.
-use Rattle.std.proofs.Common.{◌≡◌, ◌≢◌, ◌↔◌, ◌+◌, ◌<◌, ◌≤◌, ◌^◌, ℕ, zero, suc, Bool, true, false, IsTrue, refl, sym, ap, ◌∙◌, subst, arith, inl, inr, bit_and}
+use Rattle.std.proofs.Common.{◌≡◌, ◌≢◌, ◌↔◌, ◌+◌, ◌<◌, ◌^◌, ℕ, zero, suc, Bool, true, false, IsTrue, refl, sym, ap, ◌∙◌, subst, arith, inl, inr, bit_and}
 use Rattle.std.proofs.lemmas.Bool.{cases_eq, cases_lt}
 use Rattle.std.proofs.lemmas.Nat.Bits.{bit_at-zero, bit_at-trailing_zeros, bit_at_above, bit_at_and, bit_at-lt, bit_at_not}
 use Rattle.std.specs.Int.{bit_at, bit_not, trailing_zeros, w32}

@@ -21,6 +21,9 @@ use Rattle.vc_switch.specs.Seen.{seen, IsKept}
 use Rattle.vc_switch.specs.State.{State, IsSwitch, plan_of, limit_of}
 use Rattle.vc_switch.specs.declared.link_out.LinkOut.{LinkOut}
 use Rattle.vc_switch.specs.declared.ready_switch.Ready.{Ready}
+use Rattle.vc_labels.specs.declared.row.Row.{Row}
+use Rattle.vc_switch.specs.declared.front.Front.{Front}
+use Rattle.vc_switch.specs.Front.{front_of}
 use Rattle.vc_switch.proofs.Fronts.{gone}
 use Rattle.vc_switch.proofs.Placed.{put-same, put-other}
 use Rattle.vc_switch.proofs.Showing.{bound_is}
@@ -85,6 +88,19 @@ came_got s link word k t (not_due d is) = ap (λ z. (z.input link).got) is ∙ a
 
 room_grants : (s : Switch) (link : ℕ) → HasRoom (s.input link).receiver → CanGrant s link
 room_grants s link room = (_, record { receiver = _; grants = record { room = room; after = refl }; after = refl })
+
+fewer_wait : (s t : Switch) (link : ℕ) (k : Token) (rest : List Token) → (s.input link).receiver.buffer ≡ k ∷ rest → (t.input link).receiver ≡ record (s.input link).receiver { buffer = rest } → CanGrant s link → CanGrant t link
+fewer_wait s t link k rest front same can =
+    let room = can.1.grants.room in
+    let long : length (s.input link).receiver.buffer ≡ length (k ∷ rest) = ap length front in
+    room_grants t link (subst HasRoom (sym same) (omega (arith, room, long)))
+
+-- where a token passes, there is room for as many as before
+pub passes_grants : (limit : ℕ) (plan : SwitchPlan) (s : Switch) (link : ℕ) (t : Switch) → Passes limit plan s link t → CanGrant s link → CanGrant t link
+passes_grants limit plan s link t (passes_byte b rest going front room is) can = fewer_wait s t link (Byte b) rest front (ap (λ z. (z.input link).receiver) is ∙ ap (λ x. x.receiver) (put-same s.input link _)) can
+passes_grants limit plan s link t (drops_byte b rest going front full is) can = fewer_wait s t link (Byte b) rest front (ap (λ z. (z.input link).receiver) is ∙ ap (λ x. x.receiver) (put-same s.input link _)) can
+passes_grants limit plan s link t (passes_mark m rest going front group is) can = fewer_wait s t link (EndMark m) rest front (ap (λ z. (z.input link).receiver) is ∙ ap (λ x. x.receiver) (put-same s.input link _)) can
+passes_grants limit plan s link t (loses m rest going front none is) can = fewer_wait s t link (EndMark m) rest front (ap (λ z. (z.input link).receiver) is ∙ ap (λ x. x.receiver) (put-same s.input link _)) can
 
 grants_by : (s t : Switch) (link : ℕ) → (t.input link).receiver ≡ (s.input link).receiver → CanGrant s link ↔ CanGrant t link
 grants_by s t link same = (λ can. room_grants t link (subst HasRoom (sym same) can.1.grants.room), λ can. room_grants s link (subst HasRoom same can.1.grants.room))
@@ -234,12 +250,18 @@ sent_mark plan s t o k (inr e) h = (mark.Eom, subst (λ z. Sends plan Wormhole s
 
 -- The masks as the switch begins.
 
-none_waits : (plan : SwitchPlan) (x : Input) (o : ℕ) (d : List ℕ) → x.got ≡ [] → BodyLeaves plan x.got o d → ⊥
-none_waits plan x o d e h = let g = gone plan [] o d (subst (λ b. BodyLeaves plan b o d) e h) in let is = g.is in absurd (cc)
+-- a body with a front has its header
+front_long : (table : List Row) (b : List ℕ) (f : Front) → front_of table b ≡ Some f → 2 ≤ length b
+front_long table [] f is = absurd (cc)
+front_long table (hi ∷ []) f is = absurd (cc)
+front_long table (hi ∷ lo ∷ rest) f is = omega arith
+
+leaving_long : (plan : SwitchPlan) (b : List ℕ) (o : ℕ) (d : List ℕ) → BodyLeaves plan b o d → 2 ≤ length b
+leaving_long plan b o d h = let g = gone plan b o d h in front_long plan.table b g.front g.is
 
 -- bytes are there of a packet that may leave
 pub leaving_waits : (plan : SwitchPlan) (s : Switch) (l o : ℕ) → CanLeave plan s l o → Waits (s.input l)
-leaving_waits plan s l o h = (h.unbound, λ e. none_waits plan (s.input l) o h.body e h.leaves)
+leaving_waits plan s l o h = (h.unbound, leaving_long plan (s.input l).got o h.body h.leaves)
 
 -- an output on which a token can be put has a packet
 pub putting_bound : (plan : SwitchPlan) (s : Switch) (o : ℕ) → CanPut plan s o → IsFree s o → ⊥

@@ -107,16 +107,20 @@ not_headed : (v : Option ℕ) (got : List ℕ) → got ≢ [] → headed v got �
 not_headed v [] some = absurd (some refl)
 not_headed v (b ∷ bs) some = refl
 
+-- a packet that may leave has bytes
+leaving_some : (plan : SwitchPlan) (s : Switch) (l o : ℕ) → CanLeave plan s l o → (s.input l).got ≢ []
+leaving_some plan s l o can none = let long = (leaving_waits plan s l o can).1 in let e : length (s.input l).got ≡ 0 = ap length none in absurd (omega (arith, long, e))
+
 -- a packet that may leave is not lost, and what was there of it stays in front
 grows : (limit : ℕ) (plan : SwitchPlan) (s : Switch) (l o : ℕ) (t : Switch) → CanLeave plan s l o → Passes limit plan s l t → (more : List ℕ) × ((t.input l).got ≡ (s.input l).got ++ more)
 grows limit plan s l o t can (passes_byte b rest going front room is) =
-    (b ∷ [], ap (λ z. (z.input l).got) is ∙ ap (λ x. x.got) (put-same s.input l _) ∙ ap (λ z. z ++ b ∷ []) (not_headed _ (s.input l).got (leaving_waits plan s l o can).1))
+    (b ∷ [], ap (λ z. (z.input l).got) is ∙ ap (λ x. x.got) (put-same s.input l _) ∙ ap (λ z. z ++ b ∷ []) (not_headed _ (s.input l).got (leaving_some plan s l o can)))
 grows limit plan s l o t can (drops_byte b rest going front full is) =
-    ([], ap (λ z. (z.input l).got) is ∙ ap (λ x. x.got) (put-same s.input l _) ∙ not_headed _ (s.input l).got (leaving_waits plan s l o can).1 ∙ sym (append-nil (s.input l).got))
+    ([], ap (λ z. (z.input l).got) is ∙ ap (λ x. x.got) (put-same s.input l _) ∙ not_headed _ (s.input l).got (leaving_some plan s l o can) ∙ sym (append-nil (s.input l).got))
 grows limit plan s l o t can (passes_mark m rest going front group is) =
-    ([], ap (λ z. (z.input l).got) is ∙ ap (λ x. x.got) (put-same s.input l _) ∙ not_headed _ (s.input l).got (leaving_waits plan s l o can).1 ∙ sym (append-nil (s.input l).got))
+    ([], ap (λ z. (z.input l).got) is ∙ ap (λ x. x.got) (put-same s.input l _) ∙ not_headed _ (s.input l).got (leaving_some plan s l o can) ∙ sym (append-nil (s.input l).got))
 grows limit plan s l o t can (loses m rest going front none is) =
-    absurd (none (subst (HasGroup plan) (sym (not_headed _ (s.input l).got (leaving_waits plan s l o can).1)) (leaves_group plan (s.input l).got o can.body can.leaves)))
+    absurd (none (subst (HasGroup plan) (sym (not_headed _ (s.input l).got (leaving_some plan s l o can))) (leaves_group plan (s.input l).got o can.body can.leaves)))
 
 -- a packet that may leave may do so by the same outputs
 leave_grown : (s t : State) (l one o : ℕ) → IsKept s t → Passes (limit_of s.inputs) (plan_of s) (seen s) l (seen t) → CanLeave (plan_of s) (seen s) l one → CanLeave (plan_of s) (seen s) l o ↔ CanLeave (plan_of t) (seen t) l o
@@ -239,7 +243,7 @@ asked_marked s t link output m requests kept sends bound less was =
     asked_else s t link requests requests kept (λ l ne. ap (λ f. f l) is ∙ put-other (seen s).input link l _ ne) was (λ k ne. refl) (was.few link less)
     (λ o less. (
       λ e. absurd (let q : None ≡ Some output = sym ((was.leave link less o).0 e).unbound ∙ bound in cc),
-      λ can. absurd ((leaving_waits (plan_of t) (seen t) link o can).1 empty),
+      λ can. absurd (leaving_some (plan_of t) (seen t) link o can empty),
     ))
 
 -- What is asked as the switch begins.
@@ -247,7 +251,7 @@ asked_marked s t link output m requests kept sends bound less was =
 pub asked_first : (s : State) (requests : List ℕ) → seen s ≡ new_switch → ((k : ℕ) → get_or requests k 0 ≡ 0) → AreRequested s requests
 asked_first s requests e none = record {
   few = λ l less. (let zero = none l in omega (arith, zero));
-  leave = λ l less o. (λ one. absurd (no_bit _ o (none l) one), λ can. absurd ((leaving_waits (plan_of s) (seen s) l o can).1 (ap (λ z. (z.input l).got) e)));
+  leave = λ l less o. (λ one. absurd (no_bit _ o (none l) one), λ can. absurd (leaving_some (plan_of s) (seen s) l o can (ap (λ z. (z.input l).got) e)));
 }
 
 pub routed_first : (requests : List ℕ) (busy : ℕ) → ((k : ℕ) → get_or requests k 0 ≡ 0) → AreRouted requests busy 0

@@ -1,7 +1,7 @@
 //! The front header of a body: portals passed, the first header that has a group.
 ghost use Rattle.std.specs.Prelude.{◌≡◌, ◌+◌, ◌^◌, ◌≤◌, ◌<◌, ◌↔◌, ℕ, length, IfSome};
 ghost use Rattle.std.specs.Int.{bit_at};
-ghost use Rattle.vc_switch.specs.Front.{front_of, behind_portal};
+ghost use Rattle.vc_switch.specs.Front.{front_of};
 ghost use Rattle.vc_switch.specs.Private.Front.{start_of, HasFront};
 
 use vc_labels::{Action, Table};
@@ -40,33 +40,23 @@ impl Front {
 }
 
 /// Where a body's front header stands and what its group is, where the header is there and has a group.
+#[inline(always)]
 pub(crate) fn find_front(table: &Table, body: &[u8]) -> Option<Front>
     ensures front { result ≡ front_of table.now body.now }
     ensures has { IfSome result (λ front. HasFront table.now body.now front) }
     ensures within { IfSome result (λ front. front.at + 2 ≤ length body.now) }
 {
-    match body {
-        [high, low, rest @ ..] => match table.find(u16::from_be_bytes([*high, *low])) {
-            None => None,
-            Some(Action::Out { first, last }) => Some(Front { at: 0, first, last }),
-            Some(Action::Portal) => pass_portal(find_front(table, rest), rest),
-        },
-        _ => None,
+    let mut at = 0;
+    let mut rest = body;
+    while let [high, low, behind @ ..] = rest {
+        match table.find(u16::from_be_bytes([*high, *low])) {
+            None => return None,
+            Some(Action::Out { first, last }) => return Some(Front { at, first, last }),
+            Some(Action::Portal) => {
+                at += 2;
+                rest = behind;
+            }
+        }
     }
-}
-
-// A front header of what is behind a portal, as it stands in the whole.
-fn pass_portal(front: Option<Front>, rest: &[u8]) -> Option<Front>
-    requires { IfSome front (λ front. front.at + 2 ≤ length rest.now) }
-    ensures front { result ≡ behind_portal front }
-    ensures within { IfSome result (λ front. front.at ≤ length rest.now) }
-{
-    match front {
-        None => None,
-        Some(Front { at, first, last }) => Some(Front {
-            at: at + 2,
-            first,
-            last,
-        }),
-    }
+    None
 }

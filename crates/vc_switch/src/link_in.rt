@@ -171,6 +171,8 @@ impl LinkIn {
         requires limit { 2 ≤ self.old.got.limit }
         requires range { IsRange range }
         requires front { IsFront self.old.receiver (EndMark mark) }
+        requires bound { self.old.bound ≢ None →
+            (front : Front) × HasFront table.now self.old.got.passed front }
         ensures front { Passes self.old.receiver (EndMark mark) self.new.receiver }
         ensures group { OnTrue result
             ((front : Front) ×
@@ -194,7 +196,7 @@ impl LinkIn {
     {
         let _mark = self.receiver.pop();
         self.begin(range);
-        let has_group = find_front(table, self.got.bytes()).is_some();
+        let has_group = self.bound.is_some() || find_front(table, self.got.bytes()).is_some();
         if has_group {
             self.mark = Some(mark);
         } else {
@@ -210,11 +212,12 @@ impl LinkIn {
         self.bound.is_none()
     }
 
-    /// Whether bytes of a packet are there that is bound to no output.
+    /// Whether a header of a packet is there that is bound to no output.
     pub(crate) fn waits(&self) -> bool
-        ensures { IsTrue result ↔ ((self.now.bound ≡ None) × (self.now.got.passed ≢ [])) }
+        ensures { IsTrue result ↔
+            ((self.now.bound ≡ None) × (2 ≤ length self.now.got.passed)) }
     {
-        self.is_idle() && !self.got.is_empty()
+        self.is_idle() && self.got.len() >= 2
     }
 
     /// The packet is bound to an output, to leave from this byte on.
@@ -246,19 +249,18 @@ impl LinkIn {
         self.next_byte(bound).is_some() || self.mark.is_some()
     }
 
-    /// A byte was put.
+    /// A byte was put of the packet, which is bound so.
     pub(crate) fn advance(&mut self, bound: Bound)
-        requires { bound.from + bound.sent < length self.old.got.passed }
+        requires is { self.old.bound ≡ Some bound }
+        requires within { bound.from + bound.sent < length self.old.got.passed }
         ensures { self.new ≡
             record self.old { bound = Some (record bound { sent = bound.sent + 1 }) } }
     {
         let length = self.got.len();
         prove!(bound.sent < length);
-        self.bound = Some(Bound {
-            output: bound.output,
-            from: bound.from,
-            sent: bound.sent + 1,
-        });
+        if let Some(leaving) = &mut self.bound {
+            leaving.sent += 1;
+        }
     }
 
     /// The mark was put, and the packet is gone.

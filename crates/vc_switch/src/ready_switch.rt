@@ -41,6 +41,21 @@ impl Ready {
         self.passes = told(self.passes, link, switch.may_pass(link));
         self.grants = told(self.grants, link, switch.may_grant(link));
     }
+
+    /// Looks at an input from whose buffer a token passed: whether another may pass, and whether eight places are free now.
+    fn look_after_pass(&mut self, switch: &Switch, link: u8)
+        requires link { link < 32 }
+        requires passes { bit_at self.old.passes link ≡ 1 }
+        requires grants { bit_at self.old.grants link ≡ 1 → CanGrant (seen switch.now) link }
+        ensures { Looks switch.now link self.old self.new }
+    {
+        if !switch.may_pass(link) {
+            self.passes = told(self.passes, link, false);
+        }
+        if switch.may_grant(link) {
+            self.grants = told(self.grants, link, true);
+        }
+    }
 }
 
 /// A [`Switch`], with masks of the links at which there is something to do. Its calls are those of the switch.
@@ -170,7 +185,7 @@ impl ReadySwitch {
         ensures ok { IsOk result }
     {
         let passed = self.switch.pass(link);
-        self.ready.look(&self.switch, link);
+        self.ready.look_after_pass(&self.switch, link);
         // what a packet asks for stays the same until it is bound
         if self.requests.of(link) == 0 && self.switch.waits(link) {
             self.routes = ask(

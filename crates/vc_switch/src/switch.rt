@@ -144,10 +144,7 @@ impl Switch {
         ensures { IsTrue result ↔
             CanPass (limit_of self.now.inputs) (plan_of self.now) (seen self.now) link }
     {
-        match self.inputs.get(usize::from(link)) {
-            Some(input) => input.may_pass(),
-            None => false,
-        }
+        link < LINKS && self.inputs[usize::from(link)].may_pass()
     }
 
     /// A token passes from a link's buffer: a byte joins the packet that is arriving, or is dropped and counted past the limit; with
@@ -205,10 +202,7 @@ impl Switch {
     pub fn may_grant(&self, link: u8) -> bool
         ensures { IsTrue result ↔ ((link < 32) × CanGrant (seen self.now) link) }
     {
-        match self.inputs.get(usize::from(link)) {
-            Some(input) => input.may_grant(),
-            None => false,
-        }
+        link < LINKS && self.inputs[usize::from(link)].may_grant()
     }
 
     /// An FCT is put on a link.
@@ -255,7 +249,7 @@ impl Switch {
         }
     }
 
-    /// Whether bytes of a packet are at an input, bound to no output.
+    /// Whether a header of a packet is there that is bound to no output.
     pub(crate) fn waits(&self, input: u8) -> bool
         requires { input < 32 }
         ensures { IsTrue result ↔ Waits ((seen self.now).input input) }
@@ -268,9 +262,10 @@ impl Switch {
         ensures { MatchOption result (IsFree (seen self.now) output)
             (λ input. (input < 32) × (((seen self.now).input input).bound ≡ Some output)) }
     {
-        match self.outputs.get(usize::from(output)) {
-            Some(link) => link.source,
-            None => None,
+        if output < LINKS {
+            self.outputs[usize::from(output)].source
+        } else {
+            None
         }
     }
 

@@ -1,5 +1,5 @@
 -- At which links a switch has something to do, as bits: what it is known for, so that nobody looks at the other links.
-use Rattle.std.specs.Prelude.{◌≡◌, ◌≢◌, ◌↔◌, ◌<◌, ℕ, [], None}
+use Rattle.std.specs.Prelude.{◌≡◌, ◌≢◌, ◌↔◌, ◌<◌, ◌≤◌, ℕ, length, None}
 use Rattle.std.specs.Int.{bit_at}
 use Rattle.vc_switch.specs.Able.{CanPass, CanGrant, IsFree}
 use Rattle.vc_switch.specs.Seen.{seen}
@@ -7,9 +7,9 @@ use Rattle.vc_switch.specs.State.{State, plan_of, limit_of}
 use Rattle.vc_switch.specs.Switch.{Input}
 use Rattle.vc_switch.specs.declared.ready_switch.Ready.{Ready}
 
--- bytes of a packet are there that is bound to no output
+-- a header of a packet is there that is bound to no output
 abbrev pub Waits : Input → Type 0
-Waits x = (x.bound ≡ None) × (x.got ≢ [])
+Waits x = (x.bound ≡ None) × (2 ≤ length x.got)
 
 -- the bit of one link tells whether it is so, and the other bits are as before
 pub record Tells (Is : Type 0) (link old new : ℕ) : Type 0 where

@@ -1,17 +1,12 @@
-use Rattle.std.proofs.Common.{◌∙◌, ap, subst}
+use Rattle.std.proofs.Common.{subst}
 use Rattle.vc_switch.specs.State.{State, IsSwitch}
-use Rattle.vc_switch.proofs.Beyond.{grant_there, no_grant}
-use Rattle.vc_switch.proofs.Placed.{got, got_none}
+use Rattle.vc_switch.proofs.Beyond.{grant_there}
+use Rattle.vc_switch.proofs.Enabling.{input_read}
 use Rattle.vc_switch.proofs.switch.Switch.may_grant.Goals as goal
 
-pub returns-in-Some : goal.returns-in-Some
-returns-in-Some c =
-    let s = c.args.self.now in
-    let here = got s.inputs c.deref.result.now c.from.result c.args.link _ (c.deref.ensures.value ∙ ap (λ (z : State). z.inputs) c.self.view_is) c.from.ensures c.in-Some.ensures.lookup.0 c.in-Some.ensures.lookup.1 in
-    grant_there s c.args.link _ c.may_grant.result (subst IsSwitch c.self.view_is c.self.invariant) here c.may_grant.ensures
-
-pub returns-in-None : goal.returns-in-None
-returns-in-None c =
-    let s = c.args.self.now in
-    let past = got_none s.inputs c.deref.result.now c.from.result c.args.link (c.deref.ensures.value ∙ ap (λ (z : State). z.inputs) c.self.view_is) c.from.ensures c.in-None.ensures.lookup.0 in
-    no_grant s c.args.link (subst IsSwitch c.self.view_is c.self.invariant) past
+pub returns-then-link-lt-LINKS : goal.returns-then-link-lt-LINKS
+returns-then-link-lt-LINKS c =
+    let x = c.self.inside in
+    let o : State = record { table = x.table; ranges = x.ranges.items; deletes = x.deletes.items; inputs = x.inputs.items; outputs = x.outputs.items; lost = x.lost } in
+    let read = input_read o c.args.self.now c.from.result c.args.link c.index.result.now c.self.view_is c.from.ensures c.self.invariant.input_links c.if-link-lt-LINKS.true c.index.ensures in
+    grant_there c.args.self.now c.args.link c.index.result.now c.may_grant.result (subst IsSwitch c.self.view_is c.self.invariant) read.0 c.may_grant.ensures

@@ -1,17 +1,20 @@
-use Rattle.std.proofs.Common.{◌∙◌, ap, subst}
+use Rattle.std.proofs.Common.{subst, arith}
+use Rattle.std.proofs.lemmas.Bool.{ltb-true}
 use Rattle.vc_switch.specs.State.{State, IsSwitch}
 use Rattle.vc_switch.proofs.Beyond.{no_pass}
-use Rattle.vc_switch.proofs.Enabling.{pass_iff}
-use Rattle.vc_switch.proofs.Placed.{got, got_none}
+use Rattle.vc_switch.proofs.Enabling.{input_read, pass_iff}
 use Rattle.vc_switch.proofs.switch.Switch.may_pass.Goals as goal
 
-pub returns-in-Some : goal.returns-in-Some
-returns-in-Some c =
-    let s = c.args.self.now in
-    let here = got s.inputs c.deref.result.now c.from.result c.args.link _ (c.deref.ensures.value ∙ ap (λ (z : State). z.inputs) c.self.view_is) c.from.ensures c.in-Some.ensures.lookup.0 c.in-Some.ensures.lookup.1 in
-    pass_iff s c.args.link _ c.may_pass.result (subst IsSwitch c.self.view_is c.self.invariant) here c.may_pass.ensures
+pub returns-then-link-lt-LINKS : goal.returns-then-link-lt-LINKS
+returns-then-link-lt-LINKS c =
+    let x = c.self.inside in
+    let o : State = record { table = x.table; ranges = x.ranges.items; deletes = x.deletes.items; inputs = x.inputs.items; outputs = x.outputs.items; lost = x.lost } in
+    let read = input_read o c.args.self.now c.from.result c.args.link c.index.result.now c.self.view_is c.from.ensures c.self.invariant.input_links c.if-link-lt-LINKS.true c.index.ensures in
+    pass_iff c.args.self.now c.args.link c.index.result.now c.may_pass.result (subst IsSwitch c.self.view_is c.self.invariant) read.0 c.may_pass.ensures
 
-pub returns-in-None : goal.returns-in-None
-returns-in-None c =
-    let s = c.args.self.now in
-    no_pass s c.args.link (got_none s.inputs c.deref.result.now c.from.result c.args.link (c.deref.ensures.value ∙ ap (λ (z : State). z.inputs) c.self.view_is) c.from.ensures c.in-None.ensures.lookup.0)
+pub returns-else-link-lt-LINKS : goal.returns-else-link-lt-LINKS
+returns-else-link-lt-LINKS c =
+    let past = c.if-link-lt-LINKS.false in (
+      λ t. absurd (let less = ltb-true c.args.link 32 t in omega (arith, past, less)),
+      λ can. absurd (no_pass c.args.self.now c.args.link (subst IsSwitch c.self.view_is c.self.invariant) (omega (arith, past)) can),
+    )

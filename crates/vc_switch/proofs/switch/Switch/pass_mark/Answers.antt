@@ -5,6 +5,7 @@ use Rattle.vc_credit.specs.Ends.{IsFront}
 use Rattle.vc_switch.specs.Switch.{Passes, drawn}
 use Rattle.vc_switch.specs.State.{State, IsRange, interval_of, plan_of, limit_of, output_of}
 use Rattle.vc_switch.specs.Seen.{seen, IsKept}
+use Rattle.vc_switch.proofs.Fronts.{bound_front}
 use Rattle.vc_switch.proofs.Placed.{all-at, at_link}
 use Rattle.vc_switch.proofs.Showing.{input_at}
 use Rattle.vc_packets.specs.Counting.{one_more}
@@ -127,3 +128,12 @@ returns-else-not-pass_mark-clause-kept c =
     let a = c.index_mut.result.now in
     let here = slice_get_read x.inputs.items 32 k a (sym c.self.invariant.input_links) (subst (λ z. z < 32) (sym c.from-at.ensures) c.requires.link) c.index_mut.ensures.value in
     subst (λ z. IsKept z (record o { inputs = slice_set x.inputs.items k c.pass_mark.new.self })) c.self.view_is (kept_limit o k x.lost a c.pass_mark.new.self x.outputs.items here (ap (λ z. z.got.limit) c.if-not-pass_mark.ensures.whole))
+
+pub pass_mark-requires-clause-bound : goal.pass_mark-requires-clause-bound
+pass_mark-requires-clause-bound c =
+    let x = c.self.inside in
+    let o : State = record { table = x.table; ranges = x.ranges.items; deletes = x.deletes.items; inputs = x.inputs.items; outputs = x.outputs.items; lost = x.lost } in
+    let k = c.from-at.result in
+    let a = c.index_mut.result.now in
+    let here = slice_get_read x.inputs.items 32 k a (sym c.self.invariant.input_links) (subst (λ z. z < 32) (sym c.from-at.ensures) c.requires.link) c.index_mut.ensures.value in
+    bound_front (plan_of o) a.got.passed a.bound (link_in o k a c.self.invariant here).bound

@@ -25,8 +25,18 @@ index_mut-requires c =
     let len : vec_len x.inputs ≡ length x.inputs.items = search rules in
     subst (λ n. k < n) (sym len) (slice_get_within x.inputs.items k u.input here_k)
 
-pub advance-requires : goal.advance-requires
-advance-requires c =
+pub advance-requires-clause-is : goal.advance-requires-clause-is
+advance-requires-clause-is c =
+    let x = c.self.inside in
+    let v = c.self.view_is in
+    let k = c.from.result in
+    let u = c.requires.bound in
+    let here_k : slice_get x.inputs.items k ≡ Some u.input = subst (λ l. slice_get x.inputs.items l ≡ Some u.input) (sym c.from.ensures) (subst (λ z. slice_get z.inputs c.args.source ≡ Some u.input) (sym v) u.here) in
+    let same : u.input ≡ c.index_mut.result.now = read_there x.inputs.items k u.input c.index_mut.result.now here_k c.index_mut.ensures.value in
+    subst (λ z. z.bound ≡ Some c.args.bound) same u.bound
+
+pub advance-requires-clause-within : goal.advance-requires-clause-within
+advance-requires-clause-within c =
     let x = c.self.inside in
     let s = c.args.self.now in
     let o : State = record { table = x.table; ranges = x.ranges.items; deletes = x.deletes.items; inputs = x.inputs.items; outputs = x.outputs.items; lost = x.lost } in
