@@ -190,6 +190,7 @@ impl Node {
     }
 
     /// The next of the process's moves that can be made, going round from this site on.
+    #[inline(always)]
     pub(crate) fn next_move(&self, moves: &[Move], site: u16) -> Option<Act>
         requires { moves.now ≡ moves_of self.now.process }
         ensures may { IfSome result (λ a. NodeMay self.now a) }
@@ -198,6 +199,9 @@ impl Node {
             IsNodeOf plan k self.now →
             FindsMove plan k self.now result }
     {
+        if moves.is_empty() {
+            return None;
+        }
         let (before, rest) = moves.split_at(first_from(moves, site));
         match self.first_let(rest) {
             Some(act) => Some(act),
@@ -387,7 +391,7 @@ impl Node {
         let Some(message) = self.process.value(made)? else {
             unreachable!();
         };
-        self.vcp.offer(chan, message.as_slice())?;
+        self.vcp.offer(chan, message)?;
         let is_unjoined = self.process.is_unjoined();
         self.process.act(made, Answer::Nothing)?;
         Ok(is_unjoined)
@@ -489,7 +493,10 @@ impl Node {
         ensures err { OnErr result (self.new ≡ self.old) }
     {
         match self.vcp.receiving(link).front() {
-            Some(Token::Byte(_)) => self.pass_token(link),
+            Some(Token::Byte(byte)) => {
+                self.vcp.pass_byte(link, byte);
+                Ok(false)
+            }
             _ => self.pass_mark(link),
         }
     }

@@ -273,6 +273,9 @@ impl NodeActor {
             IsNodeOf plan k self.old →
             IfOk result (FindsMove plan k self.old) }
     {
+        if self.is_listed {
+            return Ok(self.node.next_move(self.moves.as_slice(), self.next_site));
+        }
         if let Some(act) = self.only_step() {
             return Ok(Some(act));
         }
@@ -292,9 +295,6 @@ impl NodeActor {
             IsNodeOf plan k self.old →
             IfSome result (λ a. FindsMove plan k self.old (Some a)) }
     {
-        if self.is_listed {
-            return None;
-        }
         if !self.are_many {
             let made = self.node.process.only_meeting()?;
             return self.node.let_move(made);

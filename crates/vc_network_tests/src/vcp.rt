@@ -25,11 +25,11 @@ fn packet(alloc: Global, bytes: &[u8], mark: Mark) -> Result<Packet, Memory> {
 }
 
 /// Offers a message on channel 0, where that may be.
-fn offer(vcp: &mut Vcp, message: &[u8]) -> Result<bool, Memory> {
+fn offer(alloc: Global, vcp: &mut Vcp, message: &[u8]) -> Result<bool, Memory> {
     if !vcp.may_offer(0) {
         return Ok(false);
     }
-    vcp.offer(0, message)?;
+    vcp.offer(0, Bytes::from_slice(alloc, message)?)?;
     Ok(true)
 }
 
@@ -105,15 +105,15 @@ fn exchange(a: &mut Vcp, b: &mut Vcp) -> Result<[Came; 4], Memory> {
 }
 
 /// Whether the input begins and waits, and then the output begins.
-fn begin(a: &mut Vcp, b: &mut Vcp) -> Result<bool, Memory> {
-    Ok(matches!(want(b)?, Some(Want::Waits)) && offer(a, &[7; 33])?)
+fn begin(alloc: Global, a: &mut Vcp, b: &mut Vcp) -> Result<bool, Memory> {
+    Ok(matches!(want(b)?, Some(Want::Waits)) && offer(alloc, a, &[7; 33])?)
 }
 
 #[test]
 fn a_message_of_two_pieces_is_exchanged(rt: HostRuntime) -> Result<(), Fail> {
     let mut a = node(rt.alloc(), Some(0), None)?;
     let mut b = node(rt.alloc(), None, Some(0))?;
-    assert!(rt; begin(&mut a, &mut b)?);
+    assert!(rt; begin(rt.alloc(), &mut a, &mut b)?);
     let wanted = [Came::Stored, Came::More, Came::Complete, Came::Finished];
     assert!(rt; exchange(&mut a, &mut b)? == wanted);
     assert_eq!(rt; (a.finished(0), b.taken(0).len()), (1, 1));
@@ -132,7 +132,7 @@ fn hand(from: &mut Vcp, to: &mut Vcp) -> Result<Came, Memory> {
 fn whole_packets_carry_a_message(rt: HostRuntime) -> Result<(), Fail> {
     let mut a = node(rt.alloc(), Some(0), None)?;
     let mut b = node(rt.alloc(), None, Some(0))?;
-    assert!(rt; begin(&mut a, &mut b)?);
+    assert!(rt; begin(rt.alloc(), &mut a, &mut b)?);
     assert!(rt; hand(&mut a, &mut b)? == Came::Stored && hand(&mut a, &mut b)? == Came::Nothing);
     assert!(rt; hand(&mut b, &mut a)? == Came::More);
     assert!(rt; hand(&mut a, &mut b)? == Came::Complete && hand(&mut b, &mut a)? == Came::Finished);
@@ -144,7 +144,7 @@ fn whole_packets_carry_a_message(rt: HostRuntime) -> Result<(), Fail> {
 fn a_half_sent_packet_stays(rt: HostRuntime) -> Result<(), Fail> {
     let mut a = node(rt.alloc(), Some(0), None)?;
     let mut b = node(rt.alloc(), None, Some(0))?;
-    assert!(rt; offer(&mut a, &[7])? && a.next_out(4).is_none());
+    assert!(rt; offer(rt.alloc(), &mut a, &[7])? && a.next_out(4).is_none());
     grant(&mut b, &mut a);
     put(&mut a, &mut b);
     assert!(rt; a.next_out(0).is_none() && a.front_out(0).is_some());

@@ -29,6 +29,9 @@ queue_past s l none = ap (shown_or [] (λ x. x.queue)) none
 pub out_past : (s : State) (l : ℕ) → length s.outs ≡ 4 → 4 ≤ l → slice_get s.outs l ≡ None
 out_past s l long far = slice_get_past s.outs l (subst (λ n. n ≤ l) (sym long) far)
 
+pub in_past : (s : State) (l : ℕ) → length s.ins ≡ 4 → 4 ≤ l → slice_get s.ins l ≡ None
+in_past s l long far = slice_get_past s.ins l (subst (λ n. n ≤ l) (sym long) far)
+
 pub no_waits : (s : State) (l : ℕ) → slice_get s.ins l ≡ None → IsTrue false ↔ ((link_of s l).receiver.buffer ≢ [])
 no_waits s l none = (λ t. absurd (cc), λ some. absurd (some (buffer_past s l none)))
 

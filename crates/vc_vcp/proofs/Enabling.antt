@@ -232,14 +232,6 @@ put_iff s l x true here iff can = (λ t. can_put s l x here can, λ puts. refl)
 put_iff s l x false here iff can =
     (λ t. absurd (cc), λ puts. (let m = puts_may s l x here puts in let same = same_some (slice_get s.outs l) m.out x m.here here in iff.1 (subst (λ z. 0 < z.sender.credit) same m.credit, subst (λ z. z.queue ≢ []) same m.packet)))
 
-pub may_put_iff : (s : State) (l : ℕ) (x : Sending) (b : Bool) → slice_get s.outs l ≡ Some x → (IsTrue b ↔ ((0 < x.sender.credit) × (x.queue ≢ []))) → IsTrue b ↔ MayPut s l
-may_put_iff s l x b here iff =
-    (λ t. record { out = x; here = here; credit = (iff.0 t).0; packet = (iff.0 t).1 }, λ m. (let same = same_some (slice_get s.outs l) m.out x m.here here in iff.1 (subst (λ z. 0 < z.sender.credit) same m.credit, subst (λ z. z.queue ≢ []) same m.packet)))
-
-pub may_grant_iff : (s : State) (l : ℕ) (x : Receiving) (b : Bool) → slice_get s.ins l ≡ Some x → (IsTrue b ↔ HasRoom x.receiver) → IsTrue b ↔ MayGrant s l
-may_grant_iff s l x b here iff =
-    (λ t. record { into = x; here = here; room = iff.0 t }, λ m. iff.1 (subst (λ z. HasRoom z.receiver) (same_some (slice_get s.ins l) m.into x m.here here) m.room))
-
 pub grant_iff : (s : State) (l : ℕ) (x : Receiving) (b : Bool) → slice_get s.ins l ≡ Some x → (IsTrue b ↔ HasRoom x.receiver) → IsTrue b ↔ CanGrant (seen s) l
 grant_iff s l x b here iff =
     (λ t. can_grant s l (record { into = x; here = here; room = iff.0 t }), λ can. (let m = grants_may s l x here can in iff.1 (subst (λ z. HasRoom z.receiver) (same_some (slice_get s.ins l) m.into x m.here here) m.room)))

@@ -31,19 +31,18 @@ impl Output {
         &mut self,
         queue: &mut LinkOut,
         alloc: Global,
-        message: &[u8],
+        message: Bytes,
     ) -> Result<(), Memory>
         requires { self.old.half.unacked ≡ [] }
         ensures sender { queue.new.sender ≡ queue.old.sender }
         ensures stays { StaysOutput self.old self.new }
         ensures is { IsOutput self.old → IsOutput self.new }
-        ensures ok { OnOk result (Begins self.old queue.old message.now self.new queue.new) }
+        ensures ok { OnOk result (Begins self.old queue.old message self.new queue.new) }
         ensures err { OnErr result (self.new ≡ self.old) }
         ensures err_queue { OnErr result (queue.new ≡ queue.old) }
     {
-        let whole = Bytes::from_slice(alloc, message)?;
-        self.prepare(queue, alloc, message)?;
-        self.half.offer(whole);
+        self.prepare(queue, alloc, message.as_slice())?;
+        self.half.offer(message);
         Ok(())
     }
 

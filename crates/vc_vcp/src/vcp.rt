@@ -34,7 +34,7 @@ use crate::taken::{self, Taken};
 use std::alloc::Global;
 use std::marker::Model;
 use vc_blocks::{Messages, Want};
-use vc_packets::{Kind, Mark, Memory, Packet, kind_of};
+use vc_packets::{Bytes, Kind, Mark, Memory, Packet, kind_of};
 use vc_tokens::Token;
 
 /// The virtual channel processor of a node: the halves of its virtual links, and the two ends of its four links.
@@ -114,10 +114,10 @@ impl Vcp {
     }
 
     /// A message is offered on a channel that the node outputs on and on which nothing is under way: its first piece is queued.
-    pub fn offer(&mut self, chan: u16, message: &[u8]) -> Result<(), Memory>
+    pub fn offer(&mut self, chan: u16, message: Bytes) -> Result<(), Memory>
         requires { IsIdle self.old chan }
         ensures offers { OnOk result
-            (Offers (ends_of self.old) (seen self.old).carrier chan message.now
+            (Offers (ends_of self.old) (seen self.old).carrier chan message
             (seen self.new).carrier) }
         ensures links { (seen self.new).link ≡ (seen self.old).link }
         ensures kept { IsKept self.old self.new }
@@ -304,10 +304,9 @@ impl Vcp {
         ensures can { IsTrue result ↔
             CanPass (limit_of self.now.ins) (ends_of self.now) (seen self.now) link }
     {
-        match self.ins.get(usize::from(link)) {
-            Some(into) => !into.is_empty(),
-            None => false,
-        }
+        prove!(self.links() == 4);
+        let at = usize::from(link);
+        at < LINKS && !self.ins[at].is_empty()
     }
 
     /// The packet at the front of a link's send queue, if one waits.
@@ -340,10 +339,9 @@ impl Vcp {
         ensures may { IsTrue result ↔ MayPut self.now link }
         ensures can { IsTrue result ↔ CanPut (seen self.now) link }
     {
-        match self.outs.get(usize::from(link)) {
-            Some(out) => out.may_put(),
-            None => false,
-        }
+        prove!(self.links() == 4);
+        let at = usize::from(link);
+        at < LINKS && self.outs[at].may_put()
     }
 
     /// Puts the next token of the packet at the front of a link's send queue; with its mark the packet leaves the queue.
@@ -361,10 +359,9 @@ impl Vcp {
         ensures may { IsTrue result ↔ MayGrant self.now link }
         ensures can { IsTrue result ↔ ((link < 4) × CanGrant (seen self.now) link) }
     {
-        match self.ins.get(usize::from(link)) {
-            Some(into) => into.may_grant(),
-            None => false,
-        }
+        prove!(self.links() == 4);
+        let at = usize::from(link);
+        at < LINKS && self.ins[at].may_grant()
     }
 
     /// An FCT is put on a link.
@@ -453,8 +450,9 @@ impl Vcp {
         }
     }
 
-    // The byte at the front of a link's buffer passes.
-    fn pass_byte(&mut self, link: u8, byte: u8)
+    /// The byte at the front of a link's buffer passes: it joins the packet that is arriving, or is dropped and counted past the limit.
+    #[inline(always)]
+    pub fn pass_byte(&mut self, link: u8, byte: u8)
         requires link { link < 4 }
         requires front { IsFront ((seen self.old).link link).receiver (Byte byte) }
         ensures passes { Passes (limit_of self.old.ins) (ends_of self.old) (seen self.old) link None

@@ -1,4 +1,4 @@
-use Rattle.std.proofs.Common.{refl, sym, ap, ◌∙◌, subst, Some}
+use Rattle.std.proofs.Common.{refl, sym, ap, ◌∙◌, subst}
 use Rattle.std.specs.List.{Contains}
 use Rattle.vc_occam.specs.Runnings.{state, moves, inner_channels}
 use Rattle.vc_occam.specs.States.{sent_by}
@@ -15,5 +15,5 @@ unreachable-requires c =
 
 pub returns-clause-ok : goal.returns-clause-ok
 returns-clause-ok c = λ plan k is.
-    offers plan k c.args.self.now _ c.args.made.now c.requires.is.0 c.args.chan c.as_slice.result.now c.requires.is.1 (ap Some c.as_slice.ensures ∙ sym c.in-Some.is ∙ c.in_ok-message.ensures) is c.requires.may.listed
+    offers plan k c.args.self.now _ c.args.made.now c.requires.is.0 c.args.chan c.in-Some.message c.requires.is.1 (sym c.in-Some.is ∙ c.in_ok-message.ensures) is c.requires.may.listed
     c.in_ok-offer.ensures.offers c.in_ok-offer.ensures.links c.in_ok-offer.ensures.kept refl c.in_ok-act.ensures.made c.act.ensures.inside

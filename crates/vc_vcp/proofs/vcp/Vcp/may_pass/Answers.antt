@@ -1,31 +1,32 @@
-use Rattle.std.proofs.Common.{◌≢◌, ◌↔◌, IsTrue, [], sym, ap, ◌∙◌, subst}
+use Rattle.std.proofs.Common.{◌<◌, ◌≤◌, ◌≢◌, ◌↔◌, IsTrue, [], arith, sym, subst}
 use mathlib.Core.Bool.{not}
+use Rattle.std.proofs.lemmas.Bool.{le-ltb}
 use Rattle.vc_vcp.specs.State.{State, IsWired}
 use Rattle.vc_vcp.proofs.Arriving.{pass_iff}
-use Rattle.vc_vcp.proofs.Beyond.{got, got_none, no_pass, no_waits}
+use Rattle.vc_vcp.proofs.Beyond.{in_past, no_pass, no_waits}
 use Rattle.vc_vcp.proofs.Enabling.{none_iff}
-use Rattle.vc_vcp.proofs.Passing.{receiver_at}
+use Rattle.vc_vcp.proofs.Passing.{ins_read, receiver_at}
 use Rattle.vc_vcp.proofs.vcp.Vcp.may_pass.Goals as goal
 
-pub returns-in-Some-clause-waits : goal.returns-in-Some-clause-waits
-returns-in-Some-clause-waits c =
+pub returns-then-at-lt-LINKS-clause-can : goal.returns-then-at-lt-LINKS-clause-can
+returns-then-at-lt-LINKS-clause-can c =
+    let x = c.self.inside in
+    let o : State = record { outputs = x.outputs.items; inputs = x.inputs.items; outs = x.outs.items; ins = x.ins.items; strays = x.strays } in
     let s = c.args.self.now in
-    let here = got s.ins c.deref.result.now c.from.result c.args.link _ (c.deref.ensures.value ∙ ap (λ (z : State). z.ins) c.self.view_is) c.from.ensures c.in-Some.ensures.lookup.0 c.in-Some.ensures.lookup.1 in
-    subst (λ r. IsTrue (not c.is_empty.result) ↔ (r.buffer ≢ [])) (sym (receiver_at s c.args.link c.in-Some.into.now here)) (none_iff c.is_empty.result c.in-Some.into.now.receiver.buffer c.is_empty.ensures)
+    let less : c.args.link < 4 = omega (arith, c.if-at-lt-LINKS.true, c.from-at.ensures) in
+    let into = c.index.result.now in
+    let here = ins_read s o c.from-at.result c.args.link into c.self.view_is c.from-at.ensures c.self.invariant.four_in less c.index.ensures in
+    let waits = subst (λ r. IsTrue (not c.is_empty.result) ↔ (r.buffer ≢ [])) (sym (receiver_at s c.args.link into here)) (none_iff c.is_empty.result into.receiver.buffer c.is_empty.ensures) in
+    pass_iff s c.args.link into (not c.is_empty.result) (subst IsWired c.self.view_is c.self.invariant) here waits
 
-pub returns-in-Some-clause-can : goal.returns-in-Some-clause-can
-returns-in-Some-clause-can c =
+pub returns-else-at-lt-LINKS-clause-waits : goal.returns-else-at-lt-LINKS-clause-waits
+returns-else-at-lt-LINKS-clause-waits c =
     let s = c.args.self.now in
-    let here = got s.ins c.deref.result.now c.from.result c.args.link _ (c.deref.ensures.value ∙ ap (λ (z : State). z.ins) c.self.view_is) c.from.ensures c.in-Some.ensures.lookup.0 c.in-Some.ensures.lookup.1 in
-    let waits = subst (λ r. IsTrue (not c.is_empty.result) ↔ (r.buffer ≢ [])) (sym (receiver_at s c.args.link c.in-Some.into.now here)) (none_iff c.is_empty.result c.in-Some.into.now.receiver.buffer c.is_empty.ensures) in
-    pass_iff s c.args.link c.in-Some.into.now (not c.is_empty.result) (subst IsWired c.self.view_is c.self.invariant) here waits
+    let past : 4 ≤ c.args.link = omega (arith, c.if-at-lt-LINKS.false, c.from-at.ensures) in
+    rw (le-ltb c.from-at.result 4 c.if-at-lt-LINKS.false) (no_waits s c.args.link (in_past s c.args.link c.links.ensures.ends.1 past))
 
-pub returns-in-None-clause-waits : goal.returns-in-None-clause-waits
-returns-in-None-clause-waits c =
+pub returns-else-at-lt-LINKS-clause-can : goal.returns-else-at-lt-LINKS-clause-can
+returns-else-at-lt-LINKS-clause-can c =
     let s = c.args.self.now in
-    no_waits s c.args.link (got_none s.ins c.deref.result.now c.from.result c.args.link (c.deref.ensures.value ∙ ap (λ (z : State). z.ins) c.self.view_is) c.from.ensures c.in-None.ensures.lookup.0)
-
-pub returns-in-None-clause-can : goal.returns-in-None-clause-can
-returns-in-None-clause-can c =
-    let s = c.args.self.now in
-    no_pass s c.args.link (got_none s.ins c.deref.result.now c.from.result c.args.link (c.deref.ensures.value ∙ ap (λ (z : State). z.ins) c.self.view_is) c.from.ensures c.in-None.ensures.lookup.0)
+    let past : 4 ≤ c.args.link = omega (arith, c.if-at-lt-LINKS.false, c.from-at.ensures) in
+    rw (le-ltb c.from-at.result 4 c.if-at-lt-LINKS.false) (no_pass s c.args.link (in_past s c.args.link c.links.ensures.ends.1 past))

@@ -1,27 +1,28 @@
-use Rattle.std.proofs.Common.{ap, ◌∙◌}
+use Rattle.std.proofs.Common.{◌<◌, ◌≤◌, arith}
+use Rattle.std.proofs.lemmas.Bool.{le-ltb}
 use Rattle.vc_vcp.specs.State.{State}
-use Rattle.vc_vcp.proofs.Beyond.{got, got_none, no_may_put, no_put}
-use Rattle.vc_vcp.proofs.Enabling.{put_iff, may_put_iff}
+use Rattle.vc_vcp.proofs.Beyond.{out_past, no_may_put, no_put}
+use Rattle.vc_vcp.proofs.Enabling.{put_iff}
+use Rattle.vc_vcp.proofs.Passing.{outs_read}
 use Rattle.vc_vcp.proofs.vcp.Vcp.may_put.Goals as goal
 
-pub returns-in-Some-clause-may : goal.returns-in-Some-clause-may
-returns-in-Some-clause-may c =
+pub returns-then-at-lt-LINKS-clause-can : goal.returns-then-at-lt-LINKS-clause-can
+returns-then-at-lt-LINKS-clause-can c =
+    let x = c.self.inside in
+    let o : State = record { outputs = x.outputs.items; inputs = x.inputs.items; outs = x.outs.items; ins = x.ins.items; strays = x.strays } in
     let s = c.args.self.now in
-    let here = got s.outs c.deref.result.now c.from.result c.args.link _ (c.deref.ensures.value ∙ ap (λ (z : State). z.outs) c.self.view_is) c.from.ensures c.in-Some.ensures.lookup.0 c.in-Some.ensures.lookup.1 in
-    may_put_iff s c.args.link _ c.may_put.result here c.may_put.ensures.may
-
-pub returns-in-Some-clause-can : goal.returns-in-Some-clause-can
-returns-in-Some-clause-can c =
-    let s = c.args.self.now in
-    let here = got s.outs c.deref.result.now c.from.result c.args.link _ (c.deref.ensures.value ∙ ap (λ (z : State). z.outs) c.self.view_is) c.from.ensures c.in-Some.ensures.lookup.0 c.in-Some.ensures.lookup.1 in
+    let less : c.args.link < 4 = omega (arith, c.if-at-lt-LINKS.true, c.from-at.ensures) in
+    let here = outs_read s o c.from-at.result c.args.link c.index.result.now c.self.view_is c.from-at.ensures c.self.invariant.four_out less c.index.ensures in
     put_iff s c.args.link _ c.may_put.result here c.may_put.ensures.may c.may_put.ensures.can
 
-pub returns-in-None-clause-may : goal.returns-in-None-clause-may
-returns-in-None-clause-may c =
+pub returns-else-at-lt-LINKS-clause-may : goal.returns-else-at-lt-LINKS-clause-may
+returns-else-at-lt-LINKS-clause-may c =
     let s = c.args.self.now in
-    no_may_put s c.args.link (got_none s.outs c.deref.result.now c.from.result c.args.link (c.deref.ensures.value ∙ ap (λ (z : State). z.outs) c.self.view_is) c.from.ensures c.in-None.ensures.lookup.0)
+    let past : 4 ≤ c.args.link = omega (arith, c.if-at-lt-LINKS.false, c.from-at.ensures) in
+    rw (le-ltb c.from-at.result 4 c.if-at-lt-LINKS.false) (no_may_put s c.args.link (out_past s c.args.link c.links.ensures.ends.0 past))
 
-pub returns-in-None-clause-can : goal.returns-in-None-clause-can
-returns-in-None-clause-can c =
+pub returns-else-at-lt-LINKS-clause-can : goal.returns-else-at-lt-LINKS-clause-can
+returns-else-at-lt-LINKS-clause-can c =
     let s = c.args.self.now in
-    no_put s c.args.link (got_none s.outs c.deref.result.now c.from.result c.args.link (c.deref.ensures.value ∙ ap (λ (z : State). z.outs) c.self.view_is) c.from.ensures c.in-None.ensures.lookup.0)
+    let past : 4 ≤ c.args.link = omega (arith, c.if-at-lt-LINKS.false, c.from-at.ensures) in
+    rw (le-ltb c.from-at.result 4 c.if-at-lt-LINKS.false) (no_put s c.args.link (out_past s c.args.link c.links.ensures.ends.0 past))

@@ -40,9 +40,9 @@ returns-clause-offers c =
     let found : slice_get x.outputs.items i ≡ named (λ x. x.chan) c.args.chan x.outputs.items = subst (λ z. slice_get z i ≡ named (λ x. x.chan) c.args.chan z) c.deref.ensures.value c.in-Some.ensures.found in
     let asked = subst (λ z. named (λ x. x.chan) c.args.chan z.outputs ≡ Some c.requires.output) (sym c.self.view_is) c.requires.here in
     let idle = subst (λ z. z.half.unacked ≡ []) (same_read x.outputs.items i c.requires.output a (found ∙ asked) here) c.requires.idle in
-    subst (λ z. OnOk c.offer.result (Offers (ends_of z) (carrier_of z) c.args.chan c.args.message.now (seen (with_output o i c.offer.new.self k c.offer.new.queue)).carrier)) c.self.view_is
+    subst (λ z. OnOk c.offer.result (Offers (ends_of z) (carrier_of z) c.args.chan c.args.message (seen (with_output o i c.offer.new.self k c.offer.new.queue)).carrier)) c.self.view_is
     (on_ok c.offer.result
-    (offers o i k c.args.chan c.args.message.now a c.offer.new.self q c.offer.new.queue own here (named_has (λ x. x.chan) c.args.chan x.outputs.items a (sym found ∙ here)) along out idle)
+    (offers o i k c.args.chan c.args.message a c.offer.new.self q c.offer.new.queue own here (named_has (λ x. x.chan) c.args.chan x.outputs.items a (sym found ∙ here)) along out idle)
     c.offer.ensures.ok)
 
 pub returns-clause-kept : goal.returns-clause-kept
