@@ -147,6 +147,7 @@ impl Lines {
     }
 
     /// A token more comes to the end of a way. The answer is the actor to which the way leads, if it leads to one.
+    #[inline(always)]
     pub(crate) fn push(&mut self, way: usize, token: Token) -> Result<Option<u16>, Memory>
         requires { way < length self.old.ways }
         ensures ok { (ts : List SpeltToken) →
