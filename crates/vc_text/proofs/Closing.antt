@@ -1,5 +1,5 @@
 -- How a run closes.
-use Rattle.std.proofs.Common.{◌≡◌, ℕ, ◌<◌, ◌≤◌, Option, Some, None, is_some, ◌+◌, ◌||◌, Bool, true, false, List, refl, arith}
+use Rattle.std.proofs.Common.{◌≡◌, ℕ, ◌<◌, ◌≤◌, Option, Some, None, is_some, ◌+◌, Bool, true, false, List, refl, arith}
 use Rattle.vc_plan.specs.declared.plan.Plan.{Plan}
 use Rattle.vc_core.specs.State.{State, shown, IsNetworkOf}
 use Rattle.vc_core.specs.Private.Turns.{Rests, IsAtRest}
@@ -37,22 +37,10 @@ pub counted_few : (had : Bool) (old new : ℕ) → new ≡ counted had old → (
 counted_few true old new is = (omega (arith, is), omega (arith, is))
 counted_few false old new is = (omega (arith, is), omega (arith, is))
 
-pub grown : (moved had : Bool) (first old new : ℕ) → first ≤ old → (moved ≡ true → first < old) → new ≡ counted had old → (moved || had) ≡ true → first < new
-grown true had first old new least some is e = let s = some refl in let n = counted_few had old new is in omega (arith, s, n.0)
-grown false true first old new least some is e = omega (arith, least, is)
-grown false false first old new least some is e = absurd (cc)
-
-pub or_true : (a b : Bool) → b ≡ true → (a || b) ≡ true
-or_true true b e = refl
-or_true false b e = e
-
-pub or_false : (a b : Bool) → b ≡ false → (a || b) ≡ a
-or_false true b e = refl
-or_false false b e = e
-
-pub neither : (a b : Bool) → (a || b) ≡ false → (a ≡ false) × (b ≡ false)
-neither true b e = absurd (cc)
-neither false b e = (refl, e)
+-- where there are no more events than at first, the last actor had none either
+pub still : (had : Bool) (first old new : ℕ) → first ≤ old → new ≡ counted had old → new ≡ first → (old ≡ first) × (had ≡ false)
+still true first old new least is e = absurd (omega (arith, least, is, e))
+still false first old new least is e = (omega (arith, is, e), refl)
 
 -- where a run without a cycle of dependencies is quiet only processes wait
 pub processes_wait : (p : Plan) (events : List Event) (s : State) (made limit : ℕ) (close : Close) → Replays p events s → Closes p (shown s) made limit close → OnlyProcessesWait p (shown s) close

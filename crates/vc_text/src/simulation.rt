@@ -93,30 +93,26 @@ impl Simulation {
         Ok(true)
     }
 
-    /// One round over the actors: each makes at most one event, up to so many events in all. The answer is whether an event was made.
+    /// One round over the actors: each makes at most one event, up to so many events in all. The answer is whether events were made and
+    /// more may be: where not, there are so many events, or no actor has one.
     #[inline(always)]
     pub(crate) fn round<K: EventSink>(&mut self, events: &mut K, limit: u64) -> Result<bool, Memory>
         requires { self.old.made ≤ limit }
         ensures few { OnOk result (self.new.made ≤ limit) }
-        ensures more { result ≡ Ok true →
-            (self.new.made ≡ limit) ⊎ (self.old.made < self.new.made) }
+        ensures more { result ≡ Ok true → self.old.made < self.new.made }
         ensures runs { OnOk result (LeadsOn K.holds self.old events.old self.new events.new) }
-        ensures rests { result ≡ Ok false → (p : Plan) (es : List Event) →
-            HasTaken K.holds events.old p es self.old → HasRun p es self.old →
-            IsAtRest p (state_of self.new.network) }
+        ensures ends { result ≡ Ok false → RunsOut K.holds limit self.old events.old self.new }
     {
-        let mut moved = false;
+        let before = self.made;
         let mut left = u64::MAX;
         while let Some(actor) = least_among(self.network.awake(), left) {
             if self.made >= limit {
-                return Ok(true);
+                return Ok(false);
             }
-            if self.act(events, actor)? {
-                moved = true;
-            }
+            self.act(events, actor)?;
             left = after(actor);
         }
-        Ok(moved)
+        Ok(self.made > before)
     }
 
     /// Rounds over the actors, until none has an event or there are so many events.
@@ -126,11 +122,7 @@ impl Simulation {
         ensures runs { OnOk result (LeadsOn K.holds self.old events.old self.new events.new) }
         ensures ends { OnOk result (RunsOut K.holds limit self.old events.old self.new) }
     {
-        while self.made < limit {
-            if !self.round(events, limit)? {
-                return Ok(());
-            }
-        }
+        while self.round(events, limit)? {}
         Ok(())
     }
 

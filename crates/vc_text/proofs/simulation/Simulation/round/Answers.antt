@@ -1,15 +1,14 @@
-use Rattle.std.proofs.Common.{◌≡◌, ◌≤◌, ◌<◌, ◌+◌, ◌-◌, ◌^◌, ◌||◌, false, Ok, refl, sym, ap, ◌∙◌, subst, inl, inr, arith}
-use Rattle.std.proofs.lemmas.Bool.{cases_eq, cases_lt}
+use Rattle.std.proofs.Common.{◌≡◌, ◌≤◌, ◌<◌, ◌+◌, ◌-◌, ◌^◌, Ok, refl, sym, ap, ◌∙◌, subst, inl, inr, arith}
+use Rattle.std.proofs.lemmas.Bool.{cases_eq, cases_lt, ltb-false}
 use Rattle.std.proofs.lemmas.Nat.Bits.{bit_at_ones, bit_at-lt}
 use Rattle.std.specs.Int.{bit_at}
 use Rattle.vc_core.specs.State.{state_of}
 use Rattle.vc_core.specs.Private.Turns.{Rests, IsAtRest}
 use Rattle.vc_actor.specs.Turns.{actors}
 use Rattle.vc_core.proofs.Leaving.{few}
-use Rattle.vc_text.proofs.Closing.{all_rest, grown, neither, or_true, or_false, counted_few}
+use Rattle.vc_text.proofs.Closing.{all_rest, still, counted_few}
 use Rattle.vc_text.proofs.Quieting.{bit_after, not_after, fewer_after}
 use Rattle.vc_text.proofs.Simulated.{stays_on, then_on}
-use Rattle.vc_text.proofs.simulation.Simulation.round.Goals.{then-branch, else-branch}
 use Rattle.vc_text.proofs.simulation.Simulation.round.Goals as goal
 
 pub loop-actor-init : goal.loop-actor-init
@@ -18,7 +17,6 @@ loop-actor-init g c = record {
   edge = (0, omega arith, refl);
   runs = stays_on g.K.EventSink.holds c.args.self.now c.args.events.now;
   some = omega arith;
-  more = λ e. absurd (cc);
   same = λ e p es kept run. refl;
   rests = λ e p es kept run k low none node. absurd (let all = bit_at_ones 64 k low in omega (arith, all, none));
 }
@@ -28,10 +26,6 @@ loop-actor-preserved g c =
     let inv = c.loop-actor.invariant in
     let n = c.in_ok-act.ensures in
     let had = c.in_ok-act.field-0 in
-    let any : c.if-branch.moved ≡ (c.loop-actor.moved || had) = elim c.if-branch.branch [
-      | then-branch w ↦ w.moved-is ∙ sym (or_true c.loop-actor.moved had w.if-branch.true)
-      | else-branch w ↦ w.moved-is ∙ sym (or_false c.loop-actor.moved had w.if-branch.false)
-    ] in
     let under = c.if-self-limit.false in
     let made = counted_few had c.loop-actor.self.made c.act.new.self.made n.made in
     let next = c.in-Some.ensures in
@@ -41,10 +35,9 @@ loop-actor-preserved g c =
       edge = (c.in-Some.actor + 1, omega arith, c.after-left.ensures);
       runs = then_on g.K.EventSink.holds c.args.self.now c.loop-actor.self c.act.new.self c.args.events.now c.loop-actor.events c.act.new.events inv.runs n.runs;
       some = (let s = inv.some in omega (arith, made, s));
-      more = λ e. grown c.loop-actor.moved had c.args.self.now.made c.loop-actor.self.made c.act.new.self.made inv.some inv.more n.made (sym any ∙ e);
-      same = λ e p es kept run. (let b = neither c.loop-actor.moved had (sym any ∙ e) in
+      same = λ e p es kept run. (let b = still had c.args.self.now.made c.loop-actor.self.made c.act.new.self.made inv.some n.made e in
           let mid = inv.runs p es kept run in n.still (ap Ok b.1) p mid.2.reached.is ∙ inv.same b.0 p es kept run);
-      rests = λ e p es kept run k less gone node. (let b = neither c.loop-actor.moved had (sym any ∙ e) in
+      rests = λ e p es kept run k less gone node. (let b = still had c.args.self.now.made c.loop-actor.self.made c.act.new.self.made inv.some n.made e in
           let mid = inv.runs p es kept run in
           let same = inv.same b.0 p es kept run in
           elim (cases_lt k c.in-Some.actor) [
@@ -69,18 +62,22 @@ loop-actor-smaller g c =
     let less = fewer_after edge.0 c.in-Some.actor past next.0 in
     subst (λ m. m < c.loop-actor.left) (sym c.after-left.ensures) (subst (λ m. 2 ^ 64 - 2 ^ (c.in-Some.actor + 1) < m) (sym edge.2) less)
 
-pub returns-clause-rests : goal.returns-clause-rests
-returns-clause-rests g c = λ e p es kept run.
+pub returns-then-self-limit-clause-ends : goal.returns-then-self-limit-clause-ends
+returns-then-self-limit-clause-ends g c = λ e p es kept run. inl (omega (arith, c.if-self-limit.true, c.loop-actor.invariant.few))
+
+pub returns-clause-ends : goal.returns-clause-ends
+returns-clause-ends g c = λ e p es kept run.
     let inv = c.loop-actor.invariant in
-    let none : c.loop-actor.moved ≡ false = cc in
+    let upto : c.loop-actor.self.made ≤ c.args.self.now.made = ltb-false c.args.self.now.made c.loop-actor.self.made (cc) in
+    let none : c.loop-actor.self.made ≡ c.args.self.now.made = let s = inv.some in omega (arith, s, upto) in
     let mid = inv.runs p es kept run in
     let same = inv.same none p es kept run in
     let nodes = (few p run.reached.is.accepted).0 in
     let switches = (few p run.reached.is.accepted).1 in
     let s = state_of c.args.self.now.network in
-    subst (IsAtRest p) (sym same) (all_rest p s run.reached.is (actors p) (omega arith) (λ k less.
+    inr (subst (IsAtRest p) (sym same) (all_rest p s run.reached.is (actors p) (omega arith) (λ k less.
     let low : k < 64 = omega arith in
     elim (cases_eq (bit_at c.loop-actor.left k) 1) [
       | inl has ↦ subst (λ z. Rests p z k) same (mid.2.quiet k low (subst (λ m. bit_at m k ≡ 0) c.awake.ensures (c.in_default.ensures k low has)))
       | inr ne ↦ inv.rests none p es kept run k low (let bit = bit_at-lt c.loop-actor.left k in omega (arith, bit, ne)) less
-    ]))
+    ])))

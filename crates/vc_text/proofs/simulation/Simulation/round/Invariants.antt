@@ -1,4 +1,4 @@
-use Rattle.std.proofs.Common.{◌≡◌, ◌<◌, ◌≤◌, ◌-◌, ◌^◌, ℕ, List, true, false}
+use Rattle.std.proofs.Common.{◌≡◌, ◌<◌, ◌≤◌, ◌-◌, ◌^◌, ℕ, List}
 use Rattle.std.specs.Int.{bit_at}
 use Rattle.vc_plan.specs.declared.plan.Plan.{Plan}
 use Rattle.vc_core.specs.State.{state_of}
@@ -14,10 +14,9 @@ invariant-loop-actor g l = record {
   edge : (from : ℕ) × (from ≤ 64) × (l.left ≡ 2 ^ 64 - 2 ^ from);
   runs : LeadsOn g.K.EventSink.holds l.fn.self l.fn.events l.self l.events;
   some : l.fn.self.made ≤ l.self.made;
-  more : l.moved ≡ true → l.fn.self.made < l.self.made;
-  same : l.moved ≡ false → (p : Plan) (es : List Event) → HasTaken g.K.EventSink.holds l.fn.events p es l.fn.self → HasRun p es l.fn.self →
+  same : l.self.made ≡ l.fn.self.made → (p : Plan) (es : List Event) → HasTaken g.K.EventSink.holds l.fn.events p es l.fn.self → HasRun p es l.fn.self →
       state_of l.self.network ≡ state_of l.fn.self.network;
-  rests : l.moved ≡ false → (p : Plan) (es : List Event) → HasTaken g.K.EventSink.holds l.fn.events p es l.fn.self → HasRun p es l.fn.self →
+  rests : l.self.made ≡ l.fn.self.made → (p : Plan) (es : List Event) → HasTaken g.K.EventSink.holds l.fn.events p es l.fn.self → HasRun p es l.fn.self →
       (k : ℕ) → k < 64 → bit_at l.left k ≡ 0 → k < actors p → Rests p (state_of l.fn.self.network) k;
 }
 

@@ -2,11 +2,11 @@ use Rattle.std.proofs.Common.{◌≤◌, ◌-◌}
 use Rattle.vc_text.specs.Private.Simulating.{LeadsOn}
 use Rattle.vc_text.proofs.simulation.Simulation.rounds.Given as goal
 
-abbrev pub invariant-loop-self : goal.invariant-loop-self
-invariant-loop-self g l = record {
+abbrev pub invariant-loop : goal.invariant-loop
+invariant-loop g l = record {
   few : l.self.made ≤ l.limit;
   runs : LeadsOn g.K.EventSink.holds l.fn.self l.fn.events l.self l.events;
 }
 
-abbrev pub decreases-loop-self : goal.decreases-loop-self
-decreases-loop-self g l = l.limit - l.self.made
+abbrev pub decreases-loop : goal.decreases-loop
+decreases-loop g l = l.limit - l.self.made
