@@ -82,10 +82,9 @@ module _ (wiring : List (Option ℕ)) (ways : List (List Token)) (w : ℕ) (ts :
   ]
 
   -- a token was put: it comes to the actor to which the way leads
-  pub put_wakes : (to : Option ℕ) (after : ℕ) → LeadsTo wiring w to → ((k : ℕ) → k < 64 → to ≡ Some k → bit_at after k ≡ 1) → (k l : ℕ) → k < 64 → Comes wiring (slice_set ways w ts) k l →
-      (Comes wiring ways k l → ⊥) → bit_at after k ≡ 1
-  put_wakes to after leads it k l low f none = elim (cases_eq f.way w) [
-    | inl same ↦ it k low ((leads k).1 (l, f.into ∙ ap Some same))
+  pub put_wakes : (to after : ℕ) → LeadsTo wiring w to → bit_at after to ≡ 1 → (k l : ℕ) → Comes wiring (slice_set ways w ts) k l → (Comes wiring ways k l → ⊥) → bit_at after k ≡ 1
+  put_wakes to after leads it k l f none = elim (cases_eq f.way w) [
+    | inl same ↦ subst (λ z. bit_at after z ≡ 1) ((leads k).1 (l, f.into ∙ ap Some same)) it
     | inr ne ↦ absurd (none (other_came k l f ne))
   ]
 

@@ -113,7 +113,7 @@ ends_more n [] i w e = absurd (cc)
 ends_more n (x ∷ xs) zero w e = let same : x ≡ w = cc in ap (λ z. end_at n z.two ∷ end_at n z.one ∷ []) (sym same)
 ends_more n (x ∷ xs) (suc i) w e = ap (λ zs. end_at n x.two ∷ end_at n x.one ∷ zs) (ends_more n xs i w e)
 
-ends_count : (n : ℕ) (ws : List Wire) → length (ends_of n ws) ≡ 2 * length ws
+pub ends_count : (n : ℕ) (ws : List Wire) → length (ends_of n ws) ≡ 2 * length ws
 ends_count n [] = refl
 ends_count n (x ∷ xs) = let e = ends_count n xs in omega arith
 
@@ -178,16 +178,6 @@ module _ (p : Plan) (acc : IsAccepted p) (out : List (Option ℕ)) (tells : AreW
 
   pub are_ends : AreEnds out (ends_of n p.wires)
   are_ends k l w = (to_end k l w, from_end k l w)
-
--- what the table of ends tells of a way
-pub found_end : (out : List (Option ℕ)) (ends : List End) (w k l : ℕ) (e : End) → AreEnds out ends → slice_get ends w ≡ Some e → (in_at out k l ≡ Some w) ↔ (Some e ≡ Some (record { actor = k; link = l }))
-found_end out ends w k l e are here = ((λ i. sym here ∙ (are k l w).0 i), (λ same. (are k l w).1 (here ∙ same)))
-
-abbrev no_one : Option End
-no_one = None
-
-pub no_end : (out : List (Option ℕ)) (ends : List End) (w k l : ℕ) → AreEnds out ends → slice_get ends w ≡ None → (in_at out k l ≡ Some w) ↔ (no_one ≡ Some (record { actor = k; link = l }))
-no_end out ends w k l are here = ((λ i. sym here ∙ (are k l w).0 i), (λ same. (are k l w).1 (here ∙ same)))
 
 -- a way comes in by one link
 abbrev link_end : ℕ → ℕ → End

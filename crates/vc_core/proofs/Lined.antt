@@ -18,7 +18,7 @@ use Rattle.vc_vcp.proofs.Placed.{place-set_same, place-set_other}
 use Rattle.vc_core.specs.Fronts.{bit_of}
 use Rattle.vc_core.specs.Private.Fronts.{Marked}
 use Rattle.vc_core.specs.Lined.{AreLined}
-use Rattle.vc_core.specs.Private.Lined.{Wakes}
+use Rattle.vc_core.specs.Private.Lined.{LeadsTo, Wakes}
 use Rattle.vc_core.specs.Wired.{out_at, in_at, AreWaysAt, IsWired, Comes, Goes}
 use Rattle.vc_core.specs.State.{State, HasFront}
 use Rattle.vc_core.specs.Turns.{FindsFront}
@@ -43,12 +43,14 @@ empty_at : (ways : List (List Token)) → AllByRecursion (λ way. way ≡ []) wa
 empty_at ways all w t rest e = let z : t ∷ rest ≡ [] = sym (ap (shown_or [] (λ ts. ts)) e) ∙ no_token ways all w in absurd (cc)
 
 pub at_first : (p : Plan) → IsAccepted p → (wiring : List (Option ℕ)) (ways : List (List Token)) (fronts : List ℕ) → AreWaysAt p wiring → length wiring ≡ (length p.nodes + length p.switches) * 32 →
-    ((k l j i way : ℕ) → in_at wiring k l ≡ Some way → in_at wiring j i ≡ Some way → (j ≡ k) × (i ≡ l)) → length ways ≡ 2 * length p.wires → AllByRecursion (λ way. way ≡ []) ways →
+    ((k l j i way : ℕ) → in_at wiring k l ≡ Some way → in_at wiring j i ≡ Some way → (j ≡ k) × (i ≡ l)) → ((way : ℕ) → way < 2 * length p.wires → (k : ℕ) × (l : ℕ) × (in_at wiring k l ≡ Some way)) → length ways ≡ 2 * length p.wires → AllByRecursion (λ way. way ≡ []) ways →
     length fronts ≡ 256 → ((k : ℕ) → get_or fronts k 0 ≡ 0) → AreLined wiring ways fronts
-at_first p acc wiring ways fronts tells long one count empty actors none = record {
+at_first p acc wiring ways fronts tells long one into count empty actors none = record {
   real = λ k l w out. (let o = (outgoing_is p acc k l w).0 (sym (tells k l) ∙ out) in let less = o.0 in let many = length-map p.wires wire_of in omega arith);
   near = λ k l w into. (let o = (incoming_is p acc k l w).0 (sym (ap (option_map back) (tells k l)) ∙ into) in let less = o.0 in let many = length-map p.wires wire_of in omega arith);
   one = one;
+  into = λ w less. into w (subst (λ n. w < n) count less);
+  few = λ k l w into. (let v = in_out (out_at wiring k l) w into in let within = out_within wiring k l v.0 v.1 in let few = few_actors p acc in omega (arith, within, long, few));
   long = λ k l w into. (let v = in_out (out_at wiring k l) w into in let within = out_within wiring k l v.0 v.1 in let few = few_actors p acc in omega (arith, within, long, actors, few));
   told = λ k l few. (
     (λ t. absurd (let z : bit_of fronts k l ≡ 0 = ap (λ y. bit_at y l) (none k) ∙ bit_at-zero l in omega (arith, z, t))),
@@ -81,9 +83,8 @@ module _ (wiring : List (Option ℕ)) (ways : List (List Token)) (fronts : List 
   near_still : (k l v : ℕ) → in_at wiring k l ≡ Some v → v < length new
   near_still k l v e = subst (λ n. v < n) (sym (length-set ways w ts)) (are.near k l v e)
 
-  -- no link has the way
-  pub nowhere : ((k l : ℕ) → in_at wiring k l ≡ Some w → ⊥) → AreLined wiring new fronts
-  nowhere none = record { real = real_still; near = near_still; one = are.one; long = are.long; told = λ k l few. comes_still wiring ways w ts k l (none k l) (are.told k l few) }
+  into_still : (v : ℕ) → v < length new → (k : ℕ) × (l : ℕ) × (in_at wiring k l ≡ Some v)
+  into_still v less = are.into v (subst (λ n. v < n) (length-set ways w ts) less)
 
   module _ (k l : ℕ) (into : in_at wiring k l ≡ Some w) (less : w < length ways) where
     apart_from : (j i : ℕ) → ((j ≡ k) × (i ≡ l) → ⊥) → in_at wiring j i ≡ Some w → ⊥
@@ -105,6 +106,8 @@ module _ (wiring : List (Option ℕ)) (ways : List (List Token)) (fronts : List 
       real = real_still;
       near = near_still;
       one = are.one;
+      into = into_still;
+      few = are.few;
       long = λ j i v e. subst (λ n. j < n) (sym m.count) (are.long j i v e);
       told = λ j i few. elim (both_or j k i l) [
         | inl same ↦ subst (λ z. (bit_of marks z i ≡ 1) ↔ Comes wiring new z i) (sym same.0) (subst (λ z. (bit_of marks k z ≡ 1) ↔ Comes wiring new k z) (sym same.1) (subst (λ z. (z ≡ 1) ↔ Comes wiring new k l) (sym m.it) here))
@@ -125,12 +128,13 @@ module _ (wiring : List (Option ℕ)) (ways : List (List Token)) (fronts : List 
     comes_yet t rest is before = by_marks fronts 1 (record { count = refl; it = (are.told k l (in_few wiring k l w into)).1 before; others = λ j i few other. refl }) ((λ e. here_now t rest is), (λ f. refl))
 
 -- a token came to the end of a way
-pub woken : (wiring : List (Option ℕ)) (ways : List (List Token)) (old new : List ℕ) (w : ℕ) (ts : List Token) (t : Token) (rest : List Token) → AreLined wiring ways old → w < length ways → ts ≡ t ∷ rest → Wakes wiring old w new →
-    AreLined wiring (slice_set ways w ts) new
-woken wiring ways old new w ts t rest are less is wakes = elim wakes [
-  | inl (k, l, into, m) ↦ comes_now wiring ways old are w ts k l into less new t rest is m
-  | inr (none, same) ↦ subst (AreLined wiring (slice_set ways w ts)) (sym same) (nowhere wiring ways old are w ts none)
-]
+pub woken : (wiring : List (Option ℕ)) (ways : List (List Token)) (old new : List ℕ) (w k : ℕ) (ts : List Token) (t : Token) (rest : List Token) → AreLined wiring ways old → w < length ways → ts ≡ t ∷ rest →
+    Wakes wiring old w k new → AreLined wiring (slice_set ways w ts) new
+woken wiring ways old new w k ts t rest are less is (l, into, m) = comes_now wiring ways old are w ts k l into less new t rest is m
+
+-- the actor that is woken is the one to which the way leads
+pub leads_to : (wiring : List (Option ℕ)) (ways : List (List Token)) (old marks : List ℕ) (w k : ℕ) → AreLined wiring ways old → Wakes wiring old w k marks → LeadsTo wiring w k
+leads_to wiring ways old marks w k are (l, into, m) j = ((λ same. (l, subst (λ z. in_at wiring z l ≡ Some w) same into)), (λ e. (are.one j e.0 k l w e.1 into).0))
 
 -- the bits of room are those of the ways that go out
 pub goes_of : (wiring : List (Option ℕ)) (ways : List (List Token)) (fronts : List ℕ) (k l b : ℕ) → AreLined wiring ways fronts → (b ≡ 1) ↔ IsWired wiring k l → (b ≡ 1) ↔ Goes wiring ways k l

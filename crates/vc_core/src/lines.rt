@@ -146,33 +146,29 @@ impl Lines {
         token
     }
 
-    /// A token more comes to the end of a way. The answer is the actor to which the way leads, if it leads to one.
+    /// A token more comes to the end of a way. The answer is the actor to which the way leads.
     #[inline(always)]
-    pub(crate) fn push(&mut self, way: usize, token: Token) -> Result<Option<u16>, Memory>
+    pub(crate) fn push(&mut self, way: usize, token: Token) -> Result<u16, Memory>
         requires { way < length self.old.ways }
         ensures ok { (ts : List SpeltToken) →
             slice_get self.old.ways way ≡ Some ts →
             OnOk result (self.new ≡ with_way self.old way (ts ++ spelt token ∷ [])) }
         ensures to { IfOk result (LeadsTo self.old.wiring way) }
+        ensures few { IfOk result (λ to. to < 64) }
         ensures err { OnErr result (self.new ≡ self.old) }
     {
         self.ways[way].push(token)?;
         Ok(wake(&self.wiring, &mut self.fronts, way))
     }
 
-    /// The next token that an actor puts on a link comes to the end of a way. The answer is the actor to which the way leads, if it
-    /// leads to one.
+    /// The next token that an actor puts on a link comes to the end of a way. The answer is the actor to which the way leads.
     #[inline(always)]
-    pub(crate) fn put(
-        &mut self,
-        way: usize,
-        from: &mut Actor,
-        link: u8,
-    ) -> Result<Option<u16>, Memory>
+    pub(crate) fn put(&mut self, way: usize, from: &mut Actor, link: u8) -> Result<u16, Memory>
         requires way { way < length self.old.ways }
         requires may { MayAct from.old (act.Put link) }
         ensures ok { OnOk result (PutsOnWay self.old way from.old link from.new self.new) }
         ensures to { IfOk result (LeadsTo self.old.wiring way) }
+        ensures few { IfOk result (λ to. to < 64) }
         ensures err { OnErr result ((from.new ≡ from.old) × (self.new ≡ self.old)) }
     {
         self.ways[way].put(from, link)?;
@@ -180,16 +176,16 @@ impl Lines {
     }
 }
 
-// From now on a token comes by the link to which a way leads. The answer is its actor, if the way leads to one.
+// From now on a token comes by the link to which a way leads. The answer is its actor.
 #[inline(always)]
-fn wake(wiring: &Wiring, fronts: &mut Fronts, way: usize) -> Option<u16>
-    requires { (k l : ℕ) → in_at wiring.now k l ≡ Some way → k < length fronts.old }
-    ensures wakes { Wakes wiring.now fronts.old way fronts.new }
-    ensures to { LeadsTo wiring.now way result }
+fn wake(wiring: &Wiring, fronts: &mut Fronts, way: usize) -> u16
+    requires leads { (k : ℕ) × (l : ℕ) × (in_at wiring.now k l ≡ Some way) }
+    requires actor { (k l : ℕ) → in_at wiring.now k l ≡ Some way → k < length fronts.old }
+    ensures { Wakes wiring.now fronts.old way result fronts.new }
 {
-    let end = wiring.end(way)?;
+    let end = wiring.end(way);
     fronts.set(end.actor, end.link);
-    Some(end.actor)
+    end.actor
 }
 
 // Two ways for each wire, with no token on them.

@@ -730,21 +730,18 @@ impl Network {
     }
 }
 
-// An actor to which a token came is awake from now on; past the first 64 none has a bit.
+// An actor to which a token came is awake from now on.
 #[inline(always)]
-fn wake(awake: &mut u64, to: Option<u16>)
+fn wake(awake: &mut u64, actor: u16)
+    requires { actor < 64 }
     ensures kept { (k : ℕ) → k < 64 → bit_at awake.old k ≡ 1 → bit_at awake.new k ≡ 1 }
-    ensures it { (k : ℕ) → k < 64 → to ≡ Some k → bit_at awake.new k ≡ 1 }
+    ensures it { bit_at awake.new actor ≡ 1 }
     ensures only { (k : ℕ) →
         k < 64 →
         bit_at awake.new k ≡ 1 →
-        (bit_at awake.old k ≡ 1) ⊎ (to ≡ Some k) }
+        (bit_at awake.old k ≡ 1) ⊎ (actor ≡ k) }
 {
-    if let Some(actor) = to {
-        if actor < 64 {
-            *awake |= 1u64 << actor;
-        }
-    }
+    *awake |= 1u64 << actor;
 }
 
 // What the parts of an actor's process are at that do not go on by themselves, if it is a node.

@@ -8,7 +8,6 @@ ghost use Rattle.vc_plan.specs.Accepted.{IsAccepted};
 use crate::ends::{End, ends_of};
 use crate::outgoing_ways::ways_out;
 use crate::rooms::rooms_of;
-use sqlite_items::at;
 use std::alloc::Global;
 use std::marker::Model;
 use vc_packets::Memory;
@@ -53,6 +52,11 @@ impl Wiring {
             in_at wiring k l ≡ Some way →
             in_at wiring j i ≡ Some way →
             (j ≡ k) × (i ≡ l)) }
+        ensures into { IfOk result
+            (λ wiring.
+            (way : ℕ) →
+            way < 2 * length plan.now.wires →
+            (k : ℕ) × (l : ℕ) × (in_at wiring k l ≡ Some way)) }
     {
         let out = ways_out(alloc, plan)?;
         let rooms = rooms_of(out.as_slice());
@@ -68,15 +72,11 @@ impl Wiring {
     }
 
     /// The port to which a way leads.
-    pub(crate) fn end(&self, way: usize) -> Option<End>
-        ensures { (actor link : ℕ) →
-            (in_at self.now actor link ≡ Some way) ↔
-            (result ≡ Some (record { actor = actor; link = link })) }
+    pub(crate) fn end(&self, way: usize) -> End
+        requires { (actor : ℕ) × (link : ℕ) × (in_at self.now actor link ≡ Some way) }
+        ensures { in_at self.now result.actor result.link ≡ Some way }
     {
-        match at(self.ends.as_slice(), way) {
-            Some(end) => Some(*end),
-            None => None,
-        }
+        self.ends[way]
     }
 
     /// The way that goes out by a link of an actor, if the link is on a wire.

@@ -1,5 +1,5 @@
 -- The ways of a network, as the code keeps them at the links of its actors.
-use Rattle.std.specs.Prelude.{◌≡◌, ◌↔◌, ◌⊎◌, ℕ, List, slice_get, slice_set, Option, Some}
+use Rattle.std.specs.Prelude.{◌≡◌, ◌↔◌, ℕ, List, slice_get, slice_set, Option, Some}
 use Rattle.vc_tokens.specs.Spelt.{token}
 use Rattle.vc_tokens.specs.Tokens.{Token}
 use Rattle.vc_tokens.specs.declared.token.Token.{Token as Made}
@@ -9,13 +9,13 @@ use Rattle.vc_core.specs.Private.Ways.{PutsAt}
 use Rattle.vc_core.specs.Wired.{in_at, Comes}
 use Rattle.vc_core.specs.Lined.{Lined}
 
--- the bit of the link to which the way leads is set, if it leads to one
-abbrev pub Wakes : List (Option ℕ) → List ℕ → ℕ → List ℕ → Type 0
-Wakes wiring old way new = ((k : ℕ) × (l : ℕ) × (in_at wiring k l ≡ Some way) × Marked old k l 1 new) ⊎ (((k l : ℕ) → in_at wiring k l ≡ Some way → ⊥) × (new ≡ old))
+-- the way leads to a link of the actor, whose bit is set
+abbrev pub Wakes : List (Option ℕ) → List ℕ → ℕ → ℕ → List ℕ → Type 0
+Wakes wiring old way to new = (l : ℕ) × (in_at wiring to l ≡ Some way) × Marked old to l 1 new
 
--- it is the actor to which the way leads, if it leads to one
-abbrev pub LeadsTo : List (Option ℕ) → ℕ → Option ℕ → Type 0
-LeadsTo wiring way to = (k : ℕ) → (to ≡ Some k) ↔ ((l : ℕ) × (in_at wiring k l ≡ Some way))
+-- it is the actor to which the way leads
+abbrev pub LeadsTo : List (Option ℕ) → ℕ → ℕ → Type 0
+LeadsTo wiring way to = (k : ℕ) → (to ≡ k) ↔ ((l : ℕ) × (in_at wiring k l ≡ Some way))
 
 -- these tokens stand on one way now
 abbrev pub with_way : Lined → ℕ → List Token → Lined

@@ -4,18 +4,21 @@ use Rattle.vc_tokens.specs.Spelt.{token as spelt}
 use Rattle.vc_core.specs.Lined.{Lined, AreLined}
 use Rattle.vc_core.specs.Private.Lined.{LeadsTo, with_way}
 use Rattle.vc_core.proofs.Happening.{written_back}
-use Rattle.vc_core.proofs.Lined.{woken, end_first, err_all}
+use Rattle.vc_core.proofs.Lined.{woken, leads_to, end_first, err_all}
 use Rattle.vc_core.proofs.lines.Lines.push.Goals as goal
 
-pub wake-requires : goal.wake-requires
-wake-requires c = λ k l into. c.self.invariant.long k l c.args.way into
+pub wake-requires-clause-leads : goal.wake-requires-clause-leads
+wake-requires-clause-leads c = c.self.invariant.into c.args.way (subst (λ (z : Lined). c.args.way < length z.ways) (sym c.self.view_is) c.requires)
+
+pub wake-requires-clause-actor : goal.wake-requires-clause-actor
+wake-requires-clause-actor c = λ k l into. c.self.invariant.long k l c.args.way into
 
 pub invariant_of-self-2 : goal.invariant_of-self-2
 invariant_of-self-2 c =
     let x = c.self.inside in
     let less = subst (λ (z : Lined). c.args.way < length z.ways) (sym c.self.view_is) c.requires in
     let first = end_first c.index_mut.result.now (spelt c.args.token) in
-    woken x.wiring x.ways.items x.fronts c.wake.new.fronts c.args.way c.push.new.self first.0 first.1 c.self.invariant less (c.in_ok-push.ensures.ok ∙ first.2) c.wake.ensures.wakes
+    woken x.wiring x.ways.items x.fronts c.wake.new.fronts c.args.way c.wake.result c.push.new.self first.0 first.1 c.self.invariant less (c.in_ok-push.ensures.ok ∙ first.2) c.wake.ensures
 
 pub invariant_of-self : goal.invariant_of-self
 invariant_of-self c =
@@ -42,4 +45,9 @@ returns-in_err-push-clause-err c =
     err_all c.from_residual.result ((λ i. record { ways = written_back x.ways.items c.args.way c.index_mut.result.now c.push.new.self read c.in_err-push.ensures.err i; wiring = x.wiring }) ∙ c.self.view_is)
 
 pub returns-clause-to : goal.returns-clause-to
-returns-clause-to c = subst (λ (z : Lined). LeadsTo z.wiring c.args.way c.wake.result) c.self.view_is c.wake.ensures.to
+returns-clause-to c =
+    let x = c.self.inside in
+    subst (λ (z : Lined). LeadsTo z.wiring c.args.way c.wake.result) c.self.view_is (leads_to x.wiring x.ways.items x.fronts c.wake.new.fronts c.args.way c.wake.result c.self.invariant c.wake.ensures)
+
+pub returns-clause-few : goal.returns-clause-few
+returns-clause-few c = let e = c.wake.ensures in c.self.invariant.few c.wake.result e.0 c.args.way e.1

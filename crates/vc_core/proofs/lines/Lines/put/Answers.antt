@@ -3,11 +3,14 @@ use Rattle.std.proofs.lemmas.Option.{slice_get_read}
 use Rattle.vc_core.specs.Lined.{Lined, AreLined}
 use Rattle.vc_core.specs.Private.Lined.{LeadsTo, with_way}
 use Rattle.vc_core.proofs.Happening.{written_back}
-use Rattle.vc_core.proofs.Lined.{woken, end_first, err_all}
+use Rattle.vc_core.proofs.Lined.{woken, leads_to, end_first, err_all}
 use Rattle.vc_core.proofs.lines.Lines.put.Goals as goal
 
-pub wake-requires : goal.wake-requires
-wake-requires c = λ k l into. c.self.invariant.long k l c.args.way into
+pub wake-requires-clause-leads : goal.wake-requires-clause-leads
+wake-requires-clause-leads c = c.self.invariant.into c.args.way (subst (λ (z : Lined). c.args.way < length z.ways) (sym c.self.view_is) c.requires.way)
+
+pub wake-requires-clause-actor : goal.wake-requires-clause-actor
+wake-requires-clause-actor c = λ k l into. c.self.invariant.long k l c.args.way into
 
 pub invariant_of-self-2 : goal.invariant_of-self-2
 invariant_of-self-2 c =
@@ -15,7 +18,7 @@ invariant_of-self-2 c =
     let less = subst (λ (z : Lined). c.args.way < length z.ways) (sym c.self.view_is) c.requires.way in
     let puts = c.in_ok-put.ensures.ok in
     let first = end_first c.index_mut.result.now puts.token in
-    woken x.wiring x.ways.items x.fronts c.wake.new.fronts c.args.way c.put.new.self first.0 first.1 c.self.invariant less (puts.ends ∙ first.2) c.wake.ensures.wakes
+    woken x.wiring x.ways.items x.fronts c.wake.new.fronts c.args.way c.wake.result c.put.new.self first.0 first.1 c.self.invariant less (puts.ends ∙ first.2) c.wake.ensures
 
 pub invariant_of-self : goal.invariant_of-self
 invariant_of-self c =
@@ -45,4 +48,9 @@ returns-in_err-put-clause-err c =
     err_all c.from_residual.result (c.in_err-put.ensures.err.0, (λ i. record { ways = written_back x.ways.items c.args.way c.index_mut.result.now c.put.new.self read c.in_err-put.ensures.err.1 i; wiring = x.wiring }) ∙ c.self.view_is)
 
 pub returns-clause-to : goal.returns-clause-to
-returns-clause-to c = subst (λ (z : Lined). LeadsTo z.wiring c.args.way c.wake.result) c.self.view_is c.wake.ensures.to
+returns-clause-to c =
+    let x = c.self.inside in
+    subst (λ (z : Lined). LeadsTo z.wiring c.args.way c.wake.result) c.self.view_is (leads_to x.wiring x.ways.items x.fronts c.wake.new.fronts c.args.way c.wake.result c.self.invariant c.wake.ensures)
+
+pub returns-clause-few : goal.returns-clause-few
+returns-clause-few c = let e = c.wake.ensures in c.self.invariant.few c.wake.result e.0 c.args.way e.1

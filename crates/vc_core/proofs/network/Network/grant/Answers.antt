@@ -37,7 +37,7 @@ returns-clause-awake c =
       kept = λ k low is. ap (λ m. bit_at m k) same ∙ c.wake.ensures.kept k low is;
       woken = λ k l low f none.
           ap (λ m. bit_at m k) same
-          ∙ put_wakes n.lines.wiring n.lines.ways w _ c.in_ok-to.to c.wake.new.awake c.in_ok-to.ensures.to c.wake.ensures.it k l low
+          ∙ put_wakes n.lines.wiring n.lines.ways w _ c.in_ok-to.to c.wake.new.awake c.in_ok-to.ensures.to c.wake.ensures.it k l
           (subst (λ (z : Lined). Comes z.wiring z.ways k l) line (subst (λ z. HasFront z k l) c.grant_by.ensures.grants.new_is f)) none;
       only = λ k low is. elim (c.wake.ensures.only k low (sym (ap (λ m. bit_at m k) same) ∙ is)) [
         | inl was ↦ inl was

@@ -1,5 +1,5 @@
 use Rattle.std.proofs.Common.{sym, subst}
-use Rattle.vc_core.specs.State.{state_of, HasFront, MakesEvent, WaysLet}
+use Rattle.vc_core.specs.State.{state_of, MakesEvent, WaysLet}
 use Rattle.vc_core.proofs.network.Network.make.Goals as goal
 
 pub take_front-requires : goal.take_front-requires

@@ -46,7 +46,7 @@ returns-clause-awake c =
     let puts = c.in_ok-to.ensures.ok in
     record {
       kept = c.wake.ensures.kept;
-      woken = λ k l low f none. put_wakes n.lines.wiring n.lines.ways c.way_out-way.result puts.more c.in_ok-to.to c.wake.new.awake c.in_ok-to.ensures.to c.wake.ensures.it k l low
+      woken = λ k l low f none. put_wakes n.lines.wiring n.lines.ways c.way_out-way.result puts.more c.in_ok-to.to c.wake.new.awake c.in_ok-to.ensures.to c.wake.ensures.it k l
           (subst (λ (z : Lined). Comes z.wiring z.ways k l) puts.new_is f) none;
       only = λ k low is. elim (c.wake.ensures.only k low is) [
         | inl was ↦ inl was

@@ -1,15 +1,19 @@
-use Rattle.std.proofs.Common.{◌≡◌, ◌↔◌, slice_get, Some, None, sym, ap, ◌∙◌, subst}
-use Rattle.vc_core.specs.Wired.{in_at, AreEnds}
-use Rattle.vc_core.proofs.Leading.{found_end, no_end}
+use Rattle.std.proofs.Common.{◌≡◌, ◌<◌, length, refl, sym, subst, Some}
+use Rattle.std.proofs.lemmas.Option.{slice_get_read, slice_get_within}
+use Rattle.vc_core.specs.Wired.{in_at}
 use Rattle.vc_core.proofs.wiring.Wiring.end.Goals as goal
 
-pub returns-in-Some : goal.returns-in-Some
-returns-in-Some c = λ actor link.
-    let here : slice_get c.self.inside.ends.items c.args.way ≡ Some c.in-Some.end.now = ap (λ z. slice_get z c.args.way) (sym c.as_slice.ensures.value) ∙ sym c.in-Some.ensures in
-    subst (λ o. (in_at o actor link ≡ Some c.args.way) ↔ (Some c.in-Some.end.now ≡ Some (record { actor = actor; link = link }))) c.self.view_is
-    (found_end c.self.inside.out.items c.self.inside.ends.items c.args.way actor link c.in-Some.end.now c.self.invariant.1 here)
+pub index-requires : goal.index-requires
+index-requires c =
+    let x = c.self.inside in
+    let e = c.requires in
+    subst (λ n. c.args.way < n) (sym x.ends.ok.0) (slice_get_within x.ends.items c.args.way _ ((c.self.invariant.1 e.0 e.1 c.args.way).0 (subst (λ o. in_at o e.0 e.1 ≡ Some c.args.way) (sym c.self.view_is) e.2)))
 
-pub returns-in-None : goal.returns-in-None
-returns-in-None c = λ actor link.
-    let here : slice_get c.self.inside.ends.items c.args.way ≡ None = ap (λ z. slice_get z c.args.way) (sym c.as_slice.ensures.value) ∙ sym c.in-None.ensures in
-    no_end c.args.self.now c.self.inside.ends.items c.args.way actor link (subst (λ o. AreEnds o c.self.inside.ends.items) c.self.view_is c.self.invariant.1) here
+pub returns : goal.returns
+returns c =
+    let x = c.self.inside in
+    let e = c.requires in
+    let within = slice_get_within x.ends.items c.args.way _ ((c.self.invariant.1 e.0 e.1 c.args.way).0 (subst (λ o. in_at o e.0 e.1 ≡ Some c.args.way) (sym c.self.view_is) e.2)) in
+    let r = c.index.result.now in
+    let here = slice_get_read x.ends.items (length x.ends.items) c.args.way r refl within c.index.ensures in
+    subst (λ o. in_at o r.actor r.link ≡ Some c.args.way) c.self.view_is ((c.self.invariant.1 r.actor r.link c.args.way).1 here)

@@ -1,6 +1,7 @@
-use Rattle.std.proofs.Common.{sym, subst}
+use Rattle.std.proofs.Common.{◌<◌, length, sym, ap, ◌∙◌, subst}
 use Rattle.vc_core.specs.Wired.{AreRooms, AreEnds}
-use Rattle.vc_core.proofs.Leading.{are_ends, one_link}
+use Rattle.vc_core.proofs.Enabled.{has}
+use Rattle.vc_core.proofs.Leading.{are_ends, ends_count, one_link}
 use Rattle.vc_core.proofs.wiring.Wiring.new.Goals as goal
 
 pub invariant_of-result : goal.invariant_of-result
@@ -14,3 +15,12 @@ pub returns-clause-one : goal.returns-clause-one
 returns-clause-one c = λ k l j i way a b.
     let out = c.in_ok-out.out.items in
     one_link out _ k l j i way (are_ends c.args.plan.now c.requires out c.in_ok-out.ensures.tells) a b
+
+pub returns-clause-into : goal.returns-clause-into
+returns-clause-into c = λ way less.
+    let p = c.args.plan.now in
+    let ends = c.in_ok-ends.ends.items in
+    let long = ap length c.in_ok-ends.ensures ∙ ends_count (length p.nodes) p.wires in
+    let e = has ends way (subst (λ n. way < n) (sym long) less) in
+    let are = subst (AreEnds c.in_ok-out.out.items) (sym c.in_ok-ends.ensures) (are_ends p c.requires c.in_ok-out.out.items c.in_ok-out.ensures.tells) in
+    (e.0.actor, e.0.link, (are e.0.actor e.0.link way).1 e.1)
