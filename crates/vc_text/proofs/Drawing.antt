@@ -1,8 +1,7 @@
 -- What the generators of a run have given.
-use Rattle.std.proofs.Common.{◌≡◌, ◌==◌, ℕ, zero, suc, ◌+◌, ◌<◌, ◌≤◌, List, length, slice_set, [], ◌∷◌, ◌++◌, Bool, true, false, if◌then◌else◌, slice_get, Some, inl, inr, refl, sym, ap, ◌∙◌, subst, arith, append-nil, eq-eqb, ne_eqb}
+use Rattle.std.proofs.Common.{◌≡◌, ◌==◌, ℕ, zero, suc, ◌+◌, ◌<◌, ◌≤◌, List, length, [], ◌∷◌, ◌++◌, Bool, true, false, if◌then◌else◌, slice_get, Some, inl, inr, refl, sym, ap, ◌∙◌, subst, arith, append-nil, eq-eqb, ne_eqb}
 use Rattle.std.proofs.lemmas.Bool.{cases_eq, cases_lt}
 use Rattle.std.proofs.lemmas.List.Concat.{flat_map-append}
-use Rattle.std.proofs.lemmas.Option.{slice_get_within}
 use Rattle.rand_pcg.specs.Lcg.{Lcg}
 use Rattle.rand_pcg.specs.Pcg.{pcg32}
 use Rattle.vc_actor.specs.declared.act.Act.{Act}
@@ -10,7 +9,6 @@ use Rattle.vc_actor.specs.declared.act.Act.TheVariants.{Proc, Take, Put, Route, 
 use Rattle.vc_actor.specs.Turns.{TakesNone, actors}
 use Rattle.vc_core.specs.declared.event.Event.{Event}
 use Rattle.vc_plan.specs.declared.plan.Plan.{Plan}
-use Rattle.vc_switch.proofs.Placed.{place-set_other, place-set_same}
 use Rattle.vc_threads.proofs.Steps.{draws_then}
 use Rattle.vc_threads.specs.Runs.{Draws, generator}
 use Rattle.vc_text.specs.Private.Generators.{DrawsFor, HaveGiven, generator_of}
@@ -40,29 +38,9 @@ generators_begun ws n count begun k less = elim (cases_lt k n) [
   | inr later ↦ (let at : n ≡ k = omega (arith, less, later) in get_last ws (generator 0 n) k (omega (arith, count, at)) ∙ ap (λ i. Some (generator 0 i)) at)
 ]
 
--- the next word is drawn of a generator, which is written back
-pub draws_for : (a b : Generators) (k i word : ℕ) (g h : Lcg) → i ≡ k → b.words.items ≡ slice_set a.words.items i h → slice_get a.words.items i ≡ Some g → (word, h) ≡ pcg32 g → DrawsFor a k word b
-draws_for a b k i word g h at is here step = record {
-  its = λ f there.
-      let same : Some g ≡ Some f = sym here ∙ ap (slice_get a.words.items) at ∙ there in
-      let own : (word, h) ≡ pcg32 f = step ∙ ap pcg32 (some_is g f same) in (
-        ap (λ (p : ℕ × Lcg). p.0) own,
-        ap (λ ws. slice_get ws k) is ∙ ap (λ z. slice_get (slice_set a.words.items i h) z) (sym at) ∙ place-set_same a.words.items i h (slice_get_within a.words.items i g here)
-            ∙ ap (λ (p : ℕ × Lcg). Some p.1) own,
-      );
-  others = λ j ne. ap (λ ws. slice_get ws j) is ∙ place-set_other a.words.items i j h (λ e. ne (e ∙ at));
-}
-
--- there is no such generator
-pub draws_none : (a : Generators) (k i word : ℕ) → i ≡ k → length a.words.items ≤ i → DrawsFor a k word a
-draws_none a k i word at past = record {
-  its = λ g there. absurd (let less = slice_get_within a.words.items k g there in omega (arith, at, past, less));
-  others = λ j ne. refl;
-}
-
 -- at first none has given a word
-pub none_given : (p : Plan) (n : ℕ) (generators : Generators) → actors p ≤ n → ((k : ℕ) → k < n → generator_of generators k ≡ Some (generator 0 k)) → HaveGiven p [] generators
-none_given p n generators few begin = λ k less. (generator 0 k, begin k (omega (arith, few, less)), refl)
+pub none_given : (p : Plan) (generators : Generators) → actors p ≤ 64 → ((k : ℕ) → k < 64 → generator_of generators k ≡ Some (generator 0 k)) → HaveGiven p [] generators
+none_given p generators few begin = λ k less. (generator 0 k, begin k (omega (arith, few, less)), refl)
 
 -- a run's words are those that were given
 pub given_words : (p : Plan) (es : List Event) (generators : Generators) → HaveGiven p es generators → HasWordsOf p 0 es

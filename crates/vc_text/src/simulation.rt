@@ -34,7 +34,7 @@ impl Simulation {
         ensures opens { IfOk result (HasRun accepted.now []) }
     {
         let network = Network::new(alloc, accepted)?;
-        let generators = Generators::new(alloc, usize::from(network.actors()))?;
+        let generators = Generators::new(alloc)?;
         Ok(Simulation {
             network,
             generators,

@@ -1,5 +1,6 @@
 use Rattle.std.proofs.Common.{[], arith, refl}
 use Rattle.vc_core.specs.State.{state_of}
+use Rattle.vc_core.proofs.Leaving.{few}
 use Rattle.vc_core.proofs.Replayed.{reached_first}
 use Rattle.vc_text.proofs.Drawing.{none_given}
 use Rattle.vc_text.proofs.Quieting.{none_quiet}
@@ -10,10 +11,11 @@ returns-clause-opens c =
     let p = c.args.accepted.now in
     let s = state_of c.in_ok-network.network in
     let reached = reached_first p [] s c.in_ok-network.ensures.opening in
-    let many = c.actors.ensures p reached.is in
+    let nodes = (few p reached.is.accepted).0 in
+    let switches = (few p reached.is.accepted).1 in
     record {
       reached = reached;
       many = refl;
-      words = none_given p c.from.result c.in_ok-generators.generators (omega (arith, many, c.from.ensures)) c.in_ok-generators.ensures;
+      words = none_given p c.in_ok-generators.generators (omega (arith, nodes, switches)) c.in_ok-generators.ensures;
       quiet = none_quiet p s c.in_ok-network.network.awake c.in_ok-network.ensures.awake;
     }
