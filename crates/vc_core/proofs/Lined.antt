@@ -173,6 +173,3 @@ not_empty (t ∷ ts) ne = (t, ts, refl)
 pub err_all : {X E P : Type 0} (r : Result X E) → P → OnErr r P
 err_all (Ok x) h = tt
 err_all (Err e) h = h
-
-pub no_some : {X : Type 0} (x : X) → None ≡ Some x → ⊥
-no_some x e = absurd (cc)

@@ -1,5 +1,5 @@
 -- Where a body's front header stands, is where it leaves from.
-use Rattle.std.proofs.Common.{◌≡◌, ◌≢◌, ℕ, zero, suc, ◌+◌, ◌*◌, ◌/◌, ◌%◌, ◌<◌, ◌≤◌, Bool, true, false, ◌-◌, List, [], ◌∷◌, ◌++◌, drop, take, length, get_or, refl, sym, ap, ◌∙◌, subst, arith, append_assoc, if◌then◌else◌, IfSome, Option, Some, None, ◌⊎◌, inl, inr}
+use Rattle.std.proofs.Common.{◌≡◌, ◌≢◌, ℕ, zero, suc, ◌+◌, ◌*◌, ◌/◌, ◌%◌, ◌<◌, ◌≤◌, Bool, true, false, ◌-◌, List, [], ◌∷◌, ◌++◌, drop, take, length, get_or, refl, sym, ap, ◌∙◌, subst, arith, append_assoc, if◌then◌else◌, Option, Some, None, ◌⊎◌, inl, inr}
 use Rattle.std.proofs.lemmas.Bool.{cases_lt}
 use Rattle.std.proofs.lemmas.List.{take_all}
 use Rattle.vc_labels.specs.declared.row.Row.{Row}
@@ -248,11 +248,6 @@ leaves_before plan b more one other d e h longer =
         after_is = refl;
       },
     )
-
--- where a search found a front
-pub headed_where : (table : List Row) (b : List ℕ) (o : Option Front) → ((k : ℕ) → get_or b k 0 < 256) → o ≡ front_of table b → IfSome o (λ f. HasFront table b f)
-headed_where table b None bytes is = tt
-headed_where table b (Some f) bytes is = headed table b f bytes (sym is)
 
 -- A body has a group, or it has none.
 

@@ -63,11 +63,6 @@ source_of s j p o there is = ap (shown_or None (λ z. z.source)) there ∙ is
 pub source_within : (s : State) (j l : ℕ) → IsSwitch s → source_at s.outputs j ≡ Some l → l < length s.inputs
 source_within s j l w source = bound_within s.inputs l j (slice_get s.inputs l) refl (w.paired.outs j l source)
 
-pub source_bound : (s : State) (j l : ℕ) (x : LinkIn) → IsSwitch s → source_at s.outputs j ≡ Some l → slice_get s.inputs l ≡ Some x → x.bound ≡ None → ⊥
-source_bound s j l x w source here none =
-    let q : None ≡ Some j = sym (ap (shown_or None (λ z. output_of z.bound)) here ∙ ap output_of none) ∙ w.paired.outs j l source in
-    absurd (cc)
-
 pub output_is : (s : State) (j l : ℕ) (b : Bound) → IsSwitch s → IsBoundTo s j l b → b.output ≡ j
 output_is s j l b w t =
     let q : Some b.output ≡ Some j = sym (ap (shown_or None (λ z. output_of z.bound)) t.here ∙ ap output_of t.bound) ∙ w.paired.outs j l t.source in

@@ -15,9 +15,6 @@ use Rattle.vc_text.specs.Private.Generators.{DrawsFor, HaveGiven, generator_of}
 use Rattle.vc_text.specs.Takes.{HasWordsOf, take_word, word_by, words_by}
 use Rattle.vc_text.specs.declared.generators.Generators.{Generators}
 
-some_is : (g h : Lcg) → Some g ≡ Some h → g ≡ h
-some_is g h e = cc
-
 -- one thing more
 get_before : {X : Type 0} (xs : List X) (x : X) (k : ℕ) → k < length xs → slice_get (xs ++ x ∷ []) k ≡ slice_get xs k
 get_before [] x k less = absurd (omega (arith, less))

@@ -1,5 +1,5 @@
 -- No step of a node is by a link that it does not have.
-use Rattle.std.proofs.Common.{◌≡◌, ◌≢◌, ℕ, zero, suc, ◌<◌, ◌≤◌, false, true, Bool, IsTrue, ◌↔◌, List, [], ◌∷◌, length, refl, sym, ap, ◌∙◌, subst, arith, slice_get, get_or, ltb, Some, None}
+use Rattle.std.proofs.Common.{◌≡◌, ◌≢◌, ℕ, ◌<◌, ◌≤◌, false, true, Bool, IsTrue, ◌↔◌, List, [], ◌∷◌, length, refl, sym, ap, ◌∙◌, subst, slice_get, get_or, ltb, Some, None}
 use Rattle.std.proofs.lemmas.Bool.{ltb-true, ltb-false}
 use Rattle.std.proofs.lemmas.Option.{slice_get_within, slice_get_read, slice_get_past}
 use Rattle.vc_credit.specs.Ends.{HasRoom, new_receiver}
@@ -52,17 +52,3 @@ pub grant_there : (s : State) (l : ℕ) (x : Receiving) (b : Bool) → IsWired s
 grant_there s l x b w here is =
     let can = grant_iff s l x b here is in
     (λ t. (subst (λ n. l < n) w.four_in (slice_get_within s.ins l x here), can.0 t), λ h. can.1 h.1)
-
-some_at : {X : Type 0} (xs : List X) (l : ℕ) → l < length xs → (x : X) × (slice_get xs l ≡ Some x)
-some_at [] l less = absurd (omega arith)
-some_at (x ∷ xs) zero less = (x, refl)
-some_at (x ∷ xs) (suc l) less = some_at xs l (omega arith)
-
-no_link : {X : Type 0} (xs : List X) (l : ℕ) → length xs ≡ 4 → slice_get xs l ≡ None → l < 4 → ⊥
-no_link xs l long none less =
-    let some = some_at xs l (subst (λ n. l < n) (sym long) less) in
-    let q : None ≡ Some some.0 = sym none ∙ some.1 in
-    cc
-
-pub no_grant : (s : State) (l : ℕ) → IsWired s → slice_get s.ins l ≡ None → IsTrue false ↔ ((l < 4) × CanGrant (seen s) l)
-no_grant s l w none = (λ t. absurd (cc), λ can. absurd (no_link s.ins l w.four_in none can.0))
