@@ -58,6 +58,19 @@ impl Bytes {
         Ok(Bytes { bytes })
     }
 
+    /// These bytes, which take no memory of their own where there are at most 16.
+    #[inline(always)]
+    pub fn from_array<const LEN: usize>(
+        alloc: Global,
+        bytes: [u8; LEN],
+    ) -> Result<Bytes, AllocError>
+        ensures same { IfOk result (λ it. it ≡ bytes.entry) }
+        ensures short { LEN ≤ 16 → IsOk result }
+    {
+        let bytes = SmallVec::from_array(alloc, bytes)?;
+        Ok(Bytes { bytes })
+    }
+
     /// The bytes.
     #[inline(always)]
     pub fn as_slice(&self) -> &[u8]

@@ -24,9 +24,9 @@ fn byte_at(message: &[u8], place: usize) -> u8
     }
 }
 
-/// The number of a message's first eight bytes, low byte first, missing ones being 0.
+/// The number that a message carries: its first eight bytes, low byte first, missing ones being 0.
 #[tactic(auto, unfolding(crate::specs::Messages::number_of))]
-fn number_in(message: &[u8]) -> i64
+pub fn number_in(message: &[u8]) -> i64
     ensures { result ≡ number_of message.now }
 {
     if message.len() >= 8 {
@@ -59,7 +59,7 @@ impl Datum {
         ensures { IfOk result (λ message. message ≡ message_of self) }
     {
         match self {
-            Datum::Int(number) => Ok(Bytes::from_slice(alloc, &number.to_le_bytes())?),
+            Datum::Int(number) => Ok(Bytes::from_array(alloc, number.to_le_bytes())?),
             Datum::Bytes(bytes) => Ok(bytes),
         }
     }

@@ -43,7 +43,7 @@ mod written;
 pub use bytes_expression::BytesExpr;
 pub use channel_use::ChannelUse;
 pub use condition::Cond;
-pub use datum::Datum;
+pub use datum::{Datum, number_in};
 pub use expression::Expr;
 pub use laws::a_first_offender_refutes;
 pub use operator::Op;

@@ -1,9 +1,9 @@
 -- The text of a network's traffic.
 use Rattle.std.specs.Prelude.{ℕ, ◌+◌, List, [], ◌∷◌, ◌++◌, length, Bool, codes, decimal}
 use Rattle.std.specs.Fmt.{signed_decimal}
-use Rattle.std.specs.Int.{w64, from_le_bytes, cast_signed}
 use Rattle.std.specs.List.{flat_map}
 use Rattle.hex.specs.Hex.{encode_lower}
+use Rattle.vc_process.specs.Messages.{number_of}
 use Rattle.vc_process.specs.declared.value_kind.ValueKind.{ValueKind}
 use Rattle.vc_process.specs.declared.value_kind.ValueKind.TheVariants.{Int, Bytes}
 use Rattle.vc_core.specs.declared.close.Close.{Close}
@@ -26,7 +26,7 @@ bytes_text (b ∷ bs) = encode_lower (b ∷ bs)
 
 -- an int has eight bytes, the low one first
 abbrev pub value_text : ValueKind → List ℕ → List ℕ
-value_text Int m = signed_decimal (cast_signed w64 (from_le_bytes w64 m))
+value_text Int m = signed_decimal (number_of m)
 value_text Bytes m = bytes_text m
 
 abbrev pub message_line : ValueKind → ℕ → List ℕ → List ℕ

@@ -1,6 +1,5 @@
 //! The text of a network's traffic.
-ghost use Rattle.std.specs.Prelude.{◌≡◌, ◌++◌, ◌+◌, map, OnOk, IfOk, slice_index};
-ghost use Rattle.std.specs.Int.{w64, from_le_bytes, cast_signed};
+ghost use Rattle.std.specs.Prelude.{◌≡◌, ◌++◌, ◌+◌, map, OnOk, IfOk};
 ghost use Rattle.vc_blocks.specs.Listed.{listed};
 ghost use Rattle.vc_text.specs.Streams.{Writes};
 ghost use Rattle.vc_text.specs.Views.{shown};
@@ -17,6 +16,7 @@ use vc_blocks::Messages;
 use vc_core::Close;
 use vc_occam::ValueKind;
 use vc_packets::Memory;
+use vc_process::number_in;
 use vc_waits::push_number;
 
 /// What a channel is and has done.
@@ -58,36 +58,11 @@ fn push_digits(out: &mut Vec<u8>, message: &[u8]) -> Result<(), Memory>
     Ok(())
 }
 
-fn byte_at(message: &[u8], n: usize) -> u8
-    ensures { result ≡ slice_index message.now n }
-{
-    match message.get(n) {
-        Some(byte) => *byte,
-        None => 0,
-    }
-}
-
-/// The number of the first eight bytes, the low one first; missing ones are 0.
-fn int_of(message: &[u8]) -> i64
-    ensures { result ≡ cast_signed w64 (from_le_bytes w64 message.now) }
-{
-    i64::from_le_bytes([
-        byte_at(message, 0),
-        byte_at(message, 1),
-        byte_at(message, 2),
-        byte_at(message, 3),
-        byte_at(message, 4),
-        byte_at(message, 5),
-        byte_at(message, 6),
-        byte_at(message, 7),
-    ])
-}
-
 fn push_int(out: &mut Vec<u8>, message: &[u8]) -> Result<(), Memory>
     ensures { OnOk result (out.new.items ≡ out.old.items ++ value_text ValueKind.Int message.now) }
 {
     let mut buffer = Buffer::new();
-    out.extend_from_slice(buffer.format(int_of(message)).as_bytes())?;
+    out.extend_from_slice(buffer.format(number_in(message)).as_bytes())?;
     Ok(())
 }
 
