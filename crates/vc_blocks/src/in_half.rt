@@ -133,6 +133,7 @@ impl InHalf {
     }
 
     /// A piece of these headers and data, with this mark, arrives: it is stored where a process inputs, and else held.
+    #[inline(always)]
     pub fn arrive_body(&mut self, body: &[u8], mark: Mark) -> Result<Arrival, Memory>
         requires empty { self.old.held ≡ None }
         requires piece { IsPiece (record { body = body.now; mark = mark }) }
