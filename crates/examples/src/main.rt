@@ -53,7 +53,7 @@ fn example_of(alloc: Global, line: &str) -> Result<Option<Example<'_>>, AllocErr
 }
 
 /// Whether the example's words write what its file has, and end with its status.
-fn holds<R: Files + Alloc + Threads + Wait>(
+fn holds<R: Files + Alloc + Threads + Wait + Sync>(
     rt: &R,
     alloc: Global,
     example: &Example<'_>,

@@ -71,7 +71,7 @@ fn see(alloc: Global, accepted: &Accepted, report: &Report) -> Result<Seen, Fail
 }
 
 /// What is seen of a run of the hello network with this gate, of at most so many turns.
-fn run<R: Threads + Wait, G: Gate>(
+fn run<R: Threads + Wait + Sync, G: Gate>(
     rt: &R,
     alloc: Global,
     gate: &G,

@@ -15,7 +15,7 @@ use vc_threads::{Ending, run_threads, run_threads_unlogged};
 
 /// Reads a network file, runs the network in threads as the options say, and writes its traffic and then the counts of the events that the
 /// threads report; the states between them are not known. Where it fails, a front of the text was written if the writer failed, and else nothing.
-pub fn stats_net<T: Threads + Wait, R: Read, W: Write>(
+pub fn stats_net<T: Threads + Wait + Sync, R: Read, W: Write>(
     rt: &T,
     alloc: Global,
     reader: &mut R,
@@ -46,7 +46,7 @@ pub fn stats_net<T: Threads + Wait, R: Read, W: Write>(
 
 /// Reads a network file, runs the network in threads as the options say, and writes its traffic as JSON, without who waits for what. It
 /// keeps no events. Where it fails, a front of the text was written if the writer failed, and else nothing.
-pub fn json_net<T: Threads + Wait, R: Read, W: Write>(
+pub fn json_net<T: Threads + Wait + Sync, R: Read, W: Write>(
     rt: &T,
     alloc: Global,
     reader: &mut R,

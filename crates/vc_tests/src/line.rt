@@ -127,7 +127,7 @@ fn command_lines_ask(rt: HostRuntime) {
 }
 
 /// Whether the program prints the traffic of the hello network with status 0, or that memory is short with status 4.
-fn prints<T: Files + Threads + Wait>(rt: &T, alloc: Global) -> bool {
+fn prints<T: Files + Threads + Wait + Sync>(rt: &T, alloc: Global) -> bool {
     let mut kept = Kept::new();
     let status = run_words(
         rt,

@@ -80,7 +80,7 @@ fn is_written_by(written: &[u8], close: Close) -> bool {
 
 /// Whether a run in threads of the squares network reports steps that lead to what it shows and writes, or gives no report and writes
 /// nothing. The replay is made again, since it may be what finds no memory.
-fn nets<T: Threads + Wait>(rt: &T, alloc: Global) -> bool {
+fn nets<T: Threads + Wait + Sync>(rt: &T, alloc: Global) -> bool {
     let mut kept = Kept::new();
     match run_net(rt, alloc, &mut SQUARES.as_bytes(), &mut kept, 200_000, 0) {
         Ok(report) => {

@@ -10,7 +10,7 @@ use vc_words::run_words;
 const STEP: &[&str] = &["vcnet", "step"];
 
 /// The status and what is printed, where the reader fails at the read of that number.
-fn read_fails<T: Files + Threads + Wait>(
+fn read_fails<T: Files + Threads + Wait + Sync>(
     rt: &T,
     alloc: Global,
     words: &[&str],
@@ -63,7 +63,7 @@ fn a_failed_read_is_a_fault(rt: HostRuntime) {
 }
 
 /// Whether the status is 6, and a front of the traffic is printed, where the writer fails at the write of that number.
-fn write_fails<T: Files + Threads + Wait>(rt: &T, alloc: Global, calls_left: usize) -> bool {
+fn write_fails<T: Files + Threads + Wait + Sync>(rt: &T, alloc: Global, calls_left: usize) -> bool {
     let mut reader = HELLO.as_bytes();
     let mut writer = Stubborn {
         taken: Vec::new(alloc),

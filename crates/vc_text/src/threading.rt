@@ -44,7 +44,7 @@ pub fn ending_of(report: Report) -> Ending
 /// Reads a network file, runs the network with a thread for each node and each switch, and writes its traffic. Each thread makes at
 /// most so many turns, and ends earlier once the process of every node has ended. The words of an actor's takes are those of the
 /// generator of this seed and the actor's number.
-pub fn run_net<T: Threads + Wait, R: Read, W: Write>(
+pub fn run_net<T: Threads + Wait + Sync, R: Read, W: Write>(
     rt: &T,
     alloc: Global,
     reader: &mut R,
@@ -65,7 +65,7 @@ pub fn run_net<T: Threads + Wait, R: Read, W: Write>(
 /// Reads a network file, runs the network with a thread for each node and each switch as the options say, and writes its traffic. It keeps
 /// no events: its memory does not grow with their number. Where it fails, a front of the text was written if the writer failed, and else
 /// nothing.
-pub fn run_net_unlogged<T: Threads + Wait, R: Read, W: Write>(
+pub fn run_net_unlogged<T: Threads + Wait + Sync, R: Read, W: Write>(
     rt: &T,
     alloc: Global,
     reader: &mut R,

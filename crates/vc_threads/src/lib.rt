@@ -14,6 +14,7 @@ mod link;
 mod merged_runs;
 mod order;
 mod outs;
+mod pause;
 mod report;
 mod run;
 mod spawn;

@@ -6,6 +6,7 @@ ghost use Rattle.vc_threads.specs.Jobs.{Ran};
 
 use crate::gate::{Closes, Gate};
 use crate::link::Ends;
+use crate::pause::Sleep;
 use crate::run::ActorRun;
 use crate::work::run_job;
 use std::alloc::Global;
@@ -93,17 +94,24 @@ fn add_run(runs: &mut Vec<ActorRun>, run: ActorRun) -> Result<(), Memory>
 }
 
 // Does a job.
-fn work<G: Gate>(alloc: Global, job: Job, gate: &G, turns: u64, seed: u32) -> ActorRun
+fn work<G: Gate, R: Wait>(
+    rt: &R,
+    alloc: Global,
+    job: Job,
+    gate: &G,
+    turns: u64,
+    seed: u32,
+) -> ActorRun
     requires { IsFit job }
     ensures { Ran turns seed job result }
 {
-    run_job(alloc, job, gate, turns, seed)
+    run_job(alloc, job, gate, &Sleep { rt }, turns, seed)
 }
 
 // Starts a thread for the last job, then those of the others, and joins it, whether the others started or not. Where a thread is not
 // started the gate is closed, so that those that run end at their next turns.
-fn run_all<'s, E, J: HasJob + Send + Drop + 's, G: Closes, R: Threads>(
-    rt: &R,
+fn run_all<'s, E, J: HasJob + Send + Drop + 's, G: Closes, R: Threads + Wait + Sync>(
+    rt: &'s R,
     scope: &Scope<'s, E>,
     alloc: Global,
     jobs: Vec<J>,
@@ -129,7 +137,7 @@ fn run_all<'s, E, J: HasJob + Send + Drop + 's, G: Closes, R: Threads>(
         move || -> ActorRun
             requires { IsFit (J.job job) }
             ensures { Ran turns seed (J.job job) result }
-        { work(alloc, job.job(), gate, turns, seed) },
+        { work(rt, alloc, job.job(), gate, turns, seed) },
     );
     let Ok(child) = started else {
         gate.close();
@@ -144,7 +152,7 @@ fn run_all<'s, E, J: HasJob + Send + Drop + 's, G: Closes, R: Threads>(
 
 /// Runs each job in a thread of its own, and gives the runs in the jobs' order once all threads have ended. Where a thread is not
 /// started it closes the gate.
-pub(crate) fn run_jobs<G: Closes, R: Threads + Wait>(
+pub(crate) fn run_jobs<G: Closes, R: Threads + Wait + Sync>(
     rt: &R,
     alloc: Global,
     jobs: Vec<Job>,

@@ -17,7 +17,7 @@ use vc_core::Network;
 use vc_plan::Accepted;
 
 /// Runs the actors of an accepted plan in threads. The events are reported where acts are kept.
-fn run_actors<G: Gate, R: Threads + Wait>(
+fn run_actors<G: Gate, R: Threads + Wait + Sync>(
     rt: &R,
     alloc: Global,
     accepted: &Accepted,
@@ -54,7 +54,7 @@ fn run_actors<G: Gate, R: Threads + Wait>(
 /// Where a thread can't be started, the workers that run end at their next turns, and the call then fails.
 ///
 /// The words of an actor's takes are those of the generator of this seed and the actor's number.
-pub fn run_threads<G: Gate, R: Threads + Wait>(
+pub fn run_threads<G: Gate, R: Threads + Wait + Sync>(
     rt: &R,
     alloc: Global,
     accepted: &Accepted,
@@ -69,7 +69,7 @@ pub fn run_threads<G: Gate, R: Threads + Wait>(
 
 /// Does the same as [`run_threads`], and keeps no acts: its memory does not grow with their number. There are events that
 /// [`run_threads`] could have reported.
-pub fn run_threads_unlogged<G: Gate, R: Threads + Wait>(
+pub fn run_threads_unlogged<G: Gate, R: Threads + Wait + Sync>(
     rt: &R,
     alloc: Global,
     accepted: &Accepted,

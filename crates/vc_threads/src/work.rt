@@ -9,18 +9,22 @@ ghost use Rattle.vc_threads.specs.Works.{HasRun};
 
 use crate::gate::Gate;
 use crate::link::Ends;
+use crate::pause::{Pause, Yield};
 use crate::run::{ActorRun, Stop};
 use crate::spawn::Job;
 use crate::worker_state::WorkerState;
 use std::alloc::Global;
-use std::thread;
 use vc_core::Actor;
 
-/// After so many idle turns one after another a worker leaves the processor to others at each further one.
-const SPINS: u32 = 4;
-
 /// Does a job: runs its actor for at most so many turns, as long as the gate lets it.
-pub(crate) fn run_job<G: Gate>(alloc: Global, job: Job, gate: &G, turns: u64, seed: u32) -> ActorRun
+pub(crate) fn run_job<G: Gate, P: Pause>(
+    alloc: Global,
+    job: Job,
+    gate: &G,
+    pause: &P,
+    turns: u64,
+    seed: u32,
+) -> ActorRun
     requires outs { Distinct (out_links job.ends.outs.items) }
     requires ins { Distinct (in_links job.ends.ins.items) }
     requires low { All (λ o. o.0 < 32) job.ends.outs.items }
@@ -47,9 +51,7 @@ pub(crate) fn run_job<G: Gate>(alloc: Global, job: Job, gate: &G, turns: u64, se
             gate.ended(id);
             told = true;
         }
-        if worker_state.idle() >= SPINS {
-            thread::yield_now();
-        }
+        pause.after_idle(worker_state.idle());
     }
     worker_state.into_run(id, Stop::Turns)
 }
@@ -83,5 +85,5 @@ pub fn worker<G: Gate>(
         ends,
         keeps,
     };
-    run_job(alloc, job, gate, turns, seed)
+    run_job(alloc, job, gate, &Yield, turns, seed)
 }

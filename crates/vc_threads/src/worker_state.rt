@@ -31,7 +31,7 @@ pub(crate) struct WorkerState {
     outs: Outs,
     ins: Vec<(u8, In)>,
     words: Lcg64Xsh32,
-    idle: u32,
+    idle: u64,
 }
 
 // Whether a link's ring has an item.
@@ -192,7 +192,7 @@ impl WorkerState {
     }
 
     /// How many turns one after another were idle until now.
-    pub(crate) fn idle(&self) -> u32
+    pub(crate) fn idle(&self) -> u64
         ensures { result ≡ self.now.idle }
     {
         self.idle

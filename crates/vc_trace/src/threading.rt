@@ -12,7 +12,7 @@ use vc_threads::{Ending, run_threads};
 
 /// Does what [`run_net_unlogged`](vc_text::run_net_unlogged) does, and writes the events that the threads report in front of the traffic,
 /// a line each.
-pub fn trace_net<T: Threads + Wait, R: Read, W: Write>(
+pub fn trace_net<T: Threads + Wait + Sync, R: Read, W: Write>(
     rt: &T,
     alloc: Global,
     reader: &mut R,

@@ -10,7 +10,7 @@ use vc_threads::{EndGate, ThreadFault, run_threads};
 
 /// Runs a network in threads until every process has ended, or so many turns, and tells how many outputs on a channel are not finished
 /// then: none or one, whatever the threads did.
-pub fn left_by_threads<R: Threads + Wait>(
+pub fn left_by_threads<R: Threads + Wait + Sync>(
     rt: &R,
     alloc: Global,
     accepted: &Accepted,

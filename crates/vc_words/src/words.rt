@@ -268,7 +268,7 @@ fn step_by<R: Read, W: Write>(
 }
 
 /// Runs the network that the reader has in threads, and writes what is wanted of it.
-fn write_net<T: Threads + Wait, R: Read, W: Write>(
+fn write_net<T: Threads + Wait + Sync, R: Read, W: Write>(
     rt: &T,
     alloc: Global,
     reader: &mut R,
@@ -288,7 +288,7 @@ fn write_net<T: Threads + Wait, R: Read, W: Write>(
 }
 
 /// Runs the network that the reader has, in threads, and answers the status.
-fn run_by<T: Threads + Wait, R: Read, W: Write>(
+fn run_by<T: Threads + Wait + Sync, R: Read, W: Write>(
     rt: &T,
     alloc: Global,
     reader: &mut R,
@@ -341,7 +341,7 @@ fn replay_by<T: Files, R: Read, W: Write>(
 
 /// Does what the words ask for, over any reader and any writer; the first word is the program's name. The words are read before
 /// the reader, and a bad line reads nothing. The answer is the program's status.
-pub fn run_words<T: Files + Threads + Wait, R: Read, W: Write>(
+pub fn run_words<T: Files + Threads + Wait + Sync, R: Read, W: Write>(
     rt: &T,
     alloc: Global,
     words: &[&str],

@@ -16,7 +16,7 @@ fn words_of(rt: &HostRuntime, alloc: Global) -> io::Result<Vec<String>> {
 }
 
 /// Does what these words ask for; the answer is the program's status.
-fn status_of<T: Files + Threads + Wait, R: Read, W: Write>(
+fn status_of<T: Files + Threads + Wait + Sync, R: Read, W: Write>(
     rt: &T,
     alloc: Global,
     texts: &[String],
