@@ -7,14 +7,14 @@ use std::time::Duration;
 /// After so many idle turns one after another a worker leaves the processor to others at each further one.
 const SPINS: u64 = 4;
 
-/// After so many it no longer expects something soon.
+/// From so many on a worker that can sleep does so at some of them, and no longer yields at the others.
 const PATIENCE: u64 = 5_000;
 
-/// From then on it sleeps after each so many idle turns.
-const LOOKS: u64 = 512;
+/// Of so many such turns it sleeps at one.
+const TURNS_PER_SLEEP: u64 = 512;
 
 /// How long it sleeps, in microseconds.
-const NAP: u64 = 100;
+const SLEEP: u64 = 100;
 
 /// What a worker does after an idle turn.
 pub(crate) trait Pause {
@@ -34,8 +34,9 @@ impl Pause for Yield {
     }
 }
 
-/// Leaves the processor to whoever is ready to run, and sleeps now and then where it waits for long. A worker that only yields counts
-/// as one that runs, and the kernel leaves two that compute on one processor where two that wait have another.
+/// Leaves the processor to whoever is ready to run, and sleeps at some turns where the worker has waited for long. A worker that only
+/// yields counts as one that runs, and the kernel leaves two that compute on one processor where two that wait have another. A turn at
+/// which it sleeps counts as any other, so it sleeps seldom: else a network at rest would take minutes to use up its turns.
 #[derive(Drop)]
 pub(crate) struct Sleep<'r, R> {
     /// The handle by which it waits.
@@ -46,8 +47,8 @@ impl<'r, R: Wait> Pause for Sleep<'r, R> {
     fn after_idle(&self, turns: u64) {
         if turns < PATIENCE {
             Yield.after_idle(turns);
-        } else if turns % LOOKS == 0 {
-            Parker::new().park_timeout(self.rt, Duration::from_micros(NAP));
+        } else if turns % TURNS_PER_SLEEP == 0 {
+            Parker::new().park_timeout(self.rt, Duration::from_micros(SLEEP));
         }
     }
 }

@@ -1,4 +1,4 @@
-use Rattle.std.proofs.Common.{sym, refl, subst}
+use Rattle.std.proofs.Common.{sym, subst}
 use Rattle.vc_switch.proofs.Placed.{at_link}
 use Rattle.vc_packets.specs.declared.mark.Mark.TheVariants.{Eop, Eom}
 use Rattle.vc_tokens.specs.Spelt.{token}
