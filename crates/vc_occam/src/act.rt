@@ -78,8 +78,11 @@ impl Assignment {
             (assigned_shape self.now) (store vars.new.items) }
         ensures length { length vars.new.items ≡ length vars.old.items }
     {
-        let datum = self.value.assigned(assigned, vars)?;
-        set_variable(vars, self.var, datum);
+        // a number by itself, so that no room for bytes is copied with it
+        match self.value.assigned(assigned, vars)? {
+            Datum::Int(number) => set_variable(vars, self.var, Datum::Int(number)),
+            bytes => set_variable(vars, self.var, bytes),
+        }
         Some(Outcome::Ended)
     }
 }

@@ -264,6 +264,7 @@ impl Seq<Frame> {
 impl Par<Frame> {
     /// Begins with all its parts, whatever went on before; answers what it begins with.
     #[cycle(start)]
+    #[inline(never)]
     fn start(&mut self) -> Outcome
         requires sound { is_sound (par_shape self.old) ≡ true }
         ensures begun { (i : ℕ) →

@@ -1,5 +1,5 @@
 //! How frames go on: one site does something.
-ghost use Rattle.std.specs.Prelude.{◌≡◌, ◌<◌, ℕ, length, true};
+ghost use Rattle.std.specs.Prelude.{◌≡◌, ◌<◌, ℕ, IfSome, length, true};
 ghost use Rattle.vc_occam.specs.Frames.{all_sound, besides, is_sound, outcome_of, view};
 ghost use Rattle.vc_occam.specs.Private.Frames.{CanGo, HasNext, HasTurned, Went, counting_shape, par_shape, seq_shape, shown, task_views, unstopped, views};
 ghost use Rattle.vc_process.specs.Terms.{store};
@@ -59,10 +59,10 @@ impl Frame {
                 outcome
             }
             Construct::Count(counting) => match counting.turn {
-                Some(turn) => {
+                Some(_) => {
                     let outcome = counting.body.go(step, vars);
                     if outcome.has_ended() {
-                        return counting.next(turn, vars);
+                        return counting.next(vars);
                     }
                     outcome
                 }
@@ -97,6 +97,7 @@ impl Seq<Frame> {
 impl Par<Frame> {
     /// The part with the site goes on; answers what the PAR comes to.
     #[cycle(go)]
+    #[inline(never)]
     fn go<S: SiteStep>(&mut self, step: &mut S, vars: &mut Vec<Datum>) -> Outcome
         requires can { (i : ℕ) × CanGo (S.stands_for step.old) (unstopped i (par_shape self.old))
             vars.old.items }
@@ -130,15 +131,19 @@ impl Par<Frame> {
 }
 
 impl Count<Frame> {
-    /// Its turn has ended: the next one begins, if there is one.
+    /// The turn that went on has ended: the next one begins, if there is one.
     #[inline(never)]
-    fn next(&mut self, turn: Turn, vars: &mut Vec<Datum>) -> Outcome
+    fn next(&mut self, vars: &mut Vec<Datum>) -> Outcome
         requires sound { (view self.old.body.value).sound ≡ true }
         requires variable { self.old.var < length vars.old.items }
-        ensures turned { HasTurned turn (counting_shape self.old) (store vars.old.items) result
-            (counting_shape self.new) (store vars.new.items) }
+        ensures turned { IfSome self.old.turn
+            (λ turn. HasTurned turn (counting_shape self.old) (store vars.old.items) result
+            (counting_shape self.new) (store vars.new.items)) }
         ensures length { length vars.new.items ≡ length vars.old.items }
     {
+        let Some(turn) = self.turn else {
+            return Outcome::Ended;
+        };
         if turn.index >= turn.last {
             return Outcome::Ended;
         }

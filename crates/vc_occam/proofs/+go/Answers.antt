@@ -1,5 +1,5 @@
 use Rattle.std.proofs.Common.{◌≡◌, ◌∙◌, ◌<◌, ℕ, List, Bool, true, false, Option, Some, length, map, set, sym, subst, rules, arith}
-use Rattle.std.specs.Prelude.{nat_lt}
+use Rattle.std.specs.Prelude.{IfSome, nat_lt}
 use Rattle.std.proofs.lemmas.Bool.{and_parts}
 use Rattle.std.proofs.lemmas.Bool.Decides.{nat_tests}
 use Rattle.std.proofs.lemmas.List.{length-map, map-set}
@@ -144,7 +144,7 @@ frame::Frame::go-go-outcome-requires-in-Some-turn g t c κs within =
     let s = c.in-Count.counting in
     let i = (out-Frame c.args.self.now).site in
     let can = subst (λ (u : Option Turn). CanGo step (unstopped i (counting s.var (exp s.base) (exp s.count) (view s.body.value) u)) c.args.vars.now.items) c.in-Some-turn.is (frame_can step c.args.self.now (run.Count s) c.args.vars.now.items c.requires.can c.in-Count.is) in
-    (search (rules, the_lemmas), (within, subst (λ (f : Frame). CanGo step (view f) c.args.vars.now.items) (sym c.deref_mut-in-Some-turn.ensures.value) (count_part step i s.var (exp s.base) (exp s.count) (view s.body.value) c.in-Some-turn.turn c.args.vars.now.items can)))
+    (search (rules, the_lemmas), (within, subst (λ (f : Frame). CanGo step (view f) c.args.vars.now.items) (sym c.deref_mut-in-Some-turn.ensures.value) (count_part step i s.var (exp s.base) (exp s.count) (view s.body.value) c.in-Some-turn.field-0 c.args.vars.now.items can)))
 
 pub frame::Frame::go-next-requires-then-has_ended-3-clause-variable : goal.frame::Frame::go-next-requires-then-has_ended-3-clause-variable
 frame::Frame::go-next-requires-then-has_ended-3-clause-variable g t c =
@@ -168,12 +168,12 @@ frame::Frame::go-returns-then-has_ended-3-clause-went g t c =
     let e = store c.args.vars.now.items in
     let o = c.go-outcome-in-Some-turn.result in
     let h = store c.go-outcome-in-Some-turn.new.vars.items in
-    let turn = c.in-Some-turn.turn in
+    let turn = c.in-Some-turn.field-0 in
     let inside = subst (λ (g : Frame). Went step (view g) e o w h) c.deref_mut-in-Some-turn.ensures.value c.go-outcome-in-Some-turn.ensures.went in
     let new = c.next-then-has_ended-3.new.self in
     let p = c.next-then-has_ended-3.result in
     let k = store c.next-then-has_ended-3.new.vars.items in
-    let turned = subst (λ (u : Option Turn). HasTurned turn (counting s.var a n w u) h p (counting_shape new) k) c.in-Some-turn.is c.next-then-has_ended-3.ensures.turned in
+    let turned = subst (λ (u : Option Turn). IfSome u (λ t. HasTurned t (counting s.var a n w u) h p (counting_shape new) k)) c.in-Some-turn.is c.next-then-has_ended-3.ensures.turned in
     let went = count_went step i s.var a n v turn e o w h p new.var (exp new.base) (exp new.count) (view new.body.value) new.turn k inside (sym c.has_ended-in-Some-turn.ensures ∙ c.if-has_ended-3.true) turned in
     rolled_went step f (run.Count s) (run.Count new) c.args.vars.now.items p k c.requires.can c.in-Count.is
     (subst (λ (u : Option Turn). Went step (unstopped i (counting s.var a n v u)) e p (unstopped i (counting_shape new)) k) (sym c.in-Some-turn.is) went)
@@ -270,7 +270,7 @@ frame::Frame::go-returns-else-has_ended-3-clause-went g t c =
     let e = store c.args.vars.now.items in
     let o = c.go-outcome-in-Some-turn.result in
     let h = store c.go-outcome-in-Some-turn.new.vars.items in
-    let turn = c.in-Some-turn.turn in
+    let turn = c.in-Some-turn.field-0 in
     let inside = subst (λ (g : Frame). Went step (view g) e o w h) c.deref_mut-in-Some-turn.ensures.value c.go-outcome-in-Some-turn.ensures.went in
     let new : Count Frame = record { var = s.var; base = s.base; count = s.count; body = with_value s.body c.go-outcome-in-Some-turn.new.self; turn = s.turn } in
     let went = count_goes step i s.var a n v turn e o w h inside (sym c.has_ended-in-Some-turn.ensures ∙ c.if-has_ended-3.false) in
