@@ -1,6 +1,6 @@
 //! The headers of a packet, and the hops that it made.
 ghost use Rattle.std.specs.Prelude.{◌≡◌, ◌++◌, [], ◌∷◌, IfOk};
-ghost use Rattle.vc_plan.specs.Hops.{put_in_front, same_headers};
+ghost use Rattle.vc_plan.specs.Hops.{put_in_front};
 
 use crate::fault::Fault;
 use crate::path_fault::Hop;
@@ -35,19 +35,6 @@ pub(crate) fn headers_behind(
     }
     all.extend_from_slice(headers)?;
     Ok(Items::from_vec(all))
-}
-
-/// Whether two lists of headers are the same.
-pub(crate) fn equal_headers(a: &[u16], b: &[u16]) -> bool
-    ensures { result ≡ same_headers a.now b.now }
-{
-    match a {
-        [] => b.is_empty(),
-        [x, xs @ ..] => match b {
-            [] => false,
-            [y, ys @ ..] => *x == *y && equal_headers(xs, ys),
-        },
-    }
 }
 
 /// These hops and one more.
