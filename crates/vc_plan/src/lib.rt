@@ -62,6 +62,7 @@ pub use path_fault::{Hop, PathFault};
 pub use plan::Plan;
 pub use port::{Port, Spot, Wire};
 pub use search::next_places;
+pub use searched_plan::SearchedPlan;
 pub use switch_plan::{RandomInput, SwitchPlan};
 pub use version::{as_version_two, versions_agree};
 pub use vlink::{End, Vlink};
