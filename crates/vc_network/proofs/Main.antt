@@ -261,7 +261,21 @@ run_headline {P} plan waiting Does begin es s acc run =
         at_switch = λ k link. g.switched k link;
         held = λ n c p e. (g.nodes n).carrier.held c p e;
       };
-      along = λ c fs t goes. (let q = later fs t goes in (part c (all_said q.ks), q.views c));
+      along = λ fs t goes. (let q = later fs t goes in (
+        q.ks,
+        record {
+          by_node = λ n less. (let k = g.kinds n less in let m = q.good.kinds n less in (
+            k.0,
+            m.0,
+            k.1,
+            m.1,
+            subst (λ z. Trace Does (process_of (begin n) z) (said_by n q.ks) m.0.process) k.1
+                (subst (λ z. Trace Does (process_of (begin n) (s.state n)) (said_by n q.ks) (process_of (begin n) z)) m.1 (q.traces n (begin n))),
+          ));
+          by_no_other = q.by_no_other;
+          on_channel = q.views;
+        },
+      ));
       by_event = λ c e t h. (let x = next plan waiting Does acc s t r.new e.actor h.0 g h.2 in (part c x.ks, x.short c, x.views c));
       stopped = λ c fs t less goes e. (let q = later fs t goes in all_stopped (view plan s c) (part c (all_said q.ks)) (view plan t c) e (q.views c));
       no_strays = g.shows.nodes.strays g.sound.inv.strays;

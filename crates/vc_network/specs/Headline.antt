@@ -36,6 +36,12 @@ pub record AreTold {P : Type 0} (plan : Plan) (Does : StepRelation P) (begin : �
   pub by_no_other : (n : ℕ) → plan.nodes ≤ n → said_by n ks ≡ []
   pub on_channel : (c : ℕ) → c < length plan.channels → DoesAll nothing_yet (part c (all_said ks)) (view plan s c)
 
+-- what the nodes communicate from a state to a later one, as one list: each node's part is a trace of its process, nobody else has a part, and each channel's part is a run of the channel
+pub record AreToldFrom {P : Type 0} (plan : Plan) (Does : StepRelation P) (s t : Network (Actor P) Token) (ks : List Said) : Type 0 where
+  pub by_node : (n : ℕ) → n < plan.nodes → (a : Node P) × (b : Node P) × (s.state n ≡ IsNode a) × (t.state n ≡ IsNode b) × Trace Does a.process (said_by n ks) b.process
+  pub by_no_other : (n : ℕ) → plan.nodes ≤ n → said_by n ks ≡ []
+  pub on_channel : (c : ℕ) → DoesAll (view plan s c) (part c (all_said ks)) (view plan t c)
+
 -- packets and tokens stand nowhere but where `everywhere` counts them
 pub record NowhereElse {P : Type 0} (plan : Plan) (s : Network (Actor P) Token) : Type 0 where
   pub queued : (n link : ℕ) (p : Packet) (ps : List Packet) → (vcps s n).carrier.queue link ≡ p ∷ ps → (w : ℕ) × IsOutOf plan w (AtNode n link)
@@ -53,8 +59,8 @@ pub record Headline {P : Type 0} (plan : Plan) (waiting : Waiting) (Does : StepR
   pub faithful : (c : ℕ) → c < length plan.channels → IsFaithful plan s c
   pub packets : (c v : ℕ) (ab : Bool) → c < length plan.channels → home plan c ≡ Way v ab → HasItsPacket plan s c
   pub nowhere_else : NowhereElse plan s
-  -- whatever happens from here on is a run of the channel, and one event is a step of it at most, or an exchange inside a node
-  pub along : (c : ℕ) (es : List (ActBy Act)) (t : Network (Actor P) Token) → HappenAll plan waiting Does s es t → (ks : List Comm) × DoesAll (view plan s c) ks (view plan t c)
+  -- whatever happens from here on is told by a list behind what was told before, and one event is a step of a channel at most, or an exchange inside a node
+  pub along : (es : List (ActBy Act)) (t : Network (Actor P) Token) → HappenAll plan waiting Does s es t → (ks : List Said) × AreToldFrom plan Does s t ks
   pub by_event : (c : ℕ) (e : ActBy Act) (t : Network (Actor P) Token) → Happens plan waiting Does s e t → (ks : List Comm) × ByOneEvent (home plan c) ks × DoesAll (view plan s c) ks (view plan t c)
   -- after a stop nothing more is taken
   pub stopped : (c : ℕ) (es : List (ActBy Act)) (t : Network (Actor P) Token) → c < length plan.channels → HappenAll plan waiting Does s es t →
