@@ -21,8 +21,7 @@ def seconds(packets: int) -> float:
 
 
 def main() -> None:
-    if not PROGRAM.exists():
-        subprocess.run(["rt", "run", "--", "1"], cwd=CRATE, check=True, stdout=subprocess.DEVNULL)
+    subprocess.run(["rt", "run", "--", "1"], cwd=CRATE, check=True, stdout=subprocess.DEVNULL)
     for packets in (10_000, 100_000, 1_000_000):
         least = min(seconds(packets) for _ in range(5))
         tokens = 35 * packets

@@ -29,9 +29,13 @@ fn tokens_of(alloc: Global, packet: &Packet, packets: u32) -> Option<u64> {
 fn main(rt: HostRuntime) -> std::io::Result<ExitCode> {
     let alloc = rt.alloc();
     let words: Vec<String> = std::env::args(&rt)?.collect(alloc)?;
-    let packets = match words.get(1) {
-        Some(word) => word.parse::<u32>().unwrap_or(0),
-        None => 0,
+    let packets = words.get(1).and_then(|word| word.parse::<u32>().ok());
+    let Some(packets) = packets else {
+        writeln!(
+            rt.stderr(),
+            "usage: token_rate N, N a whole number below 4294967296"
+        )?;
+        return Ok(ExitCode::FAILURE);
     };
     let Ok(packet) = piece(alloc, &[1], &[7; 32], 0) else {
         return Ok(ExitCode::FAILURE);
