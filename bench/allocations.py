@@ -2,9 +2,10 @@
 """Makes each allocation of a run fail in turn.
 
 Usage: bench/allocations.py VCNET [NETWORK..], VCNET being the built program (crates/vcnet/out/vcnet), the networks those of
-examples/ where none is named. Each check, explanation, drawing and run by step, with its events, with who waits, or without, must print what
-it prints with ample memory, or that memory is short, with status 4. A run in threads, of which no two need be alike, must print a fault alone, or the traffic of a run that ended because an
-actor found no memory, both with status 4; or the traffic of a run to its end, or to the end of its turns.
+examples/ where none is named. Each check, explanation, search for a cycle, drawing and run by step, with what its flags add, must print what it
+prints with ample memory, or that memory is short, with status 4. So must a replay of the first 1,000 events of that run. A run in threads, of
+which no two need be alike, must print a fault alone, or the traffic of a run that ended because an actor found no memory, both with status
+4; or the traffic of a run to its end, or to the end of its turns.
 
 Made with rattle-kit-13f, logic dac8208d650f15bf.
 """
@@ -14,6 +15,8 @@ import re
 import subprocess
 import sys
 import tempfile
+
+import peak
 
 # Counts allocations, and refuses the one whose number is FAIL_AT; the count goes to the file COUNT_TO at the end.
 SHIM = r"""
@@ -47,6 +50,10 @@ void _exit(int status) {
 """
 ROOT = pathlib.Path(__file__).resolve().parent.parent
 SHORT = (b"fault memory\n", 4)
+WORDS = (
+    "check", "explain", "deadlock", "draw", "draw --after 100", "step", "step --why", "step --trace", "step --stats", "step --json",
+    "step --stats --json", "step --together", "step --schedule 7",
+)
 TURNS = ["--turns", "200000", "--seed", "0"]
 # The runs in threads make their allocations in no one order: so many are tried past those of a run with ample memory.
 MORE = 40
@@ -111,12 +118,14 @@ def main():
     networks = [pathlib.Path(name) for name in sys.argv[2:]] or sorted((ROOT / "examples").glob("*.json"))
     with tempfile.TemporaryDirectory() as name:
         folder = pathlib.Path(name)
-        source, shim = folder / "shim.c", folder / "shim.so"
-        source.write_text(SHIM)
-        subprocess.run(["cc", "-O2", "-shared", "-fPIC", "-o", shim, source], check=True)
+        shim = peak.compiled(SHIM, "shim.so", "-shared", "-fPIC")
         for network in networks:
-            for words in ("check", "explain", "draw", "step", "step --why", "step --trace"):
+            for words in WORDS:
                 sweep([vcnet, *words.split()], network, shim, folder)
+            events = folder / "events"
+            events.write_bytes(outcome([vcnet, "step", "--trace", "--limit", "1000"], network, {})[0])
+            for words in ("replay", "replay --why"):
+                sweep([vcnet, *words.split(), "--events", str(events)], network, shim, folder)
             sweep_threads([vcnet, "run", *TURNS], network, shim, folder)
 
 

@@ -15,10 +15,10 @@ Made with rattle-kit-13f, logic dac8208d650f15bf.
 import glob
 import os
 import statistics
-import subprocess
 import sys
 import tempfile
-import time
+
+import peak
 
 HERE = os.path.dirname(os.path.abspath(__file__))
 REPEAT = int(os.environ.get("REPEAT", "5"))
@@ -32,16 +32,13 @@ def run_of(program, mode, network):
     """One run: its seconds, its peak memory in MiB, its status, what it prints, and how many events the ordinary program tells."""
     environment = dict(os.environ, ORDINARY_STATS="1")
     with open(network, "rb") as text, tempfile.TemporaryFile() as out, tempfile.TemporaryFile() as told:
-        start = time.perf_counter()
-        ran = subprocess.Popen([program, mode, *WORDS[mode].split()], stdin=text, stdout=out, stderr=told, env=environment)
-        _, status, used = os.wait4(ran.pid, 0)
-        seconds = time.perf_counter() - start
-        ran.returncode = os.waitstatus_to_exitcode(status)
+        line = [program, mode, *WORDS[mode].split()]
+        done, seconds, kib = peak.run(line, stdin=text, stdout=out, stderr=told, env=environment)
         out.seek(0)
         told.seek(0)
         words = told.read().split()
         events = int(words[1]) if words[:1] == [b"events"] else None
-        return seconds, used.ru_maxrss / 1024, ran.returncode, out.read(), events
+        return seconds, kib / 1024, done.returncode, out.read(), events
 
 
 def measure(programs, mode, network):

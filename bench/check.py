@@ -12,12 +12,12 @@ seconds, the peak memory in MiB, and the line that was printed.
 Made with rattle-kit-13f, logic dac8208d650f15bf.
 """
 import json
-import os
 import pathlib
 import statistics
 import subprocess
 import sys
-import time
+
+import peak
 
 ROOT = pathlib.Path(__file__).resolve().parent.parent
 LINKS = 256
@@ -78,16 +78,13 @@ def fabric():
 
 def run(program, word, text):
     """Seconds, peak memory in MiB, and what was printed."""
-    began = time.perf_counter()
-    child = subprocess.Popen([program, word], stdin=subprocess.PIPE, stdout=subprocess.PIPE)
-    child.stdin.write(text)
-    child.stdin.close()
-    printed = child.stdout.read()
-    _, _, used = os.wait4(child.pid, 0)
-    return time.perf_counter() - began, used.ru_maxrss / 1024, printed.decode().strip()
+    done, seconds, kib = peak.run([program, word], input=text, stdout=subprocess.PIPE)
+    return seconds, kib / 1024, done.stdout.decode().strip()
 
 
 def main():
+    if len(sys.argv) < 2:
+        sys.exit(__doc__)
     program = pathlib.Path(sys.argv[1]).resolve()
     networks = {
         "ladder": (ROOT / "examples/ladder.json").read_bytes(),

@@ -2,7 +2,8 @@
 """Tells how many events a second processes make, and that their memory does not grow with the events.
 
 Usage: bench/processes.py VCNET, VCNET being the built program (crates/vcnet/out/vcnet). Each network is run by `vcnet step` up to two
-limits of events. Printed are the events a second between the two, and the bytes of memory that each event more took: none.
+limits of events. Printed are the events a second between the two, and the bytes of memory that each event more took: none, but for
+some pages by which two runs differ.
 
 - while: a WHILE that counts up one variable.
 - par: a PAR of 1,000 parts, each a WHILE of SKIP.
@@ -11,11 +12,11 @@ limits of events. Printed are the events a second between the two, and the bytes
 Made with rattle-kit-13f, logic dac8208d650f15bf.
 """
 import json
-import os
 import pathlib
 import subprocess
 import sys
-import time
+
+import peak
 
 
 def node(process, variables=(), channels=()):
@@ -44,16 +45,11 @@ def choices():
 
 def run(program, network, limit):
     """Seconds and peak memory in bytes of a run of so many events."""
-    began = time.perf_counter()
-    child = subprocess.Popen(
-        [program, "step", "--limit", str(limit)], stdin=subprocess.PIPE, stdout=subprocess.DEVNULL
-    )
-    child.stdin.write(json.dumps(network).encode())
-    child.stdin.close()
-    _, status, used = os.wait4(child.pid, 0)
-    if os.waitstatus_to_exitcode(status) != 3:
+    words = [program, "step", "--limit", str(limit)]
+    done, seconds, kib = peak.run(words, input=json.dumps(network).encode(), stdout=subprocess.DEVNULL)
+    if done.returncode != 3:
         sys.exit("a run that its limit does not end")
-    return time.perf_counter() - began, used.ru_maxrss * 1024
+    return seconds, kib * 1024
 
 
 def main():

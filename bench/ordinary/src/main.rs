@@ -104,13 +104,13 @@ fn answer(line: Line, mut plan: Plan) -> (Vec<u8>, i32) {
     let start = std::time::Instant::now();
     let keep = std::env::var_os("ORDINARY_FORGET").is_none();
     let mut net = Network::new(&mut plan);
-    let (events, close) = match line {
+    let (events, made, close) = match line {
         Line::Run { turns, seed } => threads::run_threads(&mut net, turns, seed, keep),
         Line::Step { limit } => run_step(&mut net, limit, keep),
         Line::Check => run_step(&mut net, 0, keep),
     };
     if std::env::var_os("ORDINARY_STATS").is_some() {
-        eprintln!("events {} seconds {:.6}", events.len(), start.elapsed().as_secs_f64());
+        eprintln!("events {made} seconds {:.6}", start.elapsed().as_secs_f64());
     }
     if let Some(path) = std::env::var_os("ORDINARY_EVENTS") {
         let lines: String = events.iter().map(|e| format!("{} {:?}\n", e.actor, e.act)).collect();

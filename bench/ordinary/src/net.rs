@@ -158,8 +158,8 @@ impl Run<'_> {
 }
 
 /// Goes round the actors, each of which makes one event a round, until there is none or as many were made as are allowed.
-/// `keep`: whether the events are kept.
-pub fn run_step(net: &mut Network, limit: u64, keep: bool) -> (Vec<Event>, Close) {
+/// `keep`: whether the events are kept. Beside them it tells how many there were.
+pub fn run_step(net: &mut Network, limit: u64, keep: bool) -> (Vec<Event>, u64, Close) {
     let mut events: Vec<Event> = Vec::new();
     let mut made = 0u64;
     let mut run = Run::new(net);
@@ -169,7 +169,7 @@ pub fn run_step(net: &mut Network, limit: u64, keep: bool) -> (Vec<Event>, Close
             let a = round.trailing_zeros() as usize;
             if made == limit {
                 let close = if run.goes_on() { Close::Limit } else { at_rest(run.net) };
-                return (events, close);
+                return (events, made, close);
             }
             let act = if run.there[a] != 0 {
                 Some(run.take(a))
@@ -185,7 +185,7 @@ pub fn run_step(net: &mut Network, limit: u64, keep: bool) -> (Vec<Event>, Close
             round = run.active & (!1 << a);
         }
     }
-    (events, at_rest(net))
+    (events, made, at_rest(net))
 }
 
 /// How a run ends where nothing can happen any more.

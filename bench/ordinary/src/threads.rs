@@ -33,6 +33,8 @@ struct Ends {
 pub struct Acts {
     acts: Vec<Act>,
     jumps: Vec<(usize, u64)>,
+    /// How many acts there were, kept or not.
+    made: u64,
 }
 
 /// Idle turns before the thread gives its core away.
@@ -46,6 +48,8 @@ struct Desk<'w, A> {
     place: [usize; 32],
     words: Pcg,
     clock: u64,
+    /// How many stamps the clock passed over.
+    skipped: u64,
     run: Acts,
     keep: bool,
 }
@@ -68,6 +72,7 @@ impl<A: Agent> Desk<'_, A> {
             return false;
         };
         if item.at > self.clock {
+            self.skipped += item.at - self.clock;
             self.clock = item.at;
             if self.keep {
                 self.run.jumps.push((self.run.acts.len(), self.clock + 1));
@@ -124,6 +129,7 @@ fn worker<A: Agent>(mut desk: Desk<'_, A>, gate: &EndGate, turns: u64) -> Acts {
     if !told && desk.actor.ended() {
         gate.ended();
     }
+    desk.run.made = desk.clock - desk.skipped;
     desk.run
 }
 
@@ -205,13 +211,14 @@ fn desk<A>(actor: &mut A, (number, ends): (usize, Ends), seed: u32, keep: bool) 
         place: [0; 32],
         words: Pcg::new(seed as u64, number as u64),
         clock: 0,
+        skipped: 0,
         run: Acts::default(),
         keep,
     }
 }
 
-/// Runs a thread for each actor. `keep`: whether the acts are kept.
-pub fn run_threads(net: &mut Network, turns: u64, seed: u32, keep: bool) -> (Vec<Event>, Close) {
+/// Runs a thread for each actor. `keep`: whether the acts are kept. Beside them it tells how many there were.
+pub fn run_threads(net: &mut Network, turns: u64, seed: u32, keep: bool) -> (Vec<Event>, u64, Close) {
     let nodes = net.nodes.len();
     let n = nodes + net.switches.len();
     let mut ends: Vec<Ends> = (0..n).map(|_| Ends::default()).collect();
@@ -245,5 +252,6 @@ pub fn run_threads(net: &mut Network, turns: u64, seed: u32, keep: bool) -> (Vec
         handles.into_iter().map(|h| h.join().expect("a worker")).collect()
     });
     let events = merge(&runs);
-    (events, if net.ended() { Close::Done } else { Close::Limit })
+    let made = runs.iter().map(|r| r.made).sum();
+    (events, made, if net.ended() { Close::Done } else { Close::Limit })
 }
