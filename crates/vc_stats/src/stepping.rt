@@ -50,7 +50,8 @@ fn stats_plan<W: Write>(
 
 /// Reads a network file, runs the network event by event as the options say, and writes its traffic and then the counts of its events, and of
 /// the states between them. It keeps neither. For these counts an event costs time in the number of the links of its node or switch, and of
-/// the channels that the node outputs. Where it fails, a front of the text was written if the writer failed, and else nothing.
+/// the channels that the node outputs. It fails where the reader or the writer fails, where the network is refused, and for want of memory;
+/// nothing is written then, or by a writer that fails a front of the text.
 pub fn stats_step<R: Read, W: Write>(
     alloc: Global,
     reader: &mut R,
@@ -83,7 +84,8 @@ fn json_plan<W: Write>(
 }
 
 /// Reads a network file, runs the network event by event as the options say, and writes its traffic as JSON, without who waits for what. It
-/// keeps no events. Where it fails, a front of the text was written if the writer failed, and else nothing.
+/// keeps no events. It fails where the reader or the writer fails, where the network is refused, and for want of memory; nothing is written
+/// then, or by a writer that fails a front of the text.
 pub fn json_step<R: Read, W: Write>(
     alloc: Global,
     reader: &mut R,

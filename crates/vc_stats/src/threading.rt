@@ -14,7 +14,8 @@ use vc_text::{RunFault, ThreadOptions, ending_of, gate_of, read_accepted, write_
 use vc_threads::{Ending, run_threads, run_threads_unlogged};
 
 /// Reads a network file, runs the network in threads as the options say, and writes its traffic and then the counts of the events that the
-/// threads report; the states between them are not known. Where it fails, a front of the text was written if the writer failed, and else nothing.
+/// threads report; the states between them are not known. It fails where the reader or the writer fails, where the network is refused, where
+/// the threads give no report, and for want of memory; nothing is written then, or by a writer that fails a front of the text.
 pub fn stats_net<T: Threads + Wait + Sync, R: Read, W: Write>(
     rt: &T,
     alloc: Global,
@@ -45,7 +46,8 @@ pub fn stats_net<T: Threads + Wait + Sync, R: Read, W: Write>(
 }
 
 /// Reads a network file, runs the network in threads as the options say, and writes its traffic as JSON, without who waits for what. It
-/// keeps no events. Where it fails, a front of the text was written if the writer failed, and else nothing.
+/// keeps no events. It fails where the reader or the writer fails, where the network is refused, where the threads give no report, and for
+/// want of memory; nothing is written then, or by a writer that fails a front of the text.
 pub fn json_net<T: Threads + Wait + Sync, R: Read, W: Write>(
     rt: &T,
     alloc: Global,

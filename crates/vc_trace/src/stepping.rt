@@ -36,7 +36,8 @@ fn trace_plan<W: Write>(
 }
 
 /// Does what [`run_step_unlogged`](vc_text::run_step_unlogged) does, and writes the run's events in front of the traffic, a line each.
-/// They are kept until the run has ended.
+/// They are kept until the run has ended. It fails where the reader or the writer fails, where the network is refused, and for want of
+/// memory; nothing is written then, or by a writer that fails a front of the text.
 pub fn trace_step<R: Read, W: Write>(
     alloc: Global,
     reader: &mut R,

@@ -11,7 +11,8 @@ use vc_text::{RunFault, ThreadOptions, ending_of, gate_of, read_accepted, tail_o
 use vc_threads::{Ending, run_threads};
 
 /// Does what [`run_net_unlogged`](vc_text::run_net_unlogged) does, and writes the events that the threads report in front of the traffic,
-/// a line each.
+/// a line each. It fails where the reader or the writer fails, where the network is refused, where the threads give no report, and for want
+/// of memory; nothing is written then, or by a writer that fails a front of the text.
 pub fn trace_net<T: Threads + Wait + Sync, R: Read, W: Write>(
     rt: &T,
     alloc: Global,
