@@ -26,7 +26,7 @@ Example: vcnet step < examples/hello.json";
 const CHECK_HELP: &str = "\
 Prints `accepted` with how many nodes, switches, virtual links and channels there are, or `refused` with the first fault.
 
-Exit status: 0 accepted; 2 refused; 4 no memory; 6 a stream failed.
+Exit status: 0 accepted; 2 refused; 4 no memory; 5 a bad command line; 6 a stream failed.
 
 Example: vcnet check < examples/squares.json";
 
@@ -36,7 +36,7 @@ Prints, where the network is refused, the line that `check` prints, a sentence t
 fault. Else it prints the line of `check`, what the network has, how many switches the packets of each virtual link pass, and the line of \
 `deadlock`.
 
-Exit status: 0 accepted; 2 refused; 4 no memory; 6 a stream failed.
+Exit status: 0 accepted; 2 refused; 4 no memory; 5 a bad command line; 6 a stream failed.
 
 Example: vcnet explain < examples/squares.json";
 
@@ -44,7 +44,7 @@ Example: vcnet explain < examples/squares.json";
 const DEADLOCK_HELP: &str = "\
 Prints `free`, or `cycle` with the links by which packets can wait for one another.
 
-Exit status: 0 free; 1 cycle; 2 refused; 4 no memory; 6 a stream failed.
+Exit status: 0 free; 1 cycle; 2 refused; 4 no memory; 5 a bad command line; 6 a stream failed.
 
 Example: vcnet deadlock < examples/ring.json";
 
@@ -54,7 +54,7 @@ Prints the network for `dot`, a program of Graphviz, which makes a drawing of it
 a dashed one for each virtual link with its channels, and a dotted one for each channel inside a node. With --after the labels show the state \
 after so many events of `step`: who waits for what, the tokens on the wires, and where the packets are.
 
-Exit status: 0 drawn; 2 refused; 4 no memory; 6 a stream failed.
+Exit status: 0 drawn; 2 refused; 4 no memory; 5 a bad command line; 6 a stream failed.
 
 Example: vcnet draw < examples/ring.json | dot -Tsvg > ring.svg";
 
@@ -64,7 +64,7 @@ Makes each event of the file in turn, as `step --trace` and `run --trace` print 
 stands behind the events is not read. A line that is not that of an event that can happen then is refused: its number and the line are \
 printed. With --why each part of a process that waits or has stopped has a line behind the traffic, and so has each packet.
 
-Exit status: 0 done; 1 quiet; 2 refused; 3 more events can happen; 4 no memory; 6 a stream failed, or the file can't be opened.
+Exit status: 0 done; 1 quiet; 2 refused; 3 more events can happen; 4 no memory; 5 a bad command line; 6 a stream failed, or the file can't be opened.
 
 Example: vcnet replay --events examples/hello.trace < examples/hello.json";
 
@@ -75,7 +75,7 @@ Prints what each channel carried, and how the run ended: `end done` where every 
 part of a process that waits or has stopped has a line behind these, and so has each packet. With --trace the events stand in front, one a line. \
 With --stats counts stand behind the traffic. A network can end in more than one way where an ALT has several guards: each --schedule N is another order of its events.
 
-Exit status: 0 done; 1 quiet; 2 refused; 3 limit; 4 no memory; 6 a stream failed.
+Exit status: 0 done; 1 quiet; 2 refused; 3 limit; 4 no memory; 5 a bad command line; 6 a stream failed.
 
 Example: vcnet step --limit 100000000 < examples/sieve.json";
 
@@ -86,7 +86,7 @@ ended, `end limit` where the threads used up their turns. A network that is quie
 process that waits or has stopped has a line behind these, and so has each packet. With --trace the events stand in front, one a line, in an \
 order in which they could have been made one after another.
 
-Exit status: 0 done; 2 refused; 3 limit; 4 no memory or no thread; 6 a stream failed.
+Exit status: 0 done; 2 refused; 3 limit; 4 no memory or no thread; 5 a bad command line; 6 a stream failed.
 
 Example: vcnet run --seed 7 < examples/universal.json";
 
