@@ -1,5 +1,6 @@
 -- What a replay of event lines answers.
-use Rattle.std.specs.Prelude.{◌≡◌, ℕ, ◌+◌, Bool, List, ◌++◌, length, codes, decimal, Option, Some, None, Result, Ok, Err, ⊤}
+use Rattle.std.specs.Prelude.{◌≡◌, ℕ, ◌+◌, Bool, cond, List, ◌++◌, length, codes, decimal, Option, Some, None, Result, Ok, Err, ⊤}
+use Rattle.std.specs.Io.BufRead.{ends_with_byte}
 use Rattle.std.specs.Io.KnownBytes.{Appends}
 use Rattle.vc_core.specs.Enabled.{NetworkState, CanHappenIn}
 use Rattle.vc_core.specs.Replaying.{RunsTo}
@@ -48,9 +49,13 @@ pub record IsReplay (p : Plan) (events : List Event) (x : NetworkState) (close :
   pub closes : ClosesIn p x close
   pub waits : OnlyProcessesWait p x close
 
--- the number of a line that is refused, and the line
+-- the line, and a newline behind it where it has none
+abbrev pub ended_line : List ℕ → List ℕ
+ended_line line = cond (ends_with_byte 10 line) line (line ++ newline)
+
+-- the number of a line that is refused, and the line, ended
 abbrev pub refused_text : ℕ → List ℕ → List ℕ
-refused_text number line = codes "refused event " ++ decimal number ++ newline ++ line
+refused_text number line = codes "refused event " ++ decimal number ++ newline ++ ended_line line
 
 -- the text of the state that the events of a text lead to, or of the line of it that is refused there
 abbrev pub IsReplayText : (why : Bool) → Option (List ℕ) → Plan → Replayed → List ℕ → Type 0

@@ -87,7 +87,7 @@ fn make_events<E: Read>(
     make_lines(alloc, plan, network, &mut events)
 }
 
-/// The text of a line that is refused. It fails for want of memory alone.
+/// The text of a line that is refused, with a newline behind the line where it has none. It fails for want of memory alone.
 fn refused_text(alloc: Global, refused: &RefusedLine) -> Result<Vec<u8>, Memory>
     ensures { IfOk result (λ text.
         text.items ≡ text_of_refused refused.now.number refused.now.line.items) }
@@ -97,6 +97,9 @@ fn refused_text(alloc: Global, refused: &RefusedLine) -> Result<Vec<u8>, Memory>
     push_number(&mut text, refused.number)?;
     text.push(b'\n')?;
     text.extend_from_slice(refused.line.as_slice())?;
+    if !refused.line.as_slice().ends_with(b"\n".as_slice()) {
+        text.push(b'\n')?;
+    }
     Ok(text)
 }
 
