@@ -1,21 +1,57 @@
 -- A plain sentence for each refusal, and what to change.
-use Rattle.std.specs.Prelude.{ℕ, List, [], codes}
+use Rattle.std.specs.Prelude.{ℕ, ◌==◌, ◌&&◌, nat_lt, Bool, true, false, cond, List, [], length, slice_get, codes, Option, Some}
 use Rattle.vc_labels.specs.declared.fault.TableFault.{TableFault}
 use Rattle.vc_labels.specs.declared.fault.TableFault.TheVariants as table
 use Rattle.vc_plan.specs.declared.limit_word.LimitWord.{LimitWord}
 use Rattle.vc_plan.specs.declared.limit_word.LimitWord.TheVariants as limit
 use Rattle.vc_plan.specs.declared.check_refused.CheckRefused.{CheckRefused}
 use Rattle.vc_plan.specs.declared.check_refused.CheckRefused.TheVariants as check
+use Rattle.vc_reader.specs.declared.path.Step.{Step}
+use Rattle.vc_reader.specs.declared.path.Step.TheVariants.{Field}
 use Rattle.vc_reader.specs.declared.refused.ReadRefused.{ReadRefused}
 use Rattle.vc_reader.specs.declared.refused.ReadRefused.TheVariants as read
+use Rattle.vc_reader.specs.declared.word.Word.TheVariants as word
+
+-- the step goes into the switches, or into a table
+abbrev pub is_into_switches : Option Step → Bool
+is_into_switches (Some (Field word.Switches)) = true
+is_into_switches step = false
+
+abbrev pub is_into_table : Option Step → Bool
+is_into_table (Some (Field word.Table)) = true
+is_into_table step = false
+
+-- the path leads to a switch
+abbrev pub leads_to_switch : List Step → Bool
+leads_to_switch path = (length path == 2) && is_into_switches (slice_get path 0)
+
+-- the path leads to a row of a table
+abbrev pub leads_to_row : List Step → Bool
+leads_to_row path = (length path == 4) && is_into_table (slice_get path 2)
+
+-- a value of the wrong kind
+abbrev pub kind_sentence : List Step → List ℕ
+kind_sentence path =
+    cond (leads_to_row path)
+    (codes "The row of the table is not three or four values of the kinds that its places want. Write four numbers, or two numbers and `portal`. A file of version 1 has no portal: write version 2.")
+    (codes "The value is not of the kind, or the list not of the length, that its place wants, or it is a name of a wrong form, or one that is given already. Write a value of that kind, or another name.")
+
+-- what is not known: a field of an object, to which each path of less than three steps leads, or a name, or a word of a process
+abbrev pub unknown_sentence : List Step → List ℕ
+unknown_sentence path =
+    cond (leads_to_switch path)
+    (codes "The switch has a field that the format does not know. Correct its spelling, or leave it out. A file of version 1 has no `random`: write version 2.")
+    (cond (nat_lt (length path) 3)
+    (codes "The object has a field that the format does not know there. Correct its spelling, or leave it out.")
+    (codes "The name is that of nothing in the network, or the object has a field that the format does not know. Correct its spelling, or write what it names."))
 
 -- a text that is refused
 abbrev pub text_sentence : ReadRefused → List ℕ
 text_sentence read.Json = codes "The text is no JSON at the place below, or just before it. Look for a comma, a colon, a quote or a bracket that is missing or too many. A text that is empty, begins with a byte order mark, is no UTF-8 or nests more than 127 deep is none, too."
 text_sentence (read.Missing path) = codes "The object lacks a field that it must have. Write the field that stands last in the path."
-text_sentence (read.Kind path) = codes "The value is not of the kind, or the list not of the length, that its place wants, or it is a name of a wrong form, or one that is given already. Write a value of that kind, or another name."
+text_sentence (read.Kind path) = kind_sentence path
 text_sentence (read.Range path) = codes "The number is less or greater than its place allows, or the text is longer than 65,535 bytes. Write one that fits."
-text_sentence (read.Unknown path) = codes "The name is that of nothing in the network, or the object has a field that the format does not know. Correct its spelling, or write what it names."
+text_sentence (read.Unknown path) = unknown_sentence path
 text_sentence read.Memory = []
 
 -- a limit that is broken

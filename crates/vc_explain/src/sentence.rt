@@ -1,10 +1,48 @@
 //! A plain sentence for each refusal, and what to change.
 ghost use Rattle.std.specs.Prelude.{◌≡◌};
-ghost use Rattle.vc_explain.specs.Sentences.{limit_sentence as sentence_of_limit, plan_sentence as sentence_of_plan, table_sentence as sentence_of_table, text_sentence as sentence_of_text};
+ghost use Rattle.vc_explain.specs.Sentences.{kind_sentence as sentence_of_kind, leads_to_row, leads_to_switch, limit_sentence as sentence_of_limit, plan_sentence as sentence_of_plan, table_sentence as sentence_of_table, text_sentence as sentence_of_text, unknown_sentence as sentence_of_unknown};
 
 use vc_labels::TableFault;
 use vc_plan::{CheckRefused, LimitWord};
-use vc_reader::ReadRefused;
+use vc_reader::{Path, ReadRefused, Step, Word};
+
+/// Whether a path leads to a switch.
+fn is_switch(path: &Path) -> bool
+    ensures { result ≡ leads_to_switch path.now }
+{
+    path.len() == 2 && matches!(path.step(0), Step::Field(Word::Switches))
+}
+
+/// Whether a path leads to a row of a table.
+fn is_row(path: &Path) -> bool
+    ensures { result ≡ leads_to_row path.now }
+{
+    path.len() == 4 && matches!(path.step(2), Step::Field(Word::Table))
+}
+
+/// The sentence for a value of the wrong kind.
+fn kind_sentence(path: &Path) -> &'static str
+    ensures { result.now ≡ sentence_of_kind path.now }
+{
+    if is_row(path) {
+        "The row of the table is not three or four values of the kinds that its places want. Write four numbers, or two numbers and `portal`. A file of version 1 has no portal: write version 2."
+    } else {
+        "The value is not of the kind, or the list not of the length, that its place wants, or it is a name of a wrong form, or one that is given already. Write a value of that kind, or another name."
+    }
+}
+
+/// The sentence for what is not known. A path of less than three steps leads to an object.
+fn unknown_sentence(path: &Path) -> &'static str
+    ensures { result.now ≡ sentence_of_unknown path.now }
+{
+    if is_switch(path) {
+        "The switch has a field that the format does not know. Correct its spelling, or leave it out. A file of version 1 has no `random`: write version 2."
+    } else if path.len() < 3 {
+        "The object has a field that the format does not know there. Correct its spelling, or leave it out."
+    } else {
+        "The name is that of nothing in the network, or the object has a field that the format does not know. Correct its spelling, or write what it names."
+    }
+}
 
 /// The sentence for a text that is refused.
 pub(crate) fn text_sentence(refused: &ReadRefused) -> &'static str
@@ -15,12 +53,10 @@ pub(crate) fn text_sentence(refused: &ReadRefused) -> &'static str
             "The text is no JSON at the place below, or just before it. Look for a comma, a colon, a quote or a bracket that is missing or too many. A text that is empty, begins with a byte order mark, is no UTF-8 or nests more than 127 deep is none, too.",
         ReadRefused::Missing(_) =>
             "The object lacks a field that it must have. Write the field that stands last in the path.",
-        ReadRefused::Kind(_) =>
-            "The value is not of the kind, or the list not of the length, that its place wants, or it is a name of a wrong form, or one that is given already. Write a value of that kind, or another name.",
+        ReadRefused::Kind(path) => kind_sentence(path),
         ReadRefused::Range(_) =>
             "The number is less or greater than its place allows, or the text is longer than 65,535 bytes. Write one that fits.",
-        ReadRefused::Unknown(_) =>
-            "The name is that of nothing in the network, or the object has a field that the format does not know. Correct its spelling, or write what it names.",
+        ReadRefused::Unknown(path) => unknown_sentence(path),
         ReadRefused::Memory => "",
     }
 }
