@@ -1,11 +1,12 @@
 -- Who is awake after an event.
-use Rattle.std.proofs.Common.{◌≡◌, ◌≢◌, ℕ, ◌<◌, List, [], ◌∷◌, ◌++◌, slice_get, slice_set, Option, Some, None, inl, inr, refl, sym, ap, ◌∙◌, subst, arith}
+use Rattle.std.proofs.Common.{◌≡◌, ◌≢◌, ℕ, ◌<◌, List, [], ◌∷◌, ◌++◌, length, slice_get, slice_set, Option, Some, None, inl, inr, refl, sym, ap, ◌∙◌, subst, arith}
 use Rattle.std.proofs.lemmas.Bool.{cases_eq}
+use Rattle.std.proofs.lemmas.List.{length-append}
 use Rattle.std.proofs.lemmas.Option.{slice_get_within}
 use Rattle.std.specs.Int.{bit_at}
 use Rattle.vc_tokens.specs.Tokens.{Token}
 use Rattle.vc_vcp.proofs.Placed.{place-set_same, place-set_other}
-use Rattle.vc_core.specs.Awake.{StaysAwake}
+use Rattle.vc_core.specs.Awake.{StaysAwake, TokenCame}
 use Rattle.vc_core.specs.Enabled.{CanHappen}
 use Rattle.vc_core.specs.Private.Lined.{LeadsTo}
 use Rattle.vc_core.specs.Private.Turns.{Rests}
@@ -18,7 +19,6 @@ use Rattle.vc_actor.specs.declared.act.Act.{Act}
 use Rattle.vc_actor.specs.declared.act.Act.TheVariants.{Proc, Take, Put, Route, Fct, Pass}
 use Rattle.vc_plan.specs.declared.plan.Plan.{Plan}
 use Rattle.vc_core.proofs.Enabled.{can_take, comes_to, happens}
-use Rattle.vc_core.proofs.Lined.{end_first}
 use Rattle.vc_core.proofs.Quiet.{quiet_after}
 use Rattle.vc_core.proofs.Turning.{takes}
 
@@ -57,10 +57,33 @@ rests_on p s t e a b k is made stays other low none rests = record {
 
 -- Who is awake.
 
+-- no list is one that has one more
+not_grown : (ts : List Token) (t : Token) → Some ts ≡ Some (ts ++ t ∷ []) → ⊥
+not_grown ts t same =
+    let is : ts ≡ ts ++ t ∷ [] = cc in
+    let more = length-append ts (t ∷ []) in
+    let all = ap length is in
+    omega (arith, more, all)
+
+-- nor one that has one more than it and its first
+not_shrunk : (ts rest : List Token) (t u : Token) → Some ts ≡ Some (u ∷ rest) → Some rest ≡ Some (ts ++ t ∷ []) → ⊥
+not_shrunk ts rest t u old new =
+    let is : ts ≡ u ∷ rest = cc in
+    let was : rest ≡ ts ++ t ∷ [] = cc in
+    let more = length-append ts (t ∷ []) in
+    let all = ap length was in
+    let first = ap length is in
+    omega (arith, more, all, first)
+
+-- no token came where the ways have not changed
+pub none_came : (s t : State) (k : ℕ) → t.ways ≡ s.ways → TokenCame s t k → ⊥
+none_came s t k ways f = not_grown f.tokens f.token (sym f.stood ∙ ap (λ z. slice_get z f.way) (sym ways) ∙ f.stands)
+
 -- where nothing has changed
 pub still_awake : (s t : State) (a b : ℕ) → t ≡ s → b ≡ a → StaysAwake s a t b
 still_awake s t a b state mask = record {
   kept = λ k low is. ap (λ m. bit_at m k) mask ∙ is;
+  came = λ k low f. absurd (none_came s t k (ap (λ (z : State). z.ways) state) f);
   woken = λ k l low f none. absurd (none (subst (λ z. HasFront z k l) state f));
   only = λ k low is. inl (ap (λ m. bit_at m k) (sym mask) ∙ is);
 }
@@ -73,6 +96,25 @@ module _ (wiring : List (Option ℕ)) (ways : List (List Token)) (w : ℕ) (ts :
   -- what comes by a way to which nothing was done came by it before
   other_came : (k l : ℕ) (f : Comes wiring (slice_set ways w ts) k l) → f.way ≢ w → Comes wiring ways k l
   other_came k l f ne = record { way = f.way; token = f.token; rest = f.rest; into = f.into; stands = sym (place-set_other ways w f.way ts ne) ∙ f.stands }
+
+  -- no token came by a way to which nothing was done
+  other_none : (n : ℕ) (tokens : List Token) (t : Token) → n ≢ w → slice_get ways n ≡ Some tokens → slice_get (slice_set ways w ts) n ≡ Some (tokens ++ t ∷ []) → ⊥
+  other_none n tokens t ne stood stands = not_grown tokens t (sym stood ∙ sym (place-set_other ways w n ts ne) ∙ stands)
+
+  -- a token was taken: none came
+  pub taken_none : (u : Token) → slice_get ways w ≡ Some (u ∷ ts) → (n : ℕ) (tokens : List Token) (t : Token) → slice_get ways n ≡ Some tokens → slice_get (slice_set ways w ts) n ≡ Some (tokens ++ t ∷ []) → ⊥
+  taken_none u was n tokens t stood stands = elim (cases_eq n w) [
+    | inl same ↦ not_shrunk tokens ts t u (sym stood ∙ ap (slice_get ways) same ∙ was) (sym (place-set_same ways w ts (slice_get_within ways w (u ∷ ts) was)) ∙ ap (slice_get (slice_set ways w ts)) (sym same) ∙ stands)
+    | inr ne ↦ other_none n tokens t ne stood stands
+  ]
+
+  -- a token was put: whoever one came to is awake
+  pub put_came : (to after : ℕ) → LeadsTo wiring w to → bit_at after to ≡ 1 → (k l n : ℕ) (tokens : List Token) (t : Token) →
+      in_at wiring k l ≡ Some n → slice_get ways n ≡ Some tokens → slice_get (slice_set ways w ts) n ≡ Some (tokens ++ t ∷ []) → bit_at after k ≡ 1
+  put_came to after leads it k l n tokens t into stood stands = elim (cases_eq n w) [
+    | inl same ↦ subst (λ z. bit_at after z ≡ 1) ((leads k).1 (l, into ∙ ap Some same)) it
+    | inr ne ↦ absurd (other_none n tokens t ne stood stands)
+  ]
 
   -- a token was taken: what comes by its link came by it before
   pub taken_came : (t : Token) (rest : List Token) → slice_get ways w ≡ Some (t ∷ rest) → (k l : ℕ) → Comes wiring (slice_set ways w ts) k l → Comes wiring ways k l
@@ -88,8 +130,6 @@ module _ (wiring : List (Option ℕ)) (ways : List (List Token)) (w : ℕ) (ts :
     | inr ne ↦ absurd (none (other_came k l f ne))
   ]
 
-  -- and comes there
-  pub put_comes : (tokens : List Token) (t : Token) → slice_get ways w ≡ Some tokens → ts ≡ tokens ++ t ∷ [] → (k l : ℕ) → in_at wiring k l ≡ Some w → Comes wiring (slice_set ways w ts) k l
-  put_comes tokens t stood is k l into =
-      let first = end_first tokens t in
-      record { way = w; token = first.0; rest = first.1; into = into; stands = place-set_same ways w ts (slice_get_within ways w tokens stood) ∙ ap Some (is ∙ first.2) }
+  -- and stands at its end
+  pub put_stands : (tokens : List Token) (t : Token) → slice_get ways w ≡ Some tokens → ts ≡ tokens ++ t ∷ [] → slice_get (slice_set ways w ts) w ≡ Some (tokens ++ t ∷ [])
+  put_stands tokens t stood is = place-set_same ways w ts (slice_get_within ways w tokens stood) ∙ ap Some is

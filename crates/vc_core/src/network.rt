@@ -167,7 +167,10 @@ impl Network {
         ensures makes { (p : Plan) →
             IsNetworkOf p (state_of self.old) →
             OnOk result (MakesEvent p (state_of self.old) event.now (state_of self.new)) }
+        ensures awake { OnOk result (StaysAwake (state_of self.old) (awake_of self.old)
+            (state_of self.new) (awake_of self.new)) }
         ensures refused { OnErr result (state_of self.new ≡ state_of self.old) }
+        ensures none_wakes { OnErr result (awake_of self.new ≡ awake_of self.old) }
         ensures not_enabled { (p : Plan) →
             IsNetworkOf p (state_of self.old) →
             MatchResult result (λ _. CanHappen p (state_of self.old) event.now)
@@ -193,6 +196,7 @@ impl Network {
         ensures awake { OnOk result (StaysAwake (state_of self.old) (awake_of self.old)
             (state_of self.new) (awake_of self.new)) }
         ensures refused { OnErr result (state_of self.new ≡ state_of self.old) }
+        ensures none_wakes { OnErr result (awake_of self.new ≡ awake_of self.old) }
     {
         match event.act {
             Act::Take { link, word } => {
@@ -218,6 +222,7 @@ impl Network {
         ensures awake { OnOk result (StaysAwake (state_of self.old) (awake_of self.old)
             (state_of self.new) (awake_of self.new)) }
         ensures refused { OnErr result (state_of self.new ≡ state_of self.old) }
+        ensures none_wakes { OnErr result (awake_of self.new ≡ awake_of self.old) }
     {
         match event.act {
             Act::Proc(_) | Act::Pass { .. } | Act::Route { .. } => self.act(event),
@@ -238,6 +243,7 @@ impl Network {
         ensures awake { OnOk result (StaysAwake (state_of self.old) (awake_of self.old)
             (state_of self.new) (awake_of self.new)) }
         ensures refused { OnErr result (state_of self.new ≡ state_of self.old) }
+        ensures none_wakes { OnErr result (awake_of self.new ≡ awake_of self.old) }
     {
         self.actors[usize::from(event.actor)].make(&event.act)
     }
@@ -272,6 +278,7 @@ impl Network {
         ensures awake { OnOk result (StaysAwake (state_of self.old) (awake_of self.old)
             (state_of self.new) (awake_of self.new)) }
         ensures refused { OnErr result (state_of self.new ≡ state_of self.old) }
+        ensures none_wakes { OnErr result (awake_of self.new ≡ awake_of self.old) }
     {
         let way = self.lines.way_out(event.actor, link);
         let to = self
@@ -293,6 +300,7 @@ impl Network {
         ensures awake { OnOk result (StaysAwake (state_of self.old) (awake_of self.old)
             (state_of self.new) (awake_of self.new)) }
         ensures refused { OnErr result (state_of self.new ≡ state_of self.old) }
+        ensures none_wakes { OnErr result (awake_of self.new ≡ awake_of self.old) }
     {
         let way = self.lines.way_out(event.actor, link);
         let to = self.lines.push(way, Token::Fct)?;
@@ -379,6 +387,7 @@ impl Network {
         ensures awake { OnOk result (StaysAwake (state_of self.old) (awake_of self.old)
             (state_of self.new) (awake_of self.new)) }
         ensures refused { OnErr result (state_of self.new ≡ state_of self.old) }
+        ensures none_wakes { OnErr result (awake_of self.new ≡ awake_of self.old) }
     {
         let Some(next) = self.next(actor)? else {
             return Ok(None);
@@ -397,6 +406,7 @@ impl Network {
         ensures awake { OnOk result (StaysAwake (state_of self.old) (awake_of self.old)
             (state_of self.new) (awake_of self.new)) }
         ensures refused { OnErr result (state_of self.new ≡ state_of self.old) }
+        ensures none_wakes { OnErr result (awake_of self.new ≡ awake_of self.old) }
     {
         let Some(event) = self.next_of(actor, kind)? else {
             return Ok(None);

@@ -1,11 +1,11 @@
-use Rattle.std.proofs.Common.{◌≡◌, ap, ◌∙◌, inl, inr, refl, sym, subst}
+use Rattle.std.proofs.Common.{◌≡◌, [], ◌∷◌, ◌++◌, slice_get, Some, ap, ◌∙◌, inl, inr, refl, sym, subst}
 use Rattle.std.specs.Int.{bit_at}
 use Rattle.vc_actor.specs.Acting.{MayAct}
 use Rattle.vc_tokens.specs.Tokens as tokens
 use Rattle.vc_core.specs.Lined.{Lined}
-use Rattle.vc_core.specs.State.{state_of, HasFront}
+use Rattle.vc_core.specs.State.{State, state_of, HasFront}
 use Rattle.vc_core.specs.Wired.{Comes}
-use Rattle.vc_core.proofs.Awake.{put_comes, put_wakes}
+use Rattle.vc_core.proofs.Awake.{put_came, put_stands, put_wakes}
 use Rattle.vc_core.proofs.Happening.{granted, way_is, way_found}
 use Rattle.vc_core.proofs.network.Network.grant.Goals as goal
 
@@ -35,6 +35,10 @@ returns-clause-awake c =
     let same : c.grant_by.new.self.awake ≡ c.wake.new.awake = c.grant_by.ensures.awake in
     record {
       kept = λ k low is. ap (λ m. bit_at m k) same ∙ c.wake.ensures.kept k low is;
+      came = λ k low f.
+          ap (λ m. bit_at m k) same
+          ∙ put_came n.lines.wiring n.lines.ways w _ c.in_ok-to.to c.wake.new.awake c.in_ok-to.ensures.to c.wake.ensures.it k f.link f.way f.tokens f.token f.into f.stood
+          (subst (λ (z : Lined). slice_get z.ways f.way ≡ Some (f.tokens ++ f.token ∷ [])) line (subst (λ (z : State). slice_get z.ways f.way ≡ Some (f.tokens ++ f.token ∷ [])) c.grant_by.ensures.grants.new_is f.stands));
       woken = λ k l low f none.
           ap (λ m. bit_at m k) same
           ∙ put_wakes n.lines.wiring n.lines.ways w _ c.in_ok-to.to c.wake.new.awake c.in_ok-to.ensures.to c.wake.ensures.it k l
@@ -42,10 +46,16 @@ returns-clause-awake c =
       only = λ k low is. elim (c.wake.ensures.only k low (sym (ap (λ m. bit_at m k) same) ∙ is)) [
         | inl was ↦ inl was
         | inr to ↦ (let into = (c.in_ok-to.ensures.to k).0 to in
-            inr (
-              into.0,
-              subst (λ z. HasFront z k into.0) (sym c.grant_by.ensures.grants.new_is) (subst (λ (z : Lined). Comes z.wiring z.ways k into.0) (sym line)
-                  (put_comes n.lines.wiring n.lines.ways w _ lets.tokens tokens.Fct (way_found s e.actor c.args.link w lets c.way_out-way.ensures.way) refl k into.0 into.1)),
-            ))
+            inr (record {
+              way = w;
+              link = into.0;
+              tokens = lets.tokens;
+              token = tokens.Fct;
+              into = into.1;
+              stood = way_found s e.actor c.args.link w lets c.way_out-way.ensures.way;
+              stands = subst (λ (z : State). slice_get z.ways w ≡ Some (lets.tokens ++ tokens.Fct ∷ [])) (sym c.grant_by.ensures.grants.new_is)
+                  (subst (λ (z : Lined). slice_get z.ways w ≡ Some (lets.tokens ++ tokens.Fct ∷ [])) (sym line)
+                  (put_stands n.lines.wiring n.lines.ways w _ lets.tokens tokens.Fct (way_found s e.actor c.args.link w lets c.way_out-way.ensures.way) refl));
+            }))
       ];
     }

@@ -1,4 +1,4 @@
-use Rattle.std.proofs.Common.{◌≡◌, ◌<◌, length, slice_get, slice_set, Some, inl, inr, refl, sym, ◌∙◌, subst}
+use Rattle.std.proofs.Common.{◌≡◌, ◌<◌, [], ◌∷◌, ◌++◌, length, slice_get, slice_set, Some, inl, inr, refl, sym, ◌∙◌, subst}
 use Rattle.std.proofs.lemmas.Option.{slice_get_read, slice_get_within}
 use Rattle.vc_actor.specs.Acting.{MayAct}
 use Rattle.vc_core.specs.Lined.{Lined}
@@ -7,7 +7,7 @@ use Rattle.vc_core.specs.Wired.{Comes}
 use Rattle.vc_core.specs.State.{state_of, HasWay}
 use Rattle.vc_actor.specs.declared.act.Act.TheVariants as act
 use Rattle.vc_core.proofs.Happening.{placed, written_back}
-use Rattle.vc_core.proofs.Awake.{put_comes, put_wakes}
+use Rattle.vc_core.proofs.Awake.{put_came, put_stands, put_wakes}
 use Rattle.vc_core.proofs.Lined.{err_all}
 use Rattle.vc_core.proofs.network.Network.put.Goals as goal
 
@@ -46,16 +46,23 @@ returns-clause-awake c =
     let puts = c.in_ok-to.ensures.ok in
     record {
       kept = c.wake.ensures.kept;
+      came = λ k low f. put_came n.lines.wiring n.lines.ways c.way_out-way.result puts.more c.in_ok-to.to c.wake.new.awake c.in_ok-to.ensures.to c.wake.ensures.it k f.link f.way f.tokens f.token f.into f.stood
+          (subst (λ (z : Lined). slice_get z.ways f.way ≡ Some (f.tokens ++ f.token ∷ [])) puts.new_is f.stands);
       woken = λ k l low f none. put_wakes n.lines.wiring n.lines.ways c.way_out-way.result puts.more c.in_ok-to.to c.wake.new.awake c.in_ok-to.ensures.to c.wake.ensures.it k l
           (subst (λ (z : Lined). Comes z.wiring z.ways k l) puts.new_is f) none;
       only = λ k low is. elim (c.wake.ensures.only k low is) [
         | inl was ↦ inl was
         | inr to ↦ (let into = (c.in_ok-to.ensures.to k).0 to in
-            inr (
-              into.0,
-              subst (λ (z : Lined). Comes z.wiring z.ways k into.0) (sym puts.new_is)
-                  (put_comes n.lines.wiring n.lines.ways c.way_out-way.result puts.more puts.tokens puts.puts.token puts.stand puts.puts.ends k into.0 into.1),
-            ))
+            inr (record {
+              way = c.way_out-way.result;
+              link = into.0;
+              tokens = puts.tokens;
+              token = puts.puts.token;
+              into = into.1;
+              stood = puts.stand;
+              stands = subst (λ (z : Lined). slice_get z.ways c.way_out-way.result ≡ Some (puts.tokens ++ puts.puts.token ∷ [])) (sym puts.new_is)
+                  (put_stands n.lines.wiring n.lines.ways c.way_out-way.result puts.more puts.tokens puts.puts.token puts.stand puts.puts.ends);
+            }))
       ];
     }
 
@@ -69,3 +76,6 @@ returns-in_err-to-clause-refused c =
     let read = slice_get_read n.actors.items (length n.actors.items) c.from.result x refl less c.index_mut.ensures.value in
     let same = c.in_err-to.ensures.err in
     err_all c.from_residual.result (λ i. record { actors = written_back n.actors.items c.from.result x c.put.new.from read same.0 i; nodes = n.nodes; ways = (same.1 i).ways; wiring = (same.1 i).wiring; wires = n.wires; channels = n.channels.items })
+
+pub returns-in_err-to-clause-none_wakes : goal.returns-in_err-to-clause-none_wakes
+returns-in_err-to-clause-none_wakes c = err_all c.from_residual.result refl

@@ -1,4 +1,4 @@
-use Rattle.std.proofs.Common.{◌≡◌, ◌<◌, length, slice_get, slice_set, Some, inl, inr, refl, sym, subst}
+use Rattle.std.proofs.Common.{◌≡◌, ◌<◌, [], ◌∷◌, ◌++◌, length, slice_get, slice_set, Some, inl, inr, refl, sym, subst}
 use Rattle.std.proofs.lemmas.Bool.{cases_lt, false≢true}
 use Rattle.std.proofs.lemmas.Option.{slice_get_past, slice_get_read}
 use Rattle.vc_tokens.specs.Spelt.{token as spelt}
@@ -6,7 +6,7 @@ use Rattle.vc_core.specs.Lined.{Lined}
 use Rattle.vc_core.specs.State.{state_of}
 use Rattle.vc_core.specs.Wired.{Comes}
 use Rattle.vc_actor.specs.declared.act.Act.TheVariants as act
-use Rattle.vc_core.proofs.Awake.{still_awake, taken_came}
+use Rattle.vc_core.proofs.Awake.{still_awake, taken_came, taken_none}
 use Rattle.vc_core.proofs.Enabled.{comes_to}
 use Rattle.vc_core.proofs.Happening.{taken}
 use Rattle.vc_core.proofs.Lined.{in_few}
@@ -54,6 +54,8 @@ returns-in-Some-clause-awake c =
     let f = off.0 in
     record {
       kept = λ k low is. is;
+      came = λ k low g. absurd (taken_none n.lines.wiring n.lines.ways f.way f.rest f.token f.stands g.way g.tokens g.token g.stood
+          (subst (λ (z : Lined). slice_get z.ways g.way ≡ Some (g.tokens ++ g.token ∷ [])) off.2 g.stands));
       woken = λ k l low g none. absurd (none (taken_came n.lines.wiring n.lines.ways f.way f.rest f.token f.rest f.stands k l (subst (λ (z : Lined). Comes z.wiring z.ways k l) off.2 g)));
       only = λ k low is. inl is;
     }
