@@ -1,5 +1,5 @@
 //! A network: its actors, and the ways that join them.
-ghost use Rattle.std.specs.Prelude.{◌≡◌, ◌≢◌, ◌⊎◌, ◌+◌, ◌*◌, ◌<◌, ◌++◌, ◌↔◌, [], ℕ, true, false, List, length, map, slice_get, Some, None, IsTrue, IsSome, IfOk, IfErr, IfSome, OnOk, OnErr, MatchResult};
+ghost use Rattle.std.specs.Prelude.{◌≡◌, ◌≢◌, ◌⊎◌, ◌+◌, ◌*◌, ◌<◌, ◌≤◌, ◌++◌, ◌↔◌, [], ℕ, true, false, List, length, map, slice_get, Some, None, IsTrue, IsSome, IfOk, IfErr, IfSome, OnOk, OnErr, MatchResult};
 ghost use Rattle.vc_core.specs.Replaying.{IsOpening, Reached, Replays, RefusedAt};
 ghost use Rattle.vc_plan.specs.declared.plan.Plan.{Plan};
 ghost use Rattle.vc_actor.specs.Acting.{IsOwn};
@@ -528,10 +528,14 @@ impl Network {
 
     /// The name of a channel: 1 to 16 ASCII letters, digits, `_` and `-`. It is empty where the network has no such channel.
     pub fn name(&self, chan: u16) -> &str
-        ensures { (p : Plan) (x : Channel) →
+        ensures is { (p : Plan) (x : Channel) →
             IsNetworkOf p (state_of self.now) →
             slice_get p.channels chan ≡ Some x →
             result.now ≡ x.name }
+        ensures lacks { (p : Plan) →
+            IsNetworkOf p (state_of self.now) →
+            length p.channels ≤ chan →
+            result.now ≡ [] }
     {
         match at(self.channels.as_slice(), usize::from(chan)) {
             Some(channel) => channel.name.as_str(),
@@ -539,12 +543,16 @@ impl Network {
         }
     }
 
-    /// The kind of a channel.
+    /// The kind of a channel: what its messages are. It is INT where the network has no such channel.
     pub fn kind(&self, chan: u16) -> ValueKind
-        ensures { (p : Plan) (x : Channel) →
+        ensures is { (p : Plan) (x : Channel) →
             IsNetworkOf p (state_of self.now) →
             slice_get p.channels chan ≡ Some x →
             result ≡ x.kind }
+        ensures lacks { (p : Plan) →
+            IsNetworkOf p (state_of self.now) →
+            length p.channels ≤ chan →
+            result ≡ ValueKind.Int }
     {
         match at(self.channels.as_slice(), usize::from(chan)) {
             Some(channel) => channel.kind,
@@ -552,12 +560,16 @@ impl Network {
         }
     }
 
-    /// The messages offered on a channel, the first one first.
+    /// The messages offered on a channel, the first one first. There are none where the network has no such channel.
     pub fn offered(&self, chan: u16) -> Messages<'_>
-        ensures { (p : Plan) →
+        ensures shows { (p : Plan) →
             IsNetworkOf p (state_of self.now) →
             chan < length p.channels →
             listed result ≡ (view (network_of p) (shown (state_of self.now)) chan).offered }
+        ensures lacks { (p : Plan) →
+            IsNetworkOf p (state_of self.now) →
+            length p.channels ≤ chan →
+            listed result ≡ [] }
     {
         match self.source(chan) {
             Some(node) => node.offered(chan),
@@ -565,12 +577,16 @@ impl Network {
         }
     }
 
-    /// The messages taken on a channel, the first one first.
+    /// The messages taken on a channel, the first one first. There are none where the network has no such channel.
     pub fn taken(&self, chan: u16) -> Messages<'_>
-        ensures { (p : Plan) →
+        ensures shows { (p : Plan) →
             IsNetworkOf p (state_of self.now) →
             chan < length p.channels →
             listed result ≡ (view (network_of p) (shown (state_of self.now)) chan).taken }
+        ensures lacks { (p : Plan) →
+            IsNetworkOf p (state_of self.now) →
+            length p.channels ≤ chan →
+            listed result ≡ [] }
     {
         match self.sink(chan) {
             Some(node) => node.taken(chan),
@@ -578,12 +594,16 @@ impl Network {
         }
     }
 
-    /// How many outputs on a channel are finished.
+    /// How many outputs on a channel are finished: 0 where the network has no such channel.
     pub fn finished(&self, chan: u16) -> u64
-        ensures { (p : Plan) →
+        ensures shows { (p : Plan) →
             IsNetworkOf p (state_of self.now) →
             chan < length p.channels →
             result ≡ (view (network_of p) (shown (state_of self.now)) chan).finished }
+        ensures lacks { (p : Plan) →
+            IsNetworkOf p (state_of self.now) →
+            length p.channels ≤ chan →
+            result ≡ 0 }
     {
         match self.source(chan) {
             Some(node) => node.finished(chan),
@@ -591,12 +611,16 @@ impl Network {
         }
     }
 
-    /// Whether a channel was stopped.
+    /// Whether a channel was stopped. The answer is no where the network has no such channel.
     pub fn stopped(&self, chan: u16) -> bool
-        ensures { (p : Plan) →
+        ensures shows { (p : Plan) →
             IsNetworkOf p (state_of self.now) →
             chan < length p.channels →
             result ≡ (view (network_of p) (shown (state_of self.now)) chan).stopped }
+        ensures lacks { (p : Plan) →
+            IsNetworkOf p (state_of self.now) →
+            length p.channels ≤ chan →
+            result ≡ false }
     {
         match self.sink(chan) {
             Some(node) => node.stopped(chan),
@@ -701,15 +725,19 @@ impl Network {
         all
     }
 
-    // The node that outputs on a channel.
+    // The node that outputs on a channel. There is none where the network has no such channel.
     fn source(&self, chan: u16) -> Option<&Node>
-        ensures { (p : Plan) →
+        ensures shows { (p : Plan) →
             IsNetworkOf p (state_of self.now) →
             chan < length p.channels →
             node_at
             (slice_get self.now.actors.items
             (source_node (network_of p) (home (network_of p) chan))) ≡
             option_copied result }
+        ensures lacks { (p : Plan) →
+            IsNetworkOf p (state_of self.now) →
+            length p.channels ≤ chan →
+            result ≡ None }
     {
         match at(self.channels.as_slice(), usize::from(chan)) {
             Some(channel) => match at(self.actors.as_slice(), channel.source) {
@@ -720,15 +748,19 @@ impl Network {
         }
     }
 
-    // The node that inputs on a channel.
+    // The node that inputs on a channel. There is none where the network has no such channel.
     fn sink(&self, chan: u16) -> Option<&Node>
-        ensures { (p : Plan) →
+        ensures shows { (p : Plan) →
             IsNetworkOf p (state_of self.now) →
             chan < length p.channels →
             node_at
             (slice_get self.now.actors.items
             (sink_node (network_of p) (home (network_of p) chan))) ≡
             option_copied result }
+        ensures lacks { (p : Plan) →
+            IsNetworkOf p (state_of self.now) →
+            length p.channels ≤ chan →
+            result ≡ None }
     {
         match at(self.channels.as_slice(), usize::from(chan)) {
             Some(channel) => match at(self.actors.as_slice(), channel.sink) {

@@ -11,7 +11,7 @@ pub returns : goal.returns
 returns c = λ p events replays lt.
     let v = view (network_of p) (shown (state_of c.args.network.now)) c.args.chan in
     let f = replays.runs.headline.faithful c.args.chan (subst (λ n. c.args.chan < n) (sym (length-map p.channels home_in)) lt) in
-    let offered = c.offered.ensures p replays.is lt in
-    let taken = c.taken.ensures p replays.is lt in
+    let offered = c.offered.ensures.shows p replays.is lt in
+    let taken = c.taken.ensures.shows p replays.is lt in
     behind v.offered v.taken f.in_order.0 v.finished c.get.result f.in_order.1 f.finished f.one_output
     (c.get.ensures ∙ ap (λ xs. slice_get xs c.len.result) offered ∙ ap (slice_get v.offered) (c.len.ensures ∙ ap length taken))

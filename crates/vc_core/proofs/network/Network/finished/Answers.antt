@@ -3,12 +3,16 @@ use Rattle.vc_core.specs.State.{state_of}
 use Rattle.vc_core.proofs.Viewing.{source_found}
 use Rattle.vc_core.proofs.network.Network.finished.Goals as goal
 
-pub returns-in-Some : goal.returns-in-Some
-returns-in-Some c = λ p is less.
-    let shows = source_found p (state_of c.args.self.now) c.args.chan (Some c.in-Some.node.now) is (c.in-Some.ensures p is less) in
+pub returns-in-Some-clause-shows : goal.returns-in-Some-clause-shows
+returns-in-Some-clause-shows c = λ p is less.
+    let shows = source_found p (state_of c.args.self.now) c.args.chan (Some c.in-Some.node.now) is (c.in-Some.ensures.shows p is less) in
     c.finished.ensures ∙ shows.finished
 
-pub returns-in-None : goal.returns-in-None
-returns-in-None c = λ p is less.
-    let shows = source_found p (state_of c.args.self.now) c.args.chan None is (c.in-None.ensures p is less) in
+pub returns-in-None-clause-shows : goal.returns-in-None-clause-shows
+returns-in-None-clause-shows c = λ p is less.
+    let shows = source_found p (state_of c.args.self.now) c.args.chan None is (c.in-None.ensures.shows p is less) in
     shows.finished
+
+-- where the network lacks the channel no node is found
+pub returns-in-Some-clause-lacks : goal.returns-in-Some-clause-lacks
+returns-in-Some-clause-lacks c = λ p is past. absurd (let none = c.in-Some.ensures.lacks p is past in cc)
