@@ -78,7 +78,8 @@ impl Drop for Network {
 }
 
 impl Network {
-    /// The network of an accepted plan, about to begin: each process whole, no token anywhere, and all actors awake.
+    /// The network of an accepted plan, about to begin: each process whole, no token anywhere, and all actors awake. It fails for want of
+    /// memory alone.
     pub fn new(alloc: Global, accepted: &Accepted) -> Result<Network, Memory>
         ensures opening { IfOk result (λ network. IsOpening accepted.now (state_of network)) }
         ensures awake { IfOk result (λ network. AllAwake (awake_of network)) }
@@ -94,7 +95,8 @@ impl Network {
         })
     }
 
-    /// The network of an accepted plan with these actors, and with these tokens on each of its ways in turn; all actors are awake.
+    /// The network of an accepted plan with these actors, and with these tokens on each of its ways in turn; all actors are awake. It fails
+    /// for want of memory alone.
     pub fn of_parts(
         alloc: Global,
         accepted: &Accepted,
@@ -337,7 +339,8 @@ impl Network {
         self.awake
     }
 
-    /// An actor is awake no more, until a token comes to it: whoever runs the network says so of one that has no event.
+    /// An actor, one of the first 64, is awake no more, until a token comes to it: whoever runs the network says so of one that has no
+    /// event.
     pub fn rest(&mut self, actor: u8)
         requires { actor < 64 }
         ensures same { state_of self.new ≡ state_of self.old }
@@ -350,7 +353,8 @@ impl Network {
         self.awake &= !(1u64 << actor);
     }
 
-    /// What an actor does next where every way has room; nothing where it has no step but to take.
+    /// What an actor does next where every way has room; nothing where it has no step but to take. The network stays as it is. It fails for
+    /// want of memory alone.
     #[inline(always)]
     pub fn next(&mut self, actor: u8) -> Result<Option<Event>, Memory>
         ensures same { state_of self.new ≡ state_of self.old }
@@ -375,7 +379,8 @@ impl Network {
         }
     }
 
-    /// An actor makes the event, but a take, that it makes next where every way has room; nothing where it has none.
+    /// An actor makes the event, but a take, that it makes next where every way has room; nothing where it has none. It fails for want of
+    /// memory alone, and the network is then as it was.
     #[inline(always)]
     pub fn turn(&mut self, actor: u8) -> Result<Option<Event>, Memory>
         ensures finds { (p : Plan) →
@@ -397,7 +402,7 @@ impl Network {
     }
 
     /// An actor makes an event of this kind, if it has one where every way has room. Whoever chooses the kinds makes events in an order of
-    /// their own.
+    /// their own. It fails for want of memory alone, and the network is then as it was.
     pub fn turn_by(&mut self, actor: u8, kind: ActKind) -> Result<Option<Event>, Memory>
         ensures finds { (p : Plan) → IsNetworkOf p (state_of self.old) →
             IfOk result (FindsEventOf kind p (state_of self.old) actor) }
@@ -453,7 +458,7 @@ impl Network {
     }
 
     /// What the parts of a node's process are at that do not go on by themselves, in order of site; nothing where the network has no
-    /// such node.
+    /// such node. It fails for want of memory alone.
     pub fn blocked(&self, alloc: Global, node: usize) -> Result<Items<Blocked>, Memory>
         ensures { IfOk result (λ found. found ≡ blocked_in (shown (state_of self.now)) node) }
     {

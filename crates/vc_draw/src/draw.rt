@@ -69,7 +69,7 @@ fn draw_after<W: Write>(
 
 /// Reads a network file, runs the network for at most `limit` events as [`run_step_unlogged`](vc_text::run_step_unlogged) does in turn, and
 /// writes it as Graphviz text with its state in the labels: what the processes wait for, the tokens on the wires, and the messages and
-/// packets of the channels. A refusal is answered, and nothing is written for it.
+/// packets of the channels. Where it fails, a front of the text was written if the writer failed, and else nothing.
 pub fn run_draw_after<R: Read, W: Write>(
     alloc: Global,
     reader: &mut R,

@@ -11,7 +11,8 @@ use vc_packets::Memory;
 use vc_plan::{Accepted, Plan, check};
 use vc_waits::push_number;
 
-/// The network that the reader has, where the checker accepts it.
+/// The network that the reader has, where the checker accepts it. It fails where the reader fails, where the file or its plan is refused,
+/// and for want of memory.
 pub fn read_accepted<R: Read>(alloc: Global, reader: &mut R) -> Result<Accepted, RunFault>
     ensures { ReadsAccepted (R.remaining reader.old) result }
 {

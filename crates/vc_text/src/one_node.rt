@@ -31,7 +31,8 @@ pub(crate) fn read_together<R: Read>(alloc: Global, reader: &mut R) -> Result<Ac
     joined(alloc, accepted)
 }
 
-/// The network that the reader has, or the plan of one node for it, where the checker accepts it.
+/// The network that the reader has, or the plan of one node for it, where the checker accepts it. It fails where the reader fails, where
+/// the file or a plan is refused, and for want of memory.
 pub fn read_as<R: Read>(
     alloc: Global,
     reader: &mut R,

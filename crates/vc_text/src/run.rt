@@ -141,7 +141,7 @@ fn run_plan<W: Write>(
 
 /// Reads a network file, runs the network event by event, and writes its traffic. The run goes in rounds over the actors, and ends
 /// where no event is enabled, or else after `limit` events. The words of an actor's takes are those of the generator of seed 0 and the
-/// actor's number.
+/// actor's number. Where it fails, a front of the text was written if the writer failed, and else nothing.
 pub fn run_step<R: Read, W: Write>(
     alloc: Global,
     reader: &mut R,
@@ -156,7 +156,8 @@ pub fn run_step<R: Read, W: Write>(
 }
 
 /// Reads a network file, runs all its processes side by side on one node, with every channel inside it, and writes the traffic. A
-/// network too large for one node is refused. It reports the events of that node.
+/// network too large for one node is refused. It reports the events of that node. Where it fails, a front of the text was written if the
+/// writer failed, and else nothing.
 pub fn run_together<R: Read, W: Write>(
     alloc: Global,
     reader: &mut R,

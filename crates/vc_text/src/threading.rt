@@ -43,7 +43,7 @@ pub fn ending_of(report: Report) -> Ending
 
 /// Reads a network file, runs the network with a thread for each node and each switch, and writes its traffic. Each thread makes at
 /// most so many turns, and ends earlier once the process of every node has ended. The words of an actor's takes are those of the
-/// generator of this seed and the actor's number.
+/// generator of this seed and the actor's number. Where it fails, a front of the text was written if the writer failed, and else nothing.
 pub fn run_net<T: Threads + Wait + Sync, R: Read, W: Write>(
     rt: &T,
     alloc: Global,

@@ -51,7 +51,8 @@ fn run_actors<G: Gate, R: Threads + Wait + Sync>(
 /// The threads are joined, and their acts are made one list: whatever the threads did, it is a run of the network. The network that is
 /// reported is put together from the actors, as their acts left them, and from the tokens that are left in the rings. Why each worker
 /// ended is told, and where one met want of memory the run closes with the least of their actors, if not every process has ended.
-/// Where a thread can't be started, the workers that run end at their next turns, and the call then fails.
+/// Where a thread can't be started, the workers that run end at their next turns, and the call then fails. Else it fails for want of memory
+/// alone.
 ///
 /// The words of an actor's takes are those of the generator of this seed and the actor's number.
 pub fn run_threads<G: Gate, R: Threads + Wait + Sync>(

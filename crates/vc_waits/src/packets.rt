@@ -13,7 +13,7 @@ use vc_core::{Network, Place};
 use vc_packets::Memory;
 use vc_plan::{Plan, Wire};
 
-/// Where the packet of each channel stands, in order.
+/// Where the packet of each channel stands, in order. It fails for want of memory alone.
 pub fn places(alloc: Global, network: &Network) -> Result<Vec<Option<Place>>, Memory>
     ensures { (p : Plan) (events : List Event) → Reached p events (state_of network.now) →
         IfOk result (λ places. ArePlaces p (shown (state_of network.now)) places.items) }
@@ -25,7 +25,7 @@ pub fn places(alloc: Global, network: &Network) -> Result<Vec<Option<Place>>, Me
     Ok(places)
 }
 
-/// Adds to a text the two ports of a wire, from the one where the packet went in.
+/// Adds to a text the two ports of a wire, from the one where the packet went in. It fails for want of memory alone.
 #[tactic(auto, using(std::proofs::Common::append_assoc))]
 pub fn push_ports(out: &mut Vec<u8>, plan: &Plan, wire: &Wire, from_one: bool) -> Result<(), Memory>
     ensures { OnOk result (out.new.items
@@ -61,7 +61,7 @@ fn push_name(out: &mut Vec<u8>, name: &[u8]) -> Result<(), Memory>
     Ok(())
 }
 
-/// Adds to a text where a packet is.
+/// Adds to a text where a packet is. It fails for want of memory alone.
 #[tactic(auto, using(std::proofs::Common::append_assoc))]
 pub fn push_place(out: &mut Vec<u8>, plan: &Plan, place: Place) -> Result<(), Memory>
     ensures { OnOk result (out.new.items ≡ out.old.items ++ place_text plan.now place) }
@@ -115,7 +115,7 @@ fn push_packets(out: &mut Vec<u8>, plan: &Plan, places: &[Option<Place>]) -> Res
 
 /// Adds to a text a line for each part of a process of the plan's network that does not go on by itself, and then one for each packet of
 /// an output that is not finished. A line of a process says what it waits for, or how it has stopped, and a line of a packet where it is.
-/// The nodes, the parts of a process and the channels come in the file's order.
+/// The nodes, the parts of a process and the channels come in the file's order. It fails for want of memory alone.
 pub fn push_waits(
     alloc: Global,
     out: &mut Vec<u8>,

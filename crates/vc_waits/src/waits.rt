@@ -63,7 +63,8 @@ pub fn blocked_word(blocked: Blocked) -> &'static str
     }
 }
 
-/// Adds to a text where a part of a process is that does not go on by itself, and what it waits for or how it has stopped.
+/// Adds to a text where a part of a process is that does not go on by itself, and what it waits for or how it has stopped. It fails for
+/// want of memory alone.
 #[tactic(auto, unfolding(crate::specs::Waits::blocked_text))]
 pub fn push_blocked(
     out: &mut Vec<u8>,
@@ -139,7 +140,7 @@ fn push_all(
     Ok(())
 }
 
-/// The paths of the n-th node's process and of those within it, in order of site.
+/// The paths of the n-th node's process and of those within it, in order of site. It fails for want of memory alone.
 #[tactic(auto, using(std::proofs::Common::append_assoc))]
 pub fn process_paths(alloc: Global, n: usize, node: &NodePlan) -> Result<Items<Bytes>, Memory>
     ensures { IfOk result (λ found. found ≡ paths_of node.now.process (process_path n)) }
