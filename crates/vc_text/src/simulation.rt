@@ -1,6 +1,7 @@
 //! A network run event by event, in rounds over its actors.
 ghost use Rattle.std.specs.Prelude.{◌≡◌, ◌⊎◌, ◌<◌, ◌≤◌, ◌+◌, ◌^◌, ◌-◌, [], ℕ, true, false, List, None, Ok, IfOk, OnOk};
 ghost use Rattle.vc_plan.specs.declared.plan.Plan.{Plan};
+ghost use Rattle.vc_core.specs.Awake.{awake_of};
 ghost use Rattle.vc_core.specs.Replaying.{IsOpening};
 ghost use Rattle.vc_core.specs.State.{shown, state_of, HasFront, IsNetworkOf};
 ghost use Rattle.vc_core.specs.Private.Turns.{Rests, IsAtRest, GoesOn};
@@ -165,6 +166,7 @@ fn has_event(network: &mut Network, actor: u8) -> Result<bool, Memory>
     ensures has { (p : Plan) → IsNetworkOf p (state_of network.old) → actor < actors p →
         IfOk result (HasEvent p (state_of network.old) actor) }
     ensures same { state_of network.new ≡ state_of network.old }
+    ensures awake { awake_of network.new ≡ awake_of network.old }
 {
     if network.link_to_take(actor).is_some() {
         return Ok(true);
@@ -177,6 +179,7 @@ pub(crate) fn goes_on(network: &mut Network) -> Result<bool, Memory>
     ensures goes_on { (p : Plan) → IsNetworkOf p (state_of network.old) →
         IfOk result (GoesOn p (state_of network.old)) }
     ensures same { state_of network.new ≡ state_of network.old }
+    ensures awake { awake_of network.new ≡ awake_of network.old }
 {
     for actor in 0..network.actors() {
         if has_event(network, actor)? {

@@ -1,5 +1,5 @@
 //! Running a network in threads.
-ghost use Rattle.std.specs.Prelude.{◌≡◌};
+ghost use Rattle.std.specs.Prelude.{◌≡◌, length};
 ghost use Rattle.vc_text.specs.Tail.{IsTail};
 ghost use Rattle.vc_text.specs.Threading.{RunsInThreads, WritesThreads};
 
@@ -16,7 +16,9 @@ use vc_plan::Accepted;
 use vc_threads::{EndGate, Ending, Report, run_threads, run_threads_unlogged};
 
 /// The gate that closes once the process of each node has ended; a plan has at most 32 nodes.
-pub fn gate_of(accepted: &Accepted) -> EndGate {
+pub fn gate_of(accepted: &Accepted) -> EndGate
+    ensures { result ≡ length accepted.now.nodes }
+{
     EndGate::new(accepted.plan().nodes.len().min(64) as u8)
 }
 
