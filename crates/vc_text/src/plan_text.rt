@@ -1,5 +1,5 @@
 //! Names and paths of a plan.
-ghost use Rattle.std.specs.Prelude.{◌≡◌, ◌++◌, OnOk};
+ghost use Rattle.std.specs.Prelude.{◌≡◌, ◌++◌, OnErr, OnOk};
 ghost use Rattle.vc_text.specs.FaultLine.{value_text, hop_text, way_text, start_text, last_text, path_text};
 ghost use Rattle.std.specs.List.{flat_map};
 
@@ -38,9 +38,11 @@ fn push_hops(out: &mut Vec<u8>, plan: &Plan, hops: &[Hop]) -> Result<(), Memory>
     Ok(())
 }
 
-/// Adds a way of a virtual link to a text: `ab` from its end a to its end b, or `ba` back.
+/// Adds a way of a virtual link to a text: `ab` from its end a to its end b, or `ba` back. It fails for want of memory alone, and the text
+/// is then as it was.
 pub fn push_way(out: &mut Vec<u8>, from_a: bool) -> Result<(), Memory>
-    ensures { OnOk result (out.new.items ≡ out.old.items ++ way_text from_a) }
+    ensures ok { OnOk result (out.new.items ≡ out.old.items ++ way_text from_a) }
+    ensures err { OnErr result (out.new.items ≡ out.old.items) }
 {
     if from_a {
         out.extend_from_slice(b"ab")?;

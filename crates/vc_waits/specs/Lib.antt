@@ -1,3 +1,4 @@
+pub mod Fronts
 pub mod Meaning
 pub mod Packets
 pub mod Paths
