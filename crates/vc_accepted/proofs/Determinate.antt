@@ -1,7 +1,6 @@
 -- What a lawful process does leads to one state.
 use Rattle.std.proofs.Common.{◌≡◌, ℕ, List, Option, sym, ◌∙◌}
 use Rattle.vc_process.specs.ProcessStep.{ProcessStep, Offers, Wants, Chooses, Stops, Meets, Rests, Finishes, Receives}
-use Rattle.vc_occam.specs.States as occam
 use Rattle.vc_occam.proofs.Determinate.{doing_one, offers_sent, meets_sent}
 use Rattle.vc_occam.proofs.Keeping.{doing_keeps_use}
 use Rattle.vc_occam.proofs.Sites.{doing_keeps}

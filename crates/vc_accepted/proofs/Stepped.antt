@@ -1,27 +1,20 @@
 -- What a process does, step by step, is a trace of it, and tells the communications that its node makes.
-use Rattle.std.proofs.Common.{◌≡◌, ℕ, false, refl, sym, ap, subst, ◌∙◌, List, [], ◌∷◌, ◌++◌, Some, None}
+use Rattle.std.proofs.Common.{◌≡◌, ℕ, false, refl, sym, ap, subst, ◌∙◌, List, [], ◌∷◌, ◌++◌, Some, None, append_assoc}
 use Rattle.vc_machine.specs.Rendezvous as rendezvous
 use Rattle.vc_process.specs.ProcessStep.{ProcessStep, Offers, Wants, Chooses, Stops, Meets, Rests, Finishes, Receives}
 use Rattle.vc_network.specs.Processes.{comms, Trace, none, more}
-use Rattle.std.specs.List.{Contains}
-use Rattle.vc_occam.specs.declared.moves.Move.{Move}
-use Rattle.vc_occam.specs.declared.moves.Move.TheVariants as move
 use Rattle.vc_process.specs.declared.value_kind.ValueKind.{ValueKind}
 use Rattle.vc_occam.specs.InUse.{UsesLawfully}
 use Rattle.vc_process.specs.Messages.{message}
 use Rattle.vc_occam.specs.NodeTraces as node
-use Rattle.vc_occam.specs.First.{first_moves}
-use Rattle.vc_occam.specs.Private.Moving.{action_on}
-use Rattle.vc_occam.specs.Remains.{Rest, Done, Step, TraceRest}
+use Rattle.vc_occam.specs.Remains.{TraceRest}
 use Rattle.vc_occam.specs.States as occam
-use Rattle.vc_occam.specs.Traces.{Comm, Out, In, Fin, Stp, End}
+use Rattle.vc_occam.specs.Traces.{Comm, Out, In, Fin, Stp}
 use Rattle.vc_process.specs.Usage.{Set}
-use Rattle.vc_process.specs.Values.{Store}
 use Rattle.vc_occam.proofs.Keeping.{doing_keeps_use, doing_is_traced}
 use Rattle.vc_occam.proofs.Kinded.{kind_of, value_as, carries, StoreHasKinds, Sound, Tells, doing_tells, doing_stays}
 use Rattle.vc_occam.proofs.Openly.{offers_outside}
 use Rattle.vc_occam.proofs.Sites.{clash}
-use Rattle.vc_process.proofs.Lists.{none as empty}
 use Rattle.vc_accepted.specs.Process.{Process, Goes, does}
 
 -- a communication that carries this value, as its node makes it: an input's value is what the message is worth on the channel
@@ -45,7 +38,7 @@ said_append kinds [] ls (x ∷ xs) ys h k = absurd h
 said_append kinds (l ∷ ks) ls [] ys h k = absurd h
 
 -- these communications can stand before any that a node makes
-abbrev Leads : Set → List Comm → Type 0
+abbrev pub Leads : Set → List Comm → Type 0
 Leads inside ks = (t : List Comm) → node.Meets inside t → node.Meets inside (ks ++ t)
 
 module _ (channel : ℕ → ValueKind) (kinds : List ValueKind) where
@@ -144,40 +137,22 @@ module _ (channel : ℕ → ValueKind) (kinds : List ValueKind) where
   pub record Told (old : Process) (ks : List (ℕ × rendezvous.Comm)) (new : Process) : Type 0 where
     pub made : List Comm
     pub said : AreSaid channel ks made
-    pub meets : node.Meets old.inside made
-    pub traced : (x : End) → TraceRest new.state.rest new.state.store [] x → TraceRest old.state.rest old.state.store made x
+    pub leads : Leads old.inside made
+    pub traced : occam.IsTraced old.state made new.state
     pub good : IsGood new
+    pub inside : new.inside ≡ old.inside
 
   pub trace_told : (old new : Process) {ks : List (ℕ × rendezvous.Comm)} → Trace does old ks new → IsGood old → Told old ks new
-  trace_told old new none o = record { made = []; said = tt; meets = tt; traced = λ x h. h; good = o }
+  trace_told old new none o = record { made = []; said = tt; leads = λ t h. h; traced = λ t x h. h; good = o; inside = refl }
   trace_told old new (more {q = q} {d = d} {ks = ks} h t) o =
       let a = step_made old q d h o in
       let b = trace_told q new t a.good in
       record {
         made = a.made ++ b.made;
         said = said_append channel (comms d) ks a.made b.made a.said b.said;
-        meets = a.leads b.made (subst (λ z. node.Meets z b.made) a.inside b.meets);
-        traced = λ x e. a.traced b.made x (b.traced x e);
+        leads = λ t m. subst (node.Meets old.inside) (sym (append_assoc a.made b.made t))
+            (a.leads (b.made ++ t) (subst (λ z. node.Meets z (b.made ++ t)) a.inside (b.leads t (subst (λ z. node.Meets z t) (sym a.inside) m))));
+        traced = λ t x e. subst (λ z. TraceRest old.state.rest old.state.store z x) (sym (append_assoc a.made b.made t)) (a.traced (b.made ++ t) x (b.traced t x e));
         good = b.good;
+        inside = b.inside ∙ a.inside;
       }
-
--- where nothing remains nothing is said
-no_step : {e e' : Store} {i : ℕ} {d : _} {m : List Comm} {r : Rest} → Step Done e i d m r e' → ⊥
-no_step st = elim st [ ]
-
-no_move : (p : Process) (m : Move) → p.state.rest ≡ Done → Contains (first_moves p.inside p.state.rest p.state.store) m → ⊥
-no_move p m e h = empty m (subst (λ r. Contains (first_moves p.inside r p.state.store) m) e h)
-
-idle : (p q : Process) (d : ProcessStep) → does p d q → p.state.rest ≡ Done → ⊥
-idle p q (Offers i c m) h e = no_move p (move.Offer i c) e h.0
-idle p q (Wants i c a) h e = no_move p (move.Want i c) e h.0
-idle p q (Chooses i k c a) h e = no_move p (move.Choose i k c) e h.0
-idle p q (Stops i c) h e = no_move p (move.Stopch i c) e h.0
-idle p q (Meets i j k c m) h e = no_move p (move.Inner i j k c) e h.0
-idle p q (Rests i) h e = no_move p (move.Quiet i) e h.0
-idle p q (Finishes c) h e = no_step (subst (λ r. Step r p.state.store h.does.0 (action_on None) h.comms q.state.rest q.state.store) e h.does.2)
-idle p q (Receives c m) h e = no_step (subst (λ r. Step r p.state.store h.does.0 (action_on (Some m)) h.comms q.state.rest q.state.store) e h.does.3)
-
-pub still : (p q : Process) {ks : List (ℕ × rendezvous.Comm)} → Trace does p ks q → p.state.rest ≡ Done → ks ≡ []
-still p q none e = refl
-still p q (more {q = r} {d = d} h t) e = absurd (idle p r d h e)

@@ -1,9 +1,9 @@
 -- One list of all nodes' communications, in occam's words.
-use Rattle.std.specs.Prelude.{◌≡◌, ℕ, ◌≤◌, ◌<◌, ◌==◌, List, [], ◌∷◌, length, map, if◌then◌else◌}
-use Rattle.vc_network.specs.Actors.{Network, ActBy}
+use Rattle.std.specs.Prelude.{◌≡◌, ℕ, ◌≤◌, ◌<◌, ◌==◌, List, [], ◌∷◌, ◌++◌, length, map, if◌then◌else◌}
+use Rattle.vc_network.specs.Actors.{Network, ActBy, Alike}
 use Rattle.vc_machine.specs.Rendezvous as rendezvous
 use Rattle.vc_machine.specs.Rendezvous.{DoesAll, part, nothing_yet}
-use Rattle.vc_network.specs.Network.{Act, Node, Actor, IsNode, begins, HappenAll}
+use Rattle.vc_network.specs.Network.{Act, Node, Actor, IsNode, begins, Happens, HappenAll}
 use Rattle.vc_network.specs.Views.{view}
 use Rattle.vc_process.specs.Messages.{message}
 use Rattle.vc_occam.specs.NodeTraces.{NodeTrace, so_far}
@@ -44,8 +44,18 @@ pub record IsTold (p : Plan) (s : Network (Actor Process) Token) (ks : List (ℕ
   pub by_no_other : (n : ℕ) → length p.nodes ≤ n → by n ks ≡ []
   pub on_channel : (c : ℕ) → DoesAll nothing_yet (on c ks) (view (network_of p) s c)
 
--- after any events of an accepted plan's network there is such a list
+-- from a list that tells all before them on, the events happen one after another and lead to a whole list: after each, the list so far tells all, and what an event tells stands behind what was told before it
+abbrev pub IsToldAlong : Plan → Waiting → List (ℕ × Comm) → Network (Actor Process) Token → List (ActBy Act) → Network (Actor Process) Token → List (ℕ × Comm) → Type 0
+IsToldAlong p waiting ks s [] t whole = IsTold p s ks × Alike s t × (ks ≡ whole)
+IsToldAlong p waiting ks s (e ∷ es) t whole =
+    IsTold p s ks × ((mid : Network (Actor Process) Token) × Happens (network_of p) waiting does s e mid × ((more : List (ℕ × Comm)) × IsToldAlong p waiting (ks ++ more) mid es t whole))
+
+-- from the opening state on, where nothing is told
+abbrev pub FollowsEvents : Plan → Waiting → List (ActBy Act) → Network (Actor Process) Token → List (ℕ × Comm) → Type 0
+FollowsEvents p waiting es s ks = IsToldAlong p waiting [] (begins (network_of p) (begin_of p)) es s ks
+
+-- after any events of an accepted plan's network there is one list that tells all and follows the events
 abbrev pub AllIsTold : Type 0
 AllIsTold =
     (p : Plan) (waiting : Waiting) (es : List (ActBy Act)) (s : Network (Actor Process) Token) → IsAccepted p →
-    HappenAll (network_of p) waiting does (begins (network_of p) (begin_of p)) es s → (ks : List (ℕ × Comm)) × IsTold p s ks
+    HappenAll (network_of p) waiting does (begins (network_of p) (begin_of p)) es s → (ks : List (ℕ × Comm)) × IsTold p s ks × FollowsEvents p waiting es s ks

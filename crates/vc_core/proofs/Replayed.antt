@@ -103,7 +103,8 @@ by_steps p events s r = (both p events s r).1
 -- and it is told in occam's words, with a linearization
 pub replays : (p : Plan) (events : List Event) (s : State) → Reached p events s → Replays p events s
 replays p events s r =
-    let lin : Linearizes p (shown s) = invisible p Wormhole (map event_of events) (shown s) r.is.accepted r.happen in
+    let found = invisible p Wormhole (map event_of events) (shown s) r.is.accepted r.happen in
+    let lin : Linearizes p (shown s) = found.0 in
     record {
       is = r.is;
       runs = record {
@@ -111,6 +112,7 @@ replays p events s r =
         happen = r.happen;
         headline = (both p events s r).0;
         linearizes = lin;
+        follows = found.1;
         on_one_node = λ one is accepted. one_node_runs p one Wormhole (shown s) lin.atomics r.is.accepted is accepted lin.linearization;
       };
     }

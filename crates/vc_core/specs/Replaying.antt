@@ -7,6 +7,7 @@ use Rattle.vc_placement.specs.Placement.{Linearizes}
 use Rattle.vc_plan.specs.OneNode.{IsOneNodeOf}
 use Rattle.vc_plan.specs.declared.plan.Plan.{Plan}
 use Rattle.vc_accepted.specs.NetworkOf.{network_of}
+use Rattle.vc_accepted.specs.OneList.{FollowsEvents}
 use Rattle.vc_switch.specs.Waiting.{Wormhole}
 use Rattle.vc_accepted.specs.Begin.{begin_of}
 use Rattle.vc_core.specs.Enabled.{NetworkState, CanHappen}
@@ -30,13 +31,14 @@ pub record Reached (p : Plan) (events : List Event) (s : State) : Type 0 where
   pub happen : HappenAll (network_of p) Wormhole does (begins (network_of p) (begin_of p)) (map event_of events) (shown s)
 
 -- these events lead from the opening state of an accepted plan to this one. There the headline holds, and one list tells all that the nodes
--- communicated, which has a linearization: each message passes at one moment, and each node's part is a trace of its process. One node
--- that has all processes runs that linearization, where its plan is accepted too.
+-- communicated and follows the events. It has a linearization: each message passes at one moment, and each node's part is a trace of its
+-- process. One node that has all processes runs that linearization, where its plan is accepted too.
 pub record RunsTo (p : Plan) (events : List Event) (x : NetworkState) : Type 0 where
   pub accepted : IsAccepted p
   pub happen : HappenAll (network_of p) Wormhole does (begins (network_of p) (begin_of p)) (map event_of events) x
   pub headline : Headline (network_of p) Wormhole does x
   pub linearizes : Linearizes p x
+  pub follows : FollowsEvents p Wormhole (map event_of events) x linearizes.list
   pub on_one_node : (one : Plan) → IsOneNodeOf p one → IsAccepted one → RunsOnOneNode p one Wormhole x linearizes.atomics
 
 -- and so for a state of the code

@@ -51,7 +51,7 @@ module _ (p q : Plan) (s : Network (Actor Process) Token) (hs : List Atomic) (sa
 
 pub do_the_same : FreePlacementsDoTheSame
 do_the_same p q rule other es s acc acc2 ranks same happen =
-    let found = invisible p rule es s acc happen in
+    let found = (invisible p rule es s acc happen).0 in
     let hs = found.atomics in
     let lin = found.linearization in
     let part = parts p q s hs same lin in

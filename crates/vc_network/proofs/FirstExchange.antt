@@ -7,7 +7,6 @@ use Rattle.vc_packets.specs.declared.mark.Mark.TheVariants.{Eop, Eom}
 use Rattle.vc_packets.specs.Spellings.{piece_packet, ack_packet}
 use Rattle.vc_machine.specs.Rendezvous.{nothing_yet}
 use Rattle.vc_packets.specs.Functions.{put}
-use Rattle.vc_machine.specs.Places.{Held}
 use Rattle.vc_tokens.specs.Tokens.{Token, Byte, EndMark}
 use Rattle.vc_tokens.specs.Tokens as tokens
 use Rattle.vc_switch.specs.Waiting.{Waiting}

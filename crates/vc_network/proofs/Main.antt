@@ -62,12 +62,12 @@ push_if : (b : Bool) (k : Comm) (xs ys : List Comm) → (if b then k ∷ (xs ++ 
 push_if true k xs ys = refl
 push_if false k xs ys = refl
 
-part_append : (c : ℕ) (xs ys : List (ℕ × Comm)) → part c (xs ++ ys) ≡ part c xs ++ part c ys
+pub part_append : (c : ℕ) (xs ys : List (ℕ × Comm)) → part c (xs ++ ys) ≡ part c xs ++ part c ys
 part_append c [] ys = refl
 part_append c ((d, k) ∷ xs) ys =
     ap (λ z. if nat_eq d c then k ∷ z else z) (part_append c xs ys) ∙ push_if (nat_eq d c) k (part c xs) (part c ys)
 
-does_append : (v w u : View) (xs ys : List Comm) → DoesAll v xs w → DoesAll w ys u → DoesAll v (xs ++ ys) u
+pub does_append : (v w u : View) (xs ys : List Comm) → DoesAll v xs w → DoesAll w ys u → DoesAll v (xs ++ ys) u
 does_append v w u [] ys a b = subst (λ z. DoesAll z ys u) a b
 does_append v w u (k ∷ xs) ys a b = (a.0, a.1, does_append a.0 w u xs ys a.2 b)
 

@@ -16,7 +16,7 @@ use Rattle.vc_tokens.specs.Tokens.{Token}
 use Rattle.vc_vcp.specs.Links.{Vcp}
 use Rattle.vc_network.specs.Network.{Actor, begins}
 use Rattle.vc_network.specs.Packets.{IsMarked, IsInputAt, StandsForPackets, AtMostTwoSteps, no_step, one_step, enters_bound, EventsAreSteps}
-use Rattle.vc_network.specs.Plan.{Plan, ways, far, back, net_of, IsAccepted}
+use Rattle.vc_network.specs.Plan.{Plan, far, back, net_of, IsAccepted}
 use Rattle.vc_network.specs.Processes.{StepRelation}
 use Rattle.vc_network.specs.Views.{vcps, switches, Arrived, arrived, on_wire}
 use Rattle.vc_network.proofs.Main.{ran, good_start, same_arrived}

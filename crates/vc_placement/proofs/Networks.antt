@@ -58,4 +58,5 @@ module _ (p : Plan) (s : Network (Actor Process) Token) (ks : List (ℕ × Comm)
       }
 
 pub invisible : PlacementIsInvisible
-invisible p waiting es s acc h = let t = all_told p waiting es s acc h in linearization p s t.0 t.1
+unfolding linearization
+invisible p waiting es s acc h = let t = all_told p waiting es s acc h in (linearization p s t.0 t.1, t.2)

@@ -14,7 +14,7 @@ use Rattle.vc_plan.specs.declared.plan.Plan.{Plan}
 use Rattle.vc_process.specs.Numbering.{written}
 use Rattle.vc_switch.specs.Waiting.{Waiting}
 use Rattle.vc_accepted.specs.Begin.{node_plan, begin_of}
-use Rattle.vc_accepted.specs.OneList.{by, on, IsTold}
+use Rattle.vc_accepted.specs.OneList.{by, on, FollowsEvents, IsTold}
 use Rattle.vc_accepted.specs.Process.{Process, does}
 use Rattle.vc_tokens.specs.Tokens.{Token}
 
@@ -38,8 +38,8 @@ pub record Linearizes (p : Plan) (s : Network (Actor Process) Token) : Type 0 wh
   pub linearization : IsLinearizationOf p s atomics
   pub same_points : points (all_comms atomics) ≡ points list
 
--- after any events of an accepted plan's network
+-- after any events of an accepted plan's network, by a list that follows the events
 abbrev pub PlacementIsInvisible : Type 0
 PlacementIsInvisible =
     (p : Plan) (waiting : Waiting) (es : List (ActBy Act)) (s : Network (Actor Process) Token) → IsAccepted p →
-    HappenAll (network_of p) waiting does (begins (network_of p) (begin_of p)) es s → Linearizes p s
+    HappenAll (network_of p) waiting does (begins (network_of p) (begin_of p)) es s → (x : Linearizes p s) × FollowsEvents p waiting es s x.list

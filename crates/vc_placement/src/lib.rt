@@ -26,7 +26,8 @@ pub fn all_is_one_trace()
 {}
 
 /// After any events of an accepted plan's network, under either waiting rule, what its nodes communicated has a linearization: each
-/// node's part is a trace of its process, and each channel has exactly the messages that the network shows as taken.
+/// node's part is a trace of its process, and each channel has exactly the messages that the network shows as taken. The list of what
+/// they communicated follows the events, and what is got in the linearization is got in the list's order.
 pub fn placement_is_invisible()
     ensures { PlacementIsInvisible }
 {}
