@@ -73,7 +73,7 @@ const STEP_HELP: &str = "\
 Prints what each channel carried, and how the run ended: `end done` where every process ended, `end quiet` where nothing can happen any more, \
 `end limit` where more events can happen. A number over one wire takes some 47 events; give a long run a greater --limit. With --why each \
 part of a process that waits or has stopped has a line behind these, and so has each packet. With --trace the events stand in front, one a line. \
-With --stats counts stand behind the traffic. A network can end in more than one way where an ALT has several guards: each --schedule N is another order of its events.
+With --stats counts stand behind the traffic. A network can end in more than one way, as where an ALT has several guards or packets wait in a circle: each --schedule N is another order of its events.
 
 Exit status: 0 done; 1 quiet; 2 refused; 3 limit; 4 no memory; 5 a bad command line; 6 a stream failed.
 
