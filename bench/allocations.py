@@ -3,9 +3,9 @@
 
 Usage: bench/allocations.py VCNET [NETWORK..], VCNET being the built program (crates/vcnet/out/vcnet), the networks those of
 examples/ where none is named. Each check, explanation, search for a cycle, drawing and run by step, with what its flags add, must print what it
-prints with ample memory, or that memory is short, with status 4. So must a replay of the first 1,000 events of that run. A run in threads, of
-which no two need be alike, must print a fault alone, or the traffic of a run that ended because an actor found no memory, both with status
-4; or the traffic of a run to its end, or to the end of its turns.
+prints with ample memory, or that memory is short, with status 4. So must a replay of the first 1,000 events of that run. Where the line of a
+refusal finds no memory, nothing is printed, with that status. A run in threads, of which no two need be alike, must print a fault alone, or the
+traffic of a run that ended because an actor found no memory, both with status 4; or the traffic of a run to its end, or to the end of its turns.
 
 Made with rattle-kit-13f, logic dac8208d650f15bf.
 """
@@ -72,10 +72,12 @@ def sweep(words, network, shim, folder):
     count_to = folder / "count"
     right = outcome(words, network, {"LD_PRELOAD": str(shim), "COUNT_TO": str(count_to)})
     count = int(count_to.read_text())
+    # Where the line of a refusal finds no memory, nothing is printed.
+    allowed = (SHORT, (b"", 4)) if right[0].startswith(b"refused ") else (SHORT,)
     short = unharmed = 0
     for number in range(1, count + 1):
         got = outcome(words, network, {"LD_PRELOAD": str(shim), "FAIL_AT": str(number)})
-        if got == SHORT:
+        if got in allowed:
             short += 1
         elif got == right:
             unharmed += 1
@@ -126,7 +128,8 @@ def main():
             events.write_bytes(outcome([vcnet, "step", "--trace", "--limit", "1000"], network, {})[0])
             for words in ("replay", "replay --why"):
                 sweep([vcnet, *words.split(), "--events", str(events)], network, shim, folder)
-            sweep_threads([vcnet, "run", *TURNS], network, shim, folder)
+            is_refused = outcome([vcnet, "check"], network, {})[0].startswith(b"refused ")
+            (sweep if is_refused else sweep_threads)([vcnet, "run", *TURNS], network, shim, folder)
 
 
 if __name__ == "__main__":
