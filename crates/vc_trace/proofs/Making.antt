@@ -3,7 +3,7 @@ use Rattle.std.proofs.Common.{◌≡◌, ◌≤◌, ℕ, ◌+◌, ◌==◌, Bool
 use Rattle.std.specs.Io.KnownBytes.{Consumes}
 use Rattle.std.specs.List.{starts_with}
 use Rattle.std.proofs.Math.Dec.{eqb}
-use Rattle.std.proofs.lemmas.Bool.Decides.{Decides-eqb}
+use Rattle.std.proofs.lemmas.Bool.Decides.{Decides-eqb, nat_tests}
 use Rattle.std.proofs.lemmas.Grind.{flat_map-append}
 use Rattle.std.proofs.lemmas.Slice.Eq.{starts_is}
 use Rattle.vc_core.specs.Replaying.{Reached, IsOpening}
@@ -14,7 +14,7 @@ use Rattle.vc_plan.specs.declared.plan.Plan.{Plan}
 use Rattle.vc_text.specs.Streams.{IsAllOf}
 use Rattle.vc_trace.specs.EventText.{event_line, events_text}
 use Rattle.vc_trace.specs.Lines.{IsLineBefore, IsOnOneLine, left}
-use Rattle.vc_trace.specs.Replay.{BeginsAsEvent, IsNoEvent}
+use Rattle.vc_trace.specs.Replay.{EndsEvents, IsNoEvent}
 use Rattle.vc_trace.specs.Private.Replay.{MakesEvents, MakesLine}
 use Rattle.vc_trace.specs.declared.refused_line.RefusedLine.{RefusedLine}
 use Rattle.vc_trace.proofs.Found.{both}
@@ -90,51 +90,72 @@ within_front (x ∷ xs) (y ∷ ys) rest behind long same =
     let (more, is) = within_front xs ys rest behind (omega (arith, long)) (tails y x _ _ same) in
     (more, ap (λ t. y ∷ t) is ∙ ap (λ z. z ∷ (xs ++ more)) (heads y x _ _ same))
 
--- a text begins as an event's line only where its first line does
-begins_line : (rest line : List ℕ) → IsLineBefore rest line → BeginsAsEvent (line ++ rest) → BeginsAsEvent line
-begins_line rest line (inl is) (behind, same) =
-    let (more, e) = within_line (codes "event ") is.front rest behind refl (ap (λ t. t ++ rest) (sym is.ends) ∙ same) in
+no_line : (front : List ℕ) → front ++ 10 ∷ [] ≡ [] → ⊥
+no_line [] e = cc
+no_line (x ∷ xs) e = cc
+
+-- a text begins with a word only where its first line does
+begins_line : (first rest line : List ℕ) → IsOnOneLine first → length first ≤ 256 → IsLineBefore rest line → (behind : List ℕ) → line ++ rest ≡ first ++ behind → (more : List ℕ) × (line ≡ first ++ more)
+begins_line first rest line one short (inl is) behind same =
+    let (more, e) = within_line first is.front rest behind one (ap (λ t. t ++ rest) (sym is.ends) ∙ same) in
     (more, is.ends ∙ e)
-begins_line rest line (inr (one, inl many)) (behind, same) = within_front (codes "event ") line rest behind (omega (arith, many)) same
-begins_line rest line (inr (one, inr end)) (behind, same) = (behind, sym (append-nil line) ∙ ap (λ t. line ++ t) (sym end) ∙ same)
+begins_line first rest line one short (inr (whole, inl many)) behind same = within_front first line rest behind (omega (arith, many, short)) same
+begins_line first rest line one short (inr (whole, inr end)) behind same = (behind, sym (append-nil line) ∙ ap (λ t. line ++ t) (sym end) ∙ same)
 
--- what the test for it says
-pub begins : (line word : List ℕ) (r : Bool) → word ≡ codes "event " → r ≡ starts_with eqb line word → r ≡ true → BeginsAsEvent line
-begins line word r is test passed = (drop (length word) line, (starts_is Decides-eqb line word r test).0 passed ∙ ap (λ t. t ++ drop (length word) line) is)
+-- the events end in front of a text where they end in front of its first line
+pub ends_there : (rest line : List ℕ) → IsLineBefore rest line → EndsEvents line → EndsEvents (line ++ rest)
+ends_there rest line (inl is) (inl none) = absurd (no_line is.front (sym is.ends ∙ none))
+ends_there rest line (inr (one, inl many)) (inl none) = absurd (let z : length line ≡ 0 = ap length none in omega (arith, many, z))
+ends_there rest line (inr (one, inr end)) (inl none) = inl (ap (λ t. t ++ rest) none ∙ end)
+ends_there rest line whole (inr (inl (more, is))) = inr (inl (more ++ rest, ap (λ t. t ++ rest) is ∙ append_assoc (codes "channel ") more rest))
+ends_there rest line whole (inr (inr (more, is))) = inr (inr (more ++ rest, ap (λ t. t ++ rest) is ∙ append_assoc (codes "end ") more rest))
 
-pub begins_not : (rest line word : List ℕ) (r : Bool) → word ≡ codes "event " → r ≡ starts_with eqb line word → r ≡ false → IsLineBefore rest line → BeginsAsEvent (line ++ rest) → ⊥
-begins_not rest line word r is test failed whole here =
-    let (more, same) = begins_line rest line whole here in
-    let passed : r ≡ true = (starts_is Decides-eqb line word r test).1 more (same ∙ ap (λ t. t ++ more) (sym is)) in
-    let e : true ≡ false = sym passed ∙ failed in
-    cc
+pub ends_here : (rest line : List ℕ) → IsLineBefore rest line → EndsEvents (line ++ rest) → EndsEvents line
+ends_here rest [] whole (inl none) = inl refl
+ends_here rest (x ∷ xs) whole (inl none) = absurd (cc)
+ends_here rest line whole (inr (inl (behind, same))) = inr (inl (begins_line (codes "channel ") rest line refl (omega arith) whole behind same))
+ends_here rest line whole (inr (inr (behind, same))) = inr (inr (begins_line (codes "end ") rest line refl (omega arith) whole behind same))
+
+-- what the tests for it say
+filled : (x : ℕ) (xs : List ℕ) → x ∷ xs ≡ [] → ⊥
+filled x xs e = cc
+
+pub empty_is : (line : List ℕ) (r : Bool) → r ≡ (length line == 0) → (r ≡ true → line ≡ []) × (line ≡ [] → r ≡ true)
+empty_is [] r test = (λ h. refl, λ h. test)
+empty_is (x ∷ xs) r test = (λ h. let e : (length (x ∷ xs) == 0) ≡ true = sym test ∙ h in let n : length (x ∷ xs) ≡ 0 = grind (arith, nat_tests) in absurd (omega arith), λ h. absurd (filled x xs h))
+
+pub word_is : (line word first : List ℕ) (r : Bool) → word ≡ first → r ≡ starts_with eqb line word → (r ≡ true → (rest : List ℕ) × (line ≡ first ++ rest)) × ((rest : List ℕ) × (line ≡ first ++ rest) → r ≡ true)
+word_is line word first r is test = (
+  λ h. (drop (length word) line, (starts_is Decides-eqb line word r test).0 h ∙ ap (λ t. t ++ drop (length word) line) is),
+  λ h. (starts_is Decides-eqb line word r test).1 h.0 (h.1 ∙ ap (λ t. t ++ h.0) (sym is)),
+)
 
 -- ---- what is answered
 
--- behind the events made stands no line of an event
+-- behind the events made stands nothing, or traffic
 pub ends : (p : Plan) (old mid new : Option (List ℕ)) (s : State) (number : ℕ) (line : List ℕ) → HasMade p old mid s number → Consumes mid new line →
-    (BeginsAsEvent (line ++ left new) → ⊥) → MakesEvents old p s None
-ends p old mid new s number line made read none = (
+    EndsEvents (line ++ left new) → MakesEvents old p s None
+ends p old mid new s number line made read end = (
   made.events,
   made.reached,
   record {
     rest = line ++ left new;
     text = subst (IsAllOf old) (append_assoc (events_text p made.events) line (left new)) (all_with old mid new (events_text p made.events) line made.read read);
-    none = none;
+    ends = end;
   },
 )
 
 -- behind them stands this line, which is refused
 pub refuses : (p : Plan) (old mid new : Option (List ℕ)) (s t : State) (refused : RefusedLine) → HasMade p old mid s refused.number → Consumes mid new refused.line.items →
-    BeginsAsEvent refused.line.items → IsLineBefore (left new) refused.line.items → MakesLine p s refused.line.items t false → MakesEvents old p t (Some refused)
-refuses p old mid new s t refused made read first whole none = (
+    (EndsEvents (refused.line.items ++ left new) → ⊥) → IsLineBefore (left new) refused.line.items → MakesLine p s refused.line.items t false → MakesEvents old p t (Some refused)
+refuses p old mid new s t refused made read goes_on whole none = (
   made.events,
   subst (Reached p made.events) (sym none.0) made.reached,
   sym made.many,
   record {
     rest = left new;
     text = all_with old mid new (events_text p made.events) refused.line.items made.read read;
-    begins = first;
+    goes_on = goes_on;
     whole = whole;
     none = λ named. subst (λ z. IsNoEvent p (shown z) refused.line.items) (sym none.0) (none.1 named);
   },

@@ -1,5 +1,5 @@
 -- What a replay of event lines answers.
-use Rattle.std.specs.Prelude.{◌≡◌, ℕ, ◌+◌, Bool, cond, List, ◌++◌, length, codes, decimal, Option, Some, None, Result, Ok, Err, ⊤}
+use Rattle.std.specs.Prelude.{◌≡◌, ◌⊎◌, ℕ, ◌+◌, Bool, cond, List, [], ◌++◌, length, codes, decimal, Option, Some, None, Result, Ok, Err, ⊤}
 use Rattle.std.specs.Io.BufRead.{ends_with_byte}
 use Rattle.std.specs.Io.KnownBytes.{Appends}
 use Rattle.vc_core.specs.Enabled.{NetworkState, CanHappenIn}
@@ -21,25 +21,25 @@ use Rattle.vc_trace.specs.Lines.{IsLineBefore}
 use Rattle.vc_trace.specs.declared.replayed.Replayed.{Replayed}
 use Rattle.vc_trace.specs.declared.replayed.Replayed.TheVariants.{Ended, Refused}
 
--- the text begins as an event's line does
-abbrev pub BeginsAsEvent : List ℕ → Type 0
-BeginsAsEvent text = (rest : List ℕ) × (text ≡ codes "event " ++ rest)
+-- nothing is left of the text, or it begins as a network's traffic does
+abbrev pub EndsEvents : List ℕ → Type 0
+EndsEvents text = (text ≡ []) ⊎ (((rest : List ℕ) × (text ≡ codes "channel " ++ rest)) ⊎ ((rest : List ℕ) × (text ≡ codes "end " ++ rest)))
 
 -- no event of the plan that can happen in the state has this line
 abbrev pub IsNoEvent : Plan → NetworkState → List ℕ → Type 0
 IsNoEvent p x line = (e : Event) → IsEventOf p e → CanHappenIn p x e → event_line p e ≡ line → ⊥
 
--- the text has the lines of these events, and behind them no line of an event
+-- the text has the lines of these events, and behind them nothing, or traffic
 pub record EndsBehind (known : Option (List ℕ)) (p : Plan) (events : List Event) : Type 0 where
   pub rest : List ℕ
   pub text : IsAllOf known (events_text p events ++ rest)
-  pub none : BeginsAsEvent rest → ⊥
+  pub ends : EndsEvents rest
 
--- the text has the lines of these events, and behind them a line that begins as an event's does, which is that of no event that can happen
+-- the text has the lines of these events, and behind them another line, which is that of no event that can happen
 pub record RefusesBehind (known : Option (List ℕ)) (p : Plan) (events : List Event) (x : NetworkState) (line : List ℕ) : Type 0 where
   pub rest : List ℕ
   pub text : IsAllOf known (events_text p events ++ line ++ rest)
-  pub begins : BeginsAsEvent line
+  pub goes_on : EndsEvents (line ++ rest) → ⊥
   pub whole : IsLineBefore rest line
   pub none : HasDistinctNames p → IsNoEvent p x line
 

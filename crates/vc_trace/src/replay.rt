@@ -1,12 +1,12 @@
 //! Making the events of a text.
-ghost use Rattle.std.specs.Prelude.{◌≡◌, ℕ, List, Option, IfErr, IfOk};
+ghost use Rattle.std.specs.Prelude.{◌≡◌, ◌↔◌, ℕ, List, Option, IfErr, IfOk, IsTrue};
 ghost use Rattle.vc_core.specs.Replaying.{IsOpening, Reached};
 ghost use Rattle.vc_core.specs.State.{state_of, IsNetworkOf};
 ghost use Rattle.vc_core.specs.declared.event.Event.{Event as Happening};
 ghost use Rattle.vc_plan.specs.declared.plan.Plan.{Plan};
 ghost use Rattle.vc_text.specs.Streams.{IsReadFault};
 ghost use Rattle.vc_trace.specs.Private.Reading.{IsReaderOf};
-ghost use Rattle.vc_trace.specs.Replay.{IsReplayText, Replays, ReplaysPlan, refused_text as text_of_refused};
+ghost use Rattle.vc_trace.specs.Replay.{EndsEvents, IsReplayText, Replays, ReplaysPlan, refused_text as text_of_refused};
 ghost use Rattle.vc_trace.specs.Private.Replay.{MakesEvents, MakesLine};
 
 use crate::event_reader::EventReader;
@@ -41,8 +41,17 @@ fn make_line(
     }
 }
 
-/// Makes the events of the text's first lines that begin with `event `. The answer is the first of these lines that is not that of an
-/// event that can happen.
+/// Whether the events end in front of a line: nothing is left of the text, or its traffic begins.
+fn ends_events(line: &[u8]) -> bool
+    ensures { IsTrue result ↔ EndsEvents line.now }
+{
+    line.is_empty()
+        || line.starts_with(b"channel ".as_slice())
+        || line.starts_with(b"end ".as_slice())
+}
+
+/// Makes the events of the text's lines in front of its traffic. The answer is the first of these lines that is not that of an event
+/// that can happen.
 fn make_lines<E: Read>(
     alloc: Global,
     plan: &Plan,
@@ -58,7 +67,7 @@ fn make_lines<E: Read>(
     let mut line = Line::new();
     for number in 1..u64::MAX {
         read_line(events, &mut line)?;
-        if !line.as_slice().starts_with(b"event ".as_slice()) {
+        if ends_events(line.as_slice()) {
             return Ok(None);
         }
         if !make_line(&mut reader, network, line.as_slice())? {
@@ -145,8 +154,8 @@ fn replay_plan<E: Read, W: Write>(
 }
 
 /// Reads a network file, makes the events of another text from its opening state on, and writes the traffic of the state that they lead
-/// to, with who waits for what behind it where `is_why`. The events are the text's first lines that begin with `event `, each as
-/// [`trace_step`](crate::trace_step) writes it. A line that is not that of an event that can happen then is refused: its number, from 1,
+/// to, with who waits for what behind it where `is_why`. The events are the text's lines in front of the first that begins with `channel `
+/// or `end `, each as [`trace_step`](crate::trace_step) writes it. A line that is not that of an event that can happen then is refused: its number, from 1,
 /// and the line are written in place of the traffic. A line of more than 256 bytes is refused with the first 256. The text is read
 /// through a buffer, so it takes no memory of its own. It fails where a reader or the writer fails, where the network is refused, and for
 /// want of memory; nothing is written then, or by a writer that fails a front of the text.
