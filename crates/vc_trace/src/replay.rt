@@ -155,9 +155,9 @@ fn replay_plan<E: Read, W: Write>(
 
 /// Reads a network file, makes the events of another text from its opening state on, and writes the traffic of the state that they lead
 /// to, with who waits for what behind it where `is_why`. The events are the text's lines in front of the first that begins with `channel `
-/// or `end `, each as [`trace_step`](crate::trace_step) writes it. A line that is not that of an event that can happen then is refused: its number, from 1,
-/// and the line are written in place of the traffic. A line of more than 256 bytes is refused with the first 256. The text is read
-/// through a buffer, so it takes no memory of its own. It fails where a reader or the writer fails, where the network is refused, and for
+/// or `end `, each as [`trace_step`](crate::trace_step) writes it. A line that is not that of an event that can happen then is refused: its
+/// number, from 1, and the line are written in place of the traffic. A line of more than 256 bytes is refused with the first 256. The text
+/// is read through a buffer, so it takes no memory of its own. It fails where a reader or the writer fails, where the network is refused, and for
 /// want of memory; nothing is written then, or by a writer that fails a front of the text.
 pub fn run_replay<R: Read, E: Read, W: Write>(
     alloc: Global,

@@ -60,9 +60,10 @@ Example: vcnet draw < examples/ring.json | dot -Tsvg > ring.svg";
 
 /// What stands at the end of the help of `replay`.
 const REPLAY_HELP: &str = "\
-Makes each event of the file in turn, as `step --trace` and `run --trace` print them, and prints the traffic of the state that they lead to. What \
-stands behind the events is not read. A line that is not that of an event that can happen then is refused: its number and the line are \
-printed. With --why each part of a process that waits or has stopped has a line behind the traffic, and so has each packet.
+Makes each event of the file in turn, as `step --trace` and `run --trace` print them, and prints the traffic of the state that they lead to. The \
+events end where the traffic begins, and what stands from there on is not read. A line that is not that of an event that can happen then is \
+refused: its number and the line are printed. With --why each part of a process that waits or has stopped has a line behind the traffic, and \
+so has each packet.
 
 Exit status: 0 done; 1 quiet; 2 refused; 3 more events can happen; 4 no memory; 5 a bad command line; 6 a stream failed, or the file can't be opened.
 
@@ -73,7 +74,8 @@ const STEP_HELP: &str = "\
 Prints what each channel carried, and how the run ended: `end done` where every process ended, `end quiet` where nothing can happen any more, \
 `end limit` where more events can happen. A number over one wire takes some 47 events; give a long run a greater --limit. With --why each \
 part of a process that waits or has stopped has a line behind these, and so has each packet. With --trace the events stand in front, one a line. \
-With --stats counts stand behind the traffic. A network can end in more than one way, as where an ALT has several guards or packets wait in a circle: each --schedule N is another order of its events.
+With --stats counts stand behind the traffic. A network can end in more than one way, as where an ALT has several guards or packets wait in a \
+circle: each --schedule N is another order of its events.
 
 Exit status: 0 done; 1 quiet; 2 refused; 3 limit; 4 no memory; 5 a bad command line; 6 a stream failed.
 
