@@ -1,16 +1,14 @@
 -- After any events one list tells all that the nodes communicate: what an event tells stands behind what was told before it.
-use Rattle.std.proofs.Common.{◌≡◌, ℕ, ◌≤◌, ◌<◌, inl, inr, true, false, refl, sym, ap, ap₂, subst, ◌∙◌, Bool, List, [], ◌∷◌, ◌++◌, length, arith, append-nil, append_assoc, if◌then◌else◌, nat_lt, ◌==◌}
+use Rattle.std.proofs.Common.{◌≡◌, ℕ, ◌≤◌, ◌<◌, inl, inr, true, false, refl, sym, ap, ap₂, subst, ◌∙◌, Bool, List, [], ◌∷◌, ◌++◌, length, arith, append-nil, append_assoc, if◌then◌else◌, ◌==◌}
 use Rattle.std.proofs.lemmas.Bool.{cases_lt}
 use Rattle.std.proofs.lemmas.List.{map-append}
 use Rattle.vc_network.specs.Actors.{Network, ActBy, Alike}
 use Rattle.vc_machine.specs.Links.{Tokens, no_tokens}
 use Rattle.vc_machine.specs.Rendezvous.{DoesAll, part, nothing_yet}
-use Rattle.vc_network.specs.Network.{Act, Node, Actor, IsNode, IsSwitch, HappenAll, first, begins}
-use Rattle.vc_network.specs.Plan.{Home, Way, Inside, home}
-use Rattle.vc_network.specs.Plan as network
+use Rattle.vc_network.specs.Network.{Act, Node, Actor, IsNode, HappenAll, begins}
 use Rattle.vc_network.specs.Processes.{Trace}
-use Rattle.vc_network.specs.Views.{Said, vcp_of, inner_of, halves_view, source_node, sink_node, view_at, view, said_by, all_said}
-use Rattle.vc_network.proofs.Main.{Ran, ran, good_start, first_node, part_append, does_append}
+use Rattle.vc_network.specs.Views.{Said, view, said_by, all_said}
+use Rattle.vc_network.proofs.Main.{Ran, ran, good_start, first_node, first_view, part_append, does_append}
 use Rattle.vc_network.proofs.Nexts.{process_of}
 use Rattle.vc_network.proofs.Steps.{Good}
 use Rattle.vc_occam.specs.NodeTraces as node
@@ -26,10 +24,8 @@ use Rattle.vc_plan.specs.Accepted.{IsAccepted}
 use Rattle.vc_plan.specs.Limits.{kinds_of}
 use Rattle.vc_accepted.specs.NetworkOf.{network_of}
 use Rattle.vc_accepted.proofs.Accepting.{accepted}
-use Rattle.vc_switch.specs.Switch.{new_switch}
 use Rattle.vc_switch.specs.Waiting.{Waiting}
 use Rattle.vc_tokens.specs.Tokens.{Token}
-use Rattle.vc_vcp.specs.Links.{new_vcp}
 use Rattle.vc_accepted.specs.Begin.{node_plan, begin_of}
 use Rattle.vc_accepted.specs.OneList.{by, IsMadeBy, IsTold, IsToldAlong, AllIsTold}
 use Rattle.vc_accepted.specs.Process.{Process, does}
@@ -38,26 +34,11 @@ use Rattle.vc_accepted.proofs.Joined.{AllSaid, one_of_all}
 use Rattle.vc_accepted.proofs.Taken.{runs_too}
 use Rattle.vc_accepted.proofs.Planned.{kind_on, begins_good}
 
--- what the channels show at first
-module _ {P : Type 0} (plan : network.Plan) (begin : ℕ → P) where
-  first_vcp : (n : ℕ) → vcp_of (first plan begin n) ≡ new_vcp
-  first_vcp n = elim (nat_lt n plan.nodes) as (λ b. vcp_of {P = P} (if b then IsNode (record { vcp = new_vcp; process = begin n; inner = λ c. nothing_yet }) else IsSwitch new_switch) ≡ new_vcp) [ true ↦ refl | false ↦ refl ]
-
-  first_inner : (n c : ℕ) → inner_of (first plan begin n) c ≡ nothing_yet
-  first_inner n c = elim (nat_lt n plan.nodes) as (λ b. inner_of {P = P} (if b then IsNode (record { vcp = new_vcp; process = begin n; inner = λ c. nothing_yet }) else IsSwitch new_switch) c ≡ nothing_yet) [ true ↦ refl | false ↦ refl ]
-
-  first_view : (c : ℕ) → view plan (begins plan begin) c ≡ nothing_yet
-  first_view c = by_home (home plan c)
-    where
-      by_home : (h : Home) → view_at plan (begins plan begin) c h ≡ nothing_yet
-      by_home (Way v ab) = ap₂ (λ x y. halves_view (x.carrier.out c) (y.carrier.into c)) (first_vcp (source_node plan (Way v ab))) (first_vcp (sink_node plan (Way v ab)))
-      by_home (Inside n) = first_inner n c
-
 push_if : (b : Bool) (k : Comm) (xs ys : List Comm) → (if b then k ∷ xs ++ ys else xs ++ ys) ≡ (if b then k ∷ xs else xs) ++ ys
 push_if true k xs ys = refl
 push_if false k xs ys = refl
 
-by_append : (n : ℕ) (ks ls : List (ℕ × Comm)) → by n (ks ++ ls) ≡ by n ks ++ by n ls
+pub by_append : (n : ℕ) (ks ls : List (ℕ × Comm)) → by n (ks ++ ls) ≡ by n ks ++ by n ls
 by_append n [] ls = refl
 by_append n ((m, k) ∷ ks) ls = ap (λ z. if m == n then k ∷ z else z) (by_append n ks ls) ∙ push_if (m == n) k (by n ks) (by n ls)
 

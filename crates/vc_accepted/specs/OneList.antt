@@ -44,13 +44,14 @@ pub record IsTold (p : Plan) (s : Network (Actor Process) Token) (ks : List (ℕ
   pub by_no_other : (n : ℕ) → length p.nodes ≤ n → by n ks ≡ []
   pub on_channel : (c : ℕ) → DoesAll nothing_yet (on c ks) (view (network_of p) s c)
 
--- from a list that tells all before them on, the events happen one after another and lead to a whole list: after each, the list so far tells all, and what an event tells stands behind what was told before it
+-- from one state on the events happen one after another, and lead from what was told there to a whole list: before each event and after the
+-- last one the list so far tells all, and what an event tells stands behind it
 abbrev pub IsToldAlong : Plan → Waiting → List (ℕ × Comm) → Network (Actor Process) Token → List (ActBy Act) → Network (Actor Process) Token → List (ℕ × Comm) → Type 0
 IsToldAlong p waiting ks s [] t whole = IsTold p s ks × Alike s t × (ks ≡ whole)
 IsToldAlong p waiting ks s (e ∷ es) t whole =
     IsTold p s ks × ((mid : Network (Actor Process) Token) × Happens (network_of p) waiting does s e mid × ((more : List (ℕ × Comm)) × IsToldAlong p waiting (ks ++ more) mid es t whole))
 
--- from the opening state on, where nothing is told
+-- from the opening state on, where nothing was told
 abbrev pub FollowsEvents : Plan → Waiting → List (ActBy Act) → Network (Actor Process) Token → List (ℕ × Comm) → Type 0
 FollowsEvents p waiting es s ks = IsToldAlong p waiting [] (begins (network_of p) (begin_of p)) es s ks
 

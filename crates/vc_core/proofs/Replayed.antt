@@ -97,7 +97,7 @@ reached_more p events i e s t r here made = record {
 both : (p : Plan) (events : List Event) (s : State) → Reached p events s → HeadlineAndList (network_of p) Wormhole does (begin_of p) (shown s)
 both p events s r = headline (network_of p) Wormhole does (begin_of p) (map event_of events) (shown s) (accepted p r.is.accepted) r.happen
 
-pub by_steps : (p : Plan) (events : List Event) (s : State) → Reached p events s → (ks : List Said) × AreTold (network_of p) does (begin_of p) (shown s) ks
+pub by_steps : (p : Plan) (events : List Event) (s : State) → Reached p events s → (ks : List Said) × AreTold (network_of p) does (begins (network_of p) (begin_of p)) (shown s) ks
 by_steps p events s r = (both p events s r).1
 
 -- and it is told in occam's words, with a linearization

@@ -2,6 +2,7 @@
 use Rattle.std.specs.Prelude.{List, [], ◌∷◌, ◌++◌}
 use Rattle.vc_accepted.specs.NetworkOf.{network_of}
 use Rattle.vc_network.specs.Headline.{AreTold}
+use Rattle.vc_network.specs.Network.{begins}
 use Rattle.vc_network.specs.Views.{Said}
 use Rattle.vc_plan.specs.declared.plan.Plan.{Plan}
 use Rattle.vc_accepted.specs.Begin.{begin_of}
@@ -18,4 +19,4 @@ pub record EventsLeadOn : Type 0 where
   -- the headline holds there, and what the nodes communicated has a linearization
   pub headline : (p : Plan) (made : List Event) (s : State) → Reached p made s → Replays p made s
   -- the steps of the processes make such a list too, which leads each process to what remains of it
-  pub by_steps : (p : Plan) (made : List Event) (s : State) → Reached p made s → (ks : List Said) × AreTold (network_of p) does (begin_of p) (shown s) ks
+  pub by_steps : (p : Plan) (made : List Event) (s : State) → Reached p made s → (ks : List Said) × AreTold (network_of p) does (begins (network_of p) (begin_of p)) (shown s) ks

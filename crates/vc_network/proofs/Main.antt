@@ -247,6 +247,21 @@ module _ {P : Type 0} (plan : Plan) (s : Network (Actor P) Token) (t : Tokens) (
             (exactly (net_of plan) (seen (net_of plan) t) c 0 (net_accepted plan acc) g.sound.inv r (let m = subst (λ z. length z.offered ≡ z.finished) q n in omega arith));
       }
 
+-- what is said on the way is told
+told : {P : Type 0} (plan : Plan) (waiting : Waiting) (Does : StepRelation P) (d : ℕ → P) (s u : Network (Actor P) Token) (t : Tokens) → Good plan s t → (q : Ran plan waiting Does s u t) → AreTold plan Does s u q.ks
+told plan waiting Does d s u t g q = record {
+  by_node = λ n less. (let a = g.kinds n less in let b = q.good.kinds n less in (
+    a.0,
+    b.0,
+    a.1,
+    b.1,
+    subst (λ z. Trace Does (process_of (d n) z) (said_by n q.ks) b.0.process) a.1
+        (subst (λ z. Trace Does (process_of (d n) (s.state n)) (said_by n q.ks) (process_of (d n) z)) b.1 (q.traces n (d n))),
+  ));
+  by_no_other = q.by_no_other;
+  on_channel = q.views;
+}
+
 pub run_headline : {P : Type 0} (plan : Plan) (waiting : Waiting) (Does : StepRelation P) (begin : ℕ → P) (es : List (Event Act Token)) (s : Network (Actor P) Token) → IsAccepted plan →
     Run (Local plan waiting Does) (begins plan begin) es s → Headline plan waiting Does s
 run_headline {P} plan waiting Does begin es s acc run =
@@ -261,21 +276,7 @@ run_headline {P} plan waiting Does begin es s acc run =
         at_switch = λ k link. g.switched k link;
         held = λ n c p e. (g.nodes n).carrier.held c p e;
       };
-      along = λ fs t goes. (let q = later fs t goes in (
-        q.ks,
-        record {
-          by_node = λ n less. (let k = g.kinds n less in let m = q.good.kinds n less in (
-            k.0,
-            m.0,
-            k.1,
-            m.1,
-            subst (λ z. Trace Does (process_of (begin n) z) (said_by n q.ks) m.0.process) k.1
-                (subst (λ z. Trace Does (process_of (begin n) (s.state n)) (said_by n q.ks) (process_of (begin n) z)) m.1 (q.traces n (begin n))),
-          ));
-          by_no_other = q.by_no_other;
-          on_channel = q.views;
-        },
-      ));
+      along = λ fs t goes. (let q = later fs t goes in (q.ks, told plan waiting Does begin s t r.new g q));
       by_event = λ c e t h. (let x = next plan waiting Does acc s t r.new e.actor h.0 g h.2 in (part c x.ks, x.short c, x.views c));
       stopped = λ c fs t less goes e. (let q = later fs t goes in all_stopped (view plan s c) (part c (all_said q.ks)) (view plan t c) e (q.views c));
       no_strays = g.shows.nodes.strays g.sound.inv.strays;
@@ -288,22 +289,11 @@ run_headline {P} plan waiting Does begin es s acc run =
         ran plan waiting Does acc p.0 s t _ (ran plan waiting Does acc es (begins plan begin) s no_tokens (good_start plan begin) run).good p.1
 
 pub run_list : {P : Type 0} (plan : Plan) (waiting : Waiting) (Does : StepRelation P) (begin : ℕ → P) (es : List (Event Act Token)) (s : Network (Actor P) Token) → IsAccepted plan →
-    Run (Local plan waiting Does) (begins plan begin) es s → (ks : List Said) × AreTold plan Does begin s ks
+    Run (Local plan waiting Does) (begins plan begin) es s → (ks : List Said) × AreTold plan Does (begins plan begin) s ks
 run_list plan waiting Does begin es s acc run =
-    let r = ran plan waiting Does acc es (begins plan begin) s no_tokens (good_start plan begin) run in
-    let g = r.good in (
-      r.ks,
-      record {
-        by_node = λ n less. (let k = g.kinds n less in (
-          k.0,
-          k.1,
-          subst (λ z. Trace Does (begin n) (said_by n r.ks) (process_of (begin n) z)) k.1
-              (subst (λ z. Trace Does (process_of (begin n) z) (said_by n r.ks) (process_of (begin n) (s.state n))) (first_node plan begin n less) (r.traces n (begin n))),
-        ));
-        by_no_other = r.by_no_other;
-        on_channel = λ c less. subst (λ z. DoesAll z (part c (all_said r.ks)) (view plan s c)) (first_view plan begin c) (r.views c);
-      },
-    )
+    let good = good_start plan begin in
+    let r = ran plan waiting Does acc es (begins plan begin) s no_tokens good run in
+    (r.ks, told plan waiting Does begin (begins plan begin) s no_tokens good r)
 
 pub headline : {P : Type 0} (plan : Plan) (waiting : Waiting) (Does : StepRelation P) (begin : ℕ → P) → HeadlineHolds plan waiting Does begin
 headline plan waiting Does begin es s acc h =

@@ -5,7 +5,7 @@ use Rattle.vc_packets.specs.declared.packet.Packet.{Packet}
 use Rattle.vc_tokens.specs.Tokens.{Token}
 use Rattle.vc_switch.specs.Waiting.{Waiting}
 use Rattle.vc_vcp.specs.Links.{new_link}
-use Rattle.vc_machine.specs.Rendezvous.{Comm, Out, In, Fin, IsPrefixOf, DoesAll, part, nothing_yet}
+use Rattle.vc_machine.specs.Rendezvous.{Comm, Out, In, Fin, IsPrefixOf, DoesAll, part}
 use Rattle.vc_machine.specs.Paths.{AtNode, AtSwitch}
 use Rattle.vc_switch.specs.Switch.{new_input}
 use Rattle.vc_machine.specs.Places.{Place, BelongsTo, Number}
@@ -30,14 +30,9 @@ pub record HasItsPacket {P : Type 0} (plan : Plan) (s : Network (Actor P) Token)
 abbrev pub IsPlaceOf : {P : Type 0} → Plan → Network (Actor P) Token → ℕ → Place → Type 0
 IsPlaceOf plan s c place = (p : Packet) × Contains (everywhere plan s) (place, p) × BelongsTo (net_of plan) c (place, p)
 
--- one list of all communications: each node's part is a trace of its process, nobody else has a part, and each channel's part is a run of the channel
-pub record AreTold {P : Type 0} (plan : Plan) (Does : StepRelation P) (begin : ℕ → P) (s : Network (Actor P) Token) (ks : List Said) : Type 0 where
-  pub by_node : (n : ℕ) → n < plan.nodes → (a : Node P) × (s.state n ≡ IsNode a) × Trace Does (begin n) (said_by n ks) a.process
-  pub by_no_other : (n : ℕ) → plan.nodes ≤ n → said_by n ks ≡ []
-  pub on_channel : (c : ℕ) → c < length plan.channels → DoesAll nothing_yet (part c (all_said ks)) (view plan s c)
-
--- what the nodes communicate from a state to a later one, as one list: each node's part is a trace of its process, nobody else has a part, and each channel's part is a run of the channel
-pub record AreToldFrom {P : Type 0} (plan : Plan) (Does : StepRelation P) (s t : Network (Actor P) Token) (ks : List Said) : Type 0 where
+-- one list of all communications from a state to a later one: each node's part is a trace of its process, nobody else has a part, and each
+-- channel's part is a run of the channel
+pub record AreTold {P : Type 0} (plan : Plan) (Does : StepRelation P) (s t : Network (Actor P) Token) (ks : List Said) : Type 0 where
   pub by_node : (n : ℕ) → n < plan.nodes → (a : Node P) × (b : Node P) × (s.state n ≡ IsNode a) × (t.state n ≡ IsNode b) × Trace Does a.process (said_by n ks) b.process
   pub by_no_other : (n : ℕ) → plan.nodes ≤ n → said_by n ks ≡ []
   pub on_channel : (c : ℕ) → DoesAll (view plan s c) (part c (all_said ks)) (view plan t c)
@@ -59,8 +54,9 @@ pub record Headline {P : Type 0} (plan : Plan) (waiting : Waiting) (Does : StepR
   pub faithful : (c : ℕ) → c < length plan.channels → IsFaithful plan s c
   pub packets : (c v : ℕ) (ab : Bool) → c < length plan.channels → home plan c ≡ Way v ab → HasItsPacket plan s c
   pub nowhere_else : NowhereElse plan s
-  -- whatever happens from here on is told by a list behind what was told before, and one event is a step of a channel at most, or an exchange inside a node
-  pub along : (es : List (ActBy Act)) (t : Network (Actor P) Token) → HappenAll plan waiting Does s es t → (ks : List Said) × AreToldFrom plan Does s t ks
+  -- whatever happens from here on is told by a list behind what was told before; one event is a step of a channel at most, or an exchange
+  -- inside a node
+  pub along : (es : List (ActBy Act)) (t : Network (Actor P) Token) → HappenAll plan waiting Does s es t → (ks : List Said) × AreTold plan Does s t ks
   pub by_event : (c : ℕ) (e : ActBy Act) (t : Network (Actor P) Token) → Happens plan waiting Does s e t → (ks : List Comm) × ByOneEvent (home plan c) ks × DoesAll (view plan s c) ks (view plan t c)
   -- after a stop nothing more is taken
   pub stopped : (c : ℕ) (es : List (ActBy Act)) (t : Network (Actor P) Token) → c < length plan.channels → HappenAll plan waiting Does s es t →
@@ -69,9 +65,9 @@ pub record Headline {P : Type 0} (plan : Plan) (waiting : Waiting) (Does : StepR
   pub no_strays : (n : ℕ) → (vcps s n).carrier.strays ≡ 0
   pub none_lost : (k : ℕ) → (switches plan s k).lost ≡ 0
 
--- the headline, and one list of all communications
+-- the headline, and one list of all communications from the opening state on
 abbrev pub HeadlineAndList : {P : Type 0} → Plan → Waiting → StepRelation P → (ℕ → P) → Network (Actor P) Token → Type 0
-HeadlineAndList plan waiting Does begin s = Headline plan waiting Does s × ((ks : List Said) × AreTold plan Does begin s ks)
+HeadlineAndList plan waiting Does begin s = Headline plan waiting Does s × ((ks : List Said) × AreTold plan Does (begins plan begin) s ks)
 
 -- after any list of events that happens from the opening state of an accepted network
 abbrev pub HeadlineHolds : {P : Type 0} → Plan → Waiting → StepRelation P → (ℕ → P) → Type 0

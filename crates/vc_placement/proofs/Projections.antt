@@ -3,19 +3,12 @@ use Rattle.std.proofs.Common.{◌≡◌, ◌≢◌, ℕ, Bool, true, false, ◌=
 use Rattle.std.proofs.lemmas.Bool.{cases_eq}
 use Rattle.vc_process.specs.declared.datum.Datum.{Datum}
 use Rattle.vc_accepted.specs.OneList.{by}
+use Rattle.vc_accepted.proofs.Main.{by_append}
 use Rattle.vc_occam.specs.Traces.{Comm, Out, Fin, In, Stp}
 use Rattle.vc_occam.proofs.Counts.{out_of, fin_of, outs, fins, fins_append}
 use Rattle.vc_occam.proofs.Responses.{insertion_here, insertion_later}
 use Rattle.vc_placement.proofs.Completions.{Rewrites, stays, withdraws, responds, withdrawal_here, response_here, chain, behind, behind_all, later, earlier}
 use Rattle.vc_placement.proofs.Elements.{Element, Exchanged, Stopped, Received, Finished, spell_one, spell, chan_of, without, exchanged, linearized, Phase, Offered, Taken, ElementsInTurn, no_more, receives, finishes, stops, other, InTurn, turn_tail, after_out, elements_in_turn, exchanged_past, without_past, exchanged_at, without_at}
-
-pub by_append : (n : ℕ) (ks ls : List (ℕ × Comm)) → by n (ks ++ ls) ≡ by n ks ++ by n ls
-by_append n [] ls = refl
-by_append n ((m, k) ∷ ks) ls = at (m == n) (by_append n ks ls)
-  where
-    at : (b : Bool) → by n (ks ++ ls) ≡ by n ks ++ by n ls → (if b then k ∷ by n (ks ++ ls) else by n (ks ++ ls)) ≡ (if b then k ∷ by n ks else by n ks) ++ by n ls
-    at true h = ap (λ z. k ∷ z) h
-    at false h = h
 
 -- neither an output begins on the channel, nor is one finished
 abbrev Quiet : ℕ → List Comm → Type 0
