@@ -6,6 +6,7 @@ pub mod AtItself
 pub mod Balance
 pub mod Beginning
 pub mod Bodies
+pub mod ByChannel
 pub mod Choices
 pub mod Choosing
 pub mod Commuting

@@ -3,7 +3,6 @@ use Rattle.std.proofs.Common.{◌≡◌, ◌∙◌, ℕ, ap, sym, subst, List, O
 use Rattle.vc_occam.specs.declared.frame.Frame.{Frame}
 use Rattle.vc_occam.specs.declared.frame.Task.{Task}
 use Rattle.vc_occam.specs.declared.outcome.Outcome.{Outcome}
-use Rattle.vc_occam.specs.declared.outcome.Outcome.TheVariants as outcome
 use Rattle.vc_occam.specs.SiteActions as action
 use Rattle.vc_occam.specs.Private.SiteSteps.{StepAt, one}
 use Rattle.vc_occam.specs.Frames.{View, begun, left_by, remains, view}

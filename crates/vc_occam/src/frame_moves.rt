@@ -14,6 +14,7 @@ ghost use Rattle.vc_process.specs.Values.{Store};
 use crate::find::part_with;
 use crate::frame::{Choice, Construct, Frame, Input, Output, Par, Task};
 use crate::guards::{first_choice, push_choices};
+use crate::inner_channels::InnerChannels;
 use crate::meetings::meeting_of;
 use crate::moves::{Move, site_of};
 use crate::outcome::Outcome;
@@ -44,7 +45,7 @@ impl Task<Frame> {
 
     /// The meeting that it comes to alone, where it is at a PAR of two parts of which one outputs what the other inputs; None promises
     /// nothing.
-    pub(crate) fn only_meeting(&self, inside: &[u16], vars: &[Datum]) -> Option<Move>
+    pub(crate) fn only_meeting(&self, inside: &InnerChannels, vars: &[Datum]) -> Option<Move>
         requires { (shown self.now).sound ≡ true }
         ensures { IfSome result (λ met.
             first_moves (among inside.now) (shown self.now).rest (store vars.now) ≡ met ∷ []) }
@@ -97,7 +98,7 @@ impl Task<Frame> {
 
 impl Par<Frame> {
     /// The meeting of two parts, where it has no others and one outputs what the other inputs; None promises nothing.
-    fn only_meeting(&self, inside: &[u16], vars: &[Datum]) -> Option<Move>
+    fn only_meeting(&self, inside: &InnerChannels, vars: &[Datum]) -> Option<Move>
         requires { all_sound (task_views self.now.tasks.items) ≡ true }
         ensures { IfSome result (λ met.
             first_moves (among inside.now) (besides (task_views self.now.tasks.items))
@@ -140,7 +141,7 @@ impl Frame {
 
     /// The meeting that it comes to alone, where it is at a PAR of two parts of which one outputs what the other inputs; None promises
     /// nothing.
-    fn only_meeting(&self, inside: &[u16], vars: &[Datum]) -> Option<Move>
+    fn only_meeting(&self, inside: &InnerChannels, vars: &[Datum]) -> Option<Move>
         requires { (view self.now).sound ≡ true }
         ensures { IfSome result (λ met.
             first_moves (among inside.now) (view self.now).rest (store vars.now) ≡ met ∷ []) }

@@ -18,6 +18,7 @@ use crate::blocked::Blocked;
 use crate::frame::{Frame, Task};
 use crate::frame_tree::task_of;
 use crate::hints::Hints;
+use crate::inner_channels::InnerChannels;
 use crate::meetings::{clear, is_outside, join, partner};
 use crate::moves::Move;
 use crate::outcome::Outcome;
@@ -34,7 +35,7 @@ pub struct Running {
     alloc: Global,
     task: Task<Frame>,
     vars: Vec<Datum>,
-    inside: Items<u16>,
+    inside: InnerChannels,
     hints: Hints,
     ghost has_variables: { HasVariables (whole task) (length vars.items) },
     ghost in_preorder: { InPreorder (whole task) } by { InPreorder-prop (whole task) },
@@ -160,7 +161,7 @@ impl Running {
         ensures inside { IfOk result (λ r. inner_channels r ≡ among inside.now) }
     {
         let vars = empty_variables(alloc, kinds)?;
-        let inside = Items::from_slice(alloc, inside)?;
+        let inside = InnerChannels::new(alloc, inside)?;
         let task = task_of(alloc, process, &mut 0)?;
         Ok(Running {
             alloc,
@@ -205,7 +206,7 @@ impl Running {
             return self.task.push_moves(found, &self.vars);
         }
         self.task.push_moves(found, &self.vars)?;
-        join(found, self.inside.as_slice())
+        join(found, self.alloc, &self.inside)
     }
 
     /// The site of its only move, where that is known to be a step without a communication; None promises nothing.
@@ -228,7 +229,7 @@ impl Running {
         if self.inside.is_empty() {
             return None;
         }
-        self.task.only_meeting(self.inside.as_slice(), &self.vars)
+        self.task.only_meeting(&self.inside, &self.vars)
     }
 
     /// The first move at a site from this one on, found without a list. Where a channel is inside the node none is looked for, since
@@ -266,8 +267,7 @@ impl Running {
                 guard,
                 chan,
             } => self.meet_now(*sender, *receiver, *guard, *chan),
-            _ => is_outside(made, self.inside.as_slice())
-                && self.task.begins_with(made, &self.vars),
+            _ => is_outside(made, &self.inside) && self.task.begins_with(made, &self.vars),
         }
     }
 
@@ -280,7 +280,7 @@ impl Running {
     {
         let offer = Move::Offer { site: sender, chan };
         let taken = partner(receiver, guard, chan);
-        self.inside.as_slice().contains(&chan)
+        self.inside.contains(chan)
             && self.task.begins_with(&offer, &self.vars)
             && self.task.begins_with(&taken, &self.vars)
     }

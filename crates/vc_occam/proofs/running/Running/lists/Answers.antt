@@ -1,4 +1,4 @@
-use Rattle.std.proofs.Common.{◌≡◌, true, false, sym, ◌∙◌, ap, subst, List, ℕ}
+use Rattle.std.proofs.Common.{◌≡◌, true, false, sym, ◌∙◌, subst, List}
 use Rattle.std.specs.List.{Contains}
 use Rattle.vc_process.specs.declared.datum.Datum.{Datum}
 use Rattle.vc_occam.specs.declared.moves.Move.{Move}
@@ -34,7 +34,7 @@ returns-then-is_outside c =
     let r = remains self.task in
     let e = store self.vars.items in
     let made = c.args.made.now in
-    let o : is_outside ins made ≡ true = ap (λ (xs : List ℕ). is_outside (among xs) made) (sym c.as_slice.ensures) ∙ sym c.is_outside.ensures ∙ c.if-is_outside.true in (
+    let o : is_outside ins made ≡ true = sym c.is_outside.ensures ∙ c.if-is_outside.true in (
       λ q. lists_other ins r e made o (subst (λ (xs : List Datum). Contains (own r (store xs)) made) c.deref.ensures.value (c.begins_with.ensures.0 q)),
       λ q. c.begins_with.ensures.1 (subst (λ (xs : List Datum). Contains (own r (store xs)) made) (sym c.deref.ensures.value) (other_listed ins r e made c.in_default.not-Inner q).1),
     )
@@ -47,7 +47,7 @@ returns-else-is_outside c =
     let r = remains self.task in
     let e = store self.vars.items in
     let made = c.args.made.now in
-    let o : is_outside ins made ≡ false = ap (λ (xs : List ℕ). is_outside (among xs) made) (sym c.as_slice.ensures) ∙ sym c.is_outside.ensures ∙ c.if-is_outside.false in (
+    let o : is_outside ins made ≡ false = sym c.is_outside.ensures ∙ c.if-is_outside.false in (
       λ q. absurd (let z : false ≡ true = sym c.if-is_outside.false ∙ q in cc),
       λ q. absurd (let z : false ≡ true = sym o ∙ (other_listed ins r e made c.in_default.not-Inner q).0 in cc),
     )

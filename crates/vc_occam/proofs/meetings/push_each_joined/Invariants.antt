@@ -1,7 +1,7 @@
 use Rattle.std.proofs.Common.{◌≡◌, ◌≤◌, ◌++◌, drop, length, take}
 use Rattle.vc_occam.specs.First.{joined}
 use Rattle.vc_process.specs.Usage.{among}
-use Rattle.vc_occam.proofs.meetings.push_all_joined.Given as goal
+use Rattle.vc_occam.proofs.meetings.push_each_joined.Given as goal
 
 abbrev pub invariant-loop-place : goal.invariant-loop-place
 invariant-loop-place l =
