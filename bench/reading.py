@@ -20,7 +20,7 @@ ROOT = os.path.dirname(os.path.dirname(os.path.abspath(__file__)))
 PAGE = f"{ROOT}/docs/READING.md"
 # The promises, in the order in which one reads: the function, and the file that has it. Those before `check` are of a plan that it accepted.
 PROMISES = [
-    ("replay", "vc_core/src/network.rt"),
+    ("replay", "vc_core/src/replays.rt"),
     ("run_threads", "vc_threads/src/threads.rt"),
     ("check", "vc_plan/src/checker.rt"),
     ("read_network", "vc_reader/src/network.rt"),

@@ -1,50 +1,30 @@
 //! A network: its actors, and the ways that join them.
-ghost use Rattle.std.specs.Prelude.{◌≡◌, ◌≢◌, ◌⊎◌, ◌+◌, ◌*◌, ◌<◌, ◌≤◌, ◌++◌, ◌↔◌, [], ℕ, true, false, List, length, map, slice_get, Some, None, IsTrue, IsSome, IfOk, IfErr, IfSome, OnOk, OnErr, MatchResult};
-ghost use Rattle.vc_core.specs.Replaying.{IsOpening, Reached, Replays, RefusedAt};
+ghost use Rattle.std.specs.Prelude.{◌≡◌, ◌≢◌, ◌⊎◌, ◌+◌, ◌*◌, ◌<◌, ◌↔◌, ℕ, true, false, length, map, slice_get, Some, None, IsTrue, IfOk, IfSome, OnOk, OnErr, MatchResult};
+ghost use Rattle.vc_core.specs.Replaying.{IsOpening};
 ghost use Rattle.vc_plan.specs.declared.plan.Plan.{Plan};
 ghost use Rattle.vc_actor.specs.Acting.{IsOwn};
-ghost use Rattle.std.specs.Option.{option_copied, option_map};
-ghost use Rattle.vc_plan.specs.Accepted.{port_of as side_of};
-ghost use Rattle.vc_plan.specs.declared.channel.Channel.{Channel};
 ghost use Rattle.vc_accepted.specs.NetworkOf.{network_of};
-ghost use Rattle.vc_accepted.specs.Outgoing.{link_port};
-ghost use Rattle.vc_blocks.specs.Listed.{listed};
-ghost use Rattle.vc_packets.specs.Functions.{shown_or};
-ghost use Rattle.vc_network.specs.Plan.{home, IsOutOf};
-ghost use Rattle.vc_network.specs.Views.{view, source_node, sink_node, vcps};
-ghost use Rattle.vc_core.specs.Blocking.{blocked_in, blocked_of as blocked_as};
-ghost use Rattle.vc_core.specs.Private.Placed.{AreOwned};
-ghost use Rattle.vc_core.specs.Placed.{FindsPlace, IsUnfinished};
-ghost use Rattle.vc_core.specs.Channels.{ends_at};
-ghost use Rattle.vc_core.specs.Links.{buffer_at, buffered_in, credit_at, credit_in, last_of, way_of};
 ghost use Rattle.vc_core.specs.Enabled.{CanHappen};
 ghost use Rattle.std.specs.Int.{bit_at};
-ghost use Rattle.vc_actor.specs.Private.Parts.{IsDone, node_at, vcp_in};
-ghost use Rattle.vc_actor.specs.Parts.{strays_of, lost_of, saturated};
-ghost use Rattle.std.specs.List.{sum_by};
+ghost use Rattle.vc_actor.specs.Private.Parts.{IsDone};
 ghost use Rattle.vc_actor.specs.OfPlan.{IsActorOf};
-ghost use Rattle.vc_actor.specs.Shown.{Acting, actor_of};
+ghost use Rattle.vc_actor.specs.Shown.{Acting};
 ghost use Rattle.vc_actor.specs.Turns.{TakesNone, actors};
 ghost use Rattle.vc_core.specs.Turns.{FindsFront, FindsTake, FindsEvent, FindsEventOf, AllHaveEnded};
-ghost use Rattle.vc_core.specs.declared.event.Event.{Event as Happening};
 ghost use Rattle.vc_core.specs.Awake.{AllAwake, StaysAwake, awake_of};
-ghost use Rattle.vc_core.specs.State.{shown, state_of, IsNetworkOf, MayHappen, WaysLet, HasFront, HasWay, MakesEvent, MakesOne, MayActAt};
-ghost use Rattle.vc_core.specs.Private.State.{Accepts, GrantsBy};
-ghost use Rattle.vc_tokens.specs.Spelt.{token as spelt, tokens as all_spelt};
+ghost use Rattle.vc_core.specs.State.{state_of, IsNetworkOf, MayHappen, WaysLet, HasFront, HasWay, MakesEvent, MakesOne, MayActAt};
+ghost use Rattle.vc_core.specs.Private.State.{GrantsBy};
+ghost use Rattle.vc_tokens.specs.Spelt.{tokens as all_spelt};
 
-use crate::channels::{ChannelInfo, Ends, channels_of};
+use crate::channels::{ChannelInfo, channels_of};
 use crate::event::Event;
 use crate::lines::Lines;
-use crate::place::Place;
-use crate::refused::{ReplayRefused, StepRefused};
-use crate::way::Way;
+use crate::refused::StepRefused;
 use sqlite_items::{Items, at};
 use std::alloc::Global;
-use vc_actor::{Act, ActKind, Actor, Node, actors, has_room};
-use vc_blocks::Messages;
-use vc_occam::{Blocked, Move, ValueKind};
+use vc_actor::{Act, ActKind, Actor, actors, has_room};
 use vc_packets::Memory;
-use vc_plan::{Accepted, Port, Wire};
+use vc_plan::{Accepted, Wire};
 use vc_switch::lowest;
 use vc_tokens::Token;
 
@@ -60,7 +40,7 @@ pub struct Network {
     // a bit for each of the first 64 actors that is awake
     awake: u64,
     pub(crate) wires: Items<Wire>,
-    channels: Vec<ChannelInfo>,
+    pub(crate) channels: Vec<ChannelInfo>,
 }
 
 impl Drop for Network {
@@ -457,323 +437,11 @@ impl Network {
         true
     }
 
-    /// What the parts of a node's process are at that do not go on by themselves, in order of site; nothing where the network has no
-    /// such node. It fails for want of memory alone.
-    pub fn blocked(&self, alloc: Global, node: usize) -> Result<Items<Blocked>, Memory>
-        ensures { IfOk result (λ found. found ≡ blocked_in (shown (state_of self.now)) node) }
-    {
-        match at(self.actors.as_slice(), node) {
-            Some(actor) => blocked_of(alloc, actor),
-            None => Ok(Items::new(alloc)),
-        }
-    }
-
-    /// How many tokens stand on a wire in one direction: from its port one, or from its port two. None where there is no such wire.
-    pub fn tokens_on(&self, wire: u16, from_one: bool) -> usize
-        ensures { result ≡ length ((shown (state_of self.now)).way (way_of wire from_one)) }
-    {
-        let way = 2 * usize::from(wire) + usize::from(!from_one);
-        match self.lines.ways().get(way) {
-            Some(line) => line.len(),
-            None => 0,
-        }
-    }
-
-    /// How many more tokens an actor may put on a link: at most 16, and none where there is no such link.
-    pub fn credit(&self, actor: usize, link: u8) -> u8
-        ensures { result ≡ credit_in (shown (state_of self.now)) actor link }
-    {
-        match at(self.actors.as_slice(), actor) {
-            Some(actor) => credit_of(actor, link),
-            None => 0,
-        }
-    }
-
-    /// The token at the end of the way that goes out by an actor's link, which was put last of those that stand there. None where none
-    /// stands there, or no way goes out by the link.
-    pub fn last_put(&self, actor: u8, link: u8) -> Option<Token>
-        ensures token { (p : Plan) (way : ℕ) →
-            IsNetworkOf p (state_of self.now) →
-            IsOutOf (network_of p) way (link_port p actor link) →
-            option_map spelt result ≡ last_of ((shown (state_of self.now)).way way) }
-        ensures none { (p : Plan) →
-            IsNetworkOf p (state_of self.now) →
-            ((way : ℕ) → IsOutOf (network_of p) way (link_port p actor link) → ⊥) →
-            result ≡ None }
-    {
-        match self.lines.outgoing(actor, link) {
-            Some(way) => last_at(self.lines.ways(), way),
-            None => None,
-        }
-    }
-
-    /// How many tokens stand in the receive buffer of an actor's link: at most 16, and none where there is no such link.
-    pub fn buffered(&self, actor: usize, link: u8) -> usize
-        ensures { result ≡ buffered_in (shown (state_of self.now)) actor link }
-    {
-        match at(self.actors.as_slice(), actor) {
-            Some(actor) => buffered_of(actor, link),
-            None => 0,
-        }
-    }
-
     /// How many actors there are: the nodes, and then the switches.
     pub fn actors(&self) -> u8
         ensures { (p : Plan) → IsNetworkOf p (state_of self.now) → result ≡ actors p }
     {
         self.actors.len().min(255) as u8
-    }
-
-    /// How many channels there are.
-    pub fn channels(&self) -> u16
-        ensures { (p : Plan) → IsNetworkOf p (state_of self.now) → result ≡ length p.channels }
-    {
-        self.channels.len().min(65535) as u16
-    }
-
-    /// The name of a channel: 1 to 16 ASCII letters, digits, `_` and `-`. It is empty where the network has no such channel.
-    pub fn name(&self, chan: u16) -> &str
-        ensures is { (p : Plan) (x : Channel) →
-            IsNetworkOf p (state_of self.now) →
-            slice_get p.channels chan ≡ Some x →
-            result.now ≡ x.name }
-        ensures lacks { (p : Plan) →
-            IsNetworkOf p (state_of self.now) →
-            length p.channels ≤ chan →
-            result.now ≡ [] }
-    {
-        match at(self.channels.as_slice(), usize::from(chan)) {
-            Some(channel) => channel.name.as_str(),
-            None => "",
-        }
-    }
-
-    /// The kind of a channel: what its messages are. It is INT where the network has no such channel.
-    pub fn kind(&self, chan: u16) -> ValueKind
-        ensures is { (p : Plan) (x : Channel) →
-            IsNetworkOf p (state_of self.now) →
-            slice_get p.channels chan ≡ Some x →
-            result ≡ x.kind }
-        ensures lacks { (p : Plan) →
-            IsNetworkOf p (state_of self.now) →
-            length p.channels ≤ chan →
-            result ≡ ValueKind.Int }
-    {
-        match at(self.channels.as_slice(), usize::from(chan)) {
-            Some(channel) => channel.kind,
-            None => ValueKind::Int,
-        }
-    }
-
-    /// The messages offered on a channel, the first one first. There are none where the network has no such channel.
-    pub fn offered(&self, chan: u16) -> Messages<'_>
-        ensures shows { (p : Plan) →
-            IsNetworkOf p (state_of self.now) →
-            chan < length p.channels →
-            listed result ≡ (view (network_of p) (shown (state_of self.now)) chan).offered }
-        ensures lacks { (p : Plan) →
-            IsNetworkOf p (state_of self.now) →
-            length p.channels ≤ chan →
-            listed result ≡ [] }
-    {
-        match self.source(chan) {
-            Some(node) => node.offered(chan),
-            None => Messages::none(),
-        }
-    }
-
-    /// The messages taken on a channel, the first one first. There are none where the network has no such channel.
-    pub fn taken(&self, chan: u16) -> Messages<'_>
-        ensures shows { (p : Plan) →
-            IsNetworkOf p (state_of self.now) →
-            chan < length p.channels →
-            listed result ≡ (view (network_of p) (shown (state_of self.now)) chan).taken }
-        ensures lacks { (p : Plan) →
-            IsNetworkOf p (state_of self.now) →
-            length p.channels ≤ chan →
-            listed result ≡ [] }
-    {
-        match self.sink(chan) {
-            Some(node) => node.taken(chan),
-            None => Messages::none(),
-        }
-    }
-
-    /// How many outputs on a channel are finished: 0 where the network has no such channel.
-    pub fn finished(&self, chan: u16) -> u64
-        ensures shows { (p : Plan) →
-            IsNetworkOf p (state_of self.now) →
-            chan < length p.channels →
-            result ≡ (view (network_of p) (shown (state_of self.now)) chan).finished }
-        ensures lacks { (p : Plan) →
-            IsNetworkOf p (state_of self.now) →
-            length p.channels ≤ chan →
-            result ≡ 0 }
-    {
-        match self.source(chan) {
-            Some(node) => node.finished(chan),
-            None => 0,
-        }
-    }
-
-    /// Whether a channel was stopped. The answer is no where the network has no such channel.
-    pub fn stopped(&self, chan: u16) -> bool
-        ensures shows { (p : Plan) →
-            IsNetworkOf p (state_of self.now) →
-            chan < length p.channels →
-            result ≡ (view (network_of p) (shown (state_of self.now)) chan).stopped }
-        ensures lacks { (p : Plan) →
-            IsNetworkOf p (state_of self.now) →
-            length p.channels ≤ chan →
-            result ≡ false }
-    {
-        match self.sink(chan) {
-            Some(node) => node.stopped(chan),
-            None => false,
-        }
-    }
-
-    /// Where a packet of a channel stands: there its end mark is. After any events from the opening state on a channel has a packet
-    /// exactly where an output on it is not finished, and has only that one; a channel inside a node never has one. It takes no
-    /// memory. Whose a packet is, the tables tell by which it goes.
-    pub fn place(&self, chan: u16) -> Option<Place>
-        ensures finds { (p : Plan) (events : List Happening) →
-            Reached p events (state_of self.now) →
-            FindsPlace p (state_of self.now) chan result }
-        ensures unfinished { (p : Plan) (events : List Happening) →
-            Replays p events (state_of self.now) →
-            chan < length p.channels →
-            IsSome result ↔ IsUnfinished p (state_of self.now) chan }
-    {
-        let ends = self.ends(chan)?;
-        self.place_by(chan, &ends)
-    }
-
-    // The ends of the virtual link that a channel is on.
-    fn ends(&self, chan: u16) -> Option<Ends>
-        ensures { (p : Plan) →
-            IsNetworkOf p (state_of self.now) →
-            result ≡ ends_at (network_of p) (home (network_of p) chan) }
-    {
-        match at(self.channels.as_slice(), usize::from(chan)) {
-            Some(channel) => channel.ends,
-            None => None,
-        }
-    }
-
-    // Where a packet of the channel with these ends stands: held, or at one of the ways.
-    fn place_by(&self, chan: u16, ends: &Ends) -> Option<Place>
-        ensures { (p : Plan) →
-            IsNetworkOf p (state_of self.now) →
-            AreOwned (network_of p) (shown (state_of self.now)) →
-            ends_at (network_of p) (home (network_of p) chan) ≡ Some ends.now →
-            FindsPlace p (state_of self.now) chan result }
-    {
-        let node = ends.to.node;
-        if self.holds(node, chan) {
-            return Some(Place::Held(node));
-        }
-        for way in 0..self.lines.ways().len() {
-            if let Some(place) = self.place_on(way, ends) {
-                return Some(place);
-            }
-        }
-        None
-    }
-
-    // Whether a node holds a piece on a channel.
-    fn holds(&self, node: u8, chan: u16) -> bool
-        ensures { IsTrue result ↔
-            ((vcps (shown (state_of self.now)) node).carrier.into chan).held ≢ None }
-    {
-        match self.node(node) {
-            Some(node) => node.holds(chan),
-            None => false,
-        }
-    }
-
-    /// The node of this number, if there is one.
-    pub(crate) fn node(&self, number: u8) -> Option<&Node>
-        ensures { vcps (shown (state_of self.now)) number ≡ vcp_in (option_copied result) }
-    {
-        match at(self.actors.as_slice(), usize::from(number)) {
-            Some(actor) => actor.node(),
-            None => None,
-        }
-    }
-
-    /// How many packets and tokens the nodes dropped: none, after any events from the opening state on.
-    pub fn strays(&self) -> u64
-        ensures counts { result ≡ saturated (sum_by strays_of (state_of self.now).actors) }
-        ensures none { (p : Plan) (events : List Happening) →
-            Replays p events (state_of self.now) →
-            result ≡ 0 }
-    {
-        let mut all = 0u64;
-        for actor in &self.actors {
-            all = all.saturating_add(actor.strays());
-        }
-        all
-    }
-
-    /// How many packets and tokens the switches dropped: none, after any events from the opening state on.
-    pub fn lost(&self) -> u64
-        ensures counts { result ≡ saturated (sum_by lost_of (state_of self.now).actors) }
-        ensures none { (p : Plan) (events : List Happening) →
-            Replays p events (state_of self.now) →
-            result ≡ 0 }
-    {
-        let mut all = 0u64;
-        for actor in &self.actors {
-            all = all.saturating_add(actor.lost());
-        }
-        all
-    }
-
-    // The node that outputs on a channel. There is none where the network has no such channel.
-    fn source(&self, chan: u16) -> Option<&Node>
-        ensures shows { (p : Plan) →
-            IsNetworkOf p (state_of self.now) →
-            chan < length p.channels →
-            node_at
-            (slice_get self.now.actors.items
-            (source_node (network_of p) (home (network_of p) chan))) ≡
-            option_copied result }
-        ensures lacks { (p : Plan) →
-            IsNetworkOf p (state_of self.now) →
-            length p.channels ≤ chan →
-            result ≡ None }
-    {
-        match at(self.channels.as_slice(), usize::from(chan)) {
-            Some(channel) => match at(self.actors.as_slice(), channel.source) {
-                Some(actor) => actor.node(),
-                None => None,
-            },
-            None => None,
-        }
-    }
-
-    // The node that inputs on a channel. There is none where the network has no such channel.
-    fn sink(&self, chan: u16) -> Option<&Node>
-        ensures shows { (p : Plan) →
-            IsNetworkOf p (state_of self.now) →
-            chan < length p.channels →
-            node_at
-            (slice_get self.now.actors.items
-            (sink_node (network_of p) (home (network_of p) chan))) ≡
-            option_copied result }
-        ensures lacks { (p : Plan) →
-            IsNetworkOf p (state_of self.now) →
-            length p.channels ≤ chan →
-            result ≡ None }
-    {
-        match at(self.channels.as_slice(), usize::from(chan)) {
-            Some(channel) => match at(self.actors.as_slice(), channel.sink) {
-                Some(actor) => actor.node(),
-                None => None,
-            },
-            None => None,
-        }
     }
 }
 
@@ -791,64 +459,6 @@ fn wake(awake: &mut u64, actor: u16)
     *awake |= 1u64 << actor;
 }
 
-// What the parts of an actor's process are at that do not go on by themselves, if it is a node.
-fn blocked_of(alloc: Global, actor: &Actor) -> Result<Items<Blocked>, Memory>
-    ensures { IfOk result (λ found. found ≡ blocked_as (actor_of actor.now)) }
-{
-    match actor.node() {
-        Some(node) => node.blocked(),
-        None => Ok(Items::new(alloc)),
-    }
-}
-
-// How many more tokens an actor may put on a link.
-fn credit_of(actor: &Actor, link: u8) -> u8
-    ensures { result ≡ credit_at (actor_of actor.now) link }
-{
-    if let Some(node) = actor.node() {
-        return node.credit_at(link);
-    }
-    match actor.switch() {
-        Some(switch) => switch.credit_left(link),
-        None => 0,
-    }
-}
-
-// The token at the end of a way.
-fn last_at(ways: &[Way], way: usize) -> Option<Token>
-    ensures { option_map spelt result ≡
-        last_of (shown_or [] (λ ts. ts) (slice_get ways.now way)) }
-{
-    match ways.get(way) {
-        Some(line) => line.last(),
-        None => None,
-    }
-}
-
-// How many tokens the two parts of a buffer have together.
-fn count_of(front: &[Token], back: &[Token]) -> usize
-    ensures { result ≡ length (all_spelt (front.now ++ back.now)) }
-{
-    front.len() + back.len()
-}
-
-// How many tokens stand in the receive buffer of an actor's link.
-fn buffered_of(actor: &Actor, link: u8) -> usize
-    ensures { result ≡ length (buffer_at (actor_of actor.now) link) }
-{
-    if let Some(node) = actor.node() {
-        let (front, back) = node.tokens_at(link);
-        return count_of(front, back);
-    }
-    match actor.switch() {
-        Some(switch) => {
-            let (front, back) = switch.tokens(link);
-            count_of(front, back)
-        }
-        None => 0,
-    }
-}
-
 // Whether nothing remains of an actor's process, if it is a node.
 fn is_done(actor: &Actor) -> bool
     ensures { IsTrue result ↔ IsDone actor.now }
@@ -857,42 +467,4 @@ fn is_done(actor: &Actor) -> bool
         Some(node) => node.ended(),
         None => true,
     }
-}
-
-/// Port one or port two of a wire.
-pub(crate) fn port_of(wire: &Wire, is_one: bool) -> Port
-    ensures { result ≡ side_of wire.now is_one }
-{
-    if is_one { wire.one } else { wire.two }
-}
-
-/// Makes a list of events from the opening state on. The first event that is refused is answered with the network before it.
-pub fn replay(
-    alloc: Global,
-    accepted: &Accepted,
-    events: &[Event],
-) -> Result<Network, ReplayRefused>
-    ensures replayed { IfOk result (λ network. Replays accepted.now events.now (state_of network)) }
-    ensures refused { IfErr result (λ refused. RefusedAt accepted.now events.now refused) }
-{
-    let mut network = match Network::new(alloc, accepted) {
-        Ok(network) => network,
-        Err(Memory) => {
-            return Err(ReplayRefused {
-                index: 0,
-                state: None,
-                why: StepRefused::Memory,
-            });
-        }
-    };
-    for (index, event) in events.iter().enumerate() {
-        if let Err(why) = network.step(event) {
-            return Err(ReplayRefused {
-                index,
-                state: Some(network),
-                why,
-            });
-        }
-    }
-    Ok(network)
 }

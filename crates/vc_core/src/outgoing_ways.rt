@@ -40,8 +40,9 @@ fn leave(out: &mut Vec<Option<u16>>, nodes: usize, port: Port, way: u16)
     }
 }
 
-/// The number of a node or a switch among the actors.
-pub(crate) fn actor_of(spot: Spot, nodes: usize) -> usize
+/// The number of a node or a switch among the actors of a plan with so many nodes, at most 32: the nodes come first, in their order, and
+/// then the switches. It is found also where the plan has no such node or switch.
+pub fn actor_of(spot: Spot, nodes: usize) -> usize
     requires { nodes ≤ 32 }
     ensures number { result ≡ number_of nodes spot }
     ensures few { result ≤ 300 }

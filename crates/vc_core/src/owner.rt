@@ -22,7 +22,8 @@ ghost use Rattle.vc_plan.specs.declared.plan.Plan.{Plan};
 ghost use Rattle.vc_switch.specs.Forward.{IsDrawn, behind};
 
 use crate::channels::Ends;
-use crate::network::{Network, port_of};
+use crate::network::Network;
+use crate::search::port_of;
 use arrayvec::ArrayVec;
 use sqlite_items::at;
 use vc_packets::{Mark, Packet};

@@ -1,5 +1,5 @@
-//! Where a channel's packet stands at a way: in the queue at its near end, on it, or in the switch at its far end.
-ghost use Rattle.std.specs.Prelude.{◌≡◌, ◌<◌, ◌++◌, ◌↔◌, ℕ, length, Some, None, IsTrue};
+//! Where a channel's packet stands: held by its node, or at a way: in the queue at its near end, on it, or in the switch at its far end.
+ghost use Rattle.std.specs.Prelude.{◌≡◌, ◌<◌, ◌++◌, ◌↔◌, ℕ, length, Some, None, IsTrue, ◌≢◌, ◌+◌, ◌*◌, [], false, List, IsSome};
 ghost use Rattle.std.specs.List.{Contains};
 ghost use Rattle.vc_accepted.specs.NetworkOf.{network_of, port_of as named_port};
 ghost use Rattle.vc_core.specs.Channels.{ends_at};
@@ -17,17 +17,93 @@ ghost use Rattle.vc_plan.specs.declared.plan.Plan.{Plan};
 ghost use Rattle.vc_switch.specs.Seen.{seen};
 ghost use Rattle.vc_switch.specs.State.{plan_of};
 ghost use Rattle.vc_tokens.specs.Spelt.{tokens};
+ghost use Rattle.vc_core.specs.Replaying.{Reached, Replays};
+ghost use Rattle.std.specs.Option.{option_copied};
+ghost use Rattle.vc_plan.specs.Accepted.{port_of as side_of};
+ghost use Rattle.vc_core.specs.Placed.{FindsPlace, IsUnfinished};
+ghost use Rattle.vc_actor.specs.Private.Parts.{vcp_in};
+ghost use Rattle.vc_core.specs.declared.event.Event.{Event as Happening};
 
 use crate::channels::Ends;
-use crate::network::{Network, port_of};
+use crate::network::Network;
 use crate::place::Place;
 use crate::reader::Reader;
 use sqlite_items::at;
-use vc_plan::{Port, Spot};
+use vc_actor::Node;
+use vc_plan::{Port, Spot, Wire};
 use vc_switch::Switch;
 use vc_tokens::Token;
 
 impl Network {
+    /// Where a packet of a channel stands: there its end mark is. After any events from the opening state on a channel has a packet
+    /// exactly where an output on it is not finished, and has only that one; a channel inside a node never has one. It takes no
+    /// memory. Whose a packet is, the tables tell by which it goes.
+    pub fn place(&self, chan: u16) -> Option<Place>
+        ensures finds { (p : Plan) (events : List Happening) →
+            Reached p events (state_of self.now) →
+            FindsPlace p (state_of self.now) chan result }
+        ensures unfinished { (p : Plan) (events : List Happening) →
+            Replays p events (state_of self.now) →
+            chan < length p.channels →
+            IsSome result ↔ IsUnfinished p (state_of self.now) chan }
+    {
+        let ends = self.ends(chan)?;
+        self.place_by(chan, &ends)
+    }
+
+    // The ends of the virtual link that a channel is on.
+    fn ends(&self, chan: u16) -> Option<Ends>
+        ensures { (p : Plan) →
+            IsNetworkOf p (state_of self.now) →
+            result ≡ ends_at (network_of p) (home (network_of p) chan) }
+    {
+        match at(self.channels.as_slice(), usize::from(chan)) {
+            Some(channel) => channel.ends,
+            None => None,
+        }
+    }
+
+    // Where a packet of the channel with these ends stands: held, or at one of the ways.
+    fn place_by(&self, chan: u16, ends: &Ends) -> Option<Place>
+        ensures { (p : Plan) →
+            IsNetworkOf p (state_of self.now) →
+            AreOwned (network_of p) (shown (state_of self.now)) →
+            ends_at (network_of p) (home (network_of p) chan) ≡ Some ends.now →
+            FindsPlace p (state_of self.now) chan result }
+    {
+        let node = ends.to.node;
+        if self.holds(node, chan) {
+            return Some(Place::Held(node));
+        }
+        for way in 0..self.lines.ways().len() {
+            if let Some(place) = self.place_on(way, ends) {
+                return Some(place);
+            }
+        }
+        None
+    }
+
+    // Whether a node holds a piece on a channel.
+    fn holds(&self, node: u8, chan: u16) -> bool
+        ensures { IsTrue result ↔
+            ((vcps (shown (state_of self.now)) node).carrier.into chan).held ≢ None }
+    {
+        match self.node(node) {
+            Some(node) => node.holds(chan),
+            None => false,
+        }
+    }
+
+    /// The node of this number, if there is one.
+    pub(crate) fn node(&self, number: u8) -> Option<&Node>
+        ensures { vcps (shown (state_of self.now)) number ≡ vcp_in (option_copied result) }
+    {
+        match at(self.actors.as_slice(), usize::from(number)) {
+            Some(actor) => actor.node(),
+            None => None,
+        }
+    }
+
     /// Where at a way a packet of the channel with these ends stands.
     pub(crate) fn place_on(&self, way: usize, ends: &Ends) -> Option<Place>
         ensures { (p : Plan) (c : ℕ) →
@@ -237,4 +313,11 @@ fn passed_into(switch: &Switch, link: u8) -> &[u8]
         [_, _, rest @ ..] => rest,
         _ => &[],
     }
+}
+
+/// Port one or port two of a wire.
+pub(crate) fn port_of(wire: &Wire, is_one: bool) -> Port
+    ensures { result ≡ side_of wire.now is_one }
+{
+    if is_one { wire.one } else { wire.two }
 }

@@ -1,35 +1,23 @@
 //! What the label of a wire says of its tokens.
 ghost use Rattle.std.specs.Prelude.{◌≡◌, ◌<◌, ◌++◌, length, map, IfOk, OnOk};
 ghost use Rattle.std.specs.List.{enumerate_from};
-ghost use Rattle.vc_accepted.specs.Outgoing.{actor_of};
 ghost use Rattle.vc_core.specs.State.{IsNetworkOf, shown, state_of};
 ghost use Rattle.vc_draw.specs.State.{credit_of as credit_at, direction_line, tokens_line, wire_label as label_of_wire};
 
 use sqlite_items::Items;
 use std::alloc::Global;
-use vc_core::Network;
+use vc_core::{Network, actor_of};
 use vc_packets::{Bytes, Memory};
-use vc_plan::{Plan, Port, Spot, Wire};
+use vc_plan::{Plan, Port, Wire};
 use vc_text::push_number;
 use vc_waits::push_ports;
-
-/// The number of a node or a switch among the actors.
-fn actor_at(plan: &Plan, spot: Spot) -> usize
-    requires { length plan.now.nodes < 256 }
-    ensures { result ≡ actor_of (length plan.now.nodes) spot }
-{
-    match spot {
-        Spot::Node(node) => usize::from(node),
-        Spot::Switch(switch) => plan.nodes.len() + usize::from(switch),
-    }
-}
 
 /// How many more tokens the actor at a port may put on its link.
 fn credit_of(plan: &Plan, network: &Network, port: Port) -> u8
     requires { IsNetworkOf plan.now (state_of network.now) }
     ensures { result ≡ credit_at plan.now (shown (state_of network.now)) port }
 {
-    network.credit(actor_at(plan, port.spot), port.link)
+    network.credit(actor_of(port.spot, plan.nodes.len()), port.link)
 }
 
 /// The line of a direction of a wire, unless it is quiet.

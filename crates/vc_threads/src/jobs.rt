@@ -1,7 +1,6 @@
 //! The actors of a plan, with a ring for each way between them.
 ghost use Rattle.std.specs.Prelude.{◌≡◌, ◌≢◌, ◌≤◌, ◌<◌, ◌++◌, [], ◌∷◌, IfOk, OnOk, length, map};
 ghost use Rattle.std.specs.List.{All, AllByRecursion};
-ghost use Rattle.vc_accepted.specs.Outgoing.{actor_of};
 ghost use Rattle.vc_actor.specs.Begin.{AreFirst};
 ghost use Rattle.vc_actor.specs.Turns.{actors as actors_in};
 ghost use Rattle.vc_plan.specs.Accepted.{IsAccepted};
@@ -14,9 +13,9 @@ use crate::link::{Ends, In, LinkRule, Out, PLACES};
 use crate::spawn::Job;
 use rtrb::RingBuffer;
 use std::alloc::Global;
-use vc_core::{Actor, actors};
+use vc_core::{Actor, actor_of, actors};
 use vc_packets::Memory;
-use vc_plan::{Accepted, Plan, Port, Spot};
+use vc_plan::{Accepted, Plan, Port};
 
 // The job of an actor that has no links yet.
 fn job_of(alloc: Global, id: u8, actor: Actor, keeps: bool) -> Job
@@ -80,17 +79,6 @@ fn add_in(job: &mut Job, link: u8, consumer: In) -> Result<(), Memory>
     Ok(())
 }
 
-/// The number of a node or a switch among the actors.
-pub(crate) fn number_of(spot: Spot, nodes: usize) -> usize
-    requires { nodes ≤ 32 }
-    ensures { result ≡ actor_of nodes spot }
-{
-    match spot {
-        Spot::Node(node) => usize::from(node),
-        Spot::Switch(switch) => nodes + usize::from(switch),
-    }
-}
-
 // Makes the ring of the way from one port to another.
 fn add_ring(
     alloc: Global,
@@ -106,8 +94,8 @@ fn add_ring(
     ensures same { OnOk result (map who jobs.new.items ≡ map who jobs.old.items) }
     ensures ring { OnOk result (AddsRing nodes jobs.old.items from to jobs.new.items) }
 {
-    let source = number_of(from.spot, nodes);
-    let sink = number_of(to.spot, nodes);
+    let source = actor_of(from.spot, nodes);
+    let sink = actor_of(to.spot, nodes);
     let Ok((producer, consumer)) = RingBuffer::with_protocol::<Global, LinkRule>(alloc, PLACES)
     else {
         return Err(Memory);

@@ -8,11 +8,10 @@ ghost use Rattle.vc_threads.specs.Order.{OnWays};
 ghost use Rattle.vc_threads.specs.Stamps.{item_of};
 ghost use Rattle.vc_threads.specs.Wires.{OutLooked, SameIn};
 
-use crate::jobs::number_of;
 use crate::link::{Ends, In, Out};
 use crate::run::ActorRun;
 use std::alloc::Global;
-use vc_core::Actor;
+use vc_core::{Actor, actor_of};
 use vc_packets::Memory;
 use vc_plan::{Plan, Port};
 use vc_tokens::Token;
@@ -136,8 +135,8 @@ fn take_way(
     ensures taken { EndsTaken (IsPort nodes to) ends.old ends.new }
     ensures left { IfOk result (λ tokens. LeftAt nodes ends.old tokens.items from to) }
 {
-    let source = number_of(from.spot, nodes);
-    let sink = number_of(to.spot, nodes);
+    let source = actor_of(from.spot, nodes);
+    let sink = actor_of(to.spot, nodes);
     take_between(
         alloc,
         &mut ends.outs[source],

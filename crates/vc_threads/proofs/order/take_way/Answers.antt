@@ -15,8 +15,8 @@ take_between-requires c =
     let t = actor_of c.args.nodes c.args.to.spot in
     let v = c.index_mut.result.now in
     let w = c.index_mut-2.result.now in
-    let a = ends_there (λ v. v.items) e.outs.items c.number_of-source.result s c.args.from.link v c.number_of-source.ensures c.index_mut.ensures.value c.requires.ring.out in
-    let b = ends_there (λ v. v.items) e.ins.items c.number_of-sink.result t c.args.to.link w c.number_of-sink.ensures c.index_mut-2.ensures.value c.requires.ring.into in
+    let a = ends_there (λ v. v.items) e.outs.items c.actor_of-source.result s c.args.from.link v c.actor_of-source.ensures.number c.index_mut.ensures.value c.requires.ring.out in
+    let b = ends_there (λ v. v.items) e.ins.items c.actor_of-sink.result t c.args.to.link w c.actor_of-sink.ensures.number c.index_mut-2.ensures.value c.requires.ring.into in
     subst (λ xs. Meet xs w.items c.args.from.link c.args.to.link) a (subst (λ ys. Meet (outs_at e s) ys c.args.from.link c.args.to.link) b c.requires.ring)
 
 pub returns : goal.returns
@@ -26,15 +26,15 @@ returns c =
     let to = c.args.to in
     let s = actor_of nodes c.args.from.spot in
     let t = actor_of nodes to.spot in
-    let source = c.number_of-source.result in
-    let sink = c.number_of-sink.result in
+    let source = c.actor_of-source.result in
+    let sink = c.actor_of-sink.result in
     let v = c.index_mut.result.now in
     let w = c.index_mut-2.result.now in
-    let l = subst (λ k. k < length e.outs.items) (sym c.number_of-source.ensures) (actor_there (λ v. v.items) e.outs.items s c.args.from.link c.requires.ring.out) in
-    let m = subst (λ k. k < length e.ins.items) (sym c.number_of-sink.ensures) (actor_there (λ v. v.items) e.ins.items t to.link c.requires.ring.into) in
-    let a = ends_there (λ v. v.items) e.outs.items source s c.args.from.link v c.number_of-source.ensures c.index_mut.ensures.value c.requires.ring.out in
-    let b = ends_there (λ v. v.items) e.ins.items sink t to.link w c.number_of-sink.ensures c.index_mut-2.ensures.value c.requires.ring.into in
-    let here = c.number_of-sink.ensures in
+    let l = subst (λ k. k < length e.outs.items) (sym c.actor_of-source.ensures.number) (actor_there (λ v. v.items) e.outs.items s c.args.from.link c.requires.ring.out) in
+    let m = subst (λ k. k < length e.ins.items) (sym c.actor_of-sink.ensures.number) (actor_there (λ v. v.items) e.ins.items t to.link c.requires.ring.into) in
+    let a = ends_there (λ v. v.items) e.outs.items source s c.args.from.link v c.actor_of-source.ensures.number c.index_mut.ensures.value c.requires.ring.out in
+    let b = ends_there (λ v. v.items) e.ins.items sink t to.link w c.actor_of-sink.ensures.number c.index_mut-2.ensures.value c.requires.ring.into in
+    let here = c.actor_of-sink.ensures.number in
     record {
       taken = record {
         outs = one_changed (λ v. v.items) (λ k. OutLooked) (λ k. looked_same) e.outs.items source c.take_between.new.outs v l c.index_mut.ensures.value c.take_between.ensures.outs;

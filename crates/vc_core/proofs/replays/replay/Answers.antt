@@ -6,7 +6,7 @@ use Rattle.std.proofs.lemmas.Option.{slice_get-get_or}
 use Rattle.vc_core.specs.Replaying.{Reached, Replays, IsWhyRefused}
 use Rattle.vc_core.specs.State.{state_of}
 use Rattle.vc_core.proofs.Replayed.{reached_first, reached_more, replays, all_taken}
-use Rattle.vc_core.proofs.network.replay.Goals as goal
+use Rattle.vc_core.proofs.replays.replay.Goals as goal
 
 pub loop-index-init : goal.loop-index-init
 loop-index-init c = reached_first c.args.accepted.now c.args.events.now (state_of c.in-Ok.network) c.in-Ok.ensures.opening
