@@ -26,7 +26,8 @@ use Rattle.vc_accepted.proofs.Limited.{kept}
 use Rattle.vc_accepted.proofs.Listed.{there as found_there}
 use Rattle.vc_accepted.proofs.Ported.{side_of}
 use Rattle.vc_accepted.proofs.Wired.{incoming_is, link_is_at, wired}
-use Rattle.vc_core.specs.Wired.{there, out_at, in_at, AreWaysAt, IsWired, AreRooms, AreEnds}
+use Rattle.vc_core.specs.Private.Wired.{AreRooms, AreEnds}
+use Rattle.vc_core.specs.Wired.{there, out_at, in_at, AreWaysAt, IsWired}
 use Rattle.vc_core.specs.Private.Wired.{end_at, ends_of}
 use Rattle.vc_core.specs.declared.ends.End.{End}
 use Rattle.vc_core.proofs.Bits.{elsewhere, there_now}

@@ -20,6 +20,7 @@ pub mod Leading
 pub mod Awake
 pub mod Bits
 pub mod Lined
+pub mod ByEnd
 pub mod Laying
 pub mod Staying
 pub mod Still

@@ -18,7 +18,6 @@ use Rattle.vc_vcp.proofs.Placed.{place-set_same, place-set_other}
 use Rattle.vc_core.specs.Fronts.{bit_of}
 use Rattle.vc_core.specs.Private.Fronts.{Marked}
 use Rattle.vc_core.specs.Lined.{AreLined}
-use Rattle.vc_core.specs.Private.Lined.{LeadsTo, Wakes}
 use Rattle.vc_core.specs.Wired.{out_at, in_at, AreWaysAt, IsWired, Comes, Goes}
 use Rattle.vc_core.specs.State.{State, HasFront}
 use Rattle.vc_core.specs.Turns.{FindsFront}
@@ -127,15 +126,6 @@ module _ (wiring : List (Option ℕ)) (ways : List (List Token)) (fronts : List 
     pub comes_yet : (t : Token) (rest : List Token) → ts ≡ t ∷ rest → Comes wiring ways k l → AreLined wiring new fronts
     comes_yet t rest is before = by_marks fronts 1 (record { count = refl; it = (are.told k l (in_few wiring k l w into)).1 before; others = λ j i few other. refl }) ((λ e. here_now t rest is), (λ f. refl))
 
--- a token came to the end of a way
-pub woken : (wiring : List (Option ℕ)) (ways : List (List Token)) (old new : List ℕ) (w k : ℕ) (ts : List Token) (t : Token) (rest : List Token) → AreLined wiring ways old → w < length ways → ts ≡ t ∷ rest →
-    Wakes wiring old w k new → AreLined wiring (slice_set ways w ts) new
-woken wiring ways old new w k ts t rest are less is (l, into, m) = comes_now wiring ways old are w ts k l into less new t rest is m
-
--- the actor that is woken is the one to which the way leads
-pub leads_to : (wiring : List (Option ℕ)) (ways : List (List Token)) (old marks : List ℕ) (w k : ℕ) → AreLined wiring ways old → Wakes wiring old w k marks → LeadsTo wiring w k
-leads_to wiring ways old marks w k are (l, into, m) j = ((λ same. (l, subst (λ z. in_at wiring z l ≡ Some w) same into)), (λ e. (are.one j e.0 k l w e.1 into).0))
-
 -- the bits of room are those of the ways that go out
 pub goes_of : (wiring : List (Option ℕ)) (ways : List (List Token)) (fronts : List ℕ) (k l b : ℕ) → AreLined wiring ways fronts → (b ≡ 1) ↔ IsWired wiring k l → (b ≡ 1) ↔ Goes wiring ways k l
 goes_of wiring ways fronts k l b are told = (
@@ -157,14 +147,6 @@ pub least_front : (s : State) (k mask : ℕ) (o : Option ℕ) → ((l : ℕ) →
     MatchOption o ((l : ℕ) → bit_at mask l ≡ 0) (λ link. (link < 32) × IsLowest mask link) → FindsFront s k o
 least_front s k mask None bits none = λ l f. not_both (none l) ((bits l (in_few s.wiring k l f.way f.into)).1 f)
 least_front s k mask (Some link) bits (few, (set, least)) = ((bits link few).0 set, (λ l less f. not_both (least l less) ((bits l (omega arith)).1 f)))
-
--- no token comes by a link whose way is empty
-pub none_comes : (wiring : List (Option ℕ)) (ways : List (List Token)) (k l w : ℕ) (ts : List Token) → in_at wiring k l ≡ Some w → slice_get ways w ≡ Some ts → ts ≡ [] → Comes wiring ways k l → ⊥
-none_comes wiring ways k l w ts into stand none f =
-    let same : Some f.way ≡ Some w = sym f.into ∙ into in
-    let at : f.way ≡ w = cc in
-    let both : Some (f.token ∷ f.rest) ≡ Some [] = sym f.stands ∙ ap (slice_get ways) at ∙ stand ∙ ap Some none in
-    absurd (cc)
 
 pub not_empty : (ts : List Token) → (ts ≡ [] → ⊥) → (t : Token) × (rest : List Token) × (ts ≡ t ∷ rest)
 not_empty [] ne = absurd (ne refl)

@@ -1,4 +1,5 @@
 -- What only private functions, invariants and proofs cite.
+pub mod ByEnd
 pub mod Channels
 pub mod Filled
 pub mod Fronts

@@ -1,12 +1,10 @@
 -- Which ways go out and come in by the links of actors, as the code keeps them: 32 places an actor.
-use Rattle.std.specs.Prelude.{◌≡◌, ◌↔◌, ℕ, ◌+◌, ◌*◌, ◌<◌, nat_lt, List, ◌∷◌, get_or, Option, Some, None, slice_get, if◌then◌else◌}
-use Rattle.std.specs.Int.{bit_at}
+use Rattle.std.specs.Prelude.{◌≡◌, ℕ, ◌+◌, ◌*◌, nat_lt, List, ◌∷◌, Option, Some, None, slice_get, if◌then◌else◌}
 use Rattle.std.specs.Option.{option_map}
 use Rattle.vc_network.specs.Plan.{back}
 use Rattle.vc_plan.specs.declared.plan.Plan.{Plan}
 use Rattle.vc_accepted.specs.Outgoing.{outgoing}
 use Rattle.vc_tokens.specs.Tokens.{Token}
-use Rattle.vc_core.specs.declared.ends.End.{End}
 
 abbrev pub there : Option (Option ℕ) → Option ℕ
 there None = None
@@ -25,14 +23,6 @@ AreWaysAt p out = (actor link : ℕ) → out_at out actor link ≡ outgoing p ac
 -- a way goes out by the link
 abbrev pub IsWired : List (Option ℕ) → ℕ → ℕ → Type 0
 IsWired out actor link = (way : ℕ) × (out_at out actor link ≡ Some way)
-
--- an actor's room has a bit for each of its links by which a way goes out
-abbrev pub AreRooms : List (Option ℕ) → List ℕ → Type 0
-AreRooms out rooms = (actor link : ℕ) → link < 32 → (bit_at (get_or rooms actor 0) link ≡ 1) ↔ IsWired out actor link
-
--- a way comes in by the link to which it leads, and by no other
-abbrev pub AreEnds : List (Option ℕ) → List End → Type 0
-AreEnds out ends = (actor link way : ℕ) → (in_at out actor link ≡ Some way) ↔ (slice_get ends way ≡ Some (record { actor = actor; link = link }))
 
 -- a token comes by the link, where these tokens stand on the ways
 pub record Comes (wiring : List (Option ℕ)) (ways : List (List Token)) (actor link : ℕ) : Type 0 where

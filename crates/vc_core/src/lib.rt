@@ -28,6 +28,7 @@ mod search;
 mod target;
 mod traffic;
 mod way;
+mod ways_by_end;
 mod wiring;
 
 pub use close::Close;

@@ -2,17 +2,20 @@
 ghost use Rattle.std.specs.Prelude.{◌≡◌, ◌↔◌, ◌+◌, ◌*◌, ◌<◌, ◌++◌, [], ◌∷◌, ℕ, List, IfOk, IfSome, OnOk, OnErr, Some, length, map, slice_get};
 ghost use Rattle.std.specs.Int.{bit_at};
 ghost use Rattle.std.specs.List.{AllByRecursion};
+ghost use Rattle.std.specs.Option.{option_copied};
 ghost use Rattle.vc_plan.specs.Accepted.{IsAccepted};
 ghost use Rattle.vc_actor.specs.Acting.{MayAct};
-ghost use Rattle.vc_core.specs.Private.Lined.{LeadsTo, TakesOff, PutsOnWay, Wakes, with_way};
+ghost use Rattle.vc_core.specs.Private.Lined.{LeadsTo, TakesOff, PutsOnWay, with_way};
 ghost use Rattle.vc_core.specs.Wired.{out_at, in_at, AreWaysAt, Comes, Goes};
 ghost use Rattle.vc_actor.specs.declared.act.Act.TheVariants as act;
 ghost use Rattle.vc_tokens.specs.Tokens.{Token as SpeltToken};
 ghost use Rattle.vc_tokens.specs.Spelt.{token as spelt, tokens as all_spelt};
 
+use crate::ends::{End, ends_of};
 use crate::fronts::Fronts;
 use crate::way::Way;
-use crate::wiring::Wiring;
+use crate::ways_by_end::WaysByEnd;
+use crate::wiring::{LINKS, Wiring};
 use std::alloc::Global;
 use std::marker::Model;
 use vc_actor::Actor;
@@ -24,18 +27,19 @@ use vc_tokens::Token;
 #[derive(Drop)]
 pub(crate) struct Lines {
     wiring: Wiring,
-    ways: Vec<Way>,
+    ways: WaysByEnd,
     fronts: Fronts,
 }
 
 impl Model for Lines {
     ghost use Rattle.vc_core.specs.Lined.{Lined, AreLined};
+    ghost use Rattle.vc_core.specs.Private.Wired.{AreEnds};
 
     ghost Value = { Lined };
 
-    ghost view = { λ x. record { ways = x.ways.items; wiring = x.wiring } };
+    ghost view = { λ x. record { ways = x.ways.ways; wiring = x.wiring } };
 
-    ghost invariant = { λ x. AreLined x.wiring x.ways.items x.fronts };
+    ghost invariant = { λ x. AreLined x.wiring x.ways.ways x.fronts × AreEnds x.wiring x.ways.ends };
 }
 
 impl Lines {
@@ -46,9 +50,10 @@ impl Lines {
         ensures count { IfOk result (λ lines. length lines.ways ≡ 2 * length plan.now.wires) }
         ensures empty { IfOk result (λ lines. AllByRecursion (λ way. way ≡ []) lines.ways) }
     {
-        let wires = plan.wires.len();
         let wiring = Wiring::new(alloc, plan)?;
-        let ways = ways_of(alloc, wires)?;
+        let ends = ends_of(alloc, plan)?;
+        let actors = plan.nodes.len() + plan.switches.len();
+        let ways = WaysByEnd::new(alloc, ends, actors * LINKS)?;
         let fronts = Fronts::new();
         Ok(Lines {
             wiring,
@@ -89,11 +94,18 @@ impl Lines {
         Ok(())
     }
 
-    /// The ways, in their order.
-    pub(crate) fn ways(&self) -> &[Way]
-        ensures { result.now ≡ self.now.ways }
+    /// How many ways there are.
+    pub(crate) fn len(&self) -> usize
+        ensures { result ≡ length self.now.ways }
     {
-        self.ways.as_slice()
+        self.ways.len()
+    }
+
+    /// The tokens on a way, if there is one of this number.
+    pub(crate) fn way(&self, way: usize) -> Option<&Way>
+        ensures { option_copied result ≡ slice_get self.now.ways way }
+    {
+        self.ways.get(way)
     }
 
     /// The way that goes out by a link of an actor, if the link is on a wire.
@@ -102,15 +114,6 @@ impl Lines {
         ensures real { IfSome result (λ way. way < length self.now.ways) }
     {
         self.wiring.outgoing(actor, link)
-    }
-
-    /// The way that goes out by an actor's link, which is on a wire.
-    pub(crate) fn way_out(&self, actor: u8, link: u8) -> usize
-        requires { Goes self.now.wiring self.now.ways actor link }
-        ensures way { out_at self.now.wiring actor link ≡ Some result }
-        ensures real { result < length self.now.ways }
-    {
-        self.wiring.way_out(actor, link)
     }
 
     /// A bit for each link of an actor by which a way goes out.
@@ -137,10 +140,12 @@ impl Lines {
         requires { Comes self.old.wiring self.old.ways actor link }
         ensures { TakesOff self.old actor link result self.new }
     {
-        let way = self.wiring.way_in(actor, link);
-        let line = &mut self.ways[way];
-        let token = line.take_front();
-        if line.is_empty() {
+        let end = End {
+            actor: u16::from(actor),
+            link,
+        };
+        let (token, is_last) = self.ways.take_front(end);
+        if is_last {
             self.fronts.clear(actor, link);
         }
         token
@@ -157,46 +162,50 @@ impl Lines {
         ensures few { IfOk result (λ to. to < 64) }
         ensures err { OnErr result (self.new ≡ self.old) }
     {
-        self.ways[way].push(token)?;
-        Ok(wake(&self.wiring, &mut self.fronts, way))
+        let end = self.ways.end(way);
+        self.ways.push(end, token)?;
+        self.fronts.set(end.actor, end.link);
+        Ok(end.actor)
     }
 
-    /// The next token that an actor puts on a link comes to the end of a way. The answer is the actor to which the way leads.
+    /// A token more comes to the end of the way that goes out by an actor's link. The answer is the actor to which the way leads.
     #[inline(always)]
-    pub(crate) fn put(&mut self, way: usize, from: &mut Actor, link: u8) -> Result<u16, Memory>
-        requires way { way < length self.old.ways }
+    pub(crate) fn push_out(&mut self, actor: u8, link: u8, token: Token) -> Result<u16, Memory>
+        requires { Goes self.old.wiring self.old.ways actor link }
+        ensures ok { (way : ℕ) (ts : List SpeltToken) →
+            out_at self.old.wiring actor link ≡ Some way →
+            slice_get self.old.ways way ≡ Some ts →
+            OnOk result (self.new ≡ with_way self.old way (ts ++ spelt token ∷ [])) }
+        ensures to { (way : ℕ) →
+            out_at self.old.wiring actor link ≡ Some way →
+            IfOk result (LeadsTo self.old.wiring way) }
+        ensures few { IfOk result (λ to. to < 64) }
+        ensures err { OnErr result (self.new ≡ self.old) }
+    {
+        let end = self.wiring.far(actor, link);
+        self.ways.push(end, token)?;
+        self.fronts.set(end.actor, end.link);
+        Ok(end.actor)
+    }
+
+    /// The next token that an actor puts on a link comes to the end of the way that goes out by it. The answer is the actor to which the
+    /// way leads.
+    #[inline(always)]
+    pub(crate) fn put(&mut self, actor: u8, link: u8, from: &mut Actor) -> Result<u16, Memory>
+        requires way { Goes self.old.wiring self.old.ways actor link }
         requires may { MayAct from.old (act.Put link) }
-        ensures ok { OnOk result (PutsOnWay self.old way from.old link from.new self.new) }
-        ensures to { IfOk result (LeadsTo self.old.wiring way) }
+        ensures ok { (way : ℕ) →
+            out_at self.old.wiring actor link ≡ Some way →
+            OnOk result (PutsOnWay self.old way from.old link from.new self.new) }
+        ensures to { (way : ℕ) →
+            out_at self.old.wiring actor link ≡ Some way →
+            IfOk result (LeadsTo self.old.wiring way) }
         ensures few { IfOk result (λ to. to < 64) }
         ensures err { OnErr result ((from.new ≡ from.old) × (self.new ≡ self.old)) }
     {
-        self.ways[way].put(from, link)?;
-        Ok(wake(&self.wiring, &mut self.fronts, way))
+        let end = self.wiring.far(actor, link);
+        self.ways.put(end, from, link)?;
+        self.fronts.set(end.actor, end.link);
+        Ok(end.actor)
     }
-}
-
-// From now on a token comes by the link to which a way leads. The answer is its actor.
-#[inline(always)]
-fn wake(wiring: &Wiring, fronts: &mut Fronts, way: usize) -> u16
-    requires leads { (k : ℕ) × (l : ℕ) × (in_at wiring.now k l ≡ Some way) }
-    requires actor { (k l : ℕ) → in_at wiring.now k l ≡ Some way → k < length fronts.old }
-    ensures { Wakes wiring.now fronts.old way result fronts.new }
-{
-    let end = wiring.end(way);
-    fronts.set(end.actor, end.link);
-    end.actor
-}
-
-// Two ways for each wire, with no token on them.
-fn ways_of(alloc: Global, wires: usize) -> Result<Vec<Way>, Memory>
-    ensures count { IfOk result (λ ways. length ways.items ≡ 2 * wires) }
-    ensures empty { IfOk result (λ ways. AllByRecursion (λ way. way ≡ []) ways.items) }
-{
-    let mut ways = Vec::new(alloc);
-    for _ in 0..wires {
-        ways.push(Way::new(alloc))?;
-        ways.push(Way::new(alloc))?;
-    }
-    Ok(ways)
 }

@@ -262,10 +262,8 @@ impl Network {
         ensures refused { OnErr result (state_of self.new ≡ state_of self.old) }
         ensures none_wakes { OnErr result (awake_of self.new ≡ awake_of self.old) }
     {
-        let way = self.lines.way_out(event.actor, link);
-        let to = self
-            .lines
-            .put(way, &mut self.actors[usize::from(event.actor)], link)?;
+        let from = &mut self.actors[usize::from(event.actor)];
+        let to = self.lines.put(event.actor, link, from)?;
         wake(&mut self.awake, to);
         Ok(())
     }
@@ -284,8 +282,7 @@ impl Network {
         ensures refused { OnErr result (state_of self.new ≡ state_of self.old) }
         ensures none_wakes { OnErr result (awake_of self.new ≡ awake_of self.old) }
     {
-        let way = self.lines.way_out(event.actor, link);
-        let to = self.lines.push(way, Token::Fct)?;
+        let to = self.lines.push_out(event.actor, link, Token::Fct)?;
         wake(&mut self.awake, to);
         self.grant_by(event.actor, link);
         Ok(())

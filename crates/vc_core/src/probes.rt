@@ -2,7 +2,7 @@
 ghost use Rattle.std.specs.Prelude.{◌≡◌, ◌+◌, ◌*◌, ◌<◌, ◌++◌, [], ℕ, List, length, slice_get, Some, None, IfOk};
 ghost use Rattle.vc_core.specs.Replaying.{Replays};
 ghost use Rattle.vc_plan.specs.declared.plan.Plan.{Plan};
-ghost use Rattle.std.specs.Option.{option_map};
+ghost use Rattle.std.specs.Option.{option_copied, option_map};
 ghost use Rattle.vc_accepted.specs.NetworkOf.{network_of};
 ghost use Rattle.vc_accepted.specs.Outgoing.{link_port};
 ghost use Rattle.vc_packets.specs.Functions.{shown_or};
@@ -42,7 +42,7 @@ impl Network {
         ensures { result ≡ length ((shown (state_of self.now)).way (way_of wire from_one)) }
     {
         let way = 2 * usize::from(wire) + usize::from(!from_one);
-        match self.lines.ways().get(way) {
+        match self.lines.way(way) {
             Some(line) => line.len(),
             None => 0,
         }
@@ -71,7 +71,7 @@ impl Network {
             result ≡ None }
     {
         match self.lines.outgoing(actor, link) {
-            Some(way) => last_at(self.lines.ways(), way),
+            Some(way) => last_on(self.lines.way(way)),
             None => None,
         }
     }
@@ -138,12 +138,11 @@ fn credit_of(actor: &Actor, link: u8) -> u8
     }
 }
 
-// The token at the end of a way.
-fn last_at(ways: &[Way], way: usize) -> Option<Token>
-    ensures { option_map spelt result ≡
-        last_of (shown_or [] (λ ts. ts) (slice_get ways.now way)) }
+// The token at the end of a way, if there is one.
+fn last_on(line: Option<&Way>) -> Option<Token>
+    ensures { option_map spelt result ≡ last_of (shown_or [] (λ ts. ts) (option_copied line.entry)) }
 {
-    match ways.get(way) {
+    match line {
         Some(line) => line.last(),
         None => None,
     }

@@ -75,7 +75,7 @@ impl Network {
         if self.holds(node, chan) {
             return Some(Place::Held(node));
         }
-        for way in 0..self.lines.ways().len() {
+        for way in 0..self.lines.len() {
             if let Some(place) = self.place_on(way, ends) {
                 return Some(place);
             }
@@ -160,7 +160,7 @@ impl Network {
         let reader = Reader::new(way, *ends, self.passed_at(far))
             .through(self, first)
             .through(self, second);
-        match at(self.lines.ways(), way) {
+        match self.lines.way(way) {
             Some(line) => {
                 let (first, second) = line.tokens();
                 reader

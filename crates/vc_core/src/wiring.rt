@@ -5,7 +5,7 @@ ghost use Rattle.vc_core.specs.Wired.{out_at, in_at, AreWaysAt, IsWired};
 ghost use Rattle.vc_network.specs.Plan.{back as other_way};
 ghost use Rattle.vc_plan.specs.Accepted.{IsAccepted};
 
-use crate::ends::{End, ends_of};
+use crate::ends::{End, ends_of, far_of, place_at};
 use crate::outgoing_ways::ways_out;
 use crate::rooms::rooms_of;
 use std::alloc::Global;
@@ -23,20 +23,20 @@ pub(crate) struct Wiring {
     out: Vec<Option<u16>>,
     // for each actor a bit for each link by which a way goes out
     rooms: [u32; 256],
-    // the port to which each way leads
-    ends: Vec<End>,
+    // the port to which the way leads that goes out by each link, 32 places an actor
+    far: Vec<End>,
 }
 
 impl Model for Wiring {
     ghost use Rattle.std.specs.Prelude.{ℕ, List, Option};
-    ghost use Rattle.vc_core.specs.Wired.{AreRooms, AreEnds};
+    ghost use Rattle.vc_core.specs.Private.Wired.{AreFar, AreRooms};
 
     ghost Value = { List (Option ℕ) };
 
     ghost view = { λ x. x.out.items };
 
     ghost invariant = { λ x.
-        AreRooms x.out.items x.rooms × AreEnds x.out.items x.ends.items };
+        AreRooms x.out.items x.rooms × AreFar x.out.items x.far.items };
 }
 
 impl Wiring {
@@ -61,7 +61,8 @@ impl Wiring {
         let out = ways_out(alloc, plan)?;
         let rooms = rooms_of(out.as_slice());
         let ends = ends_of(alloc, plan)?;
-        Ok(Wiring { out, rooms, ends })
+        let far = far_of(alloc, out.as_slice(), ends.as_slice())?;
+        Ok(Wiring { out, rooms, far })
     }
 
     /// A bit for each link of an actor by which a way goes out.
@@ -71,12 +72,14 @@ impl Wiring {
         self.rooms[usize::from(actor)]
     }
 
-    /// The port to which a way leads.
-    pub(crate) fn end(&self, way: usize) -> End
-        requires { (actor : ℕ) × (link : ℕ) × (in_at self.now actor link ≡ Some way) }
-        ensures { in_at self.now result.actor result.link ≡ Some way }
+    /// The port to which the way leads that goes out by an actor's link, which is on a wire.
+    pub(crate) fn far(&self, actor: u8, link: u8) -> End
+        requires { IsWired self.now actor link }
+        ensures { (way : ℕ) →
+            out_at self.now actor link ≡ Some way →
+            in_at self.now result.actor result.link ≡ Some way }
     {
-        self.ends[way]
+        self.far[place_at(u16::from(actor), link)]
     }
 
     /// The way that goes out by a link of an actor, if the link is on a wire.
@@ -93,32 +96,4 @@ impl Wiring {
             Some(None) | None => None,
         }
     }
-
-    /// The way that goes out by an actor's link, which is on a wire.
-    pub(crate) fn way_out(&self, actor: u8, link: u8) -> usize
-        requires { IsWired self.now actor link }
-        ensures way { out_at self.now actor link ≡ Some result }
-        ensures small { result < 65536 }
-    {
-        match self.out[usize::from(actor) * LINKS + usize::from(link)] {
-            Some(way) => usize::from(way),
-            None => unreachable!(),
-        }
-    }
-
-    /// The way that comes in by an actor's link, which is on a wire.
-    pub(crate) fn way_in(&self, actor: u8, link: u8) -> usize
-        requires { (way : ℕ) × (in_at self.now actor link ≡ Some way) }
-        ensures { in_at self.now actor link ≡ Some result }
-    {
-        back(self.way_out(actor, link))
-    }
-}
-
-// The other way of a way's wire.
-fn back(way: usize) -> usize
-    requires { way < 65536 }
-    ensures { result ≡ other_way way }
-{
-    way ^ 1
 }

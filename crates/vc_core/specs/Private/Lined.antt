@@ -3,15 +3,10 @@ use Rattle.std.specs.Prelude.{◌≡◌, ◌↔◌, ℕ, List, slice_get, slice_
 use Rattle.vc_tokens.specs.Spelt.{token}
 use Rattle.vc_tokens.specs.Tokens.{Token}
 use Rattle.vc_tokens.specs.declared.token.Token.{Token as Made}
-use Rattle.vc_core.specs.Private.Fronts.{Marked}
 use Rattle.vc_actor.specs.Shown.{Acting}
 use Rattle.vc_core.specs.Private.Ways.{PutsAt}
 use Rattle.vc_core.specs.Wired.{in_at, Comes}
 use Rattle.vc_core.specs.Lined.{Lined}
-
--- the way leads to a link of the actor, whose bit is set
-abbrev pub Wakes : List (Option ℕ) → List ℕ → ℕ → ℕ → List ℕ → Type 0
-Wakes wiring old way to new = (l : ℕ) × (in_at wiring to l ≡ Some way) × Marked old to l 1 new
 
 -- it is the actor to which the way leads
 abbrev pub LeadsTo : List (Option ℕ) → ℕ → ℕ → Type 0

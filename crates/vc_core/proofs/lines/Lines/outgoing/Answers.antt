@@ -10,4 +10,4 @@ returns-clause-way c = c.outgoing.ensures.way ∙ ap (λ (z : Lined). out_at z.w
 pub returns-clause-real : goal.returns-clause-real
 returns-clause-real c =
     some_all (λ w. w < length c.args.self.now.ways) c.outgoing.result
-    (λ w e. subst (λ (z : Lined). w < length z.ways) c.self.view_is (c.self.invariant.real c.args.actor c.args.link w (sym c.outgoing.ensures.way ∙ e)))
+    (λ w e. subst (λ (z : Lined). w < length z.ways) c.self.view_is (c.self.invariant.0.real c.args.actor c.args.link w (sym c.outgoing.ensures.way ∙ e)))

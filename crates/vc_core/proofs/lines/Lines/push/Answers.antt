@@ -1,53 +1,46 @@
-use Rattle.std.proofs.Common.{◌≡◌, ◌<◌, [], ◌∷◌, ◌++◌, length, slice_get, slice_set, Some, refl, sym, ap, ◌∙◌, subst}
-use Rattle.std.proofs.lemmas.Option.{slice_get_read}
+use Rattle.std.proofs.Common.{◌≡◌, ◌<◌, [], ◌∷◌, ◌++◌, length, slice_get, slice_set, Some, sym, ap, ◌∙◌, subst}
 use Rattle.vc_tokens.specs.Spelt.{token as spelt}
-use Rattle.vc_core.specs.Lined.{Lined, AreLined}
+use Rattle.vc_core.specs.Lined.{Lined}
+use Rattle.vc_core.specs.Private.ByEnd.{ByEnd}
 use Rattle.vc_core.specs.Private.Lined.{LeadsTo, with_way}
-use Rattle.vc_core.proofs.Happening.{written_back}
-use Rattle.vc_core.proofs.Lined.{woken, leads_to, end_first, err_all}
+use Rattle.vc_core.proofs.Enabled.{has}
+use Rattle.vc_core.proofs.ByEnd.{actor_kept, actor_low, leads_there, link_low, same_way, token_came}
+use Rattle.vc_core.proofs.Lined.{end_first}
 use Rattle.vc_core.proofs.lines.Lines.push.Goals as goal
 
-pub wake-requires-clause-leads : goal.wake-requires-clause-leads
-wake-requires-clause-leads c = c.self.invariant.into c.args.way (subst (λ (z : Lined). c.args.way < length z.ways) (sym c.self.view_is) c.requires)
+pub push-requires : goal.push-requires
+push-requires c =
+    let here = has c.self.inside.ways.ways c.args.way (subst (λ (z : Lined). c.args.way < length z.ways) (sym c.self.view_is) c.requires) in
+    record { way = c.args.way; tokens = here.0; leads = c.end-end.ensures; stand = here.1 }
 
-pub wake-requires-clause-actor : goal.wake-requires-clause-actor
-wake-requires-clause-actor c = λ k l into. c.self.invariant.long k l c.args.way into
+pub set-requires-clause-actor : goal.set-requires-clause-actor
+set-requires-clause-actor c = let x = c.self.inside in actor_kept x.wiring x.ways x.fronts c.self.invariant.0 c.self.invariant.1 c.end-end.result c.args.way c.end-end.ensures
+
+pub set-requires-clause-link : goal.set-requires-clause-link
+set-requires-clause-link c = let x = c.self.inside in link_low x.wiring x.ways x.fronts c.self.invariant.0 c.self.invariant.1 c.end-end.result c.args.way c.end-end.ensures
 
 pub invariant_of-self-2 : goal.invariant_of-self-2
 invariant_of-self-2 c =
     let x = c.self.inside in
-    let less = subst (λ (z : Lined). c.args.way < length z.ways) (sym c.self.view_is) c.requires in
-    let first = end_first c.index_mut.result.now (spelt c.args.token) in
-    woken x.wiring x.ways.items x.fronts c.wake.new.fronts c.args.way c.wake.result c.push.new.self first.0 first.1 c.self.invariant less (c.in_ok-push.ensures.ok ∙ first.2) c.wake.ensures
-
-pub invariant_of-self : goal.invariant_of-self
-invariant_of-self c =
-    let x = c.self.inside in
-    let less = subst (λ (z : Lined). c.args.way < length z.ways) (sym c.self.view_is) c.requires in
-    let read = slice_get_read x.ways.items (length x.ways.items) c.args.way c.index_mut.result.now refl less c.index_mut.ensures.value in
-    subst (λ ws. AreLined x.wiring ws x.fronts) (sym (written_back x.ways.items c.args.way c.index_mut.result.now c.push.new.self read c.in_err-push.ensures.err)) c.self.invariant
+    let f = c.in_ok-push.ensures.ok in
+    let first = end_first f.0.tokens (spelt c.args.token) in
+    token_came x.wiring x.ways x.fronts c.self.invariant.0 c.self.invariant.1 c.end-end.result f.0.way f.0.leads c.push.new.self c.set.new.self (f.0.tokens ++ spelt c.args.token ∷ []) first.0 first.1 f.1 first.2 c.set.ensures
 
 pub returns-clause-ok : goal.returns-clause-ok
 returns-clause-ok c = λ ts stand.
     let x = c.self.inside in
-    let less = subst (λ (z : Lined). c.args.way < length z.ways) (sym c.self.view_is) c.requires in
-    let read = slice_get_read x.ways.items (length x.ways.items) c.args.way c.index_mut.result.now refl less c.index_mut.ensures.value in
-    let both : Some c.index_mut.result.now ≡ Some ts = sym read ∙ ap (λ (z : Lined). slice_get z.ways c.args.way) c.self.view_is ∙ stand in
-    let same : c.index_mut.result.now ≡ ts = cc in
-    (λ i. record { ways = slice_set x.ways.items c.args.way ((c.in_ok-push.ensures.ok ∙ ap (λ z. z ++ spelt c.args.token ∷ []) same) i); wiring = x.wiring })
+    let f = c.in_ok-push.ensures.ok in
+    let way_is = same_way x.wiring x.ways.ends c.end-end.result f.0.way c.args.way c.self.invariant.1 f.0.leads c.end-end.ensures in
+    let both : Some f.0.tokens ≡ Some ts = sym f.0.stand ∙ ap (slice_get x.ways.ways) way_is ∙ ap (λ (z : Lined). slice_get z.ways c.args.way) c.self.view_is ∙ stand in
+    let same : f.0.tokens ≡ ts = cc in
+    ap (λ (z : ByEnd). record { ways = z.ways; wiring = x.wiring }) f.1
+    ∙ (λ i. record { ways = slice_set x.ways.ways (way_is i) (same i ++ spelt c.args.token ∷ []); wiring = x.wiring })
     ∙ ap (λ z. with_way z c.args.way (ts ++ spelt c.args.token ∷ [])) c.self.view_is
-
-pub returns-in_err-push-clause-err : goal.returns-in_err-push-clause-err
-returns-in_err-push-clause-err c =
-    let x = c.self.inside in
-    let less = subst (λ (z : Lined). c.args.way < length z.ways) (sym c.self.view_is) c.requires in
-    let read = slice_get_read x.ways.items (length x.ways.items) c.args.way c.index_mut.result.now refl less c.index_mut.ensures.value in
-    err_all c.from_residual.result ((λ i. record { ways = written_back x.ways.items c.args.way c.index_mut.result.now c.push.new.self read c.in_err-push.ensures.err i; wiring = x.wiring }) ∙ c.self.view_is)
 
 pub returns-clause-to : goal.returns-clause-to
 returns-clause-to c =
     let x = c.self.inside in
-    subst (λ (z : Lined). LeadsTo z.wiring c.args.way c.wake.result) c.self.view_is (leads_to x.wiring x.ways.items x.fronts c.wake.new.fronts c.args.way c.wake.result c.self.invariant c.wake.ensures)
+    subst (λ (z : Lined). LeadsTo z.wiring c.args.way c.end-end.result.actor) c.self.view_is (leads_there x.wiring x.ways x.fronts c.self.invariant.0 c.self.invariant.1 c.end-end.result c.args.way c.end-end.ensures)
 
 pub returns-clause-few : goal.returns-clause-few
-returns-clause-few c = let e = c.wake.ensures in c.self.invariant.few c.wake.result e.0 c.args.way e.1
+returns-clause-few c = let x = c.self.inside in actor_low x.wiring x.ways x.fronts c.self.invariant.0 c.self.invariant.1 c.end-end.result c.args.way c.end-end.ensures

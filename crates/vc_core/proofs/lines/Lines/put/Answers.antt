@@ -1,56 +1,57 @@
-use Rattle.std.proofs.Common.{◌<◌, length, slice_get, refl, sym, ap, ◌∙◌, subst}
-use Rattle.std.proofs.lemmas.Option.{slice_get_read}
-use Rattle.vc_core.specs.Lined.{Lined, AreLined}
+use Rattle.std.proofs.Common.{slice_get, slice_set, sym, ap, ◌∙◌, subst}
+use Rattle.vc_core.specs.Lined.{Lined}
+use Rattle.vc_core.specs.Private.ByEnd.{ByEnd}
 use Rattle.vc_core.specs.Private.Lined.{LeadsTo, with_way}
-use Rattle.vc_core.proofs.Happening.{written_back}
-use Rattle.vc_core.proofs.Lined.{woken, leads_to, end_first, err_all}
+use Rattle.vc_core.specs.Wired.{out_at}
+use Rattle.vc_core.proofs.ByEnd.{actor_kept, actor_low, far_way, leads_there, link_low, token_came}
+use Rattle.vc_core.proofs.Lined.{end_first}
 use Rattle.vc_core.proofs.lines.Lines.put.Goals as goal
 
-pub wake-requires-clause-leads : goal.wake-requires-clause-leads
-wake-requires-clause-leads c = c.self.invariant.into c.args.way (subst (λ (z : Lined). c.args.way < length z.ways) (sym c.self.view_is) c.requires.way)
+pub put-requires-clause-leads : goal.put-requires-clause-leads
+put-requires-clause-leads c =
+    let x = c.self.inside in
+    let goes = c.requires.way in
+    let e = c.far-end.result in
+    let out = ap (λ (z : Lined). out_at z.wiring c.args.actor c.args.link) c.self.view_is ∙ goes.out in
+    record {
+      way = goes.way;
+      tokens = goes.tokens;
+      leads = (c.self.invariant.1 e.actor e.link goes.way).0 (c.far-end.ensures goes.way out);
+      stand = ap (λ (z : Lined). slice_get z.ways goes.way) c.self.view_is ∙ goes.stand;
+    }
 
-pub wake-requires-clause-actor : goal.wake-requires-clause-actor
-wake-requires-clause-actor c = λ k l into. c.self.invariant.long k l c.args.way into
+pub set-requires-clause-actor : goal.set-requires-clause-actor
+set-requires-clause-actor c = let x = c.self.inside in let f = c.in_ok-put.ensures.ok.to in actor_kept x.wiring x.ways x.fronts c.self.invariant.0 c.self.invariant.1 c.far-end.result f.way f.leads
+
+pub set-requires-clause-link : goal.set-requires-clause-link
+set-requires-clause-link c = let x = c.self.inside in let f = c.in_ok-put.ensures.ok.to in link_low x.wiring x.ways x.fronts c.self.invariant.0 c.self.invariant.1 c.far-end.result f.way f.leads
 
 pub invariant_of-self-2 : goal.invariant_of-self-2
 invariant_of-self-2 c =
     let x = c.self.inside in
-    let less = subst (λ (z : Lined). c.args.way < length z.ways) (sym c.self.view_is) c.requires.way in
-    let puts = c.in_ok-put.ensures.ok in
-    let first = end_first c.index_mut.result.now puts.token in
-    woken x.wiring x.ways.items x.fronts c.wake.new.fronts c.args.way c.wake.result c.put.new.self first.0 first.1 c.self.invariant less (puts.ends ∙ first.2) c.wake.ensures
-
-pub invariant_of-self : goal.invariant_of-self
-invariant_of-self c =
-    let x = c.self.inside in
-    let less = subst (λ (z : Lined). c.args.way < length z.ways) (sym c.self.view_is) c.requires.way in
-    let read = slice_get_read x.ways.items (length x.ways.items) c.args.way c.index_mut.result.now refl less c.index_mut.ensures.value in
-    subst (λ ws. AreLined x.wiring ws x.fronts) (sym (written_back x.ways.items c.args.way c.index_mut.result.now c.put.new.self read c.in_err-put.ensures.err.1)) c.self.invariant
+    let f = c.in_ok-put.ensures.ok in
+    let first = end_first f.to.tokens f.puts.token in
+    token_came x.wiring x.ways x.fronts c.self.invariant.0 c.self.invariant.1 c.far-end.result f.to.way f.to.leads c.put.new.self c.set.new.self f.more first.0 first.1 f.new_is (f.puts.ends ∙ first.2) c.set.ensures
 
 pub returns-clause-ok : goal.returns-clause-ok
-returns-clause-ok c =
+returns-clause-ok c = λ way out.
     let x = c.self.inside in
-    let less = subst (λ (z : Lined). c.args.way < length z.ways) (sym c.self.view_is) c.requires.way in
-    let read = slice_get_read x.ways.items (length x.ways.items) c.args.way c.index_mut.result.now refl less c.index_mut.ensures.value in
+    let f = c.in_ok-put.ensures.ok in
+    let way_is = far_way x.wiring x.ways c.far-end.result c.self.invariant.1 f.to way (c.far-end.ensures way (ap (λ (z : Lined). out_at z.wiring c.args.actor c.args.link) c.self.view_is ∙ out)) in
     record {
-      tokens = c.index_mut.result.now;
-      more = c.put.new.self;
-      stand = ap (λ (z : Lined). slice_get z.ways c.args.way) (sym c.self.view_is) ∙ read;
-      new_is = ap (λ (z : Lined). with_way z c.args.way c.put.new.self) c.self.view_is;
-      puts = c.in_ok-put.ensures.ok;
+      tokens = f.to.tokens;
+      more = f.more;
+      stand = ap (λ (z : Lined). slice_get z.ways way) (sym c.self.view_is) ∙ ap (slice_get x.ways.ways) (sym way_is) ∙ f.to.stand;
+      new_is = ap (λ (z : ByEnd). record { ways = z.ways; wiring = x.wiring }) f.new_is ∙ (λ i. record { ways = slice_set x.ways.ways (way_is i) f.more; wiring = x.wiring }) ∙ ap (λ z. with_way z way f.more) c.self.view_is;
+      puts = f.puts;
     }
 
-pub returns-in_err-put-clause-err : goal.returns-in_err-put-clause-err
-returns-in_err-put-clause-err c =
-    let x = c.self.inside in
-    let less = subst (λ (z : Lined). c.args.way < length z.ways) (sym c.self.view_is) c.requires.way in
-    let read = slice_get_read x.ways.items (length x.ways.items) c.args.way c.index_mut.result.now refl less c.index_mut.ensures.value in
-    err_all c.from_residual.result (c.in_err-put.ensures.err.0, (λ i. record { ways = written_back x.ways.items c.args.way c.index_mut.result.now c.put.new.self read c.in_err-put.ensures.err.1 i; wiring = x.wiring }) ∙ c.self.view_is)
-
 pub returns-clause-to : goal.returns-clause-to
-returns-clause-to c =
+returns-clause-to c = λ way out.
     let x = c.self.inside in
-    subst (λ (z : Lined). LeadsTo z.wiring c.args.way c.wake.result) c.self.view_is (leads_to x.wiring x.ways.items x.fronts c.wake.new.fronts c.args.way c.wake.result c.self.invariant c.wake.ensures)
+    let into = c.far-end.ensures way (ap (λ (z : Lined). out_at z.wiring c.args.actor c.args.link) c.self.view_is ∙ out) in
+    let e = c.far-end.result in
+    subst (λ (z : Lined). LeadsTo z.wiring way e.actor) c.self.view_is (leads_there x.wiring x.ways x.fronts c.self.invariant.0 c.self.invariant.1 e way ((c.self.invariant.1 e.actor e.link way).0 into))
 
 pub returns-clause-few : goal.returns-clause-few
-returns-clause-few c = let e = c.wake.ensures in c.self.invariant.few c.wake.result e.0 c.args.way e.1
+returns-clause-few c = let x = c.self.inside in let f = c.in_ok-put.ensures.ok.to in actor_low x.wiring x.ways x.fronts c.self.invariant.0 c.self.invariant.1 c.far-end.result f.way f.leads

@@ -9,4 +9,4 @@ pub returns : goal.returns
 returns c = λ link few.
     let x = c.self.inside in
     subst (λ (z : Lined). (bit_at c.room.result link ≡ 1) ↔ Goes z.wiring z.ways c.args.actor link) c.self.view_is
-    (goes_of x.wiring x.ways.items x.fronts c.args.actor link (bit_at c.room.result link) c.self.invariant (c.room.ensures link few))
+    (goes_of x.wiring x.ways.ways x.fronts c.args.actor link (bit_at c.room.result link) c.self.invariant.0 (c.room.ensures link few))

@@ -1,76 +1,78 @@
-use Rattle.std.proofs.Common.{length, slice_get, Some, refl, sym, ap, ◌∙◌, subst}
-use Rattle.std.proofs.lemmas.Option.{slice_get_read}
-use Rattle.vc_tokens.specs.Spelt.{token as spelt}
+use Rattle.std.proofs.Common.{◌≡◌, ◌<◌, length, slice_get, Some, sym, ap, ◌∙◌, subst}
 use Rattle.vc_core.specs.Lined.{Lined}
+use Rattle.vc_core.specs.Private.Fronts.{Marked}
+use Rattle.vc_core.specs.Private.ByEnd.{ByEnd}
 use Rattle.vc_core.specs.Private.Lined.{with_way}
 use Rattle.vc_core.specs.Wired.{in_at, Comes}
-use Rattle.vc_core.proofs.Lined.{comes_no_more, comes_yet, in_few, none_comes, not_empty}
+use Rattle.vc_core.specs.declared.ends.End.{End}
+use Rattle.vc_core.proofs.ByEnd.{actor_kept, comes_in, last_went, link_low, one_went}
+use Rattle.vc_core.proofs.Lined.{not_empty}
 use Rattle.vc_actor.proofs.Turning.{clash}
 use Rattle.vc_core.proofs.lines.Lines.take_front.Goals as goal
 
-pub way_in-way-requires : goal.way_in-way-requires
-way_in-way-requires c =
-    let f = c.requires in
-    (f.way, ap (λ (z : Lined). in_at z.wiring c.args.actor c.args.link) c.self.view_is ∙ f.into)
-
 pub take_front-token-requires : goal.take_front-token-requires
-take_front-token-requires c = λ none.
-    let x = c.self.inside in
-    let w = c.way_in-way.result in
-    let into = c.way_in-way.ensures in
-    let read = slice_get_read x.ways.items (length x.ways.items) w c.index_mut-line.result.now refl (c.self.invariant.near c.args.actor c.args.link w into) c.index_mut-line.ensures.value in
-    none_comes x.wiring x.ways.items c.args.actor c.args.link w c.index_mut-line.result.now into read none (subst (λ (z : Lined). Comes z.wiring z.ways c.args.actor c.args.link) (sym c.self.view_is) c.requires)
+take_front-token-requires c =
+    let f = c.requires in
+    let into = ap (λ (z : Lined). in_at z.wiring c.args.actor c.args.link) c.self.view_is ∙ f.into in
+    let there = subst (λ k. in_at c.self.inside.wiring k c.args.link ≡ Some f.way) (sym c.from.ensures) into in
+    record { way = f.way; token = f.token; rest = f.rest; leads = (c.self.invariant.1 c.from.result c.args.link f.way).0 there; stands = ap (λ (z : Lined). slice_get z.ways f.way) c.self.view_is ∙ f.stands }
 
 pub clear-requires-clause-actor : goal.clear-requires-clause-actor
-clear-requires-clause-actor c = c.self.invariant.long c.args.actor c.args.link c.way_in-way.result c.way_in-way.ensures
+clear-requires-clause-actor c =
+    let x = c.self.inside in
+    let f = c.take_front-token.ensures.0 in
+    subst (λ k. k < length x.fronts) c.from.ensures (actor_kept x.wiring x.ways x.fronts c.self.invariant.0 c.self.invariant.1 (record { actor = c.from.result; link = c.args.link }) f.way f.leads)
 
 pub clear-requires-clause-link : goal.clear-requires-clause-link
-clear-requires-clause-link c = in_few c.self.inside.wiring c.args.actor c.args.link c.way_in-way.result c.way_in-way.ensures
+clear-requires-clause-link c =
+    let x = c.self.inside in
+    let f = c.take_front-token.ensures.0 in
+    link_low x.wiring x.ways x.fronts c.self.invariant.0 c.self.invariant.1 (record { actor = c.from.result; link = c.args.link }) f.way f.leads
 
 pub invariant_of-self : goal.invariant_of-self
 invariant_of-self c =
     let x = c.self.inside in
-    let w = c.way_in-way.result in
-    let into = c.way_in-way.ensures in
-    comes_no_more x.wiring x.ways.items x.fronts c.self.invariant w c.take_front-token.new.self c.args.actor c.args.link into (c.self.invariant.near c.args.actor c.args.link w into) c.clear.new.self (c.is_empty.ensures.0 c.if-is_empty.true) c.clear.ensures
+    let took = c.take_front-token.ensures in
+    let f = took.0 in
+    last_went x.wiring x.ways x.fronts c.self.invariant.0 c.self.invariant.1 (record { actor = c.from.result; link = c.args.link }) f.way f.leads c.take_front-token.new.self c.clear.new.self f.rest took.2 (took.3.0 c.if-is_last.true)
+    (subst (λ k. Marked x.fronts k c.args.link 0 c.clear.new.self) (sym c.from.ensures) c.clear.ensures)
 
-pub invariant_of-self-else-is_empty : goal.invariant_of-self-else-is_empty
-invariant_of-self-else-is_empty c =
+pub invariant_of-self-else-is_last : goal.invariant_of-self-else-is_last
+invariant_of-self-else-is_last c =
     let x = c.self.inside in
-    let w = c.way_in-way.result in
-    let into = c.way_in-way.ensures in
-    let less = c.self.invariant.near c.args.actor c.args.link w into in
-    let read = slice_get_read x.ways.items (length x.ways.items) w c.index_mut-line.result.now refl less c.index_mut-line.ensures.value in
-    let some = not_empty c.take_front-token.new.self (λ e. clash c.is_empty.result c.if-is_empty.false (c.is_empty.ensures.1 e)) in
-    comes_yet x.wiring x.ways.items x.fronts c.self.invariant w c.take_front-token.new.self c.args.actor c.args.link into less some.0 some.1 some.2
-    (record { way = w; token = spelt c.take_front-token.result; rest = c.take_front-token.new.self; into = into; stands = read ∙ ap Some c.take_front-token.ensures })
+    let took = c.take_front-token.ensures in
+    let f = took.0 in
+    let e : End = record { actor = c.from.result; link = c.args.link } in
+    let some = not_empty f.rest (λ none. clash c.take_front-token.result.1 c.if-is_last.false (took.3.1 none)) in
+    one_went x.wiring x.ways x.fronts c.self.invariant.0 c.self.invariant.1 e f.way f.leads c.take_front-token.new.self f.rest some.0 some.1 took.2 some.2
+    (record { way = f.way; token = f.token; rest = f.rest; into = comes_in x.wiring x.ways x.fronts c.self.invariant.0 c.self.invariant.1 e f.way f.leads; stands = f.stands })
 
-pub returns-then-is_empty : goal.returns-then-is_empty
-returns-then-is_empty c =
+pub returns-then-is_last : goal.returns-then-is_last
+returns-then-is_last c =
     let x = c.self.inside in
-    let w = c.way_in-way.result in
-    let into = c.way_in-way.ensures in
-    let read = slice_get_read x.ways.items (length x.ways.items) w c.index_mut-line.result.now refl (c.self.invariant.near c.args.actor c.args.link w into) c.index_mut-line.ensures.value in
+    let took = c.take_front-token.ensures in
+    let f = took.0 in
+    let into = subst (λ k. in_at x.wiring k c.args.link ≡ Some f.way) c.from.ensures (comes_in x.wiring x.ways x.fronts c.self.invariant.0 c.self.invariant.1 (record { actor = c.from.result; link = c.args.link }) f.way f.leads) in
     let front : Comes c.args.self.now.wiring c.args.self.now.ways c.args.actor c.args.link = record {
-      way = w;
-      token = spelt c.take_front-token.result;
-      rest = c.take_front-token.new.self;
+      way = f.way;
+      token = f.token;
+      rest = f.rest;
       into = ap (λ (z : Lined). in_at z.wiring c.args.actor c.args.link) (sym c.self.view_is) ∙ into;
-      stands = ap (λ (z : Lined). slice_get z.ways w) (sym c.self.view_is) ∙ read ∙ ap Some c.take_front-token.ensures;
+      stands = ap (λ (z : Lined). slice_get z.ways f.way) (sym c.self.view_is) ∙ f.stands;
     } in
-    (front, refl, ap (λ (z : Lined). with_way z w c.take_front-token.new.self) c.self.view_is)
+    (front, took.1, ap (λ (z : ByEnd). record { ways = z.ways; wiring = x.wiring }) took.2 ∙ ap (λ (z : Lined). with_way z f.way f.rest) c.self.view_is)
 
-pub returns-else-is_empty : goal.returns-else-is_empty
-returns-else-is_empty c =
+pub returns-else-is_last : goal.returns-else-is_last
+returns-else-is_last c =
     let x = c.self.inside in
-    let w = c.way_in-way.result in
-    let into = c.way_in-way.ensures in
-    let read = slice_get_read x.ways.items (length x.ways.items) w c.index_mut-line.result.now refl (c.self.invariant.near c.args.actor c.args.link w into) c.index_mut-line.ensures.value in
+    let took = c.take_front-token.ensures in
+    let f = took.0 in
+    let into = subst (λ k. in_at x.wiring k c.args.link ≡ Some f.way) c.from.ensures (comes_in x.wiring x.ways x.fronts c.self.invariant.0 c.self.invariant.1 (record { actor = c.from.result; link = c.args.link }) f.way f.leads) in
     let front : Comes c.args.self.now.wiring c.args.self.now.ways c.args.actor c.args.link = record {
-      way = w;
-      token = spelt c.take_front-token.result;
-      rest = c.take_front-token.new.self;
+      way = f.way;
+      token = f.token;
+      rest = f.rest;
       into = ap (λ (z : Lined). in_at z.wiring c.args.actor c.args.link) (sym c.self.view_is) ∙ into;
-      stands = ap (λ (z : Lined). slice_get z.ways w) (sym c.self.view_is) ∙ read ∙ ap Some c.take_front-token.ensures;
+      stands = ap (λ (z : Lined). slice_get z.ways f.way) (sym c.self.view_is) ∙ f.stands;
     } in
-    (front, refl, ap (λ (z : Lined). with_way z w c.take_front-token.new.self) c.self.view_is)
+    (front, took.1, ap (λ (z : ByEnd). record { ways = z.ways; wiring = x.wiring }) took.2 ∙ ap (λ (z : Lined). with_way z f.way f.rest) c.self.view_is)

@@ -1,4 +1,4 @@
-use Rattle.std.proofs.Common.{◌≡◌, ◌↔◌, ◌++◌, ◌<◌, [], slice_get, IsTrue, List, sym, ap, ◌∙◌, subst, arith}
+use Rattle.std.proofs.Common.{◌≡◌, ◌↔◌, ◌++◌, ◌<◌, [], IsTrue, List, sym, ap, ◌∙◌, subst, arith}
 use Rattle.vc_tokens.specs.Spelt.{tokens}
 use Rattle.vc_tokens.specs.Tokens.{Token}
 use Rattle.vc_machine.specs.Places.{OnWire}
@@ -35,7 +35,7 @@ returns-in-Some c = λ p c' is owned ends less there.
     let fourth = c.tokens.result.1.now in
     let ps = read passed a.buffer in
     let got = left passed a.buffer in
-    let line : tokens (third ++ fourth) ≡ s.way w = c.tokens.ensures ∙ ap (shown_or [] (λ (ts : List Token). ts)) (c.in-Some.ensures ∙ ap (λ z. slice_get z w) c.ways.ensures) in
+    let line : tokens (third ++ fourth) ≡ s.way w = c.tokens.ensures ∙ ap (shown_or [] (λ (ts : List Token). ts)) c.in-Some.ensures in
     let three = c.through-in-Some.ensures p c' w ps got is buffer in
     let four = c.through-in-Some-2.ensures p c' w (ps ++ read got (tokens third)) (left got (tokens third)) is three in
     let all = through_both p c' w ps got third fourth (s.way w) c.through-in-Some-2.result line four in
@@ -45,5 +45,5 @@ returns-in-Some c = λ p c' is owned ends less there.
 pub returns-in-None : goal.returns-in-None
 returns-in-None c = λ p c' is owned ends less there.
     let n = state_of c.args.self.now in
-    let past = none_past n.ways c.args.way (sym (c.in-None.ensures ∙ ap (λ z. slice_get z c.args.way) c.ways.ensures)) in
+    let past = none_past n.ways c.args.way (sym c.in-None.ensures) in
     absurd (omega arith)

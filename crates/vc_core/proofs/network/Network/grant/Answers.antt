@@ -18,10 +18,10 @@ returns-clause-makes c = λ p is.
     let s = state_of n in
     let e = c.args.event.now in
     let lets = c.requires.way in
-    let w = c.way_out-way.result in
-    let out = c.way_out-way.ensures.way in
-    let line = c.in_ok-to.ensures.ok lets.tokens (way_found s e.actor c.args.link w lets out) in
-    granted p s (state_of (record n { lines = c.push.new.self })) (state_of c.grant_by.new.self) e c.args.link (way_is s e.actor c.args.link w lets out) c.requires.is
+    let w = lets.way in
+    let out = lets.out in
+    let line = c.in_ok-to.ensures.ok w lets.tokens out (way_found s e.actor c.args.link w lets out) in
+    granted p s (state_of (record n { lines = c.push_out.new.self })) (state_of c.grant_by.new.self) e c.args.link (way_is s e.actor c.args.link w lets out) c.requires.is
     (λ i. record { actors = n.actors.items; nodes = n.nodes; ways = (line i).ways; wiring = (line i).wiring; wires = n.wires; channels = n.channels.items }) c.grant_by.ensures.grants is
 
 pub returns-clause-awake : goal.returns-clause-awake
@@ -30,32 +30,33 @@ returns-clause-awake c =
     let s = state_of n in
     let e = c.args.event.now in
     let lets = c.requires.way in
-    let w = c.way_out-way.result in
-    let line = c.in_ok-to.ensures.ok lets.tokens (way_found s e.actor c.args.link w lets c.way_out-way.ensures.way) in
+    let w = lets.way in
+    let leads = c.in_ok-to.ensures.to w lets.out in
+    let line = c.in_ok-to.ensures.ok w lets.tokens lets.out (way_found s e.actor c.args.link w lets lets.out) in
     let same : c.grant_by.new.self.awake ≡ c.wake.new.awake = c.grant_by.ensures.awake in
     record {
       kept = λ k low is. ap (λ m. bit_at m k) same ∙ c.wake.ensures.kept k low is;
       came = λ k low f.
           ap (λ m. bit_at m k) same
-          ∙ put_came n.lines.wiring n.lines.ways w _ c.in_ok-to.to c.wake.new.awake c.in_ok-to.ensures.to c.wake.ensures.it k f.link f.way f.tokens f.token f.into f.stood
+          ∙ put_came n.lines.wiring n.lines.ways w _ c.in_ok-to.to c.wake.new.awake leads c.wake.ensures.it k f.link f.way f.tokens f.token f.into f.stood
           (subst (λ (z : Lined). slice_get z.ways f.way ≡ Some (f.tokens ++ f.token ∷ [])) line (subst (λ (z : State). slice_get z.ways f.way ≡ Some (f.tokens ++ f.token ∷ [])) c.grant_by.ensures.grants.new_is f.stands));
       woken = λ k l low f none.
           ap (λ m. bit_at m k) same
-          ∙ put_wakes n.lines.wiring n.lines.ways w _ c.in_ok-to.to c.wake.new.awake c.in_ok-to.ensures.to c.wake.ensures.it k l
+          ∙ put_wakes n.lines.wiring n.lines.ways w _ c.in_ok-to.to c.wake.new.awake leads c.wake.ensures.it k l
           (subst (λ (z : Lined). Comes z.wiring z.ways k l) line (subst (λ z. HasFront z k l) c.grant_by.ensures.grants.new_is f)) none;
       only = λ k low is. elim (c.wake.ensures.only k low (sym (ap (λ m. bit_at m k) same) ∙ is)) [
         | inl was ↦ inl was
-        | inr to ↦ (let into = (c.in_ok-to.ensures.to k).0 to in
+        | inr to ↦ (let into = (leads k).0 to in
             inr (record {
               way = w;
               link = into.0;
               tokens = lets.tokens;
               token = tokens.Fct;
               into = into.1;
-              stood = way_found s e.actor c.args.link w lets c.way_out-way.ensures.way;
+              stood = way_found s e.actor c.args.link w lets lets.out;
               stands = subst (λ (z : State). slice_get z.ways w ≡ Some (lets.tokens ++ tokens.Fct ∷ [])) (sym c.grant_by.ensures.grants.new_is)
                   (subst (λ (z : Lined). slice_get z.ways w ≡ Some (lets.tokens ++ tokens.Fct ∷ [])) (sym line)
-                  (put_stands n.lines.wiring n.lines.ways w _ lets.tokens tokens.Fct (way_found s e.actor c.args.link w lets c.way_out-way.ensures.way) refl));
+                  (put_stands n.lines.wiring n.lines.ways w _ lets.tokens tokens.Fct (way_found s e.actor c.args.link w lets lets.out) refl));
             }))
       ];
     }

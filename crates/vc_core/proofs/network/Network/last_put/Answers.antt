@@ -20,7 +20,7 @@ returns-in-Some-clause-token c = λ p way is out.
     let k = c.args.actor in
     let l = c.args.link in
     let same = some_same c.in-Some.way way (c.in-Some.ensures.way ∙ is.wiring k l ∙ (outgoing_is p is.accepted k l way).1 out) in
-    c.last_at.ensures ∙ ap (λ ways. last_in ways c.in-Some.way) c.ways.ensures ∙ ap (last_in c.args.self.now.lines.ways) same
+    c.last_on.ensures ∙ ap (λ o. last_of (shown_or [] (λ ts. ts) o)) c.way.ensures ∙ ap (last_in c.args.self.now.lines.ways) same
 
 pub returns-in-Some-clause-none : goal.returns-in-Some-clause-none
 returns-in-Some-clause-none c = λ p is none.

@@ -1,4 +1,4 @@
-use Rattle.std.proofs.Common.{◌≡◌, ◌<◌, None, length, ap, subst, inl, inr, arith}
+use Rattle.std.proofs.Common.{◌≡◌, ◌<◌, None, length, subst, inl, inr, arith}
 use Rattle.std.proofs.lemmas.Bool.{cases_lt}
 use Rattle.vc_accepted.specs.NetworkOf.{network_of}
 use Rattle.vc_network.specs.Plan.{ways}
@@ -17,7 +17,7 @@ pub returns-in-Some : goal.returns-in-Some
 returns-in-Some c = λ p is owned ends.
     let s = state_of c.args.self.now in
     let test = c.loop-way-test.true in
-    let long = ap length c.ways-way-end.ensures in
+    let long = c.len-way-end.ensures in
     let less : c.loop-way.way < length s.ways = omega arith in
     let real : c.loop-way.way < ways (network_of p) = subst (λ n. c.loop-way.way < n) is.ways less in
     found_way p s c.args.chan c.loop-way.way c.args.ends.now c.in-Some.place ends real
@@ -27,7 +27,7 @@ pub loop-way-preserved : goal.loop-way-preserved
 loop-way-preserved c = λ p j is owned ends below.
     let s = state_of c.args.self.now in
     let test = c.loop-way-test.true in
-    let long = ap length c.ways-way-end.ensures in
+    let long = c.len-way-end.ensures in
     let less : c.loop-way.way < length s.ways = omega arith in
     elim (cases_lt j c.loop-way.way) [
       | inl sooner ↦ c.loop-way.invariant p j is owned ends sooner
@@ -40,6 +40,6 @@ pub returns : goal.returns
 returns c = λ p is owned ends.
     let s = state_of c.args.self.now in
     let past = c.loop-way-test.false in
-    let long = ap length c.ways-way-end.ensures in
+    let long = c.len-way-end.ensures in
     let all = is.ways in
     found_nowhere p s c.args.chan c.args.ends.now ends (λ held. clash c.holds.result c.if-holds.false (c.holds.ensures.1 held)) (λ w less. c.loop-way.invariant p w is owned ends (omega arith))

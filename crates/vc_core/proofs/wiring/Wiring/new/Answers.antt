@@ -1,6 +1,8 @@
-use Rattle.std.proofs.Common.{◌<◌, length, sym, ap, ◌∙◌, subst}
-use Rattle.vc_core.specs.Wired.{AreRooms, AreEnds}
+use Rattle.std.proofs.Common.{◌<◌, length, map, sym, ap, ◌∙◌, subst}
+use Rattle.vc_core.specs.Private.Wired.{far_end_of}
+use Rattle.vc_core.specs.Private.Wired.{AreEnds, AreFar, AreRooms}
 use Rattle.vc_core.proofs.Enabled.{has}
+use Rattle.vc_core.proofs.ByEnd.{are_far}
 use Rattle.vc_core.proofs.Leading.{are_ends, ends_count, one_link}
 use Rattle.vc_core.proofs.wiring.Wiring.new.Goals as goal
 
@@ -8,7 +10,11 @@ pub invariant_of-result : goal.invariant_of-result
 invariant_of-result c =
     let out = c.in_ok-out.out.items in (
       subst (λ o. AreRooms o c.rooms_of-rooms.result) c.as_slice.ensures.value c.rooms_of-rooms.ensures,
-      subst (AreEnds out) (sym c.in_ok-ends.ensures) (are_ends c.args.plan.now c.requires out c.in_ok-out.ensures.tells),
+      (let p = c.args.plan.now in
+          let ends = c.in_ok-ends.ends.items in
+          let are = subst (AreEnds out) (sym c.in_ok-ends.ensures) (are_ends p c.requires out c.in_ok-out.ensures.tells) in
+          let far = are_far p c.requires out ends c.in_ok-out.ensures.tells are (ap length c.in_ok-ends.ensures ∙ ends_count (length p.nodes) p.wires) in
+          subst (AreFar out) (sym (c.in_ok-far.ensures ∙ (λ i. map (far_end_of (c.as_slice-3.ensures.value i)) (c.as_slice-2.ensures.value i)))) far),
     )
 
 pub returns-clause-one : goal.returns-clause-one
