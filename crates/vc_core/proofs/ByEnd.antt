@@ -1,22 +1,20 @@
 -- Ways that stand by the links to which they lead, as they change.
 use Rattle.std.proofs.Common.{◌≡◌, ◌≢◌, ℕ, zero, suc, ◌+◌, ◌*◌, ◌<◌, Bool, true, false, nat_lt, List, [], ◌∷◌, length, get_or, map, slice_get, slice_set, Option, Some, None, Result, Ok, Err, OnOk, OnErr, refl, sym, ap, ◌∙◌, subst, arith, if◌then◌else◌}
-use Rattle.std.proofs.lemmas.List.{length-map}
+use Rattle.std.proofs.lemmas.List.{get_or-set_other, get_or-set_same, length-map}
 use Rattle.std.proofs.lemmas.Nat.{same_from_place}
-use Rattle.std.proofs.lemmas.Option.{slice_get-map, get_or_from_slice_get, unwrap_or-slice_get}
+use Rattle.std.proofs.lemmas.Option.{slice_get-map, get_or_from_slice_get}
 use Rattle.std.specs.List.{AllByRecursion}
-use Rattle.std.specs.Option.{option_map, unwrap_or}
+use Rattle.std.specs.Option.{option_map}
 use Rattle.vc_accepted.specs.NetworkOf.{wire_of}
 use Rattle.vc_accepted.proofs.Wired.{outgoing_is}
 use Rattle.vc_plan.specs.Accepted.{IsAccepted}
 use Rattle.vc_plan.specs.declared.plan.Plan.{Plan}
 use Rattle.vc_tokens.specs.Tokens.{Token}
-use Rattle.vc_vcp.proofs.Placed.{place-set_same, place-set_other}
 use Rattle.vc_core.specs.Lined.{AreLined}
 use Rattle.vc_core.specs.Private.Fronts.{Marked}
 use Rattle.vc_core.specs.Private.Lined.{LeadsTo}
 use Rattle.vc_core.specs.Private.ByEnd.{AreApart, ByEnd, Leads, place_of, with_line, ways_at}
-use Rattle.vc_core.specs.Private.Wired.{far_end_of}
-use Rattle.vc_core.specs.Private.Wired.{AreEnds, AreFar}
+use Rattle.vc_core.specs.Private.Wired.{AreEnds, AreFar, far_end_of}
 use Rattle.vc_core.specs.Wired.{AreWaysAt, Comes, in_at, out_at, there}
 use Rattle.vc_core.specs.declared.ends.End.{End}
 use Rattle.vc_core.proofs.Enabled.{has}
@@ -24,22 +22,13 @@ use Rattle.vc_core.proofs.Happening.{written_back}
 use Rattle.vc_core.proofs.Leading.{in_out, out_within}
 use Rattle.vc_core.proofs.Lined.{comes_no_more, comes_now, comes_yet, in_few}
 
-line_of : List (List Token) → End → List Token
-line_of lines e = get_or lines (place_of e) []
-
-now_there : (lines : List (List Token)) (p : ℕ) (ts : List Token) → p < length lines → get_or (slice_set lines p ts) p [] ≡ ts
-now_there lines p ts less = get_or_from_slice_get (slice_set lines p ts) p ts [] (place-set_same lines p ts less)
-
-still_there : (lines : List (List Token)) (p q : ℕ) (ts : List Token) → q ≢ p → get_or (slice_set lines p ts) q [] ≡ get_or lines q []
-still_there lines p q ts ne = sym (unwrap_or-slice_get (slice_set lines p ts) q []) ∙ ap (λ o. unwrap_or o []) (place-set_other lines p q ts ne) ∙ unwrap_or-slice_get lines q []
-
 -- the ways whose ends have other places stay
 others_stay : (ends : List End) (lines : List (List Token)) (p : ℕ) (ts : List Token) → ((v : ℕ) (f : End) → slice_get ends v ≡ Some f → place_of f ≢ p) →
     ways_at ends (slice_set lines p ts) ≡ ways_at ends lines
 others_stay [] lines p ts apart = refl
 others_stay (e ∷ es) lines p ts apart =
     let rest = others_stay es lines p ts (λ v f. apart (suc v) f) in
-    λ i. still_there lines p (place_of e) ts (apart 0 e refl) i ∷ rest i
+    λ i. get_or-set_other lines p (place_of e) ts [] (apart 0 e refl) i ∷ rest i
 
 -- and the way whose end has the place has these tokens
 pub way_changes : (ends : List End) (lines : List (List Token)) (w : ℕ) (e : End) (ts : List Token) → slice_get ends w ≡ Some e → place_of e < length lines →
@@ -47,11 +36,11 @@ pub way_changes : (ends : List End) (lines : List (List Token)) (w : ℕ) (e : E
 way_changes [] lines w e ts here less one = absurd (cc)
 way_changes (x ∷ xs) lines zero e ts here less one =
     let same : x ≡ e = cc in
-    let first : get_or (slice_set lines (place_of e) ts) (place_of x) [] ≡ ts = ap (λ z. get_or (slice_set lines (place_of e) ts) (place_of z) []) same ∙ now_there lines (place_of e) ts less in
+    let first : get_or (slice_set lines (place_of e) ts) (place_of x) [] ≡ ts = ap (λ z. get_or (slice_set lines (place_of e) ts) (place_of z) []) same ∙ get_or-set_same lines (place_of e) ts [] less in
     let rest = others_stay xs lines (place_of e) ts (λ v f there at. absurd (let z = one (suc v) f there at in omega (arith, z))) in
     λ i. first i ∷ rest i
 way_changes (x ∷ xs) lines (suc w) e ts here less one =
-    let first = still_there lines (place_of e) (place_of x) ts (λ at. absurd (let z = one 0 x refl at in omega (arith, z))) in
+    let first = get_or-set_other lines (place_of e) (place_of x) ts [] (λ at. absurd (let z = one 0 x refl at in omega (arith, z))) in
     let rest = way_changes xs lines w e ts here less (λ v f there at. let z = one (suc v) f there at in omega (arith, z)) in
     λ i. first i ∷ rest i
 

@@ -6,7 +6,7 @@ ghost use Rattle.std.specs.Option.{option_copied};
 ghost use Rattle.vc_plan.specs.Accepted.{IsAccepted};
 ghost use Rattle.vc_actor.specs.Acting.{MayAct};
 ghost use Rattle.vc_core.specs.Private.Lined.{LeadsTo, TakesOff, PutsOnWay, with_way};
-ghost use Rattle.vc_core.specs.Wired.{out_at, in_at, AreWaysAt, Comes, Goes};
+ghost use Rattle.vc_core.specs.Wired.{out_at, AreWaysAt, Comes, Goes};
 ghost use Rattle.vc_actor.specs.declared.act.Act.TheVariants as act;
 ghost use Rattle.vc_tokens.specs.Tokens.{Token as SpeltToken};
 ghost use Rattle.vc_tokens.specs.Spelt.{token as spelt, tokens as all_spelt};

@@ -1,5 +1,5 @@
 //! What can be seen in a network beside its traffic: who is blocked, what stands on its wires, and what was dropped.
-ghost use Rattle.std.specs.Prelude.{◌≡◌, ◌+◌, ◌*◌, ◌<◌, ◌++◌, [], ℕ, List, length, slice_get, Some, None, IfOk};
+ghost use Rattle.std.specs.Prelude.{◌≡◌, ◌+◌, ◌*◌, ◌<◌, ◌++◌, [], ℕ, List, length, Some, None, IfOk};
 ghost use Rattle.vc_core.specs.Replaying.{Replays};
 ghost use Rattle.vc_plan.specs.declared.plan.Plan.{Plan};
 ghost use Rattle.std.specs.Option.{option_copied, option_map};
@@ -140,7 +140,8 @@ fn credit_of(actor: &Actor, link: u8) -> u8
 
 // The token at the end of a way, if there is one.
 fn last_on(line: Option<&Way>) -> Option<Token>
-    ensures { option_map spelt result ≡ last_of (shown_or [] (λ ts. ts) (option_copied line.entry)) }
+    ensures { option_map spelt result ≡
+        last_of (shown_or [] (λ ts. ts) (option_copied line.entry)) }
 {
     match line {
         Some(line) => line.last(),

@@ -16,7 +16,8 @@ pub fn replay(
     accepted: &Accepted,
     events: &[Event],
 ) -> Result<Network, ReplayRefused>
-    ensures replayed { IfOk result (λ network. Replays accepted.now events.now (state_of network)) }
+    ensures replayed { IfOk result
+        (λ network. Replays accepted.now events.now (state_of network)) }
     ensures refused { IfErr result (λ refused. RefusedAt accepted.now events.now refused) }
 {
     let mut network = match Network::new(alloc, accepted) {

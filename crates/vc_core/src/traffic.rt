@@ -19,7 +19,9 @@ use vc_occam::ValueKind;
 impl Network {
     /// How many channels there are.
     pub fn channels(&self) -> u16
-        ensures { (p : Plan) → IsNetworkOf p (state_of self.now) → result ≡ length p.channels }
+        ensures { (p : Plan) →
+            IsNetworkOf p (state_of self.now) →
+            result ≡ length p.channels }
     {
         self.channels.len().min(65535) as u16
     }

@@ -2,7 +2,6 @@
 ghost use Rattle.std.specs.Prelude.{◌≡◌, ◌↔◌, ◌+◌, ◌*◌, ◌<◌, ℕ, IfOk, IfSome, Some, length};
 ghost use Rattle.std.specs.Int.{bit_at};
 ghost use Rattle.vc_core.specs.Wired.{out_at, in_at, AreWaysAt, IsWired};
-ghost use Rattle.vc_network.specs.Plan.{back as other_way};
 ghost use Rattle.vc_plan.specs.Accepted.{IsAccepted};
 
 use crate::ends::{End, ends_of, far_of, place_at};
