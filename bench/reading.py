@@ -31,9 +31,9 @@ VIEWS = {
     ("vc_core/specs/State.antt", "state_of"),
     ("vc_core/specs/State.antt", "shown"),
     ("vc_core/specs/State.antt", "IsNetworkOf"),
-    ("vc_actor/specs/Shown.antt", "actor_of"),
-    ("vc_actor/specs/Shown.antt", "node_of"),
-    ("vc_switch/specs/Seen.antt", "seen"),
+    ("vc_actor/specs/ActorView.antt", "actor_of"),
+    ("vc_actor/specs/ActorView.antt", "node_of"),
+    ("vc_switch/specs/SwitchView.antt", "seen"),
     ("vc_switch/specs/State.antt", "plan_of"),
     ("vc_actor/specs/OfPlan.antt", "IsActorOf"),
 }

@@ -6,7 +6,7 @@ use Rattle.vc_plan.specs.declared.channel.Home.{Home}
 use Rattle.vc_plan.specs.declared.channel.Home.TheVariants.{Way, Inside}
 use Rattle.vc_plan.specs.Accepted.{IsAccepted}
 use Rattle.vc_plan.specs.Check.{same_bool}
-use Rattle.vc_accepted.specs.Given.{is_on, first_on, chan_on}
+use Rattle.vc_accepted.specs.NodeEnds.{is_on, first_on, chan_on}
 use Rattle.vc_accepted.proofs.Listed.{both}
 
 bool_is : (a b : Bool) → same_bool a b ≡ true → a ≡ b

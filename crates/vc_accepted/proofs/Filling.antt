@@ -4,8 +4,8 @@ use Rattle.vc_plan.specs.declared.plan.Plan.{Plan}
 use Rattle.vc_plan.specs.declared.port.Wire.{Wire}
 use Rattle.vc_plan.specs.declared.channel.Channel.{Channel}
 use Rattle.vc_plan.specs.Accepted.{IsAccepted, port_of}
-use Rattle.vc_accepted.specs.Given.{is_on, first_on}
-use Rattle.vc_accepted.specs.Outgoing.{is_link, way_out}
+use Rattle.vc_accepted.specs.NodeEnds.{is_on, first_on}
+use Rattle.vc_accepted.specs.ActorWays.{is_link, way_out}
 use Rattle.vc_accepted.proofs.Channelled.{on_is}
 use Rattle.vc_accepted.proofs.Ported.{one_port_of}
 use Rattle.vc_accepted.proofs.Wired.{link_is_at, wired}

@@ -15,7 +15,7 @@ use Rattle.vc_network.specs.Plan.{virtual_link, end_here, output_end, input_end,
 use Rattle.vc_network.specs.Plan as network
 use Rattle.vc_accepted.specs.NetworkOf.{network_of, link_of, home_of, home_in}
 use Rattle.vc_accepted.specs.NetworkOf as to
-use Rattle.vc_accepted.specs.Given.{chan_on, end_given, with_end, ends_among, ends_of_node}
+use Rattle.vc_accepted.specs.NodeEnds.{chan_on, end_given, with_end, ends_among, ends_of_node}
 use Rattle.vc_accepted.proofs.Listed.{both, made_at, there}
 use Rattle.vc_accepted.proofs.Limited.{kept}
 use Rattle.vc_accepted.proofs.Accepting.{end_is, on_way, on_link}

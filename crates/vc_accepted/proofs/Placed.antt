@@ -3,7 +3,7 @@ use Rattle.std.proofs.Common.{◌≡◌, ℕ, zero, suc, ◌+◌, Bool, true, fa
 use Rattle.vc_plan.specs.declared.vlink.Vlink.{Vlink}
 use Rattle.vc_plan.specs.Accepted.{end_of}
 use Rattle.vc_vcp.specs.declared.end.End.{End as Given}
-use Rattle.vc_accepted.specs.Given.{end_given, with_end, ends_among}
+use Rattle.vc_accepted.specs.NodeEnds.{end_given, with_end, ends_among}
 
 -- no two different places of the list have elements so related
 abbrev pub Once : (Given → Given → Type 0) → List Given → Type 0

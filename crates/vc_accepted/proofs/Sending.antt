@@ -8,7 +8,7 @@ use Rattle.vc_process.specs.Messages.{message}
 use Rattle.vc_occam.specs.Traces.{Comm, Out, In, Fin, Stp}
 use Rattle.vc_process.proofs.Lists.{at_front, behind}
 use Rattle.vc_accepted.specs.OneList.{to_channel, on}
-use Rattle.vc_accepted.specs.Sent.{IsSent, NothingIsGotUnsent}
+use Rattle.vc_accepted.specs.OutputFirst.{IsSent, NothingIsGotUnsent}
 
 -- the message was offered already
 abbrev IsOffered : View → List ℕ → Type 0

@@ -7,7 +7,7 @@ use Rattle.vc_process.specs.Syntax.{Given}
 use Rattle.vc_occam.specs.Traces.{Comm, In, End, Trace, cut, input, seq, seq_open, seq_next}
 use Rattle.vc_process.specs.Values.{Store}
 use Rattle.vc_accepted.specs.OneList.{by, to_channel}
-use Rattle.vc_accepted.specs.Swapping.{inputs_first, NothingIsSwapped}
+use Rattle.vc_accepted.specs.Swap.{inputs_first, NothingIsSwapped}
 
 -- a list that begins with an input on this channel, or is empty
 data BeginsWith (c : ℕ) : List Comm → Type 0 where

@@ -7,7 +7,7 @@ use Rattle.vc_accepted.proofs.Accepting.{accepted}
 use Rattle.vc_network.specs.Actors.{Network, ActBy, Label}
 use Rattle.vc_network.specs.Actors.Label.{Own, Takes, Puts}
 use Rattle.vc_network.specs.LocalRun.{Turn, LocalRun, plain}
-use Rattle.vc_network.specs.Enabled.{IsEnabled}
+use Rattle.vc_network.specs.EnabledEvents.{IsEnabled}
 use Rattle.vc_network.specs.Network.{Act, Proc, Take, Put, Fct, Pass, Actor, IsNode, IsSwitch, Node, Moves, GoesOn, NodeStep, Local, first, begins, Happens, HappenAll}
 use Rattle.vc_network.specs.Plan as network
 use Rattle.vc_network.specs.Processes.{Move, Offer, Want, Choose, Stopch, Inner, Quiet}

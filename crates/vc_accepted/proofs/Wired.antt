@@ -19,7 +19,7 @@ use Rattle.vc_network.proofs.Backs.{back_back, back_into, back_out}
 use Rattle.vc_network.proofs.Wires.{one_near}
 use Rattle.vc_accepted.specs.NetworkOf.{network_of, wire_of, port_at}
 use Rattle.vc_accepted.specs.NetworkOf as to
-use Rattle.vc_accepted.specs.Outgoing.{actor_of, link_port, is_link, way_out, outgoing, incoming}
+use Rattle.vc_accepted.specs.ActorWays.{actor_of, link_port, is_link, way_out, outgoing, incoming}
 use Rattle.vc_accepted.proofs.Listed.{both, there}
 use Rattle.vc_accepted.proofs.Ported.{side_of}
 use Rattle.vc_accepted.proofs.Crossing.{Joins, wire_is, joined_way, way_of}

@@ -4,7 +4,7 @@ use Rattle.vc_accepted.specs.NetworkOf.{network_of}
 use Rattle.vc_network.specs.Actors.{Network, Alike, ActBy}
 use Rattle.vc_network.specs.LocalRun.{Stamped, Turn}
 use Rattle.vc_network.specs.Merge.{Made}
-use Rattle.vc_network.specs.Enabled.{IsEnabled}
+use Rattle.vc_network.specs.EnabledEvents.{IsEnabled}
 use Rattle.vc_network.specs.Network.{Act, Actor, begins, HappenAll}
 use Rattle.vc_network.specs.Threads.{AreThreads, made_by, ended}
 use Rattle.vc_plan.specs.declared.plan.Plan.{Plan}

@@ -15,13 +15,13 @@ ghost use Rattle.vc_machine.specs.Dependencies.{HasRanks};
 ghost use Rattle.vc_network.specs.Plan as network;
 ghost use Rattle.vc_vcp.specs.Opening.{ends_given, AreDistinct};
 ghost use Rattle.vc_accepted.specs.NetworkOf.{network_of};
-ghost use Rattle.vc_accepted.specs.Given.{is_on, first_on, ends_of_node};
-ghost use Rattle.vc_accepted.specs.Outgoing.{is_link, way_out, link_port, outgoing, incoming};
+ghost use Rattle.vc_accepted.specs.NodeEnds.{is_on, first_on, ends_of_node};
+ghost use Rattle.vc_accepted.specs.ActorWays.{is_link, way_out, link_port, outgoing, incoming};
 ghost use Rattle.vc_accepted.specs.Bounds.{NetworksKeepCredit, NetworksKeepLimits, PacketsHaveOwners, NoPacketIsLonger, PacketsAreMoved};
 ghost use Rattle.vc_accepted.specs.Determinate.{DeedsLeadToOneState, LawfulProcessesStaySo};
 ghost use Rattle.vc_accepted.specs.OneList.{AllIsTold};
-ghost use Rattle.vc_accepted.specs.Sent.{NothingIsGotUnsent};
-ghost use Rattle.vc_accepted.specs.Swapping.{NothingIsSwapped};
+ghost use Rattle.vc_accepted.specs.OutputFirst.{NothingIsGotUnsent};
+ghost use Rattle.vc_accepted.specs.Swap.{NothingIsSwapped};
 ghost use Rattle.vc_accepted.specs.Threads.{ActsCanBeReplayed};
 ghost use Rattle.vc_accepted.specs.Versions.{VersionsRunAlike};
 

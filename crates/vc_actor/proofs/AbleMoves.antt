@@ -19,10 +19,10 @@ use Rattle.vc_credit.specs.Ends.{new_receiver}
 use Rattle.vc_tokens.specs.Tokens.{Token, Byte, EndMark}
 use Rattle.vc_vcp.specs.Able.{CanOffer, CanPass, CanPut}
 use Rattle.vc_vcp.specs.Carrier.{Carrier, Ends}
-use Rattle.vc_vcp.specs.Keyed.{named}
+use Rattle.vc_vcp.specs.Names.{named}
 use Rattle.vc_packets.specs.Functions.{shown_or}
 use Rattle.vc_vcp.specs.Links.{Vcp, Passes, passes_byte, drops_byte, passes_mark}
-use Rattle.vc_vcp.specs.Seen.{seen, ends_of}
+use Rattle.vc_vcp.specs.VcpView.{seen, ends_of}
 use Rattle.vc_vcp.specs.State.{State as Held, MayPut, MayGrant}
 use Rattle.vc_vcp.specs.Steps.{Taken}
 use Rattle.vc_vcp.specs.Steps as node
@@ -34,7 +34,7 @@ use Rattle.vc_actor.specs.Inside.{IsOpen}
 use Rattle.vc_actor.specs.Private.Inside.{exchanged_on, stopped_on}
 use Rattle.vc_actor.specs.OfPlan.{IsNodeOf}
 use Rattle.vc_accepted.specs.Process.{Process, Goes}
-use Rattle.vc_actor.specs.Shown.{node_of, process_of, view_of, views_of}
+use Rattle.vc_actor.specs.ActorView.{node_of, process_of, view_of, views_of}
 use Rattle.vc_actor.specs.declared.inside.Internal.{Internal}
 use Rattle.vc_actor.specs.declared.node.Node.{Node}
 

@@ -20,16 +20,16 @@ use Rattle.vc_plan.specs.Accepted.{IsAccepted}
 use Rattle.vc_plan.specs.Limits.{kinds_of}
 use Rattle.vc_vcp.specs.declared.end.End.{End as Given}
 use Rattle.vc_vcp.specs.Carrier.{Carrier}
-use Rattle.vc_vcp.specs.Keyed.{named}
+use Rattle.vc_vcp.specs.Names.{named}
 use Rattle.vc_packets.specs.Functions.{shown_or}
 use Rattle.vc_vcp.specs.Links.{Vcp, new_vcp}
 use Rattle.vc_vcp.specs.Opening.{ends_given}
-use Rattle.vc_vcp.specs.Seen.{seen, ends_of}
+use Rattle.vc_vcp.specs.VcpView.{seen, ends_of}
 use Rattle.vc_vcp.specs.State.{limit_of}
 use Rattle.vc_network.specs.Network.{IsNode, IsSwitch, first}
 use Rattle.vc_switch.specs.Switch.{new_switch}
 use Rattle.vc_network.specs.Plan as network
-use Rattle.vc_accepted.specs.Given.{ends_of_node}
+use Rattle.vc_accepted.specs.NodeEnds.{ends_of_node}
 use Rattle.vc_accepted.specs.NetworkOf.{network_of, switch_of, home_of, home_in}
 use Rattle.vc_plan.specs.declared.switch_plan.SwitchPlan.{SwitchPlan}
 use Rattle.vc_switch.specs.State.{State as SwitchState}
@@ -41,7 +41,7 @@ use Rattle.vc_accepted.specs.Begin.{begin_of, is_inside, no_node, node_plan, num
 use Rattle.vc_actor.specs.Private.Inside.{opened_inside, opened_internal}
 use Rattle.vc_actor.specs.OfPlan.{AreInside, InStep}
 use Rattle.vc_accepted.specs.Process.{Process}
-use Rattle.vc_actor.specs.Shown.{Acting, OfNode, OfSwitch, node_of, view_of, views_of, process_of}
+use Rattle.vc_actor.specs.ActorView.{Acting, OfNode, OfSwitch, node_of, view_of, views_of, process_of}
 use Rattle.vc_actor.specs.declared.inside.Internal.{Internal}
 use Rattle.vc_actor.specs.declared.node.Node.{Node}
 use Rattle.vc_actor.proofs.Insides.{name}

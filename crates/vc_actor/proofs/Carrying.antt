@@ -13,7 +13,7 @@ use Rattle.vc_plan.specs.Accepted.{IsAccepted}
 use Rattle.vc_plan.specs.Check.{same_bool}
 use Rattle.vc_plan.specs.Limits.{home_there}
 use Rattle.vc_vcp.proofs.Placed.{place-set_same, place-set_other}
-use Rattle.vc_accepted.specs.Given.{is_on, first_on, ends_among, ends_of_node}
+use Rattle.vc_accepted.specs.NodeEnds.{is_on, first_on, ends_among, ends_of_node}
 use Rattle.vc_accepted.proofs.Filling.{channel_next}
 use Rattle.vc_accepted.proofs.Limited.{home_fits, kept}
 use Rattle.vc_actor.specs.Private.Begin.{on_way, on_link, AreWaysOf, carrying, carried, empty_ways}

@@ -7,7 +7,7 @@ use Rattle.std.proofs.lemmas.List.{append_assoc, append-nil, at_drop_more, at_dr
 use Rattle.vc_plan.specs.declared.channel.Channel.{Channel}
 use Rattle.vc_plan.specs.declared.vlink.Vlink.{Vlink}
 use Rattle.vc_vcp.specs.declared.end.End.{End as Given}
-use Rattle.vc_accepted.specs.Given.{end_given, ends_among, with_end}
+use Rattle.vc_accepted.specs.NodeEnds.{end_given, ends_among, with_end}
 use Rattle.vc_accepted.specs.Begin.{is_inside, numbers_inside}
 use Rattle.vc_actor.specs.Private.Begin.{given_to}
 use Rattle.vc_actor.specs.Private.Inside.{opened_inside, opened_internal}

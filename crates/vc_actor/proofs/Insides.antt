@@ -5,12 +5,12 @@ use Rattle.std.proofs.lemmas.Option.{slice_get-get_or}
 use Rattle.vc_machine.specs.Rendezvous.{View, nothing_yet}
 use Rattle.vc_packets.specs.Functions.{put, shown_or}
 use Rattle.vc_network.specs.Views.{halves_view}
-use Rattle.vc_vcp.specs.Keyed.{named, NamesDiffer}
-use Rattle.vc_vcp.specs.Seen.{seen}
+use Rattle.vc_vcp.specs.Names.{named, NamesDiffer}
+use Rattle.vc_vcp.specs.VcpView.{seen}
 use Rattle.vc_vcp.proofs.KeyedLemmas.{by_name-set, named_has, named_at, named-set_same, named-set_other}
 use Rattle.vc_actor.specs.Private.Inside.{exchanged_on, stopped_on}
-use Rattle.vc_actor.specs.Shown.{view_of, views_of}
-use Rattle.vc_actor.specs.Viewed.{by_inside, node_view}
+use Rattle.vc_actor.specs.ActorView.{view_of, views_of}
+use Rattle.vc_actor.specs.ChannelView.{by_inside, node_view}
 use Rattle.vc_actor.specs.declared.inside.Internal.{Internal}
 use Rattle.vc_actor.specs.declared.node.Node.{Node}
 

@@ -5,7 +5,7 @@ use Rattle.std.specs.List.{remove, slice_get}
 use Rattle.std.specs.Prelude.{◌==◌, get_or, if◌then◌else◌}
 use Rattle.std.proofs.lemmas.Option.{slice_get-get_or}
 use Rattle.vc_occam.specs.declared.moves.Move.{Move}
-use Rattle.vc_occam.specs.Moving.{site_of, without}
+use Rattle.vc_occam.specs.MoveSites.{site_of, without}
 
 -- none of the first k moves is at the site
 abbrev pub NoneBefore : ℕ → ℕ → List Move → Type 0

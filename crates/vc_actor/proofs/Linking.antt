@@ -6,19 +6,19 @@ use Rattle.vc_packets.specs.declared.packet.Packet.{Packet}
 use Rattle.vc_tokens.specs.Tokens.{Token, Byte, Fct, EndMark}
 use Rattle.vc_vcp.specs.Carrier.{Carrier}
 use Rattle.vc_vcp.specs.Links.{Vcp, Comes, due, not_due, Sends, SendsFct, unqueued}
-use Rattle.vc_vcp.specs.Seen.{seen, IsKept}
+use Rattle.vc_vcp.specs.VcpView.{seen, IsKept}
 use Rattle.vc_network.specs.Plan.{Plan, IsOutOf, IsInto}
 use Rattle.vc_actor.proofs.Passing.{unmoved}
-use Rattle.vc_actor.specs.Acting.{HasLink, port, MakesOwn, MakesTake, MakesPut, MakesGrant}
+use Rattle.vc_actor.specs.Acts.{HasLink, port, MakesOwn, MakesTake, MakesPut, MakesGrant}
 use Rattle.vc_actor.specs.MayMove.{MakesMove}
-use Rattle.vc_actor.specs.Private.Passing.{MakesPass}
+use Rattle.vc_actor.specs.Private.Passes.{MakesPass}
 use Rattle.vc_actor.specs.declared.act.Act.{Act}
 use Rattle.vc_actor.specs.declared.act.Act.TheVariants.{Proc, Pass}
 use Rattle.vc_occam.specs.declared.moves.Move.{Move}
 use Rattle.vc_occam.specs.Runnings.{state}
 use Rattle.vc_occam.specs.Sites.{OwnSites}
 use Rattle.vc_actor.specs.OfPlan.{IsNodeOf, IsActorOf, AreInside}
-use Rattle.vc_actor.specs.Shown.{Acting, OfNode, OfSwitch, process_of, views_of}
+use Rattle.vc_actor.specs.ActorView.{Acting, OfNode, OfSwitch, process_of, views_of}
 use Rattle.vc_actor.specs.declared.node.Node.{Node}
 
 -- the halves are as they were

@@ -5,7 +5,7 @@ use Rattle.std.proofs.lemmas.List.{take-append-drop}
 use Rattle.std.proofs.lemmas.List.Elements.{Contains-append_cases}
 use Rattle.std.specs.List.{Contains}
 use Rattle.std.specs.Prelude.{nat_le}
-use Rattle.vc_occam.specs.Moving.{from_site, site_of}
+use Rattle.vc_occam.specs.MoveSites.{from_site, site_of}
 use Rattle.vc_occam.specs.declared.moves.Move.{Move}
 
 -- one that is in neither part is not in the list

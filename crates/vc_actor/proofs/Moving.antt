@@ -18,8 +18,8 @@ use Rattle.vc_occam.proofs.Waiting.{waits_after}
 use Rattle.vc_occam.specs.declared.moves.Move.{Move}
 use Rattle.vc_occam.specs.declared.moves.Move.TheVariants as move
 use Rattle.vc_vcp.specs.Carrier.{Carrier, End}
-use Rattle.vc_vcp.specs.Keyed.{named}
-use Rattle.vc_vcp.specs.Seen.{seen, ends_of, Inputs, IsKept, answered}
+use Rattle.vc_vcp.specs.Names.{named}
+use Rattle.vc_vcp.specs.VcpView.{seen, ends_of, Inputs, IsKept, answered}
 use Rattle.vc_vcp.specs.Steps.{Offers, Stops, Wants, Fetches, fetches, waits, IsOpen}
 use Rattle.vc_vcp.specs.State.{limit_of}
 use Rattle.vc_network.specs.Plan.{Plan}
@@ -27,7 +27,7 @@ use Rattle.vc_actor.proofs.Halved as halved
 use Rattle.vc_actor.specs.MayMove.{MakesMove}
 use Rattle.vc_actor.specs.OfPlan.{IsNodeOf, InStep, AreInside}
 use Rattle.vc_accepted.specs.Process.{Goes}
-use Rattle.vc_actor.specs.Shown.{node_of, process_of, view_of, views_of}
+use Rattle.vc_actor.specs.ActorView.{node_of, process_of, view_of, views_of}
 use Rattle.vc_actor.specs.Private.Inside.{exchanged_on, stopped_on}
 use Rattle.vc_actor.specs.Inside.{IsOpen as IsGoing}
 use Rattle.vc_actor.specs.declared.node.Node.{Node}

@@ -1,6 +1,6 @@
 -- What holds of an actor's part holds of the actor.
 use Rattle.std.proofs.Common.{◌≡◌, subst, Result, Ok, Err, OnOk}
-use Rattle.vc_actor.specs.Shown.{Acting}
+use Rattle.vc_actor.specs.ActorView.{Acting}
 
 -- the same, of equal actors before and after
 pub alike : (P : Acting → Acting → Type 0) (x a y b : Acting) → x ≡ a → y ≡ b → P x y → P a b

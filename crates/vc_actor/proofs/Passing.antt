@@ -12,16 +12,16 @@ use Rattle.vc_vcp.specs.Carrier.{Carrier, End, Ends}
 use Rattle.vc_vcp.specs.Links.{Vcp, Passes, passes_byte, drops_byte, passes_mark}
 use Rattle.vc_vcp.specs.Steps.{Taken, Held, Stored, Complete, More, Finished, Stray, Arrives, takes, stray, stores, holds, advances, store, message, taken_by, acked_by, advance}
 use Rattle.vc_packets.specs.Functions.{put}
-use Rattle.vc_vcp.specs.Seen.{seen, ends_of, IsKept}
+use Rattle.vc_vcp.specs.VcpView.{seen, ends_of, IsKept}
 use Rattle.vc_vcp.specs.State.{limit_of}
 use Rattle.vc_network.specs.Plan.{Plan, ends}
 use Rattle.vc_network.specs.Network.{GoesOn}
 use Rattle.vc_actor.proofs.Halved.{Has, Wants, Sends, has_same, has_put, others}
 use Rattle.vc_actor.specs.OfPlan.{IsNodeOf, InStep, AreInside}
-use Rattle.vc_actor.specs.Shown.{process_of, views_of}
+use Rattle.vc_actor.specs.ActorView.{process_of, views_of}
 use Rattle.vc_actor.specs.declared.node.Node.{Node}
 use Rattle.vc_accepted.specs.Process.{Process, does, Goes}
-use Rattle.vc_actor.specs.Private.Passing.{IsAwaited, MakesPass}
+use Rattle.vc_actor.specs.Private.Passes.{IsAwaited, MakesPass}
 
 abbrev left : Process → List Waiting
 left p = waiting p.state.rest

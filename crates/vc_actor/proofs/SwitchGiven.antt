@@ -20,7 +20,7 @@ use Rattle.vc_accepted.proofs.Limited.{kept}
 use Rattle.vc_accepted.proofs.Listed.{both}
 use Rattle.vc_switch.specs.Opening.{IsRandomInput, range_given, plan_given}
 use Rattle.vc_switch.specs.Opening as opening
-use Rattle.vc_switch.specs.Seen.{seen}
+use Rattle.vc_switch.specs.SwitchView.{seen}
 use Rattle.vc_switch.specs.State.{State, interval_of, plan_of, limit_of}
 use Rattle.vc_switch.specs.Switch.{new_switch}
 use Rattle.vc_switch.specs.declared.switch_plan.SwitchPlan.{SwitchPlan as Given}

@@ -6,7 +6,7 @@ use Rattle.vc_machine.specs.Paths.{AtNode, AtSwitch}
 use Rattle.vc_network.specs.Plan.{Plan, IsOutOf, IsInto, switch_plan}
 use Rattle.vc_tokens.specs.Tokens.{Token, Byte, EndMark}
 use Rattle.vc_switch.specs.Able.{CanPass, CanLeave, IsFree, CanRoute, CanPut}
-use Rattle.vc_switch.specs.Seen.{seen, IsKept, input_of}
+use Rattle.vc_switch.specs.SwitchView.{seen, IsKept, input_of}
 use Rattle.vc_switch.specs.State.{State, IsSwitch, plan_of, limit_of, source_at, output_of}
 use Rattle.vc_packets.specs.Functions.{shown_or}
 use Rattle.vc_switch.specs.Switch.{Switch, Passes, passes_byte, drops_byte, passes_mark, loses, Routes, Sends, SendsFct, Comes, new_input, BodyLeaves}
@@ -19,9 +19,9 @@ use Rattle.vc_switch.specs.declared.link_in.LinkIn.{LinkIn}
 use Rattle.vc_switch.proofs.Routing.{links}
 use Rattle.std.proofs.lemmas.Option.{slice_get_past}
 use Rattle.vc_actor.specs.Able.{SwitchCan}
-use Rattle.vc_actor.specs.Acting.{port, ByLinksOfSwitch, SwitchMay, MakesOwn, MakesTake, MakesPut, MakesGrant}
+use Rattle.vc_actor.specs.Acts.{port, ByLinksOfSwitch, SwitchMay, MakesOwn, MakesTake, MakesPut, MakesGrant}
 use Rattle.vc_actor.specs.OfPlan.{IsActorOf}
-use Rattle.vc_actor.specs.Shown.{OfSwitch}
+use Rattle.vc_actor.specs.ActorView.{OfSwitch}
 use Rattle.vc_actor.specs.declared.act.Act.{Act}
 use Rattle.vc_actor.specs.declared.act.Act.TheVariants as act
 

@@ -6,7 +6,7 @@ use Rattle.vc_network.specs.Plan as network
 use Rattle.vc_occam.specs.declared.moves.Move.{Move}
 use Rattle.vc_switch.specs.State.{State as SwitchState}
 use Rattle.vc_actor.specs.Able.{NodeCan, SwitchCan, CanMove}
-use Rattle.vc_actor.specs.Shown.{Acting, OfNode, OfSwitch}
+use Rattle.vc_actor.specs.ActorView.{Acting, OfNode, OfSwitch}
 use Rattle.vc_actor.specs.Turns.{IsTurn, FindsTurn, kind_of, FindsOf, TakesNone, MakesTurn}
 use Rattle.vc_actor.specs.Private.Turns.{FindsAt, FindsRoute, FindsMove, IsTold}
 use Rattle.vc_actor.specs.declared.act.Act.{Act}

@@ -4,12 +4,12 @@ use Rattle.vc_network.specs.Network as net
 use Rattle.vc_network.specs.Plan.{Plan, ends, body_limit}
 use Rattle.vc_occam.specs.declared.moves.Move.{Move}
 use Rattle.vc_vcp.specs.Able.{CanPut, CanGrant, CanPass}
-use Rattle.vc_vcp.specs.Seen.{seen}
+use Rattle.vc_vcp.specs.VcpView.{seen}
 use Rattle.vc_switch.specs.Able as switch
-use Rattle.vc_switch.specs.Seen.{seen as seen_switch}
+use Rattle.vc_switch.specs.SwitchView.{seen as seen_switch}
 use Rattle.vc_switch.specs.State.{State as SwitchState, plan_of, limit_of}
 use Rattle.vc_accepted.specs.Process.{Process, does}
-use Rattle.vc_actor.specs.Shown.{move_of, node_of, Acting, OfNode, OfSwitch}
+use Rattle.vc_actor.specs.ActorView.{move_of, node_of, Acting, OfNode, OfSwitch}
 use Rattle.vc_actor.specs.declared.act.Act.{Act}
 use Rattle.vc_actor.specs.declared.act.Act.TheVariants.{Proc, Take, Put, Route, Fct, Pass}
 use Rattle.vc_actor.specs.declared.node.Node.{Node}

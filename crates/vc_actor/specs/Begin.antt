@@ -4,7 +4,7 @@ use Rattle.vc_plan.specs.declared.plan.Plan.{Plan}
 use Rattle.vc_network.specs.Network.{first}
 use Rattle.vc_accepted.specs.NetworkOf.{network_of}
 use Rattle.vc_actor.specs.OfPlan.{IsActorOf}
-use Rattle.vc_actor.specs.Shown.{Acting, actor_of}
+use Rattle.vc_actor.specs.ActorView.{Acting, actor_of}
 use Rattle.vc_accepted.specs.Begin.{begin_of}
 
 -- the code's actor is actor k of the plan, and begins

@@ -1,6 +1,6 @@
 -- What happens on a channel inside a node.
 use Rattle.std.specs.Prelude.{◌≡◌, ℕ, false, List, Some}
-use Rattle.vc_vcp.specs.Keyed.{named}
+use Rattle.vc_vcp.specs.Names.{named}
 use Rattle.vc_actor.specs.declared.inside.Internal.{Internal}
 
 -- the node has the channel, and it is not stopped

@@ -1,12 +1,12 @@
 pub mod Able
-pub mod Acting
+pub mod ActorView
+pub mod Acts
 pub mod Begin
+pub mod ChannelView
 pub mod Inside
-pub mod Listed
 pub mod MayMove
+pub mod MoveList
 pub mod OfPlan
 pub mod Parts
 pub mod Private
-pub mod Shown
 pub mod Turns
-pub mod Viewed

@@ -4,15 +4,15 @@ use Rattle.std.specs.List.{Contains}
 use Rattle.vc_occam.specs.Runnings.{moves}
 use Rattle.vc_occam.specs.declared.moves.Move.{Move}
 use Rattle.vc_occam.specs.declared.moves.Move.TheVariants.{Offer, Want, Choose, Stopch, Inner, Quiet}
-use Rattle.vc_vcp.specs.Keyed.{named}
-use Rattle.vc_vcp.specs.Seen.{seen}
+use Rattle.vc_vcp.specs.Names.{named}
+use Rattle.vc_vcp.specs.VcpView.{seen}
 use Rattle.vc_vcp.specs.State.{IsIdle, IsOpen, IsUnwanted}
 use Rattle.vc_network.specs.Network.{Moves}
 use Rattle.vc_network.specs.Plan.{Plan}
 use Rattle.vc_actor.specs.Inside.{IsOpen as IsGoing}
 use Rattle.vc_actor.specs.OfPlan.{IsNodeOf}
 use Rattle.vc_accepted.specs.Process.{does}
-use Rattle.vc_actor.specs.Shown.{move_of, node_of}
+use Rattle.vc_actor.specs.ActorView.{move_of, node_of}
 use Rattle.vc_actor.specs.declared.node.Node.{Node}
 
 -- the move's channel lets it be made: an output is idle, no input waits, a guard's piece is there, an output meets an input

@@ -3,15 +3,15 @@ use Rattle.std.specs.Prelude.{◌≡◌, ◌≢◌, ◌↔◌, ℕ, ◌+◌, ◌
 use Rattle.vc_network.specs.Plan.{Plan, ends, body_limit, switch_plan}
 use Rattle.vc_network.specs.Network.{IsInside}
 use Rattle.vc_vcp.specs.Carrier.{Carrier}
-use Rattle.vc_vcp.specs.Keyed.{named}
-use Rattle.vc_vcp.specs.Seen.{seen, ends_of}
+use Rattle.vc_vcp.specs.Names.{named}
+use Rattle.vc_vcp.specs.VcpView.{seen, ends_of}
 use Rattle.vc_vcp.specs.State.{limit_of}
 use Rattle.vc_switch.specs.State.{State as SwitchState, plan_of as plan_of_switch, limit_of as limit_of_switch}
 use Rattle.vc_occam.specs.Runnings.{state}
 use Rattle.vc_occam.specs.Sites.{OwnSites}
 use Rattle.vc_occam.specs.States.{output, input}
 use Rattle.vc_accepted.specs.Process.{Process, Awaits}
-use Rattle.vc_actor.specs.Shown.{process_of, Acting, OfNode, OfSwitch}
+use Rattle.vc_actor.specs.ActorView.{process_of, Acting, OfNode, OfSwitch}
 use Rattle.vc_actor.specs.declared.inside.Internal.{Internal}
 use Rattle.vc_actor.specs.declared.node.Node.{Node}
 

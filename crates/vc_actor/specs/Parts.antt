@@ -2,10 +2,10 @@
 use Rattle.std.specs.Prelude.{◌≡◌, ℕ, min, Option, Some, None}
 use Rattle.vc_occam.specs.Remains.{Done}
 use Rattle.vc_occam.specs.Runnings.{state}
-use Rattle.vc_switch.specs.Seen.{seen as seen_switch}
+use Rattle.vc_switch.specs.SwitchView.{seen as seen_switch}
 use Rattle.vc_switch.specs.State.{State as SwitchState}
-use Rattle.vc_vcp.specs.Seen.{seen}
-use Rattle.vc_actor.specs.Shown.{Acting, OfNode, OfSwitch}
+use Rattle.vc_vcp.specs.VcpView.{seen}
+use Rattle.vc_actor.specs.ActorView.{Acting, OfNode, OfSwitch}
 use Rattle.vc_actor.specs.declared.actor.Part.{Part}
 use Rattle.vc_actor.specs.declared.actor.Part.TheVariants as part
 use Rattle.vc_actor.specs.declared.node.Node.{Node}

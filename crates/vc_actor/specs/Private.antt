@@ -3,5 +3,5 @@ pub mod Able
 pub mod Begin
 pub mod Inside
 pub mod Parts
-pub mod Passing
+pub mod Passes
 pub mod Turns

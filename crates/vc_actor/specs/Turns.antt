@@ -3,12 +3,12 @@ use Rattle.std.specs.Prelude.{◌≡◌, ℕ, ◌+◌, length, Option, Some, Non
 use Rattle.std.specs.Int.{bit_at}
 use Rattle.vc_network.specs.Plan.{Plan}
 use Rattle.vc_plan.specs.declared.plan.Plan.{Plan as Given}
-use Rattle.vc_tokens.specs.Spelt.{token}
+use Rattle.vc_tokens.specs.CodeTokens.{token}
 use Rattle.vc_tokens.specs.Tokens as tokens
 use Rattle.vc_tokens.specs.declared.token.Token.{Token}
 use Rattle.vc_actor.specs.Able.{CanAct}
-use Rattle.vc_actor.specs.Acting.{MakesOwn, MakesPut, MakesGrant}
-use Rattle.vc_actor.specs.Shown.{Acting}
+use Rattle.vc_actor.specs.Acts.{MakesOwn, MakesPut, MakesGrant}
+use Rattle.vc_actor.specs.ActorView.{Acting}
 use Rattle.vc_actor.specs.declared.act.Act.{Act}
 use Rattle.vc_actor.specs.declared.act.Act.TheVariants.{Proc, Take, Put, Route, Fct, Pass}
 use Rattle.vc_actor.specs.declared.act.ActKind.{ActKind}

@@ -2,14 +2,14 @@
 ghost use Rattle.std.specs.Prelude.{◌≡◌, ◌<◌, ◌↔◌, ℕ, IsTrue, IfOk, IsOk, IfSome, OnOk, OnErr};
 ghost use Rattle.std.specs.Option.{option_copied};
 ghost use Rattle.vc_actor.specs.Able.{CanAct};
-ghost use Rattle.vc_actor.specs.Acting.{HasLink, MayAct, MakesOwn, MakesTake, MakesPut, MakesGrant, IsOwn};
+ghost use Rattle.vc_actor.specs.Acts.{HasLink, MayAct, MakesOwn, MakesTake, MakesPut, MakesGrant, IsOwn};
 ghost use Rattle.vc_actor.specs.OfPlan.{IsActorOf};
 ghost use Rattle.vc_actor.specs.Parts.{HasEnded, node_in, switch_in, strays_of, lost_of, faults_of};
-ghost use Rattle.vc_actor.specs.Shown.{OfNode, OfSwitch};
+ghost use Rattle.vc_actor.specs.ActorView.{OfNode, OfSwitch};
 ghost use Rattle.vc_actor.specs.Turns.{FindsOf, FindsTurn, MakesTurn, PutsWithRoom, RoomLets};
 ghost use Rattle.vc_actor.specs.Private.Turns.{IsTold};
 ghost use Rattle.vc_network.specs.Plan.{Plan};
-ghost use Rattle.vc_tokens.specs.Spelt.{token};
+ghost use Rattle.vc_tokens.specs.CodeTokens.{token};
 
 use crate::act::{Act, ActKind};
 use crate::node::Node;
@@ -45,7 +45,7 @@ pub(crate) enum Part {
 
 impl Model for Actor {
     ghost use Rattle.vc_actor.specs.Parts.{acting};
-    ghost use Rattle.vc_actor.specs.Shown.{Acting};
+    ghost use Rattle.vc_actor.specs.ActorView.{Acting};
     ghost use Rattle.std.specs.Coded.{codes};
     ghost use Rattle.vc_actor.specs.contracts.node.Node as node;
 

@@ -2,9 +2,9 @@
 ghost use Rattle.std.specs.Prelude.{◌≡◌, ◌<◌, ◌≤◌, ◌↔◌, [], ◌∷◌, ◌++◌, All, length, slice_get, ℕ, false, Some, None, IsTrue, IsSome, IfOk, OnOk, OnErr, IfSome, MatchOption};
 ghost use Rattle.vc_actor.specs.Inside.{IsOpen};
 ghost use Rattle.vc_actor.specs.Private.Inside.{exchanged_on, stopped_on, opened_inside, opened_internal};
-ghost use Rattle.vc_actor.specs.Shown.{views_of};
-ghost use Rattle.vc_blocks.specs.Listed.{listed};
-ghost use Rattle.vc_vcp.specs.Keyed.{named, NamesDiffer};
+ghost use Rattle.vc_actor.specs.ActorView.{views_of};
+ghost use Rattle.vc_blocks.specs.Messages.{listed};
+ghost use Rattle.vc_vcp.specs.Names.{named, NamesDiffer};
 
 use std::alloc::Global;
 use std::marker::Model;
@@ -28,7 +28,7 @@ pub(crate) struct Inside {
 
 impl Model for Inside {
     ghost use Rattle.std.specs.Prelude.{List};
-    ghost use Rattle.vc_vcp.specs.Keyed.{NamesDiffer};
+    ghost use Rattle.vc_vcp.specs.Names.{NamesDiffer};
     ghost use Rattle.vc_actor.specs.declared.inside.Internal.{Internal};
 
     ghost Value = { List Internal };

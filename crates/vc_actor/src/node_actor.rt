@@ -1,17 +1,17 @@
 //! A node as an actor.
 ghost use Rattle.std.specs.Prelude.{◌≡◌, ◌<◌, ◌↔◌, ℕ, [], true, false, Some, IsTrue, IfOk, IfSome, OnOk, OnErr};
-ghost use Rattle.vc_actor.specs.Acting.{NodeMay, MakesOwn, MakesTake, MakesPut, MakesGrant};
+ghost use Rattle.vc_actor.specs.Acts.{NodeMay, MakesOwn, MakesTake, MakesPut, MakesGrant};
 ghost use Rattle.vc_actor.specs.Able.{NodeCan};
 ghost use Rattle.vc_actor.specs.OfPlan.{IsNodeOf, IsActorOf};
-ghost use Rattle.vc_actor.specs.Shown.{OfNode};
+ghost use Rattle.vc_actor.specs.ActorView.{OfNode};
 ghost use Rattle.vc_actor.specs.Private.Turns.{FindsMove, NeedsNoRoom};
 ghost use Rattle.vc_actor.specs.Turns.{FindsOf, FindsTurn, RoomLets};
-ghost use Rattle.vc_occam.specs.Moving.{without};
+ghost use Rattle.vc_occam.specs.MoveSites.{without};
 ghost use Rattle.vc_occam.specs.Remains.{Done};
 ghost use Rattle.vc_occam.specs.Runnings.{inner_channels, moves as moves_of, state};
-ghost use Rattle.vc_vcp.specs.Seen.{seen};
+ghost use Rattle.vc_vcp.specs.VcpView.{seen};
 ghost use Rattle.vc_network.specs.Plan.{Plan};
-ghost use Rattle.vc_tokens.specs.Spelt.{token};
+ghost use Rattle.vc_tokens.specs.CodeTokens.{token};
 
 use crate::act::{Act, ActKind};
 use crate::node::{NODE_LINKS, Node, site_of};
@@ -40,7 +40,7 @@ pub(crate) struct NodeActor {
 
 impl Model for NodeActor {
     ghost use Rattle.std.specs.Coded.{codes};
-    ghost use Rattle.vc_actor.specs.Listed.{AreListed};
+    ghost use Rattle.vc_actor.specs.MoveList.{AreListed};
     ghost use Rattle.vc_actor.specs.declared.node.Node.{Node};
     ghost use Rattle.vc_actor.specs.contracts.node.Node as its_node;
 

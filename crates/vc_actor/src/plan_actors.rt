@@ -1,10 +1,10 @@
 //! Building the actors of an accepted plan.
 ghost use Rattle.std.specs.Prelude.{◌≡◌, ◌≤◌, ◌++◌, [], true, false, Some, IfOk, OnOk, length, slice_get};
-ghost use Rattle.vc_accepted.specs.Given.{ends_among};
+ghost use Rattle.vc_accepted.specs.NodeEnds.{ends_among};
 ghost use Rattle.vc_accepted.specs.NetworkOf.{network_of};
 ghost use Rattle.vc_actor.specs.Begin.{AreFirst, BeginsAs};
 ghost use Rattle.vc_actor.specs.Private.Begin.{AreWaysOf, carried, carrying, given, given_to, on_link};
-ghost use Rattle.vc_actor.specs.Shown.{OfNode};
+ghost use Rattle.vc_actor.specs.ActorView.{OfNode};
 ghost use Rattle.vc_actor.specs.Turns.{actors as actors_in};
 ghost use Rattle.vc_network.specs.Plan as network;
 ghost use Rattle.vc_plan.specs.Accepted.{IsAccepted};

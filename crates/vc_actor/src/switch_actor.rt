@@ -1,14 +1,14 @@
 //! A switch as an actor.
 ghost use Rattle.std.specs.Prelude.{◌≡◌, ◌<◌, ◌≤◌, ◌↔◌, ℕ, IsTrue, IfSome};
-ghost use Rattle.vc_actor.specs.Acting.{SwitchMay, MakesOwn, MakesTake, MakesPut, MakesGrant};
+ghost use Rattle.vc_actor.specs.Acts.{SwitchMay, MakesOwn, MakesTake, MakesPut, MakesGrant};
 ghost use Rattle.vc_actor.specs.Able.{SwitchCan};
 ghost use Rattle.vc_actor.specs.OfPlan.{IsActorOf};
-ghost use Rattle.vc_actor.specs.Shown.{OfSwitch};
+ghost use Rattle.vc_actor.specs.ActorView.{OfSwitch};
 ghost use Rattle.vc_actor.specs.Turns.{IsTurn, FindsOf, FindsTurn, RoomLets};
 ghost use Rattle.vc_actor.specs.Private.Turns.{FindsAt, FindsRoute, NeedsNoRoom};
 ghost use Rattle.vc_network.specs.Plan.{Plan};
-ghost use Rattle.vc_switch.specs.Seen.{seen};
-ghost use Rattle.vc_tokens.specs.Spelt.{token};
+ghost use Rattle.vc_switch.specs.SwitchView.{seen};
+ghost use Rattle.vc_tokens.specs.CodeTokens.{token};
 
 use crate::act::{Act, ActKind};
 use crate::room::without;

@@ -6,7 +6,7 @@ use Rattle.vc_packets.specs.Spellings.{piece_packet}
 use Rattle.vc_blocks.specs.Halves.{Incoming}
 use Rattle.vc_blocks.specs.declared.in_half.Arrival.TheVariants as arrival
 use Rattle.vc_blocks.specs.declared.in_half.Want.TheVariants as want
-use Rattle.vc_blocks.specs.Carrying.{IsStoredWhole, IsFoundWhole, MessagesArriveWhole}
+use Rattle.vc_blocks.specs.WholeMessages.{IsStoredWhole, IsFoundWhole, MessagesArriveWhole}
 
 -- a half with these fields
 abbrev half : Bool → Bool → Option Packet → List ℕ → Incoming

@@ -1,7 +1,7 @@
+pub mod Acknowledges
+pub mod Arrivals
 pub mod Halves
-pub mod Sending
-pub mod Advancing
-pub mod Arriving
-pub mod Carrying
-pub mod Listed
+pub mod Messages
+pub mod Outputs
 pub mod Private
+pub mod WholeMessages

@@ -1,2 +1,2 @@
 -- What only private functions, invariants and proofs cite.
-pub mod Logging
+pub mod Logs

@@ -17,7 +17,7 @@ pub(crate) struct Ends {
 
 impl Model for Ends {
     ghost use Rattle.std.specs.Prelude.{ℕ, List, ◌++◌};
-    ghost use Rattle.vc_blocks.specs.Private.Logging.{multiples, Countable};
+    ghost use Rattle.vc_blocks.specs.Private.Logs.{multiples, Countable};
 
     ghost Value = { List ℕ };
 

@@ -2,7 +2,7 @@
 ghost use Rattle.std.specs.Prelude.{◌≡◌, ◌≢◌, ◌≤◌, length, drop, false, true, None, [], ◌++◌, ◌↔◌, IsTrue, IfOk, IfSome, OnOk, OnErr};
 ghost use Rattle.std.specs.Option.{option_copied};
 ghost use Rattle.vc_blocks.specs.Halves.{IsPiece};
-ghost use Rattle.vc_blocks.specs.Arriving.{after_arrival, arrival_of, after_want, want_of};
+ghost use Rattle.vc_blocks.specs.Arrivals.{after_arrival, arrival_of, after_want, want_of};
 
 use std::alloc::Global;
 use std::marker::Model;

@@ -3,7 +3,7 @@
 //! process inputting ("Networks, Routers and Transputers", chapter 2).
 //!
 //! The layer above knows that an [`OutHalf`] has at most one piece under way (`specs/Halves`), and that an [`InHalf`] gives a message
-//! whole, when its last piece was stored (`specs/Carrying`).
+//! whole, when its last piece was stored (`specs/WholeMessages`).
 //!
 //! A [`MessageLog`] keeps the messages that went over a channel, packed into one buffer, and [`Messages`] shows them.
 #![tactic(auto)]

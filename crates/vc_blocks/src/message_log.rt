@@ -17,7 +17,7 @@ pub struct MessageLog {
 
 impl Model for MessageLog {
     ghost use Rattle.std.specs.Prelude.{ℕ, List, length};
-    ghost use Rattle.vc_blocks.specs.Private.Logging.{cut, RiseTo};
+    ghost use Rattle.vc_blocks.specs.Private.Logs.{cut, RiseTo};
 
     ghost Value = { List (List ℕ) };
 

@@ -2,7 +2,7 @@
 ghost use Rattle.std.specs.Prelude.{◌≡◌, ◌↔◌, [], length, slice_get, IsTrue};
 ghost use Rattle.std.specs.Iterator.{YieldsFirstRef, item_count};
 ghost use Rattle.std.specs.Option.{option_copied};
-ghost use Rattle.vc_blocks.specs.Listed.{listed, listed_left};
+ghost use Rattle.vc_blocks.specs.Messages.{listed, listed_left};
 
 use crate::message_log::MessageLog;
 

@@ -2,7 +2,7 @@
 ghost use Rattle.std.specs.Prelude.{◌≡◌, ◌≢◌, [], ◌↔◌, IsTrue, IfOk};
 ghost use Rattle.vc_packets.specs.Pieces.{Pieces};
 ghost use Rattle.vc_packets.specs.Spellings.{piece_packet};
-ghost use Rattle.vc_blocks.specs.Advancing.{later_than, advanced};
+ghost use Rattle.vc_blocks.specs.Acknowledges.{later_than, advanced};
 
 use sqlite_items::Items;
 use std::alloc::Global;
@@ -30,7 +30,7 @@ pub enum Advance {
 
 impl Model for OutHalf {
     ghost use Rattle.vc_blocks.specs.Halves.{Outgoing};
-    ghost use Rattle.vc_blocks.specs.Sending.{unacked_of, IsUnderWay};
+    ghost use Rattle.vc_blocks.specs.Outputs.{unacked_of, IsUnderWay};
 
     ghost Value = { Outgoing };
 

@@ -7,14 +7,14 @@ use Rattle.std.specs.Int.{bit_at}
 use Rattle.vc_tokens.specs.Tokens.{Token}
 use Rattle.vc_vcp.proofs.Placed.{place-set_same, place-set_other}
 use Rattle.vc_core.specs.Awake.{StaysAwake, TokenCame}
-use Rattle.vc_core.specs.Enabled.{CanHappen}
-use Rattle.vc_core.specs.Private.Lined.{LeadsTo}
+use Rattle.vc_core.specs.PossibleEvents.{CanHappen}
+use Rattle.vc_core.specs.Private.Lines.{LeadsTo}
 use Rattle.vc_core.specs.Private.Turns.{Rests}
 use Rattle.vc_core.specs.State.{State, IsNetworkOf, HasFront, MakesEvent}
 use Rattle.vc_core.specs.Turns.{FindsEvent}
-use Rattle.vc_core.specs.Wired.{in_at, Comes}
+use Rattle.vc_core.specs.Wiring.{in_at, Comes}
 use Rattle.vc_core.specs.declared.event.Event.{Event}
-use Rattle.vc_actor.specs.Shown.{Acting}
+use Rattle.vc_actor.specs.ActorView.{Acting}
 use Rattle.vc_actor.specs.declared.act.Act.{Act}
 use Rattle.vc_actor.specs.declared.act.Act.TheVariants.{Proc, Take, Put, Route, Fct, Pass}
 use Rattle.vc_plan.specs.declared.plan.Plan.{Plan}

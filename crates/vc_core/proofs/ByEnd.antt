@@ -10,12 +10,12 @@ use Rattle.vc_accepted.proofs.Wired.{outgoing_is}
 use Rattle.vc_plan.specs.Accepted.{IsAccepted}
 use Rattle.vc_plan.specs.declared.plan.Plan.{Plan}
 use Rattle.vc_tokens.specs.Tokens.{Token}
-use Rattle.vc_core.specs.Lined.{AreLined}
+use Rattle.vc_core.specs.Lines.{AreLined}
 use Rattle.vc_core.specs.Private.Fronts.{Marked}
-use Rattle.vc_core.specs.Private.Lined.{LeadsTo}
+use Rattle.vc_core.specs.Private.Lines.{LeadsTo}
 use Rattle.vc_core.specs.Private.ByEnd.{AreApart, ByEnd, Leads, place_of, with_line, ways_at}
-use Rattle.vc_core.specs.Private.Wired.{AreEnds, AreFar, far_end_of}
-use Rattle.vc_core.specs.Wired.{AreWaysAt, Comes, in_at, out_at, there}
+use Rattle.vc_core.specs.Private.Wiring.{AreEnds, AreFar, far_end_of}
+use Rattle.vc_core.specs.Wiring.{AreWaysAt, Comes, in_at, out_at, there}
 use Rattle.vc_core.specs.declared.ends.End.{End}
 use Rattle.vc_core.proofs.Enabled.{has}
 use Rattle.vc_core.proofs.Happening.{written_back}

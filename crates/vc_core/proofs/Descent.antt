@@ -10,7 +10,7 @@ use Rattle.vc_accepted.proofs.Ranked.{ranked}
 use Rattle.vc_network.specs.Still.{IsNoMove}
 use Rattle.vc_network.proofs.Descent.{ends}
 use Rattle.vc_switch.specs.Waiting.{Wormhole}
-use Rattle.vc_actor.specs.Shown.{act_of}
+use Rattle.vc_actor.specs.ActorView.{act_of}
 use Rattle.vc_actor.specs.declared.act.Act.{Act}
 use Rattle.vc_actor.specs.declared.act.Act.TheVariants.{Proc, Take, Put, Route, Fct, Pass}
 use Rattle.vc_core.specs.State.{event_of, shown}

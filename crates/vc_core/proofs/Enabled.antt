@@ -12,7 +12,7 @@ use Rattle.vc_accepted.proofs.Listed.{both, there}
 use Rattle.vc_accepted.proofs.Ported.{side_of}
 use Rattle.vc_accepted.proofs.Wired.{wired, outgoing_is, incoming_is}
 use Rattle.vc_machine.specs.Paths.{AtNode, AtSwitch}
-use Rattle.vc_network.specs.Enabled.{IsEnabled}
+use Rattle.vc_network.specs.EnabledEvents.{IsEnabled}
 use Rattle.vc_network.specs.Network as net
 use Rattle.vc_network.specs.Plan.{IsOutOf, IsInto, back, switch_plan}
 use Rattle.vc_network.specs.Plan as network
@@ -26,21 +26,21 @@ use Rattle.vc_plan.specs.declared.port.Spot.{Spot}
 use Rattle.vc_plan.specs.declared.port.Spot.TheVariants.{Node as AtSpot, Switch}
 use Rattle.vc_plan.specs.declared.port.Wire.{Wire}
 use Rattle.vc_switch.specs.State.{State as SwitchState, plan_of, limit_of}
-use Rattle.vc_switch.specs.Seen.{seen as seen_switch}
+use Rattle.vc_switch.specs.SwitchView.{seen as seen_switch}
 use Rattle.vc_switch.specs.Switch.{Switch as Switching, new_switch, Passes, Routes, Sends}
 use Rattle.vc_switch.specs.Waiting.{Wormhole}
 use Rattle.vc_switch.proofs.Stepping.{each_comes}
 use Rattle.vc_tokens.specs.Tokens.{Token}
 use Rattle.vc_tokens.specs.Tokens as tokens
 use Rattle.vc_packets.specs.Functions.{shown_or}
-use Rattle.vc_vcp.specs.Seen.{seen}
+use Rattle.vc_vcp.specs.VcpView.{seen}
 use Rattle.vc_vcp.proofs.Arriving.{comes_always}
 use Rattle.vc_actor.specs.Able.{NodeCan, SwitchCan, CanAct}
-use Rattle.vc_actor.specs.Acting.{port}
-use Rattle.vc_core.specs.Enabled.{CanHappen}
+use Rattle.vc_actor.specs.Acts.{port}
+use Rattle.vc_core.specs.PossibleEvents.{CanHappen}
 use Rattle.vc_actor.specs.OfPlan.{IsSwitchOf, IsActorOf}
 use Rattle.vc_accepted.specs.Process.{Process, does}
-use Rattle.vc_actor.specs.Shown.{Acting, OfNode, OfSwitch, actor_of, node_of, process_of, views_of, act_of}
+use Rattle.vc_actor.specs.ActorView.{Acting, OfNode, OfSwitch, actor_of, node_of, process_of, views_of, act_of}
 use Rattle.vc_core.specs.State.{State, shown, IsNetworkOf, HasFront, HasWay, WaysLet}
 use Rattle.vc_actor.specs.Turns.{actors}
 use Rattle.vc_actor.specs.declared.act.Act.{Act}

@@ -11,7 +11,7 @@ use Rattle.vc_network.specs.Network.{Actor}
 use Rattle.vc_network.specs.Plan.{Plan, ways, near, far, home}
 use Rattle.vc_network.specs.Views.{vcps, switches, sink_node, queue_at, arrived, on_wire, inside, in_ways, in_halves, everywhere}
 use Rattle.vc_process.proofs.Lists.{none, at_front, behind, front_or}
-use Rattle.vc_core.specs.Private.Placed.{IsAt, packets_at}
+use Rattle.vc_core.specs.Private.PacketPlace.{IsAt, packets_at}
 use Rattle.vc_core.specs.Private.Targets.{Has}
 
 -- the packets on a way, in the switch at its far end, and held on a channel

@@ -8,10 +8,10 @@ use Rattle.std.proofs.lemmas.Bool.{cases_lt}
 use Rattle.vc_packets.specs.declared.mark.Mark.{Mark}
 use Rattle.vc_packets.specs.declared.packet.Packet.{Packet}
 use Rattle.vc_tokens.specs.Tokens.{Token, Byte, Fct, EndMark}
-use Rattle.vc_tokens.specs.Spelt.{token, tokens}
+use Rattle.vc_tokens.specs.CodeTokens.{token, tokens}
 use Rattle.vc_tokens.specs.declared.token.Token.{Token as Code}
 use Rattle.vc_machine.specs.Places.{OnWire, IsOf}
-use Rattle.vc_machine.specs.Seen.{read}
+use Rattle.vc_machine.specs.PacketsOfTokens.{read}
 use Rattle.vc_network.specs.Plan.{body_limit, net_of}
 use Rattle.vc_plan.specs.declared.plan.Plan.{Plan}
 use Rattle.vc_accepted.specs.NetworkOf.{network_of}

@@ -3,7 +3,7 @@ use Rattle.std.proofs.Common.{Option, Some, None, refl}
 use Rattle.vc_occam.proofs.GoingOn.{finishes_on, receives_on}
 use Rattle.vc_vcp.specs.Steps.{Taken, Held, Stored, Complete, More, Finished, Stray}
 use Rattle.vc_network.specs.Network.{GoesOn}
-use Rattle.vc_actor.specs.Private.Passing.{IsAwaited}
+use Rattle.vc_actor.specs.Private.Passes.{IsAwaited}
 use Rattle.vc_accepted.specs.Process.{Process, does}
 
 pub goes_on : (p : Process) (taken : Option Taken) → IsAwaited p taken → (q : Process) × GoesOn does p taken q

@@ -19,13 +19,13 @@ use Rattle.vc_switch.specs.Waiting.{Wormhole}
 use Rattle.vc_tokens.specs.Tokens.{Token}
 use Rattle.vc_tokens.specs.Tokens as tokens
 use Rattle.vc_vcp.proofs.Placed.{place-set_same, place-set_other, by_place-set}
-use Rattle.vc_actor.specs.Acting.{port, MakesOwn, MakesTake, MakesPut, MakesGrant}
+use Rattle.vc_actor.specs.Acts.{port, MakesOwn, MakesTake, MakesPut, MakesGrant}
 use Rattle.vc_actor.specs.OfPlan.{IsActorOf}
 use Rattle.vc_accepted.specs.Process.{does}
-use Rattle.vc_actor.specs.Shown.{Acting, actor_of, act_of}
+use Rattle.vc_actor.specs.ActorView.{Acting, actor_of, act_of}
 use Rattle.vc_core.specs.State.{State, shown, IsNetworkOf, HasFront, HasWay, MakesEvent}
 use Rattle.vc_core.specs.Private.State.{Accepts, GrantsBy, with_actor, with_line}
-use Rattle.vc_core.specs.Wired.{out_at}
+use Rattle.vc_core.specs.Wiring.{out_at}
 use Rattle.vc_actor.specs.declared.act.Act.TheVariants as act
 use Rattle.vc_core.specs.declared.event.Event.{Event}
 

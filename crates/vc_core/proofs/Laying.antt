@@ -8,16 +8,16 @@ use Rattle.vc_accepted.specs.NetworkOf.{network_of, wire_of}
 use Rattle.vc_plan.specs.Accepted.{IsAccepted}
 use Rattle.vc_plan.specs.declared.plan.Plan.{Plan}
 use Rattle.vc_tokens.specs.Tokens.{Token}
-use Rattle.vc_tokens.specs.Spelt.{token as spelt, tokens as all_spelt}
+use Rattle.vc_tokens.specs.CodeTokens.{token as spelt, tokens as all_spelt}
 use Rattle.vc_tokens.specs.declared.token.Token.{Token as Made}
 use Rattle.vc_vcp.proofs.Placed.{place-set_same}
 use Rattle.vc_core.specs.Channels.{AreChannelsOf}
-use Rattle.vc_core.specs.Lined.{Lined}
-use Rattle.vc_core.specs.Private.Lined.{with_way}
+use Rattle.vc_core.specs.Lines.{Lined}
+use Rattle.vc_core.specs.Private.Lines.{with_way}
 use Rattle.vc_actor.specs.OfPlan.{IsActorOf}
-use Rattle.vc_actor.specs.Shown.{Acting}
+use Rattle.vc_actor.specs.ActorView.{Acting}
 use Rattle.vc_core.specs.State.{State, IsNetworkOf}
-use Rattle.vc_core.specs.Wired.{AreWaysAt}
+use Rattle.vc_core.specs.Wiring.{AreWaysAt}
 use Rattle.vc_core.proofs.Happening.{written_back}
 use Rattle.vc_core.proofs.Replayed.{take_more, all_taken}
 

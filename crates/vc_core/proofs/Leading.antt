@@ -17,7 +17,7 @@ use Rattle.vc_plan.specs.declared.port.Port.{Port}
 use Rattle.vc_plan.specs.declared.port.Wire.{Wire}
 use Rattle.vc_accepted.specs.NetworkOf.{network_of, port_at, wire_of}
 use Rattle.vc_accepted.specs.NetworkOf as to
-use Rattle.vc_accepted.specs.Outgoing.{actor_of, actor_of as number_of, is_link, link_port}
+use Rattle.vc_accepted.specs.ActorWays.{actor_of, actor_of as number_of, is_link, link_port}
 use Rattle.vc_machine.specs.Paths.{AtNode, AtSwitch}
 use Rattle.vc_plan.specs.declared.port.Spot.{Spot}
 use Rattle.vc_plan.specs.declared.port.Spot.TheVariants.{Node, Switch}
@@ -26,9 +26,9 @@ use Rattle.vc_accepted.proofs.Limited.{kept}
 use Rattle.vc_accepted.proofs.Listed.{there as found_there}
 use Rattle.vc_accepted.proofs.Ported.{side_of}
 use Rattle.vc_accepted.proofs.Wired.{incoming_is, link_is_at, wired}
-use Rattle.vc_core.specs.Private.Wired.{AreRooms, AreEnds}
-use Rattle.vc_core.specs.Wired.{there, out_at, in_at, AreWaysAt, IsWired}
-use Rattle.vc_core.specs.Private.Wired.{end_at, ends_of}
+use Rattle.vc_core.specs.Private.Wiring.{AreRooms, AreEnds}
+use Rattle.vc_core.specs.Wiring.{there, out_at, in_at, AreWaysAt, IsWired}
+use Rattle.vc_core.specs.Private.Wiring.{end_at, ends_of}
 use Rattle.vc_core.specs.declared.ends.End.{End}
 use Rattle.vc_core.proofs.Bits.{elsewhere, there_now}
 

@@ -13,13 +13,13 @@ use Rattle.vc_plan.specs.Accepted.{IsAccepted, port_of}
 use Rattle.vc_plan.specs.Limits.{link_ok, port_ok, wire_ok, ends_ok, switch_links_ok, spot_there}
 use Rattle.vc_plan.proofs.Limited.{passes}
 use Rattle.vc_vcp.proofs.Placed.{place-set_same, place-set_other}
-use Rattle.vc_accepted.specs.Outgoing.{actor_of, is_link, way_out}
+use Rattle.vc_accepted.specs.ActorWays.{actor_of, is_link, way_out}
 use Rattle.vc_accepted.proofs.Filling.{wire_next}
 use Rattle.vc_accepted.proofs.Limited.{kept}
 use Rattle.vc_accepted.proofs.Listed.{both}
 use Rattle.vc_accepted.proofs.Wired.{wired}
-use Rattle.vc_core.specs.Private.Filled.{left}
-use Rattle.vc_core.specs.Wired.{there, out_at}
+use Rattle.vc_core.specs.Private.OutgoingTable.{left}
+use Rattle.vc_core.specs.Wiring.{there, out_at}
 
 -- how many there are at most
 pub record AreFew (p : Plan) : Type 0 where

@@ -17,8 +17,8 @@ use Rattle.vc_packets.specs.Functions.{shown_or}
 use Rattle.vc_vcp.proofs.Placed.{place-set_same, place-set_other}
 use Rattle.vc_core.specs.Fronts.{bit_of}
 use Rattle.vc_core.specs.Private.Fronts.{Marked}
-use Rattle.vc_core.specs.Lined.{AreLined}
-use Rattle.vc_core.specs.Wired.{out_at, in_at, AreWaysAt, IsWired, Comes, Goes}
+use Rattle.vc_core.specs.Lines.{AreLined}
+use Rattle.vc_core.specs.Wiring.{out_at, in_at, AreWaysAt, IsWired, Comes, Goes}
 use Rattle.vc_core.specs.State.{State, HasFront}
 use Rattle.vc_core.specs.Turns.{FindsFront}
 use Rattle.vc_core.proofs.Enabled.{has}

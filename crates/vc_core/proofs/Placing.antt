@@ -3,7 +3,7 @@ use Rattle.std.proofs.Common.{◌≡◌, ℕ, ◌+◌, ◌/◌, ◌%◌, ◌<◌
 use Rattle.std.proofs.lemmas.List.{length-map}
 use Rattle.std.proofs.lemmas.Option.{slice_get_past}
 use Rattle.vc_machine.specs.Places as places
-use Rattle.vc_machine.specs.Seen.{without_random}
+use Rattle.vc_machine.specs.PacketsOfTokens.{without_random}
 use Rattle.vc_network.specs.Network as net
 use Rattle.vc_network.specs.Plan.{ways, near, far, wire, switch_plan}
 use Rattle.vc_network.specs.Plan as network
@@ -18,14 +18,14 @@ use Rattle.vc_accepted.proofs.Listed.{made, made_or}
 use Rattle.vc_accepted.proofs.Ported.{side_of}
 use Rattle.vc_accepted.proofs.Wired.{ways_few}
 use Rattle.vc_switch.specs.Forward.{Interval, SwitchPlan}
-use Rattle.vc_switch.specs.Seen.{seen}
+use Rattle.vc_switch.specs.SwitchView.{seen}
 use Rattle.vc_switch.specs.State.{State as SwitchState, plan_of}
 use Rattle.vc_switch.specs.Switch.{new_switch}
 use Rattle.vc_packets.specs.Functions.{shown_or}
 use Rattle.vc_actor.specs.OfPlan.{IsSwitchOf}
 use Rattle.vc_actor.specs.Private.Parts.{switch_at}
-use Rattle.vc_core.specs.Private.Placed.{FindsAt, FindsOn, HasIts}
-use Rattle.vc_actor.specs.Shown.{Acting, OfNode, OfSwitch, actor_of}
+use Rattle.vc_core.specs.Private.PacketPlace.{FindsAt, FindsOn, HasIts}
+use Rattle.vc_actor.specs.ActorView.{Acting, OfNode, OfSwitch, actor_of}
 use Rattle.vc_core.specs.State.{State, shown, IsNetworkOf}
 use Rattle.vc_core.specs.declared.place.Place.{Place}
 use Rattle.vc_core.proofs.Happening.{none_past}

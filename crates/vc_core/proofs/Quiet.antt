@@ -3,7 +3,7 @@ use Rattle.std.proofs.Common.{◌≡◌, ◌≢◌, ℕ, None, subst}
 use Rattle.vc_network.specs.Actors.{Network, Label, act_of as label_act}
 use Rattle.vc_network.specs.Actors.Label.{Own, Takes, Puts}
 use Rattle.vc_accepted.specs.NetworkOf.{network_of}
-use Rattle.vc_network.specs.Enabled.{IsEnabled}
+use Rattle.vc_network.specs.EnabledEvents.{IsEnabled}
 use Rattle.vc_network.specs.Network as net
 use Rattle.vc_network.specs.Plan as network
 use Rattle.vc_network.proofs.Writes.{own_step, put_step}
@@ -12,7 +12,7 @@ use Rattle.vc_switch.specs.Switch.{Switch}
 use Rattle.vc_switch.specs.Waiting.{Wormhole}
 use Rattle.vc_accepted.specs.Process.{Process, does}
 use Rattle.vc_tokens.specs.Tokens.{Token}
-use Rattle.vc_actor.specs.Shown.{act_of}
+use Rattle.vc_actor.specs.ActorView.{act_of}
 use Rattle.vc_core.specs.State.{State, shown, MakesEvent}
 use Rattle.vc_actor.specs.Turns.{TakesNone}
 use Rattle.vc_core.specs.Turns.{FindsEvent}

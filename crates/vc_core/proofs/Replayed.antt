@@ -15,7 +15,7 @@ use Rattle.vc_network.proofs.Main.{headline}
 use Rattle.vc_plan.specs.declared.plan.Plan.{Plan}
 use Rattle.vc_plan.specs.Accepted.{IsAccepted}
 use Rattle.vc_accepted.specs.NetworkOf.{network_of, wire_of}
-use Rattle.vc_accepted.specs.Outgoing.{outgoing}
+use Rattle.vc_accepted.specs.ActorWays.{outgoing}
 use Rattle.vc_accepted.proofs.Accepting.{accepted}
 use Rattle.vc_switch.specs.Switch.{new_switch}
 use Rattle.vc_switch.specs.Waiting.{Wormhole}
@@ -30,11 +30,11 @@ use Rattle.vc_placement.specs.Placement.{Linearizes}
 use Rattle.vc_accepted.specs.Begin.{begin_of}
 use Rattle.vc_core.specs.Channels.{AreChannelsOf}
 use Rattle.vc_accepted.specs.Process.{Process, does}
-use Rattle.vc_core.specs.Replaying.{IsOpening, Replays, Reached}
-use Rattle.vc_actor.specs.Shown.{Acting, actor_of}
+use Rattle.vc_core.specs.Replay.{IsOpening, Replays, Reached}
+use Rattle.vc_actor.specs.ActorView.{Acting, actor_of}
 use Rattle.vc_core.specs.State.{State, shown, event_of, MakesEvent}
 use Rattle.vc_actor.specs.Turns.{actors}
-use Rattle.vc_core.specs.Wired.{out_at}
+use Rattle.vc_core.specs.Wiring.{out_at}
 use Rattle.vc_core.specs.declared.event.Event.{Event}
 use Rattle.vc_core.proofs.Happening.{none_past}
 

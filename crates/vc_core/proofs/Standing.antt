@@ -23,13 +23,13 @@ use Rattle.vc_switch.specs.Switch.{new_switch}
 use Rattle.vc_switch.specs.Waiting.{Wormhole}
 use Rattle.vc_accepted.specs.Begin.{begin_of}
 use Rattle.vc_accepted.specs.Process.{does}
-use Rattle.vc_vcp.specs.Keyed.{named}
+use Rattle.vc_vcp.specs.Names.{named}
 use Rattle.vc_packets.specs.Functions.{shown_or}
 use Rattle.vc_core.specs.Channels.{ends_at, end_block}
-use Rattle.vc_core.specs.Private.Placed.{AreOwned, FindsOn, IsAt, packets_at}
-use Rattle.vc_core.specs.Placed.{FindsPlace, IsUnfinished}
-use Rattle.vc_core.specs.Replaying.{Reached, Replays}
-use Rattle.vc_actor.specs.Shown.{Acting, OfNode, OfSwitch, actor_of, view_of}
+use Rattle.vc_core.specs.Private.PacketPlace.{AreOwned, FindsOn, IsAt, packets_at}
+use Rattle.vc_core.specs.PacketPlace.{FindsPlace, IsUnfinished}
+use Rattle.vc_core.specs.Replay.{Reached, Replays}
+use Rattle.vc_actor.specs.ActorView.{Acting, OfNode, OfSwitch, actor_of, view_of}
 use Rattle.vc_core.specs.State.{State, shown, event_of, IsNetworkOf}
 use Rattle.vc_core.specs.declared.event.Event.{Event}
 use Rattle.vc_core.specs.declared.channels.Ends.{Ends}

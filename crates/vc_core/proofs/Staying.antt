@@ -1,8 +1,8 @@
 -- An actor as the code reads it of a list, and the network where it is written again as it was.
 use Rattle.std.proofs.Common.{◌≡◌, ℕ, ◌<◌, length, get_or, slice_get, Some, refl, sym, ap, ◌∙◌, subst}
 use Rattle.std.proofs.lemmas.Option.{slice_get_read, slice_get_within}
-use Rattle.vc_actor.specs.Acting.{MayAct}
-use Rattle.vc_actor.specs.Shown.{Acting}
+use Rattle.vc_actor.specs.Acts.{MayAct}
+use Rattle.vc_actor.specs.ActorView.{Acting}
 use Rattle.vc_actor.specs.declared.act.Act.{Act}
 use Rattle.vc_core.specs.State.{State, MayActAt}
 use Rattle.vc_core.specs.Private.State.{with_actor}

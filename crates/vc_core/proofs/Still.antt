@@ -17,7 +17,7 @@ use Rattle.vc_machine.specs.Links.{Tokens, no_tokens}
 use Rattle.vc_machine.specs.Machine.{ChanState}
 use Rattle.vc_machine.specs.Places as places
 use Rattle.vc_machine.specs.Places.{Place, Queue, OnWire, Inside, Held, BelongsTo, Number, at_place, of_held, of_input}
-use Rattle.vc_machine.specs.Seen.{read, passed_on, input_of, seen}
+use Rattle.vc_machine.specs.PacketsOfTokens.{read, passed_on, input_of, seen}
 use Rattle.vc_machine.specs.Still.{MovesTokens, IsStill, IsClear}
 use Rattle.vc_machine.specs.TokenMachine as tok
 use Rattle.vc_machine.specs.TokenMachine.{TokenEvent, TokenStep}
@@ -45,23 +45,23 @@ use Rattle.vc_plan.specs.declared.port.Spot.{Spot}
 use Rattle.vc_plan.specs.declared.port.Spot.TheVariants.{Node as AtSpot, Switch}
 use Rattle.vc_plan.specs.declared.port.Wire.{Wire}
 use Rattle.vc_switch.specs.State.{State as SwitchState, plan_of}
-use Rattle.vc_switch.specs.Seen.{seen as seen_switch}
+use Rattle.vc_switch.specs.SwitchView.{seen as seen_switch}
 use Rattle.vc_switch.specs.Able as switch_able
 use Rattle.vc_switch.specs.Waiting.{Wormhole}
 use Rattle.vc_accepted.specs.Begin.{begin_of}
 use Rattle.vc_accepted.specs.Process.{Process, does}
 use Rattle.vc_vcp.specs.Able as node_able
-use Rattle.vc_vcp.specs.Seen.{seen as seen_node}
-use Rattle.vc_actor.specs.Acting.{port}
+use Rattle.vc_vcp.specs.VcpView.{seen as seen_node}
+use Rattle.vc_actor.specs.Acts.{port}
 use Rattle.vc_actor.specs.OfPlan.{IsSwitchOf}
-use Rattle.vc_actor.specs.Shown.{Acting, OfNode, OfSwitch}
+use Rattle.vc_actor.specs.ActorView.{Acting, OfNode, OfSwitch}
 use Rattle.vc_actor.specs.declared.act.Act.TheVariants as act
 use Rattle.vc_actor.specs.declared.node.Node.{Node}
 use Rattle.vc_actor.proofs.Linking as node
 use Rattle.vc_actor.proofs.Switching as switching
-use Rattle.vc_core.specs.Enabled.{CanHappen}
-use Rattle.vc_core.specs.Placed.{IsUnfinished}
-use Rattle.vc_core.specs.Replaying.{Reached}
+use Rattle.vc_core.specs.PossibleEvents.{CanHappen}
+use Rattle.vc_core.specs.PacketPlace.{IsUnfinished}
+use Rattle.vc_core.specs.Replay.{Reached}
 use Rattle.vc_core.specs.State.{State, shown, event_of, IsNetworkOf}
 use Rattle.vc_core.specs.Still.{OnlyMoves, NoMove, IsHeld, AllIsHeld, IsUnasked, OnlyProcessesHold}
 use Rattle.vc_core.specs.declared.event.Event.{Event}

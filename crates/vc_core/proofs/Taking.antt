@@ -1,8 +1,8 @@
 -- Where a token comes its actor has the link; and what can be made by its actor, and what the ways let.
 use Rattle.std.proofs.Common.{◌≡◌, ℕ, Some, slice_get, sym, subst}
 use Rattle.vc_plan.specs.declared.plan.Plan.{Plan}
-use Rattle.vc_actor.specs.Acting.{HasLink}
-use Rattle.vc_actor.specs.Shown.{Acting, OfNode, OfSwitch}
+use Rattle.vc_actor.specs.Acts.{HasLink}
+use Rattle.vc_actor.specs.ActorView.{Acting, OfNode, OfSwitch}
 use Rattle.vc_core.specs.State.{State, IsNetworkOf, HasFront, MayActAt, MayHappen, WaysLet}
 use Rattle.vc_core.specs.declared.event.Event.{Event}
 use Rattle.vc_core.proofs.Enabled.{can_take}

@@ -11,19 +11,19 @@ use Rattle.vc_network.specs.Network as net
 use Rattle.vc_network.specs.Views.{vcp_of, switch_of}
 use Rattle.vc_occam.specs.Remains.{Done}
 use Rattle.vc_plan.specs.declared.plan.Plan.{Plan}
-use Rattle.vc_actor.specs.Acting.{MayAct}
-use Rattle.vc_core.specs.Enabled.{CanHappen}
+use Rattle.vc_actor.specs.Acts.{MayAct}
+use Rattle.vc_core.specs.PossibleEvents.{CanHappen}
 use Rattle.vc_actor.specs.OfPlan.{IsActorOf}
 use Rattle.vc_actor.specs.Private.Parts.{IsDone}
 use Rattle.vc_actor.specs.Parts.{strays_of, lost_of}
 use Rattle.vc_accepted.specs.Process.{Process}
-use Rattle.vc_core.specs.Replaying.{Replays}
-use Rattle.vc_actor.specs.Shown.{Acting, OfNode, OfSwitch, node_of}
+use Rattle.vc_core.specs.Replay.{Replays}
+use Rattle.vc_actor.specs.ActorView.{Acting, OfNode, OfSwitch, node_of}
 use Rattle.vc_core.specs.State.{State, shown, IsNetworkOf, HasFront, HasWay, WaysLet}
 use Rattle.vc_actor.specs.Turns.{RoomLets, IsTurn, FindsTurn, kind_of, FindsOf, TakesNone, actors}
 use Rattle.vc_core.specs.Turns.{FindsEvent, FindsEventOf, FindsFront, FindsTake, AllHaveEnded}
 use Rattle.vc_core.specs.Private.Turns.{Rests, IsAtRest}
-use Rattle.vc_core.specs.Wired.{out_at, there}
+use Rattle.vc_core.specs.Wiring.{out_at, there}
 use Rattle.vc_actor.specs.declared.act.Act.{Act}
 use Rattle.vc_actor.specs.declared.act.Act.TheVariants as act
 use Rattle.vc_actor.specs.declared.act.ActKind.{ActKind}

@@ -10,14 +10,14 @@ use Rattle.vc_core.specs.Channels.{IsChannelOf}
 use Rattle.vc_core.specs.declared.channels.ChannelInfo.{ChannelInfo}
 use Rattle.vc_accepted.specs.NetworkOf.{network_of}
 use Rattle.vc_switch.specs.Switch.{new_switch}
-use Rattle.vc_vcp.specs.Keyed.{named}
+use Rattle.vc_vcp.specs.Names.{named}
 use Rattle.vc_packets.specs.Functions.{shown_or}
-use Rattle.vc_vcp.specs.Seen.{seen}
+use Rattle.vc_vcp.specs.VcpView.{seen}
 use Rattle.vc_actor.specs.OfPlan.{AreInside}
-use Rattle.vc_actor.specs.Shown.{Acting, OfNode, OfSwitch, actor_of, view_of, views_of}
+use Rattle.vc_actor.specs.ActorView.{Acting, OfNode, OfSwitch, actor_of, view_of, views_of}
 use Rattle.vc_core.specs.State.{State, shown, IsNetworkOf}
 use Rattle.vc_actor.specs.Private.Parts.{node_at}
-use Rattle.vc_actor.specs.Viewed.{by_inside, node_view, view_at_node}
+use Rattle.vc_actor.specs.ChannelView.{by_inside, node_view, view_at_node}
 use Rattle.vc_actor.specs.declared.inside.Internal.{Internal}
 use Rattle.vc_actor.specs.declared.node.Node.{Node}
 

@@ -6,14 +6,14 @@ use Rattle.vc_packets.specs.declared.mark.Mark.{Mark}
 use Rattle.vc_packets.specs.declared.packet.Packet.{Packet}
 use Rattle.vc_machine.specs.Paths.{Port, AtNode, AtSwitch}
 use Rattle.vc_machine.specs.Places.{Queue, OnWire, Inside, IsOf, BelongsTo}
-use Rattle.vc_machine.specs.Seen.{read, passed_on}
+use Rattle.vc_machine.specs.PacketsOfTokens.{read, passed_on}
 use Rattle.vc_network.specs.Plan.{ways, near, far, net_of}
 use Rattle.vc_network.specs.Views.{vcps, switches, queue_at, arrived, inside, marked}
 use Rattle.vc_plan.specs.declared.plan.Plan.{Plan}
 use Rattle.vc_accepted.specs.NetworkOf.{network_of}
 use Rattle.vc_process.proofs.Lists.{at_front}
 use Rattle.vc_switch.specs.Switch.{Switch}
-use Rattle.vc_core.specs.Private.Placed.{AreOwned, FindsAt, HasIts, packets_at}
+use Rattle.vc_core.specs.Private.PacketPlace.{AreOwned, FindsAt, HasIts, packets_at}
 use Rattle.vc_core.specs.Private.Targets.{Has, HasRead, IsOwned, left}
 use Rattle.vc_core.specs.State.{State, shown, IsNetworkOf}
 use Rattle.vc_core.specs.declared.place.Place.TheVariants as name

@@ -3,7 +3,7 @@ use Rattle.std.specs.Prelude.{◌≡◌, ◌⊎◌, ℕ, ◌<◌, List, [], ◌�
 use Rattle.std.specs.Int.{bit_at}
 use Rattle.vc_tokens.specs.Tokens.{Token}
 use Rattle.vc_core.specs.State.{State, HasFront}
-use Rattle.vc_core.specs.Wired.{in_at}
+use Rattle.vc_core.specs.Wiring.{in_at}
 use Rattle.vc_core.specs.declared.network.Network.{Network}
 
 -- a bit for each of the first 64 actors that is awake

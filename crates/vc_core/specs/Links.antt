@@ -3,7 +3,7 @@ use Rattle.std.specs.Prelude.{ℕ, Bool, true, false, suc, ◌*◌, ◌-◌, Lis
 use Rattle.vc_network.specs.Network.{Actor, IsNode, IsSwitch}
 use Rattle.vc_tokens.specs.Tokens.{Token}
 use Rattle.vc_accepted.specs.Process.{Process}
-use Rattle.vc_core.specs.Enabled.{NetworkState}
+use Rattle.vc_core.specs.PossibleEvents.{NetworkState}
 
 -- each wire is two ways: from its port one, and from its port two
 abbrev pub way_of : ℕ → Bool → ℕ

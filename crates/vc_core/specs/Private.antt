@@ -1,12 +1,12 @@
 -- What only private functions, invariants and proofs cite.
 pub mod ByEnd
 pub mod Channels
-pub mod Filled
 pub mod Fronts
-pub mod Lined
-pub mod Placed
+pub mod Lines
+pub mod OutgoingTable
+pub mod PacketPlace
 pub mod State
 pub mod Targets
 pub mod Turns
 pub mod Ways
-pub mod Wired
+pub mod Wiring

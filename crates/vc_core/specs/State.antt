@@ -13,11 +13,11 @@ use Rattle.vc_switch.specs.Waiting.{Wormhole}
 use Rattle.vc_tokens.specs.Tokens.{Token}
 use Rattle.vc_packets.specs.Functions.{shown_or}
 use Rattle.vc_core.specs.Channels.{AreChannelsOf}
-use Rattle.vc_actor.specs.Acting.{MayAct}
+use Rattle.vc_actor.specs.Acts.{MayAct}
 use Rattle.vc_actor.specs.OfPlan.{IsActorOf}
 use Rattle.vc_accepted.specs.Process.{Process, does}
-use Rattle.vc_actor.specs.Shown.{Acting, actor_of, act_of}
-use Rattle.vc_core.specs.Wired.{AreWaysAt, Comes, Goes}
+use Rattle.vc_actor.specs.ActorView.{Acting, actor_of, act_of}
+use Rattle.vc_core.specs.Wiring.{AreWaysAt, Comes, Goes}
 use Rattle.vc_actor.specs.declared.act.Act.{Act}
 use Rattle.vc_actor.specs.declared.act.Act.TheVariants.{Proc, Take, Put, Route, Fct, Pass}
 use Rattle.vc_core.specs.declared.event.Event.{Event}

@@ -15,9 +15,9 @@ use Rattle.vc_plan.specs.Dependencies.{HasRanks}
 use Rattle.vc_plan.specs.declared.plan.Plan.{Plan as Given}
 use Rattle.vc_actor.specs.declared.act.Act.{Act}
 use Rattle.vc_actor.specs.declared.act.Act.TheVariants.{Proc, Take, Put, Route, Fct, Pass}
-use Rattle.vc_core.specs.Enabled.{NetworkState, CanHappen}
-use Rattle.vc_core.specs.Placed.{IsUnfinishedIn}
-use Rattle.vc_core.specs.Replaying.{Reached}
+use Rattle.vc_core.specs.PossibleEvents.{NetworkState, CanHappen}
+use Rattle.vc_core.specs.PacketPlace.{IsUnfinishedIn}
+use Rattle.vc_core.specs.Replay.{Reached}
 use Rattle.vc_core.specs.State.{State, shown, event_of}
 use Rattle.vc_core.specs.declared.event.Event.{Event}
 

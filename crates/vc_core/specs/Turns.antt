@@ -1,7 +1,7 @@
 -- What an actor's turn is to the network; and when no event can happen at all.
 use Rattle.std.specs.Prelude.{◌≡◌, ℕ, ◌<◌, Option, Some, None}
 use Rattle.vc_plan.specs.declared.plan.Plan.{Plan as Given}
-use Rattle.vc_core.specs.Enabled.{NetworkState, CanHappenIn, CanHappen}
+use Rattle.vc_core.specs.PossibleEvents.{NetworkState, CanHappenIn, CanHappen}
 use Rattle.vc_core.specs.State.{State, shown, HasFront}
 use Rattle.vc_actor.specs.Turns.{kind_of, TakesNone, actors}
 use Rattle.vc_actor.specs.declared.act.Act.{Act}

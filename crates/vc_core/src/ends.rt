@@ -1,6 +1,6 @@
 //! Where the ways of a network lead.
 ghost use Rattle.std.specs.Prelude.{◌≡◌, ◌≤◌, ◌+◌, ◌*◌, IfOk, length, map};
-ghost use Rattle.vc_core.specs.Private.Wired.{end_at as port_end, ends_of as ends_along, far_end_of};
+ghost use Rattle.vc_core.specs.Private.Wiring.{end_at as port_end, ends_of as ends_along, far_end_of};
 
 use crate::outgoing_ways::actor_of;
 use crate::wiring::LINKS;

@@ -1,5 +1,5 @@
 //! Laws of networks. A law is a function that does nothing, whose contract is the law.
-ghost use Rattle.vc_core.specs.Scheduling.{EventsLeadOn};
+ghost use Rattle.vc_core.specs.Scheduler.{EventsLeadOn};
 ghost use Rattle.vc_core.specs.Still.{OnlyProcessesHold, EndsWithoutMoves};
 
 /// What a scheduler of one's own rests on: events that are made one after another, from the opening state on, are a list that leads to

@@ -4,7 +4,7 @@
 //! another, and the same actors run in threads. Each event that [`Network::step`] makes is exactly one step of the network of the
 //! plan (`specs/State`, MakesEvent). What [`replay`] answers keeps the headline, and has one list of all that the nodes communicated.
 //! The list has a linearization: each message passes at one moment, and each node's part is a trace of its process
-//! (`specs/Replaying`). Whoever makes events by a scheduler of their own has the same by [`events_lead_on`].
+//! (`specs/Replay`). Whoever makes events by a scheduler of their own has the same by [`events_lead_on`].
 #![tactic(auto)]
 
 mod channels;

@@ -4,12 +4,12 @@ ghost use Rattle.std.specs.Int.{bit_at};
 ghost use Rattle.std.specs.List.{AllByRecursion};
 ghost use Rattle.std.specs.Option.{option_copied};
 ghost use Rattle.vc_plan.specs.Accepted.{IsAccepted};
-ghost use Rattle.vc_actor.specs.Acting.{MayAct};
-ghost use Rattle.vc_core.specs.Private.Lined.{LeadsTo, TakesOff, PutsOnWay, with_way};
-ghost use Rattle.vc_core.specs.Wired.{out_at, AreWaysAt, Comes, Goes};
+ghost use Rattle.vc_actor.specs.Acts.{MayAct};
+ghost use Rattle.vc_core.specs.Private.Lines.{LeadsTo, TakesOff, PutsOnWay, with_way};
+ghost use Rattle.vc_core.specs.Wiring.{out_at, AreWaysAt, Comes, Goes};
 ghost use Rattle.vc_actor.specs.declared.act.Act.TheVariants as act;
 ghost use Rattle.vc_tokens.specs.Tokens.{Token as SpeltToken};
-ghost use Rattle.vc_tokens.specs.Spelt.{token as spelt, tokens as all_spelt};
+ghost use Rattle.vc_tokens.specs.CodeTokens.{token as spelt, tokens as all_spelt};
 
 use crate::ends::{End, ends_of};
 use crate::fronts::Fronts;
@@ -32,8 +32,8 @@ pub(crate) struct Lines {
 }
 
 impl Model for Lines {
-    ghost use Rattle.vc_core.specs.Lined.{Lined, AreLined};
-    ghost use Rattle.vc_core.specs.Private.Wired.{AreEnds};
+    ghost use Rattle.vc_core.specs.Lines.{Lined, AreLined};
+    ghost use Rattle.vc_core.specs.Private.Wiring.{AreEnds};
 
     ghost Value = { Lined };
 

@@ -1,20 +1,20 @@
 //! A network: its actors, and the ways that join them.
 ghost use Rattle.std.specs.Prelude.{◌≡◌, ◌≢◌, ◌⊎◌, ◌+◌, ◌*◌, ◌<◌, ◌↔◌, ℕ, true, false, length, map, slice_get, Some, None, IsTrue, IfOk, IfSome, OnOk, OnErr, MatchResult};
-ghost use Rattle.vc_core.specs.Replaying.{IsOpening};
+ghost use Rattle.vc_core.specs.Replay.{IsOpening};
 ghost use Rattle.vc_plan.specs.declared.plan.Plan.{Plan};
-ghost use Rattle.vc_actor.specs.Acting.{IsOwn};
+ghost use Rattle.vc_actor.specs.Acts.{IsOwn};
 ghost use Rattle.vc_accepted.specs.NetworkOf.{network_of};
-ghost use Rattle.vc_core.specs.Enabled.{CanHappen};
+ghost use Rattle.vc_core.specs.PossibleEvents.{CanHappen};
 ghost use Rattle.std.specs.Int.{bit_at};
 ghost use Rattle.vc_actor.specs.Private.Parts.{IsDone};
 ghost use Rattle.vc_actor.specs.OfPlan.{IsActorOf};
-ghost use Rattle.vc_actor.specs.Shown.{Acting};
+ghost use Rattle.vc_actor.specs.ActorView.{Acting};
 ghost use Rattle.vc_actor.specs.Turns.{TakesNone, actors};
 ghost use Rattle.vc_core.specs.Turns.{FindsFront, FindsTake, FindsEvent, FindsEventOf, AllHaveEnded};
 ghost use Rattle.vc_core.specs.Awake.{AllAwake, StaysAwake, awake_of};
 ghost use Rattle.vc_core.specs.State.{state_of, IsNetworkOf, MayHappen, WaysLet, HasFront, HasWay, MakesEvent, MakesOne, MayActAt};
 ghost use Rattle.vc_core.specs.Private.State.{GrantsBy};
-ghost use Rattle.vc_tokens.specs.Spelt.{tokens as all_spelt};
+ghost use Rattle.vc_tokens.specs.CodeTokens.{tokens as all_spelt};
 
 use crate::channels::{ChannelInfo, channels_of};
 use crate::event::Event;

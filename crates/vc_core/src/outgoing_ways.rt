@@ -1,8 +1,8 @@
 //! The ways that go out by the links of actors.
 ghost use Rattle.std.specs.Prelude.{◌≡◌, ◌≤◌, ◌+◌, ◌*◌, ℕ, IfOk, length};
-ghost use Rattle.vc_accepted.specs.Outgoing.{actor_of as number_of, outgoing};
-ghost use Rattle.vc_core.specs.Private.Filled.{left};
-ghost use Rattle.vc_core.specs.Wired.{out_at};
+ghost use Rattle.vc_accepted.specs.ActorWays.{actor_of as number_of, outgoing};
+ghost use Rattle.vc_core.specs.Private.OutgoingTable.{left};
+ghost use Rattle.vc_core.specs.Wiring.{out_at};
 ghost use Rattle.vc_plan.specs.Accepted.{IsAccepted};
 
 use crate::wiring::LINKS;

@@ -11,7 +11,7 @@ ghost use Rattle.vc_core.specs.Channels.{ends_at};
 ghost use Rattle.vc_actor.specs.Private.Parts.{switch_at};
 ghost use Rattle.vc_core.specs.Private.Targets.{ComesTo, Has, IsOwned, IsTargetAt};
 ghost use Rattle.vc_core.specs.State.{state_of, IsNetworkOf};
-ghost use Rattle.vc_core.specs.Wired.{out_at};
+ghost use Rattle.vc_core.specs.Wiring.{out_at};
 ghost use Rattle.vc_machine.specs.Machine.{BodyLeaves};
 ghost use Rattle.vc_machine.specs.Paths.{AtSwitch, End};
 ghost use Rattle.vc_machine.specs.Places.{BelongsTo, Inside, IsOf, OnWire};

@@ -1,20 +1,20 @@
 //! What can be seen in a network beside its traffic: who is blocked, what stands on its wires, and what was dropped.
 ghost use Rattle.std.specs.Prelude.{◌≡◌, ◌+◌, ◌*◌, ◌<◌, ◌++◌, [], ℕ, List, length, Some, None, IfOk};
-ghost use Rattle.vc_core.specs.Replaying.{Replays};
+ghost use Rattle.vc_core.specs.Replay.{Replays};
 ghost use Rattle.vc_plan.specs.declared.plan.Plan.{Plan};
 ghost use Rattle.std.specs.Option.{option_copied, option_map};
 ghost use Rattle.vc_accepted.specs.NetworkOf.{network_of};
-ghost use Rattle.vc_accepted.specs.Outgoing.{link_port};
+ghost use Rattle.vc_accepted.specs.ActorWays.{link_port};
 ghost use Rattle.vc_packets.specs.Functions.{shown_or};
 ghost use Rattle.vc_network.specs.Plan.{IsOutOf};
-ghost use Rattle.vc_core.specs.Blocking.{blocked_in, blocked_of as blocked_as};
+ghost use Rattle.vc_core.specs.BlockedParts.{blocked_in, blocked_of as blocked_as};
 ghost use Rattle.vc_core.specs.Links.{buffer_at, buffered_in, credit_at, credit_in, last_of, way_of};
 ghost use Rattle.vc_actor.specs.Parts.{strays_of, lost_of, saturated};
 ghost use Rattle.std.specs.List.{sum_by};
-ghost use Rattle.vc_actor.specs.Shown.{actor_of};
+ghost use Rattle.vc_actor.specs.ActorView.{actor_of};
 ghost use Rattle.vc_core.specs.declared.event.Event.{Event as Happening};
 ghost use Rattle.vc_core.specs.State.{shown, state_of, IsNetworkOf};
-ghost use Rattle.vc_tokens.specs.Spelt.{token as spelt, tokens as all_spelt};
+ghost use Rattle.vc_tokens.specs.CodeTokens.{token as spelt, tokens as all_spelt};
 
 use crate::network::Network;
 use crate::way::Way;

@@ -4,11 +4,11 @@ ghost use Rattle.vc_accepted.specs.NetworkOf.{network_of};
 ghost use Rattle.vc_core.specs.Channels.{ends_at};
 ghost use Rattle.vc_core.specs.Private.Targets.{HasRead, left};
 ghost use Rattle.vc_core.specs.State.{state_of, IsNetworkOf};
-ghost use Rattle.vc_machine.specs.Seen.{read};
+ghost use Rattle.vc_machine.specs.PacketsOfTokens.{read};
 ghost use Rattle.vc_network.specs.Plan.{home, ways};
 ghost use Rattle.vc_packets.specs.declared.packet.Packet.{Packet};
 ghost use Rattle.vc_plan.specs.declared.plan.Plan.{Plan};
-ghost use Rattle.vc_tokens.specs.Spelt.{token as spelt, tokens as all_spelt};
+ghost use Rattle.vc_tokens.specs.CodeTokens.{token as spelt, tokens as all_spelt};
 
 use crate::channels::Ends;
 use crate::network::Network;

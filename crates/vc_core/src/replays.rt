@@ -1,6 +1,6 @@
 //! Events from the opening state on.
 ghost use Rattle.std.specs.Prelude.{IfOk, IfErr};
-ghost use Rattle.vc_core.specs.Replaying.{Replays, RefusedAt};
+ghost use Rattle.vc_core.specs.Replay.{Replays, RefusedAt};
 ghost use Rattle.vc_core.specs.State.{state_of};
 
 use crate::event::Event;

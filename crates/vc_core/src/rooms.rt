@@ -1,8 +1,8 @@
 //! By which links of each actor a way goes out.
 ghost use Rattle.std.specs.Prelude.{◌≡◌, ◌↔◌, ◌≤◌, ◌<◌, ℕ, is_some, length};
 ghost use Rattle.std.specs.Int.{bit_at};
-ghost use Rattle.vc_core.specs.Private.Wired.{AreRooms};
-ghost use Rattle.vc_core.specs.Wired.{out_at, IsWired};
+ghost use Rattle.vc_core.specs.Private.Wiring.{AreRooms};
+ghost use Rattle.vc_core.specs.Wiring.{out_at, IsWired};
 
 use crate::wiring::LINKS;
 

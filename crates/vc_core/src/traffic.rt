@@ -4,7 +4,7 @@ ghost use Rattle.vc_plan.specs.declared.plan.Plan.{Plan};
 ghost use Rattle.std.specs.Option.{option_copied};
 ghost use Rattle.vc_plan.specs.declared.channel.Channel.{Channel};
 ghost use Rattle.vc_accepted.specs.NetworkOf.{network_of};
-ghost use Rattle.vc_blocks.specs.Listed.{listed};
+ghost use Rattle.vc_blocks.specs.Messages.{listed};
 ghost use Rattle.vc_network.specs.Plan.{home};
 ghost use Rattle.vc_network.specs.Views.{view, source_node, sink_node};
 ghost use Rattle.vc_actor.specs.Private.Parts.{node_at};

@@ -15,7 +15,7 @@ pub(crate) struct Way {
 impl Model for Way {
     ghost use Rattle.std.specs.Prelude.{List};
     ghost use Rattle.vc_tokens.specs.Tokens.{Token};
-    ghost use Rattle.vc_tokens.specs.Spelt.{tokens};
+    ghost use Rattle.vc_tokens.specs.CodeTokens.{tokens};
 
     ghost Value = { List Token };
 
@@ -25,8 +25,8 @@ impl Model for Way {
 impl Way {
     ghost use Rattle.std.specs.Prelude.{◌≡◌, ◌≢◌, ◌↔◌, [], ◌∷◌, ◌++◌, List, length, IsTrue, OnOk, OnErr};
     ghost use Rattle.vc_tokens.specs.Tokens.{Token};
-    ghost use Rattle.vc_tokens.specs.Spelt.{token, tokens};
-    ghost use Rattle.vc_actor.specs.Acting.{MayAct};
+    ghost use Rattle.vc_tokens.specs.CodeTokens.{token, tokens};
+    ghost use Rattle.vc_actor.specs.Acts.{MayAct};
     ghost use Rattle.std.specs.Option.{option_map};
     ghost use Rattle.vc_core.specs.Links.{last_of};
     ghost use Rattle.vc_core.specs.Private.Ways.{PutsAt};

@@ -2,7 +2,7 @@
 ghost use Rattle.std.specs.Prelude.{◌≡◌, ◌<◌, [], IfOk, OnErr, OnOk, Some, length, slice_get};
 ghost use Rattle.std.specs.List.{AllByRecursion};
 ghost use Rattle.std.specs.Option.{option_copied};
-ghost use Rattle.vc_actor.specs.Acting.{MayAct};
+ghost use Rattle.vc_actor.specs.Acts.{MayAct};
 ghost use Rattle.vc_actor.specs.declared.act.Act.TheVariants as act;
 ghost use Rattle.vc_core.specs.Private.ByEnd.{AreApart, Leads, PutsLast, PushesLast, HasToken, TakesFront};
 

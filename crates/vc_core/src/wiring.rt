@@ -1,7 +1,7 @@
 //! The ways of a network: two for each wire.
 ghost use Rattle.std.specs.Prelude.{◌≡◌, ◌↔◌, ◌+◌, ◌*◌, ◌<◌, ℕ, IfOk, IfSome, Some, length};
 ghost use Rattle.std.specs.Int.{bit_at};
-ghost use Rattle.vc_core.specs.Wired.{out_at, in_at, AreWaysAt, IsWired};
+ghost use Rattle.vc_core.specs.Wiring.{out_at, in_at, AreWaysAt, IsWired};
 ghost use Rattle.vc_plan.specs.Accepted.{IsAccepted};
 
 use crate::ends::{End, ends_of, far_of, place_at};
@@ -28,7 +28,7 @@ pub(crate) struct Wiring {
 
 impl Model for Wiring {
     ghost use Rattle.std.specs.Prelude.{ℕ, List, Option};
-    ghost use Rattle.vc_core.specs.Private.Wired.{AreFar, AreRooms};
+    ghost use Rattle.vc_core.specs.Private.Wiring.{AreFar, AreRooms};
 
     ghost Value = { List (Option ℕ) };
 

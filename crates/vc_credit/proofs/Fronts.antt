@@ -2,7 +2,7 @@
 use Rattle.std.proofs.Common.{◌≡◌, List, [], ◌∷◌, Option, Some, None, MatchOption, refl, ap}
 use Rattle.std.specs.Prelude.{slice_get}
 use Rattle.vc_tokens.specs.declared.token.Token.{Token as CodeToken}
-use Rattle.vc_tokens.specs.Spelt.{token, tokens}
+use Rattle.vc_tokens.specs.CodeTokens.{token, tokens}
 use Rattle.vc_tokens.specs.Tokens.{Token}
 
 pub front_is : (items : List CodeToken) (o : Option CodeToken) → o ≡ slice_get items 0 →

@@ -23,7 +23,7 @@ impl Model for Receiver {
 
     ghost Value = { Receiver };
 
-    ghost use Rattle.vc_tokens.specs.Spelt.{tokens};
+    ghost use Rattle.vc_tokens.specs.CodeTokens.{tokens};
 
     ghost view = { λ r. record { buffer = tokens r.buffer.items; promised = r.promised } };
 
@@ -33,7 +33,7 @@ impl Model for Receiver {
 impl Receiver {
     ghost use Rattle.std.specs.Prelude.{◌≡◌, ◌<◌, ◌++◌, ◌↔◌, [], IsTrue, IfOk, MatchOption};
     ghost use Rattle.vc_credit.specs.Ends.{new_receiver, received, Passes, IsFront, HasRoom, Grants};
-    ghost use Rattle.vc_tokens.specs.Spelt.{token, tokens};
+    ghost use Rattle.vc_tokens.specs.CodeTokens.{token, tokens};
 
     /// An empty buffer with no place promised.
     pub fn new(alloc: Global) -> Result<Receiver, Memory>

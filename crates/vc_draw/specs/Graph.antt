@@ -15,7 +15,7 @@ use Rattle.vc_plan.specs.declared.port.Spot.{Spot}
 use Rattle.vc_plan.specs.declared.port.Spot.TheVariants.{Node}
 use Rattle.vc_plan.specs.declared.port.Wire.{Wire}
 use Rattle.vc_plan.specs.declared.vlink.Vlink.{Vlink}
-use Rattle.vc_text.specs.Checking.{TellsAccepted}
+use Rattle.vc_text.specs.CheckText.{TellsAccepted}
 use Rattle.vc_text.specs.FaultLine.{way_text}
 use Rattle.vc_text.specs.declared.fault.RunFault.{RunFault}
 

@@ -2,9 +2,9 @@
 use Rattle.std.specs.Prelude.{◌≡◌, ℕ, ◌==◌, nat_lt, true, false, ◌||◌, List, [], ◌++◌, length, map, slice_get, Bool, if◌then◌else◌, codes, decimal, Option, Some, None}
 use Rattle.std.specs.List.{enumerate_from, flat_map}
 use Rattle.std.specs.Option.{option_map_or}
-use Rattle.vc_accepted.specs.Outgoing.{actor_of}
-use Rattle.vc_core.specs.Blocking.{blocked_in}
-use Rattle.vc_core.specs.Enabled.{NetworkState}
+use Rattle.vc_accepted.specs.ActorWays.{actor_of}
+use Rattle.vc_core.specs.BlockedParts.{blocked_in}
+use Rattle.vc_core.specs.PossibleEvents.{NetworkState}
 use Rattle.vc_core.specs.Links.{credit_in, way_of}
 use Rattle.vc_core.specs.declared.place.Place.{Place}
 use Rattle.vc_draw.specs.Graph.{graph_text}
@@ -16,8 +16,8 @@ use Rattle.vc_plan.specs.declared.node_plan.NodePlan.{NodePlan}
 use Rattle.vc_plan.specs.declared.plan.Plan.{Plan}
 use Rattle.vc_plan.specs.declared.port.Port.{Port}
 use Rattle.vc_plan.specs.declared.port.Wire.{Wire}
-use Rattle.vc_text.specs.Running.{RunText}
-use Rattle.vc_text.specs.Shown.{channel_of}
+use Rattle.vc_text.specs.RunText.{RunText}
+use Rattle.vc_text.specs.ChannelStates.{channel_of}
 use Rattle.vc_text.specs.Traffic.{ChannelTraffic, counts_text}
 use Rattle.vc_waits.specs.Packets.{ArePlaces, place_text, ports_text}
 use Rattle.vc_waits.specs.Paths.{paths}

@@ -1,12 +1,12 @@
 //! Writing a network as a drawing.
 ghost use Rattle.std.specs.Prelude.{List, IfOk};
-ghost use Rattle.vc_core.specs.Replaying.{Reached};
+ghost use Rattle.vc_core.specs.Replay.{Reached};
 ghost use Rattle.vc_core.specs.State.{shown, state_of};
 ghost use Rattle.vc_core.specs.declared.event.Event.{Event};
 ghost use Rattle.vc_draw.specs.Graph.{WritesGraph, graph_text as text_of_graph, no_labels};
 ghost use Rattle.vc_draw.specs.State.{IsStateDrawing, IsStateGraph};
-ghost use Rattle.vc_text.specs.Checking.{ReadsAccepted};
-ghost use Rattle.vc_text.specs.Running.{WritesRun, WritesRunBy};
+ghost use Rattle.vc_text.specs.CheckText.{ReadsAccepted};
+ghost use Rattle.vc_text.specs.RunText.{WritesRun, WritesRunBy};
 ghost use Rattle.vc_text.specs.Streams.{Writes};
 
 use crate::graph::graph_text;

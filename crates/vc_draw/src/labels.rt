@@ -1,6 +1,6 @@
 //! Lines that a drawing adds to its labels.
 ghost use Rattle.std.specs.Prelude.{◌≡◌, List, IfOk};
-ghost use Rattle.vc_core.specs.Replaying.{Reached};
+ghost use Rattle.vc_core.specs.Replay.{Reached};
 ghost use Rattle.vc_core.specs.State.{shown, state_of};
 ghost use Rattle.vc_core.specs.declared.event.Event.{Event};
 ghost use Rattle.vc_draw.specs.Graph.{no_labels, lines_at as lines_in};

@@ -1,11 +1,11 @@
+pub mod Explanation
+pub mod Laws
+pub mod Lengths
+pub mod Misuses
+pub mod Offences
+pub mod Offenders
 pub mod Parts
 pub mod Place
 pub mod Sentences
 pub mod Uses
-pub mod Offences
-pub mod Laws
-pub mod Misuses
-pub mod Offenders
 pub mod Walk
-pub mod Lengths
-pub mod Explaining

@@ -3,10 +3,10 @@ ghost use Rattle.std.specs.Prelude.{◌≡◌, ◌++◌, ◌-◌, ◌≤◌, len
 ghost use Rattle.std.specs.List.{flat_map};
 ghost use Rattle.vc_plan.specs.KeptLimits.{KeepsLimits};
 ghost use Rattle.vc_text.specs.declared.fault.RunFault.TheVariants.{Text, Plan as InPlan};
-ghost use Rattle.vc_explain.specs.Explaining.{Explains, IsTold, IsToldOfAccepted, IsToldOfRefusal, accepted_told, plan_places, refusal_told, summary_text, text_place};
+ghost use Rattle.vc_explain.specs.Explanation.{Explains, IsTold, IsToldOfAccepted, IsToldOfRefusal, accepted_told, plan_places, refusal_told, summary_text, text_place};
 ghost use Rattle.vc_explain.specs.Offenders.{path_of};
 ghost use Rattle.vc_explain.specs.Place.{path_line};
-ghost use Rattle.vc_text.specs.Checking.{ReadsAccepted};
+ghost use Rattle.vc_text.specs.CheckText.{ReadsAccepted};
 ghost use Rattle.vc_text.specs.Deadlock.{deadlock_text};
 ghost use Rattle.vc_text.specs.Streams.{most_bytes};
 
@@ -34,7 +34,7 @@ pub struct Explanation {
 }
 
 /// How many nodes and switches, wires, and links that have a wire.
-#[tactic(auto, using(std::proofs::Common::append_assoc), unfolding(crate::specs::Explaining::summary_text))]
+#[tactic(auto, using(std::proofs::Common::append_assoc), unfolding(crate::specs::Explanation::summary_text))]
 fn push_summary(out: &mut Vec<u8>, plan: &Plan) -> Result<(), Memory>
     requires { KeepsLimits plan.now }
     ensures { OnOk result (out.new.items ≡ out.old.items ++ summary_text plan.now) }
@@ -68,7 +68,7 @@ fn push_deadlock(
 }
 
 /// What is told of an accepted network whose packets pass so many switches, and in which these ports of a cycle were found, or none.
-#[tactic(auto, using(std::proofs::Common::append_assoc), unfolding(crate::specs::Explaining::accepted_told))]
+#[tactic(auto, using(std::proofs::Common::append_assoc), unfolding(crate::specs::Explanation::accepted_told))]
 fn tell_found(
     alloc: Global,
     plan: &Plan,

@@ -1,7 +1,7 @@
 //! What is wrong in a network file, in plain sentences, and where it stands.
 //!
 //! [`explain`] tells of a text the line that `check` answers, and behind it a sentence with what to change and the line and column of
-//! what is at fault; or, of a network that is accepted, what it has. The layer above knows exactly what is told (`specs/Explaining`):
+//! what is at fault; or, of a network that is accepted, what it has. The layer above knows exactly what is told (`specs/Explanation`):
 //! the sentence of each refusal (`specs/Sentences`), what a refusal names (`specs/Offenders`), where the value stands in the text to
 //! which a path leads (`specs/Parts`, `specs/Place`), and how many switches packets pass (`specs/Lengths`). Of a text that is no JSON
 //! it knows only that the place is in the text.

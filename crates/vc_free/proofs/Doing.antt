@@ -31,7 +31,7 @@ use Rattle.vc_occam.proofs.Sites.{Within, steps_keep, doing_keeps}
 use Rattle.vc_occam.proofs.Weaving.{Run}
 use Rattle.vc_occam.specs.Completeness.{EndsAs}
 use Rattle.vc_occam.specs.First.{own}
-use Rattle.vc_occam.specs.Private.Moving.{partner}
+use Rattle.vc_occam.specs.Private.MoveSites.{partner}
 use Rattle.vc_occam.specs.InUse.{outputs_rest, inputs_rest}
 use Rattle.vc_occam.specs.States as occam
 use Rattle.vc_occam.specs.States.{StepsTo}

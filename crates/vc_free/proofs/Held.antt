@@ -15,7 +15,7 @@ use Rattle.vc_machine.specs.Machine.{ChanState}
 use Rattle.vc_machine.specs.Paths.{Port, AtNode, AtSwitch, Channel}
 use Rattle.vc_machine.specs.Places as places
 use Rattle.vc_machine.specs.Places.{Place, Queue, OnWire, Inside, Held, BelongsTo, Number, at_place, of_held, of_input}
-use Rattle.vc_machine.specs.Seen.{read, passed_on, input_of, seen}
+use Rattle.vc_machine.specs.PacketsOfTokens.{read, passed_on, input_of, seen}
 use Rattle.vc_machine.specs.Still.{IsClear}
 use Rattle.vc_network.proofs.Main.{same_ways, packets, faithful}
 use Rattle.vc_network.proofs.Showing.{carriers}

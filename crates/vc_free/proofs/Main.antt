@@ -23,7 +23,7 @@ use Rattle.vc_network.proofs.Nexts.{next}
 use Rattle.vc_network.proofs.Showing.{wires}
 use Rattle.vc_network.proofs.Wiring.{net_accepted}
 use Rattle.vc_network.specs.Actors.{Network, ActBy}
-use Rattle.vc_network.specs.Enabled.{IsEnabled}
+use Rattle.vc_network.specs.EnabledEvents.{IsEnabled}
 use Rattle.vc_network.specs.Network.{Act, Actor}
 use Rattle.vc_network.specs.Plan as network
 use Rattle.vc_network.specs.Plan.{back, net_of, ways}

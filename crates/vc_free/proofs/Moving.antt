@@ -34,7 +34,7 @@ use Rattle.vc_occam.proofs.Listing.{quiet_own, stop_own, want_own, choose_own}
 use Rattle.vc_occam.proofs.Meets.{lists_meeting, lists_other}
 use Rattle.vc_occam.proofs.Offered.{offer_own}
 use Rattle.vc_occam.specs.First.{own}
-use Rattle.vc_occam.specs.Private.Moving.{partner}
+use Rattle.vc_occam.specs.Private.MoveSites.{partner}
 use Rattle.vc_occam.specs.States as occam
 use Rattle.vc_occam.specs.Traces.{Out, Fin, In, Stp}
 use Rattle.vc_occam.specs.declared.moves.Move.TheVariants as move

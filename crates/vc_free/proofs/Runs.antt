@@ -9,7 +9,7 @@ use Rattle.vc_process.specs.Usage.{Set, ◌∪◌, just}
 use Rattle.vc_process.specs.Values.{Store}
 use Rattle.vc_occam.specs.First.{own}
 use Rattle.vc_occam.specs.InUse.{inputs_rest, UsesLawfully}
-use Rattle.vc_occam.specs.Private.Moving.{partner, action_for, action_on}
+use Rattle.vc_occam.specs.Private.MoveSites.{partner, action_for, action_on}
 use Rattle.vc_occam.specs.Remains.{Rest, Done, Getting, Then, Turns, Beside, then_on, turns_on, index_on, beside_on, GuardAt, first, later, Step, does_input, waits_input, gets, does_choose, waits_choose, in_then, in_turns, in_left, in_right}
 use Rattle.vc_occam.specs.States.{State, StepsTo, meeting, output, waiting}
 use Rattle.vc_occam.specs.Traces.{Comm, Out, Fin, In, Stp}

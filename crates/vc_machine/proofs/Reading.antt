@@ -9,7 +9,7 @@ use Rattle.vc_machine.specs.Machine.{State, Input}
 use Rattle.vc_tokens.specs.Tokens.{Token, Byte, Fct, EndMark, bytes, spelling, spellings, Spells, without_fcts, fcts}
 use Rattle.vc_machine.specs.Links.{Tokens}
 use Rattle.vc_machine.specs.View.{Got, nothing, begun, Inside, without_mark, with_mark, TokenView}
-use Rattle.vc_machine.specs.Seen.{read, without_random, passed_on, input_of, seen}
+use Rattle.vc_machine.specs.PacketsOfTokens.{read, without_random, passed_on, input_of, seen}
 use Rattle.vc_machine.proofs.Spelling.{bytes-append, fcts-append, mark_in_bytes, first_packet}
 use Rattle.vc_machine.proofs.Heads.{node_got}
 

@@ -6,11 +6,11 @@ pub mod Laws
 pub mod Links
 pub mod Machine
 pub mod Owners
+pub mod PacketsOfTokens
 pub mod Paths
 pub mod Places
 pub mod Private
 pub mod Rendezvous
-pub mod Seen
 pub mod Still
 pub mod TokenExample
 pub mod TokenHeadline

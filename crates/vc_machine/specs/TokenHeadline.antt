@@ -7,7 +7,7 @@ use Rattle.vc_machine.specs.Links.{Tokens, no_tokens}
 use Rattle.vc_switch.specs.Waiting.{Waiting}
 use Rattle.vc_machine.specs.TokenMachine.{TokenEvent, TokenRun}
 use Rattle.vc_machine.specs.View.{TokenView}
-use Rattle.vc_machine.specs.Seen.{seen}
+use Rattle.vc_machine.specs.PacketsOfTokens.{seen}
 
 -- the state that the tokens stand for has the headline; after a stop nothing more is taken; nothing is dropped
 pub record TokenHeadline (net : Net) (back : ℕ → ℕ) (waiting : Waiting) (u : Tokens) : Type 0 where

@@ -15,7 +15,7 @@ ghost use Rattle.vc_machine.specs.TokenExample.{back as example_back, piece, fir
 ghost use Rattle.vc_machine.specs.TokenMachine.{TokenEvent, Route, TokenStep, TokenRun};
 ghost use Rattle.vc_switch.specs.Waiting.{Waiting, StoreAndForward, Wormhole};
 ghost use Rattle.vc_machine.specs.View.{TokenView, Bindings};
-ghost use Rattle.vc_machine.specs.Seen.{seen};
+ghost use Rattle.vc_machine.specs.PacketsOfTokens.{seen};
 ghost use Rattle.vc_machine.specs.Laws.{Ranges, StepsAreSteps, RunsAreRuns, BuffersHold, RunsAreSound};
 ghost use Rattle.vc_machine.specs.TokenHeadline.{TokensKeepHeadline};
 ghost use Rattle.vc_machine.specs.Still.{StillIsClear, RunsEnd};

@@ -7,7 +7,7 @@ use Rattle.vc_credit.specs.Ends.{Sender, Puts, puts_byte, puts_mark}
 use Rattle.vc_machine.specs.Paths.{AtNode, AtSwitch}
 use Rattle.vc_machine.specs.Machine as net
 use Rattle.vc_machine.specs.Links.{Tokens}
-use Rattle.vc_machine.specs.Seen.{seen}
+use Rattle.vc_machine.specs.PacketsOfTokens.{seen}
 use Rattle.vc_machine.specs.TokenMachine as tok
 use Rattle.vc_machine.proofs.Still.{taken_whole}
 use Rattle.vc_switch.specs.Waiting.{Wormhole}

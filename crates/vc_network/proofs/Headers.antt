@@ -6,7 +6,7 @@ use Rattle.vc_network.specs.Actors.{Network, Step, Label}
 use Rattle.vc_network.specs.Private.Actors.{Event, Run}
 use Rattle.vc_network.specs.Actors.Label.{Own, Takes, Puts}
 use Rattle.vc_network.proofs.Growing.{Run-more}
-use Rattle.vc_packets.specs.Counting.{one_more}
+use Rattle.vc_packets.specs.Counters.{one_more}
 use Rattle.vc_packets.specs.Functions.{put}
 use Rattle.vc_tokens.specs.Tokens.{Token}
 use Rattle.vc_machine.proofs.Basics.{put-same}

@@ -8,7 +8,7 @@ use Rattle.vc_tokens.specs.Tokens.{Token}
 use Rattle.vc_machine.specs.Links.{Receiver, Tokens, no_tokens}
 use Rattle.vc_switch.specs.Waiting.{Waiting}
 use Rattle.vc_machine.specs.TokenMachine.{TokenEvent, TokenRun}
-use Rattle.vc_machine.specs.Seen.{input_of, seen}
+use Rattle.vc_machine.specs.PacketsOfTokens.{input_of, seen}
 use Rattle.vc_machine.proofs.Refinement.{no_view}
 use Rattle.vc_machine.proofs.Binding.{no_bindings}
 use Rattle.vc_machine.proofs.Crediting.{no_counts}

@@ -1,5 +1,5 @@
 -- A step of a node's carrier is a step of the ways' machine.
-use Rattle.vc_packets.specs.Counting.{one_more}
+use Rattle.vc_packets.specs.Counters.{one_more}
 use Rattle.std.proofs.Common.{◌≡◌, ℕ, suc, ◌<◌, ◌⊎◌, inl, inr, Bool, true, false, List, [], ◌∷◌, ◌++◌, Option, Some, None, refl, sym, ap, subst, ◌∙◌, arith}
 use Rattle.vc_packets.specs.declared.packet.Packet.{Packet}
 use Rattle.vc_packets.specs.Headers.{spelled}

@@ -16,7 +16,7 @@ use Rattle.vc_network.specs.Processes.{StepRelation, IsDeterminate}
 use Rattle.vc_network.specs.Network.{Act, Proc, Take, Put, Route, Fct, Pass, Node, Actor, IsNode, IsSwitch, GoesOn, NodeStep, SwitchStep, Local, begins}
 use Rattle.vc_network.specs.Threads.{ended, made_by, ReplaysReach}
 use Rattle.vc_network.proofs.Replays.{replayed}
-use Rattle.vc_network.specs.Enabled.{EventsAreOne}
+use Rattle.vc_network.specs.EnabledEvents.{EventsAreOne}
 use Rattle.vc_network.proofs.Determinate.{comes_same, switch_comes_same, passes_same, sends_same, sends_fct_same, enters_same, leaves_same, switch_fct_same, moves_same, goes_same, same_node}
 use Rattle.vc_network.proofs.Threads.{threads_headline}
 

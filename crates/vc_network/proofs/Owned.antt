@@ -4,7 +4,7 @@ use Rattle.std.specs.List.{Contains}
 use Rattle.vc_switch.specs.Waiting.{Waiting, Wormhole}
 use Rattle.vc_machine.specs.Links.{no_tokens}
 use Rattle.vc_machine.specs.Places.{in_ways as machine_ways}
-use Rattle.vc_machine.specs.Seen.{seen}
+use Rattle.vc_machine.specs.PacketsOfTokens.{seen}
 use Rattle.vc_machine.specs.Private.Laws.{FitsWay}
 use Rattle.vc_machine.proofs.Fitting.{limits, all_fit}
 use Rattle.vc_machine.proofs.Limits.{sound}

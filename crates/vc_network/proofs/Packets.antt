@@ -5,7 +5,7 @@ use Rattle.vc_packets.specs.declared.mark.Mark.{Mark}
 use Rattle.vc_machine.specs.Links.{Receiver, Tokens, no_tokens}
 use Rattle.vc_machine.specs.Machine.{Event, Enter, Route, Run}
 use Rattle.vc_machine.specs.Paths.{Port, AtNode, AtSwitch, Net}
-use Rattle.vc_machine.specs.Seen.{input_of, seen}
+use Rattle.vc_machine.specs.PacketsOfTokens.{input_of, seen}
 use Rattle.vc_machine.specs.TokenMachine.{TokenEvent, TokenRun}
 use Rattle.vc_machine.specs.View as view
 use Rattle.vc_machine.proofs.Reading.{seen_is}

@@ -10,7 +10,7 @@ use Rattle.vc_machine.specs.TokenMachine as tok
 use Rattle.vc_machine.specs.Paths.{Net}
 use Rattle.vc_machine.specs.View.{TokenView, Bindings, stays, moves, enters_bound}
 use Rattle.vc_machine.specs.Private.View.{Credited}
-use Rattle.vc_machine.specs.Seen.{seen}
+use Rattle.vc_machine.specs.PacketsOfTokens.{seen}
 use Rattle.vc_machine.proofs.Reading.{seen_is}
 use Rattle.vc_machine.proofs.Refinement.{step_view}
 use Rattle.vc_machine.proofs.Binding.{step_bindings}

@@ -8,7 +8,7 @@ use Rattle.vc_switch.specs.Waiting.{Waiting}
 use Rattle.vc_network.specs.Plan.{Plan, near, far, IsAccepted}
 use Rattle.vc_network.specs.Processes.{StepRelation, IsDeterminate}
 use Rattle.vc_network.specs.Network.{Act, Actor, Local, first, begins, actor_at, HappenAll}
-use Rattle.vc_network.specs.Enabled.{IsEnabled}
+use Rattle.vc_network.specs.EnabledEvents.{IsEnabled}
 use Rattle.vc_network.specs.Headline.{HeadlineAndList}
 
 -- a way's source is the actor at its near end, and its sink the one at its far end

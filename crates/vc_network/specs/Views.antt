@@ -7,7 +7,7 @@ use Rattle.vc_machine.specs.Paths.{Port, AtNode, AtSwitch}
 use Rattle.vc_machine.specs.Rendezvous.{View, Comm, nothing_yet}
 use Rattle.vc_machine.specs.Places.{Place, Queue, OnWire, Inside, Held, at_place, of_held}
 use Rattle.vc_tokens.specs.Tokens.{Token}
-use Rattle.vc_machine.specs.Seen.{read, passed_on}
+use Rattle.vc_machine.specs.PacketsOfTokens.{read, passed_on}
 use Rattle.vc_vcp.specs.Carrier.{Carrier, OutHalf, InHalf}
 use Rattle.vc_vcp.specs.Links.{Vcp, new_vcp}
 use Rattle.vc_switch.specs.Switch.{Switch, new_switch}

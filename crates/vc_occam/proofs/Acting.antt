@@ -22,9 +22,9 @@ use Rattle.vc_occam.specs.Remains.{Rest, Done, Stopped, Fresh, Finishing, Gettin
 use Rattle.vc_occam.specs.declared.waits.Waits.{Waits}
 use Rattle.vc_occam.specs.declared.waits.Waits.TheVariants as waits
 use Rattle.vc_occam.specs.Private.Frames.{Did, first_waits, waits_at, waits_there}
-use Rattle.vc_occam.specs.Private.Moving.{IsAlone, action_for, action_on}
+use Rattle.vc_occam.specs.Private.MoveSites.{IsAlone, action_for, action_on}
 use Rattle.vc_occam.specs.Private.SiteSteps.{one}
-use Rattle.vc_occam.specs.Moving.{site_of}
+use Rattle.vc_occam.specs.MoveSites.{site_of}
 use Rattle.vc_occam.specs.Sites.{sites, sites_all, sites_rest, OwnSites}
 use Rattle.vc_occam.specs.States.{State, Acts, IsTraced, Resumes, StepsTo, bytes_or_none, came, carried, doing, output_at, sent_by, Waiting, output, input, waiting}
 use Rattle.vc_process.specs.ProcessStep.{Wants, Chooses}

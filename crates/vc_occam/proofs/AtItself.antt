@@ -16,7 +16,7 @@ use Rattle.vc_occam.specs.declared.frame.Guard.{Guard}
 use Rattle.vc_occam.specs.declared.moves.Move.TheVariants as move
 use Rattle.vc_process.specs.Syntax.{ALT, Given}
 use Rattle.vc_process.specs.Values.{Store, assigned_bytes, datum_of}
-use Rattle.vc_occam.specs.Blocking.{blocked}
+use Rattle.vc_occam.specs.BlockedParts.{blocked}
 use Rattle.vc_occam.specs.First.{own}
 use Rattle.vc_occam.specs.Frames.{View, Shape, skip, empty_seq, empty_par, stop, assign, send, receive, stop_chan, seq, par, branching, looping, counting, guarding, all_sound, guarded, guards_of, has_guard, is_at_itself, is_sound, plan_of, rest_of, taken_rest, view, view_of}
 use Rattle.vc_occam.specs.Private.Frames.{alt_shape, assigned_at, goes_alone, is_open_alt, seen_guard, shape}

@@ -12,7 +12,7 @@ use Rattle.vc_process.specs.Syntax.{Guards, no_guards, guard}
 use Rattle.vc_process.specs.Values.{Store, holds}
 use Rattle.vc_occam.specs.First.{all_decided, choices, is_true}
 use Rattle.vc_occam.specs.Frames.{View, guards_of}
-use Rattle.vc_occam.specs.Moving.{from_site, site_of}
+use Rattle.vc_occam.specs.MoveSites.{from_site, site_of}
 use Rattle.vc_occam.specs.Private.Frames.{choice_of, moves_of, seen_guard}
 use Rattle.vc_process.proofs.Lists.{none, only}
 use Rattle.vc_process.proofs.Reaching.{drop_at}

@@ -10,7 +10,7 @@ use Rattle.vc_occam.specs.Completeness.{Steps, no_more as no_steps, one_more as 
 use Rattle.vc_occam.specs.Exchanges.{AreExchanges, Moves, no_more, one_more, ExchangesAreMeetings}
 use Rattle.vc_occam.specs.First.{own}
 use Rattle.vc_occam.specs.InUse.{outputs_rest, inputs_rest, UsesLawfully}
-use Rattle.vc_occam.specs.Private.Moving.{partner}
+use Rattle.vc_occam.specs.Private.MoveSites.{partner}
 use Rattle.vc_occam.specs.Remains.{Rest}
 use Rattle.vc_occam.specs.States.{State, StepsTo, meeting, output, waiting}
 use Rattle.vc_occam.specs.Traces.{Comm, Out, Fin, In, Stp}

@@ -8,7 +8,7 @@ use Rattle.vc_occam.specs.declared.moves.Move.{Move}
 use Rattle.vc_process.specs.Values.{Store}
 use Rattle.vc_occam.specs.First.{own}
 use Rattle.vc_occam.specs.Frames.{besides, plans_of, view}
-use Rattle.vc_occam.specs.Moving.{site_of}
+use Rattle.vc_occam.specs.MoveSites.{site_of}
 use Rattle.vc_occam.specs.Private.Frames.{HasNothingAt, IsPart, StandsAt, assigned_at, place_with, shown, task_views}
 use Rattle.vc_occam.specs.Private.Sites.{PartsInPreorder}
 use Rattle.vc_occam.specs.Remains.{Rest}

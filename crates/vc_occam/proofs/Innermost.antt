@@ -2,7 +2,7 @@
 use Rattle.std.proofs.Common.{◌≡◌, ℕ, ℤ, refl, ap, sym, ◌∙◌}
 use Rattle.vc_process.specs.Syntax.{Proc, Procs}
 use Rattle.vc_process.specs.Values.{Store}
-use Rattle.vc_occam.specs.Blocking.{blocked}
+use Rattle.vc_occam.specs.BlockedParts.{blocked}
 use Rattle.vc_occam.specs.First.{own}
 use Rattle.vc_occam.specs.Private.Frames.{assigned_at, innermost}
 use Rattle.vc_occam.specs.Remains.{Rest, Done, Stopped, Fresh, Finishing, Getting, Then, Turns, Beside}

@@ -21,8 +21,8 @@ use Rattle.vc_occam.specs.Traces.{set, Comm, Out, Fin, In, Stp, Decided}
 use Rattle.vc_occam.specs.Remains.{Rest, Done, Stopped, Fresh, Finishing, Getting, Then, Turns, Beside, then_on, turns_on, index_on, beside_on, GuardAt, first, later, Step, does_skip, does_empty_seq, does_empty_par, does_assign, faults_assign, faults_out, does_if, does_turn, does_leave, faults_while, does_count, does_count_none, faults_count, does_offer, does_finish, does_input, waits_input, gets, does_stop, does_choose, waits_choose, in_then, in_turns, in_left, in_right}
 use Rattle.vc_occam.specs.First.{all_decided, choices, own, meetings, joined}
 use Rattle.vc_occam.specs.Private.Frames.{Able}
-use Rattle.vc_occam.specs.Moving.{site_of}
-use Rattle.vc_occam.specs.Private.Moving.{action_for, action_on, partner}
+use Rattle.vc_occam.specs.MoveSites.{site_of}
+use Rattle.vc_occam.specs.Private.MoveSites.{action_for, action_on, partner}
 use Rattle.vc_occam.specs.Laws.{ListedMovesCanBeMade}
 use Rattle.vc_occam.specs.Sites.{sites, sites_all, sites_rest, OwnSites}
 use Rattle.vc_occam.specs.States.{IsAwaited, State, Does, meeting, output_at, carried, sent_by, bytes_or_none, came, doing, output, input, waiting}

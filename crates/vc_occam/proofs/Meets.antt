@@ -15,8 +15,8 @@ use Rattle.vc_occam.specs.Private.Frames.{Able, Did, is_outside}
 use Rattle.vc_occam.specs.Private.SiteSteps.{one}
 use Rattle.vc_occam.specs.InUse.{UsesLawfully}
 use Rattle.vc_process.specs.Messages.{message}
-use Rattle.vc_occam.specs.Private.Moving.{CanBegin, CanMeet, HasMet, at, action_for, partner}
-use Rattle.vc_occam.specs.Moving.{site_of}
+use Rattle.vc_occam.specs.Private.MoveSites.{CanBegin, CanMeet, HasMet, at, action_for, partner}
+use Rattle.vc_occam.specs.MoveSites.{site_of}
 use Rattle.vc_occam.specs.Remains.{Rest, Step}
 use Rattle.vc_occam.specs.Sites.{OwnSites}
 use Rattle.vc_occam.specs.States.{State, Acts, Does, FitsMove, doing, sent_by, bytes_or_none, came, carried, meeting, output_at, output, waiting}

@@ -6,7 +6,7 @@ use Rattle.vc_occam.specs.declared.frame.Task.{Task}
 use Rattle.vc_occam.specs.declared.waits.Waits.{Waits}
 use Rattle.vc_process.specs.Usage.{Set, changes}
 use Rattle.vc_process.specs.Values.{Store}
-use Rattle.vc_occam.specs.Blocking.{blocked}
+use Rattle.vc_occam.specs.BlockedParts.{blocked}
 use Rattle.vc_occam.specs.First.{own}
 use Rattle.vc_occam.specs.Frames.{View, besides, task_view}
 use Rattle.vc_occam.specs.Private.Frames.{assigned_at, first_waits, seen_task, shown, task_views, waits_there, whole}

@@ -13,7 +13,7 @@ use Rattle.vc_process.specs.Usage.{among, changes}
 use Rattle.vc_process.specs.Values.{Store, datum_of}
 use Rattle.vc_occam.specs.First.{own}
 use Rattle.vc_occam.specs.Frames.{View, Shape, stop, send, receive, stop_chan, seq, par, guarding, besides, guards_of, is_at_itself, plans_of, rest_of, view, view_of}
-use Rattle.vc_occam.specs.Moving.{from_site, site_of}
+use Rattle.vc_occam.specs.MoveSites.{from_site, site_of}
 use Rattle.vc_occam.specs.Private.Frames.{listed, place_with, shape, shown, task_views, whole}
 use Rattle.vc_occam.specs.Private.Sites.{PartsInPreorder}
 use Rattle.vc_occam.specs.Remains.{Rest}

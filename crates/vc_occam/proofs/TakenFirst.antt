@@ -6,9 +6,9 @@ use Rattle.vc_occam.specs.declared.answer.Answer.TheVariants.{Nothing}
 use Rattle.vc_occam.specs.declared.moves.Move.TheVariants.{Offer}
 use Rattle.vc_occam.specs.First.{own}
 use Rattle.vc_occam.specs.InUse.{UsesLawfully}
-use Rattle.vc_occam.specs.Moving.{site_of}
+use Rattle.vc_occam.specs.MoveSites.{site_of}
 use Rattle.vc_occam.specs.Private.Frames.{Able, Did}
-use Rattle.vc_occam.specs.Private.Moving.{action_for, at, partner}
+use Rattle.vc_occam.specs.Private.MoveSites.{action_for, at, partner}
 use Rattle.vc_occam.specs.Private.SiteSteps.{one, whole_output}
 use Rattle.vc_occam.specs.Remains.{Rest, Step}
 use Rattle.vc_occam.specs.SiteActions as action

@@ -7,7 +7,7 @@ use Rattle.vc_occam.specs.SiteActions as action
 use Rattle.vc_occam.specs.Private.SiteSteps.{StepAt, one}
 use Rattle.vc_occam.specs.Frames.{View, begun, left_by, remains, view}
 use Rattle.vc_occam.specs.Private.Frames.{Did, HasVariables, Went, shown}
-use Rattle.vc_occam.specs.Private.Moving.{action_on}
+use Rattle.vc_occam.specs.Private.MoveSites.{action_on}
 use Rattle.vc_occam.specs.Private.Sites.{InPreorder}
 use Rattle.vc_occam.specs.Private.Wholes.{Begins}
 use Rattle.vc_occam.specs.Remains.{Rest}

@@ -12,7 +12,7 @@ use Rattle.vc_process.specs.Syntax.{Proc, Procs, Output}
 use Rattle.vc_process.specs.Usage.{Set}
 use Rattle.vc_process.specs.Values.{Store}
 use Rattle.vc_occam.specs.First.{own}
-use Rattle.vc_occam.specs.Moving.{BeginsToWait, site_of, without}
+use Rattle.vc_occam.specs.MoveSites.{BeginsToWait, site_of, without}
 use Rattle.vc_occam.specs.Remains.{Rest, Done, Fresh, Then, Turns, Beside, Step, does_offer, waits_input, in_then, in_turns, in_left, in_right, then_on, turns_on, index_on, beside_on}
 use Rattle.vc_occam.specs.Sites.{OwnSites, sites_rest}
 use Rattle.vc_occam.specs.States.{State, Acts, came, doing}

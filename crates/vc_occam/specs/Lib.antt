@@ -1,11 +1,11 @@
-pub mod Blocking
+pub mod BlockedParts
 pub mod Completeness
 pub mod Exchanges
 pub mod First
 pub mod Frames
 pub mod InUse
 pub mod Laws
-pub mod Moving
+pub mod MoveSites
 pub mod NodeTraces
 pub mod Opening
 pub mod Private

@@ -1,7 +1,7 @@
 -- What only private functions, invariants and proofs cite.
-pub mod Blocking
+pub mod BlockedParts
 pub mod Frames
-pub mod Moving
+pub mod MoveSites
 pub mod OneProof
 pub mod Receivers
 pub mod SiteSteps

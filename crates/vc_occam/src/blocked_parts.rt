@@ -1,7 +1,7 @@
 //! What the parts of a process are at that do not go on by themselves.
 ghost use Rattle.std.specs.Prelude.{◌≡◌, false, map, true};
-ghost use Rattle.vc_occam.specs.Private.Blocking.{Adds, listed_one};
-ghost use Rattle.vc_occam.specs.Blocking.{blocked as blocked_at, blocked_fresh, open_guards};
+ghost use Rattle.vc_occam.specs.Private.BlockedParts.{Adds, listed_one};
+ghost use Rattle.vc_occam.specs.BlockedParts.{blocked as blocked_at, blocked_fresh, open_guards};
 ghost use Rattle.vc_occam.specs.Frames.{guards_of, rest_of, view};
 ghost use Rattle.vc_occam.specs.Private.Frames.{IsAtItself, is_open_alt, output_shape, seen_guard, shown};
 ghost use Rattle.vc_process.specs.Syntax.{ALT};

@@ -3,7 +3,7 @@ ghost use Rattle.std.specs.Prelude.{◌≡◌, ℕ, ◌++◌, ◌∷◌, [], IfS
 ghost use Rattle.vc_occam.specs.declared.frame.Frame.TheViews.{out-Frame};
 ghost use Rattle.vc_occam.specs.First.{first_moves, own};
 ghost use Rattle.vc_occam.specs.Frames.{all_sound, besides, rest_of, view};
-ghost use Rattle.vc_occam.specs.Moving.{from_site};
+ghost use Rattle.vc_occam.specs.MoveSites.{from_site};
 ghost use Rattle.vc_occam.specs.Private.Frames.{GoesAlone, IsAtItself, first_waits, innermost, input_shape, is_open_alt, listed, output_shape, own_moves, shown, task_views, waits_of, whole};
 ghost use Rattle.vc_occam.specs.Private.Sites.{InPreorder};
 ghost use Rattle.vc_occam.specs.States.{waiting};

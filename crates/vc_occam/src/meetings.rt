@@ -4,7 +4,7 @@ ghost use Rattle.std.specs.List.Sorted.{IsNonDecreasingBy};
 ghost use Rattle.vc_occam.specs.declared.moves.Move.TheVariants.{Inner};
 ghost use Rattle.vc_occam.specs.First.{joined as as_joined, meetings};
 ghost use Rattle.vc_occam.specs.Private.Frames.{is_outside as stays_outside};
-ghost use Rattle.vc_occam.specs.Private.Moving.{partner as its_partner};
+ghost use Rattle.vc_occam.specs.Private.MoveSites.{partner as its_partner};
 ghost use Rattle.vc_occam.specs.Private.Receivers.{HasReceivers, key};
 ghost use Rattle.vc_process.specs.Usage.{among};
 

@@ -1,6 +1,6 @@
 //! What a running process may begin with.
 ghost use Rattle.std.specs.Prelude.{◌≡◌};
-ghost use Rattle.vc_occam.specs.Moving.{site_of as its_site};
+ghost use Rattle.vc_occam.specs.MoveSites.{site_of as its_site};
 
 /// A move of a running process. Sites are preorder numbers, channels the plan's numbers, and guards count from 0 in their ALT.
 #[derive(Clone, Copy, Debug, PartialEq, Eq, Drop)]

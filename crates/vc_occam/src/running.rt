@@ -4,9 +4,9 @@ ghost use Rattle.vc_occam.specs.Private.Frames.{Able, Did, HasVariables, shown, 
 ghost use Rattle.vc_occam.specs.Frames.{remains};
 ghost use Rattle.vc_occam.specs.InUse.{UsesLawfully};
 ghost use Rattle.vc_occam.specs.First.{own};
-ghost use Rattle.vc_occam.specs.Private.Moving.{CanBegin, HasMet, IsAlone, action_for, at};
+ghost use Rattle.vc_occam.specs.Private.MoveSites.{CanBegin, HasMet, IsAlone, action_for, at};
 ghost use Rattle.vc_occam.specs.Private.SiteSteps.{one};
-ghost use Rattle.vc_occam.specs.Moving.{site_of};
+ghost use Rattle.vc_occam.specs.MoveSites.{site_of};
 ghost use Rattle.vc_occam.specs.Private.OneProof.{InPreorder-prop, OwnSites-prop, UsesLawfully-prop};
 ghost use Rattle.vc_occam.specs.Private.Sites.{InPreorder};
 ghost use Rattle.vc_occam.specs.Sites.{OwnSites};
@@ -128,11 +128,11 @@ fn meet(
 impl Running {
     ghost use Rattle.std.specs.Prelude.{◌≡◌, ◌≤◌, ◌↔◌, ◌∷◌, [], IsTrue, IfOk, IfSome, OnOk, OnErr, MatchOption, Some, None, true, false, ℕ};
     ghost use Rattle.std.specs.List.{Contains};
-    ghost use Rattle.vc_occam.specs.Blocking.{blocked};
+    ghost use Rattle.vc_occam.specs.BlockedParts.{blocked};
     ghost use Rattle.vc_occam.specs.First.{own};
     ghost use Rattle.vc_occam.specs.Private.Frames.{assigned_at, waits_at};
-    ghost use Rattle.vc_occam.specs.Moving.{BeginsToWait, from_site, site_of, without};
-    ghost use Rattle.vc_occam.specs.Private.Moving.{CanMeet};
+    ghost use Rattle.vc_occam.specs.MoveSites.{BeginsToWait, from_site, site_of, without};
+    ghost use Rattle.vc_occam.specs.Private.MoveSites.{CanMeet};
     ghost use Rattle.vc_occam.specs.declared.moves.Move.TheVariants as Move;
     ghost use Rattle.vc_process.specs.Terms.{store};
     ghost use Rattle.vc_process.specs.InOrder.{number};

@@ -2,7 +2,7 @@
 ghost use Rattle.std.specs.Prelude.{◌≡◌, length};
 ghost use Rattle.vc_occam.specs.Frames.{view};
 ghost use Rattle.vc_occam.specs.Private.Frames.{CanGo, IsAtItself, Went};
-ghost use Rattle.vc_occam.specs.Private.Moving.{action_on};
+ghost use Rattle.vc_occam.specs.Private.MoveSites.{action_on};
 ghost use Rattle.vc_occam.specs.Private.SiteSteps.{StepAt, one, quiet_at, step_at, whole_output};
 ghost use Rattle.vc_occam.specs.SiteActions as action;
 ghost use Rattle.vc_process.specs.Terms.{store};

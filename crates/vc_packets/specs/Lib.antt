@@ -1,7 +1,7 @@
-pub mod Counting
+pub mod Counters
 pub mod Functions
 pub mod Headers
-pub mod Pieces
 pub mod Kind
-pub mod Spellings
 pub mod Laws
+pub mod Pieces
+pub mod Spellings

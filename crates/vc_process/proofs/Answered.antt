@@ -4,7 +4,7 @@ use Rattle.std.specs.Prelude.{eqb, length, nat_lt}
 use Rattle.vc_process.specs.declared.asked.Asked.TheVariants as asked
 use Rattle.vc_process.specs.declared.value_kind.ValueKind.{ValueKind}
 use Rattle.vc_process.specs.declared.value_kind.ValueKind.TheVariants as of
-use Rattle.vc_process.specs.Private.Asking.{asking, everywhere, in_parts, in_branches, in_guards}
+use Rattle.vc_process.specs.Private.Questions.{asking, everywhere, in_parts, in_branches, in_guards}
 use Rattle.vc_process.specs.Limits.{exp_fits, exp_within, holds_kind}
 use Rattle.vc_process.specs.ProcessLimits.{exps_within, parts_exps_within, branches_exps_within, guards_exps_within, in_length, parts_in_length, branches_in_length, guards_in_length, names_fit, parts_names_fit, branches_names_fit, guards_names_fit, test_fits, test_within}
 use Rattle.vc_process.specs.Syntax.{Proc, SKIP, STOP, Assign, Output, Input, StopChan, SEQ, PAR, IF, WHILE, COUNT, ALT, Procs, no_parts, part, Branches, no_branches, branch, Guards, no_guards, guard}

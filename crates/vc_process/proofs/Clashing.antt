@@ -6,7 +6,7 @@ use Rattle.std.specs.List.{Contains}
 use Rattle.vc_process.specs.declared.used.Used.{Used}
 use Rattle.vc_process.specs.declared.used.Used.TheVariants.{Output, Input, Variable}
 use Rattle.vc_process.specs.declared.used.PartUsage.{PartUsage}
-use Rattle.vc_process.specs.Private.Sharing.{Before, NotAfter, AllNotBefore, Ascending, Clash, Clashes, IsFirstClash}
+use Rattle.vc_process.specs.Private.Clashes.{Before, NotAfter, AllNotBefore, Ascending, Clash, Clashes, IsFirstClash}
 use Rattle.vc_process.proofs.Lists.{at_front, behind, front_or, only}
 
 not_itself : (n : Used) → Before n n → ⊥

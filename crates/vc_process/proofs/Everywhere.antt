@@ -3,7 +3,7 @@ use Rattle.std.proofs.Common.{◌≡◌, ℕ, suc, ◌+◌, Bool, true, false, �
 use Rattle.vc_process.specs.declared.condition.Cond.{Cond}
 use Rattle.vc_process.specs.declared.expression.Expr.{Expr}
 use Rattle.vc_process.specs.declared.process.Process.TheOpen as layer
-use Rattle.vc_process.specs.Private.Asking.{Asking, everywhere, in_branches, in_guards, in_parts}
+use Rattle.vc_process.specs.Private.Questions.{Asking, everywhere, in_branches, in_guards, in_parts}
 use Rattle.vc_process.specs.Numbering.{Numbered, NumberedBranch, NumberedGuard, branches_from, guards_from, numbered, parts_from}
 use Rattle.vc_process.specs.Syntax.{Proc, SKIP, STOP, Assign, Output, Input, StopChan, SEQ, PAR, IF, WHILE, COUNT, ALT}
 use Rattle.vc_process.specs.Terms.{exp, as_test}

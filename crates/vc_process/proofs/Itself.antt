@@ -11,7 +11,7 @@ use Rattle.vc_process.specs.declared.process.Process.TheVariants as process
 use Rattle.vc_process.specs.declared.value.Value.{Value}
 use Rattle.vc_process.specs.declared.value.Value.TheVariants as value
 use Rattle.vc_process.specs.declared.value_kind.ValueKind.{ValueKind}
-use Rattle.vc_process.specs.Private.Asking.{in_length_itself, names_itself, within_itself}
+use Rattle.vc_process.specs.Private.Questions.{in_length_itself, names_itself, within_itself}
 use Rattle.vc_process.specs.InOrder.{number}
 use Rattle.vc_process.specs.Limits.{given_in_length, given_within}
 use Rattle.vc_process.specs.Numbering.{Numbered}

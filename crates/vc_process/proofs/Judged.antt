@@ -3,11 +3,11 @@ use Rattle.std.proofs.Common.{◌≡◌, ℕ, ◌<◌, ◌⊎◌, true, false, r
 use Rattle.std.specs.Prelude.{IfErr}
 use Rattle.vc_process.specs.declared.use_fault.UseFault.{UseFault}
 use Rattle.vc_process.specs.declared.use_fault.UseFault.TheVariants as fault
-use Rattle.vc_process.specs.Private.Sharing.{Judges}
+use Rattle.vc_process.specs.Private.Clashes.{Judges}
 use Rattle.vc_process.specs.Syntax.{Proc, Procs, Branches, Guards}
 use Rattle.vc_process.specs.Lawful.{outputs, inputs, Shared, Lawfully, LawfullyAll, LawfullyBranches, LawfullyGuards, SideBySide, Least, Offence, channel, variable, Offends, by_output, by_input, by_variable, FirstOffence, FirstOfAll, FirstOfBranches, FirstOfGuards, in_seq, at_par, in_par, in_if, in_while, at_count, in_count, in_alt, this_part, later_part, this_branch, later_branch, this_guard, later_guard}
 use Rattle.vc_process.specs.Usage.{changes, uses}
-use Rattle.vc_process.specs.Judged.{OffendersAreUnlawful, OneOffenderIsFirst}
+use Rattle.vc_process.specs.FirstOffender.{OffendersAreUnlawful, OneOffenderIsFirst}
 
 parts_offend : {ps : Procs} {x : Offence} → Offends ps x → SideBySide ps → ⊥
 parts_offend (by_output {k = k} least) side = side.0 k least.0

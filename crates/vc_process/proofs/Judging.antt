@@ -5,7 +5,7 @@ use Rattle.vc_process.specs.declared.use_fault.UseFault.{UseFault}
 use Rattle.vc_process.specs.declared.use_fault.UseFault.TheVariants as fault
 use Rattle.vc_process.specs.Lawful.{Lawfully, LawfullyAll, LawfullyBranches, LawfullyGuards, FirstOffence, FirstOfAll, FirstOfBranches, FirstOfGuards, SideBySide, in_seq, in_par, in_if, in_while, in_count, in_alt, this_part, later_part, this_branch, later_branch, this_guard, later_guard, Offence}
 use Rattle.vc_process.specs.Numbering.{Numbered, NumberedBranch, NumberedGuard, branches_from, guards_from, parts_from}
-use Rattle.vc_process.specs.Private.Sharing.{Judges}
+use Rattle.vc_process.specs.Private.Clashes.{Judges}
 use Rattle.vc_process.specs.Syntax.{Exp, Test, Proc, SEQ, PAR, IF, WHILE, COUNT, ALT, Procs, Branches, Guards}
 use Rattle.vc_process.specs.Usage.{changes}
 use Rattle.vc_process.specs.UseFaults.{IsUseFault}

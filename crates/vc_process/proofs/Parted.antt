@@ -11,7 +11,7 @@ use Rattle.vc_process.specs.declared.used.Usage.{Usage}
 use Rattle.vc_process.specs.declared.used.PartUsage.{PartUsage}
 use Rattle.vc_process.specs.Lawful as told
 use Rattle.vc_process.specs.Lawful.{With, Shared, Offends, by_output, by_input, by_variable, SideBySide, outputs, inputs}
-use Rattle.vc_process.specs.Private.Sharing.{Clash, IsFirstClash, Judges, fault_of}
+use Rattle.vc_process.specs.Private.Clashes.{Clash, IsFirstClash, Judges, fault_of}
 use Rattle.vc_process.specs.Syntax.{Proc, Procs, no_parts, part}
 use Rattle.vc_process.specs.Usage.{Set, changes, uses}
 use Rattle.vc_process.specs.Private.Usages.{by_part, part_usages, usages}

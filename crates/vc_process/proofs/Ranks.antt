@@ -15,7 +15,7 @@ use Rattle.vc_process.specs.contracts.used.UsedOrd.TheImpl.Laws as of_used
 use Rattle.vc_process.specs.declared.used.Used.{Used}
 use Rattle.vc_process.specs.declared.used.Used.TheVariants.{Output, Input, Variable}
 use Rattle.vc_process.specs.declared.used.PartUsage.{PartUsage}
-use Rattle.vc_process.specs.Private.Sharing.{Before, NotAfter, AllNotBefore, Ascending}
+use Rattle.vc_process.specs.Private.Clashes.{Before, NotAfter, AllNotBefore, Ascending}
 
 abbrev pub order : PartUsage → PartUsage → Ordering
 order = cmp-value.it

@@ -1,10 +1,10 @@
 pub mod ChannelUses
+pub mod FirstOffender
 pub mod InOrder
-pub mod Judged
 pub mod Lawful
 pub mod Limits
 pub mod Messages
-pub mod Moved
+pub mod MovedVariables
 pub mod Numbering
 pub mod Private
 pub mod ProcessLimits

@@ -1,7 +1,7 @@
 -- What only private functions, invariants and proofs cite.
-pub mod Asking
+pub mod Clashes
 pub mod InOrder
-pub mod Moved
+pub mod MovedVariables
+pub mod Questions
 pub mod Renaming
-pub mod Sharing
 pub mod Usages

@@ -1,6 +1,6 @@
 //! What is asked of each process within a process.
 ghost use Rattle.std.specs.Prelude.{◌≡◌, ◌&&◌, ℕ, map};
-ghost use Rattle.vc_process.specs.Private.Asking.{asking, everywhere as is_everywhere, in_branches as is_in_branches, in_guards as is_in_guards, in_length_itself, in_parts as is_in_parts, keeps_itself as does_keep, names_itself, within_itself};
+ghost use Rattle.vc_process.specs.Private.Questions.{asking, everywhere as is_everywhere, in_branches as is_in_branches, in_guards as is_in_guards, in_length_itself, in_parts as is_in_parts, keeps_itself as does_keep, names_itself, within_itself};
 ghost use Rattle.vc_process.specs.InOrder.{number};
 ghost use Rattle.vc_process.specs.Private.InOrder.{number_branch, number_guard};
 ghost use Rattle.vc_process.specs.Numbering.{branches_from, guards_from, parts_from};

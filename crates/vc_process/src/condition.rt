@@ -1,6 +1,6 @@
 //! Conditions.
 ghost use Rattle.std.specs.Prelude.{◌≡◌, IfOk};
-ghost use Rattle.vc_process.specs.Private.Moved.{moved_exp, IsMovedTest};
+ghost use Rattle.vc_process.specs.Private.MovedVariables.{moved_exp, IsMovedTest};
 ghost use Rattle.vc_process.specs.Syntax.{Compare};
 ghost use Rattle.vc_process.specs.Terms.{as_test};
 

@@ -1,7 +1,7 @@
 //! Processes whose variables are moved: to the number of each variable so many are added.
 ghost use Rattle.std.specs.Prelude.{IfOk};
-ghost use Rattle.vc_process.specs.Moved.{IsMoved};
-ghost use Rattle.vc_process.specs.Private.Moved.{AreMoved, AreMovedBranches, IsMovedBranch, IsMovedGuard, AreMovedGuards};
+ghost use Rattle.vc_process.specs.MovedVariables.{IsMoved};
+ghost use Rattle.vc_process.specs.Private.MovedVariables.{AreMoved, AreMovedBranches, IsMovedBranch, IsMovedGuard, AreMovedGuards};
 
 use crate::condition::Cond;
 use crate::copies::{boxed, push_copied};

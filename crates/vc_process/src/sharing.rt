@@ -4,7 +4,7 @@ ghost use Rattle.std.specs.List.Sorted.{IsPermutation};
 ghost use Rattle.vc_process.specs.InOrder.{number};
 ghost use Rattle.vc_process.specs.Lawful.{Offends, SideBySide};
 ghost use Rattle.vc_process.specs.Numbering.{parts_from};
-ghost use Rattle.vc_process.specs.Private.Sharing.{Ascending, Clashes, IsFirstClash, Judges, fault_of};
+ghost use Rattle.vc_process.specs.Private.Clashes.{Ascending, Clashes, IsFirstClash, Judges, fault_of};
 ghost use Rattle.vc_process.specs.Private.Usages.{by_part, part_usages, usages};
 
 use crate::process::Process;

@@ -5,7 +5,7 @@ ghost use Rattle.vc_process.specs.InOrder.{number};
 ghost use Rattle.vc_process.specs.Private.InOrder.{number_branch, number_guard};
 ghost use Rattle.vc_process.specs.Lawful.{FirstOffence, FirstOfAll, FirstOfBranches, FirstOfGuards, Lawfully, LawfullyAll, LawfullyBranches, LawfullyGuards};
 ghost use Rattle.vc_process.specs.Numbering.{branches_from, guards_from, parts_from, written};
-ghost use Rattle.vc_process.specs.Private.Sharing.{Judges};
+ghost use Rattle.vc_process.specs.Private.Clashes.{Judges};
 ghost use Rattle.vc_process.specs.Syntax.{COUNT, Exp, PAR};
 ghost use Rattle.vc_process.specs.Usage.{changes as does_change};
 ghost use Rattle.vc_process.specs.UseFaults.{IsUseFault};

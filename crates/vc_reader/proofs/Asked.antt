@@ -12,7 +12,7 @@ use Rattle.vc_process.specs.declared.process.Process.{Process}
 use Rattle.vc_process.specs.declared.process.Process.TheVariants as process
 use Rattle.vc_process.specs.declared.value_kind.ValueKind.{ValueKind}
 use Rattle.vc_process.specs.declared.value_kind.ValueKind.TheVariants as kind
-use Rattle.vc_process.specs.Private.Asking.{Asking, everywhere, in_parts, in_branches, in_guards}
+use Rattle.vc_process.specs.Private.Questions.{Asking, everywhere, in_parts, in_branches, in_guards}
 use Rattle.vc_process.specs.InOrder.{number}
 use Rattle.vc_process.specs.Private.InOrder.{number_branch, number_guard}
 use Rattle.vc_process.specs.Numbering.{Numbered, NumberedBranch, NumberedGuard, parts_from, branches_from, guards_from}

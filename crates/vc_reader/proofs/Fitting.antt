@@ -20,7 +20,7 @@ use Rattle.vc_process.specs.declared.value.Value.{Value}
 use Rattle.vc_process.specs.declared.value.Value.TheVariants as value
 use Rattle.vc_process.specs.declared.value_kind.ValueKind.{ValueKind}
 use Rattle.vc_process.specs.declared.value_kind.ValueKind.TheVariants as kind
-use Rattle.vc_process.specs.Private.Asking.{Asking, everywhere, names_itself}
+use Rattle.vc_process.specs.Private.Questions.{Asking, everywhere, names_itself}
 use Rattle.vc_process.specs.InOrder.{number}
 use Rattle.vc_process.specs.Limits.{exp_fits, given_fits, given_kind, holds_kind, is_kind, same_kind}
 use Rattle.vc_process.specs.Numbering.{Numbered, written}

@@ -11,7 +11,7 @@ use Rattle.vc_process.specs.declared.value.Value.{Value}
 use Rattle.vc_process.specs.declared.value.Value.TheVariants as value
 use Rattle.vc_process.specs.declared.value_kind.ValueKind.{ValueKind}
 use Rattle.vc_process.specs.declared.value_kind.ValueKind.TheVariants as kind
-use Rattle.vc_process.specs.Private.Asking.{Asking, everywhere, in_length_itself}
+use Rattle.vc_process.specs.Private.Questions.{Asking, everywhere, in_length_itself}
 use Rattle.vc_process.specs.InOrder.{number}
 use Rattle.vc_process.specs.Limits.{given_in_length}
 use Rattle.vc_process.specs.Numbering.{Numbered, written}

@@ -1,6 +1,6 @@
 -- Acts in the words of the network's steps.
 use Rattle.std.proofs.Common.{◌≡◌, refl}
-use Rattle.vc_actor.specs.Shown.{act_of}
+use Rattle.vc_actor.specs.ActorView.{act_of}
 use Rattle.vc_actor.specs.declared.act.Act.{Act}
 use Rattle.vc_actor.specs.declared.act.Act.TheVariants.{Proc, Take, Put, Route, Fct, Pass}
 use Rattle.vc_occam.specs.declared.moves.Move.TheVariants.{Offer, Want, Choose, Stopch, Inner, Quiet}

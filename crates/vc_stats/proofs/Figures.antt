@@ -4,7 +4,7 @@ use Rattle.std.proofs.lemmas.List.{map-append}
 use Rattle.std.specs.List.{range_with_len}
 use Rattle.vc_accepted.specs.Begin.{begin_of}
 use Rattle.vc_accepted.specs.NetworkOf.{network_of, port_at, port_of}
-use Rattle.vc_core.specs.Enabled.{NetworkState}
+use Rattle.vc_core.specs.PossibleEvents.{NetworkState}
 use Rattle.vc_core.specs.Links.{buffered_in}
 use Rattle.vc_core.specs.State.{MakesEvent, State, shown}
 use Rattle.vc_core.specs.declared.close.Close.{Close}
@@ -17,13 +17,13 @@ use Rattle.vc_plan.specs.declared.port.Port.{Port}
 use Rattle.vc_plan.specs.declared.port.Spot.{Spot}
 use Rattle.vc_plan.specs.declared.port.Spot.TheVariants.{Node, Switch}
 use Rattle.vc_stats.specs.Buffers.{AreBuffersOf, occupancy_at}
-use Rattle.vc_stats.specs.Counting.{AreCounts, Counts, most_events}
+use Rattle.vc_stats.specs.Counts.{AreCounts, Counts, most_events}
 use Rattle.vc_stats.specs.Monitor.{IsMonitorOf, Monitors}
 use Rattle.vc_stats.specs.Packets.{ArePacketsOf, PacketCount, count_at, link_at}
 use Rattle.vc_stats.specs.Peaks.{ArePeaksOf, peak_at}
 use Rattle.vc_stats.specs.Times.{AreTimesOf, busy_of, time_at}
 use Rattle.vc_stats.specs.Texts.{IsCountedText, IsStatsText}
-use Rattle.vc_stats.specs.Visited.{Figures, Visits, buffered_at, count_some, figures_of, greatest, unfinished_in, way_figures}
+use Rattle.vc_stats.specs.StateFigures.{Figures, Visits, buffered_at, count_some, figures_of, greatest, unfinished_in, way_figures}
 use Rattle.vc_stats.specs.declared.form.Form.{Form}
 use Rattle.vc_stats.specs.declared.monitor.Monitor.{Monitor}
 use Rattle.vc_stats.specs.declared.occupancy.Occupancy.{Occupancy}

@@ -6,7 +6,7 @@ use Rattle.std.proofs.lemmas.Option.{slice_get_past}
 use Rattle.vc_accepted.specs.NetworkOf.{home_in, network_of}
 use Rattle.vc_accepted.specs.Process.{does}
 use Rattle.vc_accepted.proofs.Listed.{made, made_or}
-use Rattle.vc_core.specs.Enabled.{NetworkState}
+use Rattle.vc_core.specs.PossibleEvents.{NetworkState}
 use Rattle.vc_core.specs.Links.{buffered_in}
 use Rattle.vc_network.specs.Actors.{ActBy}
 use Rattle.vc_network.specs.Network.{Happens}
@@ -22,7 +22,7 @@ use Rattle.vc_stats.specs.Peaks.{AreWaysOf, IsPeakOf, peak_at}
 use Rattle.vc_stats.specs.Rows.{has, is_in, row_of}
 use Rattle.vc_stats.specs.Times.{AreOutputsOf, IsTimeOf, source_on, time_at}
 use Rattle.vc_stats.specs.Private.Times.{AreTurned, turned}
-use Rattle.vc_stats.specs.Visited.{is_unfinished, tokens_on}
+use Rattle.vc_stats.specs.StateFigures.{is_unfinished, tokens_on}
 use Rattle.vc_stats.specs.declared.busy_time.BusyTime.{BusyTime}
 use Rattle.vc_stats.specs.declared.busy_time.BusyTime.TheVariants.{Idle}
 use Rattle.vc_stats.specs.declared.buffers.Buffers.{Buffers}

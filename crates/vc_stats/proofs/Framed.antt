@@ -19,7 +19,7 @@ use Rattle.vc_vcp.specs.Carrier.{Carrier, OutHalf, End}
 use Rattle.vc_vcp.specs.Links.{Vcp, Comes, due, not_due, unqueued}
 use Rattle.vc_vcp.specs.Steps as node
 use Rattle.vc_stats.specs.Times.{source_on}
-use Rattle.vc_stats.specs.Visited.{is_open}
+use Rattle.vc_stats.specs.StateFigures.{is_open}
 
 -- an output on a virtual link may begin or be finished by the act
 abbrev pub turns : Act → Bool

@@ -6,7 +6,7 @@ use Rattle.vc_network.specs.Plan.{Plan, Home, Way, Inside, home}
 use Rattle.vc_network.specs.Views.{inner_of, source_node, vcp_of, view, view_at}
 use Rattle.vc_switch.specs.Switch.{new_switch}
 use Rattle.vc_vcp.specs.Links.{new_vcp}
-use Rattle.vc_stats.specs.Visited.{is_open}
+use Rattle.vc_stats.specs.StateFigures.{is_open}
 
 -- a node or a switch about to begin
 abbrev fresh : {P : Type 0} → (ℕ → P) → ℕ → Bool → Actor P

@@ -4,15 +4,15 @@ use Rattle.std.proofs.lemmas.List.{length-map}
 use Rattle.std.proofs.lemmas.List.Sums.{count_by-le-length}
 use Rattle.std.specs.Option.{option_to_list}
 use Rattle.vc_accepted.specs.NetworkOf.{network_of, port_at, port_of, wire_of}
-use Rattle.vc_accepted.specs.Outgoing.{link_port}
+use Rattle.vc_accepted.specs.ActorWays.{link_port}
 use Rattle.vc_accepted.proofs.Crossing.{wire_is}
 use Rattle.vc_accepted.proofs.Listed.{there}
 use Rattle.vc_accepted.proofs.Ported.{side_of}
 use Rattle.vc_accepted.proofs.Wired.{link_is_at, wired}
-use Rattle.vc_core.specs.Enabled.{NetworkState}
+use Rattle.vc_core.specs.PossibleEvents.{NetworkState}
 use Rattle.vc_core.specs.Links.{last_of}
 use Rattle.vc_core.specs.declared.event.Event.{Event}
-use Rattle.vc_machine.specs.Seen.{read}
+use Rattle.vc_machine.specs.PacketsOfTokens.{read}
 use Rattle.vc_network.specs.Network.{actor_at}
 use Rattle.vc_network.specs.Plan.{IsOutOf, near}
 use Rattle.vc_network.specs.Plan as network
@@ -25,7 +25,7 @@ use Rattle.vc_plan.specs.declared.port.Port.{Port}
 use Rattle.vc_plan.specs.declared.port.Spot.{Spot}
 use Rattle.vc_plan.specs.declared.port.Spot.TheVariants.{Node, Switch}
 use Rattle.vc_tokens.specs.Tokens.{Token, Byte, Fct, EndMark}
-use Rattle.vc_stats.specs.Counting.{most_events, put_in}
+use Rattle.vc_stats.specs.Counts.{most_events, put_in}
 use Rattle.vc_stats.specs.Packets.{ArePacketsOf, IsCountOf, PacketCount, count_at, is_ack, is_eop, link_at, puts_on, rest_of, tokens_put}
 use Rattle.vc_stats.specs.Private.Packets.{with_token}
 use Rattle.vc_stats.specs.Tallies.{counted, is_at}

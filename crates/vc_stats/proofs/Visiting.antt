@@ -2,13 +2,13 @@
 use Rattle.std.proofs.Common.{◌≡◌, ℕ, suc, List, [], ◌∷◌, ◌++◌, length, max, refl, ap, ◌∙◌, subst, arith}
 use Rattle.vc_accepted.specs.NetworkOf.{network_of}
 use Rattle.vc_accepted.specs.Process.{does}
-use Rattle.vc_core.specs.Enabled.{NetworkState}
+use Rattle.vc_core.specs.PossibleEvents.{NetworkState}
 use Rattle.vc_core.specs.State.{event_of}
 use Rattle.vc_core.specs.declared.event.Event.{Event}
 use Rattle.vc_network.specs.Network.{Happens}
 use Rattle.vc_plan.specs.declared.plan.Plan.{Plan}
 use Rattle.vc_switch.specs.Waiting.{Wormhole}
-use Rattle.vc_stats.specs.Visited.{LeadThrough, greatest}
+use Rattle.vc_stats.specs.StateFigures.{LeadThrough, greatest}
 
 -- one event more
 pub leads_more : (p : Plan) (x : NetworkState) (es : List Event) (xs : List NetworkState) (y : NetworkState) (e : Event) (z : NetworkState) → LeadThrough p x es xs y →

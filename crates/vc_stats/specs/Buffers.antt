@@ -1,6 +1,6 @@
 -- How full receive buffers are, and for how long.
 use Rattle.std.specs.Prelude.{ℕ, ◌+◌, ◌*◌, ◌<◌, nat_lt, List, get_or}
-use Rattle.vc_core.specs.Enabled.{NetworkState}
+use Rattle.vc_core.specs.PossibleEvents.{NetworkState}
 use Rattle.vc_core.specs.Links.{buffered_in}
 use Rattle.vc_stats.specs.Peaks.{IsPeakOf}
 use Rattle.vc_stats.specs.Times.{IsTimeOf}

@@ -6,7 +6,7 @@ use Rattle.vc_core.specs.declared.event.Event.{Event}
 use Rattle.vc_plan.specs.declared.plan.Plan.{Plan}
 use Rattle.vc_plan.specs.declared.port.Spot.{Spot}
 use Rattle.vc_plan.specs.declared.port.Spot.TheVariants.{Node, Switch}
-use Rattle.vc_stats.specs.Counting.{actor_count_at, count_at, fct_in, kind_count, offer_in, output_in, put_in, want_in}
+use Rattle.vc_stats.specs.Counts.{actor_count_at, count_at, fct_in, kind_count, offer_in, output_in, put_in, want_in}
 use Rattle.vc_stats.specs.Kinds.{kinds, word_of}
 use Rattle.vc_stats.specs.declared.form.Form.{Form}
 use Rattle.vc_stats.specs.declared.form.Form.TheVariants.{Lines, Json}

@@ -1,5 +1,5 @@
 pub mod Buffers
-pub mod Counting
+pub mod Counts
 pub mod Fields
 pub mod Json
 pub mod Kinds
@@ -9,7 +9,7 @@ pub mod Peaks
 pub mod Private
 pub mod Rows
 pub mod Sections
+pub mod StateFigures
 pub mod Tallies
 pub mod Texts
 pub mod Times
-pub mod Visited

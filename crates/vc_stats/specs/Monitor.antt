@@ -1,14 +1,14 @@
 -- What a monitor of a run has come to.
 use Rattle.std.specs.Prelude.{◌≤◌, List, length}
-use Rattle.vc_core.specs.Enabled.{NetworkState}
+use Rattle.vc_core.specs.PossibleEvents.{NetworkState}
 use Rattle.vc_core.specs.declared.event.Event.{Event}
 use Rattle.vc_plan.specs.declared.plan.Plan.{Plan}
 use Rattle.vc_stats.specs.Buffers.{AreBuffersOf}
-use Rattle.vc_stats.specs.Counting.{AreCounts, most_events}
+use Rattle.vc_stats.specs.Counts.{AreCounts, most_events}
 use Rattle.vc_stats.specs.Packets.{ArePacketsOf}
 use Rattle.vc_stats.specs.Peaks.{ArePeaksOf}
 use Rattle.vc_stats.specs.Times.{AreTimesOf}
-use Rattle.vc_stats.specs.Visited.{Figures, Visits}
+use Rattle.vc_stats.specs.StateFigures.{Figures, Visits}
 use Rattle.vc_stats.specs.declared.monitor.Monitor.{Monitor}
 use Rattle.vc_stats.specs.declared.state_figures.StateFigures.{StateFigures}
 

@@ -2,18 +2,18 @@
 use Rattle.std.specs.Prelude.{◌≡◌, ℕ, ◌*◌, ◌<◌, ◌==◌, ◌&&◌, nat_lt, Bool, true, false, List, [], ◌∷◌, ◌++◌, length, count_by, if◌then◌else◌}
 use Rattle.std.specs.Option.{option_to_list}
 use Rattle.vc_accepted.specs.NetworkOf.{network_of}
-use Rattle.vc_core.specs.Enabled.{NetworkState}
+use Rattle.vc_core.specs.PossibleEvents.{NetworkState}
 use Rattle.vc_core.specs.Links.{last_of}
 use Rattle.vc_core.specs.declared.event.Event.{Event}
 use Rattle.vc_machine.specs.Paths.{Port, AtNode, AtSwitch}
-use Rattle.vc_machine.specs.Seen.{read}
+use Rattle.vc_machine.specs.PacketsOfTokens.{read}
 use Rattle.vc_network.specs.Network.{actor_at}
 use Rattle.vc_network.specs.Plan.{near}
 use Rattle.vc_packets.specs.declared.mark.Mark.{Mark}
 use Rattle.vc_packets.specs.declared.mark.Mark.TheVariants.{Eop, Eom}
 use Rattle.vc_packets.specs.declared.packet.Packet.{Packet}
 use Rattle.vc_plan.specs.declared.plan.Plan.{Plan}
-use Rattle.vc_stats.specs.Counting.{put_in}
+use Rattle.vc_stats.specs.Counts.{put_in}
 use Rattle.vc_stats.specs.Tallies.{cell, is_at}
 use Rattle.vc_stats.specs.declared.packets.Packets.{Packets}
 use Rattle.vc_tokens.specs.Tokens.{Token, Byte, Fct, EndMark}

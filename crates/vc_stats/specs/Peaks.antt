@@ -1,12 +1,12 @@
 -- How it is kept how many tokens stand on ways at most.
 use Rattle.std.specs.Prelude.{◌≡◌, ℕ, ◌*◌, ◌<◌, ◌≤◌, true, List, length, get_or}
 use Rattle.vc_accepted.specs.NetworkOf.{network_of}
-use Rattle.vc_core.specs.Enabled.{NetworkState}
+use Rattle.vc_core.specs.PossibleEvents.{NetworkState}
 use Rattle.vc_network.specs.Network.{actor_at}
 use Rattle.vc_network.specs.Plan.{near}
 use Rattle.vc_plan.specs.declared.plan.Plan.{Plan}
 use Rattle.vc_stats.specs.Rows.{has}
-use Rattle.vc_stats.specs.Visited.{greatest, tokens_on}
+use Rattle.vc_stats.specs.StateFigures.{greatest, tokens_on}
 use Rattle.vc_stats.specs.declared.peaks.Peaks.{Peaks}
 use Rattle.vc_stats.specs.declared.rows.Rows.{Rows}
 

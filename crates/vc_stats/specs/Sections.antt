@@ -10,7 +10,7 @@ use Rattle.vc_waits.specs.Ports.{port_text}
 use Rattle.vc_text.specs.Traffic.{ChannelTraffic}
 use Rattle.vc_stats.specs.Fields.{actors_of, begun_text, bound_text, figures_text, kinds_text, packets_text, puts_text, taken_text, text_in, unfinished_text}
 use Rattle.vc_stats.specs.Json.{line_start, named}
-use Rattle.vc_stats.specs.Visited.{Figures}
+use Rattle.vc_stats.specs.StateFigures.{Figures}
 use Rattle.vc_stats.specs.declared.form.Form.{Form}
 use Rattle.vc_stats.specs.declared.form.Form.TheVariants.{Lines, Json}
 use Rattle.vc_stats.specs.declared.state_figures.WayFigures.{WayFigures}

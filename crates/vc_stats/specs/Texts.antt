@@ -1,12 +1,12 @@
 -- What is written of a run, with its counts or as JSON.
 use Rattle.std.specs.Prelude.{◌≡◌, ℕ, Bool, List, ◌++◌, codes}
-use Rattle.vc_core.specs.Enabled.{NetworkState}
-use Rattle.vc_text.specs.Running.{RunText}
-use Rattle.vc_text.specs.Shown.{channels_of}
+use Rattle.vc_core.specs.PossibleEvents.{NetworkState}
+use Rattle.vc_text.specs.RunText.{RunText}
+use Rattle.vc_text.specs.ChannelStates.{channels_of}
 use Rattle.vc_text.specs.Tail.{IsTail}
 use Rattle.vc_stats.specs.Json.{traffic_json}
 use Rattle.vc_stats.specs.Sections.{stats_text}
-use Rattle.vc_stats.specs.Visited.{Figures, Visits, figures_of, no_figures}
+use Rattle.vc_stats.specs.StateFigures.{Figures, Visits, figures_of, no_figures}
 use Rattle.vc_stats.specs.declared.form.Form.{Form}
 use Rattle.vc_stats.specs.declared.form.Form.TheVariants.{Lines, Json}
 

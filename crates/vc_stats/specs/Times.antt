@@ -1,13 +1,13 @@
 -- How it is kept after how many events outputs are unfinished.
 use Rattle.std.specs.Prelude.{◌≡◌, ℕ, ◌-◌, ◌≤◌, Bool, true, false, count_by, List, length, get_or, Option, Some, None}
 use Rattle.vc_accepted.specs.NetworkOf.{network_of}
-use Rattle.vc_core.specs.Enabled.{NetworkState}
+use Rattle.vc_core.specs.PossibleEvents.{NetworkState}
 use Rattle.vc_network.specs.Plan as network
 use Rattle.vc_network.specs.Plan.{Home, Way, Inside, home}
 use Rattle.vc_network.specs.Views.{source_node}
 use Rattle.vc_plan.specs.declared.plan.Plan.{Plan}
 use Rattle.vc_stats.specs.Rows.{has}
-use Rattle.vc_stats.specs.Visited.{is_unfinished}
+use Rattle.vc_stats.specs.StateFigures.{is_unfinished}
 use Rattle.vc_stats.specs.declared.busy_time.BusyTime.{BusyTime}
 use Rattle.vc_stats.specs.declared.busy_time.BusyTime.TheVariants.{Busy, Idle}
 use Rattle.vc_stats.specs.declared.rows.Rows.{Rows}

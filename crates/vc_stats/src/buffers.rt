@@ -2,7 +2,7 @@
 ghost use Rattle.std.specs.Prelude.{◌≡◌, ◌==◌, ◌&&◌, ◌<◌, ◌∷◌, ◌++◌, [], ℕ, cond, List, length, OnOk};
 ghost use Rattle.vc_accepted.specs.Begin.{begin_of};
 ghost use Rattle.vc_accepted.specs.NetworkOf.{network_of};
-ghost use Rattle.vc_core.specs.Enabled.{NetworkState};
+ghost use Rattle.vc_core.specs.PossibleEvents.{NetworkState};
 ghost use Rattle.vc_core.specs.State.{MakesEvent, State, shown, state_of};
 ghost use Rattle.vc_network.specs.Network.{begins};
 ghost use Rattle.vc_plan.specs.declared.plan.Plan.{Plan};

@@ -1,9 +1,9 @@
 //! Counts with their names.
 ghost use Rattle.std.specs.Prelude.{◌≡◌, ◌≤◌, ◌++◌, List, OnOk};
 ghost use Rattle.std.specs.List.{flat_map};
-ghost use Rattle.vc_blocks.specs.Listed.{listed};
+ghost use Rattle.vc_blocks.specs.Messages.{listed};
 ghost use Rattle.vc_core.specs.declared.event.Event.{Event};
-ghost use Rattle.vc_stats.specs.Counting.{AreCounts};
+ghost use Rattle.vc_stats.specs.Counts.{AreCounts};
 ghost use Rattle.vc_stats.specs.Fields.{begun_text, bound_text, bytes_of as bytes_in, field_text, figures_text, kind_text, kinds_text, packets_text, puts_text, taken_text, tokens_text, unfinished_text, way_figures_text, whole_text};
 
 use crate::form::Form;

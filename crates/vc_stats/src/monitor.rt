@@ -1,15 +1,15 @@
 //! A monitor of a run.
 ghost use Rattle.std.specs.Prelude.{◌≡◌, ◌<◌, ◌*◌, ◌/◌, ◌∷◌, ◌++◌, [], List, length, IfOk, OnOk};
 ghost use Rattle.vc_accepted.specs.NetworkOf.{network_of, port_of};
-ghost use Rattle.vc_core.specs.Enabled.{NetworkState};
-ghost use Rattle.vc_core.specs.Replaying.{IsOpening};
+ghost use Rattle.vc_core.specs.PossibleEvents.{NetworkState};
+ghost use Rattle.vc_core.specs.Replay.{IsOpening};
 ghost use Rattle.vc_core.specs.State.{MakesEvent, State, shown, state_of};
 ghost use Rattle.vc_core.specs.declared.event.Event.{Event as Happening};
 ghost use Rattle.vc_network.specs.Plan.{port_of as port_of_wire, wire};
 ghost use Rattle.vc_plan.specs.declared.plan.Plan.{Plan as Given};
 ghost use Rattle.vc_plan.specs.Accepted.{IsAccepted};
 ghost use Rattle.vc_stats.specs.Monitor.{IsMonitorOf, Monitors, figures};
-ghost use Rattle.vc_stats.specs.Visited.{figures_of, way_figures};
+ghost use Rattle.vc_stats.specs.StateFigures.{figures_of, way_figures};
 
 use crate::buffers::Buffers;
 use crate::packets::Packets;

@@ -1,13 +1,13 @@
 //! How many packets ports put whole on wires.
 ghost use Rattle.std.specs.Prelude.{◌≡◌, ◌==◌, ◌&&◌, ◌<◌, ◌∷◌, ◌++◌, [], ℕ, cond, List, length, OnOk};
-ghost use Rattle.vc_core.specs.Enabled.{NetworkState};
+ghost use Rattle.vc_core.specs.PossibleEvents.{NetworkState};
 ghost use Rattle.vc_core.specs.State.{MakesEvent, State, shown, state_of};
 ghost use Rattle.vc_core.specs.declared.event.Event.{Event as Happening};
 ghost use Rattle.vc_plan.specs.declared.plan.Plan.{Plan};
-ghost use Rattle.vc_stats.specs.Counting.{most_events, put_in};
+ghost use Rattle.vc_stats.specs.Counts.{most_events, put_in};
 ghost use Rattle.vc_stats.specs.Packets.{ArePacketsOf, count_at};
 ghost use Rattle.vc_stats.specs.Private.Packets.{acked_link, ended, with_token};
-ghost use Rattle.vc_tokens.specs.Spelt.{token as spelt};
+ghost use Rattle.vc_tokens.specs.CodeTokens.{token as spelt};
 
 use crate::table::Table;
 use std::alloc::Global;

@@ -2,7 +2,7 @@
 ghost use Rattle.std.specs.Prelude.{◌≡◌, ◌≤◌, ◌<◌, ◌+◌, ◌*◌, ◌∷◌, ◌++◌, [], ℕ, List, length, slice_get, Some, IfOk, OnOk};
 ghost use Rattle.vc_accepted.specs.Begin.{begin_of};
 ghost use Rattle.vc_accepted.specs.NetworkOf.{network_of, port_at};
-ghost use Rattle.vc_core.specs.Enabled.{NetworkState};
+ghost use Rattle.vc_core.specs.PossibleEvents.{NetworkState};
 ghost use Rattle.vc_core.specs.State.{MakesEvent, State, shown, state_of};
 ghost use Rattle.vc_network.specs.Network.{actor_at, begins};
 ghost use Rattle.vc_plan.specs.declared.plan.Plan.{Plan};

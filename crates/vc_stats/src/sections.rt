@@ -2,7 +2,7 @@
 ghost use Rattle.std.specs.Prelude.{◌≡◌, ◌≤◌, ◌<◌, ◌++◌, List, length, map, OnOk};
 ghost use Rattle.std.specs.List.{enumerate_from, flat_map};
 ghost use Rattle.vc_core.specs.declared.event.Event.{Event};
-ghost use Rattle.vc_stats.specs.Counting.{AreCounts};
+ghost use Rattle.vc_stats.specs.Counts.{AreCounts};
 ghost use Rattle.vc_stats.specs.Fields.{actors_of};
 ghost use Rattle.vc_stats.specs.Monitor.{figures};
 ghost use Rattle.vc_stats.specs.Sections.{actor_text, channel_text, end_text, events_text, ports_text, start_text, stats_text, way_text, wire_text};

@@ -1,7 +1,7 @@
 //! Figures of the states of a run.
 ghost use Rattle.std.specs.Prelude.{◌≡◌};
 ghost use Rattle.vc_stats.specs.Monitor.{figures};
-ghost use Rattle.vc_stats.specs.Visited.{no_figures};
+ghost use Rattle.vc_stats.specs.StateFigures.{no_figures};
 
 use std::alloc::Global;
 

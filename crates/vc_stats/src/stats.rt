@@ -1,7 +1,7 @@
 //! Counts of the events of a run.
 ghost use Rattle.std.specs.Prelude.{◌≡◌, [], ◌∷◌, ◌++◌, List, length, IfOk, OnOk};
 ghost use Rattle.vc_core.specs.declared.event.Event.{Event};
-ghost use Rattle.vc_stats.specs.Counting.{AreCounts, Counts, actor_count_at, count_at, fct_in, kind_count, kind_in, offer_in, output_in, put_in, want_in};
+ghost use Rattle.vc_stats.specs.Counts.{AreCounts, Counts, actor_count_at, count_at, fct_in, kind_count, kind_in, offer_in, output_in, put_in, want_in};
 
 use crate::kind::Kind;
 use crate::table::Table;

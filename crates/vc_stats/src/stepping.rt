@@ -1,6 +1,6 @@
 //! Running a network event by event, with its counts or as JSON.
 ghost use Rattle.vc_text.specs.OneNode.{ReadsAs};
-ghost use Rattle.vc_text.specs.Running.{WritesRun, WritesRunBy};
+ghost use Rattle.vc_text.specs.RunText.{WritesRun, WritesRunBy};
 ghost use Rattle.vc_stats.specs.Texts.{IsStatsText, IsTrafficJson};
 
 use crate::form::Form;

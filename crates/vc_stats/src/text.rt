@@ -1,9 +1,9 @@
 //! What is written of a run, with its counts or as JSON.
 ghost use Rattle.std.specs.Prelude.{List, IfOk};
-ghost use Rattle.vc_core.specs.Replaying.{Reached};
+ghost use Rattle.vc_core.specs.Replay.{Reached};
 ghost use Rattle.vc_core.specs.State.{IsNetworkOf, shown, state_of};
 ghost use Rattle.vc_core.specs.declared.event.Event.{Event};
-ghost use Rattle.vc_stats.specs.Counting.{AreCounts};
+ghost use Rattle.vc_stats.specs.Counts.{AreCounts};
 ghost use Rattle.vc_stats.specs.Texts.{IsCountedJson, IsCountedLines, IsCountedText, IsTrafficJson};
 ghost use Rattle.vc_stats.specs.Monitor.{figures};
 

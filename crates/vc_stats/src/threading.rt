@@ -1,5 +1,5 @@
 //! Running a network in threads, with its counts or as JSON.
-ghost use Rattle.vc_text.specs.Threading.{WritesThreads};
+ghost use Rattle.vc_text.specs.ThreadsText.{WritesThreads};
 ghost use Rattle.vc_stats.specs.Texts.{IsEventsText, IsTrafficJson};
 
 use crate::form::Form;

@@ -1,7 +1,7 @@
 //! A run's traffic as JSON.
 ghost use Rattle.std.specs.Prelude.{◌≡◌, ◌++◌, map, OnOk};
 ghost use Rattle.std.specs.List.{enumerate_from, flat_map};
-ghost use Rattle.vc_blocks.specs.Listed.{listed};
+ghost use Rattle.vc_blocks.specs.Messages.{listed};
 ghost use Rattle.vc_stats.specs.Json.{channel_json, end_word as word_of_end, kind_json, kind_word as word_of_kind, message_json, messages_json, stop_json, traffic_json, value_json};
 ghost use Rattle.vc_text.specs.Views.{shown};
 

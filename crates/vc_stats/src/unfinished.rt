@@ -2,14 +2,14 @@
 ghost use Rattle.std.specs.Prelude.{◌≡◌, ◌≤◌, ◌<◌, ◌∷◌, ◌++◌, [], List, length, map, IfOk};
 ghost use Rattle.vc_accepted.specs.Begin.{begin_of};
 ghost use Rattle.vc_accepted.specs.NetworkOf.{home_of, network_of};
-ghost use Rattle.vc_core.specs.Enabled.{NetworkState};
+ghost use Rattle.vc_core.specs.PossibleEvents.{NetworkState};
 ghost use Rattle.vc_core.specs.State.{IsNetworkOf, MakesEvent, State, shown, state_of};
 ghost use Rattle.vc_network.specs.Network.{begins};
 ghost use Rattle.vc_network.specs.Plan as network;
 ghost use Rattle.vc_plan.specs.declared.plan.Plan.{Plan};
 ghost use Rattle.vc_stats.specs.Private.Times.{AreIdle, AreTurned, may_turn as may_turn_by};
 ghost use Rattle.vc_stats.specs.Times.{AreOutputsOf, AreTimesOf, busy_of, source_on};
-ghost use Rattle.vc_stats.specs.Visited.{is_unfinished as is_unfinished_in};
+ghost use Rattle.vc_stats.specs.StateFigures.{is_unfinished as is_unfinished_in};
 
 use crate::busy_time::BusyTime;
 use crate::rows::Rows;

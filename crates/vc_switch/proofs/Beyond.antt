@@ -7,7 +7,7 @@ use Rattle.vc_switch.specs.Able.{CanGrant, CanLeave, CanPass, IsFree}
 use Rattle.vc_switch.specs.Front.{front_of}
 use Rattle.vc_switch.specs.State.{State, IsSwitch, source_at, plan_of, limit_of}
 use Rattle.vc_packets.specs.Functions.{shown_or}
-use Rattle.vc_switch.specs.Seen.{seen, input_of}
+use Rattle.vc_switch.specs.SwitchView.{seen, input_of}
 use Rattle.vc_switch.specs.declared.link_in.LinkIn.{LinkIn}
 use Rattle.vc_switch.specs.declared.link_out.LinkOut.{LinkOut}
 use Rattle.vc_switch.proofs.Enabling.{free_iff, grant_iff, waits_by}

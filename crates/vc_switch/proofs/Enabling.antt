@@ -3,7 +3,7 @@ use Rattle.std.proofs.Common.{◌≡◌, ◌≢◌, ◌<◌, ℕ, ◌+◌, Bool,
 use Rattle.std.proofs.lemmas.Bool.{cases_lt}
 use Rattle.std.proofs.lemmas.Option.{slice_get_read}
 use Rattle.std.specs.List.{AllByRecursion}
-use Rattle.vc_packets.specs.Counting.{one_more}
+use Rattle.vc_packets.specs.Counters.{one_more}
 use Rattle.vc_packets.specs.declared.mark.Mark.{Mark}
 use Rattle.vc_tokens.specs.Tokens.{Token, Byte, Fct, EndMark}
 use Rattle.vc_credit.specs.Ends.{Receiver, HasRoom}
@@ -12,7 +12,7 @@ use Rattle.vc_switch.specs.Switch.{Switch, set_input, with_header, passing, Pass
 use Rattle.vc_switch.specs.Able.{CanPass, CanGrant, IsFree}
 use Rattle.vc_switch.specs.State.{State, IsSwitch, plan_of, limit_of}
 use Rattle.vc_packets.specs.Functions.{shown_or}
-use Rattle.vc_switch.specs.Seen.{seen, input_of}
+use Rattle.vc_switch.specs.SwitchView.{seen, input_of}
 use Rattle.vc_switch.specs.declared.link_in.LinkIn.{LinkIn}
 use Rattle.vc_switch.specs.declared.link_out.LinkOut.{LinkOut}
 use Rattle.vc_switch.proofs.Fronts.{either_group}

@@ -7,7 +7,7 @@ use Rattle.vc_packets.specs.Functions.{put, shown_or}
 use Rattle.vc_switch.specs.Forward.{SwitchPlan}
 use Rattle.vc_switch.specs.Switch.{headed, BodyLeaves}
 use Rattle.vc_switch.specs.State.{State, IsSwitch, IsLinkIn, IsUnderWay, MayBeBound, ArePaired, bound_at, source_at, output_of, limit_of, plan_of}
-use Rattle.vc_switch.specs.Seen.{IsKept, sent_by}
+use Rattle.vc_switch.specs.SwitchView.{IsKept, sent_by}
 use Rattle.vc_switch.specs.declared.link_in.LinkIn.{LinkIn}
 use Rattle.vc_switch.specs.declared.link_in.Bound.{Bound}
 use Rattle.vc_switch.specs.declared.link_out.LinkOut.{LinkOut}

@@ -4,7 +4,7 @@ use Rattle.std.proofs.lemmas.Bool.{cases_eq, cases_lt}
 use Rattle.std.proofs.lemmas.Nat.Bits.{bit_at-zero, bit_at-trailing_zeros, bit_at_above, bit_at_and, bit_at-lt, bit_at_not}
 use Rattle.std.specs.Int.{bit_at, bit_not, trailing_zeros, w32}
 use Rattle.vc_switch.specs.Private.Ready.{Tells}
-use Rattle.vc_switch.specs.Private.Requested.{HasMore}
+use Rattle.vc_switch.specs.Private.Requests.{HasMore}
 
 pub not_both : {n : ℕ} → n ≡ 0 → n ≡ 1 → ⊥
 not_both {n} z o = omega (arith, z, o)

@@ -11,7 +11,7 @@ use Rattle.vc_switch.specs.declared.switch_plan.SwitchPlan.{SwitchPlan as Given}
 use Rattle.vc_switch.specs.declared.link_in.LinkIn.{LinkIn}
 use Rattle.vc_switch.specs.State.{State, IsSwitch, IsRange, IsLinkIn, ArePaired, interval_of, output_of, bound_at, source_at, plan_of, limit_of}
 use Rattle.vc_packets.specs.Functions.{shown_or}
-use Rattle.vc_switch.specs.Seen.{seen, input_of, sender_of}
+use Rattle.vc_switch.specs.SwitchView.{seen, input_of, sender_of}
 use Rattle.vc_switch.specs.Private.Opening.{listed, link_count, new_link_in, new_link_out}
 use Rattle.vc_switch.specs.Opening.{range_given, deletes, plan_given, IsRandomInput}
 

@@ -13,8 +13,8 @@ use Rattle.vc_switch.specs.Switch.{Input, Switch, BodyLeaves, Sends}
 use Rattle.vc_switch.specs.Able.{CanPut, IsFree}
 use Rattle.vc_switch.specs.Private.Front.{start_of}
 use Rattle.vc_switch.specs.State.{State, IsSwitch, IsLinkIn, IsUnderWay, MayBeBound, ArePaired, bound_at, source_at, output_of, plan_of, limit_of}
-use Rattle.vc_switch.specs.Seen.{seen, input_of, sent_by, sent_of, sent_from, sender_of}
-use Rattle.vc_switch.specs.Private.Seen.{has_next, IsBoundTo}
+use Rattle.vc_switch.specs.SwitchView.{seen, input_of, sent_by, sent_of, sent_from, sender_of}
+use Rattle.vc_switch.specs.Private.SwitchView.{has_next, IsBoundTo}
 use Rattle.vc_switch.specs.declared.link_in.LinkIn.{LinkIn}
 use Rattle.vc_switch.specs.declared.link_in.Bound.{Bound}
 use Rattle.vc_switch.specs.declared.link_out.LinkOut.{LinkOut}

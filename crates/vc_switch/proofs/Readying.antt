@@ -3,12 +3,12 @@ use Rattle.std.proofs.Common.{◌≡◌, ◌≢◌, ◌↔◌, ◌<◌, ◌≤�
 use Rattle.std.proofs.lemmas.Bool.{cases_eq}
 use Rattle.std.proofs.lemmas.Nat.Bits.{bit_at-zero, bit_at_ones}
 use Rattle.std.specs.Int.{bit_at}
-use Rattle.vc_packets.specs.Counting.{one_more}
+use Rattle.vc_packets.specs.Counters.{one_more}
 use Rattle.vc_credit.specs.Ends.{Grants, HasRoom, received}
 use Rattle.vc_packets.specs.Functions.{put}
 use Rattle.vc_packets.specs.declared.mark.Mark.{Mark}
 use Rattle.vc_packets.specs.declared.mark.Mark.TheVariants as mark
-use Rattle.vc_tokens.specs.Spelt.{token}
+use Rattle.vc_tokens.specs.CodeTokens.{token}
 use Rattle.vc_tokens.specs.Tokens.{Token, Byte, Fct, EndMark}
 use Rattle.vc_tokens.specs.declared.token.Token.{Token as Sent}
 use Rattle.vc_tokens.specs.declared.token.Token.TheVariants as sent
@@ -17,7 +17,7 @@ use Rattle.vc_switch.specs.Waiting.{Wormhole}
 use Rattle.vc_switch.specs.Switch.{Switch, Input, new_switch, set_input, with_header, passing, BodyLeaves, Comes, due, not_due, Passes, passes_byte, drops_byte, passes_mark, loses, HasGroup, Routes, Sends, SendsFct}
 use Rattle.vc_switch.specs.Able.{CanPass, CanLeave, CanPut, CanGrant, IsFree}
 use Rattle.vc_switch.specs.Private.Ready.{IsReady, Looks, Tells, Waits}
-use Rattle.vc_switch.specs.Seen.{seen, IsKept}
+use Rattle.vc_switch.specs.SwitchView.{seen, IsKept}
 use Rattle.vc_switch.specs.State.{State, IsSwitch, plan_of, limit_of}
 use Rattle.vc_switch.specs.declared.link_out.LinkOut.{LinkOut}
 use Rattle.vc_switch.specs.declared.ready_switch.Ready.{Ready}

@@ -11,11 +11,11 @@ use Rattle.vc_packets.specs.Functions.{put}
 use Rattle.vc_packets.specs.declared.mark.Mark.{Mark}
 use Rattle.vc_tokens.specs.Tokens.{Token, EndMark}
 use Rattle.vc_switch.specs.Able.{CanLeave, CanRoute, IsNextRoute, NoneCanRoute, IsFree}
-use Rattle.vc_switch.specs.Private.Requested.{AreAsking, AreRequested, AreRouted, HasMore, IsKnown}
+use Rattle.vc_switch.specs.Private.Requests.{AreAsking, AreRequested, AreRouted, HasMore, IsKnown}
 use Rattle.vc_switch.specs.Forward.{SwitchPlan}
 use Rattle.vc_switch.specs.Masks.{IsLowest}
 use Rattle.vc_switch.specs.Private.Ready.{IsReady, Tells, Waits}
-use Rattle.vc_switch.specs.Seen.{seen, IsKept}
+use Rattle.vc_switch.specs.SwitchView.{seen, IsKept}
 use Rattle.vc_switch.specs.State.{State, plan_of, limit_of}
 use Rattle.vc_switch.specs.Switch.{Switch, new_switch, BodyLeaves, HasGroup, headed, Comes, Passes, passes_byte, drops_byte, passes_mark, loses, Routes, Sends, SendsFct}
 use Rattle.vc_switch.specs.Waiting.{Wormhole}

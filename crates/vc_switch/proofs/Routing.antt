@@ -14,7 +14,7 @@ use Rattle.vc_switch.specs.declared.front.Front.{Front}
 use Rattle.vc_switch.specs.Front.{front_of}
 use Rattle.vc_switch.specs.Private.Front.{start_of, HasFront}
 use Rattle.vc_switch.specs.State.{State, IsSwitch, IsLinkIn, IsUnderWay, ArePaired, bound_at, source_at, output_of, plan_of, limit_of}
-use Rattle.vc_switch.specs.Seen.{seen, input_of, sent_by, sent_of, sender_of}
+use Rattle.vc_switch.specs.SwitchView.{seen, input_of, sent_by, sent_of, sender_of}
 use Rattle.vc_switch.specs.declared.link_in.LinkIn.{LinkIn}
 use Rattle.vc_switch.specs.declared.link_in.Bound.{Bound}
 use Rattle.vc_switch.specs.declared.link_out.LinkOut.{LinkOut}

@@ -7,7 +7,7 @@ use Rattle.vc_packets.specs.Functions.{put, shown_or}
 use Rattle.vc_credit.specs.Ends.{new_sender}
 use Rattle.vc_switch.specs.Switch.{Switch, new_input, set_input}
 use Rattle.vc_switch.specs.State.{State, output_of, bound_at, source_at, ArePaired}
-use Rattle.vc_switch.specs.Seen.{seen, input_of, sent_of, sent_from, sender_of}
+use Rattle.vc_switch.specs.SwitchView.{seen, input_of, sent_of, sent_from, sender_of}
 use Rattle.vc_switch.specs.declared.link_in.LinkIn.{LinkIn}
 use Rattle.vc_switch.specs.declared.link_out.LinkOut.{LinkOut}
 use Rattle.vc_switch.proofs.Placed.{put_is, read_there, place-set_same, place-set_other, by_place-set}

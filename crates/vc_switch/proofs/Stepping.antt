@@ -2,7 +2,7 @@
 use Rattle.std.proofs.Common.{◌≡◌, ◌≢◌, ℕ, ◌+◌, ◌<◌, ◌≤◌, List, [], ◌∷◌, ◌++◌, length, drop, refl, sym, ap, ◌∙◌, subst, arith, slice_get, slice_set, append-nil, Option, Some, None, inl, inr}
 use Rattle.std.specs.List.{AllByRecursion}
 use Rattle.std.proofs.lemmas.Bool.{cases_lt}
-use Rattle.vc_packets.specs.Counting.{one_more}
+use Rattle.vc_packets.specs.Counters.{one_more}
 use Rattle.vc_packets.specs.Functions.{put, shown_or}
 use Rattle.vc_tokens.specs.Tokens.{Token, Byte, Fct, EndMark}
 use Rattle.vc_packets.specs.declared.mark.Mark.{Mark}
@@ -14,7 +14,7 @@ use Rattle.vc_switch.specs.Switch.{Input, Switch, set_input, with_token, Comes, 
 use Rattle.vc_switch.specs.Front.{front_of}
 use Rattle.vc_switch.specs.Private.Front.{HasFront}
 use Rattle.vc_switch.specs.State.{State, IsSwitch, IsLinkIn, IsRange, MayBeBound, interval_of, plan_of, limit_of}
-use Rattle.vc_switch.specs.Seen.{seen, input_of, sent_of, sent_by, sender_of}
+use Rattle.vc_switch.specs.SwitchView.{seen, input_of, sent_of, sent_by, sender_of}
 use Rattle.vc_switch.specs.declared.front.Front.{Front}
 use Rattle.vc_switch.specs.declared.random_range.RandomRange.{RandomRange}
 use Rattle.vc_switch.specs.declared.link_in.LinkIn.{LinkIn}

@@ -4,7 +4,7 @@ pub mod Front
 pub mod Masks
 pub mod Opening
 pub mod Private
-pub mod Seen
 pub mod State
 pub mod Switch
+pub mod SwitchView
 pub mod Waiting

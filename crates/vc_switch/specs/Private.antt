@@ -2,5 +2,5 @@
 pub mod Front
 pub mod Opening
 pub mod Ready
-pub mod Requested
-pub mod Seen
+pub mod Requests
+pub mod SwitchView

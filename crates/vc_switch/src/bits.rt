@@ -1,7 +1,7 @@
 //! Masks of links, a bit for each of the 32.
 ghost use Rattle.std.specs.Prelude.{◌≡◌, ◌<◌, ◌↔◌, ℕ, IsTrue, MatchOption};
 ghost use Rattle.std.specs.Int.{bit_at};
-ghost use Rattle.vc_switch.specs.Private.Requested.{HasMore};
+ghost use Rattle.vc_switch.specs.Private.Requests.{HasMore};
 ghost use Rattle.vc_switch.specs.Masks.{IsLowest};
 ghost use Rattle.vc_switch.specs.Private.Ready.{Tells};
 

@@ -6,7 +6,7 @@
 //! portal falls away, and an output link may delete the front header. What comes from no accepted network is dropped and counted.
 //!
 //! To the layer above, each call of [`Switch`] is exactly one step of a switch (`specs/Switch`), between what the switch is before
-//! and after in the words of those steps (`specs/Seen`). A call that may be made only at times has a `may_` call beside it, which
+//! and after in the words of those steps (`specs/SwitchView`). A call that may be made only at times has a `may_` call beside it, which
 //! answers whether such a step exists (`specs/Able`).
 //!
 //! What always holds (`specs/State`): there are 32 links; an input is bound to an output exactly where the output's source is that

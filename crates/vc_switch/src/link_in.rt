@@ -2,7 +2,7 @@
 //! may leave by an output while it arrives.
 ghost use Rattle.std.specs.Prelude.{◌≡◌, ◌≢◌, ◌<◌, ◌≤◌, ◌+◌, [], ◌∷◌, ◌++◌, length, slice_get, ◌↔◌, Some, None, IsTrue, IfOk};
 ghost use Rattle.std.specs.Bool.{OnTrue, OnFalse};
-ghost use Rattle.vc_tokens.specs.Spelt.{token};
+ghost use Rattle.vc_tokens.specs.CodeTokens.{token};
 ghost use Rattle.vc_tokens.specs.Tokens.{Byte, EndMark};
 ghost use Rattle.vc_credit.specs.Ends.{received, HasRoom, Grants, IsFront, Passes};
 ghost use Rattle.vc_switch.specs.declared.front.Front.{Front};
@@ -11,7 +11,7 @@ ghost use Rattle.vc_switch.specs.Private.Front.{HasFront};
 ghost use Rattle.vc_switch.specs.Switch.{drawn, headed};
 ghost use Rattle.vc_switch.specs.State.{interval_of, IsRange};
 ghost use Rattle.vc_switch.specs.Private.Opening.{new_link_in};
-ghost use Rattle.vc_switch.specs.Private.Seen.{has_next};
+ghost use Rattle.vc_switch.specs.Private.SwitchView.{has_next};
 
 use crate::front::find_front;
 use crate::random_range::{RandomRange, draw};

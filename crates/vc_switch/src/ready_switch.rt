@@ -2,15 +2,15 @@
 ghost use Rattle.std.specs.Prelude.{◌≡◌, ◌≢◌, ◌<◌, ◌≤◌, ◌↔◌, ◌^◌, ℕ, IsOk, IfOk, MatchOption, get_or};
 ghost use Rattle.std.specs.Int.{bit_at};
 ghost use Rattle.std.specs.List.{AllByRecursion};
-ghost use Rattle.vc_tokens.specs.Spelt.{token};
+ghost use Rattle.vc_tokens.specs.CodeTokens.{token};
 ghost use Rattle.vc_switch.specs.Waiting.{Wormhole};
 ghost use Rattle.vc_switch.specs.Switch.{new_switch, Comes, Passes, Routes, Sends, SendsFct};
 ghost use Rattle.vc_switch.specs.Able.{CanPass, CanRoute, CanPut, CanGrant, IsFree, IsNextRoute, NoneCanRoute};
 ghost use Rattle.vc_switch.specs.Opening.{plan_given, IsRandomInput};
-ghost use Rattle.vc_switch.specs.Private.Requested.{AsksFor, HasMore, OthersAskTheSame};
+ghost use Rattle.vc_switch.specs.Private.Requests.{AsksFor, HasMore, OthersAskTheSame};
 ghost use Rattle.vc_switch.specs.Private.Ready.{Looks, Tells, Waits};
 ghost use Rattle.vc_switch.specs.State.{plan_of, limit_of};
-ghost use Rattle.vc_switch.specs.Seen.{seen, IsKept};
+ghost use Rattle.vc_switch.specs.SwitchView.{seen, IsKept};
 
 use crate::bits::{has_more, lowest, minus, told};
 use crate::requests::Requests;
@@ -82,7 +82,7 @@ impl Drop for ReadySwitch {
 
 impl Model for ReadySwitch {
     ghost use Rattle.vc_switch.specs.State.{State};
-    ghost use Rattle.vc_switch.specs.Private.Requested.{IsKnown};
+    ghost use Rattle.vc_switch.specs.Private.Requests.{IsKnown};
 
     ghost Value = { State };
 

@@ -1,6 +1,6 @@
 //! What the packets at the inputs ask for, as bits.
 ghost use Rattle.std.specs.Prelude.{◌≡◌, ◌<◌, ℕ, get_or, replicate};
-ghost use Rattle.vc_switch.specs.Private.Requested.{AreRouted, OthersAskTheSame};
+ghost use Rattle.vc_switch.specs.Private.Requests.{AreRouted, OthersAskTheSame};
 
 use crate::bits::{has_more, lowest, told};
 use crate::opening::LINKS;
@@ -17,7 +17,7 @@ pub(crate) struct Requests {
 
 impl Model for Requests {
     ghost use Rattle.std.specs.Prelude.{ℕ, List};
-    ghost use Rattle.vc_switch.specs.Private.Requested.{AreAsking};
+    ghost use Rattle.vc_switch.specs.Private.Requests.{AreAsking};
 
     ghost Value = { List ℕ };
 

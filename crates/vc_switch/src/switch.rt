@@ -5,8 +5,8 @@
 ghost use Rattle.std.specs.Prelude.{◌≡◌, ◌<◌, ◌≤◌, ◌↔◌, ◌++◌, ℕ, List, length, drop, None, Some, IsTrue, IsOk, IfOk, MatchOption};
 ghost use Rattle.std.specs.Int.{bit_at};
 ghost use Rattle.std.specs.List.{AllByRecursion};
-ghost use Rattle.vc_packets.specs.Counting.{one_more};
-ghost use Rattle.vc_tokens.specs.Spelt.{token, tokens};
+ghost use Rattle.vc_packets.specs.Counters.{one_more};
+ghost use Rattle.vc_tokens.specs.CodeTokens.{token, tokens};
 ghost use Rattle.vc_tokens.specs.Tokens.{Byte, Fct, EndMark};
 ghost use Rattle.vc_credit.specs.Ends.{IsFront};
 ghost use Rattle.vc_credit.specs.Laws.{NeedsPlace};
@@ -16,10 +16,10 @@ ghost use Rattle.vc_switch.specs.Switch.{new_switch, BodyLeaves, Comes, Passes, 
 ghost use Rattle.vc_switch.specs.Able.{CanPass, CanRoute, CanPut, CanGrant, CanLeave, IsFirst, IsFree};
 ghost use Rattle.vc_switch.specs.Opening.{plan_given, IsRandomInput};
 ghost use Rattle.vc_switch.specs.State.{plan_of, limit_of, IsSwitch};
-ghost use Rattle.vc_switch.specs.Seen.{seen, IsKept};
+ghost use Rattle.vc_switch.specs.SwitchView.{seen, IsKept};
 ghost use Rattle.vc_switch.specs.Private.Ready.{Waits};
-ghost use Rattle.vc_switch.specs.Private.Requested.{AsksFor};
-ghost use Rattle.vc_switch.specs.Private.Seen.{IsBoundTo, IsNext};
+ghost use Rattle.vc_switch.specs.Private.Requests.{AsksFor};
+ghost use Rattle.vc_switch.specs.Private.SwitchView.{IsBoundTo, IsNext};
 
 use crate::front::find_front;
 use crate::link_in::{Bound, LinkIn};

@@ -4,7 +4,7 @@ use Rattle.vc_plan.specs.declared.plan.Plan.{Plan as Network}
 use Rattle.vc_text.specs.declared.fault.RunFault.{RunFault}
 use Rattle.vc_text.specs.declared.fault.RunFault.TheVariants.{Read, Write, Text, Plan, Threads, Memory}
 use Rattle.vc_text.specs.Streams.{Writes}
-use Rattle.vc_text.specs.Checking.{ReadsAccepted, TellsAccepted}
+use Rattle.vc_text.specs.CheckText.{ReadsAccepted, TellsAccepted}
 use Rattle.vc_text.specs.OneNode.{ReadsAs}
 
 pub memory_any : (known : Option (List ℕ)) → ReadsAccepted known (Err Memory)

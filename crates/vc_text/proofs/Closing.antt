@@ -10,11 +10,11 @@ use Rattle.vc_core.specs.declared.event.Event.{Event}
 use Rattle.vc_core.proofs.Turning.{at_rest}
 use Rattle.vc_core.specs.declared.close.Close.{Close}
 use Rattle.vc_core.specs.declared.close.Close.TheVariants.{Done, Quiet, Limit, GateClosed, ClockFull, Failed}
-use Rattle.vc_core.specs.Replaying.{Reached, Replays}
+use Rattle.vc_core.specs.Replay.{Reached, Replays}
 use Rattle.vc_core.specs.Still.{OnlyMoves}
 use Rattle.vc_core.proofs.Still.{only_processes_hold}
-use Rattle.vc_text.specs.Closing.{HasEvent, Closes, OnlyProcessesWait}
-use Rattle.vc_text.specs.Private.Simulating.{counted}
+use Rattle.vc_text.specs.Close.{HasEvent, Closes, OnlyProcessesWait}
+use Rattle.vc_text.specs.Private.Simulation.{counted}
 
 -- where all actors rest
 pub all_rest : (p : Plan) (s : State) → IsNetworkOf p s → (n : ℕ) → actors p ≤ n → ((k : ℕ) → k < n → Rests p s k) → IsAtRest p s

@@ -3,7 +3,7 @@ use Rattle.std.proofs.Common.{◌≡◌, ℕ, suc, ◌+◌, List, [], ◌∷◌,
 use Rattle.vc_actor.specs.declared.act.Act.TheVariants as act
 use Rattle.vc_core.specs.declared.event.Event.{Event}
 use Rattle.vc_occam.specs.declared.moves.Move.{Move}
-use Rattle.vc_text.specs.Kept.{act_of, words_left, moves_left, words_of, moves_of, words_in, moves_in, Fit, events_of}
+use Rattle.vc_text.specs.EventLog.{act_of, words_left, moves_left, words_of, moves_of, words_in, moves_in, Fit, events_of}
 use Rattle.vc_text.specs.declared.entry.Brief.{Brief}
 use Rattle.vc_text.specs.declared.entry.Brief.TheVariants as brief
 use Rattle.vc_text.specs.declared.entry.Entry.{Entry}

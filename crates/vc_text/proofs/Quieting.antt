@@ -8,7 +8,7 @@ use Rattle.std.specs.Int.{bit_at}
 use Rattle.vc_plan.specs.declared.plan.Plan.{Plan}
 use Rattle.vc_core.specs.Awake.{StaysAwake}
 use Rattle.vc_core.specs.State.{State, IsNetworkOf, MakesEvent}
-use Rattle.vc_core.specs.Enabled.{CanHappen}
+use Rattle.vc_core.specs.PossibleEvents.{CanHappen}
 use Rattle.vc_core.specs.Private.Turns.{Rests}
 use Rattle.vc_core.specs.declared.event.Event.{Event}
 use Rattle.vc_actor.proofs.Masks.{bits_both}

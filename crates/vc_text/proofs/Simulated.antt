@@ -7,7 +7,7 @@ use Rattle.vc_core.proofs.Replayed.{reached_next}
 use Rattle.vc_plan.specs.declared.plan.Plan.{Plan}
 use Rattle.vc_text.specs.Private.Generators.{HaveGiven}
 use Rattle.vc_text.specs.Private.Quiet.{AreQuiet}
-use Rattle.vc_text.specs.Private.Simulating.{HasRun, HasTaken, LeadsOn}
+use Rattle.vc_text.specs.Private.Simulation.{HasRun, HasTaken, LeadsOn}
 use Rattle.vc_text.specs.declared.simulation.Simulation.{Simulation}
 
 -- one event more

@@ -2,14 +2,14 @@
 use Rattle.std.proofs.Common.{◌≡◌, ℕ, List, Option, Result, Ok, Err, ap, inr}
 use Rattle.std.specs.Result.{IsErr, IsErrAnd}
 use Rattle.std.proofs.lemmas.Bool.{false≢true}
-use Rattle.vc_core.specs.Enabled.{NetworkState}
+use Rattle.vc_core.specs.PossibleEvents.{NetworkState}
 use Rattle.vc_core.specs.declared.close.Close.{Close}
 use Rattle.vc_core.specs.declared.event.Event.{Event}
 use Rattle.vc_plan.specs.declared.plan.Plan.{Plan as Network}
-use Rattle.vc_text.specs.Checking.{ReadsAccepted}
+use Rattle.vc_text.specs.CheckText.{ReadsAccepted}
 use Rattle.vc_text.specs.OneNode.{JoinsNodes, ReadsTogether}
-use Rattle.vc_text.specs.Running.{IsRunWithin, RunText, RunsPlan, StepsBy, WritesRun, WritesRunBy}
-use Rattle.vc_text.specs.Shown.{channels_of}
+use Rattle.vc_text.specs.RunText.{IsRunWithin, RunText, RunsPlan, StepsBy, WritesRun, WritesRunBy}
+use Rattle.vc_text.specs.ChannelStates.{channels_of}
 use Rattle.vc_text.specs.Streams.{Writes}
 use Rattle.vc_text.specs.Private.Streams.{WritesOne}
 use Rattle.vc_text.specs.Traffic.{traffic}

@@ -7,10 +7,10 @@ use Rattle.vc_threads.specs.Threads.{IsThreadRun}
 use Rattle.vc_threads.specs.declared.report.Ending.{Ending}
 use Rattle.vc_text.specs.declared.fault.RunFault.{RunFault}
 use Rattle.vc_text.specs.declared.fault.RunFault.TheVariants.{Read, Write, Text, Plan, Threads, Memory}
-use Rattle.vc_text.specs.Running.{RunText}
+use Rattle.vc_text.specs.RunText.{RunText}
 use Rattle.vc_text.specs.Private.Streams.{WritesOne}
-use Rattle.vc_text.specs.Checking.{ReadsAccepted}
-use Rattle.vc_text.specs.Threading.{WritesThreads}
+use Rattle.vc_text.specs.CheckText.{ReadsAccepted}
+use Rattle.vc_text.specs.ThreadsText.{WritesThreads}
 use Rattle.vc_text.proofs.Checked.{memory_any}
 
 -- the text could not be written, or there was no memory for it

@@ -7,7 +7,7 @@ use Rattle.vc_plan.specs.declared.port.Port.{Port}
 use Rattle.vc_plan.specs.Dependencies.{HasRanks, IsLeastCycle}
 use Rattle.vc_text.specs.declared.fault.RunFault.{RunFault}
 use Rattle.vc_text.specs.declared.fault.RunFault.TheVariants.{Write}
-use Rattle.vc_text.specs.Checking.{ReadsAccepted}
+use Rattle.vc_text.specs.CheckText.{ReadsAccepted}
 use Rattle.vc_waits.specs.Ports.{port_text}
 use Rattle.vc_text.specs.Streams.{AppendsFront}
 use Rattle.vc_waits.specs.Waits.{newline}

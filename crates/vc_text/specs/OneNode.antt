@@ -7,7 +7,7 @@ use Rattle.vc_plan.specs.declared.check_refused.CheckRefused.TheVariants.{Limit}
 use Rattle.vc_plan.specs.declared.check_refused.Refusal.{Refusal}
 use Rattle.vc_plan.specs.declared.limit_word.LimitWord.TheVariants.{Vars}
 use Rattle.vc_plan.specs.declared.plan.Plan.{Plan as Network}
-use Rattle.vc_text.specs.Checking.{ReadsAccepted}
+use Rattle.vc_text.specs.CheckText.{ReadsAccepted}
 use Rattle.vc_text.specs.declared.fault.RunFault.{RunFault}
 use Rattle.vc_text.specs.declared.fault.RunFault.TheVariants.{Plan, Memory}
 

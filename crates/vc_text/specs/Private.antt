@@ -1,5 +1,5 @@
 -- What only private functions, invariants and proofs cite.
 pub mod Generators
 pub mod Quiet
-pub mod Simulating
+pub mod Simulation
 pub mod Streams

@@ -1,7 +1,7 @@
 -- The traffic of a run, and behind it, where it is asked for, who waits for what.
 use Rattle.std.specs.Prelude.{◌≡◌, ℕ, Bool, true, false, List, ◌++◌}
-use Rattle.vc_text.specs.Running.{RunText}
-use Rattle.vc_text.specs.Shown.{channels_of}
+use Rattle.vc_text.specs.RunText.{RunText}
+use Rattle.vc_text.specs.ChannelStates.{channels_of}
 use Rattle.vc_text.specs.Traffic.{traffic}
 use Rattle.vc_waits.specs.Packets.{IsWaitsText}
 

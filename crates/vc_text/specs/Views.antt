@@ -1,9 +1,9 @@
 -- What a view of a channel shows.
 use Rattle.std.specs.Prelude.{◌≡◌, List, map}
-use Rattle.vc_blocks.specs.Listed.{listed}
-use Rattle.vc_core.specs.Enabled.{NetworkState}
+use Rattle.vc_blocks.specs.Messages.{listed}
+use Rattle.vc_core.specs.PossibleEvents.{NetworkState}
 use Rattle.vc_plan.specs.declared.plan.Plan.{Plan}
-use Rattle.vc_text.specs.Shown.{channels_of}
+use Rattle.vc_text.specs.ChannelStates.{channels_of}
 use Rattle.vc_text.specs.Traffic.{ChannelTraffic}
 use Rattle.vc_text.specs.declared.traffic.ChannelView.{ChannelView}
 

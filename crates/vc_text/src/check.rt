@@ -1,7 +1,7 @@
 //! Checking a network file.
 ghost use Rattle.std.specs.Prelude.{◌≡◌, IfOk};
 ghost use Rattle.vc_text.specs.Streams.{Writes};
-ghost use Rattle.vc_text.specs.Checking.{ReadsAccepted, Checks, accepted_text as text_of_accepted};
+ghost use Rattle.vc_text.specs.CheckText.{ReadsAccepted, Checks, accepted_text as text_of_accepted};
 
 use crate::fault::RunFault;
 use crate::streams::{read_plan, write_text};
@@ -24,7 +24,7 @@ pub fn read_accepted<R: Read>(alloc: Global, reader: &mut R) -> Result<Accepted,
 }
 
 /// The line of an accepted network: how many nodes, switches, virtual links and channels it has. It fails for want of memory alone.
-#[tactic(auto, using(std::proofs::Common::append_assoc), unfolding(crate::specs::Checking::accepted_text))]
+#[tactic(auto, using(std::proofs::Common::append_assoc), unfolding(crate::specs::CheckText::accepted_text))]
 pub fn accepted_text(alloc: Global, plan: &Plan) -> Result<Vec<u8>, Memory>
     ensures { IfOk result (λ text. text.items ≡ text_of_accepted plan.now) }
 {

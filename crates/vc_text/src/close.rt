@@ -1,11 +1,11 @@
 //! How a run ends.
 ghost use Rattle.std.specs.Prelude.{◌≡◌, List, IfOk};
 ghost use Rattle.vc_core.specs.Awake.{awake_of};
-ghost use Rattle.vc_core.specs.Replaying.{Replays};
+ghost use Rattle.vc_core.specs.Replay.{Replays};
 ghost use Rattle.vc_core.specs.State.{shown, state_of, IsNetworkOf};
 ghost use Rattle.vc_core.specs.declared.event.Event.{Event};
 ghost use Rattle.vc_plan.specs.declared.plan.Plan.{Plan};
-ghost use Rattle.vc_text.specs.Closing.{ClosesIn, OnlyProcessesWait};
+ghost use Rattle.vc_text.specs.Close.{ClosesIn, OnlyProcessesWait};
 
 use crate::simulation::goes_on;
 use vc_core::{Close, Network};

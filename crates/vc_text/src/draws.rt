@@ -1,6 +1,6 @@
 //! Who makes the next event of a run in a random order.
 ghost use Rattle.std.specs.Prelude.{◌≡◌, ◌<◌, ◌≤◌, ◌-◌, ◌^◌, IfOk, IfSome, OnOk};
-ghost use Rattle.vc_text.specs.Private.Simulating.{LeadsOn, RunsOut, counted};
+ghost use Rattle.vc_text.specs.Private.Simulation.{LeadsOn, RunsOut, counted};
 
 use crate::event_sink::EventSink;
 use crate::masks::drawn;

@@ -1,6 +1,6 @@
 //! What a log keeps of an event.
 ghost use Rattle.std.specs.Prelude.{◌≡◌};
-ghost use Rattle.vc_text.specs.Kept.{act_of, first_word, first_move, rest_of, words_left, moves_left};
+ghost use Rattle.vc_text.specs.EventLog.{act_of, first_word, first_move, rest_of, words_left, moves_left};
 
 use vc_core::{Act, Event};
 use vc_occam::Move;

@@ -2,7 +2,7 @@
 
 ghost use Rattle.std.specs.Prelude.{◌≡◌, [], ◌∷◌, ◌++◌, length, ◌↔◌, IsTrue, IfOk, OnOk, OnErr};
 ghost use Rattle.vc_actor.specs.declared.act.Act.TheVariants.{Proc, Take};
-ghost use Rattle.vc_text.specs.Kept.{act_of, words_of, moves_of, events_left};
+ghost use Rattle.vc_text.specs.EventLog.{act_of, words_of, moves_of, events_left};
 
 use crate::entry::{Brief, Entry};
 use crate::events::Events;
@@ -24,7 +24,7 @@ pub struct EventLog {
 impl Model for EventLog {
     ghost use Rattle.std.specs.Prelude.{List};
     ghost use Rattle.vc_core.specs.declared.event.Event.{Event};
-    ghost use Rattle.vc_text.specs.Kept.{Fit, events_of};
+    ghost use Rattle.vc_text.specs.EventLog.{Fit, events_of};
 
     ghost Value = { List Event };
 

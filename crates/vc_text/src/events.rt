@@ -1,6 +1,6 @@
 //! Going through a list of events.
 ghost use Rattle.std.specs.Iterator.{YieldsFirst, item_count};
-ghost use Rattle.vc_text.specs.Kept.{events_left};
+ghost use Rattle.vc_text.specs.EventLog.{events_left};
 
 use crate::entry::Entry;
 use vc_core::Event;

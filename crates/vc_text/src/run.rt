@@ -2,11 +2,11 @@
 ghost use Rattle.std.specs.Prelude.{◌≡◌, [], List, slice_get, IfOk};
 ghost use Rattle.vc_plan.specs.declared.channel.Channel.{Channel};
 ghost use Rattle.vc_plan.specs.declared.plan.Plan.{Plan};
-ghost use Rattle.vc_core.specs.Replaying.{IsOpening};
+ghost use Rattle.vc_core.specs.Replay.{IsOpening};
 ghost use Rattle.vc_core.specs.State.{State, shown, state_of, IsNetworkOf};
 ghost use Rattle.vc_core.specs.declared.event.Event.{Event};
-ghost use Rattle.vc_text.specs.Running.{IsRunWithin, RunsPlan, StepsApart, StepsTogether};
-ghost use Rattle.vc_text.specs.Shown.{channel_of, channels_of};
+ghost use Rattle.vc_text.specs.RunText.{IsRunWithin, RunsPlan, StepsApart, StepsTogether};
+ghost use Rattle.vc_text.specs.ChannelStates.{channel_of, channels_of};
 ghost use Rattle.vc_text.specs.Streams.{Writes};
 ghost use Rattle.vc_text.specs.Traffic.{traffic};
 ghost use Rattle.vc_text.specs.Views.{AreViews, shown as traffic_of};

@@ -2,13 +2,13 @@
 ghost use Rattle.std.specs.Prelude.{◌≡◌, ◌⊎◌, ◌<◌, ◌≤◌, ◌+◌, ◌^◌, ◌-◌, [], ℕ, true, false, List, None, Ok, IfOk, OnOk};
 ghost use Rattle.vc_plan.specs.declared.plan.Plan.{Plan};
 ghost use Rattle.vc_core.specs.Awake.{awake_of};
-ghost use Rattle.vc_core.specs.Replaying.{IsOpening};
+ghost use Rattle.vc_core.specs.Replay.{IsOpening};
 ghost use Rattle.vc_core.specs.State.{shown, state_of, HasFront, IsNetworkOf};
 ghost use Rattle.vc_core.specs.Private.Turns.{Rests, IsAtRest, GoesOn};
 ghost use Rattle.vc_actor.specs.Turns.{actors};
 ghost use Rattle.vc_core.specs.declared.event.Event.{Event};
-ghost use Rattle.vc_text.specs.Closing.{HasEvent, Closes};
-ghost use Rattle.vc_text.specs.Private.Simulating.{HasRun, HasTaken, LeadsOn, RunsOut, counted};
+ghost use Rattle.vc_text.specs.Close.{HasEvent, Closes};
+ghost use Rattle.vc_text.specs.Private.Simulation.{HasRun, HasTaken, LeadsOn, RunsOut, counted};
 
 use crate::event_sink::EventSink;
 use crate::generators::Generators;

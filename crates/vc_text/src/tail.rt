@@ -1,6 +1,6 @@
 //! The traffic of a run, and behind it, where it is asked for, who waits for what.
 ghost use Rattle.std.specs.Prelude.{List, IfOk};
-ghost use Rattle.vc_core.specs.Replaying.{Reached};
+ghost use Rattle.vc_core.specs.Replay.{Reached};
 ghost use Rattle.vc_core.specs.State.{shown, state_of};
 ghost use Rattle.vc_core.specs.declared.event.Event.{Event};
 ghost use Rattle.vc_text.specs.Private.Streams.{WritesOne};

@@ -1,7 +1,7 @@
 //! Running a network in threads.
 ghost use Rattle.std.specs.Prelude.{◌≡◌, length};
 ghost use Rattle.vc_text.specs.Tail.{IsTail};
-ghost use Rattle.vc_text.specs.Threading.{RunsInThreads, WritesThreads};
+ghost use Rattle.vc_text.specs.ThreadsText.{RunsInThreads, WritesThreads};
 
 use crate::check::read_accepted;
 use crate::fault::RunFault;

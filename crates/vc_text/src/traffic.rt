@@ -1,6 +1,6 @@
 //! The text of a network's traffic.
 ghost use Rattle.std.specs.Prelude.{◌≡◌, ◌++◌, ◌+◌, map, OnOk, IfOk};
-ghost use Rattle.vc_blocks.specs.Listed.{listed};
+ghost use Rattle.vc_blocks.specs.Messages.{listed};
 ghost use Rattle.vc_text.specs.Streams.{Writes};
 ghost use Rattle.vc_text.specs.Views.{shown};
 ghost use Rattle.vc_text.specs.Traffic.{bytes_text, value_text, message_line, message_lines, channel_line, close_text, counts_text, traffic};

@@ -3,7 +3,7 @@ ghost use Rattle.std.specs.Prelude.{List, IfOk};
 ghost use Rattle.vc_core.specs.State.{shown, state_of, IsNetworkOf};
 ghost use Rattle.vc_core.specs.declared.event.Event.{Event};
 ghost use Rattle.vc_text.specs.OneNode.{ReadsAs};
-ghost use Rattle.vc_text.specs.Running.{IsRunWithin, WritesRun, WritesRunBy};
+ghost use Rattle.vc_text.specs.RunText.{IsRunWithin, WritesRun, WritesRunBy};
 ghost use Rattle.vc_text.specs.Tail.{IsTail};
 
 use crate::event_sink::Unlogged;

@@ -4,13 +4,13 @@ use Rattle.std.specs.List.{AllByRecursion}
 use Rattle.std.proofs.lemmas.Bool.{cases_eq, ne_eqb}
 use Rattle.std.proofs.lemmas.List.{map-append}
 use Rattle.vc_accepted.specs.NetworkOf.{network_of}
-use Rattle.vc_accepted.specs.Outgoing.{link_port, outgoing, incoming}
+use Rattle.vc_accepted.specs.ActorWays.{link_port, outgoing, incoming}
 use Rattle.vc_accepted.proofs.Crossing.{Joins, joined_way, way_of}
 use Rattle.vc_accepted.proofs.Wired.{link_is_at, wired, outgoing_is, incoming_is}
 use Rattle.vc_network.specs.Actors.{Label, taken_off, put_on}
 use Rattle.vc_network.specs.Actors.Label.{Own, Takes, Puts}
 use Rattle.vc_network.specs.LocalRun.{Stamped, Turn, LocalRun, CarriesStamp, next_stamp, plain, all_put, all_taken, restamped}
-use Rattle.vc_actor.specs.Shown.{Acting, actor_of, act_of}
+use Rattle.vc_actor.specs.ActorView.{Acting, actor_of, act_of}
 use Rattle.vc_actor.specs.Turns.{IsPut}
 use Rattle.vc_actor.specs.declared.act.Act.{Act}
 use Rattle.vc_actor.specs.declared.act.Act.TheVariants.{Proc, Take, Put, Route, Fct, Pass}
@@ -22,7 +22,7 @@ use Rattle.vc_plan.specs.Accepted.{IsAccepted, port_of}
 use Rattle.vc_plan.specs.declared.plan.Plan.{Plan}
 use Rattle.vc_switch.specs.Waiting.{Wormhole}
 use Rattle.vc_accepted.specs.Process.{does}
-use Rattle.vc_tokens.specs.Spelt.{token}
+use Rattle.vc_tokens.specs.CodeTokens.{token}
 use Rattle.vc_tokens.specs.Tokens as tokens
 use Rattle.vc_tokens.specs.declared.token.Token.{Token}
 use Rattle.vc_threads.specs.Rings.{IsOnWire}

@@ -4,8 +4,8 @@ use Rattle.std.proofs.lemmas.Bool.{cases_eq}
 use Rattle.std.proofs.lemmas.List.{get_or-map}
 use Rattle.vc_core.specs.declared.close.Close.{Close}
 use Rattle.vc_core.specs.declared.close.Close.TheVariants.{Done}
-use Rattle.vc_threads.specs.Closing.{ClosesBy, NoneStopped}
-use Rattle.vc_threads.specs.Private.Closing.{stop_in, stop_at}
+use Rattle.vc_threads.specs.Close.{ClosesBy, NoneStopped}
+use Rattle.vc_threads.specs.Private.Close.{stop_in, stop_at}
 use Rattle.vc_threads.specs.declared.run.ActorRun.{ActorRun}
 use Rattle.vc_threads.specs.declared.run.Stop.{Stop}
 use Rattle.vc_threads.specs.declared.run.Stop.TheVariants.{Turns}

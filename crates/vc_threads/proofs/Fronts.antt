@@ -7,8 +7,8 @@ use Rattle.std.proofs.lemmas.Option.{slice_get_within}
 use Rattle.vc_network.specs.LocalRun.{Stamped}
 use Rattle.vc_network.specs.Merge.{Numbered, NotAfter}
 use Rattle.vc_actor.specs.declared.act.Act.{Act}
-use Rattle.vc_threads.specs.Merged.{of_pair, numbered}
-use Rattle.vc_threads.specs.Private.Merged.{stamp_at, front_of, id_at, IsNext, NotLater, FindsFirst}
+use Rattle.vc_threads.specs.MergedRuns.{of_pair, numbered}
+use Rattle.vc_threads.specs.Private.MergedRuns.{stamp_at, front_of, id_at, IsNext, NotLater, FindsFirst}
 use Rattle.vc_threads.specs.declared.merged_runs.Front.{Front}
 use Rattle.vc_threads.specs.declared.run.ActorRun.{ActorRun}
 use Rattle.vc_threads.proofs.Weaving.{without}

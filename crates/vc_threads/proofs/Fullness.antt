@@ -8,21 +8,21 @@ use Rattle.std.proofs.lemmas.List.{map-append}
 use Rattle.std.proofs.lemmas.Option.{slice_get-map, get_or_from_slice_get}
 use Rattle.rtrb.specs.Ring.{sent, received, known_items}
 use Rattle.vc_accepted.specs.NetworkOf.{network_of}
-use Rattle.vc_accepted.specs.Outgoing.{actor_of}
+use Rattle.vc_accepted.specs.ActorWays.{actor_of}
 use Rattle.vc_accepted.proofs.Listed.{both}
 use Rattle.vc_network.specs.Actors.{Label, Steps, put_on}
 use Rattle.vc_network.specs.Actors.Label.{Own, Takes, Puts}
 use Rattle.vc_network.specs.LocalRun as local
 use Rattle.vc_network.specs.LocalRun.{Turn, LocalRun, CarriesStamp, all_put, clock_after}
 use Rattle.vc_actor.specs.Begin.{AreFirst}
-use Rattle.vc_actor.specs.Shown.{Acting}
+use Rattle.vc_actor.specs.ActorView.{Acting}
 use Rattle.vc_actor.specs.Turns.{actors}
 use Rattle.vc_actor.specs.declared.act.Act.{Act}
 use Rattle.vc_plan.specs.Accepted.{port_of}
 use Rattle.vc_plan.specs.declared.plan.Plan.{Plan}
 use Rattle.vc_plan.specs.declared.port.Wire.{Wire}
 use Rattle.vc_tokens.specs.declared.token.Token.{Token}
-use Rattle.vc_threads.specs.Private.Closing.{stop_at}
+use Rattle.vc_threads.specs.Private.Close.{stop_at}
 use Rattle.vc_threads.specs.Jobs.{Ran}
 use Rattle.vc_threads.specs.Private.Order.{outs_left, ins_left, outs_at, ins_at, LeftOn}
 use Rattle.vc_threads.specs.Order.{OnWays}

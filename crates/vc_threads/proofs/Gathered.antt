@@ -8,7 +8,7 @@ use Rattle.vc_network.specs.Actors.{act_of}
 use Rattle.vc_network.specs.LocalRun.{restamped}
 use Rattle.vc_network.specs.Merge.{Made, IsMerge}
 use Rattle.vc_actor.specs.Begin.{AreFirst}
-use Rattle.vc_actor.specs.Shown.{actor_of}
+use Rattle.vc_actor.specs.ActorView.{actor_of}
 use Rattle.vc_core.specs.State.{State, shown, IsNetworkOf}
 use Rattle.vc_core.specs.Turns.{AllHaveEnded}
 use Rattle.vc_actor.specs.Turns.{actors}
@@ -20,13 +20,13 @@ use Rattle.vc_network.specs.Plan.{ways}
 use Rattle.vc_plan.specs.Accepted.{IsAccepted}
 use Rattle.vc_plan.specs.declared.plan.Plan.{Plan}
 use Rattle.vc_switch.specs.Switch.{new_switch}
-use Rattle.vc_tokens.specs.Spelt.{tokens}
+use Rattle.vc_tokens.specs.CodeTokens.{tokens}
 use Rattle.vc_tokens.specs.declared.token.Token.{Token}
 use Rattle.vc_packets.specs.Functions.{shown_or}
-use Rattle.vc_threads.specs.Closing.{ClosesBy, stop_among}
-use Rattle.vc_threads.specs.Private.Closing.{stop_at, stop_in}
+use Rattle.vc_threads.specs.Close.{ClosesBy, stop_among}
+use Rattle.vc_threads.specs.Private.Close.{stop_at, stop_in}
 use Rattle.vc_threads.specs.Jobs.{Ran}
-use Rattle.vc_threads.specs.Merged.{made_event}
+use Rattle.vc_threads.specs.MergedRuns.{made_event}
 use Rattle.vc_threads.specs.Private.Order.{actor_left, outs_left, ins_left, tokens_at, LeftOn}
 use Rattle.vc_threads.specs.Order.{OnWays}
 use Rattle.vc_threads.specs.Private.Rings.{AreWired}

@@ -4,7 +4,7 @@ use Rattle.std.specs.Global.{Vec}
 use Rattle.std.specs.List.{AllZip, Contains, HoldsAt}
 use Rattle.std.proofs.lemmas.Bool.{cases_eq}
 use Rattle.std.proofs.Math.ListN.{set}
-use Rattle.vc_accepted.specs.Outgoing.{actor_of}
+use Rattle.vc_accepted.specs.ActorWays.{actor_of}
 use Rattle.rtrb.specs.Ring.{IsPair, SameProducer}
 use Rattle.vc_plan.specs.declared.port.Port.{Port}
 use Rattle.vc_plan.specs.declared.port.Wire.{Wire}

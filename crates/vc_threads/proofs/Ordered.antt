@@ -7,13 +7,13 @@ use Rattle.std.proofs.lemmas.List.{length-map, map-append, get_or_past}
 use Rattle.std.proofs.lemmas.Option.{slice_get-map, get_or_from_slice_get}
 use Rattle.std.proofs.lemmas.Simd.{map-map}
 use Rattle.rtrb.specs.Ring.{sent, received, IsPair}
-use Rattle.vc_accepted.specs.Outgoing.{actor_of}
+use Rattle.vc_accepted.specs.ActorWays.{actor_of}
 use Rattle.vc_network.specs.LocalRun.{all_put, all_taken}
 use Rattle.vc_actor.specs.Begin.{AreFirst}
 use Rattle.vc_actor.specs.Turns.{actors}
 use Rattle.vc_plan.specs.declared.plan.Plan.{Plan}
 use Rattle.vc_plan.specs.declared.port.Port.{Port}
-use Rattle.vc_tokens.specs.Spelt.{tokens}
+use Rattle.vc_tokens.specs.CodeTokens.{tokens}
 use Rattle.vc_tokens.specs.Tokens.{Token as Item}
 use Rattle.vc_tokens.specs.declared.token.Token.{Token}
 use Rattle.vc_threads.specs.Private.Jobs.{IsFit}

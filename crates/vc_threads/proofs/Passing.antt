@@ -6,8 +6,8 @@ use Rattle.std.proofs.lemmas.Bool.{cases_eq, cases_order}
 use Rattle.std.proofs.lemmas.Option.{slice_get_within}
 use Rattle.vc_network.specs.Merge.{RunRises, StampsRise}
 use Rattle.vc_actor.specs.declared.act.Act.{Act}
-use Rattle.vc_threads.specs.Merged.{of_pair}
-use Rattle.vc_threads.specs.Private.Merged.{front_of, id_at, IsNext, NotLater, FindsFirst, FindsWith, HavePassed, IdsRise}
+use Rattle.vc_threads.specs.MergedRuns.{of_pair}
+use Rattle.vc_threads.specs.Private.MergedRuns.{front_of, id_at, IsNext, NotLater, FindsFirst, FindsWith, HavePassed, IdsRise}
 use Rattle.vc_threads.specs.declared.merged_runs.Front.{Front}
 use Rattle.vc_threads.specs.declared.run.ActorRun.{ActorRun}
 use Rattle.vc_threads.proofs.Fronts.{Coming, left_of, left_in, stamped}

@@ -14,7 +14,7 @@ use Rattle.vc_network.specs.LocalRun.{Turn, restamped}
 use Rattle.vc_network.specs.Merge.{Made, IsMerge, StampsRise, run_of}
 use Rattle.vc_actor.specs.Begin.{AreFirst, BeginsAs}
 use Rattle.vc_actor.specs.OfPlan.{IsActorOf}
-use Rattle.vc_actor.specs.Shown.{Acting, actor_of}
+use Rattle.vc_actor.specs.ActorView.{Acting, actor_of}
 use Rattle.vc_actor.specs.Turns.{actors}
 use Rattle.vc_actor.specs.declared.act.Act.{Act}
 use Rattle.vc_machine.specs.Rendezvous.{nothing_yet}
@@ -26,9 +26,9 @@ use Rattle.vc_accepted.specs.Process.{Process}
 use Rattle.vc_tokens.specs.declared.token.Token.{Token}
 use Rattle.vc_packets.specs.Functions.{shown_or}
 use Rattle.vc_vcp.specs.Links.{new_vcp}
-use Rattle.vc_threads.specs.Private.Closing.{AreInOrder, stop_in, stop_at}
+use Rattle.vc_threads.specs.Private.Close.{AreInOrder, stop_in, stop_at}
 use Rattle.vc_threads.specs.Jobs.{Ran}
-use Rattle.vc_threads.specs.Merged.{of_pair, numbered}
+use Rattle.vc_threads.specs.MergedRuns.{of_pair, numbered}
 use Rattle.vc_threads.specs.Private.Order.{actor_left}
 use Rattle.vc_threads.specs.Private.Rings.{AreWired, outs_in, ins_in}
 use Rattle.vc_threads.specs.Runs.{Draws, words_of}

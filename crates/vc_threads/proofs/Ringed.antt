@@ -5,7 +5,7 @@ use Rattle.std.proofs.Math.ListN.{set}
 use Rattle.std.proofs.Math.Seq.{get_or-append_seam, map-set_same}
 use Rattle.std.proofs.lemmas.Bool.{cases_eq, cases_order}
 use Rattle.std.proofs.lemmas.List.{get_or_append_left}
-use Rattle.vc_accepted.specs.Outgoing.{actor_of, is_link}
+use Rattle.vc_accepted.specs.ActorWays.{actor_of, is_link}
 use Rattle.vc_plan.specs.Accepted.{port_of}
 use Rattle.vc_plan.specs.declared.plan.Plan.{Plan}
 use Rattle.vc_plan.specs.declared.port.Port.{Port}

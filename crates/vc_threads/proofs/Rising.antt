@@ -5,13 +5,13 @@ use Rattle.vc_network.specs.Actors.{Label}
 use Rattle.vc_network.specs.Actors.Label.{Own, Takes, Puts}
 use Rattle.vc_network.specs.LocalRun.{Stamped, Turn, LocalRun, next_stamp}
 use Rattle.vc_network.specs.Merge.{Rises, RunRises, StampsRise, AreDistinct, Numbered}
-use Rattle.vc_actor.specs.Shown.{Acting}
+use Rattle.vc_actor.specs.ActorView.{Acting}
 use Rattle.vc_actor.specs.declared.act.Act.{Act}
 use Rattle.vc_network.specs.Plan.{Plan}
 use Rattle.vc_tokens.specs.declared.token.Token.{Token}
 use Rattle.vc_threads.specs.Private.Jobs.{IsFit}
 use Rattle.vc_threads.specs.Jobs.{Ran}
-use Rattle.vc_threads.specs.Merged.{of_pair, numbered}
+use Rattle.vc_threads.specs.MergedRuns.{of_pair, numbered}
 use Rattle.vc_threads.specs.Runs.{StepsByLink}
 use Rattle.vc_threads.specs.Private.Threads.{AreNumbered, who}
 use Rattle.vc_threads.specs.Works.{kept, logged}

@@ -12,7 +12,7 @@ use Rattle.vc_actor.specs.OfPlan.{IsActorOf}
 use Rattle.vc_actor.specs.Turns.{FindsTurn, IsPut}
 use Rattle.vc_actor.specs.declared.act.Act.{Act}
 use Rattle.vc_actor.specs.declared.act.Act.TheVariants.{Proc, Take, Put, Route, Fct, Pass}
-use Rattle.vc_actor.specs.Shown.{Acting}
+use Rattle.vc_actor.specs.ActorView.{Acting}
 use Rattle.vc_threads.specs.Runs.{StepsByLink, HasNoStep, Used, Draws, words_of, word_of}
 use Rattle.std.specs.Prelude.{None}
 

@@ -1,6 +1,6 @@
 -- What is left on the two ways of a wire is taken off.
 use Rattle.std.proofs.Common.{◌≡◌, ◌⊎◌, ℕ, ◌+◌, Bool, true, false, length, slice_get, Some, refl, arith, inl, inr}
-use Rattle.vc_accepted.specs.Outgoing.{actor_of}
+use Rattle.vc_accepted.specs.ActorWays.{actor_of}
 use Rattle.vc_plan.specs.Accepted.{IsAccepted, port_of}
 use Rattle.vc_plan.specs.declared.plan.Plan.{Plan}
 use Rattle.vc_plan.specs.declared.port.Wire.{Wire}

@@ -7,7 +7,7 @@ use Rattle.std.proofs.lemmas.List.{map-append}
 use Rattle.std.proofs.lemmas.Option.{slice_get_within}
 use Rattle.vc_accepted.specs.NetworkOf.{network_of, wire_of}
 use Rattle.vc_accepted.specs.NetworkOf as to
-use Rattle.vc_accepted.specs.Outgoing.{actor_of, link_port}
+use Rattle.vc_accepted.specs.ActorWays.{actor_of, link_port}
 use Rattle.vc_accepted.proofs.Accepting.{accepted}
 use Rattle.vc_accepted.proofs.Crossing.{wire_is}
 use Rattle.vc_accepted.proofs.Listed.{there}
@@ -18,8 +18,8 @@ use Rattle.vc_network.specs.Actors.Label.{Own, Takes, Puts}
 use Rattle.vc_network.specs.LocalRun.{Stamped, Turn, LocalRun, all_put, all_taken, items, restamped}
 use Rattle.vc_network.specs.Merge.{Made, part, NotAfter, IsOrdered, IsMerge}
 use Rattle.vc_network.specs.Private.Merge.{remade}
-use Rattle.vc_core.specs.Replaying.{Replays}
-use Rattle.vc_actor.specs.Shown.{actor_of as net_actor, act_of as code_act}
+use Rattle.vc_core.specs.Replay.{Replays}
+use Rattle.vc_actor.specs.ActorView.{actor_of as net_actor, act_of as code_act}
 use Rattle.vc_core.specs.State.{State, shown, IsNetworkOf}
 use Rattle.vc_core.specs.State as core
 use Rattle.vc_core.proofs.Replayed.{replays}
@@ -40,10 +40,10 @@ use Rattle.vc_plan.specs.declared.port.Wire.{Wire}
 use Rattle.vc_switch.specs.Waiting.{Wormhole}
 use Rattle.vc_accepted.specs.Begin.{begin_of}
 use Rattle.vc_accepted.specs.Process.{Process, does}
-use Rattle.vc_tokens.specs.Spelt.{token}
+use Rattle.vc_tokens.specs.CodeTokens.{token}
 use Rattle.vc_tokens.specs.Tokens as tokens
 use Rattle.vc_tokens.specs.declared.token.Token.{Token}
-use Rattle.vc_threads.specs.Merged.{made_event}
+use Rattle.vc_threads.specs.MergedRuns.{made_event}
 use Rattle.vc_threads.specs.Order.{OnWays}
 use Rattle.vc_threads.specs.Threads.{IsOverWires, IsRunOf, TakesInOrder}
 use Rattle.vc_threads.specs.declared.run.Stop.{Stop}

@@ -1,7 +1,7 @@
 -- What the workers are given, and what they give back.
 use Rattle.std.specs.Prelude.{◌≡◌, ℕ, Bool}
 use Rattle.vc_actor.specs.OfPlan.{IsActorOf}
-use Rattle.vc_actor.specs.Shown.{Acting}
+use Rattle.vc_actor.specs.ActorView.{Acting}
 use Rattle.vc_network.specs.Plan.{Plan}
 use Rattle.vc_threads.specs.Works.{HasRun}
 use Rattle.vc_threads.specs.declared.spawn.Job.{Job}

@@ -1,6 +1,6 @@
-pub mod Closing
+pub mod Close
 pub mod Jobs
-pub mod Merged
+pub mod MergedRuns
 pub mod Order
 pub mod Private
 pub mod Rings

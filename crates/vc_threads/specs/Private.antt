@@ -1,8 +1,8 @@
 -- What only private functions, invariants and proofs cite.
-pub mod Closing
+pub mod Close
 pub mod Jobs
 pub mod Least
-pub mod Merged
+pub mod MergedRuns
 pub mod Order
 pub mod Rings
 pub mod Rooms

@@ -1,6 +1,6 @@
 -- The rings of a plan's ways, as the jobs hold their ends.
 use Rattle.std.specs.Prelude.{◌≡◌, ℕ, ◌<◌, true, Bool, length, slice_get, Some}
-use Rattle.vc_accepted.specs.Outgoing.{is_link}
+use Rattle.vc_accepted.specs.ActorWays.{is_link}
 use Rattle.vc_plan.specs.Accepted.{port_of}
 use Rattle.vc_plan.specs.declared.plan.Plan.{Plan}
 use Rattle.vc_plan.specs.declared.port.Wire.{Wire}

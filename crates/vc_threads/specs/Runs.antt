@@ -5,16 +5,16 @@ use Rattle.vc_network.specs.Actors.{Label, Steps}
 use Rattle.vc_network.specs.Actors.Label.{Own, Takes, Puts}
 use Rattle.vc_network.specs.LocalRun.{Stamped, Turn, LocalRun, clock_after}
 use Rattle.vc_network.specs.Plan.{Plan}
-use Rattle.vc_tokens.specs.Spelt.{token}
+use Rattle.vc_tokens.specs.CodeTokens.{token}
 use Rattle.vc_tokens.specs.declared.token.Token.{Token}
 use Rattle.rand_pcg.specs.Lcg.{Lcg, started, increment_of}
 use Rattle.rand_pcg.specs.Pcg.{multiplier_64, pcg32}
 use Rattle.vc_actor.specs.Able.{CanAct}
-use Rattle.vc_actor.specs.Acting.{MakesOwn, MakesTake, IsOwn}
+use Rattle.vc_actor.specs.Acts.{MakesOwn, MakesTake, IsOwn}
 use Rattle.vc_actor.specs.Turns.{IsPut}
 use Rattle.vc_actor.specs.declared.act.Act.{Act}
 use Rattle.vc_actor.specs.declared.act.Act.TheVariants.{Take}
-use Rattle.vc_actor.specs.Shown.{Acting}
+use Rattle.vc_actor.specs.ActorView.{Acting}
 
 -- The steps of actor k of the plan: of its own, the take of a token from a link, or the put of one on a link.
 abbrev pub StepsByLink : Plan → Steps Acting Act Token

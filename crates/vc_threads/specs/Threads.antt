@@ -3,14 +3,14 @@ use Rattle.std.specs.Prelude.{◌≡◌, ◌≢◌, ◌↔◌, ℕ, ◌<◌, ◌
 use Rattle.std.specs.List.{AllByRecursion, Contains}
 use Rattle.rand_pcg.specs.Lcg.{Lcg}
 use Rattle.vc_accepted.specs.NetworkOf.{network_of}
-use Rattle.vc_accepted.specs.Outgoing.{actor_of as port_actor}
+use Rattle.vc_accepted.specs.ActorWays.{actor_of as port_actor}
 use Rattle.vc_network.specs.Actors.{Label, act_of}
 use Rattle.vc_network.specs.Actors.Label.{Own, Takes, Puts}
 use Rattle.vc_network.specs.LocalRun.{Stamped, Turn, LocalRun, all_put, all_taken, items, restamped}
 use Rattle.vc_network.specs.Merge.{Made, IsMerge}
 use Rattle.vc_actor.specs.Begin.{BeginsAs}
-use Rattle.vc_core.specs.Replaying.{Replays}
-use Rattle.vc_actor.specs.Shown.{Acting, actor_of}
+use Rattle.vc_core.specs.Replay.{Replays}
+use Rattle.vc_actor.specs.ActorView.{Acting, actor_of}
 use Rattle.vc_core.specs.State.{State, state_of, shown}
 use Rattle.vc_core.specs.Turns.{AllHaveEnded}
 use Rattle.vc_actor.specs.Turns.{actors}
@@ -21,12 +21,12 @@ use Rattle.vc_core.specs.declared.event.Event.{Event}
 use Rattle.vc_network.specs.Network as net
 use Rattle.vc_plan.specs.declared.plan.Plan.{Plan}
 use Rattle.vc_plan.specs.declared.port.Port.{Port}
-use Rattle.vc_tokens.specs.Spelt.{tokens}
+use Rattle.vc_tokens.specs.CodeTokens.{tokens}
 use Rattle.vc_tokens.specs.Tokens.{Token as Item}
 use Rattle.vc_tokens.specs.declared.token.Token.{Token}
 use Rattle.vc_accepted.specs.Process.{Process}
-use Rattle.vc_threads.specs.Closing.{ClosesBy, stop_among}
-use Rattle.vc_threads.specs.Merged.{made_event}
+use Rattle.vc_threads.specs.Close.{ClosesBy, stop_among}
+use Rattle.vc_threads.specs.MergedRuns.{made_event}
 use Rattle.vc_threads.specs.Order.{OnWays}
 use Rattle.vc_threads.specs.Rings.{IsOnWire}
 use Rattle.vc_threads.specs.Runs.{StepsByLink, Used, Draws, generator, words_of}

@@ -2,8 +2,8 @@
 ghost use Rattle.std.specs.Prelude.{◌≡◌, ◌⊎◌, ◌↔◌, ◌<◌, List, Some, length, map, IfOk, IfSome, IsTrue, MatchOption};
 ghost use Rattle.std.specs.List.{AllByRecursion};
 ghost use Rattle.vc_network.specs.Merge.{Made, IsMerge, AreDistinct, RunRises, run_of};
-ghost use Rattle.vc_threads.specs.Merged.{numbered, made_event};
-ghost use Rattle.vc_threads.specs.Private.Merged.{front_of, id_at, FindsFirst, FindsWith, HavePassed, IdsRise};
+ghost use Rattle.vc_threads.specs.MergedRuns.{numbered, made_event};
+ghost use Rattle.vc_threads.specs.Private.MergedRuns.{front_of, id_at, FindsFirst, FindsWith, HavePassed, IdsRise};
 ghost use Rattle.vc_actor.specs.declared.act.Act.{Act as SpeltAct};
 
 use crate::run::ActorRun;

@@ -4,8 +4,8 @@ ghost use Rattle.vc_core.specs.State.{state_of, IsNetworkOf};
 ghost use Rattle.vc_core.specs.Turns.{AllHaveEnded};
 ghost use Rattle.vc_core.specs.declared.close.Close.TheVariants.{Done};
 ghost use Rattle.vc_plan.specs.declared.plan.Plan.{Plan};
-ghost use Rattle.vc_threads.specs.Private.Closing.{AreInOrder, stop_at, stop_in};
-ghost use Rattle.vc_threads.specs.Closing.{ClosesBy, NoneStopped};
+ghost use Rattle.vc_threads.specs.Private.Close.{AreInOrder, stop_at, stop_in};
+ghost use Rattle.vc_threads.specs.Close.{ClosesBy, NoneStopped};
 
 use crate::run::{ActorRun, Stop};
 use std::alloc::Global;

@@ -10,7 +10,7 @@ use Rattle.vc_tokens.specs.Assembly.{Assembly}
 use Rattle.vc_tokens.specs.declared.refused.Why.{Why}
 use Rattle.vc_tokens.specs.Decoding.{IsBreak, Breaks, ReadsOn}
 use Rattle.vc_tokens.specs.Laws.{Feeds, stream}
-use Rattle.vc_tokens.specs.Spelt.{token, tokens}
+use Rattle.vc_tokens.specs.CodeTokens.{token, tokens}
 use Rattle.vc_tokens.specs.Tokens.{Token, Byte, EndMark, bytes, spelling, spellings, Spells, Whole}
 use Rattle.vc_tokens.proofs.Spelling.{bytes-append, spellings-append, byte_spelled, mark_spelled, mark_in_bytes, first_packet}
 

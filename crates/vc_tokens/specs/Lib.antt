@@ -1,5 +1,5 @@
 pub mod Assembly
+pub mod CodeTokens
 pub mod Decoding
 pub mod Laws
-pub mod Spelt
 pub mod Tokens

@@ -2,7 +2,7 @@
 ghost use Rattle.std.specs.Prelude.{◌≡◌, ◌≤◌, ◌⊎◌, [], ◌∷◌, ◌++◌, length, OnOk, IfOk, IfErr};
 ghost use Rattle.vc_tokens.specs.declared.refused.Why.TheVariants as why;
 ghost use Rattle.vc_tokens.specs.Decoding.{IsBreak, Breaks, ReadsOn};
-ghost use Rattle.vc_tokens.specs.Spelt.{token, tokens};
+ghost use Rattle.vc_tokens.specs.CodeTokens.{token, tokens};
 ghost use Rattle.vc_tokens.specs.Tokens.{bytes, Whole};
 
 use crate::assembler::Assembler;
@@ -101,7 +101,7 @@ fn read(alloc: Global, reading: &mut Assembler, next: &[Token]) -> Result<Vec<Pa
 impl Decoder {
     ghost use Rattle.std.specs.Prelude.{◌≡◌, [], None, IfOk, IfErr};
     ghost use Rattle.vc_tokens.specs.Decoding.{IsRead, IsRefused};
-    ghost use Rattle.vc_tokens.specs.Spelt.{tokens};
+    ghost use Rattle.vc_tokens.specs.CodeTokens.{tokens};
 
     /// A decoder of packets whose bodies have at most `body_limit` bytes.
     pub fn new(alloc: Global, body_limit: usize) -> Result<Decoder, Memory>

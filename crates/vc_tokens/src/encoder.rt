@@ -1,7 +1,7 @@
 //! A packet's spelling, at once or token by token.
 ghost use Rattle.std.specs.Prelude.{◌≡◌, IfOk};
 ghost use Rattle.vc_tokens.specs.Tokens.{spelling};
-ghost use Rattle.vc_tokens.specs.Spelt.{tokens};
+ghost use Rattle.vc_tokens.specs.CodeTokens.{tokens};
 
 use crate::token::Token;
 use std::alloc::Global;
@@ -43,7 +43,7 @@ impl Model for Encoder {
 impl Encoder {
     ghost use Rattle.std.specs.Prelude.{◌≡◌, [], ◌∷◌, MatchOption};
     ghost use Rattle.vc_tokens.specs.Tokens.{spelling};
-    ghost use Rattle.vc_tokens.specs.Spelt.{token};
+    ghost use Rattle.vc_tokens.specs.CodeTokens.{token};
 
     /// An encoder that gives this packet's spelling.
     pub fn new(packet: Packet) -> Encoder

@@ -18,7 +18,7 @@ pub enum Token {
 impl From<Mark> for Token {
     ghost use Rattle.std.specs.Prelude.{◌≡◌};
     ghost use Rattle.vc_tokens.specs.Tokens.{EndMark};
-    ghost use Rattle.vc_tokens.specs.Spelt.{token};
+    ghost use Rattle.vc_tokens.specs.CodeTokens.{token};
 
     ghost from_gives = { λ mark mark_token. token mark_token ≡ EndMark mark };
 

@@ -6,7 +6,7 @@ use Rattle.std.proofs.Math.Dec.{eqb}
 use Rattle.std.proofs.lemmas.Bool.Decides.{Decides-eqb, nat_tests}
 use Rattle.std.proofs.lemmas.Grind.{flat_map-append}
 use Rattle.std.proofs.lemmas.Slice.Eq.{starts_is}
-use Rattle.vc_core.specs.Replaying.{Reached, IsOpening}
+use Rattle.vc_core.specs.Replay.{Reached, IsOpening}
 use Rattle.vc_core.specs.State.{State, shown, MakesEvent}
 use Rattle.vc_core.specs.declared.event.Event.{Event}
 use Rattle.vc_core.proofs.Replayed.{reached_first, reached_next}

@@ -19,7 +19,7 @@ use Rattle.vc_plan.specs.declared.switch_plan.SwitchPlan.{SwitchPlan}
 use Rattle.vc_plan.specs.Names.{actor_name, channel_name}
 use Rattle.vc_trace.specs.EventOf.{IsActor, IsChannel}
 use Rattle.vc_trace.specs.Private.EventOf.{IsNamed}
-use Rattle.vc_trace.specs.Private.Named.{AreNumbered, number_at}
+use Rattle.vc_trace.specs.Private.Names.{AreNumbered, number_at}
 
 same_bytes : (xs : List ℕ) → bytes_eq xs xs ≡ true
 same_bytes xs = (bytes_eq-Decides xs xs).1 refl

@@ -2,7 +2,7 @@
 use Rattle.std.proofs.Common.{ℕ, Bool, List, Option, Some, None, Result, Ok, Err}
 use Rattle.vc_plan.specs.declared.plan.Plan.{Plan as Network}
 use Rattle.vc_reader.proofs.Differing.{names_differ}
-use Rattle.vc_text.specs.Checking.{ReadsAccepted}
+use Rattle.vc_text.specs.CheckText.{ReadsAccepted}
 use Rattle.vc_text.specs.declared.fault.RunFault.{RunFault}
 use Rattle.vc_text.specs.declared.fault.RunFault.TheVariants.{Read, Write, Text, Plan, Threads, Memory}
 use Rattle.vc_text.proofs.Checked.{memory_any}

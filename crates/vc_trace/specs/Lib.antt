@@ -3,4 +3,4 @@ pub mod EventText
 pub mod Lines
 pub mod Private
 pub mod Replay
-pub mod Tracing
+pub mod TraceText

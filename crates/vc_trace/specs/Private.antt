@@ -1,9 +1,9 @@
 -- What only private functions, invariants and proofs cite.
 pub mod EventOf
+pub mod EventReader
 pub mod EventText
-pub mod Named
+pub mod Names
 pub mod Pieces
-pub mod Reading
 pub mod Replay
 pub mod Verbs
 pub mod Words

@@ -2,14 +2,14 @@
 use Rattle.std.specs.Prelude.{◌≡◌, ◌⊎◌, ℕ, ◌+◌, Bool, cond, List, [], ◌++◌, length, codes, decimal, Option, Some, None, Result, Ok, Err, ⊤}
 use Rattle.std.specs.Io.BufRead.{ends_with_byte}
 use Rattle.std.specs.Io.KnownBytes.{Appends}
-use Rattle.vc_core.specs.Enabled.{NetworkState, CanHappenIn}
-use Rattle.vc_core.specs.Replaying.{RunsTo}
+use Rattle.vc_core.specs.PossibleEvents.{NetworkState, CanHappenIn}
+use Rattle.vc_core.specs.Replay.{RunsTo}
 use Rattle.vc_core.specs.declared.close.Close.{Close}
 use Rattle.vc_core.specs.declared.event.Event.{Event}
 use Rattle.vc_plan.specs.declared.plan.Plan.{Plan}
 use Rattle.vc_reader.specs.Laws.{HasDistinctNames}
-use Rattle.vc_text.specs.Checking.{ReadsAccepted}
-use Rattle.vc_text.specs.Closing.{ClosesIn, OnlyProcessesWait}
+use Rattle.vc_text.specs.CheckText.{ReadsAccepted}
+use Rattle.vc_text.specs.Close.{ClosesIn, OnlyProcessesWait}
 use Rattle.vc_text.specs.Streams.{AppendsFront, IsAllOf, IsReadFault}
 use Rattle.vc_text.specs.Tail.{IsTail}
 use Rattle.vc_waits.specs.Waits.{newline}

@@ -7,7 +7,7 @@ ghost use Rattle.vc_plan.specs.declared.plan.Plan.{Plan};
 ghost use Rattle.vc_plan.specs.Names.{channel_name};
 ghost use Rattle.vc_waits.specs.Waits.{newline};
 ghost use Rattle.vc_trace.specs.EventOf.{IsActOf, IsByte, IsChannel, IsEventOf, IsGuard, IsHalf, IsLong, IsMoveOf};
-ghost use Rattle.vc_trace.specs.Private.Named.{AreNamesOf};
+ghost use Rattle.vc_trace.specs.Private.Names.{AreNamesOf};
 ghost use Rattle.vc_trace.specs.EventText.{act_words, event_line, guard_word, move_words, spaced};
 
 use crate::fields::{actor_in, byte_in, channel_in, guard_in, half_in, long_in};

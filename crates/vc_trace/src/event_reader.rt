@@ -2,7 +2,7 @@
 ghost use Rattle.std.specs.Prelude.{IfOk};
 ghost use Rattle.vc_plan.specs.Accepted.{IsAccepted};
 ghost use Rattle.vc_plan.specs.declared.plan.Plan.{Plan};
-ghost use Rattle.vc_trace.specs.Private.Reading.{IsReaderOf, ReadsEvent};
+ghost use Rattle.vc_trace.specs.Private.EventReader.{IsReaderOf, ReadsEvent};
 
 use crate::event_line::event_of;
 use crate::line_buffer::LineBuffer;

@@ -4,7 +4,7 @@ ghost use Rattle.vc_plan.specs.declared.plan.Plan.{Plan};
 ghost use Rattle.vc_plan.specs.Names.{actor_name, channel_name};
 ghost use Rattle.vc_trace.specs.Private.EventOf.{Finds};
 ghost use Rattle.vc_trace.specs.EventOf.{IsActor, IsByte, IsChannel, IsGuard, IsHalf, IsLong};
-ghost use Rattle.vc_trace.specs.Private.Named.{AreNamesOf};
+ghost use Rattle.vc_trace.specs.Private.Names.{AreNamesOf};
 ghost use Rattle.vc_trace.specs.EventText.{guard_word};
 
 use crate::names::Names;

@@ -1,6 +1,6 @@
 //! The trace of a run: its events as text, a line each.
 //!
-//! The layer above knows that a traced run writes the text of its events and then its traffic (`specs/Tracing`, `specs/EventText`), or
+//! The layer above knows that a traced run writes the text of its events and then its traffic (`specs/TraceText`, `specs/EventText`), or
 //! a front of that where the writer failed, over any reader and any writer that tell their bytes. The text goes through a buffer of
 //! 4,096 bytes, so it takes no memory of its own.
 //!

@@ -3,7 +3,7 @@ ghost use Rattle.std.specs.Prelude.{◌≡◌, ◌+◌, IfOk, length};
 ghost use Rattle.vc_plan.specs.Accepted.{IsAccepted};
 ghost use Rattle.vc_plan.specs.Names.{actor_name, channel_name};
 ghost use Rattle.vc_trace.specs.Private.EventOf.{IsNamed};
-ghost use Rattle.vc_trace.specs.Private.Named.{AreNamesOf, AreNumbered, number_at};
+ghost use Rattle.vc_trace.specs.Private.Names.{AreNamesOf, AreNumbered, number_at};
 
 use std::alloc::Global;
 use std::collections::HashMap;

@@ -1,11 +1,11 @@
 //! Making the events of a text.
 ghost use Rattle.std.specs.Prelude.{◌≡◌, ◌↔◌, ℕ, List, Option, IfErr, IfOk, IsTrue};
-ghost use Rattle.vc_core.specs.Replaying.{IsOpening, Reached};
+ghost use Rattle.vc_core.specs.Replay.{IsOpening, Reached};
 ghost use Rattle.vc_core.specs.State.{state_of, IsNetworkOf};
 ghost use Rattle.vc_core.specs.declared.event.Event.{Event as Happening};
 ghost use Rattle.vc_plan.specs.declared.plan.Plan.{Plan};
 ghost use Rattle.vc_text.specs.Streams.{IsReadFault};
-ghost use Rattle.vc_trace.specs.Private.Reading.{IsReaderOf};
+ghost use Rattle.vc_trace.specs.Private.EventReader.{IsReaderOf};
 ghost use Rattle.vc_trace.specs.Replay.{EndsEvents, IsReplayText, Replays, ReplaysPlan, refused_text as text_of_refused};
 ghost use Rattle.vc_trace.specs.Private.Replay.{MakesEvents, MakesLine};
 

@@ -1,7 +1,7 @@
 //! Running a network event by event, with its events written.
 ghost use Rattle.vc_text.specs.OneNode.{ReadsAs};
-ghost use Rattle.vc_text.specs.Running.{WritesRun, WritesRunBy};
-ghost use Rattle.vc_trace.specs.Tracing.{IsTracedText};
+ghost use Rattle.vc_text.specs.RunText.{WritesRun, WritesRunBy};
+ghost use Rattle.vc_trace.specs.TraceText.{IsTracedText};
 
 use crate::writing::write_log;
 use std::alloc::Global;

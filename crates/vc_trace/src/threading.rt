@@ -1,6 +1,6 @@
 //! Running a network in threads, with its events written.
-ghost use Rattle.vc_text.specs.Threading.{WritesThreads};
-ghost use Rattle.vc_trace.specs.Tracing.{IsTracedText};
+ghost use Rattle.vc_text.specs.ThreadsText.{WritesThreads};
+ghost use Rattle.vc_trace.specs.TraceText.{IsTracedText};
 
 use crate::writing::write_steps;
 use std::alloc::Global;

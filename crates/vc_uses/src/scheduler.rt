@@ -1,5 +1,5 @@
 //! A scheduler of one's own.
-ghost use Rattle.vc_core.specs.Replaying.{Reached};
+ghost use Rattle.vc_core.specs.Replay.{Reached};
 ghost use Rattle.vc_core.specs.State.{state_of};
 ghost use Rattle.vc_plan.specs.declared.plan.Plan.{Plan};
 

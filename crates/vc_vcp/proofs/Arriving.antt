@@ -2,7 +2,7 @@
 use Rattle.std.proofs.Common.{◌≡◌, ◌≢◌, ℕ, ◌+◌, ◌*◌, ◌<◌, ◌/◌, ◌%◌, Bool, true, false, List, [], ◌∷◌, ◌++◌, length, drop, refl, sym, ap, ◌∙◌, subst, arith, slice_get, IsTrue, ◌↔◌, Option, Some, None, inl, inr}
 use Rattle.std.specs.List.{AllByRecursion}
 use Rattle.std.proofs.lemmas.Bool.{cases_lt}
-use Rattle.vc_packets.specs.Counting.{one_more}
+use Rattle.vc_packets.specs.Counters.{one_more}
 use Rattle.vc_packets.specs.Headers.{spelled, front_header_of}
 use Rattle.vc_packets.specs.Kind.{kind}
 use Rattle.vc_packets.specs.declared.kind.Kind.{Kind}
@@ -19,9 +19,9 @@ use Rattle.vc_vcp.specs.LinkIn.{Receiving}
 use Rattle.vc_vcp.specs.Links.{Vcp, Passes, passes_byte, drops_byte, passes_mark, passing, set_link, with_token, due, not_due}
 use Rattle.vc_vcp.proofs.Passing.{receiver_at}
 use Rattle.vc_vcp.proofs.Wired.{all-at}
-use Rattle.vc_vcp.specs.Keyed.{named}
+use Rattle.vc_vcp.specs.Names.{named}
 use Rattle.vc_packets.specs.Functions.{shown_or}
-use Rattle.vc_vcp.specs.Seen.{seen, ends_of, carrier_of, link_of, in_half, no_input, out_end, in_end, out_half, no_output}
+use Rattle.vc_vcp.specs.VcpView.{seen, ends_of, carrier_of, link_of, in_half, no_input, out_end, in_end, out_half, no_output}
 use Rattle.vc_vcp.specs.State.{State, HaveOwnNames, IsWired, IsInput, IsLinkIn, IsAckOf, limit_of}
 use Rattle.vc_vcp.specs.Steps.{Taken, Held, Stray, taken_by, acked_by, message, accept, advance, Arrives, takes, stray, stores, holds, advances}
 use Rattle.vc_vcp.proofs.KeyedLemmas.{named_has}

@@ -6,7 +6,7 @@ use Rattle.vc_credit.specs.Ends.{HasRoom, new_receiver}
 use Rattle.vc_vcp.specs.Able.{CanPut, CanGrant, CanPass}
 use Rattle.vc_packets.specs.Functions.{shown_or}
 use Rattle.vc_vcp.specs.LinkIn.{Receiving}
-use Rattle.vc_vcp.specs.Seen.{seen, ends_of, carrier_of, link_of}
+use Rattle.vc_vcp.specs.VcpView.{seen, ends_of, carrier_of, link_of}
 use Rattle.vc_vcp.specs.State.{State, IsWired, MayPut, MayGrant, limit_of}
 use Rattle.vc_vcp.proofs.Arriving.{waits_for}
 use Rattle.vc_vcp.proofs.Enabling.{grant_iff}

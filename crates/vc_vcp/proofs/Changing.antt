@@ -5,8 +5,8 @@ use Rattle.vc_packets.specs.declared.packet.Packet.{Packet}
 use Rattle.vc_vcp.specs.Private.Bound.{Stays, StaysWith, ArrivesWith, with_inputs}
 use Rattle.vc_vcp.specs.declared.input.Input.{Input}
 use Rattle.vc_vcp.specs.LinkOut.{Sending}
-use Rattle.vc_vcp.specs.Private.Queued.{StaysInput}
-use Rattle.vc_vcp.specs.Seen.{ends_of, carrier_of}
+use Rattle.vc_vcp.specs.Private.Queues.{StaysInput}
+use Rattle.vc_vcp.specs.VcpView.{ends_of, carrier_of}
 use Rattle.vc_vcp.specs.State.{State, IsWired, IsInput}
 use Rattle.vc_vcp.specs.Steps.{Taken, Arrives}
 use Rattle.vc_vcp.proofs.Inputting.{kept-input}

@@ -14,13 +14,13 @@ use Rattle.vc_vcp.specs.declared.output.Output.{Output}
 use Rattle.vc_vcp.specs.declared.input.Input.{Input}
 use Rattle.vc_vcp.specs.Able.{CanOffer, CanWant, CanFetch, CanStop, CanPut, CanGrant, IsReady}
 use Rattle.vc_vcp.specs.Carrier.{Carrier, set_in, set_out, enqueue}
-use Rattle.vc_vcp.specs.Keyed.{named}
+use Rattle.vc_vcp.specs.Names.{named}
 use Rattle.vc_packets.specs.Functions.{shown_or}
 use Rattle.vc_vcp.specs.LinkIn.{Receiving}
 use Rattle.vc_vcp.specs.LinkOut.{Sending}
 use Rattle.vc_vcp.specs.Private.LinkOut.{CanPutFront}
 use Rattle.vc_vcp.specs.Links.{set_link}
-use Rattle.vc_vcp.specs.Seen.{seen, ends_of, carrier_of, link_of, in_half, no_input, out_end, in_end, out_half, no_output}
+use Rattle.vc_vcp.specs.VcpView.{seen, ends_of, carrier_of, link_of, in_half, no_input, out_end, in_end, out_half, no_output}
 use Rattle.vc_vcp.specs.State.{State, IsIdle, IsUnwanted, IsOpen, IsInput, HoldsFor, MayPut, MayGrant}
 use Rattle.vc_vcp.specs.Steps.{message, accept, fetches, waits, IsOpen as IsOpenChannel}
 use Rattle.vc_vcp.proofs.Inputting.{for_end}

@@ -3,7 +3,7 @@ use Rattle.std.proofs.Common.{◌≡◌, ℕ, ◌+◌, ◌<◌, ◌%◌, List, S
 use Rattle.std.proofs.lemmas.Bool.{cases_eq}
 use Rattle.std.proofs.lemmas.List.{length-set, length-replicate}
 use Rattle.std.proofs.lemmas.Option.{slice_get_within}
-use Rattle.vc_vcp.specs.Private.Hinted.{AreHinted, IsAlone}
+use Rattle.vc_vcp.specs.Private.Hints.{AreHinted, IsAlone}
 use Rattle.vc_vcp.proofs.Placed.{place-set_same, place-set_other, same_read}
 
 -- the first n elements are hinted

@@ -2,10 +2,10 @@
 use Rattle.std.proofs.Common.{◌≡◌, Bool, false, Result, IfOk, List, ℕ, sym, ap, ◌∙◌}
 use Rattle.vc_packets.specs.declared.packet.Packet.{Packet}
 use Rattle.vc_blocks.specs.Halves.{Incoming}
-use Rattle.vc_blocks.specs.Arriving.{arrival_of}
+use Rattle.vc_blocks.specs.Arrivals.{arrival_of}
 use Rattle.vc_blocks.specs.declared.in_half.Arrival.{Arrival}
 use Rattle.vc_vcp.specs.LinkOut.{Sending}
-use Rattle.vc_vcp.specs.Private.Queued.{acknowledged}
+use Rattle.vc_vcp.specs.Private.Queues.{acknowledged}
 use Rattle.vc_vcp.proofs.Placed.{if_ok}
 
 -- a piece that no process inputs is held, and queues nothing

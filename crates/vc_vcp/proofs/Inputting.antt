@@ -4,13 +4,13 @@ use Rattle.vc_packets.specs.Functions.{put}
 use Rattle.vc_packets.specs.declared.packet.Packet.{Packet}
 use Rattle.vc_packets.specs.Spellings.{ack_packet}
 use Rattle.vc_blocks.specs.Halves.{load_of, ends_message, with_stored}
-use Rattle.vc_blocks.specs.Arriving.{after_want, want_of, want_by}
+use Rattle.vc_blocks.specs.Arrivals.{after_want, want_of, want_by}
 use Rattle.vc_blocks.specs.declared.in_half.Want.{Want}
 use Rattle.vc_vcp.specs.declared.input.Input.{Input}
 use Rattle.vc_vcp.specs.Carrier.{InHalf, set_in, enqueue}
 use Rattle.vc_vcp.specs.LinkOut.{Sending}
-use Rattle.vc_vcp.specs.Private.Queued.{StaysInput, queued, logged_by, acknowledged_by}
-use Rattle.vc_vcp.specs.Seen.{seen, ends_of, IsKept, carrier_of, in_half, in_end, Inputs, answered, found_by}
+use Rattle.vc_vcp.specs.Private.Queues.{StaysInput, queued, logged_by, acknowledged_by}
+use Rattle.vc_vcp.specs.VcpView.{seen, ends_of, IsKept, carrier_of, in_half, in_end, Inputs, answered, found_by}
 use Rattle.vc_vcp.specs.State.{State, HaveOwnNames, IsPieceOf, HoldsFor}
 use Rattle.vc_vcp.specs.Steps.{store, accept, message, IsPieceFor, IsOpen, fetches, waits}
 use Rattle.vc_vcp.proofs.KeyedLemmas.{by_name-kept}

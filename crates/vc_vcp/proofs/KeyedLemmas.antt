@@ -9,7 +9,7 @@ use Rattle.std.proofs.lemmas.List.Folds.{find_at}
 use Rattle.std.proofs.lemmas.Option.{slice_get-get_or, slice_get_past}
 use mathlib.Core.Path.{fun_ext}
 use Rattle.vc_packets.specs.Functions.{put, shown_or}
-use Rattle.vc_vcp.specs.Keyed.{named, NamesDiffer, by_name}
+use Rattle.vc_vcp.specs.Names.{named, NamesDiffer, by_name}
 
 tail_differs : {X : Type 0} (name : X → ℕ) (x : X) (xs : List X) → NamesDiffer name (x ∷ xs) → NamesDiffer name xs
 tail_differs name x xs h i j y z a b e = let k = h (suc i) (suc j) y z a b e in omega arith

@@ -8,7 +8,7 @@ use Rattle.vc_vcp.specs.Able.{CanLeaveWhole}
 use Rattle.vc_vcp.specs.LinkOut.{Sending}
 use Rattle.vc_vcp.specs.Private.LinkOut.{FrontLeavesWhole, HasNoneWhole}
 use Rattle.vc_vcp.specs.Links.{LeavesWhole}
-use Rattle.vc_vcp.specs.Seen.{seen, carrier_of, link_of}
+use Rattle.vc_vcp.specs.VcpView.{seen, carrier_of, link_of}
 use Rattle.vc_vcp.specs.State.{State}
 use Rattle.vc_vcp.proofs.Beyond.{queue_past}
 use Rattle.vc_vcp.proofs.Placed.{put_back, set_back}

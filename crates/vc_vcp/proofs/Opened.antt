@@ -5,13 +5,13 @@ use Rattle.std.specs.List.{AllByRecursion}
 use Rattle.vc_credit.specs.Ends.{new_sender, new_receiver}
 use Rattle.vc_vcp.specs.declared.end.End.{End as Given}
 use Rattle.vc_vcp.specs.Carrier.{End}
-use Rattle.vc_vcp.specs.Keyed.{named, NamesDiffer, by_name}
+use Rattle.vc_vcp.specs.Names.{named, NamesDiffer, by_name}
 use Rattle.vc_packets.specs.Functions.{shown_or}
 use Rattle.vc_vcp.specs.Links.{new_vcp}
 use Rattle.vc_vcp.specs.Private.Opening.{opened, with_opened, opened_output, opened_outputs, opened_input, opened_inputs, four, new_out, new_in}
 use Rattle.vc_vcp.specs.Opening.{end_with, end_at, is_chan, NoneTwice, AreDistinct, ends_given}
 use Rattle.vc_vcp.specs.State.{State, IsWired, HaveOwnNames, IsOutput, IsInput, IsLinkIn}
-use Rattle.vc_vcp.specs.Seen.{seen, ends_of, out_half, in_half, no_output, no_input, out_end, in_end}
+use Rattle.vc_vcp.specs.VcpView.{seen, ends_of, out_half, in_half, no_output, no_input, out_end, in_end}
 
 -- where an element that was made comes from
 record Origin {X : Type 0} (chan : Given → Option ℕ) (make : Given → ℕ → X) (es : List Given) (y : X) : Type 0 where

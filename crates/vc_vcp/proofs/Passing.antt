@@ -3,7 +3,7 @@ use Rattle.std.proofs.Common.{◌≡◌, ◌≢◌, ℕ, zero, suc, ◌<◌, ◌
 use Rattle.std.proofs.lemmas.Option.{slice_get_within, slice_get_read}
 use Rattle.std.proofs.lemmas.List.{length-set}
 use Rattle.std.specs.List.{AllByRecursion}
-use Rattle.vc_packets.specs.Counting.{one_more}
+use Rattle.vc_packets.specs.Counters.{one_more}
 use Rattle.vc_packets.specs.Functions.{put, shown_or}
 use Rattle.vc_packets.specs.declared.mark.Mark.{Mark}
 use Rattle.vc_tokens.specs.Tokens.{Token, Byte, Fct, EndMark}
@@ -12,7 +12,7 @@ use Rattle.vc_credit.specs.Laws.{NeedsPlace}
 use Rattle.vc_vcp.specs.LinkIn.{Receiving}
 use Rattle.vc_vcp.specs.LinkOut.{Sending}
 use Rattle.vc_vcp.specs.Links.{Link, Vcp, set_link, passing, Passes, passes_byte, drops_byte, passes_mark}
-use Rattle.vc_vcp.specs.Seen.{seen, ends_of, carrier_of, link_of, IsKept}
+use Rattle.vc_vcp.specs.VcpView.{seen, ends_of, carrier_of, link_of, IsKept}
 use Rattle.vc_vcp.specs.State.{State, IsWired, IsLinkIn, MayPut, MayGrant, limit_of}
 use Rattle.vc_vcp.specs.Steps.{Taken, Arrives}
 use Rattle.vc_vcp.proofs.Placed.{same_read}

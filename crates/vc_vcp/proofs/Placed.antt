@@ -3,7 +3,7 @@ use Rattle.std.proofs.Common.{◌≡◌, ℕ, zero, suc, List, [], ◌∷◌, re
 use Rattle.std.proofs.lemmas.Bool.{cases_eq, ne_eqb}
 use mathlib.Core.Path.{fun_ext}
 use Rattle.vc_packets.specs.Functions.{put, shown_or}
-use Rattle.vc_vcp.specs.Keyed.{named}
+use Rattle.vc_vcp.specs.Names.{named}
 
 -- x at i, and f at all others
 pub put_is : {X : Type 0} (f g : ℕ → X) (i : ℕ) (x : X) → g i ≡ x → ((j : ℕ) → (j ≡ i → ⊥) → g j ≡ f j) → g ≡ put f i x

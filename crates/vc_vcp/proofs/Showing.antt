@@ -1,7 +1,7 @@
 -- What a change of a node's lists is to its steps.
 use Rattle.std.proofs.Common.{◌≡◌, ℕ, List, [], ◌∷◌, refl, sym, ap, ◌∙◌, subst, slice_get, slice_set, length, ◌<◌, ◌≤◌, Option, Some}
 use Rattle.std.proofs.lemmas.Option.{slice_get_within}
-use Rattle.vc_packets.specs.Counting.{one_more}
+use Rattle.vc_packets.specs.Counters.{one_more}
 use Rattle.vc_packets.specs.Functions.{put, shown_or}
 use Rattle.vc_packets.specs.declared.packet.Packet.{Packet}
 use Rattle.vc_tokens.specs.Tokens.{Token, Byte, Fct, EndMark}
@@ -13,7 +13,7 @@ use Rattle.vc_vcp.specs.LinkOut.{Sending}
 use Rattle.vc_vcp.specs.Private.LinkOut.{PutsFront, queue_after}
 use Rattle.vc_vcp.specs.Links.{Link, Vcp, set_link, unqueued, SendsFct, Sends, Comes, due, not_due}
 use Rattle.vc_vcp.specs.State.{State}
-use Rattle.vc_vcp.specs.Seen.{seen, link_of, carrier_of}
+use Rattle.vc_vcp.specs.VcpView.{seen, link_of, carrier_of}
 use Rattle.vc_vcp.proofs.Placed.{put_is, put_back, place-set_same, place-set_other, by_place-set}
 
 -- one link's sending end is another

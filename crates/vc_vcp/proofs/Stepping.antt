@@ -9,8 +9,8 @@ use Rattle.vc_vcp.specs.declared.output.Output.{Output}
 use Rattle.vc_vcp.specs.declared.input.Input.{Input}
 use Rattle.vc_vcp.specs.Carrier.{set_out, enqueue}
 use Rattle.vc_vcp.specs.LinkOut.{Sending}
-use Rattle.vc_vcp.specs.Private.Queued.{Begins, StaysOutput, queued}
-use Rattle.vc_vcp.specs.Seen.{seen, ends_of, IsKept, link_of, carrier_of, out_half, in_half, no_output, no_input, out_end, in_end, finished_of}
+use Rattle.vc_vcp.specs.Private.Queues.{Begins, StaysOutput, queued}
+use Rattle.vc_vcp.specs.VcpView.{seen, ends_of, IsKept, link_of, carrier_of, out_half, in_half, no_output, no_input, out_end, in_end, finished_of}
 use Rattle.vc_vcp.specs.State.{State, HaveOwnNames}
 use Rattle.vc_vcp.specs.Steps.{Offers}
 use Rattle.vc_vcp.proofs.KeyedLemmas.{by_name-set, by_name-kept, by_name-at}

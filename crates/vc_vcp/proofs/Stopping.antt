@@ -2,8 +2,8 @@
 use Rattle.std.proofs.Common.{◌≡◌, ℕ, true, false, refl, sym, ap, ◌∙◌, subst, slice_get, slice_set, Some, None}
 use Rattle.vc_vcp.specs.declared.input.Input.{Input}
 use Rattle.vc_vcp.specs.Carrier.{set_in}
-use Rattle.vc_vcp.specs.Private.Queued.{StaysInput}
-use Rattle.vc_vcp.specs.Seen.{seen, ends_of, IsKept, carrier_of, in_half, no_input, in_end}
+use Rattle.vc_vcp.specs.Private.Queues.{StaysInput}
+use Rattle.vc_vcp.specs.VcpView.{seen, ends_of, IsKept, carrier_of, in_half, no_input, in_end}
 use Rattle.vc_vcp.specs.State.{State, HaveOwnNames}
 use Rattle.vc_vcp.specs.Steps.{Stops}
 use Rattle.vc_vcp.proofs.KeyedLemmas.{by_name-set, by_name-kept}

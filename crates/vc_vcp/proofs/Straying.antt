@@ -6,7 +6,7 @@ use Rattle.vc_packets.specs.declared.packet.Packet.{Packet}
 use Rattle.vc_packets.specs.declared.mark.Mark.{Mark}
 use Rattle.vc_packets.specs.declared.mark.Mark.TheVariants.{Eop, Eom}
 use Rattle.vc_packets.specs.declared.kind.Kind.TheVariants.{Ack, Piece, Malformed}
-use Rattle.vc_packets.specs.Counting.{one_more}
+use Rattle.vc_packets.specs.Counters.{one_more}
 use Rattle.vc_packets.specs.Headers.{spelled, front_header_of}
 use Rattle.vc_packets.specs.Kind.{kind}
 use Rattle.vc_blocks.specs.Halves.{load_of, ends_message}
@@ -14,10 +14,10 @@ use Rattle.vc_vcp.specs.declared.output.Output.{Output}
 use Rattle.vc_vcp.specs.declared.input.Input.{Input}
 use Rattle.vc_vcp.specs.Private.Bound.{IsStray}
 use Rattle.vc_vcp.specs.Carrier.{End}
-use Rattle.vc_vcp.specs.Keyed.{named, NamesDiffer}
+use Rattle.vc_vcp.specs.Names.{named, NamesDiffer}
 use Rattle.vc_packets.specs.Functions.{shown_or}
-use Rattle.vc_vcp.specs.Seen.{ends_of, carrier_of, in_half, no_input, out_end, in_end, out_half, no_output}
-use Rattle.vc_vcp.specs.Private.Seen.{Acks}
+use Rattle.vc_vcp.specs.VcpView.{ends_of, carrier_of, in_half, no_input, out_end, in_end, out_half, no_output}
+use Rattle.vc_vcp.specs.Private.VcpView.{Acks}
 use Rattle.vc_vcp.specs.State.{State, HaveOwnNames, IsInput, IsPieceOf, IsAckOf}
 use Rattle.vc_vcp.specs.Steps.{IsPieceFor, IsAckFor, stores, holds, advances, Taken, Arrives, stray, Stray}
 use Rattle.vc_vcp.proofs.KeyedLemmas.{named_at, named_by}

@@ -3,18 +3,18 @@ use Rattle.std.proofs.Common.{◌≡◌, ℕ, suc, ◌-◌, Bool, true, false, L
 use Rattle.vc_packets.specs.Functions.{put}
 use Rattle.vc_packets.specs.declared.packet.Packet.{Packet}
 use Rattle.vc_packets.specs.Spellings.{piece_packet}
-use Rattle.vc_blocks.specs.Advancing.{later_than, advanced}
+use Rattle.vc_blocks.specs.Acknowledges.{later_than, advanced}
 use Rattle.vc_blocks.specs.Halves.{load_of, ends_message, with_stored}
-use Rattle.vc_blocks.specs.Arriving.{after_arrival, arrival_of, arrival_by}
+use Rattle.vc_blocks.specs.Arrivals.{after_arrival, arrival_of, arrival_by}
 use Rattle.vc_blocks.specs.declared.in_half.Arrival.{Arrival}
 use Rattle.vc_blocks.specs.declared.out_half.Advance.{Advance}
 use Rattle.vc_vcp.specs.declared.output.Output.{Output}
 use Rattle.vc_vcp.specs.declared.input.Input.{Input}
 use Rattle.vc_vcp.specs.Carrier.{OutHalf, set_out, enqueue}
 use Rattle.vc_vcp.specs.LinkOut.{Sending}
-use Rattle.vc_vcp.specs.Private.Queued.{queued_next, logged, acknowledged}
-use Rattle.vc_vcp.specs.Seen.{ends_of, carrier_of, in_half, out_half, in_end, out_end, finished_of}
-use Rattle.vc_vcp.specs.Private.Seen.{advance_told, arrival_told, Acks}
+use Rattle.vc_vcp.specs.Private.Queues.{queued_next, logged, acknowledged}
+use Rattle.vc_vcp.specs.VcpView.{ends_of, carrier_of, in_half, out_half, in_end, out_end, finished_of}
+use Rattle.vc_vcp.specs.Private.VcpView.{advance_told, arrival_told, Acks}
 use Rattle.vc_vcp.specs.State.{State, HaveOwnNames, IsPieceOf}
 use Rattle.vc_vcp.specs.Steps.{advance, IsTaken, stores, holds, advances, IsPieceFor, Taken, taken_by, acked_by, Arrives, takes}
 use Rattle.vc_vcp.proofs.Inputting.{stored_is, half_is, message_is, for_end}

@@ -7,10 +7,10 @@ use Rattle.std.specs.List.{AllByRecursion}
 use Rattle.vc_blocks.specs.Halves.{Incoming}
 use Rattle.vc_vcp.specs.declared.output.Output.{Output}
 use Rattle.vc_vcp.specs.declared.input.Input.{Input}
-use Rattle.vc_vcp.specs.Keyed.{NamesDiffer}
+use Rattle.vc_vcp.specs.Names.{NamesDiffer}
 use Rattle.vc_vcp.specs.LinkOut.{Sending}
 use Rattle.vc_vcp.specs.State.{State, HaveOwnNames, IsWired, IsOutput, IsInput}
-use Rattle.vc_vcp.specs.Private.Queued.{StaysOutput, StaysInput}
+use Rattle.vc_vcp.specs.Private.Queues.{StaysOutput, StaysInput}
 use Rattle.vc_vcp.proofs.Placed.{place-set_same, place-set_other}
 
 record Before {X : Type 0} (name : X → ℕ) (xs : List X) (j : ℕ) (a : X) : Type 0 where

@@ -1,11 +1,11 @@
 pub mod Able
 pub mod Carrier
-pub mod Keyed
 pub mod LinkIn
 pub mod LinkOut
 pub mod Links
+pub mod Names
 pub mod Opening
 pub mod Private
-pub mod Seen
 pub mod State
 pub mod Steps
+pub mod VcpView

@@ -1,6 +1,6 @@
 -- A node's processor as it begins, by the ends that it is given.
 use Rattle.std.specs.Prelude.{◌≡◌, ℕ, Bool, false, List, [], ◌∷◌, Option, Some, None, nat_eq, if◌then◌else◌, slice_get}
-use Rattle.vc_vcp.specs.Keyed.{NamesDiffer}
+use Rattle.vc_vcp.specs.Names.{NamesDiffer}
 use Rattle.vc_vcp.specs.declared.end.End.{End as Given}
 use Rattle.vc_vcp.specs.Carrier.{End, Ends}
 

@@ -1,7 +1,7 @@
 -- What only private functions, invariants and proofs cite.
 pub mod Bound
-pub mod Hinted
+pub mod Hints
 pub mod LinkOut
 pub mod Opening
-pub mod Queued
-pub mod Seen
+pub mod Queues
+pub mod VcpView

@@ -3,7 +3,7 @@ use Rattle.std.specs.Prelude.{◌≡◌, ◌≢◌, ℕ, ◌<◌, List, length, 
 use Rattle.std.specs.List.{AllByRecursion}
 use Rattle.vc_packets.specs.declared.packet.Packet.{Packet}
 use Rattle.vc_packets.specs.Headers.{spelled}
-use Rattle.vc_packets.specs.Counting.{one_more}
+use Rattle.vc_packets.specs.Counters.{one_more}
 use Rattle.vc_packets.specs.Kind.{kind}
 use Rattle.vc_packets.specs.declared.kind.Kind.TheVariants.{Ack}
 use Rattle.vc_tokens.specs.Tokens.{Fct}
@@ -13,7 +13,7 @@ use Rattle.vc_vcp.specs.declared.input.Input.{Input}
 use Rattle.vc_vcp.specs.LinkOut.{Sending}
 use Rattle.vc_vcp.specs.LinkIn.{Receiving}
 use Rattle.vc_credit.specs.Ends.{HasRoom}
-use Rattle.vc_vcp.specs.Keyed.{named, NamesDiffer}
+use Rattle.vc_vcp.specs.Names.{named, NamesDiffer}
 
 pub record State : Type 0 where
   pub outputs : List Output

@@ -1,5 +1,5 @@
 -- The steps of a node's halves and send queues.
-use Rattle.vc_packets.specs.Counting.{one_more}
+use Rattle.vc_packets.specs.Counters.{one_more}
 use Rattle.std.specs.Prelude.{◌≡◌, ℕ, suc, Bool, true, false, List, [], ◌∷◌, ◌++◌, Option, Some, None}
 use Rattle.vc_packets.specs.declared.packet.Packet.{Packet}
 use Rattle.vc_packets.specs.Headers.{spelled}

@@ -1,6 +1,6 @@
 //! Where to look first for the outputs or inputs of a node.
 ghost use Rattle.std.specs.Prelude.{◌≡◌, ◌%◌, replicate, slice_index, slice_set};
-ghost use Rattle.vc_vcp.specs.Private.Hinted.{AreHinted};
+ghost use Rattle.vc_vcp.specs.Private.Hints.{AreHinted};
 
 use crate::input::Input;
 use crate::output::Output;

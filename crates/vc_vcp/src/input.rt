@@ -4,15 +4,15 @@
 //! changes, and both are taken back where the half finds no memory, so that the input and the queue are then as they were.
 ghost use Rattle.std.specs.Prelude.{◌≡◌, ◌≤◌, [], ◌++◌, ℕ, List, length, Some, None, false, true, if◌then◌else◌, IfOk, OnOk, OnErr};
 ghost use Rattle.vc_blocks.specs.Halves.{IsPiece, ends_message};
-ghost use Rattle.vc_blocks.specs.Arriving.{after_arrival, arrival_of, after_want, want_of};
+ghost use Rattle.vc_blocks.specs.Arrivals.{after_arrival, arrival_of, after_want, want_of};
 ghost use Rattle.std.specs.Option.{option_to_list};
 ghost use Rattle.vc_packets.specs.Spellings.{ack_packet};
 ghost use Rattle.vc_vcp.specs.State.{IsInput, IsPieceOf};
 ghost use Rattle.vc_vcp.specs.Private.Bound.{MayTake, StaysWith, ArrivesWith};
-ghost use Rattle.vc_vcp.specs.Seen.{taken_of};
+ghost use Rattle.vc_vcp.specs.VcpView.{taken_of};
 ghost use Rattle.std.specs.List.{AllByRecursion};
 ghost use Rattle.vc_vcp.specs.Private.LinkOut.{Unqueues};
-ghost use Rattle.vc_vcp.specs.Private.Queued.{StaysInput, completed, queued, logged, acknowledged, logged_by, acknowledged_by};
+ghost use Rattle.vc_vcp.specs.Private.Queues.{StaysInput, completed, queued, logged, acknowledged, logged_by, acknowledged_by};
 
 use crate::link_out::LinkOut;
 use crate::taken::{self, Taken};

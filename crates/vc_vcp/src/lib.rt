@@ -6,7 +6,7 @@
 //! counted.
 //!
 //! To the layer above, each call of [`Vcp`] is exactly one step of a node: of its halves and send queues (`specs/Steps`), or of
-//! its links (`specs/Links`), between what the processor is before and after in the words of those steps (`specs/Seen`). A call
+//! its links (`specs/Links`), between what the processor is before and after in the words of those steps (`specs/VcpView`). A call
 //! that may be made only at times has a `may_` call beside it, which answers whether such a step exists (`specs/Able`).
 //!
 //! What always holds (`specs/State`): there are four links; no two outputs, and no two inputs, have one channel or one block, as

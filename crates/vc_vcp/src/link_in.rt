@@ -29,7 +29,7 @@ impl Model for LinkIn {
 impl LinkIn {
     ghost use Rattle.std.specs.Prelude.{◌≡◌, ◌<◌, [], ◌∷◌, ◌++◌, length, ◌↔◌, IsTrue, IfOk, MatchOption};
     ghost use Rattle.vc_packets.specs.declared.mark.Mark.{Mark};
-    ghost use Rattle.vc_tokens.specs.Spelt.{token, tokens};
+    ghost use Rattle.vc_tokens.specs.CodeTokens.{token, tokens};
     ghost use Rattle.vc_tokens.specs.Tokens.{Byte, EndMark};
     ghost use Rattle.vc_credit.specs.Ends.{new_receiver, received, HasRoom, Grants, IsFront, Passes};
     ghost use Rattle.std.specs.Bool.{OnTrue, OnFalse};

@@ -2,7 +2,7 @@
 //!
 //! Each token that is put spends one of the credit, and an FCT that comes adds eight. A packet leaves the queue with its mark.
 ghost use Rattle.std.specs.Prelude.{◌≡◌, ◌≢◌, ◌<◌, ◌≤◌, ◌+◌, [], ◌∷◌, ◌++◌, ◌↔◌, None, IsTrue, IfSome, OnOk, OnErr, slice_get, drop};
-ghost use Rattle.vc_tokens.specs.Spelt.{token};
+ghost use Rattle.vc_tokens.specs.CodeTokens.{token};
 ghost use Rattle.vc_credit.specs.Ends.{credited};
 ghost use Rattle.vc_vcp.specs.Private.LinkOut.{PutsFront, CanPutFront, FrontLeavesWhole, HasNoneWhole, Unqueues};
 ghost use Rattle.std.specs.Bool.{OnTrue};

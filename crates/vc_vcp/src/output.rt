@@ -3,11 +3,11 @@
 //! A call queues and logs first and changes the half last, so that where it finds no memory the output and the queue are as
 //! they were.
 ghost use Rattle.std.specs.Prelude.{◌≡◌, ◌≢◌, ℕ, List, [], ◌∷◌, ◌++◌, IfOk, OnOk, OnErr};
-ghost use Rattle.vc_blocks.specs.Advancing.{later_than, advanced};
+ghost use Rattle.vc_blocks.specs.Acknowledges.{later_than, advanced};
 ghost use Rattle.vc_packets.specs.Pieces.{Pieces};
 ghost use Rattle.vc_packets.specs.Spellings.{piece_packet};
-ghost use Rattle.vc_vcp.specs.Private.Queued.{Begins, StaysOutput, queued, queued_next};
-ghost use Rattle.vc_vcp.specs.Seen.{finished_of};
+ghost use Rattle.vc_vcp.specs.Private.Queues.{Begins, StaysOutput, queued, queued_next};
+ghost use Rattle.vc_vcp.specs.VcpView.{finished_of};
 ghost use Rattle.vc_vcp.specs.State.{IsOutput};
 
 use crate::link_out::LinkOut;

@@ -2,7 +2,7 @@
 //! where a hint says.
 ghost use Rattle.std.specs.Prelude.{◌≡◌, ◌<◌, ◌==◌, length, slice_get, None, MatchOption, IfSome};
 ghost use Rattle.std.specs.List.{position};
-ghost use Rattle.vc_vcp.specs.Keyed.{named, NamesDiffer};
+ghost use Rattle.vc_vcp.specs.Names.{named, NamesDiffer};
 
 use crate::input::Input;
 use crate::output::Output;

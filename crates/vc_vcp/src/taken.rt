@@ -1,7 +1,7 @@
 //! What became of a packet that reached a node, as it is told to the node's process.
 ghost use Rattle.std.specs.Prelude.{◌≡◌};
-ghost use Rattle.vc_vcp.specs.Seen.{taken_of};
-ghost use Rattle.vc_vcp.specs.Private.Seen.{advance_told, arrival_told};
+ghost use Rattle.vc_vcp.specs.VcpView.{taken_of};
+ghost use Rattle.vc_vcp.specs.Private.VcpView.{advance_told, arrival_told};
 
 use vc_blocks::{Advance, Arrival};
 use vc_packets::Bytes;

@@ -3,21 +3,21 @@
 //! A channel is named by its number in the network, a link by its number at the node, 0 to 3. A question about another link is
 //! answered false, or with nothing. A call that finds no memory answers `Memory`, and has changed nothing.
 ghost use Rattle.std.specs.Prelude.{◌≡◌, ◌≢◌, ◌<◌, ◌≤◌, None, Ok, ℕ, List, length, slice_get, ◌↔◌, [], false, Some, IsTrue, IsOk, IsSome, IfOk, IfSome, OnOk, OnErr};
-ghost use Rattle.vc_vcp.specs.Keyed.{named};
+ghost use Rattle.vc_vcp.specs.Names.{named};
 ghost use Rattle.std.specs.List.{AllByRecursion};
-ghost use Rattle.vc_blocks.specs.Listed.{listed};
+ghost use Rattle.vc_blocks.specs.Messages.{listed};
 ghost use Rattle.vc_packets.specs.declared.packet.Packet.{Packet};
 ghost use Rattle.vc_vcp.specs.Private.Bound.{IsBound};
 ghost use Rattle.vc_vcp.specs.State.{CountsStray, IsInput, IsIdle, IsUnwanted, IsOpen, MayPut, MayGrant, IsPieceOf, limit_of};
-ghost use Rattle.vc_vcp.specs.Seen.{ends_of, seen, Inputs, IsKept, taken_of, passed_of};
-ghost use Rattle.vc_vcp.specs.Private.Seen.{Acks};
+ghost use Rattle.vc_vcp.specs.VcpView.{ends_of, seen, Inputs, IsKept, taken_of, passed_of};
+ghost use Rattle.vc_vcp.specs.Private.VcpView.{Acks};
 ghost use Rattle.vc_vcp.specs.Links.{new_vcp, Comes, LeavesWhole, Passes, Sends, SendsFct};
 ghost use Rattle.vc_credit.specs.Ends.{IsFront};
 ghost use Rattle.vc_vcp.specs.Steps.{Offers, Stops, Arrives, Stray};
 ghost use Rattle.vc_vcp.specs.Able.{CanOffer, CanWant, CanFetch, CanStop, CanPut, CanLeaveWhole, CanGrant, CanPass, IsReady};
 ghost use Rattle.std.specs.Option.{option_copied};
 ghost use Rattle.vc_vcp.specs.Opening.{ends_given, AreDistinct};
-ghost use Rattle.vc_tokens.specs.Spelt.{token};
+ghost use Rattle.vc_tokens.specs.CodeTokens.{token};
 ghost use Rattle.vc_tokens.specs.Tokens.{Byte, Fct, EndMark};
 ghost use Rattle.vc_credit.specs.Laws.{NeedsPlace};
 

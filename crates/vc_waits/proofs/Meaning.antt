@@ -3,7 +3,7 @@ use Rattle.std.proofs.Common.{◌≡◌, ℕ, suc, Bool, true, false, ◌&&◌, 
 use Rattle.std.specs.List.{Contains}
 use Rattle.std.specs.Prelude.{is_some, if◌then◌else◌}
 use Rattle.std.proofs.lemmas.List.Elements.{Contains-append_cases, Contains-append_left, Contains-append_right}
-use Rattle.vc_occam.specs.Blocking.{blocked, blocked_fresh, open_guards, or_closed}
+use Rattle.vc_occam.specs.BlockedParts.{blocked, blocked_fresh, open_guards, or_closed}
 use Rattle.vc_occam.specs.First.{all_decided, choices, is_true, own}
 use Rattle.vc_occam.specs.Remains.{Rest, Done, Stopped, Fresh, Finishing, Getting, Then, Turns, Beside, GuardAt, first, later, Step, does_choose, waits_choose}
 use Rattle.vc_occam.specs.States.{input, output, waiting}

@@ -2,8 +2,8 @@
 use Rattle.std.proofs.Common.{◌≡◌, ℕ, zero, suc, ◌+◌, ◌<◌, ◌≤◌, List, [], ◌∷◌, ◌++◌, length, length-append, Option, Some, None, refl, sym, ap, ◌∙◌, subst, arith, inl, inr}
 use Rattle.std.proofs.lemmas.Bool.{cases_lt}
 use Rattle.std.specs.Prelude.{slice_get}
-use Rattle.vc_core.specs.Enabled.{NetworkState}
-use Rattle.vc_core.specs.Placed as core
+use Rattle.vc_core.specs.PossibleEvents.{NetworkState}
+use Rattle.vc_core.specs.PacketPlace as core
 use Rattle.vc_core.specs.State.{State, shown}
 use Rattle.vc_core.specs.declared.place.Place.{Place as Name}
 use Rattle.vc_plan.specs.declared.plan.Plan.{Plan}

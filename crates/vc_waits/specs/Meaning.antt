@@ -1,7 +1,7 @@
 -- What the word for a blocked part says of what remains of its process.
 use Rattle.std.specs.Prelude.{◌⊎◌, ℕ, List}
 use Rattle.std.specs.List.{Contains}
-use Rattle.vc_occam.specs.Blocking.{blocked, blocked_fresh}
+use Rattle.vc_occam.specs.BlockedParts.{blocked, blocked_fresh}
 use Rattle.vc_occam.specs.First.{own}
 use Rattle.vc_occam.specs.Remains.{Rest, Fresh, Step}
 use Rattle.vc_occam.specs.States.{input, output, waiting}

@@ -3,8 +3,8 @@ use Rattle.std.specs.Prelude.{◌≡◌, ℕ, true, false, List, [], ◌++◌, l
 use Rattle.std.specs.List.{enumerate_from, flat_map}
 use Rattle.std.specs.Option.{option_map_or}
 use Rattle.vc_accepted.specs.NetworkOf.{network_of}
-use Rattle.vc_core.specs.Enabled.{NetworkState}
-use Rattle.vc_core.specs.Placed.{IsNamed}
+use Rattle.vc_core.specs.PossibleEvents.{NetworkState}
+use Rattle.vc_core.specs.PacketPlace.{IsNamed}
 use Rattle.vc_core.specs.declared.place.Place.{Place as Name}
 use Rattle.vc_core.specs.declared.place.Place.TheVariants.{Queue, Wire, Inside, Held}
 use Rattle.vc_machine.specs.Places.{Place}

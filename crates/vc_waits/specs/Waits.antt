@@ -3,8 +3,8 @@ use Rattle.std.specs.Prelude.{ℕ, List, [], ◌∷◌, ◌++◌, Bool, codes, d
 use Rattle.std.specs.List.{enumerate_from, flat_map}
 use Rattle.std.specs.Option.{option_map_or}
 use Rattle.vc_accepted.specs.NetworkOf.{network_of}
-use Rattle.vc_core.specs.Blocking.{blocked_in}
-use Rattle.vc_core.specs.Enabled.{NetworkState}
+use Rattle.vc_core.specs.BlockedParts.{blocked_in}
+use Rattle.vc_core.specs.PossibleEvents.{NetworkState}
 use Rattle.vc_core.specs.State.{shown, state_of}
 use Rattle.vc_core.specs.declared.network.Network.{Network}
 use Rattle.vc_network.specs.Views.{view}

@@ -1,6 +1,6 @@
 //! The text of where the packets of a network are.
 ghost use Rattle.std.specs.Prelude.{◌≡◌, ◌++◌, List, IfOk, OnOk, Option, codes};
-ghost use Rattle.vc_core.specs.Replaying.{Reached};
+ghost use Rattle.vc_core.specs.Replay.{Reached};
 ghost use Rattle.vc_core.specs.State.{shown, state_of};
 ghost use Rattle.vc_core.specs.declared.event.Event.{Event};
 ghost use Rattle.vc_waits.specs.Packets.{AddsWaits, ArePlaces, packet_line, packets_text, place_text, ports_text, wire_text};

@@ -1,16 +1,16 @@
 -- What the program does, over streams that tell their bytes.
 use Rattle.std.specs.Prelude.{◌≡◌, ◌⊎◌, ℕ, ◌≤◌, Bool, codes, List, [], ◌∷◌, ◌++◌, Option, Some, None, Result, Ok, Err, ⊤}
-use Rattle.vc_explain.specs.Explaining.{Explains}
-use Rattle.vc_text.specs.Checking.{Checks, ReadsAccepted}
+use Rattle.vc_explain.specs.Explanation.{Explains}
+use Rattle.vc_text.specs.CheckText.{Checks, ReadsAccepted}
 use Rattle.vc_text.specs.Deadlock.{TellsDeadlock}
 use Rattle.vc_text.specs.FaultLine.{fault_text}
 use Rattle.vc_draw.specs.Graph.{WritesGraph}
 use Rattle.vc_core.specs.declared.close.Close.{Close}
 use Rattle.vc_text.specs.OneNode.{ReadsAs}
-use Rattle.vc_text.specs.Running.{RunText, WritesRunBy}
+use Rattle.vc_text.specs.RunText.{RunText, WritesRunBy}
 use Rattle.vc_text.specs.Streams.{Writes}
 use Rattle.vc_text.specs.Tail.{IsTail}
-use Rattle.vc_text.specs.Threading.{WritesThreads}
+use Rattle.vc_text.specs.ThreadsText.{WritesThreads}
 use Rattle.vc_text.specs.declared.step_options.StepOptions.{StepOptions}
 use Rattle.vc_text.specs.declared.thread_options.ThreadOptions.{ThreadOptions}
 use Rattle.vc_threads.specs.declared.report.Ending.{Ending}
@@ -19,7 +19,7 @@ use Rattle.vc_text.specs.declared.fault.RunFault.TheVariants.{Memory, Read}
 use Rattle.vc_draw.specs.State.{IsStateDrawing}
 use Rattle.vc_stats.specs.Texts.{IsEventsText, IsStatsText, IsTrafficJson}
 use Rattle.vc_trace.specs.Replay.{Replays}
-use Rattle.vc_trace.specs.Tracing.{IsTracedText}
+use Rattle.vc_trace.specs.TraceText.{IsTracedText}
 use Rattle.vc_trace.specs.declared.replayed.Replayed.{Replayed}
 use Rattle.vc_words.specs.declared.account.Account.{Account}
 use Rattle.vc_words.specs.declared.account.Account.TheVariants.{Traffic, Events, Counts, Json}

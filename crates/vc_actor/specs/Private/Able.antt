@@ -3,8 +3,8 @@ use Rattle.std.specs.Prelude.{◌⊎◌, ℕ, List, IsSome}
 use Rattle.vc_occam.specs.declared.moves.Move.{Move}
 use Rattle.vc_occam.specs.declared.moves.Move.TheVariants.{Offer, Want, Choose, Stopch, Inner, Quiet}
 use Rattle.vc_vcp.specs.Able.{CanOffer, CanWant, CanFetch, CanStop}
-use Rattle.vc_vcp.specs.Keyed.{named}
-use Rattle.vc_vcp.specs.Seen.{seen, ends_of}
+use Rattle.vc_vcp.specs.Names.{named}
+use Rattle.vc_vcp.specs.VcpView.{seen, ends_of}
 use Rattle.vc_actor.specs.Inside.{IsOpen}
 use Rattle.vc_actor.specs.declared.node.Node.{Node}
 

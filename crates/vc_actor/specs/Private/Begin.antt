@@ -5,12 +5,12 @@ use Rattle.vc_plan.specs.declared.channel.Home.TheVariants.{Way, Inside}
 use Rattle.vc_plan.specs.declared.plan.Plan.{Plan}
 use Rattle.vc_plan.specs.declared.vlink.End.{End}
 use Rattle.vc_vcp.specs.declared.end.End.{End as Given}
-use Rattle.vc_accepted.specs.Given.{chan_on}
+use Rattle.vc_accepted.specs.NodeEnds.{chan_on}
 use Rattle.vc_accepted.specs.NetworkOf.{switch_of}
 use Rattle.vc_plan.specs.declared.switch_plan.SwitchPlan.{SwitchPlan}
 use Rattle.vc_plan.specs.declared.switch_plan.RandomInput.{RandomInput}
 use Rattle.vc_switch.specs.declared.switch_plan.RandomInput.{RandomInput as RandomGiven}
-use Rattle.vc_switch.specs.Seen.{seen}
+use Rattle.vc_switch.specs.SwitchView.{seen}
 use Rattle.vc_switch.specs.State.{State as SwitchState, plan_of, limit_of}
 use Rattle.vc_switch.specs.Switch.{new_switch}
 use Rattle.vc_actor.specs.declared.plan_actors.Ways.{Ways}

@@ -4,8 +4,8 @@ use Rattle.vc_occam.specs.Remains.{Done}
 use Rattle.vc_occam.specs.Runnings.{state}
 use Rattle.vc_switch.specs.State.{State as SwitchState}
 use Rattle.vc_vcp.specs.Links.{Vcp, new_vcp}
-use Rattle.vc_vcp.specs.Seen.{seen}
-use Rattle.vc_actor.specs.Shown.{Acting, OfNode, OfSwitch}
+use Rattle.vc_vcp.specs.VcpView.{seen}
+use Rattle.vc_actor.specs.ActorView.{Acting, OfNode, OfSwitch}
 use Rattle.vc_actor.specs.declared.node.Node.{Node}
 use Rattle.vc_actor.specs.Parts.{node_in, switch_in}
 

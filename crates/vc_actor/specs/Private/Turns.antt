@@ -4,8 +4,8 @@ use Rattle.vc_network.specs.Plan.{Plan}
 use Rattle.vc_occam.specs.declared.moves.Move.{Move}
 use Rattle.vc_switch.specs.State.{State as SwitchState}
 use Rattle.vc_actor.specs.Able.{CanMove, SwitchCan}
-use Rattle.vc_actor.specs.Acting.{MakesOwn}
-use Rattle.vc_actor.specs.Shown.{Acting}
+use Rattle.vc_actor.specs.Acts.{MakesOwn}
+use Rattle.vc_actor.specs.ActorView.{Acting}
 use Rattle.vc_actor.specs.declared.act.Act.{Act}
 use Rattle.vc_actor.specs.declared.act.Act.TheVariants.{Proc, Route}
 use Rattle.vc_actor.specs.declared.node.Node.{Node}

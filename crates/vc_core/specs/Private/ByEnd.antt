@@ -1,9 +1,9 @@
 -- The ways of a network, as the code keeps them: by the links to which they lead.
 use Rattle.std.specs.Prelude.{◌≡◌, ◌↔◌, ℕ, ◌+◌, ◌*◌, ◌<◌, Bool, true, List, [], ◌∷◌, ◌++◌, get_or, map, slice_get, slice_set, Some}
-use Rattle.vc_actor.specs.Shown.{Acting}
+use Rattle.vc_actor.specs.ActorView.{Acting}
 use Rattle.vc_core.specs.Private.Ways.{PutsAt}
 use Rattle.vc_core.specs.declared.ends.End.{End}
-use Rattle.vc_tokens.specs.Spelt.{token}
+use Rattle.vc_tokens.specs.CodeTokens.{token}
 use Rattle.vc_tokens.specs.Tokens.{Token}
 use Rattle.vc_tokens.specs.declared.token.Token.{Token as Made}
 

@@ -3,9 +3,9 @@ use Rattle.std.specs.Prelude.{◌≡◌, ℕ, List, Some, slice_get, slice_set}
 use Rattle.vc_network.specs.Plan.{ways}
 use Rattle.vc_network.specs.Plan as network
 use Rattle.vc_tokens.specs.Tokens.{Token}
-use Rattle.vc_actor.specs.Acting.{MakesTake, MakesGrant}
+use Rattle.vc_actor.specs.Acts.{MakesTake, MakesGrant}
 use Rattle.vc_actor.specs.OfPlan.{IsActorOf}
-use Rattle.vc_actor.specs.Shown.{Acting}
+use Rattle.vc_actor.specs.ActorView.{Acting}
 use Rattle.vc_core.specs.State.{State}
 
 -- the network with another state of one actor

@@ -1,7 +1,7 @@
 -- What an actor's turn is to the network; and when no event can happen at all.
 use Rattle.std.specs.Prelude.{ℕ, Bool, true, false, None}
 use Rattle.vc_plan.specs.declared.plan.Plan.{Plan as Given}
-use Rattle.vc_core.specs.Enabled.{CanHappen}
+use Rattle.vc_core.specs.PossibleEvents.{CanHappen}
 use Rattle.vc_core.specs.State.{State, shown}
 use Rattle.vc_core.specs.declared.event.Event.{Event}
 use Rattle.vc_core.specs.Turns.{FindsEvent, FindsTake, IsAtRestIn}

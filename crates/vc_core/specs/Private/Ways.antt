@@ -2,9 +2,9 @@
 use Rattle.std.specs.Prelude.{◌≡◌, ℕ, List, [], ◌∷◌, ◌++◌}
 use Rattle.vc_network.specs.Plan.{Plan}
 use Rattle.vc_tokens.specs.Tokens.{Token}
-use Rattle.vc_actor.specs.Acting.{MakesPut}
+use Rattle.vc_actor.specs.Acts.{MakesPut}
 use Rattle.vc_actor.specs.OfPlan.{IsActorOf}
-use Rattle.vc_actor.specs.Shown.{Acting}
+use Rattle.vc_actor.specs.ActorView.{Acting}
 
 pub record PutsAt (before : Acting) (link : ℕ) (old : List Token) (after : Acting) (new : List Token) : Type 0 where
   pub token : Token

@@ -2,7 +2,7 @@ use Rattle.std.proofs.Common.{rules, ◌≡◌, ◌++◌, ◌∙◌, ap, List, r
 use Rattle.vc_occam.specs.declared.frame.Frame.{Frame}
 use Rattle.vc_occam.specs.declared.frame.Frame.TheViews.{the_lemmas}
 use Rattle.vc_occam.specs.declared.frame.Task.{Task}
-use Rattle.vc_occam.specs.Blocking.{blocked}
+use Rattle.vc_occam.specs.BlockedParts.{blocked}
 use Rattle.vc_occam.specs.Frames.{all_sound, besides, view}
 use Rattle.vc_occam.specs.Remains.{Rest}
 use Rattle.vc_occam.specs.Private.Frames.{task_views}

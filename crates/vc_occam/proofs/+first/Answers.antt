@@ -4,7 +4,7 @@ use Rattle.vc_occam.specs.declared.frame.Frame.TheViews.{out-Frame, the_lemmas}
 use Rattle.vc_occam.specs.declared.frame.Task.{Task}
 use Rattle.vc_occam.specs.First.{own}
 use Rattle.vc_occam.specs.Frames.{all_sound, besides, plans_of, task_view, view}
-use Rattle.vc_occam.specs.Moving.{from_site}
+use Rattle.vc_occam.specs.MoveSites.{from_site}
 use Rattle.vc_occam.specs.Private.Frames.{seen_guard, seen_task, task_views}
 use Rattle.vc_occam.specs.Private.Sites.{PartsInPreorder}
 use Rattle.vc_occam.specs.Remains.{Rest}

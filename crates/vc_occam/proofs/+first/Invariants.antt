@@ -1,7 +1,7 @@
 use Rattle.std.proofs.Common.{◌≡◌, drop}
 use Rattle.vc_occam.specs.First.{own}
 use Rattle.vc_occam.specs.Frames.{besides}
-use Rattle.vc_occam.specs.Moving.{from_site}
+use Rattle.vc_occam.specs.MoveSites.{from_site}
 use Rattle.vc_occam.specs.Private.Frames.{task_views}
 use Rattle.vc_process.specs.Terms.{store}
 use Rattle.vc_occam.proofs.+first.Given as goal

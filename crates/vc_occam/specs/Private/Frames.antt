@@ -40,7 +40,7 @@ use Rattle.vc_occam.specs.Private.Sites.{InPreorder}
 use Rattle.vc_occam.specs.Sites.{site}
 use Rattle.vc_occam.specs.States.{Waiting, output, input, waiting, output_at}
 use Rattle.vc_occam.specs.First.{all_decided, choices, is_true, own}
-use Rattle.vc_occam.specs.Moving.{site_of}
+use Rattle.vc_occam.specs.MoveSites.{site_of}
 use Rattle.vc_occam.specs.Frames.{View, Shape, skip, empty_seq, empty_par, stop, assign, send, receive, stop_chan, seq, par, branching, looping, counting, guarding, guards_of, is_at_itself, is_sound, left_by, outcome_of, plan_of, plans_of, rest_of, task_view, turns_left, view, view_of}
 
 -- nothing remains

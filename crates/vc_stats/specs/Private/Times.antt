@@ -2,11 +2,11 @@
 use Rattle.std.specs.Prelude.{◌≡◌, ℕ, ◌-◌, ◌<◌, Bool, true, false, cond, List, length}
 use Rattle.vc_actor.specs.declared.act.Act.{Act}
 use Rattle.vc_actor.specs.declared.act.Act.TheVariants.{Proc, Pass}
-use Rattle.vc_core.specs.Enabled.{NetworkState}
+use Rattle.vc_core.specs.PossibleEvents.{NetworkState}
 use Rattle.vc_occam.specs.declared.moves.Move.TheVariants.{Offer}
 use Rattle.vc_plan.specs.declared.plan.Plan.{Plan}
 use Rattle.vc_stats.specs.Rows.{is_in}
-use Rattle.vc_stats.specs.Visited.{is_unfinished}
+use Rattle.vc_stats.specs.StateFigures.{is_unfinished}
 use Rattle.vc_stats.specs.declared.busy_time.BusyTime.{BusyTime}
 use Rattle.vc_stats.specs.declared.busy_time.BusyTime.TheVariants.{Busy, Idle}
 use Rattle.vc_stats.specs.Times.{busy_of, time_at}

@@ -2,7 +2,7 @@
 use Rattle.std.specs.Prelude.{◌≡◌, ◌≢◌, ◌↔◌, ◌<◌, ◌≤◌, ℕ, length, None}
 use Rattle.std.specs.Int.{bit_at}
 use Rattle.vc_switch.specs.Able.{CanPass, CanGrant, IsFree}
-use Rattle.vc_switch.specs.Seen.{seen}
+use Rattle.vc_switch.specs.SwitchView.{seen}
 use Rattle.vc_switch.specs.State.{State, plan_of, limit_of}
 use Rattle.vc_switch.specs.Switch.{Input}
 use Rattle.vc_switch.specs.declared.ready_switch.Ready.{Ready}

@@ -1,7 +1,7 @@
 -- What the workers are given, and what they give back.
 use Rattle.std.specs.Prelude.{◌<◌}
 use Rattle.std.specs.List.{All}
-use Rattle.vc_actor.specs.Shown.{Acting}
+use Rattle.vc_actor.specs.ActorView.{Acting}
 use Rattle.vc_threads.specs.Wires.{Distinct, out_links, in_links}
 use Rattle.vc_threads.specs.Private.Works.{IsOfSomePlan}
 use Rattle.vc_threads.specs.declared.spawn.Job.{Job}

@@ -1,6 +1,6 @@
 -- The end from which a worker takes: of those from which its actor can take, the one of the least link.
 use Rattle.std.specs.Prelude.{◌≡◌, ℕ, ◌≤◌, ◌<◌, List, length, Option, Some, slice_index_or}
-use Rattle.vc_actor.specs.Shown.{Acting}
+use Rattle.vc_actor.specs.ActorView.{Acting}
 use Rattle.vc_threads.specs.Works.{In}
 use Rattle.vc_threads.specs.Private.Works.{CanTake}
 

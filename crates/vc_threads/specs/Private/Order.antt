@@ -4,8 +4,8 @@ use Rattle.std.specs.Global.{Vec}
 use Rattle.std.specs.List.{AllZip, Contains}
 use mathlib.Core.List.{IsPrefix}
 use Rattle.rtrb.specs.Ring.{sent, received, known_items, IsPair}
-use Rattle.vc_accepted.specs.Outgoing.{actor_of}
-use Rattle.vc_actor.specs.Shown.{Acting}
+use Rattle.vc_accepted.specs.ActorWays.{actor_of}
+use Rattle.vc_actor.specs.ActorView.{Acting}
 use Rattle.vc_plan.specs.declared.port.Port.{Port}
 use Rattle.vc_plan.specs.declared.port.Wire.{Wire}
 use Rattle.vc_tokens.specs.declared.token.Token.{Token}

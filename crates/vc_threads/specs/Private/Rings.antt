@@ -2,7 +2,7 @@
 use Rattle.std.specs.Prelude.{◌≡◌, ◌≢◌, ℕ, ◌<◌, List, [], ◌∷◌, ◌++◌, length, map, get_or, slice_get, Some}
 use Rattle.std.specs.List.{All, Contains}
 use Rattle.rtrb.specs.Ring.{sent, received, IsPair}
-use Rattle.vc_accepted.specs.Outgoing.{actor_of}
+use Rattle.vc_accepted.specs.ActorWays.{actor_of}
 use Rattle.vc_plan.specs.declared.plan.Plan.{Plan}
 use Rattle.vc_plan.specs.declared.port.Port.{Port}
 use Rattle.vc_plan.specs.declared.port.Wire.{Wire}

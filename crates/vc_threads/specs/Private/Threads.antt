@@ -1,7 +1,7 @@
 -- The jobs of all actors, and what a run in threads reports.
 use Rattle.std.specs.Prelude.{◌≡◌, ℕ, ◌+◌, Bool, List, [], ◌∷◌}
 use Rattle.std.specs.List.{AllByRecursion}
-use Rattle.vc_actor.specs.Shown.{Acting}
+use Rattle.vc_actor.specs.ActorView.{Acting}
 use Rattle.vc_threads.specs.declared.spawn.Job.{Job}
 
 -- a job without its ends

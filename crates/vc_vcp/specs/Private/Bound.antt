@@ -6,7 +6,7 @@ use Rattle.vc_vcp.specs.declared.bound.Bound.TheVariants as bound
 use Rattle.vc_vcp.specs.declared.input.Input.{Input}
 use Rattle.vc_vcp.specs.Carrier.{Carrier}
 use Rattle.vc_vcp.specs.LinkOut.{Sending}
-use Rattle.vc_vcp.specs.Seen.{ends_of, seen, carrier_of, IsKept}
+use Rattle.vc_vcp.specs.VcpView.{ends_of, seen, carrier_of, IsKept}
 use Rattle.vc_vcp.specs.State.{State, IsAckOf, IsPieceOf, IsWired}
 use Rattle.vc_vcp.specs.Steps.{Taken, IsTaken, Arrives}
 

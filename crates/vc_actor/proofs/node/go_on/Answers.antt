@@ -1,9 +1,9 @@
 use Rattle.std.proofs.Common.{Some, sym, subst}
 use Rattle.vc_network.specs.Network.{GoesOn}
 use Rattle.vc_accepted.specs.Process.{does}
-use Rattle.vc_vcp.specs.Seen.{passed_of}
-use Rattle.vc_actor.specs.Private.Passing.{IsAwaited}
-use Rattle.vc_actor.specs.Shown.{process_of}
+use Rattle.vc_vcp.specs.VcpView.{passed_of}
+use Rattle.vc_actor.specs.Private.Passes.{IsAwaited}
+use Rattle.vc_actor.specs.ActorView.{process_of}
 use Rattle.vc_actor.proofs.node.go_on.Goals as goal
 
 pub returns-in-Finished-clause-goes_on : goal.returns-in-Finished-clause-goes_on

@@ -6,9 +6,9 @@ use Rattle.vc_process.specs.Usage.{among}
 use Rattle.vc_plan.specs.Limits.{kinds_of}
 use Rattle.vc_vcp.specs.declared.end.End.{End as Given}
 use Rattle.vc_vcp.specs.Opening.{AreDistinct}
-use Rattle.vc_vcp.specs.Seen.{seen, ends_of}
+use Rattle.vc_vcp.specs.VcpView.{seen, ends_of}
 use Rattle.vc_vcp.specs.State.{State, limit_of}
-use Rattle.vc_accepted.specs.Given.{ends_of_node}
+use Rattle.vc_accepted.specs.NodeEnds.{ends_of_node}
 use Rattle.vc_accepted.proofs.Giving.{given_small, given_distinct}
 use Rattle.vc_accepted.specs.Begin.{numbers_inside}
 use Rattle.vc_actor.specs.Private.Inside.{opened_inside}

@@ -1,6 +1,6 @@
 use Rattle.std.proofs.Common.{◌<◌, length, get_or, refl, ap, ◌∙◌, subst, arith}
 use borrow.Author.Count.{falls}
-use Rattle.vc_accepted.specs.Given.{ends_among}
+use Rattle.vc_accepted.specs.NodeEnds.{ends_among}
 use Rattle.vc_actor.specs.Private.Begin.{on_link}
 use Rattle.vc_actor.proofs.Gathering.{gathered_all, ends_more}
 use Rattle.vc_actor.proofs.plan_actors.ends_of.Goals as goal

@@ -1,5 +1,5 @@
 use Rattle.std.proofs.Common.{◌≡◌, ◌++◌, drop}
-use Rattle.vc_accepted.specs.Given.{ends_among}
+use Rattle.vc_accepted.specs.NodeEnds.{ends_among}
 use Rattle.vc_actor.specs.Private.Begin.{on_link}
 use Rattle.vc_actor.proofs.plan_actors.ends_of.Given as goal
 

@@ -2,7 +2,7 @@ use Rattle.std.proofs.Common.{◌≡◌, ◌≤◌, length, take, sym, subst, ap
 use borrow.Author.Count.{falls}
 use Rattle.std.proofs.Math.ListN.{replicate}
 use Rattle.std.proofs.lemmas.List.{length-replicate, take_all}
-use Rattle.vc_accepted.specs.Given.{first_on}
+use Rattle.vc_accepted.specs.NodeEnds.{first_on}
 use Rattle.vc_actor.specs.Private.Begin.{empty_ways, on_link}
 use Rattle.vc_actor.proofs.Carrying.{few_channels, none_carried, next_long, next_tells}
 use Rattle.vc_actor.proofs.Gathering.{stands_at}

@@ -1,5 +1,5 @@
 use Rattle.std.proofs.Common.{◌≡◌, ℕ, Bool, length, take}
-use Rattle.vc_accepted.specs.Given.{first_on}
+use Rattle.vc_accepted.specs.NodeEnds.{first_on}
 use Rattle.vc_actor.specs.Private.Begin.{on_link}
 use Rattle.vc_actor.proofs.plan_actors.ways_of.Given as goal
 

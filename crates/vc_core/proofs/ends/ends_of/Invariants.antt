@@ -1,5 +1,5 @@
 use Rattle.std.proofs.Common.{◌≡◌, length, take}
-use Rattle.vc_core.specs.Private.Wired.{ends_of}
+use Rattle.vc_core.specs.Private.Wiring.{ends_of}
 use Rattle.vc_core.proofs.ends.ends_of.Given as goal
 
 abbrev pub invariant-loop-wire : goal.invariant-loop-wire

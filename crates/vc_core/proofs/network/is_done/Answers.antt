@@ -1,7 +1,7 @@
 use Rattle.std.proofs.Common.{◌≡◌, ◌↔◌, Bool, IsTrue, Some, subst}
 use Rattle.vc_actor.specs.Private.Parts.{IsDone}
 use Rattle.vc_actor.specs.Parts.{node_in}
-use Rattle.vc_actor.specs.Shown.{Acting, OfNode, OfSwitch}
+use Rattle.vc_actor.specs.ActorView.{Acting, OfNode, OfSwitch}
 use Rattle.vc_actor.specs.declared.node.Node.{Node}
 use Rattle.vc_core.proofs.network.is_done.Goals as goal
 

@@ -4,9 +4,9 @@ use Rattle.std.proofs.lemmas.Option.{slice_get-get_or}
 use Rattle.std.proofs.Math.ListN.{replicate}
 use Rattle.vc_plan.specs.declared.port.Wire.{Wire}
 use Rattle.vc_plan.specs.declared.port.Spot.TheVariants.{Node}
-use Rattle.vc_accepted.specs.Outgoing.{way_out}
-use Rattle.vc_core.specs.Private.Filled.{left}
-use Rattle.vc_core.specs.Wired.{out_at}
+use Rattle.vc_accepted.specs.ActorWays.{way_out}
+use Rattle.vc_core.specs.Private.OutgoingTable.{left}
+use Rattle.vc_core.specs.Wiring.{out_at}
 use Rattle.vc_core.proofs.Leaving.{are_few, none_leaves, next_long, next_tells}
 use Rattle.vc_core.proofs.outgoing_ways.ways_out.Goals as goal
 

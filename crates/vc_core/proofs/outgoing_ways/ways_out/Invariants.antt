@@ -1,6 +1,6 @@
 use Rattle.std.proofs.Common.{◌≡◌, ℕ, ◌+◌, ◌*◌, length, take}
-use Rattle.vc_accepted.specs.Outgoing.{way_out}
-use Rattle.vc_core.specs.Wired.{out_at}
+use Rattle.vc_accepted.specs.ActorWays.{way_out}
+use Rattle.vc_core.specs.Wiring.{out_at}
 use Rattle.vc_core.proofs.outgoing_ways.ways_out.Given as goal
 
 abbrev pub invariant-loop-i : goal.invariant-loop-i

@@ -1,5 +1,5 @@
 use Rattle.std.proofs.Common.{◌<◌, sym, ◌∙◌, arith}
-use Rattle.vc_core.specs.Wired.{out_at, IsWired}
+use Rattle.vc_core.specs.Wiring.{out_at, IsWired}
 use Rattle.vc_core.proofs.Leading.{some_wired, wired_some}
 use Rattle.vc_actor.proofs.Turning.{clash}
 use Rattle.vc_core.proofs.Turning.{bit_set, bit_clear}

@@ -1,6 +1,6 @@
 use Rattle.std.specs.Prelude.{◌≡◌, ◌↔◌, ◌<◌, ◌≤◌, ℕ}
 use Rattle.std.specs.Int.{bit_at}
-use Rattle.vc_core.specs.Wired.{IsWired}
+use Rattle.vc_core.specs.Wiring.{IsWired}
 use Rattle.vc_core.proofs.rooms.room_of.Given as goal
 
 abbrev pub invariant-loop-link : goal.invariant-loop-link

@@ -1,7 +1,7 @@
 use Rattle.std.proofs.Common.{◌∙◌, ◌++◌, List, ℕ, ap}
 use Rattle.vc_core.specs.State.{shown, state_of}
 use Rattle.vc_draw.specs.State.{counts_line, packet_line}
-use Rattle.vc_text.specs.Shown.{channel_of}
+use Rattle.vc_text.specs.ChannelStates.{channel_of}
 use Rattle.vc_text.specs.Views.{shown as traffic_of}
 use Rattle.vc_draw.proofs.channel_label.channel_label.Goals as goal
 

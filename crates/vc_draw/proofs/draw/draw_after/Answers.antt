@@ -1,5 +1,5 @@
 use Rattle.std.proofs.Common.{List, Err, subst, sym}
-use Rattle.vc_core.specs.Replaying.{Reached}
+use Rattle.vc_core.specs.Replay.{Reached}
 use Rattle.vc_core.specs.State.{shown, state_of}
 use Rattle.vc_core.specs.declared.event.Event.{Event}
 use Rattle.vc_draw.specs.State.{IsStateDrawing, IsStateGraph}

@@ -1,5 +1,5 @@
 use Rattle.vc_draw.specs.State.{IsStateDrawing}
-use Rattle.vc_text.specs.Checking.{ReadsAccepted}
+use Rattle.vc_text.specs.CheckText.{ReadsAccepted}
 use Rattle.vc_text.proofs.Checked.{memory_any}
 use Rattle.vc_text.proofs.Stepped.{writes_by}
 use Rattle.vc_draw.proofs.draw.run_draw_after.Goals as goal

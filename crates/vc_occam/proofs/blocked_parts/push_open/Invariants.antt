@@ -1,5 +1,5 @@
 use Rattle.std.proofs.Common.{◌≡◌, ◌++◌, drop, map}
-use Rattle.vc_occam.specs.Blocking.{open_guards}
+use Rattle.vc_occam.specs.BlockedParts.{open_guards}
 use Rattle.vc_occam.specs.Frames.{guards_of}
 use Rattle.vc_occam.specs.Private.Frames.{seen_guard}
 use Rattle.vc_process.specs.Terms.{store}

@@ -2,9 +2,9 @@ use Rattle.std.proofs.Common.{length, subst, sym}
 use Rattle.vc_occam.specs.declared.moves.Move.{Move}
 use Rattle.vc_occam.specs.First.{own}
 use Rattle.vc_occam.specs.Frames.{remains}
-use Rattle.vc_occam.specs.Moving.{site_of}
+use Rattle.vc_occam.specs.MoveSites.{site_of}
 use Rattle.vc_occam.specs.Private.Frames.{Able, Did, HasVariables, whole}
-use Rattle.vc_occam.specs.Private.Moving.{HasMet, action_for, at, partner}
+use Rattle.vc_occam.specs.Private.MoveSites.{HasMet, action_for, at, partner}
 use Rattle.vc_occam.specs.Private.SiteSteps.{one}
 use Rattle.vc_occam.specs.Private.Sites.{InPreorder}
 use Rattle.vc_process.specs.Syntax.{Proc}

@@ -1,6 +1,6 @@
 use Rattle.std.proofs.Common.{◌+◌, ◌*◌, take}
 use Rattle.vc_process.proofs.process.Process.TheLaws.{the_size}
-use Rattle.vc_process.specs.Private.Moved.{AreMoved, AreMovedBranches, AreMovedGuards}
+use Rattle.vc_process.specs.Private.MovedVariables.{AreMoved, AreMovedBranches, AreMovedGuards}
 use Rattle.vc_process.proofs.moved.+moved.Given as goal
 
 abbrev pub invariant-moved_parts-loop-part : goal.invariant-moved_parts-loop-part

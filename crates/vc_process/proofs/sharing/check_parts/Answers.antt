@@ -6,7 +6,7 @@ use Rattle.vc_process.specs.declared.use_fault.UseFault.{UseFault}
 use Rattle.vc_process.specs.InOrder.{number}
 use Rattle.vc_process.specs.Lawful.{Offends, SideBySide}
 use Rattle.vc_process.specs.Numbering.{parts_from}
-use Rattle.vc_process.specs.Private.Sharing.{IsFirstClash, Judges}
+use Rattle.vc_process.specs.Private.Clashes.{IsFirstClash, Judges}
 use Rattle.vc_process.proofs.Parted.{judged, judges_fault}
 use Rattle.vc_process.proofs.sharing.check_parts.Goals as goal
 

@@ -7,7 +7,7 @@ use Rattle.vc_process.specs.InOrder.{number}
 use Rattle.vc_process.specs.Private.InOrder.{number_branch, number_guard}
 use Rattle.vc_process.specs.Lawful.{FirstOffence, Lawfully, Offends, SideBySide, at_count, at_par}
 use Rattle.vc_process.specs.Numbering.{Numbered, NumberedBranch, NumberedGuard, numbered, parts_from, branches_from, guards_from}
-use Rattle.vc_process.specs.Private.Sharing.{Judges}
+use Rattle.vc_process.specs.Private.Clashes.{Judges}
 use Rattle.vc_process.specs.Syntax.{PAR, COUNT}
 use Rattle.vc_process.specs.Terms.{exp, as_test}
 use Rattle.vc_process.proofs.Judging.{judges_err, judges_tree, judges_seq, judges_if, judges_while, judges_alt, judges_par, judges_count, comes_next, comes_fault, comes_end, parts_so, parts_first, part_so, part_first, behind_part, parts_go, branches_so, branches_first, branch_so, branch_first, behind_branch, branches_go, guards_so, guards_first, guard_so, guard_first, behind_guard, guards_go}

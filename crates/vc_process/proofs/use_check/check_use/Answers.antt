@@ -1,7 +1,7 @@
 use Rattle.std.proofs.Common.{sym, subst}
 use Rattle.vc_process.specs.Lawful.{FirstOffence, Lawfully}
 use Rattle.vc_process.specs.Numbering.{written}
-use Rattle.vc_process.specs.Private.Sharing.{Judges}
+use Rattle.vc_process.specs.Private.Clashes.{Judges}
 use Rattle.vc_process.specs.Syntax.{Proc}
 use Rattle.vc_process.proofs.Numbers.{written_is}
 use Rattle.vc_process.proofs.Judged.{exact_use}

@@ -1,6 +1,6 @@
 use Rattle.std.proofs.Common.{◌≡◌, ◌+◌, ◌-◌, ◌^◌, min, length, arith, subst}
 use Rattle.std.specs.List.{sum_by}
-use Rattle.vc_blocks.specs.Listed.{listed}
+use Rattle.vc_blocks.specs.Messages.{listed}
 use Rattle.vc_stats.specs.Fields.{bytes_of}
 use Rattle.vc_stats.proofs.fields.bytes_of.Goals as goal
 

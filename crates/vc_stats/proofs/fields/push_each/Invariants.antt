@@ -1,7 +1,7 @@
 use Rattle.std.proofs.Common.{◌≡◌, ◌++◌, List, take}
 use Rattle.std.specs.List.{flat_map}
 use Rattle.vc_core.specs.declared.event.Event.{Event}
-use Rattle.vc_stats.specs.Counting.{AreCounts}
+use Rattle.vc_stats.specs.Counts.{AreCounts}
 use Rattle.vc_stats.specs.Fields.{kind_text}
 use Rattle.vc_stats.proofs.fields.push_each.Given as goal
 

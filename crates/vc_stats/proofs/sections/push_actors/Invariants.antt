@@ -1,7 +1,7 @@
 use Rattle.std.proofs.Common.{◌≡◌, ◌++◌, List}
 use Rattle.std.specs.List.{flat_map, range_with_len}
 use Rattle.vc_core.specs.declared.event.Event.{Event}
-use Rattle.vc_stats.specs.Counting.{AreCounts}
+use Rattle.vc_stats.specs.Counts.{AreCounts}
 use Rattle.vc_stats.specs.Sections.{actor_text}
 use Rattle.vc_stats.proofs.sections.push_actors.Given as goal
 

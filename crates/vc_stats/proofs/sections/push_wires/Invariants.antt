@@ -1,7 +1,7 @@
 use Rattle.std.proofs.Common.{◌≡◌, ◌++◌, List, drop}
 use Rattle.std.specs.List.{enumerate_from, flat_map}
 use Rattle.vc_core.specs.declared.event.Event.{Event}
-use Rattle.vc_stats.specs.Counting.{AreCounts}
+use Rattle.vc_stats.specs.Counts.{AreCounts}
 use Rattle.vc_stats.specs.Sections.{wire_text}
 use Rattle.vc_stats.proofs.sections.push_wires.Given as goal
 

@@ -1,14 +1,14 @@
 use Rattle.std.proofs.Common.{◌≡◌, ◌≤◌, Err, [], arith, length, subst, sym}
-use Rattle.vc_core.specs.Replaying.{IsOpening}
+use Rattle.vc_core.specs.Replay.{IsOpening}
 use Rattle.vc_core.specs.State.{shown, state_of}
 use Rattle.vc_plan.specs.declared.plan.Plan.{Plan}
-use Rattle.vc_text.specs.Running.{RunText, WritesRun}
+use Rattle.vc_text.specs.RunText.{RunText, WritesRun}
 use Rattle.vc_text.specs.Streams.{Writes}
 use Rattle.vc_text.proofs.Stepped.{handed_on, run_unwritten, writes_one}
-use Rattle.vc_stats.specs.Counting.{AreCounts, most_events}
+use Rattle.vc_stats.specs.Counts.{AreCounts, most_events}
 use Rattle.vc_stats.specs.Texts.{IsCountedText, IsStatsText}
 use Rattle.vc_stats.specs.Monitor.{IsMonitorOf, Monitors, figures}
-use Rattle.vc_stats.specs.Visited.{figures_of}
+use Rattle.vc_stats.specs.StateFigures.{figures_of}
 use Rattle.vc_stats.proofs.Figures.{counted_text}
 use Rattle.vc_stats.proofs.stepping.stats_plan.Goals as goal
 

@@ -1,14 +1,14 @@
 use Rattle.std.proofs.Common.{Err, arith, length, ◌≤◌, rules, subst, sym}
 use Rattle.vc_core.specs.State.{shown, state_of}
 use Rattle.vc_plan.specs.declared.plan.Plan.{Plan}
-use Rattle.vc_text.specs.Running.{RunText}
+use Rattle.vc_text.specs.RunText.{RunText}
 use Rattle.vc_text.specs.Streams.{Writes}
-use Rattle.vc_text.specs.Threading.{WritesThreads}
+use Rattle.vc_text.specs.ThreadsText.{WritesThreads}
 use Rattle.vc_text.proofs.Checked.{memory_any}
 use Rattle.vc_text.proofs.Stepped.{handed_on, writes_one}
 use Rattle.vc_text.proofs.Threaded.{threads_unwritten}
 use Rattle.vc_threads.specs.declared.report.Ending.{Ending}
-use Rattle.vc_stats.specs.Counting.{most_events}
+use Rattle.vc_stats.specs.Counts.{most_events}
 use Rattle.vc_stats.specs.Texts.{IsCountedText, IsEventsText}
 use Rattle.vc_stats.proofs.threading.stats_net.Goals as goal
 

@@ -1,6 +1,6 @@
 use Rattle.std.proofs.Common.{◌≡◌, ◌++◌, drop}
 use Rattle.std.specs.List.{enumerate_from, flat_map}
-use Rattle.vc_blocks.specs.Listed.{listed}
+use Rattle.vc_blocks.specs.Messages.{listed}
 use Rattle.vc_stats.specs.Json.{message_json}
 use Rattle.vc_stats.proofs.traffic_json.push_messages.Given as goal
 

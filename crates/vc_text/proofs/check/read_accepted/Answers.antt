@@ -3,7 +3,7 @@ use Rattle.vc_plan.specs.Accepted.{IsAccepted}
 use Rattle.vc_plan.specs.Check.{IsCause}
 use Rattle.vc_plan.specs.declared.plan.Plan.{Plan as Network}
 use Rattle.vc_plan.specs.declared.check_refused.Refusal.{Refusal}
-use Rattle.vc_text.specs.Checking.{ReadsAccepted}
+use Rattle.vc_text.specs.CheckText.{ReadsAccepted}
 use Rattle.vc_text.specs.declared.fault.RunFault.TheVariants.{Plan}
 use Rattle.vc_text.specs.Streams.{ReadsFile}
 use Rattle.vc_text.specs.Private.Streams.{ReadsPlan}

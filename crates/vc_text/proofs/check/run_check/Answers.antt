@@ -1,4 +1,4 @@
-use Rattle.vc_text.specs.Checking.{accepted_text}
+use Rattle.vc_text.specs.CheckText.{accepted_text}
 use Rattle.vc_text.proofs.Checked.{tells_accepted}
 use Rattle.vc_text.proofs.check.run_check.Goals as goal
 

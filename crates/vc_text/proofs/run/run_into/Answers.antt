@@ -1,7 +1,7 @@
 use Rattle.std.proofs.Common.{[], arith, length, sym, subst}
-use Rattle.vc_core.specs.Replaying.{Replays}
+use Rattle.vc_core.specs.Replay.{Replays}
 use Rattle.vc_core.specs.State.{shown, state_of, IsNetworkOf}
-use Rattle.vc_text.specs.Closing.{Closes}
+use Rattle.vc_text.specs.Close.{Closes}
 use Rattle.vc_core.proofs.Replayed.{replays}
 use Rattle.vc_text.proofs.Closing.{processes_wait}
 use Rattle.vc_text.proofs.Drawing.{given_words}

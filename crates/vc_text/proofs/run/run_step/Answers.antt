@@ -1,4 +1,4 @@
-use Rattle.vc_text.specs.Checking.{ReadsAccepted}
+use Rattle.vc_text.specs.CheckText.{ReadsAccepted}
 use Rattle.vc_text.proofs.Checked.{memory_any}
 use Rattle.vc_text.proofs.Stepped.{steps_by}
 use Rattle.vc_text.proofs.run.run_step.Goals as goal

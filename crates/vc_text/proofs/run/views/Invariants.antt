@@ -1,7 +1,7 @@
 use Rattle.std.proofs.Common.{◌≡◌, map, take}
 use Rattle.vc_plan.specs.declared.plan.Plan.{Plan}
 use Rattle.vc_core.specs.State.{shown, state_of, IsNetworkOf}
-use Rattle.vc_text.specs.Shown.{channels_from}
+use Rattle.vc_text.specs.ChannelStates.{channels_from}
 use Rattle.vc_text.specs.Views.{shown as traffic_of}
 use Rattle.vc_text.proofs.run.views.Given as goal
 

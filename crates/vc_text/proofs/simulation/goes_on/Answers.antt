@@ -4,7 +4,7 @@ use Rattle.vc_core.specs.State.{state_of, IsNetworkOf}
 use Rattle.vc_core.specs.Private.Turns.{Rests, GoesOn}
 use Rattle.vc_actor.specs.Turns.{actors}
 use Rattle.vc_core.proofs.Leaving.{few}
-use Rattle.vc_text.specs.Closing.{HasEvent}
+use Rattle.vc_text.specs.Close.{HasEvent}
 use Rattle.vc_text.proofs.Closing.{all_rest}
 use Rattle.vc_text.proofs.simulation.goes_on.Goals as goal
 

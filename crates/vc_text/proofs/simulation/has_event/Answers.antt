@@ -2,7 +2,7 @@ use Rattle.std.proofs.Common.{◌≡◌, ℕ, Option, Some, None, is_some, false
 use Rattle.vc_core.specs.State.{State, state_of}
 use Rattle.vc_core.specs.Turns.{FindsTake}
 use Rattle.vc_plan.specs.declared.plan.Plan.{Plan}
-use Rattle.vc_text.specs.Closing.{HasEvent}
+use Rattle.vc_text.specs.Close.{HasEvent}
 use Rattle.vc_text.proofs.Closing.{some_take, has_of}
 use Rattle.vc_text.proofs.simulation.has_event.Goals as goal
 

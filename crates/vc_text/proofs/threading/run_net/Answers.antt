@@ -1,9 +1,9 @@
 use Rattle.std.proofs.Common.{Err, false, refl, subst, sym}
 use Rattle.vc_core.specs.State.{shown, state_of}
 use Rattle.vc_threads.specs.declared.report.Ending.{Ending}
-use Rattle.vc_text.specs.Shown.{channels_of}
+use Rattle.vc_text.specs.ChannelStates.{channels_of}
 use Rattle.vc_text.specs.Tail.{IsTail}
-use Rattle.vc_text.specs.Threading.{RunsInThreads}
+use Rattle.vc_text.specs.ThreadsText.{RunsInThreads}
 use Rattle.vc_text.specs.Traffic.{traffic}
 use Rattle.vc_text.proofs.Stepped.{handed_on, writes_one}
 use Rattle.vc_text.proofs.Threaded.{threads_unwritten}

@@ -3,7 +3,7 @@ use Rattle.vc_core.specs.State.{shown, state_of}
 use Rattle.vc_plan.specs.declared.plan.Plan.{Plan}
 use Rattle.vc_text.specs.Private.Streams.{WritesOne}
 use Rattle.vc_text.specs.Tail.{IsTail}
-use Rattle.vc_text.specs.Threading.{WritesThreads}
+use Rattle.vc_text.specs.ThreadsText.{WritesThreads}
 use Rattle.vc_text.proofs.Stepped.{handed_on}
 use Rattle.vc_text.proofs.Threaded.{threads_unwritten}
 use Rattle.vc_text.proofs.threading.run_net_unlogged.Goals as goal

@@ -1,7 +1,7 @@
 use Rattle.std.proofs.Common.{◌+◌, ◌++◌, sym, ap, ◌∙◌, arith, append_assoc, drop}
 use Rattle.std.proofs.lemmas.List.{append-nil}
 use Rattle.std.specs.Option.{option_copied}
-use Rattle.vc_blocks.specs.Listed.{listed}
+use Rattle.vc_blocks.specs.Messages.{listed}
 use Rattle.vc_blocks.proofs.Logging.{drop_past}
 use Rattle.vc_text.specs.Traffic.{message_line, message_lines}
 use Rattle.vc_text.proofs.Texts.{none_past, rest_at}

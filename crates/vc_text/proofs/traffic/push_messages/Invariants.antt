@@ -1,5 +1,5 @@
 use Rattle.std.proofs.Common.{◌≡◌, ◌++◌, drop}
-use Rattle.vc_blocks.specs.Listed.{listed}
+use Rattle.vc_blocks.specs.Messages.{listed}
 use Rattle.vc_text.specs.Traffic.{message_lines}
 use Rattle.vc_text.proofs.traffic.push_messages.Given as goal
 

@@ -1,7 +1,7 @@
 use Rattle.std.proofs.Common.{Err, Ok, subst, sym}
 use Rattle.vc_core.specs.State.{shown, state_of}
 use Rattle.vc_plan.specs.declared.plan.Plan.{Plan}
-use Rattle.vc_text.specs.Running.{WritesRun}
+use Rattle.vc_text.specs.RunText.{WritesRun}
 use Rattle.vc_text.specs.Private.Streams.{WritesOne}
 use Rattle.vc_text.specs.Tail.{IsTail}
 use Rattle.vc_text.proofs.Stepped.{handed_on, run_unwritten}

@@ -1,5 +1,5 @@
 use Rattle.std.proofs.Common.{ℕ, ◌<◌}
-use Rattle.vc_threads.specs.Private.Merged.{id_at}
+use Rattle.vc_threads.specs.Private.MergedRuns.{id_at}
 use Rattle.vc_threads.proofs.merged_runs.are_in_order.Given as goal
 
 abbrev pub invariant-loop-k : goal.invariant-loop-k

@@ -1,6 +1,6 @@
 use Rattle.std.proofs.Common.{[], ◌∷◌, ◌++◌, map, take, ap, sym, ◌∙◌, take_all}
 use Rattle.std.proofs.lemmas.List.{take_more, map-append}
-use Rattle.vc_threads.specs.Private.Merged.{front_of}
+use Rattle.vc_threads.specs.Private.MergedRuns.{front_of}
 use Rattle.vc_threads.proofs.merged_runs.first_fronts.Goals as goal
 
 pub loop-run-preserved : goal.loop-run-preserved

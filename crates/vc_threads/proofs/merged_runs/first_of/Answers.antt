@@ -1,6 +1,6 @@
 use Rattle.std.proofs.Common.{◌≡◌, ◌+◌, ◌<◌, ◌⊎◌, None, get_or, sym, subst, arith}
 use Rattle.std.proofs.lemmas.Option.{slice_get-get_or}
-use Rattle.vc_threads.specs.Private.Merged.{id_at}
+use Rattle.vc_threads.specs.Private.MergedRuns.{id_at}
 use Rattle.vc_threads.specs.declared.merged_runs.Front.{Front}
 use Rattle.vc_threads.proofs.Fronts.{IsFirst, was_before, first_stays, none_of, first_same, first_now, found_first, found_none}
 use Rattle.vc_threads.proofs.merged_runs.first_of.Goals as goal

@@ -1,7 +1,7 @@
 use Rattle.std.proofs.Common.{◌≡◌, inl, inr, None, true, ap, subst, ◌∙◌, arith}
 use Rattle.std.proofs.lemmas.Bool.{cases_eq}
 use Rattle.std.proofs.lemmas.Option.{get_or_from_slice_get, slice_get_within}
-use Rattle.vc_threads.specs.Private.Merged.{IsNext}
+use Rattle.vc_threads.specs.Private.MergedRuns.{IsNext}
 use Rattle.vc_threads.specs.declared.merged_runs.Front.{Front}
 use Rattle.vc_threads.proofs.merged_runs.first_with.Goals as goal
 

@@ -5,8 +5,8 @@ use Rattle.std.proofs.lemmas.List.{append-nil, length-map, length-set}
 use Rattle.std.proofs.lemmas.Option.{slice_get_read, slice_get_within}
 use Rattle.vc_network.specs.Merge.{IsMerge, AreDistinct, RunRises, run_of}
 use Rattle.vc_actor.specs.declared.act.Act.{Act}
-use Rattle.vc_threads.specs.Merged.{of_pair, made_event}
-use Rattle.vc_threads.specs.Private.Merged.{front_of, FindsFirst, HavePassed}
+use Rattle.vc_threads.specs.MergedRuns.{of_pair, made_event}
+use Rattle.vc_threads.specs.Private.MergedRuns.{front_of, FindsFirst, HavePassed}
 use Rattle.vc_threads.proofs.Fronts.{StandsAt, left_in, left_of, stand_first, left_first, left_next, stand_next, coming, run_at, not_after, none_left}
 use Rattle.vc_threads.proofs.Passing.{still_passed}
 use Rattle.vc_threads.proofs.Weaving.{without, acts_left, distinct_still, rising_still, fewer_left, first_then, nothing_left}

@@ -2,8 +2,8 @@ use Rattle.std.proofs.Common.{◌≡◌, ◌++◌, List, length, map}
 use Rattle.std.specs.List.{AllByRecursion, AllZip}
 use Rattle.vc_network.specs.Merge.{Made, IsMerge, AreDistinct, RunRises, run_of}
 use Rattle.vc_actor.specs.declared.act.Act.{Act}
-use Rattle.vc_threads.specs.Merged.{numbered, made_event}
-use Rattle.vc_threads.specs.Private.Merged.{HavePassed}
+use Rattle.vc_threads.specs.MergedRuns.{numbered, made_event}
+use Rattle.vc_threads.specs.Private.MergedRuns.{HavePassed}
 use Rattle.vc_threads.proofs.Fronts.{StandsAt, left_of}
 use Rattle.vc_threads.proofs.Weaving.{acts_left}
 use Rattle.vc_threads.proofs.merged_runs.merge.Given as goal

@@ -1,6 +1,6 @@
 use Rattle.std.proofs.Common.{get_or, ◌∙◌, sym, rules}
 use denote.Enum.Bare.{same_false, same_true}
-use Rattle.vc_threads.specs.Private.Closing.{stop_at}
+use Rattle.vc_threads.specs.Private.Close.{stop_at}
 use Rattle.vc_threads.specs.contracts.run.Stop.{the_type}
 use Rattle.vc_threads.proofs.Closings.{none_more, stop_of}
 use Rattle.vc_threads.proofs.report.first_stop.Goals as goal

@@ -1,5 +1,5 @@
-use Rattle.vc_threads.specs.Closing.{NoneStopped}
-use Rattle.vc_threads.specs.Private.Closing.{stop_at}
+use Rattle.vc_threads.specs.Close.{NoneStopped}
+use Rattle.vc_threads.specs.Private.Close.{stop_at}
 use Rattle.vc_threads.proofs.report.first_stop.Given as goal
 
 abbrev pub invariant-loop-k : goal.invariant-loop-k

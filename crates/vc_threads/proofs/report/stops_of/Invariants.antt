@@ -1,5 +1,5 @@
 use Rattle.std.proofs.Common.{◌≡◌, map, take}
-use Rattle.vc_threads.specs.Private.Closing.{stop_in}
+use Rattle.vc_threads.specs.Private.Close.{stop_in}
 use Rattle.vc_threads.proofs.report.stops_of.Given as goal
 
 abbrev pub invariant-loop-run : goal.invariant-loop-run

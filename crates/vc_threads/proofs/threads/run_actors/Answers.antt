@@ -10,12 +10,12 @@ use Rattle.vc_core.specs.State.{state_of}
 use Rattle.vc_actor.specs.Turns.{actors}
 use Rattle.vc_core.specs.declared.event.Event.{Event}
 use Rattle.vc_plan.specs.declared.plan.Plan.{Plan}
-use Rattle.vc_tokens.specs.Spelt.{tokens}
-use Rattle.vc_threads.specs.Private.Closing.{AreInOrder, stop_at, stop_in}
-use Rattle.vc_threads.specs.Closing.{ClosesBy}
+use Rattle.vc_tokens.specs.CodeTokens.{tokens}
+use Rattle.vc_threads.specs.Private.Close.{AreInOrder, stop_at, stop_in}
+use Rattle.vc_threads.specs.Close.{ClosesBy}
 use Rattle.vc_threads.specs.Private.Jobs.{IsFit}
 use Rattle.vc_threads.specs.Jobs.{Ran}
-use Rattle.vc_threads.specs.Merged.{made_event, numbered}
+use Rattle.vc_threads.specs.MergedRuns.{made_event, numbered}
 use Rattle.vc_threads.specs.Private.Order.{actor_left, MeetAt, LeftOn, OnWires}
 use Rattle.vc_threads.specs.Order.{OnWays}
 use Rattle.vc_threads.specs.Private.Threads.{AllKeep, AreNumbered, actor_in, who}

@@ -2,8 +2,8 @@
 use Rattle.std.proofs.Common.{◌≡◌, ◌+◌, List, [], ◌∷◌, ◌++◌, inl, inr, refl, sym, subst, ap, max, ◌∙◌}
 use Rattle.rtrb.specs.Ring.{known_items}
 use Rattle.vc_network.specs.Actors.Label.{Takes}
-use Rattle.vc_actor.specs.Acting.{MakesTake}
-use Rattle.vc_tokens.specs.Spelt.{token}
+use Rattle.vc_actor.specs.Acts.{MakesTake}
+use Rattle.vc_tokens.specs.CodeTokens.{token}
 use Rattle.vc_threads.specs.declared.link.Stamped.{Stamped}
 use Rattle.vc_threads.specs.Runs.{StepsByLink}
 use Rattle.vc_threads.proofs.Late.{greatest_of}

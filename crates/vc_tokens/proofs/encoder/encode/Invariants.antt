@@ -1,6 +1,6 @@
 use Rattle.std.proofs.Common.{◌≡◌, take}
 use Rattle.vc_tokens.specs.Tokens.{bytes}
-use Rattle.vc_tokens.specs.Spelt.{tokens}
+use Rattle.vc_tokens.specs.CodeTokens.{tokens}
 use Rattle.vc_tokens.proofs.encoder.encode.Given as goal
 
 abbrev pub invariant-loop-byte : goal.invariant-loop-byte

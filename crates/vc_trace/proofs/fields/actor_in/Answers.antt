@@ -1,6 +1,6 @@
 use Rattle.std.proofs.Common.{◌∙◌, ap}
 use Rattle.vc_plan.specs.Names.{actor_name}
-use Rattle.vc_trace.specs.Private.Named.{number_at}
+use Rattle.vc_trace.specs.Private.Names.{number_at}
 use Rattle.vc_trace.proofs.Spelling.{word_actor}
 use Rattle.vc_trace.proofs.fields.actor_in.Goals as goal
 

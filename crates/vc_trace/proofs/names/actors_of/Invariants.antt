@@ -1,6 +1,6 @@
 use Rattle.vc_plan.specs.Names.{actor_name}
 use Rattle.vc_trace.specs.Private.EventOf.{IsNamed}
-use Rattle.vc_trace.specs.Private.Named.{AreNumbered}
+use Rattle.vc_trace.specs.Private.Names.{AreNumbered}
 use Rattle.vc_trace.proofs.names.actors_of.Given as goal
 
 abbrev pub invariant-loop-actor : goal.invariant-loop-actor

@@ -1,6 +1,6 @@
 use Rattle.vc_plan.specs.Names.{channel_name}
 use Rattle.vc_trace.specs.Private.EventOf.{IsNamed}
-use Rattle.vc_trace.specs.Private.Named.{AreNumbered}
+use Rattle.vc_trace.specs.Private.Names.{AreNumbered}
 use Rattle.vc_trace.proofs.names.channels_of.Given as goal
 
 abbrev pub invariant-loop-chan : goal.invariant-loop-chan

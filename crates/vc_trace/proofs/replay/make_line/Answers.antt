@@ -1,7 +1,7 @@
 use Rattle.std.proofs.Common.{subst, sym}
-use Rattle.vc_core.specs.Enabled.{CanHappen}
+use Rattle.vc_core.specs.PossibleEvents.{CanHappen}
 use Rattle.vc_core.specs.State.{state_of}
-use Rattle.vc_trace.specs.Private.Reading.{ReadsEvent}
+use Rattle.vc_trace.specs.Private.EventReader.{ReadsEvent}
 use Rattle.vc_trace.proofs.replay.make_line.Goals as goal
 
 pub returns-in-Err-NotEnabled-clause-made : goal.returns-in-Err-NotEnabled-clause-made

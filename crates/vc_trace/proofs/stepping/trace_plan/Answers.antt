@@ -1,14 +1,14 @@
 use Rattle.std.proofs.Common.{◌≡◌, Err, List, ◌++◌, refl, subst, sym}
-use Rattle.vc_core.specs.Replaying.{Reached}
+use Rattle.vc_core.specs.Replay.{Reached}
 use Rattle.vc_core.specs.State.{shown, state_of}
 use Rattle.vc_core.specs.declared.event.Event.{Event}
 use Rattle.vc_plan.specs.declared.plan.Plan.{Plan}
-use Rattle.vc_text.specs.Running.{WritesRun}
+use Rattle.vc_text.specs.RunText.{WritesRun}
 use Rattle.vc_text.specs.Streams.{Writes}
 use Rattle.vc_text.specs.Tail.{IsTail}
 use Rattle.vc_text.proofs.Stepped.{handed_on, run_unwritten, writes_one}
 use Rattle.vc_trace.specs.EventText.{events_text}
-use Rattle.vc_trace.specs.Tracing.{IsTracedText}
+use Rattle.vc_trace.specs.TraceText.{IsTracedText}
 use Rattle.vc_trace.proofs.Traced.{traced}
 use Rattle.vc_trace.proofs.stepping.trace_plan.Goals as goal
 

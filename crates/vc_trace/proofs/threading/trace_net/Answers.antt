@@ -1,17 +1,17 @@
 use Rattle.std.proofs.Common.{◌≡◌, Err, List, ◌++◌, refl, rules, subst, sym}
-use Rattle.vc_core.specs.Replaying.{Reached}
+use Rattle.vc_core.specs.Replay.{Reached}
 use Rattle.vc_core.specs.State.{shown, state_of}
 use Rattle.vc_core.specs.declared.event.Event.{Event}
 use Rattle.vc_plan.specs.declared.plan.Plan.{Plan}
 use Rattle.vc_threads.specs.declared.report.Ending.{Ending}
 use Rattle.vc_text.specs.Streams.{Writes}
 use Rattle.vc_text.specs.Tail.{IsTail}
-use Rattle.vc_text.specs.Threading.{WritesThreads}
+use Rattle.vc_text.specs.ThreadsText.{WritesThreads}
 use Rattle.vc_text.proofs.Checked.{memory_any}
 use Rattle.vc_text.proofs.Stepped.{handed_on, writes_one}
 use Rattle.vc_text.proofs.Threaded.{threads_unwritten}
 use Rattle.vc_trace.specs.EventText.{events_text}
-use Rattle.vc_trace.specs.Tracing.{IsTracedText}
+use Rattle.vc_trace.specs.TraceText.{IsTracedText}
 use Rattle.vc_trace.proofs.Traced.{traced}
 use Rattle.vc_trace.proofs.threading.trace_net.Goals as goal
 

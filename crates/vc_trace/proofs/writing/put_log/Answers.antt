@@ -1,7 +1,7 @@
 use Rattle.std.proofs.Common.{◌≡◌, ◌++◌, ◌∙◌, [], ◌∷◌, List, ap, sym, subst, append_assoc, append-nil}
 use Rattle.std.proofs.lemmas.List.Concat.{flat_map-append}
 use Rattle.vc_core.specs.declared.event.Event.{Event}
-use Rattle.vc_text.specs.Kept.{events_left}
+use Rattle.vc_text.specs.EventLog.{events_left}
 use Rattle.vc_plan.specs.declared.plan.Plan.{Plan}
 use Rattle.vc_text.specs.Streams.{AppendsFront}
 use Rattle.vc_trace.specs.EventText.{event_line, events_text}

@@ -1,5 +1,5 @@
 use Rattle.std.proofs.Common.{◌≡◌, ◌++◌}
-use Rattle.vc_text.specs.Kept.{events_left}
+use Rattle.vc_text.specs.EventLog.{events_left}
 use Rattle.vc_trace.specs.EventText.{events_text}
 use Rattle.vc_trace.specs.Private.Pieces.{Passes}
 use Rattle.vc_trace.proofs.writing.put_log.Given as goal

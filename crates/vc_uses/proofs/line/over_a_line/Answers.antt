@@ -1,7 +1,7 @@
 use Rattle.std.proofs.Common.{◌≡◌, ◌++◌, [], ◌∷◌, ◌≤◌, ℕ, List, None, length, refl, sym, ap, subst, ◌∙◌, arith}
 use Rattle.vc_packets.specs.declared.packet.Packet.{Packet}
 use Rattle.vc_tokens.specs.Tokens.{Token, Whole, bytes, spelling}
-use Rattle.vc_tokens.specs.Spelt.{tokens}
+use Rattle.vc_tokens.specs.CodeTokens.{tokens}
 use Rattle.vc_tokens.specs.Decoding.{Decoding, IsRead}
 use Rattle.vc_uses.proofs.line.over_a_line.Goals as goal
 

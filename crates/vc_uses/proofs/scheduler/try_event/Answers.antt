@@ -1,5 +1,5 @@
 use Rattle.std.proofs.Common.{◌++◌, [], ◌∷◌, ap, subst, sym, ◌∙◌}
-use Rattle.vc_core.specs.Replaying.{Reached}
+use Rattle.vc_core.specs.Replay.{Reached}
 use Rattle.vc_core.specs.State.{state_of}
 use Rattle.vc_uses.proofs.scheduler.try_event.Goals as goal
 

@@ -1,7 +1,7 @@
 use Rattle.std.proofs.Common.{rules, ◌≡◌, ◌<◌, ◌∙◌, length, slice_index_or, slice_get, Some, None, sym, ap, refl, subst}
 use Rattle.std.proofs.lemmas.Option.{slice_get_read, slice_get_within}
 use Rattle.vc_vcp.specs.Private.Bound.{with_inputs}
-use Rattle.vc_vcp.specs.Private.Seen.{arrival_told}
+use Rattle.vc_vcp.specs.Private.VcpView.{arrival_told}
 use Rattle.vc_vcp.specs.State.{IsInput, IsPieceOf}
 use Rattle.vc_vcp.proofs.Changing.{stays-input}
 use Rattle.vc_vcp.proofs.Placed.{same_read, set_back, always_on_err}

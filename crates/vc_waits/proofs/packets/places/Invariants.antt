@@ -1,5 +1,5 @@
 use Rattle.std.proofs.Common.{List}
-use Rattle.vc_core.specs.Replaying.{Reached}
+use Rattle.vc_core.specs.Replay.{Reached}
 use Rattle.vc_core.specs.State.{shown, state_of}
 use Rattle.vc_core.specs.declared.event.Event.{Event}
 use Rattle.vc_plan.specs.declared.plan.Plan.{Plan}

@@ -1,5 +1,5 @@
 use Rattle.std.proofs.Common.{inl, subst}
-use Rattle.vc_text.specs.Threading.{WritesThreads}
+use Rattle.vc_text.specs.ThreadsText.{WritesThreads}
 use Rattle.vc_words.specs.Program.{IsThreadTextOf}
 use Rattle.vc_words.proofs.words.run_by.Goals as goal
 

@@ -1,8 +1,8 @@
 use Rattle.std.proofs.Common.{sym, ap, ◌∙◌}
-use Rattle.vc_actor.specs.Acting.{HasLink, MakesTake}
+use Rattle.vc_actor.specs.Acts.{HasLink, MakesTake}
 use Rattle.vc_actor.specs.OfPlan.{IsActorOf}
 use Rattle.vc_actor.specs.Parts.{acting}
-use Rattle.vc_tokens.specs.Spelt.{token}
+use Rattle.vc_tokens.specs.CodeTokens.{token}
 use Rattle.vc_actor.proofs.Parting.{alike}
 use Rattle.vc_actor.proofs.actor.Actor.accept.Goals.{in-Node, in-Switch}
 use Rattle.vc_actor.proofs.actor.Actor.accept.Goals as goal

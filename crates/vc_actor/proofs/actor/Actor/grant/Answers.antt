@@ -1,5 +1,5 @@
 use Rattle.std.proofs.Common.{sym, ap, ◌∙◌}
-use Rattle.vc_actor.specs.Acting.{MakesGrant}
+use Rattle.vc_actor.specs.Acts.{MakesGrant}
 use Rattle.vc_actor.specs.OfPlan.{IsActorOf}
 use Rattle.vc_actor.specs.Parts.{acting}
 use Rattle.vc_actor.proofs.Parting.{alike}

@@ -1,5 +1,5 @@
 use Rattle.std.proofs.Common.{sym, subst}
-use Rattle.vc_actor.specs.Acting.{MakesOwn}
+use Rattle.vc_actor.specs.Acts.{MakesOwn}
 use Rattle.vc_actor.proofs.actor.Actor.make.Goals as goal
 
 pub returns-in-Route-clause-ok : goal.returns-in-Route-clause-ok

@@ -1,6 +1,6 @@
 use Rattle.std.proofs.Common.{◌↔◌, ltb, IsTrue, sym, ap, ◌∙◌, subst}
 use Rattle.std.proofs.lemmas.Bool.Decides.{Decides-ltb}
-use Rattle.vc_actor.specs.Acting.{HasLink}
+use Rattle.vc_actor.specs.Acts.{HasLink}
 use Rattle.vc_actor.specs.Parts.{acting}
 use Rattle.vc_actor.proofs.actor.Actor.may_take.Goals as goal
 

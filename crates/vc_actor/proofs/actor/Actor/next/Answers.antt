@@ -1,7 +1,7 @@
 use Rattle.std.proofs.Common.{IfOk, sym, ap, ◌∙◌, subst}
 use Rattle.vc_actor.specs.OfPlan.{IsActorOf}
 use Rattle.vc_actor.specs.Parts.{acting}
-use Rattle.vc_actor.specs.Shown.{OfNode, OfSwitch}
+use Rattle.vc_actor.specs.ActorView.{OfNode, OfSwitch}
 use Rattle.vc_actor.specs.Turns.{FindsTurn}
 use Rattle.vc_actor.proofs.actor.Actor.next.Goals.{in-Node, in-Switch}
 use Rattle.vc_actor.proofs.actor.Actor.next.Goals as goal

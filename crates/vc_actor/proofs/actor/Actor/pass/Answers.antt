@@ -1,8 +1,8 @@
 use Rattle.std.proofs.Common.{OnOk, sym, ap, ◌∙◌, subst}
-use Rattle.vc_actor.specs.Acting.{MakesOwn}
+use Rattle.vc_actor.specs.Acts.{MakesOwn}
 use Rattle.vc_actor.specs.OfPlan.{IsActorOf}
 use Rattle.vc_actor.specs.Parts.{acting}
-use Rattle.vc_actor.specs.Shown.{OfNode}
+use Rattle.vc_actor.specs.ActorView.{OfNode}
 use Rattle.vc_actor.specs.declared.act.Act.TheVariants.{Pass}
 use Rattle.vc_actor.proofs.Parting.{alike, on_ok_of}
 use Rattle.vc_actor.proofs.actor.Actor.pass.Goals.{in-Node, in-Switch}

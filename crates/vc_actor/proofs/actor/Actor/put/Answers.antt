@@ -1,9 +1,9 @@
 use Rattle.std.proofs.Common.{sym, ap, ◌∙◌, subst}
-use Rattle.vc_actor.specs.Acting.{MakesPut}
+use Rattle.vc_actor.specs.Acts.{MakesPut}
 use Rattle.vc_actor.specs.OfPlan.{IsActorOf}
 use Rattle.vc_actor.specs.Parts.{acting}
-use Rattle.vc_actor.specs.Shown.{OfNode, OfSwitch}
-use Rattle.vc_tokens.specs.Spelt.{token}
+use Rattle.vc_actor.specs.ActorView.{OfNode, OfSwitch}
+use Rattle.vc_tokens.specs.CodeTokens.{token}
 use Rattle.vc_actor.proofs.Parting.{alike}
 use Rattle.vc_actor.proofs.actor.Actor.put.Goals.{in-Node, in-Switch}
 use Rattle.vc_actor.proofs.actor.Actor.put.Goals as goal

@@ -1,8 +1,8 @@
 use Rattle.std.proofs.Common.{sym, ap, ◌∙◌, subst}
-use Rattle.vc_actor.specs.Acting.{MakesOwn}
+use Rattle.vc_actor.specs.Acts.{MakesOwn}
 use Rattle.vc_actor.specs.OfPlan.{IsActorOf}
 use Rattle.vc_actor.specs.Parts.{acting}
-use Rattle.vc_actor.specs.Shown.{OfSwitch}
+use Rattle.vc_actor.specs.ActorView.{OfSwitch}
 use Rattle.vc_actor.specs.declared.act.Act.TheVariants.{Route}
 use Rattle.vc_actor.proofs.actor.Actor.route.Goals as goal
 

@@ -1,5 +1,5 @@
 use Rattle.std.proofs.Common.{◌≡◌, drop}
-use Rattle.vc_vcp.specs.Keyed.{named}
+use Rattle.vc_vcp.specs.Names.{named}
 use Rattle.vc_actor.proofs.inside.Inside.place.Given as goal
 
 abbrev pub invariant-loop-i : goal.invariant-loop-i

@@ -2,7 +2,7 @@ use Rattle.std.proofs.Common.{◌≤◌, refl, subst, inl, inr, arith}
 use Rattle.std.proofs.lemmas.Bool.{cases_lt}
 use Rattle.vc_network.specs.Plan.{ends}
 use Rattle.vc_vcp.specs.Able.{CanPass}
-use Rattle.vc_vcp.specs.Seen.{seen}
+use Rattle.vc_vcp.specs.VcpView.{seen}
 use Rattle.vc_vcp.specs.State.{limit_of}
 use Rattle.vc_actor.proofs.AbleMoves.{no_pass}
 use Rattle.vc_actor.proofs.node.Node.next_pass.Goals as goal

@@ -1,5 +1,5 @@
 use Rattle.std.proofs.Common.{◌<◌, refl, arith}
-use Rattle.vc_actor.specs.Shown.{OfNode}
+use Rattle.vc_actor.specs.ActorView.{OfNode}
 use Rattle.vc_actor.specs.Turns.{IsTurn}
 use Rattle.vc_actor.specs.declared.act.Act.TheVariants.{Put}
 use Rattle.vc_actor.proofs.Turning.{none_more, clash}

@@ -1,6 +1,6 @@
 use Rattle.std.specs.Prelude.{ℕ, ◌<◌}
 use Rattle.vc_network.specs.Plan.{Plan}
-use Rattle.vc_actor.specs.Shown.{OfNode}
+use Rattle.vc_actor.specs.ActorView.{OfNode}
 use Rattle.vc_actor.specs.Turns.{IsTurn}
 use Rattle.vc_actor.specs.OfPlan.{IsNodeOf}
 use Rattle.vc_actor.specs.declared.act.Act.TheVariants.{Put}

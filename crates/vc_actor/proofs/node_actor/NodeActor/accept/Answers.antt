@@ -1,8 +1,8 @@
 use Rattle.std.proofs.Common.{◌<◌, refl, ap}
-use Rattle.vc_actor.specs.Acting.{MakesTake}
+use Rattle.vc_actor.specs.Acts.{MakesTake}
 use Rattle.vc_actor.specs.OfPlan.{IsActorOf}
-use Rattle.vc_actor.specs.Shown.{OfNode}
-use Rattle.vc_tokens.specs.Spelt.{token}
+use Rattle.vc_actor.specs.ActorView.{OfNode}
+use Rattle.vc_tokens.specs.CodeTokens.{token}
 use Rattle.vc_actor.proofs.Linking.{takes}
 use Rattle.vc_actor.proofs.Parting.{alike}
 use Rattle.vc_actor.proofs.node_actor.NodeActor.accept.Goals as goal

@@ -1,10 +1,10 @@
 use Rattle.std.proofs.Common.{◌↔◌, IsTrue, sym, subst}
 use Rattle.vc_network.specs.Plan.{ends}
 use Rattle.vc_vcp.specs.Able.{CanPass}
-use Rattle.vc_vcp.specs.Seen.{seen}
+use Rattle.vc_vcp.specs.VcpView.{seen}
 use Rattle.vc_vcp.specs.State.{limit_of}
 use Rattle.vc_actor.specs.Able.{NodeCan}
-use Rattle.vc_actor.specs.Acting.{NodeMay}
+use Rattle.vc_actor.specs.Acts.{NodeMay}
 use Rattle.vc_actor.specs.OfPlan.{IsNodeOf}
 use Rattle.vc_actor.proofs.AbleMoves.{can_put_by, grant_by, pass_by, put_by}
 use Rattle.vc_actor.proofs.node_actor.NodeActor.can.Goals as goal

@@ -1,7 +1,7 @@
 use Rattle.std.proofs.Common.{sym, subst}
 use Rattle.vc_actor.specs.Able.{NodeCan}
 use Rattle.vc_actor.specs.OfPlan.{IsNodeOf}
-use Rattle.vc_actor.specs.Shown.{OfNode}
+use Rattle.vc_actor.specs.ActorView.{OfNode}
 use Rattle.vc_actor.specs.Turns.{IsTurn, FindsOf}
 use Rattle.vc_actor.specs.Private.Turns.{FindsAt}
 use Rattle.vc_actor.specs.declared.act.Act.TheVariants as act

@@ -1,8 +1,8 @@
 use Rattle.std.proofs.Common.{refl, ap}
 use Rattle.vc_occam.specs.declared.moves.Move.TheVariants.{Quiet}
-use Rattle.vc_actor.specs.Acting.{MakesOwn}
+use Rattle.vc_actor.specs.Acts.{MakesOwn}
 use Rattle.vc_actor.specs.OfPlan.{IsActorOf}
-use Rattle.vc_actor.specs.Shown.{OfNode}
+use Rattle.vc_actor.specs.ActorView.{OfNode}
 use Rattle.vc_actor.specs.declared.act.Act.TheVariants.{Proc}
 use Rattle.vc_actor.proofs.Linking.{moved}
 use Rattle.vc_actor.proofs.Parting.{alike}

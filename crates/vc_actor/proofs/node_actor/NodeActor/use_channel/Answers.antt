@@ -1,7 +1,7 @@
 use Rattle.std.proofs.Common.{refl, ap}
-use Rattle.vc_actor.specs.Acting.{MakesOwn}
+use Rattle.vc_actor.specs.Acts.{MakesOwn}
 use Rattle.vc_actor.specs.OfPlan.{IsActorOf}
-use Rattle.vc_actor.specs.Shown.{OfNode}
+use Rattle.vc_actor.specs.ActorView.{OfNode}
 use Rattle.vc_actor.specs.declared.act.Act.TheVariants.{Proc}
 use Rattle.vc_actor.proofs.Linking.{moved}
 use Rattle.vc_actor.proofs.Parting.{alike}

@@ -1,9 +1,9 @@
 use Rattle.std.proofs.Common.{◌↔◌, ◌<◌, IsTrue, sym, subst}
 use Rattle.vc_switch.specs.Able.{CanPass, CanPut, CanGrant, CanRoute}
-use Rattle.vc_switch.specs.Seen.{seen}
+use Rattle.vc_switch.specs.SwitchView.{seen}
 use Rattle.vc_switch.specs.State.{IsSwitch, plan_of, limit_of}
 use Rattle.vc_actor.specs.Able.{SwitchCan}
-use Rattle.vc_actor.specs.Acting.{SwitchMay}
+use Rattle.vc_actor.specs.Acts.{SwitchMay}
 use Rattle.vc_actor.specs.declared.act.Act.TheVariants.{Put, Fct, Pass, Route}
 use Rattle.vc_actor.proofs.Switching.{may_by}
 use Rattle.vc_actor.proofs.switch_actor.SwitchActor.can.Goals as goal

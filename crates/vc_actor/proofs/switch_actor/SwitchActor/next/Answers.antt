@@ -1,5 +1,5 @@
 use Rattle.std.proofs.Common.{subst}
-use Rattle.vc_actor.specs.Shown.{OfSwitch}
+use Rattle.vc_actor.specs.ActorView.{OfSwitch}
 use Rattle.vc_actor.specs.Turns.{FindsOf}
 use Rattle.vc_actor.specs.declared.act.ActKind.TheVariants as kind
 use Rattle.vc_actor.proofs.Turning.{passes_here, routes_here, puts, grants, of_switch}

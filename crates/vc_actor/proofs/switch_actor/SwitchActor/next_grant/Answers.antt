@@ -1,5 +1,5 @@
 use Rattle.std.proofs.Common.{◌<◌, refl, sym, subst, arith}
-use Rattle.vc_actor.specs.Shown.{OfSwitch}
+use Rattle.vc_actor.specs.ActorView.{OfSwitch}
 use Rattle.vc_actor.specs.Turns.{IsTurn}
 use Rattle.vc_actor.specs.Private.Turns.{FindsAt}
 use Rattle.vc_actor.specs.declared.act.Act.TheVariants.{Fct}

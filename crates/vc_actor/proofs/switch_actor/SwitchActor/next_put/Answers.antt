@@ -2,10 +2,10 @@ use Rattle.std.proofs.Common.{◌≡◌, ◌<◌, refl, sym, ◌∙◌, subst, a
 use Rattle.std.proofs.lemmas.Bool.{cases_eq}
 use Rattle.std.specs.Int.{bit_at}
 use Rattle.vc_switch.specs.Able.{CanPut}
-use Rattle.vc_switch.specs.Seen.{seen}
+use Rattle.vc_switch.specs.SwitchView.{seen}
 use Rattle.vc_switch.specs.State.{IsSwitch, plan_of}
-use Rattle.vc_actor.specs.Acting.{SwitchMay}
-use Rattle.vc_actor.specs.Shown.{OfSwitch}
+use Rattle.vc_actor.specs.Acts.{SwitchMay}
+use Rattle.vc_actor.specs.ActorView.{OfSwitch}
 use Rattle.vc_actor.specs.Turns.{IsTurn}
 use Rattle.vc_actor.specs.Private.Turns.{FindsAt}
 use Rattle.vc_actor.specs.declared.act.Act.TheVariants.{Put}

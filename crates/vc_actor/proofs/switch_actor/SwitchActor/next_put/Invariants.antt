@@ -1,6 +1,6 @@
 use Rattle.std.specs.Prelude.{◌≡◌, ℕ, ◌<◌}
 use Rattle.std.specs.Int.{bit_at}
-use Rattle.vc_actor.specs.Acting.{SwitchMay}
+use Rattle.vc_actor.specs.Acts.{SwitchMay}
 use Rattle.vc_actor.specs.declared.act.Act.TheVariants.{Put}
 use Rattle.vc_actor.proofs.switch_actor.SwitchActor.next_put.Given as goal
 

@@ -1,5 +1,5 @@
 use Rattle.std.proofs.Common.{arith}
-use Rattle.vc_blocks.specs.Listed.{listed}
+use Rattle.vc_blocks.specs.Messages.{listed}
 use Rattle.vc_blocks.proofs.Logging.{yields}
 use Rattle.vc_blocks.proofs.messages.MessagesIterIterator.next.Goals as goal
 

@@ -1,6 +1,6 @@
 use Rattle.std.proofs.Common.{◌+◌, ◌<◌, ap, sym, subst, ◌∙◌, length}
 use Rattle.vc_packets.specs.Pieces.{piece_count}
-use Rattle.vc_blocks.specs.Advancing.{later_than}
+use Rattle.vc_blocks.specs.Acknowledges.{later_than}
 use Rattle.vc_blocks.proofs.UnderWay.{next_less, later_is, some_now, packet_is}
 use Rattle.vc_blocks.proofs.out_half.OutHalf.next_packet.Goals as goal
 

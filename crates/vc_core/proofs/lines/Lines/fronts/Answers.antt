@@ -1,7 +1,7 @@
 use Rattle.std.proofs.Common.{◌≡◌, ◌↔◌, sym, subst}
 use Rattle.std.specs.Int.{bit_at}
-use Rattle.vc_core.specs.Lined.{Lined}
-use Rattle.vc_core.specs.Wired.{Comes}
+use Rattle.vc_core.specs.Lines.{Lined}
+use Rattle.vc_core.specs.Wiring.{Comes}
 use Rattle.vc_core.proofs.lines.Lines.fronts.Goals as goal
 
 pub returns : goal.returns

@@ -1,9 +1,9 @@
 use Rattle.std.proofs.Common.{take, ap, ◌++◌, ◌∙◌, get_or}
 use Rattle.std.proofs.lemmas.Option.{slice_get-get_or}
-use Rattle.vc_tokens.specs.Spelt.{tokens as all_spelt}
+use Rattle.vc_tokens.specs.CodeTokens.{tokens as all_spelt}
 use Rattle.vc_tokens.specs.declared.token.Token.{Token}
 use Rattle.vc_tokens.specs.declared.token.Token.TheVariants.{Byte}
-use Rattle.vc_core.specs.Private.Lined.{with_way}
+use Rattle.vc_core.specs.Private.Lines.{with_way}
 use Rattle.vc_core.proofs.Enabled.{has}
 use Rattle.vc_core.proofs.Laying.{none_laid, one_laid, stand_now, there_still}
 use Rattle.vc_core.proofs.Replayed.{all_taken}

@@ -1,7 +1,7 @@
 use Rattle.std.proofs.Common.{◌≡◌, ◌<◌, ◌++◌, List, Some, length, slice_get, take}
-use Rattle.vc_core.specs.Private.Lined.{with_way}
+use Rattle.vc_core.specs.Private.Lines.{with_way}
 use Rattle.vc_tokens.specs.Tokens.{Token}
-use Rattle.vc_tokens.specs.Spelt.{tokens as all_spelt}
+use Rattle.vc_tokens.specs.CodeTokens.{tokens as all_spelt}
 use Rattle.vc_core.proofs.lines.Lines.lay.Given as goal
 
 abbrev pub invariant-loop-token : goal.invariant-loop-token

@@ -1,5 +1,5 @@
 use Rattle.std.proofs.Common.{◌+◌, ◌*◌, length, sym, ap, ◌∙◌, subst, arith}
-use Rattle.vc_core.specs.Private.Wired.{AreEnds}
+use Rattle.vc_core.specs.Private.Wiring.{AreEnds}
 use Rattle.vc_core.proofs.ByEnd.{are_apart, end_within}
 use Rattle.vc_core.proofs.Leading.{are_ends, ends_count}
 use Rattle.vc_core.proofs.Lined.{at_first}

@@ -1,6 +1,6 @@
 use Rattle.std.proofs.Common.{◌<◌, length, sym, ap, ◌∙◌, subst}
-use Rattle.vc_core.specs.Lined.{Lined}
-use Rattle.vc_core.specs.Wired.{out_at}
+use Rattle.vc_core.specs.Lines.{Lined}
+use Rattle.vc_core.specs.Wiring.{out_at}
 use Rattle.vc_core.proofs.Lined.{some_all}
 use Rattle.vc_core.proofs.lines.Lines.outgoing.Goals as goal
 

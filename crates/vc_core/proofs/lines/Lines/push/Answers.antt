@@ -1,8 +1,8 @@
 use Rattle.std.proofs.Common.{◌≡◌, ◌<◌, [], ◌∷◌, ◌++◌, length, slice_get, slice_set, Some, sym, ap, ◌∙◌, subst}
-use Rattle.vc_tokens.specs.Spelt.{token as spelt}
-use Rattle.vc_core.specs.Lined.{Lined}
+use Rattle.vc_tokens.specs.CodeTokens.{token as spelt}
+use Rattle.vc_core.specs.Lines.{Lined}
 use Rattle.vc_core.specs.Private.ByEnd.{ByEnd}
-use Rattle.vc_core.specs.Private.Lined.{LeadsTo, with_way}
+use Rattle.vc_core.specs.Private.Lines.{LeadsTo, with_way}
 use Rattle.vc_core.proofs.Enabled.{has}
 use Rattle.vc_core.proofs.ByEnd.{actor_kept, actor_low, leads_there, link_low, same_way, token_came}
 use Rattle.vc_core.proofs.Lined.{end_first}

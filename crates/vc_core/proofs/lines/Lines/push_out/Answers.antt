@@ -1,9 +1,9 @@
 use Rattle.std.proofs.Common.{◌≡◌, [], ◌∷◌, ◌++◌, slice_get, slice_set, Some, sym, ap, ◌∙◌, subst}
-use Rattle.vc_tokens.specs.Spelt.{token as spelt}
-use Rattle.vc_core.specs.Lined.{Lined}
+use Rattle.vc_tokens.specs.CodeTokens.{token as spelt}
+use Rattle.vc_core.specs.Lines.{Lined}
 use Rattle.vc_core.specs.Private.ByEnd.{ByEnd}
-use Rattle.vc_core.specs.Private.Lined.{LeadsTo, with_way}
-use Rattle.vc_core.specs.Wired.{out_at}
+use Rattle.vc_core.specs.Private.Lines.{LeadsTo, with_way}
+use Rattle.vc_core.specs.Wiring.{out_at}
 use Rattle.vc_core.proofs.ByEnd.{actor_kept, actor_low, far_way, leads_there, link_low, token_came}
 use Rattle.vc_core.proofs.Lined.{end_first}
 use Rattle.vc_core.proofs.lines.Lines.push_out.Goals as goal

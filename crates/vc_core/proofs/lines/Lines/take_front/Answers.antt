@@ -1,9 +1,9 @@
 use Rattle.std.proofs.Common.{◌≡◌, ◌<◌, length, slice_get, Some, sym, ap, ◌∙◌, subst}
-use Rattle.vc_core.specs.Lined.{Lined}
+use Rattle.vc_core.specs.Lines.{Lined}
 use Rattle.vc_core.specs.Private.Fronts.{Marked}
 use Rattle.vc_core.specs.Private.ByEnd.{ByEnd}
-use Rattle.vc_core.specs.Private.Lined.{with_way}
-use Rattle.vc_core.specs.Wired.{in_at, Comes}
+use Rattle.vc_core.specs.Private.Lines.{with_way}
+use Rattle.vc_core.specs.Wiring.{in_at, Comes}
 use Rattle.vc_core.specs.declared.ends.End.{End}
 use Rattle.vc_core.proofs.ByEnd.{actor_kept, comes_in, last_went, link_low, one_went}
 use Rattle.vc_core.proofs.Lined.{not_empty}

@@ -2,10 +2,10 @@ use Rattle.std.proofs.Common.{◌≡◌, ◌<◌, ◌++◌, List, Some, slice_ge
 use Rattle.std.proofs.lemmas.List.{length-set}
 use Rattle.std.proofs.lemmas.Option.{slice_get_read}
 use Rattle.vc_tokens.specs.Tokens.{Token}
-use Rattle.vc_tokens.specs.Spelt.{tokens as all_spelt}
-use Rattle.vc_core.specs.Lined.{Lined}
-use Rattle.vc_core.specs.Private.Lined.{with_way}
-use Rattle.vc_core.specs.Wired.{AreWaysAt}
+use Rattle.vc_tokens.specs.CodeTokens.{tokens as all_spelt}
+use Rattle.vc_core.specs.Lines.{Lined}
+use Rattle.vc_core.specs.Private.Lines.{with_way}
+use Rattle.vc_core.specs.Wiring.{AreWaysAt}
 use Rattle.vc_core.proofs.Enabled.{has}
 use Rattle.vc_core.proofs.Laying.{none_yet, one_more, all_laid}
 use Rattle.vc_core.proofs.lines.Lines.with_tokens.Goals as goal

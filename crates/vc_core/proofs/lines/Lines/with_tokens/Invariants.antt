@@ -1,5 +1,5 @@
 use Rattle.std.proofs.Common.{◌≡◌, ◌*◌, length}
-use Rattle.vc_core.specs.Wired.{AreWaysAt}
+use Rattle.vc_core.specs.Wiring.{AreWaysAt}
 use Rattle.vc_core.proofs.Laying.{IsLaid}
 use Rattle.vc_core.proofs.lines.Lines.with_tokens.Given as goal
 

@@ -1,13 +1,13 @@
 use Rattle.std.proofs.Common.{◌≡◌, ◌↔◌, ◌++◌, ◌<◌, [], IsTrue, List, sym, ap, ◌∙◌, subst, arith}
-use Rattle.vc_tokens.specs.Spelt.{tokens}
+use Rattle.vc_tokens.specs.CodeTokens.{tokens}
 use Rattle.vc_tokens.specs.Tokens.{Token}
 use Rattle.vc_machine.specs.Places.{OnWire}
-use Rattle.vc_machine.specs.Seen.{read}
+use Rattle.vc_machine.specs.PacketsOfTokens.{read}
 use Rattle.vc_network.specs.Plan.{ways}
 use Rattle.vc_network.specs.Views.{vcps, switches, arrived}
 use Rattle.vc_accepted.specs.NetworkOf.{network_of, port_of}
 use Rattle.vc_packets.specs.Functions.{shown_or}
-use Rattle.vc_core.specs.Private.Placed.{HasIts}
+use Rattle.vc_core.specs.Private.PacketPlace.{HasIts}
 use Rattle.vc_core.specs.Private.Targets.{left}
 use Rattle.vc_core.specs.State.{shown, state_of}
 use Rattle.vc_core.proofs.Finding.{through_both, through_more}

@@ -1,6 +1,6 @@
 use Rattle.std.specs.Prelude.{◌≡◌, ◌<◌, ℕ, Some, slice_get}
 use Rattle.vc_actor.specs.Private.Parts.{IsDone}
-use Rattle.vc_actor.specs.Shown.{Acting}
+use Rattle.vc_actor.specs.ActorView.{Acting}
 use Rattle.vc_core.proofs.network.Network.ended.Given as goal
 
 abbrev pub invariant-loop-actor : goal.invariant-loop-actor

@@ -1,10 +1,10 @@
 use Rattle.std.proofs.Common.{◌≡◌, [], ◌∷◌, ◌++◌, slice_get, Some, ap, ◌∙◌, inl, inr, refl, sym, subst}
 use Rattle.std.specs.Int.{bit_at}
-use Rattle.vc_actor.specs.Acting.{MayAct}
+use Rattle.vc_actor.specs.Acts.{MayAct}
 use Rattle.vc_tokens.specs.Tokens as tokens
-use Rattle.vc_core.specs.Lined.{Lined}
+use Rattle.vc_core.specs.Lines.{Lined}
 use Rattle.vc_core.specs.State.{State, state_of, HasFront}
-use Rattle.vc_core.specs.Wired.{Comes}
+use Rattle.vc_core.specs.Wiring.{Comes}
 use Rattle.vc_core.proofs.Awake.{put_came, put_stands, put_wakes}
 use Rattle.vc_core.proofs.Happening.{granted, way_is, way_found}
 use Rattle.vc_core.proofs.network.Network.grant.Goals as goal

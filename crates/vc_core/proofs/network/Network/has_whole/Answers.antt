@@ -1,5 +1,5 @@
 use Rattle.std.proofs.Common.{◌<◌, refl, sym, subst}
-use Rattle.vc_switch.specs.Seen.{seen}
+use Rattle.vc_switch.specs.SwitchView.{seen}
 use Rattle.vc_switch.specs.Switch.{new_switch}
 use Rattle.vc_core.specs.State.{state_of}
 use Rattle.vc_core.proofs.Placing.{switch_shown, no_switch_shown}

@@ -2,7 +2,7 @@ use Rattle.std.proofs.Common.{◌≡◌, List, take}
 use Rattle.std.specs.List.{sum_by}
 use Rattle.vc_actor.specs.Parts.{lost_of, saturated}
 use Rattle.vc_plan.specs.declared.plan.Plan.{Plan}
-use Rattle.vc_core.specs.Replaying.{Replays}
+use Rattle.vc_core.specs.Replay.{Replays}
 use Rattle.vc_core.specs.State.{state_of}
 use Rattle.vc_core.specs.declared.event.Event.{Event}
 use Rattle.vc_core.proofs.network.Network.lost.Given as goal

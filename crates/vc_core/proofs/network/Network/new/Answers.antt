@@ -2,7 +2,7 @@ use Rattle.std.proofs.Common.{sym, ◌∙◌, subst}
 use Rattle.std.proofs.lemmas.Nat.Bits.{bit_at_ones}
 use Rattle.vc_plan.specs.Accepted.{IsAccepted}
 use Rattle.vc_actor.specs.Begin.{AreFirst}
-use Rattle.vc_core.specs.Replaying.{IsOpening}
+use Rattle.vc_core.specs.Replay.{IsOpening}
 use Rattle.vc_core.specs.State.{State}
 use Rattle.vc_actor.specs.Turns.{actors}
 use Rattle.vc_core.proofs.Replayed.{opened}

@@ -1,6 +1,6 @@
 use Rattle.std.proofs.Common.{◌≡◌, ◌<◌, ◌≤◌, length, slice_get, Some, IfSome, refl, ◌∙◌, subst}
 use Rattle.std.proofs.lemmas.Option.{slice_get_read, slice_get_past}
-use Rattle.vc_actor.specs.Acting.{MayAct}
+use Rattle.vc_actor.specs.Acts.{MayAct}
 use Rattle.vc_core.specs.State.{state_of}
 use Rattle.vc_actor.specs.Turns.{FindsTurn, RoomLets}
 use Rattle.vc_core.proofs.Staying.{unchanged}

@@ -3,10 +3,10 @@ use Rattle.std.proofs.lemmas.List.{length-map}
 use Rattle.std.proofs.lemmas.Nat.Bits.{bit_at_ones}
 use Rattle.vc_plan.specs.Accepted.{IsAccepted}
 use Rattle.vc_plan.specs.declared.plan.Plan.{Plan}
-use Rattle.vc_tokens.specs.Spelt.{tokens as all_spelt}
+use Rattle.vc_tokens.specs.CodeTokens.{tokens as all_spelt}
 use Rattle.vc_core.specs.Channels.{AreChannelsOf}
 use Rattle.vc_core.specs.State.{State}
-use Rattle.vc_core.specs.Wired.{AreWaysAt}
+use Rattle.vc_core.specs.Wiring.{AreWaysAt}
 use Rattle.vc_core.proofs.Laying.{made_of}
 use Rattle.vc_core.proofs.network.Network.of_parts.Goals as goal
 

@@ -1,6 +1,6 @@
 use Rattle.std.proofs.Common.{◌≡◌, ℕ, List, [], sym, ap, subst}
 use Rattle.vc_machine.specs.Paths.{Port, AtSwitch}
-use Rattle.vc_machine.specs.Seen.{passed_on}
+use Rattle.vc_machine.specs.PacketsOfTokens.{passed_on}
 use Rattle.vc_network.specs.Plan.{net_of}
 use Rattle.vc_network.specs.Views.{vcps, switches, arrived}
 use Rattle.vc_switch.specs.Switch.{Switch}

@@ -2,7 +2,7 @@ use Rattle.std.proofs.Common.{◌≡◌, ◌<◌, None, length, subst, inl, inr,
 use Rattle.std.proofs.lemmas.Bool.{cases_lt}
 use Rattle.vc_accepted.specs.NetworkOf.{network_of}
 use Rattle.vc_network.specs.Plan.{ways}
-use Rattle.vc_core.specs.Private.Placed.{FindsOn}
+use Rattle.vc_core.specs.Private.PacketPlace.{FindsOn}
 use Rattle.vc_core.specs.State.{state_of, shown}
 use Rattle.vc_core.proofs.Standing.{found_held, found_way, found_nowhere, is_channel}
 use Rattle.vc_actor.proofs.Turning.{clash}

@@ -3,7 +3,7 @@ use Rattle.vc_network.specs.Plan.{home}
 use Rattle.vc_core.specs.Channels.{ends_at}
 use Rattle.vc_plan.specs.declared.plan.Plan.{Plan}
 use Rattle.vc_accepted.specs.NetworkOf.{network_of}
-use Rattle.vc_core.specs.Private.Placed.{AreOwned, FindsOn}
+use Rattle.vc_core.specs.Private.PacketPlace.{AreOwned, FindsOn}
 use Rattle.vc_core.specs.State.{state_of, shown, IsNetworkOf}
 use Rattle.vc_core.proofs.network.Network.place_by.Given as goal
 

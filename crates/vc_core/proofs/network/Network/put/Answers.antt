@@ -1,9 +1,9 @@
 use Rattle.std.proofs.Common.{◌≡◌, ◌<◌, [], ◌∷◌, ◌++◌, length, slice_get, slice_set, Some, inl, inr, refl, sym, ◌∙◌, subst}
 use Rattle.std.proofs.lemmas.Option.{slice_get_read, slice_get_within}
-use Rattle.vc_actor.specs.Acting.{MayAct}
-use Rattle.vc_core.specs.Lined.{Lined}
-use Rattle.vc_core.specs.Private.Lined.{with_way}
-use Rattle.vc_core.specs.Wired.{Comes}
+use Rattle.vc_actor.specs.Acts.{MayAct}
+use Rattle.vc_core.specs.Lines.{Lined}
+use Rattle.vc_core.specs.Private.Lines.{with_way}
+use Rattle.vc_core.specs.Wiring.{Comes}
 use Rattle.vc_core.specs.State.{state_of, HasWay}
 use Rattle.vc_actor.specs.declared.act.Act.TheVariants as act
 use Rattle.vc_core.proofs.Happening.{placed, written_back}

@@ -1,10 +1,10 @@
 use Rattle.std.proofs.Common.{◌≡◌, ◌<◌, [], ◌∷◌, ◌++◌, length, slice_get, slice_set, Some, inl, inr, refl, sym, subst}
 use Rattle.std.proofs.lemmas.Bool.{cases_lt, false≢true}
 use Rattle.std.proofs.lemmas.Option.{slice_get_past, slice_get_read}
-use Rattle.vc_tokens.specs.Spelt.{token as spelt}
-use Rattle.vc_core.specs.Lined.{Lined}
+use Rattle.vc_tokens.specs.CodeTokens.{token as spelt}
+use Rattle.vc_core.specs.Lines.{Lined}
 use Rattle.vc_core.specs.State.{state_of}
-use Rattle.vc_core.specs.Wired.{Comes}
+use Rattle.vc_core.specs.Wiring.{Comes}
 use Rattle.vc_actor.specs.declared.act.Act.TheVariants as act
 use Rattle.vc_core.proofs.Awake.{still_awake, taken_came, taken_none}
 use Rattle.vc_core.proofs.Enabled.{comes_to}

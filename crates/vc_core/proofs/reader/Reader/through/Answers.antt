@@ -1,8 +1,8 @@
 use Rattle.std.proofs.Common.{◌≡◌, ◌+◌, ◌++◌, [], ◌∷◌, take, get_or, sym, ap, ◌∙◌, subst, arith, add-one}
 use Rattle.std.proofs.lemmas.List.{map-append}
 use Rattle.std.proofs.lemmas.Option.{slice_get-get_or}
-use Rattle.vc_machine.specs.Seen.{read}
-use Rattle.vc_tokens.specs.Spelt.{token, tokens}
+use Rattle.vc_machine.specs.PacketsOfTokens.{read}
+use Rattle.vc_tokens.specs.CodeTokens.{token, tokens}
 use Rattle.vc_tokens.specs.declared.token.Token.{Token}
 use Rattle.vc_tokens.specs.declared.token.Token.TheVariants.{Byte}
 use Rattle.vc_core.specs.Private.Targets.{HasRead, left}

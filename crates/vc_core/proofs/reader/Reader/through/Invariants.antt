@@ -1,8 +1,8 @@
 use Rattle.std.specs.Prelude.{◌++◌, ℕ, List}
 use Rattle.std.proofs.Common.{take}
-use Rattle.vc_machine.specs.Seen.{read}
+use Rattle.vc_machine.specs.PacketsOfTokens.{read}
 use Rattle.vc_packets.specs.declared.packet.Packet.{Packet}
-use Rattle.vc_tokens.specs.Spelt.{tokens}
+use Rattle.vc_tokens.specs.CodeTokens.{tokens}
 use Rattle.vc_core.specs.Private.Targets.{HasRead, left}
 use Rattle.vc_core.specs.State.{state_of, IsNetworkOf}
 use Rattle.vc_plan.specs.declared.plan.Plan.{Plan}

@@ -1,6 +1,6 @@
 use Rattle.std.proofs.Common.{◌++◌, [], ◌∷◌, sym, subst, append-nil}
-use Rattle.vc_machine.specs.Seen.{read}
-use Rattle.vc_tokens.specs.Spelt.{token}
+use Rattle.vc_machine.specs.PacketsOfTokens.{read}
+use Rattle.vc_tokens.specs.CodeTokens.{token}
 use Rattle.vc_core.specs.Private.Targets.{HasRead, left}
 use Rattle.vc_core.specs.declared.reader.Reader.{Reader}
 use Rattle.vc_core.proofs.reader.Reader.with.Goals as goal

@@ -1,7 +1,7 @@
 use Rattle.std.proofs.Common.{◌≡◌, List, [], ◌∷◌, ◌++◌, ap, ◌∙◌}
 use Rattle.std.proofs.lemmas.List.{map-append}
 use Rattle.vc_tokens.specs.Tokens.{Token}
-use Rattle.vc_tokens.specs.Spelt.{token, tokens}
+use Rattle.vc_tokens.specs.CodeTokens.{token, tokens}
 use Rattle.vc_tokens.specs.declared.token.Token.{Token as Code}
 use Rattle.vc_core.proofs.way.Way.put.Goals as goal
 

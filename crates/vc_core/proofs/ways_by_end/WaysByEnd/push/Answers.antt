@@ -1,6 +1,6 @@
 use Rattle.std.proofs.Common.{◌≡◌, ◌<◌, [], ◌∷◌, ◌++◌, Some, length, slice_get, slice_set, refl, sym, ap, ◌∙◌, subst}
 use Rattle.std.proofs.lemmas.Option.{slice_get_read}
-use Rattle.vc_tokens.specs.Spelt.{token as spelt}
+use Rattle.vc_tokens.specs.CodeTokens.{token as spelt}
 use Rattle.vc_core.specs.Private.ByEnd.{with_line, ways_at}
 use Rattle.vc_core.proofs.ByEnd.{on_ok, place_there, same_line, with_tokens}
 use Rattle.vc_core.proofs.ways_by_end.WaysByEnd.push.Goals as goal

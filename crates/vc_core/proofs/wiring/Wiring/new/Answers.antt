@@ -1,5 +1,5 @@
 use Rattle.std.proofs.Common.{◌<◌, length, map, sym, ap, ◌∙◌, subst}
-use Rattle.vc_core.specs.Private.Wired.{AreEnds, AreFar, AreRooms, far_end_of}
+use Rattle.vc_core.specs.Private.Wiring.{AreEnds, AreFar, AreRooms, far_end_of}
 use Rattle.vc_core.proofs.Enabled.{has}
 use Rattle.vc_core.proofs.ByEnd.{are_far}
 use Rattle.vc_core.proofs.Leading.{are_ends, ends_count, one_link}

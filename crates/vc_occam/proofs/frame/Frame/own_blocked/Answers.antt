@@ -3,7 +3,7 @@ use Rattle.vc_occam.specs.declared.frame.Construct.{Construct}
 use Rattle.vc_occam.specs.declared.frame.Construct.TheVariants as run
 use Rattle.vc_occam.specs.declared.frame.Frame.{Frame}
 use Rattle.vc_occam.specs.declared.frame.Frame.TheViews.{out-Frame}
-use Rattle.vc_occam.specs.Blocking.{blocked}
+use Rattle.vc_occam.specs.BlockedParts.{blocked}
 use Rattle.vc_occam.specs.Frames.{is_at_itself}
 use Rattle.vc_occam.specs.Private.Frames.{is_open_alt, seen_guard, shape}
 use Rattle.vc_occam.specs.Remains.{Rest}

@@ -3,8 +3,8 @@ use Rattle.std.specs.List.{Contains}
 use Rattle.vc_occam.specs.declared.moves.Move.{Move}
 use Rattle.vc_occam.specs.First.{own, first_moves}
 use Rattle.vc_occam.specs.Frames.{remains}
-use Rattle.vc_occam.specs.Private.Moving.{CanBegin, HasMet, at}
-use Rattle.vc_occam.specs.Moving.{site_of, without}
+use Rattle.vc_occam.specs.Private.MoveSites.{CanBegin, HasMet, at}
+use Rattle.vc_occam.specs.MoveSites.{site_of, without}
 use Rattle.vc_occam.specs.Runnings.{state, inner_channels}
 use Rattle.vc_occam.specs.States.{Acts, FitsMove, doing, sent_by}
 use Rattle.vc_process.specs.Terms.{store}

@@ -5,7 +5,7 @@ use Rattle.vc_process.specs.declared.datum.Datum.{Datum}
 use Rattle.vc_occam.specs.declared.moves.Move.{Move}
 use Rattle.vc_occam.specs.First.{joined, own}
 use Rattle.vc_occam.specs.Frames.{remains}
-use Rattle.vc_occam.specs.Moving.{from_site}
+use Rattle.vc_occam.specs.MoveSites.{from_site}
 use Rattle.vc_occam.specs.Runnings.{state, inner_channels}
 use Rattle.vc_process.specs.Terms.{store}
 use Rattle.vc_process.specs.Usage.{among}

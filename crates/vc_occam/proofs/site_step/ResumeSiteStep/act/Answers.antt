@@ -3,7 +3,7 @@ use Rattle.vc_occam.specs.declared.frame.Frame.TheViews.{out-Frame, roll-Frame}
 use Rattle.vc_occam.specs.declared.outcome.Outcome.TheVariants.{Ended}
 use Rattle.vc_occam.specs.Frames.{view}
 use Rattle.vc_occam.specs.Private.Frames.{CanGo, Went}
-use Rattle.vc_occam.specs.Private.Moving.{action_on}
+use Rattle.vc_occam.specs.Private.MoveSites.{action_on}
 use Rattle.vc_occam.specs.Private.SiteSteps.{one, step_at}
 use Rattle.vc_occam.specs.SiteActions as action
 use Rattle.vc_packets.specs.declared.bytes.Bytes.{Bytes}

@@ -1,5 +1,5 @@
 use Rattle.std.proofs.Common.{◌≡◌, ◌∙◌, ◌&&◌, Bool, true, map, sym, ap, refl}
-use Rattle.vc_process.specs.Private.Asking.{asking, everywhere}
+use Rattle.vc_process.specs.Private.Questions.{asking, everywhere}
 use Rattle.vc_process.specs.declared.process.Process.TheOpen as layer
 use Rattle.vc_process.specs.InOrder.{number}
 use Rattle.vc_process.specs.Private.InOrder.{number_branch, number_guard}

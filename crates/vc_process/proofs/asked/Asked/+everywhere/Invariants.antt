@@ -1,4 +1,4 @@
-use Rattle.vc_process.specs.Private.Asking.{asking}
+use Rattle.vc_process.specs.Private.Questions.{asking}
 use Rattle.vc_process.specs.InOrder.{number}
 use Rattle.vc_process.specs.Private.InOrder.{number_branch, number_guard}
 use Rattle.vc_process.proofs.Everywhere.{all_parts, all_branches, all_guards}

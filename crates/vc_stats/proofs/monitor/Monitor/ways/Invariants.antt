@@ -1,9 +1,9 @@
 use Rattle.std.proofs.Common.{◌≡◌, List, map}
 use Rattle.std.specs.List.{range_with_len}
-use Rattle.vc_core.specs.Enabled.{NetworkState}
+use Rattle.vc_core.specs.PossibleEvents.{NetworkState}
 use Rattle.vc_core.specs.declared.event.Event.{Event}
 use Rattle.vc_stats.specs.Monitor.{IsMonitorOf}
-use Rattle.vc_stats.specs.Visited.{way_figures}
+use Rattle.vc_stats.specs.StateFigures.{way_figures}
 use Rattle.vc_stats.proofs.monitor.Monitor.ways.Given as goal
 
 abbrev pub invariant-loop-way : goal.invariant-loop-way

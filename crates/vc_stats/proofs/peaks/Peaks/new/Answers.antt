@@ -1,5 +1,5 @@
 use Rattle.std.proofs.Common.{◌≡◌, ◌*◌, ◌∙◌, ap, length, arith}
-use Rattle.vc_core.specs.Enabled.{NetworkState}
+use Rattle.vc_core.specs.PossibleEvents.{NetworkState}
 use Rattle.vc_stats.proofs.peaks.Peaks.new.Goals as goal
 
 pub returns : goal.returns

@@ -1,6 +1,6 @@
 use Rattle.std.proofs.Common.{subst, sym, take}
 use Rattle.std.proofs.lemmas.List.{take_more}
-use Rattle.vc_stats.specs.Counting.{Counts}
+use Rattle.vc_stats.specs.Counts.{Counts}
 use Rattle.vc_stats.proofs.stats.Stats.of.Goals as goal
 
 pub loop-event-preserved : goal.loop-event-preserved

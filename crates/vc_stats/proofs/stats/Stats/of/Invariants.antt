@@ -1,5 +1,5 @@
 use Rattle.std.proofs.Common.{take}
-use Rattle.vc_stats.specs.Counting.{Counts}
+use Rattle.vc_stats.specs.Counts.{Counts}
 use Rattle.vc_stats.proofs.stats.Stats.of.Given as goal
 
 abbrev pub invariant-loop-event : goal.invariant-loop-event

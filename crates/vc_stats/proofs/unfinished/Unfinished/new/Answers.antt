@@ -1,7 +1,7 @@
 use Rattle.std.proofs.Common.{ap, ◌∙◌}
 use Rattle.vc_accepted.specs.Begin.{begin_of}
 use Rattle.vc_accepted.specs.NetworkOf.{network_of}
-use Rattle.vc_stats.specs.Visited.{is_unfinished}
+use Rattle.vc_stats.specs.StateFigures.{is_unfinished}
 use Rattle.vc_stats.proofs.Busy.{idle_of}
 use Rattle.vc_stats.proofs.Opening.{closed}
 use Rattle.vc_stats.proofs.unfinished.Unfinished.new.Goals as goal

@@ -1,6 +1,6 @@
 use Rattle.std.proofs.Common.{sym, subst}
-use Rattle.vc_switch.specs.Private.Requested.{AreRouted}
-use Rattle.vc_switch.specs.Seen.{seen}
+use Rattle.vc_switch.specs.Private.Requests.{AreRouted}
+use Rattle.vc_switch.specs.SwitchView.{seen}
 use Rattle.vc_switch.proofs.Requested.{granted_same, asked_same}
 use Rattle.vc_switch.proofs.Readying.{ready_else, grants_else}
 use Rattle.vc_switch.proofs.ready_switch.ReadySwitch.grant.Goals as goal

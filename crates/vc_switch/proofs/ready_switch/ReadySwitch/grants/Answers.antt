@@ -1,7 +1,7 @@
 use Rattle.std.proofs.Common.{◌≡◌, ◌↔◌, ◌<◌, ℕ, subst}
 use Rattle.std.specs.Int.{bit_at}
 use Rattle.vc_switch.specs.Able.{CanGrant}
-use Rattle.vc_switch.specs.Seen.{seen}
+use Rattle.vc_switch.specs.SwitchView.{seen}
 use Rattle.vc_switch.proofs.ready_switch.ReadySwitch.grants.Goals as goal
 
 pub returns : goal.returns

@@ -1,7 +1,7 @@
 use Rattle.std.proofs.Common.{◌≡◌, true, sym, ◌∙◌, subst}
 use Rattle.vc_switch.specs.Able.{CanPass}
-use Rattle.vc_switch.specs.Private.Requested.{AreRouted}
-use Rattle.vc_switch.specs.Seen.{seen}
+use Rattle.vc_switch.specs.Private.Requests.{AreRouted}
+use Rattle.vc_switch.specs.SwitchView.{seen}
 use Rattle.vc_switch.specs.State.{plan_of, limit_of}
 use Rattle.vc_switch.specs.Switch.{Passes}
 use Rattle.vc_switch.proofs.Requested.{asked_else, asked_idle, asked_still, routed_told}

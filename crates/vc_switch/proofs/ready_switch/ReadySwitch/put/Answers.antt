@@ -1,4 +1,4 @@
-use Rattle.vc_switch.specs.Seen.{seen}
+use Rattle.vc_switch.specs.SwitchView.{seen}
 use Rattle.vc_switch.specs.State.{plan_of}
 use Rattle.vc_switch.proofs.Requested.{sent_same, asked_same, asked_marked}
 use Rattle.vc_switch.proofs.Readying.{ready_sent, sent_inputs, sent_mark, ready_marked}

@@ -1,5 +1,5 @@
 use Rattle.std.proofs.Common.{◌↔◌, ◌<◌, IsTrue, get_or, subst, arith}
-use Rattle.vc_switch.specs.Private.Requested.{HasMore}
+use Rattle.vc_switch.specs.Private.Requests.{HasMore}
 use Rattle.vc_switch.proofs.Masks.{gone_more, told_of}
 use Rattle.vc_switch.proofs.requests.Requests.asking.Goals as goal
 

@@ -1,6 +1,6 @@
 use Rattle.std.specs.Prelude.{◌≡◌, ◌↔◌, ℕ, ◌<◌, get_or}
 use Rattle.std.specs.Int.{bit_at}
-use Rattle.vc_switch.specs.Private.Requested.{HasMore}
+use Rattle.vc_switch.specs.Private.Requests.{HasMore}
 use Rattle.vc_switch.proofs.requests.Requests.asking.Given as goal
 
 abbrev pub invariant-loop : goal.invariant-loop

@@ -2,7 +2,7 @@ use Rattle.std.proofs.Common.{◌<◌, sym, ap, subst, slice_set, arith}
 use Rattle.std.proofs.lemmas.Option.{slice_get_read}
 use Rattle.vc_switch.specs.Switch.{SendsFct}
 use Rattle.vc_switch.specs.State.{State, plan_of, limit_of, output_of}
-use Rattle.vc_switch.specs.Seen.{IsKept}
+use Rattle.vc_switch.specs.SwitchView.{IsKept}
 use Rattle.vc_switch.proofs.Placed.{at_link}
 use Rattle.vc_switch.proofs.Showing.{told}
 use Rattle.vc_switch.proofs.Keeping.{link_in, switch_in, kept_limit}

@@ -1,6 +1,6 @@
 use Rattle.std.proofs.Common.{◌∙◌, sym, ap}
 use Rattle.vc_switch.specs.Switch.{new_input}
-use Rattle.vc_switch.specs.Seen.{input_of}
+use Rattle.vc_switch.specs.SwitchView.{input_of}
 use Rattle.vc_switch.specs.State.{State}
 use Rattle.vc_packets.specs.Functions.{shown_or}
 use Rattle.vc_switch.proofs.Placed.{got, got_none}

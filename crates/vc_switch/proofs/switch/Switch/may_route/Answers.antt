@@ -1,5 +1,5 @@
 use Rattle.vc_switch.specs.State.{plan_of}
-use Rattle.vc_switch.specs.Seen.{seen}
+use Rattle.vc_switch.specs.SwitchView.{seen}
 use Rattle.vc_switch.proofs.Routing.{in_group_free, out_of_group, no_group}
 use Rattle.vc_switch.proofs.switch.Switch.may_route.Goals as goal
 

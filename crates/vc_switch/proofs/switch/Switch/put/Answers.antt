@@ -1,5 +1,5 @@
 use Rattle.std.proofs.Common.{◌+◌, subst, Some, None}
-use Rattle.vc_switch.specs.Seen.{seen}
+use Rattle.vc_switch.specs.SwitchView.{seen}
 use Rattle.vc_switch.proofs.Placed.{at_some}
 use Rattle.vc_switch.proofs.Putting.{free_puts, bound_there, next_within}
 use Rattle.vc_switch.specs.State.{State, IsSwitch, plan_of}

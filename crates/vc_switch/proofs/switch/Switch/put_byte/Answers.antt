@@ -1,8 +1,8 @@
 use Rattle.std.proofs.Common.{◌≡◌, ◌<◌, sym, ap, ◌∙◌, subst, arith, slice_get, slice_set, length, vec_len, rules, Some, ◌+◌}
 use Rattle.std.proofs.lemmas.Option.{slice_get_read, slice_get_within}
 use Rattle.vc_switch.specs.State.{State, IsSwitch, plan_of, output_of, source_at}
-use Rattle.vc_switch.specs.Seen.{seen}
-use Rattle.vc_switch.specs.Private.Seen.{IsBoundTo}
+use Rattle.vc_switch.specs.SwitchView.{seen}
+use Rattle.vc_switch.specs.Private.SwitchView.{IsBoundTo}
 use Rattle.vc_tokens.specs.Tokens.{Byte}
 use Rattle.vc_switch.specs.Able.{CanPut}
 use Rattle.vc_switch.specs.Waiting.{Wormhole}

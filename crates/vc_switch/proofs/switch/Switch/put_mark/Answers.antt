@@ -1,9 +1,9 @@
 use Rattle.std.proofs.Common.{◌≡◌, ◌<◌, sym, ap, ◌∙◌, subst, arith, true, false, slice_get, slice_set, length, Some, None, ◌+◌}
 use Rattle.std.proofs.lemmas.Option.{slice_get_read}
-use Rattle.vc_tokens.specs.Spelt.{token}
+use Rattle.vc_tokens.specs.CodeTokens.{token}
 use Rattle.vc_switch.specs.State.{State, IsSwitch, plan_of, source_at}
-use Rattle.vc_switch.specs.Seen.{seen, IsKept}
-use Rattle.vc_switch.specs.Private.Seen.{IsBoundTo}
+use Rattle.vc_switch.specs.SwitchView.{seen, IsKept}
+use Rattle.vc_switch.specs.Private.SwitchView.{IsBoundTo}
 use Rattle.vc_switch.specs.Able.{CanPut}
 use Rattle.vc_switch.specs.Waiting.{Wormhole}
 use Rattle.vc_switch.specs.Switch.{Sends}

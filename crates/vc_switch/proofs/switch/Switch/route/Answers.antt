@@ -2,7 +2,7 @@ use Rattle.std.proofs.Common.{◌≡◌, ◌<◌, ◌≤◌, sym, ap, ◌∙◌,
 use Rattle.std.proofs.lemmas.Option.{slice_get_read}
 use Rattle.vc_switch.specs.State.{State, IsSwitch, plan_of}
 use Rattle.vc_packets.specs.Functions.{shown_or}
-use Rattle.vc_switch.specs.Seen.{seen, IsKept}
+use Rattle.vc_switch.specs.SwitchView.{seen, IsKept}
 use Rattle.vc_switch.proofs.Placed.{same_read, at_link}
 use Rattle.vc_switch.specs.Able.{CanRoute}
 use Rattle.vc_switch.specs.Waiting.{Wormhole}

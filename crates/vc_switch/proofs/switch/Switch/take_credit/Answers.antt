@@ -2,7 +2,7 @@ use Rattle.std.proofs.Common.{◌≡◌, ◌<◌, sym, ap, subst, arith, true}
 use Rattle.std.proofs.lemmas.Option.{slice_get_read}
 use Rattle.vc_switch.specs.Switch.{Comes}
 use Rattle.vc_switch.specs.State.{State, plan_of, limit_of, output_of}
-use Rattle.vc_switch.specs.Seen.{seen}
+use Rattle.vc_switch.specs.SwitchView.{seen}
 use Rattle.vc_switch.proofs.Showing.{told}
 use Rattle.vc_tokens.specs.Tokens.{Fct}
 use Rattle.vc_switch.proofs.Keeping.{link_in, switch_two}

@@ -1,5 +1,5 @@
 use Rattle.std.proofs.Common.{[], ◌∷◌, ◌++◌, sym, ap, subst, ◌∙◌}
-use Rattle.vc_text.specs.Kept.{Fit, events_of, act_of}
+use Rattle.vc_text.specs.EventLog.{Fit, events_of, act_of}
 use Rattle.vc_text.specs.declared.entry.Entry.{Entry}
 use Rattle.vc_text.proofs.Entering.{fits_brief, brief_more}
 use Rattle.vc_text.proofs.event_log.EventLog.enter.Goals as goal

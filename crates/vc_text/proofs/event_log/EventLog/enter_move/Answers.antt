@@ -1,6 +1,6 @@
 use Rattle.std.proofs.Common.{[], ◌∷◌, ◌++◌, sym, ap, subst, ◌∙◌}
 use Rattle.vc_actor.specs.declared.act.Act.TheVariants.{Proc}
-use Rattle.vc_text.specs.Kept.{Fit, events_of}
+use Rattle.vc_text.specs.EventLog.{Fit, events_of}
 use Rattle.vc_text.specs.declared.entry.Brief.TheVariants as brief
 use Rattle.vc_text.specs.declared.entry.Entry.{Entry}
 use Rattle.vc_text.proofs.Entering.{fits_move, move_more}

@@ -1,5 +1,5 @@
 use Rattle.std.proofs.Common.{◌≡◌, [], refl, sym, subst, ◌∙◌}
-use Rattle.vc_text.specs.Kept.{events_of}
+use Rattle.vc_text.specs.EventLog.{events_of}
 use Rattle.vc_text.proofs.Entering.{none_of_none}
 use Rattle.vc_text.proofs.event_log.EventLog.is_empty.Goals as goal
 

@@ -1,5 +1,5 @@
 use Rattle.std.proofs.Common.{◌≡◌, ◌++◌, drop}
-use Rattle.vc_text.specs.Kept.{events_of}
+use Rattle.vc_text.specs.EventLog.{events_of}
 use Rattle.vc_text.proofs.event_log.EventLog.to_vec.Given as goal
 
 abbrev pub invariant-loop-entry : goal.invariant-loop-entry

@@ -1,7 +1,7 @@
 use Rattle.std.proofs.Common.{◌≡◌, refl, subst, sym}
 use Rattle.vc_core.specs.State.{state_of, MakesOne}
 use Rattle.vc_core.specs.Turns.{FindsEventOf}
-use Rattle.vc_core.specs.Replaying.{Reached}
+use Rattle.vc_core.specs.Replay.{Reached}
 use Rattle.vc_text.proofs.Drawing.{given_still}
 use Rattle.vc_text.proofs.Quieting.{acts_quiet, same_quiet}
 use Rattle.vc_text.proofs.Simulated.{one_more}

@@ -1,7 +1,7 @@
 use Rattle.std.proofs.Common.{◌≡◌, ap, ◌∙◌, sym, subst, inl, inr, arith}
 use Rattle.vc_core.specs.State.{shown, state_of, IsNetworkOf}
 use Rattle.vc_core.specs.Private.Turns.{GoesOn, IsAtRest}
-use Rattle.vc_text.specs.Closing.{Closes}
+use Rattle.vc_text.specs.Close.{Closes}
 use Rattle.vc_text.specs.declared.simulation.Simulation.{Simulation}
 use Rattle.vc_text.proofs.simulation.Simulation.close.Goals.{else-self-limit-via-then-self-limit+in_ok-goes_on+else-branch, else-self-limit-via-else-self-limit}
 use Rattle.vc_text.proofs.simulation.Simulation.close.Goals as goal

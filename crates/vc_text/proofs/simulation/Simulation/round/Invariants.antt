@@ -5,7 +5,7 @@ use Rattle.vc_core.specs.State.{state_of}
 use Rattle.vc_core.specs.Private.Turns.{Rests}
 use Rattle.vc_actor.specs.Turns.{actors}
 use Rattle.vc_core.specs.declared.event.Event.{Event}
-use Rattle.vc_text.specs.Private.Simulating.{HasRun, HasTaken, LeadsOn}
+use Rattle.vc_text.specs.Private.Simulation.{HasRun, HasTaken, LeadsOn}
 use Rattle.vc_text.proofs.simulation.Simulation.round.Given as goal
 
 abbrev pub invariant-loop-actor : goal.invariant-loop-actor

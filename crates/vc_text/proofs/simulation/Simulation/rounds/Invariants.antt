@@ -1,5 +1,5 @@
 use Rattle.std.proofs.Common.{◌≤◌, ◌-◌}
-use Rattle.vc_text.specs.Private.Simulating.{LeadsOn}
+use Rattle.vc_text.specs.Private.Simulation.{LeadsOn}
 use Rattle.vc_text.proofs.simulation.Simulation.rounds.Given as goal
 
 abbrev pub invariant-loop : goal.invariant-loop

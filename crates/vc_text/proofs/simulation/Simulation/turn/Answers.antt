@@ -2,7 +2,7 @@ use Rattle.std.proofs.Common.{◌≡◌, Bool, true, false, Result, Ok, refl, su
 use Rattle.vc_core.specs.Private.Turns.{Rests}
 use Rattle.vc_core.specs.State.{state_of, MakesOne}
 use Rattle.vc_core.specs.Turns.{FindsEvent}
-use Rattle.vc_core.specs.Replaying.{Reached}
+use Rattle.vc_core.specs.Replay.{Reached}
 use Rattle.vc_core.proofs.Awake.{rests_here}
 use Rattle.vc_text.proofs.Drawing.{given_still}
 use Rattle.vc_text.proofs.Quieting.{acts_quiet, one_quiet, same_quiet}

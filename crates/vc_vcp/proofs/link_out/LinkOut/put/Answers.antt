@@ -1,5 +1,5 @@
 use Rattle.std.proofs.Common.{◌≡◌, sym, subst, rules, slice_get, Some, None}
-use Rattle.vc_tokens.specs.Spelt.{token}
+use Rattle.vc_tokens.specs.CodeTokens.{token}
 use Rattle.vc_vcp.specs.Private.LinkOut.{PutsFront}
 use Rattle.vc_vcp.proofs.PutLemmas.{byte_at, mark_at}
 use Rattle.vc_vcp.proofs.link_out.LinkOut.put.Goals as goal

@@ -1,5 +1,5 @@
 use Rattle.std.proofs.Common.{◌≡◌, ℕ, ◌-◌, Bool, true, false, List, [], ◌∷◌, length, refl, sym, ap, ◌∙◌, IsTrue, ◌↔◌}
-use Rattle.vc_vcp.specs.Seen.{finished_of}
+use Rattle.vc_vcp.specs.VcpView.{finished_of}
 use Rattle.vc_vcp.proofs.output.Output.finished.Goals as goal
 
 -- where something is under way, all are finished but that

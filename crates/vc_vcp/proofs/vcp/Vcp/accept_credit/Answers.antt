@@ -3,8 +3,8 @@ use Rattle.std.proofs.lemmas.Option.{slice_get_read}
 use Rattle.vc_tokens.specs.Tokens.{Fct}
 use Rattle.vc_vcp.specs.Links.{Comes}
 use Rattle.vc_vcp.specs.State.{State}
-use Rattle.vc_vcp.specs.Seen.{seen, IsKept}
-use Rattle.vc_packets.specs.Counting.{one_more}
+use Rattle.vc_vcp.specs.VcpView.{seen, IsKept}
+use Rattle.vc_packets.specs.Counters.{one_more}
 use Rattle.vc_vcp.proofs.Passing.{at_link, same_there, kept_outs, kept_strays}
 use Rattle.vc_vcp.proofs.Wired.{wired-outs}
 use Rattle.vc_vcp.proofs.Placed.{same_read}

@@ -1,10 +1,10 @@
 use Rattle.std.proofs.Common.{◌≡◌, ◌<◌, sym, ap, subst, arith, true, slice_get, slice_set, Some}
 use Rattle.std.proofs.lemmas.Option.{slice_get_read}
-use Rattle.vc_tokens.specs.Spelt.{token}
+use Rattle.vc_tokens.specs.CodeTokens.{token}
 use Rattle.vc_vcp.specs.Links.{Comes}
 use Rattle.vc_vcp.specs.State.{State}
-use Rattle.vc_vcp.specs.Seen.{seen, IsKept}
-use Rattle.vc_packets.specs.Counting.{one_more}
+use Rattle.vc_vcp.specs.VcpView.{seen, IsKept}
+use Rattle.vc_packets.specs.Counters.{one_more}
 use Rattle.vc_vcp.proofs.Passing.{at_link, same_there, kept_in, kept_strays, wired_coming}
 use Rattle.vc_vcp.proofs.Placed.{same_read}
 use Rattle.vc_vcp.proofs.Showing.{data_due, data_dropped, told}

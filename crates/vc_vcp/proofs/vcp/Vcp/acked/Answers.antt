@@ -1,8 +1,8 @@
 use Rattle.std.proofs.Common.{◌≡◌, ◌<◌, ◌∙◌, [], false, true, None, Some, slice_get, sym, ap, refl, subst, length}
 use Rattle.std.proofs.lemmas.Option.{slice_get_read}
-use Rattle.vc_vcp.specs.Keyed.{named, NamesDiffer}
-use Rattle.vc_vcp.specs.Seen.{seen, link_of, IsKept, taken_of}
-use Rattle.vc_vcp.specs.Private.Seen.{Acks, advance_told}
+use Rattle.vc_vcp.specs.Names.{named, NamesDiffer}
+use Rattle.vc_vcp.specs.VcpView.{seen, link_of, IsKept, taken_of}
+use Rattle.vc_vcp.specs.Private.VcpView.{Acks, advance_told}
 use Rattle.vc_vcp.specs.State.{State, HaveOwnNames, IsOutput}
 use Rattle.vc_vcp.proofs.KeyedLemmas.{named_has}
 use Rattle.vc_vcp.proofs.Passing.{at_place}

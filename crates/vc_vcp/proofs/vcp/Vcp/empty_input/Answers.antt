@@ -1,7 +1,7 @@
 use Rattle.std.proofs.Common.{◌≡◌, ◌<◌, ◌∙◌, false, true, None, Some, slice_get, sym, refl, subst, length}
 use Rattle.std.specs.List.{AllByRecursion}
 use Rattle.std.proofs.lemmas.Option.{slice_get_read}
-use Rattle.vc_vcp.specs.Keyed.{named}
+use Rattle.vc_vcp.specs.Names.{named}
 use Rattle.vc_vcp.specs.State.{HaveOwnNames, IsInput, IsPieceOf}
 use Rattle.vc_vcp.proofs.KeyedLemmas.{named_has}
 use Rattle.vc_vcp.proofs.Straying.{piece_strays, full_none, full_some}

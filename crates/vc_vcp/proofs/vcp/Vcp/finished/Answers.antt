@@ -1,6 +1,6 @@
 use Rattle.std.proofs.Common.{ap, ◌∙◌}
 use Rattle.vc_packets.specs.Functions.{shown_or}
-use Rattle.vc_vcp.specs.Seen.{out_half, no_output}
+use Rattle.vc_vcp.specs.VcpView.{out_half, no_output}
 use Rattle.vc_vcp.proofs.vcp.Vcp.finished.Goals as goal
 
 pub returns-in-Some : goal.returns-in-Some

@@ -2,7 +2,7 @@ use Rattle.std.proofs.Common.{◌<◌, sym, ap, refl, subst, length, slice_set}
 use Rattle.std.proofs.lemmas.Option.{slice_get_read, slice_get_within}
 use Rattle.vc_vcp.specs.Links.{SendsFct}
 use Rattle.vc_credit.specs.Ends.{HasRoom}
-use Rattle.vc_vcp.specs.Seen.{IsKept}
+use Rattle.vc_vcp.specs.VcpView.{IsKept}
 use Rattle.vc_vcp.specs.State.{State}
 use Rattle.vc_vcp.proofs.Passing.{at_link, less_grant, grant_there, kept_in, wired_granting}
 use Rattle.vc_vcp.proofs.Showing.{grants_fct, told}

@@ -1,7 +1,7 @@
 use Rattle.std.proofs.Common.{◌≡◌, ◌<◌, ◌∙◌, None, length, slice_get, refl, sym, ap, subst}
 use Rattle.std.specs.Option.{option_copied}
 use Rattle.std.proofs.lemmas.Option.{slice_get_read}
-use Rattle.vc_vcp.specs.Keyed.{named, NamesDiffer}
+use Rattle.vc_vcp.specs.Names.{named, NamesDiffer}
 use Rattle.vc_vcp.specs.State.{State, IsInput}
 use Rattle.vc_vcp.proofs.Wired.{all-at}
 use Rattle.vc_vcp.proofs.vcp.Vcp.input.Goals as goal

@@ -1,6 +1,6 @@
 use Rattle.std.proofs.Common.{◌≡◌, subst, sym, ◌∙◌}
 use Rattle.vc_vcp.specs.State.{IsWired}
-use Rattle.vc_vcp.specs.Seen.{seen, ends_of}
+use Rattle.vc_vcp.specs.VcpView.{seen, ends_of}
 use Rattle.vc_vcp.proofs.Opened.{begun, begun_wired, begun_seen, begun_ends}
 use Rattle.vc_vcp.proofs.vcp.Vcp.new.Goals as goal
 

@@ -1,7 +1,7 @@
 use Rattle.std.proofs.Common.{◌<◌, ◌≤◌, ◌∙◌, sym, subst, slice_set, IfSome}
 use Rattle.std.proofs.lemmas.Option.{slice_get_read}
 use Rattle.vc_vcp.specs.Links.{LeavesWhole}
-use Rattle.vc_vcp.specs.Seen.{seen, IsKept}
+use Rattle.vc_vcp.specs.VcpView.{seen, IsKept}
 use Rattle.vc_vcp.specs.State.{State}
 use Rattle.vc_vcp.proofs.Beyond.{out_past}
 use Rattle.vc_vcp.proofs.LeavingWhole.{none_whole, same_outs, told_can, whole_if, whole_iff}

@@ -2,8 +2,8 @@ use Rattle.std.proofs.Common.{◌≡◌, ◌<◌, refl, sym, ◌∙◌, subst, a
 use Rattle.std.proofs.lemmas.Option.{slice_get_read}
 use Rattle.vc_vcp.specs.State.{State, IsOutput}
 use Rattle.vc_vcp.proofs.Wired.{wired-output, all-at}
-use Rattle.vc_vcp.specs.Keyed.{named, NamesDiffer}
-use Rattle.vc_vcp.specs.Seen.{seen, ends_of, carrier_of, IsKept}
+use Rattle.vc_vcp.specs.Names.{named, NamesDiffer}
+use Rattle.vc_vcp.specs.VcpView.{seen, ends_of, carrier_of, IsKept}
 use Rattle.vc_vcp.specs.Steps.{Offers}
 use Rattle.vc_vcp.proofs.KeyedLemmas.{named_has}
 use Rattle.vc_vcp.proofs.Passing.{at_link, at_place}

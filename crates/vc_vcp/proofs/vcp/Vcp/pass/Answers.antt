@@ -1,10 +1,10 @@
 use Rattle.std.proofs.Common.{rules, ◌<◌, sym, ap, ◌∙◌, refl, subst}
 use Rattle.std.proofs.lemmas.Option.{slice_get_read}
 use Rattle.vc_packets.specs.declared.mark.Mark.TheVariants.{Eop, Eom}
-use Rattle.vc_tokens.specs.Spelt.{token}
+use Rattle.vc_tokens.specs.CodeTokens.{token}
 use Rattle.vc_tokens.specs.Tokens.{Byte, EndMark}
 use Rattle.vc_credit.specs.Ends.{IsFront}
-use Rattle.vc_vcp.specs.Seen.{link_of}
+use Rattle.vc_vcp.specs.VcpView.{link_of}
 use Rattle.vc_vcp.specs.State.{State, IsLinkIn, limit_of}
 use Rattle.vc_vcp.proofs.Passing.{at_link, ins_read, receiver_at, front_seen, never_empty, mark_or_byte, fct_never}
 use Rattle.vc_vcp.proofs.Wired.{all-at}

@@ -1,8 +1,8 @@
 use Rattle.std.proofs.Common.{◌≡◌, ◌<◌, None, true, false, length, sym, ap, subst, arith, slice_set}
 use Rattle.std.proofs.lemmas.Option.{slice_get_read}
-use Rattle.vc_packets.specs.Counting.{one_more}
+use Rattle.vc_packets.specs.Counters.{one_more}
 use Rattle.vc_vcp.specs.Links.{Passes}
-use Rattle.vc_vcp.specs.Seen.{seen, ends_of, link_of, IsKept}
+use Rattle.vc_vcp.specs.VcpView.{seen, ends_of, link_of, IsKept}
 use Rattle.vc_credit.specs.Ends.{IsFront}
 use Rattle.vc_tokens.specs.Tokens.{Byte}
 use Rattle.vc_vcp.specs.State.{State, IsLinkIn, limit_of}

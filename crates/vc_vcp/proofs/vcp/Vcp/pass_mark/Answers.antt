@@ -3,7 +3,7 @@ use Rattle.std.proofs.lemmas.Option.{slice_get_read}
 use Rattle.vc_credit.specs.Ends.{IsFront}
 use Rattle.vc_tokens.specs.Tokens.{EndMark}
 use Rattle.vc_vcp.specs.Links.{Passes}
-use Rattle.vc_vcp.specs.Seen.{seen, ends_of, taken_of, link_of, carrier_of}
+use Rattle.vc_vcp.specs.VcpView.{seen, ends_of, taken_of, link_of, carrier_of}
 use Rattle.vc_vcp.specs.Steps.{Arrives}
 use Rattle.vc_vcp.specs.State.{State, limit_of}
 use Rattle.vc_vcp.proofs.Passing.{mark_passes, front_at, wired_passing}

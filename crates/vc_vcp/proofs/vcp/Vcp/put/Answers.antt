@@ -1,8 +1,8 @@
 use Rattle.std.proofs.Common.{◌<◌, ◌≢◌, [], sym, refl, subst, length, slice_set}
 use Rattle.std.proofs.lemmas.Option.{slice_get_read, slice_get_within}
-use Rattle.vc_tokens.specs.Spelt.{token}
+use Rattle.vc_tokens.specs.CodeTokens.{token}
 use Rattle.vc_vcp.specs.Links.{Sends}
-use Rattle.vc_vcp.specs.Seen.{IsKept}
+use Rattle.vc_vcp.specs.VcpView.{IsKept}
 use Rattle.vc_vcp.specs.State.{State}
 use Rattle.vc_vcp.proofs.Passing.{at_link, less_put, put_there, kept_outs}
 use Rattle.vc_vcp.proofs.Wired.{wired-outs}

@@ -1,8 +1,8 @@
 use Rattle.std.proofs.Common.{◌≡◌, ◌<◌, false, Some, slice_get, slice_set, refl, sym, ap, ◌∙◌, subst, length}
 use Rattle.std.proofs.lemmas.Option.{slice_get_read}
 use Rattle.vc_vcp.specs.declared.input.Input.{Input}
-use Rattle.vc_vcp.specs.Keyed.{named, NamesDiffer}
-use Rattle.vc_vcp.specs.Seen.{seen, ends_of, carrier_of, link_of, IsKept}
+use Rattle.vc_vcp.specs.Names.{named, NamesDiffer}
+use Rattle.vc_vcp.specs.VcpView.{seen, ends_of, carrier_of, link_of, IsKept}
 use Rattle.vc_vcp.specs.Steps.{Stops}
 use Rattle.vc_vcp.specs.State.{State, IsInput}
 use Rattle.vc_vcp.proofs.KeyedLemmas.{named_has}

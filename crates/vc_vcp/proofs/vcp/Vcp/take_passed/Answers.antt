@@ -1,10 +1,10 @@
 use Rattle.std.proofs.Common.{◌≡◌, ◌∙◌, arith, sym, ap, refl, subst, length}
 use Rattle.vc_vcp.specs.Private.Bound.{IsStray, with_inputs}
-use Rattle.vc_vcp.specs.Seen.{ends_of, seen, carrier_of, link_of, IsKept, taken_of}
+use Rattle.vc_vcp.specs.VcpView.{ends_of, seen, carrier_of, link_of, IsKept, taken_of}
 use Rattle.vc_vcp.specs.State.{State, IsAckOf, IsInput}
 use Rattle.vc_vcp.specs.Steps.{Arrives}
 use Rattle.std.specs.List.{AllByRecursion}
-use Rattle.vc_packets.specs.Counting.{one_more}
+use Rattle.vc_packets.specs.Counters.{one_more}
 use Rattle.vc_vcp.proofs.Changing.{written, stays-written, arrives-written}
 use Rattle.vc_vcp.proofs.Passing.{passed_read, at_link, kept_strays}
 use Rattle.vc_vcp.proofs.Placed.{if_ok}

@@ -1,7 +1,7 @@
 -- How the table of outgoing ways is filled: 32 places an actor, and the way's number in the place of its port.
 use Rattle.std.specs.Prelude.{ℕ, ◌+◌, ◌*◌, List, Option, Some, slice_set}
 use Rattle.vc_plan.specs.declared.port.Port.{Port}
-use Rattle.vc_accepted.specs.Outgoing.{actor_of}
+use Rattle.vc_accepted.specs.ActorWays.{actor_of}
 
 -- the way leaves by the port
 abbrev pub left : List (Option ℕ) → ℕ → Port → ℕ → List (Option ℕ)

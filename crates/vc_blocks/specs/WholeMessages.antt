@@ -4,7 +4,7 @@ use Rattle.std.specs.Prelude.{◌≡◌, ℕ, true, false, List, [], ◌∷◌, 
 use Rattle.vc_packets.specs.declared.packet.Packet.{Packet}
 use Rattle.vc_packets.specs.Pieces.{Pieces}
 use Rattle.vc_packets.specs.Spellings.{piece_packet, packets}
-use Rattle.vc_blocks.specs.Arriving.{after_arrival, arrival_of, after_want, want_of}
+use Rattle.vc_blocks.specs.Arrivals.{after_arrival, arrival_of, after_want, want_of}
 use Rattle.vc_blocks.specs.Halves.{Incoming}
 use Rattle.vc_blocks.specs.declared.in_half.Arrival.{Arrival}
 use Rattle.vc_blocks.specs.declared.in_half.Arrival.TheVariants as arrival

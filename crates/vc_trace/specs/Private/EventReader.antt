@@ -5,7 +5,7 @@ use Rattle.vc_plan.specs.declared.plan.Plan.{Plan}
 use Rattle.vc_trace.specs.EventOf.{IsEventOf}
 use Rattle.vc_trace.specs.Private.EventOf.{IsNamed}
 use Rattle.vc_trace.specs.EventText.{event_line}
-use Rattle.vc_trace.specs.Private.Named.{AreNamesOf}
+use Rattle.vc_trace.specs.Private.Names.{AreNamesOf}
 use Rattle.vc_trace.specs.declared.event_reader.EventReader.{EventReader}
 
 -- it reads events of this plan

@@ -9,13 +9,13 @@ use Rattle.vc_network.specs.Network as net
 use Rattle.vc_network.specs.Plan.{Plan, IsOutOf, IsInto}
 use Rattle.vc_switch.specs.State.{State as SwitchState}
 use Rattle.vc_switch.specs.Waiting.{Wormhole}
-use Rattle.vc_vcp.specs.Seen.{seen}
+use Rattle.vc_vcp.specs.VcpView.{seen}
 use Rattle.vc_vcp.specs.State.{MayPut, MayGrant}
 use Rattle.vc_actor.specs.Able.{SwitchCan}
 use Rattle.vc_actor.specs.MayMove.{MayMove}
 use Rattle.vc_actor.specs.OfPlan.{IsActorOf}
 use Rattle.vc_accepted.specs.Process.{does}
-use Rattle.vc_actor.specs.Shown.{Acting, OfNode, OfSwitch, actor_of, act_of}
+use Rattle.vc_actor.specs.ActorView.{Acting, OfNode, OfSwitch, actor_of, act_of}
 use Rattle.vc_actor.specs.declared.act.Act.{Act}
 use Rattle.vc_actor.specs.declared.act.Act.TheVariants.{Proc, Take, Put, Route, Fct, Pass}
 use Rattle.vc_actor.specs.declared.node.Node.{Node}

@@ -7,7 +7,7 @@ use Rattle.vc_network.specs.Views.{Said}
 use Rattle.vc_plan.specs.declared.plan.Plan.{Plan}
 use Rattle.vc_accepted.specs.Begin.{begin_of}
 use Rattle.vc_accepted.specs.Process.{does}
-use Rattle.vc_core.specs.Replaying.{IsOpening, Reached, Replays}
+use Rattle.vc_core.specs.Replay.{IsOpening, Reached, Replays}
 use Rattle.vc_core.specs.State.{State, MakesEvent, shown}
 use Rattle.vc_core.specs.declared.event.Event.{Event}
 

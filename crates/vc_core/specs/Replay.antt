@@ -10,7 +10,7 @@ use Rattle.vc_accepted.specs.NetworkOf.{network_of}
 use Rattle.vc_accepted.specs.OneList.{FollowsEvents}
 use Rattle.vc_switch.specs.Waiting.{Wormhole}
 use Rattle.vc_accepted.specs.Begin.{begin_of}
-use Rattle.vc_core.specs.Enabled.{NetworkState, CanHappen}
+use Rattle.vc_core.specs.PossibleEvents.{NetworkState, CanHappen}
 use Rattle.vc_plan.specs.Accepted.{IsAccepted}
 use Rattle.vc_accepted.specs.Process.{does}
 use Rattle.vc_core.specs.State.{State, shown, event_of, state_of, IsNetworkOf}

@@ -2,18 +2,18 @@
 use Rattle.std.specs.Prelude.{◌≡◌, ℕ, ◌≤◌, List, length, Option, Result, Ok, Err}
 use Rattle.std.specs.Io.KnownBytes.{Appends}
 use Rattle.vc_core.specs.declared.close.Close.{Close}
-use Rattle.vc_core.specs.Enabled.{NetworkState}
-use Rattle.vc_core.specs.Replaying.{RunsTo}
+use Rattle.vc_core.specs.PossibleEvents.{NetworkState}
+use Rattle.vc_core.specs.Replay.{RunsTo}
 use Rattle.vc_core.specs.declared.event.Event.{Event}
-use Rattle.vc_text.specs.Shown.{channels_of}
+use Rattle.vc_text.specs.ChannelStates.{channels_of}
 use Rattle.vc_plan.specs.declared.plan.Plan.{Plan as Network}
 use Rattle.vc_text.specs.declared.fault.RunFault.{RunFault}
 use Rattle.vc_text.specs.declared.fault.RunFault.TheVariants.{Write, Memory}
 use Rattle.vc_text.specs.declared.run.StepReport.{StepReport}
 use Rattle.vc_text.specs.Streams.{AppendsFront}
-use Rattle.vc_text.specs.Checking.{ReadsAccepted}
+use Rattle.vc_text.specs.CheckText.{ReadsAccepted}
 use Rattle.vc_text.specs.OneNode.{ReadsTogether}
-use Rattle.vc_text.specs.Closing.{Closes, OnlyProcessesWait}
+use Rattle.vc_text.specs.Close.{Closes, OnlyProcessesWait}
 use Rattle.vc_text.specs.Takes.{HasWordsOf}
 use Rattle.vc_text.specs.Traffic.{traffic}
 

@@ -1,6 +1,6 @@
 -- Which events of a plan's actors the definitions have a step for.
 use Rattle.vc_accepted.specs.NetworkOf.{network_of}
-use Rattle.vc_network.specs.Enabled.{IsEnabled}
+use Rattle.vc_network.specs.EnabledEvents.{IsEnabled}
 use Rattle.vc_plan.specs.declared.plan.Plan.{Plan}
 use Rattle.vc_switch.specs.Waiting.{Wormhole}
 use Rattle.vc_network.specs.Actors.{Network}

@@ -3,7 +3,7 @@ use Rattle.std.specs.Prelude.{◌≡◌, ℕ, ◌+◌, ◌*◌, nat_lt, List, �
 use Rattle.std.specs.Option.{option_map}
 use Rattle.vc_network.specs.Plan.{back}
 use Rattle.vc_plan.specs.declared.plan.Plan.{Plan}
-use Rattle.vc_accepted.specs.Outgoing.{outgoing}
+use Rattle.vc_accepted.specs.ActorWays.{outgoing}
 use Rattle.vc_tokens.specs.Tokens.{Token}
 
 abbrev pub there : Option (Option ℕ) → Option ℕ

@@ -10,7 +10,7 @@ use Rattle.vc_plan.specs.declared.vlink_length.VlinkLength.{VlinkLength}
 use Rattle.vc_plan.specs.WayLengths.{IsVlinkLength}
 use Rattle.vc_reader.specs.declared.refused.ReadRefused.{ReadRefused}
 use Rattle.vc_reader.specs.declared.refused.ReadRefused.TheVariants as read
-use Rattle.vc_text.specs.Checking.{ReadsAccepted, accepted_text}
+use Rattle.vc_text.specs.CheckText.{ReadsAccepted, accepted_text}
 use Rattle.vc_text.specs.Deadlock.{IsFound, deadlock_text}
 use Rattle.vc_text.specs.FaultLine.{fault_text}
 use Rattle.vc_text.specs.Streams.{AppendsFront, IsAllOf}

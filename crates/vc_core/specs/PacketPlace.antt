@@ -7,7 +7,7 @@ use Rattle.vc_network.specs.Plan.{Plan, near, far, home, is_virtual}
 use Rattle.vc_network.specs.Views.{view, sink_node}
 use Rattle.vc_plan.specs.declared.plan.Plan.{Plan as Given}
 use Rattle.vc_accepted.specs.NetworkOf.{network_of}
-use Rattle.vc_core.specs.Enabled.{NetworkState}
+use Rattle.vc_core.specs.PossibleEvents.{NetworkState}
 use Rattle.vc_core.specs.State.{State, shown}
 use Rattle.vc_core.specs.declared.place.Place.{Place as Name}
 use Rattle.vc_core.specs.declared.place.Place.TheVariants as name

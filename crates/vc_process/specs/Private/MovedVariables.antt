@@ -11,7 +11,7 @@ use Rattle.vc_process.specs.Renaming.{moved_by, renamed_exp, renamed_test}
 use Rattle.vc_process.specs.Private.Renaming.{AreRenamed, AreRenamedBranches, IsRenamedGuard, AreRenamedGuards}
 use Rattle.vc_process.specs.Syntax.{Exp}
 use Rattle.vc_process.specs.Terms.{as_test, exp}
-use Rattle.vc_process.specs.Moved.{IsMoved}
+use Rattle.vc_process.specs.MovedVariables.{IsMoved}
 
 -- and a list of these
 abbrev pub AreMoved : ℕ → List Process → List Process → Type 0

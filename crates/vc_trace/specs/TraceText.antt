@@ -1,6 +1,6 @@
 -- The text of a traced run.
 use Rattle.std.specs.Prelude.{◌≡◌, ℕ, Bool, List, ◌++◌}
-use Rattle.vc_text.specs.Running.{RunText}
+use Rattle.vc_text.specs.RunText.{RunText}
 use Rattle.vc_text.specs.Tail.{IsTail}
 use Rattle.vc_trace.specs.EventText.{events_text}
 

@@ -3,8 +3,8 @@ use Rattle.std.specs.Prelude.{◌≡◌, ◌↔◌, ℕ, ◌+◌, ◌*◌, ◌<�
 use Rattle.std.specs.Int.{bit_at}
 use Rattle.vc_plan.specs.declared.port.Port.{Port}
 use Rattle.vc_plan.specs.declared.port.Wire.{Wire}
-use Rattle.vc_accepted.specs.Outgoing.{actor_of}
-use Rattle.vc_core.specs.Wired.{IsWired, in_at, out_at}
+use Rattle.vc_accepted.specs.ActorWays.{actor_of}
+use Rattle.vc_core.specs.Wiring.{IsWired, in_at, out_at}
 use Rattle.vc_core.specs.declared.ends.End.{End}
 
 -- the port as an actor's link

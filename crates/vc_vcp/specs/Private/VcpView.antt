@@ -7,7 +7,7 @@ use Rattle.vc_blocks.specs.declared.out_half.Advance.{Advance}
 use Rattle.vc_blocks.specs.declared.out_half.Advance.TheVariants as advance
 use Rattle.vc_blocks.specs.declared.in_half.Arrival.{Arrival}
 use Rattle.vc_blocks.specs.declared.in_half.Arrival.TheVariants as arrival
-use Rattle.vc_vcp.specs.Seen.{ends_of, carrier_of}
+use Rattle.vc_vcp.specs.VcpView.{ends_of, carrier_of}
 
 -- what an acknowledge came to, on its channel
 abbrev pub advance_told : ℕ → Advance → Taken

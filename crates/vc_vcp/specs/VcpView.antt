@@ -4,7 +4,7 @@ use Rattle.vc_credit.specs.Ends.{new_sender, new_receiver}
 use Rattle.vc_vcp.specs.declared.output.Output.{Output}
 use Rattle.vc_vcp.specs.declared.input.Input.{Input}
 use Rattle.vc_vcp.specs.Carrier.{End, Ends, OutHalf, InHalf, Carrier}
-use Rattle.vc_vcp.specs.Keyed.{by_name}
+use Rattle.vc_vcp.specs.Names.{by_name}
 use Rattle.vc_packets.specs.Functions.{shown_or}
 use Rattle.vc_vcp.specs.Links.{Link, Vcp}
 use Rattle.vc_packets.specs.declared.packet.Packet.{Packet}

@@ -2,9 +2,9 @@
 use Rattle.std.specs.Prelude.{ℕ, Option, Some, None}
 use Rattle.vc_machine.specs.Rendezvous.{View, nothing_yet}
 use Rattle.vc_network.specs.Views.{halves_view}
-use Rattle.vc_vcp.specs.Keyed.{named}
-use Rattle.vc_vcp.specs.Seen.{seen}
-use Rattle.vc_actor.specs.Shown.{view_of}
+use Rattle.vc_vcp.specs.Names.{named}
+use Rattle.vc_vcp.specs.VcpView.{seen}
+use Rattle.vc_actor.specs.ActorView.{view_of}
 use Rattle.vc_actor.specs.declared.inside.Internal.{Internal}
 use Rattle.vc_actor.specs.declared.node.Node.{Node}
 

@@ -10,8 +10,8 @@ use Rattle.vc_threads.specs.declared.report.Report.{Report}
 use Rattle.vc_text.specs.declared.fault.RunFault.{RunFault}
 use Rattle.vc_text.specs.declared.fault.RunFault.TheVariants.{Write, Threads}
 use Rattle.vc_text.specs.Streams.{AppendsFront}
-use Rattle.vc_text.specs.Checking.{ReadsAccepted}
-use Rattle.vc_text.specs.Running.{RunText}
+use Rattle.vc_text.specs.CheckText.{ReadsAccepted}
+use Rattle.vc_text.specs.RunText.{RunText}
 use Rattle.vc_text.specs.Tail.{IsTail}
 
 -- There are events of all actors' runs that lead to this ending, with the headline and a linearization there, and the text is one of them.

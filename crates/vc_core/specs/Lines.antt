@@ -2,7 +2,7 @@
 use Rattle.std.specs.Prelude.{◌≡◌, ◌↔◌, ℕ, ◌<◌, List, length, Option, Some}
 use Rattle.vc_tokens.specs.Tokens.{Token}
 use Rattle.vc_core.specs.Fronts.{bit_of}
-use Rattle.vc_core.specs.Wired.{out_at, in_at, Comes}
+use Rattle.vc_core.specs.Wiring.{out_at, in_at, Comes}
 
 -- the tokens on each way, and which way goes out by each link of each actor
 pub record Lined : Type 0 where

@@ -3,7 +3,7 @@ use Rattle.std.specs.Prelude.{◌≡◌, ◌≢◌, ◌↔◌, ◌<◌, ◌^◌,
 use Rattle.std.specs.Int.{bit_at}
 use Rattle.vc_switch.specs.Able.{CanLeave}
 use Rattle.vc_switch.specs.Private.Ready.{IsReady}
-use Rattle.vc_switch.specs.Seen.{seen}
+use Rattle.vc_switch.specs.SwitchView.{seen}
 use Rattle.vc_switch.specs.State.{State, plan_of}
 use Rattle.vc_switch.specs.declared.ready_switch.Ready.{Ready}
 

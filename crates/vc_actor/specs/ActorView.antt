@@ -3,10 +3,10 @@ use Rattle.std.specs.Prelude.{ℕ, List, length}
 use Rattle.vc_network.specs.Processes as made
 use Rattle.vc_network.specs.Network as net
 use Rattle.vc_machine.specs.Rendezvous.{View, nothing_yet}
-use Rattle.vc_vcp.specs.Keyed.{by_name}
-use Rattle.vc_vcp.specs.Seen.{seen}
+use Rattle.vc_vcp.specs.Names.{by_name}
+use Rattle.vc_vcp.specs.VcpView.{seen}
 use Rattle.vc_switch.specs.State.{State as SwitchState}
-use Rattle.vc_switch.specs.Seen.{seen as seen_switch}
+use Rattle.vc_switch.specs.SwitchView.{seen as seen_switch}
 use Rattle.vc_occam.specs.Runnings.{state, inner_channels}
 use Rattle.vc_occam.specs.declared.moves.Move.{Move}
 use Rattle.vc_occam.specs.declared.moves.Move.TheVariants as move

@@ -2,7 +2,7 @@
 use Rattle.std.specs.Prelude.{◌≡◌, ℕ, List, map, slice_get, Some}
 use Rattle.vc_threads.specs.declared.run.ActorRun.{ActorRun}
 use Rattle.vc_threads.specs.declared.run.Stop.{Stop}
-use Rattle.vc_threads.specs.Closing.{stop_among}
+use Rattle.vc_threads.specs.Close.{stop_among}
 
 abbrev pub stop_in : ActorRun → Stop
 stop_in r = r.stop

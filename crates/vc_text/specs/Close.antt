@@ -2,7 +2,7 @@
 use Rattle.std.specs.Prelude.{◌≡◌, ℕ, Bool, true, false, ⊤}
 use Rattle.vc_plan.specs.declared.plan.Plan.{Plan}
 use Rattle.vc_plan.specs.Dependencies.{HasRanks}
-use Rattle.vc_core.specs.Enabled.{NetworkState, CanHappen, CanHappenIn}
+use Rattle.vc_core.specs.PossibleEvents.{NetworkState, CanHappen, CanHappenIn}
 use Rattle.vc_core.specs.State.{State}
 use Rattle.vc_core.specs.Still.{IsHeldUp}
 use Rattle.vc_core.specs.Private.Turns.{Rests}

@@ -7,7 +7,7 @@ use Rattle.vc_network.specs.Actors.Label.{Own}
 use Rattle.vc_network.specs.Plan.{Plan}
 use Rattle.vc_actor.specs.OfPlan.{IsNodeOf}
 use Rattle.vc_accepted.specs.Process.{Process, Awaits, does}
-use Rattle.vc_actor.specs.Shown.{node_of}
+use Rattle.vc_actor.specs.ActorView.{node_of}
 use Rattle.vc_actor.specs.declared.node.Node.{Node}
 
 -- a site of the process waits for what came whole, or was finished

@@ -10,7 +10,7 @@ use Rattle.vc_network.specs.Network.{Actor}
 use Rattle.vc_network.specs.Views.{sink_node, vcps, switches, queue_at, arrived, on_wire, inside, in_ways}
 use Rattle.vc_core.specs.Private.Targets.{Has, IsOwned}
 use Rattle.vc_core.specs.declared.place.Place.{Place as Name}
-use Rattle.vc_core.specs.Placed.{IsNamed}
+use Rattle.vc_core.specs.PacketPlace.{IsNamed}
 
 -- each packet in a queue, on a way or in a switch belongs to a channel, and is no longer than the limit
 abbrev pub AreOwned : {P : Type 0} → Plan → Network (Actor P) Token → Type 0

@@ -1,12 +1,12 @@
 -- The ways of a network, as the code keeps them at the links of its actors.
 use Rattle.std.specs.Prelude.{◌≡◌, ◌↔◌, ℕ, List, slice_get, slice_set, Option, Some}
-use Rattle.vc_tokens.specs.Spelt.{token}
+use Rattle.vc_tokens.specs.CodeTokens.{token}
 use Rattle.vc_tokens.specs.Tokens.{Token}
 use Rattle.vc_tokens.specs.declared.token.Token.{Token as Made}
-use Rattle.vc_actor.specs.Shown.{Acting}
+use Rattle.vc_actor.specs.ActorView.{Acting}
 use Rattle.vc_core.specs.Private.Ways.{PutsAt}
-use Rattle.vc_core.specs.Wired.{in_at, Comes}
-use Rattle.vc_core.specs.Lined.{Lined}
+use Rattle.vc_core.specs.Wiring.{in_at, Comes}
+use Rattle.vc_core.specs.Lines.{Lined}
 
 -- it is the actor to which the way leads
 abbrev pub LeadsTo : List (Option ℕ) → ℕ → ℕ → Type 0

@@ -1,7 +1,7 @@
 -- A run under way.
 use Rattle.std.specs.Prelude.{◌≡◌, ◌⊎◌, ℕ, ◌+◌, Bool, true, false, List, length}
 use Rattle.vc_core.specs.Awake.{awake_of}
-use Rattle.vc_core.specs.Replaying.{Reached}
+use Rattle.vc_core.specs.Replay.{Reached}
 use Rattle.vc_core.specs.State.{State, state_of}
 use Rattle.vc_core.specs.Private.Turns.{IsAtRest}
 use Rattle.vc_core.specs.declared.event.Event.{Event}
