@@ -1,5 +1,5 @@
 -- What an actor does next is an event that can happen, and where it does nothing none can.
-use Rattle.std.proofs.Common.{◌≡◌, ◌↔◌, ℕ, ◌+◌, ◌*◌, ◌%◌, ◌^◌, ◌≤◌, ◌<◌, max, bit_or, nat_lt, Bool, true, false, Result, Ok, Err, OnErr, inl, inr, List, length, slice_get, Option, Some, None, refl, sym, ap, ◌∙◌, subst, arith, if◌then◌else◌}
+use Rattle.std.proofs.Common.{◌≡◌, ◌↔◌, ℕ, ◌+◌, ◌*◌, ◌%◌, ◌^◌, ◌≤◌, ◌<◌, max, bit_or, nat_lt, Bool, true, false, inl, inr, List, length, slice_get, Option, Some, None, refl, sym, ap, ◌∙◌, subst, arith, if◌then◌else◌}
 use Rattle.std.proofs.lemmas.Bool.{cases_lt}
 use Rattle.std.proofs.lemmas.Bool.Decides.{nat_tests}
 use Rattle.std.proofs.lemmas.Nat.Bits.{bit_at_or, bit_at-pow_same, bit_at-pow_other}
@@ -42,10 +42,6 @@ few_at out k l w e = by_test (nat_lt l 32) refl e
 
 way_few : (s : State) (k l : ℕ) → HasWay s k l → l < 32
 way_few s k l f = few_at s.wiring k l f.way f.out
-
-pub sure_err : {X E A : Type 0} (r : Result X E) → A → OnErr r A
-sure_err (Ok x) a = tt
-sure_err (Err e) a = a
 
 -- The network's search.
 

@@ -1,18 +1,9 @@
--- Which actors of a network are awake: those that may have an event.
+-- Which actors of a network are awake: those that may have an event. A mask has a bit for each of the first 64 actors that is.
 use Rattle.std.specs.Prelude.{◌≡◌, ◌⊎◌, ℕ, ◌<◌, List, [], ◌∷◌, ◌++◌, Some, slice_get}
 use Rattle.std.specs.Int.{bit_at}
 use Rattle.vc_tokens.specs.Tokens.{Token}
 use Rattle.vc_core.specs.State.{State, HasFront}
 use Rattle.vc_core.specs.Wiring.{in_at}
-use Rattle.vc_core.specs.declared.network.Network.{Network}
-
--- a bit for each of the first 64 actors that is awake
-abbrev pub awake_of : Network → ℕ
-awake_of n = n.awake
-
--- all of the first 64 actors are awake
-abbrev pub AllAwake : ℕ → Type 0
-AllAwake awake = (k : ℕ) → k < 64 → bit_at awake k ≡ 1
 
 -- a token was put at the end of a way that leads to the actor
 pub record TokenCame (old new : State) (actor : ℕ) : Type 0 where

@@ -11,7 +11,7 @@ ghost use Rattle.vc_actor.specs.OfPlan.{IsActorOf};
 ghost use Rattle.vc_actor.specs.ActorView.{Acting};
 ghost use Rattle.vc_actor.specs.Turns.{TakesNone, actors};
 ghost use Rattle.vc_core.specs.Turns.{FindsFront, FindsTake, FindsEvent, FindsEventOf, AllHaveEnded};
-ghost use Rattle.vc_core.specs.Awake.{AllAwake, StaysAwake, awake_of};
+ghost use Rattle.vc_core.specs.Awake.{StaysAwake};
 ghost use Rattle.vc_core.specs.State.{state_of, IsNetworkOf, MayHappen, WaysLet, HasFront, HasWay, MakesEvent, MakesOne, MayActAt};
 ghost use Rattle.vc_core.specs.Private.State.{GrantsBy};
 ghost use Rattle.vc_tokens.specs.CodeTokens.{tokens as all_spelt};
@@ -37,8 +37,6 @@ pub struct Network {
     /// How many of the actors are nodes.
     pub(crate) nodes: u8,
     pub(crate) lines: Lines,
-    // a bit for each of the first 64 actors that is awake
-    awake: u64,
     pub(crate) wires: Items<Wire>,
     pub(crate) channels: Vec<ChannelInfo>,
 }
@@ -50,7 +48,6 @@ impl Drop for Network {
             actors: _,
             nodes: _,
             lines: _,
-            awake: _,
             wires: _,
             channels: _,
         } = self;
@@ -58,25 +55,22 @@ impl Drop for Network {
 }
 
 impl Network {
-    /// The network of an accepted plan, about to begin: each process whole, no token anywhere, and all actors awake. It fails for want of
-    /// memory alone.
+    /// The network of an accepted plan, about to begin: each process whole, and no token anywhere. It fails for want of memory alone.
     pub fn new(alloc: Global, accepted: &Accepted) -> Result<Network, Memory>
         ensures opening { IfOk result (λ network. IsOpening accepted.now (state_of network)) }
-        ensures awake { IfOk result (λ network. AllAwake (awake_of network)) }
     {
         let plan = accepted.plan();
         Ok(Network {
             actors: actors(alloc, accepted)?,
             nodes: plan.nodes.len() as u8,
             lines: Lines::new(alloc, plan)?,
-            awake: u64::MAX,
             wires: Items::from_slice(alloc, plan.wires.as_slice())?,
             channels: channels_of(alloc, plan)?,
         })
     }
 
-    /// The network of an accepted plan with these actors, and with these tokens on each of its ways in turn; all actors are awake. It fails
-    /// for want of memory alone.
+    /// The network of an accepted plan with these actors, and with these tokens on each of its ways in turn. It fails for want of
+    /// memory alone.
     pub fn of_parts(
         alloc: Global,
         accepted: &Accepted,
@@ -93,14 +87,12 @@ impl Network {
         ensures actors { IfOk result (λ network. (state_of network).actors ≡ actors.items) }
         ensures ways { IfOk result
             (λ network. (state_of network).ways ≡ map (λ line. all_spelt line.items) tokens.now) }
-        ensures awake { IfOk result (λ network. AllAwake (awake_of network)) }
     {
         let plan = accepted.plan();
         Ok(Network {
             actors,
             nodes: plan.nodes.len() as u8,
             lines: Lines::with_tokens(alloc, plan, tokens)?,
-            awake: u64::MAX,
             wires: Items::from_slice(alloc, plan.wires.as_slice())?,
             channels: channels_of(alloc, plan)?,
         })
@@ -149,10 +141,7 @@ impl Network {
         ensures makes { (p : Plan) →
             IsNetworkOf p (state_of self.old) →
             OnOk result (MakesEvent p (state_of self.old) event.now (state_of self.new)) }
-        ensures awake { OnOk result (StaysAwake (state_of self.old) (awake_of self.old)
-            (state_of self.new) (awake_of self.new)) }
         ensures refused { OnErr result (state_of self.new ≡ state_of self.old) }
-        ensures none_wakes { OnErr result (awake_of self.new ≡ awake_of self.old) }
         ensures not_enabled { (p : Plan) →
             IsNetworkOf p (state_of self.old) →
             MatchResult result (λ _. CanHappen p (state_of self.old) event.now)
@@ -161,7 +150,8 @@ impl Network {
             (CanHappen p (state_of self.old) event.now → ⊥)) }
     {
         if self.enabled(event) {
-            self.make(event)?;
+            let mut awake = 0;
+            self.make(event, &mut awake)?;
             Ok(())
         } else {
             Err(StepRefused::NotEnabled)
@@ -170,15 +160,15 @@ impl Network {
 
     // Makes an event that its actor can make, and its ways let it.
     #[inline(always)]
-    fn make(&mut self, event: &Event) -> Result<(), Memory>
+    fn make(&mut self, event: &Event, awake: &mut u64) -> Result<(), Memory>
         requires { MayHappen (state_of self.old) event.now }
         ensures makes { (p : Plan) →
             IsNetworkOf p (state_of self.old) →
             OnOk result (MakesEvent p (state_of self.old) event.now (state_of self.new)) }
-        ensures awake { OnOk result (StaysAwake (state_of self.old) (awake_of self.old)
-            (state_of self.new) (awake_of self.new)) }
+        ensures awake { OnOk result
+            (StaysAwake (state_of self.old) awake.old (state_of self.new) awake.new) }
         ensures refused { OnErr result (state_of self.new ≡ state_of self.old) }
-        ensures none_wakes { OnErr result (awake_of self.new ≡ awake_of self.old) }
+        ensures none_wakes { OnErr result (awake.new ≡ awake.old) }
     {
         match event.act {
             Act::Take { link, word } => {
@@ -189,27 +179,27 @@ impl Network {
             | Act::Pass { .. }
             | Act::Route { .. }
             | Act::Put { .. }
-            | Act::Fct { .. } => self.make_turn(event),
+            | Act::Fct { .. } => self.make_turn(event, awake),
         }
     }
 
     // The same of an event that is no take.
     #[inline(always)]
-    fn make_turn(&mut self, event: &Event) -> Result<(), Memory>
+    fn make_turn(&mut self, event: &Event, awake: &mut u64) -> Result<(), Memory>
         requires may { MayHappen (state_of self.old) event.now }
         requires takes { TakesNone event.now.act }
         ensures makes { (p : Plan) →
             IsNetworkOf p (state_of self.old) →
             OnOk result (MakesEvent p (state_of self.old) event.now (state_of self.new)) }
-        ensures awake { OnOk result (StaysAwake (state_of self.old) (awake_of self.old)
-            (state_of self.new) (awake_of self.new)) }
+        ensures awake { OnOk result
+            (StaysAwake (state_of self.old) awake.old (state_of self.new) awake.new) }
         ensures refused { OnErr result (state_of self.new ≡ state_of self.old) }
-        ensures none_wakes { OnErr result (awake_of self.new ≡ awake_of self.old) }
+        ensures none_wakes { OnErr result (awake.new ≡ awake.old) }
     {
         match event.act {
             Act::Proc(_) | Act::Pass { .. } | Act::Route { .. } => self.act(event),
-            Act::Put { link } => self.put(event, link),
-            Act::Fct { link } => self.grant(event, link),
+            Act::Put { link } => self.put(event, link, awake),
+            Act::Fct { link } => self.grant(event, link, awake),
             Act::Take { .. } => unreachable!(),
         }
     }
@@ -222,16 +212,15 @@ impl Network {
         ensures makes { (p : Plan) →
             IsNetworkOf p (state_of self.old) →
             OnOk result (MakesEvent p (state_of self.old) event.now (state_of self.new)) }
-        ensures awake { OnOk result (StaysAwake (state_of self.old) (awake_of self.old)
-            (state_of self.new) (awake_of self.new)) }
+        ensures awake { OnOk result
+            ((mask : ℕ) → StaysAwake (state_of self.old) mask (state_of self.new) mask) }
         ensures refused { OnErr result (state_of self.new ≡ state_of self.old) }
-        ensures none_wakes { OnErr result (awake_of self.new ≡ awake_of self.old) }
     {
         self.actors[usize::from(event.actor)].make(&event.act)
     }
 
     /// An actor takes the front token of the way that comes in by a link, where one does (`link_to_take` names such a link). The word is
-    /// for a switch that puts a random header in front of a packet.
+    /// for a switch that puts a random header in front of a packet. No token comes to an actor by it, so no mask of who is awake changes.
     #[inline(always)]
     pub fn take_front(&mut self, actor: u8, link: u8, word: u32)
         requires { HasFront (state_of self.old) actor link }
@@ -239,8 +228,8 @@ impl Network {
             IsNetworkOf p (state_of self.old) →
             MakesEvent p (state_of self.old) (record { actor = actor; act = Act.Take link word })
             (state_of self.new) }
-        ensures awake { StaysAwake (state_of self.old) (awake_of self.old) (state_of self.new)
-            (awake_of self.new) }
+        ensures awake { (mask : ℕ) →
+            StaysAwake (state_of self.old) mask (state_of self.new) mask }
     {
         if let Some(acting) = self.actors.get_mut(usize::from(actor)) {
             let token = self.lines.take_front(actor, link);
@@ -250,40 +239,40 @@ impl Network {
 
     // The next token of a packet goes to the end of the way that goes out by a link.
     #[inline(always)]
-    fn put(&mut self, event: &Event, link: u8) -> Result<(), Memory>
+    fn put(&mut self, event: &Event, link: u8, awake: &mut u64) -> Result<(), Memory>
         requires may { MayActAt (state_of self.old) event.now.actor event.now.act }
         requires way { HasWay (state_of self.old) event.now.actor link }
         requires is { event.now.act ≡ Act.Put link }
         ensures makes { (p : Plan) →
             IsNetworkOf p (state_of self.old) →
             OnOk result (MakesEvent p (state_of self.old) event.now (state_of self.new)) }
-        ensures awake { OnOk result (StaysAwake (state_of self.old) (awake_of self.old)
-            (state_of self.new) (awake_of self.new)) }
+        ensures awake { OnOk result
+            (StaysAwake (state_of self.old) awake.old (state_of self.new) awake.new) }
         ensures refused { OnErr result (state_of self.new ≡ state_of self.old) }
-        ensures none_wakes { OnErr result (awake_of self.new ≡ awake_of self.old) }
+        ensures none_wakes { OnErr result (awake.new ≡ awake.old) }
     {
         let from = &mut self.actors[usize::from(event.actor)];
         let to = self.lines.put(event.actor, link, from)?;
-        wake(&mut self.awake, to);
+        wake(awake, to);
         Ok(())
     }
 
     // A flow control token goes to the end of the way that goes out by a link.
     #[inline(always)]
-    fn grant(&mut self, event: &Event, link: u8) -> Result<(), Memory>
+    fn grant(&mut self, event: &Event, link: u8, awake: &mut u64) -> Result<(), Memory>
         requires may { MayActAt (state_of self.old) event.now.actor event.now.act }
         requires way { HasWay (state_of self.old) event.now.actor link }
         requires is { event.now.act ≡ Act.Fct link }
         ensures makes { (p : Plan) →
             IsNetworkOf p (state_of self.old) →
             OnOk result (MakesEvent p (state_of self.old) event.now (state_of self.new)) }
-        ensures awake { OnOk result (StaysAwake (state_of self.old) (awake_of self.old)
-            (state_of self.new) (awake_of self.new)) }
+        ensures awake { OnOk result
+            (StaysAwake (state_of self.old) awake.old (state_of self.new) awake.new) }
         ensures refused { OnErr result (state_of self.new ≡ state_of self.old) }
-        ensures none_wakes { OnErr result (awake_of self.new ≡ awake_of self.old) }
+        ensures none_wakes { OnErr result (awake.new ≡ awake.old) }
     {
         let to = self.lines.push_out(event.actor, link, Token::Fct)?;
-        wake(&mut self.awake, to);
+        wake(awake, to);
         self.grant_by(event.actor, link);
         Ok(())
     }
@@ -293,7 +282,6 @@ impl Network {
     fn grant_by(&mut self, actor: u8, link: u8)
         requires { MayActAt (state_of self.old) actor (Act.Fct link) }
         ensures grants { GrantsBy (state_of self.old) actor link (state_of self.new) }
-        ensures awake { awake_of self.new ≡ awake_of self.old }
     {
         self.actors[usize::from(actor)].grant(link);
     }
@@ -308,34 +296,11 @@ impl Network {
         lowest(self.lines.fronts(actor))
     }
 
-    /// A mask that has a bit for each of the first 64 actors that is awake: at first each is, and later each to which a token came
-    /// since `rest` was said of it.
-    pub fn awake(&self) -> u64
-        ensures { result ≡ awake_of self.now }
-    {
-        self.awake
-    }
-
-    /// An actor, one of the first 64, is awake no more, until a token comes to it: whoever runs the network says so of one that has no
-    /// event.
-    pub fn rest(&mut self, actor: u8)
-        requires { actor < 64 }
-        ensures same { state_of self.new ≡ state_of self.old }
-        ensures it { bit_at (awake_of self.new) actor ≡ 0 }
-        ensures others { (k : ℕ) →
-            k < 64 →
-            k ≢ actor →
-            bit_at (awake_of self.new) k ≡ bit_at (awake_of self.old) k }
-    {
-        self.awake &= !(1u64 << actor);
-    }
-
     /// What an actor does next where every way has room; nothing where it has no step but to take. The network stays as it is. It fails for
     /// want of memory alone.
     #[inline(always)]
     pub fn next(&mut self, actor: u8) -> Result<Option<Event>, Memory>
         ensures same { state_of self.new ≡ state_of self.old }
-        ensures awake { awake_of self.new ≡ awake_of self.old }
         ensures may { IfOk result
             (λ found. IfSome found (λ e. MayActAt (state_of self.old) e.actor e.act)) }
         ensures lets { IfOk result
@@ -356,51 +321,57 @@ impl Network {
         }
     }
 
-    /// An actor makes the event, but a take, that it makes next where every way has room; nothing where it has none. It fails for want of
-    /// memory alone, and the network is then as it was.
+    /// An actor makes the event, but a take, that it makes next where every way has room; nothing where it has none. The mask `awake` has a
+    /// bit for each of the first 64 actors that may have an event: the actor to which a token goes has its bit from now on. It fails for
+    /// want of memory alone, and the network and the mask are then as they were.
     #[inline(always)]
-    pub fn turn(&mut self, actor: u8) -> Result<Option<Event>, Memory>
+    pub fn turn(&mut self, actor: u8, awake: &mut u64) -> Result<Option<Event>, Memory>
         ensures finds { (p : Plan) →
             IsNetworkOf p (state_of self.old) →
             IfOk result (FindsEvent p (state_of self.old) actor) }
         ensures makes { (p : Plan) →
             IsNetworkOf p (state_of self.old) →
             IfOk result (λ made. MakesOne p (state_of self.old) made (state_of self.new)) }
-        ensures awake { OnOk result (StaysAwake (state_of self.old) (awake_of self.old)
-            (state_of self.new) (awake_of self.new)) }
+        ensures awake { OnOk result
+            (StaysAwake (state_of self.old) awake.old (state_of self.new) awake.new) }
         ensures refused { OnErr result (state_of self.new ≡ state_of self.old) }
-        ensures none_wakes { OnErr result (awake_of self.new ≡ awake_of self.old) }
+        ensures none_wakes { OnErr result (awake.new ≡ awake.old) }
     {
         let Some(next) = self.next(actor)? else {
             return Ok(None);
         };
-        self.make_turn(&next)?;
+        self.make_turn(&next, awake)?;
         Ok(Some(next))
     }
 
     /// An actor makes an event of this kind, if it has one where every way has room. Whoever chooses the kinds makes events in an order of
-    /// their own. It fails for want of memory alone, and the network is then as it was.
-    pub fn turn_by(&mut self, actor: u8, kind: ActKind) -> Result<Option<Event>, Memory>
+    /// their own. In the mask `awake` the actor to which a token goes has its bit from now on. It fails for want of memory alone, and the
+    /// network and the mask are then as they were.
+    pub fn turn_by(
+        &mut self,
+        actor: u8,
+        kind: ActKind,
+        awake: &mut u64,
+    ) -> Result<Option<Event>, Memory>
         ensures finds { (p : Plan) → IsNetworkOf p (state_of self.old) →
             IfOk result (FindsEventOf kind p (state_of self.old) actor) }
         ensures makes { (p : Plan) → IsNetworkOf p (state_of self.old) →
             IfOk result (λ made. MakesOne p (state_of self.old) made (state_of self.new)) }
-        ensures awake { OnOk result (StaysAwake (state_of self.old) (awake_of self.old)
-            (state_of self.new) (awake_of self.new)) }
+        ensures awake { OnOk result
+            (StaysAwake (state_of self.old) awake.old (state_of self.new) awake.new) }
         ensures refused { OnErr result (state_of self.new ≡ state_of self.old) }
-        ensures none_wakes { OnErr result (awake_of self.new ≡ awake_of self.old) }
+        ensures none_wakes { OnErr result (awake.new ≡ awake.old) }
     {
         let Some(event) = self.next_of(actor, kind)? else {
             return Ok(None);
         };
-        self.make(&event)?;
+        self.make(&event, awake)?;
         Ok(Some(event))
     }
 
     // An event of this kind that an actor can make where every way has room; nothing where it has none.
     fn next_of(&mut self, actor: u8, kind: ActKind) -> Result<Option<Event>, Memory>
         ensures same { state_of self.new ≡ state_of self.old }
-        ensures awake { awake_of self.new ≡ awake_of self.old }
         ensures may { IfOk result
             (λ found. IfSome found (λ e. MayActAt (state_of self.old) e.actor e.act)) }
         ensures lets { IfOk result

@@ -54,7 +54,7 @@ fn count(events: &[Event], actor: u8, act: Act) -> usize {
 fn go_on(play: &mut Play, actor: u8) -> Result<(), Fail> {
     if let Some(link) = play.network.link_to_take(actor) {
         play.make(actor, Act::Take { link, word: 0 })?;
-    } else if let Some(event) = play.network.turn(actor)? {
+    } else if let Some(event) = play.network.turn(actor, &mut 0)? {
         play.events.push(event)?;
     }
     Ok(())

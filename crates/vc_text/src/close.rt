@@ -1,6 +1,5 @@
 //! How a run ends.
 ghost use Rattle.std.specs.Prelude.{◌≡◌, List, IfOk};
-ghost use Rattle.vc_core.specs.Awake.{awake_of};
 ghost use Rattle.vc_core.specs.Replay.{Replays};
 ghost use Rattle.vc_core.specs.State.{shown, state_of, IsNetworkOf};
 ghost use Rattle.vc_core.specs.declared.event.Event.{Event};
@@ -19,7 +18,6 @@ pub fn close_of(network: &mut Network) -> Result<Close, Memory>
     ensures waits { (p : Plan) (events : List Event) → Replays p events (state_of network.old) →
         IfOk result (OnlyProcessesWait p (shown (state_of network.old))) }
     ensures same { state_of network.new ≡ state_of network.old }
-    ensures awake { awake_of network.new ≡ awake_of network.old }
 {
     if network.ended() {
         return Ok(Close::Done);

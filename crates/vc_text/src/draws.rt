@@ -1,10 +1,10 @@
 //! Who makes the next event of a run in a random order.
 ghost use Rattle.std.specs.Prelude.{◌≡◌, ◌<◌, ◌≤◌, ◌-◌, ◌^◌, IfOk, IfSome, OnOk};
-ghost use Rattle.vc_text.specs.Private.Simulation.{LeadsOn, RunsOut, counted};
+ghost use Rattle.vc_text.specs.Private.Simulation.{LeadsOn, LeadsOnSoFar, RunsOut, counted};
 
 use crate::event_sink::EventSink;
 use crate::masks::drawn;
-use crate::simulation::Simulation;
+use crate::simulation::{Progress, Simulation};
 use rand_core::utils::NextWord;
 use rand_pcg::Lcg64Xsh32;
 use vc_core::ActKind;
@@ -75,16 +75,18 @@ impl Simulation {
         events: &mut K,
         actor: u8,
         kind: ActKind,
+        progress: &mut Progress,
     ) -> Result<bool, Memory>
-        requires few { self.old.made < 2 ^ 64 - 1 }
-        ensures made { IfOk result (λ had. self.new.made ≡ counted had self.old.made) }
-        ensures runs { OnOk result (LeadsOn K.holds self.old events.old self.new events.new) }
+        requires few { progress.old.made < 2 ^ 64 - 1 }
+        ensures made { IfOk result (λ had. progress.new.made ≡ counted had progress.old.made) }
+        ensures runs { OnOk result
+            (LeadsOnSoFar K.holds self.old events.old progress.old self.new events.new progress.new) }
     {
-        let Some(event) = self.network.turn_by(actor, kind)? else {
+        let Some(event) = self.network.turn_by(actor, kind, &mut progress.awake)? else {
             return Ok(false);
         };
         events.record(&self.network, event)?;
-        self.made += 1;
+        progress.made += 1;
         Ok(true)
     }
 
@@ -94,20 +96,22 @@ impl Simulation {
         &mut self,
         events: &mut K,
         draws: &mut Draws,
+        progress: &mut Progress,
     ) -> Result<bool, Memory>
-        requires few { self.old.made < 2 ^ 64 - 1 }
-        ensures made { IfOk result (λ had. self.new.made ≡ counted had self.old.made) }
-        ensures runs { OnOk result (LeadsOn K.holds self.old events.old self.new events.new) }
+        requires few { progress.old.made < 2 ^ 64 - 1 }
+        ensures made { IfOk result (λ had. progress.new.made ≡ counted had progress.old.made) }
+        ensures runs { OnOk result
+            (LeadsOnSoFar K.holds self.old events.old progress.old self.new events.new progress.new) }
     {
-        let Some(actor) = draws.next_actor(self.network.awake()) else {
+        let Some(actor) = draws.next_actor(progress.awake) else {
             return Ok(false);
         };
         if let Some(kind) = draws.kind() {
-            if self.act_by(events, actor, kind)? {
+            if self.act_by(events, actor, kind, progress)? {
                 return Ok(true);
             }
         }
-        self.act(events, actor)
+        self.act(events, actor, progress)
     }
 
     /// Tries at an event by some draws. The answer is whether one was made.
@@ -115,13 +119,15 @@ impl Simulation {
         &mut self,
         events: &mut K,
         draws: &mut Draws,
+        progress: &mut Progress,
     ) -> Result<bool, Memory>
-        requires few { self.old.made < 2 ^ 64 - 1 }
-        ensures made { IfOk result (λ had. self.new.made ≡ counted had self.old.made) }
-        ensures runs { OnOk result (LeadsOn K.holds self.old events.old self.new events.new) }
+        requires few { progress.old.made < 2 ^ 64 - 1 }
+        ensures made { IfOk result (λ had. progress.new.made ≡ counted had progress.old.made) }
+        ensures runs { OnOk result
+            (LeadsOnSoFar K.holds self.old events.old progress.old self.new events.new progress.new) }
     {
         for _ in 0..TRIES {
-            if self.draw_event(events, draws)? {
+            if self.draw_event(events, draws, progress)? {
                 return Ok(true);
             }
             draws.pass_on();
@@ -142,11 +148,16 @@ impl Simulation {
         ensures ends { OnOk result (RunsOut K.holds limit self.old events.old self.new) }
     {
         let mut draws = Draws::new(seed);
-        while self.made < limit {
-            if !self.try_events(events, &mut draws)? && !self.round(events, limit)? {
+        let mut progress = self.progress();
+        while progress.made < limit {
+            if !self.try_events(events, &mut draws, &mut progress)?
+                && !self.round(events, limit, &mut progress)?
+            {
+                self.made = progress.made;
                 return Ok(());
             }
         }
+        self.made = progress.made;
         Ok(())
     }
 }

@@ -1,5 +1,5 @@
 //! Masks of the first 64 actors of a network, a bit for each.
-ghost use Rattle.std.specs.Prelude.{◌≡◌, ◌<◌, ◌+◌, ◌-◌, ◌^◌, ℕ, IfSome, MatchOption};
+ghost use Rattle.std.specs.Prelude.{◌≡◌, ◌≢◌, ◌<◌, ◌+◌, ◌-◌, ◌^◌, ℕ, IfSome, MatchOption};
 ghost use Rattle.std.specs.Int.{bit_at};
 
 /// The least actor of one mask that is among those of another.
@@ -18,6 +18,15 @@ pub(crate) fn after(actor: u8) -> u64
     ensures { result ≡ 2 ^ 64 - 2 ^ (actor + 1) }
 {
     u64::MAX << actor << 1
+}
+
+/// The mask without an actor's bit.
+pub(crate) fn without(mask: u64, actor: u8) -> u64
+    requires { actor < 64 }
+    ensures it { bit_at result actor ≡ 0 }
+    ensures others { (k : ℕ) → k < 64 → k ≢ actor → bit_at result k ≡ bit_at mask k }
+{
+    mask & !(1u64 << actor)
 }
 
 /// An actor of a mask: the word says which, each as often as any other.

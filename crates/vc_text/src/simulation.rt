@@ -1,18 +1,17 @@
 //! A network run event by event, in rounds over its actors.
 ghost use Rattle.std.specs.Prelude.{◌≡◌, ◌⊎◌, ◌<◌, ◌≤◌, ◌+◌, ◌^◌, ◌-◌, [], ℕ, true, false, List, None, Ok, IfOk, OnOk};
 ghost use Rattle.vc_plan.specs.declared.plan.Plan.{Plan};
-ghost use Rattle.vc_core.specs.Awake.{awake_of};
 ghost use Rattle.vc_core.specs.Replay.{IsOpening};
 ghost use Rattle.vc_core.specs.State.{shown, state_of, HasFront, IsNetworkOf};
 ghost use Rattle.vc_core.specs.Private.Turns.{Rests, IsAtRest, GoesOn};
 ghost use Rattle.vc_actor.specs.Turns.{actors};
 ghost use Rattle.vc_core.specs.declared.event.Event.{Event};
 ghost use Rattle.vc_text.specs.Close.{HasEvent, Closes};
-ghost use Rattle.vc_text.specs.Private.Simulation.{HasRun, HasTaken, LeadsOn, RunsOut, counted};
+ghost use Rattle.vc_text.specs.Private.Simulation.{HasRun, HasTaken, LeadsOn, LeadsOnSoFar, RunsOut, RunsOutSoFar, all_awake, counted};
 
 use crate::event_sink::EventSink;
 use crate::generators::Generators;
-use crate::masks::{after, least_among};
+use crate::masks::{after, least_among, without};
 use crate::schedule::Schedule;
 use std::alloc::Global;
 use vc_core::{Act, Close, Event, Network};
@@ -25,6 +24,14 @@ pub(crate) struct Simulation {
     pub(crate) network: Network,
     pub(crate) generators: Generators,
     pub(crate) made: u64,
+}
+
+/// How far a run is: how many events were made, and a bit for each actor that may have an event. Whoever makes events keeps it in a
+/// variable, which a processor has in registers: each event waits for what the one before changed of it.
+#[derive(Drop)]
+pub(crate) struct Progress {
+    pub(crate) made: u64,
+    pub(crate) awake: u64,
 }
 
 impl Simulation {
@@ -43,15 +50,21 @@ impl Simulation {
         })
     }
 
-    /// An actor to which no token comes makes the event that it makes next, if it has one, or else rests. The answer is whether it had
-    /// one.
+    /// An actor to which no token comes makes the event that it makes next, if it has one, or else is awake no more. The answer is whether
+    /// it had one.
     #[inline(always)]
-    fn turn<K: EventSink>(&mut self, events: &mut K, actor: u8) -> Result<bool, Memory>
+    fn turn<K: EventSink>(
+        &mut self,
+        events: &mut K,
+        actor: u8,
+        progress: &mut Progress,
+    ) -> Result<bool, Memory>
         requires actor { actor < 64 }
-        requires few { self.old.made < 2 ^ 64 - 1 }
+        requires few { progress.old.made < 2 ^ 64 - 1 }
         requires none { (link : ℕ) → HasFront (state_of self.old.network) actor link → ⊥ }
-        ensures made { IfOk result (λ had. self.new.made ≡ counted had self.old.made) }
-        ensures runs { OnOk result (LeadsOn K.holds self.old events.old self.new events.new) }
+        ensures made { IfOk result (λ had. progress.new.made ≡ counted had progress.old.made) }
+        ensures runs { OnOk result
+            (LeadsOnSoFar K.holds self.old events.old progress.old self.new events.new progress.new) }
         ensures still { result ≡ Ok false → (p : Plan) →
             IsNetworkOf p (state_of self.old.network) →
             state_of self.new.network ≡ state_of self.old.network }
@@ -59,23 +72,29 @@ impl Simulation {
             IsNetworkOf p (state_of self.old.network) →
             Rests p (state_of self.old.network) actor }
     {
-        let Some(event) = self.network.turn(actor)? else {
-            self.network.rest(actor);
+        let Some(event) = self.network.turn(actor, &mut progress.awake)? else {
+            progress.awake = without(progress.awake, actor);
             return Ok(false);
         };
         events.record(&self.network, event)?;
-        self.made += 1;
+        progress.made += 1;
         Ok(true)
     }
 
     /// An actor makes the event that it makes next, if it has one: a take from the least link that has a token, else what it does
     /// where every way has room. The answer is whether it had one.
     #[inline(always)]
-    pub(crate) fn act<K: EventSink>(&mut self, events: &mut K, actor: u8) -> Result<bool, Memory>
+    pub(crate) fn act<K: EventSink>(
+        &mut self,
+        events: &mut K,
+        actor: u8,
+        progress: &mut Progress,
+    ) -> Result<bool, Memory>
         requires actor { actor < 64 }
-        requires few { self.old.made < 2 ^ 64 - 1 }
-        ensures made { IfOk result (λ had. self.new.made ≡ counted had self.old.made) }
-        ensures runs { OnOk result (LeadsOn K.holds self.old events.old self.new events.new) }
+        requires few { progress.old.made < 2 ^ 64 - 1 }
+        ensures made { IfOk result (λ had. progress.new.made ≡ counted had progress.old.made) }
+        ensures runs { OnOk result
+            (LeadsOnSoFar K.holds self.old events.old progress.old self.new events.new progress.new) }
         ensures still { result ≡ Ok false → (p : Plan) →
             IsNetworkOf p (state_of self.old.network) →
             state_of self.new.network ≡ state_of self.old.network }
@@ -84,36 +103,53 @@ impl Simulation {
             actor < actors p → Rests p (state_of self.old.network) actor }
     {
         let Some(link) = self.network.link_to_take(actor) else {
-            return self.turn(events, actor);
+            return self.turn(events, actor, progress);
         };
         let word = self.generators.next_word(actor);
         self.network.take_front(actor, link, word);
         let act = Act::Take { link, word };
         events.record(&self.network, Event { actor, act })?;
-        self.made += 1;
+        progress.made += 1;
         Ok(true)
     }
 
     /// One round over the actors: each makes at most one event, up to so many events in all. The answer is whether events were made and
     /// more may be: where not, there are so many events, or no actor has one.
     #[inline(always)]
-    pub(crate) fn round<K: EventSink>(&mut self, events: &mut K, limit: u64) -> Result<bool, Memory>
-        requires { self.old.made ≤ limit }
-        ensures few { OnOk result (self.new.made ≤ limit) }
-        ensures more { result ≡ Ok true → self.old.made < self.new.made }
-        ensures runs { OnOk result (LeadsOn K.holds self.old events.old self.new events.new) }
-        ensures ends { result ≡ Ok false → RunsOut K.holds limit self.old events.old self.new }
+    pub(crate) fn round<K: EventSink>(
+        &mut self,
+        events: &mut K,
+        limit: u64,
+        progress: &mut Progress,
+    ) -> Result<bool, Memory>
+        requires { progress.old.made ≤ limit }
+        ensures few { OnOk result (progress.new.made ≤ limit) }
+        ensures more { result ≡ Ok true → progress.old.made < progress.new.made }
+        ensures runs { OnOk result
+            (LeadsOnSoFar K.holds self.old events.old progress.old self.new events.new progress.new) }
+        ensures ends { result ≡ Ok false →
+            RunsOutSoFar K.holds limit self.old events.old progress.old self.new progress.new }
     {
-        let before = self.made;
+        let before = progress.made;
         let mut left = u64::MAX;
-        while let Some(actor) = least_among(self.network.awake(), left) {
-            if self.made >= limit {
+        while let Some(actor) = least_among(progress.awake, left) {
+            if progress.made >= limit {
                 return Ok(false);
             }
-            self.act(events, actor)?;
+            self.act(events, actor, progress)?;
             left = after(actor);
         }
-        Ok(self.made > before)
+        Ok(progress.made > before)
+    }
+
+    /// How far the run is, where all actors may have an event.
+    pub(crate) fn progress(&self) -> Progress
+        ensures { result ≡ all_awake self.now.made }
+    {
+        Progress {
+            made: self.made,
+            awake: u64::MAX,
+        }
     }
 
     /// Rounds over the actors, until none has an event or there are so many events.
@@ -123,7 +159,9 @@ impl Simulation {
         ensures runs { OnOk result (LeadsOn K.holds self.old events.old self.new events.new) }
         ensures ends { OnOk result (RunsOut K.holds limit self.old events.old self.new) }
     {
-        while self.round(events, limit)? {}
+        let mut progress = self.progress();
+        while self.round(events, limit, &mut progress)? {}
+        self.made = progress.made;
         Ok(())
     }
 
@@ -166,7 +204,6 @@ fn has_event(network: &mut Network, actor: u8) -> Result<bool, Memory>
     ensures has { (p : Plan) → IsNetworkOf p (state_of network.old) → actor < actors p →
         IfOk result (HasEvent p (state_of network.old) actor) }
     ensures same { state_of network.new ≡ state_of network.old }
-    ensures awake { awake_of network.new ≡ awake_of network.old }
 {
     if network.link_to_take(actor).is_some() {
         return Ok(true);
@@ -179,7 +216,6 @@ pub(crate) fn goes_on(network: &mut Network) -> Result<bool, Memory>
     ensures goes_on { (p : Plan) → IsNetworkOf p (state_of network.old) →
         IfOk result (GoesOn p (state_of network.old)) }
     ensures same { state_of network.new ≡ state_of network.old }
-    ensures awake { awake_of network.new ≡ awake_of network.old }
 {
     for actor in 0..network.actors() {
         if has_event(network, actor)? {

@@ -1,6 +1,5 @@
 -- A run under way.
-use Rattle.std.specs.Prelude.{◌≡◌, ◌⊎◌, ℕ, ◌+◌, Bool, true, false, List, length}
-use Rattle.vc_core.specs.Awake.{awake_of}
+use Rattle.std.specs.Prelude.{◌≡◌, ◌⊎◌, ℕ, ◌+◌, ◌-◌, ◌^◌, Bool, true, false, List, length}
 use Rattle.vc_core.specs.Replay.{Reached}
 use Rattle.vc_core.specs.State.{State, state_of}
 use Rattle.vc_core.specs.Private.Turns.{IsAtRest}
@@ -8,15 +7,26 @@ use Rattle.vc_core.specs.declared.event.Event.{Event}
 use Rattle.vc_plan.specs.declared.plan.Plan.{Plan}
 use Rattle.vc_text.specs.Private.Quiet.{AreQuiet}
 use Rattle.vc_text.specs.Private.Generators.{HaveGiven}
+use Rattle.vc_text.specs.declared.simulation.Progress.{Progress}
 use Rattle.vc_text.specs.declared.simulation.Simulation.{Simulation}
 
--- these events led from the opening state to where the run is, as many as it counts; the words of their takes are those that the
--- generators gave; and of the actors that are not awake none has an event
+-- these events led from the opening state to where the run is, as many as it counts, and the words of their takes are those that the
+-- generators gave
 pub record HasRun (p : Plan) (events : List Event) (run : Simulation) : Type 0 where
   pub reached : Reached p events (state_of run.network)
   pub many : length events ≡ run.made
   pub words : HaveGiven p events run.generators
-  pub quiet : AreQuiet p (state_of run.network) (awake_of run.network)
+
+-- the same as far as a run is that goes on; and of the actors that are not awake none has an event
+pub record HasRunSoFar (p : Plan) (events : List Event) (run : Simulation) (far : Progress) : Type 0 where
+  pub reached : Reached p events (state_of run.network)
+  pub many : length events ≡ far.made
+  pub words : HaveGiven p events run.generators
+  pub quiet : AreQuiet p (state_of run.network) far.awake
+
+-- after so many events, where all may have one
+abbrev pub all_awake : ℕ → Progress
+all_awake made = record { made = made; awake = 2 ^ 64 - 1 }
 
 -- these events were taken, and led to where the run is
 abbrev pub HasTaken : {K : Type 0} → (K → Plan → List Event → State → Type 0) → K → Plan → List Event → Simulation → Type 0
@@ -28,10 +38,20 @@ LeadsOn holds old taken new taken' =
     (p : Plan) (events : List Event) → HasTaken holds taken p events old → HasRun p events old
     → (events' : List Event) × HasTaken holds taken' p events' new × HasRun p events' new
 
+-- the same of a run that goes on
+abbrev pub LeadsOnSoFar : {K : Type 0} → (K → Plan → List Event → State → Type 0) → Simulation → K → Progress → Simulation → K → Progress → Type 0
+LeadsOnSoFar holds old taken far new taken' far' =
+    (p : Plan) (events : List Event) → HasTaken holds taken p events old → HasRunSoFar p events old far
+    → (events' : List Event) × HasTaken holds taken' p events' new × HasRunSoFar p events' new far'
+
 -- so many events were made, or none can happen any more, for whatever events led to the old run and were taken
 abbrev pub RunsOut : {K : Type 0} → (K → Plan → List Event → State → Type 0) → ℕ → Simulation → K → Simulation → Type 0
 RunsOut holds limit old taken new =
     (p : Plan) (events : List Event) → HasTaken holds taken p events old → HasRun p events old → (new.made ≡ limit) ⊎ IsAtRest p (state_of new.network)
+
+abbrev pub RunsOutSoFar : {K : Type 0} → (K → Plan → List Event → State → Type 0) → ℕ → Simulation → K → Progress → Simulation → Progress → Type 0
+RunsOutSoFar holds limit old taken far new far' =
+    (p : Plan) (events : List Event) → HasTaken holds taken p events old → HasRunSoFar p events old far → (far'.made ≡ limit) ⊎ IsAtRest p (state_of new.network)
 
 -- how many events there are after one more, or none
 abbrev pub counted : Bool → ℕ → ℕ

@@ -24,7 +24,6 @@ loop-actor-preserved c =
     let inv = c.loop-actor.invariant in
     record {
       same = c.in_ok-has_event.ensures.same ∙ inv.same;
-      awake = c.in_ok-has_event.ensures.awake ∙ inv.awake;
       rest = λ p is k less.
           let a = c.loop-actor.actor in
           let s = state_of c.loop-actor.network in

@@ -22,6 +22,3 @@ returns-clause-has c = λ p is node.
 
 pub returns-clause-same : goal.returns-clause-same
 returns-clause-same c = c.in_ok-next.ensures.same
-
-pub returns-clause-awake : goal.returns-clause-awake
-returns-clause-awake c = c.in_ok-next.ensures.awake

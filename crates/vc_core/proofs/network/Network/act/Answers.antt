@@ -3,7 +3,6 @@ use Rattle.std.proofs.lemmas.Option.{slice_get_read, slice_get_within}
 use Rattle.vc_vcp.proofs.Placed.{on_ok}
 use Rattle.vc_core.specs.State.{state_of, MakesEvent}
 use Rattle.vc_core.proofs.Happening.{on_err, own_happens}
-use Rattle.vc_core.proofs.Lined.{err_all}
 use Rattle.vc_core.proofs.Staying.{is_there, may_there, unchanged}
 use Rattle.vc_core.proofs.network.Network.act.Goals as goal
 
@@ -36,6 +35,3 @@ returns-clause-makes c = λ p is.
     subst (MakesEvent p (state_of n) e)
     (λ i. record { actors = slice_set n.actors.items (sym c.from.ensures i) c.make.new.self; nodes = n.nodes; ways = n.lines.ways; wiring = n.lines.wiring; wires = n.wires; channels = n.channels.items })
     (own_happens p (state_of n) e c.index_mut.result.now c.make.new.self is here made)) (c.make.ensures.ok _ e.actor (is.actors e.actor c.index_mut.result.now here))
-
-pub returns-clause-none_wakes : goal.returns-clause-none_wakes
-returns-clause-none_wakes c = err_all c.make.result refl

@@ -33,18 +33,15 @@ returns-clause-awake c =
     let w = lets.way in
     let leads = c.in_ok-to.ensures.to w lets.out in
     let line = c.in_ok-to.ensures.ok w lets.tokens lets.out (way_found s e.actor c.args.link w lets lets.out) in
-    let same : c.grant_by.new.self.awake ≡ c.wake.new.awake = c.grant_by.ensures.awake in
     record {
-      kept = λ k low is. ap (λ m. bit_at m k) same ∙ c.wake.ensures.kept k low is;
+      kept = c.wake.ensures.kept;
       came = λ k low f.
-          ap (λ m. bit_at m k) same
-          ∙ put_came n.lines.wiring n.lines.ways w _ c.in_ok-to.to c.wake.new.awake leads c.wake.ensures.it k f.link f.way f.tokens f.token f.into f.stood
+          put_came n.lines.wiring n.lines.ways w _ c.in_ok-to.to c.wake.new.awake leads c.wake.ensures.it k f.link f.way f.tokens f.token f.into f.stood
           (subst (λ (z : Lined). slice_get z.ways f.way ≡ Some (f.tokens ++ f.token ∷ [])) line (subst (λ (z : State). slice_get z.ways f.way ≡ Some (f.tokens ++ f.token ∷ [])) c.grant_by.ensures.grants.new_is f.stands));
       woken = λ k l low f none.
-          ap (λ m. bit_at m k) same
-          ∙ put_wakes n.lines.wiring n.lines.ways w _ c.in_ok-to.to c.wake.new.awake leads c.wake.ensures.it k l
+          put_wakes n.lines.wiring n.lines.ways w _ c.in_ok-to.to c.wake.new.awake leads c.wake.ensures.it k l
           (subst (λ (z : Lined). Comes z.wiring z.ways k l) line (subst (λ z. HasFront z k l) c.grant_by.ensures.grants.new_is f)) none;
-      only = λ k low is. elim (c.wake.ensures.only k low (sym (ap (λ m. bit_at m k) same) ∙ is)) [
+      only = λ k low is. elim (c.wake.ensures.only k low is) [
         | inl was ↦ inl was
         | inr to ↦ (let into = (leads k).0 to in
             inr (record {

@@ -14,15 +14,17 @@ pub grant-requires : goal.grant-requires
 grant-requires c =
     may_there (state_of c.args.self.now) c.args.actor c.from.result c.index_mut.result.now (act.Fct c.args.link) c.requires c.from.ensures c.index_mut.ensures.value
 
-pub returns-clause-grants : goal.returns-clause-grants
-returns-clause-grants c =
+pub returns : goal.returns
+returns c =
     let n = c.args.self.now in
     let less = subst (λ z. z < length n.actors.items) (sym c.from.ensures) (slice_get_within n.actors.items c.args.actor c.requires.actor c.requires.here) in
     let here = slice_get_read n.actors.items (length n.actors.items) c.from.result c.index_mut.result.now refl less c.index_mut.ensures.value in
     record {
-      before = c.index_mut.result.now;
-      after = c.grant.new.self;
-      here = subst (λ z. slice_get n.actors.items z ≡ Some c.index_mut.result.now) c.from.ensures here;
-      new_is = (λ i. record { actors = slice_set n.actors.items (c.from.ensures i) c.grant.new.self; nodes = n.nodes; ways = n.lines.ways; wiring = n.lines.wiring; wires = n.wires; channels = n.channels.items });
-      grants = c.grant.ensures;
+      grants = record {
+        before = c.index_mut.result.now;
+        after = c.grant.new.self;
+        here = subst (λ z. slice_get n.actors.items z ≡ Some c.index_mut.result.now) c.from.ensures here;
+        new_is = (λ i. record { actors = slice_set n.actors.items (c.from.ensures i) c.grant.new.self; nodes = n.nodes; ways = n.lines.ways; wiring = n.lines.wiring; wires = n.wires; channels = n.channels.items });
+        grants = c.grant.ensures;
+      };
     }

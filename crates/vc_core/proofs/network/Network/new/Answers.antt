@@ -1,5 +1,4 @@
 use Rattle.std.proofs.Common.{sym, ◌∙◌, subst}
-use Rattle.std.proofs.lemmas.Nat.Bits.{bit_at_ones}
 use Rattle.vc_plan.specs.Accepted.{IsAccepted}
 use Rattle.vc_actor.specs.Begin.{AreFirst}
 use Rattle.vc_core.specs.Replay.{IsOpening}
@@ -8,15 +7,14 @@ use Rattle.vc_actor.specs.Turns.{actors}
 use Rattle.vc_core.proofs.Replayed.{opened}
 use Rattle.vc_core.proofs.network.Network.new.Goals as goal
 
-pub returns-clause-opening : goal.returns-clause-opening
-returns-clause-opening c =
+pub returns : goal.returns
+returns c =
     let p = c.plan-plan.result.now in
     let same = c.plan-plan.ensures.plan in
     let lines = c.in_ok-new.field-0 in
     let s : State = record { actors = c.in_ok-actors.field-0.items; nodes = c.len.result; ways = lines.ways; wiring = lines.wiring; wires = c.in_ok-from_slice.field-0; channels = c.in_ok-channels_of.field-0.items } in
-    subst (λ z. IsOpening z s) same
-    (opened p s (subst IsAccepted (sym same) c.plan-plan.ensures.accepted) (subst (λ z. AreFirst z (actors z) c.in_ok-actors.field-0.items) (sym same) c.in_ok-actors.ensures) c.len.ensures
-    c.in_ok-new.ensures.count c.in_ok-new.ensures.empty c.in_ok-new.ensures.wired (c.in_ok-from_slice.ensures ∙ c.as_slice.ensures) c.in_ok-channels_of.ensures)
-
-pub returns-clause-awake : goal.returns-clause-awake
-returns-clause-awake c = λ k low. bit_at_ones 64 k low
+    record {
+      opening = subst (λ z. IsOpening z s) same
+          (opened p s (subst IsAccepted (sym same) c.plan-plan.ensures.accepted) (subst (λ z. AreFirst z (actors z) c.in_ok-actors.field-0.items) (sym same) c.in_ok-actors.ensures) c.len.ensures
+          c.in_ok-new.ensures.count c.in_ok-new.ensures.empty c.in_ok-new.ensures.wired (c.in_ok-from_slice.ensures ∙ c.as_slice.ensures) c.in_ok-channels_of.ensures);
+    }

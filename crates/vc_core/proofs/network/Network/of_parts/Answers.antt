@@ -1,6 +1,5 @@
 use Rattle.std.proofs.Common.{◌*◌, length, refl, sym, ap, subst, ◌∙◌}
 use Rattle.std.proofs.lemmas.List.{length-map}
-use Rattle.std.proofs.lemmas.Nat.Bits.{bit_at_ones}
 use Rattle.vc_plan.specs.Accepted.{IsAccepted}
 use Rattle.vc_plan.specs.declared.plan.Plan.{Plan}
 use Rattle.vc_tokens.specs.CodeTokens.{tokens as all_spelt}
@@ -28,5 +27,4 @@ returns c =
           (c.in_ok-from_slice.ensures ∙ (c.as_slice.ensures ∙ ap (λ (z : Plan). z.wires) same)) (subst (λ z. AreChannelsOf z c.in_ok-channels_of.field-0.items) same c.in_ok-channels_of.ensures);
       actors = refl;
       ways = laid;
-      awake = λ k low. bit_at_ones 64 k low;
     }

@@ -48,7 +48,7 @@ returns-in_default-clause-makes c = λ p is.
     ])
 
 pub returns-in-Some-clause-awake : goal.returns-in-Some-clause-awake
-returns-in-Some-clause-awake c =
+returns-in-Some-clause-awake c = λ mask.
     let n = c.args.self.now in
     let off = c.take_front-token.ensures in
     let f = off.0 in
@@ -61,4 +61,4 @@ returns-in-Some-clause-awake c =
     }
 
 pub returns-in_default-clause-awake : goal.returns-in_default-clause-awake
-returns-in_default-clause-awake c = let n = c.args.self.now in still_awake (state_of n) (state_of n) n.awake n.awake refl refl
+returns-in_default-clause-awake c = λ mask. let n = c.args.self.now in still_awake (state_of n) (state_of n) mask mask refl refl

@@ -1,4 +1,4 @@
-use Rattle.std.proofs.Common.{IfSome, sym, subst}
+use Rattle.std.proofs.Common.{IfSome, refl, sym, subst}
 use Rattle.vc_core.specs.State.{state_of, IsNetworkOf, MayActAt, MakesEvent, WaysLet}
 use Rattle.vc_core.specs.Turns.{FindsEventOf}
 use Rattle.vc_core.proofs.Awake.{still_awake, then_awake}
@@ -26,10 +26,10 @@ returns-clause-awake c =
     let a = c.args.self.now in
     let b = c.next_of.new.self in
     let d = c.make.new.self in
-    then_awake (state_of a) (state_of b) (state_of d) a.awake b.awake d.awake c.in_ok-event.ensures.same c.in_ok-event.ensures.awake c.in_ok-make.ensures.awake
+    then_awake (state_of a) (state_of b) (state_of d) c.args.awake.now c.args.awake.now c.make.new.awake c.in_ok-event.ensures.same refl c.in_ok-make.ensures.awake
 
 pub returns-in_default-clause-awake : goal.returns-in_default-clause-awake
 returns-in_default-clause-awake c =
     let a = c.args.self.now in
     let b = c.next_of.new.self in
-    still_awake (state_of a) (state_of b) a.awake b.awake c.in_ok-event.ensures.same c.in_ok-event.ensures.awake
+    still_awake (state_of a) (state_of b) c.args.awake.now c.args.awake.now c.in_ok-event.ensures.same refl

@@ -35,6 +35,6 @@ returns-clause-runs g c = λ p es kept run.
     let e : Event = record { actor = c.args.actor; act = Take c.in-Some.link c.next_word-word.result } in
     let front = (subst (FindsFront s c.args.actor) c.in-Some.is c.link_to_take.ensures.least).0 in
     let makes = c.take_front.ensures.makes p run.reached.is in
-    one_more g.K.EventSink.holds p es e a _ _ (c.in_ok-record.ensures p es s kept makes) refl makes
+    one_more g.K.EventSink.holds p es e a _ c.args.progress.now _ _ (c.in_ok-record.ensures p es s kept makes) refl makes
     (given_take p es a.generators c.next_word-word.new.self c.args.actor c.in-Some.link c.next_word-word.result c.next_word-word.ensures run.words)
-    (acts_quiet p s t e a.network.awake c.take_front.new.self.awake run.reached.is (front_happens p s c.args.actor c.in-Some.link c.next_word-word.result run.reached.is front) makes c.take_front.ensures.awake run.quiet) run
+    (acts_quiet p s t e c.args.progress.now.awake c.args.progress.now.awake run.reached.is (front_happens p s c.args.actor c.in-Some.link c.next_word-word.result run.reached.is front) makes (c.take_front.ensures.awake c.args.progress.now.awake) run.quiet) run

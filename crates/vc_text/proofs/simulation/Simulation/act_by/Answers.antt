@@ -14,9 +14,9 @@ returns-clause-runs g c = λ p es kept run.
     let t = state_of c.turn_by.new.self in
     let found = subst (FindsEventOf c.args.kind p s c.args.actor) c.in-Some.is (c.in_ok-event.ensures.finds p run.reached.is) in
     let makes = subst (λ m. MakesOne p s m t) c.in-Some.is (c.in_ok-event.ensures.makes p run.reached.is) in
-    one_more g.K.EventSink.holds p es c.in-Some.event a _ _ (c.in_ok-record.ensures p es s kept makes) refl makes
+    one_more g.K.EventSink.holds p es c.in-Some.event a _ c.args.progress.now _ _ (c.in_ok-record.ensures p es s kept makes) refl makes
     (given_still p es c.in-Some.event a.generators a.generators found.1 refl run.words)
-    (acts_quiet p s t c.in-Some.event a.network.awake c.turn_by.new.self.awake run.reached.is found.2 makes c.in_ok-event.ensures.awake run.quiet) run
+    (acts_quiet p s t c.in-Some.event c.args.progress.now.awake c.turn_by.new.awake run.reached.is found.2 makes c.in_ok-event.ensures.awake run.quiet) run
 
 pub returns-in_default-clause-runs : goal.returns-in_default-clause-runs
 returns-in_default-clause-runs g c = λ p es kept run.
@@ -30,6 +30,6 @@ returns-in_default-clause-runs g c = λ p es kept run.
         reached = subst (Reached p es) (sym same) run.reached;
         many = run.many;
         words = run.words;
-        quiet = same_quiet p s t a.network.awake c.turn_by.new.self.awake same c.in_ok-event.ensures.awake run.quiet;
+        quiet = same_quiet p s t c.args.progress.now.awake c.turn_by.new.awake same c.in_ok-event.ensures.awake run.quiet;
       },
     )

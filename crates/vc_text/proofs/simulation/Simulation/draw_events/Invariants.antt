@@ -1,12 +1,12 @@
 use Rattle.std.proofs.Common.{◌≤◌, ◌-◌}
-use Rattle.vc_text.specs.Private.Simulation.{LeadsOn}
+use Rattle.vc_text.specs.Private.Simulation.{LeadsOnSoFar, all_awake}
 use Rattle.vc_text.proofs.simulation.Simulation.draw_events.Given as goal
 
-abbrev pub invariant-loop-self : goal.invariant-loop-self
-invariant-loop-self g l = record {
-  few : l.self.made ≤ l.limit;
-  runs : LeadsOn g.K.EventSink.holds l.fn.self l.fn.events l.self l.events;
+abbrev pub invariant-loop-progress : goal.invariant-loop-progress
+invariant-loop-progress g l = record {
+  few : l.progress.made ≤ l.limit;
+  runs : LeadsOnSoFar g.K.EventSink.holds l.fn.self l.fn.events (all_awake l.fn.self.made) l.self l.events l.progress;
 }
 
-abbrev pub decreases-loop-self : goal.decreases-loop-self
-decreases-loop-self g l = l.limit - l.self.made
+abbrev pub decreases-loop-progress : goal.decreases-loop-progress
+decreases-loop-progress g l = l.limit - l.progress.made

@@ -3,7 +3,6 @@ use Rattle.vc_core.specs.State.{state_of}
 use Rattle.vc_core.proofs.Leaving.{few}
 use Rattle.vc_core.proofs.Replayed.{reached_first}
 use Rattle.vc_text.proofs.Drawing.{none_given}
-use Rattle.vc_text.proofs.Quieting.{none_quiet}
 use Rattle.vc_text.proofs.simulation.Simulation.new.Goals as goal
 
 pub returns-clause-opens : goal.returns-clause-opens
@@ -17,5 +16,4 @@ returns-clause-opens c =
       reached = reached;
       many = refl;
       words = none_given p c.in_ok-generators.generators (omega (arith, nodes, switches)) c.in_ok-generators.ensures;
-      quiet = none_quiet p s c.in_ok-network.network.awake c.in_ok-network.ensures.awake;
     }

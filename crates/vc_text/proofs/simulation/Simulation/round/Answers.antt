@@ -15,7 +15,7 @@ pub loop-actor-init : goal.loop-actor-init
 loop-actor-init g c = record {
   few = c.requires;
   edge = (0, omega arith, refl);
-  runs = stays_on g.K.EventSink.holds c.args.self.now c.args.events.now;
+  runs = stays_on g.K.EventSink.holds c.args.self.now c.args.events.now c.args.progress.now;
   some = omega arith;
   same = λ e p es kept run. refl;
   rests = λ e p es kept run k low none node. absurd (let all = bit_at_ones 64 k low in omega (arith, all, none));
@@ -26,23 +26,23 @@ loop-actor-preserved g c =
     let inv = c.loop-actor.invariant in
     let n = c.in_ok-act.ensures in
     let had = c.in_ok-act.field-0 in
-    let under = c.if-self-limit.false in
-    let made = counted_few had c.loop-actor.self.made c.act.new.self.made n.made in
+    let under = c.if-progress-limit.false in
+    let made = counted_few had c.loop-actor.progress.made c.act.new.progress.made n.made in
     let next = c.in-Some.ensures in
     let past = next.0 in
     record {
       few = omega (arith, made, under);
       edge = (c.in-Some.actor + 1, omega arith, c.after-left.ensures);
-      runs = then_on g.K.EventSink.holds c.args.self.now c.loop-actor.self c.act.new.self c.args.events.now c.loop-actor.events c.act.new.events inv.runs n.runs;
+      runs = then_on g.K.EventSink.holds c.args.self.now c.loop-actor.self c.act.new.self c.args.events.now c.loop-actor.events c.act.new.events c.args.progress.now c.loop-actor.progress c.act.new.progress inv.runs n.runs;
       some = (let s = inv.some in omega (arith, made, s));
-      same = λ e p es kept run. (let b = still had c.args.self.now.made c.loop-actor.self.made c.act.new.self.made inv.some n.made e in
+      same = λ e p es kept run. (let b = still had c.args.progress.now.made c.loop-actor.progress.made c.act.new.progress.made inv.some n.made e in
           let mid = inv.runs p es kept run in n.still (ap Ok b.1) p mid.2.reached.is ∙ inv.same b.0 p es kept run);
-      rests = λ e p es kept run k less gone node. (let b = still had c.args.self.now.made c.loop-actor.self.made c.act.new.self.made inv.some n.made e in
+      rests = λ e p es kept run k less gone node. (let b = still had c.args.progress.now.made c.loop-actor.progress.made c.act.new.progress.made inv.some n.made e in
           let mid = inv.runs p es kept run in
           let same = inv.same b.0 p es kept run in
           elim (cases_lt k c.in-Some.actor) [
             | inl sooner ↦ elim (cases_eq (bit_at c.loop-actor.left k) 1) [
-              | inl has ↦ subst (λ z. Rests p z k) same (mid.2.quiet k less (subst (λ m. bit_at m k ≡ 0) c.awake.ensures (next.2 k sooner has)))
+              | inl has ↦ subst (λ z. Rests p z k) same (mid.2.quiet k less (next.2 k sooner has))
               | inr ne ↦ inv.rests b.0 p es kept run k less (let bit = bit_at-lt c.loop-actor.left k in omega (arith, bit, ne)) node
             ]
             | inr later ↦ elim (cases_lt c.in-Some.actor k) [
@@ -62,14 +62,14 @@ loop-actor-smaller g c =
     let less = fewer_after edge.0 c.in-Some.actor past next.0 in
     subst (λ m. m < c.loop-actor.left) (sym c.after-left.ensures) (subst (λ m. 2 ^ 64 - 2 ^ (c.in-Some.actor + 1) < m) (sym edge.2) less)
 
-pub returns-then-self-limit-clause-ends : goal.returns-then-self-limit-clause-ends
-returns-then-self-limit-clause-ends g c = λ e p es kept run. inl (omega (arith, c.if-self-limit.true, c.loop-actor.invariant.few))
+pub returns-then-progress-limit-clause-ends : goal.returns-then-progress-limit-clause-ends
+returns-then-progress-limit-clause-ends g c = λ e p es kept run. inl (omega (arith, c.if-progress-limit.true, c.loop-actor.invariant.few))
 
 pub returns-clause-ends : goal.returns-clause-ends
 returns-clause-ends g c = λ e p es kept run.
     let inv = c.loop-actor.invariant in
-    let upto : c.loop-actor.self.made ≤ c.args.self.now.made = ltb-false c.args.self.now.made c.loop-actor.self.made (cc) in
-    let none : c.loop-actor.self.made ≡ c.args.self.now.made = let s = inv.some in omega (arith, s, upto) in
+    let upto : c.loop-actor.progress.made ≤ c.args.progress.now.made = ltb-false c.args.progress.now.made c.loop-actor.progress.made (cc) in
+    let none : c.loop-actor.progress.made ≡ c.args.progress.now.made = let s = inv.some in omega (arith, s, upto) in
     let mid = inv.runs p es kept run in
     let same = inv.same none p es kept run in
     let nodes = (few p run.reached.is.accepted).0 in
@@ -78,6 +78,6 @@ returns-clause-ends g c = λ e p es kept run.
     inr (subst (IsAtRest p) (sym same) (all_rest p s run.reached.is (actors p) (omega arith) (λ k less.
     let low : k < 64 = omega arith in
     elim (cases_eq (bit_at c.loop-actor.left k) 1) [
-      | inl has ↦ subst (λ z. Rests p z k) same (mid.2.quiet k low (subst (λ m. bit_at m k ≡ 0) c.awake.ensures (c.in_default.ensures k low has)))
+      | inl has ↦ subst (λ z. Rests p z k) same (mid.2.quiet k low (c.in_default.ensures k low has))
       | inr ne ↦ inv.rests none p es kept run k low (let bit = bit_at-lt c.loop-actor.left k in omega (arith, bit, ne)) less
     ])))

@@ -5,18 +5,18 @@ use Rattle.vc_core.specs.State.{state_of}
 use Rattle.vc_core.specs.Private.Turns.{Rests}
 use Rattle.vc_actor.specs.Turns.{actors}
 use Rattle.vc_core.specs.declared.event.Event.{Event}
-use Rattle.vc_text.specs.Private.Simulation.{HasRun, HasTaken, LeadsOn}
+use Rattle.vc_text.specs.Private.Simulation.{HasRunSoFar, HasTaken, LeadsOnSoFar}
 use Rattle.vc_text.proofs.simulation.Simulation.round.Given as goal
 
 abbrev pub invariant-loop-actor : goal.invariant-loop-actor
 invariant-loop-actor g l = record {
-  few : l.self.made ≤ l.limit;
+  few : l.progress.made ≤ l.limit;
   edge : (from : ℕ) × (from ≤ 64) × (l.left ≡ 2 ^ 64 - 2 ^ from);
-  runs : LeadsOn g.K.EventSink.holds l.fn.self l.fn.events l.self l.events;
-  some : l.fn.self.made ≤ l.self.made;
-  same : l.self.made ≡ l.fn.self.made → (p : Plan) (es : List Event) → HasTaken g.K.EventSink.holds l.fn.events p es l.fn.self → HasRun p es l.fn.self →
+  runs : LeadsOnSoFar g.K.EventSink.holds l.fn.self l.fn.events l.fn.progress l.self l.events l.progress;
+  some : l.fn.progress.made ≤ l.progress.made;
+  same : l.progress.made ≡ l.fn.progress.made → (p : Plan) (es : List Event) → HasTaken g.K.EventSink.holds l.fn.events p es l.fn.self → HasRunSoFar p es l.fn.self l.fn.progress →
       state_of l.self.network ≡ state_of l.fn.self.network;
-  rests : l.self.made ≡ l.fn.self.made → (p : Plan) (es : List Event) → HasTaken g.K.EventSink.holds l.fn.events p es l.fn.self → HasRun p es l.fn.self →
+  rests : l.progress.made ≡ l.fn.progress.made → (p : Plan) (es : List Event) → HasTaken g.K.EventSink.holds l.fn.events p es l.fn.self → HasRunSoFar p es l.fn.self l.fn.progress →
       (k : ℕ) → k < 64 → bit_at l.left k ≡ 0 → k < actors p → Rests p (state_of l.fn.self.network) k;
 }
 

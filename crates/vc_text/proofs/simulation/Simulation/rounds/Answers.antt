@@ -1,7 +1,26 @@
-use Rattle.std.proofs.Common.{ap, Ok}
+use Rattle.std.proofs.Common.{◌≤◌, Ok, ap, subst, sym}
+use Rattle.vc_text.specs.Private.Simulation.{LeadsOnSoFar, all_awake}
+use Rattle.vc_text.specs.declared.simulation.Progress.{Progress}
+use Rattle.vc_text.proofs.Simulated.{counts, goes_on, stays_on}
 use Rattle.vc_text.proofs.simulation.Simulation.rounds.Goals as goal
+
+pub loop-init : goal.loop-init
+loop-init g c =
+    let s = c.args.self.now in
+    let e = c.args.events.now in
+    let first = all_awake s.made in
+    record {
+      few = subst (λ (z : Progress). z.made ≤ c.args.limit) (sym c.progress-progress.ensures) c.requires;
+      runs = subst (λ (z : Progress). LeadsOnSoFar g.K.EventSink.holds s e first s e z) (sym c.progress-progress.ensures) (stays_on g.K.EventSink.holds s e first);
+    }
+
+pub returns-clause-runs : goal.returns-clause-runs
+returns-clause-runs g c = λ p es kept run.
+    let mid = c.loop.invariant.runs p es kept (goes_on p es c.args.self.now run) in
+    let end = c.in_ok-round.ensures.runs p mid.0 mid.1 mid.2 in
+    (end.0, end.1, counts p end.0 c.round.new.self c.round.new.progress end.2)
 
 pub returns-clause-ends : goal.returns-clause-ends
 returns-clause-ends g c = λ p es kept run.
-    let mid = c.loop.invariant.runs p es kept run in
+    let mid = c.loop.invariant.runs p es kept (goes_on p es c.args.self.now run) in
     c.in_ok-round.ensures.ends (ap Ok c.if-branch.false) p mid.0 mid.1 mid.2

@@ -20,9 +20,9 @@ returns-clause-runs g c = λ p es kept run.
     let t = state_of c.turn.new.self in
     let found = subst (FindsEvent p s c.args.actor) c.in-Some.is (c.in_ok-event.ensures.finds p run.reached.is) in
     let makes = subst (λ m. MakesOne p s m t) c.in-Some.is (c.in_ok-event.ensures.makes p run.reached.is) in
-    one_more g.K.EventSink.holds p es c.in-Some.event a _ _ (c.in_ok-record.ensures p es s kept makes) refl makes
+    one_more g.K.EventSink.holds p es c.in-Some.event a _ c.args.progress.now _ _ (c.in_ok-record.ensures p es s kept makes) refl makes
     (given_still p es c.in-Some.event a.generators a.generators found.1 refl run.words)
-    (acts_quiet p s t c.in-Some.event a.network.awake c.turn.new.self.awake run.reached.is found.2 makes c.in_ok-event.ensures.awake run.quiet) run
+    (acts_quiet p s t c.in-Some.event c.args.progress.now.awake c.turn.new.awake run.reached.is found.2 makes c.in_ok-event.ensures.awake run.quiet) run
 
 pub returns-in_default-clause-runs : goal.returns-in_default-clause-runs
 returns-in_default-clause-runs g c = λ p es kept run.
@@ -31,14 +31,14 @@ returns-in_default-clause-runs g c = λ p es kept run.
     let t = state_of c.turn.new.self in
     let same : t ≡ s = subst (λ o. MakesOne p s o t) c.in_default.is (c.in_ok-event.ensures.makes p run.reached.is) in (
       es,
-      subst (g.K.EventSink.holds c.args.events.now p es) (sym (c.rest.ensures.same ∙ same)) kept,
+      subst (g.K.EventSink.holds c.args.events.now p es) (sym same) kept,
       record {
-        reached = subst (Reached p es) (sym (c.rest.ensures.same ∙ same)) run.reached;
+        reached = subst (Reached p es) (sym same) run.reached;
         many = run.many;
         words = run.words;
-        quiet = one_quiet p t (state_of c.rest.new.self) c.turn.new.self.awake c.rest.new.self.awake c.args.actor c.rest.ensures.same c.rest.ensures.others
+        quiet = one_quiet p t t c.turn.new.awake c.without-progress.result c.args.actor refl c.without-progress.ensures.others
             (subst (λ z. Rests p z c.args.actor) (sym same) (rests_here p s c.args.actor run.reached.is c.requires.none (subst (FindsEvent p s c.args.actor) c.in_default.is (c.in_ok-event.ensures.finds p run.reached.is))))
-            (same_quiet p s t a.network.awake c.turn.new.self.awake same c.in_ok-event.ensures.awake run.quiet);
+            (same_quiet p s t c.args.progress.now.awake c.turn.new.awake same c.in_ok-event.ensures.awake run.quiet);
       },
     )
 
@@ -52,7 +52,7 @@ pub returns-in_default-clause-still : goal.returns-in_default-clause-still
 returns-in_default-clause-still g c = λ e p is.
     let s = state_of c.args.self.now.network in
     let t = state_of c.turn.new.self in
-    c.rest.ensures.same ∙ subst (λ o. MakesOne p s o t) c.in_default.is (c.in_ok-event.ensures.makes p is)
+    subst (λ o. MakesOne p s o t) c.in_default.is (c.in_ok-event.ensures.makes p is)
 
 pub returns-in_default-clause-rests : goal.returns-in_default-clause-rests
 returns-in_default-clause-rests g c = λ e p is.

@@ -1,9 +1,0 @@
-use Rattle.std.proofs.lemmas.Nat.Bits.{bit_at_clear_other, bit_at_clear_same}
-use Rattle.std.specs.Int.{w64}
-use Rattle.vc_core.proofs.network.Network.rest.Goals as goal
-
-pub returns-clause-it : goal.returns-clause-it
-returns-clause-it c = bit_at_clear_same w64 c.args.self.now.awake c.args.actor c.requires
-
-pub returns-clause-others : goal.returns-clause-others
-returns-clause-others c = λ k low ne. bit_at_clear_other w64 c.args.self.now.awake c.args.actor c.requires k low ne
