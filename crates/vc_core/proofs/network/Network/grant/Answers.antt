@@ -1,5 +1,4 @@
-use Rattle.std.proofs.Common.{◌≡◌, [], ◌∷◌, ◌++◌, slice_get, Some, ap, ◌∙◌, inl, inr, refl, sym, subst}
-use Rattle.std.specs.Int.{bit_at}
+use Rattle.std.proofs.Common.{◌≡◌, [], ◌∷◌, ◌++◌, slice_get, Some, inl, inr, refl, sym, subst}
 use Rattle.vc_actor.specs.Acts.{MayAct}
 use Rattle.vc_tokens.specs.Tokens as tokens
 use Rattle.vc_core.specs.Lines.{Lined}

@@ -1,4 +1,4 @@
-use Rattle.std.proofs.Common.{◌≡◌, Bool, true, false, Result, Ok, refl, subst, sym, ◌∙◌}
+use Rattle.std.proofs.Common.{◌≡◌, Bool, true, false, Result, Ok, refl, subst, sym}
 use Rattle.vc_core.specs.Private.Turns.{Rests}
 use Rattle.vc_core.specs.State.{state_of, MakesOne}
 use Rattle.vc_core.specs.Turns.{FindsEvent}
