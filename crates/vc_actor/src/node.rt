@@ -460,6 +460,10 @@ impl Node {
             OnOk result (MakesMove plan k self.old made.now self.new) }
         ensures err { OnErr result (self.new ≡ self.old) }
     {
+        if let Some(number) = self.process.number(made) {
+            self.inside.exchange(chan, &number.to_le_bytes())?;
+            return self.process.act(made, Answer::GotNumber(number));
+        }
         let Some(message) = self.process.value(made)? else {
             unreachable!();
         };

@@ -22,11 +22,16 @@ word : (z : ℤ) → mag z < 2 ^ 63 → cast_unsigned w64 z < 2 ^ 64
 word (pos n) h = omega arith
 word (negsuc n) h = omega arith
 
-number_kept : (z : ℤ) → within z ≡ Some z → number_of (number_bytes z) ≡ z
+read_back : (z : ℤ) → mag z < 2 ^ 63 → number_of (number_bytes z) ≡ z
 unfolding number_bytes number_of
-number_kept z h =
-    let m : mag z < 2 ^ 63 = (let b = magnitude z h in grind (arith, nat_tests)) in
-    ap (cast_signed w64) (from_le_bytes-to_le_bytes_8 (cast_unsigned w64 z) (word z m)) ∙ to_z-of_z w64 z (record { sfits = m })
+read_back z m = ap (cast_signed w64) (from_le_bytes-to_le_bytes_8 (cast_unsigned w64 z) (word z m)) ∙ to_z-of_z w64 z (record { sfits = m })
+
+number_kept : (z : ℤ) → within z ≡ Some z → number_of (number_bytes z) ≡ z
+number_kept z h = read_back z (let b = magnitude z h in grind (arith, nat_tests))
+
+-- a variable that holds a number receives the message of another as that number
+pub number_received : (d : Datum) (w z : ℤ) → d ≡ datum.Int w → mag z < 2 ^ 63 → received d (number_bytes z) ≡ datum.Int z
+number_received d w z h m = ap (λ (x : Datum). received x (number_bytes z)) h ∙ ap datum.Int (read_back z m)
 
 pub received_sent : (x d : Datum) → SameKind x d → received d (message x) ≡ x
 received_sent (datum.Int z) (datum.Int w) h = ap datum.Int (number_kept z h)

@@ -9,10 +9,10 @@ use Rattle.vc_occam.specs.SiteActions as action
 use Rattle.vc_occam.specs.declared.moves.Move.{Move}
 use Rattle.vc_occam.specs.declared.moves.Move.TheVariants as move
 use Rattle.vc_occam.specs.declared.answer.Answer.{Answer}
-use Rattle.vc_occam.specs.declared.answer.Answer.TheVariants.{Nothing, Waits, Got}
+use Rattle.vc_occam.specs.declared.answer.Answer.TheVariants.{Nothing, Waits, Got, GotNumber}
 use Rattle.vc_process.specs.Values.{Store, datum_of}
 use Rattle.vc_process.specs.Syntax.{Output}
-use Rattle.vc_process.specs.Messages.{message}
+use Rattle.vc_process.specs.Messages.{message, number_bytes}
 use Rattle.vc_occam.specs.Traces.{Comm, Out, Fin, In, Stp, End}
 use Rattle.vc_occam.specs.Remains.{Rest, Fresh, Finishing, Getting, Then, Turns, Beside, Step, TraceRest}
 
@@ -77,6 +77,7 @@ bytes_or_none None = []
 
 abbrev pub came : Answer → Option (List ℕ)
 came (Got m) = Some m
+came (GotNumber z) = Some (number_bytes z)
 came Nothing = None
 came Waits = None
 

@@ -5,7 +5,7 @@ ghost use Rattle.vc_occam.specs.declared.outcome.Outcome.TheVariants.{Ended};
 ghost use Rattle.vc_occam.specs.Frames.{is_at_itself, is_sound};
 ghost use Rattle.vc_occam.specs.Private.Frames.{Acted, CanGo, HasGot, HasGuard, Went, alt_shape, assigned_shape, branching_shape, chosen_from, count_turn, counting_shape, looping_shape, seen_guards, shape, unstopped};
 ghost use Rattle.vc_occam.specs.Private.SiteSteps.{message_at, quiet_at};
-ghost use Rattle.vc_process.specs.Messages.{received};
+ghost use Rattle.vc_process.specs.Messages.{number_bytes, received};
 ghost use Rattle.vc_process.specs.Terms.{as_test, exp, given, store};
 ghost use Rattle.vc_process.specs.Values.{assigned_bytes, value_of};
 
@@ -13,7 +13,8 @@ use crate::frame::{
     Alt, Assignment, Branch, Choice, Construct, Count, Frame, If, Input, Turn, While,
 };
 use crate::outcome::Outcome;
-use crate::variables::{put, set_variable};
+use crate::variables::{put, put_number, set_variable};
+use std::alloc::Global;
 use vc_packets::Bytes;
 use vc_process::Datum;
 
@@ -98,6 +99,19 @@ impl Input {
         ensures length { length vars.new.items ≡ length vars.old.items }
     {
         put(vars, self.var, message);
+        Outcome::Ended
+    }
+
+    /// The message comes that carries a number.
+    #[inline(always)]
+    pub(crate) fn take_number(&self, alloc: Global, number: i64, vars: &mut Vec<Datum>) -> Outcome
+        requires variable { self.now.var < length vars.old.items }
+        ensures ended { result ≡ Ended }
+        ensures value { store vars.new.items ≡ set (store vars.old.items) self.now.var
+            (received (store vars.old.items self.now.var) (number_bytes number)) }
+        ensures length { length vars.new.items ≡ length vars.old.items }
+    {
+        put_number(alloc, vars, self.var, number);
         Outcome::Ended
     }
 }

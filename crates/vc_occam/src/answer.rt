@@ -2,6 +2,8 @@
 ghost use Rattle.std.specs.Prelude.{◌≡◌};
 ghost use Rattle.vc_occam.specs.States.{came};
 
+use crate::variables::number_message;
+use std::alloc::Global;
 use vc_packets::Bytes;
 
 /// What came of a move on its channel.
@@ -13,15 +15,18 @@ pub enum Answer {
     Waits,
     /// The input has this message.
     Got(Bytes),
+    /// The input has the message that carries this number.
+    GotNumber(i64),
 }
 
 impl Answer {
     /// The message that came, if one came.
-    pub(crate) fn message(self) -> Option<Bytes>
+    pub(crate) fn message(self, alloc: Global) -> Option<Bytes>
         ensures { result ≡ came self }
     {
         match self {
             Answer::Got(message) => Some(message),
+            Answer::GotNumber(number) => Some(number_message(alloc, number)),
             _ => None,
         }
     }

@@ -1,10 +1,11 @@
 //! Where a site stands among frames, and what it is about to do there.
-ghost use Rattle.std.specs.Prelude.{◌≡◌, ℕ, ◌<◌, ◌↔◌, IfOk, IsTrue, MatchOption, length, true};
+ghost use Rattle.std.specs.Prelude.{◌≡◌, ℕ, ◌<◌, ◌↔◌, IfOk, IfSome, IsTrue, MatchOption, Some, length, true};
 ghost use Rattle.std.specs.List.{Contains};
 ghost use Rattle.vc_occam.specs.Frames.{plans_of, rest_of, view};
 ghost use Rattle.vc_occam.specs.Private.Frames.{HasNothingAt, IsAtItself, StandsAt, assigned_at, output_shape, own_moves, place_with, shown, task_views, whole};
 ghost use Rattle.vc_occam.specs.Private.Sites.{InPreorder, PartsInPreorder};
 ghost use Rattle.vc_occam.specs.States.{carried, output_at};
+ghost use Rattle.vc_process.specs.Messages.{number_bytes};
 ghost use Rattle.vc_process.specs.Terms.{store};
 
 use crate::frame::{Construct, Frame, Output, Task};
@@ -12,7 +13,7 @@ use crate::guards::has_choice;
 use crate::moves::{Move, site_of};
 use std::alloc::Global;
 use vc_packets::{Bytes, Memory};
-use vc_process::Datum;
+use vc_process::{Datum, Value};
 
 impl Task<Frame> {
     /// The frame that a site is at, down the parts that go on; None where the part that has it has ended.
@@ -41,6 +42,17 @@ impl Task<Frame> {
             Some(frame) => frame.has_move(made, vars),
             None => false,
         }
+    }
+
+    /// The number of the output that can begin at a site; None where it is one of bytes, or there is none.
+    pub(crate) fn number(&self, site: u16, vars: &[Datum]) -> Option<i64>
+        requires sound { (shown self.now).sound ≡ true }
+        requires in_preorder { InPreorder (whole self.now) }
+        ensures { IfSome result (λ number.
+            carried (output_at site (shown self.now).rest (store vars.now)) ≡
+            Some (number_bytes number)) }
+    {
+        self.find(site)?.own_number(site, vars)
     }
 
     /// The message of the output that can begin at a site, if there is one.
@@ -99,6 +111,22 @@ impl Frame {
         }
     }
 
+    /// The number of the output that can begin at its own site, if that is this site.
+    fn own_number(&self, site: u16, vars: &[Datum]) -> Option<i64>
+        requires alone { IsAtItself self.now }
+        ensures { IfSome result (λ number.
+            carried (output_at site (view self.now).rest (store vars.now)) ≡
+            Some (number_bytes number)) }
+    {
+        if self.site != site || self.stopped {
+            return None;
+        }
+        match &self.construct {
+            Construct::Send(output) => output.number(vars),
+            _ => None,
+        }
+    }
+
     /// The message of the output that can begin at its own site, if that is this site.
     fn own_message(&self, alloc: Global, site: u16, vars: &[Datum]) -> Result<Option<Bytes>, Memory>
         requires alone { IsAtItself self.now }
@@ -148,6 +176,21 @@ impl Frame {
 }
 
 impl Output {
+    /// The number with which it can begin; None where it is one of bytes, or cannot begin.
+    fn number(&self, vars: &[Datum]) -> Option<i64>
+        ensures { IfSome result (λ number. (site : ℕ) →
+            carried (output_at site (rest_of site (output_shape self.now)) (store vars.now)) ≡
+            Some (number_bytes number)) }
+    {
+        if self.begun {
+            return None;
+        }
+        match &self.value {
+            Value::Int(number) => number.value(vars),
+            Value::Bytes(_) => None,
+        }
+    }
+
     /// The message with which it can begin, if it can.
     fn message(&self, alloc: Global, vars: &[Datum]) -> Result<Option<Bytes>, Memory>
         ensures { IfOk result (λ sent. (site : ℕ) → sent ≡

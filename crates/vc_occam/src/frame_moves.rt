@@ -4,6 +4,8 @@ ghost use Rattle.vc_occam.specs.declared.frame.Frame.TheViews.{out-Frame};
 ghost use Rattle.vc_occam.specs.First.{first_moves, own};
 ghost use Rattle.vc_occam.specs.Frames.{all_sound, besides, rest_of, view};
 ghost use Rattle.vc_occam.specs.MoveSites.{from_site};
+ghost use Rattle.vc_occam.specs.declared.moves.Move.TheVariants as move;
+ghost use Rattle.vc_occam.specs.Private.MoveSites.{MeetAlone};
 ghost use Rattle.vc_occam.specs.Private.Frames.{GoesAlone, IsAtItself, first_waits, innermost, input_shape, is_open_alt, listed, output_shape, own_moves, shown, task_views, waits_of, whole};
 ghost use Rattle.vc_occam.specs.Private.Sites.{InPreorder};
 ghost use Rattle.vc_occam.specs.States.{waiting};
@@ -15,8 +17,7 @@ use crate::find::part_with;
 use crate::frame::{Choice, Construct, Frame, Input, Output, Par, Task};
 use crate::guards::{first_choice, push_choices};
 use crate::inner_channels::InnerChannels;
-use crate::meetings::meeting_of;
-use crate::moves::{Move, site_of};
+use crate::moves::Move;
 use crate::outcome::Outcome;
 use crate::waits::Waits;
 use sqlite_items::Items;
@@ -56,14 +57,15 @@ impl Task<Frame> {
         }
     }
 
-    /// Its only move, where it begins with one that is no step without a communication; None promises nothing.
-    fn only_move(&self, vars: &[Datum]) -> Option<Move>
+    /// The frame within it that goes on, which has all its moves; None where it begins with a step, or has ended.
+    #[inline(always)]
+    fn innermost(&self) -> Option<&Frame>
         requires { (shown self.now).sound ≡ true }
-        ensures { IfSome result (λ made.
-            own_moves (shown self.now) vars.now ≡ made ∷ []) }
+        ensures { IfSome result (λ frame. (e : Store) →
+            own (shown self.now).rest e ≡ own (view frame.now).rest e) }
     {
         match self.begins {
-            Outcome::Other => self.frame.only_move(vars),
+            Outcome::Other => Some(self.frame.innermost()),
             _ => None,
         }
     }
@@ -108,9 +110,12 @@ impl Par<Frame> {
         if self.tasks.len() != 2 {
             return None;
         }
-        let first = self.tasks[0].only_move(vars)?;
-        let second = self.tasks[1].only_move(vars)?;
-        meeting_of(&first, &second, inside)
+        let first = self.tasks[0].innermost()?;
+        let second = self.tasks[1].innermost()?;
+        match first.meeting_with(second, inside, vars) {
+            Some(met) => Some(met),
+            None => second.meeting_with(first, inside, vars),
+        }
     }
 }
 
@@ -152,18 +157,46 @@ impl Frame {
         }
     }
 
-    /// Its only move, where one is known; None promises nothing.
-    fn only_move(&self, vars: &[Datum]) -> Option<Move>
-        requires { (view self.now).sound ≡ true }
-        ensures { IfSome result (λ made. own_moves (view self.now) vars.now ≡ made ∷ []) }
+    /// The meeting of its output with the input of another frame inside the node, where each has no other move; None promises nothing.
+    #[inline(always)]
+    fn meeting_with(&self, receiver: &Frame, inside: &InnerChannels, vars: &[Datum]) -> Option<Move>
+        ensures { IfSome result
+            (MeetAlone (among inside.now) (own_moves (view self.now) vars.now)
+            (own_moves (view receiver.now) vars.now)) }
     {
-        let frame = self.innermost();
-        if let Construct::Par(_) = &frame.construct {
-            return None;
+        let chan = receiver.wanted_on()?;
+        if inside.contains(chan) && self.offers_on(chan, vars) {
+            return Some(Move::Inner {
+                sender: self.site,
+                receiver: receiver.site,
+                guard: None,
+                chan,
+            });
         }
-        match frame.open_guards() {
-            Some(_) => None,
-            None => frame.own_move(vars),
+        None
+    }
+
+    /// The channel of an input that it begins with.
+    #[inline(always)]
+    fn wanted_on(&self) -> Option<u16>
+        ensures { IfSome result (λ chan. (e : Store) →
+            own (view self.now).rest e ≡ move.Want (out-Frame self.now).site chan ∷ []) }
+    {
+        match &self.construct {
+            Construct::Receive(input) if !self.stopped && !input.begun => Some(input.chan),
+            _ => None,
+        }
+    }
+
+    /// Whether it begins with an output on a channel.
+    #[inline(always)]
+    fn offers_on(&self, chan: u16, vars: &[Datum]) -> bool
+        ensures { result ≡ true →
+            own_moves (view self.now) vars.now ≡ move.Offer (out-Frame self.now).site chan ∷ [] }
+    {
+        match &self.construct {
+            Construct::Send(output) => !self.stopped && output.begins_on(chan, vars),
+            _ => false,
         }
     }
 
@@ -276,6 +309,14 @@ impl Frame {
 }
 
 impl Output {
+    /// Whether it can begin, on this channel.
+    fn begins_on(&self, chan: u16, vars: &[Datum]) -> bool
+        ensures { result ≡ true → (site : ℕ) →
+            own (rest_of site (output_shape self.now)) (store vars.now) ≡ move.Offer site chan ∷ [] }
+    {
+        !self.begun && self.chan == chan && self.value.has_value(vars)
+    }
+
     /// Its move; where its value is a fault it stops.
     fn own_move(&self, site: u16, vars: &[Datum]) -> Option<Move>
         ensures { own (rest_of site (output_shape self.now)) (store vars.now) ≡ listed result }

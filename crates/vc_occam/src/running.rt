@@ -1,11 +1,12 @@
 //! Running processes.
 ghost use Rattle.std.specs.Prelude.{◌≡◌, length, true};
-ghost use Rattle.vc_occam.specs.Private.Frames.{Able, Did, HasVariables, shown, whole};
+ghost use Rattle.vc_occam.specs.Private.Frames.{Able, CanGo, Did, HasVariables, Went, shown, whole};
 ghost use Rattle.vc_occam.specs.Frames.{remains};
 ghost use Rattle.vc_occam.specs.InUse.{UsesLawfully};
 ghost use Rattle.vc_occam.specs.First.{own};
 ghost use Rattle.vc_occam.specs.Private.MoveSites.{CanBegin, HasMet, IsAlone, action_for, at};
-ghost use Rattle.vc_occam.specs.Private.SiteSteps.{one};
+ghost use Rattle.vc_occam.specs.Private.SiteSteps.{one, step_at};
+ghost use Rattle.vc_occam.specs.SiteActions as action;
 ghost use Rattle.vc_occam.specs.MoveSites.{site_of};
 ghost use Rattle.vc_occam.specs.Private.OneProof.{InPreorder-prop, OwnSites-prop, UsesLawfully-prop};
 ghost use Rattle.vc_occam.specs.Private.Sites.{InPreorder};
@@ -22,7 +23,7 @@ use crate::inner_channels::InnerChannels;
 use crate::meetings::{clear, is_outside, join, partner};
 use crate::moves::Move;
 use crate::outcome::Outcome;
-use crate::site_step::{Choose, Offer, Quiet, Resume, StopChannel, Want, WholeOutput};
+use crate::site_step::{Choose, Offer, Quiet, Resume, StopChannel, Want, WantNumber, WholeOutput};
 use crate::variables::empty_variables;
 use crate::waits::Waits;
 use sqlite_items::Items;
@@ -58,7 +59,13 @@ impl Drop for Running {
 }
 
 /// The site of a move with a communication makes it, where the channel gave this answer.
-fn go_alone(task: &mut Task<Frame>, vars: &mut Vec<Datum>, made: &Move, answer: Answer)
+fn go_alone(
+    alloc: Global,
+    task: &mut Task<Frame>,
+    vars: &mut Vec<Datum>,
+    made: &Move,
+    answer: Answer,
+)
     requires alone { IsAlone made.now }
     requires loud { IsQuiet made.now → ⊥ }
     requires able { Able (remains task.old) (store vars.old.items) (site_of made.now)
@@ -74,20 +81,13 @@ fn go_alone(task: &mut Task<Frame>, vars: &mut Vec<Datum>, made: &Move, answer: 
 {
     match *made {
         Move::Offer { site, chan } => task.go(&mut Offer { site, chan }, vars),
-        Move::Want { site, chan } => task.go(
-            &mut Want {
-                site,
-                chan,
-                message: answer.message(),
-            },
-            vars,
-        ),
+        Move::Want { site, chan } => go_wanting(alloc, task, vars, site, chan, answer),
         Move::Choose { site, guard, chan } => task.go(
             &mut Choose {
                 site,
                 place: guard,
                 chan,
-                message: answer.message(),
+                message: answer.message(alloc),
             },
             vars,
         ),
@@ -96,9 +96,48 @@ fn go_alone(task: &mut Task<Frame>, vars: &mut Vec<Datum>, made: &Move, answer: 
     };
 }
 
+/// An input has its message, or waits where there is none, as the channel answered.
+#[inline(always)]
+fn go_wanting(
+    alloc: Global,
+    task: &mut Task<Frame>,
+    vars: &mut Vec<Datum>,
+    site: u16,
+    chan: u16,
+    answer: Answer,
+) -> Outcome
+    requires can { CanGo (step_at site (one (action.Want chan (came answer)))) (shown task.old)
+        vars.old.items }
+    ensures went { Went (step_at site (one (action.Want chan (came answer)))) (shown task.old)
+        (store vars.old.items) result (shown task.new) (store vars.new.items) }
+    ensures begins { task.new.begins ≡ result }
+    ensures length { length vars.new.items ≡ length vars.old.items }
+{
+    match answer {
+        Answer::GotNumber(number) => task.go(
+            &mut WantNumber {
+                alloc,
+                site,
+                chan,
+                number,
+            },
+            vars,
+        ),
+        _ => task.go(
+            &mut Want {
+                site,
+                chan,
+                message: answer.message(alloc),
+            },
+            vars,
+        ),
+    }
+}
+
 /// An output meets an input or guard inside the node: it begins, its message is taken, and it is finished. Since an output may begin
 /// later than its message is taken, the frames are gone through twice.
 fn meet(
+    alloc: Global,
     task: &mut Task<Frame>,
     vars: &mut Vec<Datum>,
     sender: u16,
@@ -121,7 +160,7 @@ fn meet(
     ensures sound { (shown task.new).sound ≡ true }
     ensures length { length vars.new.items ≡ length vars.old.items }
 {
-    go_alone(task, vars, taken, answer);
+    go_alone(alloc, task, vars, taken, answer);
     task.go(&mut WholeOutput { site: sender, chan }, vars);
 }
 
@@ -134,6 +173,7 @@ impl Running {
     ghost use Rattle.vc_occam.specs.MoveSites.{BeginsToWait, from_site, site_of, without};
     ghost use Rattle.vc_occam.specs.Private.MoveSites.{CanMeet};
     ghost use Rattle.vc_occam.specs.declared.moves.Move.TheVariants as Move;
+    ghost use Rattle.vc_process.specs.Messages.{number_bytes};
     ghost use Rattle.vc_process.specs.Terms.{store};
     ghost use Rattle.vc_process.specs.InOrder.{number};
     ghost use Rattle.vc_process.specs.Numbering.{written};
@@ -285,6 +325,19 @@ impl Running {
             && self.task.begins_with(&taken, &self.vars)
     }
 
+    /// The number that the move's output sends, found without a message; None where it sends bytes, or the move has no output.
+    #[tactic(auto, unfolding(crate::specs::Runnings::state, crate::specs::Runnings::inner_channels))]
+    pub fn number(&self, made: &Move) -> Option<i64>
+        ensures { IfSome result (λ sent.
+            sent_by (state self.now) made.now ≡ Some (number_bytes sent)) }
+    {
+        match made {
+            Move::Offer { site, .. } => self.task.number(*site, &self.vars),
+            Move::Inner { sender, .. } => self.task.number(*sender, &self.vars),
+            _ => None,
+        }
+    }
+
     /// The message that the move's output sends; None where the move has no output.
     #[tactic(auto, unfolding(crate::specs::Runnings::state, crate::specs::Runnings::inner_channels))]
     pub fn value(&self, made: &Move) -> Result<Option<Bytes>, Memory>
@@ -325,6 +378,7 @@ impl Running {
             } => {
                 let taken = partner(*receiver, *guard, *chan);
                 meet(
+                    self.alloc,
                     &mut self.task,
                     &mut self.vars,
                     *sender,
@@ -352,7 +406,7 @@ impl Running {
             (doing made.now (sent_by (state self.old) made.now) answer) (state self.new) }
         ensures inside { inner_channels self.new ≡ inner_channels self.old }
     {
-        go_alone(&mut self.task, &mut self.vars, made, answer);
+        go_alone(self.alloc, &mut self.task, &mut self.vars, made, answer);
         self.hints.note(made);
     }
 

@@ -1,14 +1,16 @@
 //! What one site of a running process does, on the way to the site.
-ghost use Rattle.std.specs.Prelude.{◌≡◌, length};
+ghost use Rattle.std.specs.Prelude.{◌≡◌, Some, length};
 ghost use Rattle.vc_occam.specs.Frames.{view};
 ghost use Rattle.vc_occam.specs.Private.Frames.{CanGo, IsAtItself, Went};
 ghost use Rattle.vc_occam.specs.Private.MoveSites.{action_on};
 ghost use Rattle.vc_occam.specs.Private.SiteSteps.{StepAt, one, quiet_at, step_at, whole_output};
 ghost use Rattle.vc_occam.specs.SiteActions as action;
+ghost use Rattle.vc_process.specs.Messages.{number_bytes};
 ghost use Rattle.vc_process.specs.Terms.{store};
 
 use crate::frame::{Choice, Construct, Frame};
 use crate::outcome::Outcome;
+use std::alloc::Global;
 use vc_packets::Bytes;
 use vc_process::Datum;
 
@@ -173,6 +175,33 @@ impl SiteStep for Want {
                     Outcome::Nothing
                 }
             },
+            _ => Outcome::Nothing,
+        }
+    }
+}
+
+/// An input has the message that carries a number.
+#[derive(Drop)]
+pub(crate) struct WantNumber {
+    pub(crate) alloc: Global,
+    pub(crate) site: u16,
+    pub(crate) chan: u16,
+    pub(crate) number: i64,
+}
+
+impl SiteStep for WantNumber {
+    ghost stands_for = { λ s.
+        step_at s.site (one (action.Want s.chan (Some (number_bytes s.number)))) };
+
+    #[inline(always)]
+    fn site(&self) -> u16 {
+        self.site
+    }
+
+    #[inline(always)]
+    fn act(&mut self, frame: &mut Frame, vars: &mut Vec<Datum>) -> Outcome {
+        match &mut frame.construct {
+            Construct::Receive(input) => input.take_number(self.alloc, self.number, vars),
             _ => Outcome::Nothing,
         }
     }

@@ -1,5 +1,5 @@
 -- What a site does where a move is made, or where it goes on.
-use Rattle.std.specs.Prelude.{◌≡◌, ℕ, true, List, Option, Some, None}
+use Rattle.std.specs.Prelude.{◌≡◌, ℕ, true, List, [], ◌∷◌, Option, Some, None}
 use Rattle.std.specs.List.{Contains}
 use Rattle.vc_occam.specs.declared.answer.Answer.{Answer}
 use Rattle.vc_occam.specs.SiteActions.{SiteAction}
@@ -50,6 +50,16 @@ CanBegin ms i c m = ⊥
 -- an output and an input or guard can begin on a channel inside the node
 abbrev pub CanMeet : Set → List Move → ℕ → ℕ → Option ℕ → ℕ → Type 0
 CanMeet inside ms i j k c = (inside c ≡ true) × Contains ms (Offer i c) × Contains ms (partner j k c)
+
+-- one begins with an output alone and another with an input alone, which meet on a channel inside the node
+pub record MeetAlone (inside : Set) (offered wanted : List Move) (met : Move) : Type 0 where
+  pub sender : ℕ
+  pub receiver : ℕ
+  pub chan : ℕ
+  pub within : inside chan ≡ true
+  pub output : offered ≡ Offer sender chan ∷ []
+  pub input : wanted ≡ Want receiver chan ∷ []
+  pub is : met ≡ Inner sender receiver None chan
 
 abbrev pub at : Rest → Store → State
 at r e = record { rest = r; store = e }
