@@ -3,8 +3,11 @@
 
 The page is bench/edits/head.md, which is written by hand, and then a table for each crate: its edits, what each one's wrong body does, and
 who tries it. What it does is the edit's first line, behind a `#`: one sentence or two. Without --write it prints a line for each of these,
-and fails where there is one: an edit without such a line, an edit that head.md names and that is not there, and a page other than that of
-the files. With --write it writes the page.
+and fails where there is one: an edit without such a line, an edit that the sources do not take, an edit that head.md names and that is
+not there, and a page other than that of the files. With --write it writes the page.
+
+An edit is lines `file: PATH`, `old: TEXT` and `new: TEXT`, in order. Its crate's sources take it where each old text stands in its file
+once, after the edits before it.
 
 Made with rattle-kit-13f, logic dac8208d650f15bf.
 """
@@ -25,15 +28,52 @@ def text_of(path):
         return it.read()
 
 
+def paths():
+    return sorted(glob.glob(f"{ROOT}/crates/*/must-fail/*.edit") + glob.glob(f"{ROOT}/bench/edits/*/*.edit"))
+
+
+def crate_and_name(path):
+    steps = os.path.relpath(path, ROOT).split("/")
+    return steps[1 if steps[0] == "crates" else 2], steps[-1].removesuffix(".edit")
+
+
 def edits():
     """Each edit's crate, name, what it does (nothing where its first line does not say it) and who tries it."""
     found = []
-    for path in glob.glob(f"{ROOT}/crates/*/must-fail/*.edit") + glob.glob(f"{ROOT}/bench/edits/*/*.edit"):
-        steps = os.path.relpath(path, ROOT).split("/")
+    for path in paths():
         reason = REASON.match(text_of(path))
-        name = steps[-1].removesuffix(".edit")
-        found.append((steps[1 if steps[0] == "crates" else 2], name, reason and reason[1], TRIED[steps[0]]))
+        tried = TRIED[os.path.relpath(path, ROOT).split("/")[0]]
+        found.append((*crate_and_name(path), reason and reason[1], tried))
     return sorted(found)
+
+
+def refusal(path, crate):
+    """Why the sources of its crate do not take an edit; nothing where they do."""
+    texts, file, old = {}, None, None
+    for line in text_of(path).split("\n"):
+        word, _, rest = line.partition(": ")
+        if word == "file":
+            file = rest
+        elif word == "old":
+            old = rest
+        elif line.startswith("new:"):
+            place = f"{ROOT}/crates/{crate}/{file}"
+            if not os.path.isfile(place):
+                return f"{file} is not there"
+            text = texts.setdefault(file, text_of(place))
+            if text.count(old) != 1:
+                return f"{text.count(old)} times in {file}, and not once: {old.strip()}"
+            texts[file] = text.replace(old, line[4:].removeprefix(" "))
+    return None if texts else "it has no old and new text"
+
+
+def untaken():
+    """A line for each edit that the sources do not take."""
+    for path in paths():
+        crate, name = crate_and_name(path)
+        why = refusal(path, crate)
+        if why:
+            yield f"{crate}/{name}: {why}"
 
 
 def page(found):
@@ -52,6 +92,7 @@ def main():
     named = re.findall(r"`(vc_\w+/\w+)`", text_of(f"{ROOT}/bench/edits/head.md"))
     told = [f"{crate}/{name}: its first line does not say what it does" for crate, name, reason, _ in found if not reason]
     told += [f"bench/edits/head.md: {it} is no edit" for it in named if it not in there]
+    told += untaken()
     if "--write" in sys.argv and not told:
         with open(PAGE, "w", encoding="utf-8") as it:
             it.write(page(found))
