@@ -16,3 +16,4 @@ pub mod AbleMoves
 pub mod Turning
 pub mod Listing
 pub mod Leaving
+pub mod StepsInARow

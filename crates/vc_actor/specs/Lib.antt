@@ -9,4 +9,5 @@ pub mod MoveList
 pub mod OfPlan
 pub mod Parts
 pub mod Private
+pub mod StepsInARow
 pub mod Turns

@@ -1,11 +1,12 @@
 //! Actors: what the simulator and a thread run alike.
-ghost use Rattle.std.specs.Prelude.{◌≡◌, ◌<◌, ◌↔◌, ℕ, IsTrue, IfOk, IsOk, IfSome, OnOk, OnErr};
+ghost use Rattle.std.specs.Prelude.{◌≡◌, ◌<◌, ◌≤◌, ◌↔◌, ℕ, IsTrue, IfOk, IsOk, IfSome, OnOk, OnErr};
 ghost use Rattle.std.specs.Option.{option_copied};
 ghost use Rattle.vc_actor.specs.Able.{CanAct};
 ghost use Rattle.vc_actor.specs.Acts.{HasLink, MayAct, MakesOwn, MakesTake, MakesPut, MakesGrant, IsOwn};
 ghost use Rattle.vc_actor.specs.OfPlan.{IsActorOf};
 ghost use Rattle.vc_actor.specs.Parts.{HasEnded, node_in, switch_in, strays_of, lost_of, faults_of};
 ghost use Rattle.vc_actor.specs.ActorView.{OfNode, OfSwitch};
+ghost use Rattle.vc_actor.specs.StepsInARow.{MakesSteps};
 ghost use Rattle.vc_actor.specs.Turns.{FindsOf, FindsTurn, MakesTurn, PutsWithRoom, RoomLets};
 ghost use Rattle.vc_actor.specs.Private.Turns.{IsTold};
 ghost use Rattle.vc_network.specs.Plan.{Plan};
@@ -164,6 +165,21 @@ impl Actor {
                 Ok(())
             }
             Act::Take { .. } | Act::Put { .. } | Act::Fct { .. } => unreachable!(),
+        }
+    }
+
+    /// The process of a node makes steps without a communication, one after another, at most so many; answers how many. It makes some only
+    /// where its links are known to have nothing to do with this room, and as long as each is known to be its only move. A switch makes none.
+    /// It takes no memory.
+    pub fn make_steps(&mut self, room: u32, most: u64) -> u64
+        ensures few { result ≤ most }
+        ensures made { (plan : Plan) (k : ℕ) →
+            IsActorOf plan k self.old →
+            MakesSteps plan k result self.old self.new }
+    {
+        match &mut self.part {
+            Part::Node(node) => node.make_steps(room, most),
+            Part::Switch(_) => 0,
         }
     }
 

@@ -1,5 +1,5 @@
 //! A node: its process, and the virtual channel processor that carries its channels.
-ghost use Rattle.std.specs.Prelude.{◌≡◌, ◌≢◌, ◌<◌, ◌≤◌, ◌↔◌, ◌++◌, ℕ, [], length, true, false, Option, Some, None, IsTrue, IfOk, IfSome, OnOk, OnErr};
+ghost use Rattle.std.specs.Prelude.{◌≡◌, ◌≢◌, ◌<◌, ◌≤◌, ◌-◌, ◌↔◌, ◌++◌, ℕ, [], length, true, false, Option, Some, None, IsTrue, IfOk, IfSome, OnOk, OnErr};
 ghost use Rattle.std.specs.List.{Contains};
 ghost use Rattle.vc_blocks.specs.Messages.{listed};
 ghost use Rattle.vc_occam.specs.BlockedParts.{blocked as blocked_at};
@@ -21,7 +21,8 @@ ghost use Rattle.vc_actor.specs.ActorView.{process_of, OfNode};
 ghost use Rattle.vc_actor.specs.Private.Passes.{IsAwaited, MakesPass};
 ghost use Rattle.vc_actor.specs.ChannelView.{node_view};
 ghost use Rattle.vc_network.specs.Plan.{Plan};
-ghost use Rattle.vc_actor.specs.OfPlan.{IsNodeOf};
+ghost use Rattle.vc_actor.specs.OfPlan.{IsActorOf, IsNodeOf};
+ghost use Rattle.vc_actor.specs.StepsInARow.{MakesSteps};
 ghost use Rattle.vc_actor.specs.MayMove.{MayMove, AnswersMove, MakesMove};
 ghost use Rattle.vc_actor.specs.Private.Able.{HalfCan};
 ghost use Rattle.vc_actor.specs.Able.{NodeCan, CanMove};
@@ -33,7 +34,7 @@ use crate::room::has_room;
 use sqlite_items::Items;
 use std::alloc::Global;
 use vc_blocks::Messages;
-use vc_occam::{Answer, Blocked, Move, Running};
+use vc_occam::{Answer, Blocked, Move, Running, Steps};
 use vc_packets::{Bytes, Memory, Packet};
 use vc_tokens::Token;
 use vc_vcp::{Taken, Vcp, Want};
@@ -481,6 +482,17 @@ impl Node {
         ensures err { OnErr result (self.new ≡ self.old) }
     {
         self.process.act_quietly(site)
+    }
+
+    /// Makes steps without a communication, one after another, as long as each is known to be the process's only move, and at most as many
+    /// as are left.
+    pub(crate) fn make_steps(&mut self, steps: &mut Steps)
+        ensures few { steps.new.left ≤ steps.old.left }
+        ensures made { (plan : Plan) (k : ℕ) →
+            IsActorOf plan k (OfNode self.old) →
+            MakesSteps plan k (steps.old.left - steps.new.left) (OfNode self.old) (OfNode self.new) }
+    {
+        self.process.make_steps(steps);
     }
 
     /// A token passes from a link's buffer; where a message is whole or an output finished the process goes on, and the answer is

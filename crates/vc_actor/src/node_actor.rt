@@ -1,10 +1,11 @@
 //! A node as an actor.
-ghost use Rattle.std.specs.Prelude.{◌≡◌, ◌<◌, ◌↔◌, ℕ, [], true, false, Some, IsTrue, IfOk, IfSome, OnOk, OnErr};
+ghost use Rattle.std.specs.Prelude.{◌≡◌, ◌<◌, ◌≤◌, ◌-◌, ◌↔◌, ℕ, [], true, false, Some, IsTrue, IfOk, IfSome, OnOk, OnErr};
 ghost use Rattle.vc_actor.specs.Acts.{NodeMay, MakesOwn, MakesTake, MakesPut, MakesGrant};
 ghost use Rattle.vc_actor.specs.Able.{NodeCan};
 ghost use Rattle.vc_actor.specs.OfPlan.{IsNodeOf, IsActorOf};
 ghost use Rattle.vc_actor.specs.ActorView.{OfNode};
 ghost use Rattle.vc_actor.specs.Private.Turns.{FindsMove, NeedsNoRoom};
+ghost use Rattle.vc_actor.specs.StepsInARow.{MakesSteps};
 ghost use Rattle.vc_actor.specs.Turns.{FindsOf, FindsTurn, RoomLets};
 ghost use Rattle.vc_occam.specs.MoveSites.{without};
 ghost use Rattle.vc_occam.specs.Remains.{Done};
@@ -17,7 +18,7 @@ use crate::act::{Act, ActKind};
 use crate::node::{NODE_LINKS, Node, site_of};
 use sqlite_items::Items;
 use std::marker::Model;
-use vc_occam::Move;
+use vc_occam::{Move, Steps};
 use vc_packets::Memory;
 use vc_tokens::Token;
 
@@ -149,6 +150,27 @@ impl NodeActor {
         self.next_site = site.saturating_add(1);
         self.is_listed = false;
         Ok(())
+    }
+
+    /// Makes steps without a communication, one after another, where the links are known to have nothing to do with this room, as long as
+    /// each is known to be the process's only move, and at most so many; answers how many.
+    pub(crate) fn make_steps(&mut self, room: u32, most: u64) -> u64
+        ensures few { result ≤ most }
+        ensures made { (plan : Plan) (k : ℕ) →
+            IsActorOf plan k (OfNode self.old) →
+            MakesSteps plan k result (OfNode self.old) (OfNode self.new) }
+    {
+        if most == 0 || self.still_step(room).is_none() {
+            return 0;
+        }
+        let mut steps = Steps {
+            left: most,
+            last: 0,
+        };
+        self.node.make_steps(&mut steps);
+        self.next_site = steps.last.saturating_add(1);
+        self.is_listed = false;
+        most - steps.left
     }
 
     /// A token passes from a link's buffer.

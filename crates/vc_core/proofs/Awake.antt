@@ -10,7 +10,7 @@ use Rattle.vc_core.specs.Awake.{StaysAwake, TokenCame}
 use Rattle.vc_core.specs.PossibleEvents.{CanHappen}
 use Rattle.vc_core.specs.Private.Lines.{LeadsTo}
 use Rattle.vc_core.specs.Private.Turns.{Rests}
-use Rattle.vc_core.specs.State.{State, IsNetworkOf, HasFront, MakesEvent}
+use Rattle.vc_core.specs.State.{State, shown, IsNetworkOf, HasFront, MakesEvent}
 use Rattle.vc_core.specs.Turns.{FindsEvent}
 use Rattle.vc_core.specs.Wiring.{in_at, Comes}
 use Rattle.vc_core.specs.declared.event.Event.{Event}
@@ -48,12 +48,15 @@ none_happens p s e rests can = by_act e.act can
     by_act (Fct l) can = rests.acts (Fct l) tt can
     by_act (Pass l) can = rests.acts (Pass l) tt can
 
--- one that rests still does after an event of another, if it is not awake then
-pub rests_on : (p : Plan) (s t : State) (e : Event) (a b k : ℕ) → IsNetworkOf p s → MakesEvent p s e t → StaysAwake s a t b → k ≢ e.actor → k < 64 → bit_at b k ≡ 0 → Rests p s k → Rests p t k
-rests_on p s t e a b k is made stays other low none rests = record {
-  takes = takes p t k None made.kept (λ l f. (let one = stays.woken k l low f (λ g. rests.takes l 0 (front_happens p s k l 0 is g)) in omega (arith, one, none)));
-  acts = quiet_after p s t e k other made rests.acts;
+-- one that rests still does where another acted, if it is not awake then
+pub rests_same : (p : Plan) (s t : State) (a b k : ℕ) → IsNetworkOf p s → IsNetworkOf p t → (shown t).state k ≡ (shown s).state k → StaysAwake s a t b → k < 64 → bit_at b k ≡ 0 → Rests p s k → Rests p t k
+rests_same p s t a b k is kept same stays low none rests = record {
+  takes = takes p t k None kept (λ l f. (let one = stays.woken k l low f (λ g. rests.takes l 0 (front_happens p s k l 0 is g)) in omega (arith, one, none)));
+  acts = quiet_after p s t k same rests.acts;
 }
+
+pub rests_on : (p : Plan) (s t : State) (e : Event) (a b k : ℕ) → IsNetworkOf p s → MakesEvent p s e t → StaysAwake s a t b → k ≢ e.actor → k < 64 → bit_at b k ≡ 0 → Rests p s k → Rests p t k
+rests_on p s t e a b k is made stays other = rests_same p s t a b k is made.kept (made.happens.2.others k other) stays
 
 -- Who is awake.
 

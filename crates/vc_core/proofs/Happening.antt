@@ -45,7 +45,7 @@ none_past (x ∷ xs) zero e = absurd (cc)
 none_past (x ∷ xs) (suc k) e = let r = none_past xs k e in omega arith
 
 -- each actor is as before, but for one that is another of the plan's
-each_actor : (p : Plan) (s : State) (k : ℕ) (b : Acting) → IsNetworkOf p s → k < length s.actors → IsActorOf (network_of p) k b → (j : ℕ) (c : Acting) → slice_get (slice_set s.actors k b) j ≡ Some c → IsActorOf (network_of p) j c
+pub each_actor : (p : Plan) (s : State) (k : ℕ) (b : Acting) → IsNetworkOf p s → k < length s.actors → IsActorOf (network_of p) k b → (j : ℕ) (c : Acting) → slice_get (slice_set s.actors k b) j ≡ Some c → IsActorOf (network_of p) j c
 each_actor p s k b is less ok j c h = elim (cases_eq j k) [
   | inl same ↦ (let e : Some b ≡ Some c = sym (place-set_same s.actors k b less) ∙ ap (slice_get (slice_set s.actors k b)) (sym same) ∙ h in
       let f : b ≡ c = cc in subst (λ z. IsActorOf (network_of p) z c) (sym same) (subst (λ z. IsActorOf (network_of p) k z) f ok))
@@ -56,7 +56,7 @@ each_actor p s k b is less ok j c h = elim (cases_eq j k) [
 abbrev pub with_way : State → ℕ → Acting → ℕ → List Token → State
 with_way s k b w ts = record s { actors = slice_set s.actors k b; ways = slice_set s.ways w ts }
 
-states : (s : State) (k : ℕ) (b : Acting) → k < length s.actors → (shown (with_actor s k b)).state ≡ put (shown s).state k (actor_of b)
+pub states : (s : State) (k : ℕ) (b : Acting) → k < length s.actors → (shown (with_actor s k b)).state ≡ put (shown s).state k (actor_of b)
 states s k b less = by_place-set actor_of (net.IsSwitch new_switch) s.actors k b less
 
 lines : (s : State) (w : ℕ) (ts : List Token) → w < length s.ways → (λ (v : ℕ). shown_or [] (λ (xs : List Token). xs) (slice_get (slice_set s.ways w ts) v)) ≡ put (shown s).way w ts

@@ -26,3 +26,4 @@ pub mod Staying
 pub mod Still
 pub mod Naming
 pub mod Descent
+pub mod StepsInARow

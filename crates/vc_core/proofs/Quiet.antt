@@ -1,5 +1,5 @@
 -- An actor that can do nothing but take can do no more until it takes: what others do leaves it as it is.
-use Rattle.std.proofs.Common.{◌≡◌, ◌≢◌, ℕ, None, subst}
+use Rattle.std.proofs.Common.{◌≡◌, ℕ, None, subst}
 use Rattle.vc_network.specs.Actors.{Network, Label, act_of as label_act}
 use Rattle.vc_network.specs.Actors.Label.{Own, Takes, Puts}
 use Rattle.vc_accepted.specs.NetworkOf.{network_of}
@@ -13,12 +13,11 @@ use Rattle.vc_switch.specs.Waiting.{Wormhole}
 use Rattle.vc_accepted.specs.Process.{Process, does}
 use Rattle.vc_tokens.specs.Tokens.{Token}
 use Rattle.vc_actor.specs.ActorView.{act_of}
-use Rattle.vc_core.specs.State.{State, shown, MakesEvent}
+use Rattle.vc_core.specs.State.{State, shown}
 use Rattle.vc_actor.specs.Turns.{TakesNone}
 use Rattle.vc_core.specs.Turns.{FindsEvent}
 use Rattle.vc_actor.specs.declared.act.Act.{Act}
 use Rattle.vc_actor.specs.declared.act.Act.TheVariants as act
-use Rattle.vc_core.specs.declared.event.Event.{Event}
 
 -- what takes a token is a take
 abbrev IsTake : net.Act → Type 0
@@ -72,5 +71,5 @@ module _ (plan : network.Plan) (s t : Network (net.Actor Process) Token) (k : �
   still : IsEnabled plan Wormhole does t (record { actor = k; act = act_of b }) → IsEnabled plan Wormhole does s (record { actor = k; act = act_of b })
   still (new, (label, e, step)) = by_label label (new.state k) e (subst (λ z. net.Local plan Wormhole does k z label (new.state k)) same step.local)
 
-pub quiet_after : (p : Plan) (s t : State) (e : Event) (k : ℕ) → k ≢ e.actor → MakesEvent p s e t → FindsEvent p s k None → FindsEvent p t k None
-quiet_after p s t e k other made quiet = λ b none can. quiet b none (still (network_of p) (shown s) (shown t) k (made.happens.2.others k other) b none can)
+pub quiet_after : (p : Plan) (s t : State) (k : ℕ) → (shown t).state k ≡ (shown s).state k → FindsEvent p s k None → FindsEvent p t k None
+quiet_after p s t k same quiet = λ b none can. quiet b none (still (network_of p) (shown s) (shown t) k same b none can)

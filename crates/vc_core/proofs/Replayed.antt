@@ -72,7 +72,7 @@ opened p s acc first nodes count empty wiring wires channels = record {
 }
 
 -- one event more
-happen_more : (plan : network.Plan) (old mid new : Network (net.Actor Process) Token) (es : List (ActBy net.Act)) (e : ActBy net.Act) → HappenAll plan Wormhole does old es mid → Happens plan Wormhole does mid e new → HappenAll plan Wormhole does old (es ++ e ∷ []) new
+pub happen_more : (plan : network.Plan) (old mid new : Network (net.Actor Process) Token) (es : List (ActBy net.Act)) (e : ActBy net.Act) → HappenAll plan Wormhole does old es mid → Happens plan Wormhole does mid e new → HappenAll plan Wormhole does old (es ++ e ∷ []) new
 happen_more plan old mid new [] e alike h =
     (new, subst (λ z. Happens plan Wormhole does z e new) (λ i. record { state = λ a. alike.states a i; way = λ w. alike.ways w i }) h, record { states = λ a. refl; ways = λ w. refl })
 happen_more plan old mid new (f ∷ es) e all h = (all.0, all.1, happen_more plan all.0 mid new es e all.2 h)

@@ -10,6 +10,7 @@ pub mod Private
 pub mod Replay
 pub mod Scheduler
 pub mod State
+pub mod StepsInARow
 pub mod Still
 pub mod Turns
 pub mod Wiring

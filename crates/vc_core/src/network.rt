@@ -1,5 +1,5 @@
 //! A network: its actors, and the ways that join them.
-ghost use Rattle.std.specs.Prelude.{◌≡◌, ◌≢◌, ◌⊎◌, ◌+◌, ◌*◌, ◌<◌, ◌↔◌, ℕ, true, false, length, map, slice_get, Some, None, IsTrue, IfOk, IfSome, OnOk, OnErr, MatchResult};
+ghost use Rattle.std.specs.Prelude.{◌≡◌, ◌≢◌, ◌⊎◌, ◌+◌, ◌*◌, ◌<◌, ◌≤◌, ◌↔◌, ℕ, true, false, length, map, slice_get, Some, None, IsTrue, IfOk, IfSome, OnOk, OnErr, MatchResult};
 ghost use Rattle.vc_core.specs.Replay.{IsOpening};
 ghost use Rattle.vc_plan.specs.declared.plan.Plan.{Plan};
 ghost use Rattle.vc_actor.specs.Acts.{IsOwn};
@@ -12,6 +12,7 @@ ghost use Rattle.vc_actor.specs.ActorView.{Acting};
 ghost use Rattle.vc_actor.specs.Turns.{TakesNone, actors};
 ghost use Rattle.vc_core.specs.Turns.{FindsFront, FindsTake, FindsEvent, FindsEventOf, AllHaveEnded};
 ghost use Rattle.vc_core.specs.Awake.{StaysAwake};
+ghost use Rattle.vc_core.specs.StepsInARow.{MakesSteps};
 ghost use Rattle.vc_core.specs.State.{state_of, IsNetworkOf, MayHappen, WaysLet, HasFront, HasWay, MakesEvent, MakesOne, MayActAt};
 ghost use Rattle.vc_core.specs.Private.State.{GrantsBy};
 ghost use Rattle.vc_tokens.specs.CodeTokens.{tokens as all_spelt};
@@ -342,6 +343,26 @@ impl Network {
         };
         self.make_turn(&next, awake)?;
         Ok(Some(next))
+    }
+
+    /// The process of a node makes steps without a communication, one after another, at most so many; answers how many. It makes some only
+    /// where the node's links are known to have nothing to do, and as long as each is known to be its only move: then each is the event that
+    /// `turn` would make. A switch makes none, nor does an actor that is not there. No token comes to an actor by it, so no mask of who is
+    /// awake changes. It takes no memory.
+    pub fn make_steps(&mut self, actor: u8, most: u64) -> u64
+        ensures few { result ≤ most }
+        ensures made { (p : Plan) →
+            IsNetworkOf p (state_of self.old) →
+            MakesSteps p actor result (state_of self.old) (state_of self.new) }
+        ensures awake { (mask : ℕ) →
+            StaysAwake (state_of self.old) mask (state_of self.new) mask }
+    {
+        let place = usize::from(actor);
+        if place >= self.actors.len() {
+            return 0;
+        }
+        let room = self.lines.room(actor);
+        self.actors[place].make_steps(room, most)
     }
 
     /// An actor makes an event of this kind, if it has one where every way has room. Whoever chooses the kinds makes events in an order of

@@ -30,10 +30,10 @@ use Rattle.vc_occam.proofs.Stores.{or_left}
 use Rattle.vc_occam.proofs.Views.{view_out, view_roll}
 
 -- a frame that can do something has not been stopped
-frame_runs : (step : StepAt) (f : Frame) (vars : List Datum) → CanGo step (view f) vars → (out-Frame f).stopped ≡ false
+pub frame_runs : (step : StepAt) (f : Frame) (vars : List Datum) → CanGo step (view f) vars → (out-Frame f).stopped ≡ false
 frame_runs step f vars c = let o = out-Frame f in runs_on step o.site o.stopped (shape o.construct) vars (subst (λ (v : View). CanGo step v vars) (view_out f) c)
 
-running_view : (f : Frame) (k : Construct Frame) → (out-Frame f).stopped ≡ false → (out-Frame f).construct ≡ k → view f ≡ view_of (out-Frame f).site false (shape k)
+pub running_view : (f : Frame) (k : Construct Frame) → (out-Frame f).stopped ≡ false → (out-Frame f).construct ≡ k → view f ≡ view_of (out-Frame f).site false (shape k)
 running_view f k h g = let o = out-Frame f in view_out f ∙ ap (λ b. view_of o.site b (shape o.construct)) h ∙ ap (λ (c : Construct Frame). view_of o.site false (shape c)) g
 
 pub frame_can : (step : StepAt) (f : Frame) (k : Construct Frame) (vars : List Datum) → CanGo step (view f) vars → (out-Frame f).construct ≡ k → CanGo step (view_of (out-Frame f).site false (shape k)) vars

@@ -50,6 +50,7 @@ pub mod SideBySide
 pub mod Sites
 pub mod Sought
 pub mod Standing
+pub mod StepsInARow
 pub mod Stores
 pub mod Taking
 pub mod Tasks

@@ -14,4 +14,5 @@ pub mod Runnings
 pub mod SiteActions
 pub mod Sites
 pub mod States
+pub mod StepsInARow
 pub mod Traces

@@ -6,4 +6,5 @@ pub mod OneProof
 pub mod Receivers
 pub mod SiteSteps
 pub mod Sites
+pub mod StepsInARow
 pub mod Wholes

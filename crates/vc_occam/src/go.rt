@@ -80,7 +80,7 @@ impl Frame {
 impl Seq<Frame> {
     /// Its part has ended: the next one begins, if there is one.
     #[inline(always)]
-    fn next(&mut self) -> Outcome
+    pub(crate) fn next(&mut self) -> Outcome
         requires sound { is_sound (seq_shape self.old) ≡ true }
         ensures { HasNext (views self.old.parts.items) self.old.at result
             (views self.new.parts.items) self.new.at }

@@ -8,8 +8,8 @@
 //! [`Running::list_actions`] puts in a list that the caller keeps, [`Running::lists`] is true exactly of them, and
 //! [`Running::act`] and [`Running::resume`] each make exactly one step, whose communications, followed by any trace of what
 //! remains, are a trace of what remained before (`specs/States`). [`Running::only_step`] names the only move where that is known
-//! to be a step without a communication, and [`Running::act_quietly`] makes one; [`Running::first_from`] finds the first move at a
-//! site from one on, without a list.
+//! to be a step without a communication, [`Running::act_quietly`] makes one, and [`Running::make_steps`] makes many in a row;
+//! [`Running::first_from`] finds the first move at a site from one on, without a list.
 //!
 //! Laws of the definitions, for every word of the language, stand in `laws.rt`: where parts side by side keep their variables apart,
 //! what a step makes, followed by any trace of what remains, is a trace of what remained before; each trace of a lawful process is
@@ -51,6 +51,7 @@ mod outcome;
 mod receivers;
 mod running;
 mod site_step;
+mod steps;
 mod variables;
 mod waits;
 
@@ -62,6 +63,7 @@ pub use laws::{
 };
 pub use moves::Move;
 pub use running::Running;
+pub use steps::Steps;
 pub use vc_process::{
     Branch, BytesExpr, ChannelUse, Cond, Datum, Expr, Guard, Op, Process, Rel, UseFault, Value,
     ValueKind, a_first_offender_refutes, check_use,

@@ -24,6 +24,7 @@ use crate::meetings::{clear, is_outside, join, partner};
 use crate::moves::Move;
 use crate::outcome::Outcome;
 use crate::site_step::{Choose, Offer, Quiet, Resume, StopChannel, Want, WantNumber, WholeOutput};
+use crate::steps::Steps;
 use crate::variables::empty_variables;
 use crate::waits::Waits;
 use sqlite_items::Items;
@@ -165,7 +166,7 @@ fn meet(
 }
 
 impl Running {
-    ghost use Rattle.std.specs.Prelude.{◌≡◌, ◌≤◌, ◌↔◌, ◌∷◌, [], IsTrue, IfOk, IfSome, OnOk, OnErr, MatchOption, Some, None, true, false, ℕ};
+    ghost use Rattle.std.specs.Prelude.{◌≡◌, ◌≤◌, ◌-◌, ◌↔◌, ◌∷◌, [], IsTrue, IfOk, IfSome, OnOk, OnErr, MatchOption, Some, None, true, false, ℕ};
     ghost use Rattle.std.specs.List.{Contains};
     ghost use Rattle.vc_occam.specs.BlockedParts.{blocked};
     ghost use Rattle.vc_occam.specs.First.{own};
@@ -178,6 +179,7 @@ impl Running {
     ghost use Rattle.vc_process.specs.InOrder.{number};
     ghost use Rattle.vc_process.specs.Numbering.{written};
     ghost use Rattle.vc_occam.specs.Opening.{Fits, opening};
+    ghost use Rattle.vc_occam.specs.StepsInARow.{RestsOn};
     ghost use Rattle.vc_process.specs.Lawful.{Lawfully};
     ghost use Rattle.vc_occam.specs.Remains.{Done};
     ghost use Rattle.vc_occam.specs.Runnings.{inner_channels, moves, state};
@@ -424,6 +426,22 @@ impl Running {
             return Ok(());
         }
         self.act_assigning(site)
+    }
+
+    /// Makes steps without a communication, one after another, as long as each is known to be its only move, and at most as many as are
+    /// left in `steps`, which then has how many are left, and the site of the last one made. It takes no memory.
+    #[tactic(auto, unfolding(crate::specs::Runnings::state, crate::specs::Runnings::inner_channels))]
+    pub fn make_steps(&mut self, steps: &mut Steps)
+        ensures few { steps.new.left ≤ steps.old.left }
+        ensures made { RestsOn (inner_channels self.old) (steps.old.left - steps.new.left)
+            steps.old.last (state self.old) steps.new.last (state self.new) }
+        ensures inside { inner_channels self.new ≡ inner_channels self.old }
+    {
+        if let Outcome::Quiet { site } = self.task.begins {
+            if steps.left > 0 {
+                self.task.make_steps(site, steps, &mut self.vars);
+            }
+        }
     }
 
     /// Makes a step without a communication, which may assign bytes. Where it is without memory nothing has changed.

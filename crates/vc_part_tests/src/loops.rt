@@ -24,6 +24,18 @@ const ROWS: &[Row] = &[
         ],
     },
     Row {
+        shows: "WHILE goes on in a row",
+        process: r#"{"seq":[{"while":[["<","x",2],{"if":[[true,{"set":["x",["+","x",1]]}]]}]},{"out":["c0","x"]}]}"#,
+        steps: &[
+            Step::GoesOn(0, 0, 0),
+            Step::GoesOn(2, 2, 2),
+            Step::Quietly(&[3]),
+            Step::GoesOn(10, 4, 1),
+            Step::SendsNumber(4, 0, 2),
+            Step::GoesOn(10, 0, 0),
+        ],
+    },
+    Row {
         shows: "WHILE stops at a fault",
         process: r#"{"while":[["=",["/",1,0],0],"skip"]}"#,
         steps: &[Step::Quietly(&[0]), Step::Lists(&[])],

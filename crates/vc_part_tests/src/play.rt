@@ -6,7 +6,7 @@ ghost use Rattle.vc_process.specs.Numbering.{written};
 use crate::read::read;
 use std::alloc::Global;
 use std::test::Fail;
-use vc_occam::{Answer, Move, Process, Running, ValueKind, check_use};
+use vc_occam::{Answer, Move, Process, Running, Steps, ValueKind, check_use};
 use vc_packets::Bytes;
 
 /// What happens next to a process, or what it shows.
@@ -16,6 +16,8 @@ pub(crate) enum Step<'a> {
     Lists(&'a [Move]),
     /// It makes a quiet move at each of these sites in turn, and each time it has no other.
     Quietly(&'a [u16]),
+    /// Of at most so many quiet moves in a row it makes so many, the last of them at this site.
+    GoesOn(u64, u64, u16),
     /// It lists an output at this site, on this channel, of this message.
     Sends(u16, u16, &'a [u8]),
     /// It lists an output at this site, on this channel, of this number.
@@ -106,6 +108,7 @@ fn takes(running: &mut Running, alloc: Global, step: Step) -> Result<bool, Fail>
     match step {
         Step::Lists(moves) => lists_all(running, moves),
         Step::Quietly(sites) => takes_quietly(running, sites),
+        Step::GoesOn(most, made, last) => Ok(goes_on(running, most, made, last)),
         Step::Sends(site, chan, message) => sends(running, Move::Offer { site, chan }, message),
         Step::SendsNumber(site, chan, number) => {
             sends(running, Move::Offer { site, chan }, &number.to_le_bytes())
@@ -134,6 +137,15 @@ fn takes_quietly(running: &mut Running, sites: &[u16]) -> Result<bool, Fail> {
         running.act_quietly(*site)?;
     }
     Ok(true)
+}
+
+fn goes_on(running: &mut Running, most: u64, made: u64, last: u16) -> bool {
+    let mut steps = Steps {
+        left: most,
+        last: 0,
+    };
+    running.make_steps(&mut steps);
+    steps.left.checked_add(made) == Some(most) && steps.last == last
 }
 
 fn sends(running: &Running, offer: Move, message: &[u8]) -> Result<bool, Fail> {

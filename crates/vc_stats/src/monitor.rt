@@ -140,6 +140,10 @@ impl EventSink for Monitor {
 
     ghost holds = { λ monitor p es s. Monitors monitor p es (shown s) };
 
+    fn keeps_none(&self) -> bool {
+        false
+    }
+
     fn record(&mut self, network: &Network, event: Event) -> Result<(), Memory> {
         self.follow(network, &event)
     }

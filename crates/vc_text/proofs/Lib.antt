@@ -9,3 +9,4 @@ pub mod Threaded
 pub mod Simulated
 pub mod Stepped
 pub mod Entering
+pub mod StepsInARow

@@ -1,5 +1,5 @@
 //! What takes the events of a run.
-ghost use Rattle.std.specs.Prelude.{◌≡◌, [], ◌∷◌, ◌++◌, OnOk, ⊤};
+ghost use Rattle.std.specs.Prelude.{◌≡◌, [], ◌∷◌, ◌++◌, OnOk, true, ⊤};
 ghost use Rattle.vc_core.specs.State.{MakesEvent, state_of};
 
 use crate::event_log::EventLog;
@@ -16,6 +16,12 @@ pub trait EventSink {
 
     ghost holds: { Self → Plan → List Event → State → Type 0 };
 
+    /// Whether it keeps nothing of the events. Then a run may make some of which it is not told.
+    fn keeps_none(&self) -> bool
+        ensures { result ≡ true →
+            (p : Plan) (es es' : List Event) (s t : State) →
+            holds self.now p es s → holds self.now p es' t };
+
     /// Takes the next event. The network is the one after it.
     fn record(&mut self, network: &Network, event: Event) -> Result<(), Memory>
         ensures { (p : Plan) (es : List Event) (s : State) →
@@ -26,6 +32,11 @@ pub trait EventSink {
 /// A log keeps them.
 impl EventSink for EventLog {
     ghost holds = { λ log p es s. log ≡ es };
+
+    #[inline(always)]
+    fn keeps_none(&self) -> bool {
+        false
+    }
 
     #[inline(always)]
     fn record(&mut self, _network: &Network, event: Event) -> Result<(), Memory> {
@@ -40,6 +51,11 @@ pub(crate) struct Unlogged;
 
 impl EventSink for Unlogged {
     ghost holds = { λ _ _ _ _. ⊤ };
+
+    #[inline(always)]
+    fn keeps_none(&self) -> bool {
+        true
+    }
 
     #[inline(always)]
     fn record(&mut self, _network: &Network, _event: Event) -> Result<(), Memory> {

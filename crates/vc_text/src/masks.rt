@@ -29,6 +29,16 @@ pub(crate) fn without(mask: u64, actor: u8) -> u64
     mask & !(1u64 << actor)
 }
 
+/// The actor of a mask that has one alone.
+pub(crate) fn only(mask: u64) -> Option<u8>
+    ensures { IfSome result (λ actor. (actor < 64) × (bit_at mask actor ≡ 1)) }
+{
+    if mask & mask.wrapping_sub(1) != 0 {
+        return None;
+    }
+    lowest(mask)
+}
+
 /// An actor of a mask: the word says which, each as often as any other.
 pub(crate) fn drawn(mask: u64, word: u32) -> Option<u8>
     ensures { IfSome result (λ actor. actor < 64) }

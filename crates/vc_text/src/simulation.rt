@@ -1,7 +1,9 @@
 //! A network run event by event, in rounds over its actors.
 ghost use Rattle.std.specs.Prelude.{◌≡◌, ◌⊎◌, ◌<◌, ◌≤◌, ◌+◌, ◌^◌, ◌-◌, [], ℕ, true, false, List, None, Ok, IfOk, OnOk};
 ghost use Rattle.vc_plan.specs.declared.plan.Plan.{Plan};
+ghost use Rattle.vc_core.specs.Awake.{StaysAwake};
 ghost use Rattle.vc_core.specs.Replay.{IsOpening};
+ghost use Rattle.vc_core.specs.StepsInARow.{MakesSteps};
 ghost use Rattle.vc_core.specs.State.{shown, state_of, HasFront, IsNetworkOf};
 ghost use Rattle.vc_core.specs.Private.Turns.{Rests, IsAtRest, GoesOn};
 ghost use Rattle.vc_actor.specs.Turns.{actors};
@@ -11,12 +13,15 @@ ghost use Rattle.vc_text.specs.Private.Simulation.{HasRun, HasTaken, LeadsOn, Le
 
 use crate::event_sink::EventSink;
 use crate::generators::Generators;
-use crate::masks::{after, least_among, without};
+use crate::masks::{after, least_among, only, without};
 use crate::schedule::Schedule;
 use std::alloc::Global;
 use vc_core::{Act, Close, Event, Network};
 use vc_packets::Memory;
 use vc_plan::Accepted;
+
+/// So many events are made in rounds before it is looked whether one actor alone is awake. Each look costs some thirty instructions.
+const STRETCH: u64 = 1024;
 
 /// A run under way: its network, the generators of its actors, and how many events were made.
 #[derive(Drop)]
@@ -152,6 +157,50 @@ impl Simulation {
         }
     }
 
+    /// Rounds over the actors, until none has an event or there are so many events, or a stretch of events was made. The answer is whether
+    /// events were made and more may be.
+    #[inline(always)]
+    fn stretch<K: EventSink>(
+        &mut self,
+        events: &mut K,
+        limit: u64,
+        progress: &mut Progress,
+    ) -> Result<bool, Memory>
+        requires { progress.old.made ≤ limit }
+        ensures few { OnOk result (progress.new.made ≤ limit) }
+        ensures more { result ≡ Ok true → progress.old.made < progress.new.made }
+        ensures runs { OnOk result
+            (LeadsOnSoFar K.holds self.old events.old progress.old self.new events.new progress.new) }
+        ensures ends { result ≡ Ok false →
+            RunsOutSoFar K.holds limit self.old events.old progress.old self.new progress.new }
+    {
+        let until = progress.made.saturating_add(STRETCH);
+        while self.round(events, limit, progress)? {
+            if progress.made >= until {
+                return Ok(true);
+            }
+        }
+        Ok(false)
+    }
+
+    /// Where one actor alone is awake, its steps without a communication, as long as each is known to be its only move: whoever keeps none of
+    /// the events need not be told of each.
+    #[inline(always)]
+    fn make_steps<K: EventSink>(&mut self, events: &K, limit: u64, progress: &mut Progress)
+        requires { progress.old.made ≤ limit }
+        ensures few { progress.new.made ≤ limit }
+        ensures grows { progress.old.made ≤ progress.new.made }
+        ensures runs { LeadsOnSoFar K.holds self.old events.now progress.old self.new events.now
+            progress.new }
+    {
+        if !events.keeps_none() {
+            return;
+        }
+        if let Some(actor) = only(progress.awake) {
+            progress.made += steps_of(&mut self.network, actor, limit - progress.made);
+        }
+    }
+
     /// Rounds over the actors, until none has an event or there are so many events.
     fn rounds<K: EventSink>(&mut self, events: &mut K, limit: u64) -> Result<(), Memory>
         requires { self.old.made ≤ limit }
@@ -160,7 +209,9 @@ impl Simulation {
         ensures ends { OnOk result (RunsOut K.holds limit self.old events.old self.new) }
     {
         let mut progress = self.progress();
-        while self.round(events, limit, &mut progress)? {}
+        while self.stretch(events, limit, &mut progress)? {
+            self.make_steps(events, limit, &mut progress);
+        }
         self.made = progress.made;
         Ok(())
     }
@@ -197,6 +248,21 @@ impl Simulation {
             Ok(resting(&self.network))
         }
     }
+}
+
+/// Makes the steps without a communication of an actor to which no token comes, at most so many; answers how many.
+#[inline(never)]
+fn steps_of(network: &mut Network, actor: u8, most: u64) -> u64
+    ensures few { result ≤ most }
+    ensures made { (p : Plan) → IsNetworkOf p (state_of network.old) →
+        MakesSteps p actor result (state_of network.old) (state_of network.new) }
+    ensures awake { (mask : ℕ) →
+        StaysAwake (state_of network.old) mask (state_of network.new) mask }
+{
+    if network.link_to_take(actor).is_some() {
+        return 0;
+    }
+    network.make_steps(actor, most)
 }
 
 /// Whether an actor has an event.

@@ -4,8 +4,8 @@ use Rattle.vc_text.specs.declared.simulation.Progress.{Progress}
 use Rattle.vc_text.proofs.Simulated.{counts, goes_on, stays_on}
 use Rattle.vc_text.proofs.simulation.Simulation.rounds.Goals as goal
 
-pub loop-init : goal.loop-init
-loop-init g c =
+pub loop-self-init : goal.loop-self-init
+loop-self-init g c =
     let s = c.args.self.now in
     let e = c.args.events.now in
     let first = all_awake s.made in
@@ -16,11 +16,11 @@ loop-init g c =
 
 pub returns-clause-runs : goal.returns-clause-runs
 returns-clause-runs g c = λ p es kept run.
-    let mid = c.loop.invariant.runs p es kept (goes_on p es c.args.self.now run) in
-    let end = c.in_ok-round.ensures.runs p mid.0 mid.1 mid.2 in
-    (end.0, end.1, counts p end.0 c.round.new.self c.round.new.progress end.2)
+    let mid = c.loop-self.invariant.runs p es kept (goes_on p es c.args.self.now run) in
+    let end = c.in_ok-stretch.ensures.runs p mid.0 mid.1 mid.2 in
+    (end.0, end.1, counts p end.0 c.stretch.new.self c.stretch.new.progress end.2)
 
 pub returns-clause-ends : goal.returns-clause-ends
 returns-clause-ends g c = λ p es kept run.
-    let mid = c.loop.invariant.runs p es kept (goes_on p es c.args.self.now run) in
-    c.in_ok-round.ensures.ends (ap Ok c.if-branch.false) p mid.0 mid.1 mid.2
+    let mid = c.loop-self.invariant.runs p es kept (goes_on p es c.args.self.now run) in
+    c.in_ok-stretch.ensures.ends (ap Ok c.if-branch.false) p mid.0 mid.1 mid.2
